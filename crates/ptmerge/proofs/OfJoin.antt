@@ -2,7 +2,6 @@
 pub mod Amid
 pub mod FieldSpans
 pub mod GroupSlots
-pub mod GroupStops
 pub mod GroupTurns
 pub mod PhaseTurns
 pub mod Turns

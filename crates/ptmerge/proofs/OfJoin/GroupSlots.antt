@@ -1,9 +1,9 @@
 -- What the store of `join` holds: two lines of each input, and behind them the slots of the group.
-use Rattle.ptmerge.proofs.Common.{◌≡◌, ◌⊎◌, ⊎_elim, inl, inr, ℕ, ◌+◌, ◌-◌, ◌≤◌, ◌<◌, true, false, length-drop, List, [], ◌∷◌, ◌++◌, length, map, take, drop, get_or, set, max, refl, sym, ap, ◌∙◌}
-use Rattle.ptmerge.proofs.Common.{subst, arith, ◌*◌, cond, Option, append_assoc, length-append, append-nil, length-set, length-take-le, drop_more, get_or-take, get_or-drop, drop-set-add, take_more}
-use Rattle.ptmerge.proofs.Common.{length_push, drop_all, drop-append-le, drop-set-lt, set_at, take_at, bytes_eq, sum_by_push, sum_by-append, sum_by-cons, Slots, line, total, with_line, with_denied}
-use Rattle.ptmerge.proofs.Common.{text, longest, total_set, Join, IsGroupCleared, IsGrown, IsRefused, group, IsKept, entry, fields, pairs_of, greatest_of, largest_group, most_lines, Lines, with_key}
-use Rattle.ptmerge.proofs.Common.{bytes_decides, Reader, Side, First, Second, Sorted, Cmp, Key, HasSlots, put}
+use Rattle.ptmerge.proofs.Common.{◌≡◌, ◌⊎◌, ⊎_elim, inl, inr, ℕ, ◌+◌, ◌-◌, ◌≤◌, ◌<◌, suc, true, false, length-drop, List, [], ◌∷◌, ◌++◌, length, map, take, drop, get_or, set, max, refl, sym, ap, ◌∙◌}
+use Rattle.ptmerge.proofs.Common.{subst, arith, ◌*◌, cond, Option, append_assoc, length-append, append-nil, length-set, drop_more, get_or-drop, drop-set-add, take_more, length_push, drop-append-le}
+use Rattle.ptmerge.proofs.Common.{drop-set-lt, set_at, take_at, bytes_eq, sum_by_push, sum_by-append, sum_by-cons, Slots, line, total, with_line, with_denied, text, longest, total_set, Join}
+use Rattle.ptmerge.proofs.Common.{IsGroupCleared, IsGrown, IsRefused, group, IsKept, entry, fields, pairs_of, greatest_of, largest_group, most_lines, Lines, with_key, bytes_decides, Reader, Side}
+use Rattle.ptmerge.proofs.Common.{First, Second, Sorted, Cmp, Key, HasSlots, put}
 use Rattle.ptmerge.proofs.OfMerges.Slotted.{line_other, HasLines, Keeps, has_lines_total, set_line}
 use Rattle.std.proofs.Math.ListN.{get_or-append}
 use Rattle.ptmerge.proofs.OfMerges.Least.{EachKey}
@@ -12,21 +12,13 @@ use Rattle.ptmerge.proofs.OfMerges.Standing.{Next}
 use Rattle.ptmerge.proofs.OfMerges.Turning.{own_slots, slot_low}
 
 -- the lines of the group from a slot on
-pub group_from : (store : Slots) (from end slot : ℕ) → end ≤ length store.lines → from ≤ slot → slot < end
-    → drop (slot - from) (group store from end) ≡ line store slot ∷ drop ((slot + 1) - from) (group store from end)
-group_from store from end slot fits least low =
-    let rest = drop from store.lines in
-    let count : end - from ≤ length rest = omega (arith, length-drop from store.lines) in
-    let at : (slot - from) < (end - from) = omega arith in
-    let next : (slot - from) + 1 ≡ (slot + 1) - from = omega arith in
-    let back : from + (slot - from) ≡ slot = omega arith in
-    let is : get_or (take (end - from) rest) (slot - from) [] ≡ line store slot = get_or-take (end - from) rest (slot - from) [] at
-    ∙ get_or-drop from store.lines (slot - from) [] ∙ ap (λ i. get_or store.lines i []) back in
-    drop_more (take (end - from) rest) (slot - from) [] (omega (arith, length-take-le (end - from) rest count)) ∙ (λ i. is i ∷ drop (next i) (take (end - from) rest))
+pub group_from : (store : Slots) (end slot : ℕ) → end ≤ length store.lines → slot < end → group store slot end ≡ line store slot ∷ group store (slot + 1) end
+group_from store end slot fits low =
+    let more : end - slot ≡ suc (end - (slot + 1)) = omega arith in
+    rw more (ap (λ (l : Lines). take (suc (end - (slot + 1))) l) (drop_more store.lines slot [] (omega arith)))
 
-pub group_end : (store : Slots) (from end slot : ℕ) → end ≤ length store.lines → end ≤ slot → drop (slot - from) (group store from end) ≡ []
-group_end store from end slot fits past = drop_all (slot - from) (take (end - from) (drop from store.lines))
-    (omega (arith, length-drop from store.lines, length-take-le (end - from) (drop from store.lines) (omega (arith, length-drop from store.lines))))
+pub group_end : (store : Slots) (end slot : ℕ) → end ≤ slot → group store slot end ≡ []
+group_end store end slot past = let none : end - slot ≡ 0 = omega arith in rw none refl
 
 pub group_more : (store : Slots) (from end : ℕ) → from ≤ end → end < length store.lines → group store from (end + 1) ≡ group store from end ++ line store end ∷ []
 group_more store from end least within =

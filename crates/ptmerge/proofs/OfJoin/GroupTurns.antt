@@ -2,21 +2,91 @@
 use Rattle.ptmerge.proofs.Common.{◌≡◌, ◌⊎◌, ⊎_elim, inl, inr, ℕ, ◌+◌, ◌*◌, ◌≤◌, ◌<◌, ◌&&◌, Bool, true, false, List, [], ◌∷◌, ◌++◌, Some, Err, length, max, refl, sym, ◌∙◌, ap, subst, arith}
 use Rattle.ptmerge.proofs.Common.{append_assoc, bytes_eq, bytes_decides, is_gt, false≢true, append-nil, Output, Wrote, Reader, Reads, IsSound, Slots, line, total, with_line, text, IsLine, longest}
 use Rattle.ptmerge.proofs.Common.{wrote_trans, text-append, MergeFault, Read, Write, Memory, Side, First, Second, Sorted, Stand, Head, Ended, Disorder, is_head, largest_group, most_lines, Lines, Tool}
-use Rattle.ptmerge.proofs.Common.{by_keys, entries_of, with_key, IsUnwritten, State, IsMerge, CannotRead, Comes, HasSlots, put, other, GoesBefore}
+use Rattle.ptmerge.proofs.Common.{by_keys, entries_of, with_key, IsUnwritten, State, IsMerge, CannotRead, Comes, HasSlots, put, other, GoesBefore, disorder, merged_entries, ordered, up_to, Ends}
+use Rattle.ptmerge.proofs.Common.{IsWhole, Cmp, Key}
 use Rattle.ptmerge.proofs.OfComm.CommTurns.{slots_on}
 use Rattle.ptmerge.proofs.OfMerges.Bounds.{Bound, From, Coming, Under}
-use Rattle.ptmerge.proofs.OfJoin.GroupStops.{StartsWith, Within, halts, own_keys, under_down}
 use Rattle.ptmerge.proofs.OfJoin.GroupSlots.{AllSlots, Keeping, keeping_line, keeping_next, low_slot, put_more}
 use Rattle.ptmerge.proofs.OfMerges.Least.{EachKey, EachKey-append, EachKey-weaker, at_most-same, front_first, front_is, others_of, with_key-above}
-use Rattle.ptmerge.proofs.OfMerges.Orders.{IsKeyOrder, AtMost, least_or_above, self_at_most}
+use Rattle.ptmerge.proofs.OfMerges.Orders.{IsKeyOrder, AtMost, least_or_above, self_at_most, at_most_trans}
 use Rattle.ptmerge.proofs.OfMerges.Pairs.{put_both, put_each, put_other, put_same}
-use Rattle.ptmerge.proofs.OfMerges.Passing.{Merging}
+use Rattle.ptmerge.proofs.OfMerges.Passing.{Merging, Seen}
 use Rattle.ptmerge.proofs.OfMerges.Slotted.{has_lines_total, line_other}
-use Rattle.ptmerge.proofs.OfMerges.Splitting.{MayCome, all_keys, splits_step}
+use Rattle.ptmerge.proofs.OfMerges.Splitting.{MayCome, all_keys, splits_step, all_wanted, passed_is_wanted}
 use Rattle.ptmerge.proofs.OfMerges.Standing.{Next, Passed, Stands, comes_repeats, sided_keeps}
-use Rattle.ptmerge.proofs.OfMerges.Stopping.{Fails, Fits, Gone, gone_passed, gone_standing}
+use Rattle.ptmerge.proofs.OfMerges.Stopping.{Fails, Fits, Gone, gone_passed, gone_standing, halted, seen_of}
 use Rattle.ptmerge.proofs.OfMerges.Turning.{BothStand, IsAbove, IsLineByLine, ahead, next_at, own_slots, passed_at, sides_on, slots_apart}
+use Rattle.ptmerge.proofs.OfMerges.Got.{More}
 use Rattle.ptmerge.specs.declared.faults.MergeFault.TheVariants as faults
+
+-- ---- a stop within a group
+
+-- Where a tool over two inputs stops within a group of lines with one key, the keys below the group's are passed, and a
+-- beginning of the group's entries was pushed.
+
+-- what goes before k goes before all that may come, if k does
+pub under_down : {cmp : Cmp} (o : IsKeyOrder cmp) (b : Bound) (x k : List ℕ) → AtMost cmp x k → Under cmp b k → Under cmp b x
+under_down o b x k h u = grind (arith, at_most_trans)
+
+-- what holds of k holds of the keys of its lines
+pub own_keys : (P : List ℕ → Type 0) (key : Key) (k : List ℕ) (g : Lines) → P k → EachKey (λ x. x ≡ k) key g → EachKey P key g
+own_keys P key k g h = EachKey-weaker (λ x. x ≡ k) P (λ x same. subst P (sym same) h) key g
+
+-- p are passed, g are of the group of the key k, and of d is what may come
+pub record Within (tool : Tool) (was mid : Output) (p g : Side → Lines) (d : Side → Bound) (k : List ℕ) : Type 0 where
+  pub merging : Merging tool (λ side. From k) p was mid
+  pub clean : mid.faulted ≡ false
+  pub own : (side : Side) → EachKey (λ x. x ≡ k) (tool.key side) (g side)
+  pub beyond : (side : Side) (r : Lines) → Coming tool.cmp (tool.key side) (d side) r → EachKey (AtMost tool.cmp k) (tool.key side) r
+  pub under : (side : Side) → Under tool.cmp (d side) k
+
+-- these entries are a beginning of the group's, whatever comes
+pub record StartsWith (tool : Tool) (g : Side → Lines) (d : Side → Bound) (k : List ℕ) (extra : Lines) : Type 0 where
+  pub rest : (w : List ℕ → Bool) (r : Side → Lines) → MayCome tool d r → w k ≡ true → (rest : Lines) × (by_keys tool w (λ side. g side ++ r side) ≡ extra ++ rest)
+
+module _ {tool : Tool} (o : IsKeyOrder tool.cmp) (old new : State) {now : Side → Reader} {piece : Side → List ℕ} {mid : Output} {ls p g : Side → Lines} {d : Side → Bound} {k : List ℕ}
+    {extra : Lines} (m : Within tool old.out mid p g d k) (starts : StartsWith tool g d k extra) (wrote : Wrote mid new.out (text tool.end extra))
+    (gone : (side : Side) → Gone tool.end tool.cmp (tool.key side) (old.reader side) (now side) (new.reader side) (piece side) (ls side) (p side ++ g side) (d side)) where
+  open tool use {cmp, end, key}
+
+  abbrev front : Lines
+  front = by_keys tool all_keys p
+
+  behind : (side : Side) (r : Lines) → Coming cmp (key side) (d side) r → EachKey (AtMost cmp k) (key side) (g side ++ r)
+  behind side r c = at_most-same tool o (key side) k (g side) r (m.own side) (m.beyond side r c)
+
+  -- of two lists that go on so: what is in order, and what falls
+  module _ (all : Side → Lines) (more : (side : Side) → More (now side) (ls side) (all side)) where
+    seen : Seen tool d (λ side. p side ++ g side) all
+    seen = seen_of tool o old new now piece ls (λ side. p side ++ g side) d gone all more
+
+    parts : (w : List ℕ → Bool) → by_keys tool w (ordered tool all) ≡ by_keys tool w p ++ by_keys tool w (λ side. g side ++ seen.r side)
+    parts w = (λ i. by_keys tool w (λ side. (seen.parts side ∙ append_assoc (p side) (g side) (seen.r side)) i))
+        ∙ m.merging.splits.split w (λ side. g side ++ seen.r side) (λ side. behind side (seen.r side) (seen.coming side))
+
+    wanted : (x : List ℕ) → AtMost cmp x k → up_to cmp (disorder tool all) x ≡ true
+    wanted x h = passed_is_wanted _ o (d First) (d Second) _ _ x
+        (seen.falling First) (seen.falling Second) (under_down o (d First) x k h (m.under First)) (under_down o (d Second) x k h (m.under Second))
+
+    all_is : (rest : Lines) × (merged_entries tool all ≡ (front ++ extra) ++ rest)
+    all_is =
+        let w = up_to cmp (disorder tool all) in
+        let s = starts.rest w seen.r seen.coming (wanted k (self_at_most cmp o k)) in
+        let passed = all_wanted tool w p (λ side. EachKey-weaker (λ x. AtMost cmp x k) (λ x. w x ≡ true) wanted (key side) (p side) (m.merging.under First side)) in
+        (s.0, parts w ∙ (λ i. passed i ++ s.1 i) ∙ sym (append_assoc front extra s.0))
+
+  -- the keys of what is passed, and of the group
+  passed_keys : (of side : Side) → EachKey (λ x. AtMost cmp x k) (key side) (p side ++ g side)
+  passed_keys of side = EachKey-append (λ x. AtMost cmp x k) (key side) (p side) (g side) (m.merging.under of side)
+      (own_keys (λ x. AtMost cmp x k) (key side) k (g side) (self_at_most cmp o k) (m.own side))
+
+  pub halts : {fault : MergeFault} → Ends old new (Err fault) → ((side : Side) → (new.reader side).failed ≡ true → Fails cmp (key side) (new.reader side) (ls side) (p side ++ g side))
+      → ((input : Side → List ℕ) (pushed : List ℕ) → IsWhole tool input pushed (Err fault)) → Fits tool old.store now ls piece new.store → IsMerge tool old new (Err fault)
+  halts ends failed is_whole fits = halted tool o old new now piece ls (λ side. p side ++ g side) d gone p g (λ side. From k) (λ side. refl) passed_keys
+      (λ of side. EachKey-weaker (λ x. AtMost cmp x k) (Under cmp (d of)) (λ x h. under_down o (d of) x k h (m.under of)) (key side) (p side ++ g side) (passed_keys of side))
+      behind m.clean m.merging.wrote wrote _ (sym (text-append end front extra)) ends all_is failed (λ input a. is_whole input (text end (front ++ extra))) fits
+
+-- ---- a tool that pairs lines
 
 -- what is written of a key that both inputs have: its pairs
 pub record IsPairing (tool : Tool) (pairs : List ℕ → Lines → Lines → Lines) : Type 0 where
@@ -129,20 +199,16 @@ module _ (call : Call) {was mid : Output} {p g : Side → Lines} {d : Side → B
         wrote = rw (all, text-append call.end (by_keys tool all_keys p) (pairs k (g First) (g Second))) (wrote_trans _ _ _ _ _ m.clean m.merging.wrote wrote);
       }
     where
-      -- no more lines of the key come
-      none : (r : Side → Lines) → MayCome tool d r → (side : Side) → with_key (key side) (r side) k ≡ []
-      none r c side = with_key-above tool o (key side) k (r side) (above side (r side) (c side))
-
       -- what is written of the group alone
       alone_is : by_keys tool all_keys g ≡ entries k (g First) (g Second)
-      alone_is = (λ i. by_keys tool all_keys (λ side. sym (append-nil (g side)) i))
-          ∙ front_is tool o all_keys k g (λ side. []) m.own (λ side. tt) (laws.alone.none k) ∙ (rw (append-nil (g First), append-nil (g Second), append-nil) refl)
+      alone_is = simp append-nil at (front_is tool o all_keys k g (λ side. []) m.own (λ side. tt) (laws.alone.none k))
 
       splits_off : (w : List ℕ → Bool) (r : Side → Lines) → MayCome tool d r → by_keys tool w (λ side. g side ++ r side) ≡ by_keys tool w g ++ by_keys tool w r
       splits_off w r c =
-          let nothing : entries_of tool r k ≡ [] = (λ i. entries k (none r c First i) (none r c Second i)) ∙ laws.alone.none k in
+          let none = λ (side : Side). with_key-above tool o (key side) k (r side) (above side (r side) (c side)) in
+          let nothing : entries_of tool r k ≡ [] = (λ i. entries k (none First i) (none Second i)) ∙ laws.alone.none k in
           front_first tool o w k g r m.own (λ side. m.beyond side (r side) (c side)) (laws.alone.none k)
-          (rw (none r c First, none r c Second, append-nil (g First), append-nil (g Second), nothing, append-nil) refl)
+          (simp (none First, none Second, nothing, append-nil))
 
       all : by_keys tool all_keys (λ side. p side ++ g side) ≡ by_keys tool all_keys p ++ pairs k (g First) (g Second)
       all =
@@ -151,23 +217,12 @@ module _ (call : Call) {was mid : Output} {p g : Side → Lines} {d : Side → B
 
 -- ---- where a group stands
 
-pub has_key : (s : Stand) (a b : List ℕ) → (is_head s && bytes_eq a b) ≡ true → (s ≡ Head) × (b ≡ a)
+has_key : (s : Stand) (a b : List ℕ) → (is_head s && bytes_eq a b) ≡ true → (s ≡ Head) × (b ≡ a)
 has_key s a b h = grind (arith, bytes_decides a b)
-
-pub lacks_key : (s : Stand) (a b : List ℕ) → (is_head s && bytes_eq a b) ≡ false → s ≡ Head → ¬ (b ≡ a)
-lacks_key s a b h e same = false≢true (sym h ∙ (rw (e, same, (bytes_decides a a).1 refl) refl))
 
 -- a group with the line at which this input stands
 abbrev pub grown : State → (Side → Sorted) → Side → (Side → Lines) → Side → Lines
 grown now place s g = put s (g s ++ head_of now place s ∷ []) g
-
--- three things of an input were changed
-put_three : (P : Side → Reader → List ℕ → Lines → Type 0) (s : Side) (x : Reader) (y : List ℕ) (z : Lines) (f : Side → Reader) (g : Side → List ℕ) (h : Side → Lines) → P s x y z
-    → ((side : Side) → P side (f side) (g side) (h side)) → (side : Side) → P side (put s x f side) (put s y g side) (put s z h side)
-put_three P First x y z f g h a b First = a
-put_three P First x y z f g h a b Second = b Second
-put_three P Second x y z f g h a b First = b First
-put_three P Second x y z f g h a b Second = a
 
 -- the group g of the key k, whose entries so far were pushed; the lines that are kept end in front of this slot
 pub record Grouped (call : Call) (now : State) (place : Side → Sorted) (end : ℕ) (k : List ℕ) (g : Side → Lines) (kept : Lines) : Type 0 where
@@ -236,13 +291,20 @@ module _ {call : Call} {now : State} {place : Side → Sorted} {end : ℕ} {k : 
   within_more = record { merging = q.within.merging; clean = q.within.clean; own = own_more; beyond = q.within.beyond; under = q.within.under }
 
   fails_in : (new : Reader) → new.held ≡ [] → new.ended ≡ false → Fails cmp (key s) new (q.ls s) (q.p s ++ grown now place s g s)
-  fails_in new held ended = record { held = held; ended = ended; all = with_head ∙ sym (ap (λ (l : Lines). q.p s ++ l) (put_same s (g s ++ x ∷ []) g)); last = Some (key s x); begun = rw put_same (rw with_head at at_head.begun) }
+  fails_in new held ended = record {
+    held = held;
+    ended = ended;
+    all = with_head ∙ sym (ap (λ (l : Lines). q.p s ++ l) (put_same s (g s ++ x ∷ []) g));
+    last = Some (key s x);
+    begun = rw put_same (rw with_head at at_head.begun);
+  }
 
   pub passing : (new : Reader) (piece : List ℕ) → Reads (now.reader s) new piece → IsLine (now.reader s).ending piece → IsSound new
       → (side : Side) → GoneOf call now side (put s new now.reader side) (put s piece (λ t. []) side) (q.ls side) (q.p side ++ grown now place s g side) (q.d side)
-  passing new piece reads free sound = put_three (λ side r t m. GoneOf call now side r t (q.ls side) (q.p side ++ m) (q.d side)) s new piece (g s ++ x ∷ []) now.reader (λ t. []) g
-      (subst (λ (l : Lines). GoneOf call now s new piece (q.ls s) l (q.d s)) with_head
-      (rw at_head.bound (gone_passed o (q.sides s).got reads free sound at_head.begun))) (standing q)
+  passing new piece reads free sound = side_case
+      (λ side. GoneOf call now side (put s new now.reader side) (put s piece (λ t. []) side) (q.ls side) (q.p side ++ grown now place s g side) (q.d side)) s
+      (simp put_same (subst (λ (l : Lines). GoneOf call now s new piece (q.ls s) l (q.d s)) with_head
+      (rw at_head.bound (gone_passed o (q.sides s).got reads free sound at_head.begun)))) (simp put_other (standing q (other s)))
 
   -- the next line could not be read, where what was pushed is a beginning of the group's entries
   module _ {out : Output} (clean : out.faulted ≡ false) {extra : Lines} (begins : StartsWith tool (grown now place s g) q.d k extra)
@@ -301,7 +363,7 @@ module _ {call : Call} {now : State} {place : Side → Sorted} {end : ℕ} {k : 
     goes_on same = has_key next.stand k (key s (line after next.standing)) (sym says ∙ same)
 
     pub goes_past : next.same ≡ false → next.stand ≡ Head → ¬ (key s (line after next.standing) ≡ k)
-    goes_past same = lacks_key next.stand k (key s (line after next.standing)) (sym says ∙ same)
+    goes_past same head is = false≢true (sym same ∙ says ∙ (rw (head, is, (bytes_decides k k).1 refl) refl))
 
     -- the line before is of the group
     pub record GoneOn (new : Output) : Type 0 where

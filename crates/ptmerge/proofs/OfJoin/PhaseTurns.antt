@@ -9,7 +9,7 @@ use Rattle.ptmerge.proofs.OfComm.CommTurns.{same_state, Running, breaks_slots, c
 use Rattle.ptmerge.proofs.OfMerges.Got.{reads_nothing}
 use Rattle.ptmerge.proofs.OfJoin.GroupTurns.{head_of, Call, GoneOf, NotPassed, fits_kept, moved, not_failed, peak_line, AtLine, GoneOn, Grouped, closes, goes_on, goes_past, gone_on, group_breaks}
 use Rattle.ptmerge.proofs.OfJoin.GroupTurns.{grown, is_past, next_slots, others_stay, passing, stand_still, standing, starts, went, within_more, grouped_keeps, last_stays, own_more, size_of}
-use Rattle.ptmerge.proofs.OfJoin.GroupTurns.{starts_none, with_head}
+use Rattle.ptmerge.proofs.OfJoin.GroupTurns.{starts_none, with_head, StartsWith, halts}
 use Rattle.ptmerge.proofs.OfJoin.GroupSlots.{AllSlots, Keeping, keeping_next, keeping_starts, group_is, kept_line, keeping_cleared, low_slot, group_one, InGroup, Kept, group_in, keeping_kept}
 use Rattle.ptmerge.proofs.OfMerges.Pairs.{put_each, put_other, put_same}
 use Rattle.ptmerge.proofs.OfMerges.Passing.{Late, Merging, late_none}
@@ -18,7 +18,6 @@ use Rattle.ptmerge.proofs.OfMerges.Splitting.{all_keys}
 use Rattle.ptmerge.proofs.OfMerges.Standing.{Passed, passed}
 use Rattle.ptmerge.proofs.OfMerges.Stopping.{Concludes, gone_passed, gone_standing, stops}
 use Rattle.ptmerge.proofs.OfMerges.Turning.{BothStand, ahead, all_ended, alone, breaks, merging_on, next_at, pass_one, sides_on, stops_at, IsAbove}
-use Rattle.ptmerge.proofs.OfJoin.GroupStops.{StartsWith, halts}
 use Rattle.ptmerge.proofs.OfMerges.Least.{EachKey, EachKey-at}
 use Rattle.ptmerge.proofs.OfMerges.Orders.{self_at_most}
 use Rattle.ptmerge.proofs.OfMerges.GoingOn.{wrote_and_sent}
