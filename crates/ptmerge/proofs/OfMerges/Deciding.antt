@@ -4,7 +4,7 @@ use Rattle.ptmerge.proofs.Common.{First, Second, Lines, Tool, by_keys, decided_e
 use Rattle.ptmerge.proofs.OfMerges.Bounds.{Begun, Bound, FallFrom, Under}
 use Rattle.ptmerge.proofs.OfMerges.Least.{EachKey, EachKey-weaker}
 use Rattle.ptmerge.proofs.OfMerges.Orders.{IsKeyOrder, AtMost}
-use Rattle.ptmerge.proofs.OfParts.PartsOfKeys.{by_keys_kept}
+use Rattle.ptmerge.proofs.OfParts.PartsInOrder.{by_keys_kept}
 use Rattle.ptmerge.proofs.OfMerges.Passing.{Seen, down_decided, last_has, not_below, not_decided, past_none}
 use Rattle.ptmerge.proofs.OfMerges.Splitting.{all_keys, down_begins}
 
