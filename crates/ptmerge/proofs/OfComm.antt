@@ -1,4 +1,3 @@
 -- `comm`.
-pub mod CommEntries
 pub mod CommTurns
 pub mod Turns

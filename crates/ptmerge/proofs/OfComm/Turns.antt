@@ -1,10 +1,9 @@
--- What is known at each turn of `comm`, and what comes of the turn.
+-- What `comm` writes of a line, what is known at each of its turns, and what comes of the turn.
 use Rattle.ptmerge.proofs.Common.{◌≡◌, ℕ, ◌<◌, false, List, [], ◌∷◌, ◌++◌, Result, Ok, Err, length, refl, sym, ◌∙◌, ap, subst, arith, false≢true, Comm, Output, Wrote, Reader, IsSound, Slots, line}
 use Rattle.ptmerge.proofs.Common.{total, text, longest, wrote_nothing, MergeFault, Side, First, Second, Sorted, Head, Ended, comm_by, entries_in, tab_unless, Lines, Tool, by_keys, with_key, HasPassed}
 use Rattle.ptmerge.proofs.Common.{StandsAt, State, IsMerge, IsReady, IsUnread, Ends, seen, Cmp, Key, both, put, other, AreEqual, CannotStart, IsAlone, IsDecided, IsLent, IsPlaced, Starts, inputs}
-use Rattle.ptmerge.proofs.Common.{Adds, IsCleared}
+use Rattle.ptmerge.proofs.Common.{Adds, IsCleared, suc, ◌-◌, min, append_assoc, append-nil, bytes_decides, tied_itself, entries, Bool}
 use Rattle.ptmerge.specs.declared.faults.MergeFault.TheVariants as faults
-use Rattle.ptmerge.proofs.OfComm.CommEntries.{entries_both, entries_none, hidden_of, lead_of, line_by_line, written_alone, written_both}
 use Rattle.ptmerge.proofs.OfComm.CommTurns.{CannotPass, IsOpened, Placed, Running, adds_of, comes_slots, goes, goes_merging, passes_slots, passing_now, readable_of}
 use Rattle.ptmerge.proofs.OfComm.CommTurns.{runs_on, slots_of, standing, turn_stops, unfailed_of, went}
 use Rattle.ptmerge.proofs.OfMerges.GoingOn.{left, less, lent_on, place_is, wrote_and_sent}
@@ -16,7 +15,67 @@ use Rattle.ptmerge.proofs.OfMerges.Splitting.{all_keys}
 use Rattle.ptmerge.proofs.OfMerges.Standing.{passed}
 use Rattle.ptmerge.proofs.OfMerges.Starting.{starts_well, starts_badly, start_slots, start_refused}
 use Rattle.ptmerge.proofs.OfMerges.Stopping.{Concludes, state, stops}
-use Rattle.ptmerge.proofs.OfMerges.Turning.{ahead, all_ended, pass_one, stops_at}
+use Rattle.ptmerge.proofs.OfMerges.Turning.{IsLineByLine, ahead, all_ended, alone, pass_one, stops_at}
+
+-- ---- one line more in one input or in both is one entry more
+
+none_in : (hidden : Bool) (lead line : List ℕ) → entries_in hidden lead 0 line ≡ []
+none_in hidden lead line = grind arith
+
+more_in : (hidden : Bool) (lead line : List ℕ) (n : ℕ) → entries_in hidden lead (suc n) line ≡ entries_in hidden lead 1 line ++ entries_in hidden lead n line
+more_in hidden lead line n = grind arith
+
+-- the column of a line that one input alone has
+abbrev hidden_of : Comm → Side → Bool
+hidden_of job First = job.hide1
+hidden_of job Second = job.hide2
+
+abbrev lead_of : Comm → Side → List ℕ
+lead_of job First = []
+lead_of job Second = tab_unless job.hide1 ++ []
+
+module _ (job : Comm) (x : List ℕ) where
+  abbrev common : ℕ → Lines
+  common n = entries_in job.hide3 (tab_unless job.hide1 ++ tab_unless job.hide2) n x
+
+  entries_none : entries job x 0 0 ≡ []
+  entries_none = grind (arith, none_in)
+
+  only_first : (n : ℕ) → entries job x n 0 ≡ entries_in job.hide1 [] n x
+  only_first n = grind (arith, none_in, append-nil (entries_in job.hide1 [] n x))
+
+  only_second : (n : ℕ) → entries job x 0 n ≡ entries_in job.hide2 (tab_unless job.hide1) n x
+  only_second n = grind (arith, none_in)
+
+  one_common : entries job x 1 1 ≡ common 1
+  one_common = grind (arith, none_in, append-nil (common 1))
+
+  entries_both : (n k : ℕ) → entries job x (suc n) (suc k) ≡ entries job x 1 1 ++ entries job x n k
+  entries_both n k =
+      let m : min (suc n) (suc k) ≡ suc (min n k) = omega arith in
+      let a : suc n - suc k ≡ n - k = omega arith in
+      let b : suc k - suc n ≡ k - n = omega arith in
+      rw (one_common, m, a, b, more_in job.hide3 (tab_unless job.hide1 ++ tab_unless job.hide2) x (min n k)) (simp append_assoc)
+
+module _ (job : Comm) (cmp : Cmp) (key : Side → Key) where
+  line_by_line : IsLineByLine (comm_by job cmp key)
+  line_by_line = record {
+    none = entries_none job;
+    first = λ k x g. rw (only_first job k (suc (length g)), only_first job k 1, only_first job k (length g)) (more_in job.hide1 [] k (length g));
+    second = λ k x g. rw (only_second job k (suc (length g)), only_second job k 1, only_second job k (length g)) (more_in job.hide2 (tab_unless job.hide1) k (length g));
+  }
+
+  -- what is written of one line of one input, whose key is the line
+  written_alone : (s : Side) (x : List ℕ) → key s x ≡ x → by_keys (comm_by job cmp key) all_keys (alone s x) ≡ entries_in (hidden_of job s) (lead_of job s) 1 x
+  written_alone First x whole = rw (whole, (bytes_decides x x).1 refl, append-nil) (only_first job x 1)
+  written_alone Second x whole = simp (whole, (bytes_decides x x).1 refl, append-nil) (only_second job x 1)
+
+  -- and of a line that both have
+  written_both : IsKeyOrder cmp → (x y : List ℕ) → key First x ≡ x → key Second y ≡ key First x
+      → by_keys (comm_by job cmp key) all_keys (both (x ∷ []) (y ∷ [])) ≡ entries_in job.hide3 (tab_unless job.hide1 ++ tab_unless job.hide2) 1 x
+  written_both o x y whole same = simp (same ∙ whole, whole, tied_itself o.total x, (bytes_decides x x).1 refl, append-nil) (one_common job x)
+
+-- ---- what is known
 
 pub is_opened : (job : Comm) {cmp : Cmp} {key : Side → Key} {first second : Reader} {out : Output} {store : Slots} → IsKeyOrder cmp → IsReady first second store
     → IsSound first × IsSound second → (first.ending ≡ job.end) × (second.ending ≡ job.end) → out.faulted ≡ false → IsOpened (comm_by job cmp key) (seen first second out store)
@@ -189,17 +248,14 @@ module _ {job : Comm} {cmp : Cmp} {key : Side → Key} {old now : State} {one tw
 
         module _ {one3 two3 : Sorted} {reader2 : Reader} {last : Slots} (k : HasPassed key cmp Second one2 two2 one3 two3 (now.reader Second) reader2 after last new) where
           pub pair_on : IsTurn job cmp key old (state (both reader reader2) new last) one3 two3
-          pair_on =
-              let g = goes w stood First step.first h.came in
-              let m = goes_merging w stood First step.first h.came passed_sent in
-              record {
-                opened = w;
-                whole = whole;
-                running = rw k.on.others (runs_on w g Second step.second (rw h.on.others at k.came) m);
-                placed = k.on.placed;
-                lent = elim [ First ↦ rw k.on.others h.on.lent | Second ↦ k.on.lent ];
-                clean = k.on.clean;
-              }
+          pair_on = record {
+            opened = w;
+            whole = whole;
+            running = rw k.on.others (runs_on w (goes w stood First step.first h.came) Second step.second (rw h.on.others at k.came) (goes_merging w stood First step.first h.came passed_sent));
+            placed = k.on.placed;
+            lent = elim [ First ↦ rw k.on.others h.on.lent | Second ↦ k.on.lent ];
+            clean = k.on.clean;
+          }
 
   -- ---- the end
 

@@ -9,7 +9,7 @@ use Rattle.ptmerge.proofs.OfMerges.Bounds.{Bound, From, Coming, Under}
 use Rattle.ptmerge.proofs.OfJoin.GroupSlots.{AllSlots, Keeping, keeping_line, keeping_next, low_slot, put_more}
 use Rattle.ptmerge.proofs.OfMerges.Least.{EachKey, EachKey-append, EachKey-weaker, at_most-same, front_first, front_is, others_of, with_key-above}
 use Rattle.ptmerge.proofs.OfMerges.Orders.{IsKeyOrder, AtMost, least_or_above, self_at_most, at_most_trans}
-use Rattle.ptmerge.proofs.OfMerges.Pairs.{put_both, put_each, put_other, put_same}
+use Rattle.ptmerge.proofs.OfMerges.Pairs.{put_both, put_each, put_other, put_same, side_case}
 use Rattle.ptmerge.proofs.OfMerges.Passing.{Merging, Seen}
 use Rattle.ptmerge.proofs.OfMerges.Slotted.{has_lines_total, line_other}
 use Rattle.ptmerge.proofs.OfMerges.Splitting.{MayCome, all_keys, splits_step, all_wanted, passed_is_wanted}

@@ -9,7 +9,7 @@ use Rattle.ptmerge.proofs.OfMerges.Got.{Far}
 use Rattle.ptmerge.proofs.OfMerges.Least.{EachKey, EachKey-all, EachKey-weaker, Each-parts, kept_none}
 use Rattle.ptmerge.proofs.OfMerges.Orders.{IsKeyOrder, AtMost, at_most_trans}
 use Rattle.ptmerge.proofs.OfMerges.Passing.{not_below, down_decided, last_has, not_decided, past_none}
-use Rattle.ptmerge.proofs.OfParts.PartsOfKeys.{by_keys_kept}
+use Rattle.ptmerge.proofs.OfParts.PartsInOrder.{by_keys_kept}
 use Rattle.ptmerge.proofs.OfMerges.Splitting.{all_keys, down_begins}
 use Rattle.ptmerge.proofs.OfMerges.Pairs.{put_each, put_other, put_same}
 use Rattle.ptlines.proofs.Scanned.{IsLine-append}

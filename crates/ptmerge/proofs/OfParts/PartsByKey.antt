@@ -1,13 +1,12 @@
 -- What is written of lines that are dealt out by their keys.
-use Rattle.ptmerge.proofs.Common.{◌≡◌, ℕ, zero, suc, ◌+◌, ◌<◌, ◌==◌, ◌&&◌, ◌||◌, List, [], ◌∷◌, ◌++◌, Bool, true, false, cond, not, nat_lt, None, refl, ap, sym, ◌∙◌, subst, append_assoc, inr, arith}
-use Rattle.ptmerge.proofs.Common.{nat_tests, flat_map-append, filter, flat_map, range_with_len, AreLines, lines, text, the_lines_of_parts, Side, comm_tool, join_tool, Lines, Tool, distinct, disorder}
-use Rattle.ptmerge.proofs.Common.{keys, entries_of, by_keys, lines_of, merged_entries, CommByKey, IsByKey, JoinByKey, dealt, written_lines}
+use Rattle.ptmerge.proofs.Common.{◌≡◌, ℕ, zero, suc, ◌+◌, ◌<◌, ◌==◌, ◌&&◌, List, [], ◌∷◌, ◌++◌, Bool, true, false, cond, not, nat_lt, refl, ap, ◌∙◌, append_assoc, inr, arith, false≢true, nat_tests}
+use Rattle.ptmerge.proofs.Common.{flat_map-append, filter, flat_map, range_with_len, AreLines, lines, text, the_lines_of_parts, Side, comm_tool, join_tool, Lines, Tool, distinct, keys, entries_of}
+use Rattle.ptmerge.proofs.Common.{lines_of, merged_entries, CommByKey, IsByKey, JoinByKey, dealt, written_lines}
 use Rattle.std.proofs.lemmas.List.Sorted.{IsPermutation-refl, IsPermutation-trans, IsPermutation-append_left, IsPermutation-append_right, IsPermutation-append_comm}
 use Rattle.std.specs.List.Sorted.{IsPermutation}
 use Rattle.ptmerge.proofs.OfMerges.Orders.{IsKeyOrder, line_order}
 use Rattle.ptlines.proofs.TextLaws.{lines-text, lines_are}
-use Rattle.ptmerge.proofs.OfParts.PartsInOrder.{in_order_kept, merged_in_order, no_disorder, none_falls}
-use Rattle.ptmerge.proofs.OfParts.PartsOfKeys.{by_keys_kept}
+use Rattle.ptmerge.proofs.OfParts.PartsInOrder.{by_keys_kept, kept_in_order, merged_in_order}
 use Rattle.ptmerge.proofs.OfMerges.Splitting.{all_keys}
 
 -- ---- in some order
@@ -15,33 +14,35 @@ use Rattle.ptmerge.proofs.OfMerges.Splitting.{all_keys}
 module _ {A : Type 0} where
   -- two lists change places
   changed : (u v w : List A) → IsPermutation (u ++ (v ++ w)) (v ++ (u ++ w))
-  changed u v w = subst (λ l. IsPermutation l (v ++ (u ++ w))) (append_assoc u v w)
-      (subst (λ l. IsPermutation ((u ++ v) ++ w) l) (append_assoc v u w) (IsPermutation-append_left w (u ++ v) (v ++ u) (IsPermutation-append_comm u v)))
+  changed u v w = rw (← append_assoc u v w, ← append_assoc v u w) (IsPermutation-append_left w (u ++ v) (v ++ u) (IsPermutation-append_comm u v))
 
-  -- keys of two tests that exclude each other
-  of_either : (f : List ℕ → List A) (p q r : List ℕ → Bool) → ((k : List ℕ) → (p k ≡ (q k || r k)) × ((q k && r k) ≡ false)) → (ks : Lines)
-      → IsPermutation (flat_map f (filter p ks)) (flat_map f (filter q ks) ++ flat_map f (filter r ks))
-  of_either f p q r apart [] = IsPermutation-refl []
-  of_either f p q r apart (k ∷ ks) = by (p k) (q k) (r k) (apart k) (of_either f p q r apart ks)
+  -- keys of a test, and the others
+  of_some : (f : List ℕ → List A) (p q : List ℕ → Bool) → ((k : List ℕ) → q k ≡ true → p k ≡ true) → (ks : Lines)
+      → IsPermutation (flat_map f (filter p ks)) (flat_map f (filter q ks) ++ flat_map f (filter (λ k. p k && not (q k)) ks))
+  of_some f p q all [] = IsPermutation-refl []
+  of_some f p q all (k ∷ ks) = by (p k) (q k) (all k) (IsPermutation-append_right (f k) _ _ (of_some f p q all ks)) (of_some f p q all ks)
     where
-      by : (b c d : Bool) → (b ≡ (c || d)) × ((c && d) ≡ false) → IsPermutation (flat_map f (filter p ks)) (flat_map f (filter q ks) ++ flat_map f (filter r ks))
-          → IsPermutation (flat_map f (cond b (k ∷ filter p ks) (filter p ks))) (flat_map f (cond c (k ∷ filter q ks) (filter q ks)) ++ flat_map f (cond d (k ∷ filter r ks) (filter r ks)))
-      by b true true h ih = cc
-      by b true false h ih = rw (h.0, append_assoc (f k) (flat_map f (filter q ks)) (flat_map f (filter r ks))) (IsPermutation-append_right (f k) _ _ ih)
-      by b false true h ih = rw h.0 (IsPermutation-trans _ _ _ (IsPermutation-append_right (f k) _ _ ih) (changed (f k) (flat_map f (filter q ks)) (flat_map f (filter r ks))))
-      by b false false h ih = rw h.0 ih
+      own : List A
+      own = flat_map f (filter q ks)
+
+      rest : List A
+      rest = flat_map f (filter (λ k. p k && not (q k)) ks)
+
+      by : (b c : Bool) → (c ≡ true → b ≡ true) → IsPermutation (f k ++ flat_map f (filter p ks)) (f k ++ (own ++ rest)) → IsPermutation (flat_map f (filter p ks)) (own ++ rest)
+          → IsPermutation (flat_map f (cond b (k ∷ filter p ks) (filter p ks)))
+          (flat_map f (cond c (k ∷ filter q ks) (filter q ks)) ++ flat_map f (cond (b && not c) (k ∷ filter (λ k. p k && not (q k)) ks) (filter (λ k. p k && not (q k)) ks)))
+      by true true h more ih = rw (append_assoc (f k) own rest) more
+      by true false h more ih = IsPermutation-trans _ _ _ more (changed (f k) own rest)
+      by false true h more ih = absurd (false≢true (h refl))
+      by false false h more ih = ih
 
   -- Of some keys, those that go to each part from a on.
   of_each : (f : List ℕ → List A) (part_of : List ℕ → ℕ) (w : List ℕ → Bool) (a n : ℕ) → ((k : List ℕ) → (w k ≡ not (nat_lt (part_of k) a)) × part_of k < a + n) → (ks : Lines)
       → IsPermutation (flat_map f (filter w ks)) (flat_map (λ i. flat_map f (filter (λ k. part_of k == i) ks)) (range_with_len a n))
   of_each f part_of w a zero h [] = IsPermutation-refl []
-  of_each f part_of w a zero h (k ∷ ks) =
-      let out : w k ≡ false = grind (arith, nat_tests, h k) in
-      rw out (of_each f part_of w a zero h ks)
-  of_each f part_of w a (suc n) h ks =
-      let from : List ℕ → Bool = λ k. not (nat_lt (part_of k) (a + 1)) in
-      IsPermutation-trans _ _ _ (of_either f w (λ k. part_of k == a) from (λ k. (grind (arith, nat_tests, h k), grind (arith, nat_tests))) ks)
-      (IsPermutation-append_right _ _ _ (of_each f part_of from (a + 1) n (λ k. (refl, omega (arith, h k))) ks))
+  of_each f part_of w a zero h (k ∷ ks) = let out : w k ≡ false = grind (arith, nat_tests, h k) in rw out (of_each f part_of w a zero h ks)
+  of_each f part_of w a (suc n) h ks = IsPermutation-trans _ _ _ (of_some f w (λ k. part_of k == a) (λ k here. grind (arith, nat_tests, h k, here)) ks)
+      (IsPermutation-append_right _ _ _ (of_each f part_of (λ k. w k && not (part_of k == a)) (a + 1) n (λ k. (grind (arith, nat_tests, h k), omega (arith, h k))) ks))
 
 -- ---- texts
 
@@ -56,17 +57,14 @@ nested g f (k ∷ ks) = flat_map-append g (f k) (flat_map f ks) ∙ ap (λ l. fl
 
 lines_kept : (end : ℕ) (q : List ℕ → Bool) (ls : Lines) → AreLines end ls → AreLines end (filter q ls)
 lines_kept end q [] e = tt
-lines_kept end q (x ∷ ls) e = elim (q x) as (λ b. AreLines end (cond b (x ∷ filter q ls) (filter q ls))) [ true ↦ (e.0, lines_kept end q ls e.1) | false ↦ lines_kept end q ls e.1 ]
+lines_kept end q (x ∷ ls) e = let ih = lines_kept end q ls e.1 in grind (arith, ih)
 
 -- the lines of a text that is made of lines of another one
 lines_dealt : (end : ℕ) (q : List ℕ → Bool) (bytes : List ℕ) → lines end (text end (filter q (lines end bytes))) ≡ filter q (lines end bytes)
 lines_dealt end q bytes = lines-text end (filter q (lines end bytes)) (lines_kept end q (lines end bytes) (lines_are end bytes))
 
 pub of_keys : (tool : Tool) → IsKeyOrder tool.cmp → IsByKey tool
-of_keys tool o inputs part_of parts in_order below =
-    subst (λ (l : Lines). IsPermutation l (flat_map (λ i. written_lines tool (dealt tool part_of inputs i)) (range_with_len 0 parts))) (sym whole)
-    (subst (λ (h : ℕ → Lines). IsPermutation (flat_map each (filter all_keys ds)) (flat_map h (range_with_len 0 parts))) (λ t i. sym (of_part i) t)
-    (of_each each part_of all_keys 0 parts (λ k. (grind (arith, nat_tests), omega (arith, below k))) ds))
+of_keys tool o inputs part_of parts in_order below = simp (whole, of_part) (of_each each part_of all_keys 0 parts (λ k. (grind (arith, nat_tests), omega (arith, below k))) ds)
   where
     ls : Side → Lines
     ls = lines_of tool inputs
@@ -80,28 +78,19 @@ of_keys tool o inputs part_of parts in_order below =
     each : List ℕ → Lines
     each k = flat_map entry_lines (entries_of tool ls k)
 
-    goes_to : ℕ → List ℕ → Bool
-    goes_to i k = part_of k == i
+    written : (ks : Lines) → lines tool.end (text tool.end (flat_map (entries_of tool ls) ks)) ≡ flat_map each ks
+    written ks = lines_of_entries tool.end (flat_map (entries_of tool ls) ks) ∙ nested entry_lines (entries_of tool ls) ks
 
-    part_lines : ℕ → Side → Lines
-    part_lines i side = filter (λ line. part_of (tool.key side line) == i) (ls side)
-
-    part_order : (i : ℕ) → disorder tool (part_lines i) ≡ None
-    part_order i = no_disorder tool o (part_lines i) (λ side. in_order_kept tool.cmp o (tool.key side) (λ line. part_of (tool.key side line) == i) (ls side) (none_falls tool o ls in_order side))
-
-    written : (es : Lines) → lines tool.end (text tool.end es) ≡ flat_map entry_lines es
-    written es = lines_of_entries tool.end es
-
-    of_part : (i : ℕ) → written_lines tool (dealt tool part_of inputs i) ≡ flat_map each (filter (goes_to i) ds)
+    of_part : (i : ℕ) → written_lines tool (dealt tool part_of inputs i) ≡ flat_map each (filter (λ k. part_of k == i) ds)
     of_part i =
-        (λ t. lines tool.end (text tool.end (merged_entries tool (λ side. lines_dealt tool.end (λ line. part_of (tool.key side line) == i) (inputs side) t))))
-        ∙ ap (λ es. lines tool.end (text tool.end es)) (merged_in_order tool o (part_lines i) (part_order i)) ∙ written (by_keys tool all_keys (part_lines i))
-        ∙ ap (flat_map entry_lines) (by_keys_kept (goes_to i) tool o ls all_keys) ∙ nested entry_lines (entries_of tool ls) (filter (goes_to i) ds)
+        let goes : List ℕ → Bool = λ k. part_of k == i in
+        let part : Side → Lines = λ side. filter (λ line. goes (tool.key side line)) (ls side) in
+        let in_part = merged_in_order tool o part (kept_in_order tool o (λ side line. goes (tool.key side line)) ls in_order) ∙ by_keys_kept goes tool o ls all_keys in
+        (λ t. lines tool.end (text tool.end (merged_entries tool (λ side. lines_dealt tool.end (λ line. goes (tool.key side line)) (inputs side) t))))
+        ∙ ap (λ es. lines tool.end (text tool.end es)) in_part ∙ written (filter goes ds)
 
     whole : written_lines tool inputs ≡ flat_map each (filter all_keys ds)
-    whole =
-        ap (λ es. lines tool.end (text tool.end es)) (merged_in_order tool o ls in_order) ∙ written (by_keys tool all_keys ls)
-        ∙ nested entry_lines (entries_of tool ls) (filter all_keys ds)
+    whole = ap (λ es. lines tool.end (text tool.end es)) (merged_in_order tool o ls in_order) ∙ written (filter all_keys ds)
 
 pub comm_of_keys : CommByKey
 comm_of_keys job = of_keys (comm_tool job) (line_order job.descending)

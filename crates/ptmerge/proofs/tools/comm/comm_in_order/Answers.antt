@@ -45,9 +45,8 @@ go_on-requires-clause-stands g c = rw c.pass-in-Both.ensures.order (second_stand
 
 pub steps-preserved-in-Continue-branch-2 : goal.steps-preserved-in-Continue-branch-2
 steps-preserved-in-Continue-branch-2 g c =
-    let i = c.steps.invariant in
     let p = c.pass.ensures in
-    record { turn = rw p.order (alone_on i.turn c.in-First.ensures (cc) refl p.wrote c.in_ok-pass-in-First.ensures.passes); order = p.order ∙ i.order }
+    record { turn = rw p.order (alone_on c.steps.invariant.turn c.in-First.ensures (cc) refl p.wrote c.in_ok-pass-in-First.ensures.passes); order = p.order ∙ c.steps.invariant.order }
 
 pub steps-preserved-in-Continue-branch-3 : goal.steps-preserved-in-Continue-branch-3
 steps-preserved-in-Continue-branch-3 g c =
@@ -72,34 +71,28 @@ steps-smaller-in-Continue-branch-3 g c = alone_less c.steps.invariant.turn c.in-
 
 pub steps-smaller : goal.steps-smaller
 steps-smaller g c =
-    let p = c.pass-in-Both.ensures in
-    let on = rw p.order at c.in_ok-go_on-in-Both.ensures.passes in
-    pair_less c.steps.invariant.turn c.in-Both.ensures c.in_ok-pass-in-Both.ensures.passes on
+    pair_less c.steps.invariant.turn c.in-Both.ensures c.in_ok-pass-in-Both.ensures.passes (rw c.pass-in-Both.ensures.order at c.in_ok-go_on-in-Both.ensures.passes)
 
 pub returns-in_err-pass-in-First : goal.returns-in_err-pass-in-First
 returns-in_err-pass-in-First g c =
-    let i = c.steps.invariant in
-    rw i.order at (alone_stops i.turn c.in-First.ensures (cc) refl c.pass.ensures.wrote
+    rw c.steps.invariant.order at (alone_stops c.steps.invariant.turn c.in-First.ensures (cc) refl c.pass.ensures.wrote
     (is_told c.from_residual-in_err-pass-in-First.ensures.1) c.in_err-pass-in-First.ensures.passes)
 
 pub returns-in_err-pass-in-Second : goal.returns-in_err-pass-in-Second
 returns-in_err-pass-in-Second g c =
-    let i = c.steps.invariant in
-    rw i.order at (alone_stops i.turn c.in-Second.ensures (cc) c.lead-lead2.ensures c.pass-in-Second.ensures.wrote
+    rw c.steps.invariant.order at (alone_stops c.steps.invariant.turn c.in-Second.ensures (cc) c.lead-lead2.ensures c.pass-in-Second.ensures.wrote
     (is_told c.from_residual-in_err-pass-in-Second.ensures.1) c.in_err-pass-in-Second.ensures.passes)
 
 pub returns-in_err-pass-in-Both : goal.returns-in_err-pass-in-Both
 returns-in_err-pass-in-Both g c =
-    let i = c.steps.invariant in
-    rw i.order at (pair_stops i.turn c.in-Both.ensures (c.ending-ending.ensures ∙ c.requires.ending.0) c.lead-lead3.ensures c.pass-in-Both.ensures.wrote
+    rw c.steps.invariant.order at (pair_stops c.steps.invariant.turn c.in-Both.ensures (c.ending-ending.ensures ∙ c.requires.ending.0) c.lead-lead3.ensures c.pass-in-Both.ensures.wrote
     (is_told c.from_residual-in_err-pass-in-Both.ensures.1) c.in_err-pass-in-Both.ensures.passes)
 
 pub returns-in_err-go_on-in-Both : goal.returns-in_err-go_on-in-Both
 returns-in_err-go_on-in-Both g c =
     let i = c.steps.invariant in
-    let p = c.pass-in-Both.ensures in
-    rw i.order at (second_stops i.turn c.in-Both.ensures (c.ending-ending.ensures ∙ c.requires.ending.0) c.lead-lead3.ensures p.wrote c.in_ok-pass-in-Both.ensures.passes c.go_on.ensures.sent
-    (is_told c.from_residual-in_err-go_on-in-Both.ensures.1) c.in_err-go_on-in-Both.ensures.passes)
+    rw i.order at (second_stops i.turn c.in-Both.ensures (c.ending-ending.ensures ∙ c.requires.ending.0) c.lead-lead3.ensures c.pass-in-Both.ensures.wrote
+    c.in_ok-pass-in-Both.ensures.passes c.go_on.ensures.sent (is_told c.from_residual-in_err-go_on-in-Both.ensures.1) c.in_err-go_on-in-Both.ensures.passes)
 
 pub returns-in-End : goal.returns-in-End
 returns-in-End g c = rw c.steps.invariant.order at (ended c.steps.invariant.turn c.clear_four.ensures c.in-End.ensures)
