@@ -134,6 +134,18 @@ rmdir "$room/strict/share/man/man1/ptext.1"
 install uninstall PREFIX="$room/strict" DESTDIR=
 is "and goes whole" "" "$(ls -A "$room/strict")"
 
+# Files of others stay, whatever their names.
+mkdir "$room/others" "$room/others/bin"
+for name in ptext.new ptext.old; do
+    echo kept >"$room/others/bin/$name"
+done
+before=$(listed "$room/others")
+install install PREFIX="$room/others" DESTDIR=
+install install PREFIX="$room/others" DESTDIR=
+is "nothing of its own is left beside them" "" "$(find "$room/others" -name '.ptext-*')"
+install uninstall PREFIX="$room/others" DESTDIR=
+is "files of others stay" "$before" "$(listed "$room/others")"
+
 # Without rights: as nobody, where the tests run as root.
 mkdir "$room/locked"
 chmod 555 "$room/locked"

@@ -12,6 +12,7 @@ import contextlib
 import os
 import shlex
 import shutil
+import signal
 import subprocess
 import sys
 import tempfile
@@ -62,6 +63,8 @@ class Place:
         self.noted = lines_of(f"{self.root}/{NOTED}")
         # what to do to have all as it was before, the last first
         self.undoing = []
+        # what stood there before, under the names that it has until all went well
+        self.kept = []
 
     def note(self, path):
         name = os.path.relpath(path, self.root)
@@ -77,14 +80,23 @@ class Place:
             os.chmod(folder, 0o755)
             self.note(folder)
 
+    def unused_beside(self, path):
+        """An empty file of a name that nothing beside the path has. It goes where the installation does not go well."""
+        try:
+            descriptor, name = tempfile.mkstemp(prefix=".ptext-", dir=os.path.dirname(path))
+        except OSError as why:
+            raise OSError(why.errno, why.strerror, path) from why
+        os.close(descriptor)
+        self.undoing.append(lambda: os.path.lexists(name) and os.remove(name))
+        return name
+
     def put(self, name, mode, text):
         """Puts a file in place once it is written whole; the one that stood there is kept until all went well."""
         path = f"{self.root}/{name}"
         self.make_folder(os.path.dirname(path))
         if os.path.isdir(path) and not os.path.islink(path):
             raise IsADirectoryError(0, "there is a folder of that name", path)
-        new, old = f"{path}.new", f"{path}.old"
-        self.undoing.append(lambda: os.path.lexists(new) and os.remove(new))
+        new = self.unused_beside(path)
         try:
             with open(new, "wb") as it:
                 it.write(text)
@@ -93,9 +105,11 @@ class Place:
             raise OSError(why.errno, why.strerror, path if why.filename is None else why.filename) from why
         os.chmod(new, mode)
         if os.path.lexists(path):
-            os.rename(path, old)
-            self.undoing.append(lambda: os.rename(old, path))
-        os.rename(new, path)
+            old = self.unused_beside(path)
+            os.replace(path, old)
+            self.undoing.append(lambda: os.replace(old, path))
+            self.kept.append(old)
+        os.replace(new, path)
         self.undoing.append(lambda: os.remove(path))
         self.note(path)
 
@@ -111,10 +125,8 @@ class Place:
 
     def settle(self):
         """All went well: what stood there before goes."""
-        for name in self.noted:
-            old = f"{self.root}/{name}.old"
-            if os.path.lexists(old):
-                os.remove(old)
+        for old in self.kept:
+            os.remove(old)
 
 
 def files(prefix, with_tools):
@@ -182,6 +194,8 @@ def main():
         return "PREFIX is empty. Nothing was done."
     if sys.argv[2].startswith("~"):
         return "PREFIX begins with ~, which the shell did not expand: write $HOME. Nothing was done."
+    # An installation that is ended leaves all as it was, as one that is stopped by Ctrl-C.
+    signal.signal(signal.SIGTERM, signal.default_int_handler)
     return does[sys.argv[1]](Place(sys.argv[2], (sys.argv[3:] or [""])[0]))
 
 
