@@ -1,10 +1,110 @@
--- The lists that are accepted are those of the grammar.
-use Rattle.ptlangs.proofs.Common.{◌≡◌, ℕ, Bool, true, false, ◌||◌, ◌&&◌, ltb, eqb, cond, List, [], ◌∷◌, ◌++◌, Some, None, Ok, refl, sym, ◌∙◌, ap, subst, arith, is_ascii_digit, All, slice_split}
-use Rattle.ptlangs.proofs.Common.{le-ltb, ne_eqb, or_from, cond-true, and_parts, eqb-true, nat_tests, All-cons, All-append, slice_split_at, IsProper, IsElement, One, FromTo, UpTo, From}
-use Rattle.ptlangs.proofs.Common.{IsProperElement, ends, said, checked, is_dash, element, AcceptsTheGrammar, greatest, is_empty, is_number, value, is_separator, Interval}
-use Rattle.ptlangs.proofs.ListGrammar.{digits_fail, digit_no_separator, IsSplit, Whole, Cut, splits, Accepts, from_grammar, to_grammar}
-use Rattle.ptlangs.proofs.CutElements.{said_behind_dash, end_is_one_piece}
-use Rattle.ptlangs.proofs.Reading.{checked_proper}
+-- The lists of `cut`: their elements, that those that are accepted are those of the grammar, and the intervals that are kept.
+use Rattle.ptlangs.proofs.Common.{◌≡◌, Bool, Err, List, None, Ok, Option, Some, [], ap, arith, cond, drop, eqb, false, get_or, inl, inr, leb, length, ltb, not, refl, subst, suc, sym, take, true, ℕ}
+use Rattle.ptlangs.proofs.Common.{◌&&◌, ◌++◌, ◌+◌, ◌-◌, ◌<◌, ◌||◌, ◌∙◌, ◌∷◌, and_left, and_parts, and_right, cases_Bool, cond-false, cond-true, eqb-false, eqb-true, le-ltb, ltb-false, ne_eqb, or_from}
+use Rattle.ptlangs.proofs.Common.{or_parts, nat_tests, All-append, All-cons, list_any-IsPermutation, join_with_byte-slice_split, length-slice_split, slice_split_at, slice_split_none}
+use Rattle.ptlangs.proofs.Common.{AllPass-from_list_all, is_ascii_digit, All, join_with_byte, list_all, position, slice_split, AcceptsTheGrammar, AreInOrder, From, FromTo, IsElement, IsProper}
+use Rattle.ptlangs.proofs.Common.{IsProperElement, One, UpTo, checked, cut_list, element, ends, is_dash, is_end, is_selected, said, selection, and_then, each, greatest, is_empty, is_number}
+use Rattle.ptlangs.proofs.Common.{is_separator, value, Interval}
+use Rattle.std.specs.List.Sorted.{IsNonDecreasingBy, IsPermutation}
+use Rattle.ptlangs.specs.declared.ranges.ListFault.TheVariants.{TooLarge, Zero, Descending}
+use Rattle.ptlangs.proofs.Elements.{split_whole, split_around, some_since, digits_fail, digit_no_separator, IsSplit, Whole, Cut, splits, reads_first, Accepts, from_grammar, to_grammar}
+
+-- ---- the elements, split at dashes
+
+-- digits have no dash
+digit_no_dash : (b : ℕ) → is_ascii_digit b ≡ true → is_dash b ≡ false
+digit_no_dash b h = grind (arith, nat_tests)
+
+end_is_one_piece : (m : List ℕ) → is_end m ≡ true → slice_split is_dash m ≡ m ∷ []
+end_is_one_piece [] h = refl
+end_is_one_piece (b ∷ bs) h =
+    slice_split_none is_dash (b ∷ bs) (λ k d below. digit_no_dash (get_or (b ∷ bs) k d) (AllPass-from_list_all is_ascii_digit (b ∷ bs) h k d below))
+
+ends_refused : (n m : List ℕ) → is_end m ≡ false → ends n m ≡ None
+ends_refused n m h =
+    let some = not (is_empty n && is_empty m) in
+    cond-false (is_end n && is_end m && some) _ None (and_left (is_end n && is_end m) some (and_right (is_end n) (is_end m) h))
+
+refused : (n m : List ℕ) → (parts : List (List ℕ)) → 0 < length parts → join_with_byte 45 parts ≡ m → is_end m ≡ false → said (n ∷ parts) ≡ None
+refused n m [] some joined h = absurd (omega arith)
+refused n m (p ∷ []) some joined h =
+    let e : is_end p ≡ false = ap is_end joined ∙ h in
+    ends_refused n p e
+refused n m (p ∷ q ∷ rest) some joined h = refl
+
+-- behind the first dash stands the second end, or the element is refused
+said_behind_dash : (n m : List ℕ) → said (n ∷ slice_split is_dash m) ≡ ends n m
+said_behind_dash n m = elim (cases_Bool (is_end m)) [
+  | inl e ↦ ap (λ parts. said (n ∷ parts)) (end_is_one_piece m e)
+  | inr e ↦ refused n m (slice_split is_dash m) (omega (arith, length-slice_split is_dash m)) (join_with_byte-slice_split 45 m) e ∙ sym (ends_refused n m e)
+]
+
+twice : {X : Type 0} (b : Bool) (x y : X) → cond b x y ≡ cond ((b && b) && true) x y
+twice true x y = refl
+twice false x y = refl
+
+-- without a dash, the element is both ends
+pub said_whole : (bs : List ℕ) → position is_dash bs ≡ None → is_empty bs ≡ false → said (slice_split is_dash bs) ≡ ends bs bs
+said_whole [] h some = cc
+said_whole (b ∷ bs) h some = ap said (split_whole is_dash (b ∷ bs) h) ∙ twice (list_all is_ascii_digit (b ∷ bs)) _ _
+
+pub said_around : (bs : List ℕ) (i : ℕ) → position is_dash bs ≡ Some i → said (slice_split is_dash bs) ≡ ends (take i bs) (take (length bs - (i + 1)) (drop (i + 1) bs))
+said_around bs i h = ap said (split_around is_dash bs i h) ∙ said_behind_dash (take i bs) (take (length bs - (i + 1)) (drop (i + 1) bs))
+
+-- ---- from the intervals of a list, as they stand in it, to those that are kept
+
+chosen : (large zero falls : Bool) (s r : Interval) → cond large (Err TooLarge) (cond zero (Err Zero) (cond falls (Err Descending) (Ok s))) ≡ Ok r
+    → (large ≡ false) × (zero ≡ false) × (falls ≡ false) × (s ≡ r)
+chosen true zero falls s r h = cc
+chosen false true falls s r h = cc
+chosen false false true s r h = cc
+chosen false false false s r h = (refl, refl, refl, cc)
+
+checked_proper : (said : Option Interval) (r : Interval) → checked said ≡ Ok r → (said ≡ Some r) × IsProper r
+checked_proper None r h = cc
+checked_proper (Some s) r h =
+    let p = chosen (ltb greatest s.first || ltb greatest s.last) (eqb s.first 0 || eqb s.last 0) (ltb s.last s.first) s r h in
+    let large = or_parts (ltb greatest s.first) (ltb greatest s.last) p.0 in
+    let zero = or_parts (eqb s.first 0) (eqb s.last 0) p.1 in
+    let proper : IsProper s = record {
+      positive = omega (arith, eqb-false s.first 0 zero.0);
+      ascending = ltb-false s.last s.first p.2;
+      fits = ltb-false greatest s.last large.1;
+    } in
+    (ap Some p.3, subst IsProper p.3 proper)
+
+element_proper : (bs : List ℕ) (r : Interval) → element bs ≡ Ok r → IsProper r
+element_proper [] r h = cc
+element_proper (b ∷ bs) r h = (checked_proper (said (slice_split is_dash (b ∷ bs))) r h).1
+
+pub each_proper : (all : List (List ℕ)) (rs : List Interval) → each element all ≡ Ok rs → All IsProper rs
+each_proper [] [] h = λ k d below. absurd (omega arith)
+each_proper [] (r ∷ rs) h = cc
+each_proper (x ∷ all) rs h =
+    let f = reads_first (element x) (each element all) rs h in
+    subst (All IsProper) f.is (All-cons IsProper f.head f.tail (element_proper x f.head f.read) (each_proper all f.tail f.rest))
+
+ordered_behind : (x : Interval) (xs : List Interval) → All IsProper (x ∷ xs) → IsNonDecreasingBy (λ (r : Interval). r.first) (x ∷ xs) → AreInOrder x.first xs
+ordered_behind x [] proper up = tt
+ordered_behind x (y ∷ xs) proper up = (
+  up 0 1 x (omega arith) (omega arith),
+  (proper 1 x (omega arith)).ascending,
+  ordered_behind y xs (λ k d below. proper (suc k) d (omega arith))
+      (λ i j d le below. up (suc i) (suc j) d (omega arith) (omega arith)),
+)
+
+pub in_order : (xs : List Interval) → All IsProper xs → IsNonDecreasingBy (λ (r : Interval). r.first) xs → AreInOrder 1 xs
+in_order [] proper up = tt
+in_order (x ∷ xs) proper up =
+    let p = proper 0 x (omega arith) in
+    (p.positive, p.ascending, ordered_behind x xs proper up)
+
+-- the set is that of the intervals in any order
+pub selection_is : (bs : List ℕ) (listed sorted kept : List Interval) → cut_list bs ≡ Ok listed → IsPermutation listed sorted → is_selected kept
+    ≡ is_selected sorted → selection bs ≡ Ok (is_selected kept)
+selection_is bs listed sorted kept e p same =
+    let moved : is_selected listed ≡ is_selected sorted = λ i n. list_any-IsPermutation (λ (r : Interval). leb r.first n && leb n r.last) listed sorted p i in
+    ap (λ v. and_then v (λ rs. Ok (is_selected rs))) e ∙ ap Ok (moved ∙ sym same)
 
 -- ---- from the grammar
 
@@ -15,9 +115,6 @@ checked_ok r proper =
     (ne_eqb r.last 0 (λ e. omega (arith, proper.positive, proper.ascending, e))) in
     let falls : ltb r.last r.first ≡ false = le-ltb r.last r.first proper.ascending in
     rw (large, zero, falls) refl
-
-digit_no_dash : (b : ℕ) → is_ascii_digit b ≡ true → is_dash b ≡ false
-digit_no_dash b h = grind (arith, nat_tests)
 
 said_of : (bs : List ℕ) (r : Interval) → IsElement bs r → (is_empty bs ≡ false) × (said (slice_split is_dash bs) ≡ Some r)
 said_of bs r (One [] h) = cc
@@ -48,13 +145,6 @@ no_separator bs r (From n h) =
 
 -- ---- to the grammar
 
-none≢some : (r : Interval) → None ≡ Some r → ⊥
-none≢some r e = cc
-
-some_since : (t : Bool) (x r : Interval) → cond t (Some x) None ≡ Some r → (t ≡ true) × (x ≡ r)
-some_since true x r e = (refl, cc)
-some_since false x r e = cc
-
 spelled_one : (bs : List ℕ) (r : Interval) → cond (is_number bs) (Some (record { first = value bs; last = value bs })) None ≡ Some r → IsElement bs r
 spelled_one bs r e =
     let s = some_since (is_number bs) (record { first = value bs; last = value bs }) r e in
@@ -81,8 +171,7 @@ spelled_cut : (n : List ℕ) (s : ℕ) (bs : List ℕ) (rest : List (List ℕ)) 
 spelled_cut n s bs rest r at (Whole xs) e =
     subst (λ (d : ℕ). IsElement (n ++ d ∷ xs) r) (sym at) (spelled_ends n xs r e)
 spelled_cut n s bs rest r at (Cut m d xs others cut split) e =
-    let none = three_pieces n m xs others split in
-    absurd (none≢some r (sym none ∙ e))
+    let none : None ≡ Some r = sym (three_pieces n m xs others split) ∙ e in cc
 
 spelled : (bs : List ℕ) (parts : List (List ℕ)) (r : Interval) → IsSplit is_dash bs parts → said parts ≡ Some r → IsElement bs r
 spelled bs parts r (Whole xs) e = spelled_one xs r e

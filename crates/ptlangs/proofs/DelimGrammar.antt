@@ -1,8 +1,8 @@
--- The lists of `paste` that are accepted are those of the grammar.
-use Rattle.ptlangs.proofs.Common.{◌≡◌, ℕ, ◌<◌, Bool, true, false, eqb, cond, List, [], ◌∷◌, ◌++◌, length, codes, Option, Some, None, Result, Ok, Err, refl, sym, ◌∙◌, ap, subst, arith, eqb-true}
-use Rattle.ptlangs.proofs.Common.{DelimFault, backslash, escape, delims, delim_list, IsDelim, Newline, Tab, Backslash, Nothing, IsDelimList, Last, More, and_then, put_first}
-use Rattle.std.proofs.Common.{append-nil}
-use Rattle.ptlangs.proofs.ListGrammar.{reads_first}
+-- The lists of `paste` that are accepted are those of the grammar, and the fault of a list is never want of memory.
+use Rattle.ptlangs.proofs.Common.{◌≡◌, Bool, Err, List, None, Ok, Option, Result, Some, [], ap, arith, cond, eqb, false, length, refl, subst, sym, true, ℕ, ◌++◌, ◌<◌, ◌∙◌, ◌∷◌, eqb-true, append-nil}
+use Rattle.ptlangs.proofs.Common.{result_err, Backslash, IsDelim, IsDelimList, Last, More, Newline, Nothing, Tab, backslash, delim_list, delims, escape, fault_of, and_then, put_first, DelimFault}
+use Rattle.std.proofs.lemmas.Bool.{cond_both}
+use Rattle.ptlangs.proofs.Elements.{reads_first}
 use Rattle.ptlangs.specs.declared.delims.DelimFault.TheVariants.{Escape}
 use Rattle.ptlangs.specs.DelimLists.{Plain, AcceptsTheGrammar}
 
@@ -30,58 +30,84 @@ accepts bs ds (More e rest d others is list) = reads_one e rest d is ∙ ap (put
 
 -- ---- to the grammar
 
-escaped_by : (c : ℕ) (d : Option ℕ) (n t b z : Bool) → eqb c 110 ≡ n → eqb c 116 ≡ t → eqb c backslash ≡ b → eqb c 48 ≡ z
-    → cond n (Ok (Some 10)) (cond t (Ok (Some 9)) (cond b (Ok (Some backslash)) (cond z (Ok None) (Err Escape)))) ≡ Ok d → IsDelim (backslash ∷ c ∷ []) d
-escaped_by c d true t b z hn ht hb hz h =
-    let is : Some 10 ≡ d = cc in
-    subst (λ (x : ℕ). IsDelim (backslash ∷ x ∷ []) d) (sym (eqb-true c 110 hn)) (subst (IsDelim (codes "\\n")) is Newline)
-escaped_by c d false true b z hn ht hb hz h =
-    let is : Some 9 ≡ d = cc in
-    subst (λ (x : ℕ). IsDelim (backslash ∷ x ∷ []) d) (sym (eqb-true c 116 ht)) (subst (IsDelim (codes "\\t")) is Tab)
-escaped_by c d false false true z hn ht hb hz h =
-    let is : Some backslash ≡ d = cc in
-    subst (λ (x : ℕ). IsDelim (backslash ∷ x ∷ []) d) (sym (eqb-true c backslash hb)) (subst (IsDelim (codes "\\\\")) is Backslash)
-escaped_by c d false false false true hn ht hb hz h =
-    let is : None ≡ d = cc in
-    subst (λ (x : ℕ). IsDelim (backslash ∷ x ∷ []) d) (sym (eqb-true c 48 hz)) (subst (IsDelim (codes "\\0")) is Nothing)
-escaped_by c d false false false false hn ht hb hz h = cc
+abbrev Spells : ℕ → Option ℕ → Result (Option ℕ) DelimFault → Type 0
+Spells c d r = r ≡ Ok d → IsDelim (backslash ∷ c ∷ []) d
 
-escaped : (c : ℕ) (d : Option ℕ) → escape c ≡ Ok d → IsDelim (backslash ∷ c ∷ []) d
-escaped c d h = escaped_by c d (eqb c 110) (eqb c 116) (eqb c backslash) (eqb c 48) refl refl refl refl h
+spelled_by : (c b : ℕ) (d e : Option ℕ) → eqb c b ≡ true → IsDelim (backslash ∷ b ∷ []) e → Spells c d (Ok e)
+spelled_by c b d e t says h = let is : e ≡ d = cc in rw (eqb-true c b t) (subst (IsDelim (backslash ∷ b ∷ [])) is says)
+
+escaped : (c : ℕ) (d : Option ℕ) → Spells c d (escape c)
+escaped c d =
+    cond_both (eqb c 110) _ _ (Spells c d) (λ t. spelled_by c 110 d (Some 10) t Newline)
+    (λ n. cond_both (eqb c 116) _ _ (Spells c d) (λ t. spelled_by c 116 d (Some 9) t Tab)
+    (λ n. cond_both (eqb c backslash) _ _ (Spells c d) (λ t. spelled_by c backslash d (Some backslash) t Backslash)
+    (λ n. cond_both (eqb c 48) _ _ (Spells c d) (λ t. spelled_by c 48 d None t Nothing) (λ n h. cc))))
 
 -- an element, and a list or nothing behind it
-before : (e rest : List ℕ) (d : Option ℕ) (ds : List (Option ℕ)) → IsDelim e d → put_first d (delims rest) ≡ Ok ds
-    → ((xs : List (Option ℕ)) → delim_list rest ≡ Ok xs → IsDelimList rest xs) → IsDelimList (e ++ rest) ds
-before e [] d ds is h list =
-    let one : d ∷ [] ≡ ds = cc in
-    subst (λ (l : List ℕ). IsDelimList l ds) (sym (append-nil e)) (subst (IsDelimList e) one (Last e d is))
-before e (b ∷ bs) d ds is h list =
-    let f = reads_first (Ok d) (delims (b ∷ bs)) ds h in
-    let first : d ≡ f.head = cc in
-    subst (IsDelimList (e ++ b ∷ bs)) f.is (More e (b ∷ bs) f.head f.tail (subst (IsDelim e) first is) (list f.tail f.rest))
-
-behind_escape : (c : ℕ) (more : List ℕ) (ds : List (Option ℕ)) (read : Result (Option ℕ) DelimFault) → escape c ≡ read
-    → and_then read (λ d. put_first d (delims more)) ≡ Ok ds → ((xs : List (Option ℕ)) → delim_list more ≡ Ok xs → IsDelimList more xs) → IsDelimList (backslash ∷ c ∷ more) ds
-behind_escape c more ds (Err f) e h list = cc
-behind_escape c more ds (Ok d) e h list = before (backslash ∷ c ∷ []) more d ds (escaped c d e) h list
-
-reads_two : (b c : ℕ) (more : List ℕ) (ds : List (Option ℕ)) (t : Bool) → (eqb b backslash) ≡ t
-    → cond t (and_then (escape c) (λ d. put_first d (delims more))) (put_first (Some b) (delims (c ∷ more))) ≡ Ok ds
-    → ((xs : List (Option ℕ)) → delim_list more ≡ Ok xs → IsDelimList more xs) → ((xs : List (Option ℕ)) → delim_list (c ∷ more) ≡ Ok xs → IsDelimList (c ∷ more) xs) → IsDelimList (b ∷ c ∷ more) ds
-reads_two b c more ds true e h list longer =
-    subst (λ (x : ℕ). IsDelimList (x ∷ c ∷ more) ds) (sym (eqb-true b backslash e)) (behind_escape c more ds (escape c) refl h list)
-reads_two b c more ds false e h list longer = before (b ∷ []) (c ∷ more) (Some b) ds (Plain b e) h longer
-
-reads_last : (b : ℕ) (ds : List (Option ℕ)) (t : Bool) → (eqb b backslash) ≡ t → cond t (Err Escape) (Ok (Some b ∷ [])) ≡ Ok ds → IsDelimList (b ∷ []) ds
-reads_last b ds true e h = cc
-reads_last b ds false e h =
-    let one : Some b ∷ [] ≡ ds = cc in
-    subst (IsDelimList (b ∷ [])) one (Last (b ∷ []) (Some b) (Plain b e))
+before : (e rest : List ℕ) (d : Option ℕ) (ds : List (Option ℕ)) → IsDelim e d → delims rest ≡ Ok ds
+    → ((xs : List (Option ℕ)) → delim_list rest ≡ Ok xs → IsDelimList rest xs) → IsDelimList (e ++ rest) (d ∷ ds)
+before e [] d [] is h list = rw append-nil (Last e d is)
+before e [] d (x ∷ xs) is h list = cc
+before e (b ∷ bs) d ds is h list = More e (b ∷ bs) d ds is (list ds h)
 
 reads : (bs : List ℕ) (ds : List (Option ℕ)) → delim_list bs ≡ Ok ds → IsDelimList bs ds
 reads [] ds h = cc
-reads (b ∷ []) ds h = reads_last b ds (eqb b backslash) refl h
-reads (b ∷ c ∷ more) ds h = reads_two b c more ds (eqb b backslash) refl h (λ xs e. reads more xs e) (λ xs e. reads (c ∷ more) xs e)
+reads (b ∷ []) ds h = cond_both (eqb b backslash) _ _ (λ (r : Result (List (Option ℕ)) DelimFault). r ≡ Ok ds → IsDelimList (b ∷ []) ds) (λ t e. cc)
+    (λ n e. let one : Some b ∷ [] ≡ ds = cc in subst (IsDelimList (b ∷ [])) one (Last (b ∷ []) (Some b) (Plain b n))) h
+reads (b ∷ c ∷ more) ds h = cond_both (eqb b backslash) _ _ (λ (r : Result (List (Option ℕ)) DelimFault). r ≡ Ok ds → IsDelimList (b ∷ c ∷ more) ds)
+    (λ t e.
+    let f = reads_first (escape c) (delims more) ds e in
+    rw (eqb-true b backslash t) (subst (IsDelimList (backslash ∷ c ∷ more)) f.is (before (backslash ∷ c ∷ []) more f.head f.tail (escaped c f.head f.read) f.rest (λ xs. reads more xs))))
+    (λ n e.
+    let f = reads_first (Ok (Some b)) (delims (c ∷ more)) ds e in
+    let first : Some b ≡ f.head = cc in
+    subst (IsDelimList (b ∷ c ∷ more)) f.is (before (b ∷ []) (c ∷ more) f.head f.tail (subst (IsDelim (b ∷ [])) first (Plain b n)) f.rest (λ xs. reads (c ∷ more) xs)))
+    h
 
 pub accepts_the_grammar : AcceptsTheGrammar
 accepts_the_grammar bs ds = (accepts bs ds, reads bs ds)
+
+-- ---- the fault of a list, which is found by its delimiters in turn
+
+-- the fault of a reading is one of the text
+abbrev IsOfText : {A : Type 0} → Result A DelimFault → Type 0
+IsOfText (Ok x) = Unit {0}
+IsOfText (Err e) = fault_of e ≡ Some e
+
+either : {A : Type 0} (b : Bool) (r s : Result A DelimFault) → IsOfText r → IsOfText s → IsOfText (cond b r s)
+either true r s of_r of_s = of_r
+either false r s of_r of_s = of_s
+
+after_first : (d : Option ℕ) (r : Result (List (Option ℕ)) DelimFault) → IsOfText r → IsOfText (put_first d r)
+after_first d (Ok ds) of_text = tt
+after_first d (Err e) of_text = of_text
+
+after_escape : (e : Result (Option ℕ) DelimFault) (r : Result (List (Option ℕ)) DelimFault) → IsOfText e → IsOfText r → IsOfText (and_then e (λ d. put_first d r))
+after_escape (Ok d) r of_e of_r = after_first d r of_r
+after_escape (Err k) r of_e of_r = of_e
+
+escape_fault : (b : ℕ) → IsOfText (escape b)
+escape_fault b =
+    either (eqb b 110) _ _ tt
+    (either (eqb b 116) _ _ tt (either (eqb b backslash) _ _ tt (either (eqb b 48) _ _ tt refl)))
+
+delims_fault : (bs : List ℕ) → IsOfText (delims bs)
+delims_fault [] = tt
+delims_fault (b ∷ []) = either (eqb b backslash) _ _ refl tt
+delims_fault (b ∷ c ∷ more) =
+    either (eqb b backslash) _ _ (after_escape (escape c) (delims more) (escape_fault c) (delims_fault more)) (after_first (Some b) (delims (c ∷ more)) (delims_fault (c ∷ more)))
+
+delim_fault : (bs : List ℕ) → IsOfText (delim_list bs)
+delim_fault [] = refl
+delim_fault (b ∷ bs) = delims_fault (b ∷ bs)
+
+passes : (d : Option ℕ) (r : Result (List (Option ℕ)) DelimFault) → result_err (put_first d r) ≡ result_err r
+passes d (Ok ds) = refl
+passes d (Err e) = refl
+
+module _ (text left : List ℕ) (so_far : result_err (delim_list text) ≡ result_err (delim_list left)) where
+  pub judged_fault : (e : DelimFault) → delim_list left ≡ Err e → result_err (delim_list text) ≡ fault_of e
+  judged_fault e bad = so_far ∙ ap result_err bad ∙ sym (subst IsOfText bad (delim_fault left))
+
+  pub judged_more : (d : Option ℕ) (behind : List ℕ) → 0 < length behind → delim_list left ≡ put_first d (delims behind) → result_err (delim_list text) ≡ result_err (delim_list behind)
+  judged_more d behind some is = so_far ∙ ap result_err is ∙ passes d (delims behind) ∙ ap result_err (delims_of_some behind some)

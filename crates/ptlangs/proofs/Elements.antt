@@ -1,7 +1,8 @@
--- The parts of a list, and reading them in turn.
-use Rattle.ptlangs.proofs.Common.{◌≡◌, ℕ, ◌+◌, ◌-◌, ◌≤◌, Bool, true, false, ltb, cond, List, [], ◌∷◌, ◌++◌, length, take, drop, Some, None, Result, Ok, Err, refl, sym, ◌∙◌, ap, arith, slice_split}
-use Rattle.ptlangs.proofs.Common.{position, position_or_len, ltb-false, ltb-true, take_all, length-drop, slice_split_none, slice_split_first, fails_before_first, and_then, put_first, each}
-use Rattle.std.proofs.Common.{append_assoc, append-nil}
+-- The parts of a list, reading them in turn, and that what is accepted is what the grammar has.
+use Rattle.ptlangs.proofs.Common.{◌≡◌, Bool, Err, List, None, Ok, Result, Some, [], ap, arith, cond, drop, false, get_or, length, ltb, refl, subst, sym, take, true, ℕ, ◌++◌, ◌+◌, ◌-◌, ◌∙◌, ◌∷◌}
+use Rattle.ptlangs.proofs.Common.{ltb-false, ltb-true, nat_tests, append_assoc, length-drop, take_all, slice_split_at, slice_split_first, slice_split_none, AllPass-from_list_all, fails_before_first}
+use Rattle.ptlangs.proofs.Common.{is_ascii_digit, All, onto_first, position, position_or_len, slice_split, IsListOf, and_then, each, elements, is_number, is_separator, put_first}
+use Rattle.ptlangs.specs.Numbers.{Last, More}
 
 -- ---- the parts between bytes
 
@@ -9,15 +10,14 @@ none_since : (b : Bool) (i : ℕ) → cond b (Some i) None ≡ None → b ≡ fa
 none_since true i h = cc
 none_since false i h = refl
 
-some_since : (b : Bool) (i j : ℕ) → cond b (Some i) None ≡ Some j → (b ≡ true) × (i ≡ j)
-some_since true i j h = (refl, cc)
-some_since false i j h = cc
-
-position_none : {X : Type 0} (p : X → Bool) (xs : List X) → position p xs ≡ None → length xs ≤ position_or_len p xs
-position_none p xs h = ltb-false (position_or_len p xs) (length xs) (none_since (ltb (position_or_len p xs) (length xs)) (position_or_len p xs) h)
+pub some_since : {X : Type 0} (b : Bool) (x y : X) → cond b (Some x) None ≡ Some y → (b ≡ true) × (x ≡ y)
+some_since true x y h = (refl, cc)
+some_since false x y h = cc
 
 pub split_whole : {X : Type 0} (p : X → Bool) (xs : List X) → position p xs ≡ None → slice_split p xs ≡ xs ∷ []
-split_whole p xs h = slice_split_none p xs (λ k d below. fails_before_first p xs k d (omega (arith, position_none p xs h)))
+split_whole p xs h =
+    let none = ltb-false (position_or_len p xs) (length xs) (none_since (ltb (position_or_len p xs) (length xs)) (position_or_len p xs) h) in
+    slice_split_none p xs (λ k d below. fails_before_first p xs k d (omega (arith, none)))
 
 -- the last argument is what `&xs[i + 1..]` gives
 pub split_around : {X : Type 0} (p : X → Bool) (xs : List X) (i : ℕ) → position p xs ≡ Some i → slice_split p xs ≡ take i xs ∷ slice_split p (take (length xs - (i + 1)) (drop (i + 1) xs))
@@ -53,3 +53,67 @@ pub each_more : {A B E : Type 0} (read : A → Result B E) (x : A) (y : B) (all 
     ≡ behind xs (each read all) → all ≡ x ∷ rest → read x ≡ Ok y → r ≡ behind (xs ++ y ∷ []) (each read rest)
 each_more read x y all rest xs r e at ok =
     e ∙ ap (λ l. behind xs (each read l)) at ∙ ap (λ v. behind xs (and_then v (λ y'. put_first y' (each read rest)))) ok ∙ behind-put_first xs y (each read rest)
+
+-- ---- lists of elements between separators: those that are accepted are those of the grammar
+
+-- bytes of digits pass no test that digits fail
+pub digits_fail : (p : ℕ → Bool) → ((b : ℕ) → is_ascii_digit b ≡ true → p b ≡ false) → (n : List ℕ) → is_number n ≡ true → All (λ b. p b ≡ false) n
+digits_fail p fails [] h = cc
+digits_fail p fails (b ∷ bs) h = λ k d below. fails (get_or (b ∷ bs) k d) (AllPass-from_list_all is_ascii_digit (b ∷ bs) h k d below)
+
+pub digit_no_separator : (b : ℕ) → is_ascii_digit b ≡ true → is_separator b ≡ false
+digit_no_separator b h = grind (arith, nat_tests)
+
+-- the parts of a list, and where it is cut
+pub data IsSplit (p : ℕ → Bool) : List ℕ → List (List ℕ) → Type 0 where
+  Whole : (bs : List ℕ) → IsSplit p bs (bs ∷ [])
+  Cut : (e : List ℕ) (s : ℕ) (bs : List ℕ) (parts : List (List ℕ)) → p s ≡ true → IsSplit p bs parts → IsSplit p (e ++ s ∷ bs) (e ∷ parts)
+
+onto : (p : ℕ → Bool) (b : ℕ) (bs : List ℕ) (parts : List (List ℕ)) → IsSplit p bs parts → IsSplit p (b ∷ bs) (onto_first b parts)
+onto p b bs parts (Whole xs) = Whole (b ∷ xs)
+onto p b bs parts (Cut e s xs rest cut split) = Cut (b ∷ e) s xs rest cut split
+
+splits_at : (p : ℕ → Bool) (b : ℕ) (bs : List ℕ) (parts : List (List ℕ)) (t : Bool) → p b ≡ t → IsSplit p bs parts → IsSplit p (b ∷ bs) (cond t ([] ∷ parts) (onto_first b parts))
+splits_at p b bs parts true e split = Cut [] b bs parts e split
+splits_at p b bs parts false e split = onto p b bs parts split
+
+pub splits : (p : ℕ → Bool) (bs : List ℕ) → IsSplit p bs (slice_split p bs)
+splits p [] = Whole []
+splits p (b ∷ bs) = splits_at p b bs (slice_split p bs) (p b) refl (splits p bs)
+
+-- the first element is read, and then the others
+pub record ReadsFirst {A E : Type 0} (first : Result A E) (others : Result (List A) E) (all : List A) : Type 0 where
+  pub head : A
+  pub tail : List A
+  pub read : first ≡ Ok head
+  pub rest : others ≡ Ok tail
+  pub is : head ∷ tail ≡ all
+
+pub reads_first : {A E : Type 0} (first : Result A E) (others : Result (List A) E) (all : List A) → and_then first (λ y. put_first y others) ≡ Ok all → ReadsFirst first others all
+reads_first (Err f) others all h = cc
+reads_first (Ok y) (Err f) all h = cc
+reads_first (Ok y) (Ok ys) all h = record { head = y; tail = ys; read = refl; rest = refl; is = cc }
+
+-- an element is accepted where it says something, and then it has no separator
+pub record Accepts {A E : Type 0} (read : List ℕ → Result A E) (Says : List ℕ → A → Type 0) : Type 0 where
+  pub from : (e : List ℕ) (x : A) → Says e x → read e ≡ Ok x
+  pub to : (e : List ℕ) (x : A) → read e ≡ Ok x → Says e x
+  pub whole : (e : List ℕ) (x : A) → Says e x → All (λ b. is_separator b ≡ false) e
+
+pub from_grammar : {A E : Type 0} (read : List ℕ → Result A E) (Says : List ℕ → A → Type 0) → Accepts read Says → (bs : List ℕ) (xs : List A) → IsListOf Says bs xs → each read (elements bs) ≡ Ok xs
+from_grammar read Says a bs xs (Last e x says) = rw (slice_split_none is_separator e (a.whole e x says), a.from e x says) refl
+from_grammar read Says a bs xs (More e s others x xs' says sep list) =
+    rw (slice_split_at is_separator e s others (a.whole e x says) sep, a.from e x says, from_grammar read Says a others xs' list) refl
+
+reads_parts : {A E : Type 0} (read : List ℕ → Result A E) (Says : List ℕ → A → Type 0) → Accepts read Says
+    → (bs : List ℕ) (parts : List (List ℕ)) (xs : List A) → IsSplit is_separator bs parts → each read parts ≡ Ok xs → IsListOf Says bs xs
+reads_parts read Says a bs parts xs (Whole ys) h =
+    let f = reads_first (read ys) (Ok []) xs h in
+    let one : f.head ∷ [] ≡ xs = cc in
+    subst (IsListOf Says ys) one (Last ys f.head (a.to ys f.head f.read))
+reads_parts read Says a bs parts xs (Cut e s ys rest cut split) h =
+    let f = reads_first (read e) (each read rest) xs h in
+    subst (IsListOf Says (e ++ s ∷ ys)) f.is (More e s ys f.head f.tail (a.to e f.head f.read) cut (reads_parts read Says a ys rest f.tail split f.rest))
+
+pub to_grammar : {A E : Type 0} (read : List ℕ → Result A E) (Says : List ℕ → A → Type 0) → Accepts read Says → (bs : List ℕ) (xs : List A) → each read (elements bs) ≡ Ok xs → IsListOf Says bs xs
+to_grammar read Says a bs xs h = reads_parts read Says a bs (elements bs) xs (splits is_separator bs) h

@@ -1,14 +1,10 @@
 pub mod Common
-pub mod CutElements
 pub mod CutGrammar
 pub mod Decimals
 pub mod DelimGrammar
-pub mod DelimJudging
 pub mod Elements
-pub mod ListGrammar
 pub mod Merging
 pub mod OutGrammar
-pub mod Reading
 pub mod TrBehind
 pub mod TrNumbers
 pub mod TrGrammar

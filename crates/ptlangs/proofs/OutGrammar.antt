@@ -1,7 +1,7 @@
 -- The output lists that are accepted are those of the grammar.
 use Rattle.ptlangs.proofs.Common.{◌≡◌, ℕ, ◌≤◌, Bool, true, false, not, ltb, eqb, cond, List, [], ◌∷◌, Ok, Err, refl, subst, arith, All, le-ltb, ltb-false, ne_eqb, eqb-true, eqb-false, All-cons}
 use Rattle.ptlangs.proofs.Common.{greatest, is_number, value, is_separator, field_of, TheJoinField, OfFirst, OfSecond}
-use Rattle.ptlangs.proofs.ListGrammar.{digits_fail, digit_no_separator, Accepts, from_grammar, to_grammar}
+use Rattle.ptlangs.proofs.Elements.{digits_fail, digit_no_separator, Accepts, from_grammar, to_grammar}
 use Rattle.ptlangs.specs.declared.outlist.OutFault.TheVariants.{Malformed, Zero, TooLarge}
 use Rattle.ptlangs.specs.OutLists.{element, IsElement, IsProper, IsProperElement, AcceptsTheGrammar}
 use Rattle.ptlangs.specs.declared.outlist.File.{File}
@@ -51,27 +51,20 @@ chosen file n f true false false hn hl hz h =
       proper = subst IsProper is (omega (arith, eqb-false (value n) 0 hz), ltb-false greatest (value n) hl);
     }
 
-reads_field : (file : File) (n : List ℕ) (f : OutField) → field_of file n ≡ Ok f → IsField file n f
-reads_field file n f h = chosen file n f (is_number n) (ltb greatest (value n)) (eqb (value n) 0) refl refl refl h
-
-spelled_first : (n : List ℕ) (f : OutField) → field_of First n ≡ Ok f → IsProperElement (49 ∷ 46 ∷ n) f
-spelled_first n f h =
-    let r = reads_field First n f h in
-    (subst (IsElement (49 ∷ 46 ∷ n)) r.is (OfFirst n r.number), r.proper)
-
-spelled_second : (n : List ℕ) (f : OutField) → field_of Second n ≡ Ok f → IsProperElement (50 ∷ 46 ∷ n) f
-spelled_second n f h =
-    let r = reads_field Second n f h in
-    (subst (IsElement (50 ∷ 46 ∷ n)) r.is (OfSecond n r.number), r.proper)
+spelled_field : (file : File) (name : ℕ) (n : List ℕ) (f : OutField) → (is_number n ≡ true → IsElement (name ∷ 46 ∷ n) (Field file (value n))) → field_of file n ≡ Ok f
+    → IsProperElement (name ∷ 46 ∷ n) f
+spelled_field file name n f says h =
+    let r = chosen file n f (is_number n) (ltb greatest (value n)) (eqb (value n) 0) refl refl refl h in
+    (subst (IsElement (name ∷ 46 ∷ n)) r.is (says r.number), r.proper)
 
 spelled : (b c : ℕ) (n : List ℕ) (f : OutField) (point one two : Bool) → eqb c 46 ≡ point → eqb b 49 ≡ one → eqb b 50 ≡ two
     → cond (not point) (Err Malformed) (cond one (field_of First n) (cond two (field_of Second n) (Err Malformed))) ≡ Ok f → IsProperElement (b ∷ c ∷ n) f
 spelled b c n f false one two hp h1 h2 h = cc
 spelled b c n f true false false hp h1 h2 h = cc
 spelled b c n f true true two hp h1 h2 h =
-    rw (eqb-true b 49 h1, eqb-true c 46 hp) (spelled_first n f h)
+    rw (eqb-true b 49 h1, eqb-true c 46 hp) (spelled_field First 49 n f (OfFirst n) h)
 spelled b c n f true false true hp h1 h2 h =
-    rw (eqb-true b 50 h2, eqb-true c 46 hp) (spelled_second n f h)
+    rw (eqb-true b 50 h2, eqb-true c 46 hp) (spelled_field Second 50 n f (OfSecond n) h)
 
 spelled_join : (b : ℕ) (f : OutField) (t : Bool) → eqb b 48 ≡ t → cond t (Ok Join) (Err Malformed) ≡ Ok f → IsProperElement (b ∷ []) f
 spelled_join b f false e h = cc

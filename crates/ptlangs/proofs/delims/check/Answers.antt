@@ -1,5 +1,5 @@
 use Rattle.ptlangs.proofs.Common.{◌<◌, length, arith, rules, nat_tests}
-use Rattle.ptlangs.proofs.DelimJudging.{judged_fault, judged_more}
+use Rattle.ptlangs.proofs.DelimGrammar.{judged_fault, judged_more}
 use Rattle.ptlangs.proofs.delims.check.Goals as goal
 
 pub returns-in_err-behind : goal.returns-in_err-behind

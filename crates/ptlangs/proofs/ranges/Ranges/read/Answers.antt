@@ -1,11 +1,11 @@
-use Rattle.ptlangs.proofs.Common.{rules, tests, All-permutation, IsNonDecreasingBy-from_sort_by_key, IsProper, Interval}
-use Rattle.ptlangs.proofs.Reading.{cut_list_proper, in_order, selection_is}
+use Rattle.ptlangs.proofs.Common.{rules, tests, All-permutation, IsNonDecreasingBy-from_sort_by_key, IsProper, Interval, elements}
+use Rattle.ptlangs.proofs.CutGrammar.{each_proper, in_order, selection_is}
 use Rattle.ptlangs.proofs.ranges.Ranges.read.Goals as goal
 
 pub merge-requires : goal.merge-requires
 merge-requires g c =
     rw c.as_slice.ensures.value (in_order _
-    (All-permutation IsProper _ _ c.sort_unstable_by_key.ensures.permutation (cut_list_proper c.args.text.now _ c.in_ok-listed.ensures))
+    (All-permutation IsProper _ _ c.sort_unstable_by_key.ensures.permutation (each_proper (elements c.args.text.now) _ c.in_ok-listed.ensures))
     (IsNonDecreasingBy-from_sort_by_key (λ (r : Interval). r.first) _ c.sort_unstable_by_key.ensures.sorted (λ a r q k. search (rules, tests))))
 
 pub returns : goal.returns
