@@ -10,7 +10,7 @@ pub use Rattle.std.proofs.lemmas.List.{append-nil, append_cancel_left, get_or-ap
 pub use Rattle.std.proofs.lemmas.List.{length-take-le, map-append, nil_from_length, set-append_left, set-append_right, set-get_or, take_all, take_more}
 pub use Rattle.std.proofs.lemmas.List.Concat.{flat_map-append}
 pub use Rattle.std.proofs.lemmas.List.Elements.{All-cons, All-from_get_or, All-map, All-nil, filter_map-append}
-pub use Rattle.std.proofs.lemmas.List.Folds.{list_any-append, list_any_at}
+pub use Rattle.std.proofs.lemmas.List.Folds.{Any-from_list_any, list_any-append, list_any_at}
 pub use Rattle.std.specs.Borrow.{Bor}
 pub use Rattle.std.specs.Io.KnownBytes.{IsAtEnd, append_known, prepend_known}
 pub use Rattle.std.specs.List.{list_any}

@@ -117,16 +117,10 @@ agrees_before g e b still a = record {
 pub agrees_whole : (g : Given) (b : List ℕ) → g.ended ≡ true → Agrees g b → b ≡ g.bytes
 agrees_whole g b ended a = a.is ∙ ap (λ (l : List ℕ). g.bytes ++ l) (a.whole ended) ∙ append-nil g.bytes
 
-pub agrees_some : (o : Option Given) (v : Option (List ℕ)) (g : Given) → o ≡ Some g → (b : List ℕ) → v ≡ Some b → Agrees g b → AllowsAt o v
-agrees_some o v g is_o b is_v agrees = rw (is_o, is_v) agrees
-
 -- ---- before the first operand, and at the end
 
 pub received_at : (old : List Reader) (q : ℕ) → at (map received_of old) q ≡ received_of (reader_at old q)
 received_at old q = get_or-map received_of old q no_reader
-
-pub nothing_long : (old : List Reader) (q : ℕ) → IsTooLong (at (map received_of old) q) → ⊥
-nothing_long old q long = never_long (reader_at old q) (rw (received_at old q) at long)
 
 -- nothing was read
 pub nothing_read : (old : List Reader) → ((q : ℕ) → IsFresh (reader_at old q)) → IsReceived old old (map received_of old)

@@ -1,18 +1,15 @@
 -- A tool with two inputs did what its one merge did, with two readers of a list that was split between them.
-use Rattle.ptrun.proofs.Common.{length-append, length-map, ◌≡◌, ◌≢◌, ℕ, ◌<◌, ◌^◌, ◌||◌, ◌&&◌, ◌==◌, Bool, true, false, List, [], ◌∷◌, Option, Some, None, Result, Ok, Err, length, get_or, refl, sym}
-use Rattle.ptrun.proofs.Common.{◌∙◌, ap, subst, arith, option_map, not, list_any, All-nil, All-cons, false≢true, nat_tests, Reader, Output, Slots, Given, Begins, Came, Before, put_at, First, Second}
-use Rattle.ptrun.proofs.Common.{disorder, lines_of, decided, Input, Disorder, is_in, reader_at, shut, IsNew, PassedOn, place, of_two, operand, of_operands, AreReady, AreSound, told_at, done_of}
-use Rattle.ptrun.proofs.Common.{AgreeAt, NoneFailed, JointEnds, IsJointPass, ◌-◌, ◌++◌, set, length-set, set-append_left, set-append_right, get_or_append_left, get_or-append_right, get_or_default}
-use Rattle.ptrun.proofs.Common.{get_or-set_same, get_or-set_other, no_reader}
+use Rattle.ptrun.proofs.Common.{places, length-append, length-map, ◌≡◌, ◌≢◌, ℕ, ◌<◌, ◌^◌, ◌||◌, ◌&&◌, ◌==◌, Bool, true, false, List, [], ◌∷◌, Option, Some, None, Result, Ok, Err, length, get_or}
+use Rattle.ptrun.proofs.Common.{refl, sym, ◌∙◌, ap, subst, arith, option_map, not, list_any, All-nil, All-cons, false≢true, nat_tests, Reader, Output, Slots, Given, Begins, Came, Before, put_at}
+use Rattle.ptrun.proofs.Common.{First, Second, disorder, lines_of, decided, Input, Disorder, is_in, reader_at, shut, IsNew, PassedOn, place, of_two, operand, of_operands, AreReady, AreSound, told_at}
+use Rattle.ptrun.proofs.Common.{done_of, AgreeAt, NoneFailed, JointEnds, IsJointPass, ◌-◌, ◌++◌, set, length-set, set-append_left, set-append_right, get_or_append_left, get_or-append_right}
+use Rattle.ptrun.proofs.Common.{get_or_default, get_or-set_same, get_or-set_other, no_reader}
 use Rattle.ptmerge.specs.declared.faults.MergeFault.{MergeFault}
 use Rattle.ptmerge.specs.declared.order.Side.{Side}
-use Rattle.ptmerge.specs.Keyed.{Disorder as Disordered}
-use Rattle.ptmerge.specs.Merges.{IsReady, IsMerge, Ends, Agree, IsWhole, Names, State, seen}
+use Rattle.ptmerge.specs.Merges.{IsReady, IsMerge, Ends, Agree, IsWhole, Names, NoneFailed as NoneBroke, State, seen}
 use Rattle.ptmerge.specs.Sides.{both, put}
 use Rattle.ptmerge.specs.declared.faults.MergeFault.TheVariants as faults
 use Rattle.ptmerge.specs.Keyed as keyed
-use Rattle.ptmerge.specs.Merges as merges
-use Rattle.ptrun.specs.Operands.{places as places_of}
 use Rattle.ptrun.proofs.OnePlace.{passed_on}
 use Rattle.ptrun.proofs.Sources.{same_here, is_in-same, neither, each_named, put_here, put_other, fresh_all}
 
@@ -27,14 +24,14 @@ stands : (p q : ℕ) (side : Side) → both p q side ≡ operand (p ∷ q ∷ []
 stands p q First = refl
 stands p q Second = refl
 
-pub two_of : (order : List Input) (d e : Input) {p q : ℕ} → ((length (places_of order) == 2) && not (operand (places_of order) First == operand (places_of order) Second)) ≡ true
-    → p ≡ place (get_or order 0 d) → q ≡ place (get_or order 1 e) → TwoPlaces (places_of order) p q
+pub two_of : (order : List Input) (d e : Input) {p q : ℕ} → ((length (places order) == 2) && not (operand (places order) First == operand (places order) Second)) ≡ true
+    → p ≡ place (get_or order 0 d) → q ≡ place (get_or order 1 e) → TwoPlaces (places order) p q
 two_of [] d e taken is_p is_q = absurd (false≢true taken)
 two_of (a ∷ []) d e taken is_p is_q = absurd (false≢true taken)
 two_of (a ∷ b ∷ []) d e taken is_p is_q = record { are = λ i. sym is_p i ∷ sym is_q i ∷ []; apart = λ same. grind (arith, nat_tests, taken, is_p, is_q, same) }
 two_of (a ∷ b ∷ c ∷ more) d e taken is_p is_q = absurd (grind (arith, nat_tests, taken))
 
-pub two_there : (order : List Input) → ((length (places_of order) == 2) && not (operand (places_of order) First == operand (places_of order) Second)) ≡ true → 1 < length order
+pub two_there : (order : List Input) → ((length (places order) == 2) && not (operand (places order) First == operand (places order) Second)) ≡ true → 1 < length order
 two_there order taken = grind (arith, nat_tests, taken, length-map order place)
 
 module _ (t : keyed.Tool) {old : List Reader} {was : Output} {before : Slots} {p q : ℕ} (apart : p ≡ q → ⊥) (ready : AreReady (of_two t) (p ∷ q ∷ []) old was before) where
@@ -106,10 +103,10 @@ module _ (t : keyed.Tool) {old : List Reader} {was : Output} {before : Slots} {p
 
     -- ---- how it ended
 
-    none_failed : merges.NoneFailed old_state new_state → NoneFailed two old new
+    none_failed : NoneBroke old_state new_state → NoneFailed two old new
     none_failed none = each (λ k. (reader_at new k).failed ≡ (reader_at old k).failed) (none First) (none Second)
 
-    is_named : (d : Option Disordered) (side : Side) (line : ℕ) → Names d side line → Disorder (both p q side) line ≡ done_of (option_map (λ d. (operand two d.file, d.fall.line)) d)
+    is_named : (d : Option keyed.Disorder) (side : Side) (line : ℕ) → Names d side line → Disorder (both p q side) line ≡ done_of (option_map (λ d. (operand two d.file, d.fall.line)) d)
     is_named None side line k = absurd k
     is_named (Some d) side line k = λ i. Disorder ((stands p q side ∙ ap (operand two) (sym k.0)) i) (sym k.1 i)
 

@@ -20,7 +20,7 @@ use Rattle.ptopts.proofs.Accepted.{meant_as_spelled}
 use Rattle.ptopts.proofs.SoleInputs.{AreTwo}
 use Rattle.ptopts.proofs.EachTool.{AreTaken, are_taken}
 use Rattle.ptopts.specs.declared.command.Command as code
-use Rattle.ptrun.proofs.OnePlace.{kept_up, earlier_map, nothing_decided, nothing_read, nothing_long, received_of, refused_same, refused_received}
+use Rattle.ptrun.proofs.OnePlace.{kept_up, earlier_map, nothing_decided, nothing_read, never_long, received_at, received_of, refused_same, refused_received}
 use Rattle.ptrun.proofs.Sayings.{tells_trans}
 use Rattle.ptrun.proofs.Sources.{some_same, fresh_all, unopened_same, places_within}
 
@@ -114,8 +114,8 @@ unread : (m : Meaning) {old : List Reader} {out told heard : SinkState} {text : 
     → ((r : Received) → ((q : ℕ) → shut old q ≡ is_unopened r q) → m.decided r ≡ []) → All IsFresh old → out.failed ≡ false → Tells told heard text
     → ((w : World) → Allows (map received_of old) w → (m.out w ≡ []) × (text ≡ messages m w) × (status ≡ m.status w))
     → IsRun m old old (sinks out told) (record { out = out; messages = heard; status = status; peak = 0; denied = false })
-unread m {old} {out} {told} {heard} {text} status at_once undecided fresh fine tells says = record {
-  received = received;
+unread m {old} {out} {told} {heard} {text} status at_once undecided fresh fine tells says = let came = nothing_read old (fresh_all old fresh) in record {
+  received = map received_of old;
   came = came;
   written = [];
   took = sym (append_known-nil out.taken);
@@ -130,7 +130,7 @@ unread m {old} {out} {told} {heard} {text} status at_once undecided fresh fine t
       out = λ w agrees. sym (says w agrees).0;
       written = fine;
       roomy = refl;
-      read = λ q. ⊎_elim (λ failed. none_failed old q failed) (λ long. nothing_long old q long);
+      read = λ q. ⊎_elim (λ failed. none_failed old q failed) (λ long. never_long (reader_at old q) (rw (received_at old q) at long));
     },
     λ w agrees. ((says w agrees).1, (says w agrees).2),
   );
@@ -139,16 +139,10 @@ unread m {old} {out} {told} {heard} {text} status at_once undecided fresh fine t
   told = λ q failed clean. absurd (none_failed old q failed);
   sure = λ q failed clean. absurd (none_failed old q failed);
   keeps_up = rw at_once
-      (nothing_decided m.places m.decided received out.failed
-      (λ r same. undecided r (λ q. refused_received (reader_at old q) (reader_at old q) (at received q) (came q) ∙ sym (same q))));
+      (nothing_decided m.places m.decided (map received_of old) out.failed
+      (λ r same. undecided r (λ q. refused_received (reader_at old q) (reader_at old q) (at (map received_of old) q) (came q) ∙ sym (same q))));
   bounded = λ w agrees. omega arith;
 }
-  where
-    received : Received
-    received = map received_of old
-
-    came : IsReceived old old (map received_of old)
-    came = nothing_read old (fresh_all old fresh)
 
 -- nothing was read or written, and this was said
 pub only_said : {text : List ℕ} {is : ℕ} {old : List Reader} {out told heard : SinkState} {status : ℕ} → All IsFresh old → out.failed ≡ false → Tells told heard text → status ≡ is

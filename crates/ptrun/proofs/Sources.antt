@@ -1,9 +1,9 @@
 -- What the operands of a command find, one more operand at a time, and their order, as places.
-use Rattle.ptrun.proofs.Common.{or_left, or_right, or-false, cases_Bool, cases_eq, ◌≡◌, ◌≢◌, ⊎_elim, ℕ, zero, suc, ◌==◌, ◌||◌, Bool, true, false, cond, List, [], ◌∷◌, ◌++◌, Option, Some, None, ◌+◌}
-use Rattle.ptrun.proofs.Common.{length, take, map, max, refl, sym, ◌∙◌, ap, subst, arith, append_assoc, All, flat_map, option_map, list_any, append-nil, flat_map-append, filter_map-append}
-use Rattle.ptrun.proofs.Common.{list_any-append, false≢true, nat_tests, eqb_tells, Given, nothing_left, World, Received, at, is_in, found, founds, opened, sources, Tool, largest, up_to_open}
-use Rattle.ptrun.proofs.Common.{unopened, not_opened, name_of, Tells, SinkState, put_at, ◌<◌, ◌≤◌, drop, get_or, take-append-drop, take_more, get_or-map, length-map, take_all, Reader, reader_at}
-use Rattle.ptrun.proofs.Common.{no_reader, IsFresh, place, places, All-nil, All-cons, Bor, words_seen, is_standard, file_names, order_from, Input, Standard, File}
+use Rattle.ptrun.proofs.Common.{list_any_at, eqb-true, Any-from_list_any, or_left, or_right, or-false, cases_Bool, cases_eq, ◌≡◌, ◌≢◌, ⊎_elim, ℕ, zero, suc, ◌==◌, ◌||◌, Bool, true, false, cond, List}
+use Rattle.ptrun.proofs.Common.{[], ◌∷◌, ◌++◌, Option, Some, None, ◌+◌, length, take, map, max, refl, sym, ◌∙◌, ap, subst, arith, append_assoc, All, flat_map, option_map, list_any, append-nil}
+use Rattle.ptrun.proofs.Common.{flat_map-append, filter_map-append, list_any-append, false≢true, nat_tests, eqb_tells, Given, nothing_left, World, Received, at, is_in, found, founds, opened, sources}
+use Rattle.ptrun.proofs.Common.{Tool, largest, up_to_open, unopened, not_opened, name_of, Tells, SinkState, put_at, ◌<◌, ◌≤◌, drop, get_or, take-append-drop, take_more, get_or-map, length-map}
+use Rattle.ptrun.proofs.Common.{take_all, Reader, reader_at, no_reader, IsFresh, place, places, All-nil, All-cons, Bor, words_seen, is_standard, file_names, order_from, Input, Standard, File}
 use Rattle.std.proofs.Math.ListN.{get_or-map as get_or-map_any}
 use Rattle.ptrun.proofs.Sayings.{tells_trans}
 
@@ -25,16 +25,13 @@ by_place P p here others q = ⊎_elim (λ same. subst P same here) (others q) (c
 
 -- what holds of each operand holds of each place that is named
 pub each_named : (P : ℕ → Type 0) (ps : List ℕ) → All P ps → (q : ℕ) → is_in ps q ≡ true → P q
-each_named P [] all q named = absurd (false≢true named)
-each_named P (p ∷ ps) all q named = ⊎_elim (λ here. subst P here.1 (all 0 p (omega arith)))
-    (λ other. each_named P ps (λ k d within. all (suc k) d (omega (arith, within))) q (ap (λ (b : Bool). b || is_in ps q) (sym other.0) ∙ named)) (eqb_tells p q)
+each_named P ps all q named = let a = Any-from_list_any (λ p. p == q) ps named in subst P (a.3 ∙ eqb-true a.1 q a.4) (all a.0 a.1 a.2)
 
 -- where no operand passes a test, none of the places that are named does
 pub none_passes : (test : ℕ → Bool) (ps : List ℕ) → list_any test ps ≡ false → (q : ℕ) → is_in ps q ≡ true → test q ≡ false
-none_passes test [] none q named = absurd (false≢true named)
-none_passes test (p ∷ ps) none q named =
-    let both = neither (test p) (list_any test ps) none in
-    ⊎_elim (λ here. ap test (sym here.1) ∙ both.0) (λ other. none_passes test ps both.1 q (ap (λ (b : Bool). b || is_in ps q) (sym other.0) ∙ named)) (eqb_tells p q)
+none_passes test ps none q named =
+    let a = Any-from_list_any (λ p. p == q) ps named in
+    ⊎_elim (λ yes. absurd (false≢true (sym none ∙ list_any_at test ps a.0 a.1 a.2 (ap test (a.3 ∙ eqb-true a.1 q a.4) ∙ yes)))) (λ no. no) (cases_Bool (test q))
 
 -- ---- what holds at each place, after a write at one
 
