@@ -13,7 +13,7 @@ pub use Rattle.std.proofs.lemmas.List.Elements.{All-cons, All-from_get_or, All-m
 pub use Rattle.std.proofs.lemmas.List.Folds.{Any-from_list_any, list_any-append, list_any_at}
 pub use Rattle.std.specs.Borrow.{Bor}
 pub use Rattle.std.specs.Io.KnownBytes.{IsAtEnd, append_known, prepend_known}
-pub use Rattle.std.specs.List.{list_any}
+pub use Rattle.std.specs.List.{list_any, sum}
 pub use Rattle.std.specs.Prelude.{All, encode_utf8, flat_map, is_none, nat_le, not, option_map, slice_get, sum_by}
 pub use Rattle.ptflow.specs.Passes.{Ends, Finished, IsPass}
 pub use Rattle.ptflow.specs.PastePasses.{IsPastePass, IsReadable, ReadAll, RowsEnd, put_at}
@@ -37,7 +37,7 @@ pub use Rattle.ptopts.specs.Meant.{IsMeant, meant, seen, words_seen}
 pub use Rattle.ptopts.specs.declared.inputs.Input.{Input}
 pub use Rattle.ptopts.specs.declared.inputs.Input.TheVariants.{File, Standard}
 pub use Rattle.ptrun.specs.Asked.{asked, asked_as, command_meaning, is_denied, job_meaning, meaning_in, saying, tool_word}
-pub use Rattle.ptrun.specs.Engines.{AgreeAt, AreGiven, AreReady, AreSound, Checks, Finishes, IsJointPass, IsStart, IsWithin, JointEnds, NoneFailed, Went, WentTo, blame, done_of, last_words}
+pub use Rattle.ptrun.specs.Engines.{AgreeAt, AreGiven, AreReady, AreSound, Checks, Finishes, IsJointPass, JointReadBroke, IsStart, IsWithin, JointEnds, NoneFailed, Went, WentTo, blame, done_of, last_words}
 pub use Rattle.ptrun.specs.Engines.{status_after, told_at}
 pub use Rattle.ptrun.specs.KeepingUp.{AnyEarlier, Earlier, EarlierAs, KeptUp, LastEarlier, PassedOn}
 pub use Rattle.ptrun.specs.Meanings.{Meaning, messages, named, unopened}

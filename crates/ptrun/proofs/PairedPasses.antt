@@ -1,9 +1,9 @@
 -- A tool with two inputs did what its one merge did, with two readers of a list that was split between them.
-use Rattle.ptrun.proofs.Common.{places, length-append, length-map, ◌≡◌, ◌≢◌, ℕ, ◌<◌, ◌^◌, ◌||◌, ◌&&◌, ◌==◌, Bool, true, false, List, [], ◌∷◌, Option, Some, None, Result, Ok, Err, length, get_or}
-use Rattle.ptrun.proofs.Common.{refl, sym, ◌∙◌, ap, subst, arith, option_map, not, list_any, All-nil, All-cons, false≢true, nat_tests, Reader, Output, Slots, Given, Begins, Came, Before, put_at}
-use Rattle.ptrun.proofs.Common.{First, Second, disorder, lines_of, decided, Input, Disorder, is_in, reader_at, shut, IsNew, PassedOn, place, of_two, operand, of_operands, AreReady, AreSound, told_at}
-use Rattle.ptrun.proofs.Common.{done_of, AgreeAt, NoneFailed, JointEnds, IsJointPass, ◌-◌, ◌++◌, set, length-set, set-append_left, set-append_right, get_or_append_left, get_or-append_right}
-use Rattle.ptrun.proofs.Common.{get_or_default, get_or-set_same, get_or-set_other, no_reader}
+use Rattle.ptrun.proofs.Common.{JointReadBroke, HasReadCause, places, length-append, length-map, ◌≡◌, ◌≢◌, ℕ, ◌<◌, ◌^◌, ◌||◌, ◌&&◌, ◌==◌, Bool, true, false, List, [], ◌∷◌, Option, Some, None, Result}
+use Rattle.ptrun.proofs.Common.{Ok, Err, length, get_or, refl, sym, ◌∙◌, ap, subst, arith, option_map, not, list_any, All-nil, All-cons, false≢true, nat_tests, Reader, Output, Slots, Given, Begins}
+use Rattle.ptrun.proofs.Common.{Came, Before, put_at, First, Second, disorder, lines_of, decided, Input, Disorder, is_in, reader_at, shut, IsNew, PassedOn, place, of_two, operand, of_operands}
+use Rattle.ptrun.proofs.Common.{AreReady, AreSound, told_at, done_of, AgreeAt, NoneFailed, JointEnds, IsJointPass, ◌-◌, ◌++◌, set, length-set, set-append_left, set-append_right, get_or_append_left}
+use Rattle.ptrun.proofs.Common.{get_or-append_right, get_or_default, get_or-set_same, get_or-set_other, no_reader}
 use Rattle.ptmerge.specs.declared.faults.MergeFault.{MergeFault}
 use Rattle.ptmerge.specs.declared.order.Side.{Side}
 use Rattle.ptmerge.specs.Merges.{IsReady, IsMerge, Ends, Agree, IsWhole, Names, NoneFailed as NoneBroke, State, seen}
@@ -106,6 +106,14 @@ module _ (t : keyed.Tool) {old : List Reader} {was : Output} {before : Slots} {p
     none_failed : NoneBroke old_state new_state → NoneFailed two old new
     none_failed none = each (λ k. (reader_at new k).failed ≡ (reader_at old k).failed) (none First) (none Second)
 
+    -- a read of one side failed, and none of the other
+    module _ (side : Side) (cause : HasReadCause (reader_at old (both p q side)) (reader_at new (both p q side))) where
+      abbrev Other : ℕ → Type 0
+      Other k = both p q side ≢ k → (reader_at new k).failed ≡ (reader_at old k).failed
+
+      read_broke : Other p → Other q → is.faulted ≡ false → store.denied ≡ false → JointReadBroke two old new is.faulted store.denied (both p q side)
+      read_broke first second clean roomy = record { named = named side; calm = calm side; cause = cause; others = each Other first second; written = clean; roomy = roomy }
+
     is_named : (d : Option keyed.Disorder) (side : Side) (line : ℕ) → Names d side line → Disorder (both p q side) line ≡ done_of (option_map (λ d. (operand two d.file, d.fall.line)) d)
     is_named None side line k = absurd k
     is_named (Some d) side line k = λ i. Disorder ((stands p q side ∙ ap (operand two) (sym k.0)) i) (sym k.1 i)
@@ -121,22 +129,8 @@ module _ (t : keyed.Tool) {old : List Reader} {was : Output} {before : Slots} {p
       written = k.clean;
       roomy = k.denied;
     }
-    ends (Err (faults.Read First)) k whole = record {
-      named = named First;
-      calm = calm First;
-      cause = k.cause;
-      others = each (λ k. p ≢ k → (reader_at new k).failed ≡ (reader_at old k).failed) (λ differs. absurd (differs refl)) (λ differs. k.others);
-      written = k.clean;
-      roomy = k.denied;
-    }
-    ends (Err (faults.Read Second)) k whole = record {
-      named = named Second;
-      calm = calm Second;
-      cause = k.cause;
-      others = each (λ k. q ≢ k → (reader_at new k).failed ≡ (reader_at old k).failed) (λ differs. k.others) (λ differs. absurd (differs refl));
-      written = k.clean;
-      roomy = k.denied;
-    }
+    ends (Err (faults.Read First)) k whole = read_broke First k.cause (λ differs. absurd (differs refl)) (λ differs. k.others) k.clean k.denied
+    ends (Err (faults.Read Second)) k whole = read_broke Second k.cause (λ differs. k.others) (λ differs. absurd (differs refl)) k.clean k.denied
     ends (Err faults.Write) k whole = k.faulted
     ends (Err faults.Memory) k whole = (k.denied, k.clean, none_failed k.failed)
     ends (Err (faults.Disorder side line)) k whole = record {
@@ -170,8 +164,7 @@ module _ (t : keyed.Tool) {old : List Reader} {was : Output} {before : Slots} {p
         unnamed k other is = false≢true (sym other ∙ is)
 
         keeps : (side : Side) → (cut : Before (given (both p q side))) × PassedOn (decided t (of_operands two (put_at (both p q side) cut.earlier given))) was is e.pushed
-        keeps side = subst (λ (g : Given). (cut : Before g) × PassedOn (decided t (of_operands two (put_at (both p q side) cut.earlier given))) was is e.pushed) (sym (given_at side))
-            (passed_on (λ g. decided t (put side g e.given)) (λ g. decided t (of_operands two (put_at (both p q side) g given)))
+        keeps side = rw (given_at side) (passed_on (λ g. decided t (put side g e.given)) (λ g. decided t (of_operands two (put_at (both p q side) g given)))
             (λ g. ap (decided t) (put_is side g)) (e.keeps_up side ready.writable))
 
 -- ---- two readers of a list that was split between them

@@ -275,15 +275,10 @@ record IsOver (m : Meaning) (names : List (List ℕ)) (places : List ℕ) : Type
   placed : m.places ≡ places
   taken : m.takes ≡ true
 
-either : (t : Bool) (m n : Meaning) (names : List (List ℕ)) (places : List ℕ) → IsOver m names places → IsOver n names places → IsOver (cond t m n) names places
-either true m n names places first second = first
-either false m n names places first second = second
-
 are_over : (told : Job) (order : List Input) (names : List (List ℕ)) → AreTaken told order → IsOver (job_meaning told names (places order)) names (places order)
 are_over (RunCut u) order names taken = record { named = refl; placed = refl; taken = refl }
-are_over (RunPaste u) order names few =
-    either u.serial _ _ names _ (record { named = refl; placed = refl; taken = refl })
-    (record { named = refl; placed = refl; taken = ap (λ (n : ℕ). nat_le n 512) (length-map order place) ∙ few })
+are_over (RunPaste u) order names few = ⊎_elim (λ (is : u.serial ≡ true). rw is (record { named = refl; placed = refl; taken = refl }))
+    (λ (is : u.serial ≡ false). rw is (record { named = refl; placed = refl; taken = ap (λ (n : ℕ). nat_le n 512) (length-map order place) ∙ few })) (cases_Bool u.serial)
 are_over (RunUniq u) order names one = record { named = refl; placed = refl; taken = ap (λ (n : ℕ). n == 1) (length-map order place ∙ one) }
 are_over (RunComm u) order names two = record { named = refl; placed = refl; taken = two_places (comm_tool u) order two }
 are_over (RunJoin u) order names two = record { named = refl; placed = refl; taken = two_places (join_tool u) order two }
