@@ -1,5 +1,6 @@
 -- Names of other crates and of this one's definitions that many of its proofs take from here.
-pub use Rattle.std.proofs.Common.{Bool, Err, List, None, Ok, Option, Result, Some, [], add-one, ap, append_assoc, arith, cond, drop, false, get_or, inl, inr, length, length-append, length-drop}
+pub use borrow.Author.Rules.{scaled_Fits}
+pub use Rattle.std.proofs.Common.{Bool, Err, List, None, Ok, Option, Result, Some, [], ap, append_assoc, arith, cond, drop, false, get_or, inl, inr, length, length-append, length-drop}
 pub use Rattle.std.proofs.Common.{length-set, map, max, refl, set, subst, suc, sym, take, take-append-drop, true, zero, ℕ, ⊎_elim, ◌&&◌, ◌++◌, ◌+◌, ◌-◌, ◌<◌, ◌==◌, ◌^◌, ◌||◌, ◌∙◌, ◌∷◌, ◌≡◌, ◌≢◌, ◌≤◌}
 pub use Rattle.std.proofs.Common.{◌⊎◌}
 pub use Rattle.std.proofs.Math.Bool.{or-false}
@@ -14,7 +15,7 @@ pub use Rattle.std.proofs.lemmas.List.Folds.{Any-from_list_any, list_any-append,
 pub use Rattle.std.specs.Borrow.{Bor}
 pub use Rattle.std.specs.Io.KnownBytes.{IsAtEnd, append_known, prepend_known}
 pub use Rattle.std.specs.List.{list_any, sum}
-pub use Rattle.std.specs.Prelude.{All, encode_utf8, flat_map, is_none, nat_le, not, option_map, slice_get, sum_by}
+pub use Rattle.std.specs.Prelude.{All, encode_utf8, flat_map, is_none, nat_le, not, option_map, slice_get}
 pub use Rattle.ptflow.specs.Passes.{Ends, Finished, IsPass}
 pub use Rattle.ptflow.specs.PastePasses.{IsPastePass, IsReadable, ReadAll, RowsEnd, put_at}
 pub use Rattle.ptflow.specs.Tools.{Tool}

@@ -4,8 +4,8 @@ use Rattle.ptrun.proofs.Common.{◌+◌, length, take, map, set, max, refl, sym,
 use Rattle.ptrun.proofs.Common.{map-append, get_or-set_same, get_or-set_other, length-map, take-append_seam, take-length, flat_map-append, false≢true, Reader, IsSound, HasReadCause, Output, Wrote}
 use Rattle.ptrun.proofs.Common.{Slots, total, SinkState, wrote_trans, wrote_nothing, Given, nothing_left, Agrees, Begins, Came, Finished, Ends, IsPass, Tool, FlowFault, Read, Write, Memory, World}
 use Rattle.ptrun.proofs.Common.{Received, at, is_unopened, AllowsAt, Allows, is_in, found, founds, opened, sources, reader_at, no_reader, shut, CameAt, IsReceived, IsFresh, HasFailed, IsTooLong}
-use Rattle.ptrun.proofs.Common.{Tells, unopened, not_opened, name_of, KeepsUp, PassedOn, LastEarlier, decided_of, largest, up_to_open, each_out, each_bound, each_decided, one_by_one, Done, Whole}
-use Rattle.ptrun.proofs.Common.{Unopened, Cause, blame, last_words, status_after, IsWithin, Went, get_or, get_or_default, All}
+use Rattle.ptrun.proofs.Common.{Tells, unopened, not_opened, name_of, KeepsUp, PassedOn, LastEarlier, decided_of, up_to_open, each_out, each_bound, each_decided, one_by_one, Done, Whole, Unopened}
+use Rattle.ptrun.proofs.Common.{Cause, blame, last_words, status_after, IsWithin, Went, get_or, get_or_default, All}
 use Rattle.ptrun.proofs.OnePlace.{all_earlier, last_earlier, sends_now, sends_behind, IsSpent, nothing_yet, done_with, received_of, received_at, nothing_read, never_long, not_long, opened_came}
 use Rattle.ptrun.proofs.OnePlace.{still_refused, came_trans, ended_gives_nothing, refused_same, none_of, agreed, agrees_before, agrees_whole, agrees_least, ended_at, nth_here}
 use Rattle.ptrun.proofs.Sayings.{tells_nothing}
@@ -259,9 +259,8 @@ module _ {word : List ℕ} {t : Tool} {names : List (List ℕ)} {old : List Read
       peak_here : (w : World) (more : List ℕ) → Allows gave' w → store'.peak ≤ max before.peak (each_bound t w (done ++ p ∷ more))
       peak_here w more agrees =
           let f = finds w agrees in
-          let all : each_bound t w (done ++ p ∷ more) ≡ largest (map t.size (sources [] w done) ++ map t.size (f.0 ∷ later w more)) =
-          ap (λ (l : List (List ℕ)). largest (map t.size l)) (sources_opened [] w done p more f.0 f.1) ∙ ap largest (map-append t.size (sources [] w done) (f.0 ∷ later w more)) in
-          omega (arith, all, largest-append (map t.size (sources [] w done)) (map t.size (f.0 ∷ later w more)), e.peak f.0 f.2, k.peak w (back w agrees))
+          rw (sources_opened [] w done p more f.0 f.1, map-append t.size (sources [] w done) (f.0 ∷ later w more))
+          (omega (arith, largest-append (map t.size (sources [] w done)) (map t.size (f.0 ∷ later w more)), e.peak f.0 f.2, k.peak w (back w agrees)))
 
       -- it was read to its end
       pub pass_done : result ≡ Ok tt → Pass word t names old now' was is' told heard before store' (done ++ p ∷ []) so_far
@@ -336,12 +335,11 @@ module _ {word : List ℕ} {t : Tool} {names : List (List ℕ)} {old : List Read
 
         -- if more of it is to come, nothing behind it is decided
         decided_open : (g : Given) (behind : List Given) → (behind ≡ []) ⊎ (g.ended ≡ false) → flat_map t.decided (up_to_open (g ∷ behind)) ≡ t.decided g
-        decided_open g behind = ⊎_elim (λ none. ap (λ (l : List Given). flat_map t.decided (up_to_open (g ∷ l))) none ∙ by_end g.ended)
-            (λ going. ap (λ (b : Bool). t.decided g ++ flat_map t.decided (cond b (up_to_open behind) [])) going ∙ append-nil (t.decided g))
+        decided_open g behind last = ap (λ (l : List Given). t.decided g ++ flat_map t.decided l) (none_behind g.ended last) ∙ append-nil (t.decided g)
           where
-            by_end : (b : Bool) → t.decided g ++ flat_map t.decided (cond b [] []) ≡ t.decided g
-            by_end true = append-nil (t.decided g)
-            by_end false = append-nil (t.decided g)
+            none_behind : (b : Bool) → (behind ≡ []) ⊎ (b ≡ false) → cond b (up_to_open behind) [] ≡ []
+            none_behind true last = ⊎_elim (λ none. ap up_to_open none) (λ going. absurd (false≢true (sym going))) last
+            none_behind false last = refl
 
         -- what this operand pushed begins so
         begins_behind : (bytes : List ℕ) {all : List ℕ} → all ≡ k.pushed ++ bytes → Begins bytes e.pushed → Begins all (k.pushed ++ e.pushed)
@@ -359,13 +357,10 @@ module _ {word : List ℕ} {t : Tool} {names : List (List ℕ)} {old : List Read
             }))
 
         sure_here : (more : List ℕ) → new.failed ≡ true → is'.faulted ≡ false → new.ended ≡ false → Begins (each_decided t gave' (done ++ p ∷ more)) (k.pushed ++ e.pushed)
-        sure_here more failed clean going = begins_behind (t.decided e.given) all (e.sure failed clean)
-          where
-            all : each_decided t gave' (done ++ p ∷ more) ≡ k.pushed ++ t.decided e.given
-            all =
-                let behind = opened (founds nothing_left gave' (done ++ p ∷ []) more) in
-                ap (λ (l : List Given). flat_map t.decided (up_to_open l)) (sources_opened nothing_left gave' done p more e.given found_given)
-                ∙ decided_all (e.given ∷ behind) ∙ ap (λ (l : List ℕ). k.pushed ++ l) (decided_open e.given behind (inr (e.came.ended ∙ going)))
+        sure_here more failed clean going =
+            let behind = opened (founds nothing_left gave' (done ++ p ∷ []) more) in
+            begins_behind (t.decided e.given) (ap (λ (l : List Given). flat_map t.decided (up_to_open l)) (sources_opened nothing_left gave' done p more e.given found_given)
+            ∙ decided_all (e.given ∷ behind) ∙ ap (λ (l : List ℕ). k.pushed ++ l) (decided_open e.given behind (inr (e.came.ended ∙ going)))) (e.sure failed clean)
 
         pub pass_stopped : (more : List ℕ) (fault : FlowFault) → result ≡ Err fault → Went (one_by_one word t names (done ++ p ∷ more)) old now' was is' told heard before store' (Err (blame p fault))
         pass_stopped more fault is_err = record {

@@ -268,22 +268,19 @@ module _ {j : JointTool} (order : List Input) {old : List Reader} {was : Output}
   pub sole_there : 0 < length order
   sole_there = omega (arith, eqb-true (length (places order)) 1 one, length-map order place)
 
-  module _ (d : Input) {p : ℕ} (is : p ≡ place (get_or order 0 d)) where
-    only : places order ≡ p ∷ []
-    only = sole_of order d one is
-
+  module _ (d : Input) {p : ℕ} (placed : p ≡ place (get_or order 0 d)) where
     pub sole_within : p < length old
-    sole_within = (rw only at ready.fits) 0 0 (omega arith)
+    sole_within = (rw (sole_of order d one placed) at ready.fits) 0 0 (omega arith)
 
     pub sole_open : (e : Reader) → (get_or old p e).refused ≡ false
-    sole_open e = rw (get_or_default old p e no_reader sole_within) (neither (shut old p) false (rw only at ready.opened)).0
+    sole_open e = rw (get_or_default old p e no_reader sole_within) (neither (shut old p) false (rw (sole_of order d one placed) at ready.opened)).0
 
     pub lone_went : (e : Reader) {t : Tool} {is : Output} {store : Slots} {new : Reader} {result : Result (Unit {0}) FlowFault} → IsSound (get_or old p e)
         → IsPass t (get_or old p e) new was is before store result → IsJointPass (of_one t) (places order) old (set old p new) was is before store (told_one p result)
     lone_went e {t} {is} {store} {new} {result} sound pass =
         let here = get_or_default old p e no_reader sole_within in
         let calm = sound.unfailed (sole_open e) (rw here (fresh_all old ready.fresh p (rw here at (sole_open e))).fault) in
-        rw only (one_went t old was is before store p new result ready.writable sole_within (rw here at calm) (rw here at pass))
+        rw (sole_of order d one placed) (one_went t old was is before store p new result ready.writable sole_within (rw here at calm) (rw here at pass))
 
 -- ---- `paste` over its operands together: what its pass says of places, as what is said of inputs
 

@@ -190,24 +190,18 @@ module _ {inputs : List Reader} (front back : List Reader) {low high : ℕ} (spl
   )
 
   module _ (x y : Reader) where
-    set_both : set front low x ++ set back 0 y ≡ set (set inputs low x) high y
-    set_both = sym (
+    set_both : set (set inputs low x) high y ≡ set front low x ++ set back 0 y
+    set_both =
         ap (λ l. set (set l low x) high y) split ∙ ap (λ l. set l high y) (set-append_left front back low x (omega (arith, size, below)))
         ∙ set-append_right (set front low x) back high high y (length-set front low x ∙ size) (omega arith) ∙ ap (λ n. set front low x ++ set back n y) none_left
-        )
-
-    is_low : reader_at (set front low x ++ set back 0 y) low ≡ x
-    is_low =
-        ap (λ l. reader_at l low) set_both ∙ get_or-set_other (set inputs low x) high low y no_reader (λ same. omega (arith, same, below))
-        ∙ get_or-set_same inputs low x no_reader (omega (arith, below, within))
-
-    is_high : reader_at (set front low x ++ set back 0 y) high ≡ y
-    is_high = ap (λ l. reader_at l high) set_both ∙ get_or-set_same (set inputs low x) high y no_reader (omega (arith, within, length-set inputs low x))
-
-    is_other : (k : ℕ) → (low ≡ k → ⊥) → (high ≡ k → ⊥) → reader_at (set front low x ++ set back 0 y) k ≡ reader_at inputs k
-    is_other k first second =
-        ap (λ l. reader_at l k) set_both ∙ get_or-set_other (set inputs low x) high k y no_reader (λ same. second (sym same))
-        ∙ get_or-set_other inputs low k x no_reader (λ same. first (sym same))
 
     pub are_lent : (d e : Reader) → AreLent inputs (set front low x ++ set back 0 y) low high (get_or front low d) (get_or back 0 e) x y
-    are_lent d e = let k = were d e in record { was_low = k.0; was_high = k.1; is_low = is_low; is_high = is_high; others = is_other }
+    are_lent d e = record {
+      was_low = (were d e).0;
+      was_high = (were d e).1;
+      is_low = rw (sym set_both) (get_or-set_other (set inputs low x) high low y no_reader (λ same. omega (arith, same, below))
+          ∙ get_or-set_same inputs low x no_reader (omega (arith, below, within)));
+      is_high = rw (sym set_both) (get_or-set_same (set inputs low x) high y no_reader (omega (arith, within, length-set inputs low x)));
+      others = λ k first second. rw (sym set_both) (get_or-set_other (set inputs low x) high k y no_reader (λ same. second (sym same))
+          ∙ get_or-set_other inputs low k x no_reader (λ same. first (sym same)));
+    }
