@@ -259,9 +259,8 @@ module _ (t : Tool) (old : List Reader) (was is : Output) (before store : Slots)
 
 -- the one operand
 pub sole_of : (order : List Input) (d : Input) {p : ℕ} → (length (places order) == 1) ≡ true → p ≡ place (get_or order 0 d) → places order ≡ p ∷ []
-sole_of [] d one is = absurd (false≢true one)
 sole_of (o ∷ []) d one is = ap (λ (n : ℕ). n ∷ []) (sym is)
-sole_of (o ∷ u ∷ order) d one is = absurd (omega (arith, eqb-true (length (places (o ∷ u ∷ order))) 1 one))
+sole_of order d one is = absurd (omega (arith, eqb-true (length (places order)) 1 one))
 
 -- what an engine did with the reader of the one operand
 module _ {j : JointTool} (order : List Input) {old : List Reader} {was : Output} {before : Slots} (ready : AreReady j (places order) old was before) (one : (length (places order) == 1) ≡ true) where

@@ -1,8 +1,8 @@
 -- A tool with two inputs did what its one merge did, with two readers of a list that was split between them.
 use Rattle.ptrun.proofs.Common.{JointReadBroke, HasReadCause, places, length-append, length-map, ◌≡◌, ◌≢◌, ℕ, ◌<◌, ◌^◌, ◌||◌, ◌&&◌, ◌==◌, Bool, true, false, List, [], ◌∷◌, Option, Some, None, Result}
-use Rattle.ptrun.proofs.Common.{Ok, Err, length, get_or, refl, sym, ◌∙◌, ap, subst, arith, option_map, not, list_any, All-nil, All-cons, false≢true, nat_tests, Reader, Output, Slots, Given, Begins}
-use Rattle.ptrun.proofs.Common.{Came, Before, put_at, First, Second, disorder, lines_of, decided, Input, Disorder, is_in, reader_at, shut, IsNew, PassedOn, place, of_two, operand, of_operands}
-use Rattle.ptrun.proofs.Common.{AreReady, AreSound, told_at, done_of, AgreeAt, NoneFailed, JointEnds, IsJointPass, ◌-◌, ◌++◌, set, length-set, set-append_left, set-append_right, get_or_append_left}
+use Rattle.ptrun.proofs.Common.{Ok, Err, length, get_or, refl, sym, ◌∙◌, ap, subst, arith, option_map, not, All-nil, All-cons, false≢true, nat_tests, Reader, Output, Slots, Given, Begins, Came}
+use Rattle.ptrun.proofs.Common.{Before, put_at, First, Second, disorder, lines_of, decided, Input, Disorder, is_in, reader_at, shut, IsNew, PassedOn, place, of_two, operand, of_operands, AreReady}
+use Rattle.ptrun.proofs.Common.{AreSound, told_at, done_of, AgreeAt, NoneFailed, JointEnds, IsJointPass, ◌-◌, ◌++◌, set, length-set, set-append_left, set-append_right, get_or_append_left}
 use Rattle.ptrun.proofs.Common.{get_or-append_right, get_or_default, get_or-set_same, get_or-set_other, no_reader}
 use Rattle.ptmerge.specs.declared.faults.MergeFault.{MergeFault}
 use Rattle.ptmerge.specs.declared.order.Side.{Side}
@@ -11,7 +11,7 @@ use Rattle.ptmerge.specs.Sides.{both, put}
 use Rattle.ptmerge.specs.declared.faults.MergeFault.TheVariants as faults
 use Rattle.ptmerge.specs.Keyed as keyed
 use Rattle.ptrun.proofs.OnePlace.{passed_on}
-use Rattle.ptrun.proofs.Sources.{same_here, is_in-same, neither, each_named, put_here, put_other, fresh_all}
+use Rattle.ptrun.proofs.Sources.{same_here, is_in-same, none_passes, each_named, put_here, put_other, fresh_all}
 
 -- ---- two operands
 
@@ -26,10 +26,8 @@ stands p q Second = refl
 
 pub two_of : (order : List Input) (d e : Input) {p q : ℕ} → ((length (places order) == 2) && not (operand (places order) First == operand (places order) Second)) ≡ true
     → p ≡ place (get_or order 0 d) → q ≡ place (get_or order 1 e) → TwoPlaces (places order) p q
-two_of [] d e taken is_p is_q = absurd (false≢true taken)
-two_of (a ∷ []) d e taken is_p is_q = absurd (false≢true taken)
 two_of (a ∷ b ∷ []) d e taken is_p is_q = record { are = λ i. sym is_p i ∷ sym is_q i ∷ []; apart = λ same. grind (arith, nat_tests, taken, is_p, is_q, same) }
-two_of (a ∷ b ∷ c ∷ more) d e taken is_p is_q = absurd (grind (arith, nat_tests, taken))
+two_of order d e taken is_p is_q = absurd (grind (arith, nat_tests, taken))
 
 pub two_there : (order : List Input) → ((length (places order) == 2) && not (operand (places order) First == operand (places order) Second)) ≡ true → 1 < length order
 two_there order taken = grind (arith, nat_tests, taken, length-map order place)
@@ -38,24 +36,22 @@ module _ (t : keyed.Tool) {old : List Reader} {was : Output} {before : Slots} {p
   abbrev two : List ℕ
   two = p ∷ q ∷ []
 
+  named : (side : Side) → is_in two (both p q side) ≡ true
+  named First = ap (λ (b : Bool). b || ((q == p) || false)) (same_here p)
+  named Second = is_in-same (p ∷ []) q
+
   open_at : (side : Side) → (reader_at old (both p q side)).refused ≡ false
-  open_at First = (neither (shut old p) (list_any (shut old) (q ∷ [])) ready.opened).0
-  open_at Second = (neither (shut old q) false (neither (shut old p) (list_any (shut old) (q ∷ [])) ready.opened).1).0
+  open_at side = none_passes (shut old) two ready.opened (both p q side) (named side)
 
   new_at : (side : Side) → IsNew (reader_at old (both p q side))
   new_at side = fresh_all old ready.fresh (both p q side) (open_at side)
 
   pub within_at : (side : Side) → both p q side < length old
-  within_at First = ready.fits 0 0 (omega arith)
-  within_at Second = ready.fits 1 0 (omega arith)
+  within_at side = each_named (λ k. k < length old) two ready.fits (both p q side) (named side)
 
   -- both can be read
   pub ready_at : IsReady (reader_at old p) (reader_at old q) before
   ready_at = record { opened1 = open_at First; opened2 = open_at Second; readable1 = (new_at First).fault; readable2 = (new_at Second).fault; allowed = ready.roomy; empty = ready.empty }
-
-  named : (side : Side) → is_in two (both p q side) ≡ true
-  named First = ap (λ (b : Bool). b || ((q == p) || false)) (same_here p)
-  named Second = is_in-same (p ∷ []) q
 
   -- what holds of both places
   each : (P : ℕ → Type 0) → P p → P q → (k : ℕ) → is_in two k ≡ true → P k

@@ -3,7 +3,7 @@
 -- What a tool pushed reaches the sink as far as no write failed, and its last words are said behind what it said. The
 -- headline is a reading of the run in the world that the readers tell: it is allowed by what was received, and each
 -- cause of a failure contradicts a premise.
-use Rattle.ptrun.proofs.Common.{cases_Bool, ◌≡◌, ⊎_elim, ℕ, Bool, true, false, cond, List, [], ◌++◌, Option, Some, None, Result, Ok, Err, length, map, refl, sym, ◌∙◌, ap, subst, arith, append_assoc}
+use Rattle.ptrun.proofs.Common.{cases_Bool, ◌≡◌, ⊎_elim, ℕ, Bool, true, false, cond, List, [], ◌++◌, Option, Some, None, Result, Ok, Err, length, map, refl, sym, ◌∙◌, ap, arith, append_assoc}
 use Rattle.ptrun.proofs.Common.{length-append, All, append_known, prepend_known, IsAtEnd, append-nil, append_cancel_left, nil_from_length, false≢true, take-length, Reader, Output, text, Wrote, Slots}
 use Rattle.ptrun.proofs.Common.{SinkState, append_known-nil, wrote_trans, Given, Agrees, Begins, FlowFault, Read, Write, Memory, Done, World, Received, at, AllowsAt, Allows, reader_at, shut}
 use Rattle.ptrun.proofs.Common.{is_unopened, CameAt, IsReceived, IsFresh, HasFailed, IsTooLong, TellsAt, TellsWorld, Tells, Meaning, named, messages, unopened, Sinks, sinks, Outcome, Cause, EndsAs}
@@ -152,9 +152,8 @@ only_said {text} {is} {status = status} fresh fine tells status_is = unread (say
 -- Inputs are lacking, those that could not be opened were named, and there is nothing else to do.
 pub lacking : {m : Meaning} {old : List Reader} {out told heard : SinkState} {lacks : Bool} → All IsFresh old → out.failed ≡ false → Checks m old told heard lacks → lacks ≡ true
     → IsRun m old old (sinks out told) (record { out = out; messages = heard; status = 1; peak = 0; denied = false })
-lacking {m} {old} {told = told} {heard = heard} fresh fine k lacks =
-    unread m 1 (k.at_once lacks) (k.undecided lacks) fresh fine
-    (subst (λ (b : Bool). Tells told heard (cond b (unopened m.tool m.names (shut old) m.places) [])) lacks k.tells)
+lacking {m} {old} fresh fine k lacks =
+    unread m 1 (k.at_once lacks) (k.undecided lacks) fresh fine (rw lacks at k.tells)
     (λ w agrees.
     let same = refused_same old old (map received_of old) w (nothing_read old (fresh_all old fresh)) agrees in
     let nothing = k.nothing lacks w same in (
