@@ -1,5 +1,6 @@
 -- Names of other crates and of this one's definitions that many of its proofs take from here.
-pub use Rattle.std.proofs.Common.{Bool, Err, List, None, Ok, Option, Result, Some, [], add-one, ap, append_assoc, arith, cond, drop, false, get_or, inl, inr, length, length-append, length-drop}
+pub use borrow.Author.Rules.{scaled_Fits}
+pub use Rattle.std.proofs.Common.{Bool, Err, List, None, Ok, Option, Result, Some, [], ap, append_assoc, arith, cond, drop, false, get_or, inl, inr, length, length-append, length-drop}
 pub use Rattle.std.proofs.Common.{length-set, map, max, refl, set, subst, suc, sym, take, take-append-drop, true, zero, ℕ, ⊎_elim, ◌&&◌, ◌++◌, ◌+◌, ◌-◌, ◌<◌, ◌==◌, ◌^◌, ◌||◌, ◌∙◌, ◌∷◌, ◌≡◌, ◌≢◌, ◌≤◌}
 pub use Rattle.std.proofs.Common.{◌⊎◌}
 pub use Rattle.std.proofs.Math.Bool.{or-false}
@@ -10,11 +11,11 @@ pub use Rattle.std.proofs.lemmas.List.{append-nil, append_cancel_left, get_or-ap
 pub use Rattle.std.proofs.lemmas.List.{length-take-le, map-append, nil_from_length, set-append_left, set-append_right, set-get_or, take_all, take_more}
 pub use Rattle.std.proofs.lemmas.List.Concat.{flat_map-append}
 pub use Rattle.std.proofs.lemmas.List.Elements.{All-cons, All-from_get_or, All-map, All-nil, filter_map-append}
-pub use Rattle.std.proofs.lemmas.List.Folds.{list_any-append, list_any_at}
+pub use Rattle.std.proofs.lemmas.List.Folds.{Any-from_list_any, list_any-append, list_any_at}
 pub use Rattle.std.specs.Borrow.{Bor}
 pub use Rattle.std.specs.Io.KnownBytes.{IsAtEnd, append_known, prepend_known}
-pub use Rattle.std.specs.List.{list_any}
-pub use Rattle.std.specs.Prelude.{All, encode_utf8, flat_map, is_none, nat_le, not, option_map, slice_get, sum_by}
+pub use Rattle.std.specs.List.{list_any, sum}
+pub use Rattle.std.specs.Prelude.{All, encode_utf8, flat_map, is_none, nat_le, not, option_map, slice_get}
 pub use Rattle.ptflow.specs.Passes.{Ends, Finished, IsPass}
 pub use Rattle.ptflow.specs.PastePasses.{IsPastePass, IsReadable, ReadAll, RowsEnd, put_at}
 pub use Rattle.ptflow.specs.Tools.{Tool}
@@ -37,7 +38,7 @@ pub use Rattle.ptopts.specs.Meant.{IsMeant, meant, seen, words_seen}
 pub use Rattle.ptopts.specs.declared.inputs.Input.{Input}
 pub use Rattle.ptopts.specs.declared.inputs.Input.TheVariants.{File, Standard}
 pub use Rattle.ptrun.specs.Asked.{asked, asked_as, command_meaning, is_denied, job_meaning, meaning_in, saying, tool_word}
-pub use Rattle.ptrun.specs.Engines.{AgreeAt, AreGiven, AreReady, AreSound, Checks, Finishes, IsJointPass, IsStart, IsWithin, JointEnds, NoneFailed, Went, WentTo, blame, done_of, last_words}
+pub use Rattle.ptrun.specs.Engines.{AgreeAt, AreGiven, AreReady, AreSound, Checks, Finishes, IsJointPass, JointReadBroke, IsStart, IsWithin, JointEnds, NoneFailed, Went, WentTo, blame, done_of, last_words}
 pub use Rattle.ptrun.specs.Engines.{status_after, told_at}
 pub use Rattle.ptrun.specs.KeepingUp.{AnyEarlier, Earlier, EarlierAs, KeptUp, LastEarlier, PassedOn}
 pub use Rattle.ptrun.specs.Meanings.{Meaning, messages, named, unopened}

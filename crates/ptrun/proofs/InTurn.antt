@@ -4,10 +4,10 @@ use Rattle.ptrun.proofs.Common.{◌+◌, length, take, map, set, max, refl, sym,
 use Rattle.ptrun.proofs.Common.{map-append, get_or-set_same, get_or-set_other, length-map, take-append_seam, take-length, flat_map-append, false≢true, Reader, IsSound, HasReadCause, Output, Wrote}
 use Rattle.ptrun.proofs.Common.{Slots, total, SinkState, wrote_trans, wrote_nothing, Given, nothing_left, Agrees, Begins, Came, Finished, Ends, IsPass, Tool, FlowFault, Read, Write, Memory, World}
 use Rattle.ptrun.proofs.Common.{Received, at, is_unopened, AllowsAt, Allows, is_in, found, founds, opened, sources, reader_at, no_reader, shut, CameAt, IsReceived, IsFresh, HasFailed, IsTooLong}
-use Rattle.ptrun.proofs.Common.{Tells, unopened, not_opened, name_of, KeepsUp, PassedOn, LastEarlier, decided_of, largest, up_to_open, each_out, each_bound, each_decided, one_by_one, Done, Whole}
-use Rattle.ptrun.proofs.Common.{Unopened, Cause, blame, last_words, status_after, IsWithin, Went, get_or, get_or_default, All}
+use Rattle.ptrun.proofs.Common.{Tells, unopened, not_opened, name_of, KeepsUp, PassedOn, LastEarlier, decided_of, up_to_open, each_out, each_bound, each_decided, one_by_one, Done, Whole, Unopened}
+use Rattle.ptrun.proofs.Common.{Cause, blame, last_words, status_after, IsWithin, Went, get_or, get_or_default, All}
 use Rattle.ptrun.proofs.OnePlace.{all_earlier, last_earlier, sends_now, sends_behind, IsSpent, nothing_yet, done_with, received_of, received_at, nothing_read, never_long, not_long, opened_came}
-use Rattle.ptrun.proofs.OnePlace.{still_refused, came_trans, ended_gives_nothing, refused_same, none_of, agreed, agrees_before, agrees_whole, agrees_some, agrees_least, ended_at, nth_here}
+use Rattle.ptrun.proofs.OnePlace.{still_refused, came_trans, ended_gives_nothing, refused_same, none_of, agreed, agrees_before, agrees_whole, agrees_least, ended_at, nth_here}
 use Rattle.ptrun.proofs.Sayings.{tells_nothing}
 use Rattle.ptrun.proofs.Sources.{some_same, is_in-other, not_more, by_place, sources_opened, sources_refused, unopened_same, any_same, any_now, any_before, tells_more, largest-append, EndedAt, least}
 use Rattle.ptrun.proofs.Sources.{decided_founds, Decides, fresh_all}
@@ -170,14 +170,11 @@ module _ {word : List ℕ} {t : Tool} {names : List (List ℕ)} {old : List Read
       e : IsPass t (reader_at now p) new is is' store store' result
       e = rw (here within d) at pass
 
-      is_open : (reader_at now p).refused ≡ false
-      is_open = rw (here within d) at open_here
-
       calm : (reader_at now p).failed ≡ false
       calm = rw (here within d) at (sound.unfailed open_here (ready_here within d open_here))
 
       old_open : shut old p ≡ false
-      old_open = was_refused p ∙ is_open
+      old_open = was_refused p ∙ rw (here within d) at open_here
 
       -- what came of it before
       abbrev y : (g : Given) × (at k.gave p ≡ Some g) × Came (reader_at old p) (reader_at now p) g
@@ -240,7 +237,7 @@ module _ {word : List ℕ} {t : Tool} {names : List (List ℕ)} {old : List Read
       back : (w : World) → Allows gave' w → Allows k.gave w
       back w agrees =
           let here = agreed (at gave' p) (at w p) (given_now y.0) gave_here (agrees p) in
-          by_place (λ q. AllowsAt (at k.gave q) (at w q)) p (agrees_some (at k.gave p) (at w p) y.0 y.1 here.0 here.1 (agrees_before y.0 e.given here.0 still here.2))
+          by_place (λ q. AllowsAt (at k.gave q) (at w q)) p (rw (y.1, here.1) (agrees_before y.0 e.given here.0 still here.2))
           (λ q differs. rw (gave_other q differs) at (agrees q))
 
       -- what the operand finds in a world, which agrees with what came in the call
@@ -256,21 +253,14 @@ module _ {word : List ℕ} {t : Tool} {names : List (List ℕ)} {old : List Read
       abbrev later : World → List ℕ → List (List ℕ)
       later w more = opened (founds [] w (done ++ p ∷ []) more)
 
-      sources_here : (w : World) (more : List ℕ) (f : Finds w) → sources [] w (done ++ p ∷ more) ≡ sources [] w done ++ f.0 ∷ later w more
-      sources_here w more f = sources_opened [] w done p more f.0 f.1
-
       out_here : (w : World) (more : List ℕ) (f : Finds w) → each_out t w (done ++ p ∷ more) ≡ each_out t w done ++ (t.text f.0 ++ flat_map t.text (later w more))
-      out_here w more f = ap (λ (l : List (List ℕ)). flat_map t.text l) (sources_here w more f) ∙ flat_map-append t.text (sources [] w done) (f.0 ∷ later w more)
+      out_here w more f = ap (λ (l : List (List ℕ)). flat_map t.text l) (sources_opened [] w done p more f.0 f.1) ∙ flat_map-append t.text (sources [] w done) (f.0 ∷ later w more)
 
       peak_here : (w : World) (more : List ℕ) → Allows gave' w → store'.peak ≤ max before.peak (each_bound t w (done ++ p ∷ more))
       peak_here w more agrees =
           let f = finds w agrees in
-          let all : each_bound t w (done ++ p ∷ more) ≡ largest (map t.size (sources [] w done) ++ map t.size (f.0 ∷ later w more)) =
-          ap (λ (l : List (List ℕ)). largest (map t.size l)) (sources_here w more f) ∙ ap largest (map-append t.size (sources [] w done) (f.0 ∷ later w more)) in
-          omega (arith, all, largest-append (map t.size (sources [] w done)) (map t.size (f.0 ∷ later w more)), e.peak f.0 f.2, k.peak w (back w agrees))
-
-      wrote_here : Wrote was is' (k.pushed ++ e.pushed)
-      wrote_here = wrote_trans was is is' k.pushed e.pushed k.clean k.wrote e.wrote
+          rw (sources_opened [] w done p more f.0 f.1, map-append t.size (sources [] w done) (f.0 ∷ later w more))
+          (omega (arith, largest-append (map t.size (sources [] w done)) (map t.size (f.0 ∷ later w more)), e.peak f.0 f.2, k.peak w (back w agrees)))
 
       -- it was read to its end
       pub pass_done : result ≡ Ok tt → Pass word t names old now' was is' told heard before store' (done ++ p ∷ []) so_far
@@ -283,7 +273,7 @@ module _ {word : List ℕ} {t : Tool} {names : List (List ℕ)} {old : List Read
             (λ other. rw (reader_other q other) (k.spent q (sym (is_in-other done p q other) ∙ seen) opened)) (cases_eq p q);
         unread = λ q unseen. let other = not_more done p q unseen in let was = k.unread q other.1 in (reader_other q other.0 ∙ was.0, gave_other q other.0 ∙ was.1);
         pushed = k.pushed ++ e.pushed;
-        wrote = wrote_here;
+        wrote = wrote_trans was is is' k.pushed e.pushed k.clean k.wrote e.wrote;
         out = λ w agrees. let f = finds w agrees in
             (λ i. k.out w (back w agrees) i ++ (e.whole ok ∙ ap t.text (sym (agrees_whole e.given f.0 (e.came.ended ∙ end.done.ended) f.2)) ∙ sym (append-nil (t.text f.0))) i)
             ∙ sym (out_here w [] f);
@@ -345,12 +335,11 @@ module _ {word : List ℕ} {t : Tool} {names : List (List ℕ)} {old : List Read
 
         -- if more of it is to come, nothing behind it is decided
         decided_open : (g : Given) (behind : List Given) → (behind ≡ []) ⊎ (g.ended ≡ false) → flat_map t.decided (up_to_open (g ∷ behind)) ≡ t.decided g
-        decided_open g behind = ⊎_elim (λ none. ap (λ (l : List Given). flat_map t.decided (up_to_open (g ∷ l))) none ∙ by_end g.ended)
-            (λ going. ap (λ (b : Bool). t.decided g ++ flat_map t.decided (cond b (up_to_open behind) [])) going ∙ append-nil (t.decided g))
+        decided_open g behind last = ap (λ (l : List Given). t.decided g ++ flat_map t.decided l) (none_behind g.ended last) ∙ append-nil (t.decided g)
           where
-            by_end : (b : Bool) → t.decided g ++ flat_map t.decided (cond b [] []) ≡ t.decided g
-            by_end true = append-nil (t.decided g)
-            by_end false = append-nil (t.decided g)
+            none_behind : (b : Bool) → (behind ≡ []) ⊎ (b ≡ false) → cond b (up_to_open behind) [] ≡ []
+            none_behind true last = ⊎_elim (λ none. ap up_to_open none) (λ going. absurd (false≢true (sym going))) last
+            none_behind false last = refl
 
         -- what this operand pushed begins so
         begins_behind : (bytes : List ℕ) {all : List ℕ} → all ≡ k.pushed ++ bytes → Begins bytes e.pushed → Begins all (k.pushed ++ e.pushed)
@@ -368,20 +357,17 @@ module _ {word : List ℕ} {t : Tool} {names : List (List ℕ)} {old : List Read
             }))
 
         sure_here : (more : List ℕ) → new.failed ≡ true → is'.faulted ≡ false → new.ended ≡ false → Begins (each_decided t gave' (done ++ p ∷ more)) (k.pushed ++ e.pushed)
-        sure_here more failed clean going = begins_behind (t.decided e.given) all (e.sure failed clean)
-          where
-            all : each_decided t gave' (done ++ p ∷ more) ≡ k.pushed ++ t.decided e.given
-            all =
-                let behind = opened (founds nothing_left gave' (done ++ p ∷ []) more) in
-                ap (λ (l : List Given). flat_map t.decided (up_to_open l)) (sources_opened nothing_left gave' done p more e.given found_given)
-                ∙ decided_all (e.given ∷ behind) ∙ ap (λ (l : List ℕ). k.pushed ++ l) (decided_open e.given behind (inr (e.came.ended ∙ going)))
+        sure_here more failed clean going =
+            let behind = opened (founds nothing_left gave' (done ++ p ∷ []) more) in
+            begins_behind (t.decided e.given) (ap (λ (l : List Given). flat_map t.decided (up_to_open l)) (sources_opened nothing_left gave' done p more e.given found_given)
+            ∙ decided_all (e.given ∷ behind) ∙ ap (λ (l : List ℕ). k.pushed ++ l) (decided_open e.given behind (inr (e.came.ended ∙ going)))) (e.sure failed clean)
 
-        stopped : (more : List ℕ) (fault : FlowFault) → result ≡ Err fault → Went (one_by_one word t names (done ++ p ∷ more)) old now' was is' told heard before store' (Err (blame p fault))
-        stopped more fault is_err = record {
+        pub pass_stopped : (more : List ℕ) (fault : FlowFault) → result ≡ Err fault → Went (one_by_one word t names (done ++ p ∷ more)) old now' was is' told heard before store' (Err (blame p fault))
+        pass_stopped more fault is_err = record {
           received = gave';
           came = received';
           pushed = k.pushed ++ e.pushed;
-          wrote = wrote_here;
+          wrote = wrote_trans was is is' k.pushed e.pushed k.clean k.wrote e.wrote;
           behind = length done;
           within = omega (arith, length-append done (p ∷ more));
           said = unopened word names (shut old) done;
@@ -415,8 +401,3 @@ module _ {word : List ℕ} {t : Tool} {names : List (List ℕ)} {old : List Read
             named_within (Read place) = within
             named_within Write = tt
             named_within Memory = tt
-
-        pub pass_stopped : (more : List ℕ) {order : List ℕ} → done ++ p ∷ more ≡ order → {fault : FlowFault} → result ≡ Err fault
-            → Went (one_by_one word t names order) old now' was is' told heard before store' (Err (blame p fault))
-        pass_stopped more split {fault} is_err = subst (λ (o : List ℕ). Went (one_by_one word t names o) old now' was is' told heard before store' (Err (blame p fault)))
-            split (stopped more fault is_err)

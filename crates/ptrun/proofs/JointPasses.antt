@@ -2,14 +2,14 @@
 --
 -- Where one could not be opened, nothing is to be done. Else what the tool did is the run but its last words, and a
 -- tool with one input did what its one pass did.
-use Rattle.ptrun.proofs.Common.{get_or_default, no_reader, length-map, cases_eq, cases_Bool, ◌≡◌, ◌⊎◌, ⊎_elim, inl, inr, ℕ, zero, suc, ◌+◌, ◌<◌, ◌≤◌, ◌^◌, ◌||◌, ◌==◌, Bool, true, false, cond, List}
-use Rattle.ptrun.proofs.Common.{[], ◌∷◌, ◌++◌, Option, Some, None, Result, Ok, Err, length, take, drop, get_or, set, refl, sym, ◌∙◌, ap, subst, arith, take-append-drop, All, slice_get, list_any}
-use Rattle.ptrun.proofs.Common.{get_or-set_same, get_or-set_other, All-nil, All-cons, list_any-append, false≢true, eqb-true, eqb_tells, Reader, IsSound, Output, Slots, SinkState, Given, Begins, Came}
-use Rattle.ptrun.proofs.Common.{Before, Ends, IsPass, put_at, Tool, FlowFault, Read, Write, Memory, Input, Done, Whole, World, Received, at, is_unopened, Allows, is_in, reader_at, shut, IsReceived}
-use Rattle.ptrun.proofs.Common.{IsFresh, HasFailed, IsTooLong, unopened, Tells, not_opened, name_of, PassedOn, place, places, JointTool, of_one, text_in, given_in, lacks, disorder_text}
-use Rattle.ptrun.proofs.Common.{disorder_status, together, Checks, IsStart, AreReady, IsWithin, blame, last_words, status_after, WentTo, Went, done_of, AgreeAt, NoneFailed, JointEnds, IsJointPass}
-use Rattle.ptrun.proofs.Common.{map, max, sum_by, append-nil, All-from_get_or, list_any_at, whole_lines, Agrees, Paste, IsReadable, ReadAll, RowsEnd, IsPastePass, of_rows}
-use Rattle.std.proofs.lemmas.List.Sums.{sum_by-cons}
+use Rattle.ptrun.proofs.Common.{or_left, or_right, sum, get_or_default, no_reader, length-map, cases_eq, cases_Bool, ◌≡◌, ◌⊎◌, ⊎_elim, inl, inr, ℕ, zero, suc, ◌+◌, ◌<◌, ◌≤◌, ◌^◌, ◌||◌, ◌==◌, Bool}
+use Rattle.ptrun.proofs.Common.{true, false, cond, List, [], ◌∷◌, ◌++◌, Option, Some, None, Result, Ok, Err, length, take, drop, get_or, set, refl, sym, ◌∙◌, ap, subst, arith, take-append-drop}
+use Rattle.ptrun.proofs.Common.{slice_get, list_any, get_or-set_same, get_or-set_other, All-nil, All-cons, list_any-append, false≢true, eqb-true, eqb_tells, Reader, IsSound, Output, Slots, SinkState}
+use Rattle.ptrun.proofs.Common.{Given, Begins, Came, Before, Ends, IsPass, put_at, Tool, FlowFault, Read, Write, Memory, Input, Done, Whole, World, Received, at, is_unopened, Allows, is_in}
+use Rattle.ptrun.proofs.Common.{reader_at, shut, IsReceived, IsFresh, HasFailed, IsTooLong, unopened, Tells, not_opened, name_of, PassedOn, place, places, JointTool, of_one, text_in, given_in, lacks}
+use Rattle.ptrun.proofs.Common.{disorder_text, disorder_status, together, Checks, IsStart, AreReady, IsWithin, blame, last_words, status_after, WentTo, Went, done_of, AgreeAt, NoneFailed, JointEnds}
+use Rattle.ptrun.proofs.Common.{IsJointPass, map, max, append-nil, All-from_get_or, list_any_at, whole_lines, Agrees, Paste, IsReadable, ReadAll, RowsEnd, IsPastePass, of_rows}
+use Rattle.std.proofs.lemmas.List.Sums.{sum-map}
 use Rattle.ptlines.specs.Text.{lines, longest_line}
 use Rattle.ptflow.specs.Pastes.{times, every, columns, rows, known_rows, sheet, paste, paste_decided, paste_size}
 use Rattle.ptflow.proofs.OfPaste.Grids.{each_same, times_below}
@@ -189,23 +189,14 @@ module _ (word : List ℕ) {t : JointTool} (names : List (List ℕ)) {places : L
     true_so_far = λ w agrees. rw (complete w agrees) (k.true_so_far (text_in w) (agree w agrees));
     told_read = e.told_read;
     sure = λ q failed clean. subst (λ (l : List ℕ). Begins l k.pushed) (sym (decided_is received k.given (λ q. refl) given_named)) (k.sure q (named_failed q failed) failed.2 clean);
-    keeps_up = λ q g named there. keeps_at q g named there (some_same (sym (at_named q named) ∙ there));
+    keeps_up = λ q g named there. let up = k.keeps_up q named in let e = up.0.earlier in rw (some_same (sym there ∙ at_named q named))
+        (up.0, rw (decided_is (set received q (Some e)) (put_at q e k.given) (opened_set received q g e there) (put_is q g e there)) up.1);
     peak = λ w agrees. rw (complete w agrees) (k.peak (text_in w) (agree w agrees));
   }
     where
       none_before : (test : ℕ → Bool) (n : ℕ) → list_any test places ≡ false → list_any test (take n places) ≡ false
       none_before test n none = (neither (list_any test (take n places)) (list_any test (drop n places))
           (sym (list_any-append test (take n places) (drop n places)) ∙ ap (list_any test) (take-append-drop n places) ∙ none)).0
-
-      keeps_at : (q : ℕ) (g : Given) → is_in places q ≡ true → at received q ≡ Some g → k.given q ≡ g
-          → (cut : Before g) × PassedOn ((together word t names places).decided (set received q (Some cut.earlier))) was is k.pushed
-      keeps_at q g named there same =
-          subst (λ (h : Given). (cut : Before h) × PassedOn ((together word t names places).decided (set received q (Some cut.earlier))) was is k.pushed) same
-          (let up = k.keeps_up q named in let e = up.0.earlier in (
-            up.0,
-            subst (λ (l : List ℕ). PassedOn l was is k.pushed)
-                (sym (decided_is (set received q (Some e)) (put_at q e k.given) (opened_set received q g e there) (put_is q g e there))) up.1,
-          ))
 
 -- ---- a tool with one input
 
@@ -268,31 +259,27 @@ module _ (t : Tool) (old : List Reader) (was is : Output) (before store : Slots)
 
 -- the one operand
 pub sole_of : (order : List Input) (d : Input) {p : ℕ} → (length (places order) == 1) ≡ true → p ≡ place (get_or order 0 d) → places order ≡ p ∷ []
-sole_of [] d one is = absurd (false≢true one)
 sole_of (o ∷ []) d one is = ap (λ (n : ℕ). n ∷ []) (sym is)
-sole_of (o ∷ u ∷ order) d one is = absurd (omega (arith, eqb-true (length (places (o ∷ u ∷ order))) 1 one))
+sole_of order d one is = absurd (omega (arith, eqb-true (length (places order)) 1 one))
 
 -- what an engine did with the reader of the one operand
 module _ {j : JointTool} (order : List Input) {old : List Reader} {was : Output} {before : Slots} (ready : AreReady j (places order) old was before) (one : (length (places order) == 1) ≡ true) where
   pub sole_there : 0 < length order
   sole_there = omega (arith, eqb-true (length (places order)) 1 one, length-map order place)
 
-  module _ (d : Input) {p : ℕ} (is : p ≡ place (get_or order 0 d)) where
-    only : places order ≡ p ∷ []
-    only = sole_of order d one is
-
+  module _ (d : Input) {p : ℕ} (placed : p ≡ place (get_or order 0 d)) where
     pub sole_within : p < length old
-    sole_within = (rw only at ready.fits) 0 0 (omega arith)
+    sole_within = (rw (sole_of order d one placed) at ready.fits) 0 0 (omega arith)
 
     pub sole_open : (e : Reader) → (get_or old p e).refused ≡ false
-    sole_open e = rw (get_or_default old p e no_reader sole_within) (neither (shut old p) false (rw only at ready.opened)).0
+    sole_open e = rw (get_or_default old p e no_reader sole_within) (neither (shut old p) false (rw (sole_of order d one placed) at ready.opened)).0
 
     pub lone_went : (e : Reader) {t : Tool} {is : Output} {store : Slots} {new : Reader} {result : Result (Unit {0}) FlowFault} → IsSound (get_or old p e)
         → IsPass t (get_or old p e) new was is before store result → IsJointPass (of_one t) (places order) old (set old p new) was is before store (told_one p result)
     lone_went e {t} {is} {store} {new} {result} sound pass =
         let here = get_or_default old p e no_reader sole_within in
         let calm = sound.unfailed (sole_open e) (rw here (fresh_all old ready.fresh p (rw here at (sole_open e))).fault) in
-        rw only (one_went t old was is before store p new result ready.writable sole_within (rw here at calm) (rw here at pass))
+        rw (sole_of order d one placed) (one_went t old was is before store p new result ready.writable sole_within (rw here at calm) (rw here at pass))
 
 -- ---- `paste` over its operands together: what its pass says of places, as what is said of inputs
 
@@ -311,22 +298,16 @@ module _ (cells : List ℕ) where
   not_in : (p : ℕ) → is_in cells p ≡ false → times cells p ≡ 0
   not_in p none = ⊎_elim (λ is. is) (λ some. absurd (false≢true (sym none ∙ named_is_in p (omega (arith, some))))) (cases_eq (times cells p) 0)
 
-  all_cells : {X : Type 0} (f g : ℕ → X) → ((p : ℕ) → is_in cells p ≡ true → f p ≡ g p) → All (λ p. f p ≡ g p) cells
-  all_cells f g same = All-from_get_or (λ (p : ℕ). f p ≡ g p) cells 0 (λ c low. same (get_or cells c 0) (cell_in c low))
-
 -- of each cell the same
 columns_same : (cells : List ℕ) (f g : ℕ → List (List ℕ)) → ((p : ℕ) → is_in cells p ≡ true → f p ≡ g p) → columns cells f ≡ columns cells g
 columns_same cells f g same =
     each_same (λ c p. every (times cells p) (times (take c cells) p) (f p)) (λ c p. every (times cells p) (times (take c cells) p) (g p)) cells
     (λ c low. let p = get_or cells c 0 in ap (every (times cells p) (times (take c cells) p)) (same p (cell_in cells c low)))
 
-map_same : {X : Type 0} (f g : ℕ → X) (cells : List ℕ) → All (λ p. f p ≡ g p) cells → map f cells ≡ map g cells
+map_same : {X : Type 0} (f g : ℕ → X) (cells : List ℕ) → ((p : ℕ) → is_in cells p ≡ true → f p ≡ g p) → map f cells ≡ map g cells
 map_same f g [] same = refl
-map_same f g (c ∷ cells) same = λ i. same 0 c (omega arith) i ∷ map_same f g cells (λ k d low. same (suc k) d (omega (arith, low))) i
-
-sum_same : (f g : ℕ → ℕ) (cells : List ℕ) → All (λ p. f p ≡ g p) cells → sum_by f cells ≡ sum_by g cells
-sum_same f g [] same = refl
-sum_same f g (c ∷ cells) same = sum_by-cons f c cells ∙ (λ i. same 0 c (omega arith) i + sum_same f g cells (λ k d low. same (suc k) d (omega (arith, low))) i) ∙ sym (sum_by-cons g c cells)
+map_same f g (c ∷ cells) same = λ i.
+    same c (or_left (c == c) (is_in cells c) (same_here c)) i ∷ map_same f g cells (λ p named. same p (or_right (c == p) (is_in cells p) named)) i
 
 module _ (job : Paste) (cells : List ℕ) where
   paste_same : (f g : ℕ → List ℕ) → ((p : ℕ) → is_in cells p ≡ true → f p ≡ g p) → paste job cells f ≡ paste job cells g
@@ -337,10 +318,12 @@ module _ (job : Paste) (cells : List ℕ) where
   decided_same f g same = λ i.
       sheet job (known_rows
       (columns_same cells (λ p. whole_lines job.end (f p)) (λ p. whole_lines job.end (g p)) (λ p named. ap (whole_lines job.end) (same p named)) i)
-      (map_same (λ p. (f p).ended) (λ p. (g p).ended) cells (all_cells cells _ _ (λ p named. ap (λ (h : Given). h.ended) (same p named))) i))
+      (map_same (λ p. (f p).ended) (λ p. (g p).ended) cells (λ p named. ap (λ (h : Given). h.ended) (same p named)) i))
 
   size_same : (f g : ℕ → List ℕ) → ((p : ℕ) → is_in cells p ≡ true → f p ≡ g p) → paste_size job cells f ≡ paste_size job cells g
-  size_same f g same = sum_same (λ p. longest_line job.end (f p)) (λ p. longest_line job.end (g p)) cells (all_cells cells _ _ (λ p named. ap (longest_line job.end) (same p named)))
+  size_same f g same = sym (sum-map (λ p. longest_line job.end (f p)) cells)
+      ∙ ap sum (map_same (λ p. longest_line job.end (f p)) (λ p. longest_line job.end (g p)) cells (λ p named. ap (longest_line job.end) (same p named)))
+      ∙ sum-map (λ p. longest_line job.end (g p)) cells
 
 -- ---- a pass over operands that were all opened
 

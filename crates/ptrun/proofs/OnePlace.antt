@@ -1,10 +1,10 @@
 -- One place of a tool that goes over its operands, what came of its input, what had been decided two blocks earlier
 -- of it, and what of that reached the sink.
-use Rattle.ptrun.proofs.Common.{cases_Bool, ⊎_elim, ◌≡◌, ℕ, ◌<◌, ◌^◌, Bool, true, false, cond, List, [], ◌∷◌, ◌++◌, Option, Some, None, length, map, refl, sym, ◌∙◌, ap, arith, append_assoc}
-use Rattle.ptrun.proofs.Common.{length-append, is_none, slice_get, prepend_known, append-nil, nil_from_length, false≢true, Reader, IsDone, prepend_known-append, Given, Agrees, Came, World, Received}
-use Rattle.ptrun.proofs.Common.{at, is_unopened, AllowsAt, Allows, opened, reader_at, no_reader, CameAt, IsReceived, IsNew, IsFresh, IsTooLong, Done, Whole, Unopened, zero, suc, ◌+◌, ◌≤◌, set, take}
-use Rattle.ptrun.proofs.Common.{drop, subst, length-drop, take-append-drop, append_known, get_or-set_other, take-append_seam, Begins, nothing_left, Before, WorksOff, SendsOn, KeepsUp, Output}
-use Rattle.ptrun.proofs.Common.{Extends, Wrote, append_known-append, Tool, decided_of, Meaning, PassedOn, KeptUp, LastEarlier, AnyEarlier, EarlierAs, Earlier}
+use Rattle.ptrun.proofs.Common.{append_cancel_left, cases_Bool, ⊎_elim, ◌≡◌, ℕ, ◌<◌, ◌^◌, Bool, true, false, cond, List, [], ◌∷◌, ◌++◌, Option, Some, None, length, map, refl, sym, ◌∙◌, ap, arith}
+use Rattle.ptrun.proofs.Common.{append_assoc, length-append, is_none, slice_get, prepend_known, append-nil, nil_from_length, false≢true, Reader, IsDone, prepend_known-append, Given, Agrees, Came}
+use Rattle.ptrun.proofs.Common.{World, Received, at, is_unopened, AllowsAt, Allows, opened, reader_at, no_reader, CameAt, IsReceived, IsNew, IsFresh, IsTooLong, Done, Whole, Unopened, zero, suc, ◌+◌}
+use Rattle.ptrun.proofs.Common.{◌≤◌, set, take, drop, subst, length-drop, take-append-drop, append_known, get_or-set_other, take-append_seam, Begins, nothing_left, Before, WorksOff, SendsOn, KeepsUp}
+use Rattle.ptrun.proofs.Common.{Output, Extends, Wrote, append_known-append, Tool, decided_of, Meaning, PassedOn, KeptUp, LastEarlier, AnyEarlier, EarlierAs, Earlier}
 use Rattle.std.proofs.Math.ListN.{get_or-map}
 use Rattle.ptlines.proofs.Refilled.{unread_empty}
 use Rattle.std.proofs.Common.{is_none}
@@ -117,16 +117,10 @@ agrees_before g e b still a = record {
 pub agrees_whole : (g : Given) (b : List ℕ) → g.ended ≡ true → Agrees g b → b ≡ g.bytes
 agrees_whole g b ended a = a.is ∙ ap (λ (l : List ℕ). g.bytes ++ l) (a.whole ended) ∙ append-nil g.bytes
 
-pub agrees_some : (o : Option Given) (v : Option (List ℕ)) (g : Given) → o ≡ Some g → (b : List ℕ) → v ≡ Some b → Agrees g b → AllowsAt o v
-agrees_some o v g is_o b is_v agrees = rw (is_o, is_v) agrees
-
 -- ---- before the first operand, and at the end
 
 pub received_at : (old : List Reader) (q : ℕ) → at (map received_of old) q ≡ received_of (reader_at old q)
 received_at old q = get_or-map received_of old q no_reader
-
-pub nothing_long : (old : List Reader) (q : ℕ) → IsTooLong (at (map received_of old) q) → ⊥
-nothing_long old q long = never_long (reader_at old q) (rw (received_at old q) at long)
 
 -- nothing was read
 pub nothing_read : (old : List Reader) → ((q : ℕ) → IsFresh (reader_at old q)) → IsReceived old old (map received_of old)
@@ -150,16 +144,11 @@ abbrev pub same_before : (g : Given) → Before g
 same_before g = record { earlier = g; last = []; split = sym (append-nil g.bytes); short = omega arith; ended = λ e. e }
 
 last_same : (xs ys : List Given) (x y : Given) → xs ++ x ∷ [] ≡ ys ++ y ∷ [] → (xs ≡ ys) × (x ≡ y)
-last_same [] [] x y is = (refl, cc)
-last_same [] (b ∷ ys) x y is = absurd (omega (arith, ap length is, length-append ys (y ∷ [])))
-last_same (a ∷ xs) [] x y is = absurd (omega (arith, ap length is, length-append xs (x ∷ [])))
-last_same (a ∷ xs) (b ∷ ys) x y is =
-    let further = last_same xs ys x y (tails is) in
-    let first : a ≡ b = cc in
-    (λ i. first i ∷ further.0 i, further.1)
-  where
-    tails : a ∷ (xs ++ x ∷ []) ≡ b ∷ (ys ++ y ∷ []) → xs ++ x ∷ [] ≡ ys ++ y ∷ []
-    tails same = cc
+last_same xs ys x y is =
+    let count : length xs ≡ length ys = omega (arith, ap length is, length-append xs (x ∷ []), length-append ys (y ∷ [])) in
+    let same : xs ≡ ys = sym (take-append_seam xs (x ∷ [])) ∙ (λ i. take (count i) (is i)) ∙ take-append_seam ys (y ∷ []) in
+    let last = append_cancel_left ys (x ∷ []) (y ∷ []) (ap (λ (l : List Given). l ++ x ∷ []) (sym same) ∙ is) in
+    (same, cc)
 
 -- operands that are all done decided all that they decide
 pub all_earlier : (t : Tool) (came : List Given) (P : List ℕ → Type 0) → P (decided_of t came) → LastEarlier t came P

@@ -1,20 +1,17 @@
 -- A tool with two inputs did what its one merge did, with two readers of a list that was split between them.
-use Rattle.ptrun.proofs.Common.{length-append, length-map, ◌≡◌, ◌≢◌, ℕ, ◌<◌, ◌^◌, ◌||◌, ◌&&◌, ◌==◌, Bool, true, false, List, [], ◌∷◌, Option, Some, None, Result, Ok, Err, length, get_or, refl, sym}
-use Rattle.ptrun.proofs.Common.{◌∙◌, ap, subst, arith, option_map, not, list_any, All-nil, All-cons, false≢true, nat_tests, Reader, Output, Slots, Given, Begins, Came, Before, put_at, First, Second}
-use Rattle.ptrun.proofs.Common.{disorder, lines_of, decided, Input, Disorder, is_in, reader_at, shut, IsNew, PassedOn, place, of_two, operand, of_operands, AreReady, AreSound, told_at, done_of}
-use Rattle.ptrun.proofs.Common.{AgreeAt, NoneFailed, JointEnds, IsJointPass, ◌-◌, ◌++◌, set, length-set, set-append_left, set-append_right, get_or_append_left, get_or-append_right, get_or_default}
-use Rattle.ptrun.proofs.Common.{get_or-set_same, get_or-set_other, no_reader}
+use Rattle.ptrun.proofs.Common.{JointReadBroke, HasReadCause, places, length-append, length-map, ◌≡◌, ◌≢◌, ℕ, ◌<◌, ◌^◌, ◌||◌, ◌&&◌, ◌==◌, Bool, true, false, List, [], ◌∷◌, Option, Some, None, Result}
+use Rattle.ptrun.proofs.Common.{Ok, Err, length, get_or, refl, sym, ◌∙◌, ap, subst, arith, option_map, not, All-nil, All-cons, false≢true, nat_tests, Reader, Output, Slots, Given, Begins, Came}
+use Rattle.ptrun.proofs.Common.{Before, put_at, First, Second, disorder, lines_of, decided, Input, Disorder, is_in, reader_at, shut, IsNew, PassedOn, place, of_two, operand, of_operands, AreReady}
+use Rattle.ptrun.proofs.Common.{AreSound, told_at, done_of, AgreeAt, NoneFailed, JointEnds, IsJointPass, ◌-◌, ◌++◌, set, length-set, set-append_left, set-append_right, get_or_append_left}
+use Rattle.ptrun.proofs.Common.{get_or-append_right, get_or_default, get_or-set_same, get_or-set_other, no_reader}
 use Rattle.ptmerge.specs.declared.faults.MergeFault.{MergeFault}
 use Rattle.ptmerge.specs.declared.order.Side.{Side}
-use Rattle.ptmerge.specs.Keyed.{Disorder as Disordered}
-use Rattle.ptmerge.specs.Merges.{IsReady, IsMerge, Ends, Agree, IsWhole, Names, State, seen}
+use Rattle.ptmerge.specs.Merges.{IsReady, IsMerge, Ends, Agree, IsWhole, Names, NoneFailed as NoneBroke, State, seen}
 use Rattle.ptmerge.specs.Sides.{both, put}
 use Rattle.ptmerge.specs.declared.faults.MergeFault.TheVariants as faults
 use Rattle.ptmerge.specs.Keyed as keyed
-use Rattle.ptmerge.specs.Merges as merges
-use Rattle.ptrun.specs.Operands.{places as places_of}
 use Rattle.ptrun.proofs.OnePlace.{passed_on}
-use Rattle.ptrun.proofs.Sources.{same_here, is_in-same, neither, each_named, put_here, put_other, fresh_all}
+use Rattle.ptrun.proofs.Sources.{same_here, is_in-same, none_passes, each_named, put_here, put_other, fresh_all}
 
 -- ---- two operands
 
@@ -27,38 +24,34 @@ stands : (p q : ℕ) (side : Side) → both p q side ≡ operand (p ∷ q ∷ []
 stands p q First = refl
 stands p q Second = refl
 
-pub two_of : (order : List Input) (d e : Input) {p q : ℕ} → ((length (places_of order) == 2) && not (operand (places_of order) First == operand (places_of order) Second)) ≡ true
-    → p ≡ place (get_or order 0 d) → q ≡ place (get_or order 1 e) → TwoPlaces (places_of order) p q
-two_of [] d e taken is_p is_q = absurd (false≢true taken)
-two_of (a ∷ []) d e taken is_p is_q = absurd (false≢true taken)
+pub two_of : (order : List Input) (d e : Input) {p q : ℕ} → ((length (places order) == 2) && not (operand (places order) First == operand (places order) Second)) ≡ true
+    → p ≡ place (get_or order 0 d) → q ≡ place (get_or order 1 e) → TwoPlaces (places order) p q
 two_of (a ∷ b ∷ []) d e taken is_p is_q = record { are = λ i. sym is_p i ∷ sym is_q i ∷ []; apart = λ same. grind (arith, nat_tests, taken, is_p, is_q, same) }
-two_of (a ∷ b ∷ c ∷ more) d e taken is_p is_q = absurd (grind (arith, nat_tests, taken))
+two_of order d e taken is_p is_q = absurd (grind (arith, nat_tests, taken))
 
-pub two_there : (order : List Input) → ((length (places_of order) == 2) && not (operand (places_of order) First == operand (places_of order) Second)) ≡ true → 1 < length order
+pub two_there : (order : List Input) → ((length (places order) == 2) && not (operand (places order) First == operand (places order) Second)) ≡ true → 1 < length order
 two_there order taken = grind (arith, nat_tests, taken, length-map order place)
 
 module _ (t : keyed.Tool) {old : List Reader} {was : Output} {before : Slots} {p q : ℕ} (apart : p ≡ q → ⊥) (ready : AreReady (of_two t) (p ∷ q ∷ []) old was before) where
   abbrev two : List ℕ
   two = p ∷ q ∷ []
 
+  named : (side : Side) → is_in two (both p q side) ≡ true
+  named First = ap (λ (b : Bool). b || ((q == p) || false)) (same_here p)
+  named Second = is_in-same (p ∷ []) q
+
   open_at : (side : Side) → (reader_at old (both p q side)).refused ≡ false
-  open_at First = (neither (shut old p) (list_any (shut old) (q ∷ [])) ready.opened).0
-  open_at Second = (neither (shut old q) false (neither (shut old p) (list_any (shut old) (q ∷ [])) ready.opened).1).0
+  open_at side = none_passes (shut old) two ready.opened (both p q side) (named side)
 
   new_at : (side : Side) → IsNew (reader_at old (both p q side))
   new_at side = fresh_all old ready.fresh (both p q side) (open_at side)
 
   pub within_at : (side : Side) → both p q side < length old
-  within_at First = ready.fits 0 0 (omega arith)
-  within_at Second = ready.fits 1 0 (omega arith)
+  within_at side = each_named (λ k. k < length old) two ready.fits (both p q side) (named side)
 
   -- both can be read
   pub ready_at : IsReady (reader_at old p) (reader_at old q) before
   ready_at = record { opened1 = open_at First; opened2 = open_at Second; readable1 = (new_at First).fault; readable2 = (new_at Second).fault; allowed = ready.roomy; empty = ready.empty }
-
-  named : (side : Side) → is_in two (both p q side) ≡ true
-  named First = ap (λ (b : Bool). b || ((q == p) || false)) (same_here p)
-  named Second = is_in-same (p ∷ []) q
 
   -- what holds of both places
   each : (P : ℕ → Type 0) → P p → P q → (k : ℕ) → is_in two k ≡ true → P k
@@ -106,10 +99,18 @@ module _ (t : keyed.Tool) {old : List Reader} {was : Output} {before : Slots} {p
 
     -- ---- how it ended
 
-    none_failed : merges.NoneFailed old_state new_state → NoneFailed two old new
+    none_failed : NoneBroke old_state new_state → NoneFailed two old new
     none_failed none = each (λ k. (reader_at new k).failed ≡ (reader_at old k).failed) (none First) (none Second)
 
-    is_named : (d : Option Disordered) (side : Side) (line : ℕ) → Names d side line → Disorder (both p q side) line ≡ done_of (option_map (λ d. (operand two d.file, d.fall.line)) d)
+    -- a read of one side failed, and none of the other
+    module _ (side : Side) (cause : HasReadCause (reader_at old (both p q side)) (reader_at new (both p q side))) where
+      abbrev Other : ℕ → Type 0
+      Other k = both p q side ≢ k → (reader_at new k).failed ≡ (reader_at old k).failed
+
+      read_broke : Other p → Other q → is.faulted ≡ false → store.denied ≡ false → JointReadBroke two old new is.faulted store.denied (both p q side)
+      read_broke first second clean roomy = record { named = named side; calm = calm side; cause = cause; others = each Other first second; written = clean; roomy = roomy }
+
+    is_named : (d : Option keyed.Disorder) (side : Side) (line : ℕ) → Names d side line → Disorder (both p q side) line ≡ done_of (option_map (λ d. (operand two d.file, d.fall.line)) d)
     is_named None side line k = absurd k
     is_named (Some d) side line k = λ i. Disorder ((stands p q side ∙ ap (operand two) (sym k.0)) i) (sym k.1 i)
 
@@ -124,22 +125,8 @@ module _ (t : keyed.Tool) {old : List Reader} {was : Output} {before : Slots} {p
       written = k.clean;
       roomy = k.denied;
     }
-    ends (Err (faults.Read First)) k whole = record {
-      named = named First;
-      calm = calm First;
-      cause = k.cause;
-      others = each (λ k. p ≢ k → (reader_at new k).failed ≡ (reader_at old k).failed) (λ differs. absurd (differs refl)) (λ differs. k.others);
-      written = k.clean;
-      roomy = k.denied;
-    }
-    ends (Err (faults.Read Second)) k whole = record {
-      named = named Second;
-      calm = calm Second;
-      cause = k.cause;
-      others = each (λ k. q ≢ k → (reader_at new k).failed ≡ (reader_at old k).failed) (λ differs. k.others) (λ differs. absurd (differs refl));
-      written = k.clean;
-      roomy = k.denied;
-    }
+    ends (Err (faults.Read First)) k whole = read_broke First k.cause (λ differs. absurd (differs refl)) (λ differs. k.others) k.clean k.denied
+    ends (Err (faults.Read Second)) k whole = read_broke Second k.cause (λ differs. k.others) (λ differs. absurd (differs refl)) k.clean k.denied
     ends (Err faults.Write) k whole = k.faulted
     ends (Err faults.Memory) k whole = (k.denied, k.clean, none_failed k.failed)
     ends (Err (faults.Disorder side line)) k whole = record {
@@ -173,8 +160,7 @@ module _ (t : keyed.Tool) {old : List Reader} {was : Output} {before : Slots} {p
         unnamed k other is = false≢true (sym other ∙ is)
 
         keeps : (side : Side) → (cut : Before (given (both p q side))) × PassedOn (decided t (of_operands two (put_at (both p q side) cut.earlier given))) was is e.pushed
-        keeps side = subst (λ (g : Given). (cut : Before g) × PassedOn (decided t (of_operands two (put_at (both p q side) cut.earlier given))) was is e.pushed) (sym (given_at side))
-            (passed_on (λ g. decided t (put side g e.given)) (λ g. decided t (of_operands two (put_at (both p q side) g given)))
+        keeps side = rw (given_at side) (passed_on (λ g. decided t (put side g e.given)) (λ g. decided t (of_operands two (put_at (both p q side) g given)))
             (λ g. ap (decided t) (put_is side g)) (e.keeps_up side ready.writable))
 
 -- ---- two readers of a list that was split between them
@@ -200,24 +186,18 @@ module _ {inputs : List Reader} (front back : List Reader) {low high : ℕ} (spl
   )
 
   module _ (x y : Reader) where
-    set_both : set front low x ++ set back 0 y ≡ set (set inputs low x) high y
-    set_both = sym (
+    set_both : set (set inputs low x) high y ≡ set front low x ++ set back 0 y
+    set_both =
         ap (λ l. set (set l low x) high y) split ∙ ap (λ l. set l high y) (set-append_left front back low x (omega (arith, size, below)))
         ∙ set-append_right (set front low x) back high high y (length-set front low x ∙ size) (omega arith) ∙ ap (λ n. set front low x ++ set back n y) none_left
-        )
-
-    is_low : reader_at (set front low x ++ set back 0 y) low ≡ x
-    is_low =
-        ap (λ l. reader_at l low) set_both ∙ get_or-set_other (set inputs low x) high low y no_reader (λ same. omega (arith, same, below))
-        ∙ get_or-set_same inputs low x no_reader (omega (arith, below, within))
-
-    is_high : reader_at (set front low x ++ set back 0 y) high ≡ y
-    is_high = ap (λ l. reader_at l high) set_both ∙ get_or-set_same (set inputs low x) high y no_reader (omega (arith, within, length-set inputs low x))
-
-    is_other : (k : ℕ) → (low ≡ k → ⊥) → (high ≡ k → ⊥) → reader_at (set front low x ++ set back 0 y) k ≡ reader_at inputs k
-    is_other k first second =
-        ap (λ l. reader_at l k) set_both ∙ get_or-set_other (set inputs low x) high k y no_reader (λ same. second (sym same))
-        ∙ get_or-set_other inputs low k x no_reader (λ same. first (sym same))
 
     pub are_lent : (d e : Reader) → AreLent inputs (set front low x ++ set back 0 y) low high (get_or front low d) (get_or back 0 e) x y
-    are_lent d e = let k = were d e in record { was_low = k.0; was_high = k.1; is_low = is_low; is_high = is_high; others = is_other }
+    are_lent d e = record {
+      was_low = (were d e).0;
+      was_high = (were d e).1;
+      is_low = rw (sym set_both) (get_or-set_other (set inputs low x) high low y no_reader (λ same. omega (arith, same, below))
+          ∙ get_or-set_same inputs low x no_reader (omega (arith, below, within)));
+      is_high = rw (sym set_both) (get_or-set_same (set inputs low x) high y no_reader (omega (arith, within, length-set inputs low x)));
+      others = λ k first second. rw (sym set_both) (get_or-set_other (set inputs low x) high k y no_reader (λ same. second (sym same))
+          ∙ get_or-set_other inputs low k x no_reader (λ same. first (sym same)));
+    }

@@ -3,7 +3,7 @@
 -- What a tool pushed reaches the sink as far as no write failed, and its last words are said behind what it said. The
 -- headline is a reading of the run in the world that the readers tell: it is allowed by what was received, and each
 -- cause of a failure contradicts a premise.
-use Rattle.ptrun.proofs.Common.{cases_Bool, ◌≡◌, ⊎_elim, ℕ, Bool, true, false, cond, List, [], ◌++◌, Option, Some, None, Result, Ok, Err, length, map, refl, sym, ◌∙◌, ap, subst, arith, append_assoc}
+use Rattle.ptrun.proofs.Common.{cases_Bool, ◌≡◌, ⊎_elim, ℕ, Bool, true, false, cond, List, [], ◌++◌, Option, Some, None, Result, Ok, Err, length, map, refl, sym, ◌∙◌, ap, arith, append_assoc}
 use Rattle.ptrun.proofs.Common.{length-append, All, append_known, prepend_known, IsAtEnd, append-nil, append_cancel_left, nil_from_length, false≢true, take-length, Reader, Output, text, Wrote, Slots}
 use Rattle.ptrun.proofs.Common.{SinkState, append_known-nil, wrote_trans, Given, Agrees, Begins, FlowFault, Read, Write, Memory, Done, World, Received, at, AllowsAt, Allows, reader_at, shut}
 use Rattle.ptrun.proofs.Common.{is_unopened, CameAt, IsReceived, IsFresh, HasFailed, IsTooLong, TellsAt, TellsWorld, Tells, Meaning, named, messages, unopened, Sinks, sinks, Outcome, Cause, EndsAs}
@@ -20,7 +20,7 @@ use Rattle.ptopts.proofs.Accepted.{meant_as_spelled}
 use Rattle.ptopts.proofs.SoleInputs.{AreTwo}
 use Rattle.ptopts.proofs.EachTool.{AreTaken, are_taken}
 use Rattle.ptopts.specs.declared.command.Command as code
-use Rattle.ptrun.proofs.OnePlace.{kept_up, earlier_map, nothing_decided, nothing_read, nothing_long, received_of, refused_same, refused_received}
+use Rattle.ptrun.proofs.OnePlace.{kept_up, earlier_map, nothing_decided, nothing_read, never_long, received_at, received_of, refused_same, refused_received}
 use Rattle.ptrun.proofs.Sayings.{tells_trans}
 use Rattle.ptrun.proofs.Sources.{some_same, fresh_all, unopened_same, places_within}
 
@@ -114,8 +114,8 @@ unread : (m : Meaning) {old : List Reader} {out told heard : SinkState} {text : 
     → ((r : Received) → ((q : ℕ) → shut old q ≡ is_unopened r q) → m.decided r ≡ []) → All IsFresh old → out.failed ≡ false → Tells told heard text
     → ((w : World) → Allows (map received_of old) w → (m.out w ≡ []) × (text ≡ messages m w) × (status ≡ m.status w))
     → IsRun m old old (sinks out told) (record { out = out; messages = heard; status = status; peak = 0; denied = false })
-unread m {old} {out} {told} {heard} {text} status at_once undecided fresh fine tells says = record {
-  received = received;
+unread m {old} {out} {told} {heard} {text} status at_once undecided fresh fine tells says = let came = nothing_read old (fresh_all old fresh) in record {
+  received = map received_of old;
   came = came;
   written = [];
   took = sym (append_known-nil out.taken);
@@ -130,7 +130,7 @@ unread m {old} {out} {told} {heard} {text} status at_once undecided fresh fine t
       out = λ w agrees. sym (says w agrees).0;
       written = fine;
       roomy = refl;
-      read = λ q. ⊎_elim (λ failed. none_failed old q failed) (λ long. nothing_long old q long);
+      read = λ q. ⊎_elim (λ failed. none_failed old q failed) (λ long. never_long (reader_at old q) (rw (received_at old q) at long));
     },
     λ w agrees. ((says w agrees).1, (says w agrees).2),
   );
@@ -139,16 +139,10 @@ unread m {old} {out} {told} {heard} {text} status at_once undecided fresh fine t
   told = λ q failed clean. absurd (none_failed old q failed);
   sure = λ q failed clean. absurd (none_failed old q failed);
   keeps_up = rw at_once
-      (nothing_decided m.places m.decided received out.failed
-      (λ r same. undecided r (λ q. refused_received (reader_at old q) (reader_at old q) (at received q) (came q) ∙ sym (same q))));
+      (nothing_decided m.places m.decided (map received_of old) out.failed
+      (λ r same. undecided r (λ q. refused_received (reader_at old q) (reader_at old q) (at (map received_of old) q) (came q) ∙ sym (same q))));
   bounded = λ w agrees. omega arith;
 }
-  where
-    received : Received
-    received = map received_of old
-
-    came : IsReceived old old (map received_of old)
-    came = nothing_read old (fresh_all old fresh)
 
 -- nothing was read or written, and this was said
 pub only_said : {text : List ℕ} {is : ℕ} {old : List Reader} {out told heard : SinkState} {status : ℕ} → All IsFresh old → out.failed ≡ false → Tells told heard text → status ≡ is
@@ -158,9 +152,8 @@ only_said {text} {is} {status = status} fresh fine tells status_is = unread (say
 -- Inputs are lacking, those that could not be opened were named, and there is nothing else to do.
 pub lacking : {m : Meaning} {old : List Reader} {out told heard : SinkState} {lacks : Bool} → All IsFresh old → out.failed ≡ false → Checks m old told heard lacks → lacks ≡ true
     → IsRun m old old (sinks out told) (record { out = out; messages = heard; status = 1; peak = 0; denied = false })
-lacking {m} {old} {told = told} {heard = heard} fresh fine k lacks =
-    unread m 1 (k.at_once lacks) (k.undecided lacks) fresh fine
-    (subst (λ (b : Bool). Tells told heard (cond b (unopened m.tool m.names (shut old) m.places) [])) lacks k.tells)
+lacking {m} {old} fresh fine k lacks =
+    unread m 1 (k.at_once lacks) (k.undecided lacks) fresh fine (rw lacks at k.tells)
     (λ w agrees.
     let same = refused_same old old (map received_of old) w (nothing_read old (fresh_all old fresh)) agrees in
     let nothing = k.nothing lacks w same in (
@@ -281,15 +274,10 @@ record IsOver (m : Meaning) (names : List (List ℕ)) (places : List ℕ) : Type
   placed : m.places ≡ places
   taken : m.takes ≡ true
 
-either : (t : Bool) (m n : Meaning) (names : List (List ℕ)) (places : List ℕ) → IsOver m names places → IsOver n names places → IsOver (cond t m n) names places
-either true m n names places first second = first
-either false m n names places first second = second
-
 are_over : (told : Job) (order : List Input) (names : List (List ℕ)) → AreTaken told order → IsOver (job_meaning told names (places order)) names (places order)
 are_over (RunCut u) order names taken = record { named = refl; placed = refl; taken = refl }
-are_over (RunPaste u) order names few =
-    either u.serial _ _ names _ (record { named = refl; placed = refl; taken = refl })
-    (record { named = refl; placed = refl; taken = ap (λ (n : ℕ). nat_le n 512) (length-map order place) ∙ few })
+are_over (RunPaste u) order names few = ⊎_elim (λ (is : u.serial ≡ true). rw is (record { named = refl; placed = refl; taken = refl }))
+    (λ (is : u.serial ≡ false). rw is (record { named = refl; placed = refl; taken = ap (λ (n : ℕ). nat_le n 512) (length-map order place) ∙ few })) (cases_Bool u.serial)
 are_over (RunUniq u) order names one = record { named = refl; placed = refl; taken = ap (λ (n : ℕ). n == 1) (length-map order place ∙ one) }
 are_over (RunComm u) order names two = record { named = refl; placed = refl; taken = two_places (comm_tool u) order two }
 are_over (RunJoin u) order names two = record { named = refl; placed = refl; taken = two_places (join_tool u) order two }

@@ -1,9 +1,9 @@
 -- What the operands of a command find, one more operand at a time, and their order, as places.
-use Rattle.ptrun.proofs.Common.{or_left, or_right, or-false, cases_Bool, cases_eq, ◌≡◌, ◌≢◌, ⊎_elim, ℕ, zero, suc, ◌==◌, ◌||◌, Bool, true, false, cond, List, [], ◌∷◌, ◌++◌, Option, Some, None, ◌+◌}
-use Rattle.ptrun.proofs.Common.{length, take, map, max, refl, sym, ◌∙◌, ap, subst, arith, append_assoc, All, flat_map, option_map, list_any, append-nil, flat_map-append, filter_map-append}
-use Rattle.ptrun.proofs.Common.{list_any-append, false≢true, nat_tests, eqb_tells, Given, nothing_left, World, Received, at, is_in, found, founds, opened, sources, Tool, largest, up_to_open}
-use Rattle.ptrun.proofs.Common.{unopened, not_opened, name_of, Tells, SinkState, put_at, ◌<◌, ◌≤◌, drop, get_or, take-append-drop, take_more, get_or-map, length-map, take_all, Reader, reader_at}
-use Rattle.ptrun.proofs.Common.{no_reader, IsFresh, place, places, All-nil, All-cons, Bor, words_seen, is_standard, file_names, order_from, Input, Standard, File}
+use Rattle.ptrun.proofs.Common.{list_any_at, eqb-true, Any-from_list_any, or_left, or_right, or-false, cases_Bool, cases_eq, ◌≡◌, ◌≢◌, ⊎_elim, ℕ, zero, suc, ◌==◌, ◌||◌, Bool, true, false, cond, List}
+use Rattle.ptrun.proofs.Common.{[], ◌∷◌, ◌++◌, Option, Some, None, ◌+◌, length, take, map, max, refl, sym, ◌∙◌, ap, subst, arith, append_assoc, All, flat_map, option_map, list_any, append-nil}
+use Rattle.ptrun.proofs.Common.{flat_map-append, filter_map-append, list_any-append, false≢true, nat_tests, eqb_tells, Given, nothing_left, World, Received, at, is_in, found, founds, opened, sources}
+use Rattle.ptrun.proofs.Common.{Tool, largest, up_to_open, unopened, not_opened, name_of, Tells, SinkState, put_at, ◌<◌, ◌≤◌, drop, get_or, take-append-drop, take_more, get_or-map, length-map}
+use Rattle.ptrun.proofs.Common.{take_all, Reader, reader_at, no_reader, IsFresh, place, places, All-nil, All-cons, Bor, words_seen, is_standard, file_names, order_from, Input, Standard, File}
 use Rattle.std.proofs.Math.ListN.{get_or-map as get_or-map_any}
 use Rattle.ptrun.proofs.Sayings.{tells_trans}
 
@@ -25,16 +25,13 @@ by_place P p here others q = ⊎_elim (λ same. subst P same here) (others q) (c
 
 -- what holds of each operand holds of each place that is named
 pub each_named : (P : ℕ → Type 0) (ps : List ℕ) → All P ps → (q : ℕ) → is_in ps q ≡ true → P q
-each_named P [] all q named = absurd (false≢true named)
-each_named P (p ∷ ps) all q named = ⊎_elim (λ here. subst P here.1 (all 0 p (omega arith)))
-    (λ other. each_named P ps (λ k d within. all (suc k) d (omega (arith, within))) q (ap (λ (b : Bool). b || is_in ps q) (sym other.0) ∙ named)) (eqb_tells p q)
+each_named P ps all q named = let a = Any-from_list_any (λ p. p == q) ps named in subst P (a.3 ∙ eqb-true a.1 q a.4) (all a.0 a.1 a.2)
 
 -- where no operand passes a test, none of the places that are named does
 pub none_passes : (test : ℕ → Bool) (ps : List ℕ) → list_any test ps ≡ false → (q : ℕ) → is_in ps q ≡ true → test q ≡ false
-none_passes test [] none q named = absurd (false≢true named)
-none_passes test (p ∷ ps) none q named =
-    let both = neither (test p) (list_any test ps) none in
-    ⊎_elim (λ here. ap test (sym here.1) ∙ both.0) (λ other. none_passes test ps both.1 q (ap (λ (b : Bool). b || is_in ps q) (sym other.0) ∙ named)) (eqb_tells p q)
+none_passes test ps none q named =
+    let a = Any-from_list_any (λ p. p == q) ps named in
+    ⊎_elim (λ yes. absurd (false≢true (sym none ∙ list_any_at test ps a.0 a.1 a.2 (ap test (a.3 ∙ eqb-true a.1 q a.4) ∙ yes)))) (λ no. no) (cases_Bool (test q))
 
 -- ---- what holds at each place, after a write at one
 
@@ -97,10 +94,9 @@ pub is_in-other : (done : List ℕ) (p q : ℕ) → p ≢ q → is_in (done ++ p
 is_in-other done p q differs = any_before (λ x. x == q) done p (grind (arith, nat_tests, differs))
 
 pub not_more : (done : List ℕ) (p q : ℕ) → is_in (done ++ p ∷ []) q ≡ false → (p ≢ q) × (is_in done q ≡ false)
-not_more done p q none = (differs, sym (is_in-other done p q differs) ∙ none)
-  where
-    differs : p ≢ q
-    differs same = false≢true (sym none ∙ ap (is_in (done ++ p ∷ [])) (sym same) ∙ is_in-same done p)
+not_more done p q none =
+    let differs : p ≢ q = λ same. false≢true (sym none ∙ ap (is_in (done ++ p ∷ [])) (sym same) ∙ is_in-same done p) in
+    (differs, sym (is_in-other done p q differs) ∙ none)
 
 -- ---- the largest
 
@@ -130,37 +126,29 @@ at-least r p = get_or-map_any bytes_at r p None
 abbrev pub Decides : Tool → Type 0
 Decides t = (bytes : List ℕ) → t.decided (record { bytes = bytes; ended = true }) ≡ t.text bytes
 
-module _ (t : Tool) (law : Decides t) (r : Received) where
+module _ (t : Tool) (law : Decides t) where
+  -- one operand whose input has ended decides all of what it gives, and leaves the next open
+  module _ (came : List (Option Given)) (texts : List (Option (List ℕ))) (later : List Given) (rest : List ℕ) (further : flat_map t.decided (up_to_open (opened came ++ later))
+      ≡ flat_map t.text (opened texts) ++ rest) where
+    one : (g : Given) → g.ended ≡ true → flat_map t.decided (up_to_open (g ∷ opened came ++ later)) ≡ (t.text g.bytes ++ flat_map t.text (opened texts)) ++ rest
+    one g is =
+        ap (λ (b : Bool). t.decided g ++ flat_map t.decided (cond b (up_to_open (opened came ++ later)) [])) is
+        ∙ (λ i. (ap (λ (b : Bool). t.decided (record { bytes = g.bytes; ended = b })) is ∙ law g.bytes) i ++ further i) ∙ sym (append_assoc (t.text g.bytes) (flat_map t.text (opened texts)) rest)
+
+    decided_found : (o : Option Given) → EndedAt o → (seen : Bool) → flat_map t.decided (up_to_open (opened (option_map (λ (g : Given). cond seen nothing_left g) o ∷ came) ++ later))
+        ≡ flat_map t.text (opened (option_map (λ (b : List ℕ). cond seen [] b) (bytes_at o) ∷ texts)) ++ rest
+    decided_found None e seen = further
+    decided_found (Some g) e true = one nothing_left refl
+    decided_found (Some g) e false = one g e
+
   -- operands whose inputs have ended decide all of what they give, and leave the next open
-  pub decided_founds : (before ps : List ℕ) (later : List Given) → ((q : ℕ) → is_in ps q ≡ true → EndedAt (at r q))
+  pub decided_founds : (r : Received) (before ps : List ℕ) (later : List Given) → ((q : ℕ) → is_in ps q ≡ true → EndedAt (at r q))
       → flat_map t.decided (up_to_open (opened (founds nothing_left r before ps) ++ later)) ≡ flat_map t.text (opened (founds [] (least r) before ps)) ++ flat_map t.decided (up_to_open later)
-  decided_founds before [] later ended = refl
-  decided_founds before (p ∷ ps) later ended =
-      by_input (at r p) (ended p (or_left (p == p) (is_in ps p) (same_here p))) (is_in before p)
-      (decided_founds (before ++ p ∷ []) ps later (λ q is. ended q (or_right (p == q) (is_in ps q) is)))
-      ∙ ap (λ (v : Option (List ℕ)). flat_map t.text (opened (option_map (λ (b : List ℕ). cond (is_in before p) [] b) v ∷ texts)) ++ rest) (sym (at-least r p))
-    where
-      came : List (Option Given)
-      came = founds nothing_left r (before ++ p ∷ []) ps
-
-      texts : List (Option (List ℕ))
-      texts = founds [] (least r) (before ++ p ∷ []) ps
-
-      rest : List ℕ
-      rest = flat_map t.decided (up_to_open later)
-
-      one : (g : Given) → g.ended ≡ true → flat_map t.decided (up_to_open (opened came ++ later)) ≡ flat_map t.text (opened texts) ++ rest
-          → flat_map t.decided (up_to_open (g ∷ opened came ++ later)) ≡ (t.text g.bytes ++ flat_map t.text (opened texts)) ++ rest
-      one g is further =
-          ap (λ (b : Bool). t.decided g ++ flat_map t.decided (cond b (up_to_open (opened came ++ later)) [])) is
-          ∙ (λ i. (ap (λ (b : Bool). t.decided (record { bytes = g.bytes; ended = b })) is ∙ law g.bytes) i ++ further i) ∙ sym (append_assoc (t.text g.bytes) (flat_map t.text (opened texts)) rest)
-
-      by_input : (o : Option Given) → EndedAt o → (seen : Bool) → flat_map t.decided (up_to_open (opened came ++ later)) ≡ flat_map t.text (opened texts) ++ rest
-          → flat_map t.decided (up_to_open (opened (option_map (λ (g : Given). cond seen nothing_left g) o ∷ came) ++ later))
-          ≡ flat_map t.text (opened (option_map (λ (b : List ℕ). cond seen [] b) (bytes_at o) ∷ texts)) ++ rest
-      by_input None e seen further = further
-      by_input (Some g) e true further = one nothing_left refl further
-      by_input (Some g) e false further = one g e further
+  decided_founds r before [] later ended = refl
+  decided_founds r before (p ∷ ps) later ended =
+      let further = decided_founds r (before ++ p ∷ []) ps later (λ q is. ended q (or_right (p == q) (is_in ps q) is)) in
+      rw (at-least r p) (decided_found (founds nothing_left r (before ++ p ∷ []) ps) (founds [] (least r) (before ++ p ∷ []) ps) later (flat_map t.decided (up_to_open later)) further
+      (at r p) (ended p (or_left (p == p) (is_in ps p) (same_here p))) (is_in before p))
 
 -- ---- the operands in their order, as places
 

@@ -1,6 +1,5 @@
 -- Each turn passes one more operand. One that stops the pass stops the run there, and the others are left alone.
-use Rattle.ptrun.proofs.Common.{◌<◌, ◌+◌, length, drop, sym, ◌∙◌, arith, set-get_or, places, Standard}
-use borrow.Author.Rules.{scaled_Fits}
+use Rattle.ptrun.proofs.Common.{scaled_Fits, ◌<◌, ◌+◌, length, drop, sym, ◌∙◌, arith, set-get_or, places, Standard}
 use Rattle.ptrun.proofs.operands.go_over_each.Goals as goal
 use Rattle.ptrun.proofs.Sources.{turn_of, places_end}
 use Rattle.ptrun.proofs.InTurn.{pass_nothing, ready_here, pass_all, pass_unopened, pass_done, pass_stopped}
@@ -32,8 +31,8 @@ pub returns-in-Err : goal.returns-in-Err
 returns-in-Err g c =
     let i = c.loop-input.input-index in
     let turn = turn_of c.args.order.now i _ c.requires.fits c.loop-input-test.true c.place_of-place.ensures in
-    rw c.at_operand.ensures (pass_stopped c.requires.fresh c.loop-input.invariant turn.low c.index-inputs-place.result (sym c.is_refused.ensures.refused ∙ c.if-is_refused.false)
-    c.is_refused.ensures.sound c.go_over.ensures (g.met.T.OneByOne.all_decided c.args.tool.now) (drop (i + 1) (places c.args.order.now)) turn.split c.in-Err.is)
+    rw c.at_operand.ensures (rw turn.split at (pass_stopped c.requires.fresh c.loop-input.invariant turn.low c.index-inputs-place.result (sym c.is_refused.ensures.refused ∙ c.if-is_refused.false)
+    c.is_refused.ensures.sound c.go_over.ensures (g.met.T.OneByOne.all_decided c.args.tool.now) (drop (i + 1) (places c.args.order.now)) _ c.in-Err.is))
 
 pub returns : goal.returns
 returns g c =

@@ -1,6 +1,5 @@
 -- Two places of the list of readers are lent out, whichever comes first, and both orders of the places are one merge.
-use Rattle.std.proofs.Common.{◌≡◌, ℕ, ◌<◌, ◌≤◌, sym, subst, arith}
-use borrow.Author.Rules.{scaled_Fits}
+use Rattle.ptrun.proofs.Common.{scaled_Fits, ◌≡◌, ℕ, ◌<◌, ◌≤◌, sym, subst, arith}
 use Rattle.ptrun.proofs.paired.merge_at.Goals as goal
 use Rattle.ptrun.proofs.PairedPasses.{were, are_lent}
 

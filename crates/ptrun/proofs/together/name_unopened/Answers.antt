@@ -1,6 +1,5 @@
 -- Each turn names one more input, if it could not be opened.
-use Rattle.ptrun.proofs.Common.{◌<◌, length, take, refl, sym, ◌∙◌, ap, arith, get_or_default, Reader, words_seen, places, no_reader, shut, Standard}
-use borrow.Author.Rules.{scaled_Fits}
+use Rattle.ptrun.proofs.Common.{scaled_Fits, ◌<◌, length, take, refl, sym, ◌∙◌, ap, arith, get_or_default, Reader, words_seen, places, no_reader, shut, Standard}
 use Rattle.ptrun.proofs.together.name_unopened.Goals as goal
 use Rattle.ptrun.proofs.Sources.{turn_of, places_end, tells_more, any_now, any_before}
 use Rattle.ptrun.proofs.Sayings.{tells_nothing}

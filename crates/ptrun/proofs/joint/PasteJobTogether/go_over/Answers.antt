@@ -1,9 +1,9 @@
 -- Its cells name the places of its operands, so what `paste` says of places is what the run says of operands.
-use Rattle.ptrun.proofs.Common.{◌≡◌, ◌≤◌, true, List, length, ◌∙◌, arith, nat_le, leb-true, length-map, paste_job, Input, place, places}
+use Rattle.ptrun.proofs.Common.{length, ◌∙◌, arith, leb-true, length-map, paste_job, place, places}
 use Rattle.std.proofs.lemmas.Result.{err_from_is_err_and}
+use Rattle.ptrun.proofs.joint.PasteJobTogether.go_over.Goals as goal
 use Rattle.ptrun.proofs.Sources.{place_fits}
 use Rattle.ptrun.proofs.JointPasses.{cells_ready, rows_went}
-use Rattle.ptrun.proofs.joint.PasteJobTogether.go_over.Goals as goal
 
 pub cells_of-requires-clause-fits : goal.cells_of-requires-clause-fits
 cells_of-requires-clause-fits g c = λ k d within. omega (arith, place_fits c.args.order.now (length c.args.inputs.now) c.requires.fits k d within)
@@ -19,8 +19,5 @@ returns-in_err-paste g c =
 pub returns : goal.returns
 returns g c = rw c.in_ok-paste.was at (rows_went (paste_job c.args.self.now) c.requires (rw (c.deref.ensures.0 ∙ c.cells_of.ensures) at c.paste.ensures))
 
-few_of : (order : List Input) → nat_le (length (places order)) 512 ≡ true → length order ≤ 512
-few_of order taken = omega (arith, leb-true (length (places order)) 512 taken, length-map order place)
-
 pub cells_of-requires-clause-few : goal.cells_of-requires-clause-few
-cells_of-requires-clause-few g c = few_of c.args.order.now c.requires.taken
+cells_of-requires-clause-few g c = omega (arith, leb-true (length (places c.args.order.now)) 512 c.requires.taken, length-map c.args.order.now place)

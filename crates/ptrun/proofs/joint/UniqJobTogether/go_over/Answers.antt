@@ -1,5 +1,4 @@
-use Rattle.ptrun.proofs.Common.{length, sym, ◌∙◌, arith, Standard, false≢true}
-use borrow.Author.Rules.{scaled_Fits}
+use Rattle.ptrun.proofs.Common.{scaled_Fits, length, sym, ◌∙◌, arith, Standard, false≢true}
 use Rattle.ptrun.proofs.JointPasses.{sole_there, sole_within, sole_open, lone_went}
 use Rattle.ptrun.proofs.Sources.{place_fits}
 use Rattle.ptrun.proofs.joint.UniqJobTogether.go_over.Goals as goal
