@@ -1,7 +1,7 @@
 -- What is written of lines that are dealt out by their keys.
-use Rattle.ptmerge.proofs.Common.{◌≡◌, ℕ, zero, suc, ◌+◌, ◌<◌, ◌==◌, ◌&&◌, List, [], ◌∷◌, ◌++◌, Bool, true, false, cond, not, nat_lt, refl, ap, ◌∙◌, append_assoc, inr, arith, false≢true, nat_tests}
-use Rattle.ptmerge.proofs.Common.{flat_map-append, filter, flat_map, range_with_len, AreLines, lines, text, the_lines_of_parts, Side, comm_tool, join_tool, Lines, Tool, distinct, keys, entries_of}
-use Rattle.ptmerge.proofs.Common.{lines_of, merged_entries, CommByKey, IsByKey, JoinByKey, dealt, written_lines}
+use Rattle.ptmerge.proofs.Common.{◌≡◌, ℕ, zero, suc, ◌+◌, ◌<◌, ◌==◌, ◌&&◌, List, [], ◌∷◌, ◌++◌, Bool, true, false, not, nat_lt, refl, ap, ◌∙◌, append_assoc, inr, arith, nat_tests, flat_map-append}
+use Rattle.ptmerge.proofs.Common.{filter, flat_map, range_with_len, AreLines, lines, text, the_lines_of_parts, Side, comm_tool, join_tool, Lines, Tool, distinct, keys, entries_of, lines_of}
+use Rattle.ptmerge.proofs.Common.{merged_entries, CommByKey, IsByKey, JoinByKey, dealt, written_lines}
 use Rattle.std.proofs.lemmas.List.Sorted.{IsPermutation-refl, IsPermutation-trans, IsPermutation-append_left, IsPermutation-append_right, IsPermutation-append_comm}
 use Rattle.std.specs.List.Sorted.{IsPermutation}
 use Rattle.ptmerge.proofs.OfMerges.Orders.{IsKeyOrder, line_order}
@@ -20,21 +20,13 @@ module _ {A : Type 0} where
   of_some : (f : List ℕ → List A) (p q : List ℕ → Bool) → ((k : List ℕ) → q k ≡ true → p k ≡ true) → (ks : Lines)
       → IsPermutation (flat_map f (filter p ks)) (flat_map f (filter q ks) ++ flat_map f (filter (λ k. p k && not (q k)) ks))
   of_some f p q all [] = IsPermutation-refl []
-  of_some f p q all (k ∷ ks) = by (p k) (q k) (all k) (IsPermutation-append_right (f k) _ _ (of_some f p q all ks)) (of_some f p q all ks)
-    where
-      own : List A
-      own = flat_map f (filter q ks)
-
-      rest : List A
-      rest = flat_map f (filter (λ k. p k && not (q k)) ks)
-
-      by : (b c : Bool) → (c ≡ true → b ≡ true) → IsPermutation (f k ++ flat_map f (filter p ks)) (f k ++ (own ++ rest)) → IsPermutation (flat_map f (filter p ks)) (own ++ rest)
-          → IsPermutation (flat_map f (cond b (k ∷ filter p ks) (filter p ks)))
-          (flat_map f (cond c (k ∷ filter q ks) (filter q ks)) ++ flat_map f (cond (b && not c) (k ∷ filter (λ k. p k && not (q k)) ks) (filter (λ k. p k && not (q k)) ks)))
-      by true true h more ih = rw (append_assoc (f k) own rest) more
-      by true false h more ih = IsPermutation-trans _ _ _ more (changed (f k) own rest)
-      by false true h more ih = absurd (false≢true (h refl))
-      by false false h more ih = ih
+  of_some f p q all (k ∷ ks) =
+      let own : List A = flat_map f (filter q ks) in
+      let rest : List A = flat_map f (filter (λ k. p k && not (q k)) ks) in
+      let more = IsPermutation-append_right (f k) _ _ (of_some f p q all ks) in
+      let second : IsPermutation (f k ++ flat_map f (filter p ks)) (own ++ (f k ++ rest)) = IsPermutation-trans _ _ _ more (changed (f k) own rest) in
+      let first : IsPermutation (f k ++ flat_map f (filter p ks)) ((f k ++ own) ++ rest) = rw (append_assoc (f k) own rest) more in
+      grind (arith, all k, of_some f p q all ks, first, second)
 
   -- Of some keys, those that go to each part from a on.
   of_each : (f : List ℕ → List A) (part_of : List ℕ → ℕ) (w : List ℕ → Bool) (a n : ℕ) → ((k : List ℕ) → (w k ≡ not (nat_lt (part_of k) a)) × part_of k < a + n) → (ks : Lines)
@@ -57,7 +49,7 @@ nested g f (k ∷ ks) = flat_map-append g (f k) (flat_map f ks) ∙ ap (λ l. fl
 
 lines_kept : (end : ℕ) (q : List ℕ → Bool) (ls : Lines) → AreLines end ls → AreLines end (filter q ls)
 lines_kept end q [] e = tt
-lines_kept end q (x ∷ ls) e = let ih = lines_kept end q ls e.1 in grind (arith, ih)
+lines_kept end q (x ∷ ls) e = grind (arith, lines_kept end q ls e.1)
 
 -- the lines of a text that is made of lines of another one
 lines_dealt : (end : ℕ) (q : List ℕ → Bool) (bytes : List ℕ) → lines end (text end (filter q (lines end bytes))) ≡ filter q (lines end bytes)

@@ -13,25 +13,21 @@ use Rattle.ptmerge.proofs.OfMerges.Splitting.{Ascends, IsDown, all_keys, all_wan
 module _ (p : List ℕ → Bool) where
   each_kept : (P : List ℕ → Type 0) (ks : Lines) → Each P ks → Each P (filter p ks)
   each_kept P [] e = tt
-  each_kept P (k ∷ ks) e = let ih = each_kept P ks e.1 in grind (arith, ih)
+  each_kept P (k ∷ ks) e = grind (arith, each_kept P ks e.1)
 
   module _ (cmp : Cmp) (o : IsKeyOrder cmp) where
     insert_kept : (k : List ℕ) (xs : Lines) → Ascends cmp xs → filter p (insert_key cmp k xs) ≡ cond (p k) (insert_key cmp k (filter p xs)) (filter p xs)
     insert_kept k [] a = refl
     insert_kept k (x ∷ xs) a =
-        let ih = insert_kept k xs a.1 in
         let least : cmp k x ≡ Less → insert_key cmp k (filter p xs) ≡ k ∷ filter p xs =
         λ e. insert_least cmp o k (filter p xs) (each_kept (Above cmp k) xs (Each-weaker (Above cmp x) (Above cmp k) (λ y g. above_trans cmp o k x y (ap is_gt e) g) xs a.0)) in
         let same : cmp k x ≡ Equal → p k ≡ p x = λ e. ap p (o.exact k x e) in
-        grind (arith, ih, least, same)
+        grind (arith, insert_kept k xs a.1, least, same)
 
     -- the distinct keys of a part are those of the whole that go to it
     distinct_kept : (ks : Lines) → filter p (distinct cmp ks) ≡ distinct cmp (filter p ks)
     distinct_kept [] = refl
-    distinct_kept (k ∷ ks) =
-        let ih = distinct_kept ks in
-        let more = insert_kept k (distinct cmp ks) (ascends_distinct cmp o ks) in
-        grind (arith, ih, more)
+    distinct_kept (k ∷ ks) = grind (arith, distinct_kept ks, insert_kept k (distinct cmp ks) (ascends_distinct cmp o ks))
 
   -- the lines whose keys go to it
   abbrev kept : Key → Lines → Lines
@@ -39,15 +35,14 @@ module _ (p : List ℕ → Bool) where
 
   keys_kept : (key : Key) (ls : Lines) → map key (kept key ls) ≡ filter p (map key ls)
   keys_kept key [] = refl
-  keys_kept key (x ∷ ls) = let ih = keys_kept key ls in grind (arith, ih)
+  keys_kept key (x ∷ ls) = grind (arith, keys_kept key ls)
 
   -- all lines of a key go where the key goes
   with_key_kept : (key : Key) (k : List ℕ) (ls : Lines) → p k ≡ true → with_key key (kept key ls) k ≡ with_key key ls k
   with_key_kept key k [] h = refl
   with_key_kept key k (x ∷ ls) h =
-      let ih = with_key_kept key k ls h in
       let same : bytes_eq (key x) k ≡ true → p (key x) ≡ true = λ e. ap p ((bytes_decides (key x) k).0 e) ∙ h in
-      grind (arith, ih, same)
+      grind (arith, with_key_kept key k ls h, same)
 
   module _ (tool : Tool) (o : IsKeyOrder tool.cmp) (ls : Side → Lines) where
     open tool use {cmp, entries, key}
@@ -65,10 +60,9 @@ module _ (p : List ℕ → Bool) where
         each_of : (ds : Lines) → flat_map (entries_of tool part) (filter w (filter p ds)) ≡ flat_map (entries_of tool ls) (filter (λ k. w k && p k) ds)
         each_of [] = refl
         each_of (d ∷ ds) =
-            let ih = each_of ds in
             let same : p d ≡ true → entries_of tool part d ≡ entries_of tool ls d =
             λ h i. entries d (with_key_kept (key First) d (ls First) h i) (with_key_kept (key Second) d (ls Second) h i) in
-            grind (arith, ih, same)
+            grind (arith, each_of ds, same)
 
 -- ---- lists that are put together
 
@@ -90,9 +84,8 @@ module _ (cmp : Cmp) (o : IsKeyOrder cmp) where
   down_under : (ls : Lines) → IsDown cmp (is_under cmp ls)
   down_under [] a b g h = refl
   down_under (x ∷ ls) a b g h =
-      let ih = down_under ls a b g in
       let less : cmp b x ≡ Less → cmp a x ≡ Less = λ l. o.total.trans a b x (greater_flips cmp o b a g) l in
-      grind (arith, ih, less)
+      grind (arith, down_under ls a b g, less)
 
   none_under : (ls : Lines) → Each (λ l. is_under cmp ls l ≡ false) ls
   none_under [] = tt
@@ -138,7 +131,7 @@ module _ (cmp : Cmp) (o : IsKeyOrder cmp) (key : Key) where
   -- the last key in order does not depend on how many lines came before
   uncounted : (last : Option (List ℕ)) (n m : ℕ) (ys : Lines) → behind (fall_after cmp key last n ys) ≡ behind (fall_after cmp key last m ys)
   uncounted last n m [] = refl
-  uncounted last n m (y ∷ ys) = let ih = uncounted (Some (key y)) (n + 1) (m + 1) ys in grind (arith, ih)
+  uncounted last n m (y ∷ ys) = grind (arith, uncounted (Some (key y)) (n + 1) (m + 1) ys)
 
   -- Behind a list in order whose keys are at most its own, a list goes on as it does alone.
   appended : (last : Option (List ℕ)) (n : ℕ) (xs ys : Lines) → fall_after cmp key last n xs ≡ None → EachKey (λ k. falls cmp last k ≡ false) key ys
@@ -167,7 +160,7 @@ module _ (cmp : Cmp) (o : IsKeyOrder cmp) (key : Key) where
     where
       each_after : (last : Option (List ℕ)) (ys : Lines) → EachKey P key ys → EachKey P key (ordered_after cmp key last ys)
       each_after last [] e = tt
-      each_after last (y ∷ ys) e = let ih = each_after (Some (key y)) ys e.1 in grind (arith, ih)
+      each_after last (y ∷ ys) e = grind (arith, each_after (Some (key y)) ys e.1)
 
   -- what a list falls behind is at least what is at most its keys
   pub from_below : (k : List ℕ) (ys : Lines) → EachKey (AtMost cmp k) key ys → FallFrom cmp k (fall cmp key ys)
@@ -184,9 +177,8 @@ module _ (cmp : Cmp) (o : IsKeyOrder cmp) (key : Key) where
   kept_after p last from n m (x ∷ xs) up e =
       let r = rises (falls cmp last (key x)) (fall_at last n) (fall_after cmp key (Some (key x)) (n + 1) xs) e in
       let rise = up (key x) r.0 in
-      let kept = kept_after p (Some (key x)) (Some (key x)) (n + 1) (m + 1) xs (λ k g. g) r.1 in
       let left_out = kept_after p (Some (key x)) from (n + 1) m xs (λ k g. falls_later from (key x) k rise g) r.1 in
-      grind (arith, rise, kept, left_out)
+      grind (arith, rise, left_out, kept_after p (Some (key x)) (Some (key x)) (n + 1) (m + 1) xs (λ k g. g) r.1)
 
   -- some lines of a list in order are in order
   pub in_order_kept : (p : List ℕ → Bool) (xs : Lines) → fall cmp key xs ≡ None → fall cmp key (filter p xs) ≡ None
@@ -221,10 +213,7 @@ module _ (tool : Tool) (o : IsKeyOrder tool.cmp) where
 
     -- the same keys are wanted
     same_wanted : (k : List ℕ) → up_to cmp (disorder tool (λ side. a side ++ b side)) k ≡ up_to cmp (disorder tool b) k
-    same_wanted k =
-        by_limits cmp _ _ k
-        ∙ (λ i. up_to cmp (disorder_of cmp ((both_go_on First).1 i) ((both_go_on Second).1 i)) k)
-        ∙ sym (by_limits cmp _ _ k)
+    same_wanted k = by_limits cmp _ _ k ∙ (λ i. up_to cmp (disorder_of cmp ((both_go_on First).1 i) ((both_go_on Second).1 i)) k) ∙ sym (by_limits cmp _ _ k)
 
     -- of the first lists all keys are wanted
     low_wanted : (k : List ℕ) → p k ≡ true → up_to cmp (disorder tool b) k ≡ true
