@@ -5,6 +5,7 @@ use Rattle.ptflow.proofs.Common.{subst, refl, sym, ◌∙◌, ap, arith, nat_le,
 use Rattle.ptflow.proofs.Common.{AreApart, Interval, chosen_from}
 use Rattle.std.proofs.lemmas.List.{take-append-drop}
 use Rattle.ptflow.proofs.OfCut.FieldPlaces.{rest_of}
+use lib.Seq.{take-nil}
 
 -- the number lies in the interval
 abbrev pub lies_in : Interval → ℕ → Bool
@@ -70,10 +71,6 @@ chosen_skip test n (suc count) [] out = refl
 chosen_skip test n (suc count) (x ∷ xs) out =
     let same : n + suc count ≡ (n + 1) + count = omega arith in
     rw (out n (omega arith) (omega arith), same) (chosen_skip test (n + 1) count xs (λ k low high. out k (omega arith) (omega arith)))
-
-take-nil : {X : Type 0} (k : ℕ) → (let none : List X = [] in take k none ≡ none)
-take-nil zero = refl
-take-nil (suc k) = refl
 
 -- what one interval chooses is a slice, from the item i up to the item j
 pub chosen_slice : {X : Type 0} (r : Interval) (n : ℕ) (xs : List X) (i j : ℕ) → i ≡ r.first - n → j ≡ r.last + 1 - n → chosen (lies_in r) n xs ≡ take (j - i) (drop i xs)

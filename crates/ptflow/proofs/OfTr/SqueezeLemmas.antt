@@ -3,10 +3,11 @@
 use Rattle.ptflow.proofs.Common.{◌≡◌, ℕ, zero, suc, ◌%◌, ◌^◌, map, bit_and, negsuc, pos, ◌+◌, ◌-◌, ◌<◌, ◌≤◌, ◌&&◌, not, eqb, Bool, true, false, cond, List, [], ◌∷◌, ◌++◌, Option, Some, length, take}
 use Rattle.ptflow.proofs.Common.{drop, set, get_or, refl, sym, ◌∙◌, ap, arith, append_assoc, add-one, drop-cons, w8, option_eq, bit_not, cast_unsigned, zip2, chunk, Each1, mask_l, top, append-nil}
 use Rattle.ptflow.proofs.Common.{drop-drop, drop_all, take-set, take_more_set, take-take, get_or-chunk, length-chunk, length-zip2, mask_l-mod, squeeze_behind, mask_of, chosen_by, squeeze_from}
+use Rattle.ptflow.proofs.Common.{chunk-fits}
 use mir.Val.{bool_byte, Fits}
 use Rattle.std.proofs.Math.Facts.{Fits-lt-pow}
 use Rattle.std.proofs.lemmas.List.{take-append-drop}
-use Rattle.ptflow.proofs.OfBytes.FourLanes.{InFour, lanes_of, chunk_parts, chunk_in_four}
+use Rattle.ptflow.proofs.OfBytes.LaneLemmas.{InFour, lanes_of, chunk_parts, chunk_in_four}
 use Rattle.ptflow.proofs.OfTr.TrRests.{behind_one, from_one}
 
 -- the last byte of a piece
@@ -17,6 +18,12 @@ piece_ends from at (suc n) some room =
     let long : length (chunk at (suc n) from) ≡ suc n = length-chunk at (suc n) from room in
     let place : at + suc n - 1 ≡ at + n = omega arith in
     cc (get_or-chunk at (suc n) from n 0 (omega arith))
+
+-- tests that agree on bytes squeeze the same repeats
+same_behind : (p q : ℕ → Bool) → ((b : ℕ) → b < 256 → p b ≡ q b) → (last : ℕ) (bytes : List ℕ) → Each1 (Fits w8) bytes → squeeze_behind p last bytes ≡ squeeze_behind q last bytes
+same_behind p q same last [] small = refl
+same_behind p q same last (b ∷ bytes) small =
+    cc (behind_one p last b bytes, same b (Fits-lt-pow small.0), same_behind p q same b bytes small.1, behind_one q last b bytes)
 
 module _ (squeezed : ℕ → Bool) where
   -- a piece and the next one, with the last byte of the piece in front of it
@@ -80,9 +87,10 @@ module _ (squeezed : ℕ → Bool) where
         small again = grind arith
 
     -- a piece more
-    pub squeezing_piece : {into' : List ℕ} {count' : ℕ} (size : ℕ) → 0 < size → at + size ≤ length from → count' ≤ count + size
-        → take count' into' ≡ take count into ++ squeeze_behind squeezed (get_or from (at - 1) 0) (take size (drop at from)) → Squeezing from into' (at + size) count' whole
-    squeezing_piece size some room few made =
+    pub squeezing_piece : {into' : List ℕ} {count' : ℕ} (size : ℕ) (test : ℕ → Bool) → ((b : ℕ) → b < 256 → test b ≡ squeezed b) → ((k : ℕ) → Fits w8 (get_or from k 0)) → 0 < size
+        → at + size ≤ length from → count' ≤ count + size → take count' into' ≡ take count into ++ squeeze_behind test (get_or from (at - 1) 0) (take size (drop at from))
+        → Squeezing from into' (at + size) count' whole
+    squeezing_piece size test same fit some room few made =
         let last = get_or from (at - 1) 0 in
         let piece = take size (drop at from) in
         let long : length piece ≡ size = length-chunk at size from room in
@@ -93,6 +101,7 @@ module _ (squeezed : ℕ → Bool) where
               cc (
                 append_assoc (take count into) (squeeze_behind squeezed last piece) (squeeze_behind squeezed (get_or from (at + size - 1) 0) (drop (at + size) from)),
                 behind_on last piece (drop (at + size) from),
+                same_behind test squeezed same last piece (chunk-fits w8 at size from fit),
               );
           behind = omega arith;
           within = omega arith;
@@ -213,9 +222,3 @@ module _ (test : ℕ → Bool) (from : List ℕ) where
           stay (at + 48) (omega arith) (omega arith) none.3,
           chunk_in_four at from,
         )
-
--- tests that agree on bytes squeeze the same repeats
-pub same_behind : (p q : ℕ → Bool) → ((b : ℕ) → b < 256 → p b ≡ q b) → (last : ℕ) (bytes : List ℕ) → Each1 (Fits w8) bytes → squeeze_behind p last bytes ≡ squeeze_behind q last bytes
-same_behind p q same last [] small = refl
-same_behind p q same last (b ∷ bytes) small =
-    cc (behind_one p last b bytes, same b (Fits-lt-pow small.0), same_behind p q same b bytes small.1, behind_one q last b bytes)
