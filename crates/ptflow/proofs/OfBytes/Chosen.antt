@@ -1,8 +1,8 @@
 -- The items of a list that intervals choose. Intervals that lie apart choose one behind another, and each chooses a
 -- slice; so what all choose is the slices in a row.
 use Rattle.ptflow.proofs.Common.{◌≡◌, ⊎_elim, ℕ, zero, suc, ◌+◌, ◌-◌, ◌<◌, ◌≤◌, Bool, true, false, cond, ◌&&◌, ◌||◌, List, [], ◌∷◌, ◌++◌, length, take, drop, get_or, min, append_assoc, length-drop}
-use Rattle.ptflow.proofs.Common.{subst, refl, sym, ◌∙◌, ap, arith, nat_le, cases_order, false≢true, nat_tests, take_all, drop_all, take-take, drop_more, length-take-le, drop-append-le, is_selected}
-use Rattle.ptflow.proofs.Common.{AreApart, Interval, chosen_from}
+use Rattle.ptflow.proofs.Common.{subst, refl, sym, ◌∙◌, ap, arith, nat_le, false≢true, nat_tests, take_all, drop_all, take-take, drop_more, length-take-le, drop-append-le, is_selected, AreApart}
+use Rattle.ptflow.proofs.Common.{Interval, chosen_from, cases_lt}
 use Rattle.std.proofs.lemmas.List.{take-append-drop}
 use Rattle.ptflow.proofs.OfCut.FieldPlaces.{rest_of}
 use lib.Seq.{take-nil}
@@ -55,14 +55,13 @@ chosen_first r rs n [] apart = refl
 chosen_first r rs n (x ∷ xs) apart = chosen_step x (chosen (lies_in r) (n + 1) xs)
     (chosen (is_selected rs) (n + 1) xs) (lies_in r n) (is_selected rs n) here there (chosen_first r rs (n + 1) xs apart)
   where
-    late : (n ≤ r.last → ⊥) → r.last < n
-    late not = ⊎_elim (λ is. absurd (not (omega arith))) (⊎_elim (λ low. absurd (not (omega (arith, low)))) (λ high. high)) (cases_order n r.last)
-
     here : lies_in r n ≡ true → is_selected rs n ≡ false
     here inside = not_selected rs (r.last + 1) n apart (omega (arith, last_of r n inside))
 
     there : is_selected rs n ≡ true → chosen (lies_in r) (n + 1) xs ≡ []
-    there other = chosen_past r (n + 1) xs (omega (arith, late (λ low. false≢true (cc (not_selected rs (r.last + 1) n apart (omega (arith, low)))))))
+    there other = ⊎_elim
+        (λ high. chosen_past r (n + 1) xs (omega (arith, high)))
+        (λ low. absurd (false≢true (cc (not_selected rs (r.last + 1) n apart (omega (arith, low)))))) (cases_lt r.last n)
 
 -- the first items are not chosen
 pub chosen_skip : {X : Type 0} (test : ℕ → Bool) (n count : ℕ) (xs : List X) → ((k : ℕ) → n ≤ k → k < n + count → test k ≡ false) → chosen test n xs ≡ chosen test (n + count) (drop count xs)

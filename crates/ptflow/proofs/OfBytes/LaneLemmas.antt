@@ -2,7 +2,7 @@
 use Rattle.ptflow.proofs.Common.{◌≡◌, ℕ, ◌+◌, ◌<◌, ◌≤◌, ◌%◌, Bool, false, List, [], ◌∷◌, ◌++◌, Option, map, take, drop, length, get_or, replicate, cond, refl, sym, ◌∙◌, ap, arith, w8, Fits, sum_by}
 use Rattle.ptflow.proofs.Common.{zero, suc, slice_get, option_map, sel_l, zip2, top, Each1, take-add, false≢true, map-append, tops_compared, zip2_splat, zip2_of_maps, splat_is_map, chunk-fits}
 use Rattle.ptflow.proofs.Common.{Each1-from_get_or, added, shifted, IsMovedTo, told_adds, ◌^◌, ◌||◌, not, pos, negsuc, bit_or, append_assoc, filter, cast_unsigned, mask_l, chunk, mask_l-mod}
-use Rattle.ptflow.proofs.Common.{length-zip2, drop-drop, filter-append, mask_of, true, set, ℤ, add-zero, from_bool, bit_not, take_more_set, take-set, take_more, append-nil, length-map, Keeps, map-map}
+use Rattle.ptflow.proofs.Common.{length-zip2, drop-drop, filter-append, mask_of, true, set, ℤ, from_bool, bit_not, take_more_set, take-set, take_more, append-nil, length-map, Keeps, map-map}
 use Rattle.ptflow.proofs.Common.{length-set, take_all}
 use Rattle.std.specs.Prelude.{is_some}
 use Rattle.ptlangs.specs.declared.shifts.Stretch.{Stretch}
@@ -199,6 +199,11 @@ pub keep_bits : (test : ℕ → Bool) (v : List ℕ) {lanes : List ℤ} → leng
 keep_bits test v long is =
     cc (lanes_of_mask test v, not_lanes (map test v), map-map not test v, mask_l-mod (map (λ b. not (test b)) v) 64 (omega (arith, length-map v (λ b. not (test b)))))
 
+-- a byte is written, and stays where the flag is set
+pub written_more : (flag : Bool) (row : List ℕ) (count place : ℕ) → count < length row → take (count + cond flag 1 0) (set row count place) ≡ take count row ++ cond flag (place ∷ []) []
+written_more true row count place room = take_more_set row count place room
+written_more false row count place room = ap (λ n. take n (set row count place)) (omega arith) ∙ take-set row count place ∙ sym (append-nil (take count row))
+
 module _ {test : ℕ → Bool} {from into : List ℕ} {at count : ℕ} (before : Keeps test from at into count) where
   -- a piece more
   pub keeps_piece : (size : ℕ) {after : List ℕ} {end : ℕ} → at + size ≤ length from → end ≤ count + size → length after ≡ 8224
@@ -215,23 +220,20 @@ module _ {test : ℕ → Bool} {from into : List ℕ} {at count : ℕ} (before :
       ≡ count + from_bool (test (get_or from at 0)) → Keeps test from (at + 1) after end
   keeps_byte room small is ended = record {
     within = omega arith;
-    few = omega (arith, one_at_most (test b));
+    few = omega (arith, bit.0);
     room = cc (length-set into count b);
-    kept = cc (by_test (test b) refl);
+    kept = cc (bit.1, written_more (test b) into count b (omega arith), filter-append test (take at from) (b ∷ []), take_more from at 0 room);
   }
     where
       b : ℕ
       b = get_or from at 0
 
-      one_at_most : (t : Bool) → from_bool t ≤ 1
-      one_at_most t = grind arith
+      one : (t : Bool) → (from_bool t ≤ 1) × (from_bool t ≡ cond t 1 0)
+      one true = (omega arith, refl)
+      one false = (omega arith, refl)
 
-      told : (t : Bool) → test b ≡ t → take (count + from_bool t) (set into count b) ≡ take count into ++ cond t (b ∷ []) []
-      told true is = take_more_set into count b (omega arith)
-      told false is = cc (add-zero count, take-set into count b, append-nil (take count into))
-
-      by_test : (t : Bool) → test b ≡ t → take (count + from_bool t) (set into count b) ≡ filter test (take (at + 1) from)
-      by_test t is = cc (told t is, filter-append test (take at from) (b ∷ []), take_more from at 0 room)
+      bit : (from_bool (test b) ≤ 1) × (from_bool (test b) ≡ cond (test b) 1 0)
+      bit = one (test b)
 
 -- ---- two tests that say the same of bytes
 

@@ -109,7 +109,19 @@ module _ (job : Cut) (by_bytes : job.fields ≡ false) where
       → Begins (cut_decided job (record { bytes = given; ended = false })) pushed
   rest_is_decided given pushed now on = record {
     rest = chosen_from job.selected 1 p.piece;
-    is = append_cancel_right pushed (text end (flat_map (cut_line job) ls) ++ chosen_from job.selected 1 p.piece) (end ∷ []) (sym pushed_side ∙ whole_side);
+    is = append_cancel_right pushed (text end (flat_map (cut_line job) ls) ++ chosen_from job.selected 1 p.piece) (end ∷ []) (
+        cc (
+          on (end ∷ []),
+          rest_line end job.selected now [] [] tt,
+          rest_of_all end job.selected (lines end (given ++ end ∷ [])),
+          all_lines,
+          map-append (chosen_from job.selected 1) ls (p.piece ∷ []),
+          text-append end (map (chosen_from job.selected 1) ls) (chosen_from job.selected 1 p.piece ∷ []),
+          made_is ls,
+          append-nil (chosen_from job.selected 1 p.piece ++ end ∷ []),
+          append_assoc (text end (flat_map (cut_line job) ls)) (chosen_from job.selected 1 p.piece) (end ∷ []),
+        )
+        );
   }
     where
       p : Parts end given
@@ -119,21 +131,6 @@ module _ (job : Cut) (by_bytes : job.fields ≡ false) where
       ls = ended_lines end given
 
       -- with one end more, the piece is a line too
-      pushed_side : cut_rest end job.selected 0 (given ++ end ∷ []) ≡ pushed ++ end ∷ []
-      pushed_side = cc (on (end ∷ []), rest_line end job.selected now [] [] tt)
-
       all_lines : lines end (given ++ end ∷ []) ≡ ls ++ p.piece ∷ []
       all_lines =
           cc (p.is, append_assoc (text end ls) p.piece (end ∷ []), lines_of_text end ls (p.piece ++ end ∷ []) p.whole, lines_first end p.piece [] p.line)
-
-      whole_side : cut_rest end job.selected 0 (given ++ end ∷ []) ≡ (text end (flat_map (cut_line job) ls) ++ chosen_from job.selected 1 p.piece) ++ end ∷ []
-      whole_side =
-          cc (
-            rest_of_all end job.selected (lines end (given ++ end ∷ [])),
-            all_lines,
-            map-append (chosen_from job.selected 1) ls (p.piece ∷ []),
-            text-append end (map (chosen_from job.selected 1) ls) (chosen_from job.selected 1 p.piece ∷ []),
-            made_is ls,
-            append-nil (chosen_from job.selected 1 p.piece ++ end ∷ []),
-            append_assoc (text end (flat_map (cut_line job) ls)) (chosen_from job.selected 1 p.piece) (end ∷ []),
-          )

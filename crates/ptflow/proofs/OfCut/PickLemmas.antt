@@ -8,7 +8,8 @@ use Rattle.ptflow.proofs.OfBytes.Chosen.{above, chosen_none}
 use mir.Val.{bool_byte}
 use Rattle.ptflow.specs.Workings.Cut.Picks.{picked, IsPick}
 use Rattle.ptflow.specs.declared.tools.cut.picking.Pick.{Pick}
-use Rattle.ptflow.proofs.OfBytes.ChosenLanes.{shuffled, written_more}
+use Rattle.ptflow.proofs.OfBytes.ChosenLanes.{shuffled}
+use Rattle.ptflow.proofs.OfBytes.LaneLemmas.{written_more}
 
 last_low : (r : Interval) {place : ℕ} → nat_le r.last 16 ≡ true → 16 < place → r.last < place
 last_low r low later = grind (arith, nat_tests)

@@ -152,8 +152,7 @@ one_byte tables last byte stays stays_too =
     cc (stays, from_one (squeezes tables) last (image tables byte) [], by_test (option_eq eqb last (Some (image tables byte))))
   where
     by_test : (t : Bool) → cond (not (t && false)) (image tables byte ∷ []) [] ≡ image tables byte ∷ []
-    by_test true = refl
-    by_test false = refl
+    by_test t = grind arith
 
 pub tr_behind_byte : TrBehindByte
 tr_behind_byte tables byte a b ends kept unsqueezed = tr_of_parts tables a b
