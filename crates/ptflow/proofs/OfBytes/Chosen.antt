@@ -1,8 +1,8 @@
 -- The items of a list that intervals choose. Intervals that lie apart choose one behind another, and each chooses a
 -- slice; so what all choose is the slices in a row.
 use Rattle.ptflow.proofs.Common.{◌≡◌, ⊎_elim, ℕ, zero, suc, ◌+◌, ◌-◌, ◌<◌, ◌≤◌, Bool, true, false, cond, ◌&&◌, ◌||◌, List, [], ◌∷◌, ◌++◌, length, take, drop, get_or, min, append_assoc, length-drop}
-use Rattle.ptflow.proofs.Common.{subst, refl, sym, ◌∙◌, ap, arith, nat_le, false≢true, nat_tests, take_all, drop_all, take-take, drop_more, length-take-le, drop-append-le, is_selected, AreApart}
-use Rattle.ptflow.proofs.Common.{Interval, chosen_from, cases_lt}
+use Rattle.ptflow.proofs.Common.{refl, sym, ◌∙◌, ap, arith, nat_le, false≢true, nat_tests, take_all, drop_all, take-take, drop_more, length-take-le, drop-append-le, is_selected, AreApart, Interval}
+use Rattle.ptflow.proofs.Common.{chosen_from, cases_lt}
 use Rattle.std.proofs.lemmas.List.{take-append-drop}
 use Rattle.ptflow.proofs.OfCut.FieldPlaces.{rest_of}
 use lib.Seq.{take-nil}
@@ -125,9 +125,9 @@ module _ {all : List Interval} {before : ℕ} {piece tail was : List ℕ} {start
       choosing_room = omega (arith, apart.0, apart.1)
 
       -- what the interval chooses was copied
-      pub choosing_more : r.last < before + 1 + length piece → Choosing all (i + 1) before piece tail was (is ++ chosen (lies_in r) (before + 1) piece) start
-          (at + ((r.last - before) - (r.first - (before + 1))))
-      choosing_more short = record { front = next; low = r.last + 1; apart = apart.2; near = omega (arith, choosing_room); within = omega (arith, choosing_room) }
+      pub choosing_more : {is' : List ℕ} {at' : ℕ} → is' ≡ is ++ chosen (lies_in r) (before + 1) piece → at' ≡ at + ((r.last - before) - (r.first - (before + 1)))
+          → r.last < before + 1 + length piece → Choosing all (i + 1) before piece tail was is' start at'
+      choosing_more is_is at_is short = record { front = cc (next); low = r.last + 1; apart = apart.2; near = omega (arith, choosing_room); within = omega (arith, choosing_room) }
 
       pub choosing_ends : before + length piece ≤ r.last → is ++ (chosen (lies_in r) (before + 1) piece ++ tail) ≡ was ++ (chosen (is_selected all) (before + 1) piece ++ tail)
       choosing_ends reaches =
@@ -193,8 +193,4 @@ module _ {all : List Interval} {before count end : ℕ} (bytes : List ℕ) {was 
     pub copied_more : {from to : ℕ} → from ≡ at_i.first - (before + 1) → to ≡ at_i.last - before → at_i.last < before + count → is' ≡ is ++ take (to - from) (drop from bytes)
         → Choosing all (i + 1) before piece tail was is' start (at + (to - from))
     copied_more {from} {to} from_is to_is short copied =
-        let slice : take (to - from) (drop from bytes) ≡ chosen (lies_in at_i) (before + 1) piece =
-        cc (slice_is at_i before count bytes (omega (arith, in_piece)) short, take-take count end bytes in_piece) in
-        subst (λ l. Choosing all (i + 1) before piece tail was l start (at + (to - from))) (sym (cc))
-        (subst (λ n. Choosing all (i + 1) before piece tail was (is ++ chosen (lies_in at_i) (before + 1) piece) start (at + n)) (λ j. sym to_is j - sym from_is j)
-        (choosing_more k within (omega (arith, piece_long, short))))
+        choosing_more k within (cc (slice_is at_i before count bytes (omega (arith, in_piece)) short, take-take count end bytes in_piece)) (omega arith) (omega (arith, piece_long, short))

@@ -27,7 +27,7 @@ tests_are t f v {xs} {n} y long is = tops_compared w8 t xs (replicate n y) ∙ z
 pub added_lanes : (f g : ℕ → ℕ) (v : List ℕ) {xs ys : List ℕ} → xs ≡ map f v → ys ≡ map g v → zip2 (λ a b. (a + b) % 256) xs ys ≡ map (λ b. (f b + g b) % 256) v
 added_lanes f g v ex ey = zip2_of_maps (λ a b. (a + b) % 256) f g v ex ey
 
-pub map_self : (v : List ℕ) → map (λ b. b) v ≡ v
+pub map_self : {X : Type 0} (v : List X) → map (λ b. b) v ≡ v
 map_self [] = refl
 map_self (x ∷ xs) = ap (◌∷◌ x) (map_self xs)
 
