@@ -22,8 +22,8 @@ use Rattle.ptflow.specs.Uniqs.{Run, uniq, key, runs, entries}
 use Rattle.ptflow.specs.Parts.{KeysChange, HasRows}
 use Rattle.ptflow.proofs.OfUniq.PartsUniq.{uniq_of_parts}
 use Rattle.ptflow.proofs.OfPaste.PartsPaste.{paste_of_parts}
-use Rattle.ptflow.proofs.OfCut.PartsCut.{cut_of_parts}
-use Rattle.ptflow.proofs.OfTr.PartsTr.{tr_behind_byte, tr_meets_twice, same_last}
+use Rattle.ptflow.proofs.OfCut.FieldLines.{cut_of_parts}
+use Rattle.ptflow.proofs.OfTr.TrRests.{tr_behind_byte, tr_meets_twice, same_last}
 
 -- ---- cut
 

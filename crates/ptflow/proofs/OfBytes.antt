@@ -2,7 +2,5 @@
 pub mod ByteSetLemmas
 pub mod Chosen
 pub mod ChosenLanes
-pub mod FourLanes
-pub mod KeptBytes
 pub mod LaneLemmas
 pub mod Nths

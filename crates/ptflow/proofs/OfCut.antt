@@ -3,5 +3,4 @@ pub mod ByteRests
 pub mod FieldLines
 pub mod FieldPlaces
 pub mod FieldWalks
-pub mod PartsCut
 pub mod PickLemmas

@@ -1,4 +1,3 @@
 -- `tr`.
-pub mod PartsTr
 pub mod SqueezeLemmas
 pub mod TrRests

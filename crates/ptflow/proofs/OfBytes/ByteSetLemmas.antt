@@ -107,27 +107,19 @@ module _ (table : List ℕ) {n : ℕ} (long : length table ≡ 16) (within : n <
   same_bit : n / 16 % 8 ≡ n / 16
   same_bit = omega arith
 
+  abbrev old : ℕ
+  old = get_or table (n % 16) 0
+
+  abbrev put : ℕ
+  put = bit_or old (1 * 2 ^ (n / 16) % 256)
+
   set_here : marks (filled table n 1) n ≡ true
-  set_here =
-      let old = get_or table (n % 16) 0 in
-      let put = bit_or old (1 * 2 ^ (n / 16) % 256) in
-      cc (get_or-set_same table (n % 16) put 0 (omega arith), same_bit, bit_at_set_same w8 old (n / 16) (omega arith))
+  set_here = cc (get_or-set_same table (n % 16) put 0 (omega arith), same_bit, bit_at_set_same w8 old (n / 16) (omega arith))
 
   set_there : {b : ℕ} → b < 128 → b ≢ n → marks (filled table n 1) b ≡ marks table b
-  set_there {b} byte other = ⊎_elim in_row elsewhere (cases_eq (b % 16) (n % 16))
-    where
-      old : ℕ
-      old = get_or table (n % 16) 0
-
-      put : ℕ
-      put = bit_or old (1 * 2 ^ (n / 16) % 256)
-
-      in_row : b % 16 ≡ n % 16 → marks (filled table n 1) b ≡ marks table b
-      in_row row =
-          cc (get_or-set_same table (n % 16) put 0 (omega arith), bit_at_set_other w8 old (n / 16) (omega arith) (b / 16 % 8) (λ same. other (omega arith)))
-
-      elsewhere : (b % 16 ≡ n % 16 → ⊥) → marks (filled table n 1) b ≡ marks table b
-      elsewhere row = cc (get_or-set_other table (n % 16) (b % 16) put 0 row)
+  set_there {b} byte other = ⊎_elim
+      (λ row. cc (get_or-set_same table (n % 16) put 0 (omega arith), bit_at_set_other w8 old (n / 16) (omega arith) (b / 16 % 8) (λ same. other (omega (arith, row, same)))))
+      (λ row. cc (get_or-set_other table (n % 16) (b % 16) put 0 row)) (cases_eq (b % 16) (n % 16))
 
   filled_is : (flag : Bool) {b : ℕ} → b < 128 → marks (filled table n (from_bool flag)) b ≡ cond (eqb b n) (flag || marks table n) (marks table b)
   filled_is true {b} byte = ⊎_elim (λ same. cc (eq-eqb b n same, set_here)) (λ other. cc (ne_eqb b n other, set_there byte other)) (cases_eq b n)

@@ -1,10 +1,11 @@
 -- The items of a list that intervals choose. Intervals that lie apart choose one behind another, and each chooses a
 -- slice; so what all choose is the slices in a row.
 use Rattle.ptflow.proofs.Common.{◌≡◌, ⊎_elim, ℕ, zero, suc, ◌+◌, ◌-◌, ◌<◌, ◌≤◌, Bool, true, false, cond, ◌&&◌, ◌||◌, List, [], ◌∷◌, ◌++◌, length, take, drop, get_or, min, append_assoc, length-drop}
-use Rattle.ptflow.proofs.Common.{subst, refl, sym, ◌∙◌, ap, arith, nat_le, cases_order, false≢true, nat_tests, take_all, drop_all, take-take, drop_more, length-take-le, drop-append-le, is_selected}
-use Rattle.ptflow.proofs.Common.{AreApart, Interval, chosen_from}
+use Rattle.ptflow.proofs.Common.{refl, sym, ◌∙◌, ap, arith, nat_le, false≢true, nat_tests, take_all, drop_all, take-take, drop_more, length-take-le, drop-append-le, is_selected, AreApart, Interval}
+use Rattle.ptflow.proofs.Common.{chosen_from, cases_lt}
 use Rattle.std.proofs.lemmas.List.{take-append-drop}
 use Rattle.ptflow.proofs.OfCut.FieldPlaces.{rest_of}
+use lib.Seq.{take-nil}
 
 -- the number lies in the interval
 abbrev pub lies_in : Interval → ℕ → Bool
@@ -54,14 +55,13 @@ chosen_first r rs n [] apart = refl
 chosen_first r rs n (x ∷ xs) apart = chosen_step x (chosen (lies_in r) (n + 1) xs)
     (chosen (is_selected rs) (n + 1) xs) (lies_in r n) (is_selected rs n) here there (chosen_first r rs (n + 1) xs apart)
   where
-    late : (n ≤ r.last → ⊥) → r.last < n
-    late not = ⊎_elim (λ is. absurd (not (omega arith))) (⊎_elim (λ low. absurd (not (omega (arith, low)))) (λ high. high)) (cases_order n r.last)
-
     here : lies_in r n ≡ true → is_selected rs n ≡ false
     here inside = not_selected rs (r.last + 1) n apart (omega (arith, last_of r n inside))
 
     there : is_selected rs n ≡ true → chosen (lies_in r) (n + 1) xs ≡ []
-    there other = chosen_past r (n + 1) xs (omega (arith, late (λ low. false≢true (cc (not_selected rs (r.last + 1) n apart (omega (arith, low)))))))
+    there other = ⊎_elim
+        (λ high. chosen_past r (n + 1) xs (omega (arith, high)))
+        (λ low. absurd (false≢true (cc (not_selected rs (r.last + 1) n apart (omega (arith, low)))))) (cases_lt r.last n)
 
 -- the first items are not chosen
 pub chosen_skip : {X : Type 0} (test : ℕ → Bool) (n count : ℕ) (xs : List X) → ((k : ℕ) → n ≤ k → k < n + count → test k ≡ false) → chosen test n xs ≡ chosen test (n + count) (drop count xs)
@@ -70,10 +70,6 @@ chosen_skip test n (suc count) [] out = refl
 chosen_skip test n (suc count) (x ∷ xs) out =
     let same : n + suc count ≡ (n + 1) + count = omega arith in
     rw (out n (omega arith) (omega arith), same) (chosen_skip test (n + 1) count xs (λ k low high. out k (omega arith) (omega arith)))
-
-take-nil : {X : Type 0} (k : ℕ) → (let none : List X = [] in take k none ≡ none)
-take-nil zero = refl
-take-nil (suc k) = refl
 
 -- what one interval chooses is a slice, from the item i up to the item j
 pub chosen_slice : {X : Type 0} (r : Interval) (n : ℕ) (xs : List X) (i j : ℕ) → i ≡ r.first - n → j ≡ r.last + 1 - n → chosen (lies_in r) n xs ≡ take (j - i) (drop i xs)
@@ -129,9 +125,9 @@ module _ {all : List Interval} {before : ℕ} {piece tail was : List ℕ} {start
       choosing_room = omega (arith, apart.0, apart.1)
 
       -- what the interval chooses was copied
-      pub choosing_more : r.last < before + 1 + length piece → Choosing all (i + 1) before piece tail was (is ++ chosen (lies_in r) (before + 1) piece) start
-          (at + ((r.last - before) - (r.first - (before + 1))))
-      choosing_more short = record { front = next; low = r.last + 1; apart = apart.2; near = omega (arith, choosing_room); within = omega (arith, choosing_room) }
+      pub choosing_more : {is' : List ℕ} {at' : ℕ} → is' ≡ is ++ chosen (lies_in r) (before + 1) piece → at' ≡ at + ((r.last - before) - (r.first - (before + 1)))
+          → r.last < before + 1 + length piece → Choosing all (i + 1) before piece tail was is' start at'
+      choosing_more is_is at_is short = record { front = cc (next); low = r.last + 1; apart = apart.2; near = omega (arith, choosing_room); within = omega (arith, choosing_room) }
 
       pub choosing_ends : before + length piece ≤ r.last → is ++ (chosen (lies_in r) (before + 1) piece ++ tail) ≡ was ++ (chosen (is_selected all) (before + 1) piece ++ tail)
       choosing_ends reaches =
@@ -197,8 +193,4 @@ module _ {all : List Interval} {before count end : ℕ} (bytes : List ℕ) {was 
     pub copied_more : {from to : ℕ} → from ≡ at_i.first - (before + 1) → to ≡ at_i.last - before → at_i.last < before + count → is' ≡ is ++ take (to - from) (drop from bytes)
         → Choosing all (i + 1) before piece tail was is' start (at + (to - from))
     copied_more {from} {to} from_is to_is short copied =
-        let slice : take (to - from) (drop from bytes) ≡ chosen (lies_in at_i) (before + 1) piece =
-        cc (slice_is at_i before count bytes (omega (arith, in_piece)) short, take-take count end bytes in_piece) in
-        subst (λ l. Choosing all (i + 1) before piece tail was l start (at + (to - from))) (sym (cc))
-        (subst (λ n. Choosing all (i + 1) before piece tail was (is ++ chosen (lies_in at_i) (before + 1) piece) start (at + n)) (λ j. sym to_is j - sym from_is j)
-        (choosing_more k within (omega (arith, piece_long, short))))
+        choosing_more k within (cc (slice_is at_i before count bytes (omega (arith, in_piece)) short, take-take count end bytes in_piece)) (omega arith) (omega (arith, piece_long, short))

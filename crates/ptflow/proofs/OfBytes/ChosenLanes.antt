@@ -1,13 +1,13 @@
 -- Items that are chosen by flags, and lanes that are put in front by the places of their flags.
 use Rattle.ptflow.proofs.Common.{◌≡◌, ℕ, zero, suc, ◌+◌, ◌*◌, ◌^◌, ◌/◌, ◌%◌, ◌<◌, ◌≤◌, Bool, true, false, cond, List, [], ◌∷◌, ◌++◌, map, length, take, drop, set, get_or, length-drop, drop-cons}
 use Rattle.ptflow.proofs.Common.{append_assoc, add-one, refl, sym, ◌∙◌, ap, arith, w8, All, nat_eq, nat_le, filter, range_with_len, mask_l, put_chunk, chunk, pick_l, Each1, take_more_put_chunk}
-use Rattle.ptflow.proofs.Common.{bit_mask_l, mask_l-lt, Each1-from_get_or, swz_l, ones-mask_l_cons, pick_l-range_with_len, take-map, take-take, take-set, take_more, take_more_set, take_all}
-use Rattle.ptflow.proofs.Common.{take-append-le, drop-append-le, append-nil, length-take-le, All-set, length-range_with_len, get_or-range_with_len, take-append-add, and_numeral, nat_tests, pow-succ'}
-use Rattle.ptflow.proofs.Common.{chosen_by, places_of, IsRow, IsPacking}
+use Rattle.ptflow.proofs.Common.{bit_mask_l, mask_l-lt, Each1-from_get_or, swz_l, ones-mask_l_cons, pick_l-range_with_len, take-map, take-take, take_more, take_all, take-append-le, drop-append-le}
+use Rattle.ptflow.proofs.Common.{length-take-le, All-set, length-range_with_len, get_or-range_with_len, take-append-add, and_numeral, nat_tests, pow-succ', chosen_by, places_of, IsRow, IsPacking}
 use Rattle.std.proofs.Common.{length-set}
 use Rattle.std.specs.Prelude.{bit_and, slice_index_or, count_ones}
 use Rattle.ptlines.proofs.Masks.{mask_of_parts}
 use Rattle.ptflow.specs.declared.kernels.packing.Shuffles.{Shuffles}
+use Rattle.ptflow.proofs.OfBytes.LaneLemmas.{written_more}
 
 -- ---- items that are chosen by flags
 
@@ -120,15 +120,11 @@ next_place flags {place} long low =
     let places = range_with_len 0 8 in
     let flag = get_or flags place false in
     let front = take place flags in
-    let behind : drop (length front) places ≡ (0 + place) ∷ drop (place + 1) places =
+    let here : 0 + place ≡ place = omega arith in
+    let behind : drop (length front) places ≡ place ∷ drop (place + 1) places =
     cc (length-take-le place flags (omega (arith, long)), drop-cons places place 0 (omega (arith, length-range_with_len 0 8)), get_or-range_with_len 0 8 place 0 low, add-one place) in
-    ap (λ fs. chosen_by fs places) (take_more flags place false (omega (arith, long)))
-    ∙ chosen_by_parts front (flag ∷ []) places
-    ∙ ap (λ ps. chosen_by front places ++ chosen_by (flag ∷ []) ps) (behind ∙ ap (λ p. p ∷ drop (place + 1) places) (omega arith))
-
-pub written_more : (flag : Bool) (row : List ℕ) (count place : ℕ) → count < length row → take (count + cond flag 1 0) (set row count place) ≡ take count row ++ cond flag (place ∷ []) []
-written_more true row count place room = take_more_set row count place room
-written_more false row count place room = ap (λ n. take n (set row count place)) (omega arith) ∙ take-set row count place ∙ sym (append-nil (take count row))
+    ap (λ fs. chosen_by fs places) (take_more flags place false (omega (arith, long))) ∙ chosen_by_parts front (flag ∷ []) places
+    ∙ ap (λ ps. chosen_by front places ++ chosen_by (flag ∷ []) ps) behind
 
 pub row_more : {mask place count bit : ℕ} {row : List ℕ} → place < 8 → bit ≡ mask / 2 ^ place % 2 → RowBegun mask place count row → RowBegun mask (place + 1) (count + bit) (set row count place)
 row_more {place} {count} {row} low is begun = record {
@@ -141,16 +137,10 @@ row_more {place} {count} {row} low is begun = record {
 }
 
 pub row_whole : {mask count : ℕ} {row : List ℕ} {flags : List Bool} → length flags ≡ 8 → mask ≡ mask_l flags → RowBegun mask 8 count row → IsRow flags row
-row_whole {count} {row} {flags} long masked begun = record { places = places; long = begun.long; lanes = begun.lanes }
-  where
-    all : take count row ≡ places_of flags
-    all = cc (begun.places flags long masked, take_all 8 flags (omega (arith, long)), long)
-
-    count_is : length (places_of flags) ≡ count
-    count_is = cc (all, length-take-le count row (omega arith))
-
-    places : take (length (places_of flags)) row ≡ places_of flags
-    places = cc (count_is, all)
+row_whole {count} {row} {flags} long masked begun =
+    let all : take count row ≡ places_of flags = cc (begun.places flags long masked, take_all 8 flags (omega (arith, long)), long) in
+    let count_is : length (places_of flags) ≡ count = cc (length-take-le count row (omega arith)) in
+    record { places = cc; long = begun.long; lanes = begun.lanes }
 
 -- ---- the halves of a mask and of lanes
 

@@ -1,7 +1,9 @@
--- What lanes do, byte by byte.
+-- What lanes do, byte by byte: what is computed of them, which of their bytes a mask keeps, and where none of 64 is set.
 use Rattle.ptflow.proofs.Common.{◌≡◌, ℕ, ◌+◌, ◌<◌, ◌≤◌, ◌%◌, Bool, false, List, [], ◌∷◌, ◌++◌, Option, map, take, drop, length, get_or, replicate, cond, refl, sym, ◌∙◌, ap, arith, w8, Fits, sum_by}
 use Rattle.ptflow.proofs.Common.{zero, suc, slice_get, option_map, sel_l, zip2, top, Each1, take-add, false≢true, map-append, tops_compared, zip2_splat, zip2_of_maps, splat_is_map, chunk-fits}
-use Rattle.ptflow.proofs.Common.{Each1-from_get_or, added, shifted, IsMovedTo, told_adds}
+use Rattle.ptflow.proofs.Common.{Each1-from_get_or, added, shifted, IsMovedTo, told_adds, ◌^◌, ◌||◌, not, pos, negsuc, bit_or, append_assoc, filter, cast_unsigned, mask_l, chunk, mask_l-mod}
+use Rattle.ptflow.proofs.Common.{length-zip2, drop-drop, filter-append, mask_of, true, set, ℤ, from_bool, bit_not, take_more_set, take-set, take_more, append-nil, length-map, Keeps, map-map}
+use Rattle.ptflow.proofs.Common.{length-set, take_all}
 use Rattle.std.specs.Prelude.{is_some}
 use Rattle.ptlangs.specs.declared.shifts.Stretch.{Stretch}
 
@@ -25,7 +27,7 @@ tests_are t f v {xs} {n} y long is = tops_compared w8 t xs (replicate n y) ∙ z
 pub added_lanes : (f g : ℕ → ℕ) (v : List ℕ) {xs ys : List ℕ} → xs ≡ map f v → ys ≡ map g v → zip2 (λ a b. (a + b) % 256) xs ys ≡ map (λ b. (f b + g b) % 256) v
 added_lanes f g v ex ey = zip2_of_maps (λ a b. (a + b) % 256) f g v ex ey
 
-pub map_self : (v : List ℕ) → map (λ b. b) v ≡ v
+pub map_self : {X : Type 0} (v : List X) → map (λ b. b) v ≡ v
 map_self [] = refl
 map_self (x ∷ xs) = ap (◌∷◌ x) (map_self xs)
 
@@ -89,3 +91,166 @@ module _ (ss : List Stretch) (few : length ss ≤ 4) (b : ℕ) where
   four_move {x} {y} {z} {w} ex ey ez ew =
       let flat : ((((b + x) % 256 + y) % 256 + z) % 256 + w) % 256 ≡ (b + (x + (y + (z + w)))) % 256 = omega arith in
       flat ∙ to_shifted (b + (x + (y + (z + w)))) (omega arith)
+
+-- ---- masks of lanes
+
+-- the lanes of flags
+abbrev pub lanes_of : List Bool → List ℕ
+lanes_of flags = map (λ t. cond t 255 0) flags
+
+pub lanes_of_mask : (test : ℕ → Bool) (v : List ℕ) → map (cast_unsigned w8) (mask_of test v) ≡ lanes_of (map test v)
+lanes_of_mask test [] = refl
+lanes_of_mask test (b ∷ v) = λ i. lane (test b) i ∷ lanes_of_mask test v i
+  where
+    lane : (t : Bool) → cast_unsigned w8 (cond t (negsuc 0) (pos 0)) ≡ cond t 255 0
+    lane t = grind arith
+
+or_lanes : (fs gs : List Bool) → zip2 bit_or (lanes_of fs) (lanes_of gs) ≡ lanes_of (zip2 ◌||◌ fs gs)
+or_lanes [] gs = refl
+or_lanes (f ∷ fs) [] = refl
+or_lanes (f ∷ fs) (g ∷ gs) = λ i. lane f g i ∷ or_lanes fs gs i
+  where
+    lane : (f g : Bool) → bit_or (cond f 255 0) (cond g 255 0) ≡ cond (f || g) 255 0
+    lane f g = grind arith
+
+pub tops_of_lanes : (fs : List Bool) → map (top 7) (lanes_of fs) ≡ fs
+tops_of_lanes [] = refl
+tops_of_lanes (f ∷ fs) = λ i. lane f i ∷ tops_of_lanes fs i
+  where
+    lane : (f : Bool) → top 7 (cond f 255 0) ≡ f
+    lane f = grind arith
+
+none_of_two : (fs gs : List Bool) → length fs ≡ length gs → mask_l (zip2 ◌||◌ fs gs) ≡ 0 → (mask_l fs ≡ 0) × (mask_l gs ≡ 0)
+none_of_two [] [] same none = (refl, refl)
+none_of_two [] (g ∷ gs) same none = absurd (omega arith)
+none_of_two (f ∷ fs) [] same none = absurd (omega arith)
+none_of_two (f ∷ fs) (g ∷ gs) same none = grind (arith, none_of_two fs gs)
+
+-- what holds of the four vectors from a place on
+abbrev pub InFour : (ℕ → Type 0) → ℕ → Type 0
+InFour holds at = holds at × holds (at + 16) × holds (at + 32) × holds (at + 48)
+
+module _ (flags : ℕ → List Bool) (at : ℕ) (long : (k : ℕ) → at ≤ k → k ≤ at + 48 → length (flags k) ≡ 16) where
+  long_or : (fs : List Bool) (k : ℕ) → length fs ≡ 16 → at ≤ k → k ≤ at + 48 → length (zip2 ◌||◌ fs (flags k)) ≡ 16
+  long_or fs k same low high = length-zip2 ◌||◌ fs (flags k) (same ∙ sym (long k low high)) ∙ same
+
+  -- where no lane of four masks is set, none is of each
+  pub none_of_four : {xa xb xc xd : List ℕ} → xa ≡ lanes_of (flags at) → xb ≡ lanes_of (flags (at + 16)) → xc ≡ lanes_of (flags (at + 32)) → xd ≡ lanes_of (flags (at + 48))
+      → mask_l (map (top 7) (zip2 bit_or (zip2 bit_or (zip2 bit_or xa xb) xc) xd)) % 2 ^ 64 ≡ 0 → InFour (λ k. mask_l (flags k) ≡ 0) at
+  none_of_four ea eb ec ed none =
+      let two = zip2 ◌||◌ (flags at) (flags (at + 16)) in
+      let three = zip2 ◌||◌ two (flags (at + 32)) in
+      let all = zip2 ◌||◌ three (flags (at + 48)) in
+      let long_a = long at (omega arith) (omega arith) in
+      let long_two = long_or (flags at) (at + 16) long_a (omega arith) (omega arith) in
+      let long_three = long_or two (at + 32) long_two (omega arith) (omega arith) in
+      let long_all = long_or three (at + 48) long_three (omega arith) (omega arith) in
+      let nothing : mask_l all ≡ 0 =
+      cc (or_lanes (flags at) (flags (at + 16)), or_lanes two (flags (at + 32)), or_lanes three (flags (at + 48)), mask_l-mod all 64 (omega arith), tops_of_lanes all) in
+      let last = none_of_two three (flags (at + 48)) (long_three ∙ sym (long (at + 48) (omega arith) (omega arith))) nothing in
+      let third = none_of_two two (flags (at + 32)) (long_two ∙ sym (long (at + 32) (omega arith) (omega arith))) last.0 in
+      let first = none_of_two (flags at) (flags (at + 16)) (long_a ∙ sym (long (at + 16) (omega arith) (omega arith))) third.0 in
+      (first.0, first.1, third.1, last.1)
+
+-- ---- pieces of 64 bytes
+
+pub chunk_parts : (at n m : ℕ) (from : List ℕ) → chunk at (n + m) from ≡ chunk at n from ++ chunk (at + n) m from
+chunk_parts at n m from = cc (take-add n m (drop at from), drop-drop n at from)
+
+pub chunk_in_four : (at : ℕ) (from : List ℕ) → chunk at 64 from ≡ ((chunk at 16 from ++ chunk (at + 16) 16 from) ++ chunk (at + 32) 16 from) ++ chunk (at + 48) 16 from
+chunk_in_four at from = cc (chunk_parts at 48 16 from, chunk_parts at 32 16 from, chunk_parts at 16 16 from)
+
+module _ (test : ℕ → Bool) where
+  -- where no flag is set, all bytes are kept
+  pub all_kept : (v : List ℕ) → mask_l (map test v) ≡ 0 → filter (λ b. not (test b)) v ≡ v
+  all_kept [] none = refl
+  all_kept (b ∷ v) none = grind (arith, all_kept v)
+
+  kept_on : (t xs ys : List ℕ) → (t ++ filter test xs) ++ filter test ys ≡ t ++ filter test (xs ++ ys)
+  kept_on t xs ys = cc (append_assoc t (filter test xs) (filter test ys), filter-append test xs ys)
+
+  pub kept_in_four : (t : List ℕ) (at : ℕ) (from : List ℕ)
+      → (((t ++ filter test (chunk at 16 from)) ++ filter test (chunk (at + 16) 16 from)) ++ filter test (chunk (at + 32) 16 from)) ++ filter test (chunk (at + 48) 16 from)
+      ≡ t ++ filter test (chunk at 64 from)
+  kept_in_four t at from =
+      let a = chunk at 16 from in
+      let b = chunk (at + 16) 16 from in
+      let c = chunk (at + 32) 16 from in
+      cc (kept_on t a b, kept_on t (a ++ b) c, kept_on t ((a ++ b) ++ c) (chunk (at + 48) 16 from), chunk_in_four at from)
+
+-- where no flag is set in four vectors, all of their 64 bytes are kept
+pub all_kept_in_four : (test : ℕ → Bool) (at : ℕ) (from : List ℕ) → InFour (λ k. mask_l (map test (chunk k 16 from)) ≡ 0) at → filter (λ b. not (test b)) (chunk at 64 from) ≡ chunk at 64 from
+all_kept_in_four test at from none =
+    cc (kept_in_four (λ b. not (test b)) [] at from, all_kept test _ none.0, all_kept test _ none.1, all_kept test _ none.2, all_kept test _ none.3, chunk_in_four at from)
+
+-- ---- bytes for which a test holds, put to the front
+
+-- the lanes that are not in a mask
+pub not_lanes : (fs : List Bool) → map (top 7) (map (bit_not w8) (lanes_of fs)) ≡ map not fs
+not_lanes [] = refl
+not_lanes (f ∷ fs) = λ i. lane f i ∷ not_lanes fs i
+  where
+    lane : (f : Bool) → top 7 (bit_not w8 (cond f 255 0)) ≡ not f
+    lane f = grind arith
+
+-- the bits of the bytes that are not in a set, of the mask of those that are
+pub keep_bits : (test : ℕ → Bool) (v : List ℕ) {lanes : List ℤ} → length v ≡ 16 → lanes ≡ mask_of test v
+    → mask_l (map (top 7) (map (bit_not w8) (map (cast_unsigned w8) lanes))) % 2 ^ 64 ≡ mask_l (map (λ b. not (test b)) v)
+keep_bits test v long is =
+    cc (lanes_of_mask test v, not_lanes (map test v), map-map not test v, mask_l-mod (map (λ b. not (test b)) v) 64 (omega (arith, length-map v (λ b. not (test b)))))
+
+-- a byte is written, and stays where the flag is set
+pub written_more : (flag : Bool) (row : List ℕ) (count place : ℕ) → count < length row → take (count + cond flag 1 0) (set row count place) ≡ take count row ++ cond flag (place ∷ []) []
+written_more true row count place room = take_more_set row count place room
+written_more false row count place room = ap (λ n. take n (set row count place)) (omega arith) ∙ take-set row count place ∙ sym (append-nil (take count row))
+
+module _ {test : ℕ → Bool} {from into : List ℕ} {at count : ℕ} (before : Keeps test from at into count) where
+  -- a piece more
+  pub keeps_piece : (size : ℕ) {after : List ℕ} {end : ℕ} → at + size ≤ length from → end ≤ count + size → length after ≡ 8224
+      → take end after ≡ take count into ++ filter test (chunk at size from) → Keeps test from (at + size) after end
+  keeps_piece size room few long put = record {
+    within = room;
+    few = omega arith;
+    room = long;
+    kept = cc (filter-append test (take at from) (chunk at size from), take-add at size from);
+  }
+
+  -- one more
+  pub keeps_byte : {after : List ℕ} {end : ℕ} → at < length from → at < 8224 → after ≡ set into count (get_or from at 0) → end
+      ≡ count + from_bool (test (get_or from at 0)) → Keeps test from (at + 1) after end
+  keeps_byte room small is ended = record {
+    within = omega arith;
+    few = omega (arith, bit.0);
+    room = cc (length-set into count b);
+    kept = cc (bit.1, written_more (test b) into count b (omega arith), filter-append test (take at from) (b ∷ []), take_more from at 0 room);
+  }
+    where
+      b : ℕ
+      b = get_or from at 0
+
+      one : (t : Bool) → (from_bool t ≤ 1) × (from_bool t ≡ cond t 1 0)
+      one true = (omega arith, refl)
+      one false = (omega arith, refl)
+
+      bit : (from_bool (test b) ≤ 1) × (from_bool (test b) ≡ cond (test b) 1 0)
+      bit = one (test b)
+
+-- ---- two tests that say the same of bytes
+
+kept_same : (p q : ℕ → Bool) → ((b : ℕ) → b < 256 → p b ≡ q b) → (n : ℕ) (xs : List ℕ) → ((i : ℕ) → Fits w8 (get_or xs i 0)) → filter p (take n xs) ≡ filter q (take n xs)
+kept_same p q same zero xs fit = refl
+kept_same p q same (suc n) [] fit = refl
+kept_same p q same (suc n) (x ∷ xs) fit = λ i. cond (same x (fit 0).fits i) (x ∷ kept_same p q same n xs (λ k. fit (suc k)) i) (kept_same p q same n xs (λ k. fit (suc k)) i)
+
+pub keeps_same : (p : ℕ → Bool) {q : ℕ → Bool} {from into : List ℕ} {at count : ℕ} → ((b : ℕ) → b < 256 → p b ≡ q b) → ((i : ℕ) → Fits w8 (get_or from i 0))
+    → at ≤ length from → count ≤ at → length into ≡ 8224 → take count into ≡ filter p (take at from) → Keeps q from at into count
+keeps_same p {q} {from} {at} same fit within few room kept = record {
+  within = within;
+  few = few;
+  room = room;
+  kept = kept ∙ kept_same p q same at from fit;
+}
+
+-- all bytes
+pub keeps_all : {test : ℕ → Bool} {from into : List ℕ} {at count : ℕ} → Keeps test from at into count → length from ≤ at → (take count into ≡ filter test from) × (count ≤ length from)
+keeps_all {from} {at} keeps all = (cc (take_all at from all), omega arith)

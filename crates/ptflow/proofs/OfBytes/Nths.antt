@@ -1,11 +1,12 @@
 -- The n-th item of a list that passes a test, by the bits of a mask, of which the lowest are cleared; and that the
 -- fields behind the n-th delimiter start there.
 use Rattle.ptflow.proofs.Common.{◌≡◌, ⊎_elim, ℕ, zero, suc, ◌+◌, ◌-◌, ◌*◌, ◌/◌, ◌%◌, ◌^◌, ◌<◌, ◌≤◌, min, Bool, true, false, cond, not, Option, Some, List, [], ◌∷◌, ◌++◌, length, map, take, drop}
-use Rattle.ptflow.proofs.Common.{get_or, refl, sym, ◌∙◌, ap, subst, arith, get_or-take, take-append-drop, length-drop, count_ones, count_by, prefix_len, mask_l, chunk, take-add, eqb-true, cases_order}
-use Rattle.ptflow.proofs.Common.{take_more, take-take, take_all, drop_more, take_at, drop_at, length-take-le, length-slice_split, get_or-le-sum_by, sum_by-cons, sum_by-append, sum_by-take-le}
-use Rattle.ptflow.proofs.Common.{count_by-le-length, trailing_mask_l, ones-mask_l, get_or-chunk, length-chunk, IsFirstByte, NoneBefore, Passes, is_byte, IsLine, before_end, other_byte, IsBehind}
-use Rattle.ptflow.proofs.Common.{HasEnds, fields, StartsAt, put_chunk, take_more_put_chunk, length-put_chunk, length-set, unwrap_or, delim_at, with_turns, slice_set}
+use Rattle.ptflow.proofs.Common.{get_or, refl, sym, ◌∙◌, ap, subst, arith, get_or-take, take-append-drop, length-drop, count_ones, count_by, prefix_len, mask_l, chunk, take-add, eqb-true, take-take}
+use Rattle.ptflow.proofs.Common.{take_all, drop_more, take_at, drop_at, length-take-le, length-slice_split, get_or-le-sum_by, sum_by-cons, sum_by-append, sum_by-take-le, count_by-le-length}
+use Rattle.ptflow.proofs.Common.{trailing_mask_l, ones-mask_l, get_or-chunk, length-chunk, IsFirstByte, NoneBefore, Passes, is_byte, IsLine, before_end, other_byte, IsBehind, HasEnds, fields}
+use Rattle.ptflow.proofs.Common.{StartsAt, put_chunk, take_more_put_chunk, length-put_chunk, length-set, unwrap_or, delim_at, with_turns, slice_set, count_by_more_yes, cases_lt, length-map}
 use Rattle.std.proofs.lemmas.List.{get_or-drop}
+use Rattle.ptflow.proofs.OfBytes.LaneLemmas.{map_self}
 use lib.Bits.{bit_and, and_step, and_self, and_zero_l}
 use lib.Count.{count_trailing_zeros}
 use Rattle.ptflow.proofs.OfCut.FieldPlaces.{fields-append, led_fields, starts_more, few_left}
@@ -63,10 +64,6 @@ and_less (false ∷ bits) =
 pub cleared : (n : ℕ) {x : ℕ} (bits : List Bool) → x < 2 ^ 64 → x ≡ mask_l (without n bits) → bit_and x ((x + (2 ^ 64 - 1)) % 2 ^ 64) ≡ mask_l (without (suc n) bits)
 cleared n bits small is = grind (arith, and_less (without n bits))
 
-map_self : (bits : List Bool) → map (λ b. b) bits ≡ bits
-map_self [] = refl
-map_self (b ∷ bits) = ap (◌∷◌ b) (map_self bits)
-
 some_set : (bits : List Bool) → prefix_len not bits < length bits → 0 < mask_l bits
 some_set [] lt = absurd (omega arith)
 some_set (true ∷ bits) lt = omega arith
@@ -102,12 +99,8 @@ pub behind_set : (p : ℕ → Bool) (xs : List ℕ) (n : ℕ) {rest : ℕ} → l
 behind_set p xs n few lt is =
     let bits = map p xs in
     let here = behind p 0 xs n lt in
-    let long : length (without n bits) ≡ length xs = length-without n bits ∙ length-map' xs in
+    let long : length (without n bits) ≡ length xs = length-without n bits ∙ length-map xs p in
     subst (IsBehind p 0 n xs) (sym (cc (is, lowest_set (without n bits) (omega (arith, long)) (omega (arith, long, here.0))))) here
-  where
-    length-map' : (ys : List ℕ) → length (map p ys) ≡ length ys
-    length-map' [] = refl
-    length-map' (y ∷ ys) = ap suc (length-map' ys)
 
 -- ---- in a chunk of some bytes
 
@@ -233,19 +226,10 @@ module _ (d : ℕ) (line : List ℕ) where
 -- the next item that passes, where as many stand in front of it as in front of an earlier place
 module _ (p : ℕ → Bool) (bytes : List ℕ) (start end : ℕ) (fits : end < length bytes) (is : p (get_or bytes end 0) ≡ true) (same : count_by p (take end bytes) ≡ count_by p (take start bytes)) where
   pub one_behind : count_by p (take (end + 1) bytes) ≡ count_by p (take end bytes) + 1
-  one_behind =
-      omega (
-        arith,
-        ap (count_by p) (take_more bytes end 0 fits),
-        sum_by-append (λ b. cond (p b) 1 0) (take end bytes) (get_or bytes end 0 ∷ []),
-        sum_by-cons
-            (λ b. cond (p b) 1 0) (get_or bytes end 0) [],
-        ap (λ t. cond {A = ℕ} t 1 0) is,
-      )
+  one_behind = count_by_more_yes p bytes end 0 fits is
 
   pub in_order : start ≤ end
-  in_order = ⊎_elim (λ e. omega (arith, e)) (⊎_elim (λ less. absurd
-      (omega (arith, less, same, one_behind, count_up_to p bytes (end + 1) start (omega (arith, less))))) (λ more. omega (arith, more))) (cases_order end start)
+  in_order = ⊎_elim (λ less. absurd (omega (arith, less, same, one_behind, count_up_to p bytes (end + 1) start (omega (arith, less))))) (λ le. le) (cases_lt end start)
 
   pub next_is : NoneBefore (Passes p (drop start bytes)) 0 (length (drop start bytes)) (end - start) × Passes p (drop start bytes) (end - start)
   next_is =

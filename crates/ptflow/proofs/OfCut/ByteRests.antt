@@ -3,7 +3,7 @@
 use Rattle.ptflow.proofs.Common.{◌≡◌, ℕ, ◌+◌, ◌-◌, ◌≤◌, ◌^◌, ◌==◌, Bool, false, List, [], ◌∷◌, ◌++◌, map, length, take, drop, Some, refl, sym, ◌∙◌, ap, arith, append_assoc, common_steps, onto_first}
 use Rattle.ptflow.proofs.Common.{flat_map, mask_l, chunk, length-chunk, chunk-drop, nat_tests, append-nil, take_all, drop_all, append_cancel_right, map-append, IsFirstByte, is_byte, text, lines}
 use Rattle.ptflow.proofs.Common.{IsLine, ended_lines, lines_first, other_byte, lines_of_text, text-append, before_end, chosen_from, cut_line, cut, cut_decided, rest_of_lines, cut_rest, rest_by}
-use Rattle.ptflow.proofs.Common.{IsCutTo, Begins, Cut, Interval}
+use Rattle.ptflow.proofs.Common.{Begins, Cut, Interval, CutsOn}
 use Rattle.ptflow.proofs.OfPasses.LineLaws.{split_of, line_of, end_of, Parts, parts_of}
 
 module _ (end : ℕ) (selected : ℕ → Bool) where
@@ -82,12 +82,11 @@ piece_on end selected before bytes whole more =
     let none : drop (length bytes) bytes ≡ [] = drop_all (length bytes) bytes (omega arith) in
     cc (rest_piece end selected before bytes more whole, append-nil (chosen_from selected (before + 1) bytes))
 
--- one step more of what is written of a block
-module _ (end : ℕ) (list : List Interval) (start : ℕ) (block : List ℕ) where
-  pub cut_on : (now next : ℕ) (rest rest' was : List ℕ) {is : List ℕ} (bytes : List ℕ) → IsCutTo end list start block now rest was → is ≡ was ++ bytes
-      → ((more : List ℕ) → rest_by end list now (rest ++ more) ≡ bytes ++ rest_by end list next (rest' ++ more)) → IsCutTo end list start block next rest' is
-  cut_on now next rest rest' was bytes cut copied on more =
-      cc (cut more, on more, append_assoc was bytes (rest_by end list next (rest' ++ more)))
+-- one step more of what is written
+pub cut_on : (end : ℕ) (list : List Interval) (before now next : ℕ) (from rest rest' old was : List ℕ) {is : List ℕ} (bytes : List ℕ) → CutsOn end list before from old now rest was → is ≡ was ++ bytes
+    → ((more : List ℕ) → rest_by end list now (rest ++ more) ≡ bytes ++ rest_by end list next (rest' ++ more)) → CutsOn end list before from old next rest' is
+cut_on end list before now next from rest rest' old was bytes cut copied on start block so_far more =
+    cc (cut start block so_far more, on more, append_assoc was bytes (rest_by end list next (rest' ++ more)))
 
 module _ (job : Cut) (by_bytes : job.fields ≡ false) where
   abbrev end : ℕ
@@ -109,7 +108,19 @@ module _ (job : Cut) (by_bytes : job.fields ≡ false) where
       → Begins (cut_decided job (record { bytes = given; ended = false })) pushed
   rest_is_decided given pushed now on = record {
     rest = chosen_from job.selected 1 p.piece;
-    is = append_cancel_right pushed (text end (flat_map (cut_line job) ls) ++ chosen_from job.selected 1 p.piece) (end ∷ []) (sym pushed_side ∙ whole_side);
+    is = append_cancel_right pushed (text end (flat_map (cut_line job) ls) ++ chosen_from job.selected 1 p.piece) (end ∷ []) (
+        cc (
+          on (end ∷ []),
+          rest_line end job.selected now [] [] tt,
+          rest_of_all end job.selected (lines end (given ++ end ∷ [])),
+          all_lines,
+          map-append (chosen_from job.selected 1) ls (p.piece ∷ []),
+          text-append end (map (chosen_from job.selected 1) ls) (chosen_from job.selected 1 p.piece ∷ []),
+          made_is ls,
+          append-nil (chosen_from job.selected 1 p.piece ++ end ∷ []),
+          append_assoc (text end (flat_map (cut_line job) ls)) (chosen_from job.selected 1 p.piece) (end ∷ []),
+        )
+        );
   }
     where
       p : Parts end given
@@ -119,21 +130,6 @@ module _ (job : Cut) (by_bytes : job.fields ≡ false) where
       ls = ended_lines end given
 
       -- with one end more, the piece is a line too
-      pushed_side : cut_rest end job.selected 0 (given ++ end ∷ []) ≡ pushed ++ end ∷ []
-      pushed_side = cc (on (end ∷ []), rest_line end job.selected now [] [] tt)
-
       all_lines : lines end (given ++ end ∷ []) ≡ ls ++ p.piece ∷ []
       all_lines =
           cc (p.is, append_assoc (text end ls) p.piece (end ∷ []), lines_of_text end ls (p.piece ++ end ∷ []) p.whole, lines_first end p.piece [] p.line)
-
-      whole_side : cut_rest end job.selected 0 (given ++ end ∷ []) ≡ (text end (flat_map (cut_line job) ls) ++ chosen_from job.selected 1 p.piece) ++ end ∷ []
-      whole_side =
-          cc (
-            rest_of_all end job.selected (lines end (given ++ end ∷ [])),
-            all_lines,
-            map-append (chosen_from job.selected 1) ls (p.piece ∷ []),
-            text-append end (map (chosen_from job.selected 1) ls) (chosen_from job.selected 1 p.piece ∷ []),
-            made_is ls,
-            append-nil (chosen_from job.selected 1 p.piece ++ end ∷ []),
-            append_assoc (text end (flat_map (cut_line job) ls)) (chosen_from job.selected 1 p.piece) (end ∷ []),
-          )

@@ -2,11 +2,11 @@
 -- line. It carries nothing, so what is written of some lines and of others is what is written of both.
 -- After that what it writes of the first lines of a block: of a line with the delimiter its fields, and lines without
 -- it as they are, or nothing.
-use Rattle.ptflow.proofs.Common.{◌≡◌, ℕ, ◌==◌, true, false, arith, List, [], ◌∷◌, ◌++◌, refl, ◌∙◌, ap, Option, None, Some, is_some, flat_map, list_any, list_any_at, IsFirstByte, is_byte}
-use Rattle.ptflow.proofs.Common.{no_end, append-nil, flat_map-append, text, IsLine, other_byte, text-append, Cut, is_delimiter, cut_fields, cut_line, cut_lines, cut_tool, cut_from, Begins}
-use Rattle.ptflow.proofs.Common.{whole_lines, IsLineTool, zero, suc, ◌+◌, ◌-◌, ◌<◌, ◌≤◌, ◌⊎◌, inl, inr, length, take, drop, common_steps, get_or, sym, ap₂, subst, append_assoc, get_or-take}
-use Rattle.ptflow.proofs.Common.{take-append-drop, unwrap_or, take-take, take_more, take_all, length-take-le, ended_lines, AreLines, before_end, take_end, drop_end, ended_first, the_lines}
-use Rattle.ptflow.proofs.Common.{the_ended_lines, PutsLines}
+use Rattle.ptflow.proofs.Common.{◌≡◌, ℕ, ◌==◌, true, false, arith, List, [], ◌∷◌, ◌++◌, refl, ◌∙◌, ap, Option, None, Some, is_some, flat_map, list_any, list_any_at, IsFirstByte, is_byte, no_end}
+use Rattle.ptflow.proofs.Common.{append-nil, flat_map-append, text, IsLine, other_byte, text-append, Cut, is_delimiter, cut_fields, cut_line, cut_lines, cut_tool, cut_from, Begins, whole_lines}
+use Rattle.ptflow.proofs.Common.{IsLineTool, zero, suc, ◌+◌, ◌-◌, ◌<◌, ◌≤◌, ◌⊎◌, inl, inr, length, take, drop, common_steps, get_or, sym, ap₂, subst, append_assoc, get_or-take, take-append-drop}
+use Rattle.ptflow.proofs.Common.{unwrap_or, take-take, take_more, take_all, length-take-le, ended_lines, AreLines, before_end, take_end, drop_end, ended_first, the_lines, the_ended_lines, PutsLines}
+use Rattle.ptflow.proofs.Common.{lines, the_lines_of_parts, CutOfParts}
 use Rattle.ptflow.proofs.OfPasses.LineLaws.{ended_next, parts_of}
 
 pub none_of : (d : ℕ) (line : List ℕ) → IsLine d line → list_any (λ b. b == d) line ≡ false
@@ -165,3 +165,7 @@ first_within d bytes (Some at) to first lt le = (
   },
   cc (get_or-take to bytes at 0 lt),
 )
+
+-- of a text that is cut behind a line
+pub cut_of_parts : CutOfParts
+cut_of_parts job a b whole = cc (the_lines_of_parts job.end a b whole, cut_lines-append job (lines job.end a) (lines job.end b))

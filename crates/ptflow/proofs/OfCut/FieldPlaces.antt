@@ -3,6 +3,7 @@
 use Rattle.ptflow.proofs.Common.{◌≡◌, ℕ, ◌+◌, ◌<◌, ◌==◌, ◌-◌, ◌≤◌, Bool, true, false, cond, Option, None, Some, MatchOption, ◌⊎◌, inl, inr, List, [], ◌∷◌, ◌++◌, length, take, drop, get_or, slice_set}
 use Rattle.ptflow.proofs.Common.{refl, sym, ap, arith, length-drop, IfSome, onto_first, join_with_byte, take-add, append-nil, drop-drop, drop_more, take-take, take_more_set, length-take-le}
 use Rattle.ptflow.proofs.Common.{flat_map-append, length-slice_split, same_byte, fields, led, StartsAt, zero, suc}
+use lib.Seq.{take-nil}
 
 module _ (d : ℕ) where
   -- the fields in front of a delimiter, and those behind it
@@ -64,15 +65,11 @@ module _ (d : ℕ) where
       omega (arith, start (omega (arith, zero, le)))
   start_kept few line (Some passed) from first count start (inr past) found = λ le. absurd (omega arith)
 
-take_nil : (k : ℕ) → (let none : List ℕ = [] in take k none ≡ none)
-take_nil zero = refl
-take_nil (suc k) = refl
-
 -- what stands in a line from a place on
 pub rest_of : (from to : ℕ) (bytes : List ℕ) → drop from (take to bytes) ≡ take (to - from) (drop from bytes)
 rest_of zero to bytes = let whole : to - 0 ≡ to = omega arith in cc
 rest_of (suc n) zero bytes = let none : 0 - suc n ≡ 0 = omega arith in cc
-rest_of (suc n) (suc to) [] = sym (take_nil (suc to - suc n))
+rest_of (suc n) (suc to) [] = sym (take-nil (suc to - suc n))
 rest_of (suc n) (suc to) (b ∷ bytes) = let less : suc to - suc n ≡ to - n = omega arith in cc (rest_of n to bytes)
 
 -- a slice of a line

@@ -1,14 +1,15 @@
 -- The places that are selected of a short line, place by place, and the bytes that a row of them puts in front.
-use Rattle.ptflow.proofs.Common.{◌≡◌, ◌⊎◌, inl, inr, ℕ, zero, suc, ◌+◌, ◌-◌, ◌<◌, ◌≤◌, Bool, true, false, cond, List, [], ◌∷◌, ◌++◌, map, length, take, drop, set, min, ⊎_elim, ◌&&◌, get_or}
-use Rattle.ptflow.proofs.Common.{length-append, append_assoc, refl, sym, ◌∙◌, ap, arith, w8, All, nat_le, cases_order, false≢true, range_with_len, list_all, nat_tests, take-add, pick_l, Each1}
-use Rattle.ptflow.proofs.Common.{Each1-from_get_or, swz_l, pick_l-range_with_len, take_more, take_at, drop_at, take-map, take-take, take-append-le, take_all, take_more_set, length-take-le, append-nil}
-use Rattle.ptflow.proofs.Common.{All-set, length-range_with_len, chosen_from, is_selected, Interval, chosen_piece}
+use Rattle.ptflow.proofs.Common.{◌≡◌, ◌⊎◌, ℕ, zero, suc, ◌+◌, ◌-◌, ◌<◌, ◌≤◌, Bool, true, false, cond, List, [], ◌∷◌, ◌++◌, map, length, take, drop, set, min, ⊎_elim, ◌&&◌, get_or, length-append}
+use Rattle.ptflow.proofs.Common.{append_assoc, refl, sym, ◌∙◌, ap, arith, w8, All, nat_le, cases_order, false≢true, range_with_len, list_all, nat_tests, take-add, pick_l, Each1, Each1-from_get_or}
+use Rattle.ptflow.proofs.Common.{swz_l, pick_l-range_with_len, take_more, take_at, drop_at, take-map, take-take, take-append-le, take_all, take_more_set, length-take-le, append-nil, All-set}
+use Rattle.ptflow.proofs.Common.{length-range_with_len, chosen_from, is_selected, Interval, chosen_piece, cases_eq}
 use Rattle.std.proofs.Common.{get_or-set_same, get_or-set_other, length-set}
 use Rattle.ptflow.proofs.OfBytes.Chosen.{above, chosen_none}
 use mir.Val.{bool_byte}
 use Rattle.ptflow.specs.Workings.Cut.Picks.{picked, IsPick}
 use Rattle.ptflow.specs.declared.tools.cut.picking.Pick.{Pick}
-use Rattle.ptflow.proofs.OfBytes.ChosenLanes.{shuffled, written_more}
+use Rattle.ptflow.proofs.OfBytes.ChosenLanes.{shuffled}
+use Rattle.ptflow.proofs.OfBytes.LaneLemmas.{written_more}
 
 last_low : (r : Interval) {place : ℕ} → nat_le r.last 16 ≡ true → 16 < place → r.last < place
 last_low r low later = grind (arith, nat_tests)
@@ -70,7 +71,9 @@ module _ (selected : ℕ → Bool) where
     long = cc (length-set row count place);
     all_counts = cc (length-set counts (place + 1) (count + one));
     places = cc (b.0, written_more (selected (place + 1)) row count place (omega arith), one_place place);
-    counted = λ k upto. by_cases k (cases_order k (place + 1)) upto;
+    counted = λ k upto. ⊎_elim
+        (λ same. cc (get_or-set_same counts (place + 1) (count + one) 0 (omega arith), whole))
+        (λ other. cc (get_or-set_other counts (place + 1) k (count + one) 0 (λ e. other (omega (arith, e))), begun.counted k (omega (arith, other)))) (cases_eq k (place + 1));
   }
     where
       bit : (t : Bool) → (bool_byte t ≡ cond t 1 0) × (length (cond t (place ∷ []) []) ≡ bool_byte t) × (bool_byte t ≤ 1)
@@ -83,12 +86,6 @@ module _ (selected : ℕ → Bool) where
 
       whole : count + one ≡ length (picked selected (place + 1))
       whole = omega (arith, told, ap length (one_place place), length-append (picked selected place) (cond (selected (place + 1)) (place ∷ []) []), b.1)
-
-      by_cases : (k : ℕ) → (k ≡ place + 1) ⊎ ((k < place + 1) ⊎ (place + 1 < k)) → k ≤ place + 1 → get_or after k 0 ≡ length (picked selected k)
-      by_cases k (inl same) upto = cc (get_or-set_same counts (place + 1) (count + one) 0 (omega arith), whole)
-      by_cases k (inr (inl less)) upto =
-          cc (get_or-set_other counts (place + 1) k (count + one) 0 (λ e. omega arith), begun.counted k (omega arith))
-      by_cases k (inr (inr more)) upto = absurd (omega arith)
 
   pub pick_whole : {count : ℕ} (most : ℕ) {row counts : List ℕ} → PickBegun 16 count row counts → ((place : ℕ) → 16 < place → place ≤ most → selected place ≡ false)
       → IsPick selected (record { row = row; counts = counts; most = most })

@@ -3,10 +3,11 @@
 use Rattle.ptflow.proofs.Common.{◌≡◌, ℕ, zero, suc, ◌%◌, ◌^◌, map, bit_and, negsuc, pos, ◌+◌, ◌-◌, ◌<◌, ◌≤◌, ◌&&◌, not, eqb, Bool, true, false, cond, List, [], ◌∷◌, ◌++◌, Option, Some, length, take}
 use Rattle.ptflow.proofs.Common.{drop, set, get_or, refl, sym, ◌∙◌, ap, arith, append_assoc, add-one, drop-cons, w8, option_eq, bit_not, cast_unsigned, zip2, chunk, Each1, mask_l, top, append-nil}
 use Rattle.ptflow.proofs.Common.{drop-drop, drop_all, take-set, take_more_set, take-take, get_or-chunk, length-chunk, length-zip2, mask_l-mod, squeeze_behind, mask_of, chosen_by, squeeze_from}
+use Rattle.ptflow.proofs.Common.{chunk-fits}
 use mir.Val.{bool_byte, Fits}
 use Rattle.std.proofs.Math.Facts.{Fits-lt-pow}
 use Rattle.std.proofs.lemmas.List.{take-append-drop}
-use Rattle.ptflow.proofs.OfBytes.FourLanes.{InFour, lanes_of, chunk_parts, chunk_in_four}
+use Rattle.ptflow.proofs.OfBytes.LaneLemmas.{InFour, lanes_of, not_lanes, chunk_parts, chunk_in_four}
 use Rattle.ptflow.proofs.OfTr.TrRests.{behind_one, from_one}
 
 -- the last byte of a piece
@@ -17,6 +18,12 @@ piece_ends from at (suc n) some room =
     let long : length (chunk at (suc n) from) ≡ suc n = length-chunk at (suc n) from room in
     let place : at + suc n - 1 ≡ at + n = omega arith in
     cc (get_or-chunk at (suc n) from n 0 (omega arith))
+
+-- tests that agree on bytes squeeze the same repeats
+same_behind : (p q : ℕ → Bool) → ((b : ℕ) → b < 256 → p b ≡ q b) → (last : ℕ) (bytes : List ℕ) → Each1 (Fits w8) bytes → squeeze_behind p last bytes ≡ squeeze_behind q last bytes
+same_behind p q same last [] small = refl
+same_behind p q same last (b ∷ bytes) small =
+    cc (behind_one p last b bytes, same b (Fits-lt-pow small.0), same_behind p q same b bytes small.1, behind_one q last b bytes)
 
 module _ (squeezed : ℕ → Bool) where
   -- a piece and the next one, with the last byte of the piece in front of it
@@ -33,6 +40,9 @@ module _ (squeezed : ℕ → Bool) where
       ≡ take count into ++ cond (not again) (b ∷ rest) rest
   one_more into rest {count} b true room = let same : count + 0 ≡ count = omega arith in ap (λ l. l ++ rest) (rw same (take-set into count b))
   one_more into rest {count} b false room = cc (take_more_set into count b room, append_assoc (take count into) (b ∷ []) rest)
+
+  small : (again : Bool) {add : ℕ} → add ≡ bool_byte (not again) → add ≤ 1
+  small again is = grind arith
 
   -- What was put down, and what stays of the bytes from a place on, is the whole.
   pub record Squeezing (from into : List ℕ) (at count : ℕ) (whole : List ℕ) : Type 0 where
@@ -55,9 +65,6 @@ module _ (squeezed : ℕ → Bool) where
     within = omega arith;
     counted = small again n;
   }
-    where
-      small : (again : Bool) → count ≡ bool_byte (not again) → count ≤ 1
-      small again = grind arith
 
   module _ {from into : List ℕ} {at count : ℕ} {whole : List ℕ} (s : Squeezing from into at count whole) where
     -- one byte more
@@ -75,14 +82,12 @@ module _ (squeezed : ℕ → Bool) where
           within = omega arith;
           counted = omega (arith, small again n);
         }
-      where
-        small : (again : Bool) → add ≡ bool_byte (not again) → add ≤ 1
-        small again = grind arith
 
     -- a piece more
-    pub squeezing_piece : {into' : List ℕ} {count' : ℕ} (size : ℕ) → 0 < size → at + size ≤ length from → count' ≤ count + size
-        → take count' into' ≡ take count into ++ squeeze_behind squeezed (get_or from (at - 1) 0) (take size (drop at from)) → Squeezing from into' (at + size) count' whole
-    squeezing_piece size some room few made =
+    pub squeezing_piece : {into' : List ℕ} {count' : ℕ} (size : ℕ) (test : ℕ → Bool) → ((b : ℕ) → b < 256 → test b ≡ squeezed b) → ((k : ℕ) → Fits w8 (get_or from k 0)) → 0 < size
+        → at + size ≤ length from → count' ≤ count + size → take count' into' ≡ take count into ++ squeeze_behind test (get_or from (at - 1) 0) (take size (drop at from))
+        → Squeezing from into' (at + size) count' whole
+    squeezing_piece size test same fit some room few made =
         let last = get_or from (at - 1) 0 in
         let piece = take size (drop at from) in
         let long : length piece ≡ size = length-chunk at size from room in
@@ -93,6 +98,7 @@ module _ (squeezed : ℕ → Bool) where
               cc (
                 append_assoc (take count into) (squeeze_behind squeezed last piece) (squeeze_behind squeezed (get_or from (at + size - 1) 0) (drop (at + size) from)),
                 behind_on last piece (drop (at + size) from),
+                same_behind test squeezed same last piece (chunk-fits w8 at size from fit),
               );
           behind = omega arith;
           within = omega arith;
@@ -112,21 +118,28 @@ in_front_of from {at} n behind room =
     let front : drop (at - 1) from ≡ last ∷ drop at from = cc (drop-cons from (at - 1) 0 (omega arith)) in
     cc (take-take n (suc n) (drop at from) (omega arith), length-chunk at (suc n) from room)
 
--- the mask of the lanes that are no repeat of the byte in front of them
+-- the lanes that repeat the byte in front of them and go, and the mask of the others
+pub gone_lanes : (test : ℕ → Bool) (xs ys : List ℕ)
+    → zip2 bit_and (zip2 (λ a b. cond (eqb a b) 255 0) xs ys) (map (cast_unsigned w8) (mask_of test ys)) ≡ lanes_of (zip2 (λ a b. eqb a b && test b) xs ys)
+gone_lanes test [] ys = refl
+gone_lanes test (x ∷ xs) [] = refl
+gone_lanes test (x ∷ xs) (y ∷ ys) = λ i. lane (eqb x y) (test y) i ∷ gone_lanes test xs ys i
+  where
+    lane : (e t : Bool) → bit_and (cond e 255 0) (cast_unsigned w8 (cond t (negsuc 0) (pos 0))) ≡ cond (e && t) 255 0
+    lane e t = grind arith
+
+not_zip : (f : ℕ → ℕ → Bool) (xs ys : List ℕ) → map not (zip2 f xs ys) ≡ zip2 (λ a b. not (f a b)) xs ys
+not_zip f [] ys = refl
+not_zip f (x ∷ xs) [] = refl
+not_zip f (x ∷ xs) (y ∷ ys) = ap (◌∷◌ (not (f x y))) (not_zip f xs ys)
+
 pub stays_mask : (test : ℕ → Bool) (front bytes : List ℕ) → length front ≡ length bytes → length bytes ≤ 64
     → mask_l (map (top 7) (map (bit_not w8) (zip2 bit_and (zip2 (λ a b. cond (eqb a b) 255 0) front bytes) (map (cast_unsigned w8) (mask_of test bytes))))) % 2 ^ 64
     ≡ mask_l (zip2 (λ a b. not (eqb a b && test b)) front bytes)
 stays_mask test front bytes same few =
-    cc (lanes front bytes, mask_l-mod (zip2 (λ a b. not (eqb a b && test b)) front bytes) 64 (omega (arith, length-zip2 (λ a b. not (eqb a b && test b)) front bytes same)))
-  where
-    lane : (e t : Bool) → top 7 (bit_not w8 (bit_and (cond e 255 0) (cast_unsigned w8 (cond t (negsuc 0) (pos 0))))) ≡ not (e && t)
-    lane e t = grind arith
-
-    lanes : (front bytes : List ℕ) → map (top 7) (map (bit_not w8) (zip2 bit_and (zip2 (λ a b. cond (eqb a b) 255 0) front bytes)
-        (map (cast_unsigned w8) (mask_of test bytes)))) ≡ zip2 (λ a b. not (eqb a b && test b)) front bytes
-    lanes [] bytes = refl
-    lanes (a ∷ front) [] = refl
-    lanes (a ∷ front) (b ∷ bytes) = λ i. lane (eqb a b) (test b) i ∷ lanes front bytes i
+    let goes : ℕ → ℕ → Bool = λ a b. eqb a b && test b in
+    let long = length-zip2 (λ a b. not (goes a b)) front bytes same in
+    cc (gone_lanes test front bytes, not_lanes (zip2 goes front bytes), not_zip goes front bytes, mask_l-mod (zip2 (λ a b. not (goes a b)) front bytes) 64 (omega arith))
 
 -- ---- pieces of 64 bytes
 
@@ -142,15 +155,6 @@ pub same_lanes : (xs ys : List ℕ) → zip2 (λ a b. cond (eqb a b) 255 0) xs y
 same_lanes [] ys = refl
 same_lanes (x ∷ xs) [] = refl
 same_lanes (x ∷ xs) (y ∷ ys) = ap (◌∷◌ (cond (eqb x y) 255 0)) (same_lanes xs ys)
-
-pub gone_lanes : (test : ℕ → Bool) (xs ys : List ℕ)
-    → zip2 bit_and (zip2 (λ a b. cond (eqb a b) 255 0) xs ys) (map (cast_unsigned w8) (mask_of test ys)) ≡ lanes_of (zip2 (λ a b. eqb a b && test b) xs ys)
-gone_lanes test [] ys = refl
-gone_lanes test (x ∷ xs) [] = refl
-gone_lanes test (x ∷ xs) (y ∷ ys) = λ i. lane (eqb x y) (test y) i ∷ gone_lanes test xs ys i
-  where
-    lane : (e t : Bool) → bit_and (cond e 255 0) (cast_unsigned w8 (cond t (negsuc 0) (pos 0))) ≡ cond (e && t) 255 0
-    lane e t = grind arith
 
 -- if no byte is the same as the one before it, none goes
 pub none_same : (test : ℕ → Bool) (xs ys : List ℕ) → mask_l (zip2 eqb xs ys) ≡ 0 → mask_l (zip2 (λ a b. eqb a b && test b) xs ys) ≡ 0
@@ -213,9 +217,3 @@ module _ (test : ℕ → Bool) (from : List ℕ) where
           stay (at + 48) (omega arith) (omega arith) none.3,
           chunk_in_four at from,
         )
-
--- tests that agree on bytes squeeze the same repeats
-pub same_behind : (p q : ℕ → Bool) → ((b : ℕ) → b < 256 → p b ≡ q b) → (last : ℕ) (bytes : List ℕ) → Each1 (Fits w8) bytes → squeeze_behind p last bytes ≡ squeeze_behind q last bytes
-same_behind p q same last [] small = refl
-same_behind p q same last (b ∷ bytes) small =
-    cc (behind_one p last b bytes, same b (Fits-lt-pow small.0), same_behind p q same b bytes small.1, behind_one q last b bytes)

@@ -1,4 +1,4 @@
-use Rattle.ptflow.proofs.OfCut.PartsCut.{cut_of_parts}
+use Rattle.ptflow.proofs.OfCut.FieldLines.{cut_of_parts}
 use Rattle.ptflow.proofs.parts.parts_of_cut.Goals as goal
 
 pub returns : goal.returns

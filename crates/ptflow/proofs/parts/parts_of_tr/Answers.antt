@@ -1,4 +1,4 @@
-use Rattle.ptflow.proofs.OfTr.PartsTr.{tr_of_any_parts, tr_of_parts, tr_behind_byte, tr_meets_twice}
+use Rattle.ptflow.proofs.OfTr.TrRests.{tr_of_any_parts, tr_of_parts, tr_behind_byte, tr_meets_twice}
 use Rattle.ptflow.proofs.parts.parts_of_tr.Goals as goal
 
 pub returns : goal.returns

@@ -1,5 +1,5 @@
 use Rattle.ptflow.proofs.Common.{ℕ, ◌∙◌, not, take, map, arith, chunk, length-chunk, length-map, holds, ◌+◌}
-use Rattle.ptflow.proofs.OfBytes.FourLanes.{lanes_of_mask, none_of_four, all_kept_in_four, kept_in_four}
+use Rattle.ptflow.proofs.OfBytes.LaneLemmas.{lanes_of_mask, none_of_four, all_kept_in_four, kept_in_four}
 use Rattle.ptflow.proofs.kernels.keeping.keep_chunk.Goals as goal
 
 pub returns-then-gone-eq0-clause-kept : goal.returns-then-gone-eq0-clause-kept

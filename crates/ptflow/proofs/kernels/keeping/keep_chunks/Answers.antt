@@ -1,5 +1,5 @@
 use Rattle.std.proofs.Common.{arith}
-use Rattle.ptflow.proofs.OfBytes.KeptBytes.{keeps_piece}
+use Rattle.ptflow.proofs.OfBytes.LaneLemmas.{keeps_piece}
 use Rattle.ptflow.proofs.kernels.keeping.keep_chunks.Goals as goal
 
 pub loop-at-preserved : goal.loop-at-preserved

@@ -1,6 +1,6 @@
 use Rattle.ptflow.proofs.Common.{ℕ, Bool, not, map, length-map, holds}
 use Rattle.ptflow.proofs.OfBytes.ChosenLanes.{chosen_by_test}
-use Rattle.ptflow.proofs.OfBytes.KeptBytes.{keep_bits}
+use Rattle.ptflow.proofs.OfBytes.LaneLemmas.{keep_bits}
 use Rattle.ptflow.proofs.kernels.keeping.keep_lanes.Goals as goal
 
 pub returns-clause-kept : goal.returns-clause-kept

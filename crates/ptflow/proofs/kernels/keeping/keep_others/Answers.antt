@@ -1,5 +1,5 @@
 use Rattle.ptflow.proofs.Common.{ℕ, ◌+◌, Bool, not, false, get_or, refl, ap, arith, holds}
-use Rattle.ptflow.proofs.OfBytes.KeptBytes.{keeps_same, keeps_byte, keeps_all}
+use Rattle.ptflow.proofs.OfBytes.LaneLemmas.{keeps_same, keeps_byte, keeps_all}
 use Rattle.ptflow.proofs.kernels.keeping.keep_others.Goals as goal
 
 pub loop-at-init : goal.loop-at-init

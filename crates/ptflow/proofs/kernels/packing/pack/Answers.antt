@@ -1,5 +1,5 @@
-use Rattle.ptflow.proofs.Common.{◌≡◌, ◌++◌, ◌/◌, ◌∙◌, ℕ, List, Bool, length, take, drop, sym, ap, length-drop, length-append, get_or, arith, range_with_len, mask_l, pick_l, length-take-le, take-map}
-use Rattle.ptflow.proofs.Common.{pick_l-range_with_len, chosen_by}
+use Rattle.ptflow.proofs.Common.{◌≡◌, ◌++◌, ◌/◌, ◌∙◌, ℕ, length, take, drop, sym, ap, length-drop, length-append, get_or, arith, range_with_len, mask_l, pick_l, length-take-le, take-map}
+use Rattle.ptflow.proofs.Common.{pick_l-range_with_len}
 use Rattle.std.specs.Prelude.{bit_and}
 use Rattle.std.proofs.lemmas.List.{take-append-drop}
 use Rattle.ptflow.proofs.OfBytes.ChosenLanes.{low_half, high_half, chosen_by_halves}
@@ -17,8 +17,5 @@ returns-clause-packed c flags long masked =
     let others : length back ≡ 8 = omega (arith, length-drop 8 flags, long) in
     let first = c.pack_eight-half.ensures.packed front few (ap (λ (m : ℕ). bit_and m 255) (masked ∙ ap mask_l parts) ∙ low_half front back few) in
     let second = c.pack_eight.ensures.packed back others (ap (λ (m : ℕ). bit_and (m / 256) 255) (masked ∙ ap mask_l parts) ∙ high_half front back few others) in
-    second
-    ∙ ap (λ (made : List ℕ). made ++ chosen_by back turned) first
-    ∙ chosen_by_halves front back before v turned few others c.fits-v.0 (take-map (λ k. get_or (v ++ v) k 0) 8 (range_with_len 8 8 ++ range_with_len 0 8)
-    ∙ pick_l-range_with_len 0 (v ++ v) 8 8 (omega (arith, length-append v v, c.fits-v.0)))
-    ∙ ap (λ (fs : List Bool). before ++ chosen_by fs v) (sym parts)
+    let last = take-map (λ k. get_or (v ++ v) k 0) 8 (range_with_len 8 8 ++ range_with_len 0 8) ∙ pick_l-range_with_len 0 (v ++ v) 8 8 (omega (arith, length-append v v, c.fits-v.0)) in
+    cc (chosen_by_halves front back before v turned few others c.fits-v.0 last)

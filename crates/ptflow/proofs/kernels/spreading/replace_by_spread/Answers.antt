@@ -1,6 +1,6 @@
 -- Whole chunks come first, and then the bytes behind them.
-use Rattle.ptflow.proofs.Common.{◌≡◌, ◌+◌, ◌-◌, ◌++◌, [], cond, length, take, drop, sym, ◌∙◌, ap, arith, length-drop, take-append-drop, count_by, append-nil, drop_all, take_rest, sum_by-append}
-use Rattle.ptflow.proofs.Common.{is_byte, with_turns}
+use Rattle.ptflow.proofs.Common.{◌≡◌, ◌+◌, ◌-◌, ◌++◌, [], cond, length, take, drop, ap, arith, length-drop, take-append-drop, count_by, append-nil, drop_all, take_rest, sum_by-append, is_byte}
+use Rattle.ptflow.proofs.Common.{with_turns}
 use Rattle.ptflow.proofs.OfPaste.Turns.{turns-append}
 use Rattle.ptflow.proofs.kernels.spreading.replace_by_spread.Goals as goal
 
@@ -23,7 +23,10 @@ returns-clause-replaced c =
     let turn = c.spread_most-at.result.0 in
     let rest : c.replace_in_turn.new.to ≡ with_turns end turns turn.number (drop at from) = rw take_rest at c.replace_in_turn.ensures.replaced in
     let none : drop (length mid - at) (drop at mid) ≡ [] = drop_all (length mid - at) (drop at mid) (omega (arith, length-drop at mid)) in
-    (λ i. c.spread_most-at.ensures.4 i ++ (rest i ++ none i))
-    ∙ ap (◌++◌ (with_turns end turns 0 (take at from))) (append-nil (with_turns end turns turn.number (drop at from)))
-    ∙ ap (λ m. with_turns end turns 0 (take at from) ++ with_turns end turns m (drop at from)) c.spread_most-at.ensures.2
-    ∙ sym (turns-append end turns 0 (take at from) (drop at from)) ∙ ap (with_turns end turns 0) (take-append-drop at from)
+    cc (
+      c.spread_most-at.ensures.4,
+      append-nil (with_turns end turns turn.number (drop at from)),
+      c.spread_most-at.ensures.2,
+      turns-append end turns 0 (take at from) (drop at from),
+      take-append-drop at from,
+    )

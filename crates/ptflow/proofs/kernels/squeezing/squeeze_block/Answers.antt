@@ -1,7 +1,7 @@
 -- The first byte stays or goes by the byte that was written before the block; each other one by the byte in front of
 -- it.
-use Rattle.ptflow.proofs.Common.{◌≡◌, ◌≤◌, ◌<◌, zero, suc, ◌+◌, ◌-◌, drop, ℕ, ◌&&◌, eqb, Some, false, length, take, get_or, arith, ap, ◌∙◌, slice_index_or, w8, option_eq, chunk-fits, holds}
-use Rattle.ptflow.proofs.OfTr.SqueezeLemmas.{squeezing_starts, squeezing_piece, same_behind}
+use Rattle.ptflow.proofs.Common.{◌≡◌, ◌<◌, zero, suc, ◌-◌, ℕ, ◌&&◌, eqb, Some, false, length, get_or, arith, ap, ◌∙◌, slice_index_or, option_eq, holds}
+use Rattle.ptflow.proofs.OfTr.SqueezeLemmas.{squeezing_starts, squeezing_piece}
 use Rattle.ptflow.proofs.kernels.squeezing.squeeze_block.Goals as goal
 
 some : (n : ℕ) → false ≡ eqb n 0 → 0 < n
@@ -17,9 +17,5 @@ loop-at-init c =
 
 pub loop-at-preserved : goal.loop-at-preserved
 loop-at-preserved c =
-    let from = c.args.from.now in
-    let at = c.loop-at.at in
-    let flag = λ (b : ℕ). slice_index_or c.args.flags.now b false in
-    let room : at + 64 ≤ length from = omega arith in
-    let same = same_behind (holds c.args.set) flag c.requires.set (get_or from (at - 1) 0) (take 64 (drop at from)) (chunk-fits w8 at 64 from c.type_inv.from) in
-    squeezing_piece flag c.loop-at.invariant 64 (omega arith) room c.squeeze_chunk-count.ensures.end (cc)
+    squeezing_piece _ c.loop-at.invariant 64 (holds c.args.set) c.requires.set c.type_inv.from (omega arith) (omega arith) c.squeeze_chunk-count.ensures.end
+    c.squeeze_chunk-count.ensures.squeezed

@@ -1,5 +1,5 @@
 use Rattle.ptflow.proofs.Common.{ℕ, ◌+◌, ◌-◌, ◌++◌, ◌∙◌, ◌&&◌, ℤ, List, cond, map, bit_and, eqb, take, sym, ap, w8, append_assoc, cast_unsigned, zip2, chunk, holds}
-use Rattle.ptflow.proofs.OfBytes.FourLanes.{none_of_four}
+use Rattle.ptflow.proofs.OfBytes.LaneLemmas.{none_of_four}
 use Rattle.ptflow.proofs.OfTr.SqueezeLemmas.{same_flags, gone_flags, long_flags, same_lanes, gone_lanes, none_same, stays_at, stays_in_four, all_stay_in_four}
 use Rattle.ptflow.proofs.kernels.squeezing.squeeze_chunk.Goals as goal
 

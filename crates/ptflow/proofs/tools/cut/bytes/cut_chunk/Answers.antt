@@ -14,9 +14,8 @@ returns-then-step-eq0-clause-on c =
     let block = c.args.block.now in
     let step = c.args.step in
     rw c.copy_ends.ensures.step (record {
-      cut = λ start bytes so_far.
-          cut_on end list start bytes step.before step.before (drop step.start block) (drop (step.start + 64) block) (take step.at c.args.into.now)
-          (chunk step.start 64 block) so_far c.copy_ends.ensures.copied
+      cut = cut_on end list _ step.before step.before _ (drop step.start block) (drop (step.start + 64) block) _ (take step.at c.args.into.now)
+          (chunk step.start 64 block) (λ start bytes so_far. so_far) c.copy_ends.ensures.copied
           (ends_on end (is_selected list) block (omega arith) c.if-step-from.true c.if-step-eq0.true
           c.requires.ends.is c.if-marked-eq18446744073709551615.true);
       bound = omega arith;
@@ -52,10 +51,8 @@ loop-end-preserved c =
       within = omega arith;
       ends = e.counted;
       on = record {
-        cut = λ start bytes so_far.
-            cut_on c.args.ending list start bytes l.step.before 0 (drop s block) (drop (at + 1) block) (take l.step.at l.into)
-            (chosen_piece list l.step.before (at - s) (take (at - s + 1) (drop s block)))
-            (l.invariant.on.cut start bytes so_far) (rw take_rest at c.copy_line-at.ensures.copied)
+        cut = cut_on c.args.ending list _ l.step.before 0 _ (drop s block) (drop (at + 1) block) _ (take l.step.at l.into)
+            (chosen_piece list l.step.before (at - s) (take (at - s + 1) (drop s block))) l.invariant.on.cut (rw take_rest at c.copy_line-at.ensures.copied)
             (rw (← left) (line_on c.args.ending (drop s block) (at - s) e.first (is_selected list) l.step.before));
         bound = omega arith;
         near = omega arith;

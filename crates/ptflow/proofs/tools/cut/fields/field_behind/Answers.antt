@@ -24,22 +24,16 @@ returns-then-count-eq0-clause-start c =
 
 pub returns-in_err-passed-clause-found : goal.returns-in_err-passed-clause-found
 returns-in_err-passed-clause-found c =
-    let d = c.args.delimiter in
-    let behind = c.args.first + 1 in
     let bytes = c.args.bytes.now in
-    let line = take c.args.to bytes in
     let zero : c.args.from ≡ 0 = c.requires.start c.if-from-first.false in
-    let left = rw (← (rest_of behind c.args.to bytes)) at (rw take_rest at c.in_err-passed.ensures) in
-    let few : length (fields d (drop c.args.from line)) ≤ c.args.count =
-    rw zero (few_behind_first d line c.args.first c.args.count c.requires.first (omega arith) left) in
+    let left = rw (← (rest_of (c.args.first + 1) c.args.to bytes)) at (rw take_rest at c.in_err-passed.ensures) in
+    let few : length (fields c.args.delimiter (drop c.args.from (take c.args.to bytes))) ≤ c.args.count =
+    rw zero (few_behind_first c.args.delimiter (take c.args.to bytes) c.args.first c.args.count c.requires.first (omega arith) left) in
     rw c.from_residual.ensures few
 
 pub returns-clause-found : goal.returns-clause-found
 returns-clause-found c =
-    let d = c.args.delimiter in
-    let behind = c.args.first + 1 in
     let bytes = c.args.bytes.now in
-    let line = take c.args.to bytes in
     let zero : c.args.from ≡ 0 = c.requires.start c.if-from-first.false in
-    let s = rw (← (rest_of behind c.args.to bytes)) at (rw take_rest at c.in_ok-passed.ensures) in
-    rw zero (starts_past_first d line c.args.first c.args.count c.requires.first (omega arith) s)
+    let s = rw (← (rest_of (c.args.first + 1) c.args.to bytes)) at (rw take_rest at c.in_ok-passed.ensures) in
+    rw zero (starts_past_first c.args.delimiter (take c.args.to bytes) c.args.first c.args.count c.requires.first (omega arith) s)

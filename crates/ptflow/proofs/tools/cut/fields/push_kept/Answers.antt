@@ -16,9 +16,8 @@ returns-in_err-push_fields-in-Some-clause-wrote g c =
 pub returns-then-job-clause-wrote : goal.returns-then-job-clause-wrote
 returns-then-job-clause-wrote g c =
     let job = cut_job c.args.job.now in
-    let line = c.args.line.now in
-    let none = found c.args.job.now.delim line None c.in-None.ensures in
-    rw (line_dropped job line (of_none job c.requires.by_fields line none c.if-job.true)) (wrote_nothing c.args.out.now)
+    let none = found c.args.job.now.delim c.args.line.now None c.in-None.ensures in
+    rw (line_dropped job c.args.line.now (of_none job c.requires.by_fields c.args.line.now none c.if-job.true)) (wrote_nothing c.args.out.now)
 
 pub returns-in_err-push-in-None-clause-wrote : goal.returns-in_err-push-in-None-clause-wrote
 returns-in_err-push-in-None-clause-wrote g c =

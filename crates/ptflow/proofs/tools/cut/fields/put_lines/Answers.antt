@@ -1,6 +1,6 @@
 -- A line with the delimiter gives its fields. Lines without one are put as they are, as many as stand behind one
 -- another, or passed over.
-use Rattle.ptflow.proofs.Common.{◌≡◌, ◌-◌, Some, take, length, arith, unwrap_or, cut_job, cut_fields}
+use Rattle.ptflow.proofs.Common.{◌≡◌, ◌-◌, Some, take, arith, cut_job, cut_fields}
 use Rattle.ptflow.proofs.OfCut.FieldLines.{found, of_fields, puts_line, puts_kept, puts_dropped, free_before, first_within}
 use Rattle.ptflow.proofs.tools.cut.fields.put_lines.Goals as goal
 
@@ -9,28 +9,24 @@ returns-then-first-to-clause-put g c =
     let job = cut_job c.args.job.now in
     let d = c.args.job.now.delim in
     let bytes = c.args.bytes.now in
-    let to = c.args.to in
-    let line = take to bytes in
-    let place = unwrap_or c.find_near.result (length bytes) in
-    let first = first_within d bytes c.find_near.result to c.find_near.ensures (omega arith) (omega arith) in
-    puts_line job c.requires.by_fields c.requires.ending bytes to c.requires.first (cut_fields job line)
-    (of_fields job c.requires.by_fields line (found d line (Some place) first)) c.put_fields.ensures.put
+    let line = take c.args.to bytes in
+    let first = first_within d bytes c.find_near.result c.args.to c.find_near.ensures (omega arith) (omega arith) in
+    puts_line job c.requires.by_fields c.requires.ending bytes c.args.to c.requires.first (cut_fields job line)
+    (of_fields job c.requires.by_fields line (found d line (Some _) first)) c.put_fields.ensures.put
 
 pub returns-then-job-clause-put : goal.returns-then-job-clause-put
 returns-then-job-clause-put g c =
     let bytes = c.args.bytes.now in
-    let d = c.args.job.now.delim in
     let size = c.whole_lines-size in
-    let free = rw (← c.unwrap_or-first.ensures) at (free_before d bytes c.find_near.result c.find_near.ensures) in
+    let free = rw (← c.unwrap_or-first.ensures) at (free_before c.args.job.now.delim bytes c.find_near.result c.find_near.ensures) in
     puts_dropped (cut_job c.args.job.now) c.requires.by_fields c.requires.ending bytes _ c.requires.first
     size.ensures.within.0 size.ensures.within.1 size.ensures.ended size.ensures.up_to c.if-first-to.false free c.if-job.true
 
 pub returns-clause-put : goal.returns-clause-put
 returns-clause-put g c =
     let bytes = c.args.bytes.now in
-    let d = c.args.job.now.delim in
     let size = c.whole_lines-size in
-    let free = rw (← c.unwrap_or-first.ensures) at (free_before d bytes c.find_near.result c.find_near.ensures) in
+    let free = rw (← c.unwrap_or-first.ensures) at (free_before c.args.job.now.delim bytes c.find_near.result c.find_near.ensures) in
     let whole : size.result - 0 ≡ size.result = omega arith in
     let copied = rw whole at c.copy_near.ensures.copied in
     puts_kept (cut_job c.args.job.now) c.requires.by_fields c.requires.ending bytes _ c.requires.first
@@ -39,6 +35,4 @@ returns-clause-put g c =
 
 pub put_fields-requires-clause-first : goal.put_fields-requires-clause-first
 put_fields-requires-clause-first g c =
-    let bytes = c.args.bytes.now in
-    let d = c.args.job.now.delim in
-    rw c.unwrap_or-first.ensures (first_within d bytes c.find_near.result c.args.to c.find_near.ensures (omega arith) (omega arith))
+    rw c.unwrap_or-first.ensures (first_within c.args.job.now.delim c.args.bytes.now c.find_near.result c.args.to c.find_near.ensures (omega arith) (omega arith))

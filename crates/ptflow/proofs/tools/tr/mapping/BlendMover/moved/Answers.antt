@@ -1,6 +1,5 @@
 use Rattle.ptflow.proofs.Common.{sym, splat_is_map, holds, map}
-use Rattle.ptflow.proofs.OfBytes.LaneLemmas.{sel_maps, map_self}
-use Rattle.ptflow.proofs.OfBytes.FourLanes.{lanes_of_mask, tops_of_lanes}
+use Rattle.ptflow.proofs.OfBytes.LaneLemmas.{sel_maps, map_self, lanes_of_mask, tops_of_lanes}
 use Rattle.ptflow.proofs.tools.tr.mapping.BlendMover.moved.Goals as goal
 
 pub returns : goal.returns
