@@ -1,7 +1,7 @@
 -- What holds of both inputs of a merge once one of them went on, and where the keys of their lines stand.
-use Rattle.ptmerge.proofs.Common.{◌≡◌, ℕ, ◌+◌, ◌<◌, Result, Err, sym, ◌∙◌, ap, arith, Reader, budget, Slots, Side, First, Second, Sorted, Head, Cmp, Key, Comes, both, put, other, IsLent, false, List}
-use Rattle.ptmerge.proofs.Common.{[], subst, append-nil, Output, Wrote, wrote_trans, ◌⊎◌, inl, inr, ◌≤◌, ◌&&◌, true, cond, length, nat_lt, Ordering, is_eq, is_gt, nat_tests, length-set, length_push}
-use Rattle.ptmerge.proofs.Common.{line, with_added, IsKept, Disorder, same_at, stand_at, IsNoted, IsPlaced}
+use Rattle.ptmerge.proofs.Common.{◌≡◌, ℕ, ◌+◌, ◌<◌, Result, Err, refl, sym, ◌∙◌, ap, arith, Reader, budget, Slots, Side, First, Second, Sorted, Head, Cmp, Key, Comes, both, put, other, IsLent, false, List}
+use Rattle.ptmerge.proofs.Common.{[], subst, append-nil, Output, Wrote, wrote_trans, ◌≤◌, ◌&&◌, true, cond, length, nat_lt, Ordering, is_eq, is_gt, nat_tests, length-set, length_push, line, IsKept}
+use Rattle.ptmerge.proofs.Common.{Disorder, same_at, stand_at, IsNoted, IsPlaced, ⊎_elim}
 use Rattle.ptmerge.proofs.OfMerges.Standing.{alive, comes_less}
 use Rattle.ptmerge.proofs.OfMerges.Slotted.{line_added, line_other}
 use Rattle.ptmerge.proofs.OfMerges.Turning.{own_slots}
@@ -60,17 +60,11 @@ placed_keeps key one two before after p least same = record {
 }
 
 -- a line that is kept changes one slot, or adds one
-grown_line : (before made : Slots) (slot : ℕ) → (made ≡ before) ⊎ (made ≡ with_added before) → line made slot ≡ line before slot
-grown_line before made slot (inl e) = rw e
-grown_line before made slot (inr e) = rw e (line_added before slot)
-
 pub kept_line : (before after : Slots) (from to slot : ℕ) → slot < to → IsKept before after from to → line after slot ≡ line before slot
 kept_line before after from to slot low e =
-    rw e.copied (line_other e.made to slot (line e.made from) (λ is. absurd (omega (arith, is, low))) ∙ grown_line before e.made slot e.grown.grown)
+    let grown : line e.made slot ≡ line before slot = ⊎_elim (λ h. rw h refl) (λ h. rw h (line_added before slot)) e.grown.grown in
+    rw e.copied (line_other e.made to slot (line e.made from) (λ is. absurd (omega (arith, is, low))) ∙ grown)
 
 pub kept_least : (before after : Slots) (from to : ℕ) → IsKept before after from to → length before.lines ≤ length after.lines
-kept_least before after from to e = rw (e.copied, length-set) (by e.made e.grown.grown)
-  where
-    by : (made : Slots) → (made ≡ before) ⊎ (made ≡ with_added before) → length before.lines ≤ length made.lines
-    by made (inl h) = rw h (omega arith)
-    by made (inr h) = rw h (omega (arith, length_push before.lines []))
+kept_least before after from to e =
+    rw (e.copied, length-set) (⊎_elim (λ h. rw h (omega arith)) (λ h. rw h (omega (arith, length_push before.lines []))) e.grown.grown)

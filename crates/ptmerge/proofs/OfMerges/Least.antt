@@ -24,9 +24,9 @@ EachKey-at P key (x ∷ xs) (suc i) low e = EachKey-at P key xs i (omega (arith,
 pub EachKey-weaker : (P Q : List ℕ → Type 0) → ((x : List ℕ) → P x → Q x) → (key : Key) (xs : Lines) → EachKey P key xs → EachKey Q key xs
 EachKey-weaker P Q f key xs e = Each-weaker P Q f (map key xs) e
 
-pub EachKey-all : (P : List ℕ → Type 0) (key : Key) → ((x : List ℕ) → P x) → (xs : Lines) → EachKey P key xs
-EachKey-all P key f [] = tt
-EachKey-all P key f (x ∷ xs) = (f (key x), EachKey-all P key f xs)
+pub Each-all : (P : List ℕ → Type 0) → ((x : List ℕ) → P x) → (xs : Lines) → Each P xs
+Each-all P f [] = tt
+Each-all P f (x ∷ xs) = (f x, Each-all P f xs)
 
 pub Each-append : (P : List ℕ → Type 0) (xs ys : Lines) → Each P xs → Each P ys → Each P (xs ++ ys)
 Each-append P [] ys e h = h

@@ -67,14 +67,8 @@ module _ (cmp : Cmp) (o : IsKeyOrder cmp) where
   pub above_up : (a b c : List ℕ) → cmp b a ≡ Greater → AtMost cmp b c → cmp c a ≡ Greater
   above_up a b c g p = ⊎_elim (λ e. rw e.1 g) (λ h. less_flips a c (o.total.trans a b c (greater_flips b a g) (greater_flips c b h.1))) (least_or_above b c p)
 
-  pub is_le_at_most : (a b : List ℕ) → is_le (cmp a b) ≡ true → AtMost cmp a b
-  is_le_at_most a b h = grind arith
-
   pub at_most_is_le : (a b : List ℕ) → AtMost cmp a b → is_le (cmp a b) ≡ true
   at_most_is_le a b h = grind arith
-
-  pub above_not_le : (a b : List ℕ) → cmp a b ≡ Greater → is_le (cmp a b) ≡ false
-  above_not_le a b g = ap is_le g
 
 -- both orders of lines are orders of keys
 pub line_order : (descending : Bool) → IsKeyOrder (line_cmp descending)

@@ -1,11 +1,11 @@
 -- What was pushed of two inputs: the entries of the lines that are passed, which come first whatever is still to come.
-use Rattle.ptmerge.proofs.Common.{◌≡◌, ◌⊎◌, inl, inr, ℕ, ◌&&◌, Bool, true, false, List, [], ◌∷◌, ◌++◌, Option, Some, None, map, refl, sym, ◌∙◌, ap, subst, arith, last_or, Greater, is_lt, is_le, is_gt}
+use Rattle.ptmerge.proofs.Common.{◌≡◌, ◌⊎◌, inl, inr, ℕ, ◌&&◌, Bool, true, false, List, [], ◌∷◌, ◌++◌, Option, Some, None, map, refl, sym, ◌∙◌, ap, subst, arith, last_or, Greater, is_lt, is_le}
 use Rattle.ptmerge.proofs.Common.{append-nil, Output, Wrote, text, wrote_trans, wrote_nothing, text-append, Side, First, Second, Lines, Tool, by_keys, disorder, entries_of, fall, is_below, is_decided}
 use Rattle.ptmerge.proofs.Common.{is_past, merged_entries, ordered_part, up_to, with_key, Names, Cmp, Key, put}
 use Rattle.ptmerge.specs.Keyed.{Disorder}
 use Rattle.ptmerge.proofs.OfMerges.Bounds.{Bound, Free, From, Fallen, Over, Coming, Falling, Follows, Under, coming_none}
-use Rattle.ptmerge.proofs.OfMerges.Least.{EachKey, EachKey-all, EachKey-append, EachKey-weaker, front_first}
-use Rattle.ptmerge.proofs.OfMerges.Orders.{IsKeyOrder, AtMost, at_most_trans, at_most_is_le, above_trans, greater_flips, is_le_at_most, less_flips, self_at_most}
+use Rattle.ptmerge.proofs.OfMerges.Least.{EachKey, Each-all, EachKey-append, EachKey-weaker, front_first}
+use Rattle.ptmerge.proofs.OfMerges.Orders.{IsKeyOrder, AtMost, at_most_trans, above_trans, greater_flips, less_flips, self_at_most}
 use Rattle.ptmerge.proofs.OfMerges.Pairs.{put_each}
 use Rattle.ptmerge.proofs.OfMerges.Splitting.{Splits, splits_step, all_keys, IsDown, all_wanted, passed_is_wanted}
 
@@ -138,7 +138,7 @@ module _ (cmp : Cmp) (o : IsKeyOrder cmp) where
   pub past_none : (key other_key : Key) (b : Bound) (p r : Lines) → EachKey (Under cmp b) key p → Coming cmp other_key b r
       → EachKey (λ k. is_below cmp k (last_or None (map key p)) ≡ false) other_key r
   past_none key other_key b p r u c = elim (last_or None (map key p)) as (λ l. last_or None (map key p) ≡ l → EachKey (λ k. is_below cmp k l ≡ false) other_key r) [
-    | None ↦ λ e. EachKey-all (λ k. false ≡ false) other_key (λ k. refl) r
+    | None ↦ λ e. Each-all (λ k. false ≡ false) (λ k. refl) (map other_key r)
     | Some x ↦ λ e. (
         let ux = last_has key (Under cmp b) None p x e (λ y bad. cc) u in
         EachKey-weaker _ _ (λ k h. not_below k x h) _ _ (coming_under other_key b x r ux c)

@@ -2,7 +2,7 @@
 use Rattle.ptmerge.proofs.Common.{◌≡◌, ℕ, List, [], ◌∷◌, ◌++◌, ◌&&◌, Bool, true, false, not, Option, refl, ap, sym, ◌∙◌, append_assoc, arith, append-nil, flat_map-append, filter, flat_map, Less}
 use Rattle.ptmerge.proofs.Common.{Equal, Greater, is_gt, match_ordering, Side, First, Second, Lines, Tool, insert_key, distinct, keys, entries_of, by_keys, Fall, disorder_of, up_to, Cmp}
 use Rattle.ptmerge.proofs.OfMerges.Orders.{IsKeyOrder, Above, at_most_trans, at_most_is_le, above_trans, less_flips}
-use Rattle.ptmerge.proofs.OfMerges.Least.{Each, EachKey, Each-weaker, Each-insert, Each-distinct, Each-keys}
+use Rattle.ptmerge.proofs.OfMerges.Least.{Each, EachKey, Each-weaker, Each-insert, Each-distinct, Each-keys, Each-all}
 use Rattle.ptmerge.proofs.OfMerges.Bounds.{Bound, Coming, Falling, Under, FallFrom, coming_none}
 
 abbrev pub all_keys : List ℕ → Bool
@@ -15,10 +15,6 @@ filter_all w (k ∷ ks) e = rw e.0 (ap (λ l. k ∷ l) (filter_all w ks e.1))
 filter_none : (w : List ℕ → Bool) (ks : Lines) → Each (λ k. w k ≡ false) ks → filter w ks ≡ []
 filter_none w [] e = refl
 filter_none w (k ∷ ks) e = rw e.0 (filter_none w ks e.1)
-
-each_true : (ks : Lines) → Each (λ k. all_keys k ≡ true) ks
-each_true [] = tt
-each_true (k ∷ ks) = (refl, each_true ks)
 
 -- keys in order, each once
 abbrev pub Ascends : Cmp → Lines → Type 0
@@ -68,7 +64,7 @@ module _ (tool : Tool) where
   all_wanted w p e =
       let ks = distinct tool.cmp (keys tool p) in
       let pass = filter_all w ks (Each-distinct _ _ _ (Each-keys _ _ _ _ _ (e First) (e Second))) in
-      ap (flat_map (entries_of tool p)) (pass ∙ sym (filter_all all_keys ks (each_true ks)))
+      ap (flat_map (entries_of tool p)) (pass ∙ sym (filter_all all_keys ks (Each-all _ (λ k. refl) ks)))
 
   pub none_wanted : (w : List ℕ → Bool) (r : Side → Lines) → ((side : Side) → EachKey (λ k. w k ≡ false) (tool.key side) (r side)) → by_keys tool w r ≡ []
   none_wanted w r e =

@@ -1,7 +1,7 @@
 -- How a tool over two inputs starts.
 use Rattle.ptmerge.proofs.Common.{◌≡◌, inl, inr, ℕ, ◌≤◌, ◌<◌, Bool, false, cond, List, [], None, Err, length, refl, sym, ◌∙◌, arith, false≢true, ending, Reader, Reads, IsSound, Slots, line, IsLine}
 use Rattle.ptmerge.proofs.Common.{longest, wrote_nothing, MergeFault, Memory, Side, First, Second, Sorted, Lines, Tool, State, IsMerge, IsUnread, Comes, HasSlots, fresh, slot_of, both, Inputs}
-use Rattle.ptmerge.proofs.Common.{CannotStart, Starts, Adds, FirstCame}
+use Rattle.ptmerge.proofs.Common.{CannotStart, Starts, Adds, FirstCame, IsUnslotted, ⊎_elim, max, ◌⊎◌}
 use Rattle.ptmerge.proofs.OfMerges.Bounds.{Free, begun_none}
 use Rattle.ptmerge.proofs.OfComm.CommTurns.{Running, adds_of, breaks_slots, within_size, IsOpened}
 use Rattle.ptmerge.proofs.OfMerges.Got.{got_none, reads_nothing}
@@ -95,21 +95,19 @@ module _ {tool : Tool} {old : State} (w : IsOpened tool old) where
         (λ piece all l. within_size tool w.fits Second (fresh Second) (both g.now_ls []) all piece (fresh_slots Second) (half_keeps s)
         (λ side. omega (arith, (l side).1)) (omega (arith, (l Second).1))) s.later
 
-    -- how many slots there are where a tool could not start
+    -- how many slots there are then: not all four, or all that were missing
+    slots_then : Cannot new1 new2 after fault → IsUnslotted unstarted (record { reader = both new1 new2; store = after }) fault ⊎ (length after.lines ≡ max (length old.store.lines) 4)
+    slots_then (inl u) = inl u
+    slots_then (inr (inl f)) = inr (breaks_slots First (fresh First) (old.reader First) new1 f.made after fault f.breaks ∙ f.four.slots)
+    slots_then (inr (inr f)) = let s = f.begins in inr (breaks_slots Second (fresh Second) (old.reader Second) new2 s.mid after fault s.later ∙ (half_keeps s).slots)
+
     pub start_slots : Cannot new1 new2 after fault → Adds old.store after 4
-    start_slots (inl u) = record { least = u.slots.least; most = u.slots.most; all = λ allowed. absurd (false≢true (sym allowed ∙ u.slots.denied)) }
-    start_slots (inr (inl f)) = adds_of (breaks_slots First (fresh First) (old.reader First) new1 f.made after fault f.breaks ∙ f.four.slots)
-    start_slots (inr (inr f)) =
-        let s = f.begins in
-        adds_of (breaks_slots Second (fresh Second) (old.reader Second) new2 s.mid after fault s.later ∙ (half_keeps s).slots)
+    start_slots c =
+        ⊎_elim (λ u. record { least = u.slots.least; most = u.slots.most; all = λ allowed. absurd (false≢true (sym allowed ∙ u.slots.denied)) }) adds_of (slots_then c)
 
     -- nothing was read where one of the first four slots was refused
     pub start_refused : Cannot new1 new2 after fault → length after.lines < 4 → IsUnread old (state (both new1 new2) old.out after)
-    start_refused (inl u) few = record { readers = u.unread; output = refl }
-    start_refused (inr (inl f)) few = absurd (omega (arith, few, breaks_slots First (fresh First) (old.reader First) new1 f.made after fault f.breaks, f.four.slots))
-    start_refused (inr (inr f)) few =
-        let s = f.begins in
-        absurd (omega (arith, few, breaks_slots Second (fresh Second) (old.reader Second) new2 s.mid after fault s.later, mid_four s))
+    start_refused c few = ⊎_elim (λ u. record { readers = u.unread; output = refl }) (λ same. absurd (omega (arith, few, same))) (slots_then c)
 
 -- the byte that ends a line
 pub ending_is : (zero : Bool) → cond zero 0 10 ≡ ending zero

@@ -2,10 +2,10 @@
 use Rattle.ptmerge.proofs.Common.{◌≡◌, ◌≢◌, ⊎_elim, inl, inr, ℕ, ◌+◌, ◌≤◌, true, false, List, [], ◌∷◌, ◌++◌, Option, Some, None, Err, length, refl, sym, ◌∙◌, arith, is_lt, is_le, false≢true}
 use Rattle.ptmerge.proofs.Common.{append-nil, Output, Wrote, Reader, Reads, IsDone, IsSound, Slots, line, with_line, text, IsLine, wrote_nothing, MergeFault, Read, Memory, Side, First}
 use Rattle.ptmerge.proofs.Common.{Second, Sorted, Stand, Head, Ended, Disorder, Lines, Tool, Fall, by_keys, disorder_of, fall, with_key, State, IsMerge, Cmp, Key, CannotRead, Comes, HasSlots, slot_of}
-use Rattle.ptmerge.proofs.Common.{put, other, GoesBefore, IsDecided, IsNamed, last_key}
+use Rattle.ptmerge.proofs.Common.{put, other, GoesBefore, IsDecided, IsNamed, last_key, ap}
 use Rattle.ptmerge.proofs.OfMerges.Bounds.{Bound, From, Fallen, Over, Coming, Falling, FallFrom, Under, Begun}
 use Rattle.ptmerge.proofs.OfMerges.Least.{EachKey, EachKey-weaker, with_key-above}
-use Rattle.ptmerge.proofs.OfMerges.Orders.{IsKeyOrder, Above, above_at_most, above_not_le, above_up, greater_flips, is_greater}
+use Rattle.ptmerge.proofs.OfMerges.Orders.{IsKeyOrder, Above, above_at_most, above_up, greater_flips, is_greater}
 use Rattle.ptmerge.proofs.OfMerges.Pairs.{put_both, put_each, put_other, put_same, side_case}
 use Rattle.ptmerge.proofs.OfMerges.Passing.{IsFront, Late, Merging, StopsAt, front_line, late_none, not_below, pass_front, settles}
 use Rattle.ptmerge.proofs.OfMerges.Slotted.{line_other}
@@ -157,7 +157,7 @@ module _ (cmp : Cmp) (o : IsKeyOrder cmp) where
       let head = key (line store place.standing) in
       let above : Above cmp l head = is_greater (cmp head l) named in (
         elim f as (λ g. FallFrom cmp head g → Leaves cmp s d g) [ None ↦ λ u. tt | Some e ↦ λ u. precedes_above s l e.last_key (above_up cmp o l head e.last_key above u) ] (rw st.2 at falls),
-        EachKey-weaker _ _ (λ k h. above_not_le cmp o k l (above_up cmp o l head k above h)) _ _ (rw st.2 at c),
+        EachKey-weaker _ _ (λ k h. ap is_le (above_up cmp o l head k above h)) _ _ (rw st.2 at c),
       )
   named_other key s d Ended place store now ls p b named st f r c falls = rw (rw st.0 at falls, rw st.0 at c) (tt, tt)
   named_other key s d (Disorder m) place store now ls p b named st f r c falls =

@@ -6,7 +6,7 @@ use Rattle.ptmerge.proofs.Common.{is_below, ordered_part, Cmp, Key, Bool, filter
 use Rattle.ptmerge.proofs.Common.{is_decided, is_settled, other, WorksOff, decided, settled, put, take, length_push, Fall, map-append}
 use Rattle.ptmerge.proofs.OfMerges.Bounds.{fall_after, fall_is, falls, ordered_after, ordered_is, Bound, FallFrom, Under, Coming}
 use Rattle.ptmerge.proofs.OfMerges.Got.{Far}
-use Rattle.ptmerge.proofs.OfMerges.Least.{EachKey, EachKey-all, EachKey-weaker, Each-parts, kept_none}
+use Rattle.ptmerge.proofs.OfMerges.Least.{EachKey, Each-all, EachKey-weaker, Each-parts, kept_none}
 use Rattle.ptmerge.proofs.OfMerges.Orders.{IsKeyOrder, AtMost, at_most_trans}
 use Rattle.ptmerge.proofs.OfMerges.Passing.{not_below, down_decided, last_has, not_decided, past_none}
 use Rattle.ptmerge.proofs.OfParts.PartsInOrder.{by_keys_kept}
@@ -27,27 +27,20 @@ rises_after : (cmp : Cmp) (key : Key) (last : Option (List ℕ)) (ls : Lines) �
 rises_after cmp key last [] = tt
 rises_after cmp key last (x ∷ ls) = let ih = rises_after cmp key (Some (key x)) ls in grind (arith, ih)
 
-pub rises_ordered : (cmp : Cmp) (key : Key) (ls : Lines) → Rises cmp key None (ordered_part cmp key ls)
+rises_ordered : (cmp : Cmp) (key : Key) (ls : Lines) → Rises cmp key None (ordered_part cmp key ls)
 rises_ordered cmp key ls = rw (ordered_is cmp key ls) (rises_after cmp key None ls)
 
-pub rises_front : (cmp : Cmp) (key : Key) (last : Option (List ℕ)) (xs ys : Lines) → Rises cmp key last (xs ++ ys) → Rises cmp key last xs
-rises_front cmp key last [] ys r = tt
-rises_front cmp key last (x ∷ xs) ys r = (r.0, rises_front cmp key (Some (key x)) xs ys r.1)
+rises_parts : (cmp : Cmp) (key : Key) (last : Option (List ℕ)) (xs ys : Lines) → Rises cmp key last (xs ++ ys) → Rises cmp key last xs × Rises cmp key (last_or last (map key xs)) ys
+rises_parts cmp key last [] ys r = (tt, r)
+rises_parts cmp key last (x ∷ xs) ys r = let ih = rises_parts cmp key (Some (key x)) xs ys r.1 in ((r.0, ih.0), ih.1)
 
-rises_rest : (cmp : Cmp) (key : Key) (last : Option (List ℕ)) (xs ys : Lines) → Rises cmp key last (xs ++ ys) → Rises cmp key (last_or last (map key xs)) ys
-rises_rest cmp key last [] ys r = r
-rises_rest cmp key last (x ∷ xs) ys r = rises_rest cmp key (Some (key x)) xs ys r.1
+-- all of such lines is in order, and they do not fall
+rises_whole : (cmp : Cmp) (key : Key) (last : Option (List ℕ)) (n : ℕ) (ls : Lines) → Rises cmp key last ls → (ordered_after cmp key last ls ≡ ls) × (fall_after cmp key last n ls ≡ None)
+rises_whole cmp key last n [] r = (refl, refl)
+rises_whole cmp key last n (x ∷ ls) r = let ih = rises_whole cmp key (Some (key x)) (n + 1) ls r.1 in rw r.0 (ap (λ (l : Lines). x ∷ l) ih.0, ih.1)
 
-ordered_whole : (cmp : Cmp) (key : Key) (last : Option (List ℕ)) (ls : Lines) → Rises cmp key last ls → ordered_after cmp key last ls ≡ ls
-ordered_whole cmp key last [] r = refl
-ordered_whole cmp key last (x ∷ ls) r = rw r.0 (ap (λ (l : Lines). x ∷ l) (ordered_whole cmp key (Some (key x)) ls r.1))
-
-never_falls : (cmp : Cmp) (key : Key) (last : Option (List ℕ)) (n : ℕ) (ls : Lines) → Rises cmp key last ls → fall_after cmp key last n ls ≡ None
-never_falls cmp key last n [] r = refl
-never_falls cmp key last n (x ∷ ls) r = rw r.0 (never_falls cmp key (Some (key x)) (n + 1) ls r.1)
-
-pub rises_in_order : (cmp : Cmp) (key : Key) (ls : Lines) → Rises cmp key None ls → (ordered_part cmp key ls ≡ ls) × (fall cmp key ls ≡ None)
-rises_in_order cmp key ls r = (ordered_is cmp key ls ∙ ordered_whole cmp key None ls r, fall_is cmp key ls ∙ never_falls cmp key None 0 ls r)
+rises_in_order : (cmp : Cmp) (key : Key) (ls : Lines) → Rises cmp key None ls → (ordered_part cmp key ls ≡ ls) × (fall cmp key ls ≡ None)
+rises_in_order cmp key ls r = let h = rises_whole cmp key None 0 ls r in (ordered_is cmp key ls ∙ h.0, fall_is cmp key ls ∙ h.1)
 
 module _ (cmp : Cmp) (o : IsKeyOrder cmp) (key : Key) where
   from_key : (k : List ℕ) (ls : Lines) → Rises cmp key (Some k) ls → EachKey (AtMost cmp k) key ls
@@ -55,11 +48,11 @@ module _ (cmp : Cmp) (o : IsKeyOrder cmp) (key : Key) where
   from_key k (x ∷ ls) r = (r.0, EachKey-weaker _ _ (λ y h. at_most_trans cmp o k (key x) y r.0 h) _ _ (from_key (key x) ls r.1))
 
   -- no later key is below the last one
-  pub none_below : (xs ys : Lines) → Rises cmp key None (xs ++ ys) → EachKey (λ k. is_below cmp k (last_or None (map key xs)) ≡ false) key ys
+  none_below : (xs ys : Lines) → Rises cmp key None (xs ++ ys) → EachKey (λ k. is_below cmp k (last_or None (map key xs)) ≡ false) key ys
   none_below xs ys r = elim (last_or None (map key xs)) as (λ l. Rises cmp key l ys → EachKey (λ k. is_below cmp k l ≡ false) key ys) [
-    | None ↦ λ h. EachKey-all (λ k. false ≡ false) key (λ k. refl) ys
+    | None ↦ λ h. Each-all (λ k. false ≡ false) (λ k. refl) (map key ys)
     | Some x ↦ λ h. EachKey-weaker _ _ (λ k a. not_below cmp o k x a) _ _ (from_key x ys h)
-  ] (rises_rest cmp key None xs ys r)
+  ] (rises_parts cmp key None xs ys r).1
 
 -- ---- what came
 
@@ -218,10 +211,10 @@ module _ (tool : Tool) (o : IsKeyOrder tool.cmp) (given : Side → Given) (p q t
     last = last_or None (map (tool.key of) whole)
 
     in_order : Rises tool.cmp (tool.key of) None (whole ++ (backs of).rest)
-    in_order = rw (backs of).split at (rises_front tool.cmp (tool.key of) None (q of) (future of).0 (rw (future of).1 at (rises_ordered tool.cmp (tool.key of) (whole_lines tool.end (given of)))))
+    in_order = rw (backs of).split at ((rises_parts tool.cmp (tool.key of) None (q of) (future of).0 (rw (future of).1 at (rises_ordered tool.cmp (tool.key of) (whole_lines tool.end (given of))))).0)
 
     ordered : (ordered_part tool.cmp (tool.key of) whole ≡ whole) × (fall tool.cmp (tool.key of) whole ≡ None)
-    ordered = rises_in_order tool.cmp (tool.key of) whole (rises_front tool.cmp (tool.key of) None whole (backs of).rest in_order)
+    ordered = rises_in_order tool.cmp (tool.key of) whole (rises_parts tool.cmp (tool.key of) None whole (backs of).rest in_order).0
 
     -- what comes is not below the last of the whole lines
     above : (side : Side) → EachKey (λ k. is_below tool.cmp k last ≡ false) (tool.key side) (tail side ++ (future side).0)

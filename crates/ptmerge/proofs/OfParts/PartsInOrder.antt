@@ -4,7 +4,7 @@ use Rattle.ptmerge.proofs.Common.{Tool, Fall, by_keys, disorder, disorder_of, fa
 use Rattle.ptmerge.proofs.Common.{comm_tool, join_tool, IsOfParts, PartsOfComm, PartsOfJoin, ◌&&◌, not, map, tied_itself, bytes_eq, flat_map, is_gt, is_lt, Equal, bytes_decides, insert_key, distinct}
 use Rattle.ptmerge.proofs.Common.{with_key, entries_of, filter-append}
 use Rattle.ptmerge.proofs.OfMerges.Bounds.{FallFrom, after_from, fall_after, fall_at, fall_is, falls, ordered_after, ordered_is}
-use Rattle.ptmerge.proofs.OfMerges.Least.{Each, Each-weaker, EachKey, EachKey-all, EachKey-weaker, insert_least, keys-Each}
+use Rattle.ptmerge.proofs.OfMerges.Least.{Each, Each-weaker, EachKey, Each-all, EachKey-weaker, insert_least, keys-Each}
 use Rattle.ptmerge.proofs.OfMerges.Orders.{IsKeyOrder, Above, AtMost, above_trans, at_most_trans, greater_flips, line_order}
 use Rattle.ptmerge.proofs.OfMerges.Splitting.{Ascends, IsDown, all_keys, all_wanted, ascends_distinct, down_splits, up_to_from}
 
@@ -147,12 +147,12 @@ module _ (cmp : Cmp) (o : IsKeyOrder cmp) (key : Key) where
   pub together : (xs ys : Lines) → fall cmp key xs ≡ None → EachKey (λ k. EachKey (AtMost cmp k) key ys) key xs
       → (ordered_part cmp key (xs ++ ys) ≡ xs ++ ordered_part cmp key ys) × (behind (fall cmp key (xs ++ ys)) ≡ behind (fall cmp key ys))
   together xs ys e b =
-      let all = appended None 0 xs ys (sym (fall_is cmp key xs) ∙ e) (EachKey-all (λ k. falls cmp None k ≡ false) key (λ k. refl) ys) b in
+      let all = appended None 0 xs ys (sym (fall_is cmp key xs) ∙ e) (Each-all (λ k. falls cmp None k ≡ false) (λ k. refl) (map key ys)) b in
       rw (fall_is cmp key (xs ++ ys), fall_is cmp key ys, ordered_is cmp key (xs ++ ys), ordered_is cmp key ys) all
 
   -- a list that does not fall is in order as a whole
   pub ordered_whole : (xs : Lines) → fall cmp key xs ≡ None → ordered_part cmp key xs ≡ xs
-  ordered_whole xs e = simp append-nil at (together xs [] e (EachKey-all (λ k. Unit {0}) key (λ k. tt) xs)).0
+  ordered_whole xs e = simp append-nil at (together xs [] e (Each-all (λ k. Unit {0}) (λ k. tt) (map key xs))).0
 
   -- what each line has, each line in order has
   pub each_ordered : (P : List ℕ → Type 0) (ys : Lines) → EachKey P key ys → EachKey P key (ordered_part cmp key ys)
