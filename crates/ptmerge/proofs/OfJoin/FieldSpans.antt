@@ -9,7 +9,7 @@ use Rattle.ptmerge.proofs.Common.{append-nil, flat_map-append, Join, Output, Wro
 use Rattle.ptmerge.proofs.Common.{replicate, bit_and, bit_or, or_cases, or_left, or_parts, or_right, length-map, Nowhere, IsEven, UnevenAt, is_uneven}
 use Rattle.std.proofs.lemmas.List.Quantifiers.{position-Some}
 use Rattle.ptlangs.specs.declared.outlist.OutField.{OutField}
-use Rattle.ptmerge.proofs.OfJoin.Amid.{Amid, amid_ends, amid_fails, amid_more, first_fails}
+use Rattle.ptmerge.proofs.OfJoin.Amid.{Amid}
 use Rattle.std.proofs.lemmas.Simd.{get_or-chunk, get_or-zip2, length-chunk, length-zip2, mask_l-mod}
 use Rattle.std.specs.Simd.Lanes.{chunk, mask_l, top, zip2}
 
@@ -164,9 +164,11 @@ pub others_rest : (n : ℕ) {fs more : Lines} {f : List ℕ} → n ≡ 0 → fs 
 others_rest n last is = λ k. remove (is k) (last k)
 
 -- the entry without an output list, and with one
-entry_plain : (job : Join) (k : List ℕ) (fs1 fs2 : Lines) → job.list ≡ None → entry job k fs1 fs2 ≡ k
-    ++ (led (between job.separator) (others job.field1 fs1) ++ led (between job.separator) (others job.field2 fs2))
-entry_plain job k fs1 fs2 none =
+pub entry_plain : (job : Join) (k : List ℕ) (one two : Option (List ℕ)) → job.list ≡ None → entry job k (fields_left job.separator one) (fields_left job.separator two)
+    ≡ k ++ (led (between job.separator) (others job.field1 (fields_left job.separator one)) ++ led (between job.separator) (others job.field2 (fields_left job.separator two)))
+entry_plain job k one two none =
+    let fs1 = fields_left job.separator one in
+    let fs2 = fields_left job.separator two in
     ap (λ (l : Option (List OutField)). join_with_byte (between job.separator) (written job k fs1 fs2 l)) none ∙ join_led (between job.separator) k (others job.field1 fs1 ++ others job.field2 fs2)
     ∙ ap (λ (l : List ℕ). k ++ l) (flat_map-append (λ f. between job.separator ∷ f) (others job.field1 fs1) (others job.field2 fs2))
 
@@ -190,35 +192,14 @@ pub entry_listed : (job : Join) (k : List ℕ) (one two : Option (List ℕ)) (it
     → entry job k (fields_left job.separator one) (fields_left job.separator two)
     ≡ bytes ++ led (between job.separator) (map (item_of job k one two) (take (length items - 1) (drop 1 items)))
 entry_listed job k one two items d is some {bytes} first =
-    let fs1 = fields_left job.separator one in
-    let fs2 = fields_left job.separator two in
-    let f = item_of job k one two in
-    ap (λ (l : Option (List OutField)). join_with_byte (between job.separator) (written job k fs1 fs2 l)) is
-    ∙ ap (join_with_byte (between job.separator)) (listed f items d some first) ∙ join_led (between job.separator) bytes (map f (take (length items - 1) (drop 1 items)))
+    ap (λ (l : Option (List OutField)). join_with_byte (between job.separator) (written job k (fields_left job.separator one) (fields_left job.separator two) l)) is
+    ∙ ap (join_with_byte (between job.separator)) (listed (item_of job k one two) items d some first) ∙ join_led (between job.separator) bytes _
 
 -- without an output list the key is pushed, and then the other fields of both lines
-module _ (job : Join) (one two : Option (List ℕ)) (none : job.list ≡ None) {was mid : Output} {k : List ℕ} (wrote : Wrote was mid k) where
-  abbrev fields_of : ℕ → Option (List ℕ) → List ℕ
-  fields_of n line = led (between job.separator) (others n (fields_left job.separator line))
-
-  abbrev whole : List ℕ
-  whole = entry job k (fields_left job.separator one) (fields_left job.separator two)
-
-  whole_is : whole ≡ k ++ (fields_of job.field1 one ++ fields_of job.field2 two)
-  whole_is = entry_plain job k (fields_left job.separator one) (fields_left job.separator two) none
-
-  pub key_fails : mid.faulted ≡ true → Wrote was mid whole
-  key_fails fault = first_fails _ whole_is wrote fault
-
-  module _ (clean : mid.faulted ≡ false) {new : Output} (wrote1 : Wrote mid new (fields_of job.field1 one)) where
-    after_key : Amid was mid whole (fields_of job.field1 one ++ fields_of job.field2 two)
-    after_key = record { done = k; split = whole_is; wrote = wrote; clean = clean }
-
-    pub others_fail : new.faulted ≡ true → Wrote was new whole
-    others_fail fault = amid_fails _ refl after_key wrote1 fault
-
-    pub others_end : new.faulted ≡ false → {last : Output} → Wrote new last (fields_of job.field2 two) → Wrote was last whole
-    others_end fine wrote2 = amid_ends refl (amid_more refl after_key wrote1 fine) wrote2
+pub after_key : (job : Join) (one two : Option (List ℕ)) → job.list ≡ None → {was mid : Output} {k : List ℕ} → Wrote was mid k → mid.faulted ≡ false
+    → Amid was mid (entry job k (fields_left job.separator one) (fields_left job.separator two))
+    (led (between job.separator) (others job.field1 (fields_left job.separator one)) ++ led (between job.separator) (others job.field2 (fields_left job.separator two)))
+after_key job one two none {k = k} wrote clean = record { done = k; split = entry_plain job k one two none; wrote = wrote; clean = clean }
 
 -- ---- words with one space between each two are written as they stand
 
@@ -282,14 +263,14 @@ module _ (job : Join) (key : List ℕ) (none : job.list ≡ None) where
       let ys = led lead (others job.field2 (of two)) in
       ap (λ (l : List ℕ). one ++ l ++ end ∷ []) (behind_key key ys two (stands_is w2 keyed2))
       ∙ ap (λ (l : List ℕ). l ++ ys ++ end ∷ []) (stands_is w1 keyed1)
-      ∙ ap (λ (l : List ℕ). l ++ end ∷ []) (append_assoc key (led lead (others job.field1 (of one))) ys ∙ sym (entry_plain job key (of one) (of two) none))
+      ∙ ap (λ (l : List ℕ). l ++ end ∷ []) (append_assoc key (led lead (others job.field1 (of one))) ys ∙ sym (entry_plain job key (Some one) (Some two) none))
 
   -- the entry of such a line alone
   pub first_is : {line : List ℕ} → IsAsWritten job.separator job.field1 line → nth_field job.field1 (of line) ≡ key → line ≡ entry job key (of line) []
-  first_is {line} w keyed = rw (entry_plain job key (of line) [] none, others_none lead (job.field2 - 1), append-nil (led lead (others job.field1 (of line)))) (stands_is w keyed)
+  first_is {line} w keyed = rw (entry_plain job key (Some line) None none, others_none lead (job.field2 - 1), append-nil (led lead (others job.field1 (of line)))) (stands_is w keyed)
 
   pub second_is : {line : List ℕ} → IsAsWritten job.separator job.field2 line → nth_field job.field2 (of line) ≡ key → line ≡ entry job key [] (of line)
-  second_is {line} w keyed = rw (entry_plain job key [] (of line) none, others_none lead (job.field1 - 1)) (stands_is w keyed)
+  second_is {line} w keyed = rw (entry_plain job key None (Some line) none, others_none lead (job.field1 - 1)) (stands_is w keyed)
 
 -- ---- the lanes of a vector
 

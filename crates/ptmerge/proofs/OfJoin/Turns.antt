@@ -1,22 +1,26 @@
--- What is known at each turn of `join`, and what comes of the turn.
-use Rattle.ptmerge.proofs.Common.{Comes, ◌≡◌, ℕ, Bool, true, false, cond, List, [], ◌∷◌, ◌++◌, map, refl, ap, sym, ◌∙◌, inl, inr, ◌+◌, ◌*◌, ◌≤◌, ◌<◌, Result, Ok, Err, length, subst, arith, append-nil}
-use Rattle.ptmerge.proofs.Common.{flat_map-append, bytes_decides, Join, Side, First, Second, alone1, alone2, alone_entry, entry, fields, join_by, join_entries, join_key, pairs_of, Lines, by_keys, Cmp}
-use Rattle.ptmerge.proofs.Common.{Key, Output, Wrote, Reader, IsSound, Slots, line, text, MergeFault, Sorted, Head, Ended, AddsLeast, Gathered, Gathers, IsGroup, IsGroupCleared, end_slot, first_slot}
-use Rattle.ptmerge.proofs.Common.{group, CanGoOn, HasPassed, StandsAt, State, IsMerge, IsReady, IsUnread, seen, HasSlots, both, put, AreEqual, CannotStart, IsAlone, IsDecided, IsLent, IsPlaced}
-use Rattle.ptmerge.proofs.Common.{Starts, inputs, IsCleared}
-use Rattle.ptmerge.proofs.OfComm.CommTurns.{IsOpened as Opened, comes_slots, passes_slots, readable_of, same_state, slots_of, unfailed_of, wrote_as}
-use Rattle.ptmerge.proofs.OfJoin.PhaseTurns.{Between, Gathering, Pairing, starts_between, gather_slots}
+-- What is known at each turn of `join`, and what comes of a turn between two groups.
+use Rattle.ptmerge.proofs.Common.{Comes, ◌≡◌, ℕ, Bool, true, false, cond, List, [], ◌∷◌, ◌++◌, map, refl, ap, sym, ◌∙◌, inl, inr, ◌+◌, ◌*◌, ◌≤◌, ◌<◌, Result, Ok, Err, length, subst, arith}
+use Rattle.ptmerge.proofs.Common.{append-nil, flat_map-append, bytes_decides, Join, Side, First, Second, alone1, alone2, alone_entry, entry, fields, join_by, join_entries, join_key, pairs_of, Lines}
+use Rattle.ptmerge.proofs.Common.{by_keys, Cmp, Key, Output, Wrote, Reader, IsSound, Slots, line, text, MergeFault, Sorted, Head, Ended, AddsLeast, CanGoOn, HasPassed, StandsAt, State, IsMerge}
+use Rattle.ptmerge.proofs.Common.{IsReady, IsUnread, seen, HasSlots, both, put, AreEqual, CannotStart, IsAlone, IsDecided, IsLent, IsPlaced, Starts, inputs, IsCleared, Some, ◌⊎◌, Reads, total}
+use Rattle.ptmerge.proofs.Common.{IsLine, longest, wrote_nothing, Write, Ends, other}
+use Rattle.ptmerge.proofs.OfComm.CommTurns.{IsOpened as Opened, readable_of, same_state, slots_of, unfailed_of, wrote_as, breaks_slots}
 use Rattle.std.specs.List.{flat_map}
-use Rattle.ptmerge.proofs.OfJoin.GroupTurns.{IsPairing, head_of, Call, NotPassed, moved}
+use Rattle.ptmerge.proofs.OfJoin.GroupTurns.{IsPairing, head_of, Call, NotPassed, moved, GoneOf, fits_kept, not_failed, peak_line, Grouped}
 use Rattle.ptmerge.proofs.OfMerges.Splitting.{all_keys}
-use Rattle.ptmerge.proofs.OfMerges.Turning.{IsLineByLine, alone}
+use Rattle.ptmerge.proofs.OfMerges.Turning.{IsLineByLine, alone, BothStand, ahead, all_ended, breaks, merging_on, next_at, pass_one, sides_on, stops_at, IsAbove}
 use Rattle.ptmerge.specs.declared.tools.join.Phase.{Phase}
-use Rattle.ptmerge.proofs.OfJoin.GroupSlots.{end_within, pair_of}
-use Rattle.ptmerge.proofs.OfMerges.GoingOn.{left, less, lent_on, place_is, placed_keeps}
-use Rattle.ptmerge.proofs.OfMerges.Orders.{IsKeyOrder}
-use Rattle.ptmerge.proofs.OfMerges.Pairs.{both_each}
+use Rattle.ptmerge.proofs.OfJoin.GroupSlots.{end_within, pair_of, Keeping, keeping_next, keeping_starts}
+use Rattle.ptmerge.proofs.OfMerges.GoingOn.{left, less, lent_on, place_is}
+use Rattle.ptmerge.proofs.OfMerges.Orders.{IsKeyOrder, self_at_most}
+use Rattle.ptmerge.proofs.OfMerges.Pairs.{both_each, put_each, put_other, put_same}
 use Rattle.ptmerge.proofs.OfMerges.Starting.{starts_badly, starts_well, start_refused, start_slots}
-use Rattle.ptmerge.proofs.OfJoin.PhaseTurns as phase_turns
+use Rattle.ptmerge.proofs.OfMerges.Standing.{Passed, passed}
+use Rattle.ptmerge.proofs.OfMerges.Bounds.{Bound, From}
+use Rattle.ptmerge.proofs.OfMerges.Got.{reads_nothing}
+use Rattle.ptmerge.proofs.OfMerges.Passing.{Late, Merging, late_none}
+use Rattle.ptmerge.proofs.OfMerges.Slotted.{has_lines_total}
+use Rattle.ptmerge.proofs.OfMerges.Stopping.{Concludes, gone_passed, gone_standing, stops}
 use Rattle.ptmerge.specs.declared.faults.MergeFault.TheVariants as faults
 use Rattle.ptmerge.specs.declared.tools.join.Phase.TheVariants as phases
 
@@ -62,6 +66,37 @@ module _ (job : Join) (cmp : Cmp) (key : Side → Key) where
   written_alone Second x is = rw ((bytes_decides (key Second x) (key Second x)).1 refl) (append-nil (alone2 job (key Second x) (x ∷ [])) ∙ ap (λ (k : List ℕ). alone2 job k (x ∷ [])) is)
 
 -- ---- the phases
+
+-- no group is open
+pub record Between (call : Call) (now : State) (place : Side → Sorted) : Type 0 where
+  pub ls : Side → Lines
+  pub p : Side → Lines
+  pub b : Side → Bound
+  pub sides : BothStand call.tool call.old.reader now.reader place now.store ls p b
+  pub merging : Merging call.tool b p call.old.out now.out
+  pub keeps : Keeping (call.key Second) call.old.store now.store ls []
+
+-- both inputs stand at a line of a key, and the second one's lines of it are gathered
+pub record Gathering (call : Call) (now : State) (place : Side → Sorted) (end : ℕ) : Type 0 where
+  pub k : List ℕ
+  pub g : Lines
+  pub q : Grouped call now place end k (both [] g) g
+  pub heads : (side : Side) → ((place side).stand ≡ Head) × (call.key side (head_of now place side) ≡ k)
+
+-- the group's lines are those that are kept, or its only one is the line before that at which the second input stands
+abbrev pub Held : Slots → Sorted → Lines → Lines → Type 0
+Held store second kept g = (kept ≡ g) ⊎ ((kept ≡ []) × (g ≡ line store second.previous ∷ []))
+
+-- they are gathered, and a line of the first input with this key stands
+pub record Pairing (call : Call) (now : State) (place : Side → Sorted) (end : ℕ) : Type 0 where
+  pub k : List ℕ
+  pub g : Side → Lines
+  pub kept : Lines
+  pub q : Grouped call now place end k g kept
+  pub lines_in : Held now.store (place Second) kept (g Second)
+  pub some : 0 < length (g Second)
+  pub above : IsAbove call.cmp (call.key Second) k (q.d Second)
+  pub head : ((place First).stand ≡ Head) × (call.key First (head_of now place First) ≡ k)
 
 -- what is known in a phase
 abbrev pub Phased : Call → Phase → State → (Side → Sorted) → ℕ → Type 0
@@ -121,17 +156,17 @@ Leaves job cmp key old new result = record { merged : IsMerge (join_by job cmp k
 -- ---- the start
 
 module _ {job : Join} {cmp : Cmp} {key : Side → Key} {old : State} (a : IsOpened job cmp key old) where
-  open a.w use {o, fits, ending, sound, readable, unfailed, writable, allowed, empty}
-
   pub begins : {first second : Reader} {store : Slots} {one two : Sorted} → Starts key cmp (both one two) (record { reader = old.reader; store = old.store }) (inputs first second store)
       → IsPlaced key one two store → IsLent one first × IsLent two second → IsTurn job cmp key old phases.Between (seen first second old.out store) one two 4
-  begins {first} {second} {store} {one} {two} starts placed lent = record {
-    opened = a;
-      phased = (starts_between (starts_well a.w (inputs first second store) (both one two) placed.first starts), refl);
-    placed = placed;
-    lent = elim [ First ↦ lent.0 | Second ↦ lent.1 ];
-    clean = writable;
-  }
+  begins {first} {second} {store} {one} {two} starts placed lent =
+      let r = starts_well a.w (inputs first second store) (both one two) placed.first starts in
+      record {
+        opened = a;
+        phased = (record { ls = r.ls; p = r.p; b = r.b; sides = r.sides; merging = r.merging; keeps = keeping_starts r.keeps }, refl);
+        placed = placed;
+        lent = elim [ First ↦ lent.0 | Second ↦ lent.1 ];
+        clean = a.w.writable;
+      }
 
   pub start_stops : {first second : Reader} {store : Slots} {fault : MergeFault}
       → CannotStart key cmp (record { reader = old.reader; store = old.store }) (record { reader = both first second; store = store }) fault
@@ -146,7 +181,9 @@ module _ {job : Join} {cmp : Cmp} {key : Side → Key} {old : State} (a : IsOpen
 
 module _ {job : Join} {cmp : Cmp} {key : Side → Key} {old : State} {phase : Phase} {now : State} {one two : Sorted} {end : ℕ}
     (t : IsTurn job cmp key old phase now one two end) where
-  slots : (side : Side) → HasSlots side (both one two side)
+  open t.opened.w use {o}
+
+  pub slots : (side : Side) → HasSlots side (both one two side)
   slots = slots_of one two now.store t.placed
 
   -- the slots of the group are there, and none went
@@ -158,7 +195,7 @@ module _ {job : Join} {cmp : Cmp} {key : Side → Key} {old : State} {phase : Ph
   pub end_in : (4 ≤ end) × (end ≤ length now.store.lines)
   end_in = (bounds phase t.phased).0
 
-  leaves : {new : State} {fault : Result (Unit {0}) MergeFault} {r : Result (Unit {0}) MergeFault} → r ≡ fault → length now.store.lines ≤ length new.store.lines
+  pub leaves : {new : State} {fault : Result (Unit {0}) MergeFault} {r : Result (Unit {0}) MergeFault} → r ≡ fault → length now.store.lines ≤ length new.store.lines
       → IsMerge (join_by job cmp key) old new fault → Leaves job cmp key old new r
   leaves is more merged = record {
     merged = rw is merged;
@@ -166,7 +203,7 @@ module _ {job : Join} {cmp : Cmp} {key : Side → Key} {old : State} {phase : Ph
     slots = record { least = omega (arith, more, (bounds phase t.phased).1); all = λ allowed. omega (arith, more, t.placed.slots) };
   }
 
-  went_on : {next : Phase} (s : Side) {one2 two2 : Sorted} {reader : Reader} {after : Slots} {new : Output} {to : ℕ} → CanGoOn key s one two one2 two2 reader after new
+  pub went_on : {next : Phase} (s : Side) {one2 two2 : Sorted} {reader : Reader} {after : Slots} {new : Output} {to : ℕ} → CanGoOn key s one two one2 two2 reader after new
       → Phased (call_of t.opened) next (moved now s reader new after) (put s (both one2 two2 s) (both one two)) to → IsTurn job cmp key old next (moved now s reader new after) one2 two2 to
   went_on {next} s {one2} {two2} {reader} {after} {new} {to} on phased = record {
     opened = t.opened;
@@ -191,94 +228,130 @@ module _ {job : Join} {cmp : Cmp} {key : Side → Key} {old : State} {phase : Ph
     between : Between (call_of t.opened) now (both one two) × (end ≡ 4)
     between = rw is at t.phased
 
+    r : Between (call_of t.opened) now (both one two)
+    r = between.0
+
+    went : (side : Side) → (now.reader side).failed ≡ (old.reader side).failed
+    went side = (r.sides side).got.goes.failed
+
+    stand : (side : Side) → GoneOf (call_of t.opened) now side (now.reader side) [] (r.ls side) (r.p side) (r.b side)
+    stand side = gone_standing (r.sides side)
+
+    -- a line that one input alone has
     module _ {s : Side} (step : IsAlone cmp key (both one two) now.store s) {new : Output} {e : ℕ} (ends : e ≡ (old.reader First).ending)
         (pushed : Wrote now.out new (text e (alone_entry job s (head_of now (both one two) s)))) where
-      wrote : Wrote now.out new (text job.end (by_keys (join_by job cmp key) all_keys (alone s (head_of now (both one two) s))))
-      wrote = let x = head_of now (both one two) s in wrote_as _ _ _ _ _ _ (ends ∙ t.opened.w.ending First) (written_alone job cmp key s x (t.opened.keys s x)) pushed
+      abbrev q : Side → Lines
+      q = put s (r.ls s) r.p
+
+      at_head : Passed cmp (key s) (both one two s) now.store (r.ls s) (r.p s) (r.b s)
+      at_head = passed step.stands (r.sides s)
+
+      pushed_alone : Merging (join_by job cmp key) r.b q old.out new × Late (join_by job cmp key) r.b q old.out new
+      pushed_alone =
+          let x = head_of now (both one two) s in
+          let a = ahead cmp o _ _ _ _ _ _ _ _ _ step.before (r.sides (other s)).stands in
+          rw at_head.all (pass_one _ o (line_by_line job cmp key) s x r.b r.p _ _ _ t.clean r.merging at_head.bound a.0 a.1
+          (wrote_as _ _ _ _ _ _ (ends ∙ t.opened.w.ending First) (written_alone job cmp key s x (t.opened.keys s x)) pushed))
 
       pub alone_on : {one2 two2 : Sorted} {reader : Reader} {after : Slots} → HasPassed key cmp s one two one2 two2 (now.reader s) reader now.store after new
           → IsTurn job cmp key old phase (moved now s reader new after) one2 two2 end
-      alone_on h = went_on {next = phase} s h.on (rw is (phase_turns.alone_on between.0 t.clean slots step wrote h.came, between.1))
+      alone_on {one2} {two2} {reader} {after} h =
+          let n = next_at (join_by job cmp key) o _ _ _ _ _ _ _ r.sides slots r.keeps.four s step.stands reader (both one2 two2 s) after h.came in
+          went_on {next = phase} s h.on (rw is (
+            record {
+              ls = put s n.now_ls r.ls;
+              p = q;
+              b = put s n.bound r.b;
+              sides = sides_on (join_by job cmp key) o _ _ _ _ _ _ _ r.sides slots r.keeps.four s step.stands reader (both one2 two2 s) after n;
+              merging = merging_on (join_by job cmp key) o _ _ _ _ _ _ _ r.sides slots r.keeps.four s step.stands reader (both one2 two2 s) after n q _ _ pushed_alone.0;
+              keeps = keeping_next s (both one two s) (slots s) r.keeps n;
+            },
+            between.1,
+          ))
+
+      passing_one : (reader : Reader) (piece : List ℕ) → Reads (now.reader s) reader piece → IsLine (now.reader s).ending piece → IsSound reader
+          → GoneOf (call_of t.opened) now s reader piece (r.ls s) (r.ls s) (r.b s)
+      passing_one reader piece reads free sound = rw at_head.bound (gone_passed o (r.sides s).got reads free sound at_head.begun)
 
       pub alone_stops : {reader : Reader} {after : Slots} {fault : MergeFault} {r : Result (Unit {0}) MergeFault} → r ≡ Err fault
           → NotPassed now s (both one two s) reader after new fault → Leaves job cmp key old (moved now s reader new after) r
-      alone_stops {fault = fault} is_fault h = leaves is_fault (omega (arith, passes_slots (key s) cmp s (both one two s) (both one two s) _ _ _ _ _ fault h))
-          (phase_turns.alone_stops between.0 t.clean slots step wrote h)
+      alone_stops {reader} {fault = fault} is_fault (inl e) = leaves is_fault (omega (arith, ap (λ (z : Slots). length z.lines) e.1.store)) (same_state _ _ s now _ reader _ _ e.0 e.1
+          (stops (join_by job cmp key) o _ _ _ _ _ _ _
+          (put_each (λ side (l : Lines). GoneOf (call_of t.opened) now side (now.reader side) [] (r.ls side) l (r.b side)) s (r.ls s) r.p
+          (passing_one (now.reader s) [] (reads_nothing (now.reader s)) tt (r.sides s).sound) stand)
+          pushed_alone.0 pushed_alone.1 (Err Write) (record { faulted = e.1.faulted; failed = went; denied = r.keeps.denied }) (λ side. not_failed (call_of t.opened) side (went side)) tt
+          (fits_kept (call_of t.opened) r.keeps now.store (omega arith) refl)))
+      alone_stops {reader} {after} {fault} is_fault (inr e) =
+          let same : q s ≡ r.ls s = put_same s (r.ls s) r.p in
+          leaves is_fault (omega (arith, breaks_slots s (both one two s) _ _ _ _ fault e.1))
+          (breaks (join_by job cmp key) o old (record now { out = new }) r.ls q r.b pushed_alone.0 t.opened.w.unfailed went e.0 s (both one two s) reader after fault
+          (λ new piece reads free sound. rw same (passing_one new piece reads free sound)) (sym same) (Some (key s (head_of now (both one two) s)))
+          (rw same at_head.begun) (rw (put_other s (r.ls s) r.p) (stand (other s))) r.keeps.denied (λ piece. peak_line (call_of t.opened) r.keeps s (both one two s) (slots s) piece) e.1)
 
+    -- both inputs have a key, and a group of it opens
     pub opens : AreEqual cmp key (both one two) now.store → IsTurn job cmp key old phases.Gathering now one two end
-    opens step = record { opened = t.opened; phased = rw between.1 (phase_turns.opens between.0 t.clean step); placed = t.placed; lent = t.lent; clean = t.clean }
+    opens step =
+        let k = key First (head_of now (both one two) First) in
+        let bounds : (side : Side) → r.b side ≡ From k = elim [ First ↦ (passed step.first (r.sides First)).bound | Second ↦ rw step.same (passed step.second (r.sides Second)).bound ] in
+        let none : (side : Side) → r.p side ≡ r.p side ++ both [] [] side = elim [ First ↦ sym (append-nil (r.p First)) | Second ↦ sym (append-nil (r.p Second)) ] in
+        record {
+          opened = t.opened;
+          phased = record {
+            k = k;
+            g = [];
+            q = record {
+              ls = r.ls;
+              p = r.p;
+              d = λ side. From k;
+              mid = now.out;
+              sides = λ side. rw (← none side, ← bounds side) (r.sides side);
+              within = record {
+                merging = subst (λ (b : Side → Bound). Merging (join_by job cmp key) b r.p old.out now.out) (λ i side. bounds side i) r.merging;
+                clean = t.clean;
+                own = elim [ First ↦ tt | Second ↦ tt ];
+                beyond = λ side l c. c;
+                under = λ side. self_at_most cmp o k;
+              };
+              keeps = r.keeps;
+              wrote = rw ((join_pairs job cmp key).none k []) (wrote_nothing now.out);
+              at = between.1;
+            };
+            heads = elim [ First ↦ (step.first, refl) | Second ↦ (step.second, sym step.same) ];
+          };
+          placed = t.placed;
+          lent = t.lent;
+          clean = t.clean;
+        }
 
     -- the lines of a key are gathered next
     pub opens_less : 3 * left now.reader one two + rank phases.Gathering < 3 * left now.reader one two + rank phase
     opens_less = omega (arith, ap rank is)
 
-    pub ended : {after : Slots} → IsCleared now.store after → ((side : Side) → (both one two side).stand ≡ Ended) → Leaves job cmp key old (record now { store = after }) (Ok tt)
-    ended clear step = leaves refl (omega (arith, clear.slots)) (phase_turns.ended between.0 t.clean clear t.opened.w.sound t.opened.w.readable step)
+    -- the end
+    module _ {after : Slots} (clear : IsCleared now.store after) where
+      empty : total after.lines ≡ 0
+      empty = omega (arith, clear.emptied, (has_lines_total now.store.lines (λ side. longest (r.ls side)) 0 r.keeps.lines).2)
 
-    pub fallen : {after : Slots} → IsCleared now.store after → {s : Side} {n : ℕ} → IsDecided cmp key (both one two) now.store s n
-        → Leaves job cmp key old (record now { store = after }) (Err (faults.Disorder s n))
-    fallen clear step = leaves refl (omega (arith, clear.slots)) (phase_turns.fallen between.0 t.clean clear step)
+      concludes : (result : Result (Unit {0}) MergeFault) → Ends old (record now { store = after }) result → Concludes (join_by job cmp key) r.b result
+          → Leaves job cmp key old (record now { store = after }) result
+      concludes result ends at = leaves refl (omega (arith, clear.slots)) (stops (join_by job cmp key) o _ _ _ _ _ _ _ stand r.merging
+          (late_none _ _ _ _ _ _ t.clean r.merging.wrote (wrote_nothing now.out)) result ends (λ side. not_failed (call_of t.opened) side (went side)) at
+          (fits_kept (call_of t.opened) r.keeps after clear.peak clear.slots))
 
-  -- ---- while a group is gathered
+      pub ended : ((side : Side) → (both one two side).stand ≡ Ended) → Leaves job cmp key old (record now { store = after }) (Ok tt)
+      ended step =
+          let e = all_ended (join_by job cmp key) _ _ _ _ _ _ _ r.sides step in
+          concludes (Ok tt) (record {
+            done = λ side. (e side).1;
+            fault = λ side. (r.sides side).got.goes.fault;
+            failed = went;
+            short = λ side. (r.sides side).got.goes.short ((t.opened.w.sound side).long (t.opened.w.readable side));
+            clean = t.clean;
+            denied = clear.denied ∙ r.keeps.denied;
+            empty = empty;
+          }) (λ side. (e side).0)
 
-  module _ (is : phase ≡ phases.Gathering) where
-    gathering : Gathering (call_of t.opened) now (both one two) end
-    gathering = rw is at t.phased
-
-    pub gather_stands : StandsAt key Second one two (now.reader Second) now.store
-    gather_stands = stands_at Second (gathering.heads Second).0
-
-    module _ {out : Output} (sent : Wrote now.out out []) where
-      pub gather_stops : {two2 : Sorted} {reader : Reader} {after : Slots} {fault : MergeFault} {r : Result (Unit {0}) MergeFault} → r ≡ Err fault
-          → Gathers (key Second) cmp two two2 (now.reader Second) reader now.store after out end (Err fault) → Leaves job cmp key old (moved now Second reader out after) r
-      gather_stops {reader = reader} is_fault (inl e) = leaves is_fault (omega (arith, ap (λ (z : Slots). length z.lines) e.1.store))
-          (same_state _ _ Second now _ reader _ _ e.0 e.1 (phase_turns.not_sent gathering slots t.clean sent e.1.faulted))
-      gather_stops {fault = fault} is_fault (inr e) = leaves is_fault (gather_slots fault e.1) (phase_turns.not_gathered gathering slots t.clean sent e.0 fault e.1)
-
-      module _ {one2 two2 : Sorted} {reader : Reader} {after : Slots} {to : ℕ}
-          (h : Gathered (key Second) cmp two two2 (now.reader Second) reader now.store after end to) (on : CanGoOn key Second one two one2 two2 reader after out) where
-        pub gathers_on : two2.same ≡ true → IsTurn job cmp key old phase (moved now Second reader out after) one2 two2 to
-        gathers_on same = went_on {next = phase} Second on (rw is (phase_turns.gathers_on gathering slots t.clean sent h same))
-
-        pub pairs_next : two2.same ≡ false → IsTurn job cmp key old phases.Pairing (moved now Second reader out after) one2 two2 to
-        pairs_next same = went_on {next = phases.Pairing} Second on (phase_turns.pairs_next gathering slots t.clean sent h same)
-
-  -- ---- while it is paired
-
-  module _ (is : phase ≡ phases.Pairing) where
-    pairing : Pairing (call_of t.opened) now (both one two) end
-    pairing = rw is at t.phased
-
-    pub pair_stands : StandsAt key First one two (now.reader First) now.store
-    pair_stands = stands_at First pairing.head.0
-
-    pub pair_group : IsGroup (join_key job Second) two now.store end (key First (line now.store one.standing))
-    pair_group = record {
-      within = end_in;
-      keyed = λ slot from low. sym (t.opened.keys Second (line now.store slot)) ∙ phase_turns.keyed_slot pairing slot from low ∙ sym pairing.head.1;
-    }
-
-    module _ {new : Output} {e : ℕ} (ends : e ≡ (old.reader First).ending)
-        (pushed : Wrote now.out new (text e (pairs_of job (key First (line now.store one.standing)) (line now.store one.standing ∷ [])
-        (group now.store (first_slot two end) (end_slot two end))))) where
-      wrote_pairs : Wrote now.out new (text job.end (pairs_of job pairing.k (line now.store one.standing ∷ []) (pairing.g Second)))
-      wrote_pairs = wrote_as _ _ _ _ _ _ (ends ∙ t.opened.w.ending First)
-          (λ j. pairs_of job (sym pairing.head.1 j) (line now.store one.standing ∷ []) (sym (phase_turns.group_stands pairing slots) j)) pushed
-
-      pub pair_stops : {reader : Reader} {after : Slots} {fault : MergeFault} {r : Result (Unit {0}) MergeFault} → r ≡ Err fault
-          → NotPassed now First one reader after new fault → Leaves job cmp key old (moved now First reader new after) r
-      pair_stops {fault = fault} is_fault h = leaves is_fault (omega (arith, passes_slots (key First) cmp First one one _ _ _ _ _ fault h))
-          (phase_turns.pair_stops pairing slots wrote_pairs t.clean h)
-
-      module _ {one2 two2 : Sorted} {reader : Reader} {after : Slots} (h : HasPassed key cmp First one two one2 two2 (now.reader First) reader now.store after new) where
-        pub group_there : (4 ≤ end) × (end ≤ length after.lines)
-        group_there = (end_in.0, omega (arith, end_in.1, comes_slots _ _ _ _ _ _ _ _ h.came))
-
-        pub pairs_on : one2.same ≡ true → IsTurn job cmp key old phase (moved now First reader new after) one2 two2 end
-        pairs_on same = went_on {next = phase} First h.on (rw is (phase_turns.pairs_on pairing slots wrote_pairs t.clean h.came same))
-
-        pub group_closed : {cleared : Slots} → IsGroupCleared after cleared end → one2.same ≡ false → IsTurn job cmp key old phases.Between (moved now First reader new cleared) one2 two2 4
-        group_closed {cleared} clear same =
-            let placed = placed_keeps _ _ _ _ _ h.on.placed (omega (arith, clear.slots)) (λ slot low. clear.others slot (inl low)) in
-            went_on {next = phases.Between} First (record { clean = h.on.clean; others = h.on.others; placed = placed; lent = h.on.lent })
-            (phase_turns.group_closed pairing slots wrote_pairs t.clean h.came same clear, refl)
+      pub fallen : {s : Side} {n : ℕ} → IsDecided cmp key (both one two) now.store s n → Leaves job cmp key old (record now { store = after }) (Err (faults.Disorder s n))
+      fallen {s} {n} step = concludes (Err (faults.Disorder s n))
+          (record { fault = λ side. (r.sides side).got.goes.fault; failed = went; clean = t.clean; denied = clear.denied ∙ r.keeps.denied; empty = empty })
+          (stops_at (join_by job cmp key) o _ _ _ _ _ _ _ r.sides s n step)

@@ -1,16 +1,13 @@
 -- The first field of a list has nothing in front of it, so it is pushed before the loop; each turn pushes one more.
-use Rattle.ptmerge.proofs.Common.{◌-◌, ◌∷◌, ℕ, List, sym, take, drop, map, length, option_copied, ◌∙◌, join_job, between, led}
+use Rattle.ptmerge.proofs.Common.{◌∷◌, ℕ, List, sym, option_copied, ◌∙◌, join_job, between}
 use Rattle.ptmerge.proofs.OfJoin.Amid.{each_fails, each_more, first_fails}
 use Rattle.ptmerge.proofs.OfJoin.FieldSpans.{between_is, entry_listed, item_of, listed}
 use Rattle.ptmerge.proofs.tools.join.entries.push_listed.Goals as goal
 
 pub returns-in_err-push-clause-wrote : goal.returns-in_err-push-clause-wrote
 returns-in_err-push-clause-wrote g c =
-    let job = join_job c.args.job.now in
-    let f = item_of job c.args.key.now (option_copied c.args.one) (option_copied c.args.two) in
-    first_fails (led (between job.separator) (map f (take (length c.args.items.now - 1) (drop 1 c.args.items.now))))
-    (entry_listed job c.args.key.now (option_copied c.args.one) (option_copied c.args.two) c.args.items.now _ c.requires.listed c.in-len1-up.len_at_least c.listed_field.ensures)
-    c.push.ensures.wrote c.in_err-push.ensures.fault
+    first_fails _ (entry_listed (join_job c.args.job.now) c.args.key.now (option_copied c.args.one) (option_copied c.args.two) c.args.items.now _
+    c.requires.listed c.in-len1-up.len_at_least c.listed_field.ensures) c.push.ensures.wrote c.in_err-push.ensures.fault
 
 pub items-init : goal.items-init
 items-init g c = record {
@@ -23,14 +20,12 @@ items-init g c = record {
 
 pub returns-in_err-push_led-clause-wrote : goal.returns-in_err-push_led-clause-wrote
 returns-in_err-push_led-clause-wrote g c =
-    let job = join_job c.args.job.now in
-    each_fails (λ (l : List ℕ). between job.separator ∷ l) (listed (item_of job c.args.key.now (option_copied c.args.one) (option_copied c.args.two)) c.items.rest.now _
-    c.in-len1-up-rest.len_at_least c.listed_field-in-len1-up-rest.ensures) c.items.invariant
-    (rw (c.unwrap_or-lead.ensures ∙ sym (between_is job.separator)) at c.push_led.ensures.wrote) c.in_err-push_led.ensures.fault
+    each_fails (λ (l : List ℕ). between (join_job c.args.job.now).separator ∷ l)
+    (listed (item_of (join_job c.args.job.now) c.args.key.now (option_copied c.args.one) (option_copied c.args.two)) c.items.rest.now _ c.in-len1-up-rest.len_at_least
+    c.listed_field-in-len1-up-rest.ensures) c.items.invariant (rw (c.unwrap_or-lead.ensures ∙ sym (between_is (join_job c.args.job.now).separator)) at c.push_led.ensures.wrote) c.in_err-push_led.ensures.fault
 
 pub items-preserved : goal.items-preserved
 items-preserved g c =
-    let job = join_job c.args.job.now in
-    each_more (λ (l : List ℕ). between job.separator ∷ l) (listed (item_of job c.args.key.now (option_copied c.args.one) (option_copied c.args.two)) c.items.rest.now _
-    c.in-len1-up-rest.len_at_least c.listed_field-in-len1-up-rest.ensures) c.items.invariant
-    (rw (c.unwrap_or-lead.ensures ∙ sym (between_is job.separator)) at c.push_led.ensures.wrote) c.in_ok-push_led.ensures.clean
+    each_more (λ (l : List ℕ). between (join_job c.args.job.now).separator ∷ l)
+    (listed (item_of (join_job c.args.job.now) c.args.key.now (option_copied c.args.one) (option_copied c.args.two)) c.items.rest.now _ c.in-len1-up-rest.len_at_least
+    c.listed_field-in-len1-up-rest.ensures) c.items.invariant (rw (c.unwrap_or-lead.ensures ∙ sym (between_is (join_job c.args.job.now).separator)) at c.push_led.ensures.wrote) c.in_ok-push_led.ensures.clean
