@@ -178,20 +178,16 @@ module _ {d : ℕ} (all : List Interval) {line : List ℕ} (tail : List ℕ) (i 
 
       -- the interval reaches the end of the line, which stands in front of these bytes
       pub walking_ends : (count : ℕ) (bytes : List ℕ) → line ≡ take count bytes → tail ≡ drop count bytes → length (fields d rest) ≤ size → to_come ≡ drop (from - lead) bytes
-      walking_ends count bytes is_line is_tail few = same ∙ sym slice
-        where
-          number_of : length here ≤ skip + size
-          number_of = omega (arith, few, ap length (s.later ∙ ap (fields d) (drop-drop skipped at line)), length-drop skip here)
-
-          same : to_come ≡ laid d lead (fields d rest) ++ tail
-          same = cc (
+      walking_ends count bytes is_line is_tail few =
+          let number_of : length here ≤ skip + size = omega (arith, few, ap length (s.later ∙ ap (fields d) (drop-drop skipped at line)), length-drop skip here) in
+          cc (
             these,
             here_is,
             take_all size (fields d rest) few,
             chosen_none (is_selected rs) number here (λ m low high. not_selected rs (r.last + 1) m apart.2 (omega (arith, number_of, not_past, apart.1))),
             append-nil (fields d rest),
+            take-append-drop count bytes,
+            drop-append-le (from - lead) line tail (omega (arith, from_fits)),
+            lead_drop,
+            led_fields d rest,
           )
-
-          slice : drop (from - lead) bytes ≡ laid d lead (fields d rest) ++ tail
-          slice =
-              cc (take-append-drop count bytes, drop-append-le (from - lead) line tail (omega (arith, from_fits)), lead_drop, led_fields d rest)
