@@ -6,7 +6,7 @@ use Rattle.ptflow.proofs.Common.{take_all, drop_more, take_at, drop_at, length-t
 use Rattle.ptflow.proofs.Common.{trailing_mask_l, ones-mask_l, get_or-chunk, length-chunk, IsFirstByte, NoneBefore, Passes, is_byte, IsLine, before_end, other_byte, IsBehind, HasEnds, fields}
 use Rattle.ptflow.proofs.Common.{StartsAt, put_chunk, take_more_put_chunk, length-put_chunk, length-set, unwrap_or, delim_at, with_turns, slice_set, count_by_more_yes, cases_lt, length-map}
 use Rattle.std.proofs.lemmas.List.{get_or-drop}
-use Rattle.ptflow.proofs.OfBytes.LaneLemmas.{map_self}
+use Rattle.ptflow.proofs.OfBytes.LaneLemmas.{map-id}
 use lib.Bits.{bit_and, and_step, and_self, and_zero_l}
 use lib.Count.{count_trailing_zeros}
 use Rattle.ptflow.proofs.OfCut.FieldPlaces.{fields-append, led_fields, starts_more, few_left}
@@ -71,7 +71,7 @@ some_set (false ∷ bits) lt = let some = some_set bits (omega arith) in omega a
 
 lowest_set : (bits : List Bool) → length bits ≤ 64 → prefix_len not bits < length bits → count_trailing_zeros 64 (mask_l bits) ≡ prefix_len not bits
 lowest_set bits few some =
-    cc (map_self bits, trailing_mask_l (λ b. b) 64 bits few (rw (map_self bits) (some_set bits some)))
+    cc (map-id bits, trailing_mask_l (λ b. b) 64 bits few (rw (map-id bits) (some_set bits some)))
 
 -- ---- the item behind so many that pass
 

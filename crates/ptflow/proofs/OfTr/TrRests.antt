@@ -155,14 +155,12 @@ one_byte tables last byte stays stays_too =
     by_test t = grind arith
 
 pub tr_behind_byte : TrBehindByte
-tr_behind_byte tables byte a b ends kept unsqueezed = tr_of_parts tables a b
-    (λ c is begins. cc (same_last c (image tables byte) (tr tables a) is last, unsqueezed))
-  where
-    last : EndsWith (image tables byte) (tr tables a)
-    last = (
+tr_behind_byte tables byte a b ends kept unsqueezed =
+    let last : EndsWith (image tables byte) (tr tables a) = (
       tr tables ends.0,
       cc (ends.1, front_on tables None ends.0 (byte ∷ []), one_byte tables (last_or None (tr tables ends.0)) byte kept unsqueezed),
-    )
+    ) in
+    tr_of_parts tables a b (λ c is begins. cc (same_last c (image tables byte) (tr tables a) is last, unsqueezed))
 
 -- bytes that begin with the byte in front of them, which is squeezed
 behind_same : (squeezed : ℕ → Bool) (last : ℕ) (bytes rest : List ℕ) → squeezed last ≡ true → squeeze squeezed bytes ≡ last ∷ rest → squeeze_behind squeezed last bytes ≡ rest
