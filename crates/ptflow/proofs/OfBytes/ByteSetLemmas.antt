@@ -130,13 +130,9 @@ pub one_more_flag : (table : List ℕ) (flags : List Bool) (n : ℕ) {x : ℕ} �
     → ((b : ℕ) → b < 128 → marks table b ≡ (ltb b n && get_or flags b false))
     → (b : ℕ) → b < 128 → marks (filled table n x) b ≡ (ltb b (n + 1) && get_or flags b false)
 one_more_flag table flags n long within is marked b byte =
-    cc (filled_is table long within (get_or flags n false) byte, ⊎_elim here there (cases_eq b n))
-  where
-    here : b ≡ n → cond (eqb b n) (get_or flags n false || marks table n) (marks table b) ≡ (ltb b (n + 1) && get_or flags b false)
-    here same = let before = marked n within in grind (arith, nat_tests, before, ap (λ m. get_or flags m false) same)
-
-    there : (b ≡ n → ⊥) → cond (eqb b n) (get_or flags n false || marks table n) (marks table b) ≡ (ltb b (n + 1) && get_or flags b false)
-    there other = let before = marked b byte in grind (arith, nat_tests, before)
+    ap (λ k. marks (filled table n k) b) is ∙ filled_is table long within (get_or flags n false) byte ∙ ⊎_elim
+    (λ same. let before = marked n within in grind (arith, nat_tests, before, same, ap (λ m. get_or flags m false) same))
+    (λ other. let before = marked b byte in grind (arith, nat_tests, before, other)) (cases_eq b n)
 
 -- ---- a set of two tables
 
