@@ -3,7 +3,6 @@ use Rattle.ptlangs.proofs.Common.{◌≡◌, Bool, Err, List, None, Ok, Option, 
 use Rattle.ptlangs.proofs.Common.{result_err, Backslash, IsDelim, IsDelimList, Last, More, Newline, Nothing, Tab, backslash, delim_list, delims, escape, fault_of, and_then, put_first, DelimFault}
 use Rattle.std.proofs.lemmas.Bool.{cond_both}
 use Rattle.ptlangs.proofs.Elements.{reads_first}
-use Rattle.ptlangs.specs.declared.delims.DelimFault.TheVariants.{Escape}
 use Rattle.ptlangs.specs.DelimLists.{Plain, AcceptsTheGrammar}
 
 pub delims_of_some : (bs : List ℕ) → 0 < length bs → delims bs ≡ delim_list bs

@@ -1,7 +1,9 @@
--- The parts of a list, reading them in turn, and that what is accepted is what the grammar has.
+-- The parts of a list, reading them in turn, that what is accepted is what the grammar has, and decimal numbers.
 use Rattle.ptlangs.proofs.Common.{◌≡◌, Bool, Err, List, None, Ok, Result, Some, [], ap, arith, cond, drop, false, get_or, length, ltb, refl, subst, sym, take, true, ℕ, ◌++◌, ◌+◌, ◌-◌, ◌∙◌, ◌∷◌}
 use Rattle.ptlangs.proofs.Common.{ltb-false, ltb-true, nat_tests, append_assoc, length-drop, take_all, slice_split_at, slice_split_first, slice_split_none, AllPass-from_list_all, fails_before_first}
-use Rattle.ptlangs.proofs.Common.{is_ascii_digit, All, onto_first, position, position_or_len, slice_split, IsListOf, and_then, each, elements, is_number, is_separator, put_first}
+use Rattle.ptlangs.proofs.Common.{is_ascii_digit, All, onto_first, position, position_or_len, slice_split, IsListOf, and_then, each, elements, is_number, is_separator, put_first, eqb, leb, not, ◌&&◌}
+use Rattle.ptlangs.proofs.Common.{◌*◌, ◌<◌, ◌≤◌, and_from, and_right, cond-false, cond-true, le-leb, lt-leb, ne_eqb, not_from_false, drop_all, drop_more, digit_value, list_all, digits_value_after}
+use Rattle.ptlangs.proofs.Common.{greatest, is_empty, number, value}
 use Rattle.ptlangs.specs.Numbers.{Last, More}
 
 -- ---- the parts between bytes
@@ -117,3 +119,37 @@ reads_parts read Says a bs parts xs (Cut e s ys rest cut split) h =
 
 pub to_grammar : {A E : Type 0} (read : List ℕ → Result A E) (Says : List ℕ → A → Type 0) → Accepts read Says → (bs : List ℕ) (xs : List A) → each read (elements bs) ≡ Ok xs → IsListOf Says bs xs
 to_grammar read Says a bs xs h = reads_parts read Says a bs (elements bs) xs (splits is_separator bs) h
+
+-- ---- reading decimal digits from the left
+
+-- further digits make no number less
+pub after-ge : (n : ℕ) (ds : List ℕ) → n ≤ digits_value_after 10 n ds
+after-ge n [] = omega arith
+after-ge n (d ∷ ds) = omega (arith, after-ge (n * 10 + digit_value d) ds)
+
+pub too_large : (bs : List ℕ) → greatest < value bs → None ≡ number bs
+too_large bs h =
+    sym (cond-false (is_number bs && leb (value bs) greatest) (Some (value bs)) None (and_right (is_number bs) (leb (value bs) greatest) (lt-leb (value bs) greatest h)))
+
+-- the digit at i makes the number too large, whatever follows
+pub too_large_at : (bs : List ℕ) (i n : ℕ) → i < length bs → value bs ≡ digits_value_after 10 n (drop i bs) → greatest < n * 10 + digit_value (get_or bs i 0) → None ≡ number bs
+too_large_at bs i n below e h =
+    let is : value bs ≡ digits_value_after 10 (n * 10 + digit_value (get_or bs i 0)) (drop (i + 1) bs) = e ∙ ap (digits_value_after 10 n) (drop_more bs i 0 below) in
+    too_large bs (omega (arith, is, after-ge (n * 10 + digit_value (get_or bs i 0)) (drop (i + 1) bs)))
+
+-- the number, where it is read to the end
+pub is_its_value : (bs : List ℕ) (i n : ℕ) → is_empty bs ≡ false → length bs ≤ i → value bs ≡ digits_value_after 10 n (drop i bs) → list_all is_ascii_digit bs
+    ≡ list_all is_ascii_digit (drop i bs) → n ≤ greatest → Some n ≡ number bs
+is_its_value bs i n some end e digits fits =
+    let v : value bs ≡ n = e ∙ ap (digits_value_after 10 n) (drop_all i bs end) in
+    let d : list_all is_ascii_digit bs ≡ true = digits ∙ ap (list_all is_ascii_digit) (drop_all i bs end) in
+    let whole : is_number bs ≡ true = and_from (not (is_empty bs)) (list_all is_ascii_digit bs) (not_from_false (is_empty bs) some) d in
+    let small : leb (value bs) greatest ≡ true = le-leb (value bs) greatest (omega (arith, v)) in
+    ap Some (sym v) ∙ sym (cond-true (is_number bs && leb (value bs) greatest) (Some (value bs)) None (and_from (is_number bs) (leb (value bs) greatest) whole small))
+
+pub is_empty_by_length : {X : Type 0} (xs : List X) → is_empty xs ≡ eqb (length xs) 0
+is_empty_by_length [] = refl
+is_empty_by_length (x ∷ xs) = sym (ne_eqb (length (x ∷ xs)) 0 (λ e. omega (arith, e)))
+
+pub digit_is : (b : ℕ) → 48 ≤ b → b ≤ 57 → digit_value b ≡ b - 48
+digit_is b low high = grind (arith, nat_tests)

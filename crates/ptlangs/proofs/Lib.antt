@@ -1,9 +1,7 @@
 pub mod Common
 pub mod CutGrammar
-pub mod Decimals
 pub mod DelimGrammar
 pub mod Elements
-pub mod Merging
 pub mod OutGrammar
 pub mod TrBehind
 pub mod TrNumbers

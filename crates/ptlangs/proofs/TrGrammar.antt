@@ -4,9 +4,9 @@ use Rattle.ptlangs.proofs.Common.{nat_lt, list_all, option_and_then, option_or, 
 use Rattle.ptlangs.proofs.Common.{drop_at, drop_all, SetFaultKind, SetUnit, Plain, Escaped, Faulty, Part, Single, Class, Equivalence, byte_of, class_named, Means, ByItself, ByEscape, Opens, ARepeat}
 use Rattle.ptlangs.proofs.Common.{AClass, AnEquivalence, OpensForm, Begins, InBrackets, ARange, Alone, AreParts, is_plain, behind, behind_two, plain_run, behind_run, with_rest, repeat_count}
 use Rattle.ptlangs.proofs.Common.{repeat_digits, repeat_at, class_of, class_name, class_at, equivalence_of, equivalence_unit, equivalence_at, form_inside, form_at, range_to, from_byte, from_unit}
-use Rattle.ptlangs.proofs.Common.{or_unit, first_part, parts_from, parts_behind, parts, get_or, ◌||◌, ◌≤◌, and_parts, eq-eqb, ltb-true, nat_tests, drop_more, result_map_both, ADescendingRange}
-use Rattle.ptlangs.proofs.Common.{AFaultyEnd, AFaultyUnit, BeginsFaulty, count_in, FaultsAreFirst, FirstFault, Later, NoPart, NoPiece, collected, is_fill, piece, pieces, is_octal_digit, units}
-use Rattle.ptlangs.proofs.Common.{CharClass, Piece, Place}
+use Rattle.ptlangs.proofs.Common.{or_unit, first_part, parts_behind, parts, get_or, ◌||◌, ◌≤◌, and_parts, eq-eqb, ltb-true, nat_tests, drop_more, result_map_both, ADescendingRange, AFaultyEnd}
+use Rattle.ptlangs.proofs.Common.{AFaultyUnit, BeginsFaulty, count_in, FaultsAreFirst, FirstFault, Later, NoPart, NoPiece, collected, is_fill, piece, pieces, is_octal_digit, units, CharClass, Piece}
+use Rattle.ptlangs.proofs.Common.{Place}
 use Rattle.ptlangs.specs.declared.parts.Part.TheVariants.{Repeat}
 use Rattle.std.proofs.lemmas.Bool.{cond_both}
 use Rattle.ptlangs.proofs.TrBehind.{list_all-plain_run}
@@ -242,6 +242,17 @@ pub parts-fault : (us : List SetUnit) (k : SetFaultKind) → 0 < length us → f
 parts-fault [] k h e = absurd (omega arith)
 parts-fault (u ∷ us) k h e = rw e refl
 
+outcome : {A P : Type 0} (r : Result A SetFaultKind) → ((x : A) → r ≡ Ok x → P) → ((k : SetFaultKind) → r ≡ Err k → P) → P
+outcome (Ok x) good bad = good x refl
+outcome (Err k) good bad = bad k refl
+
+-- a part is in front, or the fault of none
+first_of : {P : Type 0} (u : SetUnit) (us : List SetUnit) → ((p : Part) (rest : List SetUnit) → Begins (u ∷ us) p rest → parts (u ∷ us) ≡ Ok p ∷ parts rest → P)
+    → ((k : SetFaultKind) → BeginsFaulty (u ∷ us) k → parts (u ∷ us) ≡ Err k ∷ [] → P) → P
+first_of u us part fault = outcome (first_part (u ∷ us))
+    (λ found e. part found.0 found.1 (judged u us (Ok found) e) (parts-part (u ∷ us) found.0 found.1 e))
+    (λ k e. fault k (judged u us (Err k) e) (parts-fault (u ∷ us) k (omega arith) e))
+
 -- the parts that are computed are the grammar's
 pub parts-AreParts : (us : List SetUnit) (ps : List Part) → AreParts us ps → parts us ≡ map Ok ps
 parts-AreParts us [] e = ap parts e
@@ -249,23 +260,14 @@ parts-AreParts us (p ∷ ps) (rest, begins, more) = parts-part us p rest (first_
 
 pub AreParts-parts : (ps : List Part) (us : List SetUnit) → parts us ≡ map Ok ps → AreParts us ps
 AreParts-parts [] [] e = refl
-AreParts-parts [] (u ∷ us) e = by_first (first_part (u ∷ us)) e
-  where
-    by_first : (r : Result (Part × List SetUnit) SetFaultKind) → parts_from r (λ rest. parts_behind us (length us - length rest)) ≡ [] → u ∷ us ≡ []
-    by_first (Ok found) e = cc
-    by_first (Err k) e = cc
+AreParts-parts [] (u ∷ us) e = first_of u us (λ p rest b is. let never = sym is ∙ e in cc) (λ k b is. let never = sym is ∙ e in cc)
 AreParts-parts (p ∷ ps) [] e = absurd (let no : ⊥ = cc in no)
-AreParts-parts (p ∷ ps) (u ∷ us) e = by_first (first_part (u ∷ us)) refl (λ rest more. AreParts-parts ps rest more)
-  where
-    by_first : (r : Result (Part × List SetUnit) SetFaultKind) → first_part (u ∷ us) ≡ r → ((rest : List SetUnit) → parts rest ≡ map Ok ps → AreParts rest ps) → AreParts (u ∷ us) (p ∷ ps)
-    by_first (Ok found) f more =
-        let all : Ok found.0 ∷ parts found.1 ≡ Ok p ∷ map Ok ps = sym (parts-part (u ∷ us) found.0 found.1 f) ∙ e in
-        let same : found.0 ≡ p = cc in
-        let begins : Begins (u ∷ us) p found.1 = subst (λ (q : Part). Begins (u ∷ us) q found.1) same (judged u us (Ok found) f) in
-        (found.1, begins, more found.1 (cc))
-    by_first (Err k) f more =
-        let all : Err k ∷ [] ≡ Ok p ∷ map Ok ps = sym (parts-fault (u ∷ us) k (omega arith) f) ∙ e in
-        absurd (let no : ⊥ = cc in no)
+AreParts-parts (p ∷ ps) (u ∷ us) e = first_of u us
+    (λ q rest b is.
+    let all : Ok q ∷ parts rest ≡ Ok p ∷ map Ok ps = sym is ∙ e in
+    let same : q ≡ p = cc in
+    (rest, subst (λ (x : Part). Begins (u ∷ us) x rest) same b, AreParts-parts ps rest (cc)))
+    (λ k b is. let all : Err k ∷ [] ≡ Ok p ∷ map Ok ps = sym is ∙ e in absurd (let no : ⊥ = cc in no))
 
 -- ---- the forms in brackets, and the part in front of some units, as code finds them
 
@@ -334,33 +336,21 @@ module _ (place : Place) where
       → collected (pieces place filled xs) ≡ Err k → FirstFault place filled us k
   is_fault [] filled us k all e = cc
   is_fault (y ∷ ys) filled [] k all e = cc
-  is_fault (y ∷ ys) filled (u ∷ us) k all e = by_first (first_part (u ∷ us)) refl (λ after rest more fails. is_fault ys after rest k more fails)
-    where
-      by_piece : (p : Part) (rest : List SetUnit) → Begins (u ∷ us) p rest → parts rest ≡ ys → (r : Result Piece SetFaultKind) → piece place filled p ≡ r
-          → collected (r ∷ pieces place (filled || is_fill r) ys) ≡ Err k
-          → ((after : Bool) (rest : List SetUnit) → parts rest ≡ ys → collected (pieces place after ys) ≡ Err k → FirstFault place after rest k)
-          → FirstFault place filled (u ∷ us) k
-      by_piece p rest b more (Err j) is fails later =
-          let same : Err j ≡ Err k = cc in
-          NoPiece filled (u ∷ us) rest p k b (is ∙ same)
-      by_piece p rest b more (Ok x) is fails later =
-          let fails' : collected (pieces place (filled || is_fill (Ok x)) ys) ≡ Err k = rest_fails x (collected (pieces place (filled || is_fill (Ok x)) ys)) k fails in
-          Later filled (u ∷ us) rest p x k b is (later (filled || is_fill (Ok x)) rest more fails')
-
-      by_first : (r : Result (Part × List SetUnit) SetFaultKind) → first_part (u ∷ us) ≡ r
-          → ((after : Bool) (rest : List SetUnit) → parts rest ≡ ys → collected (pieces place after ys) ≡ Err k → FirstFault place after rest k)
-          → FirstFault place filled (u ∷ us) k
-      by_first (Err j) f later =
-          let one : Err j ∷ [] ≡ y ∷ ys = sym (parts-fault (u ∷ us) j (omega arith) f) ∙ all in
-          let is : Err j ≡ y = cc in
-          let fails : collected (pieces place filled (Err j ∷ ys)) ≡ Err k = subst (λ (r : Result Part SetFaultKind). collected (pieces place filled (r ∷ ys)) ≡ Err k) (sym is) e in
-          let same : j ≡ k = cc in
-          NoPart filled (u ∷ us) k (subst (λ (i : SetFaultKind). BeginsFaulty (u ∷ us) i) same (judged u us (Err j) f))
-      by_first (Ok found) f later =
-          let more : Ok found.0 ∷ parts found.1 ≡ y ∷ ys = sym (parts-part (u ∷ us) found.0 found.1 f) ∙ all in
-          let is : Ok found.0 ≡ y = cc in
-          let fails : collected (pieces place filled (Ok found.0 ∷ ys)) ≡ Err k = subst (λ (r : Result Part SetFaultKind). collected (pieces place filled (r ∷ ys)) ≡ Err k) (sym is) e in
-          by_piece found.0 found.1 (judged u us (Ok found) f) (cc) (piece place filled found.0) refl fails later
+  is_fault (Err j ∷ ys) filled (u ∷ us) k all e = first_of u us
+      (λ p rest b is. let never : Err j ∷ ys ≡ Ok p ∷ parts rest = sym all ∙ is in cc)
+      (λ i b is.
+      let both : Err j ∷ ys ≡ Err i ∷ [] = sym all ∙ is in
+      let same : i ≡ k = cc in
+      NoPart filled (u ∷ us) k (subst (BeginsFaulty (u ∷ us)) same b))
+  is_fault (Ok q ∷ ys) filled (u ∷ us) k all e = first_of u us
+      (λ p rest b is.
+      let both : Ok q ∷ ys ≡ Ok p ∷ parts rest = sym all ∙ is in
+      let same : p ≡ q = cc in
+      let begins : Begins (u ∷ us) q rest = subst (λ (x : Part). Begins (u ∷ us) x rest) same b in
+      outcome (piece place filled q)
+      (λ x got. Later filled (u ∷ us) rest q x k begins got (is_fault ys (filled || is_fill (Ok x)) rest k (cc) (rest_fails x _ k (rw got at e))))
+      (λ j got. let fails : Err j ≡ Err k = rw got at e in let last : j ≡ k = cc in NoPiece filled (u ∷ us) rest q k begins (got ∙ ap Err last)))
+      (λ i b is. let never : Ok q ∷ ys ≡ Err i ∷ [] = sym all ∙ is in cc)
 
 pub faults_are_first : FaultsAreFirst
 faults_are_first place b text k = (fault_is place false (units (b ∷ text)) k, is_fault place (parts (units (b ∷ text))) false (units (b ∷ text)) k refl)

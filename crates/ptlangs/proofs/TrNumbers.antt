@@ -3,7 +3,7 @@ use Rattle.ptlangs.proofs.Common.{◌≡◌, ◌≤◌, ◌<◌, ◌+◌, ◌-�
 use Rattle.ptlangs.proofs.Common.{Option, Some, None, prefix_len, slice_get, digit_value, digits_value, drop_more, drop_all, drop-drop, take-take, length-take, get_or-take, length-prefix_len}
 use Rattle.ptlangs.proofs.Common.{prefix_len-le-length, prefix_len_passes, is_octal_digit, octal_run, octal, units, units_behind, unit_at, after_backslash, Octal, SetUnit, Plain, Escaped, Faulty, inl}
 use Rattle.ptlangs.proofs.Common.{inr, subst, ◌++◌, cases_Bool, cases_eq, ne_eqb, nat_tests, drop_at, length-append, ALargeOctal, ALoneBackslash, APlainByte, AUnit, AnEscape, AnOctal, IsOctalRun}
-use Rattle.ptlangs.proofs.Common.{NoUnit, OneDigit, SpellsUnit, SpellsUnits, ThreeDigits, TwoDigits, UnitsAreSpelled, escaped, Escape}
+use Rattle.ptlangs.proofs.Common.{NoUnit, OneDigit, SpellsUnit, SpellsUnits, ThreeDigits, TwoDigits, UnitsAreSpelled, escaped, Escape, cond-false, cond-true, le-leb, lt-leb}
 use Rattle.std.proofs.Common.{All}
 use Rattle.std.specs.Int.{IsInRange}
 use Rattle.std.proofs.lemmas.Int.Digits.{digits_value_more}
@@ -101,20 +101,14 @@ run_is digits rest (TwoDigits a b [] ha hb n) = rw (ha, hb) refl
 run_is digits rest (TwoDigits a b (c ∷ more) ha hb n) = rw (ha, hb, n) refl
 run_is digits rest (ThreeDigits a b c more ha hb hc) = rw (ha, hb, hc) refl
 
-octal_small : (n : ℕ) → n ≤ 255 → octal n ≡ Escaped n
-octal_small n h = let fits : nat_le n 255 ≡ true = grind (arith, nat_tests) in rw fits refl
-
-octal_large : (n : ℕ) → 255 < n → octal n ≡ Faulty Octal
-octal_large n h = let large : nat_le n 255 ≡ false = grind (arith, nat_tests) in rw large refl
-
 escape_is : (digits rest : List ℕ) (u : SetUnit) → IsOctalRun digits rest → octal (digits_value 8 digits) ≡ u → units (92 ∷ digits ++ rest) ≡ u ∷ units rest
 escape_is digits rest u run is =
     rw (units-cons 92 (digits ++ rest), run_is digits rest run, is, drop_at digits rest (length digits) refl) refl
 
 unit_is : (bs : List ℕ) (u : SetUnit) (rest : List ℕ) → SpellsUnit bs u rest → units bs ≡ u ∷ units rest
 unit_is bs u rest (APlainByte b more n) = rw (units-cons b more, ne_eqb b 92 n) refl
-unit_is bs u rest (AnOctal digits more run small) = escape_is digits more (Escaped (digits_value 8 digits)) run (octal_small (digits_value 8 digits) small)
-unit_is bs u rest (ALargeOctal digits more run large) = escape_is digits more (Faulty Octal) run (octal_large (digits_value 8 digits) large)
+unit_is bs u rest (AnOctal digits more run small) = escape_is digits more (Escaped (digits_value 8 digits)) run (cond-true _ _ _ (le-leb (digits_value 8 digits) 255 small))
+unit_is bs u rest (ALargeOctal digits more run large) = escape_is digits more (Faulty Octal) run (cond-false _ _ _ (lt-leb (digits_value 8 digits) 255 large))
 unit_is bs u rest (AnEscape b more n) = rw (units-cons 92 (b ∷ more), n) refl
 unit_is bs u rest ALoneBackslash = refl
 

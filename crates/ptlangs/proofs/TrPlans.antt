@@ -1,11 +1,11 @@
 -- The plan of two strings, step by step; its tables; and that no strings are refused for want of memory.
 use Rattle.ptlangs.proofs.Common.{◌≡◌, Bool, Err, List, None, Ok, Option, Result, Some, [], ap, arith, cond, eqb, false, length, map, refl, suc, sym, true, zero, ℕ, ◌++◌, ◌-◌, ◌∙◌, ◌∷◌, ◌≢◌}
 use Rattle.ptlangs.proofs.Common.{result_map_both, and_then, AClass, ADescendingRange, AFaultyEnd, AFaultyUnit, ARange, ARepeat, Alone, AnEquivalence, Begins, BeginsFaulty, InBrackets, Opens}
-use Rattle.ptlangs.proofs.Common.{FirstFault, Later, NeverMemory, NoPart, NoPiece, Plan, array, class_piece, class_places, collected, fill_count, first_array, image_of, in_string, is_deleted}
-use Rattle.ptlangs.proofs.Common.{is_paired, is_squeezed, may_pair, piece, pieces_of, plan, plan_from, plan_of, plan_with, repeat_piece, repeated, second_place, second_plan, string_pieces}
-use Rattle.ptlangs.proofs.Common.{takes_second, places_of, tables, ALargeOctal, ALoneBackslash, APlainByte, AUnit, AnEscape, AnOctal, NoUnit, SpellsUnit, SpellsUnits, units, CharClass, SetFault}
-use Rattle.ptlangs.proofs.Common.{SetFaultKind, ClassPlace, Memory, Part, Piece, Place, First, Images, Squeezed, Places, Form, Delete, DeleteSqueeze, Squeeze, Translate, TranslateSqueeze, SetUnit}
-use Rattle.ptlangs.proofs.Common.{Escaped, Faulty, Plain}
+use Rattle.ptlangs.proofs.Common.{FirstFault, Later, NeverMemory, NoPart, NoPiece, Plan, array, class_places, collected, fill_count, first_array, image_of, in_string, is_deleted, is_paired}
+use Rattle.ptlangs.proofs.Common.{is_squeezed, may_pair, piece, pieces_of, plan, plan_from, plan_of, plan_with, repeat_piece, second_place, second_plan, string_pieces, takes_second, places_of, tables}
+use Rattle.ptlangs.proofs.Common.{ALargeOctal, ALoneBackslash, APlainByte, AUnit, AnEscape, AnOctal, NoUnit, SpellsUnit, SpellsUnits, units, CharClass, SetFault, SetFaultKind, ClassPlace, Memory}
+use Rattle.ptlangs.proofs.Common.{Part, Piece, Place, First, Images, Squeezed, Places, Form, Delete, DeleteSqueeze, Squeeze, Translate, TranslateSqueeze, SetUnit, Escaped, Faulty, Plain}
+use Rattle.std.proofs.lemmas.Bool.{cond_both}
 use Rattle.ptlangs.specs.TrClasses.{all_bytes}
 use Rattle.ptlangs.specs.declared.faults.SetString.TheVariants as string
 use Rattle.ptlangs.specs.declared.faults.SetString.{SetString}
@@ -123,9 +123,6 @@ all_fine : (bs : List ℕ) (us : List SetUnit) → SpellsUnits bs us → AreFine
 all_fine bs us NoUnit = tt
 all_fine bs us (AUnit all rest u more first later) = (spelled_fine all rest u first, all_fine rest more later)
 
-units_fine : (bs : List ℕ) → AreFine (units bs)
-units_fine bs = all_fine bs (units bs) ((units_are_spelled bs (units bs)).1 refl)
-
 fine_behind : (us rest : List SetUnit) → AreFine (us ++ rest) → AreFine rest
 fine_behind [] rest fine = fine
 fine_behind (u ∷ us) rest fine = fine_behind us rest fine.1
@@ -152,23 +149,17 @@ abbrev Speaks : {A : Type 0} → Result A SetFaultKind → Type 0
 Speaks (Ok x) = Unit {0}
 Speaks (Err k) = k ≢ Memory
 
-counted : (filled : Bool) (b : ℕ) (n : ℕ) → Speaks (repeated filled b n)
-counted true b zero = λ e. cc
-counted false b zero = tt
-counted filled b (suc n) = tt
-
 repeat_speaks : (filled : Bool) (b : ℕ) (count : Option ℕ) → Speaks (repeat_piece filled b count)
 repeat_speaks filled b None = λ e. cc
-repeat_speaks filled b (Some n) = counted filled b n
-
-class_speaks : (class : Option CharClass) → Speaks (class_piece class)
-class_speaks None = λ e. cc
-class_speaks (Some class) = tt
+repeat_speaks true b (Some zero) = λ e. cc
+repeat_speaks false b (Some zero) = tt
+repeat_speaks filled b (Some (suc n)) = tt
 
 piece_speaks : (place : Place) (filled : Bool) (p : Part) → Speaks (piece place filled p)
 piece_speaks place filled (part.Single b) = tt
 piece_speaks place filled (part.Range a b) = tt
-piece_speaks place filled (part.Class class) = class_speaks class
+piece_speaks place filled (part.Class None) = λ e. cc
+piece_speaks place filled (part.Class (Some class)) = tt
 piece_speaks Images filled (part.Equivalence b) = λ e. cc
 piece_speaks First filled (part.Equivalence b) = tt
 piece_speaks Squeezed filled (part.Equivalence b) = tt
@@ -190,15 +181,13 @@ first_speaks place filled us k (Later f vs rest p x j b e later) fine = first_sp
 string_said : (place : Place) (text : List ℕ) (r : Result (List Piece) SetFaultKind) → string_pieces place text ≡ r → Speaks r
 string_said place text (Ok ps) e = tt
 string_said place [] (Err k) e = said (string_pieces place []) k (λ memory. cc) e
-string_said place (b ∷ text) (Err k) e = first_speaks place false (units (b ∷ text)) k ((faults_are_first place b text k).1 e) (units_fine (b ∷ text))
-
-paired : (may : Bool) (p : Plan) → Speaks (cond may (Ok p) (Err ClassPlace))
-paired true p = tt
-paired false p = λ e. cc
+string_said place (b ∷ text) (Err k) e =
+    let us = units (b ∷ text) in
+    first_speaks place false us k ((faults_are_first place b text k).1 e) (all_fine (b ∷ text) us ((units_are_spelled (b ∷ text) us).1 refl))
 
 second_speaks : (form : Form) (complement : Bool) (firsts : List Piece) (r : Result (List Piece) SetFaultKind) → Speaks r
     → Speaks (and_then r (λ seconds. plan_with form complement firsts (first_array complement firsts) seconds))
-second_speaks form complement firsts (Ok seconds) speaks = paired (may_pair form complement _ _) _
+second_speaks form complement firsts (Ok seconds) speaks = cond_both (may_pair form complement _ _) _ _ (Speaks {A = Plan}) (λ t. tt) (λ t e. cc)
 second_speaks form complement firsts (Err k) speaks = speaks
 
 of_string : {A : Type 0} (string : SetString) (r : Result A SetFaultKind) (fault : SetFault) → Speaks r → in_string string r ≡ Err fault → fault.kind ≢ Memory

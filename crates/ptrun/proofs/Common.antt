@@ -38,8 +38,8 @@ pub use Rattle.ptopts.specs.Meant.{IsMeant, meant, seen, words_seen}
 pub use Rattle.ptopts.specs.declared.inputs.Input.{Input}
 pub use Rattle.ptopts.specs.declared.inputs.Input.TheVariants.{File, Standard}
 pub use Rattle.ptrun.specs.Asked.{asked, asked_as, command_meaning, is_denied, job_meaning, meaning_in, saying, tool_word}
-pub use Rattle.ptrun.specs.Engines.{AgreeAt, AreGiven, AreReady, AreSound, Checks, Finishes, IsJointPass, JointReadBroke, IsStart, IsWithin, JointEnds, NoneFailed, Went, WentTo, blame, done_of, last_words}
-pub use Rattle.ptrun.specs.Engines.{status_after, told_at}
+pub use Rattle.ptrun.specs.Engines.{AgreeAt, AreGiven, AreReady, AreSound, Checks, Finishes, IsJointPass, JointReadBroke, IsStart, IsWithin, JointEnds, NoneFailed, Went, WentTo, blame, done_of}
+pub use Rattle.ptrun.specs.Engines.{last_words, status_after, told_at}
 pub use Rattle.ptrun.specs.KeepingUp.{AnyEarlier, Earlier, EarlierAs, KeptUp, LastEarlier, PassedOn}
 pub use Rattle.ptrun.specs.Meanings.{Meaning, messages, named, unopened}
 pub use Rattle.ptrun.specs.Messages.{name_of, not_opened, said_of, status_of}

@@ -188,15 +188,14 @@ module _ (word : List ℕ) {t : JointTool} (names : List (List ℕ)) {places : L
     untouched = k.untouched;
     true_so_far = λ w agrees. rw (complete w agrees) (k.true_so_far (text_in w) (agree w agrees));
     told_read = e.told_read;
-    sure = λ q failed clean. subst (λ (l : List ℕ). Begins l k.pushed) (sym (decided_is received k.given (λ q. refl) given_named)) (k.sure q (named_failed q failed) failed.2 clean);
+    sure = λ q failed clean. rw (decided_is received k.given (λ q. refl) given_named) (k.sure q (named_failed q failed) failed.2 clean);
     keeps_up = λ q g named there. let up = k.keeps_up q named in let e = up.0.earlier in rw (some_same (sym there ∙ at_named q named))
         (up.0, rw (decided_is (set received q (Some e)) (put_at q e k.given) (opened_set received q g e there) (put_is q g e there)) up.1);
     peak = λ w agrees. rw (complete w agrees) (k.peak (text_in w) (agree w agrees));
   }
     where
       none_before : (test : ℕ → Bool) (n : ℕ) → list_any test places ≡ false → list_any test (take n places) ≡ false
-      none_before test n none = (neither (list_any test (take n places)) (list_any test (drop n places))
-          (sym (list_any-append test (take n places) (drop n places)) ∙ ap (list_any test) (take-append-drop n places) ∙ none)).0
+      none_before test n none = (neither _ _ (sym (list_any-append test (take n places) (drop n places)) ∙ ap (list_any test) (take-append-drop n places) ∙ none)).0
 
 -- ---- a tool with one input
 

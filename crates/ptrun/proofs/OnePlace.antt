@@ -3,8 +3,8 @@
 use Rattle.ptrun.proofs.Common.{append_cancel_left, cases_Bool, ⊎_elim, ◌≡◌, ℕ, ◌<◌, ◌^◌, Bool, true, false, cond, List, [], ◌∷◌, ◌++◌, Option, Some, None, length, map, refl, sym, ◌∙◌, ap, arith}
 use Rattle.ptrun.proofs.Common.{append_assoc, length-append, is_none, slice_get, prepend_known, append-nil, nil_from_length, false≢true, Reader, IsDone, prepend_known-append, Given, Agrees, Came}
 use Rattle.ptrun.proofs.Common.{World, Received, at, is_unopened, AllowsAt, Allows, opened, reader_at, no_reader, CameAt, IsReceived, IsNew, IsFresh, IsTooLong, Done, Whole, Unopened, zero, suc, ◌+◌}
-use Rattle.ptrun.proofs.Common.{◌≤◌, set, take, drop, subst, length-drop, take-append-drop, append_known, get_or-set_other, take-append_seam, Begins, nothing_left, Before, WorksOff, SendsOn, KeepsUp}
-use Rattle.ptrun.proofs.Common.{Output, Extends, Wrote, append_known-append, Tool, decided_of, Meaning, PassedOn, KeptUp, LastEarlier, AnyEarlier, EarlierAs, Earlier}
+use Rattle.ptrun.proofs.Common.{◌≤◌, set, take, drop, subst, length-drop, take-append-drop, append_known, get_or-set_other, take-append_seam, Begins, nothing_left, Before, SendsOn, KeepsUp, Output}
+use Rattle.ptrun.proofs.Common.{Extends, Wrote, append_known-append, Tool, decided_of, Meaning, PassedOn, KeptUp, LastEarlier, AnyEarlier, EarlierAs, Earlier}
 use Rattle.std.proofs.Math.ListN.{get_or-map}
 use Rattle.ptlines.proofs.Refilled.{unread_empty}
 use Rattle.std.proofs.Common.{is_none}
@@ -156,10 +156,7 @@ all_earlier t came P holds done last is = (same_before last, subst (λ (l : List
 
 -- and of the last one less came before
 pub last_earlier : (t : Tool) (came : List Given) (g : Given) (b : Before g) (P : List ℕ → Type 0) → P (decided_of t (came ++ b.earlier ∷ [])) → LastEarlier t (came ++ g ∷ []) P
-last_earlier t came g b P holds done last is =
-    let same = last_same came done g last is in
-    subst (λ (l : List Given). (c : Before last) × P (decided_of t (l ++ c.earlier ∷ []))) same.0
-    (subst (λ (h : Given). (c : Before h) × P (decided_of t (came ++ c.earlier ∷ []))) same.1 (b, holds))
+last_earlier t came g b P holds done last is = let same = last_same came done g last is in rw (sym same.0, sym same.1) (b, holds)
 
 -- a pass keeps up with its one input, and two functions that are equal say what is decided of it
 pub passed_on : (f g : Given → List ℕ) {came : Given} {was is : Output} {pushed : List ℕ} → ((e : Given) → f e ≡ g e)
@@ -206,10 +203,8 @@ earlier_map m r n P Q follows = by_kind m.in_turn
 
 -- what was pushed while no write had failed was sent on
 pub sends_now : (was mid : Output) (pushed bytes : List ℕ) → Wrote was mid pushed → mid.faulted ≡ false → Begins bytes pushed → SendsOn was mid bytes
-sends_now was mid pushed bytes wrote clean begins = (keeps_still {I = Unit {0}} (λ given. bytes) (λ u. nothing_left) was mid pushed works wrote clean).sends
-  where
-    works : WorksOff {I = Unit {0}} (λ given. bytes) (λ u. nothing_left) pushed
-    works = record { before = λ u. same_before nothing_left; begins = begins }
+sends_now was mid pushed bytes wrote clean begins =
+    (keeps_still {I = Unit {0}} (λ given. bytes) (λ u. nothing_left) was mid pushed (record { before = λ u. same_before nothing_left; begins = begins }) wrote clean).sends
 
 -- and so were the bytes behind it
 pub sends_behind : (was mid is : Output) (pushed bytes : List ℕ) → Wrote was mid pushed → mid.faulted ≡ false → SendsOn mid is bytes → SendsOn was is (pushed ++ bytes)

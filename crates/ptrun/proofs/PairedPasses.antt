@@ -1,6 +1,6 @@
 -- A tool with two inputs did what its one merge did, with two readers of a list that was split between them.
-use Rattle.ptrun.proofs.Common.{JointReadBroke, HasReadCause, places, length-append, length-map, ◌≡◌, ◌≢◌, ℕ, ◌<◌, ◌^◌, ◌||◌, ◌&&◌, ◌==◌, Bool, true, false, List, [], ◌∷◌, Option, Some, None, Result}
-use Rattle.ptrun.proofs.Common.{Ok, Err, length, get_or, refl, sym, ◌∙◌, ap, subst, arith, option_map, not, All-nil, All-cons, false≢true, nat_tests, Reader, Output, Slots, Given, Begins, Came}
+use Rattle.ptrun.proofs.Common.{subst, JointReadBroke, HasReadCause, places, length-append, length-map, ◌≡◌, ◌≢◌, ℕ, ◌<◌, ◌^◌, ◌||◌, ◌&&◌, ◌==◌, Bool, true, false, List, [], ◌∷◌, Option, Some, None}
+use Rattle.ptrun.proofs.Common.{Result, Ok, Err, length, get_or, refl, sym, ◌∙◌, ap, arith, option_map, not, All-nil, All-cons, false≢true, nat_tests, Reader, Output, Slots, Given, Begins, Came}
 use Rattle.ptrun.proofs.Common.{Before, put_at, First, Second, disorder, lines_of, decided, Input, Disorder, is_in, reader_at, shut, IsNew, PassedOn, place, of_two, operand, of_operands, AreReady}
 use Rattle.ptrun.proofs.Common.{AreSound, told_at, done_of, AgreeAt, NoneFailed, JointEnds, IsJointPass, ◌-◌, ◌++◌, set, length-set, set-append_left, set-append_right, get_or_append_left}
 use Rattle.ptrun.proofs.Common.{get_or-append_right, get_or_default, get_or-set_same, get_or-set_other, no_reader}
@@ -143,7 +143,7 @@ module _ (t : keyed.Tool) {old : List Reader} {was : Output} {before : Slots} {p
     two_went = record {
       given = given;
       came = each (λ k. Came (reader_at old k) (reader_at new k) (given k)) (rw (given_at First) (e.came First)) (rw (given_at Second) (e.came Second));
-      untouched = λ k other. others k (λ same. unnamed k other (ap (is_in two) (sym same) ∙ named First)) (λ same. unnamed k other (ap (is_in two) (sym same) ∙ named Second));
+      untouched = λ k other. others k (λ same. false≢true (sym other ∙ ap (is_in two) (sym same) ∙ named First)) (λ same. false≢true (sym other ∙ ap (is_in two) (sym same) ∙ named Second));
       pushed = e.pushed;
       wrote = e.wrote;
       ends = ends result e.ends (λ texts agrees. e.whole (of_operands two texts) (agree texts agrees));
@@ -156,9 +156,6 @@ module _ (t : keyed.Tool) {old : List Reader} {was : Output} {before : Slots} {p
       peak = λ texts agrees. e.peak (of_operands two texts) (agree texts agrees);
     }
       where
-        unnamed : (k : ℕ) → is_in two k ≡ false → is_in two k ≡ true → ⊥
-        unnamed k other is = false≢true (sym other ∙ is)
-
         keeps : (side : Side) → (cut : Before (given (both p q side))) × PassedOn (decided t (of_operands two (put_at (both p q side) cut.earlier given))) was is e.pushed
         keeps side = rw (given_at side) (passed_on (λ g. decided t (put side g e.given)) (λ g. decided t (of_operands two (put_at (both p q side) g given)))
             (λ g. ap (decided t) (put_is side g)) (e.keeps_up side ready.writable))

@@ -59,7 +59,8 @@ reached_of was new pushed empty w = by_known was.taken refl
       where
         split : pushed ≡ w.kept.front ++ (new.staged ++ w.beginning.front)
         split = append_cancel_left t pushed (w.kept.front ++ (new.staged ++ w.beginning.front))
-            (some_same (rw (w.kept.is, is, empty, append-nil t) at w.beginning.is) ∙ append_assoc (t ++ w.kept.front) new.staged w.beginning.front ∙ append_assoc t w.kept.front (new.staged ++ w.beginning.front))
+            (some_same (rw (w.kept.is, is, empty, append-nil t) at w.beginning.is) ∙ append_assoc (t ++ w.kept.front) new.staged w.beginning.front
+            ∙ append_assoc t w.kept.front (new.staged ++ w.beginning.front))
 
 -- ---- the world that the readers tell agrees with every reading
 

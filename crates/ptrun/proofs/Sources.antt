@@ -63,12 +63,6 @@ module _ {X : Type 0} (rest : X) (xs : List (Option X)) where
 
 -- ---- names
 
-pub unopened_more : (tool : List ℕ) (names : List (List ℕ)) (test : ℕ → Bool) (done : List ℕ) (p : ℕ) → unopened tool names test (done ++ p ∷ [])
-    ≡ unopened tool names test done ++ (cond (test p) (not_opened tool (name_of names p)) [])
-unopened_more tool names test done p =
-    flat_map-append (λ (q : ℕ). cond (test q) (not_opened tool (name_of names q)) []) done (p ∷ [])
-    ∙ ap (λ (l : List ℕ). unopened tool names test done ++ l) (append-nil (cond (test p) (not_opened tool (name_of names p)) []))
-
 pub unopened_same : (tool : List ℕ) (names : List (List ℕ)) (f g : ℕ → Bool) (ps : List ℕ) → ((p : ℕ) → f p ≡ g p) → unopened tool names f ps ≡ unopened tool names g ps
 unopened_same tool names f g ps same = λ i. unopened tool names (λ q. same q i) ps
 
@@ -78,7 +72,9 @@ any_same f g ps same = λ i. list_any (λ q. same q i) ps
 -- one more operand, which is named if it could not be opened
 pub tells_more : (word : List ℕ) (names : List (List ℕ)) (is_shut : ℕ → Bool) (done : List ℕ) (p : ℕ) {told heard heard' : SinkState} → Tells told heard (unopened word names is_shut done)
     → Tells heard heard' (cond (is_shut p) (not_opened word (name_of names p)) []) → Tells told heard' (unopened word names is_shut (done ++ p ∷ []))
-tells_more word names is_shut done p k says = rw (unopened_more word names is_shut done p) (tells_trans k says)
+tells_more word names is_shut done p k says =
+    rw (flat_map-append (λ (q : ℕ). cond (is_shut q) (not_opened word (name_of names q)) []) done (p ∷ []), append-nil (cond (is_shut p) (not_opened word (name_of names p)) []))
+    (tells_trans k says)
 
 module _ (test : ℕ → Bool) (done : List ℕ) (p : ℕ) where
   pub any_now : test p ≡ true → list_any test (done ++ p ∷ []) ≡ true

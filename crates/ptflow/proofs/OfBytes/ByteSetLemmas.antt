@@ -130,26 +130,18 @@ pub one_more_flag : (table : List ℕ) (flags : List Bool) (n : ℕ) {x : ℕ} �
     → ((b : ℕ) → b < 128 → marks table b ≡ (ltb b n && get_or flags b false))
     → (b : ℕ) → b < 128 → marks (filled table n x) b ≡ (ltb b (n + 1) && get_or flags b false)
 one_more_flag table flags n long within is marked b byte =
-    cc (filled_is table long within (get_or flags n false) byte, ⊎_elim here there (cases_eq b n))
-  where
-    here : b ≡ n → cond (eqb b n) (get_or flags n false || marks table n) (marks table b) ≡ (ltb b (n + 1) && get_or flags b false)
-    here same = let before = marked n within in grind (arith, nat_tests, before, ap (λ m. get_or flags m false) same)
-
-    there : (b ≡ n → ⊥) → cond (eqb b n) (get_or flags n false || marks table n) (marks table b) ≡ (ltb b (n + 1) && get_or flags b false)
-    there other = let before = marked b byte in grind (arith, nat_tests, before)
+    ap (λ k. marks (filled table n k) b) is ∙ filled_is table long within (get_or flags n false) byte ∙ ⊎_elim
+    (λ same. let before = marked n within in grind (arith, nat_tests, before, same, ap (λ m. get_or flags m false) same))
+    (λ other. let before = marked b byte in grind (arith, nat_tests, before, other)) (cases_eq b n)
 
 -- ---- a set of two tables
 
 -- its tables hold the flags of the first 128 bytes, and of the others
 pub set_of_halves : (set : ByteSet) (flags : List Bool) → IsTableOf set.low (take 128 flags) → IsTableOf set.high (drop 128 flags) → IsSetOf set flags
-set_of_halves set flags low high b byte = ⊎_elim below above (cases_lt b 128)
-  where
-    below : b < 128 → holds set b ≡ get_or flags b false
-    below less = cc (lt-ltb b 128 less, low b less, get_or-take 128 flags b false less)
-
-    above : 128 ≤ b → holds set b ≡ get_or flags b false
-    above more =
-        let entry : b % 16 ≡ (b - 128) % 16 = omega arith in
-        let bit : b / 16 % 8 ≡ (b - 128) / 16 % 8 = omega arith in
-        let place : 128 + (b - 128) ≡ b = omega arith in
-        cc (le-ltb b 128 more, high (b - 128) (omega arith), get_or-drop 128 flags (b - 128) false)
+set_of_halves set flags low high b byte = ⊎_elim
+    (λ less. cc (lt-ltb b 128 less, low b less, get_or-take 128 flags b false less))
+    (λ more.
+    let entry : b % 16 ≡ (b - 128) % 16 = omega (arith, more) in
+    let bit : b / 16 % 8 ≡ (b - 128) / 16 % 8 = omega (arith, more) in
+    let place : 128 + (b - 128) ≡ b = omega (arith, more) in
+    cc (le-ltb b 128 more, high (b - 128) (omega arith), get_or-drop 128 flags (b - 128) false)) (cases_lt b 128)

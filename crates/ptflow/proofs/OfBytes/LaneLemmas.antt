@@ -5,6 +5,7 @@ use Rattle.ptflow.proofs.Common.{Each1-from_get_or, added, shifted, IsMovedTo, t
 use Rattle.ptflow.proofs.Common.{length-zip2, drop-drop, filter-append, mask_of, true, set, ℤ, from_bool, bit_not, take_more_set, take-set, take_more, append-nil, length-map, Keeps, map-map}
 use Rattle.ptflow.proofs.Common.{length-set, take_all}
 use Rattle.std.specs.Prelude.{is_some}
+pub use Rattle.std.proofs.lemmas.List.{map-id}
 use Rattle.ptlangs.specs.declared.shifts.Stretch.{Stretch}
 
 -- ---- lanes that are computed of bytes
@@ -26,10 +27,6 @@ tests_are t f v {xs} {n} y long is = tops_compared w8 t xs (replicate n y) ∙ z
 
 pub added_lanes : (f g : ℕ → ℕ) (v : List ℕ) {xs ys : List ℕ} → xs ≡ map f v → ys ≡ map g v → zip2 (λ a b. (a + b) % 256) xs ys ≡ map (λ b. (f b + g b) % 256) v
 added_lanes f g v ex ey = zip2_of_maps (λ a b. (a + b) % 256) f g v ex ey
-
-pub map_self : {X : Type 0} (v : List X) → map (λ b. b) v ≡ v
-map_self [] = refl
-map_self (x ∷ xs) = ap (◌∷◌ x) (map_self xs)
 
 -- ---- the first bytes are moved
 
@@ -220,20 +217,17 @@ module _ {test : ℕ → Bool} {from into : List ℕ} {at count : ℕ} (before :
       ≡ count + from_bool (test (get_or from at 0)) → Keeps test from (at + 1) after end
   keeps_byte room small is ended = record {
     within = omega arith;
-    few = omega (arith, bit.0);
+    few = omega (arith, (bit (test b)).0);
     room = cc (length-set into count b);
-    kept = cc (bit.1, written_more (test b) into count b (omega arith), filter-append test (take at from) (b ∷ []), take_more from at 0 room);
+    kept = cc ((bit (test b)).1, written_more (test b) into count b (omega arith), filter-append test (take at from) (b ∷ []), take_more from at 0 room);
   }
     where
       b : ℕ
       b = get_or from at 0
 
-      one : (t : Bool) → (from_bool t ≤ 1) × (from_bool t ≡ cond t 1 0)
-      one true = (omega arith, refl)
-      one false = (omega arith, refl)
-
-      bit : (from_bool (test b) ≤ 1) × (from_bool (test b) ≡ cond (test b) 1 0)
-      bit = one (test b)
+      bit : (t : Bool) → (from_bool t ≤ 1) × (from_bool t ≡ cond t 1 0)
+      bit true = (omega arith, refl)
+      bit false = (omega arith, refl)
 
 -- ---- two tests that say the same of bytes
 

@@ -6,7 +6,7 @@ use Rattle.ptflow.proofs.Common.{take_all, drop_more, take_at, drop_at, length-t
 use Rattle.ptflow.proofs.Common.{trailing_mask_l, ones-mask_l, get_or-chunk, length-chunk, IsFirstByte, NoneBefore, Passes, is_byte, IsLine, before_end, other_byte, IsBehind, HasEnds, fields}
 use Rattle.ptflow.proofs.Common.{StartsAt, put_chunk, take_more_put_chunk, length-put_chunk, length-set, unwrap_or, delim_at, with_turns, slice_set, count_by_more_yes, cases_lt, length-map}
 use Rattle.std.proofs.lemmas.List.{get_or-drop}
-use Rattle.ptflow.proofs.OfBytes.LaneLemmas.{map_self}
+use Rattle.ptflow.proofs.OfBytes.LaneLemmas.{map-id}
 use lib.Bits.{bit_and, and_step, and_self, and_zero_l}
 use lib.Count.{count_trailing_zeros}
 use Rattle.ptflow.proofs.OfCut.FieldPlaces.{fields-append, led_fields, starts_more, few_left}
@@ -71,7 +71,7 @@ some_set (false ∷ bits) lt = let some = some_set bits (omega arith) in omega a
 
 lowest_set : (bits : List Bool) → length bits ≤ 64 → prefix_len not bits < length bits → count_trailing_zeros 64 (mask_l bits) ≡ prefix_len not bits
 lowest_set bits few some =
-    cc (map_self bits, trailing_mask_l (λ b. b) 64 bits few (rw (map_self bits) (some_set bits some)))
+    cc (map-id bits, trailing_mask_l (λ b. b) 64 bits few (rw (map-id bits) (some_set bits some)))
 
 -- ---- the item behind so many that pass
 
@@ -170,36 +170,22 @@ module _ (d : ℕ) (line : List ℕ) where
   pub few_fields : {n : ℕ} → count_by (is_byte d) line < n → length (fields d line) ≤ n
   few_fields lt = omega (arith, length-slice_split (is_byte d) line)
 
-  module _ (n at : ℕ) (h : IsBehind (is_byte d) 0 n line at) where
-    abbrev xs : List ℕ
-    xs = take at line
-
-    abbrev ys : List ℕ
-    ys = drop (at + 1) line
-
-    one : at + 1 ≡ suc at
-    one = omega arith
-
-    long : length xs ≡ at
-    long = length-take-le at line (omega arith)
-
-    here : drop at line ≡ d ∷ ys
-    here = cc (drop_more line at 0 h.0, eqb-true (get_or line at 0) d h.1)
-
-    number : length (fields d xs) ≡ n + 1
-    number = omega (arith, length-slice_split (is_byte d) xs)
-
-    split : fields d line ≡ fields d xs ++ fields d ys
-    split = cc (take-append-drop at line, here, fields-append d xs ys)
-
-    pub starts_behind : StartsAt d (n + 1) line (at + 1)
-    starts_behind = record {
-      fits = omega arith;
-      count = omega (arith, count_by-le-length (is_byte d) xs, long);
-      front = cc (one, led_fields d xs, split, take_at (fields d xs) (fields d ys) (n + 1) number);
-      behind = cc (one, here);
-      later = cc (split, drop_at (fields d xs) (fields d ys) (n + 1) number);
-    }
+  starts_behind : (n at : ℕ) → IsBehind (is_byte d) 0 n line at → StartsAt d (n + 1) line (at + 1)
+  starts_behind n at h =
+      let xs = take at line in
+      let ys = drop (at + 1) line in
+      let one : at + 1 ≡ suc at = omega arith in
+      let long : length xs ≡ at = length-take-le at line (omega arith) in
+      let here : drop at line ≡ d ∷ ys = cc (drop_more line at 0 h.0, eqb-true (get_or line at 0) d h.1) in
+      let number : length (fields d xs) ≡ n + 1 = omega (arith, length-slice_split (is_byte d) xs, h.2) in
+      let split : fields d line ≡ fields d xs ++ fields d ys = cc (take-append-drop at line, fields-append d xs ys) in
+      record {
+        fits = omega (arith, h.0);
+        count = omega (arith, count_by-le-length (is_byte d) xs, h.2);
+        front = cc (led_fields d xs, take_at (fields d xs) (fields d ys) (n + 1) number);
+        behind = cc;
+        later = cc (drop_at (fields d xs) (fields d ys) (n + 1) number);
+      }
 
   pub none_counted : (bytes : List ℕ) → IsLine d bytes → count_by (is_byte d) bytes ≡ 0
   none_counted [] free = refl
@@ -256,40 +242,23 @@ pub record NextEnd (d : ℕ) (block : List ℕ) (from n bit start : ℕ) : Type 
 
 module _ {d : ℕ} {block : List ℕ} {from all marked : ℕ} (n start : ℕ) (h : HasEnds d block from all) (some : n < count_ones all)
     (bits : marked ≡ mask_l (without n (map (is_byte d) (chunk from 64 block)))) (ends : count_by (is_byte d) (take start block) ≡ count_by (is_byte d) (take from block) + n) where
-  abbrev p : ℕ → Bool
-  p = is_byte d
-
-  abbrev v : List ℕ
-  v = chunk from 64 block
-
-  abbrev bit : ℕ
-  bit = count_trailing_zeros 64 marked
-
-  room : from + 64 ≤ length block
-  room = omega arith
-
-  stands : IsBehind p 0 n v bit
-  stands = behind_set p v n (omega (arith, length-chunk from 64 block room)) (omega (arith, ap count_ones h.is, ones-mask_l p v)) bits
-
-  close : bit < 64
-  close = near p block 64 from n bit room stands
-
-  fits : from + bit < length block
-  fits = omega (arith, close, room)
-
-  is : p (get_or block (from + bit) 0) ≡ true
-  is = cc (get_or-chunk from 64 block bit 0 close, stands.1)
-
-  as_many : count_by p (take (from + bit) block) ≡ count_by p (take start block)
-  as_many = count_front p block 64 from n bit room stands ∙ sym ends
-
-  pub next_end : NextEnd d block from n bit start
-  next_end = record {
-    near = close;
-    order = in_order p block start _ fits is as_many;
-    first = next_is p block start _ fits is as_many;
-    counted = omega (arith, one_behind p block start _ fits is as_many, as_many, ends);
-  }
+  pub next_end : NextEnd d block from n (count_trailing_zeros 64 marked) start
+  next_end =
+      let p = is_byte d in
+      let v = chunk from 64 block in
+      let bit = count_trailing_zeros 64 marked in
+      let room : from + 64 ≤ length block = omega arith in
+      let stands : IsBehind p 0 n v bit = behind_set p v n (omega (arith, length-chunk from 64 block room)) (omega (arith, ap count_ones h.is, ones-mask_l p v)) bits in
+      let close : bit < 64 = near p block 64 from n bit room stands in
+      let fits : from + bit < length block = omega (arith, close, room) in
+      let is : p (get_or block (from + bit) 0) ≡ true = cc (get_or-chunk from 64 block bit 0 close, stands.1) in
+      let as_many : count_by p (take (from + bit) block) ≡ count_by p (take start block) = count_front p block 64 from n bit room stands ∙ sym ends in
+      record {
+        near = close;
+        order = in_order p block start _ fits is as_many;
+        first = next_is p block start _ fits is as_many;
+        counted = omega (arith, one_behind p block start _ fits is as_many, as_many, ends);
+      }
 
 -- ---- the ends of a chunk, replaced one after another
 

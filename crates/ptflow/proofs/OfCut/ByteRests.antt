@@ -106,30 +106,25 @@ module _ (job : Cut) (by_bytes : job.fields ≡ false) where
   -- what was pushed of these bytes has what is written of their whole lines in front
   pub rest_is_decided : (given pushed : List ℕ) (now : ℕ) → ((rest : List ℕ) → cut_rest end job.selected 0 (given ++ rest) ≡ pushed ++ cut_rest end job.selected now rest)
       → Begins (cut_decided job (record { bytes = given; ended = false })) pushed
-  rest_is_decided given pushed now on = record {
-    rest = chosen_from job.selected 1 p.piece;
-    is = append_cancel_right pushed (text end (flat_map (cut_line job) ls) ++ chosen_from job.selected 1 p.piece) (end ∷ []) (
-        cc (
-          on (end ∷ []),
-          rest_line end job.selected now [] [] tt,
-          rest_of_all end job.selected (lines end (given ++ end ∷ [])),
-          all_lines,
-          map-append (chosen_from job.selected 1) ls (p.piece ∷ []),
-          text-append end (map (chosen_from job.selected 1) ls) (chosen_from job.selected 1 p.piece ∷ []),
-          made_is ls,
-          append-nil (chosen_from job.selected 1 p.piece ++ end ∷ []),
-          append_assoc (text end (flat_map (cut_line job) ls)) (chosen_from job.selected 1 p.piece) (end ∷ []),
-        )
-        );
-  }
-    where
-      p : Parts end given
-      p = parts_of end given
-
-      ls : List (List ℕ)
-      ls = ended_lines end given
-
+  rest_is_decided given pushed now on =
+      let p : Parts end given = parts_of end given in
+      let ls = ended_lines end given in
       -- with one end more, the piece is a line too
-      all_lines : lines end (given ++ end ∷ []) ≡ ls ++ p.piece ∷ []
-      all_lines =
-          cc (p.is, append_assoc (text end ls) p.piece (end ∷ []), lines_of_text end ls (p.piece ++ end ∷ []) p.whole, lines_first end p.piece [] p.line)
+      let all_lines : lines end (given ++ end ∷ []) ≡ ls ++ p.piece ∷ [] =
+      cc (p.is, append_assoc (text end ls) p.piece (end ∷ []), lines_of_text end ls (p.piece ++ end ∷ []) p.whole, lines_first end p.piece [] p.line) in
+      record {
+        rest = chosen_from job.selected 1 p.piece;
+        is = append_cancel_right pushed (text end (flat_map (cut_line job) ls) ++ chosen_from job.selected 1 p.piece) (end ∷ []) (
+            cc (
+              on (end ∷ []),
+              rest_line end job.selected now [] [] tt,
+              rest_of_all end job.selected (lines end (given ++ end ∷ [])),
+              all_lines,
+              map-append (chosen_from job.selected 1) ls (p.piece ∷ []),
+              text-append end (map (chosen_from job.selected 1) ls) (chosen_from job.selected 1 p.piece ∷ []),
+              made_is ls,
+              append-nil (chosen_from job.selected 1 p.piece ++ end ∷ []),
+              append_assoc (text end (flat_map (cut_line job) ls)) (chosen_from job.selected 1 p.piece) (end ∷ []),
+            )
+            );
+      }

@@ -135,35 +135,25 @@ module _ {d : ℕ} (all : List Interval) {line : List ℕ} (tail : List ℕ) (i 
         some : 1 ≤ passed
         some = omega arith
 
-        slice_is : take ((next - 1) - (from - lead)) (drop (from - lead) line) ≡ laid d lead (take size (fields d rest))
-        slice_is =
+        -- the slice, and what comes behind it
+        pub walking_slice : to_come ≡ take ((next - 1) - (from - lead)) (drop (from - lead) line) ++ coming d rs line tail (r.last + 1) next 1
+        walking_slice =
+            let more = chosen (is_selected rs) (r.last + 1) (fields d (drop next line)) in
             let many : (next - 1) - (from - lead) ≡ (passed - 1) + lead = omega (arith, some) in
             let all_of : (1 - lead) + ((passed - 1) + lead) ≡ passed = omega (arith, some) in
-            cc (lead_drop, drop-take (1 - lead) ((passed - 1) + lead) (d ∷ rest))
-
-        others : chosen (is_selected rs) number here ≡ chosen (is_selected rs) (r.last + 1) (fields d (drop next line))
-        others =
             let count : number + (skip + size) ≡ r.last + 1 = omega (arith, not_past, apart.1) in
-            let left : drop (skip + size) here ≡ fields d (drop next line) =
-            cc (drop-drop size skip here, drop-drop skipped at line, drop-drop passed from line) in
-            cc (chosen_skip (is_selected rs) number (skip + size) here (λ m low high. not_selected rs (r.last + 1) m apart.2 (omega (arith, count))), count)
-
-        next_is : to_come ≡ laid d lead (take size (fields d rest)) ++ (laid d 1 (chosen (is_selected rs) (r.last + 1) (fields d (drop next line))) ++ tail)
-        next_is =
-            let more = chosen (is_selected rs) (r.last + 1) (fields d (drop next line)) in
+            let left : drop (skip + size) here ≡ fields d (drop next line) = cc (drop-drop size skip here, drop-drop skipped at line, drop-drop passed from line) in
             let long : 1 - lead ≤ length (led d (take size (fields d rest))) = omega (arith, some, ap length (sym p.front), length-take-le passed (d ∷ rest) (omega arith)) in
             cc (
+              lead_drop,
+              drop-take (1 - lead) ((passed - 1) + lead) (d ∷ rest),
               these,
               here_is,
-              others,
+              chosen_skip (is_selected rs) number (skip + size) here (λ m low high. not_selected rs (r.last + 1) m apart.2 (omega (arith, count))),
               led-append d (take size (fields d rest)) more,
               drop-append-le (1 - lead) (led d (take size (fields d rest))) (led d more) long,
               append_assoc (laid d lead (take size (fields d rest))) (led d more) tail,
             )
-
-        -- the slice, and what comes behind it
-        pub walking_slice : to_come ≡ take ((next - 1) - (from - lead)) (drop (from - lead) line) ++ coming d rs line tail (r.last + 1) next 1
-        walking_slice = cc (next_is, slice_is)
 
         pub walking_more : Walking d rs line (r.last + 1) next 1
         walking_more = record {
@@ -178,20 +168,16 @@ module _ {d : ℕ} (all : List Interval) {line : List ℕ} (tail : List ℕ) (i 
 
       -- the interval reaches the end of the line, which stands in front of these bytes
       pub walking_ends : (count : ℕ) (bytes : List ℕ) → line ≡ take count bytes → tail ≡ drop count bytes → length (fields d rest) ≤ size → to_come ≡ drop (from - lead) bytes
-      walking_ends count bytes is_line is_tail few = same ∙ sym slice
-        where
-          number_of : length here ≤ skip + size
-          number_of = omega (arith, few, ap length (s.later ∙ ap (fields d) (drop-drop skipped at line)), length-drop skip here)
-
-          same : to_come ≡ laid d lead (fields d rest) ++ tail
-          same = cc (
+      walking_ends count bytes is_line is_tail few =
+          let number_of : length here ≤ skip + size = omega (arith, few, ap length (s.later ∙ ap (fields d) (drop-drop skipped at line)), length-drop skip here) in
+          cc (
             these,
             here_is,
             take_all size (fields d rest) few,
             chosen_none (is_selected rs) number here (λ m low high. not_selected rs (r.last + 1) m apart.2 (omega (arith, number_of, not_past, apart.1))),
             append-nil (fields d rest),
+            take-append-drop count bytes,
+            drop-append-le (from - lead) line tail (omega (arith, from_fits)),
+            lead_drop,
+            led_fields d rest,
           )
-
-          slice : drop (from - lead) bytes ≡ laid d lead (fields d rest) ++ tail
-          slice =
-              cc (take-append-drop count bytes, drop-append-le (from - lead) line tail (omega (arith, from_fits)), lead_drop, led_fields d rest)

@@ -66,11 +66,11 @@ module _ (selected : ℕ → Bool) where
       → after ≡ set counts (place + 1) (count + one) → PickBegun (place + 1) (count + one) (set row count place) after
   pick_more {place} {count} {row} {counts} {after} {one} low begun told after_is = record {
     is = whole;
-    few = omega (arith, told, b.2);
+    few = omega (arith, told, (bit (selected (place + 1))).2);
     lanes = All-set (λ p. p < 16) row count place (omega arith) begun.lanes;
     long = cc (length-set row count place);
     all_counts = cc (length-set counts (place + 1) (count + one));
-    places = cc (b.0, written_more (selected (place + 1)) row count place (omega arith), one_place place);
+    places = cc ((bit (selected (place + 1))).0, written_more (selected (place + 1)) row count place (omega arith), one_place place);
     counted = λ k upto. ⊎_elim
         (λ same. cc (get_or-set_same counts (place + 1) (count + one) 0 (omega arith), whole))
         (λ other. cc (get_or-set_other counts (place + 1) k (count + one) 0 (λ e. other (omega (arith, e))), begun.counted k (omega (arith, other)))) (cases_eq k (place + 1));
@@ -80,12 +80,8 @@ module _ (selected : ℕ → Bool) where
       bit true = (refl, refl, omega arith)
       bit false = (refl, refl, omega arith)
 
-      b : (bool_byte (selected (place + 1)) ≡ cond (selected (place + 1)) 1 0) × (length (cond (selected (place + 1)) (place ∷ []) []) ≡ bool_byte (selected (place + 1)))
-          × (bool_byte (selected (place + 1)) ≤ 1)
-      b = bit (selected (place + 1))
-
       whole : count + one ≡ length (picked selected (place + 1))
-      whole = omega (arith, told, ap length (one_place place), length-append (picked selected place) (cond (selected (place + 1)) (place ∷ []) []), b.1)
+      whole = omega (arith, told, ap length (one_place place), length-append (picked selected place) (cond (selected (place + 1)) (place ∷ []) []), (bit (selected (place + 1))).1)
 
   pub pick_whole : {count : ℕ} (most : ℕ) {row counts : List ℕ} → PickBegun 16 count row counts → ((place : ℕ) → 16 < place → place ≤ most → selected place ≡ false)
       → IsPick selected (record { row = row; counts = counts; most = most })

@@ -57,10 +57,8 @@ module _ (squeezed : ℕ → Bool) where
   squeezing_starts last [] into some room is n = absurd (omega arith)
   squeezing_starts last (b ∷ from) into {again} {count} some room is n = record {
     is =
-        (let plus : count ≡ 0 + bool_byte (not again) = omega arith in cc)
-        ∙ one_more into (squeeze_behind squeezed b from) b again room
-        ∙ ap (λ a. cond (not a) (b ∷ squeeze_behind squeezed b from) (squeeze_behind squeezed b from)) is
-        ∙ sym (from_one squeezed last b from);
+        let plus : count ≡ 0 + bool_byte (not again) = omega arith in
+        cc (one_more into (squeeze_behind squeezed b from) b again room, from_one squeezed last b from);
     behind = omega arith;
     within = omega arith;
     counted = small again n;

@@ -2,7 +2,7 @@
 -- written last alone, so that byte is all that is carried from block to block, and within a block from byte to byte.
 use Rattle.ptflow.proofs.Common.{◌≡◌, ℕ, ◌-◌, ◌==◌, ◌&&◌, not, eqb, Bool, true, false, cond, List, [], ◌∷◌, ◌++◌, Option, None, Some, map, length, refl, ap, arith, filter, slice_get, last_or}
 use Rattle.ptflow.proofs.Common.{option_eq, option_or, append-nil, map-append, filter-append, Begins, Tables, deletes, image, squeezes, stays, squeeze_behind, translated, tr, tr_decided, squeeze_from}
-use Rattle.ptflow.proofs.Common.{tr_rest, ⊎_elim, sym, cases_Bool, eq-eqb, eqb-true, squeeze, BeginsWith, EndsWith, TrOfAnyParts, TrOfParts, TrBehindByte, TrMeetsTwice}
+use Rattle.ptflow.proofs.Common.{tr_rest, ⊎_elim, sym, cases_Bool, eq-eqb, eqb-true, squeeze, BeginsWith, EndsWith, TrOfAnyParts, TrOfParts, TrBehindByte, TrMeetsTwice, and_right}
 
 module _ (squeezed : ℕ → Bool) where
   pub behind_one : (last b : ℕ) (bytes : List ℕ) → squeeze_behind squeezed last (b ∷ bytes) ≡ cond (stays squeezed (last, b)) (b ∷ squeeze_behind squeezed b bytes) (squeeze_behind squeezed b bytes)
@@ -82,14 +82,10 @@ module _ (t : Tables) where
 
 -- ---- where nothing is deleted or squeezed
 
-not_both : (x : Bool) {y : Bool} → y ≡ false → (x && y) ≡ false
-not_both true h = h
-not_both false h = refl
-
 behind_all : (squeezed : ℕ → Bool) → ((b : ℕ) → squeezed b ≡ false) → (last : ℕ) (bytes : List ℕ) → squeeze_behind squeezed last bytes ≡ bytes
 behind_all squeezed none last [] = refl
 behind_all squeezed none last (b ∷ bytes) =
-    cc (behind_one squeezed last b bytes, not_both (last == b) (none b), behind_all squeezed none b bytes)
+    cc (behind_one squeezed last b bytes, and_right (last == b) (squeezed b) (none b), behind_all squeezed none b bytes)
 
 pub from_all : (squeezed : ℕ → Bool) → ((b : ℕ) → squeezed b ≡ false) → (last : Option ℕ) (bytes : List ℕ) → squeeze_from squeezed last bytes ≡ bytes
 from_all squeezed none None [] = refl
@@ -155,14 +151,12 @@ one_byte tables last byte stays stays_too =
     by_test t = grind arith
 
 pub tr_behind_byte : TrBehindByte
-tr_behind_byte tables byte a b ends kept unsqueezed = tr_of_parts tables a b
-    (λ c is begins. cc (same_last c (image tables byte) (tr tables a) is last, unsqueezed))
-  where
-    last : EndsWith (image tables byte) (tr tables a)
-    last = (
+tr_behind_byte tables byte a b ends kept unsqueezed =
+    let last : EndsWith (image tables byte) (tr tables a) = (
       tr tables ends.0,
       cc (ends.1, front_on tables None ends.0 (byte ∷ []), one_byte tables (last_or None (tr tables ends.0)) byte kept unsqueezed),
-    )
+    ) in
+    tr_of_parts tables a b (λ c is begins. cc (same_last c (image tables byte) (tr tables a) is last, unsqueezed))
 
 -- bytes that begin with the byte in front of them, which is squeezed
 behind_same : (squeezed : ℕ → Bool) (last : ℕ) (bytes rest : List ℕ) → squeezed last ≡ true → squeeze squeezed bytes ≡ last ∷ rest → squeeze_behind squeezed last bytes ≡ rest

@@ -1,5 +1,5 @@
 use Rattle.ptlangs.proofs.Common.{◌≡◌, ◌-◌, ◌∙◌, sym, get_or, arith, digit_value, nat_tests}
-use Rattle.ptlangs.proofs.Decimals.{too_large_at, is_its_value, is_empty_by_length, digit_is}
+use Rattle.ptlangs.proofs.Elements.{too_large_at, is_its_value, is_empty_by_length, digit_is}
 use Rattle.ptlangs.proofs.numbers.decimal.Goals as goal
 
 pub returns-in_err-checked_mul : goal.returns-in_err-checked_mul

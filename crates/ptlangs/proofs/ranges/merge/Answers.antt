@@ -1,5 +1,5 @@
 use Rattle.ptlangs.proofs.Common.{refl, drop_more, drop_all}
-use Rattle.ptlangs.proofs.Merging.{starts, absorbs, begins, next_positive}
+use Rattle.ptlangs.proofs.CutGrammar.{starts, absorbs, begins, next_positive}
 use Rattle.ptlangs.proofs.ranges.merge.Goals as goal
 use Rattle.ptlangs.proofs.ranges.merge.Goals.{then-next-current, else-next-current+in_ok-push}
 

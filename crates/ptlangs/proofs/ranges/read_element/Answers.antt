@@ -1,6 +1,6 @@
 use Rattle.ptlangs.proofs.Common.{rules, tests, ◌≡◌, ◌∙◌, sym, false, is_dash, is_empty, YieldsList-from_slice, position_from_yields_List}
 use Rattle.ptlangs.proofs.CutGrammar.{said_whole, said_around}
-use Rattle.ptlangs.proofs.Decimals.{is_empty_by_length}
+use Rattle.ptlangs.proofs.Elements.{is_empty_by_length}
 use Rattle.ptlangs.proofs.ranges.read_element.Goals as goal
 
 pub returns-in-None : goal.returns-in-None

@@ -1,6 +1,6 @@
 -- The second string is read twice: bare, to learn how long the first repeat without a count has to be, and then with
 -- it. Both readings are of the same pieces, so the plan is that of the definition.
-use Rattle.ptlangs.proofs.Common.{arith, ap, sym, ◌∙◌, Result, result_map_both, SetFaultKind, Plan, array, collected, first_array, pieces_of, Tables, tables, places_of, cond-true, cond-false}
+use Rattle.ptlangs.proofs.Common.{true, false, arith, ap, sym, ◌∙◌, Result, result_map_both, SetFaultKind, Plan, array, collected, first_array, pieces_of, Tables, tables, places_of}
 use Rattle.ptlangs.proofs.TrPlans.{same_answer, no_answer, mapped_ok, mapped_at, second_plan-read}
 use Rattle.ptlangs.proofs.plan.CharPlan.of_two.Goals as goal
 
@@ -16,15 +16,15 @@ returns-in_err-may_pair c = λ firsts e f.
 pub returns-then-not-branch : goal.returns-then-not-branch
 returns-then-not-branch c = λ firsts e f.
     let (ps, read, plan) = second_plan-read c.args.form c.args.complement firsts c.args.s2.now c.second_place-place.result c.saturating_sub.result c.args.first.now c.in_ok-bare.bare
-    c.in_ok-may_pair.field-0 c.second_place-place.ensures c.if-is_empty.ensures (sym c.in_ok-bare.was ∙ c.read.ensures.places)
-    (omega (arith, c.saturating_sub.ensures, c.len.ensures, c.len-2.ensures)) f (λ ps read. same_answer c.may_pair.result _ _ c.in_ok-may_pair.was (c.may_pair.ensures firsts ps e read)) in
-    sym (ap answer_of (plan ∙ cond-false _ _ _ c.if-not-branch.true))
+    false c.second_place-place.ensures c.if-is_empty.ensures (sym c.in_ok-bare.was ∙ c.read.ensures.places) (omega (arith, c.saturating_sub.ensures, c.len.ensures, c.len-2.ensures))
+    f (λ ps read. sym c.if-not-branch.true ∙ same_answer c.may_pair.result _ _ c.in_ok-may_pair.was (c.may_pair.ensures firsts ps e read)) in
+    sym (ap answer_of plan)
 
 pub returns : goal.returns
 returns c = λ firsts e f.
     let (ps, read, plan) = second_plan-read c.args.form c.args.complement firsts c.args.s2.now c.second_place-place.result c.saturating_sub.result c.args.first.now c.in_ok-bare.bare
-    c.in_ok-may_pair.field-0 c.second_place-place.ensures c.if-is_empty.ensures (sym c.in_ok-bare.was ∙ c.read.ensures.places)
-    (omega (arith, c.saturating_sub.ensures, c.len.ensures, c.len-2.ensures)) f (λ ps read. same_answer c.may_pair.result _ _ c.in_ok-may_pair.was (c.may_pair.ensures firsts ps e read)) in
+    true c.second_place-place.ensures c.if-is_empty.ensures (sym c.in_ok-bare.was ∙ c.read.ensures.places) (omega (arith, c.saturating_sub.ensures, c.len.ensures, c.len-2.ensures))
+    f (λ ps read. sym c.if-not-branch.false ∙ same_answer c.may_pair.result _ _ c.in_ok-may_pair.was (c.may_pair.ensures firsts ps e read)) in
     let places = mapped_at (collected (pieces_of c.second_place-place.result c.args.s2.now))
     (λ ps. places_of (array c.saturating_sub.result ps)) c.in_ok-places.places ps (sym c.in_ok-places.was ∙ c.read-2.ensures.places) read in
-    c.of_arrays.ensures (first_array c.args.complement firsts) ps f read places ∙ sym (ap answer_of (plan ∙ cond-true _ _ _ c.if-not-branch.false))
+    c.of_arrays.ensures (first_array c.args.complement firsts) ps f read places ∙ sym (ap answer_of plan)

@@ -1,5 +1,5 @@
 use Rattle.ptflow.proofs.Common.{sym, eqb, splat_is_map}
-use Rattle.ptflow.proofs.OfBytes.LaneLemmas.{sel_maps, mask_right, map_self}
+use Rattle.ptflow.proofs.OfBytes.LaneLemmas.{sel_maps, mask_right, map-id}
 use Rattle.ptflow.proofs.kernels.replacing.EndsToMover.moved.Goals as goal
 
 pub returns : goal.returns
@@ -8,4 +8,4 @@ returns c =
     let by = c.args.self in
     sel_maps (λ b. eqb b by.ending) (λ _. by.delim) (λ b. b) v (mask_right eqb v by.ending c.fits-v.0)
     (splat_is_map v 16 by.delim c.fits-v.0)
-    (sym (map_self v))
+    (sym (map-id v))

@@ -3,6 +3,5 @@ use Rattle.ptflow.proofs.tools.cut.bytes.copy_ends.Goals as goal
 
 pub returns-clause-copied : goal.returns-clause-copied
 returns-clause-copied c =
-    let lanes = chunk c.args.step.start 64 c.args.block.now in
-    let long = length-chunk c.args.step.start 64 c.args.block.now c.requires.within in
-    take_more_put_chunk c.args.step.at c.args.into.now lanes (c.args.step.at + 64) (omega arith) (omega arith)
+    take_more_put_chunk c.args.step.at c.args.into.now (chunk c.args.step.start 64 c.args.block.now) (c.args.step.at + 64)
+    (omega (arith, length-chunk c.args.step.start 64 c.args.block.now c.requires.within)) (omega arith)

@@ -6,12 +6,11 @@ use Rattle.ptflow.proofs.tools.cut.bytes.cut_pieces.Goals as goal
 pub loop-from-preserved-then-marked-eq0 : goal.loop-from-preserved-then-marked-eq0
 loop-from-preserved-then-marked-eq0 c =
     let p = is_byte c.args.ending in
-    let block = c.args.block.now in
     let loop = c.loop-from in
     let none = ap count_ones c.if-marked-eq0.true ∙ ones-mask_l p [] in
-    let counted = ap count_ones c.marks-marked.ensures ∙ ones-mask_l p (chunk loop.from 64 block) in record {
+    let counted = ap count_ones c.marks-marked.ensures ∙ ones-mask_l p (chunk loop.from 64 c.args.block.now) in record {
       within = omega arith;
-      line = (omega arith, omega (arith, count_chunk p block loop.from));
+      line = (omega arith, omega (arith, count_chunk p c.args.block.now loop.from));
       cut = loop.invariant.cut;
       bound = loop.invariant.bound;
       near = loop.invariant.near;

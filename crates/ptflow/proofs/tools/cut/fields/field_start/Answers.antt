@@ -10,8 +10,7 @@ returns-then-count-to c =
 
 pub returns-then-count-eq0 : goal.returns-then-count-eq0
 returns-then-count-eq0 c =
-    let line = take c.args.to c.args.bytes.now in
-    rw c.if-count-eq0.true (starts_first c.args.delimiter line)
+    rw c.if-count-eq0.true (starts_first c.args.delimiter (take c.args.to c.args.bytes.now))
 
 pub returns-in_err-at : goal.returns-in_err-at
 returns-in_err-at c = rw c.from_residual.ensures (few_fields c.args.delimiter (take c.args.to c.args.bytes.now) c.in_err-at.ensures)

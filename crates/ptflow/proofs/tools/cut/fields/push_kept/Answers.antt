@@ -39,12 +39,11 @@ returns-clause-wrote g c =
     let job = cut_job c.args.job.now in
     let line = c.args.line.now in
     let by = c.requires.by_fields in
-    let d = c.args.job.now.delim in
     elim c.match-find_near.branch [
       | in-Some+in_ok-push_fields-in-Some w ↦ ends job line
-          (of_fields job by line (found d line (Some w.in-Some.first) w.in-Some.ensures)) c.requires.ending w.out-is w.in_ok-push_fields-in-Some.ensures.wrote
+          (of_fields job by line (found _ line (Some w.in-Some.first) w.in-Some.ensures)) c.requires.ending w.out-is w.in_ok-push_fields-in-Some.ensures.wrote
           w.in_ok-push_fields-in-Some.ensures.clean c.push-2.ensures.wrote
       | in-None+else-job+in_ok-push-in-None w ↦ ends job line
-          (of_line job by line (found d line None w.in-None.ensures) w.if-job.false) c.requires.ending w.out-is w.in_ok-push-in-None.ensures.wrote
+          (of_line job by line (found _ line None w.in-None.ensures) w.if-job.false) c.requires.ending w.out-is w.in_ok-push-in-None.ensures.wrote
           w.in_ok-push-in-None.ensures.clean c.push-2.ensures.wrote
     ]

@@ -1,5 +1,5 @@
 use Rattle.ptflow.proofs.Common.{sym, ◌∙◌, image}
-use Rattle.ptflow.proofs.OfBytes.LaneLemmas.{map_self, bytes_same, bytes_fit}
+use Rattle.ptflow.proofs.OfBytes.LaneLemmas.{map-id, bytes_same, bytes_fit}
 use Rattle.ptflow.proofs.tools.tr.Translation.mapped.Goals as goal
 
 pub returns-in-Same : goal.returns-in-Same
@@ -7,4 +7,4 @@ returns-in-Same c =
     let tables = c.args.self.now.plan.now in
     let bytes = c.args.bytes.now in
     let same = rw c.in-Same.is at c.requires.mapping in
-    sym (map_self bytes) ∙ bytes_same (λ b. b) (image tables) same bytes (bytes_fit bytes c.type_inv.bytes)
+    sym (map-id bytes) ∙ bytes_same (λ b. b) (image tables) same bytes (bytes_fit bytes c.type_inv.bytes)
