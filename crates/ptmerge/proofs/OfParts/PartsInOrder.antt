@@ -144,7 +144,7 @@ module _ (cmp : Cmp) (o : IsKeyOrder cmp) (key : Key) where
       let more = appended (Some (key x)) (n + 1) xs ys r.1 b.0 b.1 in
       rw r.0 (ap (λ l. x ∷ l) more.0, more.1)
 
-  pub together : (xs ys : Lines) → fall cmp key xs ≡ None → EachKey (λ k. EachKey (AtMost cmp k) key ys) key xs
+  together : (xs ys : Lines) → fall cmp key xs ≡ None → EachKey (λ k. EachKey (AtMost cmp k) key ys) key xs
       → (ordered_part cmp key (xs ++ ys) ≡ xs ++ ordered_part cmp key ys) × (behind (fall cmp key (xs ++ ys)) ≡ behind (fall cmp key ys))
   together xs ys e b =
       let all = appended None 0 xs ys (sym (fall_is cmp key xs) ∙ e) (EachKey-all (λ k. falls cmp None k ≡ false) key (λ k. refl) ys) b in
@@ -155,7 +155,7 @@ module _ (cmp : Cmp) (o : IsKeyOrder cmp) (key : Key) where
   ordered_whole xs e = simp append-nil at (together xs [] e (EachKey-all (λ k. Unit {0}) key (λ k. tt) xs)).0
 
   -- what each line has, each line in order has
-  pub each_ordered : (P : List ℕ → Type 0) (ys : Lines) → EachKey P key ys → EachKey P key (ordered_part cmp key ys)
+  each_ordered : (P : List ℕ → Type 0) (ys : Lines) → EachKey P key ys → EachKey P key (ordered_part cmp key ys)
   each_ordered P ys e = subst (EachKey P key) (sym (ordered_is cmp key ys)) (each_after None ys e)
     where
       each_after : (last : Option (List ℕ)) (ys : Lines) → EachKey P key ys → EachKey P key (ordered_after cmp key last ys)
@@ -163,7 +163,7 @@ module _ (cmp : Cmp) (o : IsKeyOrder cmp) (key : Key) where
       each_after last (y ∷ ys) e = grind (arith, each_after (Some (key y)) ys e.1)
 
   -- what a list falls behind is at least what is at most its keys
-  pub from_below : (k : List ℕ) (ys : Lines) → EachKey (AtMost cmp k) key ys → FallFrom cmp k (fall cmp key ys)
+  from_below : (k : List ℕ) (ys : Lines) → EachKey (AtMost cmp k) key ys → FallFrom cmp k (fall cmp key ys)
   from_below k [] e = tt
   from_below k (y ∷ ys) e = rw (fall_is cmp key (y ∷ ys)) (rw e.0 at (after_from cmp o key k 0 (y ∷ ys)).1)
 
@@ -181,13 +181,13 @@ module _ (cmp : Cmp) (o : IsKeyOrder cmp) (key : Key) where
       grind (arith, rise, left_out, kept_after p (Some (key x)) (Some (key x)) (n + 1) (m + 1) xs (λ k g. g) r.1)
 
   -- some lines of a list in order are in order
-  pub in_order_kept : (p : List ℕ → Bool) (xs : Lines) → fall cmp key xs ≡ None → fall cmp key (filter p xs) ≡ None
+  in_order_kept : (p : List ℕ → Bool) (xs : Lines) → fall cmp key xs ≡ None → fall cmp key (filter p xs) ≡ None
   in_order_kept p xs e = fall_is cmp key (filter p xs) ∙ kept_after p None None 0 0 xs (λ k h. h) (sym (fall_is cmp key xs) ∙ e)
 
 module _ (tool : Tool) (o : IsKeyOrder tool.cmp) where
   open tool use {cmp, key}
 
-  pub none_falls : (ls : Side → Lines) → disorder tool ls ≡ None → (side : Side) → fall cmp (key side) (ls side) ≡ None
+  none_falls : (ls : Side → Lines) → disorder tool ls ≡ None → (side : Side) → fall cmp (key side) (ls side) ≡ None
   none_falls ls e First = (no_fall_first cmp _ _ e).0
   none_falls ls e Second = (no_fall_first cmp _ _ e).1
 
@@ -222,7 +222,7 @@ module _ (tool : Tool) (o : IsKeyOrder tool.cmp) where
         up_to_from cmp o k _ _ (from First) (from Second)
 
     -- The entries of lists that are put together are those of the first ones, and then those of the others.
-    pub entries_together : merged_entries tool (λ side. a side ++ b side) ≡ merged_entries tool a ++ merged_entries tool b
+    entries_together : merged_entries tool (λ side. a side ++ b side) ≡ merged_entries tool a ++ merged_entries tool b
     entries_together =
         let w = up_to cmp (disorder tool b) in
         let first_wanted = λ (side : Side). EachKey-weaker _ (λ k. w k ≡ true) low_wanted (key side) (a side) (low side) in
@@ -232,7 +232,7 @@ module _ (tool : Tool) (o : IsKeyOrder tool.cmp) where
 
 -- ---- texts in parts
 
-pub of_parts : (tool : Tool) → IsKeyOrder tool.cmp → IsOfParts tool
+of_parts : (tool : Tool) → IsKeyOrder tool.cmp → IsOfParts tool
 of_parts tool o first second cut =
     let a : Side → Lines = lines_of tool first in
     let b : Side → Lines = lines_of tool second in
