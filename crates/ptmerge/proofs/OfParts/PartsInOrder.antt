@@ -37,6 +37,13 @@ module _ (p : List ℕ → Bool) where
   keys_kept key [] = refl
   keys_kept key (x ∷ ls) = grind (arith, keys_kept key ls)
 
+  -- lists that are put together, of which the one passes and the other does not
+  kept_parts : (key : Key) (xs ys : Lines) → EachKey (λ k. p k ≡ true) key xs → EachKey (λ k. p k ≡ false) key ys
+      → (kept key (xs ++ ys) ≡ xs) × (filter (λ line. not (p (key line))) (xs ++ ys) ≡ ys)
+  kept_parts key [] [] e f = (refl, refl)
+  kept_parts key [] (y ∷ ys) e f = let ih = kept_parts key [] ys tt f.1 in rw f.0 (ih.0, ap (λ l. y ∷ l) ih.1)
+  kept_parts key (x ∷ xs) ys e f = let ih = kept_parts key xs ys e.1 f in rw e.0 (ap (λ l. x ∷ l) ih.0, ih.1)
+
   -- all lines of a key go where the key goes
   with_key_kept : (key : Key) (k : List ℕ) (ls : Lines) → p k ≡ true → with_key key (kept key ls) k ≡ with_key key ls k
   with_key_kept key k [] h = refl
@@ -64,7 +71,7 @@ module _ (p : List ℕ → Bool) where
             λ h i. entries d (with_key_kept (key First) d (ls First) h i) (with_key_kept (key Second) d (ls Second) h i) in
             grind (arith, each_of ds, same)
 
--- ---- lists that are put together
+-- ---- keys below others
 
 -- what holds of the keys of two lists holds of each list's
 of_keys : (tool : Tool) (side : Side) (P : List ℕ → Type 0) (ls : Side → Lines) → Each P (keys tool ls) → EachKey P (tool.key side) (ls side)
@@ -90,23 +97,6 @@ module _ (cmp : Cmp) (o : IsKeyOrder cmp) where
   none_under : (ls : Lines) → Each (λ l. is_under cmp ls l ≡ false) ls
   none_under [] = tt
   none_under (x ∷ ls) = (rw (tied_itself o.total x) refl, Each-weaker (λ l. is_under cmp ls l ≡ false) (λ l. is_under cmp (x ∷ ls) l ≡ false) (λ l h. grind (arith, h)) ls (none_under ls))
-
-module _ (tool : Tool) (o : IsKeyOrder tool.cmp) (p : List ℕ → Bool) (down : IsDown tool.cmp p) (a b : Side → Lines)
-    (low : (side : Side) → EachKey (λ k. p k ≡ true) (tool.key side) (a side)) (high : (side : Side) → EachKey (λ k. p k ≡ false) (tool.key side) (b side)) where
-  kept_parts : (key : Key) (xs ys : Lines) → EachKey (λ k. p k ≡ true) key xs → EachKey (λ k. p k ≡ false) key ys
-      → (kept p key (xs ++ ys) ≡ xs) × (kept (λ k. not (p k)) key (xs ++ ys) ≡ ys)
-  kept_parts key [] [] e f = (refl, refl)
-  kept_parts key [] (y ∷ ys) e f = let ih = kept_parts key [] ys tt f.1 in rw f.0 (ih.0, ap (λ l. y ∷ l) ih.1)
-  kept_parts key (x ∷ xs) ys e f = let ih = kept_parts key xs ys e.1 f in rw e.0 (ap (λ l. x ∷ l) ih.0, ih.1)
-
-  -- The entries of lists that are put together are those of the lists with the lesser keys, and then those of the
-  -- others.
-  by_keys_of_parts : (w : List ℕ → Bool) → by_keys tool w (λ side. a side ++ b side) ≡ by_keys tool w a ++ by_keys tool w b
-  by_keys_of_parts w =
-      let all : Side → Lines = λ side. a side ++ b side in
-      let parts = λ (side : Side). kept_parts (tool.key side) (a side) (b side) (low side) (high side) in
-      down_splits tool o w p down all ∙ (λ i. sym (by_keys_kept p tool o all w) i ++ sym (by_keys_kept (λ k. not (p k)) tool o all w) i)
-      ∙ (λ i. by_keys tool w (λ side. (parts side).0 i) ++ by_keys tool w (λ side. (parts side).1 i))
 
 -- ---- lists in order
 
@@ -226,8 +216,11 @@ module _ (tool : Tool) (o : IsKeyOrder tool.cmp) where
     entries_together =
         let w = up_to cmp (disorder tool b) in
         let first_wanted = λ (side : Side). EachKey-weaker _ (λ k. w k ≡ true) low_wanted (key side) (a side) (low side) in
-        let high_ordered = λ (side : Side). each_ordered cmp o (key side) (λ k. p k ≡ false) (b side) (high side) in
-        (λ i. by_keys tool (λ k. same_wanted k i) (λ side. (both_go_on side).0 i)) ∙ by_keys_of_parts tool o p down a (ordered tool b) low high_ordered w
+        let all : Side → Lines = λ side. a side ++ ordered tool b side in
+        let parts = λ (side : Side). kept_parts p (key side) (a side) (ordered tool b side) (low side) (each_ordered cmp o (key side) (λ k. p k ≡ false) (b side) (high side)) in
+        (λ i. by_keys tool (λ k. same_wanted k i) (λ side. (both_go_on side).0 i)) ∙ down_splits tool o w p down all
+        ∙ (λ i. sym (by_keys_kept p tool o all w) i ++ sym (by_keys_kept (λ k. not (p k)) tool o all w) i)
+        ∙ (λ i. by_keys tool w (λ side. (parts side).0 i) ++ by_keys tool w (λ side. (parts side).1 i))
         ∙ ap (λ l. l ++ merged_entries tool b) (all_wanted tool w a first_wanted ∙ sym (merged_in_order a in_order))
 
 -- ---- texts in parts
