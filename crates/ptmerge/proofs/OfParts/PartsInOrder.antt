@@ -5,7 +5,7 @@ use Rattle.ptmerge.proofs.Common.{comm_tool, join_tool, IsOfParts, PartsOfComm, 
 use Rattle.ptmerge.proofs.Common.{with_key, entries_of, filter-append}
 use Rattle.ptmerge.proofs.OfMerges.Bounds.{FallFrom, after_from, fall_after, fall_at, fall_is, falls, ordered_after, ordered_is}
 use Rattle.ptmerge.proofs.OfMerges.Least.{Each, Each-weaker, EachKey, EachKey-all, EachKey-weaker, insert_least, keys-Each}
-use Rattle.ptmerge.proofs.OfMerges.Orders.{IsKeyOrder, Above, AtMost, above_trans, at_most_trans, greater_flips, line_order}
+use Rattle.ptmerge.proofs.OfMerges.Orders.{IsKeyOrder, AtMost, above_trans, at_most_trans, greater_flips, line_order}
 use Rattle.ptmerge.proofs.OfMerges.Splitting.{Ascends, IsDown, all_keys, all_wanted, ascends_distinct, down_splits, up_to_from}
 
 -- ---- lines of some keys
@@ -20,7 +20,7 @@ module _ (p : List ℕ → Bool) where
     insert_kept k [] a = refl
     insert_kept k (x ∷ xs) a =
         let least : cmp k x ≡ Less → insert_key cmp k (filter p xs) ≡ k ∷ filter p xs =
-        λ e. insert_least cmp o k (filter p xs) (each_kept (Above cmp k) xs (Each-weaker (Above cmp x) (Above cmp k) (λ y g. above_trans cmp o k x y (ap is_gt e) g) xs a.0)) in
+        λ e. insert_least cmp o k (filter p xs) (each_kept _ xs (Each-weaker _ _ (λ y g. above_trans cmp o k x y (ap is_gt e) g) xs a.0)) in
         let same : cmp k x ≡ Equal → p k ≡ p x = λ e. ap p (o.exact k x e) in
         grind (arith, insert_kept k xs a.1, least, same)
 
@@ -96,7 +96,7 @@ module _ (cmp : Cmp) (o : IsKeyOrder cmp) where
 
   none_under : (ls : Lines) → Each (λ l. is_under cmp ls l ≡ false) ls
   none_under [] = tt
-  none_under (x ∷ ls) = (rw (tied_itself o.total x) refl, Each-weaker (λ l. is_under cmp ls l ≡ false) (λ l. is_under cmp (x ∷ ls) l ≡ false) (λ l h. grind (arith, h)) ls (none_under ls))
+  none_under (x ∷ ls) = (rw (tied_itself o.total x) refl, Each-weaker _ _ (λ l h. grind (arith, h)) ls (none_under ls))
 
 -- ---- lists in order
 
@@ -157,17 +157,13 @@ module _ (cmp : Cmp) (o : IsKeyOrder cmp) (key : Key) where
   from_below k [] e = tt
   from_below k (y ∷ ys) e = rw (fall_is cmp key (y ∷ ys)) (rw e.0 at (after_from cmp o key k 0 (y ∷ ys)).1)
 
-  falls_later : (last : Option (List ℕ)) (x k : List ℕ) → falls cmp last x ≡ false → falls cmp (Some x) k ≡ false → falls cmp last k ≡ false
-  falls_later None x k h g = refl
-  falls_later (Some l) x k h g = at_most_trans cmp o l x k h g
-
   kept_after : (p : List ℕ → Bool) (last from : Option (List ℕ)) (n m : ℕ) (xs : Lines) → ((k : List ℕ) → falls cmp last k ≡ false → falls cmp from k ≡ false) → fall_after cmp key last n xs ≡ None
       → fall_after cmp key from m (filter p xs) ≡ None
   kept_after p last from n m [] up e = refl
   kept_after p last from n m (x ∷ xs) up e =
       let r = rises (falls cmp last (key x)) (fall_at last n) (fall_after cmp key (Some (key x)) (n + 1) xs) e in
       let rise = up (key x) r.0 in
-      let left_out = kept_after p (Some (key x)) from (n + 1) m xs (λ k g. falls_later from (key x) k rise g) r.1 in
+      let left_out = kept_after p (Some (key x)) from (n + 1) m xs (λ k g. grind (arith, at_most_trans, rise, g)) r.1 in
       grind (arith, rise, left_out, kept_after p (Some (key x)) (Some (key x)) (n + 1) (m + 1) xs (λ k g. g) r.1)
 
   -- some lines of a list in order are in order
