@@ -133,16 +133,15 @@ module _ {tool : Tool} {old : State} (w : IsOpened tool old) {reader : Side → 
   passing_now s head = passing s head (reader s) [] (reads_nothing (reader s)) tt (a.sides s).sound
 
   -- the turn could not be ended, and the lines q are passed
-  pub turn_stops : (s : Side) → (place s).stand ≡ Head → (q : Side → Lines) (out : Output) → Merging tool b q old.out out × Late tool b q old.out out → q s ≡ ls s → GoneBy (other s) (q (other s))
-      → (new : Reader) (after : Slots) (fault : MergeFault) → CannotPass s (place s) (reader s) new store after out fault
-      → IsMerge tool old (state (put s new reader) out after) (Err fault)
-  turn_stops s head q out m same rest new after fault (inl e) = same_state tool old s (state reader out store) out new after fault e.0 e.1
+  pub turn_stops : (s : Side) → (place s).stand ≡ Head → {q : Side → Lines} {out : Output} → Merging tool b q old.out out × Late tool b q old.out out → q s ≡ ls s → GoneBy (other s) (q (other s))
+      → {new : Reader} {after : Slots} {fault : MergeFault} → CannotPass s (place s) (reader s) new store after out fault → IsMerge tool old (state (put s new reader) out after) (Err fault)
+  turn_stops s head {q} {out} m same rest {new} {after} {fault} (inl e) = same_state tool old s (state reader out store) out new after fault e.0 e.1
       (stops _ w.o _ _ _ (λ side. []) _ q _
       (side_case (λ side. GoneBy side (q side)) s (rw same (passing_now s head)) rest) m.0 m.1 (Err Write)
       (record { faulted = e.1.faulted; failed = went; denied = a.keeps.denied })
       (λ side fail. absurd (false≢true (sym (went side ∙ w.unfailed side) ∙ fail))) tt
       (λ all h. (omega (arith, a.keeps.peak, (w.fits all).0, (h First).1, (h Second).1), omega (arith, a.keeps.slots, (w.fits all).1))))
-  turn_stops s head q out m same rest new after fault (inr e) =
+  turn_stops s head {q} {out} m same rest {new} {after} {fault} (inr e) =
       let h = passed head (a.sides s) in
       breaks tool w.o old (state reader out store) ls q b m.0 w.unfailed went e.0 s (place s) new after fault
       (λ r piece reads free sound. rw same (passing s head r piece reads free sound)) (sym same) (Some (tool.key s (line store (place s).standing)))

@@ -1,6 +1,6 @@
 -- What `comm` writes of a line, what is known at each of its turns, and what comes of the turn.
-use Rattle.ptmerge.proofs.Common.{◌≡◌, ℕ, ◌<◌, false, List, [], ◌∷◌, ◌++◌, Result, Ok, Err, length, refl, sym, ◌∙◌, ap, subst, arith, false≢true, Comm, Output, Wrote, Reader, IsSound, Slots, line}
-use Rattle.ptmerge.proofs.Common.{total, text, longest, wrote_nothing, MergeFault, Side, First, Second, Sorted, Head, Ended, comm_by, entries_in, tab_unless, Lines, Tool, by_keys, with_key, HasPassed}
+use Rattle.ptmerge.proofs.Common.{◌≡◌, ℕ, ◌<◌, false, List, [], ◌∷◌, ◌++◌, Result, Ok, Err, length, refl, sym, ◌∙◌, ap, arith, false≢true, Comm, Output, Wrote, Reader, IsSound, Slots, line, total}
+use Rattle.ptmerge.proofs.Common.{text, longest, wrote_nothing, MergeFault, Side, First, Second, Sorted, Head, Ended, comm_by, entries_in, tab_unless, Lines, Tool, by_keys, with_key, HasPassed}
 use Rattle.ptmerge.proofs.Common.{StandsAt, State, IsMerge, IsReady, IsUnread, Ends, seen, Cmp, Key, both, put, other, AreEqual, CannotStart, IsAlone, IsDecided, IsLent, IsPlaced, Starts, inputs}
 use Rattle.ptmerge.proofs.Common.{Adds, IsCleared, suc, ◌-◌, min, append_assoc, append-nil, bytes_decides, tied_itself, entries, Bool}
 use Rattle.ptmerge.specs.declared.faults.MergeFault.TheVariants as faults
@@ -52,10 +52,9 @@ module _ (job : Comm) (x : List ℕ) where
 
   entries_both : (n k : ℕ) → entries job x (suc n) (suc k) ≡ entries job x 1 1 ++ entries job x n k
   entries_both n k =
-      let m : min (suc n) (suc k) ≡ suc (min n k) = omega arith in
-      let a : suc n - suc k ≡ n - k = omega arith in
-      let b : suc k - suc n ≡ k - n = omega arith in
-      rw (one_common, m, a, b, more_in job.hide3 (tab_unless job.hide1 ++ tab_unless job.hide2) x (min n k)) (simp append_assoc)
+      let least : min (suc n) (suc k) ≡ suc (min n k) = omega arith in
+      let over : (i j : ℕ) → suc i - suc j ≡ i - j = λ i j. omega arith in
+      rw (one_common, least, over n k, over k n, more_in job.hide3 (tab_unless job.hide1 ++ tab_unless job.hide2) x (min n k)) (simp append_assoc)
 
 module _ (job : Comm) (cmp : Cmp) (key : Side → Key) where
   line_by_line : IsLineByLine (comm_by job cmp key)
@@ -180,10 +179,9 @@ module _ {job : Comm} {cmp : Cmp} {key : Side → Key} {old now : State} {one tw
 
       pub alone_stops : {reader : Reader} {after : Slots} {fault : MergeFault} {r : Result (Unit {0}) MergeFault} → r ≡ Err fault
           → CannotPass s (both one two s) (now.reader s) reader now.store after new fault → Leaves tool old (state (put s reader now.reader) new after) r
-      alone_stops {reader} {after} {fault} is h = rw is
-          (leaves (passes_slots (key s) cmp s (both one two s) (both one two s) (now.reader s) reader now.store after new fault h)
-          (turn_stops w stood s step.stands (put s (ls s) p) new passed_one (put_same s (ls s) p)
-          (rw (put_other s (ls s) p) (standing w stood (other s))) reader after fault h))
+      alone_stops {fault = fault} is h = rw is
+          (leaves (passes_slots (key s) cmp s (both one two s) (both one two s) _ _ _ _ _ fault h)
+          (turn_stops w stood s step.stands passed_one (put_same s (ls s) p) (rw (put_other s (ls s) p) (standing w stood (other s))) h))
 
   -- a line that both inputs have: the first one went on, and the second one stands at it
   pub second_stands : AreEqual cmp key (both one two) now.store → {one2 two2 : Sorted} {reader : Reader} {after : Slots} {mid : Output}
@@ -226,9 +224,9 @@ module _ {job : Comm} {cmp : Cmp} {key : Side → Key} {old now : State} {one tw
 
       pub pair_stops : {reader : Reader} {after : Slots} {fault : MergeFault} {r : Result (Unit {0}) MergeFault} → r ≡ Err fault
           → CannotPass First one (now.reader First) reader now.store after mid fault → Leaves tool old (state (put First reader now.reader) mid after) r
-      pair_stops {reader} {after} {fault} is h = rw is
-          (leaves (passes_slots (key First) cmp First one one (now.reader First) reader now.store after mid fault h)
-          (turn_stops w stood First step.first both_passed mid (passed_both wrote_pair) refl (passing_now w stood Second step.second) reader after fault h))
+      pair_stops {fault = fault} is h = rw is
+          (leaves (passes_slots (key First) cmp First one one _ _ _ _ _ fault h)
+          (turn_stops w stood First step.first (passed_both wrote_pair) refl (passing_now w stood Second step.second) h))
 
       -- the first input went on, and what was pushed was sent
       module _ {one2 two2 : Sorted} {reader : Reader} {after : Slots} (h : HasPassed key cmp First one two one2 two2 (now.reader First) reader now.store after mid)
@@ -238,13 +236,11 @@ module _ {job : Comm} {cmp : Cmp} {key : Side → Key} {old now : State} {one tw
 
         pub second_stops : {reader2 : Reader} {last : Slots} {fault : MergeFault} {r : Result (Unit {0}) MergeFault} → r ≡ Err fault
             → CannotPass Second two2 (now.reader Second) reader2 after last new fault → Leaves tool old (state (both reader reader2) new last) r
-        second_stops {reader2} {last} {fault} is k =
+        second_stops {fault = fault} is k =
             let g = goes w stood First step.first h.came in
             let m = goes_merging w stood First step.first h.came passed_sent in
-            rw is (leaves (passes_slots (key Second) cmp Second two2 two2 (now.reader Second) reader2 after last new fault k
-            ∙ comes_slots (key First) cmp one one2 (now.reader First) reader now.store after h.came)
-            (turn_stops w g Second step.second both_passed new (m, late_none _ _ _ _ _ _ h.on.clean (passed_both wrote_pair).0.wrote sent)
-            refl (standing w g First) reader2 last fault (subst (λ (q : Sorted). CannotPass Second q (now.reader Second) reader2 after last new fault) h.on.others k)))
+            rw is (leaves (passes_slots (key Second) cmp Second two2 two2 _ _ _ _ _ fault k ∙ comes_slots _ _ _ _ _ _ _ _ h.came)
+            (turn_stops w g Second step.second (m, late_none _ _ _ _ _ _ h.on.clean (passed_both wrote_pair).0.wrote sent) refl (standing w g First) (rw h.on.others at k)))
 
         module _ {one3 two3 : Sorted} {reader2 : Reader} {last : Slots} (k : HasPassed key cmp Second one2 two2 one3 two3 (now.reader Second) reader2 after last new) where
           pub pair_on : IsTurn job cmp key old (state (both reader reader2) new last) one3 two3

@@ -1,7 +1,7 @@
 -- What is written of lines that are dealt out by their keys.
-use Rattle.ptmerge.proofs.Common.{◌≡◌, ℕ, zero, suc, ◌+◌, ◌<◌, ◌==◌, ◌&&◌, List, [], ◌∷◌, ◌++◌, Bool, true, false, not, nat_lt, refl, ap, ◌∙◌, append_assoc, inr, arith, nat_tests, flat_map-append}
-use Rattle.ptmerge.proofs.Common.{filter, flat_map, range_with_len, AreLines, lines, text, the_lines_of_parts, Side, comm_tool, join_tool, Lines, Tool, distinct, keys, entries_of, lines_of}
-use Rattle.ptmerge.proofs.Common.{merged_entries, CommByKey, IsByKey, JoinByKey, dealt, written_lines}
+use Rattle.ptmerge.proofs.Common.{◌≡◌, ℕ, zero, suc, ◌+◌, ◌<◌, ◌==◌, ◌&&◌, List, [], ◌∷◌, ◌++◌, Bool, true, false, not, nat_lt, refl, ap, sym, ◌∙◌, append_assoc, inr, arith, nat_tests, filter}
+use Rattle.ptmerge.proofs.Common.{flat_map, range_with_len, AreLines, lines, text, the_lines_of_parts, Side, comm_tool, join_tool, Lines, Tool, distinct, keys, entries_of, lines_of, merged_entries}
+use Rattle.ptmerge.proofs.Common.{CommByKey, IsByKey, JoinByKey, dealt, written_lines}
 use Rattle.std.proofs.lemmas.List.Sorted.{IsPermutation-refl, IsPermutation-trans, IsPermutation-append_left, IsPermutation-append_right, IsPermutation-append_comm}
 use Rattle.std.specs.List.Sorted.{IsPermutation}
 use Rattle.ptmerge.proofs.OfMerges.Orders.{IsKeyOrder, line_order}
@@ -38,14 +38,13 @@ module _ {A : Type 0} where
 
 -- ---- texts
 
--- the lines of the entries that are written
-lines_of_entries : (end : ℕ) (es : Lines) → lines end (text end es) ≡ flat_map (λ e. lines end (e ++ end ∷ [])) es
-lines_of_entries end [] = refl
-lines_of_entries end (e ∷ es) = the_lines_of_parts end (e ++ end ∷ []) (text end es) (inr (e, refl)) ∙ ap (λ l. lines end (e ++ end ∷ []) ++ l) (lines_of_entries end es)
-
-nested : (g : List ℕ → Lines) (f : List ℕ → Lines) (ks : Lines) → flat_map g (flat_map f ks) ≡ flat_map (λ k. flat_map g (f k)) ks
-nested g f [] = refl
-nested g f (k ∷ ks) = flat_map-append g (f k) (flat_map f ks) ∙ ap (λ l. flat_map g (f k) ++ l) (nested g f ks)
+-- the lines of the entries that are written: of some, and then of each key
+lines_of_each : (end : ℕ) (f : List ℕ → Lines) (ks es : Lines)
+    → lines end (text end (es ++ flat_map f ks)) ≡ flat_map (λ e. lines end (e ++ end ∷ [])) es ++ flat_map (λ k. flat_map (λ e. lines end (e ++ end ∷ [])) (f k)) ks
+lines_of_each end f [] [] = refl
+lines_of_each end f (k ∷ ks) [] = lines_of_each end f ks (f k)
+lines_of_each end f ks (e ∷ es) = the_lines_of_parts end (e ++ end ∷ []) (text end (es ++ flat_map f ks)) (inr (e, refl))
+    ∙ ap (λ l. lines end (e ++ end ∷ []) ++ l) (lines_of_each end f ks es) ∙ sym (append_assoc (lines end (e ++ end ∷ [])) _ _)
 
 lines_kept : (end : ℕ) (q : List ℕ → Bool) (ls : Lines) → AreLines end ls → AreLines end (filter q ls)
 lines_kept end q [] e = tt
@@ -64,14 +63,8 @@ of_keys tool o inputs part_of parts in_order below = simp (whole, of_part) (of_e
     ds : Lines
     ds = distinct tool.cmp (keys tool ls)
 
-    entry_lines : List ℕ → Lines
-    entry_lines e = lines tool.end (e ++ tool.end ∷ [])
-
     each : List ℕ → Lines
-    each k = flat_map entry_lines (entries_of tool ls k)
-
-    written : (ks : Lines) → lines tool.end (text tool.end (flat_map (entries_of tool ls) ks)) ≡ flat_map each ks
-    written ks = lines_of_entries tool.end (flat_map (entries_of tool ls) ks) ∙ nested entry_lines (entries_of tool ls) ks
+    each k = flat_map (λ e. lines tool.end (e ++ tool.end ∷ [])) (entries_of tool ls k)
 
     of_part : (i : ℕ) → written_lines tool (dealt tool part_of inputs i) ≡ flat_map each (filter (λ k. part_of k == i) ds)
     of_part i =
@@ -79,10 +72,10 @@ of_keys tool o inputs part_of parts in_order below = simp (whole, of_part) (of_e
         let part : Side → Lines = λ side. filter (λ line. goes (tool.key side line)) (ls side) in
         let in_part = merged_in_order tool o part (kept_in_order tool o (λ side line. goes (tool.key side line)) ls in_order) ∙ by_keys_kept goes tool o ls all_keys in
         (λ t. lines tool.end (text tool.end (merged_entries tool (λ side. lines_dealt tool.end (λ line. goes (tool.key side line)) (inputs side) t))))
-        ∙ ap (λ es. lines tool.end (text tool.end es)) in_part ∙ written (filter goes ds)
+        ∙ ap (λ es. lines tool.end (text tool.end es)) in_part ∙ lines_of_each tool.end (entries_of tool ls) (filter goes ds) []
 
     whole : written_lines tool inputs ≡ flat_map each (filter all_keys ds)
-    whole = ap (λ es. lines tool.end (text tool.end es)) (merged_in_order tool o ls in_order) ∙ written (filter all_keys ds)
+    whole = ap (λ es. lines tool.end (text tool.end es)) (merged_in_order tool o ls in_order) ∙ lines_of_each tool.end (entries_of tool ls) (filter all_keys ds) []
 
 pub comm_of_keys : CommByKey
 comm_of_keys job = of_keys (comm_tool job) (line_order job.descending)

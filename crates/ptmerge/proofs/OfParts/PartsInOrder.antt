@@ -5,7 +5,7 @@ use Rattle.ptmerge.proofs.Common.{comm_tool, join_tool, IsOfParts, PartsOfComm, 
 use Rattle.ptmerge.proofs.Common.{with_key, entries_of, filter-append}
 use Rattle.ptmerge.proofs.OfMerges.Bounds.{FallFrom, after_from, fall_after, fall_at, fall_is, falls, ordered_after, ordered_is}
 use Rattle.ptmerge.proofs.OfMerges.Least.{Each, Each-weaker, EachKey, Each-all, EachKey-weaker, insert_least, keys-Each}
-use Rattle.ptmerge.proofs.OfMerges.Orders.{IsKeyOrder, Above, AtMost, above_trans, at_most_trans, greater_flips, line_order}
+use Rattle.ptmerge.proofs.OfMerges.Orders.{IsKeyOrder, AtMost, above_trans, at_most_trans, greater_flips, line_order}
 use Rattle.ptmerge.proofs.OfMerges.Splitting.{Ascends, IsDown, all_keys, all_wanted, ascends_distinct, down_splits, up_to_from}
 
 -- ---- lines of some keys
@@ -20,7 +20,7 @@ module _ (p : List ℕ → Bool) where
     insert_kept k [] a = refl
     insert_kept k (x ∷ xs) a =
         let least : cmp k x ≡ Less → insert_key cmp k (filter p xs) ≡ k ∷ filter p xs =
-        λ e. insert_least cmp o k (filter p xs) (each_kept (Above cmp k) xs (Each-weaker (Above cmp x) (Above cmp k) (λ y g. above_trans cmp o k x y (ap is_gt e) g) xs a.0)) in
+        λ e. insert_least cmp o k (filter p xs) (each_kept _ xs (Each-weaker _ _ (λ y g. above_trans cmp o k x y (ap is_gt e) g) xs a.0)) in
         let same : cmp k x ≡ Equal → p k ≡ p x = λ e. ap p (o.exact k x e) in
         grind (arith, insert_kept k xs a.1, least, same)
 
@@ -36,6 +36,13 @@ module _ (p : List ℕ → Bool) where
   keys_kept : (key : Key) (ls : Lines) → map key (kept key ls) ≡ filter p (map key ls)
   keys_kept key [] = refl
   keys_kept key (x ∷ ls) = grind (arith, keys_kept key ls)
+
+  -- lists that are put together, of which the one passes and the other does not
+  kept_parts : (key : Key) (xs ys : Lines) → EachKey (λ k. p k ≡ true) key xs → EachKey (λ k. p k ≡ false) key ys
+      → (kept key (xs ++ ys) ≡ xs) × (filter (λ line. not (p (key line))) (xs ++ ys) ≡ ys)
+  kept_parts key [] [] e f = (refl, refl)
+  kept_parts key [] (y ∷ ys) e f = let ih = kept_parts key [] ys tt f.1 in rw f.0 (ih.0, ap (λ l. y ∷ l) ih.1)
+  kept_parts key (x ∷ xs) ys e f = let ih = kept_parts key xs ys e.1 f in rw e.0 (ap (λ l. x ∷ l) ih.0, ih.1)
 
   -- all lines of a key go where the key goes
   with_key_kept : (key : Key) (k : List ℕ) (ls : Lines) → p k ≡ true → with_key key (kept key ls) k ≡ with_key key ls k
@@ -64,7 +71,7 @@ module _ (p : List ℕ → Bool) where
             λ h i. entries d (with_key_kept (key First) d (ls First) h i) (with_key_kept (key Second) d (ls Second) h i) in
             grind (arith, each_of ds, same)
 
--- ---- lists that are put together
+-- ---- keys below others
 
 -- what holds of the keys of two lists holds of each list's
 of_keys : (tool : Tool) (side : Side) (P : List ℕ → Type 0) (ls : Side → Lines) → Each P (keys tool ls) → EachKey P (tool.key side) (ls side)
@@ -89,24 +96,7 @@ module _ (cmp : Cmp) (o : IsKeyOrder cmp) where
 
   none_under : (ls : Lines) → Each (λ l. is_under cmp ls l ≡ false) ls
   none_under [] = tt
-  none_under (x ∷ ls) = (rw (tied_itself o.total x) refl, Each-weaker (λ l. is_under cmp ls l ≡ false) (λ l. is_under cmp (x ∷ ls) l ≡ false) (λ l h. grind (arith, h)) ls (none_under ls))
-
-module _ (tool : Tool) (o : IsKeyOrder tool.cmp) (p : List ℕ → Bool) (down : IsDown tool.cmp p) (a b : Side → Lines)
-    (low : (side : Side) → EachKey (λ k. p k ≡ true) (tool.key side) (a side)) (high : (side : Side) → EachKey (λ k. p k ≡ false) (tool.key side) (b side)) where
-  kept_parts : (key : Key) (xs ys : Lines) → EachKey (λ k. p k ≡ true) key xs → EachKey (λ k. p k ≡ false) key ys
-      → (kept p key (xs ++ ys) ≡ xs) × (kept (λ k. not (p k)) key (xs ++ ys) ≡ ys)
-  kept_parts key [] [] e f = (refl, refl)
-  kept_parts key [] (y ∷ ys) e f = let ih = kept_parts key [] ys tt f.1 in rw f.0 (ih.0, ap (λ l. y ∷ l) ih.1)
-  kept_parts key (x ∷ xs) ys e f = let ih = kept_parts key xs ys e.1 f in rw e.0 (ap (λ l. x ∷ l) ih.0, ih.1)
-
-  -- The entries of lists that are put together are those of the lists with the lesser keys, and then those of the
-  -- others.
-  by_keys_of_parts : (w : List ℕ → Bool) → by_keys tool w (λ side. a side ++ b side) ≡ by_keys tool w a ++ by_keys tool w b
-  by_keys_of_parts w =
-      let all : Side → Lines = λ side. a side ++ b side in
-      let parts = λ (side : Side). kept_parts (tool.key side) (a side) (b side) (low side) (high side) in
-      down_splits tool o w p down all ∙ (λ i. sym (by_keys_kept p tool o all w) i ++ sym (by_keys_kept (λ k. not (p k)) tool o all w) i)
-      ∙ (λ i. by_keys tool w (λ side. (parts side).0 i) ++ by_keys tool w (λ side. (parts side).1 i))
+  none_under (x ∷ ls) = (rw (tied_itself o.total x) refl, Each-weaker _ _ (λ l h. grind (arith, h)) ls (none_under ls))
 
 -- ---- lists in order
 
@@ -144,7 +134,7 @@ module _ (cmp : Cmp) (o : IsKeyOrder cmp) (key : Key) where
       let more = appended (Some (key x)) (n + 1) xs ys r.1 b.0 b.1 in
       rw r.0 (ap (λ l. x ∷ l) more.0, more.1)
 
-  pub together : (xs ys : Lines) → fall cmp key xs ≡ None → EachKey (λ k. EachKey (AtMost cmp k) key ys) key xs
+  together : (xs ys : Lines) → fall cmp key xs ≡ None → EachKey (λ k. EachKey (AtMost cmp k) key ys) key xs
       → (ordered_part cmp key (xs ++ ys) ≡ xs ++ ordered_part cmp key ys) × (behind (fall cmp key (xs ++ ys)) ≡ behind (fall cmp key ys))
   together xs ys e b =
       let all = appended None 0 xs ys (sym (fall_is cmp key xs) ∙ e) (Each-all (λ k. falls cmp None k ≡ false) (λ k. refl) (map key ys)) b in
@@ -155,7 +145,7 @@ module _ (cmp : Cmp) (o : IsKeyOrder cmp) (key : Key) where
   ordered_whole xs e = simp append-nil at (together xs [] e (Each-all (λ k. Unit {0}) (λ k. tt) (map key xs))).0
 
   -- what each line has, each line in order has
-  pub each_ordered : (P : List ℕ → Type 0) (ys : Lines) → EachKey P key ys → EachKey P key (ordered_part cmp key ys)
+  each_ordered : (P : List ℕ → Type 0) (ys : Lines) → EachKey P key ys → EachKey P key (ordered_part cmp key ys)
   each_ordered P ys e = subst (EachKey P key) (sym (ordered_is cmp key ys)) (each_after None ys e)
     where
       each_after : (last : Option (List ℕ)) (ys : Lines) → EachKey P key ys → EachKey P key (ordered_after cmp key last ys)
@@ -163,13 +153,9 @@ module _ (cmp : Cmp) (o : IsKeyOrder cmp) (key : Key) where
       each_after last (y ∷ ys) e = grind (arith, each_after (Some (key y)) ys e.1)
 
   -- what a list falls behind is at least what is at most its keys
-  pub from_below : (k : List ℕ) (ys : Lines) → EachKey (AtMost cmp k) key ys → FallFrom cmp k (fall cmp key ys)
+  from_below : (k : List ℕ) (ys : Lines) → EachKey (AtMost cmp k) key ys → FallFrom cmp k (fall cmp key ys)
   from_below k [] e = tt
   from_below k (y ∷ ys) e = rw (fall_is cmp key (y ∷ ys)) (rw e.0 at (after_from cmp o key k 0 (y ∷ ys)).1)
-
-  falls_later : (last : Option (List ℕ)) (x k : List ℕ) → falls cmp last x ≡ false → falls cmp (Some x) k ≡ false → falls cmp last k ≡ false
-  falls_later None x k h g = refl
-  falls_later (Some l) x k h g = at_most_trans cmp o l x k h g
 
   kept_after : (p : List ℕ → Bool) (last from : Option (List ℕ)) (n m : ℕ) (xs : Lines) → ((k : List ℕ) → falls cmp last k ≡ false → falls cmp from k ≡ false) → fall_after cmp key last n xs ≡ None
       → fall_after cmp key from m (filter p xs) ≡ None
@@ -177,17 +163,17 @@ module _ (cmp : Cmp) (o : IsKeyOrder cmp) (key : Key) where
   kept_after p last from n m (x ∷ xs) up e =
       let r = rises (falls cmp last (key x)) (fall_at last n) (fall_after cmp key (Some (key x)) (n + 1) xs) e in
       let rise = up (key x) r.0 in
-      let left_out = kept_after p (Some (key x)) from (n + 1) m xs (λ k g. falls_later from (key x) k rise g) r.1 in
+      let left_out = kept_after p (Some (key x)) from (n + 1) m xs (λ k g. grind (arith, at_most_trans, rise, g)) r.1 in
       grind (arith, rise, left_out, kept_after p (Some (key x)) (Some (key x)) (n + 1) (m + 1) xs (λ k g. g) r.1)
 
   -- some lines of a list in order are in order
-  pub in_order_kept : (p : List ℕ → Bool) (xs : Lines) → fall cmp key xs ≡ None → fall cmp key (filter p xs) ≡ None
+  in_order_kept : (p : List ℕ → Bool) (xs : Lines) → fall cmp key xs ≡ None → fall cmp key (filter p xs) ≡ None
   in_order_kept p xs e = fall_is cmp key (filter p xs) ∙ kept_after p None None 0 0 xs (λ k h. h) (sym (fall_is cmp key xs) ∙ e)
 
 module _ (tool : Tool) (o : IsKeyOrder tool.cmp) where
   open tool use {cmp, key}
 
-  pub none_falls : (ls : Side → Lines) → disorder tool ls ≡ None → (side : Side) → fall cmp (key side) (ls side) ≡ None
+  none_falls : (ls : Side → Lines) → disorder tool ls ≡ None → (side : Side) → fall cmp (key side) (ls side) ≡ None
   none_falls ls e First = (no_fall_first cmp _ _ e).0
   none_falls ls e Second = (no_fall_first cmp _ _ e).1
 
@@ -222,17 +208,20 @@ module _ (tool : Tool) (o : IsKeyOrder tool.cmp) where
         up_to_from cmp o k _ _ (from First) (from Second)
 
     -- The entries of lists that are put together are those of the first ones, and then those of the others.
-    pub entries_together : merged_entries tool (λ side. a side ++ b side) ≡ merged_entries tool a ++ merged_entries tool b
+    entries_together : merged_entries tool (λ side. a side ++ b side) ≡ merged_entries tool a ++ merged_entries tool b
     entries_together =
         let w = up_to cmp (disorder tool b) in
         let first_wanted = λ (side : Side). EachKey-weaker _ (λ k. w k ≡ true) low_wanted (key side) (a side) (low side) in
-        let high_ordered = λ (side : Side). each_ordered cmp o (key side) (λ k. p k ≡ false) (b side) (high side) in
-        (λ i. by_keys tool (λ k. same_wanted k i) (λ side. (both_go_on side).0 i)) ∙ by_keys_of_parts tool o p down a (ordered tool b) low high_ordered w
+        let all : Side → Lines = λ side. a side ++ ordered tool b side in
+        let parts = λ (side : Side). kept_parts p (key side) (a side) (ordered tool b side) (low side) (each_ordered cmp o (key side) (λ k. p k ≡ false) (b side) (high side)) in
+        (λ i. by_keys tool (λ k. same_wanted k i) (λ side. (both_go_on side).0 i)) ∙ down_splits tool o w p down all
+        ∙ (λ i. sym (by_keys_kept p tool o all w) i ++ sym (by_keys_kept (λ k. not (p k)) tool o all w) i)
+        ∙ (λ i. by_keys tool w (λ side. (parts side).0 i) ++ by_keys tool w (λ side. (parts side).1 i))
         ∙ ap (λ l. l ++ merged_entries tool b) (all_wanted tool w a first_wanted ∙ sym (merged_in_order a in_order))
 
 -- ---- texts in parts
 
-pub of_parts : (tool : Tool) → IsKeyOrder tool.cmp → IsOfParts tool
+of_parts : (tool : Tool) → IsKeyOrder tool.cmp → IsOfParts tool
 of_parts tool o first second cut =
     let a : Side → Lines = lines_of tool first in
     let b : Side → Lines = lines_of tool second in
