@@ -1,3 +1,2 @@
 -- `comm`.
-pub mod CommTurns
 pub mod Turns

@@ -3,19 +3,15 @@ use Rattle.ptmerge.proofs.Common.{◌≡◌, ℕ, ◌<◌, false, List, [], ◌�
 use Rattle.ptmerge.proofs.Common.{text, longest, wrote_nothing, MergeFault, Side, First, Second, Sorted, Head, Ended, comm_by, entries_in, tab_unless, Lines, Tool, by_keys, with_key, HasPassed}
 use Rattle.ptmerge.proofs.Common.{StandsAt, State, IsMerge, IsReady, IsUnread, Ends, seen, Cmp, Key, both, put, other, AreEqual, CannotStart, IsAlone, IsDecided, IsLent, IsPlaced, Starts, inputs}
 use Rattle.ptmerge.proofs.Common.{Adds, IsCleared, suc, ◌-◌, min, append_assoc, append-nil, bytes_decides, tied_itself, entries, Bool}
-use Rattle.ptmerge.specs.declared.faults.MergeFault.TheVariants as faults
-use Rattle.ptmerge.proofs.OfComm.CommTurns.{CannotPass, IsOpened, Placed, Running, adds_of, comes_slots, goes, goes_merging, passes_slots, passing_now, readable_of}
-use Rattle.ptmerge.proofs.OfComm.CommTurns.{runs_on, slots_of, standing, turn_stops, unfailed_of, went}
+use Rattle.ptmerge.proofs.OfMerges.Turning.{CannotPass, IsOpened, Placed, Running, adds_of, comes_slots, goes, goes_merging, passes_slots, passing_now, readable_of, runs_on, slots_of, standing}
+use Rattle.ptmerge.proofs.OfMerges.Turning.{turn_stops, unfailed_of, went, IsLineByLine, ahead, all_ended, alone, pass_one, stops_at}
 use Rattle.ptmerge.proofs.OfMerges.GoingOn.{left, less, lent_on, place_is, wrote_and_sent}
 use Rattle.ptmerge.proofs.OfMerges.Orders.{IsKeyOrder}
-use Rattle.ptmerge.proofs.OfMerges.Pairs.{both_each, put_other, put_same}
-use Rattle.ptmerge.proofs.OfMerges.Passing.{Late, Merging, front_line, late_none, pass_front}
-use Rattle.ptmerge.proofs.OfMerges.Slotted.{has_lines_total}
-use Rattle.ptmerge.proofs.OfMerges.Splitting.{all_keys}
-use Rattle.ptmerge.proofs.OfMerges.Standing.{passed}
+use Rattle.ptmerge.proofs.OfMerges.Slotted.{both_each, put_other, put_same, has_lines_total}
+use Rattle.ptmerge.proofs.OfMerges.Passing.{Late, Merging, front_line, late_none, pass_front, all_keys}
+use Rattle.ptmerge.proofs.OfMerges.Stopping.{passed, Concludes, state, stops}
 use Rattle.ptmerge.proofs.OfMerges.Starting.{starts_well, starts_badly, start_slots, start_refused}
-use Rattle.ptmerge.proofs.OfMerges.Stopping.{Concludes, state, stops}
-use Rattle.ptmerge.proofs.OfMerges.Turning.{IsLineByLine, ahead, all_ended, alone, pass_one, stops_at}
+use Rattle.ptmerge.specs.declared.faults.MergeFault.TheVariants as faults
 
 -- ---- one line more in one input or in both is one entry more
 

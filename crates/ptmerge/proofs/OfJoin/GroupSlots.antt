@@ -4,11 +4,10 @@ use Rattle.ptmerge.proofs.Common.{subst, arith, ◌*◌, cond, Option, append_as
 use Rattle.ptmerge.proofs.Common.{drop-set-lt, set_at, take_at, bytes_eq, sum_by_push, sum_by-append, sum_by-cons, Slots, line, total, with_line, with_denied, text, longest, total_set, Join}
 use Rattle.ptmerge.proofs.Common.{IsGroupCleared, IsGrown, IsRefused, group, IsKept, entry, fields, pairs_of, greatest_of, largest_group, most_lines, Lines, with_key, bytes_decides, Reader, Side}
 use Rattle.ptmerge.proofs.Common.{First, Second, Sorted, Cmp, Key, HasSlots, put}
-use Rattle.ptmerge.proofs.OfMerges.Slotted.{line_other, HasLines, Keeps, has_lines_total, set_line}
+use Rattle.ptmerge.proofs.OfMerges.Slotted.{line_other, HasLines, Keeps, has_lines_total, set_line, put_each, put_same}
 use Rattle.std.proofs.Math.ListN.{get_or-append}
-use Rattle.ptmerge.proofs.OfMerges.Least.{EachKey}
-use Rattle.ptmerge.proofs.OfMerges.Pairs.{put_each, put_same}
-use Rattle.ptmerge.proofs.OfMerges.Standing.{Next}
+use Rattle.ptmerge.proofs.OfMerges.Orders.{EachKey}
+use Rattle.ptmerge.proofs.OfMerges.Stopping.{Next}
 use Rattle.ptmerge.proofs.OfMerges.Turning.{own_slots, slot_low}
 
 -- the lines of the group from a slot on

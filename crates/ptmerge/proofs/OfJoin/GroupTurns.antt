@@ -4,18 +4,13 @@ use Rattle.ptmerge.proofs.Common.{append_assoc, bytes_eq, bytes_decides, is_gt, 
 use Rattle.ptmerge.proofs.Common.{wrote_trans, text-append, MergeFault, Read, Write, Memory, Side, First, Second, Sorted, Stand, Head, Ended, Disorder, is_head, largest_group, most_lines, Lines, Tool}
 use Rattle.ptmerge.proofs.Common.{by_keys, entries_of, with_key, IsUnwritten, State, IsMerge, CannotRead, Comes, HasSlots, put, other, GoesBefore, disorder, merged_entries, ordered, up_to, Ends}
 use Rattle.ptmerge.proofs.Common.{IsWhole, Cmp, Key}
-use Rattle.ptmerge.proofs.OfComm.CommTurns.{slots_on}
-use Rattle.ptmerge.proofs.OfMerges.Bounds.{Bound, From, Coming, Under}
+use Rattle.ptmerge.proofs.OfMerges.Turning.{slots_on, BothStand, IsAbove, IsLineByLine, ahead, next_at, own_slots, passed_at, sides_on, slots_apart}
+use Rattle.ptmerge.proofs.OfMerges.Passing.{Bound, From, Coming, Under, Merging, Seen, MayCome, all_keys, splits_step, all_wanted, passed_is_wanted}
 use Rattle.ptmerge.proofs.OfJoin.GroupSlots.{AllSlots, Keeping, keeping_line, keeping_next, low_slot, put_more}
-use Rattle.ptmerge.proofs.OfMerges.Least.{EachKey, EachKey-append, EachKey-weaker, at_most-same, front_first, front_is, others_of, with_key-above}
-use Rattle.ptmerge.proofs.OfMerges.Orders.{IsKeyOrder, AtMost, least_or_above, self_at_most, at_most_trans}
-use Rattle.ptmerge.proofs.OfMerges.Pairs.{put_both, put_each, put_other, put_same, side_case}
-use Rattle.ptmerge.proofs.OfMerges.Passing.{Merging, Seen}
-use Rattle.ptmerge.proofs.OfMerges.Slotted.{has_lines_total, line_other}
-use Rattle.ptmerge.proofs.OfMerges.Splitting.{MayCome, all_keys, splits_step, all_wanted, passed_is_wanted}
-use Rattle.ptmerge.proofs.OfMerges.Standing.{Next, Passed, Stands, comes_repeats, sided_keeps}
-use Rattle.ptmerge.proofs.OfMerges.Stopping.{Fails, Fits, Gone, gone_passed, gone_standing, halted, seen_of}
-use Rattle.ptmerge.proofs.OfMerges.Turning.{BothStand, IsAbove, IsLineByLine, ahead, next_at, own_slots, passed_at, sides_on, slots_apart}
+use Rattle.ptmerge.proofs.OfMerges.Orders.{EachKey, EachKey-append, EachKey-weaker, at_most-same, front_first, front_is, others_of, with_key-above, IsKeyOrder, AtMost, least_or_above, self_at_most}
+use Rattle.ptmerge.proofs.OfMerges.Orders.{at_most_trans}
+use Rattle.ptmerge.proofs.OfMerges.Slotted.{put_both, put_each, put_other, put_same, side_case, has_lines_total, line_other}
+use Rattle.ptmerge.proofs.OfMerges.Stopping.{Next, Passed, Stands, comes_repeats, sided_keeps, Fails, Fits, Gone, gone_passed, gone_standing, halted, seen_of}
 use Rattle.ptmerge.proofs.OfMerges.Got.{More}
 use Rattle.ptmerge.specs.declared.faults.MergeFault.TheVariants as faults
 

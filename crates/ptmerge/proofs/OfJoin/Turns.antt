@@ -1,26 +1,22 @@
 -- What is known at each turn of `join`, and what comes of a turn between two groups.
-use Rattle.ptmerge.proofs.Common.{Comes, ◌≡◌, ℕ, Bool, true, false, cond, List, [], ◌∷◌, ◌++◌, map, refl, ap, sym, ◌∙◌, inl, inr, ◌+◌, ◌*◌, ◌≤◌, ◌<◌, Result, Ok, Err, length, subst, arith}
-use Rattle.ptmerge.proofs.Common.{append-nil, flat_map-append, bytes_decides, Join, Side, First, Second, alone1, alone2, alone_entry, entry, fields, join_by, join_entries, join_key, pairs_of, Lines}
-use Rattle.ptmerge.proofs.Common.{by_keys, Cmp, Key, Output, Wrote, Reader, IsSound, Slots, line, text, MergeFault, Sorted, Head, Ended, AddsLeast, CanGoOn, HasPassed, StandsAt, State, IsMerge}
-use Rattle.ptmerge.proofs.Common.{IsReady, IsUnread, seen, HasSlots, both, put, AreEqual, CannotStart, IsAlone, IsDecided, IsLent, IsPlaced, Starts, inputs, IsCleared, Some, ◌⊎◌, Reads, total}
-use Rattle.ptmerge.proofs.Common.{IsLine, longest, wrote_nothing, Write, Ends, other}
-use Rattle.ptmerge.proofs.OfComm.CommTurns.{IsOpened as Opened, readable_of, same_state, slots_of, unfailed_of, wrote_as, breaks_slots}
+use Rattle.ptmerge.proofs.Common.{Comes, ◌≡◌, ℕ, Bool, true, false, cond, List, [], ◌∷◌, ◌++◌, map, refl, ap, sym, ◌∙◌, inl, inr, ◌+◌, ◌*◌, ◌≤◌, ◌<◌, Result, Ok, Err, length, subst, arith, append-nil}
+use Rattle.ptmerge.proofs.Common.{flat_map-append, bytes_decides, Join, Side, First, Second, alone1, alone2, alone_entry, entry, fields, join_by, join_entries, join_key, pairs_of, Lines, by_keys, Cmp}
+use Rattle.ptmerge.proofs.Common.{Key, Output, Wrote, Reader, IsSound, Slots, line, text, MergeFault, Sorted, Head, Ended, AddsLeast, CanGoOn, HasPassed, StandsAt, State, IsMerge, IsReady, IsUnread}
+use Rattle.ptmerge.proofs.Common.{seen, HasSlots, both, put, AreEqual, CannotStart, IsAlone, IsDecided, IsLent, IsPlaced, Starts, inputs, IsCleared, Some, ◌⊎◌, Reads, total, IsLine, longest}
+use Rattle.ptmerge.proofs.Common.{wrote_nothing, Write, Ends, other}
+use Rattle.ptmerge.proofs.OfMerges.Turning.{readable_of, same_state, slots_of, unfailed_of, wrote_as, breaks_slots, IsLineByLine, alone, BothStand, ahead, all_ended, breaks, merging_on, next_at}
+use Rattle.ptmerge.proofs.OfMerges.Turning.{pass_one, sides_on, stops_at, IsAbove}
 use Rattle.std.specs.List.{flat_map}
 use Rattle.ptmerge.proofs.OfJoin.GroupTurns.{IsPairing, head_of, Call, NotPassed, moved, GoneOf, fits_kept, not_failed, peak_line, Grouped}
-use Rattle.ptmerge.proofs.OfMerges.Splitting.{all_keys}
-use Rattle.ptmerge.proofs.OfMerges.Turning.{IsLineByLine, alone, BothStand, ahead, all_ended, breaks, merging_on, next_at, pass_one, sides_on, stops_at, IsAbove}
+use Rattle.ptmerge.proofs.OfMerges.Passing.{all_keys, Bound, From, Late, Merging, late_none}
 use Rattle.ptmerge.specs.declared.tools.join.Phase.{Phase}
 use Rattle.ptmerge.proofs.OfJoin.GroupSlots.{end_within, pair_of, Keeping, keeping_next, keeping_starts}
 use Rattle.ptmerge.proofs.OfMerges.GoingOn.{left, less, lent_on, place_is}
 use Rattle.ptmerge.proofs.OfMerges.Orders.{IsKeyOrder, self_at_most}
-use Rattle.ptmerge.proofs.OfMerges.Pairs.{both_each, put_each, put_other, put_same}
+use Rattle.ptmerge.proofs.OfMerges.Slotted.{both_each, put_each, put_other, put_same, has_lines_total}
 use Rattle.ptmerge.proofs.OfMerges.Starting.{starts_badly, starts_well, start_refused, start_slots}
-use Rattle.ptmerge.proofs.OfMerges.Standing.{Passed, passed}
-use Rattle.ptmerge.proofs.OfMerges.Bounds.{Bound, From}
+use Rattle.ptmerge.proofs.OfMerges.Stopping.{Passed, passed, Concludes, gone_passed, gone_standing, stops}
 use Rattle.ptmerge.proofs.OfMerges.Got.{reads_nothing}
-use Rattle.ptmerge.proofs.OfMerges.Passing.{Late, Merging, late_none}
-use Rattle.ptmerge.proofs.OfMerges.Slotted.{has_lines_total}
-use Rattle.ptmerge.proofs.OfMerges.Stopping.{Concludes, gone_passed, gone_standing, stops}
 use Rattle.ptmerge.specs.declared.faults.MergeFault.TheVariants as faults
 use Rattle.ptmerge.specs.declared.tools.join.Phase.TheVariants as phases
 

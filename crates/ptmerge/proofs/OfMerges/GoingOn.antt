@@ -1,11 +1,10 @@
 -- What holds of both inputs of a merge once one of them went on, and where the keys of their lines stand.
-use Rattle.ptmerge.proofs.Common.{◌≡◌, ℕ, ◌+◌, ◌<◌, Result, Err, refl, sym, ◌∙◌, ap, arith, Reader, budget, Slots, Side, First, Second, Sorted, Head, Cmp, Key, Comes, both, put, other, IsLent, false, List}
-use Rattle.ptmerge.proofs.Common.{[], subst, append-nil, Output, Wrote, wrote_trans, ◌≤◌, ◌&&◌, true, cond, length, nat_lt, Ordering, is_eq, is_gt, nat_tests, length-set, length_push, line, IsKept}
-use Rattle.ptmerge.proofs.Common.{Disorder, same_at, stand_at, IsNoted, IsPlaced, ⊎_elim}
-use Rattle.ptmerge.proofs.OfMerges.Standing.{alive, comes_less}
-use Rattle.ptmerge.proofs.OfMerges.Slotted.{line_added, line_other}
+use Rattle.ptmerge.proofs.Common.{◌≡◌, ℕ, ◌+◌, ◌<◌, Result, Err, refl, sym, ◌∙◌, ap, arith, Reader, budget, Slots, Side, First, Second, Sorted, Head, Cmp, Key, Comes, both, put, other, IsLent, false}
+use Rattle.ptmerge.proofs.Common.{List, [], subst, append-nil, Output, Wrote, wrote_trans, ◌≤◌, ◌&&◌, true, cond, length, nat_lt, Ordering, is_eq, is_gt, nat_tests, length-set, length_push, line}
+use Rattle.ptmerge.proofs.Common.{IsKept, Disorder, same_at, stand_at, IsNoted, IsPlaced, ⊎_elim}
+use Rattle.ptmerge.proofs.OfMerges.Stopping.{alive, comes_less}
+use Rattle.ptmerge.proofs.OfMerges.Slotted.{line_added, line_other, put_other, put_same, side_case}
 use Rattle.ptmerge.proofs.OfMerges.Turning.{own_slots}
-use Rattle.ptmerge.proofs.OfMerges.Pairs.{put_other, put_same, side_case}
 
 -- a fault that is handed on
 pub told : {T E : Type 0} {r : Result T E} {fault : E} → (y : E) × (r ≡ Err y) × (y ≡ fault) → r ≡ Err fault

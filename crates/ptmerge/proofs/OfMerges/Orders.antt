@@ -1,8 +1,13 @@
--- What follows from the laws of an order of keys.
+-- What follows from the laws of an order of keys: the entries of a least key come first, and then those of the lines of
+-- other keys.
 use Rattle.ptmerge.proofs.Common.{◌≡◌, ◌⊎◌, ⊎_elim, inl, inr, ℕ, List, Bool, true, false, refl, sym, ◌∙◌, ap, arith, bytes_eq, Ordering, Less, Equal, Greater, is_eq, is_gt, is_le, ordering_reverse}
 use Rattle.ptmerge.proofs.Common.{bytes_decides, back_total, nat_list_cmp_total, tied_itself, upto, Cmp, byte_cmp, line_cmp}
 use Rattle.std.specs.Cmp.{IsTotalOrder}
 use Rattle.ptmerge.specs.Exact.{same_back, same_bytes}
+use Rattle.ptmerge.proofs.Common.{◌≡◌, ◌⊎◌, inl, inr, ℕ, ◌<◌, arith, length, get_or, suc, zero, List, [], ◌∷◌, ◌++◌, Bool, true, false, cond, refl, ap, sym, ◌∙◌, map, append_assoc, append-nil, filter}
+use Rattle.ptmerge.proofs.Common.{bytes_eq, flat_map, Greater, bytes_decides, Side, First, Second, Lines, Tool, insert_key, distinct, keys, with_key, entries_of, by_keys, Cmp, Key, tied_itself}
+use Rattle.ptmerge.proofs.Common.{map-append}
+use Rattle.ptmerge.proofs.OfMerges.Orders.{IsKeyOrder, AtMost, Above, least_or_above, above_not_same, greater_flips, not_same, self_at_most}
 
 pub record IsKeyOrder (cmp : Cmp) : Type 0 where
   pub total : IsTotalOrder cmp
@@ -74,3 +79,182 @@ module _ (cmp : Cmp) (o : IsKeyOrder cmp) where
 pub line_order : (descending : Bool) → IsKeyOrder (line_cmp descending)
 line_order true = record { total = back_total nat_list_cmp_total; exact = same_back byte_cmp same_bytes }
 line_order false = record { total = nat_list_cmp_total; exact = same_bytes }
+
+-- ---- the least key
+
+-- each of the keys, or of the lines by their keys, passes
+abbrev pub Each : (List ℕ → Type 0) → Lines → Type 0
+Each P [] = Unit {0}
+Each P (x ∷ xs) = P x × Each P xs
+
+abbrev pub EachKey : (List ℕ → Type 0) → Key → Lines → Type 0
+EachKey P key xs = Each P (map key xs)
+
+pub Each-weaker : (P Q : List ℕ → Type 0) → ((x : List ℕ) → P x → Q x) → (xs : Lines) → Each P xs → Each Q xs
+Each-weaker P Q f [] e = tt
+Each-weaker P Q f (x ∷ xs) e = (f x e.0, Each-weaker P Q f xs e.1)
+
+pub EachKey-at : (P : List ℕ → Type 0) (key : Key) (xs : Lines) (i : ℕ) → i < length xs → EachKey P key xs → P (key (get_or xs i []))
+EachKey-at P key [] i low e = absurd (omega (arith, low))
+EachKey-at P key (x ∷ xs) zero low e = e.0
+EachKey-at P key (x ∷ xs) (suc i) low e = EachKey-at P key xs i (omega (arith, low)) e.1
+
+pub EachKey-weaker : (P Q : List ℕ → Type 0) → ((x : List ℕ) → P x → Q x) → (key : Key) (xs : Lines) → EachKey P key xs → EachKey Q key xs
+EachKey-weaker P Q f key xs e = Each-weaker P Q f (map key xs) e
+
+pub Each-all : (P : List ℕ → Type 0) → ((x : List ℕ) → P x) → (xs : Lines) → Each P xs
+Each-all P f [] = tt
+Each-all P f (x ∷ xs) = (f x, Each-all P f xs)
+
+pub Each-append : (P : List ℕ → Type 0) (xs ys : Lines) → Each P xs → Each P ys → Each P (xs ++ ys)
+Each-append P [] ys e h = h
+Each-append P (x ∷ xs) ys e h = (e.0, Each-append P xs ys e.1 h)
+
+pub Each-parts : (P : List ℕ → Type 0) (xs ys : Lines) → Each P (xs ++ ys) → Each P xs × Each P ys
+Each-parts P [] ys e = (tt, e)
+Each-parts P (x ∷ xs) ys e = let r = Each-parts P xs ys e.1 in ((e.0, r.0), r.1)
+
+pub EachKey-append : (P : List ℕ → Type 0) (key : Key) (xs ys : Lines) → EachKey P key xs → EachKey P key ys → EachKey P key (xs ++ ys)
+EachKey-append P key xs ys e h = rw (map-append key xs ys) (Each-append P (map key xs) (map key ys) e h)
+
+pub Each-keys : (P : List ℕ → Type 0) (key1 key2 : Key) (xs ys : Lines) → EachKey P key1 xs → EachKey P key2 ys → Each P (map key1 xs ++ map key2 ys)
+Each-keys P key1 key2 xs ys e f = Each-append P (map key1 xs) (map key2 ys) e f
+
+pub keys-Each : (P : List ℕ → Type 0) (key1 key2 : Key) (xs ys : Lines) → Each P (map key1 xs ++ map key2 ys) → EachKey P key1 xs × EachKey P key2 ys
+keys-Each P key1 key2 xs ys e = Each-parts P (map key1 xs) (map key2 ys) e
+
+pub Each-insert : (cmp : Cmp) (P : List ℕ → Type 0) (k : List ℕ) (xs : Lines) → P k → Each P xs → Each P (insert_key cmp k xs)
+Each-insert cmp P k [] h e = (h, tt)
+Each-insert cmp P k (x ∷ xs) h e = let ih = Each-insert cmp P k xs h e.1 in grind (arith, ih)
+
+pub Each-distinct : (cmp : Cmp) (P : List ℕ → Type 0) (xs : Lines) → Each P xs → Each P (distinct cmp xs)
+Each-distinct cmp P [] e = tt
+Each-distinct cmp P (x ∷ xs) e = Each-insert cmp P x (distinct cmp xs) e.0 (Each-distinct cmp P xs e.1)
+
+-- the keys but k
+abbrev others : List ℕ → Lines → Lines
+others k [] = []
+others k (y ∷ ys) = cond (bytes_eq y k) (others k ys) (y ∷ others k ys)
+
+-- the lines whose key is not k
+abbrev pub without : Key → List ℕ → Lines → Lines
+without key k [] = []
+without key k (x ∷ xs) = cond (bytes_eq (key x) k) (without key k xs) (x ∷ without key k xs)
+
+module _ (cmp : Cmp) (o : IsKeyOrder cmp) where
+  pub insert_least : (k : List ℕ) (ds : Lines) → Each (Above cmp k) ds → insert_key cmp k ds ≡ k ∷ ds
+  insert_least k [] a = refl
+  insert_least k (d ∷ ds) a = rw (greater_flips cmp o d k a.0) refl
+
+  others_above : (k : List ℕ) (ks : Lines) → Each (AtMost cmp k) ks → Each (Above cmp k) (others k ks)
+  others_above k [] e = tt
+  others_above k (y ∷ ks) e = let ih = others_above k ks e.1 in grind (arith, ih, least_or_above cmp o k y e.0)
+
+  -- the least key, if it is there, and then the others
+  distinct_least : (k : List ℕ) (ks : Lines) → Each (AtMost cmp k) ks
+      → (distinct cmp ks ≡ k ∷ distinct cmp (others k ks)) ⊎ ((distinct cmp ks ≡ distinct cmp (others k ks)) × Each (λ y. bytes_eq y k ≡ false) ks)
+  distinct_least k [] e = inr (refl, tt)
+  distinct_least k (y ∷ ks) e = by (least_or_above cmp o k y e.0) (distinct_least k ks e.1)
+    where
+      above : Each (Above cmp k) (distinct cmp (others k ks))
+      above = Each-distinct _ _ _ (others_above k ks e.1)
+
+      by : ((bytes_eq y k ≡ true) × (y ≡ k)) ⊎ ((bytes_eq y k ≡ false) × (cmp y k ≡ Greater))
+          → (distinct cmp ks ≡ k ∷ distinct cmp (others k ks)) ⊎ ((distinct cmp ks ≡ distinct cmp (others k ks)) × Each (λ z. bytes_eq z k ≡ false) ks)
+          → (insert_key cmp y (distinct cmp ks) ≡ k ∷ distinct cmp (others k (y ∷ ks)))
+          ⊎ ((insert_key cmp y (distinct cmp ks) ≡ distinct cmp (others k (y ∷ ks))) × Each (λ z. bytes_eq z k ≡ false) (y ∷ ks))
+      by (inl h) (inl d) = inl (rw (h.0, h.1, d, tied_itself o.total k))
+      by (inl h) (inr d) = inl (rw (h.0, h.1, d.0, insert_least k (distinct cmp (others k ks)) above))
+      by (inr h) (inl d) = inl (rw (h.0, d, h.1))
+      by (inr h) (inr d) = inr (rw (h.0, d.0), (h.0, d.1))
+
+others-keys : (key1 key2 : Key) (k : List ℕ) (xs ys : Lines) → others k (map key1 xs ++ map key2 ys) ≡ map key1 (without key1 k xs) ++ map key2 (without key2 k ys)
+others-keys key1 key2 k [] [] = refl
+others-keys key1 key2 k [] (y ∷ ys) = let ih = others-keys key1 key2 k [] ys in grind (arith, ih)
+others-keys key1 key2 k (x ∷ xs) ys = let ih = others-keys key1 key2 k xs ys in grind (arith, ih)
+
+-- no line is kept whose key does not pass
+pub kept_none : (w : List ℕ → Bool) (key : Key) (ls : Lines) → EachKey (λ k. w k ≡ false) key ls → filter (λ line. w (key line)) ls ≡ []
+kept_none w key [] e = refl
+kept_none w key (x ∷ ls) e = rw e.0 (kept_none w key ls e.1)
+
+-- the lines of another key
+with_key_without : (key : Key) (k q : List ℕ) (xs : Lines) → bytes_eq q k ≡ false → with_key key (without key k xs) q ≡ with_key key xs q
+with_key_without key k q [] n = refl
+with_key_without key k q (x ∷ xs) n =
+    let ih = with_key_without key k q xs n in
+    let apart : key x ≡ k → bytes_eq (key x) q ≡ false = λ e. not_same (key x) q (λ f. (let bad : true ≡ false = sym ((bytes_decides q k).1 (sym f ∙ e)) ∙ n in cc)) in
+    grind (arith, ih, apart, bytes_decides (key x) k)
+
+module _ (tool : Tool) (o : IsKeyOrder tool.cmp) where
+  abbrev over : (List ℕ → Bool) → (Side → Lines) → Lines → Lines
+  over w ls ks = flat_map (entries_of tool ls) (filter w ks)
+
+  -- the lines of other keys
+  abbrev pub others_of : List ℕ → (Side → Lines) → Side → Lines
+  others_of k ls side = without (tool.key side) k (ls side)
+
+  over_others : (w : List ℕ → Bool) (k : List ℕ) (ls : Side → Lines) (ks : Lines) → Each (Above tool.cmp k) ks → over w ls ks ≡ over w (others_of k ls) ks
+  over_others w k ls [] e = refl
+  over_others w k ls (q ∷ ks) e =
+      let ih = over_others w k ls ks e.1 in
+      let n = above_not_same tool.cmp o k q e.0 in
+      grind (arith, ih, with_key_without (tool.key First) k q (ls First) n, with_key_without (tool.key Second) k q (ls Second) n)
+
+  -- The entries of a key at most all the others come first, and then those of the lines of other keys.
+  pub least_first : (w : List ℕ → Bool) (k : List ℕ) (ls : Side → Lines) → ((side : Side) → EachKey (AtMost tool.cmp k) (tool.key side) (ls side)) → tool.entries k [] [] ≡ []
+      → by_keys tool w ls ≡ cond (w k) (entries_of tool ls k) [] ++ by_keys tool w (others_of k ls)
+  least_first w k ls e none = by (distinct_least tool.cmp o k (keys tool ls) all)
+    where
+      all : Each (AtMost tool.cmp k) (keys tool ls)
+      all = Each-keys _ _ _ _ _ (e First) (e Second)
+
+      ds : Lines
+      ds = distinct tool.cmp (others k (keys tool ls))
+
+      rest : over w ls ds ≡ by_keys tool w (others_of k ls)
+      rest = over_others w k ls _ (Each-distinct _ _ _ (others_above tool.cmp o k (keys tool ls) all))
+          ∙ ap (λ l. over w (others_of k ls) (distinct tool.cmp l)) (others-keys (tool.key First) (tool.key Second) k (ls First) (ls Second))
+
+      by : (distinct tool.cmp (keys tool ls) ≡ k ∷ ds) ⊎ ((distinct tool.cmp (keys tool ls) ≡ ds) × Each (λ y. bytes_eq y k ≡ false) (keys tool ls))
+          → by_keys tool w ls ≡ cond (w k) (entries_of tool ls k) [] ++ by_keys tool w (others_of k ls)
+      by (inl d) = rw (d, ← rest) (grind arith)
+      by (inr d) =
+          let n = Each-parts (λ y. bytes_eq y k ≡ false) (map (tool.key First) (ls First)) (map (tool.key Second) (ls Second)) d.1 in
+          rw (d.0, ← rest) (grind (arith, none, kept_none (λ y. bytes_eq y k) (tool.key First) (ls First) n.0, kept_none (λ y. bytes_eq y k) (tool.key Second) (ls Second) n.1))
+
+  -- lines of one key, in front of lines of no lesser keys
+  pub with_key-front : (key : Key) (k : List ℕ) (f r : Lines) → EachKey (λ x. x ≡ k) key f → (with_key key (f ++ r) k ≡ f ++ with_key key r k) × (without key k (f ++ r) ≡ without key k r)
+  with_key-front key k [] r e = (refl, refl)
+  with_key-front key k (x ∷ f) r e =
+      let ih = with_key-front key k f r e.1 in
+      rw ((bytes_decides (key x) k).1 e.0) (ap (λ l. x ∷ l) ih.0, ih.1)
+
+  pub at_most-same : (key : Key) (k : List ℕ) (f r : Lines) → EachKey (λ x. x ≡ k) key f → EachKey (AtMost tool.cmp k) key r → EachKey (AtMost tool.cmp k) key (f ++ r)
+  at_most-same key k f r e h = EachKey-append _ key f r (EachKey-weaker _ _ (λ x is. rw is (self_at_most tool.cmp o k)) key f e) h
+
+  glued : (t : Bool) (all a b rest : Lines) → all ≡ a ++ b → cond t all [] ++ rest ≡ cond t a [] ++ (cond t b [] ++ rest)
+  glued t all a b rest e = grind (arith, append_assoc a b rest)
+
+  -- Lines of the least key, and then lines of no lesser keys.
+  module _ (w : List ℕ → Bool) (k : List ℕ) (f r : Side → Lines) (s : (side : Side) → EachKey (λ x. x ≡ k) (tool.key side) (f side))
+      (a : (side : Side) → EachKey (AtMost tool.cmp k) (tool.key side) (r side)) (none : tool.entries k [] [] ≡ []) where
+    pub front_is : by_keys tool w (λ side. f side ++ r side)
+        ≡ cond (w k) (tool.entries k (f First ++ with_key (tool.key First) (r First) k) (f Second ++ with_key (tool.key Second) (r Second) k)) [] ++ by_keys tool w (others_of k r)
+    front_is =
+        let in_front = λ (side : Side). with_key-front (tool.key side) k (f side) (r side) (s side) in
+        least_first w k (λ side. f side ++ r side) (λ side. at_most-same (tool.key side) k (f side) (r side) (s side) (a side)) none
+        ∙ (λ i. cond (w k) (tool.entries k ((in_front First).0 i) ((in_front Second).0 i)) [] ++ by_keys tool w (λ side. (in_front side).1 i))
+
+  pub front_first : (w : List ℕ → Bool) (k : List ℕ) (f r : Side → Lines) → ((side : Side) → EachKey (λ x. x ≡ k) (tool.key side) (f side))
+      → ((side : Side) → EachKey (AtMost tool.cmp k) (tool.key side) (r side)) → tool.entries k [] [] ≡ []
+      → tool.entries k (f First ++ with_key (tool.key First) (r First) k) (f Second ++ with_key (tool.key Second) (r Second) k) ≡ tool.entries k (f First) (f Second) ++ entries_of tool r k
+      → by_keys tool w (λ side. f side ++ r side) ≡ by_keys tool w f ++ by_keys tool w r
+  front_first w k f r s a none law =
+      let first = simp append-nil at (front_is w k f (λ side. []) s (λ side. tt) none) in
+      front_is w k f r s a none ∙ glued (w k) _ (tool.entries k (f First) (f Second)) (entries_of tool r k) (by_keys tool w (others_of k r)) law
+      ∙ (λ i. sym first i ++ sym (least_first w k r a none) i)
+
+  -- no line above the key has it
+  pub with_key-above : (key : Key) (k : List ℕ) (r : Lines) → EachKey (Above tool.cmp k) key r → with_key key r k ≡ []
+  with_key-above key k r a = kept_none (λ y. bytes_eq y k) key r (EachKey-weaker _ _ (λ y g. above_not_same tool.cmp o k y g) _ _ a)

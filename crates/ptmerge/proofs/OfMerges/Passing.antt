@@ -1,13 +1,248 @@
--- What was pushed of two inputs: the entries of the lines that are passed, which come first whatever is still to come.
-use Rattle.ptmerge.proofs.Common.{◌≡◌, ◌⊎◌, inl, inr, ℕ, ◌&&◌, Bool, true, false, List, [], ◌∷◌, ◌++◌, Option, Some, None, map, refl, sym, ◌∙◌, ap, subst, arith, last_or, Greater, is_lt, is_le}
-use Rattle.ptmerge.proofs.Common.{append-nil, Output, Wrote, text, wrote_trans, wrote_nothing, text-append, Side, First, Second, Lines, Tool, by_keys, disorder, entries_of, fall, is_below, is_decided}
-use Rattle.ptmerge.proofs.Common.{is_past, merged_entries, ordered_part, up_to, with_key, Names, Cmp, Key, put}
+-- What is known of the lines that are still to come of an input; what is written of the lines that are passed, and of
+-- all that may come; and what was pushed: the entries of the lines that are passed, which come first.
+use Rattle.ptmerge.proofs.Common.{nat_tests, ◌≡◌, ℕ, ◌+◌, List, [], ◌∷◌, ◌++◌, Bool, true, false, cond, Option, Some, None, length, refl, ◌∙◌, map, append_assoc, arith, nat_lt, unwrap_or}
+use Rattle.ptmerge.proofs.Common.{if◌then◌else◌, last_or, is_gt, length_push, Lines, ordered_part, fall, Fall, Cmp, Key, ◌&&◌, not, ap, sym, append-nil, flat_map-append, filter, flat_map, Less, Equal}
+use Rattle.ptmerge.proofs.Common.{Greater, match_ordering, Side, First, Second, Tool, insert_key, distinct, keys, entries_of, by_keys, disorder_of, up_to, ◌⊎◌, inl, inr, subst, is_lt, is_le, Output}
+use Rattle.ptmerge.proofs.Common.{Wrote, text, wrote_trans, wrote_nothing, text-append, disorder, is_below, is_decided, is_past, merged_entries, with_key, Names, put}
+use Rattle.ptmerge.proofs.OfMerges.Orders.{IsKeyOrder, AtMost, at_most_trans, self_at_most, EachKey, EachKey-weaker, Above, at_most_is_le, above_trans, less_flips, Each, Each-weaker, Each-insert}
+use Rattle.ptmerge.proofs.OfMerges.Orders.{Each-distinct, Each-keys, Each-all, EachKey-append, front_first, greater_flips}
 use Rattle.ptmerge.specs.Keyed.{Disorder}
-use Rattle.ptmerge.proofs.OfMerges.Bounds.{Bound, Free, From, Fallen, Over, Coming, Falling, Follows, Under, coming_none}
-use Rattle.ptmerge.proofs.OfMerges.Least.{EachKey, Each-all, EachKey-append, EachKey-weaker, front_first}
-use Rattle.ptmerge.proofs.OfMerges.Orders.{IsKeyOrder, AtMost, at_most_trans, above_trans, greater_flips, less_flips, self_at_most}
-use Rattle.ptmerge.proofs.OfMerges.Pairs.{put_each}
-use Rattle.ptmerge.proofs.OfMerges.Splitting.{Splits, splits_step, all_keys, IsDown, all_wanted, passed_is_wanted}
+use Rattle.ptmerge.proofs.OfMerges.Slotted.{put_each}
+
+abbrev pub falls : Cmp → Option (List ℕ) → List ℕ → Bool
+falls cmp None k = false
+falls cmp (Some l) k = is_gt (cmp l k)
+
+-- the ordered part of what follows a key, and the fall in it
+abbrev pub ordered_after : Cmp → Key → Option (List ℕ) → Lines → Lines
+ordered_after cmp key last [] = []
+ordered_after cmp key last (x ∷ w) = cond (falls cmp last (key x)) [] (x ∷ ordered_after cmp key (Some (key x)) w)
+
+abbrev pub fall_at : Option (List ℕ) → ℕ → Fall
+fall_at last n = record { last_key = unwrap_or last []; line = n + 1 }
+
+abbrev pub fall_after : Cmp → Key → Option (List ℕ) → ℕ → Lines → Option Fall
+fall_after cmp key last n [] = None
+fall_after cmp key last n (x ∷ w) = cond (falls cmp last (key x)) (Some (fall_at last n)) (fall_after cmp key (Some (key x)) (n + 1) w)
+
+pub ordered_is : (cmp : Cmp) (key : Key) (ls : Lines) → ordered_part cmp key ls ≡ ordered_after cmp key None ls
+ordered_is cmp key [] = refl
+ordered_is cmp key (x ∷ []) = refl
+ordered_is cmp key (x ∷ y ∷ more) = let ih = ordered_is cmp key (y ∷ more) in grind (arith, ih)
+
+-- the fall, by the length of the ordered part
+abbrev by_length : Cmp → Key → Option (List ℕ) → ℕ → Lines → Lines → Option Fall
+by_length cmp key last n part ls = if nat_lt (length part) (length ls) then Some (record { last_key = unwrap_or (last_or last (map key part)) []; line = (n + length part) + 1 }) else None
+
+by_length_is : (cmp : Cmp) (key : Key) (last : Option (List ℕ)) (n : ℕ) (ls : Lines) → by_length cmp key last n (ordered_after cmp key last ls) ls ≡ fall_after cmp key last n ls
+by_length_is cmp key last n [] = refl
+by_length_is cmp key last n (x ∷ w) = let ih = by_length_is cmp key (Some (key x)) (n + 1) w in grind (arith, nat_tests, ih)
+
+pub fall_is : (cmp : Cmp) (key : Key) (ls : Lines) → fall cmp key ls ≡ fall_after cmp key None 0 ls
+fall_is cmp key ls = grind (arith, ordered_is cmp key ls, by_length_is cmp key None 0 ls)
+
+-- lines in order, up to a last key
+pub record Begun (cmp : Cmp) (key : Key) (q : Lines) (last : Option (List ℕ)) : Type 0 where
+  pub ordered : (w : Lines) → ordered_part cmp key (q ++ w) ≡ q ++ ordered_after cmp key last w
+  pub falling : (w : Lines) → fall cmp key (q ++ w) ≡ fall_after cmp key last (length q) w
+
+pub begun_none : {cmp : Cmp} {key : Key} → Begun cmp key [] None
+begun_none {cmp} {key} = record { ordered = ordered_is cmp key; falling = fall_is cmp key }
+
+pub begun_more : {cmp : Cmp} {key : Key} {q : Lines} {last : Option (List ℕ)} (x : List ℕ) → Begun cmp key q last → falls cmp last (key x) ≡ false → Begun cmp key (q ++ x ∷ []) (Some (key x))
+begun_more {cmp} {key} {q} x b rises = record {
+  ordered = λ w. rw (append_assoc q (x ∷ []) w, b.ordered (x ∷ w), rises, append_assoc q (x ∷ []) (ordered_after cmp key (Some (key x)) w));
+  falling = λ w. rw (append_assoc q (x ∷ []) w, b.falling (x ∷ w), rises, length_push q x);
+}
+
+-- a fall behind a key that is at least k
+abbrev pub FallFrom : Cmp → List ℕ → Option Fall → Type 0
+FallFrom cmp k None = Unit {0}
+FallFrom cmp k (Some d) = AtMost cmp k d.last_key
+
+pub after_from : (cmp : Cmp) (o : IsKeyOrder cmp) (key : Key) (k : List ℕ) (n : ℕ) (w : Lines) → EachKey (AtMost cmp k) key (ordered_after cmp key (Some k) w)
+    × FallFrom cmp k (fall_after cmp key (Some k) n w)
+after_from cmp o key k n [] = (tt, tt)
+after_from cmp o key k n (x ∷ w) =
+    let ih = after_from cmp o key (key x) (n + 1) w in
+    let weaker : is_gt (cmp k (key x)) ≡ false → EachKey (AtMost cmp k) key (ordered_after cmp key (Some (key x)) w) =
+    λ h. EachKey-weaker _ _ (λ y a. at_most_trans cmp o k (key x) y h a) _ _ ih.0 in
+    grind (arith, ih, weaker, at_most_trans, self_at_most cmp o k)
+
+-- What is still to come of an input: nothing is known; keys, and a fall, from k on; no lines, and this fall; no lines
+-- and no fall.
+pub data Bound : Type 0 where
+  Free : Bound
+  From : List ℕ → Bound
+  Fallen : Fall → Bound
+  Over : Bound
+
+-- these lines may still come
+abbrev pub Coming : Cmp → Key → Bound → Lines → Type 0
+Coming cmp key Free r = Unit {0}
+Coming cmp key (From k) r = EachKey (AtMost cmp k) key r
+Coming cmp key (Fallen d) r = r ≡ []
+Coming cmp key Over r = r ≡ []
+
+-- the list may fall so
+abbrev pub Falling : Cmp → Bound → Option Fall → Type 0
+Falling cmp Free f = Unit {0}
+Falling cmp (From k) f = FallFrom cmp k f
+Falling cmp (Fallen d) f = f ≡ Some d
+Falling cmp Over f = f ≡ None
+
+-- a key that passed is at most all that comes
+abbrev pub Under : Cmp → Bound → List ℕ → Type 0
+Under cmp Free k = ⊥
+Under cmp (From l) k = AtMost cmp k l
+Under cmp (Fallen d) k = AtMost cmp k d.last_key
+Under cmp Over k = Unit {0}
+
+-- where a list has ended nothing follows
+abbrev pub Follows : Bound → Lines → Type 0
+Follows Over w = w ≡ []
+Follows b w = Unit {0}
+
+pub coming_none : (cmp : Cmp) (key : Key) (b : Bound) → Coming cmp key b []
+coming_none cmp key b = grind arith
+
+-- The lines ls have come, of which p are passed: each list that goes on with them is in order up to p and some that may
+-- come.
+pub record Reaches (cmp : Cmp) (key : Key) (ls p : Lines) (b : Bound) : Type 0 where
+  pub future : (w : Lines) → Follows b w → (r : Lines) × (ordered_part cmp key (ls ++ w) ≡ p ++ r) × Coming cmp key b r × Falling cmp b (fall cmp key (ls ++ w))
+
+pub reaches_free : {cmp : Cmp} {key : Key} → Reaches cmp key [] [] Free
+reaches_free {cmp} {key} = record { future = λ w _. (ordered_part cmp key w, refl, tt, tt) }
+
+-- all lines that came are passed
+pub reaches_passed : {cmp : Cmp} (o : IsKeyOrder cmp) {key : Key} {ls : Lines} {k : List ℕ} → Begun cmp key ls (Some k) → Reaches cmp key ls ls (From k)
+reaches_passed {cmp} o {key} {ls} {k} g = record {
+  future = λ w _.
+      let a = after_from cmp o key k (length ls) w in (ordered_after cmp key (Some k) w, g.ordered w, a.0, rw (g.falling w) a.1);
+}
+
+pub reaches_over : {cmp : Cmp} {key : Key} {ls : Lines} {last : Option (List ℕ)} → Begun cmp key ls last → Reaches cmp key ls ls Over
+reaches_over g = record { future = λ w none. rw none ([], g.ordered [], refl, g.falling []) }
+
+-- a line stands
+pub reaches_head : {cmp : Cmp} (o : IsKeyOrder cmp) {key : Key} {p : Lines} {x : List ℕ} → Begun cmp key (p ++ x ∷ []) (Some (key x)) → Reaches cmp key (p ++ x ∷ []) p (From (key x))
+reaches_head {cmp} o {key} {p} {x} g = record {
+  future = λ w _.
+      let a = after_from cmp o key (key x) (length (p ++ x ∷ [])) w in (
+        x ∷ ordered_after cmp key (Some (key x)) w,
+        g.ordered w ∙ append_assoc p (x ∷ []) (ordered_after cmp key (Some (key x)) w),
+        (self_at_most cmp o (key x), a.0),
+        rw (g.falling w) a.1,
+      );
+}
+
+-- a line that falls
+pub reaches_fallen : {cmp : Cmp} {key : Key} {p : Lines} {k : List ℕ} (x : List ℕ) → Begun cmp key p (Some k) → is_gt (cmp k (key x)) ≡ true
+    → Reaches cmp key (p ++ x ∷ []) p (Fallen (record { last_key = k; line = length p + 1 }))
+reaches_fallen {p = p} x g fell = record {
+  future = λ w _. ([], rw (append_assoc p (x ∷ []) w, g.ordered (x ∷ w), fell), refl, rw (append_assoc p (x ∷ []) w, g.falling (x ∷ w), fell));
+}
+
+-- ---- what is written
+
+abbrev pub all_keys : List ℕ → Bool
+all_keys k = true
+
+filter_all : (w : List ℕ → Bool) (ks : Lines) → Each (λ k. w k ≡ true) ks → filter w ks ≡ ks
+filter_all w [] e = refl
+filter_all w (k ∷ ks) e = rw e.0 (ap (λ l. k ∷ l) (filter_all w ks e.1))
+
+filter_none : (w : List ℕ → Bool) (ks : Lines) → Each (λ k. w k ≡ false) ks → filter w ks ≡ []
+filter_none w [] e = refl
+filter_none w (k ∷ ks) e = rw e.0 (filter_none w ks e.1)
+
+-- keys in order, each once
+abbrev pub Ascends : Cmp → Lines → Type 0
+Ascends cmp [] = Unit {0}
+Ascends cmp (k ∷ ks) = Each (Above cmp k) ks × Ascends cmp ks
+
+-- a test that holds of each key below one of which it holds
+abbrev pub IsDown : Cmp → (List ℕ → Bool) → Type 0
+IsDown cmp w = (a b : List ℕ) → cmp b a ≡ Greater → w b ≡ true → w a ≡ true
+
+module _ (cmp : Cmp) (o : IsKeyOrder cmp) where
+  ascends_insert : (k : List ℕ) (ks : Lines) → Ascends cmp ks → Ascends cmp (insert_key cmp k ks)
+  ascends_insert k [] a = (tt, tt)
+  ascends_insert k (x ∷ ks) a = elim (cmp k x) as (λ r. cmp k x ≡ r → Ascends cmp (match_ordering r (k ∷ x ∷ ks) (x ∷ ks) (x ∷ insert_key cmp k ks))) [
+    | Less ↦ λ e. ((less_flips cmp o k x e, Each-weaker _ _ (λ y h. above_trans cmp o k x y (ap is_gt e) h) _ a.0), a)
+    | Equal ↦ λ e. a
+    | Greater ↦ λ e. (Each-insert cmp (Above cmp x) k ks e a.0, ascends_insert k ks a.1)
+  ] refl
+
+  pub ascends_distinct : (ks : Lines) → Ascends cmp (distinct cmp ks)
+  ascends_distinct [] = tt
+  ascends_distinct (k ∷ ks) = ascends_insert k (distinct cmp ks) (ascends_distinct ks)
+
+  -- the keys that pass come first
+  down_first : (w p : List ℕ → Bool) → IsDown cmp p → (ks : Lines) → Ascends cmp ks → filter w ks ≡ filter (λ k. w k && p k) ks ++ filter (λ k. w k && not (p k)) ks
+  down_first w p down [] a = refl
+  down_first w p down (k ∷ ks) a =
+      let ih = down_first w p down ks a.1 in
+      let none : p k ≡ false → filter (λ y. w y && p y) ks ≡ [] = λ h. filter_none _ ks (Each-weaker _ _ (not_above h) _ a.0) in
+      grind (arith, ih, none)
+    where
+      not_above : p k ≡ false → (y : List ℕ) → cmp y k ≡ Greater → (w y && p y) ≡ false
+      not_above h y g = grind (arith, down k y g)
+
+  -- what the lists fall behind is at least k
+  pub under_fall : (b : Bound) (k : List ℕ) (f : Option Fall) → Under cmp b k → Falling cmp b f → FallFrom cmp k f
+  under_fall b k f u h = grind (arith, at_most_trans)
+
+  pub up_to_from : (k : List ℕ) (f1 f2 : Option Fall) → FallFrom cmp k f1 → FallFrom cmp k f2 → up_to cmp (disorder_of cmp f1 f2) k ≡ true
+  up_to_from k f1 f2 h1 h2 = grind (arith, at_most_is_le)
+
+  pub passed_is_wanted : (b1 b2 : Bound) (f1 f2 : Option Fall) (k : List ℕ) → Falling cmp b1 f1 → Falling cmp b2 f2 → Under cmp b1 k → Under cmp b2 k → up_to cmp (disorder_of cmp f1 f2) k ≡ true
+  passed_is_wanted b1 b2 f1 f2 k h1 h2 u1 u2 = up_to_from k f1 f2 (under_fall b1 k f1 u1 h1) (under_fall b2 k f2 u2 h2)
+
+module _ (tool : Tool) where
+  pub all_wanted : (w : List ℕ → Bool) (p : Side → Lines) → ((side : Side) → EachKey (λ k. w k ≡ true) (tool.key side) (p side)) → by_keys tool w p ≡ by_keys tool all_keys p
+  all_wanted w p e =
+      let ks = distinct tool.cmp (keys tool p) in
+      let pass = filter_all w ks (Each-distinct _ _ _ (Each-keys _ _ _ _ _ (e First) (e Second))) in
+      ap (flat_map (entries_of tool p)) (pass ∙ sym (filter_all all_keys ks (Each-all _ (λ k. refl) ks)))
+
+  pub none_wanted : (w : List ℕ → Bool) (r : Side → Lines) → ((side : Side) → EachKey (λ k. w k ≡ false) (tool.key side) (r side)) → by_keys tool w r ≡ []
+  none_wanted w r e =
+      ap (flat_map (entries_of tool r)) (filter_none w (distinct tool.cmp (keys tool r)) (Each-distinct _ _ _ (Each-keys _ _ _ _ _ (e First) (e Second))))
+
+  -- the entries of the keys below one are the first
+  pub down_splits : IsKeyOrder tool.cmp → (w p : List ℕ → Bool) → IsDown tool.cmp p → (ls : Side → Lines)
+      → by_keys tool w ls ≡ by_keys tool (λ k. w k && p k) ls ++ by_keys tool (λ k. w k && not (p k)) ls
+  down_splits o w p down ls =
+      let ks = distinct tool.cmp (keys tool ls) in
+      ap (flat_map (entries_of tool ls)) (down_first tool.cmp o w p down ks (ascends_distinct tool.cmp o (keys tool ls)))
+      ∙ flat_map-append (entries_of tool ls) (filter (λ k. w k && p k) ks) (filter (λ k. w k && not (p k)) ks)
+
+  pub down_begins : IsKeyOrder tool.cmp → (w : List ℕ → Bool) → IsDown tool.cmp w → (p : Side → Lines) → (rest : Lines) × (by_keys tool all_keys p ≡ by_keys tool w p ++ rest)
+  down_begins o w down p = (by_keys tool (λ k. not (w k)) p, down_splits o all_keys w down p)
+
+  -- what may come of both inputs
+  abbrev pub MayCome : (Side → Bound) → (Side → Lines) → Type 0
+  MayCome b r = (side : Side) → Coming tool.cmp (tool.key side) (b side) (r side)
+
+  -- Whatever may come of both lists, and whichever keys are wanted: first comes what is written of the lines that are
+  -- passed.
+  pub record Splits (b : Side → Bound) (p : Side → Lines) : Type 0 where
+    pub split : (w : List ℕ → Bool) (r : Side → Lines) → ((side : Side) → Coming tool.cmp (tool.key side) (b side) (r side))
+        → by_keys tool w (λ side. p side ++ r side) ≡ by_keys tool w p ++ by_keys tool w r
+
+  -- lines are passed whose entries come first of all that may come
+  pub splits_step : (b d : Side → Bound) (p f : Side → Lines) → Splits b p
+      → ((side : Side) (r : Lines) → Coming tool.cmp (tool.key side) (d side) r → Coming tool.cmp (tool.key side) (b side) (f side ++ r))
+      → ((w : List ℕ → Bool) (r : Side → Lines) → MayCome d r → by_keys tool w (λ side. f side ++ r side) ≡ by_keys tool w f ++ by_keys tool w r) → Splits d (λ side. p side ++ f side)
+  splits_step b d p f s u front = record {
+    split = λ w r c.
+        let none = λ (side : Side). rw append-nil at (u side [] (coming_none tool.cmp (tool.key side) (d side))) in
+        (λ i. by_keys tool w (λ side. append_assoc (p side) (f side) (r side) i)) ∙ s.split w (λ side. f side ++ r side) (λ side. u side (r side) (c side))
+        ∙ ap (λ l. by_keys tool w p ++ l) (front w r c) ∙ sym (append_assoc (by_keys tool w p) (by_keys tool w f) (by_keys tool w r)) ∙ ap (λ l. l ++ by_keys tool w r) (sym (s.split w f none));
+  }
+
+-- ---- what was pushed
 
 -- what was pushed is what the passed lines give, and whatever comes, it comes first
 pub record Merging (tool : Tool) (b : Side → Bound) (p : Side → Lines) (was is : Output) : Type 0 where

@@ -2,14 +2,11 @@
 use Rattle.ptmerge.proofs.Common.{◌≡◌, inl, inr, ℕ, ◌≤◌, ◌<◌, Bool, false, cond, List, [], None, Err, length, refl, sym, ◌∙◌, arith, false≢true, ending, Reader, Reads, IsSound, Slots, line, IsLine}
 use Rattle.ptmerge.proofs.Common.{longest, wrote_nothing, MergeFault, Memory, Side, First, Second, Sorted, Lines, Tool, State, IsMerge, IsUnread, Comes, HasSlots, fresh, slot_of, both, Inputs}
 use Rattle.ptmerge.proofs.Common.{CannotStart, Starts, Adds, FirstCame, IsUnslotted, ⊎_elim, max, ◌⊎◌}
-use Rattle.ptmerge.proofs.OfMerges.Bounds.{Free, begun_none}
-use Rattle.ptmerge.proofs.OfComm.CommTurns.{Running, adds_of, breaks_slots, within_size, IsOpened}
+use Rattle.ptmerge.proofs.OfMerges.Passing.{Free, begun_none, Merging, late_none, merging_none, settles}
+use Rattle.ptmerge.proofs.OfMerges.Turning.{Running, adds_of, breaks_slots, within_size, IsOpened, breaks, own_slots, slot_low, slots_apart}
 use Rattle.ptmerge.proofs.OfMerges.Got.{got_none, reads_nothing}
-use Rattle.ptmerge.proofs.OfMerges.Passing.{Merging, late_none, merging_none, settles}
 use Rattle.ptmerge.proofs.OfMerges.Slotted.{Keeps, has_lines_total, keeps_line, keeps_none, line_other}
-use Rattle.ptmerge.proofs.OfMerges.Standing.{Next, goes_next, sided_keeps}
-use Rattle.ptmerge.proofs.OfMerges.Stopping.{Gone, gone_free, gone_standing, state, stops}
-use Rattle.ptmerge.proofs.OfMerges.Turning.{breaks, own_slots, slot_low, slots_apart}
+use Rattle.ptmerge.proofs.OfMerges.Stopping.{Next, goes_next, sided_keeps, Gone, gone_free, gone_standing, state, stops}
 
 fresh_slots : (s : Side) → HasSlots s (fresh s)
 fresh_slots s = inr (refl, refl)

@@ -4,14 +4,12 @@ use Rattle.ptmerge.proofs.Common.{◌≡◌, ◌⊎◌, ⊎_elim, inl, inr, ℕ,
 use Rattle.ptmerge.proofs.Common.{append-nil, append_cancel_right, Given, whole_lines, Before, Reader, text, ended_lines, IsLine, AreLines, given_of, ended_of_text, text_push, the_lines, Lines, fall}
 use Rattle.ptmerge.proofs.Common.{is_below, ordered_part, Cmp, Key, Bool, filter-append, filter, Begins, text-append, Side, First, Second, Tool, by_keys, decided_entries, disorder, disorder_of}
 use Rattle.ptmerge.proofs.Common.{is_decided, is_settled, other, WorksOff, decided, settled, put, take, length_push, Fall, map-append}
-use Rattle.ptmerge.proofs.OfMerges.Bounds.{fall_after, fall_is, falls, ordered_after, ordered_is, Bound, FallFrom, Under, Coming}
+use Rattle.ptmerge.proofs.OfMerges.Passing.{fall_after, fall_is, falls, ordered_after, ordered_is, Bound, FallFrom, Under, Coming, not_below, down_decided, last_has, not_decided, past_none, all_keys}
+use Rattle.ptmerge.proofs.OfMerges.Passing.{down_begins}
 use Rattle.ptmerge.proofs.OfMerges.Got.{Far}
-use Rattle.ptmerge.proofs.OfMerges.Least.{EachKey, Each-all, EachKey-weaker, Each-parts, kept_none}
-use Rattle.ptmerge.proofs.OfMerges.Orders.{IsKeyOrder, AtMost, at_most_trans}
-use Rattle.ptmerge.proofs.OfMerges.Passing.{not_below, down_decided, last_has, not_decided, past_none}
+use Rattle.ptmerge.proofs.OfMerges.Orders.{EachKey, Each-all, EachKey-weaker, Each-parts, kept_none, IsKeyOrder, AtMost, at_most_trans}
 use Rattle.ptmerge.proofs.OfParts.PartsInOrder.{by_keys_kept}
-use Rattle.ptmerge.proofs.OfMerges.Splitting.{all_keys, down_begins}
-use Rattle.ptmerge.proofs.OfMerges.Pairs.{put_each, put_other, put_same}
+use Rattle.ptmerge.proofs.OfMerges.Slotted.{put_each, put_other, put_same}
 use Rattle.ptlines.proofs.Scanned.{IsLine-append}
 use Rattle.std.proofs.Math.Seq.{take-append_seam}
 use Rattle.ptmerge.specs.Keyed.{Disorder}

@@ -7,7 +7,7 @@ use Rattle.std.specs.List.Sorted.{IsPermutation}
 use Rattle.ptmerge.proofs.OfMerges.Orders.{IsKeyOrder, line_order}
 use Rattle.ptlines.proofs.TextLaws.{lines-text, lines_are}
 use Rattle.ptmerge.proofs.OfParts.PartsInOrder.{by_keys_kept, kept_in_order, merged_in_order}
-use Rattle.ptmerge.proofs.OfMerges.Splitting.{all_keys}
+use Rattle.ptmerge.proofs.OfMerges.Passing.{all_keys}
 
 -- ---- in some order
 

@@ -3,10 +3,9 @@ use Rattle.ptmerge.proofs.Common.{arith, append-nil, ◌≡◌, ℕ, ◌+◌, Li
 use Rattle.ptmerge.proofs.Common.{Tool, Fall, by_keys, disorder, disorder_of, fall, keys, merged_entries, ordered, ordered_part, up_to, lines_of, Cmp, Key, text, the_lines_of_parts, text-append}
 use Rattle.ptmerge.proofs.Common.{comm_tool, join_tool, IsOfParts, PartsOfComm, PartsOfJoin, ◌&&◌, not, map, tied_itself, bytes_eq, flat_map, is_gt, is_lt, Equal, bytes_decides, insert_key, distinct}
 use Rattle.ptmerge.proofs.Common.{with_key, entries_of, filter-append}
-use Rattle.ptmerge.proofs.OfMerges.Bounds.{FallFrom, after_from, fall_after, fall_at, fall_is, falls, ordered_after, ordered_is}
-use Rattle.ptmerge.proofs.OfMerges.Least.{Each, Each-weaker, EachKey, Each-all, EachKey-weaker, insert_least, keys-Each}
-use Rattle.ptmerge.proofs.OfMerges.Orders.{IsKeyOrder, AtMost, above_trans, at_most_trans, greater_flips, line_order}
-use Rattle.ptmerge.proofs.OfMerges.Splitting.{Ascends, IsDown, all_keys, all_wanted, ascends_distinct, down_splits, up_to_from}
+use Rattle.ptmerge.proofs.OfMerges.Passing.{FallFrom, after_from, fall_after, fall_at, fall_is, falls, ordered_after, ordered_is, Ascends, IsDown, all_keys, all_wanted, ascends_distinct, down_splits}
+use Rattle.ptmerge.proofs.OfMerges.Passing.{up_to_from}
+use Rattle.ptmerge.proofs.OfMerges.Orders.{Each, Each-weaker, EachKey, Each-all, EachKey-weaker, insert_least, keys-Each, IsKeyOrder, AtMost, above_trans, at_most_trans, greater_flips, line_order}
 
 -- ---- lines of some keys
 
