@@ -4,8 +4,8 @@ use Rattle.ptrun.proofs.Common.{◌+◌, length, take, map, set, max, refl, sym,
 use Rattle.ptrun.proofs.Common.{map-append, get_or-set_same, get_or-set_other, length-map, take-append_seam, take-length, flat_map-append, false≢true, Reader, IsSound, HasReadCause, Output, Wrote}
 use Rattle.ptrun.proofs.Common.{Slots, total, SinkState, wrote_trans, wrote_nothing, Given, nothing_left, Agrees, Begins, Came, Finished, Ends, IsPass, Tool, FlowFault, Read, Write, Memory, World}
 use Rattle.ptrun.proofs.Common.{Received, at, is_unopened, AllowsAt, Allows, is_in, found, founds, opened, sources, reader_at, no_reader, shut, CameAt, IsReceived, IsFresh, HasFailed, IsTooLong}
-use Rattle.ptrun.proofs.Common.{Tells, unopened, not_opened, name_of, KeepsUp, PassedOn, LastEarlier, decided_of, up_to_open, each_out, each_bound, each_decided, one_by_one, Done, Whole, Unopened}
-use Rattle.ptrun.proofs.Common.{Cause, blame, last_words, status_after, IsWithin, Went, get_or, get_or_default, All}
+use Rattle.ptrun.proofs.Common.{Tells, unopened, not_opened, name_of, KeepsUp, PassedOn, decided_of, up_to_open, each_out, each_bound, each_decided, one_by_one, Done, Whole, Unopened, Cause, blame}
+use Rattle.ptrun.proofs.Common.{last_words, status_after, IsWithin, Went, get_or, get_or_default, All}
 use Rattle.ptrun.proofs.OnePlace.{all_earlier, last_earlier, sends_now, sends_behind, IsSpent, nothing_yet, done_with, received_of, received_at, nothing_read, never_long, not_long, opened_came}
 use Rattle.ptrun.proofs.OnePlace.{still_refused, came_trans, ended_gives_nothing, refused_same, none_of, agreed, agrees_before, agrees_whole, agrees_least, ended_at, nth_here}
 use Rattle.ptrun.proofs.Sayings.{tells_nothing}
@@ -348,14 +348,6 @@ module _ {word : List ℕ} {t : Tool} {names : List (List ℕ)} {old : List Read
         decided_here : decided_of t (sources nothing_left gave' done ++ earlier ∷ []) ≡ k.pushed ++ t.decided earlier
         decided_here = decided_all (earlier ∷ []) ∙ ap (λ (l : List ℕ). k.pushed ++ l) (decided_open earlier [] (inl refl))
 
-        keeps_here : LastEarlier t (sources nothing_left gave' (done ++ p ∷ [])) (λ bytes. PassedOn bytes was is' (k.pushed ++ e.pushed))
-        keeps_here =
-            rw (sources_opened nothing_left gave' done p [] e.given found_given)
-            (last_earlier t (sources nothing_left gave' done) e.given (one_keeps.works.before tt) (λ bytes. PassedOn bytes was is' (k.pushed ++ e.pushed)) (record {
-              begins = begins_behind (t.decided earlier) decided_here one_keeps.works.begins;
-              sends = rw decided_here (sends_behind was is is' k.pushed (t.decided earlier) k.wrote k.clean one_keeps.sends);
-            }))
-
         sure_here : (more : List ℕ) → new.failed ≡ true → is'.faulted ≡ false → new.ended ≡ false → Begins (each_decided t gave' (done ++ p ∷ more)) (k.pushed ++ e.pushed)
         sure_here more failed clean going =
             let behind = opened (founds nothing_left gave' (done ++ p ∷ []) more) in
@@ -382,7 +374,11 @@ module _ {word : List ℕ} {t : Tool} {names : List (List ℕ)} {old : List Read
                 ∙ sym (append_assoc k.pushed e.pushed (b.rest ++ rest));
           };
           sure = λ q failed clean. let here = blamed q failed in sure_here more here clean (failing fault end here).0;
-          keeps_up = rw (take-append-add done (p ∷ more) 1) keeps_here;
+          keeps_up = rw (take-append-add done (p ∷ more) 1, sources_opened nothing_left gave' done p [] e.given found_given)
+              (last_earlier t (sources nothing_left gave' done) e.given (one_keeps.works.before tt) (λ bytes. PassedOn bytes was is' (k.pushed ++ e.pushed)) (record {
+                begins = begins_behind (t.decided earlier) decided_here one_keeps.works.begins;
+                sends = rw decided_here (sends_behind was is is' k.pushed (t.decided earlier) k.wrote k.clean one_keeps.sends);
+              }));
           told_read = λ q failed clean. ap (λ (f : FlowFault). Err f) ((failing fault end (blamed q failed)).1 ∙ ap (λ (n : ℕ). Read n) (place_of q failed));
           peak = λ w agrees. peak_here w more agrees;
         }

@@ -182,7 +182,8 @@ module _ (word : List ℕ) {t : JointTool} (names : List (List ℕ)) {places : L
     within = e.within;
     said = [];
     tells = tells_nothing told;
-    names = λ w agrees. sym (none_named word names (is_unopened w) (take e.behind places) (none_before (is_unopened w) e.behind (complete w agrees)));
+    names = λ w agrees. sym (none_named word names (is_unopened w) (take e.behind places) (neither _ _
+        (sym (list_any-append (is_unopened w) (take e.behind places) (drop e.behind places)) ∙ ap (list_any (is_unopened w)) (take-append-drop e.behind places) ∙ complete w agrees)).0);
     ends = e.ends;
     place = e.place;
     untouched = k.untouched;
@@ -193,9 +194,6 @@ module _ (word : List ℕ) {t : JointTool} (names : List (List ℕ)) {places : L
         (up.0, rw (decided_is (set received q (Some e)) (put_at q e k.given) (opened_set received q g e there) (put_is q g e there)) up.1);
     peak = λ w agrees. rw (complete w agrees) (k.peak (text_in w) (agree w agrees));
   }
-    where
-      none_before : (test : ℕ → Bool) (n : ℕ) → list_any test places ≡ false → list_any test (take n places) ≡ false
-      none_before test n none = (neither _ _ (sym (list_any-append test (take n places) (drop n places)) ∙ ap (list_any test) (take-append-drop n places) ∙ none)).0
 
 -- ---- a tool with one input
 

@@ -6,10 +6,10 @@
 use Rattle.ptrun.proofs.Common.{cases_Bool, ◌≡◌, ⊎_elim, ℕ, Bool, true, false, cond, List, [], ◌++◌, Option, Some, None, Result, Ok, Err, length, map, refl, sym, ◌∙◌, ap, arith, append_assoc}
 use Rattle.ptrun.proofs.Common.{length-append, All, append_known, prepend_known, IsAtEnd, append-nil, append_cancel_left, nil_from_length, false≢true, take-length, Reader, Output, text, Wrote, Slots}
 use Rattle.ptrun.proofs.Common.{SinkState, append_known-nil, wrote_trans, Given, Agrees, Begins, FlowFault, Read, Write, Memory, Done, World, Received, at, AllowsAt, Allows, reader_at, shut}
-use Rattle.ptrun.proofs.Common.{is_unopened, CameAt, IsReceived, IsFresh, HasFailed, IsTooLong, TellsAt, TellsWorld, Tells, Meaning, named, messages, unopened, Sinks, sinks, Outcome, Cause, EndsAs}
-use Rattle.ptrun.proofs.Common.{IsRun, IsExact, Headline, Checks, WentTo, Went, Finishes, last_words, status_after, IsWithin, PassedOn, KeptUp, saying, ◌+◌, ◌<◌, ◌==◌, is_none, not, nat_le}
-use Rattle.ptrun.proofs.Common.{length-map, All-map, nat_tests, eqb_tells, Input, Standard, File, Fault, Command, Job, RunCut, RunPaste, RunUniq, RunComm, RunJoin, RunTr, meaning, inputs, meant}
-use Rattle.ptrun.proofs.Common.{seen, IsMeant, said_of, status_of, place, places, AreGiven, of_two, job_meaning, command_meaning, meaning_in, tool_word, asked, asked_as, is_denied, AreFresh}
+use Rattle.ptrun.proofs.Common.{is_unopened, CameAt, IsFresh, HasFailed, IsTooLong, TellsAt, Tells, Meaning, named, messages, unopened, Sinks, sinks, Outcome, Cause, EndsAs, IsRun, IsExact, Headline}
+use Rattle.ptrun.proofs.Common.{Checks, WentTo, Went, Finishes, last_words, status_after, IsWithin, PassedOn, KeptUp, saying, ◌+◌, ◌<◌, ◌==◌, is_none, not, nat_le, length-map, All-map, nat_tests}
+use Rattle.ptrun.proofs.Common.{eqb_tells, Input, Standard, File, Fault, Command, Job, RunCut, RunPaste, RunUniq, RunComm, RunJoin, RunTr, meaning, inputs, meant, seen, IsMeant, said_of, status_of}
+use Rattle.ptrun.proofs.Common.{place, places, AreGiven, of_two, job_meaning, command_meaning, meaning_in, tool_word, asked, asked_as, is_denied, AreFresh}
 use Rattle.ptlangs.specs.Answers.{IsFault}
 use Rattle.ptopts.specs.declared.fault.UseFault.{UseFault}
 use Rattle.ptmerge.specs.Comm.{comm_tool}
@@ -74,9 +74,6 @@ told_agrees_at old new (Some g) (Some b) fresh k tells = by_left new.left (sym t
     by_left None is end = cc
     by_left (Some rest) is end = record { rest = rest; is = cc; whole = λ ended. end (sym k.1.ended ∙ ended) }
 
-pub told_agrees : (old new : List Reader) (r : Received) (w : World) → ((q : ℕ) → IsFresh (reader_at old q)) → IsReceived old new r → TellsWorld old w → Allows r w
-told_agrees old new r w fresh reading tells q = told_agrees_at (reader_at old q) (reader_at new q) (at r q) (at w q) (fresh q) (reading q) (tells q)
-
 too_long : (o : Option Given) (v : Option (List ℕ)) (old : Reader) → AllowsAt o v → TellsAt old v → IsTooLong o → ⊥
 too_long None v old a tells long = long
 too_long (Some g) None old a tells long = a
@@ -88,7 +85,7 @@ pub headline_of : (m : Meaning) (old new : List Reader) (before : Sinks) (o : Ou
 headline_of m old new before o fresh k w tells none fine roomy = by_fault k.fault k.ends
   where
     agrees : Allows k.received w
-    agrees = told_agrees old new k.received w (fresh_all old fresh) k.came tells
+    agrees q = told_agrees_at (reader_at old q) (reader_at new q) (at k.received q) (at w q) (fresh_all old fresh q) (k.came q) (tells q)
 
     unfailed : (n : ℕ) (fault : FlowFault) → Cause m k.received old new o.out.failed o.denied n fault → ⊥
     unfailed n (Read p) c = ⊎_elim (λ failed. none p failed) (λ long. too_long (at k.received p) (at w p) (reader_at old p) (agrees p) (tells p) long) c.2
@@ -198,9 +195,6 @@ module _ {m : Meaning} {old new : List Reader} {was is is' : Output} {at_first t
   abbrev last : List ℕ
   last = last_words m.tool m.names ended
 
-  went_to : WentTo m k.received old new k.pushed is'.faulted store.denied k.behind ended
-  went_to = ⊎_elim (λ faulted. rw (f.broken faulted) faulted) (λ (clean : is'.faulted ≡ false). rw (clean, (f.clean clean).0) (rw (f.clean clean).2 at k.ends)) (cases_Bool is'.faulted)
-
   ends_as : (r : Result Done FlowFault) → ended ≡ r → WentTo m k.received old new k.pushed is'.faulted store.denied k.behind r
       → EndsAs m k.received old new reached.front (k.said ++ last) o k.behind (fault_of r)
   ends_as (Ok done) same e = (
@@ -228,7 +222,8 @@ module _ {m : Meaning} {old new : List Reader} {was is is' : Output} {at_first t
     tells = tells_trans none_said (tells_trans k.tells says);
     behind = k.behind;
     fault = fault_of ended;
-    ends = ends_as ended refl went_to;
+    ends = ends_as ended refl (⊎_elim (λ faulted. rw (f.broken faulted) faulted)
+        (λ (clean : is'.faulted ≡ false). rw (clean, (f.clean clean).0) (rw (f.clean clean).2 at k.ends)) (cases_Bool is'.faulted));
     untouched = k.untouched;
     true_so_far = begins;
     told = λ place failed fine. let clean = sym last_failed ∙ fine in ap fault_of ((f.clean clean).0 ∙ k.told_read place failed (f.clean clean).2);
