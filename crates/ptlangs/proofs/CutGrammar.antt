@@ -1,12 +1,13 @@
 -- The lists of `cut`: their elements, that those that are accepted are those of the grammar, and the intervals that are kept, merged.
-use Rattle.ptlangs.proofs.Common.{◌≡◌, Bool, Err, List, None, Ok, Option, Some, [], ap, arith, cond, drop, eqb, false, get_or, inl, inr, leb, length, ltb, not, refl, subst, suc, sym, take, true, ℕ}
+use Rattle.ptlangs.proofs.Common.{Result, ◌≡◌, Bool, List, None, Ok, Option, Some, [], ap, arith, cond, drop, eqb, false, get_or, inl, inr, leb, length, ltb, not, refl, subst, suc, sym, take, true, ℕ}
 use Rattle.ptlangs.proofs.Common.{◌&&◌, ◌++◌, ◌+◌, ◌-◌, ◌<◌, ◌||◌, ◌∙◌, ◌∷◌, and_left, and_parts, and_right, cases_Bool, cond-false, cond-true, eqb-false, eqb-true, le-ltb, ltb-false, ne_eqb, or_from}
 use Rattle.ptlangs.proofs.Common.{or_parts, nat_tests, All-append, All-cons, list_any-IsPermutation, join_with_byte-slice_split, length-slice_split, slice_split_at, slice_split_none}
 use Rattle.ptlangs.proofs.Common.{AllPass-from_list_all, is_ascii_digit, All, join_with_byte, list_all, position, slice_split, AcceptsTheGrammar, AreInOrder, From, FromTo, IsElement, IsProper}
 use Rattle.ptlangs.proofs.Common.{IsProperElement, One, UpTo, checked, cut_list, element, ends, is_dash, is_end, is_selected, said, selection, and_then, each, greatest, is_empty, is_number}
 use Rattle.ptlangs.proofs.Common.{is_separator, value, Interval, max, ◌≤◌, append_assoc, list_any-append, list_any, AreApart}
 use Rattle.std.specs.List.Sorted.{IsNonDecreasingBy, IsPermutation}
-use Rattle.ptlangs.specs.declared.ranges.ListFault.TheVariants.{TooLarge, Zero, Descending}
+use Rattle.std.proofs.lemmas.Bool.{cond_both}
+use Rattle.ptlangs.specs.declared.ranges.ListFault.{ListFault}
 use Rattle.ptlangs.proofs.Elements.{split_whole, split_around, some_since, digits_fail, digit_no_separator, IsSplit, Whole, Cut, splits, reads_first, Accepts, from_grammar, to_grammar}
 
 -- ---- the elements, split at dashes
@@ -53,25 +54,25 @@ said_around bs i h = ap said (split_around is_dash bs i h) ∙ said_behind_dash 
 
 -- ---- from the intervals of a list, as they stand in it, to those that are kept
 
-chosen : (large zero falls : Bool) (s r : Interval) → cond large (Err TooLarge) (cond zero (Err Zero) (cond falls (Err Descending) (Ok s))) ≡ Ok r
-    → (large ≡ false) × (zero ≡ false) × (falls ≡ false) × (s ≡ r)
-chosen true zero falls s r h = cc
-chosen false true falls s r h = cc
-chosen false false true s r h = cc
-chosen false false false s r h = (refl, refl, refl, cc)
+-- what was checked is proper
+abbrev Proper : Interval → Interval → Result Interval ListFault → Type 0
+Proper s r checked = checked ≡ Ok r → (Some s ≡ Some r) × IsProper r
 
 checked_proper : (said : Option Interval) (r : Interval) → checked said ≡ Ok r → (said ≡ Some r) × IsProper r
 checked_proper None r h = cc
 checked_proper (Some s) r h =
-    let p = chosen (ltb greatest s.first || ltb greatest s.last) (eqb s.first 0 || eqb s.last 0) (ltb s.last s.first) s r h in
-    let large = or_parts (ltb greatest s.first) (ltb greatest s.last) p.0 in
-    let zero = or_parts (eqb s.first 0) (eqb s.last 0) p.1 in
-    let proper : IsProper s = record {
-      positive = omega (arith, eqb-false s.first 0 zero.0);
-      ascending = ltb-false s.last s.first p.2;
-      fits = ltb-false greatest s.last large.1;
-    } in
-    (ap Some p.3, subst IsProper p.3 proper)
+    cond_both (ltb greatest s.first || ltb greatest s.last) _ _ (Proper s r) (λ t h. cc)
+    (λ large. cond_both (eqb s.first 0 || eqb s.last 0) _ _ (Proper s r) (λ t h. cc)
+    (λ zero. cond_both (ltb s.last s.first) _ _ (Proper s r) (λ t h. cc)
+    (λ falls h.
+    let is : s ≡ r = cc in (
+      ap Some is,
+      subst IsProper is (record {
+        positive = omega (arith, eqb-false s.first 0 (or_parts (eqb s.first 0) (eqb s.last 0) zero).0);
+        ascending = ltb-false s.last s.first falls;
+        fits = ltb-false greatest s.last (or_parts (ltb greatest s.first) (ltb greatest s.last) large).1;
+      }),
+    )))) h
 
 element_proper : (bs : List ℕ) (r : Interval) → element bs ≡ Ok r → IsProper r
 element_proper [] r h = cc

@@ -4,6 +4,7 @@ use Rattle.ptlangs.proofs.Common.{ltb-false, ltb-true, nat_tests, append_assoc, 
 use Rattle.ptlangs.proofs.Common.{is_ascii_digit, All, onto_first, position, position_or_len, slice_split, IsListOf, and_then, each, elements, is_number, is_separator, put_first, eqb, leb, not, ◌&&◌}
 use Rattle.ptlangs.proofs.Common.{◌*◌, ◌<◌, ◌≤◌, and_from, and_right, cond-false, cond-true, le-leb, lt-leb, ne_eqb, not_from_false, drop_all, drop_more, digit_value, list_all, digits_value_after}
 use Rattle.ptlangs.proofs.Common.{greatest, is_empty, number, value}
+use Rattle.std.proofs.lemmas.Bool.{cond_both}
 use Rattle.ptlangs.specs.Numbers.{Last, More}
 
 -- ---- the parts between bytes
@@ -75,13 +76,9 @@ onto : (p : ℕ → Bool) (b : ℕ) (bs : List ℕ) (parts : List (List ℕ)) �
 onto p b bs parts (Whole xs) = Whole (b ∷ xs)
 onto p b bs parts (Cut e s xs rest cut split) = Cut (b ∷ e) s xs rest cut split
 
-splits_at : (p : ℕ → Bool) (b : ℕ) (bs : List ℕ) (parts : List (List ℕ)) (t : Bool) → p b ≡ t → IsSplit p bs parts → IsSplit p (b ∷ bs) (cond t ([] ∷ parts) (onto_first b parts))
-splits_at p b bs parts true e split = Cut [] b bs parts e split
-splits_at p b bs parts false e split = onto p b bs parts split
-
 pub splits : (p : ℕ → Bool) (bs : List ℕ) → IsSplit p bs (slice_split p bs)
 splits p [] = Whole []
-splits p (b ∷ bs) = splits_at p b bs (slice_split p bs) (p b) refl (splits p bs)
+splits p (b ∷ bs) = cond_both (p b) _ _ (IsSplit p (b ∷ bs)) (λ e. Cut [] b bs (slice_split p bs) e (splits p bs)) (λ e. onto p b bs (slice_split p bs) (splits p bs))
 
 -- the first element is read, and then the others
 pub record ReadsFirst {A E : Type 0} (first : Result A E) (others : Result (List A) E) (all : List A) : Type 0 where

@@ -1,8 +1,9 @@
 -- The output lists that are accepted are those of the grammar.
-use Rattle.ptlangs.proofs.Common.{◌≡◌, ℕ, ◌≤◌, Bool, true, false, not, ltb, eqb, cond, List, [], ◌∷◌, Ok, Err, refl, subst, arith, All, le-ltb, ltb-false, ne_eqb, eqb-true, eqb-false, All-cons}
-use Rattle.ptlangs.proofs.Common.{greatest, is_number, value, is_separator, field_of, TheJoinField, OfFirst, OfSecond}
+use Rattle.ptlangs.proofs.Common.{Result, ◌≡◌, ℕ, ◌≤◌, true, false, not, ltb, eqb, List, [], ◌∷◌, Ok, refl, subst, arith, All, le-ltb, ltb-false, ne_eqb, eqb-true, eqb-false, All-cons, greatest}
+use Rattle.ptlangs.proofs.Common.{is_number, value, is_separator, field_of, TheJoinField, OfFirst, OfSecond}
+use Rattle.std.proofs.lemmas.Bool.{cond_both, not-false}
 use Rattle.ptlangs.proofs.Elements.{digits_fail, digit_no_separator, Accepts, from_grammar, to_grammar}
-use Rattle.ptlangs.specs.declared.outlist.OutFault.TheVariants.{Malformed, Zero, TooLarge}
+use Rattle.ptlangs.specs.declared.outlist.OutFault.{OutFault}
 use Rattle.ptlangs.specs.OutLists.{element, IsElement, IsProper, IsProperElement, AcceptsTheGrammar}
 use Rattle.ptlangs.specs.declared.outlist.File.{File}
 use Rattle.ptlangs.specs.declared.outlist.File.TheVariants.{First, Second}
@@ -33,49 +34,27 @@ no_separator e f (OfSecond n h) = behind_name 50 n refl h
 
 -- ---- to the grammar
 
-record IsField (file : File) (n : List ℕ) (f : OutField) : Type 0 where
-  number : is_number n ≡ true
-  is : Field file (value n) ≡ f
-  proper : IsProper f
+-- the field that was read is what the element spells
+abbrev Spelled : List ℕ → OutField → Result OutField OutFault → Type 0
+Spelled e f r = r ≡ Ok f → IsProperElement e f
 
-chosen : (file : File) (n : List ℕ) (f : OutField) (number large zero : Bool) → is_number n ≡ number → ltb greatest (value n) ≡ large → eqb (value n) 0 ≡ zero
-    → cond (not number) (Err Malformed) (cond large (Err TooLarge) (cond zero (Err Zero) (Ok (Field file (value n))))) ≡ Ok f → IsField file n f
-chosen file n f false large zero hn hl hz h = cc
-chosen file n f true true zero hn hl hz h = cc
-chosen file n f true false true hn hl hz h = cc
-chosen file n f true false false hn hl hz h =
+spelled_field : (file : File) (name : ℕ) (n : List ℕ) (f : OutField) → (is_number n ≡ true → IsElement (name ∷ 46 ∷ n) (Field file (value n))) → Spelled (name ∷ 46 ∷ n) f (field_of file n)
+spelled_field file name n f says =
+    cond_both (not (is_number n)) _ _ (Spelled (name ∷ 46 ∷ n) f) (λ t h. cc)
+    (λ number. cond_both (ltb greatest (value n)) _ _ (Spelled (name ∷ 46 ∷ n) f) (λ t h. cc)
+    (λ fits. cond_both (eqb (value n) 0) _ _ (Spelled (name ∷ 46 ∷ n) f) (λ t h. cc)
+    (λ some h.
     let is : Field file (value n) ≡ f = cc in
-    record {
-      number = hn;
-      is = is;
-      proper = subst IsProper is (omega (arith, eqb-false (value n) 0 hz), ltb-false greatest (value n) hl);
-    }
+    subst (IsProperElement (name ∷ 46 ∷ n)) is (says (not-false (is_number n) number), (omega (arith, eqb-false (value n) 0 some), ltb-false greatest (value n) fits)))))
 
-spelled_field : (file : File) (name : ℕ) (n : List ℕ) (f : OutField) → (is_number n ≡ true → IsElement (name ∷ 46 ∷ n) (Field file (value n))) → field_of file n ≡ Ok f
-    → IsProperElement (name ∷ 46 ∷ n) f
-spelled_field file name n f says h =
-    let r = chosen file n f (is_number n) (ltb greatest (value n)) (eqb (value n) 0) refl refl refl h in
-    (subst (IsElement (name ∷ 46 ∷ n)) r.is (says r.number), r.proper)
-
-spelled : (b c : ℕ) (n : List ℕ) (f : OutField) (point one two : Bool) → eqb c 46 ≡ point → eqb b 49 ≡ one → eqb b 50 ≡ two
-    → cond (not point) (Err Malformed) (cond one (field_of First n) (cond two (field_of Second n) (Err Malformed))) ≡ Ok f → IsProperElement (b ∷ c ∷ n) f
-spelled b c n f false one two hp h1 h2 h = cc
-spelled b c n f true false false hp h1 h2 h = cc
-spelled b c n f true true two hp h1 h2 h =
-    rw (eqb-true b 49 h1, eqb-true c 46 hp) (spelled_field First 49 n f (OfFirst n) h)
-spelled b c n f true false true hp h1 h2 h =
-    rw (eqb-true b 50 h2, eqb-true c 46 hp) (spelled_field Second 50 n f (OfSecond n) h)
-
-spelled_join : (b : ℕ) (f : OutField) (t : Bool) → eqb b 48 ≡ t → cond t (Ok Join) (Err Malformed) ≡ Ok f → IsProperElement (b ∷ []) f
-spelled_join b f false e h = cc
-spelled_join b f true e h =
-    let is : Join ≡ f = cc in
-    rw (eqb-true b 48 e) (subst (IsProperElement (48 ∷ [])) is (TheJoinField, tt))
-
-reads_element : (e : List ℕ) (f : OutField) → element e ≡ Ok f → IsProperElement e f
-reads_element [] f h = cc
-reads_element (b ∷ []) f h = spelled_join b f (eqb b 48) refl h
-reads_element (b ∷ c ∷ n) f h = spelled b c n f (eqb c 46) (eqb b 49) (eqb b 50) refl refl refl h
+reads_element : (e : List ℕ) (f : OutField) → Spelled e f (element e)
+reads_element [] f = λ h. cc
+reads_element (b ∷ []) f = cond_both (eqb b 48) _ _ (Spelled (b ∷ []) f)
+    (λ t h. let is : Join ≡ f = cc in rw (eqb-true b 48 t) (subst (IsProperElement (48 ∷ [])) is (TheJoinField, tt))) (λ t h. cc)
+reads_element (b ∷ c ∷ n) f =
+    cond_both (not (eqb c 46)) _ _ (Spelled (b ∷ c ∷ n) f) (λ t h. cc)
+    (λ point. cond_both (eqb b 49) _ _ (Spelled (b ∷ c ∷ n) f) (λ t. rw (eqb-true b 49 t, eqb-true c 46 (not-false (eqb c 46) point)) (spelled_field First 49 n f (OfFirst n)))
+    (λ other. cond_both (eqb b 50) _ _ (Spelled (b ∷ c ∷ n) f) (λ t. rw (eqb-true b 50 t, eqb-true c 46 (not-false (eqb c 46) point)) (spelled_field Second 50 n f (OfSecond n))) (λ t h. cc)))
 
 accepts_elements : Accepts element IsProperElement
 accepts_elements = record {

@@ -3,7 +3,7 @@ use Rattle.ptlangs.proofs.Common.{◌≡◌, ◌≤◌, ◌<◌, ◌+◌, ◌-�
 use Rattle.ptlangs.proofs.Common.{Option, Some, None, prefix_len, slice_get, digit_value, digits_value, drop_more, drop_all, drop-drop, take-take, length-take, get_or-take, length-prefix_len}
 use Rattle.ptlangs.proofs.Common.{prefix_len-le-length, prefix_len_passes, is_octal_digit, octal_run, octal, units, units_behind, unit_at, after_backslash, Octal, SetUnit, Plain, Escaped, Faulty, inl}
 use Rattle.ptlangs.proofs.Common.{inr, subst, ◌++◌, cases_Bool, cases_eq, ne_eqb, nat_tests, drop_at, length-append, ALargeOctal, ALoneBackslash, APlainByte, AUnit, AnEscape, AnOctal, IsOctalRun}
-use Rattle.ptlangs.proofs.Common.{NoUnit, OneDigit, SpellsUnit, SpellsUnits, ThreeDigits, TwoDigits, UnitsAreSpelled, escaped, Escape, cond-false, cond-true, le-leb, lt-leb}
+use Rattle.ptlangs.proofs.Common.{NoUnit, OneDigit, SpellsUnit, SpellsUnits, ThreeDigits, TwoDigits, UnitsAreSpelled, escaped, Escape, cond-false, cond-true, le-leb, lt-leb, value}
 use Rattle.std.proofs.Common.{All}
 use Rattle.std.specs.Int.{IsInRange}
 use Rattle.std.proofs.lemmas.Int.Digits.{digits_value_more}
@@ -50,13 +50,6 @@ octal_digits bs k d h =
     let within : k < n = omega (arith, length-take (length (octal_run bs)) bs) in
     octal_value (get_or (take (length (octal_run bs)) bs) k d) (rw take-octal_run (rw (get_or-take n (take 3 bs) k d within) (prefix_len_passes is_octal_digit (take 3 bs) k d within)))
 
-pub octal_from_number : (n : ℕ) (o : Option ℕ) → o ≡ cond (nat_le n 255) (Some n) None → unit_of_octal o ≡ octal n
-octal_from_number n o e = rw e (choose (nat_le n 255))
-  where
-    choose : (fits : Bool) → unit_of_octal (cond fits (Some n) None) ≡ cond fits (Escaped n) (Faulty Octal)
-    choose true = refl
-    choose false = refl
-
 -- a backslash before an octal digit
 pub after_backslash-octal : (bs : List ℕ) (c : ℕ) → Some c ≡ slice_get bs 0 → is_octal_digit c ≡ true
     → after_backslash bs ≡ (octal (digits_value 8 (octal_run bs)), length (octal_run bs))
@@ -65,9 +58,14 @@ after_backslash-octal (b ∷ bs) c e t = let test : is_octal_digit b ≡ true = 
 
 pub octal_unit : (bs : List ℕ) (c count : ℕ) (o : Option ℕ) → Some c ≡ slice_get bs 0 → is_octal_digit c ≡ true → count ≡ length (octal_run bs)
     → o ≡ cond (nat_le (digits_value 8 (take count bs)) 255) (Some (digits_value 8 (take count bs))) None → unit_of_octal o ≡ (after_backslash bs).0
-octal_unit bs c count o e t n v =
-    let same : take count bs ≡ octal_run bs = ap (λ m. take m bs) n ∙ take-octal_run bs in
-    octal_from_number _ o (rw same at v) ∙ sym (ap (λ (p : SetUnit × ℕ). p.0) (after_backslash-octal bs c e t))
+octal_unit bs c count o e t n v = ap unit_of_octal (rw same at v) ∙ choose (nat_le (digits_value 8 (octal_run bs)) 255) ∙ sym (ap (λ (p : SetUnit × ℕ). p.0) (after_backslash-octal bs c e t))
+  where
+    same : take count bs ≡ octal_run bs
+    same = ap (λ m. take m bs) n ∙ take-octal_run bs
+
+    choose : (fits : Bool) → unit_of_octal (cond fits (Some (digits_value 8 (octal_run bs))) None) ≡ cond fits (Escaped (digits_value 8 (octal_run bs))) (Faulty Octal)
+    choose true = refl
+    choose false = refl
 
 -- the units behind some bytes are those of the rest
 pub units_behind_is : (bs : List ℕ) (skip : ℕ) → units_behind bs skip ≡ units (drop skip bs)

@@ -1,10 +1,10 @@
 -- The plan of two strings, step by step; its tables; and that no strings are refused for want of memory.
 use Rattle.ptlangs.proofs.Common.{◌≡◌, Bool, Err, List, None, Ok, Option, Result, Some, [], ap, arith, cond, eqb, false, length, map, refl, suc, sym, true, zero, ℕ, ◌++◌, ◌-◌, ◌∙◌, ◌∷◌, ◌≢◌}
 use Rattle.ptlangs.proofs.Common.{result_map_both, and_then, AClass, ADescendingRange, AFaultyEnd, AFaultyUnit, ARange, ARepeat, Alone, AnEquivalence, Begins, BeginsFaulty, InBrackets, Opens}
-use Rattle.ptlangs.proofs.Common.{FirstFault, Later, NeverMemory, NoPart, NoPiece, Plan, array, class_places, collected, fill_count, first_array, image_of, in_string, is_deleted, is_paired}
-use Rattle.ptlangs.proofs.Common.{is_squeezed, may_pair, piece, pieces_of, plan, plan_from, plan_of, plan_with, repeat_piece, second_place, second_plan, string_pieces, takes_second, places_of, tables}
-use Rattle.ptlangs.proofs.Common.{ALargeOctal, ALoneBackslash, APlainByte, AUnit, AnEscape, AnOctal, NoUnit, SpellsUnit, SpellsUnits, units, CharClass, SetFault, SetFaultKind, ClassPlace, Memory}
-use Rattle.ptlangs.proofs.Common.{Part, Piece, Place, First, Images, Squeezed, Places, Form, Delete, DeleteSqueeze, Squeeze, Translate, TranslateSqueeze, SetUnit, Escaped, Faulty, Plain}
+use Rattle.ptlangs.proofs.Common.{FirstFault, Later, NeverMemory, NoPart, NoPiece, Plan, array, class_places, collected, fill_count, first_array, image_of, in_string, is_deleted, is_squeezed}
+use Rattle.ptlangs.proofs.Common.{may_pair, piece, pieces_of, plan, plan_from, plan_of, plan_with, repeat_piece, second_place, second_plan, string_pieces, takes_second, places_of, tables, ALargeOctal}
+use Rattle.ptlangs.proofs.Common.{ALoneBackslash, APlainByte, AUnit, AnEscape, AnOctal, NoUnit, SpellsUnit, SpellsUnits, units, SetFault, SetFaultKind, ClassPlace, Memory, Part, Piece, Place, First}
+use Rattle.ptlangs.proofs.Common.{Images, Squeezed, Places, Form, Delete, DeleteSqueeze, Squeeze, Translate, TranslateSqueeze, SetUnit, Escaped, Faulty, Plain}
 use Rattle.std.proofs.lemmas.Bool.{cond_both}
 use Rattle.ptlangs.specs.TrClasses.{all_bytes}
 use Rattle.ptlangs.specs.declared.faults.SetString.TheVariants as string
@@ -35,19 +35,13 @@ pub mapped_ok : (r : Result (List Piece) SetFaultKind) (f : List Piece → Place
 mapped_ok (Ok ps) f y e = (ps, refl, cc)
 mapped_ok (Err k) f y e = absurd (let no : ⊥ = cc in no)
 
--- where bytes are not squeezed alone, each class faces its other case, and a complement has none
-unless_alone : (P : Form → Type 0) (form : Form) → (form ≡ DeleteSqueeze → ⊥) → P Translate → P TranslateSqueeze → P Squeeze → P Delete → P form
+-- what holds of each form that doesn't squeeze bytes by themselves
+pub unless_alone : (P : Form → Type 0) (form : Form) → (form ≡ DeleteSqueeze → ⊥) → P Translate → P TranslateSqueeze → P Squeeze → P Delete → P form
 unless_alone P Translate n t ts s d = t
 unless_alone P TranslateSqueeze n t ts s d = ts
 unless_alone P Squeeze n t ts s d = s
 unless_alone P Delete n t ts s d = d
 unless_alone P DeleteSqueeze n t ts s d = absurd (n refl)
-
-pub may_pair-complement : (form : Form) (firsts seconds : List (ℕ × CharClass)) → (form ≡ DeleteSqueeze → ⊥) → may_pair form true firsts seconds ≡ is_paired [] seconds
-may_pair-complement form firsts seconds n = unless_alone (λ f. may_pair f true firsts seconds ≡ is_paired [] seconds) form n refl refl refl refl
-
-pub may_pair-faced : (form : Form) (firsts seconds : List (ℕ × CharClass)) → (form ≡ DeleteSqueeze → ⊥) → may_pair form false firsts seconds ≡ is_paired firsts seconds
-may_pair-faced form firsts seconds n = unless_alone (λ f. may_pair f false firsts seconds ≡ is_paired firsts seconds) form n refl refl refl refl
 
 pub mapped_at : (r : Result (List Piece) SetFaultKind) (f : List Piece → Places) (y : Places) (ps : List Piece) → Ok y ≡ result_map_both f (λ (k : SetFaultKind). k) r → r ≡ Ok ps → y ≡ f ps
 mapped_at (Ok qs) f y ps e h = let same : qs ≡ ps = cc in let value : y ≡ f qs = cc in value ∙ ap f same

@@ -2,7 +2,7 @@
 -- byte in front of them is in no other.
 use Rattle.ptlangs.proofs.Common.{◌≡◌, ℕ, zero, suc, ◌+◌, ◌<◌, ◌≤◌, ◌%◌, ◌==◌, ◌&&◌, Bool, true, cond, List, [], ◌∷◌, length, drop, reverse, get_or, refl, sym, ◌∙◌, ap, arith, sum_by, nat_tests}
 use Rattle.ptlangs.proofs.Common.{sum_by-cons, sum_by-IsPermutation, IsPermutation-reverse, Stretch, shift_of, in_front, stretches_from, added, shifted, cond-false, cond-true, eq-eqb, eqb-true}
-use Rattle.ptlangs.proofs.Common.{ne_eqb, drop_more}
+use Rattle.ptlangs.proofs.Common.{ne_eqb, drop_more, ◌-◌}
 use Rattle.std.proofs.lemmas.Bool.{cond_both}
 
 -- what stretches add to a byte
@@ -126,13 +126,12 @@ no_more b (suc n) (image ∷ images) =
     omega (arith, no_more (b + 1) n images, fewer, ap (λ (m : ℕ). length (stretches_from m (drop n images))) same)
 
 -- a byte that is moved stands in front of the stretches behind it, and one that is not leaves them as they are
-pub moved_one : (n m : ℕ) (images : List ℕ) → n < length images → m ≡ n + 1 → (shift_of n (get_or images n 0) ≡ 0 → ⊥)
-    → stretches_from n (drop n images) ≡ in_front n (shift_of n (get_or images n 0)) (stretches_from m (drop m images))
-moved_one n m images low is moves = from_one n m images low is ∙ cond-false _ _ _ (ne_eqb (shift_of n (get_or images n 0)) 0 moves)
+pub moved_one : (n : ℕ) (images : List ℕ) → 0 < n → n ≤ length images → (shift_of (n - 1) (get_or images (n - 1) 0) ≡ 0 → ⊥)
+    → stretches_from (n - 1) (drop (n - 1) images) ≡ in_front (n - 1) (shift_of (n - 1) (get_or images (n - 1) 0)) (stretches_from n (drop n images))
+moved_one n images low within moves = from_one (n - 1) n images (omega arith) (omega arith) ∙ cond-false _ _ _ (ne_eqb (shift_of (n - 1) (get_or images (n - 1) 0)) 0 moves)
 
-pub same_one : (n m : ℕ) (images : List ℕ) → n < length images → m ≡ n + 1 → shift_of n (get_or images n 0) ≡ 0
-    → stretches_from n (drop n images) ≡ stretches_from m (drop m images)
-same_one n m images low is stays = from_one n m images low is ∙ cond-true _ _ _ (eq-eqb (shift_of n (get_or images n 0)) 0 stays)
+pub same_one : (n : ℕ) (images : List ℕ) → 0 < n → n ≤ length images → shift_of (n - 1) (get_or images (n - 1) 0) ≡ 0 → stretches_from (n - 1) (drop (n - 1) images) ≡ stretches_from n (drop n images)
+same_one n images low within stays = from_one (n - 1) n images (omega arith) (omega arith) ∙ cond-true _ _ _ (eq-eqb (shift_of (n - 1) (get_or images (n - 1) 0)) 0 stays)
 
 pub no_more_behind : (n : ℕ) (images : List ℕ) → length (stretches_from n (drop n images)) ≤ length (stretches_from 0 images)
 no_more_behind n images =

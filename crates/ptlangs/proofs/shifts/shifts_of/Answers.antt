@@ -1,6 +1,6 @@
 -- From the end of the table on, a byte whose image is as far away as that of the next one belongs to the same stretch;
 -- any other begins a stretch, or belongs to none.
-use Rattle.ptlangs.proofs.Common.{◌≡◌, ◌+◌, ◌<◌, ◌-◌, List, drop, length, get_or, sym, ◌∙◌, ap, arith, drop_all, Stretch, stretches_from, in_front, shift_of, shifted}
+use Rattle.ptlangs.proofs.Common.{◌≡◌, ◌<◌, ◌≤◌, ◌-◌, List, drop, length, get_or, sym, ◌∙◌, ap, arith, drop_all, Stretch, stretches_from, in_front, shift_of, shifted}
 use Rattle.ptlangs.proofs.TrShifts.{moves_all, moved_one, same_one, no_more_behind}
 use Rattle.ptlangs.proofs.shifts.shifts_of.Goals as goal
 use Rattle.ptlangs.proofs.shifts.shifts_of.Goals.{else-by-ne0-via-then-by-ne0+else-not-put_in_front, else-by-ne0-via-else-by-ne0}
@@ -11,33 +11,22 @@ loop-behind-init c = (omega arith, c.none-shifts.ensures ∙ sym (ap (stretches_
 pub returns-then-not-put_in_front-clause-found : goal.returns-then-not-put_in_front-clause-found
 returns-then-not-put_in_front-clause-found c =
     let images = c.args.images.now in
-    let behind = c.loop-behind.behind in
-    let low : 0 < behind = c.loop-behind-test.true in
-    let one = moved_one (behind - 1) behind images (omega (arith, low, c.told-images, c.loop-behind.invariant.0)) (omega (arith, low)) c.if-by-ne0.true in
-    let by = shift_of (behind - 1) (get_or images (behind - 1) 0) in
-    omega (
-      arith,
-      no_more_behind (behind - 1) images,
-      ap length one,
-      c.put_in_front.ensures.full c.if-not-put_in_front.true,
-      ap
-          (λ (l : List Stretch). length (in_front (behind - 1) by l)) c.loop-behind.invariant.1,
-    )
+    let n = c.loop-behind.behind in
+    let one = moved_one n images c.loop-behind-test.true (omega (arith, c.told-images, c.loop-behind.invariant.0)) c.if-by-ne0.true in
+    let kept = ap (λ (l : List Stretch). length (in_front (n - 1) (shift_of (n - 1) (get_or images (n - 1) 0)) l)) c.loop-behind.invariant.1 in
+    omega (arith, no_more_behind (n - 1) images, ap length one, c.put_in_front.ensures.full c.if-not-put_in_front.true, kept)
 
 pub loop-behind-preserved : goal.loop-behind-preserved
 loop-behind-preserved c =
     let images = c.args.images.now in
-    let behind = c.loop-behind.behind in
-    let low : 0 < behind = c.loop-behind-test.true in
-    let within : behind - 1 < length images = omega (arith, low, c.told-images, c.loop-behind.invariant.0) in
-    let next : behind ≡ behind - 1 + 1 = omega (arith, low) in (
+    let n = c.loop-behind.behind in
+    let low : 0 < n = c.loop-behind-test.true in
+    let within : n ≤ length images = omega (arith, c.told-images, c.loop-behind.invariant.0) in (
       omega (arith, c.loop-behind.invariant.0),
       elim c.else-by-ne0.branch [
         | else-by-ne0-via-then-by-ne0+else-not-put_in_front w ↦
-            w.shifts-is ∙ w.put_in_front.ensures.put w.if-not-put_in_front.false ∙ ap (in_front (behind - 1) _) c.loop-behind.invariant.1
-            ∙ sym (moved_one (behind - 1) behind images within next w.if-by-ne0.true)
-        | else-by-ne0-via-else-by-ne0 w ↦
-            w.shifts-is ∙ c.loop-behind.invariant.1 ∙ sym (same_one (behind - 1) behind images within next w.if-by-ne0.false)
+            w.shifts-is ∙ w.put_in_front.ensures.put w.if-not-put_in_front.false ∙ ap (in_front (n - 1) _) c.loop-behind.invariant.1 ∙ sym (moved_one n images low within w.if-by-ne0.true)
+        | else-by-ne0-via-else-by-ne0 w ↦ w.shifts-is ∙ c.loop-behind.invariant.1 ∙ sym (same_one n images low within w.if-by-ne0.false)
       ],
     )
 

@@ -13,11 +13,8 @@ steps-Ok c =
     rw (filled_is c)
     (pieces-part s.place s.filled (units (drop s.at s.text.now)) (units (drop c.in-Ok.next s.text.now)) c.in-Ok.part c.new-piece.result c.in-Ok.ensures.reads c.new-piece.ensures)
 
-pub returns-after-self-2-clause-steps : goal.returns-after-self-2-clause-steps
-returns-after-self-2-clause-steps c = steps-Ok c
-
-pub returns-after-self-2-clause-goes : goal.returns-after-self-2-clause-goes
-returns-after-self-2-clause-goes c = record { on = λ h. (tt, tt, omega (arith, ap length (steps-Ok c))); keeps = tt; rests = λ h. tt }
+pub returns-after-self-2 : goal.returns-after-self-2
+returns-after-self-2 c = record { steps = steps-Ok c; goes = record { on = λ h. (tt, tt, omega (arith, ap length (steps-Ok c))); keeps = tt; rests = λ h. tt } }
 
 steps-Err : (c : goal.After-self-in-Err-1) → pieces_left c.args.self.now
     ≡ Err c.in-Err.kind ∷ pieces_left record { text = c.args.self.now.text; at = length c.args.self.now.text.now; place = c.args.self.now.place; filled = c.args.self.now.filled }
@@ -25,8 +22,5 @@ steps-Err c =
     let s = c.args.self.now in
     pieces-fault s.place s.filled s.text.now s.at (length s.text.now) c.in-Err.kind c.if-self.false (omega arith) c.in-Err.ensures.reads
 
-pub returns-in-Err-clause-steps : goal.returns-in-Err-clause-steps
-returns-in-Err-clause-steps c = steps-Err c
-
-pub returns-in-Err-clause-goes : goal.returns-in-Err-clause-goes
-returns-in-Err-clause-goes c = record { on = λ h. (tt, tt, omega (arith, ap length (steps-Err c))); keeps = tt; rests = λ h. tt }
+pub returns-in-Err : goal.returns-in-Err
+returns-in-Err c = record { steps = steps-Err c; goes = record { on = λ h. (tt, tt, omega (arith, ap length (steps-Err c))); keeps = tt; rests = λ h. tt } }

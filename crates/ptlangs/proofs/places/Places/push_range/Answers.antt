@@ -13,22 +13,20 @@ loop-byte-preserved c = record {
   empty = λ h. absurd (omega arith);
 }
 
-pub returns-clause-length : goal.returns-clause-length
-returns-clause-length c =
-    let end = ended c.args.first c.args.last c.loop-byte.byte c.loop-byte-test.false c.loop-byte.auto.byte-end c.loop-byte.invariant.empty in
-    omega (arith, end.0, end.1, length-range_with_len c.args.first (c.args.last + 1 - c.args.first))
-
-pub returns-clause-places : goal.returns-clause-places
-returns-clause-places c = λ bytes e.
+pub returns : goal.returns
+returns c =
     let end = ended c.args.first c.args.last c.loop-byte.byte c.loop-byte-test.false c.loop-byte.auto.byte-end c.loop-byte.invariant.empty in
     let none : c.loop-byte.byte - c.args.first ≡ 0 = omega (arith, end.0) in
     let empty : c.args.last + 1 - c.args.first ≡ 0 = omega (arith, end.1) in
-    rw empty (rw none at (c.loop-byte.invariant.puts bytes e))
+    record {
+      length = omega (arith, end.0, end.1, length-range_with_len c.args.first (c.args.last + 1 - c.args.first));
+      places = λ bytes e. rw empty (rw none at (c.loop-byte.invariant.puts bytes e));
+    }
 
-pub returns-2-clause-length : goal.returns-2-clause-length
-returns-2-clause-length c = omega (arith, length-range_with_len c.args.first (c.args.last + 1 - c.args.first))
-
-pub returns-2-clause-places : goal.returns-2-clause-places
-returns-2-clause-places c = λ bytes e.
+pub returns-2 : goal.returns-2
+returns-2 c =
     let same : c.loop-byte.byte ≡ c.args.last = omega arith in
-    rw same at (Puts-range c.args.self.now c.loop-byte.self c.push.new.self c.args.first c.loop-byte.byte (omega arith) c.loop-byte.invariant.puts c.push.ensures.places bytes e)
+    record {
+      length = omega (arith, length-range_with_len c.args.first (c.args.last + 1 - c.args.first));
+      places = λ bytes e. rw same at (Puts-range c.args.self.now c.loop-byte.self c.push.new.self c.args.first c.loop-byte.byte (omega arith) c.loop-byte.invariant.puts c.push.ensures.places bytes e);
+    }
