@@ -1,7 +1,8 @@
 -- What is written of lines that are dealt out by their keys.
-use Rattle.ptmerge.proofs.Common.{◌≡◌, ℕ, zero, suc, ◌+◌, ◌<◌, ◌==◌, ◌&&◌, List, [], ◌∷◌, ◌++◌, Bool, true, false, not, nat_lt, refl, ap, sym, ◌∙◌, append_assoc, inr, arith, nat_tests, filter}
-use Rattle.ptmerge.proofs.Common.{flat_map, range_with_len, AreLines, lines, text, the_lines_of_parts, Side, comm_tool, join_tool, Lines, Tool, distinct, keys, entries_of, lines_of, merged_entries}
-use Rattle.ptmerge.proofs.Common.{CommByKey, IsByKey, JoinByKey, dealt, written_lines}
+use Rattle.ptmerge.proofs.Common.{IsLine, ◌≡◌, ℕ, zero, suc, ◌+◌, ◌<◌, ◌==◌, ◌&&◌, List, [], ◌∷◌, ◌++◌, Bool, true, false, not, nat_lt, refl, ap, sym, ◌∙◌, append_assoc, inr, arith, nat_tests, filter}
+use Rattle.ptmerge.proofs.Common.{flat_map, range_with_len, lines, text, the_lines_of_parts, Side, comm_tool, join_tool, Lines, Tool, distinct, keys, entries_of, lines_of, merged_entries, CommByKey}
+use Rattle.ptmerge.proofs.Common.{IsByKey, JoinByKey, dealt, written_lines}
+use Rattle.std.proofs.lemmas.List.Elements.{All-filter, All-from_recursion, recursion_from_All}
 use Rattle.std.proofs.lemmas.List.Sorted.{IsPermutation-refl, IsPermutation-trans, IsPermutation-append_left, IsPermutation-append_right, IsPermutation-append_comm}
 use Rattle.std.specs.List.Sorted.{IsPermutation}
 use Rattle.ptmerge.proofs.OfMerges.Orders.{IsKeyOrder, line_order}
@@ -46,13 +47,9 @@ lines_of_each end f (k ∷ ks) [] = lines_of_each end f ks (f k)
 lines_of_each end f ks (e ∷ es) = the_lines_of_parts end (e ++ end ∷ []) (text end (es ++ flat_map f ks)) (inr (e, refl))
     ∙ ap (λ l. lines end (e ++ end ∷ []) ++ l) (lines_of_each end f ks es) ∙ sym (append_assoc (lines end (e ++ end ∷ [])) _ _)
 
-lines_kept : (end : ℕ) (q : List ℕ → Bool) (ls : Lines) → AreLines end ls → AreLines end (filter q ls)
-lines_kept end q [] e = tt
-lines_kept end q (x ∷ ls) e = grind (arith, lines_kept end q ls e.1)
-
 -- the lines of a text that is made of lines of another one
 lines_dealt : (end : ℕ) (q : List ℕ → Bool) (bytes : List ℕ) → lines end (text end (filter q (lines end bytes))) ≡ filter q (lines end bytes)
-lines_dealt end q bytes = lines-text end (filter q (lines end bytes)) (lines_kept end q (lines end bytes) (lines_are end bytes))
+lines_dealt end q bytes = lines-text end (filter q (lines end bytes)) (recursion_from_All (IsLine end) _ (All-filter q (IsLine end) _ (All-from_recursion (IsLine end) _ (lines_are end bytes))))
 
 pub of_keys : (tool : Tool) → IsKeyOrder tool.cmp → IsByKey tool
 of_keys tool o inputs part_of parts in_order below = simp (whole, of_part) (of_each each part_of all_keys 0 parts (λ k. (grind (arith, nat_tests), omega (arith, below k))) ds)

@@ -1,8 +1,8 @@
 -- Lines of some keys alone; lists in order, put behind one another, and some of their lines; and texts in parts.
-use Rattle.ptmerge.proofs.Common.{arith, append-nil, ◌≡◌, ℕ, ◌+◌, List, [], ◌∷◌, ◌++◌, Bool, true, false, cond, Option, Some, None, refl, ap, sym, ◌∙◌, subst, filter, Less, Side, First, Second, Lines}
-use Rattle.ptmerge.proofs.Common.{Tool, Fall, by_keys, disorder, disorder_of, fall, keys, merged_entries, ordered, ordered_part, up_to, lines_of, Cmp, Key, text, the_lines_of_parts, text-append}
-use Rattle.ptmerge.proofs.Common.{comm_tool, join_tool, IsOfParts, PartsOfComm, PartsOfJoin, ◌&&◌, not, map, tied_itself, bytes_eq, flat_map, is_gt, is_lt, Equal, bytes_decides, insert_key, distinct}
-use Rattle.ptmerge.proofs.Common.{with_key, entries_of, filter-append}
+use Rattle.ptmerge.proofs.Common.{arith, append-nil, ◌≡◌, ℕ, ◌+◌, List, [], ◌∷◌, ◌++◌, Bool, true, false, cond, Option, Some, None, refl, ap, sym, ◌∙◌, filter, Less, Side, First, Second, Lines, Tool}
+use Rattle.ptmerge.proofs.Common.{Fall, by_keys, disorder, disorder_of, fall, keys, merged_entries, ordered, ordered_part, up_to, lines_of, Cmp, Key, text, the_lines_of_parts, text-append, comm_tool}
+use Rattle.ptmerge.proofs.Common.{join_tool, IsOfParts, PartsOfComm, PartsOfJoin, ◌&&◌, not, map, tied_itself, bytes_eq, flat_map, is_gt, is_lt, Equal, bytes_decides, insert_key, distinct, with_key}
+use Rattle.ptmerge.proofs.Common.{entries_of, filter-append}
 use Rattle.ptmerge.proofs.OfMerges.Passing.{FallFrom, after_from, fall_after, fall_at, fall_is, falls, ordered_after, ordered_is, Ascends, IsDown, all_keys, all_wanted, ascends_distinct, down_splits}
 use Rattle.ptmerge.proofs.OfMerges.Passing.{up_to_from}
 use Rattle.ptmerge.proofs.OfMerges.Orders.{Each, Each-weaker, EachKey, Each-all, EachKey-weaker, insert_least, keys-Each, IsKeyOrder, AtMost, above_trans, at_most_trans, greater_flips, line_order}
@@ -104,7 +104,7 @@ no_fall_first : (cmp : Cmp) (f g : Option Fall) → disorder_of cmp f g ≡ None
 no_fall_first cmp f g e = grind arith
 
 -- behind which key it falls, wherever that is
-abbrev pub behind : Option Fall → Option Fall
+abbrev behind : Option Fall → Option Fall
 behind None = None
 behind (Some d) = Some (record { last_key = d.last_key; line = 0 })
 
@@ -140,16 +140,14 @@ module _ (cmp : Cmp) (o : IsKeyOrder cmp) (key : Key) where
       rw (fall_is cmp key (xs ++ ys), fall_is cmp key ys, ordered_is cmp key (xs ++ ys), ordered_is cmp key ys) all
 
   -- a list that does not fall is in order as a whole
-  pub ordered_whole : (xs : Lines) → fall cmp key xs ≡ None → ordered_part cmp key xs ≡ xs
+  ordered_whole : (xs : Lines) → fall cmp key xs ≡ None → ordered_part cmp key xs ≡ xs
   ordered_whole xs e = simp append-nil at (together xs [] e (Each-all (λ k. Unit {0}) (λ k. tt) (map key xs))).0
 
   -- what each line has, each line in order has
   each_ordered : (P : List ℕ → Type 0) (ys : Lines) → EachKey P key ys → EachKey P key (ordered_part cmp key ys)
-  each_ordered P ys e = subst (EachKey P key) (sym (ordered_is cmp key ys)) (each_after None ys e)
-    where
-      each_after : (last : Option (List ℕ)) (ys : Lines) → EachKey P key ys → EachKey P key (ordered_after cmp key last ys)
-      each_after last [] e = tt
-      each_after last (y ∷ ys) e = grind (arith, each_after (Some (key y)) ys e.1)
+  each_ordered P [] e = tt
+  each_ordered P (x ∷ []) e = e
+  each_ordered P (x ∷ y ∷ ys) e = grind (arith, each_ordered P (y ∷ ys) e.1)
 
   -- what a list falls behind is at least what is at most its keys
   from_below : (k : List ℕ) (ys : Lines) → EachKey (AtMost cmp k) key ys → FallFrom cmp k (fall cmp key ys)
