@@ -1,5 +1,4 @@
 -- Two inputs in order, whichever tool takes them.
-pub mod GoingOn
 pub mod Got
 pub mod Orders
 pub mod Passing

@@ -4,8 +4,7 @@ use Rattle.ptmerge.proofs.Common.{text, longest, wrote_nothing, MergeFault, Side
 use Rattle.ptmerge.proofs.Common.{StandsAt, State, IsMerge, IsReady, IsUnread, Ends, seen, Cmp, Key, both, put, other, AreEqual, CannotStart, IsAlone, IsDecided, IsLent, IsPlaced, Starts, inputs}
 use Rattle.ptmerge.proofs.Common.{Adds, IsCleared, suc, ◌-◌, min, append_assoc, append-nil, bytes_decides, tied_itself, entries, Bool}
 use Rattle.ptmerge.proofs.OfMerges.Turning.{CannotPass, IsOpened, Placed, Running, adds_of, comes_slots, goes, goes_merging, passes_slots, passing_now, readable_of, runs_on, slots_of, standing}
-use Rattle.ptmerge.proofs.OfMerges.Turning.{turn_stops, unfailed_of, went, IsLineByLine, ahead, all_ended, alone, pass_one, stops_at}
-use Rattle.ptmerge.proofs.OfMerges.GoingOn.{left, less, lent_on, place_is, wrote_and_sent}
+use Rattle.ptmerge.proofs.OfMerges.Turning.{turn_stops, unfailed_of, went, IsLineByLine, ahead, all_ended, alone, pass_one, stops_at, left, less, lent_on, place_is, wrote_and_sent}
 use Rattle.ptmerge.proofs.OfMerges.Orders.{IsKeyOrder}
 use Rattle.ptmerge.proofs.OfMerges.Slotted.{both_each, put_other, put_same, has_lines_total}
 use Rattle.ptmerge.proofs.OfMerges.Passing.{Late, Merging, front_line, late_none, pass_front, all_keys}

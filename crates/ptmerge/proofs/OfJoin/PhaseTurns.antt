@@ -4,13 +4,12 @@ use Rattle.ptmerge.proofs.Common.{join_key, pairs_of, Lines, Cmp, Key, Output, W
 use Rattle.ptmerge.proofs.Common.{group, CanGoOn, HasPassed, StandsAt, State, IsMerge, both, put, ⊎_elim, ◌-◌, ◌==◌, wrote_trans, other, nat_tests, length_push, text-append, append_assoc, false≢true}
 use Rattle.ptmerge.proofs.Common.{nil_from_length, IsKept, NotGathered, most_lines}
 use Rattle.ptmerge.proofs.OfJoin.Turns.{Gathering, Held, IsTurn, Leaves, Pairing, Between, call_of, end_in, leaves, slots, stands_at, went_on}
-use Rattle.ptmerge.proofs.OfMerges.Turning.{comes_slots, same_state, wrote_as, breaks_slots, IsAbove}
+use Rattle.ptmerge.proofs.OfMerges.Turning.{comes_slots, same_state, wrote_as, breaks_slots, IsAbove, placed_keeps, wrote_and_sent}
 use Rattle.ptmerge.proofs.OfJoin.GroupTurns.{Call, NotPassed, moved, fits_kept, not_failed, AtLine, GoneOn, Grouped, closes, goes_on, goes_past, gone_on, group_breaks, grown, is_past, next_slots}
 use Rattle.ptmerge.proofs.OfJoin.GroupTurns.{others_stay, passing, stand_still, standing, starts, went, within_more, grouped_keeps, last_stays, own_more, size_of, starts_none, with_head, StartsWith}
 use Rattle.ptmerge.proofs.OfJoin.GroupTurns.{halts}
 use Rattle.ptmerge.specs.declared.tools.join.Phase.{Phase}
 use Rattle.ptmerge.proofs.OfJoin.GroupSlots.{AllSlots, group_is, kept_line, keeping_cleared, low_slot, group_one, InGroup, Kept, group_in, keeping_kept}
-use Rattle.ptmerge.proofs.OfMerges.GoingOn.{placed_keeps, wrote_and_sent}
 use Rattle.ptmerge.proofs.OfMerges.Got.{reads_nothing}
 use Rattle.ptmerge.proofs.OfMerges.Orders.{EachKey, EachKey-at}
 use Rattle.ptmerge.specs.declared.tools.join.Phase.TheVariants as phases

@@ -5,13 +5,12 @@ use Rattle.ptmerge.proofs.Common.{Key, Output, Wrote, Reader, IsSound, Slots, li
 use Rattle.ptmerge.proofs.Common.{seen, HasSlots, both, put, AreEqual, CannotStart, IsAlone, IsDecided, IsLent, IsPlaced, Starts, inputs, IsCleared, Some, ◌⊎◌, Reads, total, IsLine, longest}
 use Rattle.ptmerge.proofs.Common.{wrote_nothing, Write, Ends, other}
 use Rattle.ptmerge.proofs.OfMerges.Turning.{readable_of, same_state, slots_of, unfailed_of, wrote_as, breaks_slots, IsLineByLine, alone, BothStand, ahead, all_ended, breaks, merging_on, next_at}
-use Rattle.ptmerge.proofs.OfMerges.Turning.{pass_one, sides_on, stops_at, IsAbove}
+use Rattle.ptmerge.proofs.OfMerges.Turning.{pass_one, sides_on, stops_at, IsAbove, left, less, lent_on, place_is}
 use Rattle.std.specs.List.{flat_map}
 use Rattle.ptmerge.proofs.OfJoin.GroupTurns.{IsPairing, head_of, Call, NotPassed, moved, GoneOf, fits_kept, not_failed, peak_line, Grouped}
 use Rattle.ptmerge.proofs.OfMerges.Passing.{all_keys, Bound, From, Late, Merging, late_none}
 use Rattle.ptmerge.specs.declared.tools.join.Phase.{Phase}
 use Rattle.ptmerge.proofs.OfJoin.GroupSlots.{end_within, pair_of, Keeping, keeping_next, keeping_starts}
-use Rattle.ptmerge.proofs.OfMerges.GoingOn.{left, less, lent_on, place_is}
 use Rattle.ptmerge.proofs.OfMerges.Orders.{IsKeyOrder, self_at_most}
 use Rattle.ptmerge.proofs.OfMerges.Slotted.{both_each, put_each, put_other, put_same, has_lines_total}
 use Rattle.ptmerge.proofs.OfMerges.Starting.{starts_badly, starts_well, start_refused, start_slots}

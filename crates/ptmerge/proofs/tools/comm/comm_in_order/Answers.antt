@@ -1,8 +1,7 @@
 -- Each turn goes on to the next by one lemma of `Turns`, and each way out of it leaves what the clauses say.
 use Rattle.ptmerge.proofs.Common.{◌≡◌, Result, Err, IsErrAnd, refl, ◌∙◌, err_from_is_err_and, comm_job, MergeFault, comm_by, seen}
-use Rattle.ptmerge.proofs.OfMerges.Turning.{IsOpened}
+use Rattle.ptmerge.proofs.OfMerges.Turning.{IsOpened, told}
 use Rattle.ptmerge.proofs.OfComm.Turns.{alone_less, alone_on, alone_stops, ended, fallen, is_opened, pair_less, pair_on, pair_stops, second_stands, second_stops, stands_at, start_stops, starts}
-use Rattle.ptmerge.proofs.OfMerges.GoingOn.{told}
 use Rattle.ptmerge.proofs.tools.comm.comm_in_order.Goals.{After-start}
 use Rattle.ptmerge.specs.declared.order.Side.TheVariants as sides
 use Rattle.ptmerge.proofs.tools.comm.comm_in_order.Given as given

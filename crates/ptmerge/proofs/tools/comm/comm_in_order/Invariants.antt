@@ -2,7 +2,7 @@
 -- passes a line.
 use Rattle.ptmerge.proofs.Common.{◌≡◌, comm_job, seen, both}
 use Rattle.ptmerge.proofs.OfComm.Turns.{IsTurn}
-use Rattle.ptmerge.proofs.OfMerges.GoingOn.{left}
+use Rattle.ptmerge.proofs.OfMerges.Turning.{left}
 use Rattle.ptmerge.proofs.tools.comm.comm_in_order.Given as goal
 
 abbrev pub invariant-steps : goal.invariant-steps

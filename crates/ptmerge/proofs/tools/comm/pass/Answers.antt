@@ -1,4 +1,4 @@
-use Rattle.ptmerge.proofs.OfMerges.GoingOn.{wrote_and_sent}
+use Rattle.ptmerge.proofs.OfMerges.Turning.{wrote_and_sent}
 use Rattle.ptmerge.proofs.tools.comm.pass.Goals as goal
 
 pub returns-clause-wrote : goal.returns-clause-wrote

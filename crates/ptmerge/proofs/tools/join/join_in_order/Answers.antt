@@ -2,7 +2,7 @@
 use Rattle.ptmerge.proofs.Common.{sym, ◌∙◌, err_from_is_err_and, join_job}
 use Rattle.ptmerge.proofs.OfJoin.PhaseTurns.{gather_stands, gather_stops, gathers_on, group_closed, group_there, pair_group, pair_stands, pair_stops, pairs_next, pairs_on}
 use Rattle.ptmerge.proofs.OfJoin.Turns.{alone_on, alone_stops, begins, end_in, ended, fallen, falls, opened, opens, opens_less, stands_at, start_stops}
-use Rattle.ptmerge.proofs.OfMerges.GoingOn.{told}
+use Rattle.ptmerge.proofs.OfMerges.Turning.{told}
 use Rattle.ptmerge.specs.declared.order.Side.TheVariants as sides
 use Rattle.ptmerge.specs.declared.tools.join.Phase.TheVariants as phases
 use Rattle.ptmerge.proofs.tools.join.join_in_order.Goals as goal

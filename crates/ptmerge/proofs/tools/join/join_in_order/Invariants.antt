@@ -3,7 +3,7 @@
 -- goes on to the next phase of the group.
 use Rattle.ptmerge.proofs.Common.{◌≡◌, ◌+◌, ◌*◌, join_job, seen, both}
 use Rattle.ptmerge.proofs.OfJoin.Turns.{IsTurn, rank}
-use Rattle.ptmerge.proofs.OfMerges.GoingOn.{left}
+use Rattle.ptmerge.proofs.OfMerges.Turning.{left}
 use Rattle.ptmerge.proofs.tools.join.join_in_order.Given as goal
 
 abbrev pub invariant-turns : goal.invariant-turns

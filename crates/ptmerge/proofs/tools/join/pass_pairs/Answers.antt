@@ -1,5 +1,5 @@
 use Rattle.ptmerge.proofs.Common.{List, ℕ, [], ◌∷◌, subst, join_job, Wrote, text, group, pairs_of}
-use Rattle.ptmerge.proofs.OfMerges.GoingOn.{wrote_and_sent}
+use Rattle.ptmerge.proofs.OfMerges.Turning.{wrote_and_sent}
 use Rattle.ptmerge.proofs.tools.join.pass_pairs.Goals as goal
 
 pub returns-clause-wrote : goal.returns-clause-wrote

@@ -1,7 +1,7 @@
 -- The span of the line at which the input stood is that of the line before now, since its slot keeps its line. So the
 -- two keys that are compared are the keys of both lines.
 use Rattle.ptmerge.proofs.Common.{◌≡◌, ◌<◌, ◌+◌, sym, ap, ◌∙◌, inl, arith, if◌then◌else◌, nat_tests, line, line_of, Head, Disorder}
-use Rattle.ptmerge.proofs.OfMerges.GoingOn.{later_stands}
+use Rattle.ptmerge.proofs.OfMerges.Turning.{later_stands}
 use Rattle.ptmerge.proofs.OfMerges.Slotted.{line_other}
 use Rattle.ptmerge.proofs.merging.sorted.Sorted.next.Goals as goal
 

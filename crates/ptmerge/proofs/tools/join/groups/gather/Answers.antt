@@ -1,5 +1,5 @@
 use Rattle.std.proofs.Common.{arith}
-use Rattle.ptmerge.proofs.OfMerges.GoingOn.{kept_line, kept_least, placed_keeps}
+use Rattle.ptmerge.proofs.OfMerges.Turning.{kept_line, kept_least, placed_keeps}
 use Rattle.ptmerge.proofs.tools.join.groups.gather.Goals as goal
 
 pub returns-in-Ok-clause-on : goal.returns-in-Ok-clause-on
