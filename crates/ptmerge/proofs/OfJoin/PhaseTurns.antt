@@ -1,5 +1,5 @@
 -- What each turn of `join` does while a group is gathered, and while a line is paired with it, and each way out of it.
-use Rattle.ptmerge.proofs.OfJoin.Turns.{Gathering, Held, IsTurn, Leaves, Pairing, Between, call_of, end_in, leaves, slots, stands_at, went_on}
+use Rattle.ptmerge.proofs.OfJoin.Turns.{Gathering, Held, IsTurn, Leaves, Pairing, call_of, end_in, leaves, slots, stands_at, went_on}
 use Rattle.ptmerge.proofs.Common.{Comes, ◌≡◌, ℕ, true, false, List, [], ◌∷◌, ◌++◌, refl, ap, sym, ◌∙◌, inl, inr, ◌+◌, ◌≤◌, ◌<◌, Result, Err, length, subst, arith, Join, Side, First, Second, join_by}
 use Rattle.ptmerge.proofs.Common.{join_key, pairs_of, Lines, Cmp, Key, Output, Wrote, Reader, Slots, line, text, MergeFault, Sorted, Gathered, Gathers, IsGroup, IsGroupCleared, end_slot, first_slot}
 use Rattle.ptmerge.proofs.Common.{group, CanGoOn, HasPassed, StandsAt, State, IsMerge, both, put, ⊎_elim, ◌-◌, ◌==◌, wrote_trans, other, nat_tests, length_push, text-append, append_assoc, false≢true}
