@@ -349,9 +349,6 @@ module _ (bytes : List ℕ) (at n : ℕ) (behind : 0 < at) (room : at + n ≤ le
   lanes_long : length (zip2 is_uneven front here) ≡ n
   lanes_long = length-zip2 is_uneven front here (front_long ∙ sym here_long) ∙ front_long
 
-  mask_is : mask_l (map (top 7) (zip2 bit_or (lanes_of here n 9) (zip2 bit_and (lanes_of front n 32) (lanes_of here n 32)))) % 2 ^ 64 ≡ mask_l (zip2 is_uneven front here)
-  mask_is = ap (λ (ms : List Bool). mask_l ms % 2 ^ 64) (uneven_lanes front here n front_long here_long) ∙ mask_l-mod (zip2 is_uneven front here) 64 (omega (arith, lanes_long, few))
-
   even_by : (m : ℕ) → m ≡ mask_l (zip2 is_uneven front here) → IsEven bytes at (at + n) (eqb m 0)
   even_by m is = record {
     so = λ zero_is k low high uneven.
@@ -366,7 +363,8 @@ module _ (bytes : List ℕ) (at n : ℕ) (behind : 0 < at) (room : at + n ≤ le
   }
 
   pub even_lanes : IsEven bytes at (at + n) (eqb (mask_l (map (top 7) (zip2 bit_or (lanes_of here n 9) (zip2 bit_and (lanes_of front n 32) (lanes_of here n 32)))) % 2 ^ 64) 0)
-  even_lanes = even_by _ mask_is
+  even_lanes = even_by _
+      (ap (λ (ms : List Bool). mask_l ms % 2 ^ 64) (uneven_lanes front here n front_long here_long) ∙ mask_l-mod (zip2 is_uneven front here) 64 (omega (arith, lanes_long, few)))
 
 -- ---- words with one space between each two
 
@@ -382,18 +380,16 @@ tidy_rest b (x ∷ xs) none last =
 
 rest_tidy : (b : ℕ) (xs : List ℕ) → is_tidy (b == 32) xs ≡ true → Nowhere (UnevenAt (b ∷ xs)) 1 (length (b ∷ xs)) × ((get_or (b ∷ xs) (length xs) 0 == 32) ≡ false)
 rest_tidy b [] is = (λ k low high uneven. absurd (omega (arith, low, high)), elim (b == 32) as (λ t. not t ≡ true → t ≡ false) [ true ↦ λ h. sym h | false ↦ λ h. refl ] is)
-rest_tidy b (x ∷ xs) is = by (is_uneven b x) refl is (rest_tidy x xs)
+rest_tidy b (x ∷ xs) is =
+    let parts : (is_uneven b x ≡ false) × (is_tidy (x == 32) xs ≡ true) = elim (is_uneven b x) as (λ t. cond t false (is_tidy (x == 32) xs) ≡ true → (t ≡ false) × (is_tidy (x == 32) xs ≡ true))
+    [ true ↦ λ h. absurd (false≢true h) | false ↦ λ h. (refl, h) ] is in
+    let more = rest_tidy x xs parts.1 in
+    (at_each parts.0 more.0, more.1)
   where
     at_each : is_uneven b x ≡ false → Nowhere (UnevenAt (x ∷ xs)) 1 (length (x ∷ xs)) → (k : ℕ) → 1 ≤ k → k < length (b ∷ x ∷ xs) → ¬ UnevenAt (b ∷ x ∷ xs) k
     at_each here more zero low high uneven = absurd (omega (arith, low))
     at_each here more (suc zero) low high uneven = false≢true (sym here ∙ uneven)
     at_each here more (suc (suc k)) low high uneven = let e : suc (suc k) - 1 ≡ suc (suc k - 1) = omega arith in more (suc k) (omega arith) (omega (arith, high)) (rw e at uneven)
-
-    by : (t : Bool) → is_uneven b x ≡ t → cond t false (is_tidy (x == 32) xs) ≡ true
-        → (is_tidy (x == 32) xs ≡ true → Nowhere (UnevenAt (x ∷ xs)) 1 (length (x ∷ xs)) × ((get_or (x ∷ xs) (length xs) 0 == 32) ≡ false))
-        → Nowhere (UnevenAt (b ∷ x ∷ xs)) 1 (length (b ∷ x ∷ xs)) × ((get_or (x ∷ xs) (length xs) 0 == 32) ≡ false)
-    by true e h more = absurd (false≢true h)
-    by false e h more = (at_each e (more h).0, (more h).1)
 
 first_word : (b : ℕ) (xs : List ℕ) → is_blank b ≡ false → is_tidy true (b ∷ xs) ≡ is_tidy (b == 32) xs
 first_word b xs word = let w = or_parts (b == 32) (b == 9) word in rw (w.1, w.0) refl
@@ -404,18 +400,16 @@ blank_first (b ∷ xs) blank =
     let either : (b == 9 || b == 32) ≡ true = ⊎_elim (λ h. or_right (b == 9) (b == 32) h) (λ h. or_left (b == 9) (b == 32) h) (or_cases (b == 32) (b == 9) blank) in
     rw either refl
 
-pub tidy_is : (bytes : List ℕ) (even : Bool) → 0 < length bytes → is_blank (get_or bytes 0 0) ≡ false → ¬ (get_or bytes (length bytes - 1) 0 ≡ 32)
+pub tidy_is : (bytes : List ℕ) (even : Bool) → (length bytes == 0) ≡ false → is_blank (get_or bytes 0 0) ≡ false → ¬ (get_or bytes (length bytes - 1) 0 ≡ 32)
     → IsEven bytes 1 (length bytes) even → even ≡ is_tidy true bytes
-tidy_is [] even some word last e = absurd (omega (arith, some))
-tidy_is (b ∷ xs) even some word last e = by even e ∙ sym (first_word b xs word)
-  where
-    by : (even : Bool) → IsEven (b ∷ xs) 1 (length (b ∷ xs)) even → even ≡ is_tidy (b == 32) xs
-    by true e = let end : suc (length xs) - 1 ≡ length xs = omega arith in
-        sym (tidy_rest b xs (e.so refl) (false_from_ne_true (get_or (b ∷ xs) (length xs) 0 == 32) (λ is. rw end at last (eqb-true (get_or (b ∷ xs) (length xs) 0) 32 is))))
-    by false e = sym (false_from_ne_true (is_tidy (b == 32) xs) (λ is. e.not_so refl (rest_tidy b xs is).0))
+tidy_is [] even some word last e = absurd (false≢true (sym some))
+tidy_is (b ∷ xs) true some word last e =
+    let end : suc (length xs) - 1 ≡ length xs = omega arith in
+    sym (first_word b xs word ∙ tidy_rest b xs (e.so refl) (false_from_ne_true (get_or (b ∷ xs) (length xs) 0 == 32) (λ is. rw end at last (eqb-true (get_or (b ∷ xs) (length xs) 0) 32 is))))
+tidy_is (b ∷ xs) false some word last e = sym (first_word b xs word ∙ false_from_ne_true (is_tidy (b == 32) xs) (λ is. e.not_so refl (rest_tidy b xs is).0))
 
-pub space_last : (bytes : List ℕ) → 0 < length bytes → is_blank (get_or bytes 0 0) ≡ false → get_or bytes (length bytes - 1) 0 ≡ 32 → false ≡ is_tidy true bytes
-space_last [] some word last = absurd (omega (arith, some))
+pub space_last : (bytes : List ℕ) → (length bytes == 0) ≡ false → is_blank (get_or bytes 0 0) ≡ false → get_or bytes (length bytes - 1) 0 ≡ 32 → false ≡ is_tidy true bytes
+space_last [] some word last = absurd (false≢true (sym some))
 space_last (b ∷ xs) some word last =
     let end : suc (length xs) - 1 ≡ length xs = omega arith in
     sym (first_word b xs word ∙ false_from_ne_true (is_tidy (b == 32) xs)
@@ -424,9 +418,6 @@ space_last (b ∷ xs) some word last =
 pub empty_untidy : (bytes : List ℕ) → (length bytes == 0) ≡ true → false ≡ is_tidy true bytes
 empty_untidy [] empty = refl
 empty_untidy (b ∷ xs) empty = let none : suc (length xs) ≡ 0 = eqb-true (suc (length xs)) 0 empty in absurd (omega (arith, none))
-
-pub some_bytes : (bytes : List ℕ) → (length bytes == 0) ≡ false → 0 < length bytes
-some_bytes bytes some = grind (arith, nat_tests)
 
 -- where a part is not even, the whole is not
 pub part_uneven : (bytes : List ℕ) (from to : ℕ) {at end : ℕ} {part all : Bool} → IsEven bytes at end part → part ≡ false → all ≡ false → from ≤ at → end ≤ to → IsEven bytes from to all

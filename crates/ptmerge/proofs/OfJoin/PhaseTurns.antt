@@ -3,13 +3,13 @@ use Rattle.ptmerge.proofs.Common.{Comes, ◌≡◌, ℕ, true, false, List, [], 
 use Rattle.ptmerge.proofs.Common.{join_key, pairs_of, Lines, Cmp, Key, Output, Wrote, Reader, Slots, line, text, MergeFault, Sorted, Gathered, Gathers, IsGroup, IsGroupCleared, end_slot, first_slot}
 use Rattle.ptmerge.proofs.Common.{group, CanGoOn, HasPassed, StandsAt, State, IsMerge, both, put, ⊎_elim, ◌-◌, ◌==◌, wrote_trans, other, nat_tests, length_push, text-append, append_assoc, false≢true}
 use Rattle.ptmerge.proofs.Common.{nil_from_length, IsKept, NotGathered, most_lines}
-use Rattle.ptmerge.proofs.OfJoin.Turns.{Gathering, Held, IsTurn, Leaves, Pairing, Between, call_of, end_in, leaves, slots, stands_at, went_on}
+use Rattle.ptmerge.proofs.OfJoin.Turns.{Gathering, Held, IsTurn, Leaves, Pairing, call_of, end_in, leaves, slots, stands_at, went_on}
 use Rattle.ptmerge.proofs.OfMerges.Turning.{comes_slots, same_state, wrote_as, breaks_slots, IsAbove, placed_keeps, wrote_and_sent}
 use Rattle.ptmerge.proofs.OfJoin.GroupTurns.{Call, NotPassed, moved, fits_kept, not_failed, AtLine, GoneOn, Grouped, closes, goes_on, goes_past, gone_on, group_breaks, grown, is_past, next_slots}
 use Rattle.ptmerge.proofs.OfJoin.GroupTurns.{others_stay, passing, stand_still, standing, starts, went, within_more, grouped_keeps, last_stays, own_more, size_of, starts_none, with_head, StartsWith}
 use Rattle.ptmerge.proofs.OfJoin.GroupTurns.{halts}
 use Rattle.ptmerge.specs.declared.tools.join.Phase.{Phase}
-use Rattle.ptmerge.proofs.OfJoin.GroupSlots.{AllSlots, group_is, kept_line, keeping_cleared, low_slot, group_one, InGroup, Kept, group_in, keeping_kept}
+use Rattle.ptmerge.proofs.OfJoin.GroupSlots.{group_is, kept_line, keeping_cleared, low_slot, group_one, InGroup, Kept, group_in, keeping_kept}
 use Rattle.ptmerge.proofs.OfMerges.Got.{reads_nothing}
 use Rattle.ptmerge.proofs.OfMerges.Orders.{EachKey, EachKey-at}
 use Rattle.ptmerge.specs.declared.tools.join.Phase.TheVariants as phases
@@ -19,19 +19,6 @@ pub gather_slots : {key : Key} {cmp : Cmp} {place next : Sorted} {was is : Reade
     → NotGathered key cmp place next was is before after end fault → length before.lines ≤ length after.lines
 gather_slots fault (inl e) = omega (arith, comes_slots _ _ _ _ _ _ _ _ e.came, e.refused.slots)
 gather_slots {place = place} {was = was} {is = is} {before = before} {after = after} fault (inr e) = omega (arith, breaks_slots Second place was is before after fault e)
-
--- a group is closed
-pub closed : {call : Call} {now : State} {place : Side → Sorted} {end : ℕ} {k : List ℕ} {g : Side → Lines} {kept : Lines} (q : Grouped call now place end k g kept)
-    → AllSlots place → ((side : Side) → 0 < length (g side)) → ((side : Side) → IsAbove call.cmp (call.key side) k (q.d side))
-    → {after : Slots} → IsGroupCleared now.store after end → Between call (record now { store = after }) place
-closed {call} {g = g} q slots some above clear = record {
-  ls = q.ls;
-  p = λ side. q.p side ++ g side;
-  b = q.d;
-  sides = stand_still call.tool q.sides slots (λ i low. clear.others i (inl low));
-  merging = closes call q.within some above q.wrote;
-  keeps = keeping_cleared q.keeps q.at clear;
-}
 
 module _ {job : Join} {cmp : Cmp} {key : Side → Key} {old : State} {phase : Phase} {now : State} {one two : Sorted} {end : ℕ}
     (t : IsTurn job cmp key old phase now one two end) where
@@ -55,10 +42,6 @@ module _ {job : Join} {cmp : Cmp} {key : Side → Key} {old : State} {phase : Ph
     at_second : AtLine a.q Second
     at_second = record { slots = slots t; head = (a.heads Second).0; is = (a.heads Second).1 }
 
-    in_group : (l : Lines) → InGroup (key Second) (a.g ++ y ∷ []) (a.q.ls Second ++ l)
-    in_group l = rw (with_head at_second, ← append_assoc (a.q.p Second) a.g (y ∷ []))
-        (group_in (key Second) a.k (a.q.p Second) a.g y l (own_more at_second Second) (a.heads Second).1)
-
     -- what was staged before the group was sent
     module _ {out : Output} (sent : Wrote now.out out []) where
       -- nothing was pushed of the group
@@ -71,7 +54,8 @@ module _ {job : Join} {cmp : Cmp} {key : Side → Key} {old : State} {phase : Ph
         on_second = gone_on at_second comes (rw (call.laws.none a.k (a.g ++ y ∷ [])) wrote_none)
 
         inside : (l : Lines) → InGroup (key Second) (a.g ++ y ∷ []) (on_second.group.ls Second ++ l)
-        inside l = rw (on_second.more.1, append_assoc (a.q.ls Second) on_second.more.0 l) (in_group (on_second.more.0 ++ l))
+        inside l = rw (on_second.more.1, append_assoc (a.q.ls Second) on_second.more.0 l, with_head at_second, ← append_assoc (a.q.p Second) a.g (y ∷ []))
+            (group_in (key Second) a.k (a.q.p Second) a.g y (on_second.more.0 ++ l) (own_more at_second Second) (a.heads Second).1)
 
         -- the first four slots stay as they are
         module _ (after : Slots) (same : (i : ℕ) → i < 4 → line after i ≡ line made i) where
@@ -103,15 +87,10 @@ module _ {job : Join} {cmp : Cmp} {key : Side → Key} {old : State} {phase : Ph
           group_on = grouped_keeps on_second.group (next_slots at_second comes) kept_too.same kept_too.keeping (omega (arith, a.q.at, length_push a.g y))
 
           gathers_more : two2.same ≡ true → Gathering call (moved now Second reader out after) (put Second two2 (both one two)) (end + 1)
-          gathers_more same = record {
-            k = a.k;
-            g = a.g ++ y ∷ [];
-            q = group_on;
-            heads = elim [
-              | First ↦ ((a.heads First).0, key1_on after kept_too.same)
-              | Second ↦ let h = goes_on at_second comes same in (h.0, rw (stays after kept_too.same) h.1)
-            ];
-          }
+          gathers_more same =
+              let h = goes_on at_second comes same in
+              let key1 = key1_on after kept_too.same in
+              record { k = a.k; g = a.g ++ y ∷ []; q = group_on; heads = elim [ First ↦ ((a.heads First).0, key1) | Second ↦ (h.0, rw (stays after kept_too.same) h.1) ] }
 
       module _ {one2 two2 : Sorted} {reader : Reader} {after : Slots} {to : ℕ}
           (h : Gathered (key Second) cmp two two2 (now.reader Second) reader now.store after end to) (on : CanGoOn key Second one two one2 two2 reader after out) where
@@ -230,9 +209,18 @@ module _ {job : Join} {cmp : Cmp} {key : Side → Key} {old : State} {phase : Ph
         }))
 
         pub group_closed : {cleared : Slots} → IsGroupCleared after cleared end → one2.same ≡ false → IsTurn job cmp key old phases.Between (moved now First reader new cleared) one2 two2 4
-        group_closed {cleared} clear same = went_on t {next = phases.Between} First
+        group_closed {cleared} clear same =
+            let q = on_first.group in
+            went_on t {next = phases.Between} First
             (record { clean = h.on.clean; others = h.on.others; lent = h.on.lent; placed = placed_keeps _ _ _ _ _ h.on.placed (omega (arith, clear.slots)) (λ i low. clear.others i (inl low)) }) (
-              closed on_first.group (next_slots at_first h.came) (elim [ First ↦ omega (arith, length_push (r.g First) (line now.store one.standing)) | Second ↦ r.some ])
-                  (elim [ First ↦ is_past on_first.group First (goes_past at_first h.came same) | Second ↦ above_on ]) clear,
+              record {
+                ls = q.ls;
+                p = λ side. q.p side ++ grown now (both one two) First r.g side;
+                b = q.d;
+                sides = stand_still call.tool q.sides (next_slots at_first h.came) (λ i low. clear.others i (inl low));
+                merging = closes call q.within (elim [ First ↦ omega (arith, length_push (r.g First) (line now.store one.standing)) | Second ↦ r.some ])
+                    (elim [ First ↦ is_past q First (goes_past at_first h.came same) | Second ↦ above_on ]) q.wrote;
+                keeps = keeping_cleared q.keeps q.at clear;
+              },
               refl,
             )

@@ -1,5 +1,5 @@
 -- An output that has failed is left alone; otherwise both orders are one proof, over the order that the job names.
-use Rattle.ptmerge.proofs.Common.{sym, ◌∙◌, join_job, join_tool, seen, both}
+use Rattle.ptmerge.proofs.Common.{sym, ◌∙◌, join_job, join_tool, seen}
 use Rattle.ptmerge.proofs.OfMerges.Starting.{set_is}
 use Rattle.ptmerge.proofs.OfMerges.Stopping.{merge_halted, merge_set, unread_set}
 use Rattle.ptmerge.proofs.tools.join.join.Goals as goal
@@ -11,13 +11,11 @@ returns-then-has_failed-clause-merged g c =
 
 pub returns-then-job-clause-merged : goal.returns-then-job-clause-merged
 returns-then-job-clause-merged g c =
-    merge_set (seen c.args.first.now c.args.second.now c.args.out.now c.args.store.now) _ (both c.set_ending.new.self c.set_ending-2.new.self) (join_job c.args.job.now).end
-    (set_is _ _ _ _ _ c.set_ending.ensures.set c.set_ending-2.ensures.set) _ _ (rw c.if-job.true c.join_in_order.ensures.merged)
+    merge_set _ _ _ _ (set_is _ _ _ _ _ c.set_ending.ensures.set c.set_ending-2.ensures.set) _ _ (rw c.if-job.true c.join_in_order.ensures.merged)
 
 pub returns-clause-merged : goal.returns-clause-merged
 returns-clause-merged g c =
-    merge_set (seen c.args.first.now c.args.second.now c.args.out.now c.args.store.now) _ (both c.set_ending.new.self c.set_ending-2.new.self) (join_job c.args.job.now).end
-    (set_is _ _ _ _ _ c.set_ending.ensures.set c.set_ending-2.ensures.set) _ _ (rw c.if-job.false c.join_in_order-2.ensures.merged)
+    merge_set _ _ _ _ (set_is _ _ _ _ _ c.set_ending.ensures.set c.set_ending-2.ensures.set) _ _ (rw c.if-job.false c.join_in_order-2.ensures.merged)
 
 pub returns-then-job-clause-refused : goal.returns-then-job-clause-refused
 returns-then-job-clause-refused g c = λ fine few. unread_set (seen c.args.first.now c.args.second.now c.args.out.now c.args.store.now) _ _ _

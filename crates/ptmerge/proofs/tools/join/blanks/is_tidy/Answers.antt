@@ -1,5 +1,5 @@
 use Rattle.std.proofs.Common.{sym, ◌∙◌}
-use Rattle.ptmerge.proofs.OfJoin.FieldSpans.{blank_first, empty_untidy, some_bytes, space_last, tidy_is}
+use Rattle.ptmerge.proofs.OfJoin.FieldSpans.{blank_first, empty_untidy, space_last, tidy_is}
 use Rattle.ptmerge.proofs.tools.join.blanks.is_tidy.Goals.{then-is_empty-via-then-is_empty, then-is_empty-via-else-is_empty+then-is_blank}
 use Rattle.ptmerge.proofs.tools.join.blanks.is_tidy.Goals.{then-is_empty-via-else-is_empty+else-is_blank+then-bytes-eq32}
 use Rattle.ptmerge.proofs.tools.join.blanks.is_tidy.Goals as goal
@@ -8,16 +8,14 @@ pub returns-then-is_empty : goal.returns-then-is_empty
 returns-then-is_empty c = elim c.then-is_empty.branch [
   | then-is_empty-via-then-is_empty w ↦ empty_untidy c.args.bytes.now (sym c.is_empty.ensures ∙ w.if-is_empty.true)
   | then-is_empty-via-else-is_empty+then-is_blank w ↦ blank_first c.args.bytes.now (sym w.is_blank.ensures ∙ w.if-is_blank.true)
-  | then-is_empty-via-else-is_empty+else-is_blank+then-bytes-eq32 w ↦ space_last c.args.bytes.now (some_bytes c.args.bytes.now (sym c.is_empty.ensures ∙ w.if-is_empty.false))
+  | then-is_empty-via-else-is_empty+else-is_blank+then-bytes-eq32 w ↦ space_last c.args.bytes.now (sym c.is_empty.ensures ∙ w.if-is_empty.false)
       (sym w.is_blank.ensures ∙ w.if-is_blank.false) w.if-bytes-eq32.true
 ]
 
 pub returns-then-bytes-le16 : goal.returns-then-bytes-le16
 returns-then-bytes-le16 c =
-    tidy_is _ _ (some_bytes _ (sym c.is_empty.ensures ∙ c.if-is_empty.false))
-    (sym c.is_blank.ensures ∙ c.if-is_blank.false) c.if-bytes-eq32.false c.is_even_few.ensures
+    tidy_is _ _ (sym c.is_empty.ensures ∙ c.if-is_empty.false) (sym c.is_blank.ensures ∙ c.if-is_blank.false) c.if-bytes-eq32.false c.is_even_few.ensures
 
 pub returns-else-bytes-le16 : goal.returns-else-bytes-le16
 returns-else-bytes-le16 c =
-    tidy_is _ _ (some_bytes _ (sym c.is_empty.ensures ∙ c.if-is_empty.false))
-    (sym c.is_blank.ensures ∙ c.if-is_blank.false) c.if-bytes-eq32.false c.is_even_far.ensures
+    tidy_is _ _ (sym c.is_empty.ensures ∙ c.if-is_empty.false) (sym c.is_blank.ensures ∙ c.if-is_blank.false) c.if-bytes-eq32.false c.is_even_far.ensures

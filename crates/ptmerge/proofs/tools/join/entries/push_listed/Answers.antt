@@ -22,10 +22,12 @@ pub returns-in_err-push_led-clause-wrote : goal.returns-in_err-push_led-clause-w
 returns-in_err-push_led-clause-wrote g c =
     each_fails (λ (l : List ℕ). between (join_job c.args.job.now).separator ∷ l)
     (listed (item_of (join_job c.args.job.now) c.args.key.now (option_copied c.args.one) (option_copied c.args.two)) c.items.rest.now _ c.in-len1-up-rest.len_at_least
-    c.listed_field-in-len1-up-rest.ensures) c.items.invariant (rw (c.unwrap_or-lead.ensures ∙ sym (between_is (join_job c.args.job.now).separator)) at c.push_led.ensures.wrote) c.in_err-push_led.ensures.fault
+    c.listed_field-in-len1-up-rest.ensures) c.items.invariant
+    (rw (c.unwrap_or-lead.ensures ∙ sym (between_is (join_job c.args.job.now).separator)) at c.push_led.ensures.wrote) c.in_err-push_led.ensures.fault
 
 pub items-preserved : goal.items-preserved
 items-preserved g c =
     each_more (λ (l : List ℕ). between (join_job c.args.job.now).separator ∷ l)
     (listed (item_of (join_job c.args.job.now) c.args.key.now (option_copied c.args.one) (option_copied c.args.two)) c.items.rest.now _ c.in-len1-up-rest.len_at_least
-    c.listed_field-in-len1-up-rest.ensures) c.items.invariant (rw (c.unwrap_or-lead.ensures ∙ sym (between_is (join_job c.args.job.now).separator)) at c.push_led.ensures.wrote) c.in_ok-push_led.ensures.clean
+    c.listed_field-in-len1-up-rest.ensures) c.items.invariant
+    (rw (c.unwrap_or-lead.ensures ∙ sym (between_is (join_job c.args.job.now).separator)) at c.push_led.ensures.wrote) c.in_ok-push_led.ensures.clean
