@@ -23,8 +23,7 @@ pub own_slots : (s : Side) (a : Sorted) → HasSlots s a → (a.standing ≢ a.p
 own_slots s a h = omega arith
 
 pub slot_low : (s : Side) → slot_of s ≤ 2
-slot_low First = omega arith
-slot_low Second = omega arith
+slot_low s = grind arith
 
 -- the slots of the two inputs are apart
 pub slots_apart : (s : Side) (a c : Sorted) → HasSlots s a → HasSlots (other s) c → (a.previous ≢ c.standing) × (a.previous ≢ c.previous)

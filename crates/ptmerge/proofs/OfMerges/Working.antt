@@ -3,7 +3,7 @@
 use Rattle.ptmerge.proofs.Common.{◌≡◌, ◌⊎◌, ⊎_elim, inl, inr, ℕ, ◌+◌, ◌≤◌, false, List, [], ◌∷◌, ◌++◌, Option, Some, None, length, map, refl, sym, ◌∙◌, ap, arith, append_assoc, length-append, last_or}
 use Rattle.ptmerge.proofs.Common.{append-nil, append_cancel_right, Given, whole_lines, Before, Reader, text, ended_lines, IsLine, AreLines, given_of, ended_of_text, text_push, the_lines, Lines, fall}
 use Rattle.ptmerge.proofs.Common.{is_below, ordered_part, Cmp, Key, Bool, filter-append, filter, Begins, text-append, Side, First, Second, Tool, by_keys, decided_entries, disorder, disorder_of}
-use Rattle.ptmerge.proofs.Common.{is_decided, is_settled, other, WorksOff, decided, settled, put, take, length_push, Fall, map-append}
+use Rattle.ptmerge.proofs.Common.{is_decided, is_settled, other, WorksOff, decided, settled, put, Fall, map-append, lines}
 use Rattle.ptmerge.proofs.OfMerges.Passing.{fall_after, fall_is, falls, ordered_after, ordered_is, Bound, FallFrom, Under, Coming, not_below, down_decided, last_has, not_decided, past_none, all_keys}
 use Rattle.ptmerge.proofs.OfMerges.Passing.{down_begins}
 use Rattle.ptmerge.proofs.OfMerges.Got.{Far}
@@ -11,7 +11,6 @@ use Rattle.ptmerge.proofs.OfMerges.Orders.{EachKey, Each-all, EachKey-weaker, Ea
 use Rattle.ptmerge.proofs.OfParts.PartsInOrder.{by_keys_kept}
 use Rattle.ptmerge.proofs.OfMerges.Slotted.{put_each, put_other, put_same}
 use Rattle.ptlines.proofs.Scanned.{IsLine-append}
-use Rattle.std.proofs.Math.Seq.{take-append_seam}
 use Rattle.ptmerge.specs.Keyed.{Disorder}
 
 -- ---- lines in order
@@ -56,7 +55,11 @@ module _ (cmp : Cmp) (o : IsKeyOrder cmp) (key : Key) where
 
 -- all lines have their end, or the last one lacks it
 abbrev Shape : ℕ → List ℕ → Lines → Type 0
-Shape end given ls = ((given ≡ text end ls) × AreLines end ls) ⊎ ((whole : Lines) × (x : List ℕ) × (ls ≡ whole ++ x ∷ []) × (given ≡ text end whole ++ x) × AreLines end whole × IsLine end x)
+Shape end given ls = AreLines end ls × ((given ≡ text end ls) ⊎ (given ++ end ∷ [] ≡ text end ls))
+
+shape_of : (end : ℕ) (given : List ℕ) (ls : Lines) (now : Reader) → Far end given ls now → Shape end given ls
+shape_of end given ls now (inl o) = (o.1, inl o.0)
+shape_of end given ls now (inr c) = let a = rw c.0 at (the_lines end given).0 in (a.0, ⊎_elim (λ e. inl (sym e)) (λ e. inr (sym e.2)) a.1)
 
 last_of : {A : Type 0} (xs : List A) → (xs ≡ []) ⊎ ((front : List A) × (x : A) × (xs ≡ front ++ x ∷ []))
 last_of [] = inl refl
@@ -65,18 +68,6 @@ last_of (x ∷ xs) = ⊎_elim (λ e. inr ([], x, ap (λ l. x ∷ l) e)) (λ e. i
 are_split : (end : ℕ) (xs : Lines) (x : List ℕ) → AreLines end (xs ++ x ∷ []) → AreLines end xs × IsLine end x
 are_split end [] x a = (tt, a.0)
 are_split end (y ∷ xs) x a = let t = are_split end xs x a.1 in ((a.0, t.0), t.1)
-
-shape_of : (end : ℕ) (given : List ℕ) (ls : Lines) (now : Reader) → Far end given ls now → Shape end given ls
-shape_of end given ls now (inl o) = inl o
-shape_of end given ls now (inr c) =
-    let a = rw c.0 at (the_lines end given).0 in
-    ⊎_elim (λ e. inl (sym e, a.0)) (λ e. ⊎_elim
-    (λ none. (let bad : [] ≡ given ++ end ∷ [] = rw none at e.2 in absurd (omega (arith, ap length bad, length-append given (end ∷ [])))))
-    (λ l.
-    let s = are_split end l.0 l.1 (rw l.2 at a.0) in
-    let same : given ++ end ∷ [] ≡ (text end l.0 ++ l.1) ++ end ∷ [] = sym e.2 ∙ (rw (l.2, text_push end l.0 l.1, append_assoc (text end l.0) l.1 (end ∷ []))) in
-    inr (l.0, l.1, l.2, append_cancel_right given (text end l.0 ++ l.1) (end ∷ []) same, s.0, s.1))
-    (last_of ls)) a.1
 
 -- what had come two blocks earlier, or less: its whole lines are passed, and more may come
 pub record Back (end : ℕ) (given : Given) (p : Lines) : Type 0 where
@@ -104,24 +95,30 @@ module _ (end : ℕ) (given piece : List ℕ) (ls p : Lines) (now new : Reader) 
     split = split;
   }
 
+  -- the last line lacks its end
+  open_line : (w : Lines) (y : List ℕ) → ls ≡ w ++ y ∷ [] → AreLines end ls → given ++ end ∷ [] ≡ text end ls → (rest : Lines) → p ≡ w ++ rest → Back end (given_of (given ++ piece) new) p
+  open_line w y last all is rest split =
+      let s = are_split end w y (rw last at all) in
+      let same : given ++ end ∷ [] ≡ (text end w ++ y) ++ end ∷ [] = is ∙ (rw (last, text_push end w y, append_assoc (text end w) y (end ∷ []))) in
+      let ends : given ≡ text end w ++ y = append_cancel_right given (text end w ++ y) (end ∷ []) same in
+      unheld w (y ++ piece) (rw (ends, append_assoc (text end w) y piece)) s.0 (IsLine-append end y piece s.1 free) rest split
+
   pub back : Near ls p piece → Back end (given_of (given ++ piece) new) p
   back near = by near (shape_of end given ls now far)
     where
       by : Near ls p piece → Shape end given ls → Back end (given_of (given ++ piece) new) p
-      by (inl e) (inl o) = unheld ls piece (rw o.0) o.1 free [] (sym e ∙ sym (append-nil ls))
-      by (inl e) (inr c) = unheld c.0 (c.1 ++ piece) (rw (c.3, append_assoc (text end c.0) c.1 piece)) c.4 (IsLine-append end c.1 piece c.5 free) (c.1 ∷ []) (sym e ∙ c.2)
-      by (inr e) (inr c) =
-          let is : c.0 ++ c.1 ∷ [] ≡ p ++ e.0 ∷ [] = sym c.2 ∙ e.1 in
-          let long : length c.0 ≡ length p = omega (arith, ap length is, length_push c.0 c.1, length_push p e.0) in
-          let same : c.0 ≡ p = sym (take-append_seam c.0 (c.1 ∷ [])) ∙ (λ i. take (long i) (is i)) ∙ take-append_seam p (e.0 ∷ []) in
-          unheld c.0 (c.1 ++ piece) (rw (c.3, append_assoc (text end c.0) c.1 piece)) c.4 (IsLine-append end c.1 piece c.5 free) [] (sym same ∙ sym (append-nil c.0))
-      by (inr e) (inl o) =
-          let s = are_split end p e.0 (rw e.1 at o.1) in
+      by (inl e) (all, inl is) = unheld ls piece (rw is) all free [] (sym e ∙ sym (append-nil ls))
+      by (inl e) (all, inr is) =
+          ⊎_elim (λ none. (let bad : [] ≡ given ++ end ∷ [] = rw none at (sym is) in absurd (omega (arith, ap length bad, length-append given (end ∷ [])))))
+          (λ l. open_line l.0 l.1 l.2 all is (l.1 ∷ []) (sym e ∙ l.2)) (last_of ls)
+      by (inr e) (all, inr is) = open_line p e.0 e.1 all is [] (sym (append-nil p))
+      by (inr e) (all, inl is) =
+          let s = are_split end p e.0 (rw e.1 at all) in
           record {
             before = record {
               earlier = record { bytes = text end p ++ e.0; ended = false };
               last = end ∷ new.held;
-              split = rw (e.2, append-nil given, o.0, e.1, text_push end p e.0) (simp append_assoc);
+              split = rw (e.2, append-nil given, is, e.1, text_push end p e.0) (simp append_assoc);
               short = omega (arith, few);
               ended = λ e. cc;
             };
