@@ -111,9 +111,6 @@ coming_none cmp key b = grind arith
 pub record Reaches (cmp : Cmp) (key : Key) (ls p : Lines) (b : Bound) : Type 0 where
   pub future : (w : Lines) → Follows b w → (r : Lines) × (ordered_part cmp key (ls ++ w) ≡ p ++ r) × Coming cmp key b r × Falling cmp b (fall cmp key (ls ++ w))
 
-pub reaches_free : {cmp : Cmp} {key : Key} → Reaches cmp key [] [] Free
-reaches_free {cmp} {key} = record { future = λ w _. (ordered_part cmp key w, refl, tt, tt) }
-
 -- all lines that came are passed
 pub reaches_passed : {cmp : Cmp} (o : IsKeyOrder cmp) {key : Key} {ls : Lines} {k : List ℕ} → Begun cmp key ls (Some k) → Reaches cmp key ls ls (From k)
 reaches_passed {cmp} o {key} {ls} {k} g = record {
@@ -381,15 +378,12 @@ module _ (cmp : Cmp) (o : IsKeyOrder cmp) where
   ] refl
 
   -- the tests hold of each key below one of which they hold
-  down_le : (l a b : List ℕ) → cmp b a ≡ Greater → is_le (cmp b l) ≡ true → is_le (cmp a l) ≡ true
-  down_le l a b g h = grind (arith, at_most_trans cmp o a b l, greater_flips cmp o b a g)
-
   down_lt : (l a b : List ℕ) → cmp b a ≡ Greater → is_lt (cmp b l) ≡ true → is_lt (cmp a l) ≡ true
   down_lt l a b g h = grind (arith, greater_flips, less_flips, above_trans)
 
   down_up_to : (d : Option Disorder) → IsDown cmp (up_to cmp d)
   down_up_to None a b g h = refl
-  down_up_to (Some d) a b g h = down_le d.fall.last_key a b g h
+  down_up_to (Some d) a b g h = grind (arith, at_most_trans cmp o a b d.fall.last_key, greater_flips cmp o b a g)
 
   down_past : (key : Key) (ended : Bool) (ls : Lines) → IsDown cmp (is_past cmp key ended ls)
   down_past key ended ls a b g h = grind (arith, down_lt)

@@ -22,12 +22,8 @@ module _ {tool : Tool} {old : State} (w : IsOpened tool old) where
       let own = own_slots side (fresh side) (fresh_slots side) in
       goes_next _ _ w.o _ _ _ _ _ _ _ _ _ (omega (arith, own.1, slot_low side)) own.0 (got_none (w.readable side) (w.ending side)) refl begun_none refl comes
 
-  free : (side : Side) (new : Reader) (piece : List ℕ) → Reads (old.reader side) new piece → IsLine (old.reader side).ending piece → IsSound new
-      → Gone tool.end tool.cmp (tool.key side) (old.reader side) (old.reader side) new piece [] [] Free
-  free side new piece reads line safe = gone_free (w.readable side) (w.ending side) reads line safe
-
   unmoved : (side : Side) → Gone tool.end tool.cmp (tool.key side) (old.reader side) (old.reader side) (old.reader side) [] [] [] Free
-  unmoved side = free side (old.reader side) [] (reads_nothing (old.reader side)) tt (w.sound side)
+  unmoved side = gone_free (w.readable side) (w.ending side) (reads_nothing (old.reader side)) tt (w.sound side)
 
   abbrev no_lines : Side → Lines
   no_lines side = []
@@ -81,14 +77,14 @@ module _ {tool : Tool} {old : State} (w : IsOpened tool old) where
     starts_badly (inr (inl f)) =
         let kept = keeps_none f.four w.allowed w.empty in
         rw f.unread (breaks tool w.o old (state old.reader old.out f.made) no_lines no_lines (λ side. Free) (merging_none tool old.out) w.unfailed (λ side. refl) w.writable
-        First (fresh First) new1 after fault (free First) refl None begun_none (unmoved Second) kept.denied
+        First (fresh First) new1 after fault (λ r piece. gone_free (w.readable First) (w.ending First)) refl None begun_none (unmoved Second) kept.denied
         (λ piece all l. within_size tool w.fits First (fresh First) no_lines all piece (fresh_slots First) kept (λ side. omega (arith, (l side).1)) (omega (arith, (l First).1))) f.breaks)
     starts_badly (inr (inr f)) =
         let s = f.begins in
         let g = n s in
         breaks tool w.o old (state (both new1 (old.reader Second)) old.out s.mid) (both g.now_ls []) no_lines (both g.bound Free) (half_merging s) w.unfailed
         (elim [ First ↦ g.sided.got.goes.failed | Second ↦ refl ]) w.writable
-        Second (fresh Second) new2 after fault (free Second) refl None begun_none (gone_standing g.sided) (half_keeps s).denied
+        Second (fresh Second) new2 after fault (λ r piece. gone_free (w.readable Second) (w.ending Second)) refl None begun_none (gone_standing g.sided) (half_keeps s).denied
         (λ piece all l. within_size tool w.fits Second (fresh Second) (both g.now_ls []) all piece (fresh_slots Second) (half_keeps s)
         (λ side. omega (arith, (l side).1)) (omega (arith, (l Second).1))) s.later
 

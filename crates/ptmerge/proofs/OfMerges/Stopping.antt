@@ -7,7 +7,7 @@ use Rattle.ptmerge.proofs.Common.{lines, IsLine, given_of, came_of, came_set, ca
 use Rattle.ptmerge.proofs.Common.{Side, First, Second, Tool, by_keys, decided, disorder, disorder_of, fall, lines_of, merged, merged_entries, ordered_part, up_to, State, Agree, Ends, IsMerge}
 use Rattle.ptmerge.proofs.Common.{IsUnread, IsWhole, ended_by, other, put}
 use Rattle.ptmerge.proofs.OfMerges.Working.{Near, Back, back, decided_of_passed, unsettled, works_off}
-use Rattle.ptmerge.proofs.OfMerges.Passing.{Bound, Free, From, Fallen, Over, Coming, Under, Begun, begun_more, falls, Reaches, reaches_head, reaches_over, reaches_fallen, reaches_free, reaches_passed}
+use Rattle.ptmerge.proofs.OfMerges.Passing.{Bound, Free, From, Fallen, Over, Coming, Under, Begun, begun_more, falls, Reaches, reaches_head, reaches_over, reaches_fallen, reaches_passed}
 use Rattle.ptmerge.proofs.OfMerges.Passing.{Late, Merging, Seen, StopsAt, follows, past_none, seen_all, all_keys, under_fall}
 use Rattle.ptmerge.proofs.OfMerges.Got.{Got, got_more, got_end, More, Known, got_known, got_lines, got_none, reads_nothing}
 use Rattle.ptmerge.proofs.OfMerges.Orders.{EachKey, EachKey-weaker, IsKeyOrder, AtMost, at_most_trans, equal_is}
@@ -226,8 +226,8 @@ gone_passed o got reads line sound begun = record
 -- an input of which no line came
 pub gone_free : {end : ℕ} {cmp : Cmp} {key : Key} {old new : Reader} {piece : List ℕ} → old.fault ≡ None → old.ending ≡ end → Reads old new piece
     → IsLine old.ending piece → IsSound new → Gone end cmp key old old new piece [] [] Free
-gone_free clean ending reads line sound = record
-    { got = got_none clean ending; reads = reads; line = line; sound = sound; near = inl refl; reaches = reaches_free; over = λ e. cc }
+gone_free {cmp = cmp} {key} clean ending reads line sound = record
+    { got = got_none clean ending; reads = reads; line = line; sound = sound; near = inl refl; reaches = record { future = λ w _. (ordered_part cmp key w, refl, tt, tt) }; over = λ e. cc }
 
 -- a read of an input failed, all whose lines are passed
 pub record Fails (cmp : Cmp) (key : Key) (new : Reader) (ls p : Lines) : Type 0 where
