@@ -117,12 +117,6 @@ Each-parts P (x ∷ xs) ys e = let r = Each-parts P xs ys e.1 in ((e.0, r.0), r.
 pub EachKey-append : (P : List ℕ → Type 0) (key : Key) (xs ys : Lines) → EachKey P key xs → EachKey P key ys → EachKey P key (xs ++ ys)
 EachKey-append P key xs ys e h = rw (map-append key xs ys) (Each-append P (map key xs) (map key ys) e h)
 
-pub Each-keys : (P : List ℕ → Type 0) (key1 key2 : Key) (xs ys : Lines) → EachKey P key1 xs → EachKey P key2 ys → Each P (map key1 xs ++ map key2 ys)
-Each-keys P key1 key2 xs ys e f = Each-append P (map key1 xs) (map key2 ys) e f
-
-pub keys-Each : (P : List ℕ → Type 0) (key1 key2 : Key) (xs ys : Lines) → Each P (map key1 xs ++ map key2 ys) → EachKey P key1 xs × EachKey P key2 ys
-keys-Each P key1 key2 xs ys e = Each-parts P (map key1 xs) (map key2 ys) e
-
 pub Each-insert : (cmp : Cmp) (P : List ℕ → Type 0) (k : List ℕ) (xs : Lines) → P k → Each P xs → Each P (insert_key cmp k xs)
 Each-insert cmp P k [] h e = (h, tt)
 Each-insert cmp P k (x ∷ xs) h e = let ih = Each-insert cmp P k xs h e.1 in grind (arith, ih)
@@ -207,7 +201,7 @@ module _ (tool : Tool) (o : IsKeyOrder tool.cmp) where
   least_first w k ls e none = by (distinct_least tool.cmp o k (keys tool ls) all)
     where
       all : Each (AtMost tool.cmp k) (keys tool ls)
-      all = Each-keys _ _ _ _ _ (e First) (e Second)
+      all = Each-append _ _ _ (e First) (e Second)
 
       ds : Lines
       ds = distinct tool.cmp (others k (keys tool ls))

@@ -5,7 +5,7 @@ use Rattle.ptmerge.proofs.Common.{if◌then◌else◌, last_or, is_gt, length_pu
 use Rattle.ptmerge.proofs.Common.{Greater, match_ordering, Side, First, Second, Tool, insert_key, distinct, keys, entries_of, by_keys, disorder_of, up_to, ◌⊎◌, inl, inr, subst, is_lt, is_le, Output}
 use Rattle.ptmerge.proofs.Common.{Wrote, text, wrote_trans, wrote_nothing, text-append, disorder, is_below, is_decided, is_past, merged_entries, with_key, Names, put}
 use Rattle.ptmerge.proofs.OfMerges.Orders.{IsKeyOrder, AtMost, at_most_trans, self_at_most, EachKey, EachKey-weaker, Above, at_most_is_le, above_trans, less_flips, Each, Each-weaker, Each-insert}
-use Rattle.ptmerge.proofs.OfMerges.Orders.{Each-distinct, Each-keys, Each-all, EachKey-append, front_first, greater_flips}
+use Rattle.ptmerge.proofs.OfMerges.Orders.{Each-distinct, Each-append, Each-all, EachKey-append, front_first, greater_flips}
 use Rattle.ptmerge.specs.Keyed.{Disorder}
 use Rattle.ptmerge.proofs.OfMerges.Slotted.{put_each}
 
@@ -200,12 +200,12 @@ module _ (tool : Tool) where
   pub all_wanted : (w : List ℕ → Bool) (p : Side → Lines) → ((side : Side) → EachKey (λ k. w k ≡ true) (tool.key side) (p side)) → by_keys tool w p ≡ by_keys tool all_keys p
   all_wanted w p e =
       let ks = distinct tool.cmp (keys tool p) in
-      let pass = filter_all w ks (Each-distinct _ _ _ (Each-keys _ _ _ _ _ (e First) (e Second))) in
+      let pass = filter_all w ks (Each-distinct _ _ _ (Each-append _ _ _ (e First) (e Second))) in
       ap (flat_map (entries_of tool p)) (pass ∙ sym (filter_all all_keys ks (Each-all _ (λ k. refl) ks)))
 
   pub none_wanted : (w : List ℕ → Bool) (r : Side → Lines) → ((side : Side) → EachKey (λ k. w k ≡ false) (tool.key side) (r side)) → by_keys tool w r ≡ []
   none_wanted w r e =
-      ap (flat_map (entries_of tool r)) (filter_none w (distinct tool.cmp (keys tool r)) (Each-distinct _ _ _ (Each-keys _ _ _ _ _ (e First) (e Second))))
+      ap (flat_map (entries_of tool r)) (filter_none w (distinct tool.cmp (keys tool r)) (Each-distinct _ _ _ (Each-append _ _ _ (e First) (e Second))))
 
   -- the entries of the keys below one are the first
   pub down_splits : IsKeyOrder tool.cmp → (w p : List ℕ → Bool) → IsDown tool.cmp p → (ls : Side → Lines)

@@ -5,7 +5,7 @@ use Rattle.ptmerge.proofs.Common.{join_tool, IsOfParts, PartsOfComm, PartsOfJoin
 use Rattle.ptmerge.proofs.Common.{entries_of, filter-append}
 use Rattle.ptmerge.proofs.OfMerges.Passing.{FallFrom, after_from, fall_after, fall_at, fall_is, falls, ordered_after, ordered_is, Ascends, IsDown, all_keys, all_wanted, ascends_distinct, down_splits}
 use Rattle.ptmerge.proofs.OfMerges.Passing.{up_to_from}
-use Rattle.ptmerge.proofs.OfMerges.Orders.{Each, Each-weaker, EachKey, Each-all, EachKey-weaker, insert_least, keys-Each, IsKeyOrder, AtMost, above_trans, at_most_trans, greater_flips, line_order}
+use Rattle.ptmerge.proofs.OfMerges.Orders.{Each, Each-weaker, EachKey, Each-all, EachKey-weaker, insert_least, Each-parts, IsKeyOrder, AtMost, above_trans, at_most_trans, greater_flips, line_order}
 
 -- ---- lines of some keys
 
@@ -74,8 +74,8 @@ module _ (p : List ℕ → Bool) where
 
 -- what holds of the keys of two lists holds of each list's
 of_keys : (tool : Tool) (side : Side) (P : List ℕ → Type 0) (ls : Side → Lines) → Each P (keys tool ls) → EachKey P (tool.key side) (ls side)
-of_keys tool First P ls e = (keys-Each P (tool.key First) (tool.key Second) (ls First) (ls Second) e).0
-of_keys tool Second P ls e = (keys-Each P (tool.key First) (tool.key Second) (ls First) (ls Second) e).1
+of_keys tool First P ls e = (Each-parts P (map (tool.key First) (ls First)) (map (tool.key Second) (ls Second)) e).0
+of_keys tool Second P ls e = (Each-parts P (map (tool.key First) (ls First)) (map (tool.key Second) (ls Second)) e).1
 
 -- the keys below all of these
 abbrev is_under : Cmp → Lines → List ℕ → Bool
