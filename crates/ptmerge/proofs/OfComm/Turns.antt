@@ -206,10 +206,8 @@ module _ {job : Comm} {cmp : Cmp} {key : Side → Key} {old now : State} {one tw
         let h1 = passed step.first (sides First) in
         let h2 = passed step.second (sides Second) in
         let x = head First in
-        pass_front w.o (key First x) both_passed (both (x ∷ []) (head Second ∷ [])) (elim [
-          | First ↦ front_line w.o h1.bound refl
-          | Second ↦ front_line w.o h2.bound (sym step.same)
-        ]) (elim [ First ↦ h1.all | Second ↦ h2.all ]) (entries_none job (key First x))
+        pass_front w.o (key First x) both_passed (both (x ∷ []) (head Second ∷ [])) (elim [ First ↦ front_line w.o h1.bound refl | Second ↦ front_line w.o h2.bound (sym step.same) ])
+        (elim [ First ↦ h1.all | Second ↦ h2.all ]) (entries_none job (key First x))
         (λ r c. entries_both job (key First x) (length (with_key (key First) (r First) (key First x))) (length (with_key (key Second) (r Second) (key First x)))) clean merging wrote
 
     module _ {mid : Output} {e : ℕ} (ends : e ≡ job.end) {lead : List ℕ} (led : lead ≡ tab_unless job.hide1 ++ tab_unless job.hide2)

@@ -24,10 +24,7 @@ returns-in_err-merge g c =
 pub steps-init : goal.steps-init
 steps-init g c =
     let p = c.in_ok-merge.ensures in
-    record {
-      turn = rw p.order (starts (comm_job c.args.job.now) (opened g (goal.at.steps-init g c).After-start) c.requires.whole p.starts (rw p.order at p.placed) p.lent);
-      order = p.order;
-    }
+    record { turn = rw p.order (starts (comm_job c.args.job.now) (opened g (goal.at.steps-init g c).After-start) c.requires.whole p.starts (rw p.order at p.placed) p.lent); order = p.order }
 
 pub pass-requires-clause-stands : goal.pass-requires-clause-stands
 pass-requires-clause-stands g c = stands_at c.steps.invariant.turn sides.First c.in-First.ensures.stands
