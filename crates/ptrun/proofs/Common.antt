@@ -1,8 +1,7 @@
 -- Names of other crates and of this one's definitions that many of its proofs take from here.
 pub use borrow.Author.Rules.{scaled_Fits}
-pub use Rattle.std.proofs.Common.{Bool, Err, List, None, Ok, Option, Result, Some, [], ap, append_assoc, arith, cond, drop, false, get_or, inl, inr, length, length-append, length-drop}
-pub use Rattle.std.proofs.Common.{length-set, map, max, refl, set, subst, suc, sym, take, take-append-drop, true, zero, ℕ, ⊎_elim, ◌&&◌, ◌++◌, ◌+◌, ◌-◌, ◌<◌, ◌==◌, ◌^◌, ◌||◌, ◌∙◌, ◌∷◌, ◌≡◌, ◌≢◌, ◌≤◌}
-pub use Rattle.std.proofs.Common.{◌⊎◌}
+pub use Rattle.std.proofs.Common.{Bool, Err, List, None, Ok, Option, Result, Some, [], ap, append_assoc, arith, cond, drop, false, get_or, inl, inr, length, length-append, length-drop, length-set}
+pub use Rattle.std.proofs.Common.{map, max, refl, set, subst, suc, sym, take, take-append-drop, true, zero, ℕ, ⊎_elim, ◌&&◌, ◌++◌, ◌+◌, ◌-◌, ◌<◌, ◌==◌, ◌^◌, ◌||◌, ◌∙◌, ◌∷◌, ◌≡◌, ◌≢◌, ◌≤◌, ◌⊎◌}
 pub use Rattle.std.proofs.Math.Bool.{or-false}
 pub use Rattle.std.proofs.Math.Seq.{take-append-add, take-append_seam, take-length}
 pub use Rattle.std.proofs.lemmas.Bool.{cases_Bool, cases_eq, eqb-true, false≢true, leb-true, or_left, or_right}
@@ -25,8 +24,8 @@ pub use Rattle.ptlangs.specs.Jobs.{Paste, paste_job}
 pub use Rattle.ptlines.proofs.Known.{append_known-append, append_known-nil, prepend_known-append, waits-append}
 pub use Rattle.ptlines.proofs.Pushed.{wrote_nothing, wrote_trans}
 pub use Rattle.ptlines.specs.Inputs.{Agrees, Begins, Came, Given, nothing_left, whole_lines}
-pub use Rattle.ptlines.specs.KeepingUp.{Before, KeepsUp, SendsOn, WorksOff}
-pub use Rattle.ptlines.specs.Outputs.{Extends, Output, Wrote, text}
+pub use Rattle.ptlines.specs.KeepingUp.{Before, KeepsUp, SendsOn}
+pub use Rattle.ptlines.specs.Outputs.{Extends, Output, Wrote}
 pub use Rattle.ptlines.specs.Readers.{HasReadCause, IsDone, IsSound, Reader}
 pub use Rattle.ptlines.specs.Sinks.{SinkState, TakesPart, Took, waits}
 pub use Rattle.ptlines.specs.Slots.{Slots, total}
@@ -47,7 +46,7 @@ pub use Rattle.ptrun.specs.Operands.{decided_of, each_bound, each_decided, each_
 pub use Rattle.ptrun.specs.Runs.{Cause, EndsAs, Headline, IsExact, IsRun, Outcome, Sinks, outcome, sinks}
 pub use Rattle.ptrun.specs.Sayings.{Says, Tells, line_of, texts}
 pub use Rattle.ptrun.specs.Together.{JointTool, disorder_status, disorder_text, given_in, lacks, of_one, of_operands, of_rows, of_two, operand, text_in, together}
-pub use Rattle.ptrun.specs.Worlds.{Allows, AllowsAt, AreFresh, CameAt, HasFailed, IsFresh, IsNew, IsReceived, IsTooLong, Received, TellsAt, TellsWorld, World, at, found, founds, is_in, is_unopened}
-pub use Rattle.ptrun.specs.Worlds.{no_reader, opened, reader_at, shut, sources}
+pub use Rattle.ptrun.specs.Worlds.{Allows, AllowsAt, AreFresh, CameAt, HasFailed, IsFresh, IsNew, IsReceived, IsTooLong, Received, TellsAt, World, at, found, founds, is_in, is_unopened, no_reader}
+pub use Rattle.ptrun.specs.Worlds.{opened, reader_at, shut, sources}
 pub use Rattle.ptrun.specs.declared.engine.Done.{Done}
 pub use Rattle.ptrun.specs.declared.engine.Done.TheVariants.{Disorder, Unopened, Whole}

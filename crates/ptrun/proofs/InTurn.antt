@@ -115,13 +115,11 @@ module _ {word : List ℕ} {t : Tool} {names : List (List ℕ)} {old : List Read
         ends_with false = (refl, refl, tt)
 
         -- all that they decided was pushed
-        all_decided : each_decided t k.gave done ≡ k.pushed
-        all_decided =
-            ap (λ (l : List Given). flat_map t.decided (up_to_open l)) (sym (append-nil (sources nothing_left k.gave done))) ∙ decided_founds t law k.gave [] done [] ended_now
-            ∙ append-nil (each_out t (least k.gave) done) ∙ sym (k.out (least k.gave) (agrees_least k.gave))
-
         works : Begins (each_decided t k.gave done) k.pushed
-        works = record { rest = []; is = sym all_decided ∙ sym (append-nil (each_decided t k.gave done)) }
+        works =
+            let all = decided_founds t law k.gave [] done [] ended_now ∙ append-nil (each_out t (least k.gave) done) ∙ sym (k.out (least k.gave) (agrees_least k.gave)) in
+            let none = append-nil (sources nothing_left k.gave done) in
+            record { rest = []; is = sym all ∙ ap (λ (l : List Given). flat_map t.decided (up_to_open l)) none ∙ sym (append-nil (each_decided t k.gave done)) }
 
     -- ---- the next operand
 
@@ -348,12 +346,6 @@ module _ {word : List ℕ} {t : Tool} {names : List (List ℕ)} {old : List Read
         decided_here : decided_of t (sources nothing_left gave' done ++ earlier ∷ []) ≡ k.pushed ++ t.decided earlier
         decided_here = decided_all (earlier ∷ []) ∙ ap (λ (l : List ℕ). k.pushed ++ l) (decided_open earlier [] (inl refl))
 
-        sure_here : (more : List ℕ) → new.failed ≡ true → is'.faulted ≡ false → new.ended ≡ false → Begins (each_decided t gave' (done ++ p ∷ more)) (k.pushed ++ e.pushed)
-        sure_here more failed clean going =
-            let behind = opened (founds nothing_left gave' (done ++ p ∷ []) more) in
-            begins_behind (t.decided e.given) (ap (λ (l : List Given). flat_map t.decided (up_to_open l)) (sources_opened nothing_left gave' done p more e.given found_given)
-            ∙ decided_all (e.given ∷ behind) ∙ ap (λ (l : List ℕ). k.pushed ++ l) (decided_open e.given behind (inr (e.came.ended ∙ going)))) (e.sure failed clean)
-
         pub pass_stopped : (more : List ℕ) (fault : FlowFault) → result ≡ Err fault → Went (one_by_one word t names (done ++ p ∷ more)) old now' was is' told heard before store' (Err (blame p fault))
         pass_stopped more fault is_err = record {
           received = gave';
@@ -373,7 +365,9 @@ module _ {word : List ℕ} {t : Tool} {names : List (List ℕ)} {old : List Read
             is = out_here w more f ∙ (λ i. sym (k.out w (back w agrees)) i ++ (b.is i ++ rest)) ∙ ap (λ (l : List ℕ). k.pushed ++ l) (append_assoc e.pushed b.rest rest)
                 ∙ sym (append_assoc k.pushed e.pushed (b.rest ++ rest));
           };
-          sure = λ q failed clean. let here = blamed q failed in sure_here more here clean (failing fault end here).0;
+          sure = λ q failed clean. let here = blamed q failed in let behind = opened (founds nothing_left gave' (done ++ p ∷ []) more) in
+              begins_behind (t.decided e.given) (ap (λ (l : List Given). flat_map t.decided (up_to_open l)) (sources_opened nothing_left gave' done p more e.given found_given)
+              ∙ decided_all (e.given ∷ behind) ∙ ap (λ (l : List ℕ). k.pushed ++ l) (decided_open e.given behind (inr (e.came.ended ∙ (failing fault end here).0)))) (e.sure here clean);
           keeps_up = rw (take-append-add done (p ∷ more) 1, sources_opened nothing_left gave' done p [] e.given found_given)
               (last_earlier t (sources nothing_left gave' done) e.given (one_keeps.works.before tt) (λ bytes. PassedOn bytes was is' (k.pushed ++ e.pushed)) (record {
                 begins = begins_behind (t.decided earlier) decided_here one_keeps.works.begins;

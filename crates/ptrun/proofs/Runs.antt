@@ -4,7 +4,7 @@
 -- headline is a reading of the run in the world that the readers tell: it is allowed by what was received, and each
 -- cause of a failure contradicts a premise.
 use Rattle.ptrun.proofs.Common.{cases_Bool, ◌≡◌, ⊎_elim, ℕ, Bool, true, false, cond, List, [], ◌++◌, Option, Some, None, Result, Ok, Err, length, map, refl, sym, ◌∙◌, ap, arith, append_assoc}
-use Rattle.ptrun.proofs.Common.{length-append, All, append_known, prepend_known, IsAtEnd, append-nil, append_cancel_left, nil_from_length, false≢true, take-length, Reader, Output, text, Wrote, Slots}
+use Rattle.ptrun.proofs.Common.{length-append, All, append_known, prepend_known, IsAtEnd, append-nil, append_cancel_left, nil_from_length, false≢true, take-length, Reader, Output, Wrote, Slots}
 use Rattle.ptrun.proofs.Common.{SinkState, append_known-nil, wrote_trans, Given, Agrees, Begins, FlowFault, Read, Write, Memory, Done, World, Received, at, AllowsAt, Allows, reader_at, shut}
 use Rattle.ptrun.proofs.Common.{is_unopened, CameAt, IsFresh, HasFailed, IsTooLong, TellsAt, Tells, Meaning, named, messages, unopened, Sinks, sinks, Outcome, Cause, EndsAs, IsRun, IsExact, Headline}
 use Rattle.ptrun.proofs.Common.{Checks, WentTo, Went, Finishes, last_words, status_after, IsWithin, PassedOn, KeptUp, saying, ◌+◌, ◌<◌, ◌==◌, is_none, not, nat_le, length-map, All-map, nat_tests}
