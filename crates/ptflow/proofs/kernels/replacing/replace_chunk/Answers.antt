@@ -1,6 +1,6 @@
 -- The ends of a chunk are the bits of its mask, in order; each turn sets the lowest one to the delimiter whose turn it
 -- is.
-use Rattle.ptflow.proofs.Common.{◌≡◌, ◌+◌, arith, unwrap_or, delim_at}
+use Rattle.ptflow.proofs.Common.{◌≡◌, ◌+◌, arith, unwrap_or, delim_at, refl}
 use Rattle.ptflow.proofs.OfBytes.Nths.{replacing_starts, end_within, replacing_more, replacing_ends}
 use Rattle.ptflow.proofs.kernels.replacing.replace_chunk.Goals as goal
 
@@ -19,7 +19,7 @@ loop-end-preserved c =
     let loop = c.loop-end in
     let delim : c.unwrap_or.result ≡ unwrap_or (delim_at c.args.delims.now (c.args.turn.number + loop._end)) c.args.ending = cc in
     record {
-      ends = replacing_more loop.invariant.ends c.marks-marked.ensures c.loop-end-test.true loop.auto.marked-fits.fits delim (cc) (cc);
+      ends = replacing_more loop.invariant.ends c.marks-marked.ensures c.loop-end-test.true loop.auto.marked-fits.fits delim (cc) refl;
       place = cc;
       number = omega (arith, c.next-turn.ensures.number, loop.invariant.number);
     }

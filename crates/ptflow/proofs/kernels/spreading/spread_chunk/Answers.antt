@@ -1,5 +1,6 @@
 -- The ends of a chunk are the bits of its mask, in order; each turn sets the lowest one to the byte whose turn it is.
-use Rattle.ptflow.proofs.Common.{◌≡◌, ◌+◌, ◌<◌, length, slice_index_or, ◌∙◌, ap, arith, unwrap_or, count_ones, chunk, mod-lt, mod-add-mod, length-chunk, count_by-le-length, ones-mask_l, is_byte, delim_at}
+use Rattle.ptflow.proofs.Common.{◌≡◌, ◌+◌, ◌<◌, length, slice_index_or, ◌∙◌, ap, arith, unwrap_or, count_ones, chunk, mod-lt, mod-add-mod, length-chunk, count_by-le-length, ones-mask_l, is_byte}
+use Rattle.ptflow.proofs.Common.{delim_at, refl}
 use Rattle.ptflow.proofs.OfBytes.Nths.{replacing_starts, end_within, replacing_more, replacing_ends}
 use Rattle.ptflow.proofs.kernels.spreading.spread_chunk.Goals as goal
 
@@ -21,7 +22,7 @@ loop-behind-preserved c =
     let low : place < 64 = omega (arith, mod-lt first c.requires.spread.some) in
     let byte : slice_index_or c.args.spread.now (place + n) 0 ≡ unwrap_or (delim_at c.args.turns.now (first + n)) c.args.ending =
     cc (c.requires.spread.at (place + n) (omega arith), mod-add-mod first (length c.args.turns.now) n) in
-    replacing_more loop.invariant c.marks-marked.ensures (omega arith) loop.auto.marked-fits.fits byte (cc) (cc)
+    replacing_more loop.invariant c.marks-marked.ensures (omega arith) loop.auto.marked-fits.fits byte (cc) refl
 
 pub returns-clause-next : goal.returns-clause-next
 returns-clause-next c =

@@ -1,7 +1,7 @@
 -- An interval is walked in two steps: to the start of its first field, and to the end of its last one (`FieldWalks`).
 -- What lies between is one slice, with a delimiter in front of it if it is not the first. A walk that meets the end of
 -- the line leaves no field to come.
-use Rattle.ptflow.proofs.Common.{◌+◌, ◌-◌, ◌≤◌, take, drop, get_or, refl, sym, ◌∙◌, arith, append_assoc, take-take, length-take-le, ◌<◌, length, ap, join_with_byte, is_selected, fields}
+use Rattle.ptflow.proofs.Common.{◌+◌, ◌-◌, ◌≤◌, take, drop, get_or, refl, sym, ◌∙◌, arith, append_assoc, take-take, length-take-le, ◌<◌, length, ap, join_with_byte, is_selected, fields, ◌++◌, ◌≡◌}
 use Rattle.ptflow.proofs.OfCut.FieldPlaces.{rest_of, slice_of, line_with_end, put_byte}
 use Rattle.ptflow.proofs.OfCut.FieldWalks.{not_past, step_fits, slice_fits, coming, all_coming, walking_starts, walking_done, walking_short, walking_ends, walking_slice, walking_more}
 use Rattle.ptflow.proofs.OfBytes.Chosen.{chosen}
@@ -60,15 +60,10 @@ loop-interval-preserved g c =
     let some : 1 ≤ c.in-Some-field_behind.passed = omega (arith, p.count) in
     let within : (from - l.lead) + size ≤ to =
     omega (arith, slice_fits l.invariant.walk s p, some, l.invariant.walk.begun, l.invariant.walk.passed, length-take-le to bytes (omega arith)) in
-    record {
-      put =
-          cc (
-            l.invariant.put,
-            walking_slice all tail i l.invariant.walk c.loop-interval-test.true s p,
-            append_assoc (take l.end l.room) (take size (drop (from - l.lead) line)) more,
-            slice_of (from - l.lead) size bytes within,
-            c.copy_near-in-loop-interval.ensures.copied,
-          );
+    let copied : take l.end l.room ++ take size (drop (from - l.lead) line) ≡ take (l.end + size) c.copy_near-in-loop-interval.new.into =
+    cc (slice_of (from - l.lead) size bytes within) in record {
+      put = l.invariant.put ∙ ap (◌++◌ (take l.end l.room)) (walking_slice all tail i l.invariant.walk c.loop-interval-test.true s p)
+          ∙ sym (append_assoc (take l.end l.room) (take size (drop (from - l.lead) line)) more) ∙ ap (λ b. b ++ more) copied;
       walk = walking_more all tail i l.invariant.walk c.loop-interval-test.true s p;
       known = c.in-Some-field_behind.ensures.start;
       low = omega (arith, l.invariant.low);
