@@ -27,84 +27,68 @@ run_split test (Plain b ∷ us) =
 run_split test (Escaped b ∷ us) = refl
 run_split test (Faulty k ∷ us) = refl
 
-pub with_rest_is : (p q : Part) (o : Option (List SetUnit)) (rest : List SetUnit) → with_rest p o ≡ Some (q, rest) → (p ≡ q) × (o ≡ Some rest)
-with_rest_is p q None rest e = absurd (let no : ⊥ = cc in no)
-with_rest_is p q (Some us) rest e =
-    let both : (p, us) ≡ (q, rest) = cc in
-    (ap (λ (x : Part × List SetUnit). x.0) both, ap (λ (x : Part × List SetUnit). Some x.1) both)
-
--- what two readings in turn find, each of them finds
-some_then : {A B : Type 0} (f : A → Option B) (o : Option A) (y : B) → option_and_then f o ≡ Some y → (x : A) × (o ≡ Some x) × (f x ≡ Some y)
-some_then f None y e = absurd (let no : ⊥ = cc in no)
-some_then f (Some x) y e = (x, refl, e)
-
-opened : {us vs : List SetUnit} {p q : Part} {rest : List SetUnit} → us ≡ vs → q ≡ p → Opens vs q rest → Opens us p rest
-opened {us = us} {vs = vs} {p = p} {q = q} {rest = rest} e f o = subst (λ (r : Part). Opens us r rest) f (subst (λ (xs : List SetUnit). Opens xs q rest) (sym e) o)
-
-Opens-repeat_digits : (u : SetUnit) (v : ℕ) (us : List SetUnit) (p : Part) (rest : List SetUnit) → Means u v → option_and_then (repeat_digits v) (behind 42 us) ≡ Some (p, rest)
-    → Opens (Plain 91 ∷ u ∷ us) p rest
-Opens-repeat_digits u v us p rest m e =
-    let (more, b, e') = some_then (repeat_digits v) (behind 42 us) (p, rest) e in
-    let digits = plain_run is_ascii_digit more in
-    let found = with_rest_is (Repeat v (repeat_count digits)) p (behind 93 (behind_run is_ascii_digit more)) rest e' in
-    let last : behind_run is_ascii_digit more ≡ Plain 93 ∷ rest = behind_is 93 (behind_run is_ascii_digit more) rest found.1 in
-    let all : more ≡ map Plain digits ++ Plain 93 ∷ rest = run_split is_ascii_digit more ∙ ap (λ xs. map Plain digits ++ xs) last in
-    opened (ap (λ xs. Plain 91 ∷ u ∷ xs) (behind_is 42 us more b) ∙ ap (λ xs. Plain 91 ∷ u ∷ Plain 42 ∷ xs) all) found.0
-    (ARepeat u v digits rest m (list_all-plain_run is_ascii_digit more))
-
-pub Opens-repeat : (us : List SetUnit) (p : Part) (rest : List SetUnit) → repeat_at us ≡ Some (p, rest) → Opens (Plain 91 ∷ us) p rest
-Opens-repeat [] p rest e = absurd (let no : ⊥ = cc in no)
-Opens-repeat (Plain b ∷ us) p rest e = Opens-repeat_digits (Plain b) b us p rest (ByItself b) e
-Opens-repeat (Escaped b ∷ us) p rest e = Opens-repeat_digits (Escaped b) b us p rest (ByEscape b) e
-Opens-repeat (Faulty k ∷ us) p rest e = absurd (let no : ⊥ = cc in no)
-
-behind_two_is : (c d : ℕ) (us rest : List SetUnit) → behind_two c d us ≡ Some rest → us ≡ Plain c ∷ Plain d ∷ rest
-behind_two_is c d us rest e =
-    let (more, b, e') = some_then (behind d) (behind c us) rest e in
-    behind_is c us more b ∙ ap (λ xs. Plain c ∷ xs) (behind_is d more rest e')
-
-Opens-class_of : (name : List ℕ) (us : List SetUnit) (p : Part) (rest : List SetUnit) → list_all is_ascii_lowercase name ≡ true → class_of name us ≡ Some (p, rest)
-    → Opens (Plain 91 ∷ Plain 58 ∷ map Plain name ++ us) p rest
-Opens-class_of [] us p rest t e = absurd (let no : ⊥ = cc in no)
-Opens-class_of (c ∷ name) us p rest t e =
-    let found = with_rest_is (Class (class_named (c ∷ name))) p (behind_two 58 93 us) rest e in
-    opened (ap (λ xs. Plain 91 ∷ Plain 58 ∷ map Plain (c ∷ name) ++ xs) (behind_two_is 58 93 us rest found.1)) found.0 (AClass c name rest t)
-
-pub Opens-class : (us : List SetUnit) (p : Part) (rest : List SetUnit) → class_at us ≡ Some (p, rest) → Opens (Plain 91 ∷ us) p rest
-Opens-class us p rest e =
-    let (more, b, e') = some_then class_name (behind 58 us) (p, rest) e in
-    opened (ap (λ xs. Plain 91 ∷ xs) (behind_is 58 us more b) ∙ ap (λ xs. Plain 91 ∷ Plain 58 ∷ xs) (run_split is_ascii_lowercase more)) refl
-    (Opens-class_of (plain_run is_ascii_lowercase more) (behind_run is_ascii_lowercase more) p rest (list_all-plain_run is_ascii_lowercase more) e')
-
-equivalence_opens : (u : SetUnit) (v : ℕ) (us : List SetUnit) (p : Part) (rest : List SetUnit) → Means u v → with_rest (Equivalence v) (behind_two 61 93 us) ≡ Some (p, rest)
-    → Opens (Plain 91 ∷ Plain 61 ∷ u ∷ us) p rest
-equivalence_opens u v us p rest m e =
-    let found = with_rest_is (Equivalence v) p (behind_two 61 93 us) rest e in
-    opened (ap (λ xs. Plain 91 ∷ Plain 61 ∷ u ∷ xs) (behind_two_is 61 93 us rest found.1)) found.0 (AnEquivalence u v rest m)
-
-pub Opens-equivalence : (us : List SetUnit) (p : Part) (rest : List SetUnit) → equivalence_at us ≡ Some (p, rest) → Opens (Plain 91 ∷ us) p rest
-Opens-equivalence us p rest e =
-    let (more, b, e') = some_then equivalence_unit (behind 61 us) (p, rest) e in
-    opened (ap (λ xs. Plain 91 ∷ xs) (behind_is 61 us more b)) refl (by_unit more e')
+-- what holds of no units behind a byte, and of those behind it where it comes first, holds of what is behind it
+behind_both : (Q : List SetUnit → Option (List SetUnit) → Type 0) (c : ℕ) (us : List SetUnit) → ((vs : List SetUnit) → Q vs None) → ((rest : List SetUnit) → Q (Plain c ∷ rest) (Some rest))
+    → Q us (behind c us)
+behind_both Q c us none some = by_behind (behind c us) refl
   where
-    by_unit : (more : List SetUnit) → equivalence_unit more ≡ Some (p, rest) → Opens (Plain 91 ∷ Plain 61 ∷ more) p rest
-    by_unit [] e = absurd (let no : ⊥ = cc in no)
-    by_unit (Plain b ∷ more) e = equivalence_opens (Plain b) b more p rest (ByItself b) e
-    by_unit (Escaped b ∷ more) e = equivalence_opens (Escaped b) b more p rest (ByEscape b) e
-    by_unit (Faulty k ∷ more) e = absurd (let no : ⊥ = cc in no)
+    by_behind : (o : Option (List SetUnit)) → behind c us ≡ o → Q us o
+    by_behind None e = none us
+    by_behind (Some rest) e = subst (λ (xs : List SetUnit). Q xs (Some rest)) (sym (behind_is c us rest e)) (some rest)
 
--- one of two readings finds it
-either : {A P : Type 0} (o q : Option A) (y : A) → option_or o q ≡ Some y → (o ≡ Some y → P) → (q ≡ Some y → P) → P
-either None q y e here there = there e
-either (Some x) q y e here there = here e
+two_both : (Q : List SetUnit → Option (List SetUnit) → Type 0) (c d : ℕ) (us : List SetUnit) → ((vs : List SetUnit) → Q vs None) → ((rest : List SetUnit) → Q (Plain c ∷ Plain d ∷ rest) (Some rest))
+    → Q us (behind_two c d us)
+two_both Q c d us none some =
+    behind_both (λ xs o. Q xs (option_and_then (behind d) o)) c us none (λ rest. behind_both (λ xs o. Q (Plain c ∷ xs) o) d rest (λ vs. none (Plain c ∷ vs)) some)
 
-pub Opens-form_inside : (us : List SetUnit) (p : Part) (rest : List SetUnit) → form_inside us ≡ Some (p, rest) → Opens (Plain 91 ∷ us) p rest
-Opens-form_inside us p rest e =
-    either (repeat_at us) (option_or (class_at us) (equivalence_at us)) (p, rest) e (Opens-repeat us p rest)
-    (λ later. either (class_at us) (equivalence_at us) (p, rest) later (Opens-class us p rest) (Opens-equivalence us p rest))
+-- the units begin with the form that is found
+abbrev Found : List SetUnit → Option (Part × List SetUnit) → Type 0
+Found us None = Unit {0}
+Found us (Some found) = Opens us found.0 found.1
 
-pub Opens-form_at : (us : List SetUnit) (p : Part) (rest : List SetUnit) → form_at us ≡ Some (p, rest) → Opens us p rest
-Opens-form_at us p rest e = let (more, b, e') = some_then form_inside (behind 91 us) (p, rest) e in opened (behind_is 91 us more b) refl (Opens-form_inside more p rest e')
+repeat_found : (u : SetUnit) (v : ℕ) (us : List SetUnit) → Means u v → Found (Plain 91 ∷ u ∷ us) (option_and_then (repeat_digits v) (behind 42 us))
+repeat_found u v us m = behind_both (λ xs o. Found (Plain 91 ∷ u ∷ xs) (option_and_then (repeat_digits v) o)) 42 us (λ vs. tt) (λ more.
+    let run = plain_run is_ascii_digit more in
+    subst (λ (xs : List SetUnit). Found (Plain 91 ∷ u ∷ Plain 42 ∷ xs) (repeat_digits v more)) (sym (run_split is_ascii_digit more))
+    (behind_both (λ xs o. Found (Plain 91 ∷ u ∷ Plain 42 ∷ map Plain run ++ xs) (with_rest (Repeat v (repeat_count run)) o)) 93 (behind_run is_ascii_digit more) (λ vs. tt)
+    (λ rest. ARepeat u v run rest m (list_all-plain_run is_ascii_digit more))))
+
+repeats : (us : List SetUnit) → Found (Plain 91 ∷ us) (repeat_at us)
+repeats [] = tt
+repeats (Plain b ∷ us) = repeat_found (Plain b) b us (ByItself b)
+repeats (Escaped b ∷ us) = repeat_found (Escaped b) b us (ByEscape b)
+repeats (Faulty k ∷ us) = tt
+
+name_found : (name : List ℕ) (us : List SetUnit) → list_all is_ascii_lowercase name ≡ true → Found (Plain 91 ∷ Plain 58 ∷ map Plain name ++ us) (class_of name us)
+name_found [] us t = tt
+name_found (c ∷ name) us t =
+    two_both (λ xs o. Found (Plain 91 ∷ Plain 58 ∷ map Plain (c ∷ name) ++ xs) (with_rest (Class (class_named (c ∷ name))) o)) 58 93 us (λ vs. tt) (λ rest. AClass c name rest t)
+
+classes : (us : List SetUnit) → Found (Plain 91 ∷ us) (class_at us)
+classes us = behind_both (λ xs o. Found (Plain 91 ∷ xs) (option_and_then class_name o)) 58 us (λ vs. tt)
+    (λ more. subst (λ (xs : List SetUnit). Found (Plain 91 ∷ Plain 58 ∷ xs) (class_name more)) (sym (run_split is_ascii_lowercase more))
+    (name_found (plain_run is_ascii_lowercase more) (behind_run is_ascii_lowercase more) (list_all-plain_run is_ascii_lowercase more)))
+
+equivalence_found : (u : SetUnit) (v : ℕ) (us : List SetUnit) → Means u v → Found (Plain 91 ∷ Plain 61 ∷ u ∷ us) (with_rest (Equivalence v) (behind_two 61 93 us))
+equivalence_found u v us m = two_both (λ xs o. Found (Plain 91 ∷ Plain 61 ∷ u ∷ xs) (with_rest (Equivalence v) o)) 61 93 us (λ vs. tt) (λ rest. AnEquivalence u v rest m)
+
+equivalences : (us : List SetUnit) → Found (Plain 91 ∷ us) (equivalence_at us)
+equivalences us = behind_both (λ xs o. Found (Plain 91 ∷ xs) (option_and_then equivalence_unit o)) 61 us (λ vs. tt) by_unit
+  where
+    by_unit : (more : List SetUnit) → Found (Plain 91 ∷ Plain 61 ∷ more) (equivalence_unit more)
+    by_unit [] = tt
+    by_unit (Plain b ∷ more) = equivalence_found (Plain b) b more (ByItself b)
+    by_unit (Escaped b ∷ more) = equivalence_found (Escaped b) b more (ByEscape b)
+    by_unit (Faulty k ∷ more) = tt
+
+either : (us : List SetUnit) (o q : Option (Part × List SetUnit)) → Found us o → Found us q → Found us (option_or o q)
+either us None q here there = there
+either us (Some found) q here there = here
+
+forms : (us : List SetUnit) → Found us (form_at us)
+forms us = behind_both (λ xs o. Found xs (option_and_then form_inside o)) 91 us (λ vs. tt)
+    (λ more. either (Plain 91 ∷ more) (repeat_at more) (option_or (class_at more) (equivalence_at more)) (repeats more)
+    (either (Plain 91 ∷ more) (class_at more) (equivalence_at more) (classes more) (equivalences more)))
 
 -- ---- from the grammar to what is computed
 
@@ -138,7 +122,7 @@ form_at-unless us n = by_form (form_at us) refl
   where
     by_form : (o : Option (Part × List SetUnit)) → form_at us ≡ o → o ≡ None
     by_form None e = refl
-    by_form (Some found) e = absurd (n (found.0, found.1, Opens-form_at us found.0 found.1 e))
+    by_form (Some found) e = absurd (n (found.0, found.1, subst (Found us) e (forms us)))
 
 -- ---- the part in front
 
@@ -177,7 +161,7 @@ judged u us r e = subst (Judged (u ∷ us)) e (by_form (form_at (u ∷ us)) refl
   where
     by_form : (o : Option (Part × List SetUnit)) → form_at (u ∷ us) ≡ o → Judged (u ∷ us) (or_unit o u us)
     by_form None f = unit_judged u us (form_at-none (u ∷ us) f)
-    by_form (Some found) f = InBrackets (u ∷ us) found.0 found.1 (Opens-form_at (u ∷ us) found.0 found.1 f)
+    by_form (Some found) f = InBrackets (u ∷ us) found.0 found.1 (subst (Found (u ∷ us)) f (forms (u ∷ us)))
 
 first_part-found : (us : List SetUnit) (p : Part) (rest : List SetUnit) → form_at us ≡ Some (p, rest) → first_part us ≡ Ok (p, rest)
 first_part-found [] p rest e = absurd (let no : ⊥ = cc in no)
