@@ -6,5 +6,6 @@ pub returns-in-None-clause-wrote : goal.returns-in-None-clause-wrote
 returns-in-None-clause-wrote g c =
     rw (
       append-nil c.args.line.now,
-      first_is (join_job c.args.job.now) c.args.key.now c.in-None.is (c.stands_as_written.ensures c.if-stands_as_written.true) c.requires.keyed,
+      first_is (join_job c.args.job.now) c.args.key.now c.in-None.is
+          (c.stands_as_written.ensures c.if-stands_as_written.true) c.requires.keyed,
     ) at c.push_line.ensures.wrote
