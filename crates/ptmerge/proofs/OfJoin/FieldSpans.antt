@@ -1,9 +1,9 @@
 -- The fields of a line, one after another, where they stand in it, and what is written of them; and which lanes of a
 -- line are blanks, or make its words untidy.
 use Rattle.std.proofs.lemmas.Bool.{false_from_ne_true}
-use Rattle.ptmerge.proofs.Common.{drop_more, length-drop, length-append, ◌≡◌, ℕ, suc, ◌+◌, ◌-◌, ◌≤◌, Bool, true, false, ltb, List, [], ◌∷◌, Option, None, Some, length, drop, get_or, refl, sym, ◌∙◌}
-use Rattle.ptmerge.proofs.Common.{ap, arith, zero, ◌<◌, ◌==◌, cond, ◌++◌, take, append_assoc, position, IfSome, MatchOption, filter, is_some, position_or_len, slice_split, nat_tests, drop-drop}
-use Rattle.ptmerge.proofs.Common.{drop_all, get_or_past, take-append-drop, take_all, position_or_len_is, IsFirstByte, nth_field, has_bytes, is_blank, Lines, false≢true, split_around, split_whole}
+use Rattle.ptmerge.proofs.Common.{nil_from_length, drop_more, length-drop, length-append, ◌≡◌, ℕ, suc, ◌+◌, ◌-◌, ◌≤◌, Bool, true, false, ltb, List, [], ◌∷◌, Option, None, Some, length, drop, get_or}
+use Rattle.ptmerge.proofs.Common.{refl, sym, ◌∙◌, ap, arith, zero, ◌<◌, ◌==◌, cond, ◌++◌, take, append_assoc, position, IfSome, MatchOption, filter, is_some, position_or_len, slice_split, nat_tests}
+use Rattle.ptmerge.proofs.Common.{drop-drop, get_or_past, take-append-drop, take_all, position_or_len_is, IsFirstByte, nth_field, has_bytes, is_blank, Lines, false≢true, split_around, split_whole}
 use Rattle.ptmerge.proofs.Common.{EndsFirst, IsFieldIn, IsPiece, ends_field, fields_left, IsSpan, ◌||◌, ◌&&◌, map, remove, unwrap_or, onto_first, join_with_byte, eqb-true, drop-append_seam}
 use Rattle.ptmerge.proofs.Common.{append-nil, flat_map-append, Join, Output, Wrote, between, entry, fields, filled, named, others, written, IsAsWritten, is_tidy, led, ⊎_elim, ◌%◌, ◌^◌, eqb, not}
 use Rattle.ptmerge.proofs.Common.{replicate, bit_and, bit_or, or_cases, or_left, or_parts, or_right, length-map, Nowhere, IsEven, UnevenAt, is_uneven}
@@ -29,11 +29,8 @@ found_at test bytes (Some at) first =
 
 -- ---- the field of a number
 
-pub nth_none : (n : ℕ) (fs : Lines) → drop (n - 1) fs ≡ [] → nth_field n fs ≡ []
-nth_none n fs none = get_or_past fs (n - 1) [] (omega (arith, ap length none, length-drop (n - 1) fs))
-
-pub dropped_none : (fs : Lines) (i k : ℕ) → drop i fs ≡ [] → i ≤ k → drop k fs ≡ []
-dropped_none fs i k none le = drop_all k fs (omega (arith, ap length none, length-drop i fs, le))
+pub nth_past : (n i : ℕ) (fs : Lines) → drop i fs ≡ [] → i ≤ n - 1 → nth_field n fs ≡ []
+nth_past n i fs none le = get_or_past fs (n - 1) [] (omega (arith, ap length none, length-drop i fs, le))
 
 pub dropped_more : (fs more : Lines) (f : List ℕ) (i : ℕ) → drop i fs ≡ f ∷ more → drop (i + 1) fs ≡ more
 dropped_more fs more f i some = sym (drop-drop 1 i fs) ∙ ap (drop 1) some
@@ -122,8 +119,7 @@ span_none line bytes none = record { ordered = omega arith; within = omega arith
 -- ---- a word of no bytes is passed over
 
 empty_word : (field : List ℕ) → (length field == 0) ≡ true → has_bytes field ≡ false
-empty_word [] h = refl
-empty_word (x ∷ xs) h = let none : suc (length xs) ≡ 0 = eqb-true (suc (length xs)) 0 h in absurd (omega (arith, none))
+empty_word field empty = rw (nil_from_length field (eqb-true (length field) 0 empty)) refl
 
 word_dropped : (field : List ℕ) (fs : List (List ℕ)) → has_bytes field ≡ false → filter has_bytes (field ∷ fs) ≡ filter has_bytes fs
 word_dropped field fs none = ap (λ (t : Bool). cond t (field ∷ filter has_bytes fs) (filter has_bytes fs)) none
@@ -280,16 +276,16 @@ lanes_of v n byte = zip2 (λ a b. cond (eqb a b) 255 0) v (replicate n byte)
 
 -- ---- blanks
 
-blank_lane : (p q : Bool) → top 7 (bit_or (cond p 255 0) (cond q 255 0)) ≡ (p || q)
-blank_lane true true = refl
-blank_lane true false = refl
-blank_lane false true = refl
-blank_lane false false = refl
+or_lane : (p q : Bool) → top 7 (bit_or (cond p 255 0) (cond q 255 0)) ≡ (p || q)
+or_lane true true = refl
+or_lane true false = refl
+or_lane false true = refl
+or_lane false false = refl
 
 blank_lanes : (v : List ℕ) (n : ℕ) → length v ≡ n → map (top 7) (zip2 bit_or (lanes_of v n 32) (lanes_of v n 9)) ≡ map is_blank v
 blank_lanes [] n long = refl
 blank_lanes (b ∷ v) zero long = absurd (omega (arith, long))
-blank_lanes (b ∷ v) (suc n) long = λ i. blank_lane (eqb b 32) (eqb b 9) i ∷ blank_lanes v n (omega (arith, long)) i
+blank_lanes (b ∷ v) (suc n) long = λ i. or_lane (eqb b 32) (eqb b 9) i ∷ blank_lanes v n (omega (arith, long)) i
 
 pub blank_mask : (bytes : List ℕ) (at n : ℕ) → at + n ≤ length bytes → n ≤ 64
     → mask_l (map (top 7) (zip2 bit_or (lanes_of (chunk at n bytes) n 32) (lanes_of (chunk at n bytes) n 9))) % 2 ^ 64 ≡ mask_l (map is_blank (chunk at n bytes))
@@ -300,19 +296,17 @@ blank_mask bytes at n within few =
 
 -- ---- a tab, or a space behind another one
 
-uneven_lane : (t p q : Bool) → top 7 (bit_or (cond t 255 0) (bit_and (cond p 255 0) (cond q 255 0))) ≡ (t || (p && q))
-uneven_lane true true true = refl
-uneven_lane true true false = refl
-uneven_lane true false true = refl
-uneven_lane true false false = refl
-uneven_lane false true true = refl
-uneven_lane false true false = refl
-uneven_lane false false true = refl
-uneven_lane false false false = refl
+and_lane : (p q : Bool) → bit_and (cond p 255 0) (cond q 255 0) ≡ cond (p && q) 255 0
+and_lane true true = refl
+and_lane true false = refl
+and_lane false true = refl
+and_lane false false = refl
 
 uneven_lanes : (u v : List ℕ) (n : ℕ) → length u ≡ n → length v ≡ n → map (top 7) (zip2 bit_or (lanes_of v n 9) (zip2 bit_and (lanes_of u n 32) (lanes_of v n 32))) ≡ zip2 is_uneven u v
 uneven_lanes [] [] n lu lv = refl
-uneven_lanes (a ∷ u) (b ∷ v) (suc n) lu lv = λ i. uneven_lane (eqb b 9) (eqb a 32) (eqb b 32) i ∷ uneven_lanes u v n (omega (arith, lu)) (omega (arith, lv)) i
+uneven_lanes (a ∷ u) (b ∷ v) (suc n) lu lv =
+    let lane = ap (λ (x : ℕ). top 7 (bit_or (cond (eqb b 9) 255 0) x)) (and_lane (eqb a 32) (eqb b 32)) ∙ or_lane (eqb b 9) (eqb a 32 && eqb b 32) in
+    λ i. lane i ∷ uneven_lanes u v n (omega (arith, lu)) (omega (arith, lv)) i
 uneven_lanes u v n lu lv = absurd (omega (arith, lu, lv))
 
 none_set : (ms : List Bool) → mask_l ms ≡ 0 → (k : ℕ) → get_or ms k false ≡ false
@@ -416,8 +410,7 @@ space_last (b ∷ xs) some word last =
     (λ is. false≢true (sym (rest_tidy b xs is).1 ∙ ap (λ (i : ℕ). get_or (b ∷ xs) i 0 == 32) (sym end) ∙ ap (λ (x : ℕ). x == 32) last)))
 
 pub empty_untidy : (bytes : List ℕ) → (length bytes == 0) ≡ true → false ≡ is_tidy true bytes
-empty_untidy [] empty = refl
-empty_untidy (b ∷ xs) empty = let none : suc (length xs) ≡ 0 = eqb-true (suc (length xs)) 0 empty in absurd (omega (arith, none))
+empty_untidy bytes empty = rw (nil_from_length bytes (eqb-true (length bytes) 0 empty)) refl
 
 -- where a part is not even, the whole is not
 pub part_uneven : (bytes : List ℕ) (from to : ℕ) {at end : ℕ} {part all : Bool} → IsEven bytes at end part → part ≡ false → all ≡ false → from ≤ at → end ≤ to → IsEven bytes from to all
