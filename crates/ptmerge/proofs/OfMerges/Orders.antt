@@ -1,13 +1,10 @@
 -- What follows from the laws of an order of keys: the entries of a least key come first, and then those of the lines of
 -- other keys.
 use Rattle.ptmerge.proofs.Common.{◌≡◌, ◌⊎◌, ⊎_elim, inl, inr, ℕ, List, Bool, true, false, refl, sym, ◌∙◌, ap, arith, bytes_eq, Ordering, Less, Equal, Greater, is_eq, is_gt, is_le, ordering_reverse}
-use Rattle.ptmerge.proofs.Common.{bytes_decides, back_total, nat_list_cmp_total, tied_itself, upto, Cmp, byte_cmp, line_cmp}
+use Rattle.ptmerge.proofs.Common.{bytes_decides, back_total, nat_list_cmp_total, tied_itself, upto, Cmp, byte_cmp, line_cmp, ◌<◌, length, get_or, suc, zero, [], ◌∷◌, ◌++◌, cond, map, append_assoc}
+use Rattle.ptmerge.proofs.Common.{append-nil, filter, flat_map, Side, First, Second, Lines, Tool, insert_key, distinct, keys, with_key, entries_of, by_keys, Key, map-append}
 use Rattle.std.specs.Cmp.{IsTotalOrder}
 use Rattle.ptmerge.specs.Exact.{same_back, same_bytes}
-use Rattle.ptmerge.proofs.Common.{◌≡◌, ◌⊎◌, inl, inr, ℕ, ◌<◌, arith, length, get_or, suc, zero, List, [], ◌∷◌, ◌++◌, Bool, true, false, cond, refl, ap, sym, ◌∙◌, map, append_assoc, append-nil, filter}
-use Rattle.ptmerge.proofs.Common.{bytes_eq, flat_map, Greater, bytes_decides, Side, First, Second, Lines, Tool, insert_key, distinct, keys, with_key, entries_of, by_keys, Cmp, Key, tied_itself}
-use Rattle.ptmerge.proofs.Common.{map-append}
-use Rattle.ptmerge.proofs.OfMerges.Orders.{IsKeyOrder, AtMost, Above, least_or_above, above_not_same, greater_flips, not_same, self_at_most}
 
 pub record IsKeyOrder (cmp : Cmp) : Type 0 where
   pub total : IsTotalOrder cmp

@@ -3,19 +3,14 @@
 use Rattle.ptmerge.proofs.Common.{◌≡◌, ◌≢◌, ⊎_elim, inl, inr, ℕ, ◌+◌, ◌≤◌, true, false, List, [], ◌∷◌, ◌++◌, Option, Some, None, Err, length, refl, sym, ◌∙◌, arith, is_lt, is_le, false≢true}
 use Rattle.ptmerge.proofs.Common.{append-nil, Output, Wrote, Reader, Reads, IsDone, IsSound, Slots, line, with_line, text, IsLine, wrote_nothing, MergeFault, Read, Memory, Side, First, Second, Sorted}
 use Rattle.ptmerge.proofs.Common.{Stand, Head, Ended, Disorder, Lines, Tool, Fall, by_keys, disorder_of, fall, with_key, State, IsMerge, Cmp, Key, CannotRead, Comes, HasSlots, slot_of, put, other}
-use Rattle.ptmerge.proofs.Common.{GoesBefore, IsDecided, IsNamed, last_key, ap, ◌⊎◌, ◌*◌, max, length-set, total, longest, Write, IsReady, IsUnwritten, PassesLine, both, IsPlaced, Adds}
+use Rattle.ptmerge.proofs.Common.{GoesBefore, IsDecided, IsNamed, last_key, ap, ◌⊎◌, ◌*◌, max, length-set, total, longest, Write, IsReady, IsUnwritten, PassesLine, both, IsPlaced, Adds, ◌<◌, Result}
+use Rattle.ptmerge.proofs.Common.{budget, IsLent, subst, wrote_trans, ◌&&◌, cond, nat_lt, Ordering, is_eq, is_gt, nat_tests, length_push, IsKept, same_at, stand_at, IsNoted}
 use Rattle.ptmerge.proofs.OfMerges.Passing.{Bound, From, Fallen, Over, Coming, Falling, FallFrom, Under, Begun, IsFront, Late, Merging, StopsAt, front_line, late_none, not_below, pass_front, settles}
 use Rattle.ptmerge.proofs.OfMerges.Passing.{all_keys, none_wanted}
 use Rattle.ptmerge.proofs.OfMerges.Orders.{EachKey, EachKey-weaker, with_key-above, IsKeyOrder, Above, above_at_most, above_up, greater_flips, is_greater}
-use Rattle.ptmerge.proofs.OfMerges.Slotted.{put_both, put_each, put_other, put_same, side_case, line_other, Keeps, has_lines_total, keeps_line}
-use Rattle.ptmerge.proofs.OfMerges.Stopping.{Sided, Stands, Next, Passed, goes_next, passed, sided_keeps, Fails, Fits, Gone, state, stops, FitsIn, gone_passed, gone_standing}
+use Rattle.ptmerge.proofs.OfMerges.Slotted.{put_both, put_each, put_other, put_same, side_case, line_other, Keeps, has_lines_total, keeps_line, line_added}
+use Rattle.ptmerge.proofs.OfMerges.Stopping.{Sided, Stands, Next, Passed, goes_next, passed, sided_keeps, Fails, Fits, Gone, state, stops, FitsIn, gone_passed, gone_standing, alive, comes_less}
 use Rattle.ptmerge.proofs.OfMerges.Got.{reads_nothing}
-use Rattle.ptmerge.proofs.Common.{◌≡◌, ℕ, ◌+◌, ◌<◌, Result, Err, refl, sym, ◌∙◌, ap, arith, Reader, budget, Slots, Side, First, Second, Sorted, Head, Cmp, Key, Comes, both, put, other, IsLent, false}
-use Rattle.ptmerge.proofs.Common.{List, [], subst, append-nil, Output, Wrote, wrote_trans, ◌≤◌, ◌&&◌, true, cond, length, nat_lt, Ordering, is_eq, is_gt, nat_tests, length-set, length_push, line}
-use Rattle.ptmerge.proofs.Common.{IsKept, Disorder, same_at, stand_at, IsNoted, IsPlaced, ⊎_elim}
-use Rattle.ptmerge.proofs.OfMerges.Stopping.{alive, comes_less}
-use Rattle.ptmerge.proofs.OfMerges.Slotted.{line_added, line_other, put_other, put_same, side_case}
-use Rattle.ptmerge.proofs.OfMerges.Turning.{own_slots}
 
 -- ---- slots
 
