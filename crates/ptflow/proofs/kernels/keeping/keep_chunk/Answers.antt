@@ -1,4 +1,4 @@
-use Rattle.ptflow.proofs.Common.{ℕ, ◌∙◌, not, take, map, arith, chunk, length-chunk, length-map, holds, ◌+◌, ap, w8, cast_unsigned}
+use Rattle.ptflow.proofs.Common.{ℕ, ◌∙◌, not, take, map, arith, chunk, length-chunk, length-map, holds, ◌+◌, ap, ◌++◌, sym}
 use Rattle.ptflow.proofs.OfBytes.LaneLemmas.{lanes_of_mask, none_of_four, all_kept_in_four, kept_in_four}
 use Rattle.ptflow.proofs.kernels.keeping.keep_chunk.Goals as goal
 
@@ -10,9 +10,8 @@ returns-then-gone-eq0-clause-kept c =
     let lanes = λ (k : ℕ). lanes_of_mask test (chunk k 16 from) in
     let none = none_of_four (λ k. map test (chunk k 16 from)) at
     (λ k low high. length-map (chunk k 16 from) test ∙ length-chunk k 16 from (omega (arith, c.requires.lanes)))
-    (ap (map (cast_unsigned w8)) c.test.ensures ∙ lanes at) (ap (map (cast_unsigned w8)) c.test-2.ensures ∙ lanes (at + 16))
-    (ap (map (cast_unsigned w8)) c.test-3.ensures ∙ lanes (at + 32)) (ap (map (cast_unsigned w8)) c.test-4.ensures ∙ lanes (at + 48)) c.if-gone-eq0.true in
-    cc (all_kept_in_four test at from none)
+    (cc (lanes at)) (cc (lanes (at + 16))) (cc (lanes (at + 32))) (cc (lanes (at + 48))) c.if-gone-eq0.true in
+    c.put_chunk.ensures.put ∙ ap (◌++◌ (take c.args.count c.args.into.now)) (sym (all_kept_in_four test at from none))
 
 pub returns-clause-kept : goal.returns-clause-kept
 returns-clause-kept c =
