@@ -144,10 +144,10 @@ unfolding all_bytes
 others_below-all bytes n e = ap (others_below bytes) e
 
 -- one more byte, by whether it stands in the array
-pub complement-step : (start old new : Places) (b i : ℕ) (t : Bool) → b < 256 → i ≡ b → is_some (get_or start.last i None) ≡ t
+pub complement-step : (start : Places) {old new : Places} {b i : ℕ} (t : Bool) → i ≡ b → b < 256 → is_some (get_or start.last i None) ≡ t
     → ((bytes : List ℕ) → start ≡ places_of bytes → old ≡ places_of (others_below bytes b)) → Puts old new (cond t [] (b ∷ []))
     → (bytes : List ℕ) → start ≡ places_of bytes → new ≡ places_of (others_below bytes (b + 1))
-complement-step start old new b i t h j s old_is puts bytes e =
+complement-step start {b = b} t j h s old_is puts bytes e =
     let stands : has_byte b bytes ≡ t = sym (is_some-last start bytes b None h e) ∙ ap (λ k. is_some (get_or start.last k None)) (sym j) ∙ s in
     puts (others_below bytes b) (old_is bytes e) ∙ ap places_of (sym (others_below-more bytes b t stands))
 

@@ -10,19 +10,15 @@ loop-byte-preserved c = record {
     | else-is_none w ↦ omega (arith, ap (λ (p : Places). p.length) w.others-is)
   ];
   places = λ bytes e. elim c.if-is_none.branch [
-    | then-is_none w ↦ w.others-is ∙ complement-step c.args.self.now c.loop-byte.others w.push.new.self c.loop-byte.byte c.from.result false
-        (omega arith) c.from.ensures w.if-is_none.ensures c.loop-byte.invariant.places w.push.ensures.places bytes e
-    | else-is_none w ↦ w.others-is ∙ complement-step c.args.self.now c.loop-byte.others c.loop-byte.others c.loop-byte.byte c.from.result true
-        (omega arith) c.from.ensures w.if-is_none.ensures c.loop-byte.invariant.places (Puts-none c.loop-byte.others) bytes e
+    | then-is_none w ↦ w.others-is ∙ complement-step c.args.self.now false c.from.ensures (omega arith) w.if-is_none.ensures c.loop-byte.invariant.places w.push.ensures.places bytes e
+    | else-is_none w ↦ w.others-is ∙ complement-step c.args.self.now true c.from.ensures (omega arith) w.if-is_none.ensures c.loop-byte.invariant.places (Puts-none c.loop-byte.others) bytes e
   ];
 }
 
 others_last : (c : goal.Else-byte-lt255) (bytes : List ℕ) → c.args.self.now ≡ places_of bytes → c.if-is_none.others ≡ places_of (others_below bytes (c.loop-byte.byte + 1))
 others_last c bytes e = elim c.if-is_none.branch [
-  | then-is_none w ↦ w.others-is ∙ complement-step c.args.self.now c.loop-byte.others w.push.new.self c.loop-byte.byte c.from.result false
-      (omega arith) c.from.ensures w.if-is_none.ensures c.loop-byte.invariant.places w.push.ensures.places bytes e
-  | else-is_none w ↦ w.others-is ∙ complement-step c.args.self.now c.loop-byte.others c.loop-byte.others c.loop-byte.byte c.from.result true
-      (omega arith) c.from.ensures w.if-is_none.ensures c.loop-byte.invariant.places (Puts-none c.loop-byte.others) bytes e
+  | then-is_none w ↦ w.others-is ∙ complement-step c.args.self.now false c.from.ensures (omega arith) w.if-is_none.ensures c.loop-byte.invariant.places w.push.ensures.places bytes e
+  | else-is_none w ↦ w.others-is ∙ complement-step c.args.self.now true c.from.ensures (omega arith) w.if-is_none.ensures c.loop-byte.invariant.places (Puts-none c.loop-byte.others) bytes e
 ]
 
 pub returns-after-is_none-clause-places : goal.returns-after-is_none-clause-places
