@@ -5,7 +5,7 @@ use Rattle.ptmerge.proofs.Common.{Key, Output, Wrote, Reader, IsSound, Slots, li
 use Rattle.ptmerge.proofs.Common.{seen, HasSlots, both, put, AreEqual, CannotStart, IsAlone, IsDecided, IsLent, IsPlaced, Starts, inputs, IsCleared, Some, ◌⊎◌, Reads, total, IsLine, longest}
 use Rattle.ptmerge.proofs.Common.{wrote_nothing, Write, Ends, other}
 use Rattle.ptmerge.proofs.OfMerges.Turning.{readable_of, same_state, slots_of, unfailed_of, wrote_as, breaks_slots, IsLineByLine, alone, BothStand, ahead, all_ended, breaks, merging_on, next_at}
-use Rattle.ptmerge.proofs.OfMerges.Turning.{pass_one, sides_on, stops_at, IsAbove, left, less, lent_on, place_is}
+use Rattle.ptmerge.proofs.OfMerges.Turning.{IsOpened as Opened, pass_one, sides_on, stops_at, IsAbove, left, less, lent_on, place_is}
 use Rattle.std.specs.List.{flat_map}
 use Rattle.ptmerge.proofs.OfJoin.GroupTurns.{IsPairing, head_of, Call, NotPassed, moved, GoneOf, fits_kept, not_failed, peak_line, Grouped}
 use Rattle.ptmerge.proofs.OfMerges.Passing.{all_keys, Bound, From, Late, Merging, late_none}
