@@ -93,7 +93,7 @@ def main():
     crates = [it for it in uses if it == PROGRAM or it in below(PROGRAM, uses)]
     began = time.monotonic()
     say(
-        f"proving {len(crates)} crates and building the program. From nothing that takes 10 to 15 minutes on four "
+        f"proving {len(crates)} crates and building the program. From nothing that takes 12 to 18 minutes on four "
         "processors; what was proved on this machine is not proved again."
     )
     with tempfile.TemporaryDirectory(prefix="ptext-") as room:
