@@ -34,7 +34,7 @@ tar -xzf "$room/one/ptext-$version-linux-x86_64.tar.gz" -C "$room/program" --str
 is "the source has its parts" yes "$(cd "$room/source" && [ -s Makefile ] && [ -s crates.txt ] && [ -s crates/ptext/src/main.rt ] && echo yes)"
 is "the source has nothing that was built" "" "$(cd "$room/source" && find . -name '*.rlib' -o -name build)"
 is "the program of the archive" acd "$(echo abcd | "$room/program/bin/ptext" cut -c 3-,1)"
-is "its parts" "CHANGELOG.md CONTRIBUTING.md LICENSE-APACHE LICENSE-MIT README.md bench bin docs share" \
+is "its parts" "CHANGELOG.md CONTRIBUTING.md LICENSE-APACHE LICENSE-MIT NOTICES README.md bench bin docs share" \
     "$(ls "$room/program" | sort | tr '\n' ' ' | sed 's/ $//')"
 for page in $(grep -o '\(docs\|bench\)/[A-Za-z]*[.][a-z]*' "$room/program/README.md" | sort -u); do
     is "$page, which its README names" yes "$([ -s "$room/program/$page" ] && echo yes)"

@@ -18,6 +18,8 @@ import tempfile
 
 sys.dont_write_bytecode = True
 
+from build import PROGRAM, below
+from check import uses_of
 from install import TOP, bytes_of, files, script, stripped
 from names import LISTED, NAMES
 
@@ -69,6 +71,19 @@ def texts():
     return [(it, 0o644, bytes_of(f"{TOP}/{it}")) for it in read]
 
 
+def notices():
+    """The licenses of the toolchain's libraries whose code is in the program, as the toolchain has them."""
+    uses = uses_of(bytes_of(f"{TOP}/crates.txt").decode())
+    crates = below(PROGRAM, uses) | {PROGRAM}
+    libraries = sorted({it for crate in crates for it in uses[crate]} - set(uses))
+    bin_folder = os.path.dirname(os.path.realpath(shutil.which("rt") or "/opt/rattle/bin/rt"))
+    text = f"ptext contains code of {', '.join(libraries)}, under these licenses.\n"
+    for library in libraries:
+        known = [f"{bin_folder}/../rattle/{library}/{name}" for name in ("LICENSE-MIT", "LICENSE")]
+        text += f"\n---- {library}\n\n{bytes_of(next(filter(os.path.isfile, known))).decode()}"
+    return ("NOTICES", 0o644, text.encode())
+
+
 def archives(folder):
     named = f"ptext-{VERSION}"
     archive(
@@ -78,7 +93,7 @@ def archives(folder):
     )
     built = f"{named}-linux-x86_64"
     licenses = [(it, 0o644, bytes_of(f"{TOP}/{it}")) for it in LICENSES]
-    archive(f"{folder}/{built}.tar.gz", built, [*files("", False), *texts(), *licenses])
+    archive(f"{folder}/{built}.tar.gz", built, [*files("", False), *texts(), *licenses, notices()])
     sums = [f"{hashlib.sha256(bytes_of(f'{folder}/{it}.tar.gz')).hexdigest()}  {it}.tar.gz\n" for it in (named, built)]
     with open(f"{folder}/SHA256SUMS", "w", encoding="ascii") as it:
         it.write("".join(sums))
@@ -150,7 +165,7 @@ def package_files():
         ["date", "-u", "-R", "-d", f"@{TIME}"], check=True, capture_output=True
     )
     found.append((f"{about}/changelog.gz", 0o644, packed(bytes_of(f"{TOP}/CHANGELOG.md"))))
-    found += [(f"{about}/{name}", mode, text) for name, mode, text in texts() if name != "CHANGELOG.md"]
+    found += [(f"{about}/{name}", mode, text) for name, mode, text in [*texts(), notices()] if name != "CHANGELOG.md"]
     changes = CHANGES.format(version=VERSION, date=date.stdout.decode().strip())
     found.append((f"{about}/changelog.Debian.gz", 0o644, packed(changes.encode())))
     mit = bytes_of(f"{TOP}/LICENSE-MIT").decode().partition("\n\n")[2].partition("\n\n")[2]
