@@ -94,7 +94,7 @@ def main():
     began = time.monotonic()
     say(
         f"proving {len(crates)} crates and building the program. From nothing that takes 12 to 18 minutes on four "
-        "processors; what was proved on this machine is not proved again."
+        "processors, and the first crate 3 of them; what was proved on this machine is not proved again."
     )
     with tempfile.TemporaryDirectory(prefix="ptext-") as room:
         bring(crates, uses, room)
