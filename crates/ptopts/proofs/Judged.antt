@@ -3,14 +3,12 @@ use Rattle.ptopts.proofs.Common.{◌≡◌, ℕ, List, [], ◌∷◌, Option, So
 use Rattle.ptopts.proofs.Common.{operands_fault, strings_fault, Job, job, inputs, output, judged, unless, command, meaning, meaning_for, beside, AreInputs, ReadsWords}
 use Rattle.ptopts.specs.declared.inputs.Inputs.{Inputs}
 
-pub judged_ok : {A : Type 0} (os : List GivenOption) (operands : List (List ℕ)) (i : Inputs A) {tool named : Tool} {told : Job} → tool ≡ named
-    → values_fault named os ≡ None → operands_fault tool os operands ≡ None → strings_fault named os operands ≡ None
-    → job named os operands ≡ told → AreInputs (inputs tool operands) (output tool operands) i
+pub judged_ok : {A : Type 0} (tool : Tool) (os : List GivenOption) (operands : List (List ℕ)) (i : Inputs A) {told : Job}
+    → values_fault tool os ≡ None → operands_fault tool os operands ≡ None → strings_fault tool os operands ≡ None
+    → job tool os operands ≡ told → AreInputs (inputs tool operands) (output tool operands) i
     → judged tool os operands ≡ Ok (beside told i)
-judged_ok os operands i {tool} {named} {told} is values number strings same are =
-    let number' : operands_fault named os operands ≡ None = rw is at number in
-    let are' : AreInputs (inputs named operands) (output named operands) i = rw is at are in
-    rw (is, values, number', strings) (ap Ok (sym (are' (job named os operands)) ∙ ap (λ (j : Job). beside j i) same))
+judged_ok tool os operands i values number strings same are =
+    rw (values, number, strings) (ap Ok (sym (are (job tool os operands)) ∙ ap (λ (j : Job). beside j i) same))
 
 judged_is : (tool : Tool) (os os' : List GivenOption) (operands operands' : List (List ℕ)) (read : Option Fault)
     → os ≡ os' → operands ≡ operands' → read ≡ None → combination_fault tool os ≡ None

@@ -6,18 +6,25 @@ ghost use Rattle.ptopts.specs.Commands.{judged, meaning, inputs, output};
 ghost use Rattle.ptopts.specs.Meant.{words_seen, seen, IsMeant, NamesTool};
 ghost use Rattle.ptopts.specs.Steps.{FindsUnlessRefused, AreInputs, options_seen};
 
+mod comm;
+mod cut;
+mod join;
+mod paste;
+mod tr;
+mod uniq;
+
 use crate::combinations::check_combinations;
+use crate::command::comm::comm_command;
+use crate::command::cut::cut_command;
+use crate::command::join::join_command;
+use crate::command::paste::paste_command;
+use crate::command::tr::tr_command;
+use crate::command::uniq::uniq_command;
 use crate::fault::UseFault;
 use crate::inputs::Inputs;
 use crate::operands::{check_operands, is_standard};
 use crate::reading::{GivenOption, Reading, read_words};
 use crate::tool::Tool;
-use crate::values::comm::comm_job;
-use crate::values::cut::cut_job;
-use crate::values::join::join_job;
-use crate::values::paste::paste_job;
-use crate::values::tr::char_plan;
-use crate::values::uniq::uniq_job;
 use ptlangs::CharPlan;
 use ptlangs::jobs::{CommJob, CutJob, JoinJob, PasteJob, UniqJob};
 use std::alloc::{AllocError, Allocator, Global};
@@ -108,35 +115,17 @@ fn read_command<'a, A: Allocator + Copy>(
     ensures { IsMeant result (judged tool (options_seen options.now) (words_seen operands.now)) }
 {
     match tool {
-        Tool::Cut => {
-            let job = cut_job(alloc, options)?;
-            Ok(Command::Cut(job, read_inputs(alloc, tool, options, operands)?))
-        }
-        Tool::Paste => {
-            let job = paste_job(alloc, options)?;
-            Ok(Command::Paste(job, read_inputs(alloc, tool, options, operands)?))
-        }
-        Tool::Uniq => {
-            let job = uniq_job(options)?;
-            Ok(Command::Uniq(job, read_inputs(alloc, tool, options, operands)?))
-        }
-        Tool::Comm => {
-            let job = comm_job(options);
-            Ok(Command::Comm(job, read_inputs(alloc, tool, options, operands)?))
-        }
-        Tool::Join => {
-            let job = join_job(alloc, options)?;
-            Ok(Command::Join(job, read_inputs(alloc, tool, options, operands)?))
-        }
-        Tool::Tr => {
-            let inputs = read_inputs(alloc, tool, options, operands)?;
-            Ok(Command::Tr(char_plan(options, operands)?, inputs))
-        }
+        Tool::Cut => cut_command(alloc, options, operands),
+        Tool::Paste => paste_command(alloc, options, operands),
+        Tool::Uniq => uniq_command(alloc, options, operands),
+        Tool::Comm => comm_command(alloc, options, operands),
+        Tool::Join => join_command(alloc, options, operands),
+        Tool::Tr => tr_command(alloc, options, operands),
     }
 }
 
 /// The inputs of a tool that takes these operands.
-fn read_inputs<'a, A: Allocator + Copy>(
+pub(crate) fn read_inputs<'a, A: Allocator + Copy>(
     alloc: A,
     tool: Tool,
     options: &[GivenOption<'a>],

@@ -6,13 +6,6 @@ ghost use Rattle.ptopts.specs.Faults.{value_fault, end_given, is_delimiter, is_c
 ghost use Rattle.ptopts.specs.Commands.{byte_given, number_given};
 ghost use Rattle.ptopts.specs.Steps.{Finds, options_seen};
 
-pub(crate) mod comm;
-pub(crate) mod cut;
-pub(crate) mod join;
-pub(crate) mod paste;
-pub(crate) mod tr;
-pub(crate) mod uniq;
-
 use crate::fault::UseFault;
 use crate::reading::{GivenOption, has_letter};
 use ptlangs::numbers;
@@ -25,14 +18,17 @@ pub(crate) fn value<'a>(options: &[GivenOption<'a>], letter: u8) -> Option<&'a s
 }
 
 /// The byte that ends a line: 0 with `-z`, which is this project's own option.
-fn end(options: &[GivenOption]) -> u8
+pub(crate) fn end(options: &[GivenOption]) -> u8
     ensures { result ≡ end_given (options_seen options.now) }
 {
     if has_letter(options, b'z') { 0 } else { b'\n' }
 }
 
 /// The one byte of a letter's value, which ends no line (this project's own choice).
-fn delimiter<'a>(options: &[GivenOption<'a>], letter: u8) -> Result<Option<u8>, UseFault<'a>>
+pub(crate) fn delimiter<'a>(
+    options: &[GivenOption<'a>],
+    letter: u8,
+) -> Result<Option<u8>, UseFault<'a>>
     ensures fault { let os = options_seen options.now in
         Finds result (value_fault os (letter, is_delimiter (end_given os))) }
     ensures byte { IfOk result (λ b. b ≡ byte_given letter (options_seen options.now)) }
@@ -47,7 +43,10 @@ fn delimiter<'a>(options: &[GivenOption<'a>], letter: u8) -> Result<Option<u8>, 
 }
 
 /// The number that is a letter's value, 0 too (this project's own choice).
-fn number<'a>(options: &[GivenOption<'a>], letter: u8) -> Result<Option<u64>, UseFault<'a>>
+pub(crate) fn number<'a>(
+    options: &[GivenOption<'a>],
+    letter: u8,
+) -> Result<Option<u64>, UseFault<'a>>
     ensures fault { Finds result (value_fault (options_seen options.now) (letter, is_count)) }
     ensures number { IfOk result (λ n. n ≡ number_given letter (options_seen options.now)) }
 {
@@ -62,7 +61,7 @@ fn number<'a>(options: &[GivenOption<'a>], letter: u8) -> Result<Option<u64>, Us
 
 /// Why the list that is a letter's value was refused: want of memory is told as that, and each other fault as one of
 /// the value.
-fn list_refused<'a>(letter: u8, text: &'a str, is_memory: bool) -> UseFault<'a>
+pub(crate) fn list_refused<'a>(letter: u8, text: &'a str, is_memory: bool) -> UseFault<'a>
     ensures { result ≡ (if is_memory then UseFault.Memory else UseFault.Value letter text.entry) }
 {
     if is_memory {

@@ -1,15 +1,91 @@
-//! The tools that go over their inputs one by one.
+//! The tools: how each of them goes over its inputs, and those that take one input after another.
 
 ghost use Rattle.std.specs.Prelude.{◌≡◌, ℕ, List, None, true, false};
 ghost use Rattle.ptflow.specs.Passes.{IsPass};
 ghost use Rattle.ptflow.specs.Tools.{Tool};
 ghost use Rattle.ptlines.specs.Slots.{total};
+ghost use Rattle.ptopts.specs.Meant.{seen};
+ghost use Rattle.ptrun.specs.Asked.{command_meaning};
+ghost use Rattle.ptrun.specs.Engines.{AreGiven, Ran};
+ghost use Rattle.ptrun.specs.Runs.{AreUnused, sinks, outcome};
 
+use crate::engine::run_engine;
+use crate::operands::InTurn;
+use crate::paired::OfTwo;
+use crate::report::Report;
+use crate::together::AllTogether;
+use crate::voice::Voice;
 use ptflow::{FlowFault, cut, paste_serial, tr};
 use ptlangs::CharPlan;
 use ptlangs::jobs::{CutJob, PasteJob};
 use ptlines::{LineReader, Out, Sink, Source, Store};
+use ptopts::Command;
 use std::alloc::Allocator;
+
+/// Runs a command that was read.
+pub(crate) fn run_command<A: Allocator + Copy, S: Source, R: Source, W: Sink, E: Sink>(
+    store: &mut Store<A>,
+    command: Command<'_, A>,
+    inputs: &mut [LineReader<S, R>],
+    out: W,
+    voice: Voice<E>,
+) -> Report<W, E>
+    requires given { AreGiven (command_meaning (seen command)) inputs.old }
+    requires unused { AreUnused store.old (sinks (W.state out) voice) }
+    ensures { Ran (command_meaning (seen command.entry)) inputs.old inputs.new (sinks (W.state out) voice)
+        (outcome W.state E.state result) store.old store.new }
+{
+    match command {
+        Command::Cut(tool, operands) => run_engine(
+            store,
+            &InTurn { tool, operands },
+            inputs,
+            out,
+            voice,
+        ),
+        Command::Tr(tool, operands) => run_engine(
+            store,
+            &InTurn { tool, operands },
+            inputs,
+            out,
+            voice,
+        ),
+        Command::Paste(tool, operands) => {
+            if tool.serial {
+                run_engine(store, &InTurn { tool, operands }, inputs, out, voice)
+            } else {
+                run_engine(store, &AllTogether { tool, operands }, inputs, out, voice)
+            }
+        }
+        Command::Uniq(tool, operands) => run_engine(
+            store,
+            &AllTogether { tool, operands },
+            inputs,
+            out,
+            voice,
+        ),
+        Command::Comm(tool, operands) => run_engine(
+            store,
+            &AllTogether {
+                tool: OfTwo { tool },
+                operands,
+            },
+            inputs,
+            out,
+            voice,
+        ),
+        Command::Join(tool, operands) => run_engine(
+            store,
+            &AllTogether {
+                tool: OfTwo { tool },
+                operands,
+            },
+            inputs,
+            out,
+            voice,
+        ),
+    }
+}
 
 /// What a tool does with each of its inputs.
 pub(crate) trait OneByOne<A: Allocator + Copy>: Drop {

@@ -1,7 +1,7 @@
 use Rattle.ptopts.proofs.Common.{false, ◌∙◌, sym, refl, ℕ, Bool, set_of}
 use Rattle.ptlangs.specs.CutLists.{is_selected}
 use Rattle.ptopts.proofs.Chosen.{first_chosen}
-use Rattle.ptopts.proofs.values.cut.cut_job.Goals as goal
+use Rattle.ptopts.proofs.command.cut.cut_job.Goals as goal
 
 pub returns-clause-job : goal.returns-clause-job
 returns-clause-job g c =

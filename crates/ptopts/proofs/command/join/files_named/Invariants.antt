@@ -1,6 +1,6 @@
 -- The options so far have no fault and name these files; the whole is told by them and by the options that are left.
 use Rattle.ptopts.proofs.Common.{◌≡◌, ◌||◌, drop, codes, each_value_fault, is_file_number, names_file, options_seen}
-use Rattle.ptopts.proofs.values.join.files_named.Given as goal
+use Rattle.ptopts.proofs.command.join.files_named.Given as goal
 
 abbrev pub invariant-loop-option : goal.invariant-loop-option
 invariant-loop-option l = record {

@@ -1,4 +1,4 @@
-//! The job of `join`.
+//! The command of `join`.
 
 ghost use Rattle.std.specs.Prelude.{◌≡◌, None, IfOk, slice_index_or, false, unwrap_or, codes, option_map, []};
 ghost use Rattle.std.specs.Str.{byte};
@@ -8,11 +8,14 @@ ghost use Rattle.ptopts.specs.Words.{value_of};
 ghost use Rattle.ptopts.specs.Faults.{value_fault, each_value_fault, values_fault};
 ghost use Rattle.ptopts.specs.Faults.{is_file_number, is_field_number, is_output_list};
 ghost use Rattle.ptopts.specs.Commands as commands;
-ghost use Rattle.ptopts.specs.Commands.{names_file, number_given, fields_of};
+ghost use Rattle.ptopts.specs.Commands.{names_file, number_given, fields_of, judged};
+ghost use Rattle.ptopts.specs.Meant.{words_seen, IsMeant};
 ghost use Rattle.ptopts.specs.Steps.{Finds, FindsBeforeMemory, FindsUnlessRefused, options_seen};
 
+use crate::command::{Command, read_inputs};
 use crate::fault::UseFault;
 use crate::reading::{GivenOption, has_letter};
+use crate::tool::Tool;
 use crate::values::{delimiter, list_refused, value};
 use ptlangs::jobs::JoinJob;
 use ptlangs::numbers;
@@ -88,7 +91,7 @@ fn empty_field<A: Allocator + Copy>(
 }
 
 /// The job of `join`.
-pub(crate) fn join_job<'a, A: Allocator + Copy>(
+fn join_job<'a, A: Allocator + Copy>(
     alloc: A,
     options: &[GivenOption<'a>],
 ) -> Result<JoinJob<A>, UseFault<'a>>
@@ -113,4 +116,17 @@ pub(crate) fn join_job<'a, A: Allocator + Copy>(
         zero: has_letter(options, b'z'),
         descending: has_letter(options, b'r'),
     })
+}
+
+/// The command of `join`.
+pub(crate) fn join_command<'a, A: Allocator + Copy>(
+    alloc: A,
+    options: &[GivenOption<'a>],
+    operands: &[&'a str],
+) -> Result<Command<'a, A>, UseFault<'a>>
+    ensures { IsMeant result (judged Join (options_seen options.now) (words_seen operands.now)) }
+{
+    let job = join_job(alloc, options)?;
+    let inputs = read_inputs(alloc, Tool::Join, options, operands)?;
+    Ok(Command::Join(job, inputs))
 }

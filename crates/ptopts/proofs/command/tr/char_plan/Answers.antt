@@ -9,7 +9,7 @@ use Rattle.ptlangs.specs.declared.plan.Form.{Form}
 use Rattle.ptlangs.specs.TrPlan.{Plan, plan}
 use Rattle.ptlangs.specs.TrTables.{Tables, tables}
 use Rattle.ptlangs.specs.TrReading.{ok_map}
-use Rattle.ptopts.proofs.values.tr.char_plan.Goals as goal
+use Rattle.ptopts.proofs.command.tr.char_plan.Goals as goal
 
 first_word : (words : List (Bor (List ℕ))) (d : Bor (List ℕ)) → d.now ≡ [] → (get_or words 0 d).now ≡ slice_index_or (words_seen words) 0 []
 first_word [] d none = none

@@ -1,4 +1,4 @@
-//! The job of `cut`.
+//! The command of `cut`.
 
 ghost use Rattle.std.specs.Prelude.{◌≡◌, None, IfOk, option_map};
 ghost use Rattle.ptlangs.specs.CutLists.{is_selected};
@@ -7,11 +7,14 @@ ghost use Rattle.ptopts.specs.declared.tool.Tool.TheVariants.{Cut};
 ghost use Rattle.ptopts.specs.Words.{value_of};
 ghost use Rattle.ptopts.specs.Faults.{value_fault, combination_fault, values_fault, is_cut_list};
 ghost use Rattle.ptopts.specs.Commands as commands;
-ghost use Rattle.ptopts.specs.Commands.{set_of};
+ghost use Rattle.ptopts.specs.Commands.{set_of, judged};
+ghost use Rattle.ptopts.specs.Meant.{words_seen, IsMeant};
 ghost use Rattle.ptopts.specs.Steps.{FindsBeforeMemory, FindsUnlessRefused, options_seen};
 
+use crate::command::{Command, read_inputs};
 use crate::fault::UseFault;
 use crate::reading::{GivenOption, has_letter};
+use crate::tool::Tool;
 use crate::values::{delimiter, list_refused, value};
 use ptlangs::jobs::CutJob;
 use ptlangs::ranges::{ListFault, Ranges};
@@ -37,7 +40,7 @@ fn cut_list<'a, A: Allocator + Copy>(
 }
 
 /// The job of `cut`.
-pub(crate) fn cut_job<'a, A: Allocator + Copy>(
+fn cut_job<'a, A: Allocator + Copy>(
     alloc: A,
     options: &[GivenOption<'a>],
 ) -> Result<CutJob<A>, UseFault<'a>>
@@ -56,4 +59,18 @@ pub(crate) fn cut_job<'a, A: Allocator + Copy>(
         only: has_letter(options, b's'),
         zero: has_letter(options, b'z'),
     })
+}
+
+/// The command of `cut`.
+pub(crate) fn cut_command<'a, A: Allocator + Copy>(
+    alloc: A,
+    options: &[GivenOption<'a>],
+    operands: &[&'a str],
+) -> Result<Command<'a, A>, UseFault<'a>>
+    requires { combination_fault Cut (options_seen options.now) ≡ None }
+    ensures { IsMeant result (judged Cut (options_seen options.now) (words_seen operands.now)) }
+{
+    let job = cut_job(alloc, options)?;
+    let inputs = read_inputs(alloc, Tool::Cut, options, operands)?;
+    Ok(Command::Cut(job, inputs))
 }

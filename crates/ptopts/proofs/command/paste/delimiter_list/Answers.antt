@@ -7,7 +7,7 @@ use denote.Enum.Bare.{sameb}
 use Rattle.ptlangs.specs.contracts.delims.DelimFault.{the_type}
 use Rattle.ptopts.specs.declared.fault.UseFault.TheVariants as fault
 use Rattle.ptopts.specs.Faults as faults
-use Rattle.ptopts.proofs.values.paste.delimiter_list.Goals as goal
+use Rattle.ptopts.proofs.command.paste.delimiter_list.Goals as goal
 
 module _ (letter : ℕ) (text : Bor (List ℕ)) (is_memory : DelimFault → Bool) (never : is_memory Memory ≡ true) (empty : is_memory Empty ≡ false) (escape : is_memory Escape ≡ false) where
   told : (e : DelimFault) (r : Result (List (Option ℕ)) DelimFault) → result_err r ≡ fault_of e

@@ -1,16 +1,19 @@
-//! What the strings of `tr` say.
+//! The command of `tr`.
 
 ghost use Rattle.std.specs.Prelude.{◌≡◌, IfOk, None, slice_get, option_copied};
 ghost use Rattle.ptopts.specs.declared.tool.Tool.TheVariants.{Tr};
 ghost use Rattle.ptopts.specs.Faults as faults;
 ghost use Rattle.ptopts.specs.Faults.{form_given, operands_fault, strings_fault};
-ghost use Rattle.ptopts.specs.Commands.{char_tables};
-ghost use Rattle.ptopts.specs.Meant.{words_seen};
+ghost use Rattle.ptopts.specs.Commands.{char_tables, judged};
+ghost use Rattle.ptopts.specs.Meant.{words_seen, IsMeant};
 ghost use Rattle.ptopts.specs.Steps.{Finds, options_seen};
 
+use crate::command::{Command, read_inputs};
 use crate::fault::UseFault;
 use crate::reading::{GivenOption, has_letter};
+use crate::tool::Tool;
 use ptlangs::{CharPlan, Form};
+use std::alloc::Allocator;
 
 /// What `tr` is asked to do, by its options and the number of its strings (POSIX.1-2017, XCU, `tr`, the
 /// synopsis).
@@ -44,10 +47,7 @@ fn second<'a>(strings: &[&'a str]) -> Option<&'a [u8]>
 }
 
 /// What `tr` does to each byte.
-pub(crate) fn char_plan<'a>(
-    options: &[GivenOption<'a>],
-    strings: &[&'a str],
-) -> Result<CharPlan, UseFault<'a>>
+fn char_plan<'a>(options: &[GivenOption<'a>], strings: &[&'a str]) -> Result<CharPlan, UseFault<'a>>
     requires { operands_fault Tr (options_seen options.now) (words_seen strings.now) ≡ None }
     ensures fault { Finds result (strings_fault Tr (options_seen options.now) (words_seen strings.now)) }
     ensures plan { IfOk result (λ p. p ≡ char_tables (options_seen options.now) (words_seen strings.now)) }
@@ -59,4 +59,16 @@ pub(crate) fn char_plan<'a>(
         second(strings),
     )?;
     Ok(plan)
+}
+
+/// The command of `tr`.
+pub(crate) fn tr_command<'a, A: Allocator + Copy>(
+    alloc: A,
+    options: &[GivenOption<'a>],
+    operands: &[&'a str],
+) -> Result<Command<'a, A>, UseFault<'a>>
+    ensures { IsMeant result (judged Tr (options_seen options.now) (words_seen operands.now)) }
+{
+    let inputs = read_inputs(alloc, Tool::Tr, options, operands)?;
+    Ok(Command::Tr(char_plan(options, operands)?, inputs))
 }

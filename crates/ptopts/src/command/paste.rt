@@ -1,4 +1,4 @@
-//! The job of `paste`.
+//! The command of `paste`.
 
 ghost use Rattle.std.specs.Prelude.{◌≡◌, IfOk, option_map};
 ghost use Rattle.std.specs.Str.{byte};
@@ -7,11 +7,14 @@ ghost use Rattle.ptopts.specs.declared.tool.Tool.TheVariants.{Paste};
 ghost use Rattle.ptopts.specs.Words.{value_of};
 ghost use Rattle.ptopts.specs.Faults.{value_fault, values_fault, is_delimiter_list};
 ghost use Rattle.ptopts.specs.Commands as commands;
-ghost use Rattle.ptopts.specs.Commands.{delimiters_of};
+ghost use Rattle.ptopts.specs.Commands.{delimiters_of, judged};
+ghost use Rattle.ptopts.specs.Meant.{words_seen, IsMeant};
 ghost use Rattle.ptopts.specs.Steps.{FindsBeforeMemory, options_seen};
 
+use crate::command::{Command, read_inputs};
 use crate::fault::UseFault;
 use crate::reading::{GivenOption, has_letter};
+use crate::tool::Tool;
 use crate::values::{list_refused, value};
 use ptlangs::delims::{DelimFault, Delims};
 use ptlangs::jobs::PasteJob;
@@ -37,7 +40,7 @@ fn delimiter_list<'a, A: Allocator + Copy>(
 }
 
 /// The job of `paste`.
-pub(crate) fn paste_job<'a, A: Allocator + Copy>(
+fn paste_job<'a, A: Allocator + Copy>(
     alloc: A,
     options: &[GivenOption<'a>],
 ) -> Result<PasteJob<A>, UseFault<'a>>
@@ -53,4 +56,17 @@ pub(crate) fn paste_job<'a, A: Allocator + Copy>(
         delims,
         zero: has_letter(options, b'z'),
     })
+}
+
+/// The command of `paste`.
+pub(crate) fn paste_command<'a, A: Allocator + Copy>(
+    alloc: A,
+    options: &[GivenOption<'a>],
+    operands: &[&'a str],
+) -> Result<Command<'a, A>, UseFault<'a>>
+    ensures { IsMeant result (judged Paste (options_seen options.now) (words_seen operands.now)) }
+{
+    let job = paste_job(alloc, options)?;
+    let inputs = read_inputs(alloc, Tool::Paste, options, operands)?;
+    Ok(Command::Paste(job, inputs))
 }
