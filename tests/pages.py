@@ -263,6 +263,11 @@ def lacking_paths():
         for path in re.findall(r"\b(?:crates/|(?<=`)pt[a-z]+/)[\w/*.-]*[\w*]", text):
             ends = [f"{TOP}/crates/{path.removeprefix('crates/')}{it}" for it in ("", ".rt", ".antt")]
             found += [] if any(glob.glob(it) for it in ends) else [f"{file} names a path that is not there: {path}\n"]
+        # Those in some crate, but for the ones that stand for many, as `src/NAME.rt` does.
+        for path in re.findall(r"`((?:src|specs|proofs|must-fail)/[\w/.-]+)`", text):
+            ends = [f"{TOP}/crates/*/{path}{it}" for it in ("", ".rt", ".antt")]
+            is_one = not re.search(r"\b(NAME|PATH|A/B)\b", path)
+            found += [f"{file} names a path that is not there: {path}\n"] if is_one and not any(map(glob.glob, ends)) else []
         spans = " ".join(re.findall(r"`[^`\n]+`", text)) if file in NAMING else ""
         words = set(re.findall(r"\b[A-Z][a-z]\w+", spans))
         found += [f"{file} names what is not there: {it}\n" for it in sorted(words - known)]
