@@ -6,6 +6,10 @@
 The gate itself (`rt ci`) does this, over a copy of these crates that has no wrong bodies. The gate keeps what it proved,
 beside the toolchain, under checksums of all that it read. So what was proved once on this machine is not proved again,
 whether by `make`, by `make test` or in another clone.
+
+One run of the gate gives each crate one processor while others are to be proved beside it. So crates of which none
+stands on another have a run each at first, all at the same time, and each run uses two. A last run has the rest, and
+builds the program.
 """
 import os
 import re
@@ -15,12 +19,13 @@ import subprocess
 import sys
 import tempfile
 import time
+from concurrent.futures import ThreadPoolExecutor, as_completed
 
 from check import TOP, uses_of
 
 PROGRAM = "ptext"
-# What the gate says once it has proved a crate, or its tests.
-PROVED = re.compile(r"rt: (\w+)(: its tests are)? (proved|is kept)\b")
+# What the gate says once it has proved a crate. (None of these has tests.)
+PROVED = re.compile(r"rt: (\w+) (proved|is kept)\b")
 # What else it says that a person wants to see at once: that it waits, and that nothing can be kept.
 TOLD = re.compile(r"rt: (note: .*(kept|disk)|.*waiting for)")
 
@@ -51,36 +56,72 @@ def bring(crates, uses, room):
     shutil.copy2(f"{TOP}/HANDLES", room)
 
 
-def followed(child, count):
-    """Says how far the gate is, as it goes. Answers all that it said."""
-    began, said, done = time.monotonic(), [], set()
-    for line in child.stdout:
-        said.append(line)
+def keeps():
+    """Whether the gate can keep here what it proves, for its next run."""
+    # (As in /opt/rattle-kept for /opt/rattle/bin/rt.)
+    at = os.path.normpath(os.path.realpath(shutil.which("rt")) + "/../../../rattle-kept")
+    if os.path.isdir(at):
+        return os.stat(at).st_uid == os.geteuid()
+    return os.access(os.path.dirname(at), os.W_OK)
+
+
+def side_by_side(crates, uses):
+    """The crates that have a run each at first: lists of those of which none stands on another, lowest first."""
+    height = {}
+    for crate in crates:
+        height[crate] = 1 + max((height[it] for it in uses[crate] if it in height), default=0)
+    found = [[it for it in crates if height[it] == number] for number in sorted(set(height.values()))]
+    return [it for it in found if len(it) > 1]
+
+
+class Progress:
+    """Says how far the runs of the gate are, as they go."""
+
+    def __init__(self, count):
+        self.began, self.count, self.proved = time.monotonic(), count, []
+
+    def told(self, line):
         found = PROVED.match(line)
-        if found:
-            crate, tests, how = found.groups()
-            done.update([] if tests else [crate])
-            what, when = f"{crate}, its tests" if tests else crate, " before" if how == "is kept" else ""
-            say(f"{time.monotonic() - began:5.0f} s  {what}: proved{when} ({len(done)} of {count})")
+        if found and found[1] not in self.proved:
+            self.proved.append(found[1])
+            when = " before" if found[2] == "is kept" else ""
+            say(f"{self.seconds():5.0f} s  {found[1]}: proved{when} ({len(self.proved)} of {self.count})")
         elif TOLD.match(line):
             say(line.rstrip("\n"))
-    return said
+
+    def seconds(self):
+        return time.monotonic() - self.began
 
 
-def proved(count, room):
-    """Runs the gate in the room; where it fails, says what it said. Answers whether it ended well."""
+def begun(names, room):
+    """A run of the gate over these crates, or over all if none is named."""
+    # (It takes no names where CI is set, since then it is no gate.)
+    words = {it: os.environ[it] for it in os.environ if it != "CI"}
     streams = {"stdin": subprocess.DEVNULL, "stdout": subprocess.PIPE, "stderr": subprocess.STDOUT}
-    with subprocess.Popen(["rt", "ci"], cwd=room, text=True, errors="replace", **streams) as child:
+    return subprocess.Popen(["rt", "ci", *names], cwd=room, env=words, text=True, errors="replace", **streams)
+
+
+def followed(child, progress):
+    """Follows a run to its end. Answers what it said if it failed."""
+    said = []
+    for line in child.stdout:
+        said.append(line)
+        progress.told(line)
+    told = "".join(it for it in said if not it.endswith(": proved\n"))
+    return (told or f"rt ci ended with {child.returncode}") if child.wait() else ""
+
+
+def failure(runs, room, progress):
+    """Has these runs of the gate go on at the same time, each over the crates it names. Answers what the first to fail said."""
+    children = [begun(names, room) for names in runs]
+    with ThreadPoolExecutor(len(runs)) as pool:
         try:
-            said = followed(child, count)
-        except BaseException:
-            # Its checks end with it, before the room is removed.
-            child.terminate()
-            child.wait()
-            raise
-    if child.returncode:
-        say("".join(line for line in said if not line.endswith(": proved\n")).replace(room, TOP))
-    return not child.returncode
+            ends = [pool.submit(followed, it, progress) for it in children]
+            return next((it.result() for it in as_completed(ends) if it.result()), "")
+        finally:
+            # Where one failed, or the build was ended, the others end too, before the room is removed.
+            for it in children:
+                it.terminate()
 
 
 def main():
@@ -91,21 +132,24 @@ def main():
     with open(f"{TOP}/crates.txt", encoding="utf-8") as it:
         uses = uses_of(it.read())
     crates = [it for it in uses if it == PROGRAM or it in below(PROGRAM, uses)]
-    began = time.monotonic()
+    progress = Progress(len(crates))
     say(
         f"proving {len(crates)} crates and building the program. From nothing that takes 12 to 18 minutes on four "
         "processors, and the first crate 3 of them; what was proved on this machine is not proved again."
     )
     with tempfile.TemporaryDirectory(prefix="ptext-") as room:
         bring(crates, uses, room)
-        if not proved(len(crates), room):
-            return 1
+        first = [[[it] for it in together] for together in side_by_side(crates, uses)] if keeps() else []
+        for runs in [*first, [[]]]:
+            why = failure(runs, room, progress)
+            if why:
+                return why.replace(room, TOP)
         os.makedirs(f"{TOP}/build", exist_ok=True)
         # Put in place at once, since the one that stands there may be running.
         new = f"{TOP}/build/{PROGRAM}.{os.getpid()}"
         shutil.copy(f"{room}/crates/{PROGRAM}/out/{PROGRAM}", new)
         os.replace(new, f"{TOP}/build/{PROGRAM}")
-    say(f"built build/{PROGRAM}, {time.monotonic() - began:.0f} s in all")
+    say(f"built build/{PROGRAM}, {progress.seconds():.0f} s in all")
     return 0
 
 
