@@ -240,7 +240,7 @@ def lacking_names():
     begin = r"^(abbrev )?(pub )?(unfoldable )?(pub )?(record |data )?"
     lacking = [f"{one}.{two}" for one, two in found if not holds(f"*/specs/**/{one}.antt", rf"{begin}{two}\b")]
     rows = set(re.findall(r"`(\w+Rows)`", text)) - {"FileRows"}
-    lacking += [it for it in rows if not glob.glob(f"{TOP}/crates/*/proofs/**/{it}.antt", recursive=True)]
+    lacking += [it for it in rows if not glob.glob(f"{TOP}/crates/pt*tests/proofs/**/{it}.antt", recursive=True)]
     tests = set(re.findall(r"`(pt\w+)::(\w+)::(\w+)`", text))
     lacking += ["::".join(it) for it in tests if not holds(f"{it[0]}/src/{it[1]}.rt", rf"^fn {it[2]}\b")]
     # Titles stand after program.sh, up to the end of a cell or a sentence.
