@@ -46,9 +46,9 @@ def left_out(folder, names):
 
 
 def bring(crates, uses, room):
-    """Makes the room a repository of these crates alone."""
+    """Makes a repository of these crates alone."""
     # (The gate takes a folder with this one in it for the top of a repository.)
-    os.mkdir(f"{room}/.git")
+    os.makedirs(f"{room}/.git")
     for crate in crates:
         shutil.copytree(f"{TOP}/crates/{crate}", f"{room}/crates/{crate}", symlinks=True, ignore=left_out)
     with open(f"{room}/crates.txt", "w", encoding="ascii") as it:
@@ -95,8 +95,9 @@ class Progress:
 
 def begun(names, room):
     """A run of the gate over these crates, or over all if none is named."""
-    # (It takes no names where CI is set, since then it is no gate.)
-    words = {it: os.environ[it] for it in os.environ if it != "CI"}
+    # What it leaves among the temporary files, if it is ended, goes with the room. (It takes no names where CI is set,
+    # since then it is no gate.)
+    words = {it: os.environ[it] for it in os.environ if it != "CI"} | {"TMPDIR": os.path.dirname(room)}
     streams = {"stdin": subprocess.DEVNULL, "stdout": subprocess.PIPE, "stderr": subprocess.STDOUT}
     return subprocess.Popen(["rt", "ci", *names], cwd=room, env=words, text=True, errors="replace", **streams)
 
@@ -137,7 +138,8 @@ def main():
         f"proving {len(crates)} crates and building the program. From nothing that takes 12 to 18 minutes on four "
         "processors, and the first crate 3 of them; what was proved on this machine is not proved again."
     )
-    with tempfile.TemporaryDirectory(prefix="ptext-") as room:
+    with tempfile.TemporaryDirectory(prefix="ptext-") as place:
+        room = f"{place}/room"
         bring(crates, uses, room)
         first = [[[it] for it in together] for together in side_by_side(crates, uses)] if keeps() else []
         for runs in [*first, [[]]]:
