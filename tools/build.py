@@ -3,9 +3,9 @@
 
   python3 tools/build.py
 
-The gate itself (`rt ci`) does this, over a copy of these crates that has no wrong bodies. The gate keeps what it proved,
-beside the toolchain, under checksums of all that it read. So what was proved once on this machine is not proved again,
-whether by `make`, by `make test` or in another clone.
+The gate itself (`rt ci`) does this, over a copy of these crates that has no wrong bodies. The gate keeps what it
+proved, beside the toolchain, under checksums of all that it read. So what was proved once on this machine is not proved
+again, whether by `make`, by `make test` or in another clone.
 
 One run of the gate gives each crate one processor while others are to be proved beside it. So crates of which none
 stands on another have a run each at first, all at the same time, and each run uses two. A last run has the rest, and
@@ -113,7 +113,7 @@ def followed(child, progress):
 
 
 def failure(runs, room, progress):
-    """Has these runs of the gate go on at the same time, each over the crates it names. Answers what the first to fail said."""
+    """Runs the gate over each of these lists of crates, all at the same time. Answers what the first to fail said."""
     children = [begun(names, room) for names in runs]
     with ThreadPoolExecutor(len(runs)) as pool:
         try:
