@@ -3,7 +3,8 @@
 //!
 //! - `places` finds bytes: the masks of 64 bytes, the n-th place of a byte, the end of a line.
 //! - `sets` looks up 16 bytes in a set of bytes; `halves` moves bytes by tables over their low halves.
-//! - `lanes` moves bytes 16 at a time, in any way that moves 16 at once; `replacing` is one such way.
+//! - `lanes` moves bytes 16 at a time, in any way that moves 16 at once. `replacing` is one such way, and makes ends of
+//!   lines delimiters in turn, as `spreading` does where few delimiters are repeated in a list.
 //! - `packing` puts the bytes that stay side by side; `keeping` and `squeezing` say which ones stay.
 pub(crate) mod halves;
 pub(crate) mod keeping;

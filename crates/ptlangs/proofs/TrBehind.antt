@@ -1,4 +1,4 @@
--- What stands in front of the units at a place, and what follows it.
+-- What the units at a place begin with, and what follows that.
 use Rattle.ptlangs.proofs.Common.{◌≡◌, ◌≢◌, ◌≤◌, ◌<◌, ◌+◌, ◌-◌, inl, inr, ℕ, suc, Bool, true, false, List, [], ◌∷◌, length, take, drop, get_or, arith, refl, sym, ap, ◌∙◌, Some, None, nat_le}
 use Rattle.ptlangs.proofs.Common.{prefix_len, slice_range, take_while, list_all, AllPass, digits_value, cases_eq, eq-eqb, ne_eqb, drop_all, drop-drop, take_rest, length-prefix_len, take_while-cons}
 use Rattle.ptlangs.proofs.Common.{AllPass-from_list_all, SetUnit, Plain, Escaped, Faulty, is_octal_digit, octal, octal_run, units, after_backslash, behind, plain_run, behind_run, and_from}

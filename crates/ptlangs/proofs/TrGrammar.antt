@@ -1,4 +1,5 @@
--- What is computed of parts is the grammar.
+-- What is computed of parts is the grammar, and what the code finds is what is computed. A string is refused for the
+-- fault of its first faulty part.
 use Rattle.ptlangs.proofs.Common.{◌≡◌, ◌<◌, ◌-◌, ℕ, zero, suc, Bool, true, false, eqb, List, [], ◌∷◌, ◌++◌, length, drop, map, arith, refl, sym, ap, subst, ◌∙◌, Option, Some, None, Result, Ok, Err}
 use Rattle.ptlangs.proofs.Common.{nat_lt, list_all, option_and_then, option_or, is_ascii_digit, is_ascii_lowercase, ltb-false, le-ltb, eqb-true, ne_eqb, length-map, length-append, append_assoc}
 use Rattle.ptlangs.proofs.Common.{drop_at, drop_all, SetFaultKind, SetUnit, Plain, Escaped, Faulty, Part, Single, Class, Equivalence, byte_of, class_named, Means, ByItself, ByEscape, Opens, ARepeat}

@@ -1,4 +1,4 @@
--- A line that comes in pieces.
+-- A line that comes in pieces, and one whose end is near, which is put into its slot at once.
 use Rattle.ptlines.proofs.Common.{◌≡◌, ℕ, ◌+◌, ◌-◌, ◌^◌, ◌<◌, ◌≤◌, None, Some, get_or, take, drop, Bool, List, [], ◌∷◌, ◌++◌, Option, length, set, max, refl, sym, ◌∙◌, ap, subst, arith, append_assoc}
 use Rattle.ptlines.proofs.Common.{length-append, nat_tests, append-nil, set-set, length-set, get_or-set_same, take-take, get_or-take, prepend_known, Slots, line, total, with_line, with_denied, false}
 use Rattle.ptlines.proofs.Common.{not, ◌==◌, inl, inr, ⊎_elim, Ok, Err, LineFault, Read, Memory, IsLine, Reader, unread, Reads, Goes, IsDone, budget, GivesPiece, GivesEnd, GivesLine, Stops, Fills}

@@ -1,4 +1,4 @@
--- Byte order finds no two different texts equal.
+-- An order that finds no two different texts equal, and its reverse.
 use Rattle.std.specs.Prelude.{◌≡◌, ℕ, List}
 use Rattle.std.proofs.Common.{sym}
 use Rattle.std.specs.declared.cmp.Ordering.TheVariants.{Equal}

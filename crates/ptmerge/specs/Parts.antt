@@ -1,4 +1,4 @@
--- Two inputs that are cut into parts, and the parts merged one after another.
+-- Two inputs that are cut into parts, or dealt out by their keys, and what is written of the parts.
 use Rattle.std.specs.Prelude.{◌≡◌, ℕ, ◌<◌, ◌==◌, List, ◌++◌, None, filter}
 use Rattle.std.specs.List.{AllByRecursion, flat_map, range_with_len}
 use Rattle.std.specs.List.Sorted.{IsPermutation}

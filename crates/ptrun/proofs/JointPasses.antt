@@ -1,7 +1,7 @@
 -- A tool that takes all its operands together.
 --
--- Where one could not be opened, nothing is to be done. Else what the tool did is the run but its last words, and a
--- tool with one input did what its one pass did.
+-- Where one could not be opened, nothing is to be done. Else what the tool did is the run but its last words. A tool
+-- with one input did what its one pass did, and `paste` what its pass over the cells did.
 use Rattle.ptrun.proofs.Common.{or_left, or_right, sum, get_or_default, no_reader, length-map, cases_eq, cases_Bool, ◌≡◌, ◌⊎◌, ⊎_elim, inl, inr, ℕ, zero, suc, ◌+◌, ◌<◌, ◌≤◌, ◌^◌, ◌||◌, ◌==◌, Bool}
 use Rattle.ptrun.proofs.Common.{true, false, cond, List, [], ◌∷◌, ◌++◌, Option, Some, None, Result, Ok, Err, length, take, drop, get_or, set, refl, sym, ◌∙◌, ap, subst, arith, take-append-drop}
 use Rattle.ptrun.proofs.Common.{slice_get, list_any, get_or-set_same, get_or-set_other, All-nil, All-cons, list_any-append, false≢true, eqb-true, eqb_tells, Reader, IsSound, Output, Slots, SinkState}

@@ -1,4 +1,4 @@
-//! The tools: how each of them goes over its inputs, and those that take one input after another.
+//! How each tool takes its inputs, and the tools that take one input after another.
 
 ghost use Rattle.std.specs.Prelude.{◌≡◌, ℕ, List, None, true, false};
 ghost use Rattle.ptflow.specs.Passes.{IsPass};

@@ -1,5 +1,5 @@
 -- The n-th item of a list that passes a test, by the bits of a mask, of which the lowest are cleared; and that the
--- fields behind the n-th delimiter start there.
+-- fields behind the n-th delimiter start there. Then the ends of lines in 64 bytes, one after another.
 use Rattle.ptflow.proofs.Common.{◌≡◌, ⊎_elim, ℕ, zero, suc, ◌+◌, ◌-◌, ◌*◌, ◌/◌, ◌%◌, ◌^◌, ◌<◌, ◌≤◌, min, Bool, true, false, cond, not, Option, Some, List, [], ◌∷◌, ◌++◌, length, map, take, drop}
 use Rattle.ptflow.proofs.Common.{get_or, refl, sym, ◌∙◌, ap, subst, arith, get_or-take, take-append-drop, length-drop, count_ones, count_by, prefix_len, mask_l, chunk, take-add, eqb-true, take-take}
 use Rattle.ptflow.proofs.Common.{take_all, drop_more, take_at, drop_at, length-take-le, length-slice_split, get_or-le-sum_by, sum_by-cons, sum_by-append, sum_by-take-le, count_by-le-length}

@@ -1,4 +1,4 @@
--- `uniq` of a text that is cut between two runs.
+-- `uniq` of a text that is cut between two runs, or whose lines are dealt out by their keys.
 use Rattle.ptflow.proofs.Common.{◌≡◌, ◌⊎◌, inl, inr, ⊎_elim, ℕ, ◌+◌, Bool, true, false, cond, List, [], ◌∷◌, ◌++◌, refl, sym, ◌∙◌, ap, filter, AllByRecursion, cases_Bool, bytes_eq-Decides, lines}
 use Rattle.ptflow.proofs.Common.{IsLine, the_lines_of_parts, lines-text, the_lines, Uniq, Run, key, is_same, onto_runs, runs, BeginsWith, EndsWith, AreGrouped, UniqOfParts, UniqByKey, run_of}
 use Rattle.std.specs.Prelude.{◌≢◌}

@@ -1,6 +1,7 @@
 //! `cut`. It goes by bytes or by fields, and each way has a file.
 //!
-//! `bytes` stands on the loop over blocks, and `picking` on one shuffle a line; `fields` goes line by line.
+//! `bytes` stands on the loop over blocks, and cuts each short line by one shuffle (`picking`); `fields` goes line by
+//! line.
 
 ghost use Rattle.ptlangs.specs.Jobs.{cut_job};
 ghost use Rattle.ptflow.specs.Cuts.{cut_tool};
