@@ -1,5 +1,5 @@
 -- The places that are selected of a short line, place by place, and the bytes that a row of them puts in front.
-use Rattle.ptflow.proofs.Common.{◌≡◌, ◌⊎◌, ℕ, zero, suc, ◌+◌, ◌-◌, ◌<◌, ◌≤◌, Bool, true, false, cond, List, [], ◌∷◌, ◌++◌, map, length, take, drop, set, min, ⊎_elim, ◌&&◌, get_or, length-append}
+use Rattle.ptflow.proofs.Common.{◌≡◌, ℕ, zero, suc, ◌+◌, ◌-◌, ◌<◌, ◌≤◌, Bool, true, false, cond, List, [], ◌∷◌, ◌++◌, map, length, take, drop, set, min, ⊎_elim, ◌&&◌, get_or, length-append}
 use Rattle.ptflow.proofs.Common.{append_assoc, refl, sym, ◌∙◌, ap, arith, w8, All, nat_le, cases_order, false≢true, range_with_len, list_all, nat_tests, take-add, pick_l, Each1, Each1-from_get_or}
 use Rattle.ptflow.proofs.Common.{swz_l, pick_l-range_with_len, take_more, take_at, drop_at, take-map, take-take, take-append-le, take_all, take_more_set, length-take-le, append-nil, All-set}
 use Rattle.ptflow.proofs.Common.{length-range_with_len, chosen_from, is_selected, Interval, chosen_piece, cases_eq}

@@ -2,7 +2,7 @@
 -- all that may come; and what was pushed: the entries of the lines that are passed, which come first.
 use Rattle.ptmerge.proofs.Common.{nat_tests, ◌≡◌, ℕ, ◌+◌, List, [], ◌∷◌, ◌++◌, Bool, true, false, cond, Option, Some, None, length, refl, ◌∙◌, map, append_assoc, arith, nat_lt, unwrap_or}
 use Rattle.ptmerge.proofs.Common.{if◌then◌else◌, last_or, is_gt, length_push, Lines, ordered_part, fall, Fall, Cmp, Key, ◌&&◌, not, ap, sym, append-nil, flat_map-append, filter, flat_map, Less, Equal}
-use Rattle.ptmerge.proofs.Common.{Greater, match_ordering, Side, First, Second, Tool, insert_key, distinct, keys, entries_of, by_keys, disorder_of, up_to, ◌⊎◌, inl, inr, subst, is_lt, is_le, Output}
+use Rattle.ptmerge.proofs.Common.{Greater, match_ordering, Side, First, Second, Tool, insert_key, distinct, keys, entries_of, by_keys, disorder_of, up_to, ◌⊎◌, inl, inr, subst, is_lt, Output}
 use Rattle.ptmerge.proofs.Common.{Wrote, text, wrote_trans, wrote_nothing, text-append, disorder, is_below, is_decided, is_past, merged_entries, with_key, Names, put}
 use Rattle.ptmerge.proofs.OfMerges.Orders.{IsKeyOrder, AtMost, at_most_trans, self_at_most, EachKey, EachKey-weaker, Above, at_most_is_le, above_trans, less_flips, Each, Each-weaker, Each-insert}
 use Rattle.ptmerge.proofs.OfMerges.Orders.{Each-distinct, Each-append, Each-all, EachKey-append, front_first, greater_flips}

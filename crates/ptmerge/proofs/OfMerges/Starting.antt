@@ -1,5 +1,5 @@
 -- How a tool over two inputs starts.
-use Rattle.ptmerge.proofs.Common.{◌≡◌, inl, inr, ℕ, ◌≤◌, ◌<◌, Bool, false, cond, List, [], None, Err, length, refl, sym, ◌∙◌, arith, false≢true, ending, Reader, Reads, IsSound, Slots, line, IsLine}
+use Rattle.ptmerge.proofs.Common.{◌≡◌, inl, inr, ◌≤◌, ◌<◌, Bool, cond, [], None, Err, length, refl, sym, ◌∙◌, arith, false≢true, ending, Reader, Slots}
 use Rattle.ptmerge.proofs.Common.{longest, wrote_nothing, MergeFault, Memory, Side, First, Second, Sorted, Lines, Tool, State, IsMerge, IsUnread, Comes, HasSlots, fresh, slot_of, both, Inputs}
 use Rattle.ptmerge.proofs.Common.{CannotStart, Starts, Adds, FirstCame, IsUnslotted, ⊎_elim, max, ◌⊎◌}
 use Rattle.ptmerge.proofs.OfMerges.Passing.{Free, begun_none, Merging, late_none, merging_none, settles}

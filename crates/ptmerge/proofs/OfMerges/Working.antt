@@ -3,7 +3,7 @@
 use Rattle.ptmerge.proofs.Common.{◌≡◌, ◌⊎◌, ⊎_elim, inl, inr, ℕ, ◌+◌, ◌≤◌, false, List, [], ◌∷◌, ◌++◌, Option, Some, None, length, map, refl, sym, ◌∙◌, ap, arith, append_assoc, length-append, last_or}
 use Rattle.ptmerge.proofs.Common.{append-nil, append_cancel_right, Given, whole_lines, Before, Reader, text, ended_lines, IsLine, AreLines, given_of, ended_of_text, text_push, the_lines, Lines, fall}
 use Rattle.ptmerge.proofs.Common.{is_below, ordered_part, Cmp, Key, Bool, filter-append, filter, Begins, text-append, Side, First, Second, Tool, by_keys, decided_entries, disorder, disorder_of}
-use Rattle.ptmerge.proofs.Common.{is_decided, is_settled, other, WorksOff, decided, settled, put, Fall, map-append, lines}
+use Rattle.ptmerge.proofs.Common.{is_decided, is_settled, other, WorksOff, decided, settled, put, Fall, map-append}
 use Rattle.ptmerge.proofs.OfMerges.Passing.{fall_after, fall_is, falls, ordered_after, ordered_is, Bound, FallFrom, Under, Coming, not_below, down_decided, last_has, not_decided, past_none, all_keys}
 use Rattle.ptmerge.proofs.OfMerges.Passing.{down_begins}
 use Rattle.ptmerge.proofs.OfMerges.Got.{Far}

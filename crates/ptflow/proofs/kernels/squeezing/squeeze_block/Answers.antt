@@ -1,6 +1,6 @@
 -- The first byte stays or goes by the byte that was written before the block; each other one by the byte in front of
 -- it.
-use Rattle.ptflow.proofs.Common.{◌≡◌, ◌<◌, zero, suc, ◌-◌, ℕ, ◌&&◌, eqb, Some, false, length, get_or, arith, ap, ◌∙◌, slice_index_or, option_eq, holds}
+use Rattle.ptflow.proofs.Common.{◌≡◌, ◌<◌, zero, suc, ℕ, ◌&&◌, eqb, Some, false, length, get_or, arith, ap, ◌∙◌, slice_index_or, option_eq, holds}
 use Rattle.ptflow.proofs.OfTr.SqueezeLemmas.{squeezing_starts, squeezing_piece}
 use Rattle.ptflow.proofs.kernels.squeezing.squeeze_block.Goals as goal
 

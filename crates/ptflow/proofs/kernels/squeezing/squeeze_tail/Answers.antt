@@ -1,4 +1,4 @@
-use Rattle.ptflow.proofs.Common.{◌≤◌, ◌+◌, ◌-◌, length, arith, holds}
+use Rattle.ptflow.proofs.Common.{◌≤◌, ◌+◌, length, arith, holds}
 use Rattle.ptflow.proofs.OfTr.SqueezeLemmas.{squeezing_piece, stays_piece}
 use Rattle.ptflow.proofs.kernels.squeezing.squeeze_tail.Goals as goal
 

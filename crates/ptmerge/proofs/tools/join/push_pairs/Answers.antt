@@ -1,5 +1,5 @@
 -- Each turn pushes the entry of one line of the group. A push that fails leaves a beginning of the pairs.
-use Rattle.ptmerge.proofs.Common.{◌-◌, ◌++◌, [], ◌∷◌, List, ℕ, ap, arith, sym, map, join_job, group}
+use Rattle.ptmerge.proofs.Common.{◌++◌, [], ◌∷◌, List, ℕ, ap, arith, sym, map, join_job, group}
 use Rattle.ptmerge.proofs.OfJoin.Amid.{amid_starts, each_done, each_fails, each_more}
 use Rattle.ptmerge.proofs.OfJoin.GroupSlots.{pair_of, pairs_text, group_from, group_end}
 use Rattle.ptmerge.proofs.tools.join.push_pairs.Goals as goal

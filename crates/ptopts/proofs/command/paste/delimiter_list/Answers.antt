@@ -1,5 +1,5 @@
-use Rattle.ptopts.proofs.Common.{◌≡◌, ℕ, ◌∙◌, List, Option, Some, None, Result, Ok, Err, Bool, true, false, cond, refl, sym, ap, option_map, Bor, is_ok, result_err, Fault, value_fault}
-use Rattle.ptopts.proofs.Common.{is_delimiter_list, meant}
+use Rattle.ptopts.proofs.Common.{◌≡◌, ℕ, ◌∙◌, List, Option, Some, None, Result, Ok, Err, Bool, true, false, cond, refl, sym, ap, option_map, Bor, is_ok, result_err}
+use Rattle.ptopts.proofs.Common.{meant}
 use Rattle.ptlangs.specs.declared.delims.DelimFault.{DelimFault}
 use Rattle.ptlangs.specs.declared.delims.DelimFault.TheVariants.{Empty, Escape, Memory}
 use Rattle.ptlangs.specs.DelimLists.{fault_of, delim_list}
