@@ -1,5 +1,6 @@
 #!/usr/bin/env python3
-"""Gives the built program its input line by line, and sees that what is decided comes out before more is given.
+"""Gives the built program its input line by line, and sees that what is decided comes out before more is given, and
+that an operand that could not be opened is named before the next one is waited for.
 
   python3 tests/waiting.py PROGRAM
 
@@ -119,6 +120,13 @@ CASES = {
     ],
 }
 WAYS = ["pipe", "FIFO", "terminal"]
+
+# What is said before standard input is waited for.
+SAID = {
+    "cut -c 1 none -": "cut: none: cannot be opened\n",
+    "cut -f 1 none -": "cut: none: cannot be opened\n",
+    "paste -s none -": "paste: none: cannot be opened\n",
+}
 
 
 class Late(Exception):
@@ -261,6 +269,17 @@ def what_failed(program, case, way):
     return ""
 
 
+def what_was_said(program, words):
+    """What comes on standard error while standard input is open and nothing is given."""
+    with tempfile.TemporaryDirectory() as room:
+        streams = {"stdin": subprocess.PIPE, "stdout": subprocess.DEVNULL, "stderr": subprocess.PIPE}
+        with subprocess.Popen([program, *words.split()], cwd=room, **streams) as child:
+            ready, _, _ = select.select([child.stderr], [], [], MOST)
+            said = os.read(child.stderr.fileno(), 65536).decode() if ready else ""
+            child.stdin.close()
+    return said
+
+
 def main(program):
     program = os.path.realpath(program)
     tried = bad = 0
@@ -278,6 +297,12 @@ def main(program):
                 if why:
                     bad += 1
                     print(f"FAILED: {case[0]}, by a {way}: {why}")
+    for words, wanted in SAID.items():
+        tried += 1
+        said = what_was_said(program, words)
+        if said != wanted:
+            bad += 1
+            print(f"FAILED: {words}: {shown(said)} was said, and not {shown(wanted)}")
     print(f"waiting: {tried - bad} passed, {bad} failed")
     return 1 if bad else 0
 

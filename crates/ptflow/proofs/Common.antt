@@ -1,5 +1,5 @@
 -- Names of other crates and of this one's definitions that many of its proofs take from here.
-pub use Rattle.std.proofs.Common.{Bool, Err, Fits, List, MatchOption, None, Ok, OnErr, Option, Result, Some, [], add-one, add-zero, ap, append_assoc, ap₂, arith, bit_and, bit_or, cond, drop}
+pub use Rattle.std.proofs.Common.{Bool, Err, Fits, List, MatchOption, None, Ok, OnErr, Option, Result, Some, [], add-one, ap, append_assoc, ap₂, arith, bit_and, bit_or, cond, drop}
 pub use Rattle.std.proofs.Common.{drop-cons, eqb, false, get_or, get_or-drop, get_or-take, inl, inr, leb, length, length-append, length-drop, ltb, map, max, min, negsuc, not, pos, refl, replicate}
 pub use Rattle.std.proofs.Common.{set, slice_index, slice_index_or, slice_set, subst, suc, sym, take, take-append-drop, true, w8, zero, ℕ, ℤ, ⊎_elim, ◌%◌, ◌&&◌, ◌*◌, ◌++◌, ◌+◌, ◌-◌, ◌/◌, ◌<◌, ◌==◌}
 pub use Rattle.std.proofs.Common.{◌^◌, ◌||◌, ◌∙◌, ◌∷◌, ◌≡◌, ◌≢◌, ◌≤◌, ◌⊎◌}
@@ -62,10 +62,10 @@ pub use Rattle.ptflow.specs.Tools.{Tool}
 pub use Rattle.ptflow.specs.Translations.{squeeze, squeeze_behind, stays, tr, tr_decided, tr_tool, translated}
 pub use Rattle.ptflow.specs.Uniqs.{Run, after_fields, all_but_last, ends_word, entries, is_blank, is_same, key, onto_runs, runs, shown, uniq_tool, word_ends}
 pub use Rattle.ptflow.specs.Workings.Bytes.ByteSets.{IsSetOf, IsTableOf, Keeps, holds, marks, mask_of}
-pub use Rattle.ptflow.specs.Workings.Bytes.Lanes.{IsMovedTo, by_four, by_reach, by_two, reach_adds, told_adds}
-pub use Rattle.ptflow.specs.Workings.Bytes.Nths.{IsBehind, IsNth}
+pub use Rattle.ptflow.specs.Workings.Bytes.Lanes.{IsMovedTo, by_four, by_reach, by_two, told_adds}
+pub use Rattle.ptflow.specs.Workings.Bytes.Nths.{IsBehind}
 pub use Rattle.ptflow.specs.Workings.Bytes.Packings.{IsPacking, IsRow, chosen_by, places_of}
-pub use Rattle.ptflow.specs.Workings.Bytes.Rowings.{by_rows, by_two_rows, row_adds}
+pub use Rattle.ptflow.specs.Workings.Bytes.Rowings.{by_rows, by_two_rows}
 pub use Rattle.ptflow.specs.Workings.Cut.CutRests.{CutsOn, GoesOn, HasEnds, IsCutTo, IsLineAt, PutsLines, chosen_piece, cut_from, cut_rest, rest_by, rest_of_lines}
 pub use Rattle.ptflow.specs.Workings.Cut.FieldPlaces.{StartsAt, fields, led}
 pub use Rattle.ptflow.specs.Workings.Passes.Continuations.{Continues, Halts}

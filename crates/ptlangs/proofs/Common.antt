@@ -31,9 +31,9 @@ pub use Rattle.ptlangs.specs.TrClasses.{are_cases, class_bytes, class_named, ran
 pub use Rattle.ptlangs.specs.TrParts.{AClass, ADescendingRange, AFaultyEnd, AFaultyUnit, ARange, ARepeat, Alone, AnEquivalence, AreParts, Begins, BeginsFaulty, ByEscape, ByItself, InBrackets, Means}
 pub use Rattle.ptlangs.specs.TrParts.{Opens, OpensForm, behind, behind_run, behind_two, class_at, class_name, class_of, count_in, equivalence_at, equivalence_of, equivalence_unit, first_part, form_at}
 pub use Rattle.ptlangs.specs.TrParts.{form_inside, from_byte, from_unit, is_plain, or_unit, parts, parts_behind, parts_from, plain_run, range_to, repeat_at, repeat_count, repeat_digits, with_rest}
-pub use Rattle.ptlangs.specs.TrPlan.{FaultsAreFirst, FirstFault, Later, NeverMemory, NoPart, NoPiece, Plan, array, class_piece, class_places, collected, complement_of, fill_count, first_array, fitted}
+pub use Rattle.ptlangs.specs.TrPlan.{FaultsAreFirst, FirstFault, Later, NeverMemory, NoPart, NoPiece, Plan, array, class_places, collected, complement_of, fill_count, first_array, fitted}
 pub use Rattle.ptlangs.specs.TrPlan.{has_byte, image_by, image_of, in_string, is_deleted, is_fill, is_paired, is_squeezed, last_place, later_or, may_pair, members, piece, pieces, pieces_of, plan}
-pub use Rattle.ptlangs.specs.TrPlan.{plan_from, plan_of, plan_with, repeat_piece, repeated, second_place, second_plan, stands_at, string_pieces, takes_second}
+pub use Rattle.ptlangs.specs.TrPlan.{plan_from, plan_of, plan_with, repeat_piece, second_place, second_plan, stands_at, string_pieces, takes_second}
 pub use Rattle.ptlangs.specs.TrReading.{Puts, pieces_left, places_of}
 pub use Rattle.ptlangs.specs.TrShifts.{added, in_front, shift_of, shifted, stretches_from}
 pub use Rattle.ptlangs.specs.TrTables.{Tables, tables}

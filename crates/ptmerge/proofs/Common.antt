@@ -2,12 +2,12 @@
 pub use Rattle.std.proofs.Common.{Bool, Err, IsErrAnd, List, None, Ok, Option, Result, Some, [], ap, append_assoc, arith, bit_and, bit_or, cond, drop, eqb, false, get_or, inl, inr, length}
 pub use Rattle.std.proofs.Common.{length-append, length-drop, ltb, map, max, min, not, option_copied, refl, replicate, set, subst, suc, sym, take, true, zero, ℕ, ⊎_elim, ◌%◌, ◌&&◌, ◌*◌, ◌++◌, ◌+◌}
 pub use Rattle.std.proofs.Common.{◌-◌, ◌<◌, ◌==◌, ◌^◌, ◌||◌, ◌∙◌, ◌∷◌, ◌≡◌, ◌≢◌, ◌≤◌, ◌⊎◌}
-pub use Rattle.std.proofs.Math.Seq.{drop-append_seam, drop-cons}
+pub use Rattle.std.proofs.Math.Seq.{drop-append_seam}
 pub use Rattle.std.proofs.lemmas.Bool.{eqb-true, false≢true, or_cases, or_left, or_parts, or_right}
 pub use Rattle.std.proofs.lemmas.Bool.Decides.{nat_tests}
 pub use Rattle.std.proofs.lemmas.Cmp.{back_total, nat_list_cmp_total, tied_itself, upto}
-pub use Rattle.std.proofs.lemmas.List.{append-nil, append_cancel_right, drop-append-le, drop-drop, drop-set-add, drop-set-lt, drop_all, drop_more, get_or-drop, get_or-set_other, get_or-take}
-pub use Rattle.std.proofs.lemmas.List.{get_or_past, length-map, length-set, length-take-le, length_push, map-append, nil_from_length, set_at, take-append-drop, take_all, take_at, take_more}
+pub use Rattle.std.proofs.lemmas.List.{append-nil, append_cancel_right, drop-append-le, drop-drop, drop-set-add, drop-set-lt, drop_more, get_or-drop, get_or-set_other}
+pub use Rattle.std.proofs.lemmas.List.{get_or_past, length-map, length-set, length_push, map-append, nil_from_length, set_at, take-append-drop, take_all, take_at, take_more}
 pub use Rattle.std.proofs.lemmas.List.Concat.{flat_map-append}
 pub use Rattle.std.proofs.lemmas.List.Elements.{filter-append}
 pub use Rattle.std.proofs.lemmas.List.Sums.{position_or_len_is, sum_by-append, sum_by-cons, sum_by_push}
@@ -28,10 +28,10 @@ pub use Rattle.ptlines.proofs.Masks.{first_behind, first_marked, nowhere_marked}
 pub use Rattle.ptlines.proofs.PartLaws.{the_lines_of_parts}
 pub use Rattle.ptlines.proofs.Pushed.{wrote_nothing, wrote_past, wrote_trans}
 pub use Rattle.ptlines.proofs.Sending.{keeps_more}
-pub use Rattle.ptlines.proofs.TextLaws.{AreLines_push, ended_first, ended_none, ended_of_text, lines_last, lines_of_text, other_byte, text-append, text_push, the_lines}
+pub use Rattle.ptlines.proofs.TextLaws.{AreLines_push, ended_first, ended_none, ended_of_text, lines_last, lines_of_text, text-append, text_push, the_lines}
 pub use Rattle.ptlines.specs.Fills.{GivesLine}
 pub use Rattle.ptlines.specs.Inputs.{Agrees, Begins, Given, whole_lines}
-pub use Rattle.ptlines.specs.KeepingUp.{Before, KeepsUp, WorksOff}
+pub use Rattle.ptlines.specs.KeepingUp.{Before, WorksOff}
 pub use Rattle.ptlines.specs.Outputs.{Output, Wrote}
 pub use Rattle.ptlines.specs.Readers.{Goes, IsDone, IsSound, Reader, Reads, budget, unread}
 pub use Rattle.ptlines.specs.Slots.{Slots, line, total, with_added, with_denied, with_line}
@@ -47,7 +47,7 @@ pub use Rattle.ptmerge.specs.LinePasses.{CanGoOn, HasPassed, IsUnwritten, Passes
 pub use Rattle.ptmerge.specs.Merges.{Agree, Ends, IsMerge, IsReady, IsUnread, IsWhole, Names, State, ended_by, seen}
 pub use Rattle.ptmerge.specs.Orders.{Cmp, Key, byte_cmp, line_cmp}
 pub use Rattle.ptmerge.specs.Parts.{CommByKey, IsByKey, IsOfParts, JoinByKey, PartsOfComm, PartsOfJoin, dealt, written_lines}
-pub use Rattle.ptmerge.specs.Places.{CannotRead, Closes, Comes, HasSlots, fresh, same_at, slot_of, stand_at}
+pub use Rattle.ptmerge.specs.Places.{CannotRead, Comes, HasSlots, fresh, same_at, slot_of, stand_at}
 pub use Rattle.ptmerge.specs.Sides.{both, other, put}
 pub use Rattle.ptmerge.specs.Spans.{IsNoted, IsSpan}
 pub use Rattle.ptmerge.specs.Steps.{AreEqual, CannotStart, FirstCame, GoesBefore, Inputs, IsAlone, IsDecided, IsLent, IsNamed, IsPlaced, IsUnslotted, Starts, inputs, last_key}

@@ -16,7 +16,7 @@ pub use Rattle.ptlangs.specs.Numbers.{is_empty}
 pub use Rattle.ptopts.specs.Commands.{Command, Job, RunComm, RunCut, RunJoin, RunPaste, RunTr, RunUniq, command, file_names, first_fault, inputs, job, judged, meaning, meaning_for, names_file}
 pub use Rattle.ptopts.specs.Commands.{or_standard, order_from, output, plan_of_nothing, set_of, unless}
 pub use Rattle.ptopts.specs.Faults.{Fault, InString, NeedsValue, Operands, StandardTwice, Twice, combination_fault, combined_fault, each_value_fault, event_fault, first_of, form_given, is_between}
-pub use Rattle.ptopts.specs.Faults.{is_complemented, is_delimiter_list, is_file_number, is_spent, is_standard, operands_fault, plan_given, reading_fault, strings_fault, value_fault, values_fault}
+pub use Rattle.ptopts.specs.Faults.{is_complemented, is_file_number, is_spent, is_standard, operands_fault, plan_given, reading_fault, strings_fault, values_fault}
 pub use Rattle.ptopts.specs.Laws.{AreAllowed, MeantAsSpelled, ReadAsSpelled, Spelled, SpelledOneWay, SpelledUnlessFaulty, SpellsCommand}
 pub use Rattle.ptopts.specs.Meant.{IsMeant, beside, meant, words_seen}
 pub use Rattle.ptopts.specs.Steps.{AreInputs, ReadsGroup, ReadsWords, behind_taken, option_seen, options_among, options_seen}

@@ -4,7 +4,7 @@ ghost use Rattle.std.specs.Prelude.{◌≡◌, IfOk, None, option_map};
 ghost use Rattle.ptopts.specs.Faults.{combination_fault, operands_fault};
 ghost use Rattle.ptopts.specs.Commands.{judged, meaning, inputs, output};
 ghost use Rattle.ptopts.specs.Meant.{words_seen, seen, IsMeant, NamesTool};
-ghost use Rattle.ptopts.specs.Steps.{FindsUnlessRefused, AreInputs, options_seen};
+ghost use Rattle.ptopts.specs.Steps.{FindsBeforeMemory, AreInputs, options_seen};
 
 mod comm;
 mod cut;
@@ -131,7 +131,7 @@ pub(crate) fn read_inputs<'a, A: Allocator + Copy>(
     options: &[GivenOption<'a>],
     operands: &[&'a str],
 ) -> Result<Inputs<'a, A>, UseFault<'a>>
-    ensures fault { FindsUnlessRefused result
+    ensures fault { FindsBeforeMemory result
         (operands_fault tool (options_seen options.now) (words_seen operands.now)) }
     ensures inputs { IfOk result
         (AreInputs (inputs tool (words_seen operands.now)) (output tool (words_seen operands.now))) }
