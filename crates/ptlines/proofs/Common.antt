@@ -1,6 +1,6 @@
 -- Names of other crates and of this one's definitions that many of its proofs take from here.
 pub use Rattle.std.proofs.Common.{Bool, Err, Fits, IfOk, List, None, Ok, OnErr, OnOk, Option, Result, Some, [], ap, append_assoc, arith, cond, drop, eqb, false, get_or, inl, inr, length}
-pub use Rattle.std.proofs.Common.{length-append, length-drop, length-take, map, max, min, not, refl, set, subst, suc, sym, take, take-append-drop, true, w8, zero, ℕ, ⊎_elim, ◌%◌, ◌*◌, ◌++◌, ◌+◌, ◌-◌}
+pub use Rattle.std.proofs.Common.{length-append, length-drop, length-take, map, max, min, not, refl, rules, set, subst, suc, sym, take, take-append-drop, true, w8, zero, ℕ, ⊎_elim, ◌%◌, ◌*◌, ◌++◌, ◌+◌, ◌-◌}
 pub use Rattle.std.proofs.Common.{◌<◌, ◌==◌, ◌^◌, ◌∙◌, ◌∷◌, ◌≡◌, ◌≢◌, ◌≤◌, ◌⊎◌}
 pub use Rattle.std.proofs.Math.Seq.{take-add, take-append-add}
 pub use Rattle.std.proofs.lemmas.Bool.{cases_Bool, cases_order, eq-eqb, eqb-false, eqb-true, false≢true}
@@ -16,7 +16,7 @@ pub use Rattle.std.specs.Simd.Lanes.{Each1, chunk, mask_l, put_chunk}
 pub use Rattle.memchr.specs.Find.{IsFirst, IsFirstByte, NoneBefore, Nowhere, Passes, is_byte}
 pub use Rattle.ptlines.specs.Fills.{Fills, GivesEnd, GivesLine, GivesPiece, Grows, Stops}
 pub use Rattle.ptlines.specs.Inputs.{Begins, Came, Given}
-pub use Rattle.ptlines.specs.Outputs.{Breaks, Extends, Output, Wrote, with_passed, with_sent, with_staged}
+pub use Rattle.ptlines.specs.Outputs.{Breaks, Extends, Output, Pushes, Wrote, with_passed, with_sent, with_staged}
 pub use Rattle.ptlines.specs.Readers.{Goes, HasReadCause, IsDone, IsSound, Reader, Reads, Refills, budget, reader_of, unread}
 pub use Rattle.ptlines.specs.Sinks.{SinkState, Takes, Took, waits}
 pub use Rattle.ptlines.specs.Slots.{AreShort, Slots, line, total, with_denied, with_line}

@@ -1,6 +1,6 @@
 -- What was pushed, one call after another.
 use Rattle.ptlines.proofs.Common.{◌≡◌, ◌+◌, ◌≤◌, ℕ, true, false, List, [], ◌++◌, Option, length, refl, sym, ◌∙◌, ap, subst, arith, append_assoc, length-append, Result, Ok, Err, OnOk, OnErr}
-use Rattle.ptlines.proofs.Common.{false≢true, append-nil, append_known, Output, with_staged, with_sent, with_passed, Extends, Wrote, Breaks}
+use Rattle.ptlines.proofs.Common.{false≢true, append-nil, append_known, Output, with_staged, with_sent, with_passed, Extends, Wrote, Pushes, Breaks}
 use Rattle.ptlines.specs.declared.out.WriteFault.{WriteFault}
 use Rattle.ptlines.specs.Outputs.{text}
 use Rattle.ptlines.proofs.Known.{append_known-append, append_known-nil}
@@ -127,3 +127,7 @@ pub wrote_flushed : (old new : Output) (r : Result (Unit {0}) WriteFault) → ol
     → OnOk r (new ≡ record old { pending = false }) → OnErr r (Breaks old new []) → Wrote old new []
 wrote_flushed old new (Ok u) clean empty ok err = subst (λ o. Wrote old o []) (sym ok) (wrote_settled old clean)
 wrote_flushed old new (Err e) clean empty ok err = wrote_broken old new [] [] [] clean (ap (λ s. s ++ []) empty) err
+
+-- pushed, one call after another
+pub pushes_then : {E : Type 0} (a b c : Output) (xs ys : List ℕ) (r : Result (Unit {0}) E) → b.faulted ≡ false → Wrote a b xs → Pushes b c ys r → Pushes a c (xs ++ ys) r
+pushes_then a b c xs ys r clean p q = record { wrote = wrote_trans a b c xs ys clean p q.wrote; clean = q.clean; fault = q.fault }

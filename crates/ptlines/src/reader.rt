@@ -2,7 +2,7 @@
 
 ghost use Rattle.std.specs.Prelude.{◌≡◌, ◌<◌, ◌≤◌, ℕ, true, false, None, [], IfSome, IfOk, OnOk, OnErr, length, take, drop, if◌then◌else◌};
 ghost use Rattle.memchr.specs.Find.{IsFirstByte, is_byte};
-ghost use Rattle.ptlines.specs.Outputs.{MaySend, Wrote};
+ghost use Rattle.ptlines.specs.Outputs.{MaySend, Pushes};
 ghost use Rattle.std.specs.Borrow.{sem};
 ghost use Rattle.std.specs.Io.KnownBytes.{IsAtEnd};
 ghost use Rattle.std.specs.Io.BufRead.{Rests};
@@ -388,9 +388,7 @@ impl<S: Source, R: Source> LineReader<S, R> {
     #[inline(always)]
     pub fn send_before_wait<W: Sink>(&self, out: &mut Out<W>) -> Result<(), WriteFault>
         requires { out.old.faulted ≡ false }
-        ensures wrote { Wrote out.old out.new [] }
-        ensures clean { OnOk result (out.new.faulted ≡ false) }
-        ensures fault { OnErr result (out.new.faulted ≡ true) }
+        ensures pushed { Pushes out.old out.new [] result }
         ensures sent { OnOk result (MaySend out.old out.new) }
         ensures ended { self.now.ended ≡ true → out.new ≡ out.old }
         ensures sound { IsSound self.now }
@@ -405,9 +403,7 @@ impl<S: Source, R: Source> LineReader<S, R> {
     #[inline(never)]
     fn send_unless_line<W: Sink>(&self, out: &mut Out<W>) -> Result<(), WriteFault>
         requires { out.old.faulted ≡ false }
-        ensures wrote { Wrote out.old out.new [] }
-        ensures clean { OnOk result (out.new.faulted ≡ false) }
-        ensures fault { OnErr result (out.new.faulted ≡ true) }
+        ensures pushed { Pushes out.old out.new [] result }
         ensures sent { OnOk result (MaySend out.old out.new) }
     {
         if self.holds_line() {

@@ -21,12 +21,12 @@ returns-in_err-send_before_wait g c =
     let e = err_from_is_err_and c.from_residual.result c.from_residual.ensures.1 in
     λ t tool store ready. rw (e.1, e.2) (block_unsent tool
     i.midway ready c.send_before_wait.ensures.sound (goes_nothing c.turns.reader i.midway.reached.goes.fault).reads c.send_before_wait.ensures.sound i.holds i.all
-    c.send_before_wait.ensures.wrote c.in_err-send_before_wait.ensures.fault refl)
+    c.send_before_wait.ensures.pushed.wrote c.in_err-send_before_wait.ensures.pushed.fault refl)
 
 pub returns-in-Err : goal.returns-in-Err
 returns-in-Err g c =
     let b = c.block.follows.holds-at-none in
-    let m = midway_sent c.turns.invariant.midway c.send_before_wait.ensures.wrote c.in_ok-send_before_wait.ensures.clean in
+    let m = midway_sent c.turns.invariant.midway c.send_before_wait.ensures.pushed.wrote c.in_ok-send_before_wait.ensures.pushed.clean in
     let shows = (rw c.in-Err.is at b.shows) m.reached.goes.fault in
     λ t tool store ready. block_read tool
     m ready b.was_sound shows.0.reads b.is_sound c.turns.invariant.holds c.turns.invariant.all shows.1
@@ -46,7 +46,7 @@ push_block-requires-clause-short g c =
 pub returns-in_err-push_block-in-Ok : goal.returns-in_err-push_block-in-Ok
 returns-in_err-push_block-in-Ok g c =
     let b = c.block.follows.holds-at-none in
-    let m = midway_sent c.turns.invariant.midway c.send_before_wait.ensures.wrote c.in_ok-send_before_wait.ensures.clean in
+    let m = midway_sent c.turns.invariant.midway c.send_before_wait.ensures.pushed.wrote c.in_ok-send_before_wait.ensures.pushed.clean in
     let shows = (rw c.in-Ok.is at b.shows) m.reached.goes.fault in
     let e = err_from_is_err_and c.from_residual-in_err-push_block-in-Ok.result c.from_residual-in_err-push_block-in-Ok.ensures.1 in
     λ t tool store ready. rw (e.1, e.2) (block_write tool
@@ -56,7 +56,7 @@ returns-in_err-push_block-in-Ok g c =
 pub returns-then-is_empty : goal.returns-then-is_empty
 returns-then-is_empty g c =
     let b = c.block.follows.holds-at-none in
-    let m = midway_sent c.turns.invariant.midway c.send_before_wait.ensures.wrote c.in_ok-send_before_wait.ensures.clean in
+    let m = midway_sent c.turns.invariant.midway c.send_before_wait.ensures.pushed.wrote c.in_ok-send_before_wait.ensures.pushed.clean in
     let shows = (rw c.in-Ok.is at b.shows) m.reached.goes.fault in
     let none : c.in-Ok.block.now ≡ [] = nil_from_length c.in-Ok.block.now (eqb-true (length c.in-Ok.block.now) 0 (sym c.is_empty.ensures ∙ c.if-is_empty.true)) in
     λ t tool store ready. block_done tool
@@ -66,7 +66,7 @@ returns-then-is_empty g c =
 pub returns-in_err-push_end-in-Ok : goal.returns-in_err-push_end-in-Ok
 returns-in_err-push_end-in-Ok g c =
     let b = c.block.follows.holds-at-none in
-    let m = midway_sent c.turns.invariant.midway c.send_before_wait.ensures.wrote c.in_ok-send_before_wait.ensures.clean in
+    let m = midway_sent c.turns.invariant.midway c.send_before_wait.ensures.pushed.wrote c.in_ok-send_before_wait.ensures.pushed.clean in
     let shows = (rw c.in-Ok.is at b.shows) m.reached.goes.fault in
     let none : c.in-Ok.block.now ≡ [] = nil_from_length c.in-Ok.block.now (eqb-true (length c.in-Ok.block.now) 0 (sym c.is_empty.ensures ∙ c.if-is_empty.true)) in
     let e = err_from_is_err_and c.from_residual-in_err-push_end-in-Ok.result c.from_residual-in_err-push_end-in-Ok.ensures.1 in
@@ -80,7 +80,7 @@ unfolding midway_more
 turns-preserved g c =
     let b = c.block.follows.holds-at-none in
     let i = c.turns.invariant in
-    let m = midway_sent c.turns.invariant.midway c.send_before_wait.ensures.wrote c.in_ok-send_before_wait.ensures.clean in
+    let m = midway_sent c.turns.invariant.midway c.send_before_wait.ensures.pushed.wrote c.in_ok-send_before_wait.ensures.pushed.clean in
     let shows = (rw c.in-Ok.is at b.shows) i.midway.reached.goes.fault in
     let e = c.in_ok-push_block-in-Ok.ensures in
     let block = c.in-Ok.block.now in

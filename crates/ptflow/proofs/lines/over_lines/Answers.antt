@@ -24,17 +24,17 @@ turns-init g c =
 pub returns-in_err-send_before_wait : goal.returns-in_err-send_before_wait
 returns-in_err-send_before_wait g c =
     let x = err_from_is_err_and c.from_residual-in_err-send_before_wait.result c.from_residual-in_err-send_before_wait.ensures.1 in
-    rw (x.1, x.2) (run_unsent c.requires.tool c.turns.invariant c.requires.ready c.send_before_wait.ensures.sound c.send_before_wait.ensures.wrote c.in_err-send_before_wait.ensures.fault)
+    rw (x.1, x.2) (run_unsent c.requires.tool c.turns.invariant c.requires.ready c.send_before_wait.ensures.sound c.send_before_wait.ensures.pushed.wrote c.in_err-send_before_wait.ensures.pushed.fault)
 
 pub take_line-requires-clause-few : goal.take_line-requires-clause-few
 take_line-requires-clause-few g c =
-    let r = run_sent c.requires.tool c.turns.invariant c.send_before_wait.ensures.wrote c.in_ok-send_before_wait.ensures.clean in
+    let r = run_sent c.requires.tool c.turns.invariant c.send_before_wait.ensures.pushed.wrote c.in_ok-send_before_wait.ensures.pushed.clean in
     let e = came_line c.SLOTS-slots.ensures c.in-Ok-true.field-0-test (c.in-Ok-true.ensures.fills r.reached.goes.fault) in
     filled_count c.requires.tool r c.requires.sound c.fill.ensures.was_sound e.line e.stored
 
 pub returns-in_err-take_line-in-Ok-true : goal.returns-in_err-take_line-in-Ok-true
 returns-in_err-take_line-in-Ok-true g c =
-    let r = run_sent c.requires.tool c.turns.invariant c.send_before_wait.ensures.wrote c.in_ok-send_before_wait.ensures.clean in
+    let r = run_sent c.requires.tool c.turns.invariant c.send_before_wait.ensures.pushed.wrote c.in_ok-send_before_wait.ensures.pushed.clean in
     let e = came_line c.SLOTS-slots.ensures c.in-Ok-true.field-0-test (c.in-Ok-true.ensures.fills r.reached.goes.fault) in
     let x = err_from_is_err_and c.from_residual-in_err-take_line-in-Ok-true.result c.from_residual-in_err-take_line-in-Ok-true.ensures.1 in
     rw (x.1, x.2, c.in_err-take_line-in-Ok-true.ensures.same)
@@ -42,7 +42,7 @@ returns-in_err-take_line-in-Ok-true g c =
 
 pub returns-in_err-push_end-in-Ok-false : goal.returns-in_err-push_end-in-Ok-false
 returns-in_err-push_end-in-Ok-false g c =
-    let r = run_sent c.requires.tool c.turns.invariant c.send_before_wait.ensures.wrote c.in_ok-send_before_wait.ensures.clean in
+    let r = run_sent c.requires.tool c.turns.invariant c.send_before_wait.ensures.pushed.wrote c.in_ok-send_before_wait.ensures.pushed.clean in
     let e = rw (c.in-Ok-false.field-0-test, c.SLOTS-slots.ensures) at (c.in-Ok-false.ensures.fills r.reached.goes.fault) in
     let x = err_from_is_err_and c.from_residual-in_err-push_end-in-Ok-false.result c.from_residual-in_err-push_end-in-Ok-false.ensures.1 in
     rw (x.1, x.2, c.in_err-push_end-in-Ok-false.ensures.same)
@@ -50,33 +50,33 @@ returns-in_err-push_end-in-Ok-false g c =
 
 pub returns-in-Ok-false : goal.returns-in-Ok-false
 returns-in-Ok-false g c =
-    let r = run_sent c.requires.tool c.turns.invariant c.send_before_wait.ensures.wrote c.in_ok-send_before_wait.ensures.clean in
+    let r = run_sent c.requires.tool c.turns.invariant c.send_before_wait.ensures.pushed.wrote c.in_ok-send_before_wait.ensures.pushed.clean in
     let e = rw (c.in-Ok-false.field-0-test, c.SLOTS-slots.ensures) at (c.in-Ok-false.ensures.fills r.reached.goes.fault) in
     let end = c.in_ok-push_end-in-Ok-false.ensures in
     run_done c.requires.tool r c.requires.ready c.fill.ensures.was_sound c.fill.ensures.is_sound e.0 e.1 e.2 c.push_end.ensures.wrote end.emptied end.clean
 
 pub returns-in-Err-Read : goal.returns-in-Err-Read
 returns-in-Err-Read g c =
-    let r = run_sent c.requires.tool c.turns.invariant c.send_before_wait.ensures.wrote c.in_ok-send_before_wait.ensures.clean in
+    let r = run_sent c.requires.tool c.turns.invariant c.send_before_wait.ensures.pushed.wrote c.in_ok-send_before_wait.ensures.pushed.clean in
     let e = rw (c.in-Err-Read.field-0-is, c.SLOTS-slots.ensures) at (c.in-Err-Read.ensures.fills r.reached.goes.fault) in
     let free = subst (λ b. IsLine b e.piece) r.reached.goes.reads.ending e.faults.whole in
     run_broken c.requires.tool r c.requires.ready c.fill.ensures.was_sound e.faults.reads free c.fill.ensures.is_sound e.stored e.cause
 
 pub returns-in-Err-Memory : goal.returns-in-Err-Memory
 returns-in-Err-Memory g c =
-    let r = run_sent c.requires.tool c.turns.invariant c.send_before_wait.ensures.wrote c.in_ok-send_before_wait.ensures.clean in
+    let r = run_sent c.requires.tool c.turns.invariant c.send_before_wait.ensures.pushed.wrote c.in_ok-send_before_wait.ensures.pushed.clean in
     let e = rw (c.in-Err-Memory.field-0-is, c.SLOTS-slots.ensures) at (c.in-Err-Memory.ensures.fills r.reached.goes.fault) in
     let free = subst (λ b. IsLine b e.piece) r.reached.goes.reads.ending e.faults.whole in
     run_memory c.requires.tool r c.requires.ready c.fill.ensures.was_sound e.faults.reads free c.fill.ensures.is_sound e.stored e.failed
 
 pub returns-in_err-send_before_wait-2 : goal.returns-in_err-send_before_wait-2
 returns-in_err-send_before_wait-2 g c =
-    let r = run_sent c.requires.tool c.turns.invariant c.send_before_wait.ensures.wrote c.in_ok-send_before_wait.ensures.clean in
+    let r = run_sent c.requires.tool c.turns.invariant c.send_before_wait.ensures.pushed.wrote c.in_ok-send_before_wait.ensures.pushed.clean in
     let e = came_line c.SLOTS-slots.ensures c.in-Ok-true.field-0-test (c.in-Ok-true.ensures.fills r.reached.goes.fault) in
     let took = c.in_ok-take_line-in-Ok-true.ensures in
     let v = run_line c.requires.tool r e took.continues took.swapped in
     let x = err_from_is_err_and c.from_residual-in_err-send_before_wait-2.result c.from_residual-in_err-send_before_wait-2.ensures.1 in
-    rw (x.1, x.2) (run_unsent c.requires.tool v c.requires.ready c.fill.ensures.is_sound c.send_before_wait-in-turns.ensures.wrote c.in_err-send_before_wait-2.ensures.fault)
+    rw (x.1, x.2) (run_unsent c.requires.tool v c.requires.ready c.fill.ensures.is_sound c.send_before_wait-in-turns.ensures.pushed.wrote c.in_err-send_before_wait-2.ensures.pushed.fault)
 
 pub turns-smaller : goal.turns-smaller
 turns-smaller g c =
@@ -86,25 +86,25 @@ turns-smaller g c =
 
 pub take_block-requires-clause-open : goal.take_block-requires-clause-open
 take_block-requires-clause-open g c =
-    let r = run_sent c.requires.tool c.turns.invariant c.send_before_wait.ensures.wrote c.in_ok-send_before_wait.ensures.clean in
+    let r = run_sent c.requires.tool c.turns.invariant c.send_before_wait.ensures.pushed.wrote c.in_ok-send_before_wait.ensures.pushed.clean in
     let e = came_line c.SLOTS-slots.ensures c.in-Ok-true.field-0-test (c.in-Ok-true.ensures.fills r.reached.goes.fault) in
     let took = c.in_ok-take_line-in-Ok-true.ensures in
     (took.continues.some (omega arith), run_count c.requires.tool (run_line c.requires.tool r e took.continues took.swapped) c.requires.sound c.fill.ensures.is_sound)
 
 pub take_block-requires-clause-slots : goal.take_block-requires-clause-slots
 take_block-requires-clause-slots g c =
-    let r = run_sent c.requires.tool c.turns.invariant c.send_before_wait.ensures.wrote c.in_ok-send_before_wait.ensures.clean in
+    let r = run_sent c.requires.tool c.turns.invariant c.send_before_wait.ensures.pushed.wrote c.in_ok-send_before_wait.ensures.pushed.clean in
     let e = came_line c.SLOTS-slots.ensures c.in-Ok-true.field-0-test (c.in-Ok-true.ensures.fills r.reached.goes.fault) in
     let took = c.in_ok-take_line-in-Ok-true.ensures in
     run_room c.requires.tool (run_line c.requires.tool r e took.continues took.swapped)
 
 pub returns-in_err-passed-in-Ok : goal.returns-in_err-passed-in-Ok
 returns-in_err-passed-in-Ok g c =
-    let r = run_sent c.requires.tool c.turns.invariant c.send_before_wait.ensures.wrote c.in_ok-send_before_wait.ensures.clean in
+    let r = run_sent c.requires.tool c.turns.invariant c.send_before_wait.ensures.pushed.wrote c.in_ok-send_before_wait.ensures.pushed.clean in
     let e = came_line c.SLOTS-slots.ensures c.in-Ok-true.field-0-test (c.in-Ok-true.ensures.fills r.reached.goes.fault) in
     let took = c.in_ok-take_line-in-Ok-true.ensures in
     let v = run_line c.requires.tool r e took.continues took.swapped in
-    let u = run_sent c.requires.tool v c.send_before_wait-in-turns.ensures.wrote c.in_ok-send_before_wait-2.ensures.clean in
+    let u = run_sent c.requires.tool v c.send_before_wait-in-turns.ensures.pushed.wrote c.in_ok-send_before_wait-2.ensures.pushed.clean in
     let shows = (rw c.in-Ok.is at c.block.follows.holds-at-none.shows) u.reached.goes.fault in
     let x = err_from_is_err_and c.from_residual-in_err-passed-in-Ok.result c.from_residual-in_err-passed-in-Ok.ensures.1 in
     rw (x.1, x.2)
@@ -112,21 +112,21 @@ returns-in_err-passed-in-Ok g c =
 
 pub returns-in-Err : goal.returns-in-Err
 returns-in-Err g c =
-    let r = run_sent c.requires.tool c.turns.invariant c.send_before_wait.ensures.wrote c.in_ok-send_before_wait.ensures.clean in
+    let r = run_sent c.requires.tool c.turns.invariant c.send_before_wait.ensures.pushed.wrote c.in_ok-send_before_wait.ensures.pushed.clean in
     let e = came_line c.SLOTS-slots.ensures c.in-Ok-true.field-0-test (c.in-Ok-true.ensures.fills r.reached.goes.fault) in
     let took = c.in_ok-take_line-in-Ok-true.ensures in
     let v = run_line c.requires.tool r e took.continues took.swapped in
-    let u = run_sent c.requires.tool v c.send_before_wait-in-turns.ensures.wrote c.in_ok-send_before_wait-2.ensures.clean in
+    let u = run_sent c.requires.tool v c.send_before_wait-in-turns.ensures.pushed.wrote c.in_ok-send_before_wait-2.ensures.pushed.clean in
     let shows = (rw c.in-Err.is at c.block.follows.holds-at-none.shows) u.reached.goes.fault in
     run_no_block c.requires.tool u c.requires.ready c.fill.ensures.is_sound shows.0.reads c.block.follows.holds-at-none.is_sound shows.1
 
 pub turns-preserved : goal.turns-preserved
 turns-preserved g c =
-    let r = run_sent c.requires.tool c.turns.invariant c.send_before_wait.ensures.wrote c.in_ok-send_before_wait.ensures.clean in
+    let r = run_sent c.requires.tool c.turns.invariant c.send_before_wait.ensures.pushed.wrote c.in_ok-send_before_wait.ensures.pushed.clean in
     let e = came_line c.SLOTS-slots.ensures c.in-Ok-true.field-0-test (c.in-Ok-true.ensures.fills r.reached.goes.fault) in
     let took = c.in_ok-take_line-in-Ok-true.ensures in
     let v = run_line c.requires.tool r e took.continues took.swapped in
-    let u = run_sent c.requires.tool v c.send_before_wait-in-turns.ensures.wrote c.in_ok-send_before_wait-2.ensures.clean in
+    let u = run_sent c.requires.tool v c.send_before_wait-in-turns.ensures.pushed.wrote c.in_ok-send_before_wait-2.ensures.pushed.clean in
     let shows = (rw c.in-Ok.is at c.block.follows.holds-at-none.shows) u.reached.goes.fault in
     let rest = c.in_ok-passed-in-Ok.ensures in
     run_block c.requires.tool u c.ending-ending.ensures shows.0 shows.1 rest.passed c.consume.ensures.consumed rest.continues

@@ -33,19 +33,19 @@ reader_of g c =
     )
 
 sent : (g : given.Over) (c : After-send_before_wait g) → Wrote c.args.out.now c.send_before_wait.new.out []
-sent g c = wrote_trans c.args.out.now c.loop-column.out c.send_before_wait.new.out [] [] c.loop-column.invariant.clean c.loop-column.invariant.wrote c.send_before_wait.ensures.wrote
+sent g c = wrote_trans c.args.out.now c.loop-column.out c.send_before_wait.new.out [] [] c.loop-column.invariant.clean c.loop-column.invariant.wrote c.send_before_wait.ensures.pushed.wrote
 
 pub returns-in_err-send_before_wait : goal.returns-in_err-send_before_wait
 returns-in_err-send_before_wait g c =
     let here = (goal.at.returns-in_err-send_before_wait g c).After-send_before_wait in
     let r = reader_of g here in
-    let going = not_ended _ c.send_before_wait.ensures.ended c.in_err-send_before_wait.ensures.fault c.loop-column.invariant.clean in
+    let going = not_ended _ c.send_before_wait.ensures.ended c.in_err-send_before_wait.ensures.pushed.fault c.loop-column.invariant.clean in
     let e = err_from_is_err_and c.from_residual.result c.from_residual.ensures.1 in
     rw (e.1, e.2)
     (record {
       fills = filling_breaks c.loop-column.invariant.filling c.loop-column-test.true r.0 {Breaks = NotAsked} _ _ r.1 (refl, refl, going) (λ held. held);
       wrote = sent g here;
-      faulted = c.in_err-send_before_wait.ensures.fault;
+      faulted = c.in_err-send_before_wait.ensures.pushed.fault;
     })
 
 pub returns-in-Err-Read : goal.returns-in-Err-Read
@@ -59,7 +59,7 @@ returns-in-Err-Read g c =
         refl,
       );
       wrote = sent g here;
-      faulted = c.in_ok-send_before_wait.ensures.clean;
+      faulted = c.in_ok-send_before_wait.ensures.pushed.clean;
     }
 
 pub returns-in-Err-Memory : goal.returns-in-Err-Memory
@@ -70,7 +70,7 @@ returns-in-Err-Memory g c =
       fills = filling_breaks c.loop-column.invariant.filling c.loop-column-test.true r.0 {Breaks = BreaksMemory} _ _ r.1
           (rw c.in-Err-Memory.field-0-is at (c.in-Err-Memory.ensures.fills r.2)) (λ held. c.in-Err-Memory.ensures.is_sound.held);
       wrote = sent g here;
-      faulted = c.in_ok-send_before_wait.ensures.clean;
+      faulted = c.in_ok-send_before_wait.ensures.pushed.clean;
     }
 
 pub loop-column-preserved : goal.loop-column-preserved
@@ -82,7 +82,7 @@ loop-column-preserved g c =
       filling = filling_next f c.loop-column-test.true r.0 (omega (arith, c.loop-column-test.true, c.requires.slots, f.taken.same)) r.1 r.2 c.in-Ok.ensures.is_sound
           c.in-Ok.has_line (c.in-Ok.ensures.fills r.2);
       wrote = sent g here;
-      clean = c.in_ok-send_before_wait.ensures.clean;
+      clean = c.in_ok-send_before_wait.ensures.pushed.clean;
     }
 
 pub bounds-readers-place : goal.bounds-readers-place

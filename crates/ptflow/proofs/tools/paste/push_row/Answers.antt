@@ -26,14 +26,14 @@ returns-in_err-cell-clause-wrote g c =
 pub returns-in_err-push-clause-wrote : goal.returns-in_err-push-clause-wrote
 returns-in_err-push-clause-wrote g c =
     let a = rw (from_column c.args.store.now.lines c.args.count c.loop-column.column c.requires.slots c.loop-column-test.true) at c.loop-column.invariant.amid in
-    row_cut c.args.ending c.args.delims.now a c.begin_cell.ensures.wrote c.in_ok-cell.ensures.clean (rw c.line.ensures at c.push.ensures.wrote) c.in_err-push.ensures.fault
+    row_cut c.args.ending c.args.delims.now a c.begin_cell.ensures.wrote c.in_ok-cell.ensures.clean (rw c.line.ensures at c.push.ensures.pushed.wrote) c.in_err-push.ensures.pushed.fault
 
 pub loop-column-preserved : goal.loop-column-preserved
 loop-column-preserved g c =
     let a = rw (from_column c.args.store.now.lines c.args.count c.loop-column.column c.requires.slots c.loop-column-test.true) at c.loop-column.invariant.amid in
     let number : c.in_ok-cell.cell.number ≡ _ = ap (λ (x : Cell). x.number) c.in_ok-cell.ensures.begun in
     record {
-      amid = rw number (row_more c.args.ending c.args.delims.now a c.begin_cell.ensures.wrote c.in_ok-cell.ensures.clean (rw c.line.ensures at c.push.ensures.wrote) c.in_ok-push.ensures.clean);
+      amid = rw number (row_more c.args.ending c.args.delims.now a c.begin_cell.ensures.wrote c.in_ok-cell.ensures.clean (rw c.line.ensures at c.push.ensures.pushed.wrote) c.in_ok-push.ensures.pushed.clean);
       bound = omega (arith, number, begun_number c.loop-column.cell, c.loop-column.invariant.bound);
     }
 
@@ -41,4 +41,4 @@ pub returns-clause-wrote : goal.returns-clause-wrote
 returns-clause-wrote g c =
     let all = take c.args.count c.args.store.now.lines in
     let none = drop_all c.loop-column.column all (omega (arith, c.loop-column-test.false, length-take-le c.args.count c.args.store.now.lines c.requires.slots)) in
-    row_done c.args.ending c.args.delims.now (rw none at c.loop-column.invariant.amid) c.push-2.ensures.wrote
+    row_done c.args.ending c.args.delims.now (rw none at c.loop-column.invariant.amid) c.push-2.ensures.pushed.wrote

@@ -1,25 +1,25 @@
-use Rattle.ptlines.proofs.Common.{List, ℕ, ◌++◌, append_assoc, sym, subst, Wrote}
-use Rattle.ptlines.proofs.Pushed.{wrote_trans, wrote_past}
+use Rattle.ptlines.proofs.Common.{List, ℕ, ◌++◌, append_assoc, sym, subst, rules, Wrote}
+use Rattle.ptlines.proofs.Pushed.{pushes_then, wrote_trans, wrote_past}
 use Rattle.ptlines.proofs.out.Out.push_apart.Goals as goal
 
-pub returns-in_err-push-clause-wrote : goal.returns-in_err-push-clause-wrote
-returns-in_err-push-clause-wrote g c =
-    let lead = c.args.lead.now in
-    let line = c.args.line.now in
-    let end = c.args.ending.now in
-    subst (λ (t : List ℕ). Wrote c.args.self.now c.push.new.self t) (sym (append_assoc lead line end))
-    (wrote_past c.args.self.now c.push.new.self lead (line ++ end) c.in_err-push.ensures.fault c.push.ensures.wrote)
+pub returns-in_err-push : goal.returns-in_err-push
+returns-in_err-push g c = record {
+  wrote = subst (λ (t : List ℕ). Wrote c.args.self.now c.push.new.self t) (sym (append_assoc c.args.lead.now c.args.line.now c.args.ending.now))
+      (wrote_past _ _ _ (c.args.line.now ++ c.args.ending.now) c.in_err-push.ensures.pushed.fault c.push.ensures.pushed.wrote);
+  clean = search rules;
+  fault = search rules;
+}
 
-pub returns-in_err-push-2-clause-wrote : goal.returns-in_err-push-2-clause-wrote
-returns-in_err-push-2-clause-wrote g c =
-    let lead = c.args.lead.now in
-    let line = c.args.line.now in
-    let two = wrote_trans c.args.self.now c.push.new.self c.push-2.new.self lead line c.in_ok-push.ensures.clean c.push.ensures.wrote c.push-2.ensures.wrote in
-    wrote_past c.args.self.now c.push-2.new.self (lead ++ line) c.args.ending.now c.in_err-push-2.ensures.fault two
+pub returns-in_err-push-2 : goal.returns-in_err-push-2
+returns-in_err-push-2 g c =
+    let two = wrote_trans _ _ _ _ _ c.in_ok-push.ensures.pushed.clean c.push.ensures.pushed.wrote c.push-2.ensures.pushed.wrote in
+    record {
+      wrote = wrote_past _ _ _ c.args.ending.now c.in_err-push-2.ensures.pushed.fault two;
+      clean = search rules;
+      fault = search rules;
+    }
 
-pub returns-clause-wrote : goal.returns-clause-wrote
-returns-clause-wrote g c =
-    let lead = c.args.lead.now in
-    let line = c.args.line.now in
-    let two = wrote_trans c.args.self.now c.push.new.self c.push-2.new.self lead line c.in_ok-push.ensures.clean c.push.ensures.wrote c.push-2.ensures.wrote in
-    wrote_trans c.args.self.now c.push-2.new.self c.push-3.new.self (lead ++ line) c.args.ending.now c.in_ok-push-2.ensures.clean two c.push-3.ensures.wrote
+pub returns : goal.returns
+returns g c =
+    let two = wrote_trans _ _ _ _ _ c.in_ok-push.ensures.pushed.clean c.push.ensures.pushed.wrote c.push-2.ensures.pushed.wrote in
+    pushes_then _ _ _ _ _ _ c.in_ok-push-2.ensures.pushed.clean two c.push-3.ensures.pushed

@@ -39,7 +39,7 @@ returns-in_default-field_behind-clause-wrote g c =
     let s = found line l.at c.in-Some.ensures.found in
     front_ends l.invariant.front (walking_ends c.intervals-selected.result.now _ _ l.invariant.walk c.loop-interval-test.true s (length line) line
     (sym (take_all (length line) line (omega arith))) (sym (drop_all (length line) line (omega arith)))
-    (few c.args.job.now.delim line (l.at + c.in-Some.skipped) c.in_default-field_behind.ensures.found)) (rw take_rest at c.push.ensures.wrote)
+    (few c.args.job.now.delim line (l.at + c.in-Some.skipped) c.in_default-field_behind.ensures.found)) (rw take_rest at c.push.ensures.pushed.wrote)
 
 pub returns-in_err-push-clause-wrote : goal.returns-in_err-push-clause-wrote
 returns-in_err-push-clause-wrote g c =
@@ -47,7 +47,7 @@ returns-in_err-push-clause-wrote g c =
     let s = found c.args.line.now c.loop-interval.at c.in-Some.ensures.found in
     let p = found c.args.line.now (c.loop-interval.at + c.in-Some.skipped) c.in-Some-field_behind.ensures.found in
     front_fails l.invariant.front _ (walking_slice c.intervals-selected.result.now [] l.interval-index l.invariant.walk c.loop-interval-test.true s p)
-    c.in_err-push.ensures.wrote c.in_err-push.ensures.fault
+    c.in_err-push.ensures.pushed.wrote c.in_err-push.ensures.pushed.fault
 
 pub loop-interval-preserved : goal.loop-interval-preserved
 loop-interval-preserved g c =
@@ -56,7 +56,7 @@ loop-interval-preserved g c =
     let s = found c.args.line.now c.loop-interval.at c.in-Some.ensures.found in
     let p = found c.args.line.now (c.loop-interval.at + c.in-Some.skipped) c.in-Some-field_behind.ensures.found in record {
       front = front_more l.invariant.front _ (walking_slice all [] l.interval-index l.invariant.walk c.loop-interval-test.true s p)
-          c.in_ok-push.ensures.wrote c.in_ok-push.ensures.clean;
+          c.in_ok-push.ensures.pushed.wrote c.in_ok-push.ensures.pushed.clean;
       walk = walking_more all [] l.interval-index l.invariant.walk c.loop-interval-test.true s p;
       known = c.in-Some-field_behind.ensures.start;
     }

@@ -25,7 +25,7 @@ returns-in_err-push-in-None-clause-wrote g c =
     let line = c.args.line.now in
     let none = found c.args.job.now.delim line None c.in-None.ensures in
     rw (line_written job line line (of_line job c.requires.by_fields line none c.if-job.false))
-    (wrote_past _ _ _ (job.end ∷ []) c.in_err-push-in-None.ensures.fault c.in_err-push-in-None.ensures.wrote)
+    (wrote_past _ _ _ (job.end ∷ []) c.in_err-push-in-None.ensures.pushed.fault c.in_err-push-in-None.ensures.pushed.wrote)
 
 -- the bytes that are written of the line were pushed, and its end behind them
 ends : (job : Cut) (line : List ℕ) {bytes : List ℕ} {end : ℕ} {was out mid is : Output} → cut_line job line ≡ bytes ∷ [] → end ≡ job.end → mid ≡ out → Wrote was out bytes
@@ -42,8 +42,8 @@ returns-clause-wrote g c =
     elim c.match-find_near.branch [
       | in-Some+in_ok-push_fields-in-Some w ↦ ends job line
           (of_fields job by line (found _ line (Some w.in-Some.first) w.in-Some.ensures)) c.requires.ending w.out-is w.in_ok-push_fields-in-Some.ensures.wrote
-          w.in_ok-push_fields-in-Some.ensures.clean c.push-2.ensures.wrote
+          w.in_ok-push_fields-in-Some.ensures.clean c.push-2.ensures.pushed.wrote
       | in-None+else-job+in_ok-push-in-None w ↦ ends job line
-          (of_line job by line (found _ line None w.in-None.ensures) w.if-job.false) c.requires.ending w.out-is w.in_ok-push-in-None.ensures.wrote
-          w.in_ok-push-in-None.ensures.clean c.push-2.ensures.wrote
+          (of_line job by line (found _ line None w.in-None.ensures) w.if-job.false) c.requires.ending w.out-is w.in_ok-push-in-None.ensures.pushed.wrote
+          w.in_ok-push-in-None.ensures.pushed.clean c.push-2.ensures.pushed.wrote
     ]

@@ -17,15 +17,15 @@ pushed g c =
     let put = c.put_held_rows-count.ensures in
     held_put (subst (AreTurnsOfOne c.args.delims.now c.args.cells.now) (sym c.deref.ensures.0) ((rw c.in-Some.is at c.requires.in_turn).0)) c.requires.within c.requires.readable
     c.index-readers-place.result c.held-bytes.ensures.sound c.held-bytes.ensures.held (omega (arith, c.if-count-eq0.false)) put.within put.rows
-    c.index-readers-place-2.result c.consume.ensures.consumed put.put c.push.ensures.wrote
+    c.index-readers-place-2.result c.consume.ensures.consumed put.put c.push.ensures.pushed.wrote
 
 pub returns-in_err-push : goal.returns-in_err-push
 returns-in_err-push g c =
     let e = err_from_is_err_and c.from_residual.result c.from_residual.ensures.1 in
-    pushed_breaks e.1 (pushed g (goal.at.returns-in_err-push g c).After-push) c.in_err-push.ensures.fault
+    pushed_breaks e.1 (pushed g (goal.at.returns-in_err-push g c).After-push) c.in_err-push.ensures.pushed.fault
 
 pub returns : goal.returns
-returns g c = (pushed g (goal.at.returns g c).After-push, c.in_ok-push.ensures.clean)
+returns g c = (pushed g (goal.at.returns g c).After-push, c.in_ok-push.ensures.pushed.clean)
 
 pub bounds-readers-place : goal.bounds-readers-place
 bounds-readers-place g c = low g (goal.at.bounds-readers-place g c).In-Some

@@ -46,13 +46,13 @@ returns-in_err-push-clause-halts g c =
     let at = goal.at.returns-in_err-push-clause-halts g c in
     on_err c.from_residual-in_err-push.result
     (amid_halts (serial_rest c.args.ending c.args.delims.now) c.args.cell (begun c.args.cell) c.put_block-count.result.1 c.args.block.now c.args.block.now []
-    (take c.put_block-count.result.0 c.put_block-count.new.into) c.args.out.now c.begin_cell.new.out c.push.new.self (led g at.In_ok-begun) c.push.ensures.wrote (puts g at.After-push)
-    c.in_err-push.ensures.fault)
+    (take c.put_block-count.result.0 c.put_block-count.new.into) c.args.out.now c.begin_cell.new.out c.push.new.self (led g at.In_ok-begun) c.push.ensures.pushed.wrote (puts g at.After-push)
+    c.in_err-push.ensures.pushed.fault)
 
 pub returns-clause-continues : goal.returns-clause-continues
 returns-clause-continues g c =
     let at = goal.at.returns-clause-continues g c in
     amid_over (serial_rest c.args.ending c.args.delims.now) c.args.cell c.put_block-count.result.1 c.args.block.now [] c.args.out.now c.push.new.self
     (amid_more (serial_rest c.args.ending c.args.delims.now) c.args.cell (begun c.args.cell) c.put_block-count.result.1 c.args.block.now c.args.block.now []
-    (take c.put_block-count.result.0 c.put_block-count.new.into) c.args.out.now c.begin_cell.new.out c.push.new.self (led g at.In_ok-begun) c.push.ensures.wrote (puts g at.After-push)
-    c.in_ok-push.ensures.clean) refl
+    (take c.put_block-count.result.0 c.put_block-count.new.into) c.args.out.now c.begin_cell.new.out c.push.new.self (led g at.In_ok-begun) c.push.ensures.pushed.wrote (puts g at.After-push)
+    c.in_ok-push.ensures.pushed.clean) refl

@@ -11,16 +11,16 @@ pushed g c =
     record {
       written = take put.result.0 put.new.into;
       held = rows_taken (omega (arith, c.if-end-eq0.false, long)) put.ensures.rows c.consume_taken.ensures;
-      wrote = c.push.ensures.wrote;
+      wrote = c.push.ensures.pushed.wrote;
     }
 
 pub returns-in_err-push : goal.returns-in_err-push
 returns-in_err-push g c =
     let e = err_from_is_err_and c.from_residual.result c.from_residual.ensures.1 in
-    pushed_breaks e.1 (pushed g (goal.at.returns-in_err-push g c).After-push) c.in_err-push.ensures.fault
+    pushed_breaks e.1 (pushed g (goal.at.returns-in_err-push g c).After-push) c.in_err-push.ensures.pushed.fault
 
 pub returns : goal.returns
-returns g c = (pushed g (goal.at.returns g c).After-push, c.in_ok-push.ensures.clean)
+returns g c = (pushed g (goal.at.returns g c).After-push, c.in_ok-push.ensures.pushed.clean)
 
 pub consume_taken-requires-clause-held : goal.consume_taken-requires-clause-held
 consume_taken-requires-clause-held g c = c.put_whole_rows-end.ensures.held

@@ -4,11 +4,11 @@ use Rattle.ptflow.proofs.tools.uniq.runs.push_lead.Goals as goal
 pub returns-in_err-push-in-Counts-clause-wrote : goal.returns-in_err-push-in-Counts-clause-wrote
 returns-in_err-push-in-Counts-clause-wrote g c =
     let digits : c.as_bytes.result.now ≡ decimal c.args.count = c.as_bytes.ensures.value ∙ c.format.ensures.text in
-    rw c.in-Counts.is (wrote_past _ _ _ (32 ∷ []) c.in_err-push-in-Counts.ensures.fault
-    (subst (Wrote c.args.out.now c.push.new.self) digits c.push.ensures.wrote))
+    rw c.in-Counts.is (wrote_past _ _ _ (32 ∷ []) c.in_err-push-in-Counts.ensures.pushed.fault
+    (subst (Wrote c.args.out.now c.push.new.self) digits c.push.ensures.pushed.wrote))
 
 pub returns-in_ok-push-in-Counts-clause-wrote : goal.returns-in_ok-push-in-Counts-clause-wrote
 returns-in_ok-push-in-Counts-clause-wrote g c =
     let digits : c.as_bytes.result.now ≡ decimal c.args.count = cc in
-    rw c.in-Counts.is (wrote_trans _ _ _ _ _ c.in_ok-push-in-Counts.ensures.clean
-    (rw digits at c.push.ensures.wrote) c.push-in-Counts.ensures.wrote)
+    rw c.in-Counts.is (wrote_trans _ _ _ _ _ c.in_ok-push-in-Counts.ensures.pushed.clean
+    (rw digits at c.push.ensures.pushed.wrote) c.push-in-Counts.ensures.pushed.wrote)

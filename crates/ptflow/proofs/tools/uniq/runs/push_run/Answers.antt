@@ -10,10 +10,10 @@ pub returns-in_err-push-clause-wrote : goal.returns-in_err-push-clause-wrote
 returns-in_err-push-clause-wrote g c =
     let shown : is_shown c.args.show c.args.count ≡ true = grind arith in
     rw shown (wrote_trans _ _ _ _ _ c.in_ok-push_lead.ensures.clean c.push_lead.ensures.wrote
-    (wrote_past _ _ _ c.args.behind.now c.in_err-push.ensures.fault c.push-2.ensures.wrote))
+    (wrote_past _ _ _ c.args.behind.now c.in_err-push.ensures.pushed.fault c.push-2.ensures.pushed.wrote))
 
 pub returns-clause-wrote : goal.returns-clause-wrote
 returns-clause-wrote g c =
     let shown : is_shown c.args.show c.args.count ≡ true = grind arith in
     rw shown (wrote_trans _ _ _ _ _ c.in_ok-push_lead.ensures.clean c.push_lead.ensures.wrote
-    (wrote_trans _ _ _ _ _ c.in_ok-push.ensures.clean c.push-2.ensures.wrote c.push-3.ensures.wrote))
+    (wrote_trans _ _ _ _ _ c.in_ok-push.ensures.pushed.clean c.push-2.ensures.pushed.wrote c.push-3.ensures.pushed.wrote))

@@ -57,7 +57,7 @@ pub returns-in_err-push-clause-halts : goal.returns-in_err-push-clause-halts
 returns-in_err-push-clause-halts g c =
     let rest = c.lines.rest.now in
     on_err c.from_residual-in_err-push.result (rw c.requires.ending (running_unended c.lines.invariant
-    (rw c.requires.ending at (no_end c.args.ending rest c.in_default.ensures)) c.push.ensures.wrote c.in_err-push.ensures.fault))
+    (rw c.requires.ending at (no_end c.args.ending rest c.in_default.ensures)) c.push.ensures.pushed.wrote c.in_err-push.ensures.pushed.fault))
 
 pub overflow_sub-result : goal.overflow_sub-result
 overflow_sub-result g c =
@@ -68,7 +68,7 @@ pub returns-clause-continues : goal.returns-clause-continues
 returns-clause-continues g c =
     let rest = c.lines.rest.now in
     rw c.requires.ending (running_done c.lines.invariant
-    (subst (λ b. IsLine b rest) c.requires.ending (no_end c.args.ending rest c.in_default.ensures)) c.push.ensures.wrote c.in_ok-push.ensures.clean)
+    (subst (λ b. IsLine b rest) c.requires.ending (no_end c.args.ending rest c.in_default.ensures)) c.push.ensures.pushed.wrote c.in_ok-push.ensures.pushed.clean)
 
 pub returns-clause-passed : goal.returns-clause-passed
 returns-clause-passed g c =
@@ -76,7 +76,7 @@ returns-clause-passed g c =
       omega arith,
       subst (λ b. take (length c.args.block.now - length rest) c.args.block.now ≡ text b (ended_lines b c.args.block.now)) (sym c.requires.ending)
           (running_passed c.lines.invariant
-          (subst (λ b. IsLine b rest) c.requires.ending (no_end c.args.ending rest c.in_default.ensures)) c.push.ensures.wrote),
+          (subst (λ b. IsLine b rest) c.requires.ending (no_end c.args.ending rest c.in_default.ensures)) c.push.ensures.pushed.wrote),
     )
 
 pub overflow_add-line-else-eq-2 : goal.overflow_add-line-else-eq-2

@@ -5,4 +5,4 @@ use Rattle.ptmerge.proofs.tools.join.entries.push_first.Goals as goal
 pub returns-in-None-clause-wrote : goal.returns-in-None-clause-wrote
 returns-in-None-clause-wrote g c =
     let is = first_is (join_job c.args.job.now) c.args.key.now c.in-None.is (c.stands_as_written.ensures c.if-stands_as_written.true) c.requires.keyed in
-    rw (append-nil c.args.line.now, is) at c.push_line.ensures.wrote
+    rw (append-nil c.args.line.now, is) at c.push_line.ensures.pushed.wrote

@@ -7,15 +7,15 @@ use Rattle.ptmerge.proofs.tools.join.entries.push_listed.Goals as goal
 pub returns-in_err-push-clause-wrote : goal.returns-in_err-push-clause-wrote
 returns-in_err-push-clause-wrote g c =
     first_fails _ (entry_listed (join_job c.args.job.now) c.args.key.now (option_copied c.args.one) (option_copied c.args.two) c.args.items.now _
-    c.requires.listed c.in-len1-up.len_at_least c.listed_field.ensures) c.push.ensures.wrote c.in_err-push.ensures.fault
+    c.requires.listed c.in-len1-up.len_at_least c.listed_field.ensures) c.push.ensures.pushed.wrote c.in_err-push.ensures.pushed.fault
 
 pub items-init : goal.items-init
 items-init g c = record {
   done = c.listed_field.result.now;
   split = entry_listed (join_job c.args.job.now) c.args.key.now (option_copied c.args.one) (option_copied c.args.two) c.args.items.now _
       c.requires.listed c.in-len1-up.len_at_least c.listed_field.ensures;
-  wrote = c.push.ensures.wrote;
-  clean = c.in_ok-push.ensures.clean;
+  wrote = c.push.ensures.pushed.wrote;
+  clean = c.in_ok-push.ensures.pushed.clean;
 }
 
 pub returns-in_err-push_led-clause-wrote : goal.returns-in_err-push_led-clause-wrote

@@ -4,4 +4,4 @@ use Rattle.ptmerge.proofs.tools.join.entries.push_second.Goals as goal
 
 pub returns-in-None-clause-wrote : goal.returns-in-None-clause-wrote
 returns-in-None-clause-wrote g c =
-    rw (second_is (join_job c.args.job.now) c.args.key.now c.in-None.is (c.stands_as_written.ensures c.if-stands_as_written.true) c.requires.keyed) at c.push_line.ensures.wrote
+    rw (second_is (join_job c.args.job.now) c.args.key.now c.in-None.is (c.stands_as_written.ensures c.if-stands_as_written.true) c.requires.keyed) at c.push_line.ensures.pushed.wrote

@@ -9,8 +9,8 @@ returns-in_err-push-clause-halts g c =
     on_err c.from_residual.result
     (record {
       pushed = take made.result.0 made.new.into;
-      wrote = c.push.ensures.wrote;
-      fault = c.in_err-push.ensures.fault;
+      wrote = c.push.ensures.pushed.wrote;
+      fault = c.in_err-push.ensures.pushed.fault;
       true_so_far = λ more. record {
         rest = rest_by tool.ending tool.by.selected.now made.result.1 more;
         is = made.ensures.cut more;

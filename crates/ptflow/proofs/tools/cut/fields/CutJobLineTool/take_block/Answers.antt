@@ -21,8 +21,8 @@ returns-in_err-push-clause-halts g c =
     on_err c.from_residual.result
     (record {
       passed = take l.end l.room;
-      wrote = c.push.ensures.wrote;
-      fault = c.in_err-push.ensures.fault;
+      wrote = c.push.ensures.pushed.wrote;
+      fault = c.in_err-push.ensures.pushed.fault;
       true_so_far = λ more. (cut_lines (cut_job c.args.self.now) (ended_lines c.args.ending l.rest.now ++ more), l.invariant.on more);
     })
 
@@ -32,8 +32,8 @@ returns-clause-continues g c =
     let job = cut_job c.args.self.now in
     let none = ended_none c.args.ending l.rest.now (no_end c.args.ending l.rest.now c.in_default.ensures) in record {
       passed = take l.end l.room;
-      wrote = c.in_ok-push.ensures.wrote;
-      clean = c.in_ok-push.ensures.clean;
+      wrote = c.in_ok-push.ensures.pushed.wrote;
+      clean = c.in_ok-push.ensures.pushed.clean;
       on = λ more. l.invariant.on more ∙ ap (λ ls. take l.end l.room ++ cut_lines job (ls ++ more)) none;
       count = omega arith;
       some = λ h. omega arith;
