@@ -3,13 +3,13 @@
 
   python3 tools/build.py
 
-The gate itself (`rt ci`) does this, over a copy of these crates that has no wrong bodies. The gate keeps what it
-proved, beside the toolchain, under checksums of all that it read. So what was proved once on this machine is not proved
-again, whether by `make`, by `make test` or in another clone.
+The gate itself (`rt ci`) does this, over a copy of these crates that has no wrong bodies. The gate of some kits keeps
+what it proved, beside the toolchain, under checksums of all that it read. Then what was proved once on this machine is
+not proved again, whether by `make`, by `make test` or in another clone.
 
-One run of the gate gives each crate one processor while others are to be proved beside it. So crates of which none
-stands on another have a run each at first, all at the same time, and each run uses two. A last run has the rest, and
-builds the program.
+One run of the gate gives each crate one processor while others are to be proved beside it. So where the gate keeps what
+it proved, crates of which none stands on another have a run each at first, all at the same time, and each run uses two.
+A last run has the rest, and builds the program. Where it does not, one run does all.
 """
 import os
 import re
@@ -57,9 +57,14 @@ def bring(crates, uses, room):
 
 
 def keeps():
-    """Whether the gate can keep here what it proves, for its next run."""
+    """Whether the gate keeps here what it proves, for its next run."""
+    rt = os.path.realpath(shutil.which("rt"))
+    # A kit whose gate keeps nothing has no need of the option that takes nothing from there.
+    with open(rt, encoding="utf-8", errors="replace") as it:
+        if "--anew" not in it.read():
+            return False
     # (As in /opt/rattle-kept for /opt/rattle/bin/rt.)
-    at = os.path.normpath(os.path.realpath(shutil.which("rt")) + "/../../../rattle-kept")
+    at = os.path.normpath(rt + "/../../../rattle-kept")
     if os.path.isdir(at):
         return os.stat(at).st_uid == os.geteuid()
     return os.access(os.path.dirname(at), os.W_OK)
@@ -136,7 +141,8 @@ def main():
     progress = Progress(len(crates))
     say(
         f"proving {len(crates)} crates and building the program. From nothing that takes 12 to 18 minutes on four "
-        "processors, and the first crate 3 of them; what was proved on this machine is not proved again."
+        "processors, and the first crate 3 of them"
+        + ("; what was proved on this machine is not proved again." if keeps() else ".")
     )
     with tempfile.TemporaryDirectory(prefix="ptext-") as place:
         room = f"{place}/room"
