@@ -36,20 +36,14 @@ pub(crate) fn run_command<A: Allocator + Copy, S: Source, R: Source, W: Sink, E:
         (outcome W.state E.state result) store.old store.new }
 {
     match command {
-        Command::Cut(tool, operands) => run_engine(
-            store,
-            &InTurn { tool, operands },
-            inputs,
-            out,
-            voice,
-        ),
-        Command::Tr(tool, operands) => run_engine(
-            store,
-            &InTurn { tool, operands },
-            inputs,
-            out,
-            voice,
-        ),
+        Command::Cut(tool, operands) => {
+            let engine = InTurn { tool, operands };
+            run_engine(store, &engine, inputs, out, voice)
+        }
+        Command::Tr(tool, operands) => {
+            let engine = InTurn { tool, operands };
+            run_engine(store, &engine, inputs, out, voice)
+        }
         Command::Paste(tool, operands) => {
             if tool.serial {
                 run_engine(store, &InTurn { tool, operands }, inputs, out, voice)
@@ -57,33 +51,18 @@ pub(crate) fn run_command<A: Allocator + Copy, S: Source, R: Source, W: Sink, E:
                 run_engine(store, &AllTogether { tool, operands }, inputs, out, voice)
             }
         }
-        Command::Uniq(tool, operands) => run_engine(
-            store,
-            &AllTogether { tool, operands },
-            inputs,
-            out,
-            voice,
-        ),
-        Command::Comm(tool, operands) => run_engine(
-            store,
-            &AllTogether {
-                tool: OfTwo { tool },
-                operands,
-            },
-            inputs,
-            out,
-            voice,
-        ),
-        Command::Join(tool, operands) => run_engine(
-            store,
-            &AllTogether {
-                tool: OfTwo { tool },
-                operands,
-            },
-            inputs,
-            out,
-            voice,
-        ),
+        Command::Uniq(tool, operands) => {
+            let engine = AllTogether { tool, operands };
+            run_engine(store, &engine, inputs, out, voice)
+        }
+        Command::Comm(tool, operands) => {
+            let tool = OfTwo { tool };
+            run_engine(store, &AllTogether { tool, operands }, inputs, out, voice)
+        }
+        Command::Join(tool, operands) => {
+            let tool = OfTwo { tool };
+            run_engine(store, &AllTogether { tool, operands }, inputs, out, voice)
+        }
     }
 }
 
