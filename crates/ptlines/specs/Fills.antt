@@ -9,6 +9,12 @@ use Rattle.ptlines.specs.declared.reader.Step.TheVariants.{More, Line, End}
 use Rattle.ptlines.specs.Slots.{Slots, line, with_line, with_denied}
 use Rattle.ptlines.specs.Readers.{Reader, Goes, Faults, IsDone, IsSound, HasReadCause, budget}
 
+-- A line may be put into a slot: the reader is sound and has answered no fault, and the store has the slot.
+pub record MayFill (r : Reader) (s : Slots) (slot : ℕ) : Type 0 where
+  pub clean : r.fault ≡ None
+  pub sound : IsSound r
+  pub in_store : slot < length s.lines
+
 -- The first bytes of the block were given to the slot, or memory was refused and nothing was given.
 abbrev pub Moves : Reader → Reader → Slots → Slots → ℕ → ℕ → Result (Unit {0}) LineFault → Type 0
 Moves old new before after slot count (Ok u) = (new ≡ record old { held = drop count old.held }) × (after ≡ with_line before slot (line before slot ++ take count old.held))

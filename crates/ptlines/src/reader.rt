@@ -8,8 +8,8 @@ ghost use Rattle.std.specs.Io.KnownBytes.{IsAtEnd};
 ghost use Rattle.std.specs.Io.BufRead.{Rests};
 ghost use Rattle.ptlines.specs.Origins.{origin_state, is_refused};
 ghost use Rattle.ptlines.specs.Sources.{Pulls, refused_state};
-ghost use Rattle.ptlines.specs.Readers.{Refills, IsSound, new_reader};
-ghost use Rattle.ptlines.specs.Fills.{Moves, Steps, GivesLine, Fills, Blocks};
+ghost use Rattle.ptlines.specs.Readers.{NeedsRead, Refills, IsSound, new_reader};
+ghost use Rattle.ptlines.specs.Fills.{MayFill, Moves, Steps, GivesLine, Fills, Blocks};
 ghost use Rattle.ptlines.specs.contracts.reader.LineReader.{the_row};
 
 use crate::out::{Out, WriteFault};
@@ -65,9 +65,8 @@ impl<S: Source, R: Source> Model for LineReader<S, R> {
 // Reads into the first 8,192 bytes of a block, and not into the 64 after them.
 fn pull_front<S: Source, R: Source>(
     origin: &mut Origin<S, R>,
-    block: &mut [u8],
+    block: &mut [u8; 8256],
 ) -> Result<usize, Failed>
-    requires { 8192 ≤ length block.old }
     ensures pulled { Pulls (origin_state S.state R.state origin.old) (origin_state S.state R.state origin.new)
         (take 8192 block.new) result }
     ensures refused { is_refused origin.new ≡ is_refused origin.old }
@@ -181,9 +180,7 @@ impl<S: Source, R: Source> LineReader<S, R> {
 
     // Fills the block, which is empty, by one read. False: the source has ended.
     fn refill(&mut self) -> Result<bool, LineFault>
-        requires empty { self.old.held ≡ [] }
-        requires clean { self.old.fault ≡ None }
-        requires going { self.old.ended ≡ false }
+        requires { NeedsRead self.old }
         ensures refills { Refills self.old self.new result }
         ensures sound { IsSound self.new }
     {
@@ -246,9 +243,8 @@ impl<S: Source, R: Source> LineReader<S, R> {
         store: &mut Store<A>,
         slot: usize,
     ) -> Result<Step, LineFault>
-        requires clean { self.old.fault ≡ None }
+        requires may { MayFill self.old store.old slot }
         requires some { 0 < length self.old.held }
-        requires in_store { slot < length store.old.lines }
         ensures steps { Steps self.old self.new store.old store.new slot result }
         ensures slots { length store.new.lines ≡ length store.old.lines }
         ensures sound { IsSound self.new }
@@ -274,8 +270,7 @@ impl<S: Source, R: Source> LineReader<S, R> {
         store: &mut Store<A>,
         slot: usize,
     ) -> Result<Step, LineFault>
-        requires clean { self.old.fault ≡ None }
-        requires in_store { slot < length store.old.lines }
+        requires { MayFill self.old store.old slot }
         ensures steps { Steps self.old self.new store.old store.new slot result }
         ensures slots { length store.new.lines ≡ length store.old.lines }
         ensures sound { IsSound self.new }
@@ -296,8 +291,7 @@ impl<S: Source, R: Source> LineReader<S, R> {
     // done.
     #[inline(always)]
     fn fill_near<A: Allocator + Copy>(&mut self, store: &mut Store<A>, slot: usize) -> bool
-        requires clean { self.old.fault ≡ None }
-        requires in_store { slot < length store.old.lines }
+        requires { MayFill self.old store.old slot }
         ensures line { result ≡ true → GivesLine self.old self.new store.old store.new slot }
         ensures none { result ≡ false → (self.new ≡ self.old) × (store.new ≡ store.old) }
         ensures slots { length store.new.lines ≡ length store.old.lines }
@@ -323,9 +317,7 @@ impl<S: Source, R: Source> LineReader<S, R> {
         store: &mut Store<A>,
         slot: usize,
     ) -> Result<bool, LineFault>
-        requires clean { self.old.fault ≡ None }
-        requires sound { IsSound self.old }
-        requires in_store { slot < length store.old.lines }
+        requires { MayFill self.old store.old slot }
         ensures fills { Fills self.old self.new store.old store.new slot result }
         ensures slots { length store.new.lines ≡ length store.old.lines }
         ensures sound { IsSound self.new }

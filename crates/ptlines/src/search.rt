@@ -45,19 +45,6 @@ pub fn find_in<const N: usize>(byte: u8, bytes: &[u8], at: usize) -> Option<usiz
     Some(at + marked.trailing_zeros() as usize)
 }
 
-// The same for 48 bytes.
-#[inline(always)]
-fn find_in_48(byte: u8, bytes: &[u8], at: usize) -> Option<usize>
-    requires { at + 48 ≤ length bytes.now }
-    ensures { IsFirst (Passes (is_byte byte) bytes.now) at (at + 48) result }
-{
-    let marked = marks_in_48(byte, bytes, at);
-    if marked == 0 {
-        return None;
-    }
-    Some(at + marked.trailing_zeros() as usize)
-}
-
 // Bits for the first 64 bytes, the lowest of which is right. The first 16 are looked at by themselves, since the byte
 // is often one of them; the others are looked at if it is not.
 #[inline(always)]

@@ -13,11 +13,11 @@ fits old new into (Err e) long failed = tt
 
 pub returns-clause-pulled : goal.returns-clause-pulled
 returns-clause-pulled g c =
-    let long : length c.pull.new.into ≡ 8192 = omega (arith, c.pull.auto.into, length-take 8192 c.args.block.now, c.requires) in
+    let long : length c.pull.new.into ≡ 8192 = omega (arith, c.pull.auto.into, length-take 8192 c.args.block.now) in
     subst (λ (l : List ℕ). Pulls (origin_state g.S.Source.state g.R.Source.state c.args.origin.now)
     (origin_state g.S.Source.state g.R.Source.state c.pull.new.self) l c.pull.result) (sym (whole c.pull.new.into (drop 8192 c.args.block.now) long)) c.pull.ensures.pulled
 
 pub returns-clause-few : goal.returns-clause-few
 returns-clause-few g c =
-    let long : length c.pull.new.into ≡ 8192 = omega (arith, c.pull.auto.into, length-take 8192 c.args.block.now, c.requires) in
+    let long : length c.pull.new.into ≡ 8192 = omega (arith, c.pull.auto.into, length-take 8192 c.args.block.now) in
     fits _ _ c.pull.new.into c.pull.result long c.pull.ensures.pulled

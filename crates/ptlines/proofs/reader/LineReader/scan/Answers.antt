@@ -9,11 +9,11 @@ found a b hay r is first = subst (λ (x : ℕ). IsFirstByte (is_byte x) hay r) i
 pub returns-in_ok-give-in-Some-clause-steps : goal.returns-in_ok-give-in-Some-clause-steps
 returns-in_ok-give-in-Some-clause-steps g c =
     let moved = c.in_ok-give-in-Some.ensures.moves in
-    gives_end c.args.self.now c.give.new.self c.consume.new.self c.held.result.now c.args.store.now c.give.new.store c.args.slot c.in-Some.at c.requires.clean c.held.ensures.held
+    gives_end c.args.self.now c.give.new.self c.consume.new.self c.held.result.now c.args.store.now c.give.new.store c.args.slot c.in-Some.at c.requires.may.clean c.held.ensures.held
     (found _ _ c.held.result.now (Some c.in-Some.at) c.ending.ensures c.in-Some.ensures) moved.0 c.consume.ensures.consumed moved.1
 
 pub returns-in_ok-give-in-None-clause-steps : goal.returns-in_ok-give-in-None-clause-steps
 returns-in_ok-give-in-None-clause-steps g c =
     let moved = c.in_ok-give-in-None.ensures.moves in
-    gives_piece c.args.self.now c.give-in-None.new.self c.held.result.now c.args.store.now c.give-in-None.new.store c.args.slot _ c.requires.clean c.requires.some c.held.ensures.held
+    gives_piece c.args.self.now c.give-in-None.new.self c.held.result.now c.args.store.now c.give-in-None.new.store c.args.slot _ c.requires.may.clean c.requires.some c.held.ensures.held
     (found _ _ c.held.result.now None c.ending.ensures c.in-None.ensures) (ap length c.held-count.ensures.held) moved.0 moved.1
