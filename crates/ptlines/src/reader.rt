@@ -13,7 +13,7 @@ ghost use Rattle.ptlines.specs.Fills.{MayFill, Moves, Steps, GivesLine, Fills, B
 ghost use Rattle.ptlines.specs.contracts.reader.LineReader.{the_row};
 
 use crate::out::{Out, WriteFault};
-use crate::search::{find_in_64, find_near};
+use crate::search::{Front, find_in_64, find_near};
 use crate::sink::{Failed, Sink};
 use crate::source::{Origin, Source};
 use crate::store::{LineFault, Store};
@@ -297,7 +297,9 @@ impl<S: Source, R: Source> LineReader<S, R> {
         ensures slots { length store.new.lines ≡ length store.old.lines }
         ensures sound { IsSound self.new }
     {
-        let front = &self.block[self.start..];
+        let front = Front {
+            bytes: &self.block[self.start..],
+        };
         let Some(size) = find_in_64(self.ending, front) else {
             return false;
         };

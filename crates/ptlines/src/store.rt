@@ -3,6 +3,7 @@
 ghost use Rattle.std.specs.Prelude.{◌≡◌, ℕ, ◌<◌, ◌≤◌, ◌≢◌, true, false, [], ◌∷◌, ◌++◌, length, take, ◌+◌, replicate, swap, slice_set, slice_index_or, IfOk, OnOk, OnErr};
 ghost use Rattle.ptlines.specs.Slots.{AreShort, line, total, with_line, with_added, with_denied};
 
+use crate::search::Front;
 use crate::slot::Slot;
 use std::alloc::{AllocError, Allocator, Global};
 use std::marker::Model;
@@ -144,16 +145,15 @@ impl<A: Allocator + Copy> Store<A> {
         self.held -= count as u128;
     }
 
-    // Makes a slot hold the first `size` bytes. They are fewer than 64, but there are at least 64.
+    // Makes a slot hold the first `size` bytes. They are fewer than 64.
     #[inline(always)]
-    pub(crate) fn put_near(&mut self, slot: usize, bytes: &[u8], size: usize)
+    pub(crate) fn put_near(&mut self, slot: usize, front: Front, size: usize)
         requires in_store { slot < length self.old.lines }
         requires near { size < 64 }
-        requires within { 64 ≤ length bytes.now }
-        ensures { self.new ≡ with_line self.old slot (take size bytes.now) }
+        ensures { self.new ≡ with_line self.old slot (take size front.entry.bytes.now) }
     {
         let was = self.slots[slot].size();
-        self.slots[slot].put_near(bytes, size);
+        self.slots[slot].put_near(front, size);
         self.held = self.held - was as u128 + size as u128;
         // It is written only where it grew, since this is done for each line.
         if self.held > self.peak {

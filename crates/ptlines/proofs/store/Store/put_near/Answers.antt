@@ -29,14 +29,14 @@ invariant_of-self g c =
     let s = c.self.inside in
     let low = subst (λ (t : Slots). c.args.slot < length t.lines) (sym c.self.view_is) c.requires.in_store in
     put_counted s.slots.items c.args.slot s.held c.index.result.now low c.index.ensures c.self.invariant.0 c.self.invariant.2 c.size-was.result c.size-was.ensures.size
-    c.args.bytes.now 64 c.args.size (omega arith) c.requires.near c.requires.within c.put_near.new.self c.put_near.ensures _ (omega arith)
+    c.args.front.bytes.now 64 c.args.size (omega arith) c.requires.near c.args.front.long c.put_near.new.self c.put_near.ensures _ (omega arith)
 
 pub invariant_of-self-else-self : goal.invariant_of-self-else-self
 invariant_of-self-else-self g c =
     let s = c.self.inside in
     let low = subst (λ (t : Slots). c.args.slot < length t.lines) (sym c.self.view_is) c.requires.in_store in
     put_counted s.slots.items c.args.slot s.held c.index.result.now low c.index.ensures c.self.invariant.0 c.self.invariant.2 c.size-was.result c.size-was.ensures.size
-    c.args.bytes.now 64 c.args.size (omega arith) c.requires.near c.requires.within c.put_near.new.self c.put_near.ensures s.peak (omega (arith, c.if-self.false))
+    c.args.front.bytes.now 64 c.args.size (omega arith) c.requires.near c.args.front.long c.put_near.new.self c.put_near.ensures s.peak (omega (arith, c.if-self.false))
 
 pub returns-then-self : goal.returns-then-self
 returns-then-self g c = written c.args.slot c.self.view_is c.put_near.ensures (invariant_of-self g c).0 (omega (arith, c.self.invariant.1, c.if-self.true))
