@@ -92,7 +92,7 @@ pub record NeedsRead (r : Reader) : Type 0 where
   pub clean : r.fault ≡ None
   pub going : r.ended ≡ false
 
--- the empty block was filled: true is that bytes came, false that the source said its end
+-- the block was filled where it was empty: true is that it holds bytes, false that the source said its end
 abbrev pub Refills : Reader → Reader → Result Bool LineFault → Type 0
 Refills old new (Ok true) = Goes old new [] × (0 < length new.held)
 Refills old new (Ok false) = Goes old new [] × IsDone new

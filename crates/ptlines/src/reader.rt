@@ -208,6 +208,22 @@ impl<S: Source, R: Source> LineReader<S, R> {
         }
     }
 
+    // Reads if nothing is held. False: nothing is held, and the source has ended.
+    #[inline(always)]
+    fn has_more(&mut self) -> Result<bool, LineFault>
+        requires { self.old.fault ≡ None }
+        ensures refills { Refills self.old self.new result }
+        ensures sound { IsSound self.new }
+    {
+        if !self.held().is_empty() {
+            return Ok(true);
+        }
+        if self.has_ended() {
+            return Ok(false);
+        }
+        self.refill()
+    }
+
     // Gives the first `count` bytes of the block to a slot.
     #[inline(always)]
     fn give<A: Allocator + Copy>(
@@ -236,19 +252,21 @@ impl<S: Source, R: Source> LineReader<S, R> {
         }
     }
 
-    // Gives the held bytes up to the first end of a line to a slot, and passes that end.
+    // Gives the next piece of a line to a slot: the held bytes up to the first end of a line, which is passed.
     #[inline(always)]
-    fn scan<A: Allocator + Copy>(
+    fn step<A: Allocator + Copy>(
         &mut self,
         store: &mut Store<A>,
         slot: usize,
     ) -> Result<Step, LineFault>
-        requires may { MayFill self.old store.old slot }
-        requires some { 0 < length self.old.held }
+        requires { MayFill self.old store.old slot }
         ensures steps { Steps self.old self.new store.old store.new slot result }
         ensures slots { length store.new.lines ≡ length store.old.lines }
         ensures sound { IsSound self.new }
     {
+        if !self.has_more()? {
+            return Ok(Step::End);
+        }
         match find_near(self.ending(), self.held()) {
             Some(at) => {
                 self.give(store, slot, at)?;
@@ -261,30 +279,6 @@ impl<S: Source, R: Source> LineReader<S, R> {
                 Ok(Step::More)
             }
         }
-    }
-
-    // Gives the next piece of a line to a slot.
-    #[inline(always)]
-    fn step<A: Allocator + Copy>(
-        &mut self,
-        store: &mut Store<A>,
-        slot: usize,
-    ) -> Result<Step, LineFault>
-        requires { MayFill self.old store.old slot }
-        ensures steps { Steps self.old self.new store.old store.new slot result }
-        ensures slots { length store.new.lines ≡ length store.old.lines }
-        ensures sound { IsSound self.new }
-    {
-        if !self.held().is_empty() {
-            return self.scan(store, slot);
-        }
-        if self.has_ended() {
-            return Ok(Step::End);
-        }
-        if !self.refill()? {
-            return Ok(Step::End);
-        }
-        self.scan(store, slot)
     }
 
     // Puts the next line into a slot, if its end is one of the next 64 bytes. False: it is not, and nothing was
