@@ -7,13 +7,13 @@ ghost use Rattle.std.specs.Borrow.{sem};
 ghost use Rattle.std.specs.Io.KnownBytes.{IsAtEnd};
 ghost use Rattle.std.specs.Io.BufRead.{Rests};
 ghost use Rattle.ptlines.specs.Origins.{origin_state, is_refused};
-ghost use Rattle.ptlines.specs.Sources.{Pulls, refused_state};
+ghost use Rattle.ptlines.specs.Sources.{IsFresh, Pulls, refused_state};
 ghost use Rattle.ptlines.specs.Readers.{NeedsRead, Refills, IsSound, new_reader};
 ghost use Rattle.ptlines.specs.Fills.{MayFill, Moves, Steps, GivesLine, Fills, Blocks};
 ghost use Rattle.ptlines.specs.contracts.reader.LineReader.{the_row};
 
 use crate::out::{Out, WriteFault};
-use crate::search::{Front, find_in_64, find_near};
+use crate::search::{Front, NearLine, find_in_64, find_near};
 use crate::sink::{Failed, Sink};
 use crate::source::{Origin, Source};
 use crate::store::{LineFault, Store};
@@ -77,8 +77,7 @@ fn pull_front<S: Source, R: Source>(
 
 impl<S: Source, R: Source> LineReader<S, R> {
     fn over(origin: Origin<S, R>) -> Self
-        requires unended { (origin_state S.state R.state origin).ended ≡ false }
-        requires unfailed { is_refused origin ≡ false → (origin_state S.state R.state origin).failed ≡ false }
+        requires { is_refused origin ≡ false → IsFresh (origin_state S.state R.state origin) }
         ensures { result ≡ new_reader (origin_state S.state R.state origin) (is_refused origin) }
     {
         LineReader {
@@ -95,8 +94,7 @@ impl<S: Source, R: Source> LineReader<S, R> {
 
     /// A reader of standard input. The source must be new: it has neither ended nor failed.
     pub fn standard(source: S) -> Self
-        requires unfailed { (S.state source).failed ≡ false }
-        requires unended { (S.state source).ended ≡ false }
+        requires { IsFresh (S.state source) }
         ensures { result ≡ new_reader (S.state source) false }
     {
         Self::over(Origin::Standard(source))
@@ -104,8 +102,7 @@ impl<S: Source, R: Source> LineReader<S, R> {
 
     /// A reader of a file. The source must be new: it has neither ended nor failed.
     pub fn file(source: R) -> Self
-        requires unfailed { (R.state source).failed ≡ false }
-        requires unended { (R.state source).ended ≡ false }
+        requires { IsFresh (R.state source) }
         ensures { result ≡ new_reader (R.state source) false }
     {
         Self::over(Origin::File(source))
@@ -301,7 +298,7 @@ impl<S: Source, R: Source> LineReader<S, R> {
         if at >= self.end {
             return false;
         }
-        store.put_near(slot, front, size);
+        store.put_near(slot, NearLine { front, size });
         self.start = at + 1;
         true
     }

@@ -15,6 +15,14 @@ pub(crate) struct Front<'a> {
     ghost long: { 64 ≤ length bytes.now },
 }
 
+// A line of fewer than 64 bytes, the first ones of a front.
+#[derive(Clone, Copy)]
+pub(crate) struct NearLine<'a> {
+    pub(crate) front: Front<'a>,
+    pub(crate) size: usize,
+    ghost near: { size < 64 },
+}
+
 // A bit for each of the N bytes from `at` on, the lowest for the first: whether it is this byte. N is at most 64.
 #[inline(always)]
 fn marks_in<const N: usize>(byte: u8, bytes: &[u8], at: usize) -> u64

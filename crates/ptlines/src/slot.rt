@@ -2,7 +2,7 @@
 
 ghost use Rattle.std.specs.Prelude.{◌≡◌, ◌<◌, ◌≤◌, ◌+◌, ◌^◌, [], ◌++◌, length, take, IfOk, OnOk, OnErr};
 
-use crate::search::Front;
+use crate::search::NearLine;
 use std::alloc::{AllocError, Allocator};
 use std::marker::Model;
 use std::simd::prelude::*;
@@ -60,17 +60,16 @@ impl<A: Allocator + Copy> Slot<A> {
         self.size = 0;
     }
 
-    // Makes the first `size` bytes the line. They are fewer than 64, so that whole vectors are copied. Fewer than 16
-    // take a shorter store.
+    // Makes this the line, by one store of a whole vector. Fewer than 16 bytes take a shorter one.
     #[inline(always)]
-    pub(crate) fn put_near(&mut self, front: Front, size: usize)
-        requires { size < 64 }
-        ensures { self.new ≡ take size front.entry.bytes.now }
+    pub(crate) fn put_near(&mut self, near: NearLine)
+        ensures { self.new ≡ take near.entry.size near.entry.front.bytes.now }
     {
+        let (bytes, size) = (near.front.bytes, near.size);
         if size < 16 {
-            Simd::<u8, 16>::from_slice(front.bytes).copy_to_slice(&mut self.buffer);
+            Simd::<u8, 16>::from_slice(bytes).copy_to_slice(&mut self.buffer);
         } else {
-            Simd::<u8, 64>::from_slice(front.bytes).copy_to_slice(&mut self.buffer);
+            Simd::<u8, 64>::from_slice(bytes).copy_to_slice(&mut self.buffer);
         }
         self.size = size;
     }

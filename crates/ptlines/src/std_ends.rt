@@ -46,6 +46,7 @@ impl<R: Read + Drop> Source for FromRead<R> {
     ghost state = { telling_none };
 
     fn pull(&mut self, into: &mut [u8]) -> Result<usize, Failed>
+        requires { 0 < length into.old }
         ensures pulled { Pulls (telling_none self.old) (telling_none self.new) into.new result }
         ensures bytes { ReadConsumes self.old.left self.new.left result into.new }
     {
@@ -103,6 +104,8 @@ impl<W: Write + Drop> Sink for FromWrite<W> {
     ghost state = { telling_none };
 
     fn put(&mut self, bytes: &[u8]) -> Result<usize, Failed>
+        requires some { 0 < length bytes.now }
+        requires unfailed { self.old.failed ≡ false }
         ensures put { Puts (telling_none self.old) (telling_none self.new) bytes.now result }
         ensures bytes { WriteAppends self.old.taken self.new.taken result bytes.now }
     {
@@ -123,6 +126,7 @@ impl<W: Write + Drop> Sink for FromWrite<W> {
     }
 
     fn flush(&mut self) -> Result<(), Failed>
+        requires { self.old.failed ≡ false }
         ensures flushed { Flushes (telling_none self.old) (telling_none self.new) result }
         ensures bytes { Keeps self.old.taken self.new.taken }
     {
