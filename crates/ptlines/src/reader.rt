@@ -62,7 +62,7 @@ impl<S: Source, R: Source> Model for LineReader<S, R> {
         r.pulled r.fault (is_refused r.origin) r.ending) };
 }
 
-// Reads into the first 8,192 bytes of a block, and not into the 64 after them.
+// Reads into the first 8,192 bytes of a block, and not into the 64 after them. A file that could not be opened fails.
 fn pull_front<S: Source, R: Source>(
     origin: &mut Origin<S, R>,
     block: &mut [u8; 8256],
@@ -72,7 +72,12 @@ fn pull_front<S: Source, R: Source>(
     ensures refused { is_refused origin.new ≡ is_refused origin.old }
     ensures few { IfOk result (λ count. count ≤ 8192) }
 {
-    origin.pull(&mut block[..8192])
+    let front = &mut block[..8192];
+    match origin {
+        Origin::Standard(source) => source.pull(front),
+        Origin::File(source) => source.pull(front),
+        Origin::Refused => Err(Failed),
+    }
 }
 
 impl<S: Source, R: Source> LineReader<S, R> {
