@@ -11,3 +11,8 @@ pub record AreCovered (n : ℕ) (bytes : List ℕ) : Type 0 where
   pub lanes : n ≤ 64
   pub first : n ≤ length bytes
   pub all : length bytes ≤ n + n
+
+-- n bytes from one place on may be copied to another: they are there, and there is room for them
+pub record MayCopy (n from : ℕ) (bytes : List ℕ) (at : ℕ) (into : List ℕ) : Type 0 where
+  pub within : from + n ≤ length bytes
+  pub room : at + n ≤ length into

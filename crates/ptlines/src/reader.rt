@@ -9,7 +9,7 @@ ghost use Rattle.std.specs.Io.BufRead.{Rests};
 ghost use Rattle.ptlines.specs.Origins.{origin_state, is_refused};
 ghost use Rattle.ptlines.specs.Sources.{IsFresh, Pulls, refused_state};
 ghost use Rattle.ptlines.specs.Readers.{NeedsRead, Refills, IsSound, new_reader};
-ghost use Rattle.ptlines.specs.Fills.{MayFill, Moves, Steps, GivesLine, Fills, Blocks};
+ghost use Rattle.ptlines.specs.Fills.{MayFill, MayGive, Moves, Steps, GivesLine, Fills, Blocks};
 ghost use Rattle.ptlines.specs.contracts.reader.LineReader.{the_row};
 
 use crate::out::{Out, WriteFault};
@@ -234,8 +234,7 @@ impl<S: Source, R: Source> LineReader<S, R> {
         slot: usize,
         count: usize,
     ) -> Result<(), LineFault>
-        requires within { count ≤ length self.old.held }
-        requires in_store { slot < length store.old.lines }
+        requires { MayGive self.old store.old slot count }
         ensures moves { Moves self.old self.new store.old store.new slot count result }
         ensures slots { length store.new.lines ≡ length store.old.lines }
         ensures sound { IsSound self.new }
