@@ -1,5 +1,5 @@
 -- What the calls of a reader do to it and to the store.
-use Rattle.std.specs.Prelude.{◌≡◌, ◌⊎◌, ℕ, ◌<◌, Bool, true, false, List, [], ◌∷◌, ◌++◌, length, take, drop, Option, Result, Ok, Err, None, Some}
+use Rattle.std.specs.Prelude.{◌≡◌, ◌⊎◌, ℕ, ◌<◌, ◌≤◌, Bool, true, false, List, [], ◌∷◌, ◌++◌, length, take, drop, Option, Result, Ok, Err, None, Some}
 use Rattle.std.specs.Borrow.{Bor}
 use Rattle.ptlines.specs.Text.{IsLine}
 use Rattle.ptlines.specs.declared.store.LineFault.{LineFault}
@@ -8,6 +8,17 @@ use Rattle.ptlines.specs.declared.reader.Step.{Step}
 use Rattle.ptlines.specs.declared.reader.Step.TheVariants.{More, Line, End}
 use Rattle.ptlines.specs.Slots.{Slots, line, with_line, with_denied}
 use Rattle.ptlines.specs.Readers.{Reader, Goes, Faults, IsDone, IsSound, HasReadCause, budget}
+
+-- A line may be put into a slot: the reader is sound and has answered no fault, and the store has the slot.
+pub record MayFill (r : Reader) (s : Slots) (slot : ℕ) : Type 0 where
+  pub clean : r.fault ≡ None
+  pub sound : IsSound r
+  pub in_store : slot < length s.lines
+
+-- the first bytes of the block may be given to a slot: so many are held, and the store has the slot
+pub record MayGive (r : Reader) (s : Slots) (slot count : ℕ) : Type 0 where
+  pub within : count ≤ length r.held
+  pub in_store : slot < length s.lines
 
 -- The first bytes of the block were given to the slot, or memory was refused and nothing was given.
 abbrev pub Moves : Reader → Reader → Slots → Slots → ℕ → ℕ → Result (Unit {0}) LineFault → Type 0

@@ -86,7 +86,13 @@ pub record Goes (old new : Reader) (bytes : List ℕ) : Type 0 where
 abbrev pub budget : Reader → ℕ
 budget r = 2 ^ 63 + length r.held - r.pulled
 
--- the empty block was filled: true is that bytes came, false that the source said its end
+-- A read is needed: nothing is held, no fault was answered, and the source has not said its end.
+pub record NeedsRead (r : Reader) : Type 0 where
+  pub empty : r.held ≡ []
+  pub clean : r.fault ≡ None
+  pub going : r.ended ≡ false
+
+-- the block was filled where it was empty: true is that it holds bytes, false that the source said its end
 abbrev pub Refills : Reader → Reader → Result Bool LineFault → Type 0
 Refills old new (Ok true) = Goes old new [] × (0 < length new.held)
 Refills old new (Ok false) = Goes old new [] × IsDone new

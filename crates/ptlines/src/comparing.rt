@@ -2,7 +2,7 @@
 
 ghost use Rattle.std.specs.Prelude.{◌≡◌, ◌≤◌, ◌<◌, ◌+◌, length, take, drop, min};
 ghost use Rattle.std.specs.Int.{w32, w64, from_be_bytes};
-ghost use Rattle.ptlines.specs.Orders.{byte_cmp};
+ghost use Rattle.ptlines.specs.Orders.{StartAlike, byte_cmp};
 
 use std::cmp::Ordering;
 
@@ -80,8 +80,7 @@ fn compare_few(a: &[u8], b: &[u8]) -> Ordering
 // Byte order where the first 8 bytes are the same: by 8 more at a time, of which the last may overlap the ones before.
 #[inline(never)]
 fn compare_on(a: &[u8], b: &[u8]) -> Ordering
-    requires long { (8 ≤ length a.now) × (8 ≤ length b.now) }
-    requires same { take 8 a.now ≡ take 8 b.now }
+    requires { StartAlike 8 a.now b.now }
     ensures { result ≡ byte_cmp a.now b.now }
 {
     let least = a.len().min(b.len());

@@ -7,13 +7,13 @@ ghost use Rattle.std.specs.Borrow.{sem};
 ghost use Rattle.std.specs.Io.KnownBytes.{IsAtEnd};
 ghost use Rattle.std.specs.Io.BufRead.{Rests};
 ghost use Rattle.ptlines.specs.Origins.{origin_state, is_refused};
-ghost use Rattle.ptlines.specs.Sources.{Pulls, refused_state};
-ghost use Rattle.ptlines.specs.Readers.{Refills, IsSound, new_reader};
-ghost use Rattle.ptlines.specs.Fills.{Moves, Steps, GivesLine, Fills, Blocks};
+ghost use Rattle.ptlines.specs.Sources.{IsFresh, Pulls, refused_state};
+ghost use Rattle.ptlines.specs.Readers.{NeedsRead, Refills, IsSound, new_reader};
+ghost use Rattle.ptlines.specs.Fills.{MayFill, MayGive, Moves, Steps, GivesLine, Fills, Blocks};
 ghost use Rattle.ptlines.specs.contracts.reader.LineReader.{the_row};
 
 use crate::out::{Out, WriteFault};
-use crate::search::{find_in_64, find_near};
+use crate::search::{Front, NearLine, find_in_64, find_near};
 use crate::sink::{Failed, Sink};
 use crate::source::{Origin, Source};
 use crate::store::{LineFault, Store};
@@ -62,24 +62,27 @@ impl<S: Source, R: Source> Model for LineReader<S, R> {
         r.pulled r.fault (is_refused r.origin) r.ending) };
 }
 
-// Reads into the first 8,192 bytes of a block, and not into the 64 after them.
+// Reads into the first 8,192 bytes of a block, and not into the 64 after them. A file that could not be opened fails.
 fn pull_front<S: Source, R: Source>(
     origin: &mut Origin<S, R>,
-    block: &mut [u8],
+    block: &mut [u8; 8256],
 ) -> Result<usize, Failed>
-    requires { 8192 ≤ length block.old }
     ensures pulled { Pulls (origin_state S.state R.state origin.old) (origin_state S.state R.state origin.new)
         (take 8192 block.new) result }
     ensures refused { is_refused origin.new ≡ is_refused origin.old }
     ensures few { IfOk result (λ count. count ≤ 8192) }
 {
-    origin.pull(&mut block[..8192])
+    let front = &mut block[..8192];
+    match origin {
+        Origin::Standard(source) => source.pull(front),
+        Origin::File(source) => source.pull(front),
+        Origin::Refused => Err(Failed),
+    }
 }
 
 impl<S: Source, R: Source> LineReader<S, R> {
     fn over(origin: Origin<S, R>) -> Self
-        requires unended { (origin_state S.state R.state origin).ended ≡ false }
-        requires unfailed { is_refused origin ≡ false → (origin_state S.state R.state origin).failed ≡ false }
+        requires { is_refused origin ≡ false → IsFresh (origin_state S.state R.state origin) }
         ensures { result ≡ new_reader (origin_state S.state R.state origin) (is_refused origin) }
     {
         LineReader {
@@ -96,8 +99,7 @@ impl<S: Source, R: Source> LineReader<S, R> {
 
     /// A reader of standard input. The source must be new: it has neither ended nor failed.
     pub fn standard(source: S) -> Self
-        requires unfailed { (S.state source).failed ≡ false }
-        requires unended { (S.state source).ended ≡ false }
+        requires { IsFresh (S.state source) }
         ensures { result ≡ new_reader (S.state source) false }
     {
         Self::over(Origin::Standard(source))
@@ -105,8 +107,7 @@ impl<S: Source, R: Source> LineReader<S, R> {
 
     /// A reader of a file. The source must be new: it has neither ended nor failed.
     pub fn file(source: R) -> Self
-        requires unfailed { (R.state source).failed ≡ false }
-        requires unended { (R.state source).ended ≡ false }
+        requires { IsFresh (R.state source) }
         ensures { result ≡ new_reader (R.state source) false }
     {
         Self::over(Origin::File(source))
@@ -181,9 +182,7 @@ impl<S: Source, R: Source> LineReader<S, R> {
 
     // Fills the block, which is empty, by one read. False: the source has ended.
     fn refill(&mut self) -> Result<bool, LineFault>
-        requires empty { self.old.held ≡ [] }
-        requires clean { self.old.fault ≡ None }
-        requires going { self.old.ended ≡ false }
+        requires { NeedsRead self.old }
         ensures refills { Refills self.old self.new result }
         ensures sound { IsSound self.new }
     {
@@ -211,6 +210,22 @@ impl<S: Source, R: Source> LineReader<S, R> {
         }
     }
 
+    // Reads if nothing is held. False: nothing is held, and the source has ended.
+    #[inline(always)]
+    fn has_more(&mut self) -> Result<bool, LineFault>
+        requires { self.old.fault ≡ None }
+        ensures refills { Refills self.old self.new result }
+        ensures sound { IsSound self.new }
+    {
+        if !self.held().is_empty() {
+            return Ok(true);
+        }
+        if self.has_ended() {
+            return Ok(false);
+        }
+        self.refill()
+    }
+
     // Gives the first `count` bytes of the block to a slot.
     #[inline(always)]
     fn give<A: Allocator + Copy>(
@@ -219,8 +234,7 @@ impl<S: Source, R: Source> LineReader<S, R> {
         slot: usize,
         count: usize,
     ) -> Result<(), LineFault>
-        requires within { count ≤ length self.old.held }
-        requires in_store { slot < length store.old.lines }
+        requires { MayGive self.old store.old slot count }
         ensures moves { Moves self.old self.new store.old store.new slot count result }
         ensures slots { length store.new.lines ≡ length store.old.lines }
         ensures sound { IsSound self.new }
@@ -239,20 +253,21 @@ impl<S: Source, R: Source> LineReader<S, R> {
         }
     }
 
-    // Gives the held bytes up to the first end of a line to a slot, and passes that end.
+    // Gives the next piece of a line to a slot: the held bytes up to the first end of a line, which is passed.
     #[inline(always)]
-    fn scan<A: Allocator + Copy>(
+    fn step<A: Allocator + Copy>(
         &mut self,
         store: &mut Store<A>,
         slot: usize,
     ) -> Result<Step, LineFault>
-        requires clean { self.old.fault ≡ None }
-        requires some { 0 < length self.old.held }
-        requires in_store { slot < length store.old.lines }
+        requires { MayFill self.old store.old slot }
         ensures steps { Steps self.old self.new store.old store.new slot result }
         ensures slots { length store.new.lines ≡ length store.old.lines }
         ensures sound { IsSound self.new }
     {
+        if !self.has_more()? {
+            return Ok(Step::End);
+        }
         match find_near(self.ending(), self.held()) {
             Some(at) => {
                 self.give(store, slot, at)?;
@@ -267,43 +282,19 @@ impl<S: Source, R: Source> LineReader<S, R> {
         }
     }
 
-    // Gives the next piece of a line to a slot.
-    #[inline(always)]
-    fn step<A: Allocator + Copy>(
-        &mut self,
-        store: &mut Store<A>,
-        slot: usize,
-    ) -> Result<Step, LineFault>
-        requires clean { self.old.fault ≡ None }
-        requires in_store { slot < length store.old.lines }
-        ensures steps { Steps self.old self.new store.old store.new slot result }
-        ensures slots { length store.new.lines ≡ length store.old.lines }
-        ensures sound { IsSound self.new }
-    {
-        if !self.held().is_empty() {
-            return self.scan(store, slot);
-        }
-        if self.has_ended() {
-            return Ok(Step::End);
-        }
-        if !self.refill()? {
-            return Ok(Step::End);
-        }
-        self.scan(store, slot)
-    }
-
     // Puts the next line into a slot, if its end is one of the next 64 bytes. False: it is not, and nothing was
     // done.
     #[inline(always)]
     fn fill_near<A: Allocator + Copy>(&mut self, store: &mut Store<A>, slot: usize) -> bool
-        requires clean { self.old.fault ≡ None }
-        requires in_store { slot < length store.old.lines }
+        requires { MayFill self.old store.old slot }
         ensures line { result ≡ true → GivesLine self.old self.new store.old store.new slot }
         ensures none { result ≡ false → (self.new ≡ self.old) × (store.new ≡ store.old) }
         ensures slots { length store.new.lines ≡ length store.old.lines }
         ensures sound { IsSound self.new }
     {
-        let front = &self.block[self.start..];
+        let front = Front {
+            bytes: &self.block[self.start..],
+        };
         let Some(size) = find_in_64(self.ending, front) else {
             return false;
         };
@@ -311,7 +302,7 @@ impl<S: Source, R: Source> LineReader<S, R> {
         if at >= self.end {
             return false;
         }
-        store.put_near(slot, front, size);
+        store.put_near(slot, NearLine { front, size });
         self.start = at + 1;
         true
     }
@@ -323,9 +314,7 @@ impl<S: Source, R: Source> LineReader<S, R> {
         store: &mut Store<A>,
         slot: usize,
     ) -> Result<bool, LineFault>
-        requires clean { self.old.fault ≡ None }
-        requires sound { IsSound self.old }
-        requires in_store { slot < length store.old.lines }
+        requires { MayFill self.old store.old slot }
         ensures fills { Fills self.old self.new store.old store.new slot result }
         ensures slots { length store.new.lines ≡ length store.old.lines }
         ensures sound { IsSound self.new }

@@ -3,15 +3,30 @@
 ghost use Rattle.std.specs.Prelude.{◌≡◌, ◌≤◌, ◌<◌, ◌≢◌, ◌+◌, Some, length, map};
 ghost use Rattle.std.specs.Int.Count.{count_trailing_zeros};
 ghost use Rattle.std.specs.Simd.Lanes.{mask_l, chunk};
+ghost use Rattle.ptlines.specs.Lanes.{HasLanes, AreCovered};
 ghost use Rattle.memchr.specs.Find.{Nowhere, IsFirst, IsFirstByte, Passes, is_byte};
 
 use std::simd::prelude::*;
 
+// At least 64 bytes, so that a vector of any length can be loaded from their start.
+#[derive(Clone, Copy)]
+pub(crate) struct Front<'a> {
+    pub(crate) bytes: &'a [u8],
+    ghost long: { 64 ≤ length bytes.now },
+}
+
+// A line of fewer than 64 bytes, the first ones of a front.
+#[derive(Clone, Copy)]
+pub(crate) struct NearLine<'a> {
+    pub(crate) front: Front<'a>,
+    pub(crate) size: usize,
+    ghost near: { size < 64 },
+}
+
 // A bit for each of the N bytes from `at` on, the lowest for the first: whether it is this byte. N is at most 64.
 #[inline(always)]
 fn marks_in<const N: usize>(byte: u8, bytes: &[u8], at: usize) -> u64
-    requires lanes { N ≤ 64 }
-    requires within { at + N ≤ length bytes.now }
+    requires { HasLanes N at bytes.now }
     ensures { result ≡ mask_l (map (is_byte byte) (chunk at N bytes.now)) }
 {
     Simd::<u8, N>::from_slice(&bytes[at..])
@@ -19,15 +34,14 @@ fn marks_in<const N: usize>(byte: u8, bytes: &[u8], at: usize) -> u64
         .to_bitmask()
 }
 
-// The same for 48 bytes.
+// The same for the 48 bytes after the first 16.
 #[inline(always)]
-fn marks_in_48(byte: u8, bytes: &[u8], at: usize) -> u64
-    requires { at + 48 ≤ length bytes.now }
-    ensures { result ≡ mask_l (map (is_byte byte) (chunk at 48 bytes.now)) }
+fn marks_after_16(byte: u8, front: Front) -> u64
+    ensures { result ≡ mask_l (map (is_byte byte) (chunk 16 48 front.entry.bytes.now)) }
 {
-    marks_in::<16>(byte, bytes, at)
-        | marks_in::<16>(byte, bytes, at + 16) << 16
-        | marks_in::<16>(byte, bytes, at + 32) << 32
+    marks_in::<16>(byte, front.bytes, 16)
+        | marks_in::<16>(byte, front.bytes, 32) << 16
+        | marks_in::<16>(byte, front.bytes, 48) << 32
 }
 
 /// The place of the first such byte among the N bytes from `at` on, which are compared all at once; N is at most 64.
@@ -45,42 +59,27 @@ pub fn find_in<const N: usize>(byte: u8, bytes: &[u8], at: usize) -> Option<usiz
     Some(at + marked.trailing_zeros() as usize)
 }
 
-// The same for 48 bytes.
-#[inline(always)]
-fn find_in_48(byte: u8, bytes: &[u8], at: usize) -> Option<usize>
-    requires { at + 48 ≤ length bytes.now }
-    ensures { IsFirst (Passes (is_byte byte) bytes.now) at (at + 48) result }
-{
-    let marked = marks_in_48(byte, bytes, at);
-    if marked == 0 {
-        return None;
-    }
-    Some(at + marked.trailing_zeros() as usize)
-}
-
 // Bits for the first 64 bytes, the lowest of which is right. The first 16 are looked at by themselves, since the byte
 // is often one of them; the others are looked at if it is not.
 #[inline(always)]
-fn marks_near(byte: u8, bytes: &[u8]) -> u64
-    requires { 64 ≤ length bytes.now }
-    ensures none { result ≡ 0 → Nowhere (Passes (is_byte byte) bytes.now) 0 64 }
+fn marks_near(byte: u8, front: Front) -> u64
+    ensures none { result ≡ 0 → Nowhere (Passes (is_byte byte) front.entry.bytes.now) 0 64 }
     ensures first { result ≢ 0
-        → IsFirst (Passes (is_byte byte) bytes.now) 0 64 (Some (count_trailing_zeros 64 result)) }
+        → IsFirst (Passes (is_byte byte) front.entry.bytes.now) 0 64 (Some (count_trailing_zeros 64 result)) }
 {
-    let near = marks_in::<16>(byte, bytes, 0);
+    let near = marks_in::<16>(byte, front.bytes, 0);
     if near != 0 {
         return near;
     }
-    marks_in_48(byte, bytes, 16) << 16
+    marks_after_16(byte, front) << 16
 }
 
 // The place of the first such byte among the first 64.
 #[inline(always)]
-pub(crate) fn find_in_64(byte: u8, bytes: &[u8]) -> Option<usize>
-    requires { 64 ≤ length bytes.now }
-    ensures { IsFirst (Passes (is_byte byte) bytes.now) 0 64 result }
+pub(crate) fn find_in_64(byte: u8, front: Front) -> Option<usize>
+    ensures { IsFirst (Passes (is_byte byte) front.entry.bytes.now) 0 64 result }
 {
-    let marked = marks_near(byte, bytes);
+    let marked = marks_near(byte, front);
     if marked == 0 {
         return None;
     }
@@ -90,8 +89,7 @@ pub(crate) fn find_in_64(byte: u8, bytes: &[u8]) -> Option<usize>
 // The first place of a byte among N bytes or up to twice as many: in the first N or in the last N, which may overlap.
 #[inline(always)]
 fn find_ends<const N: usize>(byte: u8, bytes: &[u8]) -> Option<usize>
-    requires lanes { N ≤ 64 }
-    requires few { (N ≤ length bytes.now) × (length bytes.now ≤ N + N) }
+    requires { AreCovered N bytes.now }
     ensures { IsFirstByte (is_byte byte) bytes.now result }
 {
     match find_in::<N>(byte, bytes, 0) {

@@ -2,6 +2,7 @@
 
 ghost use Rattle.std.specs.Prelude.{◌≡◌, ◌<◌, ◌≤◌, ◌+◌, ◌^◌, [], ◌++◌, length, take, IfOk, OnOk, OnErr};
 
+use crate::search::NearLine;
 use std::alloc::{AllocError, Allocator};
 use std::marker::Model;
 use std::simd::prelude::*;
@@ -59,30 +60,17 @@ impl<A: Allocator + Copy> Slot<A> {
         self.size = 0;
     }
 
-    // Makes the first `size` bytes the line. They are fewer than 64, but there are at least 64, so that whole vectors
-    // are copied. Fewer than 16 take a shorter store.
+    // Makes this the line, by one store of a whole vector. Fewer than 16 bytes take a shorter one.
     #[inline(always)]
-    pub(crate) fn put_near(&mut self, bytes: &[u8], size: usize)
-        requires near { size < 64 }
-        requires within { 64 ≤ length bytes.now }
-        ensures { self.new ≡ take size bytes.now }
+    pub(crate) fn put_near(&mut self, near: NearLine)
+        ensures { self.new ≡ take near.entry.size near.entry.front.bytes.now }
     {
+        let (bytes, size) = (near.front.bytes, near.size);
         if size < 16 {
-            self.put_lanes::<16>(bytes, size);
+            Simd::<u8, 16>::from_slice(bytes).copy_to_slice(&mut self.buffer);
         } else {
-            self.put_lanes::<64>(bytes, size);
+            Simd::<u8, 64>::from_slice(bytes).copy_to_slice(&mut self.buffer);
         }
-    }
-
-    // The same of fewer than N bytes, where there are at least N.
-    #[inline(always)]
-    fn put_lanes<const N: usize>(&mut self, bytes: &[u8], size: usize)
-        requires lanes { N ≤ 64 }
-        requires near { size < N }
-        requires within { N ≤ length bytes.now }
-        ensures { self.new ≡ take size bytes.now }
-    {
-        Simd::<u8, N>::from_slice(bytes).copy_to_slice(&mut self.buffer);
         self.size = size;
     }
 

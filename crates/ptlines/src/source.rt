@@ -27,24 +27,3 @@ pub enum Origin<S: Source, R: Source> {
     File(R),
     Refused,
 }
-
-impl<S: Source, R: Source> Source for Origin<S, R> {
-    ghost use Rattle.std.specs.Prelude.{◌≡◌, length, ◌<◌};
-    ghost use Rattle.ptlines.specs.Sources.{Pulls};
-    ghost use Rattle.ptlines.specs.Origins.{origin_state, is_refused};
-
-    ghost state = { origin_state S.state R.state };
-
-    fn pull(&mut self, into: &mut [u8]) -> Result<usize, Failed>
-        requires { 0 < length into.old }
-        ensures pulled { Pulls (origin_state S.state R.state self.old) (origin_state S.state R.state self.new)
-            into.new result }
-        ensures refused { is_refused self.new ≡ is_refused self.old }
-    {
-        match self {
-            Origin::Standard(source) => source.pull(into),
-            Origin::File(source) => source.pull(into),
-            Origin::Refused => Err(Failed),
-        }
-    }
-}

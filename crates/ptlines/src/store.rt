@@ -1,8 +1,9 @@
 //! Numbered slots for lines, whose bytes are counted.
 
 ghost use Rattle.std.specs.Prelude.{◌≡◌, ℕ, ◌<◌, ◌≤◌, ◌≢◌, true, false, [], ◌∷◌, ◌++◌, length, take, ◌+◌, replicate, swap, slice_set, slice_index_or, IfOk, OnOk, OnErr};
-ghost use Rattle.ptlines.specs.Slots.{AreShort, line, total, with_line, with_added, with_denied};
+ghost use Rattle.ptlines.specs.Slots.{AreSlots, AreTwoSlots, AreShort, line, total, with_line, with_added, with_denied};
 
+use crate::search::NearLine;
 use crate::slot::Slot;
 use std::alloc::{AllocError, Allocator, Global};
 use std::marker::Model;
@@ -44,9 +45,7 @@ fn append_from<A: Allocator + Copy>(
     from: usize,
     to: usize,
 ) -> Result<(), AllocError>
-    requires from_in { from < length slots.old }
-    requires to_in { to < length slots.old }
-    requires differ { from ≢ to }
+    requires { AreTwoSlots (length slots.old) from to }
     ensures ok { OnOk result (slots.new
         ≡ slice_set slots.old to (slice_index_or slots.old to [] ++ slice_index_or slots.old from [])) }
     ensures err { OnErr result (slots.new ≡ slots.old) }
@@ -144,16 +143,15 @@ impl<A: Allocator + Copy> Store<A> {
         self.held -= count as u128;
     }
 
-    // Makes a slot hold the first `size` bytes. They are fewer than 64, but there are at least 64.
+    // Makes a slot hold a line of fewer than 64 bytes.
     #[inline(always)]
-    pub(crate) fn put_near(&mut self, slot: usize, bytes: &[u8], size: usize)
-        requires in_store { slot < length self.old.lines }
-        requires near { size < 64 }
-        requires within { 64 ≤ length bytes.now }
-        ensures { self.new ≡ with_line self.old slot (take size bytes.now) }
+    pub(crate) fn put_near(&mut self, slot: usize, near: NearLine)
+        requires { slot < length self.old.lines }
+        ensures { self.new ≡ with_line self.old slot (take near.entry.size near.entry.front.bytes.now) }
     {
+        let size = near.size;
         let was = self.slots[slot].size();
-        self.slots[slot].put_near(bytes, size);
+        self.slots[slot].put_near(near);
         self.held = self.held - was as u128 + size as u128;
         // It is written only where it grew, since this is done for each line.
         if self.held > self.peak {
@@ -186,9 +184,7 @@ impl<A: Allocator + Copy> Store<A> {
     /// `Memory` where a request for memory was refused. [`denied`](Store::denied) is then true, and `to` is empty;
     /// nothing else changes.
     pub fn copy(&mut self, from: usize, to: usize) -> Result<(), LineFault>
-        requires from_in { from < length self.old.lines }
-        requires to_in { to < length self.old.lines }
-        requires differ { from ≢ to }
+        requires { AreTwoSlots (length self.old.lines) from to }
         ensures ok { OnOk result (self.new ≡ with_line self.old to (line self.old from)) }
         ensures err { OnErr result (self.new ≡ with_denied (with_line self.old to [])) }
         ensures memory { OnErr result (result ≡ Err LineFault.Memory) }
@@ -209,8 +205,7 @@ impl<A: Allocator + Copy> Store<A> {
 
     /// Exchanges the lines of two slots.
     pub fn swap(&mut self, a: usize, b: usize)
-        requires a_in { a < length self.old.lines }
-        requires b_in { b < length self.old.lines }
+        requires { AreSlots (length self.old.lines) a b }
         ensures { self.new ≡ record self.old { lines = swap self.old.lines a b } }
     {
         self.slots.swap(a, b);

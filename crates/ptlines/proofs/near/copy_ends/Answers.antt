@@ -6,4 +6,4 @@ pub returns-clause-copied : goal.returns-clause-copied
 returns-clause-copied g c =
     let bytes = c.args.bytes.now in
     ends_copied c.args.at (length bytes - g.row.N) g.row.N c.args.into.now c.copy_lanes.new.into c.copy_lanes-2.new.into bytes
-    (omega (arith, c.requires.room)) (omega (arith, c.requires.few)) (omega (arith, c.requires.few)) c.copy_lanes.ensures.copied c.copy_lanes-2.ensures.copied
+    (omega (arith, c.requires.room)) (omega (arith, c.requires.few.all)) (omega (arith, c.requires.few.first)) c.copy_lanes.ensures.copied c.copy_lanes-2.ensures.copied

@@ -1,23 +1,19 @@
-use Rattle.ptlines.proofs.Common.{◌≡◌, ◌≤◌, ℕ, List, ◌++◌, Result, Ok, Err, IfOk, length, take, drop, sym, ◌∙◌, subst, arith, length-take, take-append-le, take_all, SourceState, Pulls}
+use Rattle.ptlines.proofs.Common.{◌≡◌, ℕ, List, ◌++◌, Result, length, take, sym, ◌∙◌, subst, arith, length-take, take-append-le, take_all, SourceState, Pulls}
 use Rattle.ptlines.specs.declared.sink.Failed.{Failed}
-use Rattle.ptlines.specs.Origins.{origin_state}
 use Rattle.ptlines.proofs.reader.pull_front.Goals as goal
 
 -- what was pulled stands in front of the margin
-whole : (into rest : List ℕ) → length into ≡ 8192 → take 8192 (into ++ rest) ≡ into
-whole into rest long = take-append-le 8192 into rest (omega (arith, long)) ∙ take_all 8192 into (omega (arith, long))
+in_front : (old new : SourceState) (into rest : List ℕ) (r : Result ℕ Failed) → length into ≡ 8192 → Pulls old new into r → Pulls old new (take 8192 (into ++ rest)) r
+in_front old new into rest r long =
+    let whole = take-append-le 8192 into rest (omega (arith, long)) ∙ take_all 8192 into (omega (arith, long)) in
+    subst (λ (l : List ℕ). Pulls old new l r) (sym whole)
 
-fits : (old new : SourceState) (into : List ℕ) (r : Result ℕ Failed) → length into ≡ 8192 → Pulls old new into r → IfOk r (λ count. count ≤ 8192)
-fits old new into (Ok n) long gives = omega (arith, gives.fits, long)
-fits old new into (Err e) long failed = tt
+pub returns-in-Standard-clause-pulled : goal.returns-in-Standard-clause-pulled
+returns-in-Standard-clause-pulled g c =
+    let long : length c.pull.new.into ≡ 8192 = omega (arith, c.pull.auto.into, length-take 8192 c.args.block.now) in
+    rw c.in-Standard.is (in_front _ _ c.pull.new.into _ c.pull.result long c.pull.ensures.pulled)
 
-pub returns-clause-pulled : goal.returns-clause-pulled
-returns-clause-pulled g c =
-    let long : length c.pull.new.into ≡ 8192 = omega (arith, c.pull.auto.into, length-take 8192 c.args.block.now, c.requires) in
-    subst (λ (l : List ℕ). Pulls (origin_state g.S.Source.state g.R.Source.state c.args.origin.now)
-    (origin_state g.S.Source.state g.R.Source.state c.pull.new.self) l c.pull.result) (sym (whole c.pull.new.into (drop 8192 c.args.block.now) long)) c.pull.ensures.pulled
-
-pub returns-clause-few : goal.returns-clause-few
-returns-clause-few g c =
-    let long : length c.pull.new.into ≡ 8192 = omega (arith, c.pull.auto.into, length-take 8192 c.args.block.now, c.requires) in
-    fits _ _ c.pull.new.into c.pull.result long c.pull.ensures.pulled
+pub returns-in-File-clause-pulled : goal.returns-in-File-clause-pulled
+returns-in-File-clause-pulled g c =
+    let long : length c.pull-in-File.new.into ≡ 8192 = omega (arith, c.pull-in-File.auto.into, length-take 8192 c.args.block.now) in
+    rw c.in-File.is (in_front _ _ c.pull-in-File.new.into _ c.pull-in-File.result long c.pull-in-File.ensures.pulled)

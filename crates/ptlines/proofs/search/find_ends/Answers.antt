@@ -7,6 +7,6 @@ returns-in-None g c =
     let P = Passes (is_byte c.args.byte) c.args.bytes.now in
     let end = length c.args.bytes.now in
     let n = g.row.N in
-    let whole : (end - n) + n ≡ end = omega (arith, c.requires.few.0) in
-    first_behind P 0 (end - n) end (0 + n) _ (omega arith) (omega (arith, c.requires.few.1)) (subst (λ (r : Option ℕ). IsFirst P 0 (0 + n) r) c.in-None.is c.find_in.ensures)
+    let whole : (end - n) + n ≡ end = omega (arith, c.requires.first) in
+    first_behind P 0 (end - n) end (0 + n) _ (omega arith) (omega (arith, c.requires.all)) (subst (λ (r : Option ℕ). IsFirst P 0 (0 + n) r) c.in-None.is c.find_in.ensures)
     (subst (λ (m : ℕ). IsFirst P (end - n) m c.find_in-in-None.result) whole c.find_in-in-None.ensures)

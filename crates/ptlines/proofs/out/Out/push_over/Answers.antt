@@ -15,8 +15,8 @@ returns-then-bytes-room g c =
     let clean = ap (λ o. o.faulted) is_sent in
     let empty = ap (λ o. o.staged) is_sent in
     record {
-      wrote = wrote_trans c.args.self.now c.send_staged.new.self c.send_past.new.self [] c.args.bytes.now clean (wrote_sent _ _ c.requires is_sent)
-          (wrote_past_block _ _ c.args.bytes.now c.send_past.result clean empty c.send_past.ensures.ok c.send_past.ensures.err);
+      wrote = wrote_trans c.args.self.now c.send_staged.new.self _ [] c.args.bytes.now clean (wrote_sent _ _ c.requires is_sent)
+          (wrote_past_block _ _ c.args.bytes.now c.send-sent.result clean empty (search (rules, clean, empty)) (search (rules, clean, empty)));
       clean = search rules;
       fault = search rules;
     }

@@ -7,9 +7,7 @@ pieces-preserved g c =
     let f = c.pieces.invariant.0 in
     let p = rw c.in-More.is at c.in_ok-step.ensures.steps in (
       filling_more c.args.self.now c.pieces.self c.step.new.self c.args.store.now c.pieces.store c.step.new.store c.args.slot c.requires.in_store f p,
-      p.goes.short c.pieces.invariant.1,
-      omega (arith, ap length p.empty),
-      c.step.ensures.slots ∙ c.pieces.invariant.3,
+      record { clean = p.goes.fault; sound = c.step.ensures.sound; in_store = omega (arith, c.step.ensures.slots, c.pieces.invariant.1.in_store) },
     )
 
 pub returns-in-Line-clause-fills : goal.returns-in-Line-clause-fills

@@ -15,28 +15,28 @@ put_counted lines slot held had low is counts short was was_is bytes n size lane
 pub overflow_sub-self : goal.overflow_sub-self
 overflow_sub-self g c =
     let s = c.self.inside in
-    let low = subst (λ (t : Slots). c.args.slot < length t.lines) (sym c.self.view_is) c.requires.in_store in
+    let low = subst (λ (t : Slots). c.args.slot < length t.lines) (sym c.self.view_is) c.requires in
     omega (arith, counted_in s.slots.items c.args.slot s.held c.index.result.now low c.index.ensures c.self.invariant.0, c.size-was.ensures.size)
 
 pub overflow_add-self : goal.overflow_add-self
 overflow_add-self g c =
     let s = c.self.inside.slots in
-    omega (arith, fits s.items c.args.size c.self.invariant.2 (omega (arith, s.ok, s.small)) (omega (arith, c.requires.near)), c.self.invariant.0)
+    omega (arith, fits s.items c.args.near.size c.self.invariant.2 (omega (arith, s.ok, s.small)) (omega (arith, c.args.near.near)), c.self.invariant.0)
 
 -- the peak is what is held now, or stays
 pub invariant_of-self : goal.invariant_of-self
 invariant_of-self g c =
     let s = c.self.inside in
-    let low = subst (λ (t : Slots). c.args.slot < length t.lines) (sym c.self.view_is) c.requires.in_store in
+    let low = subst (λ (t : Slots). c.args.slot < length t.lines) (sym c.self.view_is) c.requires in
     put_counted s.slots.items c.args.slot s.held c.index.result.now low c.index.ensures c.self.invariant.0 c.self.invariant.2 c.size-was.result c.size-was.ensures.size
-    c.args.bytes.now 64 c.args.size (omega arith) c.requires.near c.requires.within c.put_near.new.self c.put_near.ensures _ (omega arith)
+    c.args.near.front.bytes.now 64 c.args.near.size (omega arith) c.args.near.near c.args.near.front.long c.put_near.new.self c.put_near.ensures _ (omega arith)
 
 pub invariant_of-self-else-self : goal.invariant_of-self-else-self
 invariant_of-self-else-self g c =
     let s = c.self.inside in
-    let low = subst (λ (t : Slots). c.args.slot < length t.lines) (sym c.self.view_is) c.requires.in_store in
+    let low = subst (λ (t : Slots). c.args.slot < length t.lines) (sym c.self.view_is) c.requires in
     put_counted s.slots.items c.args.slot s.held c.index.result.now low c.index.ensures c.self.invariant.0 c.self.invariant.2 c.size-was.result c.size-was.ensures.size
-    c.args.bytes.now 64 c.args.size (omega arith) c.requires.near c.requires.within c.put_near.new.self c.put_near.ensures s.peak (omega (arith, c.if-self.false))
+    c.args.near.front.bytes.now 64 c.args.near.size (omega arith) c.args.near.near c.args.near.front.long c.put_near.new.self c.put_near.ensures s.peak (omega (arith, c.if-self.false))
 
 pub returns-then-self : goal.returns-then-self
 returns-then-self g c = written c.args.slot c.self.view_is c.put_near.ensures (invariant_of-self g c).0 (omega (arith, c.self.invariant.1, c.if-self.true))
