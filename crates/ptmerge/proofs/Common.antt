@@ -37,14 +37,14 @@ pub use Rattle.ptlines.specs.Readers.{Goes, IsDone, IsSound, Reader, Reads, budg
 pub use Rattle.ptlines.specs.Slots.{Slots, line, total, with_added, with_denied, with_line}
 pub use Rattle.ptlines.specs.Text.{AreLines, IsLine, ended_lines, lines, longest, text}
 pub use Rattle.ptmerge.specs.Comm.{comm_by, comm_tool, entries, entries_in, tab_unless}
-pub use Rattle.ptmerge.specs.Groups.{AddsLeast, Gathered, Gathers, IsGroup, IsGroupCleared, IsGrown, IsKept, IsRefused, NotGathered, end_slot, first_slot, group, is_head}
+pub use Rattle.ptmerge.specs.Groups.{AddsLeast, Gathered, Gathers, IsGroup, IsGroupCleared, IsGrown, IsKept, IsRefused, JoinsAt, NotGathered, end_slot, first_slot, group, is_head}
 pub use Rattle.ptmerge.specs.Join.{alone1, alone2, alone_entry, between, entry, fields, filled, greatest_of, has_bytes, is_blank, join_by, join_entries, join_key, join_tool, largest_group, most_lines}
 pub use Rattle.ptmerge.specs.Join.{named, nth_field, others, pairs_of, written}
 pub use Rattle.ptmerge.specs.JoinFields.{EndsFirst, IsAsWritten, IsEven, IsFieldIn, IsPiece, UnevenAt, ends_field, fields_left, is_tidy, is_uneven, led}
 pub use Rattle.ptmerge.specs.Keyed.{Fall, Lines, Tool, by_keys, decided, decided_entries, disorder, disorder_of, distinct, entries_of, fall, insert_key, is_below, is_decided, is_past, is_settled}
 pub use Rattle.ptmerge.specs.Keyed.{keys, lines_of, merged, merged_entries, ordered, ordered_part, settled, up_to, with_key}
 pub use Rattle.ptmerge.specs.LinePasses.{CanGoOn, HasPassed, IsUnwritten, PassesLine, StandsAt}
-pub use Rattle.ptmerge.specs.Merges.{Agree, Ends, IsMerge, IsReady, IsUnread, IsWhole, Names, State, ended_by, seen}
+pub use Rattle.ptmerge.specs.Merges.{Agree, CanBegin, Ends, IsMerge, IsReady, IsUnread, IsWhole, Names, State, ended_by, seen}
 pub use Rattle.ptmerge.specs.Orders.{Cmp, Key, byte_cmp, line_cmp}
 pub use Rattle.ptmerge.specs.Parts.{CommByKey, IsByKey, IsOfParts, JoinByKey, PartsOfComm, PartsOfJoin, dealt, written_lines}
 pub use Rattle.ptmerge.specs.Places.{CannotRead, Comes, HasSlots, fresh, same_at, slot_of, stand_at}

@@ -3,18 +3,16 @@
 //! `groups` are those lines, `fields` the fields of a line, `entries` what is written for two lines or for one, and
 //! `blanks` finds what stands between words.
 
-ghost use Rattle.std.specs.Prelude.{◌≡◌, ◌<◌, ◌≤◌, ℕ, List, ◌++◌, ◌∷◌, [], option_copied, false, true, length, IfSome, OnOk, OnErr};
+ghost use Rattle.std.specs.Prelude.{◌≡◌, ◌<◌, ◌≤◌, ℕ, List, ◌∷◌, [], false, true, length, OnOk, OnErr};
 ghost use Rattle.ptlangs.specs.Jobs.{join_job};
 ghost use Rattle.ptlines.specs.Outputs.{Wrote};
 ghost use Rattle.ptlines.specs.Slots.{line, line as line_of};
 ghost use Rattle.ptlines.specs.Text.{text};
-ghost use Rattle.ptlines.specs.Readers.{IsSound};
-ghost use Rattle.ptmerge.specs.Groups.{AddsLeast, IsGroup, end_slot, first_slot, group};
-ghost use Rattle.ptmerge.specs.Merges.{IsMerge, IsReady, IsUnread, Untouched, ended_by, seen};
+ghost use Rattle.ptmerge.specs.Groups.{AddsLeast, IsGroup, JoinsAt, end_slot, first_slot, group};
+ghost use Rattle.ptmerge.specs.Merges.{CanBegin, IsMerge, IsReady, IsUnread, Untouched, ended_by, seen};
 ghost use Rattle.ptmerge.specs.declared.order.Side.{Side as Sided};
-ghost use Rattle.ptmerge.specs.Join.{alone_entry, entry, join_by, join_key, join_tool, pairs_of};
-ghost use Rattle.ptmerge.specs.JoinFields.{fields_left};
-ghost use Rattle.ptmerge.specs.LinePasses.{Passes, StandsAt};
+ghost use Rattle.ptmerge.specs.Join.{alone_entry, join_by, join_key, join_tool, pairs_of};
+ghost use Rattle.ptmerge.specs.LinePasses.{Passes};
 ghost use Rattle.ptmerge.specs.Sides.{both};
 ghost use Rattle.ptmerge.specs.declared.order.Side.TheVariants as Of;
 
@@ -108,10 +106,8 @@ fn pass_alone<K: KeyOrder, A: Allocator + Copy, S: Source, R: Source, W: Sink>(
     store: &mut Store<A>,
     out: &mut Out<W>,
 ) -> Result<(), MergeFault>
-    requires stands { let key = K.key_of merge.old.order in
-        StandsAt key side merge.old.first merge.old.second reader.old store.old }
-    requires keys { (side : Sided) (line : List ℕ) → K.key_of merge.old.order side line ≡ join_key (join_job job.now) side line }
-    requires clean { out.old.faulted ≡ false }
+    requires { let key = K.key_of merge.old.order in
+        JoinsAt (join_job job.now) key side merge.old.first merge.old.second reader.old store.old out.old }
     ensures wrote { let standing = line store.old (both merge.old.first merge.old.second side).standing in
         Wrote out.old out.new (text ending (alone_entry (join_job job.now) side standing)) }
     ensures passes { let key = K.key_of merge.old.order in
@@ -120,10 +116,7 @@ fn pass_alone<K: KeyOrder, A: Allocator + Copy, S: Source, R: Source, W: Sink>(
     ensures order { merge.new.order ≡ merge.old.order }
 {
     let key = merge.key(side, store);
-    match push_alone(job, side, key, merge.head(side, store), ending, out) {
-        Ok(()) => {}
-        Err(_) => return Err(MergeFault::Write),
-    }
+    push_alone(job, side, key, merge.head(side, store), ending, out)?;
     merge.go_on(side, reader, store, out)
 }
 
@@ -137,12 +130,10 @@ fn pass_pairs<K: KeyOrder, A: Allocator + Copy, S: Source, R: Source, W: Sink>(
     store: &mut Store<A>,
     out: &mut Out<W>,
 ) -> Result<(), MergeFault>
-    requires stands { let key = K.key_of merge.old.order in
-        StandsAt key Of.First merge.old.first merge.old.second reader.old store.old }
+    requires joins { let key = K.key_of merge.old.order in
+        JoinsAt (join_job job.now) key Of.First merge.old.first merge.old.second reader.old store.old out.old }
     requires group { let key = K.key_of merge.old.order Of.First (line store.old merge.old.first.standing) in
         IsGroup (join_key (join_job job.now) Of.Second) merge.old.second store.old end key }
-    requires keys { (side : Sided) (line : List ℕ) → K.key_of merge.old.order side line ≡ join_key (join_job job.now) side line }
-    requires clean { out.old.faulted ≡ false }
     ensures wrote { let standing = line store.old merge.old.first.standing in
         let key = K.key_of merge.old.order Of.First standing in
         let lines = group store.old (first_slot merge.old.second end) (end_slot merge.old.second end) in
@@ -155,10 +146,7 @@ fn pass_pairs<K: KeyOrder, A: Allocator + Copy, S: Source, R: Source, W: Sink>(
     let key = merge.key(Side::First, store);
     let line = merge.head(Side::First, store);
     let (from, to) = group_slots(merge, end);
-    match push_pairs(job, key, line, from, to, store, ending, out) {
-        Ok(()) => {}
-        Err(_) => return Err(MergeFault::Write),
-    }
+    push_pairs(job, key, line, from, to, store, ending, out)?;
     merge.go_on(Side::First, reader, store, out)
 }
 
@@ -180,10 +168,7 @@ fn join_in_order<K: KeyOrder, A: Allocator + Copy, S: Source, R: Source, W: Sink
     out: &mut Out<W>,
 ) -> Result<(), MergeFault>
     requires keys { (side : Sided) (line : List ℕ) → K.key_of order side line ≡ join_key (join_job job.now) side line }
-    requires ready { IsReady first.old second.old store.old }
-    requires sound { IsSound first.old × IsSound second.old }
-    requires ending { (first.old.ending ≡ (join_job job.now).end) × (second.old.ending ≡ (join_job job.now).end) }
-    requires writable { out.old.faulted ≡ false }
+    requires begins { CanBegin (join_job job.now).end first.old second.old out.old store.old }
     ensures merged { let tool = join_by (join_job job.now) (K.order order) (K.key_of order) in
         let was = seen first.old second.old out.old store.old in
         IsMerge tool was (seen first.new second.new out.new store.new) result }
