@@ -1,9 +1,11 @@
 -- What is left of a line whose fields are taken one after another.
 use Rattle.std.specs.Prelude.{◌≡◌, ◌≤◌, ◌++◌, ℕ, length, take, MatchOption, ◌==◌, List, [], ◌∷◌, Option, Some, None, Bool, false, true, not, ◌||◌, ◌&&◌, ◌-◌, slice_index, if◌then◌else◌}
-use Rattle.std.specs.List.{flat_map, slice_split}
+use Rattle.std.specs.List.{flat_map, join_with_byte, slice_split}
 use Rattle.memchr.specs.Find.{Nowhere}
+use Rattle.ptlangs.specs.Jobs.{Join}
+use Rattle.ptlangs.specs.declared.outlist.OutField.{OutField}
 use Rattle.ptmerge.specs.Keyed.{Lines}
-use Rattle.ptmerge.specs.Join.{between, fields, is_blank}
+use Rattle.ptmerge.specs.Join.{between, fields, is_blank, written}
 
 -- where a byte ends a field
 abbrev pub ends_field : Option ℕ → ℕ → Bool
@@ -18,6 +20,11 @@ fields_left separator (Some bytes) = fields separator bytes
 -- each field, with this byte before it
 abbrev pub led : ℕ → Lines → List ℕ
 led byte fs = flat_map (λ f. byte ∷ f) fs
+
+-- what is written of what is left of two lines with this join field, or of one, if these fields are asked for
+abbrev pub entry_with : Join → Option (List OutField) → List ℕ → Option (List ℕ) → Option (List ℕ) → List ℕ
+entry_with job list k one two =
+    join_with_byte (between job.separator) (written job k (fields_left job.separator one) (fields_left job.separator two) list)
 
 -- A line stands as its fields are written, and that with this number comes first.
 pub record IsAsWritten (separator : Option ℕ) (number : ℕ) (line : List ℕ) : Type 0 where

@@ -1,6 +1,6 @@
 //! `comm`. It stands on the merge: each step is a line of one input alone, or one that both have.
 
-ghost use Rattle.std.specs.Prelude.{◌≡◌, ◌<◌, ◌++◌, ℕ, List, true, false, length, OnOk, OnErr};
+ghost use Rattle.std.specs.Prelude.{◌≡◌, ◌<◌, ◌++◌, ℕ, List, true, false, length};
 ghost use Rattle.ptlangs.specs.Jobs.{comm_job};
 ghost use Rattle.ptlines.specs.Outputs.{Wrote};
 ghost use Rattle.ptlines.specs.Slots.{line};
@@ -8,6 +8,7 @@ ghost use Rattle.ptlines.specs.Text.{text};
 ghost use Rattle.ptmerge.specs.Comm.{comm_by, comm_tool, tab_unless, entries_in};
 ghost use Rattle.ptmerge.specs.Merges.{CanBegin, IsMerge, IsReady, IsUnread, Untouched, ended_by, seen};
 ghost use Rattle.ptmerge.specs.LinePasses.{Passes, StandsAt};
+ghost use Rattle.ptmerge.specs.Pushes.{MayPush};
 ghost use Rattle.ptmerge.specs.Sides.{both};
 ghost use Rattle.ptmerge.specs.Stores.{Adds};
 ghost use Rattle.ptmerge.specs.declared.order.Side.{Side as Of};
@@ -40,10 +41,7 @@ fn push_entry<W: Sink>(
     ending: u8,
     out: &mut Out<W>,
 ) -> Result<(), WriteFault>
-    requires { out.old.faulted ≡ false }
-    ensures wrote { Wrote out.old out.new (text ending (entries_in hidden lead.now 1 line.now)) }
-    ensures clean { OnOk result (out.new.faulted ≡ false) }
-    ensures fault { OnErr result (out.new.faulted ≡ true) }
+    ensures { MayPush out.old out.new (text ending (entries_in hidden lead.now 1 line.now)) result }
 {
     if hidden {
         return Ok(());

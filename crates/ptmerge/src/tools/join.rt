@@ -3,7 +3,7 @@
 //! `groups` are those lines, `fields` the fields of a line, `entries` what is written for two lines or for one, and
 //! `blanks` finds what stands between words.
 
-ghost use Rattle.std.specs.Prelude.{◌≡◌, ◌<◌, ◌≤◌, ℕ, List, ◌∷◌, [], false, true, length, OnOk, OnErr};
+ghost use Rattle.std.specs.Prelude.{◌≡◌, ◌<◌, ◌≤◌, ℕ, List, ◌∷◌, [], false, true, length};
 ghost use Rattle.ptlangs.specs.Jobs.{join_job};
 ghost use Rattle.ptlines.specs.Outputs.{Wrote};
 ghost use Rattle.ptlines.specs.Slots.{line, line as line_of};
@@ -13,6 +13,7 @@ ghost use Rattle.ptmerge.specs.Merges.{CanBegin, IsMerge, IsReady, IsUnread, Unt
 ghost use Rattle.ptmerge.specs.declared.order.Side.{Side as Sided};
 ghost use Rattle.ptmerge.specs.Join.{alone_entry, join_by, join_key, join_tool, pairs_of};
 ghost use Rattle.ptmerge.specs.LinePasses.{Passes};
+ghost use Rattle.ptmerge.specs.Pushes.{MayPush};
 ghost use Rattle.ptmerge.specs.Sides.{both};
 ghost use Rattle.ptmerge.specs.declared.order.Side.TheVariants as Of;
 
@@ -41,11 +42,8 @@ fn push_alone<A: Allocator, W: Sink>(
     ending: u8,
     out: &mut Out<W>,
 ) -> Result<(), WriteFault>
-    requires keyed { join_key (join_job job.now) side line.now ≡ key.now }
-    requires clean { out.old.faulted ≡ false }
-    ensures wrote { Wrote out.old out.new (text ending (alone_entry (join_job job.now) side line.now)) }
-    ensures clean { OnOk result (out.new.faulted ≡ false) }
-    ensures fault { OnErr result (out.new.faulted ≡ true) }
+    requires { join_key (join_job job.now) side line.now ≡ key.now }
+    ensures { MayPush out.old out.new (text ending (alone_entry (join_job job.now) side line.now)) result }
 {
     match side {
         Side::First => {
@@ -80,11 +78,8 @@ fn push_pairs<A: Allocator + Copy, W: Sink>(
     requires keyed1 { join_key (join_job job.now) Of.First line.now ≡ key.now }
     requires keyed2 { (slot : ℕ) → from ≤ slot → slot < end →
         join_key (join_job job.now) Of.Second (line_of store.now slot) ≡ key.now }
-    requires clean { out.old.faulted ≡ false }
-    ensures wrote { let pairs = pairs_of (join_job job.now) key.now (line.now ∷ []) (group store.now from end) in
-        Wrote out.old out.new (text ending pairs) }
-    ensures clean { OnOk result (out.new.faulted ≡ false) }
-    ensures fault { OnErr result (out.new.faulted ≡ true) }
+    ensures { let pairs = pairs_of (join_job job.now) key.now (line.now ∷ []) (group store.now from end) in
+        MayPush out.old out.new (text ending pairs) result }
 {
     if !job.pairs {
         return Ok(());
