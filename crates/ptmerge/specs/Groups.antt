@@ -91,6 +91,11 @@ Gathers key cmp old new was is before after out end (Ok next) = Gathered key cmp
 Gathers key cmp old new was is before after out end (Err fault) =
     ((fault ≡ Write) × IsUnwritten was is before after out) ⊎ ((out.faulted ≡ false) × NotGathered key cmp old new was is before after end fault)
 
+-- these slots are there, and their lines have this key
+pub record HasKey (key : Key) (store : Slots) (from end : ℕ) (k : List ℕ) : Type 0 where
+  pub within : end ≤ length store.lines
+  pub keyed : (slot : ℕ) → from ≤ slot → slot < end → key (line store slot) ≡ k
+
 -- `join` stands at a line of this input, and keys are the join fields
 pub record JoinsAt (job : Join) (key : Side → Key) (side : Side) (one two : Sorted) (reader : Reader) (store : Slots) (out : Output) : Type 0 where
   pub stands : StandsAt key side one two reader store out

@@ -1,5 +1,5 @@
 -- One push after another, on an output that may have faulted.
-use Rattle.ptmerge.proofs.Common.{◌≡◌, ⊎_elim, false, ℕ, List, ◌++◌, Result, Output, Pushes, Wrote, wrote_trans, MayPush}
+use Rattle.ptmerge.proofs.Common.{◌≡◌, ⊎_elim, false, ℕ, List, ◌++◌, Result, Ok, Err, IsErrAnd, true, Output, Pushes, Wrote, wrote_trans, MayPush}
 use Rattle.std.proofs.lemmas.Bool.{cases_Bool}
 use Rattle.ptlines.proofs.Pushed.{wrote_after_fault}
 
@@ -15,3 +15,8 @@ then_pushes clean p q = record { wrote = wrote_then clean p q.wrote; clean = q.c
 -- what surely pushes its bytes
 pub may_push : {E : Type 0} {a b : Output} {xs : List ℕ} {r : Result (Unit {0}) E} → Pushes a b xs r → MayPush a b xs r
 may_push p = record { wrote = p.wrote; clean = λ _. p.clean; fault = p.fault }
+
+-- a fault of a push is handed on
+pub push_fails : {E : Type 0} {a b : Output} {xs : List ℕ} {r : Result (Unit {0}) E} (P : E → Type 0) → IsErrAnd r P → b.faulted ≡ true → Wrote a b xs → Pushes a b xs r
+push_fails {r = Err e} P told fault wrote = record { wrote = wrote; clean = tt; fault = fault }
+push_fails {r = Ok u} P told fault wrote = absurd told

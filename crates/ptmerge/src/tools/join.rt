@@ -3,12 +3,12 @@
 //! `groups` are those lines, `fields` the fields of a line, `entries` what is written for two lines or for one, and
 //! `blanks` finds what stands between words.
 
-ghost use Rattle.std.specs.Prelude.{◌≡◌, ◌<◌, ◌≤◌, ℕ, List, ◌∷◌, [], false, true, length};
+ghost use Rattle.std.specs.Prelude.{◌≡◌, ◌<◌, ℕ, List, ◌∷◌, [], false, true, length};
 ghost use Rattle.ptlangs.specs.Jobs.{join_job};
 ghost use Rattle.ptlines.specs.Outputs.{Wrote};
-ghost use Rattle.ptlines.specs.Slots.{line, line as line_of};
+ghost use Rattle.ptlines.specs.Slots.{line};
 ghost use Rattle.ptlines.specs.Text.{text};
-ghost use Rattle.ptmerge.specs.Groups.{AddsLeast, IsGroup, JoinsAt, end_slot, first_slot, group};
+ghost use Rattle.ptmerge.specs.Groups.{AddsLeast, HasKey, IsGroup, JoinsAt, end_slot, first_slot, group};
 ghost use Rattle.ptmerge.specs.Merges.{CanBegin, IsMerge, IsReady, IsUnread, Untouched, ended_by, seen};
 ghost use Rattle.ptmerge.specs.declared.order.Side.{Side as Sided};
 ghost use Rattle.ptmerge.specs.Join.{alone_entry, join_by, join_key, join_tool, pairs_of};
@@ -74,10 +74,8 @@ fn push_pairs<A: Allocator + Copy, W: Sink>(
     ending: u8,
     out: &mut Out<W>,
 ) -> Result<(), WriteFault>
-    requires within { end ≤ length store.now.lines }
-    requires keyed1 { join_key (join_job job.now) Of.First line.now ≡ key.now }
-    requires keyed2 { (slot : ℕ) → from ≤ slot → slot < end →
-        join_key (join_job job.now) Of.Second (line_of store.now slot) ≡ key.now }
+    requires line { join_key (join_job job.now) Of.First line.now ≡ key.now }
+    requires group { HasKey (join_key (join_job job.now) Of.Second) store.now from end key.now }
     ensures { let pairs = pairs_of (join_job job.now) key.now (line.now ∷ []) (group store.now from end) in
         MayPush out.old out.new (text ending pairs) result }
 {

@@ -213,8 +213,7 @@ pub(crate) fn push_pair<'a, A: Allocator, W: Sink>(
     ending: u8,
     out: &mut Out<W>,
 ) -> Result<(), WriteFault>
-    requires keyed1 { join_key (join_job job.now) First first.now ≡ key.now }
-    requires keyed2 { join_key (join_job job.now) Second second.now ≡ key.now }
+    requires { let of = join_key (join_job job.now) in (of First first.now ≡ key.now) × (of Second second.now ≡ key.now) }
     ensures { let of = fields (join_job job.now).separator in
         let bytes = entry (join_job job.now) key.now (of first.now) (of second.now) in
         Pushes out.old out.new (bytes ++ ending ∷ []) result }

@@ -31,8 +31,7 @@ fn keep_line<A: Allocator + Copy>(
     from: usize,
     to: usize,
 ) -> Result<usize, LineFault>
-    requires apart { from < to }
-    requires next { to ≤ length store.old.lines }
+    requires { (from < to) × (to ≤ length store.old.lines) }
     ensures next { IfOk result (λ end. end ≡ to + 1) }
     ensures ok { OnOk result (IsKept store.old store.new from to) }
     ensures err { OnErr result (IsRefused store.old store.new to) }

@@ -1,5 +1,5 @@
 -- Each turn pushes the entry of one line of the group. A push that fails leaves a beginning of the pairs.
-use Rattle.ptmerge.proofs.Common.{◌++◌, [], ◌∷◌, List, ℕ, ap, arith, rules, sym, map, join_job, group}
+use Rattle.ptmerge.proofs.Common.{◌++◌, [], ◌∷◌, List, ℕ, ap, arith, sym, map, join_job, group}
 use Rattle.ptmerge.proofs.OfJoin.Amid.{amid_starts, each_done, each_fails, each_more}
 use Rattle.ptmerge.proofs.OfJoin.GroupSlots.{pair_of, pairs_text, group_from, group_end}
 use Rattle.ptmerge.proofs.tools.join.push_pairs.Goals as goal
@@ -11,26 +11,20 @@ loop-slot-init g c = record {
 }
 
 pub returns-in_err-push_pair : goal.returns-in_err-push_pair
-returns-in_err-push_pair g c = record {
-  wrote = each_fails (λ (l : List ℕ). l ++ c.args.ending ∷ []) (ap (map (pair_of (join_job c.args.job.now) c.args.key.now c.args.line.now))
-      (group_from c.args.store.now c.args.end c.loop-slot.slot c.requires.within c.loop-slot-test.true)) c.loop-slot.invariant.amid
-      (rw (sym c.line.ensures) c.push_pair.ensures.wrote) c.in_err-push_pair.ensures.fault;
-  clean = search rules;
-  fault = search rules;
-}
+returns-in_err-push_pair g c =
+    each_fails (λ (l : List ℕ). l ++ c.args.ending ∷ []) (ap (map (pair_of (join_job c.args.job.now) c.args.key.now c.args.line.now))
+    (group_from c.args.store.now c.args.end c.loop-slot.slot c.requires.group.within c.loop-slot-test.true)) c.loop-slot.invariant.amid
+    (rw (sym c.line.ensures) c.push_pair.ensures.wrote) c.in_err-push_pair.ensures.fault _ c.from_residual.ensures.1
 
 pub loop-slot-preserved : goal.loop-slot-preserved
 loop-slot-preserved g c = record {
   amid = each_more (λ (l : List ℕ). l ++ c.args.ending ∷ []) (ap (map (pair_of (join_job c.args.job.now) c.args.key.now c.args.line.now))
-      (group_from c.args.store.now c.args.end c.loop-slot.slot c.requires.within c.loop-slot-test.true)) c.loop-slot.invariant.amid
+      (group_from c.args.store.now c.args.end c.loop-slot.slot c.requires.group.within c.loop-slot-test.true)) c.loop-slot.invariant.amid
       (rw (sym c.line.ensures) c.push_pair.ensures.wrote) c.in_ok-push_pair.ensures.clean;
   from = omega (arith, c.loop-slot.invariant.from);
 }
 
 pub returns : goal.returns
-returns g c = record {
-  wrote = each_done (λ (l : List ℕ). l ++ c.args.ending ∷ []) (ap (map (pair_of (join_job c.args.job.now) c.args.key.now c.args.line.now))
-      (group_end c.args.store.now c.args.end c.loop-slot.slot (omega (arith, c.loop-slot-test.false)))) c.loop-slot.invariant.amid;
-  clean = c.loop-slot.invariant.amid.clean;
-  fault = tt;
-}
+returns g c =
+    each_done (λ (l : List ℕ). l ++ c.args.ending ∷ []) (ap (map (pair_of (join_job c.args.job.now) c.args.key.now c.args.line.now))
+    (group_end c.args.store.now c.args.end c.loop-slot.slot (omega (arith, c.loop-slot-test.false)))) c.loop-slot.invariant.amid

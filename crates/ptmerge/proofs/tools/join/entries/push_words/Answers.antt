@@ -1,15 +1,11 @@
-use Rattle.std.proofs.Common.{◌∷◌, ◌∙◌, ℕ, List, refl, rules, sym, true}
+use Rattle.std.proofs.Common.{◌∷◌, ◌∙◌, ℕ, List, refl, sym, true}
 use Rattle.ptmerge.proofs.OfJoin.Amid.{amid_starts, each_fails, each_more}
 use Rattle.ptmerge.proofs.OfJoin.FieldSpans.{tidy_says}
 use Rattle.ptmerge.proofs.OfMerges.Pushes.{may_push}
 use Rattle.ptmerge.proofs.tools.join.entries.push_words.Goals as goal
 
 pub returns-in_err-push_led : goal.returns-in_err-push_led
-returns-in_err-push_led g c = record {
-  wrote = each_fails (λ (l : List ℕ). 32 ∷ l) c.in-Some.ensures.first c.words.invariant c.push_led-in-Some.ensures.wrote c.in_err-push_led.ensures.fault;
-  clean = search rules;
-  fault = search rules;
-}
+returns-in_err-push_led g c = each_fails (λ (l : List ℕ). 32 ∷ l) c.in-Some.ensures.first c.words.invariant c.push_led-in-Some.ensures.wrote c.in_err-push_led.ensures.fault _ c.from_residual.ensures.1
 
 pub words-preserved : goal.words-preserved
 words-preserved g c = each_more (λ (l : List ℕ). 32 ∷ l) c.in-Some.ensures.first c.words.invariant c.push_led-in-Some.ensures.wrote c.in_ok-push_led.ensures.clean
