@@ -1,16 +1,19 @@
 -- The second input's lines of one key: in the slots behind the first four, or, where it is one, where it was read.
 use Rattle.std.specs.Prelude.{◌≡◌, ◌⊎◌, ℕ, ◌==◌, if◌then◌else◌, ◌+◌, ◌-◌, ◌≤◌, ◌<◌, true, false, Bool, List, length, take, drop, max, Result, Ok, Err}
+use Rattle.ptlangs.specs.Jobs.{Join}
 use Rattle.ptlines.specs.Outputs.{Output}
 use Rattle.ptlines.specs.Readers.{Reader}
 use Rattle.ptlines.specs.Slots.{Slots, line, total, with_line, with_added}
 use Rattle.ptmerge.specs.declared.faults.MergeFault.{MergeFault}
 use Rattle.ptmerge.specs.declared.faults.MergeFault.TheVariants.{Write, Memory}
+use Rattle.ptmerge.specs.declared.order.Side.{Side}
 use Rattle.ptmerge.specs.declared.order.Side.TheVariants.{Second}
 use Rattle.ptmerge.specs.declared.merging.sorted.Sorted.{Sorted}
 use Rattle.ptmerge.specs.declared.merging.sorted.Stand.{Stand}
 use Rattle.ptmerge.specs.declared.merging.sorted.Stand.TheVariants.{Head, Ended, Disorder}
+use Rattle.ptmerge.specs.Join.{join_key}
 use Rattle.ptmerge.specs.Keyed.{Lines}
-use Rattle.ptmerge.specs.LinePasses.{IsUnwritten}
+use Rattle.ptmerge.specs.LinePasses.{IsUnwritten, StandsAt}
 use Rattle.ptmerge.specs.Orders.{Cmp, Key}
 use Rattle.ptmerge.specs.Places.{CannotRead, Comes}
 
@@ -87,6 +90,16 @@ abbrev pub Gathers : Key → Cmp → Sorted → Sorted → Reader → Reader →
 Gathers key cmp old new was is before after out end (Ok next) = Gathered key cmp old new was is before after end next
 Gathers key cmp old new was is before after out end (Err fault) =
     ((fault ≡ Write) × IsUnwritten was is before after out) ⊎ ((out.faulted ≡ false) × NotGathered key cmp old new was is before after end fault)
+
+-- these slots are there, and their lines have this key
+pub record HasKey (key : Key) (store : Slots) (from end : ℕ) (k : List ℕ) : Type 0 where
+  pub within : end ≤ length store.lines
+  pub keyed : (slot : ℕ) → from ≤ slot → slot < end → key (line store slot) ≡ k
+
+-- `join` stands at a line of this input, and keys are the join fields
+pub record JoinsAt (job : Join) (key : Side → Key) (side : Side) (one two : Sorted) (reader : Reader) (store : Slots) (out : Output) : Type 0 where
+  pub stands : StandsAt key side one two reader store out
+  pub keys : (side : Side) (line : List ℕ) → key side line ≡ join_key job side line
 
 -- the group's slots are there, and its lines have this key
 pub record IsGroup (key : Key) (second : Sorted) (store : Slots) (end : ℕ) (k : List ℕ) : Type 0 where

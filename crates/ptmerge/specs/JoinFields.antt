@@ -1,9 +1,11 @@
 -- What is left of a line whose fields are taken one after another.
-use Rattle.std.specs.Prelude.{◌≡◌, ◌≤◌, ◌++◌, ℕ, length, take, MatchOption, ◌==◌, List, [], ◌∷◌, Option, Some, None, Bool, false, true, not, ◌||◌, ◌&&◌, ◌-◌, slice_index, if◌then◌else◌}
-use Rattle.std.specs.List.{flat_map, slice_split}
+use Rattle.std.specs.Prelude.{◌≡◌, ◌≤◌, ◌+◌, ◌++◌, ℕ, length, take, MatchOption, ◌==◌, List, [], ◌∷◌, Option, Some, None, Bool, false, true, not, ◌||◌, ◌&&◌, ◌-◌, slice_index, if◌then◌else◌}
+use Rattle.std.specs.List.{flat_map, join_with_byte, slice_split}
 use Rattle.memchr.specs.Find.{Nowhere}
+use Rattle.ptlangs.specs.Jobs.{Join}
+use Rattle.ptlangs.specs.declared.outlist.OutField.{OutField}
 use Rattle.ptmerge.specs.Keyed.{Lines}
-use Rattle.ptmerge.specs.Join.{between, fields, is_blank}
+use Rattle.ptmerge.specs.Join.{between, fields, is_blank, written}
 
 -- where a byte ends a field
 abbrev pub ends_field : Option ℕ → ℕ → Bool
@@ -19,6 +21,11 @@ fields_left separator (Some bytes) = fields separator bytes
 abbrev pub led : ℕ → Lines → List ℕ
 led byte fs = flat_map (λ f. byte ∷ f) fs
 
+-- what is written of what is left of two lines with this join field, or of one, if these fields are asked for
+abbrev pub entry_with : Join → Option (List OutField) → List ℕ → Option (List ℕ) → Option (List ℕ) → List ℕ
+entry_with job list k one two =
+    join_with_byte (between job.separator) (written job k (fields_left job.separator one) (fields_left job.separator two) list)
+
 -- A line stands as its fields are written, and that with this number comes first.
 pub record IsAsWritten (separator : Option ℕ) (number : ℕ) (line : List ℕ) : Type 0 where
   pub first : number - 1 ≡ 0
@@ -28,6 +35,14 @@ pub record IsAsWritten (separator : Option ℕ) (number : ℕ) (line : List ℕ)
 abbrev pub is_tidy : Bool → List ℕ → Bool
 is_tidy blank [] = not blank
 is_tidy blank (b ∷ bytes) = if (b == 9) || (blank && (b == 32)) then false else is_tidy (b == 32) bytes
+
+-- so many bytes from a place on, which can be looked at all at once
+abbrev pub HasLanes : ℕ → ℕ → List ℕ → Type 0
+HasLanes n at bytes = (n ≤ 64) × (at + n ≤ length bytes)
+
+-- the bytes from a place on are so many or up to twice as many: the first and the last of them are all
+abbrev pub HasEnds : ℕ → ℕ → List ℕ → Type 0
+HasEnds n at bytes = HasLanes n at bytes × (length bytes ≤ at + n + n)
 
 -- a tab, or a space after another one
 abbrev pub is_uneven : ℕ → ℕ → Bool

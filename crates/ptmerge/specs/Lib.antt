@@ -9,6 +9,7 @@ pub mod Merges
 pub mod Orders
 pub mod Parts
 pub mod Places
+pub mod Pushes
 pub mod Sides
 pub mod Spans
 pub mod Steps

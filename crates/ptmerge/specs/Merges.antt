@@ -3,7 +3,7 @@ use Rattle.std.specs.Prelude.{◌≡◌, ◌≤◌, ◌<◌, ◌^◌, ℕ, true,
 use Rattle.ptlines.specs.Inputs.{Given, Begins, Agrees, Came}
 use Rattle.ptlines.specs.KeepingUp.{Before, KeepsUp}
 use Rattle.ptlines.specs.Outputs.{Output, Wrote}
-use Rattle.ptlines.specs.Readers.{Reader, IsDone, HasReadCause}
+use Rattle.ptlines.specs.Readers.{Reader, IsDone, IsSound, HasReadCause}
 use Rattle.ptlines.specs.Slots.{Slots, total}
 use Rattle.ptmerge.specs.declared.faults.MergeFault.{MergeFault}
 use Rattle.ptmerge.specs.declared.faults.MergeFault.TheVariants.{Read, Write, Memory}
@@ -29,6 +29,13 @@ pub record IsReady (first second : Reader) (store : Slots) : Type 0 where
   pub readable2 : second.fault ≡ None
   pub allowed : store.denied ≡ false
   pub empty : total store.lines ≡ 0
+
+-- a call begins: the inputs are ready, their lines end with this byte, and no write failed
+pub record CanBegin (end : ℕ) (first second : Reader) (out : Output) (store : Slots) : Type 0 where
+  pub ready : IsReady first second store
+  pub sound : IsSound first × IsSound second
+  pub ending : (first.ending ≡ end) × (second.ending ≡ end)
+  pub writable : out.faulted ≡ false
 
 -- ---- how it ends
 

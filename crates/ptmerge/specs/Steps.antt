@@ -1,5 +1,5 @@
 -- What a merge of two inputs does next, and what its calls do.
-use Rattle.std.specs.Prelude.{◌≡◌, ◌⊎◌, ℕ, ◌+◌, ◌^◌, ◌≤◌, List, None, true, false, length}
+use Rattle.std.specs.Prelude.{◌≡◌, ◌⊎◌, ℕ, ◌+◌, ◌^◌, ◌<◌, ◌≤◌, List, None, true, false, length}
 use Rattle.std.specs.Ordering.{is_gt}
 use Rattle.ptlines.specs.Readers.{Reader, budget}
 use Rattle.ptlines.specs.Slots.{Slots, line}
@@ -13,9 +13,9 @@ use Rattle.ptmerge.specs.declared.merging.sorted.Sorted.{Sorted}
 use Rattle.ptmerge.specs.declared.merging.sorted.Stand.{Stand}
 use Rattle.ptmerge.specs.declared.merging.sorted.Stand.TheVariants.{Head, Ended, Disorder}
 use Rattle.ptmerge.specs.Orders.{Cmp, Key}
-use Rattle.ptmerge.specs.Places.{HasSlots, Comes, CannotRead, fresh}
+use Rattle.ptmerge.specs.Places.{AreThere, HasSlots, Comes, CannotRead, fresh}
 use Rattle.ptmerge.specs.Sides.{both, other}
-use Rattle.ptmerge.specs.Spans.{IsNoted}
+use Rattle.ptmerge.specs.Spans.{IsNoted, IsSpan}
 use Rattle.ptmerge.specs.Stores.{HasFour, HasNoSlots}
 
 -- two readers, and the store that holds their lines
@@ -38,6 +38,12 @@ pub record IsPlaced (key : Side → Key) (one two : Sorted) (store : Slots) : Ty
 pub record IsLent (place : Sorted) (reader : Reader) : Type 0 where
   pub clean : reader.fault ≡ None
   pub counted : place.number + budget reader ≤ 2 ^ 63
+
+-- an input can go to its next line: its slots are there, its reader is lent, and where the key of its line is is noted
+pub record CanAdvance (key : Key) (place : Sorted) (reader : Reader) (store : Slots) : Type 0 where
+  pub there : AreThere place store
+  pub lent : IsLent place reader
+  pub noted : 0 < place.number → IsSpan (line store place.standing) (key (line store place.standing)) place.key
 
 -- ---- the next step
 

@@ -1,6 +1,7 @@
 //! Why a tool over two inputs stopped.
 
 use crate::order::Side;
+use ptlines::WriteFault;
 
 /// Why a tool over two inputs stopped. Nothing that was pushed before has to be taken back.
 #[derive(Clone, Copy, Debug, PartialEq, Eq)]
@@ -13,4 +14,15 @@ pub enum MergeFault {
     Memory,
     /// 4: this input is out of order at the line of this number, counted from 1. All that was decided is pushed.
     Disorder(Side, u64),
+}
+
+impl From<WriteFault> for MergeFault {
+    ghost use Rattle.std.specs.Prelude.{◌≡◌};
+    ghost use Rattle.ptmerge.specs.declared.faults.MergeFault.TheVariants.{Write};
+
+    ghost from_gives = { λ _ fault. fault ≡ Write };
+
+    fn from(_fault: WriteFault) -> MergeFault {
+        MergeFault::Write
+    }
 }

@@ -2,11 +2,9 @@
 //!
 //! `sorted` is one of the inputs, which has to be in order; `slots` are those of the store that both need.
 
-ghost use Rattle.std.specs.Prelude.{◌≡◌, length, None, true, false, [], Result, OnOk, IfOk, IfErr};
+ghost use Rattle.std.specs.Prelude.{◌≡◌, None, [], OnOk, IfOk, IfErr};
 ghost use Rattle.ptlines.specs.Outputs.{Wrote};
-ghost use Rattle.ptlines.specs.Readers.{IsSound};
 ghost use Rattle.ptlines.specs.Slots.{line};
-ghost use Rattle.ptmerge.specs.declared.faults.MergeFault.TheVariants.{Write};
 ghost use Rattle.ptmerge.specs.LinePasses.{Passes, StandsAt};
 ghost use Rattle.ptmerge.specs.Places.{Advances};
 ghost use Rattle.ptmerge.specs.Sides.{both, other};
@@ -48,23 +46,6 @@ pub struct Merge<K: KeyOrder> {
     order: K,
     first: Sorted,
     second: Sorted,
-}
-
-// Sends what is staged, if the next line of an input may have to be waited for.
-#[inline(always)]
-pub(crate) fn send_before_wait<S: Source, R: Source, W: Sink>(
-    reader: &LineReader<S, R>,
-    out: &mut Out<W>,
-) -> Result<(), MergeFault>
-    requires { out.old.faulted ≡ false }
-    ensures wrote { Wrote out.old out.new [] }
-    ensures clean { OnOk result (out.new.faulted ≡ false) }
-    ensures fault { IfErr result (λ fault. (fault ≡ Write) × (out.new.faulted ≡ true)) }
-{
-    match reader.send_before_wait(out) {
-        Ok(()) => Ok(()),
-        Err(_) => Err(MergeFault::Write),
-    }
 }
 
 impl<K: KeyOrder> Merge<K> {
@@ -268,16 +249,15 @@ impl<K: KeyOrder> Merge<K> {
         store: &mut Store<A>,
         out: &mut Out<W>,
     ) -> Result<(), MergeFault>
-        requires stands { let key = K.key_of self.old.order in
-            StandsAt key side self.old.first self.old.second reader.old store.old }
-        requires clean { out.old.faulted ≡ false }
+        requires { let key = K.key_of self.old.order in
+            StandsAt key side self.old.first self.old.second reader.old store.old out.old }
         ensures sent { Wrote out.old out.new [] }
         ensures passes { let key = K.key_of self.old.order in
             Passes key (K.order self.old.order) side self.old.first self.old.second self.new.first self.new.second
             reader.old reader.new store.old store.new out.new result }
         ensures order { self.new.order ≡ self.old.order }
     {
-        send_before_wait(reader, out)?;
+        reader.send_before_wait(out)?;
         self.advance(side, reader, store)
     }
 }

@@ -1,12 +1,12 @@
 -- What `comm` writes of a line, what is known at each of its turns, and what comes of the turn.
-use Rattle.ptmerge.proofs.Common.{◌≡◌, ℕ, ◌<◌, false, List, [], ◌∷◌, ◌++◌, Result, Ok, Err, length, refl, sym, ◌∙◌, ap, arith, false≢true, Comm, Output, Wrote, Reader, IsSound, Slots, line, total}
+use Rattle.ptmerge.proofs.Common.{◌≡◌, ℕ, ◌<◌, false, List, [], ◌∷◌, ◌++◌, Result, Ok, Err, length, refl, sym, ◌∙◌, ap, arith, false≢true, Comm, Output, Wrote, Reader, Slots, line, total}
 use Rattle.ptmerge.proofs.Common.{text, longest, wrote_nothing, MergeFault, Side, First, Second, Sorted, Head, Ended, comm_by, entries_in, tab_unless, Lines, Tool, by_keys, with_key, HasPassed}
-use Rattle.ptmerge.proofs.Common.{StandsAt, State, IsMerge, IsReady, IsUnread, Ends, seen, Cmp, Key, both, put, other, AreEqual, CannotStart, IsAlone, IsDecided, IsLent, IsPlaced, Starts, inputs}
+use Rattle.ptmerge.proofs.Common.{StandsAt, State, CanBegin, IsMerge, IsUnread, Ends, seen, Cmp, Key, both, put, other, AreEqual, CannotStart, IsAlone, IsDecided, IsLent, IsPlaced, Starts, inputs}
 use Rattle.ptmerge.proofs.Common.{Adds, IsCleared, suc, ◌-◌, min, append_assoc, append-nil, bytes_decides, tied_itself, entries, Bool}
-use Rattle.ptmerge.proofs.OfMerges.Turning.{CannotPass, IsOpened, Placed, Running, adds_of, comes_slots, goes, goes_merging, passes_slots, passing_now, readable_of, runs_on, slots_of, standing}
-use Rattle.ptmerge.proofs.OfMerges.Turning.{turn_stops, unfailed_of, went, IsLineByLine, ahead, all_ended, alone, pass_one, stops_at, left, less, lent_on, place_is, wrote_and_sent}
+use Rattle.ptmerge.proofs.OfMerges.Turning.{opened_by, CannotPass, IsOpened, Placed, Running, adds_of, comes_slots, goes, goes_merging, passes_slots, passing_now, runs_on, slots_of, standing}
+use Rattle.ptmerge.proofs.OfMerges.Turning.{turn_stops, went, IsLineByLine, ahead, all_ended, alone, pass_one, stops_at, left, less, lent_on, place_is, wrote_and_sent}
 use Rattle.ptmerge.proofs.OfMerges.Orders.{IsKeyOrder}
-use Rattle.ptmerge.proofs.OfMerges.Slotted.{both_each, put_other, put_same, has_lines_total}
+use Rattle.ptmerge.proofs.OfMerges.Slotted.{put_other, put_same, has_lines_total}
 use Rattle.ptmerge.proofs.OfMerges.Passing.{Late, Merging, front_line, late_none, pass_front, all_keys}
 use Rattle.ptmerge.proofs.OfMerges.Stopping.{passed, Concludes, state, stops}
 use Rattle.ptmerge.proofs.OfMerges.Starting.{starts_well, starts_badly, start_slots, start_refused}
@@ -71,19 +71,9 @@ module _ (job : Comm) (cmp : Cmp) (key : Side → Key) where
 
 -- ---- what is known
 
-pub is_opened : (job : Comm) {cmp : Cmp} {key : Side → Key} {first second : Reader} {out : Output} {store : Slots} → IsKeyOrder cmp → IsReady first second store
-    → IsSound first × IsSound second → (first.ending ≡ job.end) × (second.ending ≡ job.end) → out.faulted ≡ false → IsOpened (comm_by job cmp key) (seen first second out store)
-is_opened job {first = first} {second} {store = store} o ready sound ending writable = record {
-  o = o;
-  fits = λ ls. (omega arith, omega arith);
-  ending = both_each (λ (side : Side) (r : Reader). r.ending ≡ job.end) first second ending.0 ending.1;
-  sound = both_each (λ (side : Side) (r : Reader). IsSound r) first second sound.0 sound.1;
-  readable = readable_of first second store ready;
-  unfailed = unfailed_of first second store ready sound;
-  writable = writable;
-  allowed = ready.allowed;
-  empty = ready.empty;
-}
+pub is_opened : (job : Comm) {cmp : Cmp} {key : Side → Key} {first second : Reader} {out : Output} {store : Slots} → IsKeyOrder cmp
+    → CanBegin job.end first second out store → IsOpened (comm_by job cmp key) (seen first second out store)
+is_opened job o begins = opened_by o (λ ls. (omega arith, omega arith)) begins
 
 -- what is known at a turn
 pub record IsTurn (job : Comm) (cmp : Cmp) (key : Side → Key) (old now : State) (one two : Sorted) : Type 0 where
@@ -143,8 +133,8 @@ module _ {job : Comm} {cmp : Cmp} {key : Side → Key} {old now : State} {one tw
     slots = adds_of (same ∙ keeps.slots);
   }
 
-  pub stands_at : (s : Side) → (both one two s).stand ≡ Head → StandsAt key s one two (now.reader s) now.store
-  stands_at s head = record { placed = placed; head = head; lent = lent s }
+  pub stands_at : (s : Side) → (both one two s).stand ≡ Head → StandsAt key s one two (now.reader s) now.store now.out
+  stands_at s head = record { placed = placed; head = head; lent = lent s; clean = clean }
 
   -- a line that one input alone has
   module _ {s : Side} (step : IsAlone cmp key (both one two) now.store s) where
@@ -180,11 +170,12 @@ module _ {job : Comm} {cmp : Cmp} {key : Side → Key} {old now : State} {one tw
 
   -- a line that both inputs have: the first one went on, and the second one stands at it
   pub second_stands : AreEqual cmp key (both one two) now.store → {one2 two2 : Sorted} {reader : Reader} {after : Slots} {mid : Output}
-      → HasPassed key cmp First one two one2 two2 (now.reader First) reader now.store after mid → StandsAt key Second one2 two2 (now.reader Second) after
+      → HasPassed key cmp First one two one2 two2 (now.reader First) reader now.store after mid → StandsAt key Second one2 two2 (now.reader Second) after mid
   second_stands step h = record {
     placed = h.on.placed;
     head = ap (λ (q : Sorted). q.stand) h.on.others ∙ step.second;
     lent = rw h.on.others (lent Second);
+    clean = h.on.clean;
   }
 
   module _ (step : AreEqual cmp key (both one two) now.store) where

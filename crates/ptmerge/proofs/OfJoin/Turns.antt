@@ -1,10 +1,10 @@
 -- What is known at each turn of `join`, and what comes of a turn between two groups.
 use Rattle.ptmerge.proofs.Common.{Comes, ◌≡◌, ℕ, Bool, true, false, cond, List, [], ◌∷◌, ◌++◌, map, refl, ap, sym, ◌∙◌, inl, inr, ◌+◌, ◌*◌, ◌≤◌, ◌<◌, Result, Ok, Err, length, subst, arith, append-nil}
 use Rattle.ptmerge.proofs.Common.{flat_map-append, bytes_decides, Join, Side, First, Second, alone1, alone2, alone_entry, entry, fields, join_by, join_entries, join_key, pairs_of, Lines, by_keys, Cmp}
-use Rattle.ptmerge.proofs.Common.{Key, Output, Wrote, Reader, IsSound, Slots, line, text, MergeFault, Sorted, Head, Ended, AddsLeast, CanGoOn, HasPassed, StandsAt, State, IsMerge, IsReady, IsUnread}
+use Rattle.ptmerge.proofs.Common.{Key, Output, Wrote, Reader, IsSound, Slots, line, text, MergeFault, Sorted, Head, Ended, AddsLeast, CanGoOn, HasPassed, State, IsMerge, IsUnread}
 use Rattle.ptmerge.proofs.Common.{seen, HasSlots, both, put, AreEqual, CannotStart, IsAlone, IsDecided, IsLent, IsPlaced, Starts, inputs, IsCleared, Some, ◌⊎◌, Reads, total, IsLine, longest}
-use Rattle.ptmerge.proofs.Common.{wrote_nothing, Write, Ends, other}
-use Rattle.ptmerge.proofs.OfMerges.Turning.{readable_of, same_state, slots_of, unfailed_of, wrote_as, breaks_slots, IsLineByLine, alone, BothStand, ahead, all_ended, breaks, merging_on, next_at}
+use Rattle.ptmerge.proofs.Common.{CanBegin, JoinsAt, wrote_nothing, Write, Ends, other}
+use Rattle.ptmerge.proofs.OfMerges.Turning.{opened_by, same_state, slots_of, wrote_as, breaks_slots, IsLineByLine, alone, BothStand, ahead, all_ended, breaks, merging_on, next_at}
 use Rattle.ptmerge.proofs.OfMerges.Turning.{IsOpened as Opened, pass_one, sides_on, stops_at, IsAbove, left, less, lent_on, place_is}
 use Rattle.std.specs.List.{flat_map}
 use Rattle.ptmerge.proofs.OfJoin.GroupTurns.{IsPairing, head_of, Call, NotPassed, moved, GoneOf, fits_kept, not_failed, peak_line, Grouped}
@@ -12,7 +12,7 @@ use Rattle.ptmerge.proofs.OfMerges.Passing.{all_keys, Bound, From, Late, Merging
 use Rattle.ptmerge.specs.declared.tools.join.Phase.{Phase}
 use Rattle.ptmerge.proofs.OfJoin.GroupSlots.{end_within, pair_of, Keeping, keeping_next, keeping_starts}
 use Rattle.ptmerge.proofs.OfMerges.Orders.{IsKeyOrder, self_at_most}
-use Rattle.ptmerge.proofs.OfMerges.Slotted.{both_each, put_each, put_other, put_same, has_lines_total}
+use Rattle.ptmerge.proofs.OfMerges.Slotted.{put_each, put_other, put_same, has_lines_total}
 use Rattle.ptmerge.proofs.OfMerges.Starting.{starts_badly, starts_well, start_refused, start_slots}
 use Rattle.ptmerge.proofs.OfMerges.Stopping.{Passed, passed, Concludes, gone_passed, gone_standing, stops}
 use Rattle.ptmerge.proofs.OfMerges.Got.{reads_nothing}
@@ -114,23 +114,9 @@ pub record IsOpened (job : Join) (cmp : Cmp) (key : Side → Key) (old : State) 
   pub w : Opened (join_by job cmp key) old
   pub keys : (side : Side) (x : List ℕ) → key side x ≡ join_key job side x
 
-pub opened : (job : Join) (cmp : Cmp) (key : Side → Key) {first second : Reader} (out : Output) {store : Slots} → IsKeyOrder cmp
-    → ((side : Side) (x : List ℕ) → key side x ≡ join_key job side x) → IsReady first second store → IsSound first × IsSound second
-    → (first.ending ≡ job.end) × (second.ending ≡ job.end) → out.faulted ≡ false → IsOpened job cmp key (seen first second out store)
-opened job cmp key {first} {second} out {store} o keys ready sound ending writable = record {
-  w = record {
-    o = o;
-    fits = λ ls. (omega arith, omega arith);
-    ending = both_each (λ (side : Side) (r : Reader). r.ending ≡ job.end) first second ending.0 ending.1;
-    sound = both_each (λ (side : Side) (r : Reader). IsSound r) first second sound.0 sound.1;
-    readable = readable_of first second store ready;
-    unfailed = unfailed_of first second store ready sound;
-    writable = writable;
-    allowed = ready.allowed;
-    empty = ready.empty;
-  };
-  keys = keys;
-}
+pub opened : (job : Join) (cmp : Cmp) (key : Side → Key) {first second : Reader} {out : Output} {store : Slots} → IsKeyOrder cmp
+    → ((side : Side) (x : List ℕ) → key side x ≡ join_key job side x) → CanBegin job.end first second out store → IsOpened job cmp key (seen first second out store)
+opened job cmp key o keys begins = record { w = opened_by o (λ ls. (omega arith, omega arith)) begins; keys = keys }
 
 -- the call
 abbrev pub call_of : {job : Join} {cmp : Cmp} {key : Side → Key} {old : State} → IsOpened job cmp key old → Call
@@ -214,8 +200,8 @@ module _ {job : Join} {cmp : Cmp} {key : Side → Key} {old : State} {phase : Ph
       → 3 * left (put s reader now.reader) one2 two2 + rank next < 3 * left now.reader one two + rank phase
   falls s next {one2} {two2} {reader} {made} head came on = omega (arith, less (key s) cmp s one two one2 two2 now.reader reader now.store made head on.others came, rank_few next)
 
-  pub stands_at : (s : Side) → (both one two s).stand ≡ Head → StandsAt key s one two (now.reader s) now.store
-  stands_at s head = record { placed = t.placed; head = head; lent = t.lent s }
+  pub joins_at : (s : Side) → (both one two s).stand ≡ Head → JoinsAt job key s one two (now.reader s) now.store now.out
+  joins_at s head = record { stands = record { placed = t.placed; head = head; lent = t.lent s; clean = t.clean }; keys = t.opened.keys }
 
   -- ---- between groups
 

@@ -3,12 +3,12 @@
 use Rattle.ptmerge.proofs.Common.{◌≡◌, ◌≢◌, ⊎_elim, inl, inr, ℕ, ◌+◌, ◌≤◌, true, false, List, [], ◌∷◌, ◌++◌, Option, Some, None, Err, length, refl, sym, ◌∙◌, arith, is_lt, is_le, false≢true}
 use Rattle.ptmerge.proofs.Common.{append-nil, Output, Wrote, Reader, Reads, IsDone, IsSound, Slots, line, with_line, text, IsLine, wrote_nothing, MergeFault, Read, Memory, Side, First, Second, Sorted}
 use Rattle.ptmerge.proofs.Common.{Stand, Head, Ended, Disorder, Lines, Tool, Fall, by_keys, disorder_of, fall, with_key, State, IsMerge, Cmp, Key, CannotRead, Comes, HasSlots, slot_of, put, other}
-use Rattle.ptmerge.proofs.Common.{GoesBefore, IsDecided, IsNamed, last_key, ap, ◌⊎◌, ◌*◌, max, length-set, total, longest, Write, IsReady, IsUnwritten, PassesLine, both, IsPlaced, Adds, ◌<◌, Result}
+use Rattle.ptmerge.proofs.Common.{GoesBefore, IsDecided, IsNamed, last_key, ap, ◌⊎◌, ◌*◌, max, length-set, total, longest, Write, CanBegin, IsReady, seen, IsUnwritten, PassesLine, both, IsPlaced, Adds, ◌<◌, Result}
 use Rattle.ptmerge.proofs.Common.{budget, IsLent, subst, wrote_trans, ◌&&◌, cond, nat_lt, Ordering, is_eq, is_gt, nat_tests, length_push, IsKept, same_at, stand_at, IsNoted}
 use Rattle.ptmerge.proofs.OfMerges.Passing.{Bound, From, Fallen, Over, Coming, Falling, FallFrom, Under, Begun, IsFront, Late, Merging, StopsAt, front_line, late_none, not_below, pass_front, settles}
 use Rattle.ptmerge.proofs.OfMerges.Passing.{all_keys, none_wanted}
 use Rattle.ptmerge.proofs.OfMerges.Orders.{EachKey, EachKey-weaker, with_key-above, IsKeyOrder, Above, above_at_most, above_up, greater_flips, is_greater}
-use Rattle.ptmerge.proofs.OfMerges.Slotted.{put_both, put_each, put_other, put_same, side_case, line_other, Keeps, has_lines_total, keeps_line, line_added}
+use Rattle.ptmerge.proofs.OfMerges.Slotted.{both_each, put_both, put_each, put_other, put_same, side_case, line_other, Keeps, has_lines_total, keeps_line, line_added}
 use Rattle.ptmerge.proofs.OfMerges.Stopping.{Sided, Stands, Next, Passed, goes_next, passed, sided_keeps, Fails, Fits, Gone, state, stops, FitsIn, gone_passed, gone_standing, alive, comes_less}
 use Rattle.ptmerge.proofs.OfMerges.Got.{reads_nothing}
 
@@ -303,6 +303,20 @@ pub record IsOpened (tool : Tool) (old : State) : Type 0 where
   pub writable : old.out.faulted ≡ false
   pub allowed : old.store.denied ≡ false
   pub empty : total old.store.lines ≡ 0
+
+pub opened_by : {tool : Tool} {first second : Reader} {out : Output} {store : Slots} → IsKeyOrder tool.cmp → KeepsTwo tool → CanBegin tool.end first second out store
+    → IsOpened tool (seen first second out store)
+opened_by {tool} {first} {second} {store = store} o fits b = record {
+  o = o;
+  fits = fits;
+  ending = both_each (λ (side : Side) (r : Reader). r.ending ≡ tool.end) first second b.ending.0 b.ending.1;
+  sound = both_each (λ (side : Side) (r : Reader). IsSound r) first second b.sound.0 b.sound.1;
+  readable = readable_of first second store b.ready;
+  unfailed = unfailed_of first second store b.ready b.sound;
+  writable = b.writable;
+  allowed = b.ready.allowed;
+  empty = b.ready.empty;
+}
 
 -- where both inputs stand, whatever was pushed
 pub record Placed (tool : Tool) (old : State) (reader : Side → Reader) (place : Side → Sorted) (store : Slots) (ls p : Side → Lines) (b : Side → Bound) : Type 0 where

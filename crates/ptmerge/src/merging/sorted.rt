@@ -1,10 +1,10 @@
 //! One input of a merge: the line at which it stands, and whether its keys go on in order.
 
-ghost use Rattle.std.specs.Prelude.{◌≡◌, ◌≤◌, ◌<◌, ◌+◌, ◌^◌, None, length, if◌then◌else◌, OnOk};
-ghost use Rattle.ptlines.specs.Slots.{line};
-ghost use Rattle.ptlines.specs.Readers.{IsSound, budget};
-ghost use Rattle.ptmerge.specs.Places.{Advances, AreThere, fresh, slot_of};
-ghost use Rattle.ptmerge.specs.Spans.{IsNoted, IsSpan};
+ghost use Rattle.std.specs.Prelude.{◌≡◌, length, if◌then◌else◌, OnOk};
+ghost use Rattle.ptlines.specs.Readers.{IsSound};
+ghost use Rattle.ptmerge.specs.Places.{Advances, fresh};
+ghost use Rattle.ptmerge.specs.Spans.{IsNoted};
+ghost use Rattle.ptmerge.specs.Steps.{CanAdvance};
 
 use crate::faults::MergeFault;
 use crate::order::{KeyOrder, Side, Span};
@@ -74,11 +74,7 @@ impl Sorted {
         reader: &mut LineReader<S, R>,
         store: &mut Store<A>,
     ) -> Result<(), MergeFault>
-        requires there { AreThere self.old store.old }
-        requires clean { reader.old.fault ≡ None }
-        requires counted { self.old.number + budget reader.old ≤ 2 ^ 63 }
-        requires key { let last = line store.old self.old.standing in
-            0 < self.old.number → IsSpan last (K.key_of order.now side last) self.old.key }
+        requires { CanAdvance (K.key_of order.now side) self.old reader.old store.old }
         ensures moves { let key = K.key_of order.now side in
             Advances key (K.order order.now) side self.old self.new reader.old reader.new store.old store.new result }
         ensures slots { length store.new.lines ≡ length store.old.lines }

@@ -1,14 +1,14 @@
 //! `comm`. It stands on the merge: each step is a line of one input alone, or one that both have.
 
-ghost use Rattle.std.specs.Prelude.{◌≡◌, ◌<◌, ◌++◌, ℕ, List, None, true, false, length, max, OnOk, OnErr};
+ghost use Rattle.std.specs.Prelude.{◌≡◌, ◌<◌, ◌++◌, ℕ, List, true, false, length};
 ghost use Rattle.ptlangs.specs.Jobs.{comm_job};
 ghost use Rattle.ptlines.specs.Outputs.{Wrote};
-ghost use Rattle.ptlines.specs.Readers.{IsSound};
 ghost use Rattle.ptlines.specs.Slots.{line};
 ghost use Rattle.ptlines.specs.Text.{text};
 ghost use Rattle.ptmerge.specs.Comm.{comm_by, comm_tool, tab_unless, entries_in};
-ghost use Rattle.ptmerge.specs.Merges.{IsMerge, IsReady, IsUnread, Untouched, ended_by, seen};
+ghost use Rattle.ptmerge.specs.Merges.{CanBegin, IsMerge, IsReady, IsUnread, Untouched, ended_by, seen};
 ghost use Rattle.ptmerge.specs.LinePasses.{Passes, StandsAt};
+ghost use Rattle.ptmerge.specs.Pushes.{MayPush};
 ghost use Rattle.ptmerge.specs.Sides.{both};
 ghost use Rattle.ptmerge.specs.Stores.{Adds};
 ghost use Rattle.ptmerge.specs.declared.order.Side.{Side as Of};
@@ -41,10 +41,7 @@ fn push_entry<W: Sink>(
     ending: u8,
     out: &mut Out<W>,
 ) -> Result<(), WriteFault>
-    requires { out.old.faulted ≡ false }
-    ensures wrote { Wrote out.old out.new (text ending (entries_in hidden lead.now 1 line.now)) }
-    ensures clean { OnOk result (out.new.faulted ≡ false) }
-    ensures fault { OnErr result (out.new.faulted ≡ true) }
+    ensures { MayPush out.old out.new (text ending (entries_in hidden lead.now 1 line.now)) result }
 {
     if hidden {
         return Ok(());
@@ -64,9 +61,8 @@ fn pass<K: KeyOrder, A: Allocator + Copy, S: Source, R: Source, W: Sink>(
     store: &mut Store<A>,
     out: &mut Out<W>,
 ) -> Result<(), MergeFault>
-    requires stands { let key = K.key_of merge.old.order in
-        StandsAt key side merge.old.first merge.old.second reader.old store.old }
-    requires clean { out.old.faulted ≡ false }
+    requires { let key = K.key_of merge.old.order in
+        StandsAt key side merge.old.first merge.old.second reader.old store.old out.old }
     ensures wrote { let standing = line store.old (both merge.old.first merge.old.second side).standing in
         Wrote out.old out.new (text ending (entries_in hidden lead.now 1 standing)) }
     ensures passes { let key = K.key_of merge.old.order in
@@ -74,10 +70,7 @@ fn pass<K: KeyOrder, A: Allocator + Copy, S: Source, R: Source, W: Sink>(
         reader.old reader.new store.old store.new out.new result }
     ensures order { merge.new.order ≡ merge.old.order }
 {
-    match push_entry(hidden, lead, merge.head(side, store), ending, out) {
-        Ok(()) => {}
-        Err(_) => return Err(MergeFault::Write),
-    }
+    push_entry(hidden, lead, merge.head(side, store), ending, out)?;
     merge.go_on(side, reader, store, out)
 }
 
@@ -91,10 +84,7 @@ fn comm_in_order<K: KeyOrder, A: Allocator + Copy, S: Source, R: Source, W: Sink
     out: &mut Out<W>,
 ) -> Result<(), MergeFault>
     requires whole { (side : Of) (line : List ℕ) → K.key_of order side line ≡ line }
-    requires ready { IsReady first.old second.old store.old }
-    requires sound { IsSound first.old × IsSound second.old }
-    requires ending { (first.old.ending ≡ (comm_job job.now).end) × (second.old.ending ≡ (comm_job job.now).end) }
-    requires writable { out.old.faulted ≡ false }
+    requires begins { CanBegin (comm_job job.now).end first.old second.old out.old store.old }
     ensures merged { let tool = comm_by (comm_job job.now) (K.order order) (K.key_of order) in
         let was = seen first.old second.old out.old store.old in
         IsMerge tool was (seen first.new second.new out.new store.new) result }

@@ -3,18 +3,17 @@
 //! `groups` are those lines, `fields` the fields of a line, `entries` what is written for two lines or for one, and
 //! `blanks` finds what stands between words.
 
-ghost use Rattle.std.specs.Prelude.{◌≡◌, ◌<◌, ◌≤◌, ℕ, List, ◌++◌, ◌∷◌, [], option_copied, false, true, length, IfSome, OnOk, OnErr};
+ghost use Rattle.std.specs.Prelude.{◌≡◌, ◌<◌, ℕ, List, ◌∷◌, [], false, true, length};
 ghost use Rattle.ptlangs.specs.Jobs.{join_job};
 ghost use Rattle.ptlines.specs.Outputs.{Wrote};
-ghost use Rattle.ptlines.specs.Slots.{line, line as line_of};
+ghost use Rattle.ptlines.specs.Slots.{line};
 ghost use Rattle.ptlines.specs.Text.{text};
-ghost use Rattle.ptlines.specs.Readers.{IsSound};
-ghost use Rattle.ptmerge.specs.Groups.{AddsLeast, IsGroup, end_slot, first_slot, group};
-ghost use Rattle.ptmerge.specs.Merges.{IsMerge, IsReady, IsUnread, Untouched, ended_by, seen};
+ghost use Rattle.ptmerge.specs.Groups.{AddsLeast, HasKey, IsGroup, JoinsAt, end_slot, first_slot, group};
+ghost use Rattle.ptmerge.specs.Merges.{CanBegin, IsMerge, IsReady, IsUnread, Untouched, ended_by, seen};
 ghost use Rattle.ptmerge.specs.declared.order.Side.{Side as Sided};
-ghost use Rattle.ptmerge.specs.Join.{alone_entry, entry, join_by, join_key, join_tool, pairs_of};
-ghost use Rattle.ptmerge.specs.JoinFields.{fields_left};
-ghost use Rattle.ptmerge.specs.LinePasses.{Passes, StandsAt};
+ghost use Rattle.ptmerge.specs.Join.{alone_entry, join_by, join_key, join_tool, pairs_of};
+ghost use Rattle.ptmerge.specs.LinePasses.{Passes};
+ghost use Rattle.ptmerge.specs.Pushes.{MayPush};
 ghost use Rattle.ptmerge.specs.Sides.{both};
 ghost use Rattle.ptmerge.specs.declared.order.Side.TheVariants as Of;
 
@@ -43,11 +42,8 @@ fn push_alone<A: Allocator, W: Sink>(
     ending: u8,
     out: &mut Out<W>,
 ) -> Result<(), WriteFault>
-    requires keyed { join_key (join_job job.now) side line.now ≡ key.now }
-    requires clean { out.old.faulted ≡ false }
-    ensures wrote { Wrote out.old out.new (text ending (alone_entry (join_job job.now) side line.now)) }
-    ensures clean { OnOk result (out.new.faulted ≡ false) }
-    ensures fault { OnErr result (out.new.faulted ≡ true) }
+    requires { join_key (join_job job.now) side line.now ≡ key.now }
+    ensures { MayPush out.old out.new (text ending (alone_entry (join_job job.now) side line.now)) result }
 {
     match side {
         Side::First => {
@@ -78,15 +74,10 @@ fn push_pairs<A: Allocator + Copy, W: Sink>(
     ending: u8,
     out: &mut Out<W>,
 ) -> Result<(), WriteFault>
-    requires within { end ≤ length store.now.lines }
-    requires keyed1 { join_key (join_job job.now) Of.First line.now ≡ key.now }
-    requires keyed2 { (slot : ℕ) → from ≤ slot → slot < end →
-        join_key (join_job job.now) Of.Second (line_of store.now slot) ≡ key.now }
-    requires clean { out.old.faulted ≡ false }
-    ensures wrote { let pairs = pairs_of (join_job job.now) key.now (line.now ∷ []) (group store.now from end) in
-        Wrote out.old out.new (text ending pairs) }
-    ensures clean { OnOk result (out.new.faulted ≡ false) }
-    ensures fault { OnErr result (out.new.faulted ≡ true) }
+    requires line { join_key (join_job job.now) Of.First line.now ≡ key.now }
+    requires group { HasKey (join_key (join_job job.now) Of.Second) store.now from end key.now }
+    ensures { let pairs = pairs_of (join_job job.now) key.now (line.now ∷ []) (group store.now from end) in
+        MayPush out.old out.new (text ending pairs) result }
 {
     if !job.pairs {
         return Ok(());
@@ -108,10 +99,8 @@ fn pass_alone<K: KeyOrder, A: Allocator + Copy, S: Source, R: Source, W: Sink>(
     store: &mut Store<A>,
     out: &mut Out<W>,
 ) -> Result<(), MergeFault>
-    requires stands { let key = K.key_of merge.old.order in
-        StandsAt key side merge.old.first merge.old.second reader.old store.old }
-    requires keys { (side : Sided) (line : List ℕ) → K.key_of merge.old.order side line ≡ join_key (join_job job.now) side line }
-    requires clean { out.old.faulted ≡ false }
+    requires { let key = K.key_of merge.old.order in
+        JoinsAt (join_job job.now) key side merge.old.first merge.old.second reader.old store.old out.old }
     ensures wrote { let standing = line store.old (both merge.old.first merge.old.second side).standing in
         Wrote out.old out.new (text ending (alone_entry (join_job job.now) side standing)) }
     ensures passes { let key = K.key_of merge.old.order in
@@ -120,10 +109,7 @@ fn pass_alone<K: KeyOrder, A: Allocator + Copy, S: Source, R: Source, W: Sink>(
     ensures order { merge.new.order ≡ merge.old.order }
 {
     let key = merge.key(side, store);
-    match push_alone(job, side, key, merge.head(side, store), ending, out) {
-        Ok(()) => {}
-        Err(_) => return Err(MergeFault::Write),
-    }
+    push_alone(job, side, key, merge.head(side, store), ending, out)?;
     merge.go_on(side, reader, store, out)
 }
 
@@ -137,12 +123,10 @@ fn pass_pairs<K: KeyOrder, A: Allocator + Copy, S: Source, R: Source, W: Sink>(
     store: &mut Store<A>,
     out: &mut Out<W>,
 ) -> Result<(), MergeFault>
-    requires stands { let key = K.key_of merge.old.order in
-        StandsAt key Of.First merge.old.first merge.old.second reader.old store.old }
+    requires joins { let key = K.key_of merge.old.order in
+        JoinsAt (join_job job.now) key Of.First merge.old.first merge.old.second reader.old store.old out.old }
     requires group { let key = K.key_of merge.old.order Of.First (line store.old merge.old.first.standing) in
         IsGroup (join_key (join_job job.now) Of.Second) merge.old.second store.old end key }
-    requires keys { (side : Sided) (line : List ℕ) → K.key_of merge.old.order side line ≡ join_key (join_job job.now) side line }
-    requires clean { out.old.faulted ≡ false }
     ensures wrote { let standing = line store.old merge.old.first.standing in
         let key = K.key_of merge.old.order Of.First standing in
         let lines = group store.old (first_slot merge.old.second end) (end_slot merge.old.second end) in
@@ -155,10 +139,7 @@ fn pass_pairs<K: KeyOrder, A: Allocator + Copy, S: Source, R: Source, W: Sink>(
     let key = merge.key(Side::First, store);
     let line = merge.head(Side::First, store);
     let (from, to) = group_slots(merge, end);
-    match push_pairs(job, key, line, from, to, store, ending, out) {
-        Ok(()) => {}
-        Err(_) => return Err(MergeFault::Write),
-    }
+    push_pairs(job, key, line, from, to, store, ending, out)?;
     merge.go_on(Side::First, reader, store, out)
 }
 
@@ -180,10 +161,7 @@ fn join_in_order<K: KeyOrder, A: Allocator + Copy, S: Source, R: Source, W: Sink
     out: &mut Out<W>,
 ) -> Result<(), MergeFault>
     requires keys { (side : Sided) (line : List ℕ) → K.key_of order side line ≡ join_key (join_job job.now) side line }
-    requires ready { IsReady first.old second.old store.old }
-    requires sound { IsSound first.old × IsSound second.old }
-    requires ending { (first.old.ending ≡ (join_job job.now).end) × (second.old.ending ≡ (join_job job.now).end) }
-    requires writable { out.old.faulted ≡ false }
+    requires begins { CanBegin (join_job job.now).end first.old second.old out.old store.old }
     ensures merged { let tool = join_by (join_job job.now) (K.order order) (K.key_of order) in
         let was = seen first.old second.old out.old store.old in
         IsMerge tool was (seen first.new second.new out.new store.new) result }

@@ -2,7 +2,7 @@
 ghost use Rattle.std.specs.Prelude.{◌≡◌, ◌<◌, ◌≤◌, ◌+◌, length, true};
 ghost use Rattle.memchr.specs.Find.{IsFirst, IsFirstByte, Passes};
 ghost use Rattle.ptmerge.specs.Join.{is_blank};
-ghost use Rattle.ptmerge.specs.JoinFields.{IsEven, is_tidy};
+ghost use Rattle.ptmerge.specs.JoinFields.{HasEnds, HasLanes, IsEven, is_tidy};
 
 use std::simd::prelude::*;
 
@@ -15,8 +15,7 @@ fn is_blank(byte: u8) -> bool
 // The first blank among the N bytes from a place on, which are looked at all at once.
 #[inline(always)]
 fn find_blank_in<const N: usize>(bytes: &[u8], at: usize) -> Option<usize>
-    requires lanes { N ≤ 64 }
-    requires within { at + N ≤ length bytes.now }
+    requires { HasLanes N at bytes.now }
     ensures { IsFirst (Passes is_blank bytes.now) at (at + N) result }
 {
     let lanes = Simd::<u8, N>::from_slice(&bytes[at..]);
@@ -31,8 +30,7 @@ fn find_blank_in<const N: usize>(bytes: &[u8], at: usize) -> Option<usize>
 // The first blank among N bytes or up to twice as many: in the first N or in the last N, which may overlap.
 #[inline(always)]
 fn find_blank_ends<const N: usize>(bytes: &[u8]) -> Option<usize>
-    requires lanes { N ≤ 64 }
-    requires few { (N ≤ length bytes.now) × (length bytes.now ≤ N + N) }
+    requires { HasEnds N 0 bytes.now }
     ensures { IsFirstByte is_blank bytes.now result }
 {
     match find_blank_in::<N>(bytes, 0) {
@@ -94,9 +92,7 @@ pub(crate) fn find_blank(bytes: &[u8]) -> Option<usize>
 // Whether none of the N bytes from a place on is a tab, or a space right after another one.
 #[inline(always)]
 fn is_even_in<const N: usize>(bytes: &[u8], at: usize) -> bool
-    requires lanes { N ≤ 64 }
-    requires behind { 0 < at }
-    requires within { at + N ≤ length bytes.now }
+    requires { (0 < at) × HasLanes N at bytes.now }
     ensures { IsEven bytes.now at (at + N) result }
 {
     let space = Simd::splat(b' ');
@@ -110,8 +106,7 @@ fn is_even_in<const N: usize>(bytes: &[u8], at: usize) -> bool
 // The same of all bytes after the first one, which are N or up to twice as many: the first N and the last N.
 #[inline(always)]
 fn is_even_at_ends<const N: usize>(bytes: &[u8]) -> bool
-    requires lanes { N ≤ 64 }
-    requires few { (N < length bytes.now) × (length bytes.now ≤ N + N + 1) }
+    requires { HasEnds N 1 bytes.now }
     ensures { IsEven bytes.now 1 (length bytes.now) result }
 {
     is_even_in::<N>(bytes, 1) && is_even_in::<N>(bytes, bytes.len() - N)

@@ -1,10 +1,12 @@
 //! What `join` writes for a pair of lines, or for one of them.
 
-ghost use Rattle.std.specs.Prelude.{◌≡◌, ◌++◌, ◌∷◌, [], None, Some, option_copied, true, false, OnOk, OnErr, IfSome};
-ghost use Rattle.ptlines.specs.Outputs.{Wrote};
+ghost use Rattle.std.specs.Prelude.{◌≡◌, ◌++◌, ◌∷◌, [], None, Some, option_copied, true, IfSome};
+ghost use Rattle.std.proofs.Props.{props};
+ghost use Rattle.ptlines.specs.Outputs.{Pushes};
 ghost use Rattle.ptlangs.specs.Jobs.{join_job};
 ghost use Rattle.ptmerge.specs.Join.{fields, others, between, filled, named, entry, join_key};
-ghost use Rattle.ptmerge.specs.JoinFields.{IsAsWritten, fields_left, led};
+ghost use Rattle.ptmerge.specs.JoinFields.{IsAsWritten, entry_with, fields_left, led};
+ghost use Rattle.ptmerge.specs.Pushes.{MayPush};
 ghost use Rattle.ptmerge.specs.declared.order.Side.TheVariants.{First, Second};
 
 use crate::tools::join::blanks::is_tidy;
@@ -17,19 +19,14 @@ use std::alloc::Allocator;
 // Pushes a byte, and then a field.
 #[inline(always)]
 fn push_led<W: Sink>(byte: u8, field: &[u8], out: &mut Out<W>) -> Result<(), WriteFault>
-    ensures wrote { Wrote out.old out.new (byte ∷ field.now) }
-    ensures clean { OnOk result (out.new.faulted ≡ false) }
-    ensures fault { OnErr result (out.new.faulted ≡ true) }
+    ensures { Pushes out.old out.new (byte ∷ field.now) result }
 {
     out.push_line(&[byte], field, b"")
 }
 
 // Pushes all fields of what is left of a line, each with a space before it.
 fn push_words<W: Sink>(bytes: &[u8], out: &mut Out<W>) -> Result<(), WriteFault>
-    requires { out.old.faulted ≡ false }
-    ensures wrote { Wrote out.old out.new (led 32 (fields_left None (Some bytes.now))) }
-    ensures clean { OnOk result (out.new.faulted ≡ false) }
-    ensures fault { OnErr result (out.new.faulted ≡ true) }
+    ensures { MayPush out.old out.new (led 32 (fields_left None (Some bytes.now))) result }
 {
     if is_tidy(bytes) {
         return push_led(b' ', bytes, out);
@@ -48,10 +45,8 @@ fn push_left<W: Sink>(
     line: Option<&[u8]>,
     out: &mut Out<W>,
 ) -> Result<(), WriteFault>
-    requires { out.old.faulted ≡ false }
-    ensures wrote { Wrote out.old out.new (led (between separator) (fields_left separator (option_copied line.entry))) }
-    ensures clean { OnOk result (out.new.faulted ≡ false) }
-    ensures fault { OnErr result (out.new.faulted ≡ true) }
+    ensures { let fields = fields_left separator (option_copied line.entry) in
+        MayPush out.old out.new (led (between separator) fields) result }
 {
     match (separator, line) {
         (_, None) => Ok(()),
@@ -67,11 +62,8 @@ fn push_others<W: Sink>(
     line: Option<&[u8]>,
     out: &mut Out<W>,
 ) -> Result<(), WriteFault>
-    requires { out.old.faulted ≡ false }
-    ensures wrote { Wrote out.old out.new (led (between separator)
-        (others number (fields_left separator (option_copied line.entry)))) }
-    ensures clean { OnOk result (out.new.faulted ≡ false) }
-    ensures fault { OnErr result (out.new.faulted ≡ true) }
+    ensures { let fields = fields_left separator (option_copied line.entry) in
+        MayPush out.old out.new (led (between separator) (others number fields)) result }
 {
     let lead = separator.unwrap_or(b' ');
     let mut left = line;
@@ -88,115 +80,95 @@ fn push_others<W: Sink>(
     }
 }
 
-// What an element of the output list names: the join field, or a field of a line, which may be the join field too.
-#[inline(always)]
-fn named_field<'a, A: Allocator>(
-    job: &JoinJob<A>,
-    item: OutField,
+// What an entry is made of: the line of each input that it is of, if there is one, and the join field of these lines.
+#[derive(Drop)]
+struct Entry<'a, A: Allocator> {
+    job: &'a JoinJob<A>,
     key: &'a [u8],
     one: Option<&'a [u8]>,
     two: Option<&'a [u8]>,
-) -> &'a [u8]
-    requires keyed1 { IfSome (option_copied one) (λ line. join_key (join_job job.now) First line ≡ key.now) }
-    requires keyed2 { IfSome (option_copied two) (λ line. join_key (join_job job.now) Second line ≡ key.now) }
-    ensures { result.now ≡ named item key.now
-        (fields_left (join_job job.now).separator (option_copied one.entry))
-        (fields_left (join_job job.now).separator (option_copied two.entry)) }
+    ghost keyed1: { IfSome (option_copied one) (λ line. join_key (join_job job.now) First line ≡ key.now) } by { Prim.hlevel props },
+    ghost keyed2: { IfSome (option_copied two) (λ line. join_key (join_job job.now) Second line ≡ key.now) } by { Prim.hlevel props },
+}
+
+// What an element of the output list names: the join field, or a field of a line, which may be the join field too.
+#[inline(always)]
+fn named_field<'a, A: Allocator>(entry: &Entry<'a, A>, item: OutField) -> &'a [u8]
+    ensures { result.now ≡ named item entry.now.key.now
+        (fields_left (join_job entry.now.job.now).separator (option_copied entry.now.one))
+        (fields_left (join_job entry.now.job.now).separator (option_copied entry.now.two)) }
 {
     match item {
-        OutField::Join => key,
+        OutField::Join => entry.key,
         OutField::Field(File::First, number) => {
-            if one.is_some() && number == job.field[0] {
-                return key;
+            if entry.one.is_some() && number == entry.job.field[0] {
+                return entry.key;
             }
-            nth_field(job.sep, number, one)
+            nth_field(entry.job.sep, number, entry.one)
         }
         OutField::Field(File::Second, number) => {
-            if two.is_some() && number == job.field[1] {
-                return key;
+            if entry.two.is_some() && number == entry.job.field[1] {
+                return entry.key;
             }
-            nth_field(job.sep, number, two)
+            nth_field(entry.job.sep, number, entry.two)
         }
     }
 }
 
 // What is written for an element of the output list: what it names, or where that is empty what stands for it.
 #[inline(always)]
-fn listed_field<'a, A: Allocator>(
-    job: &'a JoinJob<A>,
-    item: OutField,
-    key: &'a [u8],
-    one: Option<&'a [u8]>,
-    two: Option<&'a [u8]>,
-) -> &'a [u8]
-    requires keyed1 { IfSome (option_copied one) (λ line. join_key (join_job job.now) First line ≡ key.now) }
-    requires keyed2 { IfSome (option_copied two) (λ line. join_key (join_job job.now) Second line ≡ key.now) }
-    ensures { result.now ≡ filled (join_job job.now).empty (named item key.now
-        (fields_left (join_job job.now).separator (option_copied one.entry))
-        (fields_left (join_job job.now).separator (option_copied two.entry))) }
+fn listed_field<'a, A: Allocator>(entry: &Entry<'a, A>, item: OutField) -> &'a [u8]
+    ensures { result.now ≡ filled (join_job entry.now.job.now).empty (named item entry.now.key.now
+        (fields_left (join_job entry.now.job.now).separator (option_copied entry.now.one))
+        (fields_left (join_job entry.now.job.now).separator (option_copied entry.now.two))) }
 {
-    let field = named_field(job, item, key, one, two);
+    let field = named_field(entry, item);
     if field.is_empty() {
-        return job.empty.as_slice();
+        return entry.job.empty.as_slice();
     }
     field
 }
 
-// Pushes what is written for a pair of lines, or of one of them, with an output list.
+// Pushes an entry with an output list.
 fn push_listed<A: Allocator, W: Sink>(
-    job: &JoinJob<A>,
+    entry: &Entry<'_, A>,
     items: &[OutField],
-    key: &[u8],
-    one: Option<&[u8]>,
-    two: Option<&[u8]>,
     out: &mut Out<W>,
 ) -> Result<(), WriteFault>
-    requires listed { (join_job job.now).list ≡ Some items.now }
-    requires keyed1 { IfSome (option_copied one) (λ line. join_key (join_job job.now) First line ≡ key.now) }
-    requires keyed2 { IfSome (option_copied two) (λ line. join_key (join_job job.now) Second line ≡ key.now) }
-    requires clean { out.old.faulted ≡ false }
-    ensures wrote { Wrote out.old out.new (entry (join_job job.now) key.now
-        (fields_left (join_job job.now).separator (option_copied one.entry))
-        (fields_left (join_job job.now).separator (option_copied two.entry))) }
-    ensures clean { OnOk result (out.new.faulted ≡ false) }
-    ensures fault { OnErr result (out.new.faulted ≡ true) }
+    ensures { let job = join_job entry.now.job.now in
+        let one = option_copied entry.now.one in
+        let two = option_copied entry.now.two in
+        MayPush out.old out.new (entry_with job (Some items.now) entry.now.key.now one two) result }
 {
     let [first, others @ ..] = items else {
         return Ok(());
     };
-    out.push(listed_field(job, *first, key, one, two))?;
-    let lead = job.sep.unwrap_or(b' ');
+    out.push(listed_field(entry, *first))?;
+    let lead = entry.job.sep.unwrap_or(b' ');
     let mut rest = others;
     'items: while let [item, more @ ..] = rest {
-        push_led(lead, listed_field(job, *item, key, one, two), out)?;
+        push_led(lead, listed_field(entry, *item), out)?;
         rest = more;
     }
     Ok(())
 }
 
-// Pushes the fields that are written for a pair of lines, or of one of them, and of which this is the join field.
+// Pushes the fields that are written of an entry.
 fn push_fields<A: Allocator, W: Sink>(
-    job: &JoinJob<A>,
-    key: &[u8],
-    one: Option<&[u8]>,
-    two: Option<&[u8]>,
+    entry: &Entry<'_, A>,
     out: &mut Out<W>,
 ) -> Result<(), WriteFault>
-    requires keyed1 { IfSome (option_copied one) (λ line. join_key (join_job job.now) First line ≡ key.now) }
-    requires keyed2 { IfSome (option_copied two) (λ line. join_key (join_job job.now) Second line ≡ key.now) }
-    requires clean { out.old.faulted ≡ false }
-    ensures wrote { Wrote out.old out.new (entry (join_job job.now) key.now
-        (fields_left (join_job job.now).separator (option_copied one.entry))
-        (fields_left (join_job job.now).separator (option_copied two.entry))) }
-    ensures clean { OnOk result (out.new.faulted ≡ false) }
-    ensures fault { OnErr result (out.new.faulted ≡ true) }
+    ensures { let job = join_job entry.now.job.now in
+        let one = option_copied entry.now.one in
+        let two = option_copied entry.now.two in
+        MayPush out.old out.new (entry_with job job.list entry.now.key.now one two) result }
 {
-    match &job.list {
-        Some(list) => push_listed(job, list.fields(), key, one, two, out),
+    match &entry.job.list {
+        Some(list) => push_listed(entry, list.fields(), out),
         None => {
-            out.push(key)?;
-            push_others(job.sep, job.field[0], one, out)?;
-            push_others(job.sep, job.field[1], two, out)
+            out.push(entry.key)?;
+            push_others(entry.job.sep, entry.job.field[0], entry.one, out)?;
+            push_others(entry.job.sep, entry.job.field[1], entry.two, out)
         }
     }
 }
@@ -212,27 +184,20 @@ fn stands_as_written(separator: Option<u8>, number: u64, line: &[u8]) -> bool
     }
 }
 
-// Pushes the entry of a pair of lines, or of one of them, field by field, and the byte that ends it. Out of line, so
-// that the code for lines that stand as they are written is short.
+// Pushes an entry field by field, and the byte that ends it. Out of line, so that the code for lines that stand as they
+// are written is short.
 #[inline(never)]
 fn push_entry<A: Allocator, W: Sink>(
-    job: &JoinJob<A>,
-    key: &[u8],
-    one: Option<&[u8]>,
-    two: Option<&[u8]>,
+    entry: &Entry<'_, A>,
     ending: u8,
     out: &mut Out<W>,
 ) -> Result<(), WriteFault>
-    requires keyed1 { IfSome (option_copied one) (λ line. join_key (join_job job.now) First line ≡ key.now) }
-    requires keyed2 { IfSome (option_copied two) (λ line. join_key (join_job job.now) Second line ≡ key.now) }
-    requires clean { out.old.faulted ≡ false }
-    ensures wrote { Wrote out.old out.new (entry (join_job job.now) key.now
-        (fields_left (join_job job.now).separator (option_copied one.entry))
-        (fields_left (join_job job.now).separator (option_copied two.entry)) ++ ending ∷ []) }
-    ensures clean { OnOk result (out.new.faulted ≡ false) }
-    ensures fault { OnErr result (out.new.faulted ≡ true) }
+    ensures { let job = join_job entry.now.job.now in
+        let one = option_copied entry.now.one in
+        let two = option_copied entry.now.two in
+        Pushes out.old out.new (entry_with job job.list entry.now.key.now one two ++ ending ∷ []) result }
 {
-    push_fields(job, key, one, two, out)?;
+    push_fields(entry, out)?;
     out.push(&[ending])
 }
 
@@ -240,21 +205,18 @@ fn push_entry<A: Allocator, W: Sink>(
 // they are written are pushed whole, the second one without its join field. Out of line, so that its caller, which
 // passes the lines of a key, stays short.
 #[inline(never)]
-pub(crate) fn push_pair<A: Allocator, W: Sink>(
-    job: &JoinJob<A>,
-    key: &[u8],
-    first: &[u8],
-    second: &[u8],
+pub(crate) fn push_pair<'a, A: Allocator, W: Sink>(
+    job: &'a JoinJob<A>,
+    key: &'a [u8],
+    first: &'a [u8],
+    second: &'a [u8],
     ending: u8,
     out: &mut Out<W>,
 ) -> Result<(), WriteFault>
-    requires keyed1 { join_key (join_job job.now) First first.now ≡ key.now }
-    requires keyed2 { join_key (join_job job.now) Second second.now ≡ key.now }
-    requires clean { out.old.faulted ≡ false }
-    ensures wrote { let separator = (join_job job.now).separator in Wrote out.old out.new
-        (entry (join_job job.now) key.now (fields separator first.now) (fields separator second.now) ++ ending ∷ []) }
-    ensures clean { OnOk result (out.new.faulted ≡ false) }
-    ensures fault { OnErr result (out.new.faulted ≡ true) }
+    requires { let of = join_key (join_job job.now) in (of First first.now ≡ key.now) × (of Second second.now ≡ key.now) }
+    ensures { let of = fields (join_job job.now).separator in
+        let bytes = entry (join_job job.now) key.now (of first.now) (of second.now) in
+        Pushes out.old out.new (bytes ++ ending ∷ []) result }
 {
     match &job.list {
         None
@@ -262,55 +224,73 @@ pub(crate) fn push_pair<A: Allocator, W: Sink>(
                 && stands_as_written(job.sep, job.field[1], second) => {
             out.push_line(first, &second[key.len()..], &[ending])
         }
-        _ => push_entry(job, key, Some(first), Some(second), ending, out),
+        _ => {
+            let entry = Entry {
+                job,
+                key,
+                one: Some(first),
+                two: Some(second),
+            };
+            push_entry(&entry, ending, out)
+        }
     }
 }
 
 // Pushes the entry of a line of the first input, which pairs with none, and the byte that ends it. Out of line, for
 // the same reason.
 #[inline(never)]
-pub(crate) fn push_first<A: Allocator, W: Sink>(
-    job: &JoinJob<A>,
-    key: &[u8],
-    line: &[u8],
+pub(crate) fn push_first<'a, A: Allocator, W: Sink>(
+    job: &'a JoinJob<A>,
+    key: &'a [u8],
+    line: &'a [u8],
     ending: u8,
     out: &mut Out<W>,
 ) -> Result<(), WriteFault>
-    requires keyed { join_key (join_job job.now) First line.now ≡ key.now }
-    requires clean { out.old.faulted ≡ false }
-    ensures wrote { let separator = (join_job job.now).separator in
-        Wrote out.old out.new (entry (join_job job.now) key.now (fields separator line.now) [] ++ ending ∷ []) }
-    ensures clean { OnOk result (out.new.faulted ≡ false) }
-    ensures fault { OnErr result (out.new.faulted ≡ true) }
+    requires { join_key (join_job job.now) First line.now ≡ key.now }
+    ensures { let of = fields (join_job job.now).separator in
+        Pushes out.old out.new (entry (join_job job.now) key.now (of line.now) [] ++ ending ∷ []) result }
 {
     match &job.list {
         None if stands_as_written(job.sep, job.field[0], line) => {
             out.push_line(line, b"", &[ending])
         }
-        _ => push_entry(job, key, Some(line), None, ending, out),
+        _ => {
+            let entry = Entry {
+                job,
+                key,
+                one: Some(line),
+                two: None,
+            };
+            push_entry(&entry, ending, out)
+        }
     }
 }
 
 // The same of the second input.
 #[inline(never)]
-pub(crate) fn push_second<A: Allocator, W: Sink>(
-    job: &JoinJob<A>,
-    key: &[u8],
-    line: &[u8],
+pub(crate) fn push_second<'a, A: Allocator, W: Sink>(
+    job: &'a JoinJob<A>,
+    key: &'a [u8],
+    line: &'a [u8],
     ending: u8,
     out: &mut Out<W>,
 ) -> Result<(), WriteFault>
-    requires keyed { join_key (join_job job.now) Second line.now ≡ key.now }
-    requires clean { out.old.faulted ≡ false }
-    ensures wrote { let separator = (join_job job.now).separator in
-        Wrote out.old out.new (entry (join_job job.now) key.now [] (fields separator line.now) ++ ending ∷ []) }
-    ensures clean { OnOk result (out.new.faulted ≡ false) }
-    ensures fault { OnErr result (out.new.faulted ≡ true) }
+    requires { join_key (join_job job.now) Second line.now ≡ key.now }
+    ensures { let of = fields (join_job job.now).separator in
+        Pushes out.old out.new (entry (join_job job.now) key.now [] (of line.now) ++ ending ∷ []) result }
 {
     match &job.list {
         None if stands_as_written(job.sep, job.field[1], line) => {
             out.push_line(b"", line, &[ending])
         }
-        _ => push_entry(job, key, None, Some(line), ending, out),
+        _ => {
+            let entry = Entry {
+                job,
+                key,
+                one: None,
+                two: Some(line),
+            };
+            push_entry(&entry, ending, out)
+        }
     }
 }

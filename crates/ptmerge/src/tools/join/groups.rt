@@ -1,8 +1,8 @@
 //! The group: the second input's lines of one key. Where there are several, `join` copies them to slots of their own;
 //! one alone stays where it was read.
-ghost use Rattle.std.specs.Prelude.{◌≡◌, ◌≤◌, ◌<◌, ◌+◌, ◌-◌, [], false, length, IfOk, OnOk, OnErr};
+ghost use Rattle.std.specs.Prelude.{◌≡◌, ◌≤◌, ◌<◌, ◌+◌, ◌-◌, [], length, IfOk, OnOk, OnErr};
 ghost use Rattle.ptlines.specs.Outputs.{Wrote};
-ghost use Rattle.ptlines.specs.Slots.{line, total, with_denied};
+ghost use Rattle.ptlines.specs.Slots.{with_denied};
 ghost use Rattle.ptmerge.specs.declared.order.Side.TheVariants as Of;
 ghost use Rattle.ptmerge.specs.Groups.{Gathers, IsGroupCleared, IsGrown, IsKept, IsRefused, end_slot, first_slot};
 ghost use Rattle.ptmerge.specs.LinePasses.{CanGoOn, StandsAt};
@@ -31,8 +31,7 @@ fn keep_line<A: Allocator + Copy>(
     from: usize,
     to: usize,
 ) -> Result<usize, LineFault>
-    requires apart { from < to }
-    requires next { to ≤ length store.old.lines }
+    requires { (from < to) × (to ≤ length store.old.lines) }
     ensures next { IfOk result (λ end. end ≡ to + 1) }
     ensures ok { OnOk result (IsKept store.old store.new from to) }
     ensures err { OnErr result (IsRefused store.old store.new to) }
@@ -54,9 +53,8 @@ pub(crate) fn gather<K: KeyOrder, A: Allocator + Copy, S: Source, R: Source, W: 
     out: &mut Out<W>,
 ) -> Result<usize, MergeFault>
     requires stands { let key = K.key_of merge.old.order in
-        StandsAt key Of.Second merge.old.first merge.old.second reader.old store.old }
+        StandsAt key Of.Second merge.old.first merge.old.second reader.old store.old out.old }
     requires group { (4 ≤ end) × (end ≤ length store.old.lines) }
-    requires clean { out.old.faulted ≡ false }
     ensures sent { Wrote out.old out.new [] }
     ensures gathers { let key = K.key_of merge.old.order Of.Second in
         Gathers key (K.order merge.old.order)

@@ -11,7 +11,7 @@ opened : (g : given.Over) (c : After-start g) → IsOpened (comm_by (comm_job c.
     (seen c.args.first.now c.args.second.now c.args.out.now c.args.store.now)
 opened g c =
     is_opened (comm_job c.args.job.now) (record { total = g.met.K.KeyOrder.total c.args.order; exact = g.met.K.KeyOrder.exact c.args.order })
-    c.requires.ready c.requires.sound c.requires.ending c.requires.writable
+    c.requires.begins
 
 -- a fault that is handed on
 is_told : {r : Result (Unit {0}) MergeFault} {fault : MergeFault} → IsErrAnd r (λ y. y ≡ fault) → r ≡ Err fault
@@ -26,17 +26,17 @@ steps-init g c =
     let p = c.in_ok-merge.ensures in
     record { turn = rw p.order (starts (comm_job c.args.job.now) (opened g (goal.at.steps-init g c).After-start) c.requires.whole p.starts (rw p.order at p.placed) p.lent); order = p.order }
 
-pub pass-requires-clause-stands : goal.pass-requires-clause-stands
-pass-requires-clause-stands g c = stands_at c.steps.invariant.turn sides.First c.in-First.ensures.stands
+pub pass-requires : goal.pass-requires
+pass-requires g c = stands_at c.steps.invariant.turn sides.First c.in-First.ensures.stands
 
-pub pass-requires-in-Second-clause-stands : goal.pass-requires-in-Second-clause-stands
-pass-requires-in-Second-clause-stands g c = stands_at c.steps.invariant.turn sides.Second c.in-Second.ensures.stands
+pub pass-requires-in-Second : goal.pass-requires-in-Second
+pass-requires-in-Second g c = stands_at c.steps.invariant.turn sides.Second c.in-Second.ensures.stands
 
-pub pass-requires-in-Both-clause-stands : goal.pass-requires-in-Both-clause-stands
-pass-requires-in-Both-clause-stands g c = stands_at c.steps.invariant.turn sides.First c.in-Both.ensures.first
+pub pass-requires-in-Both : goal.pass-requires-in-Both
+pass-requires-in-Both g c = stands_at c.steps.invariant.turn sides.First c.in-Both.ensures.first
 
-pub go_on-requires-clause-stands : goal.go_on-requires-clause-stands
-go_on-requires-clause-stands g c = rw c.pass-in-Both.ensures.order (second_stands c.steps.invariant.turn c.in-Both.ensures c.in_ok-pass-in-Both.ensures.passes)
+pub go_on-requires : goal.go_on-requires
+go_on-requires g c = rw c.pass-in-Both.ensures.order (second_stands c.steps.invariant.turn c.in-Both.ensures c.in_ok-pass-in-Both.ensures.passes)
 
 pub steps-preserved-in-Continue-branch-2 : goal.steps-preserved-in-Continue-branch-2
 steps-preserved-in-Continue-branch-2 g c =
@@ -55,7 +55,7 @@ steps-preserved g c =
     let p = c.pass-in-Both.ensures in
     let q = c.go_on.ensures in
     let on = rw p.order at c.in_ok-go_on-in-Both.ensures.passes in
-    let turn = pair_on i.turn c.in-Both.ensures (c.ending-ending.ensures ∙ c.requires.ending.0) c.lead-lead3.ensures p.wrote c.in_ok-pass-in-Both.ensures.passes q.sent on in
+    let turn = pair_on i.turn c.in-Both.ensures (c.ending-ending.ensures ∙ c.requires.begins.ending.0) c.lead-lead3.ensures p.wrote c.in_ok-pass-in-Both.ensures.passes q.sent on in
     record { turn = rw (q.order ∙ p.order) turn; order = q.order ∙ p.order ∙ i.order }
 
 pub steps-smaller-in-Continue-branch-2 : goal.steps-smaller-in-Continue-branch-2
@@ -80,13 +80,13 @@ returns-in_err-pass-in-Second g c =
 
 pub returns-in_err-pass-in-Both : goal.returns-in_err-pass-in-Both
 returns-in_err-pass-in-Both g c =
-    rw c.steps.invariant.order at (pair_stops c.steps.invariant.turn c.in-Both.ensures (c.ending-ending.ensures ∙ c.requires.ending.0) c.lead-lead3.ensures c.pass-in-Both.ensures.wrote
+    rw c.steps.invariant.order at (pair_stops c.steps.invariant.turn c.in-Both.ensures (c.ending-ending.ensures ∙ c.requires.begins.ending.0) c.lead-lead3.ensures c.pass-in-Both.ensures.wrote
     (is_told c.from_residual-in_err-pass-in-Both.ensures.1) c.in_err-pass-in-Both.ensures.passes)
 
 pub returns-in_err-go_on-in-Both : goal.returns-in_err-go_on-in-Both
 returns-in_err-go_on-in-Both g c =
     let i = c.steps.invariant in
-    rw i.order at (second_stops i.turn c.in-Both.ensures (c.ending-ending.ensures ∙ c.requires.ending.0) c.lead-lead3.ensures c.pass-in-Both.ensures.wrote
+    rw i.order at (second_stops i.turn c.in-Both.ensures (c.ending-ending.ensures ∙ c.requires.begins.ending.0) c.lead-lead3.ensures c.pass-in-Both.ensures.wrote
     c.in_ok-pass-in-Both.ensures.passes c.go_on.ensures.sent (is_told c.from_residual-in_err-go_on-in-Both.ensures.1) c.in_err-go_on-in-Both.ensures.passes)
 
 pub returns-in-End : goal.returns-in-End

@@ -1,7 +1,7 @@
 -- Each turn goes on to the next by one lemma of `Turns`, and each way out of it leaves what the clauses say.
 use Rattle.ptmerge.proofs.Common.{sym, ◌∙◌, err_from_is_err_and, join_job}
-use Rattle.ptmerge.proofs.OfJoin.PhaseTurns.{gather_stands, gather_stops, gathers_on, group_closed, group_there, pair_group, pair_stands, pair_stops, pairs_next, pairs_on}
-use Rattle.ptmerge.proofs.OfJoin.Turns.{alone_on, alone_stops, begins, end_in, ended, fallen, falls, opened, opens, opens_less, stands_at, start_stops}
+use Rattle.ptmerge.proofs.OfJoin.PhaseTurns.{gather_stands, gather_stops, gathers_on, group_closed, group_there, pair_group, pair_joins, pair_stops, pairs_next, pairs_on}
+use Rattle.ptmerge.proofs.OfJoin.Turns.{alone_on, alone_stops, begins, end_in, ended, fallen, falls, joins_at, opened, opens, opens_less, start_stops}
 use Rattle.ptmerge.proofs.OfMerges.Turning.{told}
 use Rattle.ptmerge.specs.declared.order.Side.TheVariants as sides
 use Rattle.ptmerge.specs.declared.tools.join.Phase.TheVariants as phases
@@ -9,21 +9,21 @@ use Rattle.ptmerge.proofs.tools.join.join_in_order.Goals as goal
 
 pub returns-in_err-merge : goal.returns-in_err-merge
 returns-in_err-merge g c =
-    let a = opened (join_job c.args.job.now) (g.K.KeyOrder.order c.args.order) (g.K.KeyOrder.key_of c.args.order) c.args.out.now
-    (record { total = g.met.K.KeyOrder.total c.args.order; exact = g.met.K.KeyOrder.exact c.args.order }) c.requires.keys c.requires.ready c.requires.sound c.requires.ending c.requires.writable in
+    let a = opened (join_job c.args.job.now) (g.K.KeyOrder.order c.args.order) (g.K.KeyOrder.key_of c.args.order)
+    (record { total = g.met.K.KeyOrder.total c.args.order; exact = g.met.K.KeyOrder.exact c.args.order }) c.requires.keys c.requires.begins in
     start_stops a c.in_err-merge.ensures.breaks (told (err_from_is_err_and _ c.from_residual.ensures.1))
 
 pub turns-init : goal.turns-init
 turns-init g c =
-    let a = opened (join_job c.args.job.now) (g.K.KeyOrder.order c.args.order) (g.K.KeyOrder.key_of c.args.order) c.args.out.now
-    (record { total = g.met.K.KeyOrder.total c.args.order; exact = g.met.K.KeyOrder.exact c.args.order }) c.requires.keys c.requires.ready c.requires.sound c.requires.ending c.requires.writable in
+    let a = opened (join_job c.args.job.now) (g.K.KeyOrder.order c.args.order) (g.K.KeyOrder.key_of c.args.order)
+    (record { total = g.met.K.KeyOrder.total c.args.order; exact = g.met.K.KeyOrder.exact c.args.order }) c.requires.keys c.requires.begins in
     record { order = c.in_ok-merge.ensures.order; turn = let e = c.in_ok-merge.ensures in let placed = rw e.order at e.placed in rw e.order (begins a e.starts placed e.lent) }
 
-pub pass_alone-requires-clause-stands : goal.pass_alone-requires-clause-stands
-pass_alone-requires-clause-stands g c = stands_at c.turns.invariant.turn sides.First c.in-First.ensures.stands
+pub pass_alone-requires : goal.pass_alone-requires
+pass_alone-requires g c = joins_at c.turns.invariant.turn sides.First c.in-First.ensures.stands
 
-pub pass_alone-requires-in-Second-clause-stands : goal.pass_alone-requires-in-Second-clause-stands
-pass_alone-requires-in-Second-clause-stands g c = stands_at c.turns.invariant.turn sides.Second c.in-Second.ensures.stands
+pub pass_alone-requires-in-Second : goal.pass_alone-requires-in-Second
+pass_alone-requires-in-Second g c = joins_at c.turns.invariant.turn sides.Second c.in-Second.ensures.stands
 
 pub turns-preserved-in-Continue-branch-2 : goal.turns-preserved-in-Continue-branch-2
 turns-preserved-in-Continue-branch-2 g c =
@@ -103,15 +103,15 @@ turns-smaller-then-not-repeats g c =
 pub turns-smaller-then-not-repeats-2 : goal.turns-smaller-then-not-repeats-2
 turns-smaller-then-not-repeats-2 g c =
     let h = c.in_ok-pass_pairs-in-Pairing.ensures.passes in
-    falls c.turns.invariant.turn sides.First phases.Between (pair_stands c.turns.invariant.turn c.in-Pairing.is).head h.came h.on
+    falls c.turns.invariant.turn sides.First phases.Between (pair_joins c.turns.invariant.turn c.in-Pairing.is).stands.head h.came h.on
 
 pub turns-smaller : goal.turns-smaller
 turns-smaller g c =
     let h = c.in_ok-pass_pairs-in-Pairing.ensures.passes in
-    falls c.turns.invariant.turn sides.First c.turns.phase (pair_stands c.turns.invariant.turn c.in-Pairing.is).head h.came h.on
+    falls c.turns.invariant.turn sides.First c.turns.phase (pair_joins c.turns.invariant.turn c.in-Pairing.is).stands.head h.came h.on
 
-pub pass_pairs-requires-clause-stands : goal.pass_pairs-requires-clause-stands
-pass_pairs-requires-clause-stands g c = pair_stands c.turns.invariant.turn c.in-Pairing.is
+pub pass_pairs-requires-clause-joins : goal.pass_pairs-requires-clause-joins
+pass_pairs-requires-clause-joins g c = pair_joins c.turns.invariant.turn c.in-Pairing.is
 
 pub pass_pairs-requires-clause-group : goal.pass_pairs-requires-clause-group
 pass_pairs-requires-clause-group g c = pair_group c.turns.invariant.turn c.in-Pairing.is

@@ -6,25 +6,25 @@ use Rattle.ptmerge.proofs.tools.join.push_pairs.Goals as goal
 
 pub loop-slot-init : goal.loop-slot-init
 loop-slot-init g c = record {
-  amid = amid_starts (pairs_text (join_job c.args.job.now) c.args.ending c.args.line.now c.args.key.now (group c.args.store.now c.args.from c.args.end) c.if-not-job.false) c.requires.clean;
+  amid = amid_starts (pairs_text (join_job c.args.job.now) c.args.ending c.args.line.now c.args.key.now (group c.args.store.now c.args.from c.args.end) c.if-not-job.false);
   from = omega arith;
 }
 
-pub returns-in_err-push_pair-clause-wrote : goal.returns-in_err-push_pair-clause-wrote
-returns-in_err-push_pair-clause-wrote g c =
+pub returns-in_err-push_pair : goal.returns-in_err-push_pair
+returns-in_err-push_pair g c =
     each_fails (λ (l : List ℕ). l ++ c.args.ending ∷ []) (ap (map (pair_of (join_job c.args.job.now) c.args.key.now c.args.line.now))
-    (group_from c.args.store.now c.args.end c.loop-slot.slot c.requires.within c.loop-slot-test.true)) c.loop-slot.invariant.amid
-    (rw (sym c.line.ensures) c.push_pair.ensures.wrote) c.in_err-push_pair.ensures.fault
+    (group_from c.args.store.now c.args.end c.loop-slot.slot c.requires.group.within c.loop-slot-test.true)) c.loop-slot.invariant.amid
+    (rw (sym c.line.ensures) c.push_pair.ensures.wrote) c.in_err-push_pair.ensures.fault _ c.from_residual.ensures.1
 
 pub loop-slot-preserved : goal.loop-slot-preserved
 loop-slot-preserved g c = record {
   amid = each_more (λ (l : List ℕ). l ++ c.args.ending ∷ []) (ap (map (pair_of (join_job c.args.job.now) c.args.key.now c.args.line.now))
-      (group_from c.args.store.now c.args.end c.loop-slot.slot c.requires.within c.loop-slot-test.true)) c.loop-slot.invariant.amid
+      (group_from c.args.store.now c.args.end c.loop-slot.slot c.requires.group.within c.loop-slot-test.true)) c.loop-slot.invariant.amid
       (rw (sym c.line.ensures) c.push_pair.ensures.wrote) c.in_ok-push_pair.ensures.clean;
   from = omega (arith, c.loop-slot.invariant.from);
 }
 
-pub returns-clause-wrote : goal.returns-clause-wrote
-returns-clause-wrote g c =
+pub returns : goal.returns
+returns g c =
     each_done (λ (l : List ℕ). l ++ c.args.ending ∷ []) (ap (map (pair_of (join_job c.args.job.now) c.args.key.now c.args.line.now))
     (group_end c.args.store.now c.args.end c.loop-slot.slot (omega (arith, c.loop-slot-test.false)))) c.loop-slot.invariant.amid
