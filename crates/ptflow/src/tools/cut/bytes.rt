@@ -1,6 +1,6 @@
 //! `cut` by bytes.
 
-ghost use Rattle.std.specs.Prelude.{◌≡◌, ◌<◌, ◌≤◌, ◌+◌, ◌^◌, length, take, drop, ◌++◌, true, false, None, [], ◌∷◌, OnOk, OnErr, ◌==◌, if◌then◌else◌};
+ghost use Rattle.std.specs.Prelude.{◌≡◌, ◌<◌, ◌≤◌, ◌+◌, ◌++◌, [], false, length, take};
 ghost use Rattle.ptlangs.specs.CutLists.{AreApart, is_selected};
 ghost use Rattle.ptlangs.specs.Jobs.{cut_job};
 ghost use Rattle.ptflow.specs.Cuts.{cut_tool};

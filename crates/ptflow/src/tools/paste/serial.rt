@@ -1,6 +1,6 @@
 //! `paste -s`.
 
-ghost use Rattle.std.specs.Prelude.{◌≡◌, ◌<◌, ◌≤◌, ◌+◌, ◌++◌, ◌∷◌, ◌^◌, [], length, take, true, false, OnOk, OnErr, IfOk, IfSome};
+ghost use Rattle.std.specs.Prelude.{◌≡◌, ◌<◌, ◌≤◌, ◌+◌, ◌^◌, ◌++◌, ◌∷◌, [], true, false, OnOk, OnErr, IfOk, IfSome, length, take};
 ghost use Rattle.ptlines.specs.Outputs.{Wrote, Pushes};
 ghost use Rattle.ptlangs.specs.Jobs.{paste_job};
 ghost use Rattle.ptflow.specs.Passes.{IsReady, IsPass};
