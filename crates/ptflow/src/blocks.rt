@@ -1,8 +1,8 @@
 //! The loop of the tools that work block by block, and keep nothing in a store.
 
-ghost use Rattle.std.specs.Prelude.{◌≡◌, ◌<◌, ◌≤◌, ◌+◌, ◌^◌, ℕ, List, [], length, false, true, None, OnOk, OnErr};
-ghost use Rattle.ptlines.specs.Outputs.{Wrote};
-ghost use Rattle.ptflow.specs.Workings.Passes.Blocks.{GoesOver};
+ghost use Rattle.std.specs.Prelude.{◌≤◌, ◌+◌, ℕ, List, [], length, OnOk, OnErr};
+ghost use Rattle.ptlines.specs.Outputs.{Pushes};
+ghost use Rattle.ptflow.specs.Workings.Passes.Blocks.{IsBlock, IsFirst, GoesOver};
 ghost use Rattle.ptflow.specs.Workings.Passes.Continuations.{Continues, Halts};
 
 use crate::faults::FlowFault;
@@ -16,15 +16,12 @@ pub(crate) trait BlockTool: Drop {
     /// The most that any of its counters of bytes can be. It stays below 2^63, so that none overflows.
     ghost counted: { Self → ℕ };
 
-    /// Its invariant: what is true of the second, the tool as it is, if the first is the tool as it was at the start.
+    /// What stays the same: true of the tool as it was at the start, and the tool as it is.
     ghost Holds: { Self → Self → Type 0 };
 
     /// Pushes what is written for a block.
     fn push_block<W: Sink>(&mut self, block: &[u8], out: &mut Out<W>) -> Result<(), WriteFault>
-        requires room { length block.now ≤ 8192 }
-        requires short { counted self.old + length block.now < 2 ^ 63 }
-        requires holds { (start : Self) × Holds start self.old }
-        requires clean { out.old.faulted ≡ false }
+        requires { IsBlock (counted self.old) block.now }
         ensures continues { OnOk result (Continues rest self.old self.new block.now out.old out.new) }
         ensures counts { counted self.new ≤ counted self.old + length block.now }
         ensures holds { (start : Self) → Holds start self.old → Holds start self.new }
@@ -32,10 +29,7 @@ pub(crate) trait BlockTool: Drop {
 
     /// Pushes what is written once the input has ended.
     fn push_end<W: Sink>(&self, out: &mut Out<W>) -> Result<(), WriteFault>
-        requires { out.old.faulted ≡ false }
-        ensures wrote { Wrote out.old out.new (rest self.now []) }
-        ensures clean { OnOk result (out.new.faulted ≡ false) }
-        ensures fault { OnErr result (out.new.faulted ≡ true) };
+        ensures { Pushes out.old out.new (rest self.now []) result };
 }
 
 /// Goes over the blocks of a reader. Before a read that may have to wait, what is staged is sent.
@@ -44,10 +38,7 @@ pub(crate) fn over_blocks<T: BlockTool, S: Source, R: Source, W: Sink>(
     reader: &mut LineReader<S, R>,
     out: &mut Out<W>,
 ) -> Result<(), FlowFault>
-    requires fresh { T.counted tool.old ≡ 0 }
-    requires holds { T.Holds tool.old tool.old }
-    requires readable { reader.old.fault ≡ None }
-    requires clean { out.old.faulted ≡ false }
+    requires { IsFirst (T.counted tool.old) reader.old out.old }
     ensures { GoesOver T.rest T.Holds tool.old reader.old reader.new out.old out.new result }
 {
     'turns: loop {

@@ -44,7 +44,7 @@ module _ {X : Type 0} {rest_from : X → List ℕ → List ℕ} {start : X} {now
 
 module _ {X : Type 0} {tool : Tool} {rest_from : X → List ℕ → List ℕ} {Holds : X → X → Type 0} {start : X} (b : IsBlockTool tool rest_from Holds start)
     {now : X} {old reader new : Reader} {was is : Output} {store : Slots}
-    (m : Midway rest_from start now old reader was is) (ready : IsReady old store) (sound : IsSound reader) (reads : Reads reader new []) (is_sound : IsSound new) (holds : Holds start now)
+    (m : Midway rest_from start now old reader was is) (ready : IsReady old store) (sound : IsSound reader) (reads : Reads reader new []) (is_sound : IsSound new) (holds : Holds start start → Holds start now)
     (all : (rest : List ℕ) → rest_from start (m.given ++ rest) ≡ m.pushed ++ rest_from now rest) where
   -- what was passed on before this block
   works : Works tool (given_of (m.given ++ []) new) m.pushed
@@ -56,7 +56,7 @@ module _ {X : Type 0} {tool : Tool} {rest_from : X → List ℕ → List ℕ} {H
       short = omega arith;
       ended = λ never. absurd (false≢true never);
     };
-    begins = b.decided m.given m.pushed now holds all;
+    begins = b.decided m.given m.pushed now (holds b.holds) all;
   }
 
   stored : Stored tool store store (given_of (m.given ++ []) new)
@@ -69,7 +69,7 @@ module _ {X : Type 0} {tool : Tool} {rest_from : X → List ℕ → List ℕ} {H
       decided empty going =
           subst (λ g. Begins (tool.decided g) m.pushed) (λ i. record
           { bytes = (sym (append-nil m.given) ∙ sym (append-nil (m.given ++ [])) ∙ ap (◌++◌ (m.given ++ [])) (sym empty)) i; ended = sym going i })
-          (b.decided m.given m.pushed now holds all)
+          (b.decided m.given m.pushed now (holds b.holds) all)
 
   -- a write failed amid the block that is held
   pub block_write : {is' : Output} {block : List ℕ} → new.held ≡ block → Halts rest_from now block is is' → new.failed ≡ reader.failed

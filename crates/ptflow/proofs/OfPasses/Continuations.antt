@@ -1,6 +1,6 @@
 -- Amid some items, bytes of a block or lines of it: what was pushed stands in front of what is written of the rest,
 -- whatever comes.
-use Rattle.ptflow.proofs.Common.{◌≡◌, ℕ, true, false, List, [], ◌++◌, Result, Ok, Err, OnErr, refl, append_assoc, Output, Wrote, wrote_nothing, wrote_trans, Continues, Halts}
+use Rattle.ptflow.proofs.Common.{◌≡◌, ℕ, true, false, List, [], ◌++◌, Result, Ok, Err, OnErr, refl, append_assoc, Output, Wrote, wrote_nothing, wrote_trans, Halts}
 
 pub on_err : {T E : Type 0} (r : Result T E) {P : Type 0} → P → OnErr r P
 on_err (Ok u) p = tt
@@ -21,10 +21,6 @@ pub record Amid {X Y : Type 0} (rest_from : X → List Y → List ℕ) (start no
 module _ {X Y : Type 0} (rest_from : X → List Y → List ℕ) (start : X) where
   pub amid_starts : (items : List Y) (was : Output) → was.faulted ≡ false → Amid rest_from start start items items was was
   amid_starts items was clean = record { pushed = []; wrote = wrote_nothing was; clean = clean; on = λ more. refl }
-
-  -- all items were taken
-  pub amid_over : (now : X) (items rest : List Y) (was is : Output) → Amid rest_from start now items rest was is → rest ≡ [] → Continues rest_from start now items was is
-  amid_over now items rest was is a none = record { pushed = a.pushed; wrote = a.wrote; clean = a.clean; on = λ more. cc (a.on more) }
 
   -- some items more, of which these bytes were pushed
   module _ (now next : X) (items rest rest' : List Y) (bytes : List ℕ) (was is is' : Output) (a : Amid rest_from start now items rest was is) (wrote : Wrote is is' bytes)

@@ -1,9 +1,8 @@
 -- What `paste` in series writes of the rest of a text, byte by byte and block by block.
 use Rattle.ptflow.proofs.Common.{◌≡◌, ◌≢◌, ⊎_elim, ℕ, ◌+◌, ◌==◌, ◌<◌, ◌≤◌, Bool, true, false, cond, List, [], ◌∷◌, ◌++◌, Option, Some, length, map, take, drop, length-append, refl, sym, ◌∙◌, ap}
 use Rattle.ptflow.proofs.Common.{arith, append_assoc, option_to_list, unwrap_or, onto_first, count_by, cases_Bool, append-nil, append_cancel_right, sum_by-cons, IsFirstByte, is_byte, lines}
-use Rattle.ptflow.proofs.Common.{ended_lines, IsLine, Begins, Output, Wrote, before_end, lines_first, lines_of_text, other_byte, delim_at, Paste, delimiter, glued_from, serial_decided, row_rest}
+use Rattle.ptflow.proofs.Common.{ended_lines, IsLine, Begins, before_end, lines_first, lines_of_text, other_byte, delim_at, Paste, delimiter, glued_from, serial_decided, row_rest}
 use Rattle.ptflow.proofs.Common.{row_from, serial_rest, begun, lead, Puts, PutsBlock, IsAlways, with_delimiter, with_turns, Cell}
-use Rattle.ptflow.proofs.OfPasses.Continuations.{Amid, amid_more}
 use Rattle.ptflow.proofs.OfPasses.LineLaws.{parts_of, split_of}
 
 pub begun_number : (cell : Cell) → (begun cell).number ≤ cell.number + 1
@@ -54,11 +53,6 @@ module _ (end : ℕ) (delims : List (Option ℕ)) where
 
   pub begun_on : (cell : Cell) (rest : List ℕ) → 0 < length rest → (more : List ℕ) → serial_rest end delims cell (rest ++ more) ≡ lead delims cell ++ serial_rest end delims (begun cell) (rest ++ more)
   begun_on cell rest some more = begun_some cell (rest ++ more) (omega (arith, some, length-append rest more))
-
-  pub begins : (start cell : Cell) (block rest : List ℕ) (was is is' : Output) → Amid (serial_rest end delims) start cell block rest was is → 0 < length rest
-      → Wrote is is' (lead delims cell) → is'.faulted ≡ false → Amid (serial_rest end delims) start (begun cell) block rest was is'
-  begins start cell block rest was is is' a some wrote clean = amid_more (serial_rest end delims) start cell (begun cell) block rest rest
-      (lead delims cell) was is is' a wrote (begun_on cell rest some) clean
 
   -- a line of the cell, up to its end
   pub cell_on : (number : ℕ) (rest : List ℕ) (at : ℕ) → IsFirstByte (is_byte end) rest (Some at) → (more : List ℕ)

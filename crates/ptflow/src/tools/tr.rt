@@ -8,7 +8,7 @@ ghost use Rattle.ptflow.specs.Passes.{IsReady, IsBarePass, no_slots};
 ghost use Rattle.ptflow.specs.Translations.{tr_tool};
 ghost use Rattle.ptflow.specs.Workings.Tr.Mappings.{IsMapping};
 ghost use Rattle.ptflow.specs.Workings.Bytes.Packings.{IsPacking};
-ghost use Rattle.ptflow.specs.Workings.Tr.TrRests.{IsSetIfAny, squeeze_from};
+ghost use Rattle.ptflow.specs.Workings.Tr.TrRests.{IsSetIfAny, IsSetIfAny-prop, squeeze_from};
 
 mod mapping;
 
@@ -18,7 +18,7 @@ use crate::kernels::keeping::keep_others;
 use crate::kernels::packing::Shuffles;
 use crate::kernels::sets::ByteSet;
 use crate::kernels::squeezing::squeeze_block;
-use crate::tools::tr::mapping::Mapping;
+use crate::tools::tr::mapping::{Mapping, look_up_from};
 use ptlangs::CharPlan;
 use ptlines::{LineReader, Out, Sink, Source, WriteFault};
 
@@ -31,6 +31,10 @@ struct Translation<'a> {
     mapping: Mapping,
     squeezing: Option<ByteSet>,
     shuffles: Shuffles,
+    ghost is_deleting: { IsSetIfAny deleting plan.now.deleted } by { IsSetIfAny-prop deleting plan.now.deleted },
+    ghost is_mapping: { IsMapping mapping plan.now },
+    ghost is_squeezing: { IsSetIfAny squeezing plan.now.squeezed } by { IsSetIfAny-prop squeezing plan.now.squeezed },
+    ghost is_packing: { IsPacking shuffles },
 }
 
 // The set of the bytes whose flag is true, if there are any.
@@ -45,11 +49,8 @@ fn set_of(flags: &[bool; 256]) -> Option<ByteSet>
 }
 
 impl<'a> Translation<'a> {
-    ghost use Rattle.ptflow.specs.Workings.Tr.TrRests.{IsSetIfAny, IsOf};
-
     fn new(plan: &'a CharPlan) -> Translation<'a>
-        ensures plan { result.plan.now ≡ plan.now }
-        ensures is_of { IsOf result.deleting result.mapping result.squeezing result.shuffles result.plan.now }
+        ensures { result.plan.now ≡ plan.now }
     {
         Translation {
             plan,
@@ -62,9 +63,7 @@ impl<'a> Translation<'a> {
 
     // The bytes that are not deleted, which `into` has room for.
     fn kept<'b>(&self, block: &'b [u8], into: &'b mut [u8; 8224]) -> &'b [u8]
-        requires deleting { IsSetIfAny self.now.deleting self.now.plan.now.deleted }
-        requires packing { IsPacking self.now.shuffles }
-        requires room { length block.now ≤ 8192 }
+        requires { length block.now ≤ 8192 }
         ensures kept { result.now ≡ filter (λ b. not (deletes self.now.plan.now b)) block.now }
         ensures within { length result.now ≤ length block.now }
     {
@@ -79,23 +78,21 @@ impl<'a> Translation<'a> {
 
     // The images of bytes, which `into` has room for.
     fn mapped<'b>(&self, bytes: &'b [u8], into: &'b mut [u8; 8224]) -> &'b [u8]
-        requires mapping { IsMapping self.now.mapping self.now.plan.now }
-        requires room { length bytes.now ≤ 8192 }
+        requires { length bytes.now ≤ 8192 }
         ensures { result.now ≡ map (image self.now.plan.now) bytes.now }
     {
         if let Mapping::Same = self.mapping {
             return bytes;
         }
         let images = &mut into[..bytes.len()];
-        self.mapping.translate(self.plan, bytes, images);
+        let at = self.mapping.move_front(bytes, images);
+        look_up_from(self.plan, at, bytes, images);
         images
     }
 
     // The bytes that stay where `last` comes before them, if anything does; `into` has room for them.
     fn squeezed<'b>(&self, last: Option<u8>, bytes: &'b [u8], into: &'b mut [u8; 8224]) -> &'b [u8]
-        requires squeezing { IsSetIfAny self.now.squeezing self.now.plan.now.squeezed }
-        requires packing { IsPacking self.now.shuffles }
-        requires room { length bytes.now ≤ 8192 }
+        requires { length bytes.now ≤ 8192 }
         ensures { result.now ≡ squeeze_from (squeezes self.now.plan.now) last bytes.now }
     {
         match self.squeezing {
@@ -127,14 +124,13 @@ struct Translator<'a> {
 
 impl<'a> BlockTool for Translator<'a> {
     ghost use Rattle.std.specs.Prelude.{◌≡◌};
-    ghost use Rattle.ptflow.specs.Workings.Tr.TrRests.{IsOf, tr_rest};
+    ghost use Rattle.ptflow.specs.Workings.Tr.TrRests.{tr_rest};
 
     ghost rest = { λ t. tr_rest t.by.plan.now t.last };
 
     ghost counted = { λ t. 0 };
 
-    ghost Holds = { λ s t. (t.by.plan.now ≡ s.by.plan.now)
-        × IsOf t.by.deleting t.by.mapping t.by.squeezing t.by.shuffles t.by.plan.now };
+    ghost Holds = { λ s t. t.by.plan.now ≡ s.by.plan.now };
 
     fn push_block<W: Sink>(&mut self, block: &[u8], out: &mut Out<W>) -> Result<(), WriteFault> {
         let kept = self.by.kept(block, &mut self.kept);

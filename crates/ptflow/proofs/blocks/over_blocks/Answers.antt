@@ -11,7 +11,7 @@ unfolding midway_starts
 turns-init g c = record {
   midway = midway_starts c.requires.readable c.requires.clean;
   all = λ rest. refl;
-  holds = c.requires.holds;
+  holds = λ same. same;
   counted = omega arith;
 }
 
@@ -31,17 +31,18 @@ returns-in-Err g c =
     λ t tool store ready. block_read tool
     m ready b.was_sound shows.0.reads b.is_sound c.turns.invariant.holds c.turns.invariant.all shows.1
 
-pub push_block-requires-clause-short : goal.push_block-requires-clause-short
-push_block-requires-clause-short g c =
+pub push_block-requires : goal.push_block-requires
+push_block-requires g c =
     let b = c.block.follows.holds-at-none in
     let i = c.turns.invariant in
     let shows = (rw c.in-Ok.is at b.shows) i.midway.reached.goes.fault in
-    omega (
-      arith,
-      counted_block shows.0 shows.1 b.was_sound
-          i.counted,
-      b.is_sound.long shows.0.fault,
-    )
+    record {
+      some = omega (arith, eqb-false (length c.in-Ok.block.now) 0 (cc));
+      fits = record {
+        short = omega (arith, counted_block shows.0 shows.1 b.was_sound i.counted, b.is_sound.long shows.0.fault);
+        room = omega (arith, b.is_sound.count, ap length shows.1);
+      };
+    }
 
 pub returns-in_err-push_block-in-Ok : goal.returns-in_err-push_block-in-Ok
 returns-in_err-push_block-in-Ok g c =
@@ -90,7 +91,7 @@ turns-preserved g c =
           ap (g.T.BlockTool.rest c.args.tool.now) (append_assoc i.midway.given block rest) ∙ i.all (block ++ rest)
           ∙ ap (◌++◌ i.midway.pushed) (e.continues.on rest)
           ∙ sym (append_assoc i.midway.pushed e.continues.pushed (g.T.BlockTool.rest c.push_block.new.self rest));
-      holds = e.holds c.args.tool.now i.holds;
+      holds = λ same. e.holds c.args.tool.now (i.holds same);
       counted = counted_more shows.0 shows.1 b.was_sound i.counted c.consume.ensures.consumed e.counts;
     }
 

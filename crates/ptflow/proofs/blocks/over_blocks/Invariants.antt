@@ -8,7 +8,7 @@ abbrev pub invariant-turns : goal.invariant-turns
 invariant-turns g l = record {
   midway : Midway g.T.BlockTool.rest l.fn.tool l.tool l.fn.reader l.reader l.fn.out l.out;
   all : (rest : List ℕ) → g.T.BlockTool.rest l.fn.tool (midway.given ++ rest) ≡ midway.pushed ++ g.T.BlockTool.rest l.tool rest;
-  holds : g.T.BlockTool.Holds l.fn.tool l.tool;
+  holds : g.T.BlockTool.Holds l.fn.tool l.fn.tool → g.T.BlockTool.Holds l.fn.tool l.tool;
   counted : g.T.BlockTool.counted l.tool ≤ l.reader.pulled - length l.reader.held;
 }
 

@@ -1,9 +1,11 @@
 -- The places of a short line that are selected.
-use Rattle.std.specs.Prelude.{◌≡◌, ◌<◌, ◌≤◌, ℕ, List, Bool, false, All, length, take, slice_index}
+use Rattle.std.specs.Prelude.{◌≡◌, ◌<◌, ◌≤◌, ◌+◌, ℕ, List, [], ◌∷◌, Bool, false, All, length, take, slice_index}
 use Rattle.std.specs.List.{range_with_len}
-use Rattle.ptlangs.specs.CutLists.{is_selected, AreApart}
+use mathlib.Core.HLevel.{×₃_prop}
+use Rattle.std.specs.Coded.{Unit-prop, le_prop}
+use Rattle.ptlangs.specs.CutLists.{AreApart}
+use Rattle.ptlangs.specs.declared.ranges.Interval.{Interval}
 use Rattle.ptflow.specs.Cuts.{chosen_from}
-use Rattle.ptflow.specs.declared.tools.cut.bytes.Selection.{Selection}
 use Rattle.ptflow.specs.declared.tools.cut.picking.Pick.{Pick}
 
 -- of a line of so many bytes
@@ -19,6 +21,6 @@ pub record IsPick (selected : ℕ → Bool) (pick : Pick) : Type 0 where
   pub counts : (count : ℕ) → count ≤ 16 → slice_index pick.counts count ≡ length (picked selected count)
   pub most : (place : ℕ) → 16 < place → place ≤ pick.most → selected place ≡ false
 
--- the intervals of a selection lie apart, and its places are theirs
-abbrev pub IsSelection : Selection → Type 0
-IsSelection by = AreApart 0 by.selected.now × IsPick (is_selected by.selected.now) by.pick
+pub AreApart-prop : (low : ℕ) (list : List Interval) → IsProp (AreApart low list)
+AreApart-prop low [] = Unit-prop
+AreApart-prop low (interval ∷ list) = ×₃_prop le_prop le_prop (AreApart-prop (interval.last + 1) list)

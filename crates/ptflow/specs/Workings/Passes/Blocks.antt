@@ -1,11 +1,28 @@
 -- Tools that work block by block, and keep nothing in the store.
-use Rattle.std.specs.Prelude.{◌≡◌, ℕ, List, ◌++◌, false, Result}
+use Rattle.std.specs.Prelude.{◌≡◌, ◌<◌, ◌≤◌, ◌+◌, ◌^◌, ℕ, List, ◌++◌, false, None, Result, length}
 use Rattle.ptlines.specs.Inputs.{Begins}
 use Rattle.ptlines.specs.Outputs.{Output}
 use Rattle.ptlines.specs.Readers.{Reader}
 use Rattle.ptflow.specs.Passes.{IsBarePass}
 use Rattle.ptflow.specs.Tools.{Tool}
 use Rattle.ptflow.specs.declared.faults.FlowFault.{FlowFault}
+
+-- A tool that counted so many bytes can count so many more, and so many more can be written for a block behind those
+-- that were written for it.
+pub record Fits (counted written more : ℕ) : Type 0 where
+  pub short : counted + more < 2 ^ 63
+  pub room : written + more ≤ 8192
+
+-- a block comes to a tool that counted so many bytes
+pub record IsBlock (counted : ℕ) (block : List ℕ) : Type 0 where
+  pub some : 0 < length block
+  pub fits : Fits counted 0 (length block)
+
+-- Before its first block a tool has counted nothing; the reader can be read, and no write has failed.
+pub record IsFirst (counted : ℕ) (reader : Reader) (out : Output) : Type 0 where
+  pub fresh : counted ≡ 0
+  pub readable : reader.fault ≡ None
+  pub clean : out.faulted ≡ false
 
 -- What is written of a rest that comes in the state x is `rest_from x`; so this tool, where it begins in the state
 -- `start`.
@@ -14,6 +31,7 @@ pub record IsBlockTool {X : Type 0} (tool : Tool) (rest_from : X → List ℕ �
   pub decided : (given pushed : List ℕ) (now : X) → Holds start now
       → ((rest : List ℕ) → rest_from start (given ++ rest) ≡ pushed ++ rest_from now rest)
       → Begins (tool.decided (record { bytes = given; ended = false })) pushed
+  pub holds : Holds start start
   pub slots : tool.slots ≡ 0
 
 -- an input was gone over as each such tool does

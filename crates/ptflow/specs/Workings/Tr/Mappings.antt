@@ -1,6 +1,6 @@
 -- The ways to make the images of a plan, many bytes at a time.
 use Rattle.std.specs.Prelude.{◌≡◌, ◌<◌, ℕ, if◌then◌else◌}
-use Rattle.ptlangs.specs.TrShifts.{Move}
+use Rattle.ptlangs.specs.TrShifts.{shifted}
 use Rattle.ptlangs.specs.TrTables.{Tables, image}
 use Rattle.ptflow.specs.declared.tools.tr.mapping.Blend.{Blend}
 use Rattle.ptflow.specs.declared.tools.tr.mapping.Mapping.{Mapping}
@@ -12,10 +12,14 @@ use Rattle.ptflow.specs.Workings.Bytes.Rowings.{by_rows}
 abbrev pub blended : Blend → ℕ → ℕ
 blended blend b = if holds blend.set b then blend.byte else b
 
+-- what a byte becomes by a mapping, or in a plan where the mapping is its table
+abbrev pub mapped_by : Mapping → Tables → ℕ → ℕ
+mapped_by Same plan b = b
+mapped_by (Shifts shifts) plan b = shifted shifts b
+mapped_by (Constant blend) plan b = blended blend b
+mapped_by (Rows rows) plan b = by_rows rows b
+mapped_by Table plan b = image plan b
+
 -- the images of a plan are made so
 abbrev pub IsMapping : Mapping → Tables → Type 0
-IsMapping Same plan = (b : ℕ) → b < 256 → b ≡ image plan b
-IsMapping (Shifts shifts) plan = Move shifts plan
-IsMapping (Constant blend) plan = (b : ℕ) → b < 256 → blended blend b ≡ image plan b
-IsMapping (Rows rows) plan = (b : ℕ) → b < 256 → by_rows rows b ≡ image plan b
-IsMapping Table plan = Unit {0}
+IsMapping mapping plan = (b : ℕ) → b < 256 → mapped_by mapping plan b ≡ image plan b

@@ -1,13 +1,10 @@
 -- What `tr` writes of the rest of a text.
 use Rattle.std.specs.Prelude.{◌≡◌, ℕ, List, Bool, false, Option, None, Some, slice_index_or}
+use Rattle.std.proofs.Props.{props}
 use Rattle.ptlangs.specs.TrTables.{Tables, squeezes}
-use Rattle.ptflow.specs.declared.tools.tr.mapping.Mapping.{Mapping}
-use Rattle.ptflow.specs.declared.kernels.packing.Shuffles.{Shuffles}
 use Rattle.ptflow.specs.declared.kernels.sets.ByteSet.{ByteSet}
 use Rattle.ptflow.specs.Translations.{squeeze_behind, squeeze, translated}
 use Rattle.ptflow.specs.Workings.Bytes.ByteSets.{IsSetOf}
-use Rattle.ptflow.specs.Workings.Tr.Mappings.{IsMapping}
-use Rattle.ptflow.specs.Workings.Bytes.Packings.{IsPacking}
 
 -- the bytes that stay, where `last` comes before them, if there is such a byte
 abbrev pub squeeze_from : (ℕ → Bool) → Option ℕ → List ℕ → List ℕ
@@ -23,7 +20,6 @@ abbrev pub IsSetIfAny : Option ByteSet → List Bool → Type 0
 IsSetIfAny None flags = (b : ℕ) → slice_index_or flags b false ≡ false
 IsSetIfAny (Some set) flags = IsSetOf set flags
 
--- what the passes of a plan need
-abbrev pub IsOf : Option ByteSet → Mapping → Option ByteSet → Shuffles → Tables → Type 0
-IsOf deleting mapping squeezing shuffles tables =
-    IsSetIfAny deleting tables.deleted × IsMapping mapping tables × IsSetIfAny squeezing tables.squeezed × IsPacking shuffles
+pub IsSetIfAny-prop : (set : Option ByteSet) (flags : List Bool) → IsProp (IsSetIfAny set flags)
+IsSetIfAny-prop None flags = Prim.hlevel props
+IsSetIfAny-prop (Some set) flags = Prim.hlevel props

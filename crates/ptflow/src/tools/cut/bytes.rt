@@ -1,20 +1,18 @@
 //! `cut` by bytes.
 
-ghost use Rattle.std.specs.Prelude.{◌≡◌, ◌<◌, ◌≤◌, ◌+◌, ◌^◌, length, take, drop, ◌++◌, true, false, None, [], ◌∷◌, OnOk, OnErr, ◌==◌, if◌then◌else◌};
-ghost use Rattle.std.specs.Simd.Lanes.{chunk};
-ghost use Rattle.ptlines.specs.Outputs.{Wrote};
-ghost use Rattle.ptlangs.specs.CutLists.{AreApart};
+ghost use Rattle.std.specs.Prelude.{◌≡◌, ◌<◌, ◌≤◌, ◌+◌, ◌++◌, [], false, length, take};
+ghost use Rattle.ptlangs.specs.CutLists.{AreApart, is_selected};
 ghost use Rattle.ptlangs.specs.Jobs.{cut_job};
 ghost use Rattle.ptflow.specs.Cuts.{cut_tool};
 ghost use Rattle.ptflow.specs.Passes.{IsBarePass};
 ghost use Rattle.ptflow.specs.Workings.Cut.CutRests.{rest_by, chosen_piece, IsCutTo, CutsOn, HasEnds, IsStepAt, GoesOn};
-ghost use Rattle.ptflow.specs.Workings.Passes.Continuations.{Continues, Halts};
-ghost use Rattle.ptflow.specs.Workings.Cut.Picks.{IsSelection};
+ghost use Rattle.ptflow.specs.Workings.Passes.Blocks.{Fits, IsFirst};
+ghost use Rattle.ptflow.specs.Workings.Cut.Picks.{IsPick, AreApart-prop};
 
 use crate::blocks::{BlockTool, over_blocks};
 use crate::faults::FlowFault;
 use crate::kernels::places::marks;
-use crate::tools::cut::picking::{Pick, put_picked};
+use crate::tools::cut::picking::Pick;
 use ptlangs::jobs::CutJob;
 use ptlangs::ranges::Interval;
 use ptlines::{LineReader, Out, Sink, Source, WriteFault, copy_near, find_near};
@@ -29,6 +27,8 @@ type Written = [u8; 8208];
 pub(crate) struct Selection<'a> {
     selected: &'a [Interval],
     pick: Pick,
+    ghost apart: { AreApart 0 selected.now } by { AreApart-prop 0 selected.now },
+    ghost picks: { IsPick (is_selected selected.now) pick },
 }
 
 // Copies the selected bytes of a piece of a line, the first `count` of these bytes, and then the bytes up to `end`:
@@ -36,7 +36,7 @@ pub(crate) struct Selection<'a> {
 // that ends. Out of line, so that most lines are copied without what this needs in registers.
 #[inline(never)]
 fn copy_selected(
-    selected: &[Interval],
+    by: &Selection,
     before: u64,
     bytes: &[u8],
     count: usize,
@@ -44,17 +44,15 @@ fn copy_selected(
     into: &mut Written,
     at: usize,
 ) -> usize
-    requires apart { AreApart 0 selected.now }
     requires within { (count ≤ end) × (end ≤ length bytes.now) }
-    requires short { before + count < 2 ^ 63 }
-    requires room { at + end ≤ 8192 }
+    requires fits { Fits before at end }
     ensures copied { take result into.new
-        ≡ take at into.old ++ chosen_piece selected.now before count (take end bytes.now) }
+        ≡ take at into.old ++ chosen_piece by.now.selected.now before count (take end bytes.now) }
     ensures near { result ≤ at + end }
 {
     let last = before + count as u64;
     let mut at = at;
-    for interval in selected {
+    for interval in by.selected {
         let from = interval.first.saturating_sub(before + 1) as usize;
         if last <= interval.last {
             let from = from.min(count);
@@ -81,21 +79,21 @@ fn copy_line(
     into: &mut Written,
     at: usize,
 ) -> usize
-    requires by { IsSelection by.now }
-    requires lanes { 16 ≤ length bytes.now }
-    requires within { count < length bytes.now }
-    requires short { before + count < 2 ^ 63 }
-    requires room { at + count < 8192 }
+    requires within { count + 16 ≤ length bytes.now }
+    requires fits { Fits before at (count + 1) }
     ensures copied { take result into.new
         ≡ take at into.old ++ chosen_piece by.now.selected.now before count (take (count + 1) bytes.now) }
     ensures near { result ≤ at + count + 1 }
 {
     if before > 0 || count > by.pick.most {
-        return copy_selected(by.selected, before, bytes, count, count + 1, into, at);
+        return copy_selected(by, before, bytes, count, count + 1, into, at);
     }
-    let at = put_picked(&by.pick, bytes, count, into, at);
-    into[at] = bytes[count];
-    at + 1
+    let lanes = u8x16::from_slice(bytes).swizzle_dyn(by.pick.row);
+    let room: &mut [u8] = into;
+    lanes.copy_to_slice(&mut room[at..]);
+    let end = at + usize::from(by.pick.counts[count.min(16)]);
+    into[end] = bytes[count];
+    end + 1
 }
 
 // Where a line of a block starts, how many bytes of it came in earlier blocks, and where the output of the lines in
@@ -105,23 +103,6 @@ struct Step {
     start: usize,
     before: u64,
     at: usize,
-}
-
-// Copies 64 lines that are empty.
-#[inline(always)]
-fn copy_ends(block: &[u8], step: Step, into: &mut [u8]) -> Step
-    requires within { step.start + 64 ≤ length block.now }
-    requires room { step.at + 64 ≤ length into.old }
-    ensures long { length into.new ≡ length into.old }
-    ensures step { result ≡ record step { start = step.start + 64; at = step.at + 64 } }
-    ensures copied { take (step.at + 64) into.new ≡ take step.at into.old ++ chunk step.start 64 block.now }
-{
-    u8x64::from_slice(&block[step.start..]).copy_to_slice(&mut into[step.at..]);
-    Step {
-        start: step.start + 64,
-        before: step.before,
-        at: step.at + 64,
-    }
 }
 
 // Copies what is written for the lines that end among the 64 bytes from a place on, after which 16 more come; the mask
@@ -137,14 +118,20 @@ fn cut_chunk(
     step: Step,
     into: &mut Written,
 ) -> Step
-    requires by { IsSelection by.now }
     requires ends { HasEnds ending block.now from marked }
     requires step { IsStepAt ending block.now from step }
     ensures on { GoesOn ending by.now.selected.now block.now step (take step.at into.old) result (take result.at into.new) }
     ensures passed { (from < result.start) × (result.start ≤ from + 64) }
 {
     if marked == u64::MAX && step.start == from && step.before == 0 {
-        return copy_ends(block, step, into);
+        // Each of these lines is empty.
+        let room: &mut [u8] = into;
+        u8x64::from_slice(&block[step.start..]).copy_to_slice(&mut room[step.at..]);
+        return Step {
+            start: step.start + 64,
+            before: step.before,
+            at: step.at + 64,
+        };
     }
     let mut marked = marked;
     let mut step = step;
@@ -172,9 +159,7 @@ fn cut_rest(
     into: &mut Written,
     at: usize,
 ) -> (usize, u64)
-    requires by { IsSelection by.now }
-    requires room { at + length bytes.now ≤ 8192 }
-    requires short { before + length bytes.now < 2 ^ 63 }
+    requires { Fits before at (length bytes.now) }
     ensures cut { CutsOn ending by.now.selected.now before bytes.now (take at into.old)
         result.1 [] (take result.0 into.new) }
     ensures near { result.0 ≤ at + length bytes.now }
@@ -184,11 +169,11 @@ fn cut_rest(
     let mut rest = bytes;
     let mut at = at;
     'lines: while let Some(count) = find_near(ending, rest) {
-        at = copy_selected(by.selected, before, rest, count, count + 1, into, at);
+        at = copy_selected(by, before, rest, count, count + 1, into, at);
         before = 0;
         rest = &rest[count + 1..];
     }
-    at = copy_selected(by.selected, before, rest, rest.len(), rest.len(), into, at);
+    at = copy_selected(by, before, rest, rest.len(), rest.len(), into, at);
     (at, before + rest.len() as u64)
 }
 
@@ -202,9 +187,7 @@ fn cut_pieces(
     block: &[u8],
     into: &mut Written,
 ) -> (usize, u64)
-    requires by { IsSelection by.now }
-    requires room { length block.now ≤ 8192 }
-    requires short { before + length block.now < 2 ^ 63 }
+    requires { Fits before 0 (length block.now) }
     ensures cut { IsCutTo ending by.now.selected.now before block.now result.1 [] (take result.0 into.new) }
     ensures near { result.0 ≤ length block.now }
     ensures bound { result.1 ≤ before + length block.now }
@@ -240,13 +223,12 @@ struct ByteCut<'a> {
 impl<'a> BlockTool for ByteCut<'a> {
     ghost use Rattle.std.specs.Prelude.{◌≡◌};
     ghost use Rattle.ptflow.specs.Workings.Cut.CutRests.{rest_by};
-    ghost use Rattle.ptflow.specs.Workings.Cut.Picks.{IsSelection};
 
     ghost rest = { λ t. rest_by t.ending t.by.selected.now t.before };
 
     ghost counted = { λ t. t.before };
 
-    ghost Holds = { λ s t. IsSelection t.by × (t.by.selected.now ≡ s.by.selected.now) × (t.ending ≡ s.ending) };
+    ghost Holds = { λ s t. (t.by.selected.now ≡ s.by.selected.now) × (t.ending ≡ s.ending) };
 
     fn push_block<W: Sink>(&mut self, block: &[u8], out: &mut Out<W>) -> Result<(), WriteFault> {
         let (count, before) = cut_pieces(
@@ -278,17 +260,16 @@ pub(crate) fn cut_by_bytes<A: Allocator + Copy, S: Source, R: Source, W: Sink>(
     out: &mut Out<W>,
 ) -> Result<(), FlowFault>
     requires by_bytes { job.now.fields ≡ false }
-    requires ending { reader.old.ending ≡ (cut_job job.now).end }
-    requires readable { reader.old.fault ≡ None }
-    requires clean { out.old.faulted ≡ false }
+    requires first { IsFirst 0 reader.old out.old }
     ensures { IsBarePass (cut_tool (cut_job job.now)) reader.old reader.new out.old out.new result }
 {
+    let ending = if job.zero { 0 } else { b'\n' };
     let mut tool = ByteCut {
         by: Selection {
             selected: job.list.intervals(),
             pick: Pick::of(&job.list),
         },
-        ending: reader.ending(),
+        ending,
         before: 0,
         written: [0; 8208],
     };

@@ -1,9 +1,8 @@
 //! Of short lines, the bytes at the same places: by one shuffle.
 
-ghost use Rattle.std.specs.Prelude.{◌≡◌, ◌<◌, ◌≤◌, ◌+◌, ◌++◌, ℕ, Bool, false, length, take, nat_le};
+ghost use Rattle.std.specs.Prelude.{◌≡◌, ◌<◌, ◌≤◌, ℕ, false, nat_le};
 ghost use Rattle.std.specs.List.{list_all};
 ghost use Rattle.ptlangs.specs.CutLists.{is_selected};
-ghost use Rattle.ptflow.specs.Cuts.{chosen_from};
 ghost use Rattle.ptflow.specs.Workings.Cut.Picks.{IsPick};
 
 use ptlangs::ranges::{Interval, Ranges};
@@ -14,8 +13,8 @@ use std::simd::prelude::*;
 // are all that is selected of a line.
 #[derive(Clone, Copy)]
 pub(crate) struct Pick {
-    row: u8x16,
-    counts: [u8; 17],
+    pub row: u8x16,
+    pub counts: [u8; 17],
     pub most: usize,
 }
 
@@ -52,28 +51,4 @@ impl Pick {
             most: greatest_length(list.intervals()),
         }
     }
-}
-
-// Puts the selected ones of the first `count` bytes into `into`, from the place `at` on, and says where they end. What
-// was after them may change.
-#[inline(always)]
-pub(crate) fn put_picked(
-    pick: &Pick,
-    bytes: &[u8],
-    count: usize,
-    into: &mut [u8],
-    at: usize,
-) -> usize
-    requires pick { (selected : ℕ → Bool) × IsPick selected pick.now }
-    requires short { count ≤ pick.now.most }
-    requires within { (16 ≤ length bytes.now) × (count ≤ length bytes.now) }
-    requires room { at + 16 ≤ length into.old }
-    ensures long { length into.new ≡ length into.old }
-    ensures picked { (selected : ℕ → Bool) → IsPick selected pick.now
-        → take result into.new ≡ take at into.old ++ chosen_from selected 1 (take count bytes.now) }
-    ensures near { result ≤ at + count }
-{
-    let lanes = u8x16::from_slice(bytes).swizzle_dyn(pick.row);
-    lanes.copy_to_slice(&mut into[at..]);
-    at + usize::from(pick.counts[count.min(16)])
 }

@@ -1,12 +1,12 @@
 //! `paste -s`.
 
-ghost use Rattle.std.specs.Prelude.{◌≡◌, ◌<◌, ◌≤◌, ◌+◌, ◌++◌, ◌^◌, [], length, take, true, false, None, OnOk, OnErr, IfOk, IfSome};
-ghost use Rattle.ptlines.specs.Outputs.{Wrote};
+ghost use Rattle.std.specs.Prelude.{◌≡◌, ◌<◌, ◌≤◌, ◌+◌, ◌^◌, ◌++◌, ◌∷◌, [], true, false, OnOk, OnErr, IfOk, IfSome, length, take};
+ghost use Rattle.ptlines.specs.Outputs.{Wrote, Pushes};
 ghost use Rattle.ptlangs.specs.Jobs.{paste_job};
-ghost use Rattle.ptflow.specs.Passes.{IsReady, IsPass, IsBarePass};
+ghost use Rattle.ptflow.specs.Passes.{IsReady, IsPass};
 ghost use Rattle.ptflow.specs.Pastes.{delimiter, serial_tool};
-ghost use Rattle.ptflow.specs.Workings.Passes.Continuations.{Continues, Halts};
-ghost use Rattle.ptflow.specs.Workings.Paste.SerialRests.{serial_rest, begun, lead, Puts, PutsBlock, IsAlways};
+ghost use Rattle.ptflow.specs.Workings.Passes.Blocks.{Fits};
+ghost use Rattle.ptflow.specs.Workings.Paste.SerialRests.{begun, lead, Puts, PutsBlock, IsAlways};
 
 use crate::blocks::{BlockTool, over_blocks};
 use crate::faults::FlowFault;
@@ -29,10 +29,7 @@ pub(crate) fn push_delimiter<A: Allocator, W: Sink>(
     number: u64,
     out: &mut Out<W>,
 ) -> Result<(), WriteFault>
-    requires { out.old.faulted ≡ false }
-    ensures wrote { Wrote out.old out.new (delimiter delims.now number) }
-    ensures clean { OnOk result (out.new.faulted ≡ false) }
-    ensures fault { OnErr result (out.new.faulted ≡ true) }
+    ensures { Pushes out.old out.new (delimiter delims.now number) result }
 {
     match delims.at(number) {
         Some(byte) => out.push(&[byte]),
@@ -47,7 +44,6 @@ pub(crate) fn begin_cell<A: Allocator, W: Sink>(
     out: &mut Out<W>,
 ) -> Result<Cell, WriteFault>
     requires short { cell.number < 2 ^ 63 }
-    requires clean { out.old.faulted ≡ false }
     ensures begun { IfOk result (λ after. after ≡ begun cell) }
     ensures wrote { Wrote out.old out.new (lead delims.now cell) }
     ensures clean { OnOk result (out.new.faulted ≡ false) }
@@ -107,8 +103,7 @@ fn put_pieces<A: Allocator>(
     bytes: &[u8],
     into: &mut Written,
 ) -> (usize, u64)
-    requires room { length bytes.now ≤ 8192 }
-    requires short { number + length bytes.now < 2 ^ 63 }
+    requires { Fits number 0 (length bytes.now) }
     ensures puts { Puts ending delims.now number bytes.now result.1 [] (take result.0 into.new) }
     ensures near { result.0 ≤ length bytes.now }
     ensures bound { result.1 ≤ number + length bytes.now }
@@ -135,8 +130,7 @@ fn put_cells<A: Allocator>(
     bytes: &[u8],
     into: &mut Written,
 ) -> (usize, u64)
-    requires room { length bytes.now ≤ 8192 }
-    requires short { number + length bytes.now < 2 ^ 63 }
+    requires { Fits number 0 (length bytes.now) }
     ensures puts { Puts ending delims.now number bytes.now result.1 [] (take result.0 into.new) }
     ensures near { result.0 ≤ length bytes.now }
     ensures bound { result.1 ≤ number + length bytes.now }
@@ -154,25 +148,23 @@ fn put_cells<A: Allocator>(
     (count, number)
 }
 
-// Copies what is written for a block that comes in the cell of this number. No delimiter is written after the last
-// cell before more comes. The answer is where that ends, and the cell in which the next block comes.
+// Copies what is written for a block that comes in the cell of this number: these bytes, and then its last one. No
+// delimiter is written after the last cell before more comes. The answer is where that ends, and the cell in which the
+// next block comes.
 fn put_block<A: Allocator>(
     delims: &Delims<A>,
     ending: u8,
     number: u64,
-    block: &[u8],
+    bytes: &[u8],
+    last: u8,
     into: &mut Written,
 ) -> (usize, Cell)
-    requires some { 0 < length block.now }
-    requires room { length block.now ≤ 8192 }
-    requires short { number + length block.now ≤ 2 ^ 63 }
-    ensures puts { PutsBlock ending delims.now number block.now result.1 (take result.0 into.new) }
-    ensures near { result.0 ≤ length block.now }
-    ensures bound { result.1.number + 1 ≤ number + length block.now }
+    requires { Fits number 0 (length bytes.now) }
+    ensures puts { PutsBlock ending delims.now number (bytes.now ++ last ∷ []) result.1 (take result.0 into.new) }
+    ensures near { result.0 ≤ length bytes.now + 1 }
+    ensures bound { result.1.number ≤ number + length bytes.now }
 {
-    let count = block.len() - 1;
-    let last = block[count];
-    let (at, number) = put_cells(delims, ending, number, &block[..count], into);
+    let (at, number) = put_cells(delims, ending, number, bytes, into);
     if last == ending {
         return (
             at,
@@ -190,32 +182,6 @@ fn put_block<A: Allocator>(
             ended: false,
         },
     )
-}
-
-// Pushes what is written for a block that comes in this cell. The answer is the cell in which the next block comes.
-fn push_cells<A: Allocator, W: Sink>(
-    delims: &Delims<A>,
-    ending: u8,
-    cell: Cell,
-    block: &[u8],
-    written: &mut Written,
-    out: &mut Out<W>,
-) -> Result<Cell, WriteFault>
-    requires room { length block.now ≤ 8192 }
-    requires short { cell.number + length block.now < 2 ^ 63 }
-    requires clean { out.old.faulted ≡ false }
-    ensures continues { IfOk result
-        (λ after. Continues (serial_rest ending delims.now) cell after block.now out.old out.new) }
-    ensures bound { IfOk result (λ after. after.number ≤ cell.number + length block.now) }
-    ensures halts { OnErr result (Halts (serial_rest ending delims.now) cell block.now out.old out.new) }
-{
-    if block.is_empty() {
-        return Ok(cell);
-    }
-    let begun = begin_cell(delims, cell, out)?;
-    let (count, after) = put_block(delims, ending, begun.number, block, written);
-    out.push(&written[..count])?;
-    Ok(after)
 }
 
 /// The delimiters, the byte that ends a line, the cell in which the next byte comes, and room for what is written for
@@ -239,14 +205,18 @@ impl<'a, A: Allocator> BlockTool for SerialPaste<'a, A> {
     ghost Holds = { λ s t. (t.delims.now ≡ s.delims.now) × (t.ending ≡ s.ending) };
 
     fn push_block<W: Sink>(&mut self, block: &[u8], out: &mut Out<W>) -> Result<(), WriteFault> {
-        self.cell = push_cells(
+        let begun = begin_cell(self.delims, self.cell, out)?;
+        let count = block.len() - 1;
+        let (end, after) = put_block(
             self.delims,
             self.ending,
-            self.cell,
-            block,
+            begun.number,
+            &block[..count],
+            block[count],
             &mut self.written,
-            out,
-        )?;
+        );
+        out.push(&self.written[..end])?;
+        self.cell = after;
         Ok(())
     }
 
@@ -254,30 +224,6 @@ impl<'a, A: Allocator> BlockTool for SerialPaste<'a, A> {
     fn push_end<W: Sink>(&self, out: &mut Out<W>) -> Result<(), WriteFault> {
         out.push(&[self.ending])
     }
-}
-
-// Writes the lines of a reader in one row. No line is kept: what is written for the bytes that came is pushed before
-// the next read.
-fn over_row<A: Allocator, S: Source, R: Source, W: Sink>(
-    job: &PasteJob<A>,
-    reader: &mut LineReader<S, R>,
-    out: &mut Out<W>,
-) -> Result<(), FlowFault>
-    requires ending { reader.old.ending ≡ (paste_job job.now).end }
-    requires readable { reader.old.fault ≡ None }
-    requires clean { out.old.faulted ≡ false }
-    ensures { IsBarePass (serial_tool (paste_job job.now)) reader.old reader.new out.old out.new result }
-{
-    let mut tool = SerialPaste {
-        delims: &job.delims,
-        ending: reader.ending(),
-        cell: Cell {
-            number: 0,
-            ended: false,
-        },
-        written: [0; 8208],
-    };
-    over_blocks(&mut tool, reader, out)
 }
 
 /// Writes the lines of a reader in one row, with the delimiters of the list between them, the first after the first
@@ -302,5 +248,14 @@ pub fn paste_serial<A: Allocator + Copy, S: Source, R: Source, W: Sink>(
         return Err(FlowFault::Write);
     }
     reader.set_ending(job.zero);
-    over_row(job, reader, out)
+    let mut tool = SerialPaste {
+        delims: &job.delims,
+        ending: reader.ending(),
+        cell: Cell {
+            number: 0,
+            ended: false,
+        },
+        written: [0; 8208],
+    };
+    over_blocks(&mut tool, reader, out)
 }

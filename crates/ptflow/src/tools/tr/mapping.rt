@@ -1,11 +1,9 @@
 //! How `tr` makes the images of bytes: many at a time, where the plan allows it.
 
 ghost use Rattle.std.specs.Prelude.{◌≡◌, ◌<◌, ℕ, IfSome, length, map, slice_index};
-ghost use Rattle.ptlangs.specs.TrShifts.{Move};
-ghost use Rattle.ptlangs.specs.TrTables.{image};
+ghost use Rattle.ptlangs.specs.TrTables.{Tables, image};
 ghost use Rattle.ptflow.specs.Workings.Bytes.Lanes.{IsMovedTo};
-ghost use Rattle.ptflow.specs.Workings.Tr.Mappings.{IsMapping, blended};
-ghost use Rattle.ptflow.specs.Workings.Bytes.Rowings.{by_rows};
+ghost use Rattle.ptflow.specs.Workings.Tr.Mappings.{IsMapping, blended, mapped_by};
 
 use crate::kernels::halves::Rows;
 use crate::kernels::lanes::{Mover, move_most, translate};
@@ -108,47 +106,29 @@ impl Mapping {
         }
     }
 
-    /// Makes each byte of `to` the image of the byte of `from` at its place. Both are equally long.
-    pub(crate) fn translate(&self, plan: &CharPlan, from: &[u8], to: &mut [u8])
-        requires mapping { IsMapping self.now plan.now }
-        requires same { length to.old ≡ length from.now }
-        ensures { to.new ≡ map (image plan.now) from.now }
+    /// Makes the first bytes of `to` the images of those of `from`, as many as are made many at a time, and says how
+    /// many. Both are equally long.
+    pub(crate) fn move_front(&self, from: &[u8], to: &mut [u8]) -> usize
+        requires { length to.old ≡ length from.now }
+        ensures { (plan : Tables) → IsMovedTo result (mapped_by self.now plan) from.now to.new }
     {
         match self {
-            Mapping::Same => to.copy_from_slice(from),
-            Mapping::Shifts(shifts) => translate(shifts, from, to),
-            Mapping::Constant(blend) => blend_bytes(*blend, plan, from, to),
-            Mapping::Rows(rows) => add_rows(*rows, plan, from, to),
-            Mapping::Table => look_up_from(plan, 0, from, to),
+            Mapping::Same | Mapping::Table => 0,
+            Mapping::Shifts(shifts) => {
+                translate(shifts, from, to);
+                from.len()
+            }
+            Mapping::Constant(blend) => move_most(*blend, from, to),
+            Mapping::Rows(rows) => match rows.two() {
+                Some(two) => move_most(two, from, to),
+                None => move_most(*rows, from, to),
+            },
         }
     }
 }
 
-// All bytes of a set become one byte.
-fn blend_bytes(blend: Blend, plan: &CharPlan, from: &[u8], to: &mut [u8])
-    requires blend { (b : ℕ) → b < 256 → blended blend b ≡ image plan.now b }
-    requires same { length to.old ≡ length from.now }
-    ensures { to.new ≡ map (image plan.now) from.now }
-{
-    let at = move_most(blend, from, to);
-    look_up_from(plan, at, from, to);
-}
-
-// The bytes become what rows say.
-fn add_rows(rows: Rows, plan: &CharPlan, from: &[u8], to: &mut [u8])
-    requires rows { (b : ℕ) → b < 256 → by_rows rows b ≡ image plan.now b }
-    requires same { length to.old ≡ length from.now }
-    ensures { to.new ≡ map (image plan.now) from.now }
-{
-    let at = match rows.two() {
-        Some(two) => move_most(two, from, to),
-        None => move_most(rows, from, to),
-    };
-    look_up_from(plan, at, from, to);
-}
-
-// The bytes from a place on become their images, one by one.
-fn look_up_from(plan: &CharPlan, start: usize, from: &[u8], to: &mut [u8])
+/// The bytes from a place on become their images, one by one.
+pub(crate) fn look_up_from(plan: &CharPlan, start: usize, from: &[u8], to: &mut [u8])
     requires { IsMovedTo start (image plan.now) from.now to.old }
     ensures { to.new ≡ map (image plan.now) from.now }
 {

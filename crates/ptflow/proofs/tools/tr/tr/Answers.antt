@@ -12,9 +12,10 @@ returns-clause-pass g c =
     λ store ready.
     c.over_blocks.ensures (tr_tool t)
     (record {
-      text = λ bytes. ap (λ p. tr_rest p None bytes) c.new.ensures.plan;
+      text = λ bytes. ap (λ p. tr_rest p None bytes) c.new.ensures;
       decided = λ given pushed now holds on. rest_decided t given pushed now.last
-          (λ rest. sym (ap (λ p. tr_rest p None (given ++ rest)) c.new.ensures.plan) ∙ on rest ∙ ap (λ p. pushed ++ tr_rest p now.last rest) (holds.0 ∙ c.new.ensures.plan));
+          (λ rest. sym (ap (λ p. tr_rest p None (given ++ rest)) c.new.ensures) ∙ on rest ∙ ap (λ p. pushed ++ tr_rest p now.last rest) (holds ∙ c.new.ensures));
+      holds = refl;
       slots = refl;
     })
     store ready

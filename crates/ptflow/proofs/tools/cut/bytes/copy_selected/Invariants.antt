@@ -5,4 +5,4 @@ use Rattle.ptflow.proofs.tools.cut.bytes.copy_selected.Given as goal
 
 abbrev pub invariant-loop-interval : goal.invariant-loop-interval
 invariant-loop-interval l =
-    Choosing l.selected l.interval-index l.before (take l.count (take l.end l.bytes)) (drop l.count (take l.end l.bytes)) (take l.fn.at l.fn.into) (take l.at l.into) l.fn.at l.at
+    Choosing l.by.selected.now l.interval-index l.before (take l.count (take l.end l.bytes)) (drop l.count (take l.end l.bytes)) (take l.fn.at l.fn.into) (take l.at l.into) l.fn.at l.at

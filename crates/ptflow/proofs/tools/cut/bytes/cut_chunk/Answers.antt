@@ -1,6 +1,6 @@
 -- The lowest bit that is left is the next end. The line up to it is cut, and the next line begins behind it; then that
 -- bit is taken away. As many turns are made as the mask has bits, so at the end no bit is left.
-use Rattle.ptflow.proofs.Common.{◌≡◌, ◌+◌, ◌-◌, suc, map, take, drop, ◌∙◌, ap, arith, count_ones, chunk, take_rest, drop-drop, ones-mask_l, is_byte, is_selected, chosen_piece}
+use Rattle.ptflow.proofs.Common.{◌≡◌, ◌+◌, ◌-◌, suc, map, take, drop, ◌∙◌, ap, arith, count_ones, chunk, length-chunk, take_more_put_chunk, take_rest, drop-drop, length-drop, ones-mask_l, is_byte, is_selected, chosen_piece}
 use lib.Count.{count_trailing_zeros}
 use Rattle.ptflow.proofs.OfCut.ByteRests.{line_on, ends_on, cut_on}
 use Rattle.ptflow.proofs.OfBytes.Nths.{NextEnd, cleared, next_end, some_counted}
@@ -13,14 +13,16 @@ returns-then-step-eq0-clause-on c =
     let list = c.args.by.now.selected.now in
     let block = c.args.block.now in
     let step = c.args.step in
-    rw c.copy_ends.ensures.step (record {
+    let ends = chunk step.start 64 block in
+    record {
       cut = cut_on end list _ step.before step.before _ (drop step.start block) (drop (step.start + 64) block) _ (take step.at c.args.into.now)
-          (chunk step.start 64 block) (λ start bytes so_far. so_far) c.copy_ends.ensures.copied
+          ends (λ start bytes so_far. so_far)
+          (take_more_put_chunk step.at c.args.into.now ends (step.at + 64) (omega (arith, length-chunk step.start 64 block (omega arith))) (omega arith))
           (ends_on end (is_selected list) block (omega arith) c.if-step-from.true c.if-step-eq0.true
           c.requires.ends.is c.if-marked-eq18446744073709551615.true);
       bound = omega arith;
       near = omega arith;
-    })
+    }
 
 next : (c : In-loop-end) → NextEnd c.args.ending c.args.block.now c.args.from c.loop-end._end (count_trailing_zeros 64 c.loop-end.marked) c.loop-end.step.start
 next c = next_end c.loop-end._end c.loop-end.step.start c.requires.ends (omega arith) c.loop-end.invariant.bits c.loop-end.invariant.ends
@@ -29,11 +31,12 @@ pub overflow_sub-end : goal.overflow_sub-end
 overflow_sub-end c = (next (goal.at.overflow_sub-end c).In-loop-end).order
 
 pub copy_line-at-requires-clause-within : goal.copy_line-at-requires-clause-within
-copy_line-at-requires-clause-within c = rw take_rest ((next (goal.at.copy_line-at-requires-clause-within c).In-loop-end).first.0.high)
+copy_line-at-requires-clause-within c =
+    let e = next (goal.at.copy_line-at-requires-clause-within c).In-loop-end in omega (arith, length-drop c.loop-end.step.start c.args.block.now)
 
-pub copy_line-at-requires-clause-room : goal.copy_line-at-requires-clause-room
-copy_line-at-requires-clause-room c =
-    let e = next (goal.at.copy_line-at-requires-clause-room c).In-loop-end in omega arith
+pub copy_line-at-requires-clause-fits : goal.copy_line-at-requires-clause-fits
+copy_line-at-requires-clause-fits c =
+    let e = next (goal.at.copy_line-at-requires-clause-fits c).In-loop-end in record { short = omega arith; room = omega arith }
 
 pub loop-end-preserved : goal.loop-end-preserved
 loop-end-preserved c =

@@ -9,4 +9,4 @@ returns-in-Some c =
 pub returns-in-None : goal.returns-in-None
 returns-in-None c =
     let tables = c.args.self.now.plan.now in
-    sym (from_all (squeezes tables) (rw c.in-None.is at c.requires.squeezing) c.args.last c.args.bytes.now)
+    sym (from_all (squeezes tables) (rw c.in-None.is at c.args.self.now.is_squeezing) c.args.last c.args.bytes.now)
