@@ -3,7 +3,6 @@
 ghost use Rattle.std.specs.Prelude.{◌≡◌, ◌≤◌, ◌+◌, ◌++◌, false, not, length, filter, take, slice_index_or};
 ghost use Rattle.std.specs.Simd.Lanes.{chunk};
 ghost use Rattle.ptflow.specs.Workings.Bytes.ByteSets.{IsSetOf, Keeps, holds};
-ghost use Rattle.ptflow.specs.Workings.Bytes.Packings.{IsPacking};
 
 use crate::kernels::packing::{Shuffles, pack, put_chunk};
 use crate::kernels::sets::ByteSet;
@@ -18,7 +17,6 @@ fn keep_lanes(
     into: &mut [u8; 8224],
     count: usize,
 ) -> usize
-    requires shuffles { IsPacking shuffles.now }
     requires room { count ≤ 8200 }
     ensures kept { take result into.new ≡ take count into.old ++ filter (λ b. not (holds set b)) bytes }
     ensures end { result ≤ count + 16 }
@@ -37,7 +35,6 @@ fn keep_chunk(
     into: &mut [u8; 8224],
     count: usize,
 ) -> usize
-    requires shuffles { IsPacking shuffles.now }
     requires lanes { at + 64 ≤ length from.now }
     requires room { count ≤ 8128 }
     ensures kept { take result into.new ≡ take count into.old ++ filter (λ b. not (holds set b)) (chunk at 64 from.now) }
@@ -67,7 +64,6 @@ fn keep_chunks(
     from: &[u8],
     into: &mut [u8; 8224],
 ) -> (usize, usize)
-    requires shuffles { IsPacking shuffles.now }
     requires room { length from.now ≤ 8192 }
     ensures { Keeps (λ b. not (holds set b)) from.now result.0 into.new result.1 }
 {
@@ -88,7 +84,6 @@ fn keep_most(
     from: &[u8],
     into: &mut [u8; 8224],
 ) -> (usize, usize)
-    requires shuffles { IsPacking shuffles.now }
     requires room { length from.now ≤ 8192 }
     ensures { Keeps (λ b. not (holds set b)) from.now result.0 into.new result.1 }
 {
@@ -110,7 +105,6 @@ pub(crate) fn keep_others(
     into: &mut [u8; 8224],
 ) -> usize
     requires set { IsSetOf set flags.now }
-    requires shuffles { IsPacking shuffles.now }
     requires room { length from.now ≤ 8192 }
     ensures kept { take result into.new ≡ filter (λ b. not (slice_index_or flags.now b false)) from.now }
     ensures within { result ≤ length from.now }

@@ -11,6 +11,7 @@ use std::simd::prelude::*;
 #[derive(Clone, Copy)]
 pub(crate) struct Shuffles {
     rows: [[u8; 16]; 256],
+    ghost packing: { IsPacking rows },
 }
 
 // The places of the bits of a mask.
@@ -28,9 +29,7 @@ fn row_of(mask: usize) -> [u8; 16]
 
 impl Shuffles {
     // The rows of all masks.
-    pub fn new() -> Shuffles
-        ensures { IsPacking result }
-    {
+    pub fn new() -> Shuffles {
         Shuffles {
             rows: array::from_fn(row_of),
         }
@@ -51,7 +50,6 @@ pub(crate) fn put_chunk(from: &[u8], at: usize, into: &mut [u8], end: usize)
 // Puts those of the first eight lanes whose flag is true from a place on, and says where they end.
 #[inline(always)]
 fn pack_eight(shuffles: &Shuffles, v: u8x16, keep: u8, into: &mut [u8], at: usize) -> usize
-    requires packing { IsPacking shuffles.now }
     requires room { at + 16 ≤ length into.old }
     ensures long { length into.new ≡ length into.old }
     ensures packed { (flags : List Bool) → length flags ≡ 8 → keep ≡ mask_l flags
@@ -66,7 +64,6 @@ fn pack_eight(shuffles: &Shuffles, v: u8x16, keep: u8, into: &mut [u8], at: usiz
 // Puts the lanes whose flag is true from a place on, and says where they end. What was after them may change.
 #[inline(always)]
 pub(crate) fn pack(shuffles: &Shuffles, v: u8x16, keep: u64, into: &mut [u8], at: usize) -> usize
-    requires packing { IsPacking shuffles.now }
     requires room { at + 24 ≤ length into.old }
     ensures long { length into.new ≡ length into.old }
     ensures packed { (flags : List Bool) → length flags ≡ 16 → keep ≡ mask_l flags

@@ -4,7 +4,7 @@ ghost use Rattle.std.specs.Prelude.{◌≡◌, ◌<◌, ◌≤◌, ◌+◌, ◌-
 ghost use Rattle.std.specs.Simd.Lanes.{zip2};
 ghost use Rattle.ptflow.specs.Translations.{squeeze_behind};
 ghost use Rattle.ptflow.specs.Workings.Bytes.ByteSets.{IsSetOf, holds};
-ghost use Rattle.ptflow.specs.Workings.Bytes.Packings.{IsPacking, chosen_by};
+ghost use Rattle.ptflow.specs.Workings.Bytes.Packings.{chosen_by};
 ghost use Rattle.ptflow.specs.Workings.Tr.TrRests.{squeeze_from};
 
 use crate::kernels::packing::{Shuffles, pack, put_chunk};
@@ -22,7 +22,6 @@ fn squeeze_lanes(
     into: &mut [u8; 8224],
     count: usize,
 ) -> usize
-    requires packing { IsPacking shuffles.now }
     requires room { count ≤ 8200 }
     ensures squeezed { take result into.new
         ≡ take count into.old ++ chosen_by (zip2 (λ a b. not ((a == b) && holds set b)) before bytes) bytes }
@@ -43,7 +42,6 @@ fn squeeze_chunk(
     into: &mut [u8; 8224],
     count: usize,
 ) -> usize
-    requires packing { IsPacking shuffles.now }
     requires behind { 0 < at }
     requires lanes { at + 64 ≤ length from.now }
     requires room { count ≤ 8128 }
@@ -125,7 +123,6 @@ fn squeeze_tail(
     count: usize,
 ) -> usize
     requires set { IsSetOf set flags.now }
-    requires packing { IsPacking shuffles.now }
     requires behind { 0 < start }
     requires within { start ≤ length from.now }
     requires room { length from.now ≤ 8192 }
@@ -158,7 +155,6 @@ pub(crate) fn squeeze_block(
     into: &mut [u8; 8224],
 ) -> usize
     requires set { IsSetOf set flags.now }
-    requires packing { IsPacking shuffles.now }
     requires room { length from.now ≤ 8192 }
     ensures squeezed { take result into.new ≡ squeeze_from (λ b. slice_index_or flags.now b false) last from.now }
     ensures within { result ≤ length from.now }

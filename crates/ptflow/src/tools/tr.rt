@@ -7,7 +7,6 @@ ghost use Rattle.ptlangs.specs.TrTables.{deletes, image, squeezes};
 ghost use Rattle.ptflow.specs.Passes.{IsReady, IsBarePass, no_slots};
 ghost use Rattle.ptflow.specs.Translations.{tr_tool};
 ghost use Rattle.ptflow.specs.Workings.Tr.Mappings.{IsMapping};
-ghost use Rattle.ptflow.specs.Workings.Bytes.Packings.{IsPacking};
 ghost use Rattle.ptflow.specs.Workings.Tr.TrRests.{IsSetIfAny, squeeze_from};
 
 mod mapping;
@@ -49,7 +48,7 @@ impl<'a> Translation<'a> {
 
     fn new(plan: &'a CharPlan) -> Translation<'a>
         ensures plan { result.plan.now ≡ plan.now }
-        ensures is_of { IsOf result.deleting result.mapping result.squeezing result.shuffles result.plan.now }
+        ensures is_of { IsOf result.deleting result.mapping result.squeezing result.plan.now }
     {
         Translation {
             plan,
@@ -63,7 +62,6 @@ impl<'a> Translation<'a> {
     // The bytes that are not deleted, which `into` has room for.
     fn kept<'b>(&self, block: &'b [u8], into: &'b mut [u8; 8224]) -> &'b [u8]
         requires deleting { IsSetIfAny self.now.deleting self.now.plan.now.deleted }
-        requires packing { IsPacking self.now.shuffles }
         requires room { length block.now ≤ 8192 }
         ensures kept { result.now ≡ filter (λ b. not (deletes self.now.plan.now b)) block.now }
         ensures within { length result.now ≤ length block.now }
@@ -94,7 +92,6 @@ impl<'a> Translation<'a> {
     // The bytes that stay where `last` comes before them, if anything does; `into` has room for them.
     fn squeezed<'b>(&self, last: Option<u8>, bytes: &'b [u8], into: &'b mut [u8; 8224]) -> &'b [u8]
         requires squeezing { IsSetIfAny self.now.squeezing self.now.plan.now.squeezed }
-        requires packing { IsPacking self.now.shuffles }
         requires room { length bytes.now ≤ 8192 }
         ensures { result.now ≡ squeeze_from (squeezes self.now.plan.now) last bytes.now }
     {
@@ -134,7 +131,7 @@ impl<'a> BlockTool for Translator<'a> {
     ghost counted = { λ t. 0 };
 
     ghost Holds = { λ s t. (t.by.plan.now ≡ s.by.plan.now)
-        × IsOf t.by.deleting t.by.mapping t.by.squeezing t.by.shuffles t.by.plan.now };
+        × IsOf t.by.deleting t.by.mapping t.by.squeezing t.by.plan.now };
 
     fn push_block<W: Sink>(&mut self, block: &[u8], out: &mut Out<W>) -> Result<(), WriteFault> {
         let kept = self.by.kept(block, &mut self.kept);

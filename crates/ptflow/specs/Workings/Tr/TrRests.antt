@@ -2,12 +2,10 @@
 use Rattle.std.specs.Prelude.{◌≡◌, ℕ, List, Bool, false, Option, None, Some, slice_index_or}
 use Rattle.ptlangs.specs.TrTables.{Tables, squeezes}
 use Rattle.ptflow.specs.declared.tools.tr.mapping.Mapping.{Mapping}
-use Rattle.ptflow.specs.declared.kernels.packing.Shuffles.{Shuffles}
 use Rattle.ptflow.specs.declared.kernels.sets.ByteSet.{ByteSet}
 use Rattle.ptflow.specs.Translations.{squeeze_behind, squeeze, translated}
 use Rattle.ptflow.specs.Workings.Bytes.ByteSets.{IsSetOf}
 use Rattle.ptflow.specs.Workings.Tr.Mappings.{IsMapping}
-use Rattle.ptflow.specs.Workings.Bytes.Packings.{IsPacking}
 
 -- the bytes that stay, where `last` comes before them, if there is such a byte
 abbrev pub squeeze_from : (ℕ → Bool) → Option ℕ → List ℕ → List ℕ
@@ -24,6 +22,6 @@ IsSetIfAny None flags = (b : ℕ) → slice_index_or flags b false ≡ false
 IsSetIfAny (Some set) flags = IsSetOf set flags
 
 -- what the passes of a plan need
-abbrev pub IsOf : Option ByteSet → Mapping → Option ByteSet → Shuffles → Tables → Type 0
-IsOf deleting mapping squeezing shuffles tables =
-    IsSetIfAny deleting tables.deleted × IsMapping mapping tables × IsSetIfAny squeezing tables.squeezed × IsPacking shuffles
+abbrev pub IsOf : Option ByteSet → Mapping → Option ByteSet → Tables → Type 0
+IsOf deleting mapping squeezing tables =
+    IsSetIfAny deleting tables.deleted × IsMapping mapping tables × IsSetIfAny squeezing tables.squeezed
