@@ -15,7 +15,7 @@ use crate::blocks::{BlockTool, over_blocks};
 use crate::faults::FlowFault;
 use crate::kernels::keeping::keep_others;
 use crate::kernels::packing::Shuffles;
-use crate::kernels::sets::ByteSet;
+use crate::kernels::sets::{ByteSet, FlagSet};
 use crate::kernels::squeezing::squeeze_block;
 use crate::tools::tr::mapping::Mapping;
 use ptlangs::CharPlan;
@@ -68,7 +68,11 @@ impl<'a> Translation<'a> {
     {
         match self.deleting {
             Some(set) => {
-                let count = keep_others(set, self.plan.deleted(), &self.shuffles, block, into);
+                let gone = FlagSet {
+                    set,
+                    flags: self.plan.deleted(),
+                };
+                let count = keep_others(gone, &self.shuffles, block, into);
                 &into[..count]
             }
             None => block,
@@ -97,14 +101,11 @@ impl<'a> Translation<'a> {
     {
         match self.squeezing {
             Some(set) => {
-                let count = squeeze_block(
+                let by = FlagSet {
                     set,
-                    self.plan.squeezed(),
-                    &self.shuffles,
-                    last,
-                    bytes,
-                    into,
-                );
+                    flags: self.plan.squeezed(),
+                };
+                let count = squeeze_block(by, &self.shuffles, last, bytes, into);
                 &into[..count]
             }
             None => bytes,

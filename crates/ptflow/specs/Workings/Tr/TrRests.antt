@@ -1,5 +1,5 @@
 -- What `tr` writes of the rest of a text.
-use Rattle.std.specs.Prelude.{◌≡◌, ℕ, List, Bool, false, Option, None, Some, slice_index_or}
+use Rattle.std.specs.Prelude.{◌≡◌, ◌<◌, ◌≤◌, ℕ, List, Bool, false, Option, None, Some, length, slice_index_or}
 use Rattle.ptlangs.specs.TrTables.{Tables, squeezes}
 use Rattle.ptflow.specs.declared.tools.tr.mapping.Mapping.{Mapping}
 use Rattle.ptflow.specs.declared.kernels.sets.ByteSet.{ByteSet}
@@ -11,6 +11,12 @@ use Rattle.ptflow.specs.Workings.Tr.Mappings.{IsMapping}
 abbrev pub squeeze_from : (ℕ → Bool) → Option ℕ → List ℕ → List ℕ
 squeeze_from squeezed None bytes = squeeze squeezed bytes
 squeeze_from squeezed (Some last) bytes = squeeze_behind squeezed last bytes
+
+-- bytes came in front of this place, and no more were put than came
+pub record CameTo (bytes : List ℕ) (at count : ℕ) : Type 0 where
+  pub behind : 0 < at
+  pub within : at ≤ length bytes
+  pub counted : count ≤ at
 
 -- what is written of the rest of a text, where `last` was written last, if anything was
 abbrev pub tr_rest : Tables → Option ℕ → List ℕ → List ℕ

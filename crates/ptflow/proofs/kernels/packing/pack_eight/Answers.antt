@@ -20,6 +20,6 @@ returns-clause-packed c flags long masked =
     let lanes = swz_l w8 16 v 0 row in
     cc (
       chosen_stored at (count_ones c.args.keep) into lanes (length-swz_l w8 16 v 0 row ∙ is.long)
-          (omega (arith, ones-le 8 c.args.keep c.ranges.keep.fits)) c.requires.room,
+          (omega (arith, ones-le 8 c.args.keep c.ranges.keep.fits)) (omega (arith, c.requires)),
       row_chooses v (omega (arith, long, c.fits-v.0)) is,
     )
