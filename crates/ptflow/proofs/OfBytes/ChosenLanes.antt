@@ -6,7 +6,6 @@ use Rattle.ptflow.proofs.Common.{length-take-le, All-set, length-range_with_len,
 use Rattle.std.proofs.Common.{length-set}
 use Rattle.std.specs.Prelude.{bit_and, slice_index_or, count_ones}
 use Rattle.ptlines.proofs.Masks.{mask_of_parts}
-use Rattle.ptflow.specs.declared.kernels.packing.Shuffles.{Shuffles}
 use Rattle.ptflow.proofs.OfBytes.LaneLemmas.{written_more}
 
 -- ---- items that are chosen by flags
@@ -78,8 +77,8 @@ pub row_lanes : {flags : List Bool} {places : List ℕ} → IsRow flags places �
 row_lanes {places} is = Each1-from_get_or (λ place. place < 16) places 0 (λ i low. is.lanes i 0 low)
 
 -- the row of a mask
-pub row_of_mask : (shuffles : Shuffles) (mask : ℕ) → IsPacking shuffles → mask < 256 → IsRow (flags_of 8 mask) (slice_index_or shuffles.rows mask [])
-row_of_mask shuffles mask packing low = rw (mask_of_flags 8 _ low) at (packing (flags_of 8 mask) (length-flags_of 8 mask))
+pub row_of_mask : (rows : List (List ℕ)) (mask : ℕ) → IsPacking rows → mask < 256 → IsRow (flags_of 8 mask) (slice_index_or rows mask [])
+row_of_mask rows mask packing low = rw (mask_of_flags 8 _ low) at (packing (flags_of 8 mask) (length-flags_of 8 mask))
 
 -- a row puts in front the lanes that the flags choose
 pub row_chooses : {flags : List Bool} {row : List ℕ} (v : List ℕ) → length flags ≤ length v → IsRow flags row → take (count_ones (mask_l flags)) (swz_l w8 16 v 0 row) ≡ chosen_by flags v

@@ -1,13 +1,12 @@
 -- Bytes that stay where repeats are squeezed. Whether one stays is told by it and the byte in front of it, so a text is
 -- worked in pieces, each of them with the byte in front of it.
-use Rattle.ptflow.proofs.Common.{◌≡◌, ℕ, zero, suc, ◌%◌, ◌^◌, map, bit_and, negsuc, pos, ◌+◌, ◌-◌, ◌<◌, ◌≤◌, ◌&&◌, not, eqb, Bool, true, false, cond, List, [], ◌∷◌, ◌++◌, Option, Some, length, take}
+use Rattle.ptflow.proofs.Common.{◌≡◌, ℕ, zero, suc, ◌%◌, ◌^◌, map, bit_and, negsuc, pos, ◌+◌, ◌-◌, ◌<◌, ◌≤◌, ◌&&◌, not, eqb, Bool, true, false, cond, List, [], ◌∷◌, ◌++◌, Option, None, Some, length, take}
 use Rattle.ptflow.proofs.Common.{drop, set, get_or, refl, sym, ◌∙◌, ap, arith, append_assoc, add-one, drop-cons, w8, option_eq, bit_not, cast_unsigned, zip2, chunk, Each1, mask_l, top, append-nil}
 use Rattle.ptflow.proofs.Common.{drop-drop, drop_all, take-set, take_more_set, take-take, get_or-chunk, length-chunk, length-zip2, mask_l-mod, squeeze_behind, mask_of, chosen_by, squeeze_from}
-use Rattle.ptflow.proofs.Common.{chunk-fits}
 use mir.Val.{bool_byte, Fits}
 use Rattle.std.proofs.Math.Facts.{Fits-lt-pow}
 use Rattle.std.proofs.lemmas.List.{take-append-drop}
-use Rattle.ptflow.proofs.OfBytes.LaneLemmas.{InFour, lanes_of, not_lanes, chunk_parts, chunk_in_four}
+use Rattle.ptflow.proofs.OfBytes.LaneLemmas.{InFour, bytes_fit, lanes_of, not_lanes, chunk_parts, chunk_in_four}
 use Rattle.ptflow.proofs.OfTr.TrRests.{behind_one, from_one}
 
 -- the last byte of a piece
@@ -24,6 +23,11 @@ same_behind : (p q : ℕ → Bool) → ((b : ℕ) → b < 256 → p b ≡ q b) �
 same_behind p q same last [] small = refl
 same_behind p q same last (b ∷ bytes) small =
     cc (behind_one p last b bytes, same b (Fits-lt-pow small.0), same_behind p q same b bytes small.1, behind_one q last b bytes)
+
+pub same_from : (p q : ℕ → Bool) → ((b : ℕ) → b < 256 → p b ≡ q b) → (last : Option ℕ) (bytes : List ℕ) → ((k : ℕ) → Fits w8 (get_or bytes k 0)) → squeeze_from p last bytes ≡ squeeze_from q last bytes
+same_from p q same None [] fit = refl
+same_from p q same None (b ∷ bytes) fit = ap (◌∷◌ b) (same_behind p q same b bytes (bytes_fit bytes (λ k. fit (suc k))))
+same_from p q same (Some last) bytes fit = same_behind p q same last bytes (bytes_fit bytes fit)
 
 module _ (squeezed : ℕ → Bool) where
   -- a piece and the next one, with the last byte of the piece in front of it
@@ -82,10 +86,9 @@ module _ (squeezed : ℕ → Bool) where
         }
 
     -- a piece more
-    pub squeezing_piece : {into' : List ℕ} {count' : ℕ} (size : ℕ) (test : ℕ → Bool) → ((b : ℕ) → b < 256 → test b ≡ squeezed b) → ((k : ℕ) → Fits w8 (get_or from k 0)) → 0 < size
-        → at + size ≤ length from → count' ≤ count + size → take count' into' ≡ take count into ++ squeeze_behind test (get_or from (at - 1) 0) (take size (drop at from))
-        → Squeezing from into' (at + size) count' whole
-    squeezing_piece size test same fit some room few made =
+    pub squeezing_piece : {into' : List ℕ} {count' : ℕ} (size : ℕ) → 0 < size → at + size ≤ length from → count' ≤ count + size
+        → take count' into' ≡ take count into ++ squeeze_behind squeezed (get_or from (at - 1) 0) (take size (drop at from)) → Squeezing from into' (at + size) count' whole
+    squeezing_piece size some room few made =
         let last = get_or from (at - 1) 0 in
         let piece = take size (drop at from) in
         let long : length piece ≡ size = length-chunk at size from room in
@@ -96,7 +99,6 @@ module _ (squeezed : ℕ → Bool) where
               cc (
                 append_assoc (take count into) (squeeze_behind squeezed last piece) (squeeze_behind squeezed (get_or from (at + size - 1) 0) (drop (at + size) from)),
                 behind_on last piece (drop (at + size) from),
-                same_behind test squeezed same last piece (chunk-fits w8 at size from fit),
               );
           behind = omega arith;
           within = omega arith;

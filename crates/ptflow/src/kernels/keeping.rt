@@ -2,11 +2,11 @@
 
 ghost use Rattle.std.specs.Prelude.{◌≡◌, ◌≤◌, ◌+◌, ◌++◌, false, not, length, filter, take, slice_index_or};
 ghost use Rattle.std.specs.Simd.Lanes.{chunk};
-ghost use Rattle.ptflow.specs.Workings.Bytes.ByteSets.{IsSetOf, Keeps, holds};
-ghost use Rattle.ptflow.specs.Workings.Bytes.Packings.{IsPacking};
+ghost use Rattle.ptflow.specs.Workings.Bytes.ByteSets.{Keeps, holds};
+ghost use Rattle.ptflow.specs.Workings.Bytes.Packings.{HasChunk};
 
-use crate::kernels::packing::{Shuffles, pack, put_chunk};
-use crate::kernels::sets::ByteSet;
+use crate::kernels::packing::{Block, Shuffles, pack, put_chunk};
+use crate::kernels::sets::{ByteSet, FlagSet};
 use std::simd::prelude::*;
 
 // Puts those of 16 bytes that are not in the set after the first `count` bytes of `into`, and says where they end.
@@ -18,8 +18,7 @@ fn keep_lanes(
     into: &mut [u8; 8224],
     count: usize,
 ) -> usize
-    requires shuffles { IsPacking shuffles.now }
-    requires room { count ≤ 8200 }
+    requires { count ≤ 8200 }
     ensures kept { take result into.new ≡ take count into.old ++ filter (λ b. not (holds set b)) bytes }
     ensures end { result ≤ count + 16 }
 {
@@ -32,24 +31,24 @@ fn keep_lanes(
 fn keep_chunk(
     set: ByteSet,
     shuffles: &Shuffles,
-    from: &[u8],
+    block: Block,
     at: usize,
     into: &mut [u8; 8224],
     count: usize,
 ) -> usize
-    requires shuffles { IsPacking shuffles.now }
-    requires lanes { at + 64 ≤ length from.now }
-    requires room { count ≤ 8128 }
-    ensures kept { take result into.new ≡ take count into.old ++ filter (λ b. not (holds set b)) (chunk at 64 from.now) }
+    requires { HasChunk block.bytes.now at count }
+    ensures kept { take result into.new
+        ≡ take count into.old ++ filter (λ b. not (holds set b)) (chunk at 64 block.entry.bytes.now) }
     ensures end { result ≤ count + 64 }
 {
+    let from = block.bytes;
     let a = u8x16::from_slice(&from[at..]);
     let b = u8x16::from_slice(&from[at + 16..]);
     let c = u8x16::from_slice(&from[at + 32..]);
     let d = u8x16::from_slice(&from[at + 48..]);
     let gone = set.test(a) | set.test(b) | set.test(c) | set.test(d);
     if gone.to_bitmask() == 0 {
-        put_chunk(from, at, into, count);
+        put_chunk(block, at, into, count);
         return count + 64;
     }
     let first = keep_lanes(set, shuffles, a, into, count);
@@ -64,17 +63,15 @@ fn keep_chunk(
 fn keep_chunks(
     set: ByteSet,
     shuffles: &Shuffles,
-    from: &[u8],
+    block: Block,
     into: &mut [u8; 8224],
 ) -> (usize, usize)
-    requires shuffles { IsPacking shuffles.now }
-    requires room { length from.now ≤ 8192 }
-    ensures { Keeps (λ b. not (holds set b)) from.now result.0 into.new result.1 }
+    ensures { Keeps (λ b. not (holds set b)) block.entry.bytes.now result.0 into.new result.1 }
 {
     let mut at = 0;
     let mut count = 0;
-    while from.len() - at >= 64 {
-        count = keep_chunk(set, shuffles, from, at, into, count);
+    while block.bytes.len() - at >= 64 {
+        count = keep_chunk(set, shuffles, block, at, into, count);
         at += 64;
     }
     (at, count)
@@ -85,14 +82,13 @@ fn keep_chunks(
 fn keep_most(
     set: ByteSet,
     shuffles: &Shuffles,
-    from: &[u8],
+    block: Block,
     into: &mut [u8; 8224],
 ) -> (usize, usize)
-    requires shuffles { IsPacking shuffles.now }
-    requires room { length from.now ≤ 8192 }
-    ensures { Keeps (λ b. not (holds set b)) from.now result.0 into.new result.1 }
+    ensures { Keeps (λ b. not (holds set b)) block.entry.bytes.now result.0 into.new result.1 }
 {
-    let (mut at, mut count) = keep_chunks(set, shuffles, from, into);
+    let from = block.bytes;
+    let (mut at, mut count) = keep_chunks(set, shuffles, block, into);
     while from.len() - at >= 16 {
         let bytes = u8x16::from_slice(&from[at..]);
         count = keep_lanes(set, shuffles, bytes, into, count);
@@ -101,21 +97,20 @@ fn keep_most(
     (at, count)
 }
 
-// Puts the bytes whose flag is not true to the front of `into`, and says how many they are. `set` has the same flags.
+// Puts the bytes whose flag is not true to the front of `into`, and says how many they are.
 pub(crate) fn keep_others(
-    set: ByteSet,
-    flags: &[bool; 256],
+    gone: FlagSet,
     shuffles: &Shuffles,
     from: &[u8],
     into: &mut [u8; 8224],
 ) -> usize
-    requires set { IsSetOf set flags.now }
-    requires shuffles { IsPacking shuffles.now }
-    requires room { length from.now ≤ 8192 }
-    ensures kept { take result into.new ≡ filter (λ b. not (slice_index_or flags.now b false)) from.now }
+    requires { length from.now ≤ 8192 }
+    ensures kept { take result into.new ≡ filter (λ b. not (slice_index_or gone.entry.flags.now b false)) from.now }
     ensures within { result ≤ length from.now }
 {
-    let (mut at, mut count) = keep_most(set, shuffles, from, into);
+    let block = Block { bytes: from };
+    let flags = gone.flags;
+    let (mut at, mut count) = keep_most(gone.set, shuffles, block, into);
     while at < from.len() {
         into[count] = from[at];
         count += usize::from(!flags[usize::from(from[at])]);

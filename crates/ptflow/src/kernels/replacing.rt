@@ -1,10 +1,10 @@
 //! Ends of lines become delimiters, many at a time.
 
-ghost use Rattle.std.specs.Prelude.{◌≡◌, ◌<◌, ◌≤◌, ◌+◌, ◌%◌, ◌^◌, ◌++◌, length, map, take};
+ghost use Rattle.std.specs.Prelude.{◌≡◌, ◌<◌, ◌+◌, ◌%◌, ◌++◌, length, map, take};
 ghost use Rattle.std.specs.List.{count_by};
 ghost use Rattle.std.specs.Simd.Lanes.{chunk};
 ghost use Rattle.memchr.specs.Find.{is_byte};
-ghost use Rattle.ptflow.specs.Workings.Paste.SerialRests.{with_delimiter, with_turns, IsTurnBehind, IsTurnedTo};
+ghost use Rattle.ptflow.specs.Workings.Paste.SerialRests.{with_delimiter, with_turns, CanReplace, CanReplaceAll, CanTurn, IsTurnBehind, IsTurnedTo};
 
 use crate::kernels::lanes::{Mover, move_most};
 use crate::kernels::places::marks;
@@ -63,11 +63,8 @@ impl Turn {
     // The turn after this one.
     #[inline(always)]
     fn next(self, delims: &[Option<u8>]) -> Turn
-        requires place { self.place ≡ self.number % length delims.now }
-        requires some { 0 < length delims.now }
-        requires short { self.number < 2 ^ 63 }
-        ensures number { result.number ≡ self.number + 1 }
-        ensures place { result.place ≡ (self.number + 1) % length delims.now }
+        requires { CanTurn delims.now self 1 }
+        ensures { IsTurnBehind delims.now self 1 result }
     {
         let behind = self.place + 1;
         Turn {
@@ -79,11 +76,8 @@ impl Turn {
     // The turn after so many.
     #[inline(always)]
     pub(crate) fn behind(self, count: usize, delims: &[Option<u8>]) -> Turn
-        requires place { self.place ≡ self.number % length delims.now }
-        requires some { 0 < length delims.now }
-        requires short { self.number + count < 2 ^ 63 }
-        ensures number { result.number ≡ self.number + count }
-        ensures place { result.place ≡ (self.number + count) % length delims.now }
+        requires { CanTurn delims.now self count }
+        ensures { IsTurnBehind delims.now self count result }
     {
         let place = self.place + count;
         Turn {
@@ -108,11 +102,7 @@ fn replace_chunk(
     at: usize,
     to: &mut [u8],
 ) -> Turn
-    requires turn { turn.place ≡ turn.number % length delims.now }
-    requires some { 0 < length delims.now }
-    requires short { turn.number + 64 < 2 ^ 63 }
-    requires room { at + 64 ≤ length from.now }
-    requires same { length to.old ≡ length from.now }
+    requires { CanReplace delims.now turn at from.now to.old }
     ensures long { length to.new ≡ length from.now }
     ensures next { IsTurnBehind delims.now turn (count_by (is_byte ending) (chunk at 64 from.now)) result }
     ensures replaced { take (at + 64) to.new
@@ -139,9 +129,7 @@ fn replace_most(
     from: &[u8],
     to: &mut [u8],
 ) -> (Turn, usize)
-    requires some { 0 < length delims.now }
-    requires short { number + length from.now < 2 ^ 63 }
-    requires same { length to.old ≡ length from.now }
+    requires { CanReplaceAll delims.now number from.now to.old }
     ensures { IsTurnedTo ending delims.now number result.0 result.1 from.now to.new }
 {
     let mut turn = Turn::of(number, delims);
@@ -162,9 +150,7 @@ pub(crate) fn replace_in_turn(
     from: &[u8],
     to: &mut [u8],
 ) -> u64
-    requires some { 0 < length delims.now }
-    requires short { number + length from.now < 2 ^ 63 }
-    requires same { length to.old ≡ length from.now }
+    requires { CanReplaceAll delims.now number from.now to.old }
     ensures number { result ≡ number + count_by (is_byte ending) from.now }
     ensures replaced { to.new ≡ with_turns ending delims.now number from.now }
 {

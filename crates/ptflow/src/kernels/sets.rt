@@ -1,7 +1,7 @@
 //! Sets of bytes, 16 of which are looked up at once.
 
 ghost use Rattle.std.specs.Prelude.{◌≡◌, ◌/◌, ◌%◌, length, map, slice_index};
-ghost use Rattle.ptflow.specs.Workings.Bytes.ByteSets.{IsTableOf};
+ghost use Rattle.ptflow.specs.Workings.Bytes.ByteSets.{IsSetOf, IsTableOf};
 
 use std::simd::Mask;
 use std::simd::prelude::*;
@@ -43,6 +43,14 @@ fn table_of(flags: &[bool]) -> u8x16
 pub(crate) struct ByteSet {
     pub low: u8x16,
     pub high: u8x16,
+}
+
+/// The set of the bytes whose flag is true, beside the flags.
+#[derive(Clone, Copy)]
+pub(crate) struct FlagSet<'a> {
+    pub set: ByteSet,
+    pub flags: &'a [bool; 256],
+    ghost same: { IsSetOf set flags.now },
 }
 
 impl ByteSet {

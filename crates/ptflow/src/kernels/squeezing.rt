@@ -3,12 +3,12 @@
 ghost use Rattle.std.specs.Prelude.{◌≡◌, ◌<◌, ◌≤◌, ◌+◌, ◌-◌, ◌++◌, ◌==◌, ◌&&◌, not, false, length, take, drop, slice_index, slice_index_or};
 ghost use Rattle.std.specs.Simd.Lanes.{zip2};
 ghost use Rattle.ptflow.specs.Translations.{squeeze_behind};
-ghost use Rattle.ptflow.specs.Workings.Bytes.ByteSets.{IsSetOf, holds};
-ghost use Rattle.ptflow.specs.Workings.Bytes.Packings.{IsPacking, chosen_by};
-ghost use Rattle.ptflow.specs.Workings.Tr.TrRests.{squeeze_from};
+ghost use Rattle.ptflow.specs.Workings.Bytes.ByteSets.{holds};
+ghost use Rattle.ptflow.specs.Workings.Bytes.Packings.{HasChunk, chosen_by};
+ghost use Rattle.ptflow.specs.Workings.Tr.TrRests.{CameTo, squeeze_from};
 
-use crate::kernels::packing::{Shuffles, pack, put_chunk};
-use crate::kernels::sets::ByteSet;
+use crate::kernels::packing::{Block, Shuffles, pack, put_chunk};
+use crate::kernels::sets::{ByteSet, FlagSet};
 use std::simd::prelude::*;
 
 // Puts those of 16 bytes that stay after the first `count` bytes of `into`, and says where they end. `before` has the
@@ -22,8 +22,7 @@ fn squeeze_lanes(
     into: &mut [u8; 8224],
     count: usize,
 ) -> usize
-    requires packing { IsPacking shuffles.now }
-    requires room { count ≤ 8200 }
+    requires { count ≤ 8200 }
     ensures squeezed { take result into.new
         ≡ take count into.old ++ chosen_by (zip2 (λ a b. not ((a == b) && holds set b)) before bytes) bytes }
     ensures end { result ≤ count + 16 }
@@ -38,20 +37,19 @@ fn squeeze_lanes(
 fn squeeze_chunk(
     set: ByteSet,
     shuffles: &Shuffles,
-    from: &[u8],
+    block: Block,
     at: usize,
     into: &mut [u8; 8224],
     count: usize,
 ) -> usize
-    requires packing { IsPacking shuffles.now }
     requires behind { 0 < at }
-    requires lanes { at + 64 ≤ length from.now }
-    requires room { count ≤ 8128 }
+    requires chunk { HasChunk block.bytes.now at count }
     ensures squeezed { take result into.new
         ≡ take count into.old
-        ++ squeeze_behind (holds set) (slice_index from.now (at - 1)) (take 64 (drop at from.now)) }
+        ++ squeeze_behind (holds set) (slice_index block.entry.bytes.now (at - 1)) (take 64 (drop at block.entry.bytes.now)) }
     ensures end { result ≤ count + 64 }
 {
+    let from = block.bytes;
     let before_a = u8x16::from_slice(&from[at - 1..]);
     let before_b = u8x16::from_slice(&from[at + 16 - 1..]);
     let before_c = u8x16::from_slice(&from[at + 32 - 1..]);
@@ -66,7 +64,7 @@ fn squeeze_chunk(
     let same_d = before_d.simd_eq(d);
     let same = same_a | same_b | same_c | same_d;
     if same.to_bitmask() == 0 {
-        put_chunk(from, at, into, count);
+        put_chunk(block, at, into, count);
         return count + 64;
     }
     let gone = same_a & set.test(a)
@@ -74,7 +72,7 @@ fn squeeze_chunk(
         | same_c & set.test(c)
         | same_d & set.test(d);
     if gone.to_bitmask() == 0 {
-        put_chunk(from, at, into, count);
+        put_chunk(block, at, into, count);
         return count + 64;
     }
     let first = squeeze_lanes(set, shuffles, before_a, a, into, count);
@@ -86,21 +84,21 @@ fn squeeze_chunk(
 // Puts the bytes from a place on that stay after the first `count` bytes of `into`, and says where they end.
 #[inline(always)]
 fn squeeze_rest(
-    flags: &[bool; 256],
-    from: &[u8],
+    by: FlagSet,
+    block: Block,
     start: usize,
     into: &mut [u8; 8224],
     count: usize,
 ) -> usize
-    requires behind { 0 < start }
-    requires within { start ≤ length from.now }
-    requires room { length from.now ≤ 8192 }
-    requires counted { count ≤ start }
+    requires { CameTo block.bytes.now start count }
     ensures squeezed { take result into.new
         ≡ take count into.old
-        ++ squeeze_behind (λ b. slice_index_or flags.now b false) (slice_index from.now (start - 1)) (drop start from.now) }
-    ensures end { result ≤ length from.now }
+        ++ squeeze_behind (holds by.entry.set) (slice_index block.entry.bytes.now (start - 1))
+        (drop start block.entry.bytes.now) }
+    ensures end { result ≤ length block.entry.bytes.now }
 {
+    let from = block.bytes;
+    let flags = by.flags;
     let mut at = start;
     let mut count = count;
     while at < from.len() {
@@ -113,28 +111,25 @@ fn squeeze_rest(
     count
 }
 
-// The same, 16 at a time while there are as many. `set` has the same flags.
+// The same, 16 at a time while there are as many.
 #[inline(always)]
 fn squeeze_tail(
-    set: ByteSet,
-    flags: &[bool; 256],
+    by: FlagSet,
     shuffles: &Shuffles,
-    from: &[u8],
+    block: Block,
     start: usize,
     into: &mut [u8; 8224],
     count: usize,
 ) -> usize
-    requires set { IsSetOf set flags.now }
-    requires packing { IsPacking shuffles.now }
-    requires behind { 0 < start }
-    requires within { start ≤ length from.now }
-    requires room { length from.now ≤ 8192 }
-    requires counted { count ≤ start }
+    requires { CameTo block.bytes.now start count }
     ensures squeezed { take result into.new
         ≡ take count into.old
-        ++ squeeze_behind (λ b. slice_index_or flags.now b false) (slice_index from.now (start - 1)) (drop start from.now) }
-    ensures end { result ≤ length from.now }
+        ++ squeeze_behind (holds by.entry.set) (slice_index block.entry.bytes.now (start - 1))
+        (drop start block.entry.bytes.now) }
+    ensures end { result ≤ length block.entry.bytes.now }
 {
+    let from = block.bytes;
+    let set = by.set;
     let mut at = start;
     let mut count = count;
     while from.len() - at >= 16 {
@@ -143,37 +138,37 @@ fn squeeze_tail(
         count = squeeze_lanes(set, shuffles, before, bytes, into, count);
         at += 16;
     }
-    squeeze_rest(flags, from, at, into, count)
+    squeeze_rest(by, block, at, into, count)
 }
 
 /// Puts the bytes that stay to the front of `into`, and says how many they are. Repeats of the bytes whose flag is true
-/// are squeezed, and `last` comes before the bytes, if anything does. `set` has the same flags.
+/// are squeezed, and `last` comes before the bytes, if anything does.
 #[inline(never)]
 pub(crate) fn squeeze_block(
-    set: ByteSet,
-    flags: &[bool; 256],
+    by: FlagSet,
     shuffles: &Shuffles,
     last: Option<u8>,
     from: &[u8],
     into: &mut [u8; 8224],
 ) -> usize
-    requires set { IsSetOf set flags.now }
-    requires packing { IsPacking shuffles.now }
-    requires room { length from.now ≤ 8192 }
-    ensures squeezed { take result into.new ≡ squeeze_from (λ b. slice_index_or flags.now b false) last from.now }
+    requires { length from.now ≤ 8192 }
+    ensures squeezed { take result into.new
+        ≡ squeeze_from (λ b. slice_index_or by.entry.flags.now b false) last from.now }
     ensures within { result ≤ length from.now }
 {
+    let block = Block { bytes: from };
+    let set = by.set;
     if from.is_empty() {
         return 0;
     }
     let first = from[0];
-    let repeats = (last == Some(first)) & flags[usize::from(first)];
+    let repeats = (last == Some(first)) & by.flags[usize::from(first)];
     into[0] = first;
     let mut count = usize::from(!repeats);
     let mut at = 1;
     while from.len() - at >= 64 {
-        count = squeeze_chunk(set, shuffles, from, at, into, count);
+        count = squeeze_chunk(set, shuffles, block, at, into, count);
         at += 64;
     }
-    squeeze_tail(set, flags, shuffles, from, at, into, count)
+    squeeze_tail(by, shuffles, block, at, into, count)
 }

@@ -7,7 +7,6 @@ ghost use Rattle.ptlangs.specs.TrTables.{deletes, image, squeezes};
 ghost use Rattle.ptflow.specs.Passes.{IsReady, IsBarePass, no_slots};
 ghost use Rattle.ptflow.specs.Translations.{tr_tool};
 ghost use Rattle.ptflow.specs.Workings.Tr.Mappings.{IsMapping};
-ghost use Rattle.ptflow.specs.Workings.Bytes.Packings.{IsPacking};
 ghost use Rattle.ptflow.specs.Workings.Tr.TrRests.{IsSetIfAny, IsSetIfAny-prop, squeeze_from};
 
 mod mapping;
@@ -16,7 +15,7 @@ use crate::blocks::{BlockTool, over_blocks};
 use crate::faults::FlowFault;
 use crate::kernels::keeping::keep_others;
 use crate::kernels::packing::Shuffles;
-use crate::kernels::sets::ByteSet;
+use crate::kernels::sets::{ByteSet, FlagSet};
 use crate::kernels::squeezing::squeeze_block;
 use crate::tools::tr::mapping::{Mapping, look_up_from};
 use ptlangs::CharPlan;
@@ -34,7 +33,6 @@ struct Translation<'a> {
     ghost is_deleting: { IsSetIfAny deleting plan.now.deleted } by { IsSetIfAny-prop deleting plan.now.deleted },
     ghost is_mapping: { IsMapping mapping plan.now },
     ghost is_squeezing: { IsSetIfAny squeezing plan.now.squeezed } by { IsSetIfAny-prop squeezing plan.now.squeezed },
-    ghost is_packing: { IsPacking shuffles },
 }
 
 // The set of the bytes whose flag is true, if there are any.
@@ -69,7 +67,11 @@ impl<'a> Translation<'a> {
     {
         match self.deleting {
             Some(set) => {
-                let count = keep_others(set, self.plan.deleted(), &self.shuffles, block, into);
+                let gone = FlagSet {
+                    set,
+                    flags: self.plan.deleted(),
+                };
+                let count = keep_others(gone, &self.shuffles, block, into);
                 &into[..count]
             }
             None => block,
@@ -97,14 +99,11 @@ impl<'a> Translation<'a> {
     {
         match self.squeezing {
             Some(set) => {
-                let count = squeeze_block(
+                let by = FlagSet {
                     set,
-                    self.plan.squeezed(),
-                    &self.shuffles,
-                    last,
-                    bytes,
-                    into,
-                );
+                    flags: self.plan.squeezed(),
+                };
+                let count = squeeze_block(by, &self.shuffles, last, bytes, into);
                 &into[..count]
             }
             None => bytes,

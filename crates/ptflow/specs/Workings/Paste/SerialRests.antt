@@ -1,5 +1,5 @@
 -- What `paste` in series writes of the rest of a text.
-use Rattle.std.specs.Prelude.{◌≡◌, ◌<◌, ◌≤◌, ◌==◌, ℕ, ◌+◌, ◌%◌, List, [], ◌∷◌, ◌++◌, Bool, true, false, Option, Some, length, take, unwrap_or, if◌then◌else◌}
+use Rattle.std.specs.Prelude.{◌≡◌, ◌<◌, ◌≤◌, ◌==◌, ℕ, ◌+◌, ◌%◌, ◌^◌, List, [], ◌∷◌, ◌++◌, Bool, true, false, Option, Some, length, take, unwrap_or, if◌then◌else◌}
 use Rattle.std.specs.List.{count_by}
 use Rattle.memchr.specs.Find.{is_byte}
 use Rattle.ptlines.specs.Text.{lines}
@@ -57,6 +57,24 @@ with_turns end delims number [] = []
 with_turns end delims number (b ∷ bytes) =
     if b == end then unwrap_or (delim_at delims number) end ∷ with_turns end delims (number + 1) bytes
     else b ∷ with_turns end delims number bytes
+
+-- this turn is among these delimiters, and so many more can follow it
+pub record CanTurn (delims : List (Option ℕ)) (turn : Turn) (more : ℕ) : Type 0 where
+  pub some : 0 < length delims
+  pub place : turn.place ≡ turn.number % length delims
+  pub short : turn.number + more < 2 ^ 63
+
+-- the ends among the 64 bytes at this place can become the delimiters from this turn on
+pub record CanReplace (delims : List (Option ℕ)) (turn : Turn) (at : ℕ) (from to : List ℕ) : Type 0 where
+  pub turns : CanTurn delims turn 64
+  pub room : at + 64 ≤ length from
+  pub same : length to ≡ length from
+
+-- the ends among all bytes can become the delimiters from this number on
+pub record CanReplaceAll (delims : List (Option ℕ)) (number : ℕ) (from to : List ℕ) : Type 0 where
+  pub some : 0 < length delims
+  pub short : number + length from < 2 ^ 63
+  pub same : length to ≡ length from
 
 -- this turn comes so many turns after another, and its place is that of its number
 abbrev pub IsTurnBehind : List (Option ℕ) → Turn → ℕ → Turn → Type 0

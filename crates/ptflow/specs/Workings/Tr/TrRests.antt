@@ -11,6 +11,12 @@ abbrev pub squeeze_from : (ℕ → Bool) → Option ℕ → List ℕ → List �
 squeeze_from squeezed None bytes = squeeze squeezed bytes
 squeeze_from squeezed (Some last) bytes = squeeze_behind squeezed last bytes
 
+-- bytes came in front of this place, and no more were put than came
+pub record CameTo (bytes : List ℕ) (at count : ℕ) : Type 0 where
+  pub behind : 0 < at
+  pub within : at ≤ length bytes
+  pub counted : count ≤ at
+
 -- what is written of the rest of a text, where `last` was written last, if anything was
 abbrev pub tr_rest : Tables → Option ℕ → List ℕ → List ℕ
 tr_rest tables last rest = squeeze_from (squeezes tables) last (translated tables rest)

@@ -9,7 +9,7 @@ ghost use Rattle.ptflow.specs.Workings.Paste.SerialRests.{with_turns};
 ghost use Rattle.ptflow.specs.Workings.Paste.WholeRows.{AreReadable, PassesRows};
 
 use crate::kernels::places::nth_place;
-use crate::kernels::spreading::{Spread, replace_by_spread, spread_of};
+use crate::kernels::spreading::{Spread, Spreading, replace_by_spread, spread_of};
 use crate::tools::paste::serial::Written;
 use crate::tools::paste::whole_rows::pass_rows;
 use arrayvec::ArrayVec;
@@ -101,7 +101,12 @@ fn put_held_rows(
     if nth_place(ending, bytes, count, turns.len() as u64).is_none() {
         return 0;
     }
-    let number = replace_by_spread(turns, spread, ending, bytes, &mut into[..count]);
+    let by = Spreading {
+        turns,
+        spread,
+        ending,
+    };
+    let number = replace_by_spread(&by, bytes, &mut into[..count]);
     end_before(ending, bytes, number % turns.len() as u64)
 }
 

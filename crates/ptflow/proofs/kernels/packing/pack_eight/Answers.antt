@@ -7,7 +7,7 @@ pub swizzle : goal.swizzle
 swizzle c =
     let keep = c.from.result in
     let row = slice_index_or c.args.shuffles.now.rows keep [] in
-    let is : IsRow (flags_of 8 keep) row = row_of_mask c.args.shuffles.now keep c.requires.packing (omega arith) in
+    let is : IsRow (flags_of 8 keep) row = row_of_mask c.args.shuffles.now.rows keep c.args.shuffles.now.packing (omega arith) in
     SwzOk-from_below w8 16 1 16 0 row refl (omega arith) (row_lanes is)
 
 pub returns-clause-packed : goal.returns-clause-packed
@@ -16,10 +16,10 @@ returns-clause-packed c flags long masked =
     let into = c.args.into.now in
     let v = c.args.v in
     let row = slice_index_or c.args.shuffles.now.rows c.from.result [] in
-    let is : IsRow flags row = subst (λ m. IsRow flags (slice_index_or c.args.shuffles.now.rows m [])) (sym (cc)) (c.requires.packing flags long) in
+    let is : IsRow flags row = subst (λ m. IsRow flags (slice_index_or c.args.shuffles.now.rows m [])) (sym (cc)) (c.args.shuffles.now.packing flags long) in
     let lanes = swz_l w8 16 v 0 row in
     cc (
       chosen_stored at (count_ones c.args.keep) into lanes (length-swz_l w8 16 v 0 row ∙ is.long)
-          (omega (arith, ones-le 8 c.args.keep c.ranges.keep.fits)) c.requires.room,
+          (omega (arith, ones-le 8 c.args.keep c.ranges.keep.fits)) (omega (arith, c.requires)),
       row_chooses v (omega (arith, long, c.fits-v.0)) is,
     )

@@ -7,7 +7,7 @@ use Rattle.ptflow.proofs.kernels.replacing.replace_chunk.Goals as goal
 pub loop-end-init : goal.loop-end-init
 loop-end-init c = record {
   ends = replacing_starts _ _ _ _ _ _ c.requires.room c.requires.same c.marks-marked.ensures;
-  place = c.requires.turn;
+  place = c.requires.turns.place;
   number = omega arith;
 }
 
@@ -20,8 +20,8 @@ loop-end-preserved c =
     let delim : c.unwrap_or.result ≡ unwrap_or (delim_at c.args.delims.now (c.args.turn.number + loop._end)) c.args.ending = cc in
     record {
       ends = replacing_more loop.invariant.ends c.marks-marked.ensures c.loop-end-test.true loop.auto.marked-fits.fits delim (cc) refl;
-      place = cc;
-      number = omega (arith, c.next-turn.ensures.number, loop.invariant.number);
+      place = c.next-turn.ensures.0;
+      number = omega (arith, c.next-turn.ensures.1, loop.invariant.number);
     }
 
 pub returns-clause-next : goal.returns-clause-next

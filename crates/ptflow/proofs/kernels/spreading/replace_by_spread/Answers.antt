@@ -6,7 +6,7 @@ use Rattle.ptflow.proofs.kernels.spreading.replace_by_spread.Goals as goal
 
 pub returns-clause-number : goal.returns-clause-number
 returns-clause-number c =
-    let p = is_byte c.args.ending in
+    let p = is_byte c.args.by.now.ending in
     let from = c.args.from.now in
     let at = c.spread_most-at.result.1 in
     let rest : c.replace_in_turn.result ≡ c.spread_most-at.result.0.number + count_by p (drop at from) = rw take_rest at c.replace_in_turn.ensures.number in
@@ -15,8 +15,8 @@ returns-clause-number c =
 
 pub returns-clause-replaced : goal.returns-clause-replaced
 returns-clause-replaced c =
-    let end = c.args.ending in
-    let turns = c.args.turns.now in
+    let end = c.args.by.now.ending in
+    let turns = c.args.by.now.turns.now in
     let from = c.args.from.now in
     let at = c.spread_most-at.result.1 in
     let mid = c.spread_most-at.new.to in

@@ -5,5 +5,5 @@ use Rattle.ptflow.proofs.kernels.spreading.spread_most.Goals as goal
 pub loop-at-preserved : goal.loop-at-preserved
 loop-at-preserved c =
     let made = c.spread_chunk-turn in
-    turned_more c.args.ending c.args.turns.now 0 c.loop-at.at 64 c.loop-at.turn made.result c.args.from.now c.loop-at.to made.new.to
+    turned_more c.args.by.now.ending c.args.by.now.turns.now 0 c.loop-at.at 64 c.loop-at.turn made.result c.args.from.now c.loop-at.to made.new.to
     c.loop-at.invariant (omega arith) made.ensures.long made.ensures.next.1 made.ensures.next.0 made.ensures.replaced

@@ -1,7 +1,7 @@
 -- The first byte stays or goes by the byte that was written before the block; each other one by the byte in front of
 -- it.
-use Rattle.ptflow.proofs.Common.{◌≡◌, ◌<◌, zero, suc, ℕ, ◌&&◌, eqb, Some, false, length, get_or, arith, ap, ◌∙◌, slice_index_or, option_eq, holds}
-use Rattle.ptflow.proofs.OfTr.SqueezeLemmas.{squeezing_starts, squeezing_piece}
+use Rattle.ptflow.proofs.Common.{◌≡◌, ◌<◌, zero, suc, ℕ, ◌&&◌, eqb, Some, false, length, get_or, arith, sym, ap, ◌∙◌, slice_index_or, option_eq, holds}
+use Rattle.ptflow.proofs.OfTr.SqueezeLemmas.{squeezing_starts, squeezing_piece, same_from}
 use Rattle.ptflow.proofs.kernels.squeezing.squeeze_block.Goals as goal
 
 some : (n : ℕ) → false ≡ eqb n 0 → 0 < n
@@ -10,12 +10,18 @@ some (suc n) h = omega arith
 
 pub loop-at-init : goal.loop-at-init
 loop-at-init c =
-    let flag = λ (b : ℕ). slice_index_or c.args.flags.now b false in
-    let again = ap (λ same. same && flag c.from.result) c.eq.ensures ∙ ap (λ b. option_eq eqb c.args.last (Some (get_or c.args.from.now 0 0)) && flag b) c.from.ensures in
-    squeezing_starts flag c.args.last c.args.from.now c.args.into.now (some (length c.args.from.now) c.if-is_empty.ensures)
-    (omega arith) again c.from-count.ensures
+    let from = c.args.from.now in
+    let test = holds c.args.by.set in
+    let same : slice_index_or c.args.by.flags.now c.from.result false ≡ test (get_or from 0 0) = ap (λ b. slice_index_or c.args.by.flags.now b false) c.from.ensures
+    ∙ sym (c.args.by.same (get_or from 0 0) (c.type_inv.from 0).fits) in
+    let again = ap (λ eq. eq && slice_index_or c.args.by.flags.now c.from.result false) c.eq.ensures ∙ ap (λ gone. option_eq eqb c.args.last (Some (get_or from 0 0)) && gone) same in
+    squeezing_starts test c.args.last from c.args.into.now (some (length from) c.if-is_empty.ensures) (omega arith) again c.from-count.ensures
 
 pub loop-at-preserved : goal.loop-at-preserved
 loop-at-preserved c =
-    squeezing_piece _ c.loop-at.invariant 64 (holds c.args.set) c.requires.set c.type_inv.from (omega arith) (omega arith) c.squeeze_chunk-count.ensures.end
-    c.squeeze_chunk-count.ensures.squeezed
+    squeezing_piece _ c.loop-at.invariant 64 (omega arith) (omega arith) c.squeeze_chunk-count.ensures.end c.squeeze_chunk-count.ensures.squeezed
+
+pub returns-clause-squeezed : goal.returns-clause-squeezed
+returns-clause-squeezed c =
+    c.squeeze_tail.ensures.squeezed ∙ c.loop-at.invariant.is
+    ∙ same_from (holds c.args.by.set) (λ b. slice_index_or c.args.by.flags.now b false) c.args.by.same c.args.last c.args.from.now c.type_inv.from

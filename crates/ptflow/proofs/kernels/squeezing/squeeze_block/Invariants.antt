@@ -1,12 +1,12 @@
 -- What was put stands in front of what is left of the bytes that are still to be squeezed, each with the byte in front
 -- of it.
-use Rattle.ptflow.proofs.Common.{◌-◌, false, length, slice_index_or, squeeze_from}
+use Rattle.ptflow.proofs.Common.{◌-◌, length, holds, squeeze_from}
 use Rattle.ptflow.proofs.OfTr.SqueezeLemmas.{Squeezing}
 use Rattle.ptflow.proofs.kernels.squeezing.squeeze_block.Given as goal
 
 abbrev pub invariant-loop-at : goal.invariant-loop-at
 invariant-loop-at l =
-    Squeezing (λ b. slice_index_or l.flags b false) l.from l.into l.at l.count (squeeze_from (λ b. slice_index_or l.flags b false) l.fn.last l.from)
+    Squeezing (holds l.by.set) l.from l.into l.at l.count (squeeze_from (holds l.by.set) l.fn.last l.from)
 
 abbrev pub decreases-loop-at : goal.decreases-loop-at
 decreases-loop-at l = length l.from - l.at

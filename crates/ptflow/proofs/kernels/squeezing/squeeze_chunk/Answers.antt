@@ -6,35 +6,35 @@ use Rattle.ptflow.proofs.kernels.squeezing.squeeze_chunk.Goals as goal
 pub returns-then-same-eq0-clause-squeezed : goal.returns-then-same-eq0-clause-squeezed
 returns-then-same-eq0-clause-squeezed c =
     let at = c.args.at in
-    let from = c.args.from.now in
+    let from = c.args.block.bytes.now in
     let test = holds c.args.set in
     let lanes = λ (k : ℕ). same_lanes (chunk (k - 1) 16 from) (chunk k 16 from) in
-    let same = none_of_four (λ k. same_flags k from) at (long_flags test from c.requires.behind c.requires.lanes eqb)
+    let same = none_of_four (λ k. same_flags k from) at (long_flags test from c.requires.behind c.requires.chunk.lanes eqb)
     (lanes at) (lanes (at + 16)) (lanes (at + 32)) (lanes (at + 48)) c.if-same-eq0.true in
     let none = λ (k : ℕ). none_same test (chunk (k - 1) 16 from) (chunk k 16 from) in
-    c.put_chunk.ensures.put ∙ ap (◌++◌ (take c.args.count c.args.into.now)) (sym (all_stay_in_four test from c.requires.behind c.requires.lanes
+    c.put_chunk.ensures ∙ ap (◌++◌ (take c.args.count c.args.into.now)) (sym (all_stay_in_four test from c.requires.behind c.requires.chunk.lanes
     (none at same.0, none (at + 16) same.1, none (at + 32) same.2, none (at + 48) same.3)))
 
 pub returns-then-gone-eq0-clause-squeezed : goal.returns-then-gone-eq0-clause-squeezed
 returns-then-gone-eq0-clause-squeezed c =
     let at = c.args.at in
-    let from = c.args.from.now in
+    let from = c.args.block.bytes.now in
     let test = holds c.args.set in
     let same = λ (k : ℕ) (v : List ℤ). zip2 bit_and (zip2 (λ a b. cond (eqb a b) 255 0) (chunk (k - 1) 16 from) (chunk k 16 from)) (map (cast_unsigned w8) v) in
     let lanes = λ (k : ℕ). gone_lanes test (chunk (k - 1) 16 from) (chunk k 16 from) in
-    let none = none_of_four (λ k. gone_flags test k from) at (long_flags test from c.requires.behind c.requires.lanes (λ a b. eqb a b && test b))
+    let none = none_of_four (λ k. gone_flags test k from) at (long_flags test from c.requires.behind c.requires.chunk.lanes (λ a b. eqb a b && test b))
     (ap (same at) c.test.ensures ∙ lanes at) (ap (same (at + 16)) c.test-2.ensures ∙ lanes (at + 16))
     (ap (same (at + 32)) c.test-3.ensures ∙ lanes (at + 32)) (ap (same (at + 48)) c.test-4.ensures ∙ lanes (at + 48)) c.if-gone-eq0.true in
-    c.put_chunk-then-gone-eq0.ensures.put ∙ ap (◌++◌ (take c.args.count c.args.into.now)) (sym (all_stay_in_four test from c.requires.behind c.requires.lanes none))
+    c.put_chunk-then-gone-eq0.ensures ∙ ap (◌++◌ (take c.args.count c.args.into.now)) (sym (all_stay_in_four test from c.requires.behind c.requires.chunk.lanes none))
 
 pub returns-clause-squeezed : goal.returns-clause-squeezed
 returns-clause-squeezed c =
     let at = c.args.at in
-    let stays = stays_at (holds c.args.set) c.args.from.now in
+    let stays = stays_at (holds c.args.set) c.args.block.bytes.now in
     let before = take c.args.count c.args.into.now in
     cc (
       append_assoc before (stays at) (stays (at + 16)),
       append_assoc before (stays at ++ stays (at + 16)) (stays (at + 32)),
       append_assoc before ((stays at ++ stays (at + 16)) ++ stays (at + 32)) (stays (at + 48)),
-      stays_in_four (holds c.args.set) c.args.from.now c.requires.behind c.requires.lanes,
+      stays_in_four (holds c.args.set) c.args.block.bytes.now c.requires.behind c.requires.chunk.lanes,
     )

@@ -4,6 +4,6 @@ use Rattle.ptflow.proofs.kernels.squeezing.squeeze_tail.Goals as goal
 
 pub loop-at-preserved : goal.loop-at-preserved
 loop-at-preserved c =
-    let room : c.loop-at.at + 16 ≤ length c.args.from.now = omega (arith, c.loop-at.invariant.within) in
-    squeezing_piece _ c.loop-at.invariant 16 (holds c.args.set) c.requires.set c.type_inv.from (omega arith) room c.squeeze_lanes-count.ensures.end
-    (cc (stays_piece (holds c.args.set) c.args.from.now c.loop-at.at c.loop-at.invariant.behind room))
+    let room : c.loop-at.at + 16 ≤ length c.args.block.bytes.now = omega (arith, c.loop-at.invariant.within) in
+    squeezing_piece _ c.loop-at.invariant 16 (omega arith) room c.squeeze_lanes-count.ensures.end
+    (cc (stays_piece (holds c.args.by.set) c.args.block.bytes.now c.loop-at.at c.loop-at.invariant.behind room))

@@ -3,9 +3,6 @@ use Rattle.ptflow.proofs.OfPaste.SerialRests.{puts_always, puts_turns}
 use Rattle.ptflow.proofs.OfPaste.Turns.{byte_in_turn, length-turns}
 use Rattle.ptflow.proofs.tools.paste.serial.put_cells.Goals as goal
 
-pub replace_in_turn-number-requires-clause-some : goal.replace_in_turn-number-requires-clause-some
-replace_in_turn-number-requires-clause-some g c = c.as_slice-list.ensures.some
-
 pub returns-in-Some-clause-puts : goal.returns-in-Some-clause-puts
 returns-in-Some-clause-puts g c =
     let bytes = c.args.bytes.now in
