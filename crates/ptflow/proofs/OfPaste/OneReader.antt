@@ -262,19 +262,19 @@ module _ {end : ℕ} {delims : List (Option ℕ)} {cells : List ℕ} {turns : Li
 -- the same by what was put and pushed
 pub held_put : {end : ℕ} {delims : List (Option ℕ)} {cells : List ℕ} {turns : List (Option ℕ)} → AreTurnsOfOne delims cells turns → {old : List Reader}
     → All (λ place. place < length old) cells → AreReadable end cells old
-    → (d : Reader) → IsSound (get_or old (get_or cells 0 0) d) → {bytes : List ℕ} → bytes ≡ (get_or old (get_or cells 0 0) d).held
-    → {count : ℕ} → 0 < count → count ≤ length bytes → AreRows end (length turns) (take count bytes)
+    → (d : Reader) → IsSound (get_or old (get_or cells 0 0) d)
+    → {count : ℕ} → 0 < count → count ≤ length (get_or old (get_or cells 0 0) d).held → AreRows end (length turns) (take count (get_or old (get_or cells 0 0) d).held)
     → (e : Reader) {r : Reader} → r ≡ record (get_or old (get_or cells 0 0) e) { held = drop count (get_or old (get_or cells 0 0) e).held }
-    → {written : List ℕ} → written ≡ with_turns end turns 0 (take count bytes) → {out pushed : Output} → Wrote out pushed written
+    → {written : List ℕ} → written ≡ with_turns end turns 0 (take count (get_or old (get_or cells 0 0) d).held) → {out pushed : Output} → Wrote out pushed written
     → PushedRows end delims cells old (set old (get_or cells 0 0) r) out pushed
-held_put {end} {delims} {cells} {turns} t {old} within readable d sound {bytes} is_held {count} some few rs e {r} step {written} put wrote =
+held_put {end} {delims} {cells} {turns} t {old} within readable d sound {count} some few rs e {r} step {written} put wrote =
     let p = get_or cells 0 0 in
     let low : p < length old = All-get_or (λ (q : ℕ). q < length old) cells 0 0 t.some within in
-    let held_is : bytes ≡ (reader_at old p).held = is_held ∙ ap (λ (x : Reader). x.held) (at_index old p d low) in
+    let is_read = at_index old p d low in
     record {
       written = written;
-      held = rw (put, held_is, step, at_index old p e low)
-          (held_rows t old low (readable p (omega (arith, times_below cells 0 t.some))) (subst IsSound (at_index old p d low) sound) some (omega (arith, few, ap length held_is))
-          (rw (held_is, t.in_turn.count) at rs));
+      held = rw (put, is_read, step, at_index old p e low)
+          (held_rows t old low (readable p (omega (arith, times_below cells 0 t.some))) (subst IsSound is_read sound) some
+          (omega (arith, few, ap (λ (x : Reader). length x.held) is_read)) (rw (is_read, t.in_turn.count) at rs));
       wrote = wrote;
     }

@@ -1,12 +1,12 @@
 //! `paste` in rows: line k of each input makes row k. `serial` is `paste -s`, which goes over one input after another
 //! and stands on the loop over blocks.
 
-ghost use Rattle.std.specs.Prelude.{◌≡◌, ◌<◌, ◌≤◌, ◌+◌, ◌^◌, ℕ, length, take, true, false, None, [], ◌∷◌, ◌++◌, All, OnOk, OnErr, IfOk};
-ghost use Rattle.ptlines.specs.Outputs.{Wrote};
+ghost use Rattle.std.specs.Prelude.{◌≡◌, ◌<◌, ◌≤◌, length, take, false, [], ◌∷◌, ◌++◌, All};
+ghost use Rattle.ptlines.specs.Outputs.{Pushes, Wrote};
 ghost use Rattle.ptlangs.specs.Jobs.{paste_job, ending};
-ghost use Rattle.ptflow.specs.PastePasses.{AreReady, IsPastePass, reader_at};
-ghost use Rattle.ptflow.specs.Pastes.{glued_from, times};
-ghost use Rattle.ptflow.specs.Workings.Paste.RowTurns.{AreSet, FillsRow, is_write};
+ghost use Rattle.ptflow.specs.PastePasses.{AreReady, IsPastePass};
+ghost use Rattle.ptflow.specs.Pastes.{glued_from};
+ghost use Rattle.ptflow.specs.Workings.Paste.RowTurns.{AreSet, CanFill, FillsRow, is_write};
 
 mod one_reader;
 pub(crate) mod serial;
@@ -39,10 +39,7 @@ fn fill_row<A: Allocator + Copy, S: Source, R: Source, W: Sink>(
     store: &mut Store<A>,
     out: &mut Out<W>,
 ) -> Result<bool, FlowFault>
-    requires within { All (λ place. place < length readers.old) cells.now }
-    requires readable { (place : ℕ) → 0 < times cells.now place → (reader_at readers.old place).fault ≡ None }
-    requires slots { length cells.now ≤ length store.old.lines }
-    requires clean { out.old.faulted ≡ false }
+    requires { CanFill cells.now readers.old store.old out.old }
     ensures fills { FillsRow cells.now readers.old readers.new store.old store.new result }
     ensures wrote { Wrote out.old out.new [] }
     ensures faulted { out.new.faulted ≡ is_write result }
@@ -61,26 +58,24 @@ fn fill_row<A: Allocator + Copy, S: Source, R: Source, W: Sink>(
     Ok(came)
 }
 
-// Pushes a row, whose cells are the first slots.
+// Pushes a row of so many cells as these, which are the first slots.
 fn push_row<A: Allocator + Copy, W: Sink>(
     delims: &Delims<A>,
     ending: u8,
-    count: usize,
+    cells: &[usize],
     store: &Store<A>,
     out: &mut Out<W>,
 ) -> Result<(), WriteFault>
-    requires slots { count ≤ length store.now.lines }
-    requires short { count < 2 ^ 63 }
+    requires slots { length cells.now ≤ length store.now.lines }
     requires clean { out.old.faulted ≡ false }
-    ensures wrote { Wrote out.old out.new (glued_from delims.now 0 (take count store.now.lines) ++ ending ∷ []) }
-    ensures clean { OnOk result (out.new.faulted ≡ false) }
-    ensures fault { OnErr result (out.new.faulted ≡ true) }
+    ensures { Pushes out.old out.new (glued_from delims.now 0 (take (length cells.now) store.now.lines) ++ ending ∷ [])
+        result }
 {
     let mut cell = Cell {
         number: 0,
         ended: false,
     };
-    for column in 0..count {
+    for column in 0..cells.len() {
         cell = begin_cell(delims, cell, out)?;
         out.push(store.line(column))?;
         cell.ended = true;
@@ -130,6 +125,6 @@ pub fn paste<A: Allocator + Copy, S: Source, R: Source, W: Sink>(
         if !fill_row(cells, readers, store, out)? {
             return Ok(());
         }
-        push_row(&job.delims, ending, cells.len(), store, out)?;
+        push_row(&job.delims, ending, cells, store, out)?;
     }
 }

@@ -1,5 +1,5 @@
 -- Rows of `paste` whose cells lie whole in what the readers hold.
-use Rattle.std.specs.Prelude.{◌≡◌, ℕ, ◌-◌, ◌*◌, ◌<◌, ◌≤◌, ◌⊎◌, Bool, true, false, List, [], ◌∷◌, ◌++◌, None, Some, Option, Result, Ok, Err}
+use Rattle.std.specs.Prelude.{◌≡◌, ℕ, ◌-◌, ◌*◌, ◌<◌, ◌≤◌, ◌⊎◌, Bool, true, false, List, [], ◌∷◌, ◌++◌, None, Some, Option, Result, Ok, Err, All}
 use Rattle.std.specs.Prelude.{length, map, take, drop, nat_lt, slice_index_or, sum_by}
 use Rattle.memchr.specs.Find.{IsFirstByte, is_byte}
 use Rattle.ptlines.specs.Text.{text}
@@ -20,9 +20,17 @@ in_front column = record { number = column - 1; ended = nat_lt 0 column }
 abbrev pub AreReadable : ℕ → List ℕ → List Reader → Type 0
 AreReadable end cells readers = (place : ℕ) → 0 < times cells place → ((reader_at readers place).fault ≡ None) × ((reader_at readers place).ending ≡ end)
 
+-- and they are there
+abbrev pub CanBeRead : ℕ → List ℕ → List Reader → Type 0
+CanBeRead end cells readers = All (λ place. place < length readers) cells × AreReadable end cells readers
+
 -- each reader holds as many bytes as are to be taken of it
 abbrev pub Holds : List Reader → List ℕ → Type 0
 Holds readers taken = (place : ℕ) → slice_index_or taken place 0 ≤ length (reader_at readers place).held
+
+-- the readers are few, and these bytes of them can be taken
+abbrev pub CanBeTaken : List Reader → List ℕ → Type 0
+CanBeTaken readers taken = (length readers ≤ 16) × Holds readers taken
 
 -- so many bytes were taken of each reader, and nothing else happened
 pub record AreTaken (taken : List ℕ) (old new : List Reader) : Type 0 where

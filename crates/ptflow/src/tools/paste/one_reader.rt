@@ -1,12 +1,13 @@
 //! Rows of `paste` whose cells all name one reader: they are what it holds, where the ends of lines become in turn what
 //! follows each cell.
 
-ghost use Rattle.std.specs.Prelude.{◌≡◌, ◌<◌, ◌≤◌, ◌+◌, ◌-◌, ℕ, All, None, IfSome, length, slice_index_or, take};
+ghost use Rattle.std.specs.Prelude.{◌≡◌, ◌<◌, ◌≤◌, ◌+◌, ◌-◌, IfSome, length, slice_index_or, take};
 ghost use Rattle.std.specs.List.{count_by};
 ghost use Rattle.memchr.specs.Find.{is_byte};
+ghost use Rattle.ptlines.specs.Readers.{IsSound};
 ghost use Rattle.ptflow.specs.Workings.Paste.OneReader.{AreTurnsOfOne, AreRows, IsSpread};
 ghost use Rattle.ptflow.specs.Workings.Paste.SerialRests.{with_turns};
-ghost use Rattle.ptflow.specs.Workings.Paste.WholeRows.{AreReadable, PassesRows};
+ghost use Rattle.ptflow.specs.Workings.Paste.WholeRows.{CanBeRead, PassesRows};
 
 use crate::kernels::places::nth_place;
 use crate::kernels::spreading::{Spread, Spreading, replace_by_spread, spread_of};
@@ -82,21 +83,22 @@ fn end_before(ending: u8, bytes: &[u8], over: u64) -> usize
     }
 }
 
-// Puts the rows that lie whole in these bytes, and says where they end. Bytes that lack a whole row, as those of long
-// lines, are only searched.
-fn put_held_rows(
+// Puts the rows that lie whole in what the reader holds, and says where they end. Bytes that lack a whole row, as those
+// of long lines, are only searched.
+fn put_held_rows<S: Source, R: Source>(
     turns: &[Option<u8>],
     spread: &[u8],
     ending: u8,
-    bytes: &[u8],
+    reader: &LineReader<S, R>,
     into: &mut Written,
 ) -> usize
-    requires spread { IsSpread ending turns.now spread.now }
-    requires room { length bytes.now ≤ 8192 }
-    ensures within { result ≤ length bytes.now }
-    ensures rows { AreRows ending (length turns.now) (take result bytes.now) }
-    ensures put { take result into.new ≡ with_turns ending turns.now 0 (take result bytes.now) }
+    requires { IsSpread ending turns.now spread.now }
+    ensures within { result ≤ length reader.now.held }
+    ensures rows { AreRows ending (length turns.now) (take result reader.now.held) }
+    ensures put { take result into.new ≡ with_turns ending turns.now 0 (take result reader.now.held) }
+    ensures sound { IsSound reader.now }
 {
+    let bytes = reader.held();
     let count = bytes.len();
     if nth_place(ending, bytes, count, turns.len() as u64).is_none() {
         return 0;
@@ -123,16 +125,14 @@ pub(crate) fn pass_held_rows<A: Allocator, S: Source, R: Source, W: Sink>(
 ) -> Result<bool, WriteFault>
     requires in_turn { IfSome turns.now (λ t. AreTurnsOfOne delims.now cells.now t.list.items
         × IsSpread ending t.list.items t.spread.items) }
-    requires within { All (λ place. place < length readers.old) cells.now }
-    requires readable { AreReadable ending cells.now readers.old }
+    requires readable { CanBeRead ending cells.now readers.old }
     ensures { PassesRows ending delims.now cells.now readers.old readers.new out.old out.new result }
 {
     let Some(turns) = turns else {
         return pass_rows(delims, ending, cells, readers, into, out);
     };
     let place = cells[0];
-    let bytes = readers[place].held();
-    let count = put_held_rows(&turns.list, &turns.spread, ending, bytes, into);
+    let count = put_held_rows(&turns.list, &turns.spread, ending, &readers[place], into);
     if count == 0 {
         return Ok(false);
     }

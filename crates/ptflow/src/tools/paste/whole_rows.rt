@@ -1,13 +1,10 @@
 //! Rows of `paste` whose cells all lie whole in the blocks of their readers.
 
-ghost use Rattle.std.specs.Prelude.{◌≡◌, ◌≢◌, ◌<◌, ◌≤◌, ◌+◌, ◌++◌, ◌^◌, length, take, slice_index_or, All, None, Some, IfNone, IfSome};
+ghost use Rattle.std.specs.Prelude.{◌≡◌, ◌≢◌, ◌<◌, ◌≤◌, ◌+◌, ◌++◌, length, take, slice_index_or, Some, IfNone, IfSome};
 ghost use Rattle.memchr.specs.Find.{IsFirstByte, is_byte};
-ghost use Rattle.ptlangs.specs.Jobs.{paste_job};
-ghost use Rattle.ptflow.specs.PastePasses.{reader_at};
-ghost use Rattle.ptflow.specs.Pastes.{times};
 ghost use Rattle.ptlangs.specs.DelimLists.{delim_at};
 ghost use Rattle.ptflow.specs.Workings.Paste.SerialRests.{lead};
-ghost use Rattle.ptflow.specs.Workings.Paste.WholeRows.{in_front, AreReadable, Holds, AreTaken, PutsPair, PutsRow, PutsRows, PassesRows};
+ghost use Rattle.ptflow.specs.Workings.Paste.WholeRows.{in_front, CanBeRead, CanBeTaken, Holds, AreTaken, PutsPair, PutsRow, PutsRows, PassesRows};
 
 use crate::tools::paste::serial::Written;
 use ptlangs::delims::Delims;
@@ -17,6 +14,24 @@ use std::simd::prelude::*;
 
 // How many bytes are taken of each of few readers, by its place.
 type Taken = [u16; 16];
+
+// How many bytes of the room are full.
+#[derive(Clone, Copy)]
+struct Full {
+    end: usize,
+    ghost near: { end ≤ 8192 },
+}
+
+// Cells of few readers that can be read: what stands between them, and what ends a row of them.
+#[derive(Drop)]
+struct HeldRow<'a, A: Allocator, S: Source, R: Source> {
+    delims: &'a Delims<A>,
+    ending: u8,
+    cells: &'a [usize],
+    readers: &'a [LineReader<S, R>],
+    ghost few: { (length readers.now ≤ 16) × (0 < length cells.now) },
+    ghost readable: { CanBeRead ending cells.now readers.now },
+}
 
 // The delimiter after a column, without a division where the list is long enough.
 #[inline(always)]
@@ -32,28 +47,31 @@ fn delim_behind<A: Allocator>(delims: &Delims<A>, column: usize) -> Option<u8>
 
 // Puts the delimiter that comes before a cell, if there is one, and says where it ends.
 #[inline(always)]
-fn put_lead<A: Allocator>(delims: &Delims<A>, column: usize, into: &mut Written, at: usize) -> usize
-    requires room { at ≤ 8192 }
-    ensures put { take result into.new ≡ take at into.old ++ lead delims.now (in_front column) }
-    ensures near { (at ≤ result) × (result ≤ at + 1) }
+fn put_lead<A: Allocator>(
+    delims: &Delims<A>,
+    column: usize,
+    into: &mut Written,
+    full: Full,
+) -> usize
+    ensures put { take result into.new ≡ take full.end into.old ++ lead delims.now (in_front column) }
+    ensures near { (full.end ≤ result) × (result ≤ full.end + 1) }
 {
     if column == 0 {
-        return at;
+        return full.end;
     }
     match delim_behind(delims, column - 1) {
         Some(byte) => {
-            into[at] = byte;
-            at + 1
+            into[full.end] = byte;
+            full.end + 1
         }
-        None => at,
+        None => full.end,
     }
 }
 
 // Copies the first N bytes.
 #[inline(always)]
 fn copy_first<const N: usize>(bytes: &[u8], into: &mut [u8], at: usize)
-    requires within { N ≤ length bytes.now }
-    requires room { at + N ≤ length into.old }
+    requires { (N ≤ length bytes.now) × (at + N ≤ length into.old) }
     ensures long { length into.new ≡ length into.old }
     ensures copied { take (at + N) into.new ≡ take at into.old ++ take N bytes.now }
 {
@@ -64,14 +82,13 @@ fn copy_first<const N: usize>(bytes: &[u8], into: &mut [u8], at: usize)
 // how long it is. Out of line, so that what is found by one look needs no call.
 #[inline(never)]
 fn put_copied(ending: u8, bytes: &[u8], into: &mut Written, at: usize) -> Option<usize>
-    requires { at ≤ 8193 }
     ensures line { IfSome result (λ count. IsFirstByte (is_byte ending) bytes.now (Some count)) }
     ensures put { IfSome result (λ count. take (at + count) into.new ≡ take at into.old ++ take count bytes.now) }
     ensures near { IfSome result (λ count. at + count < 8192) }
     ensures kept { take at into.new ≡ take at into.old }
 {
     let count = find_near(ending, bytes)?;
-    if at + count >= 8192 {
+    if at.saturating_add(count) >= 8192 {
         return None;
     }
     copy_near(bytes, 0, count, into, at);
@@ -82,7 +99,6 @@ fn put_copied(ending: u8, bytes: &[u8], into: &mut Written, at: usize) -> Option
 // of at most 15 bytes needs no call.
 #[inline(never)]
 fn put_far(ending: u8, bytes: &[u8], into: &mut Written, at: usize) -> Option<usize>
-    requires { at ≤ 8193 }
     ensures line { IfSome result (λ count. IsFirstByte (is_byte ending) bytes.now (Some count)) }
     ensures put { IfSome result (λ count. take (at + count) into.new ≡ take at into.old ++ take count bytes.now) }
     ensures near { IfSome result (λ count. at + count < 8192) }
@@ -104,7 +120,6 @@ fn put_far(ending: u8, bytes: &[u8], into: &mut Written, at: usize) -> Option<us
 // The same: a line whose end is one of the first 16 bytes is put by the look that finds it, here in the loop.
 #[inline(always)]
 fn put_line(ending: u8, bytes: &[u8], into: &mut Written, at: usize) -> Option<usize>
-    requires { at ≤ 8193 }
     ensures line { IfSome result (λ count. IsFirstByte (is_byte ending) bytes.now (Some count)) }
     ensures put { IfSome result (λ count. take (at + count) into.new ≡ take at into.old ++ take count bytes.now) }
     ensures near { IfSome result (λ count. at + count < 8192) }
@@ -123,27 +138,24 @@ fn put_line(ending: u8, bytes: &[u8], into: &mut Written, at: usize) -> Option<u
 // where it ends, and `taken` has how many bytes are taken of each reader then, which are still held.
 #[inline(always)]
 fn put_row<A: Allocator, S: Source, R: Source>(
-    delims: &Delims<A>,
-    ending: u8,
-    cells: &[usize],
-    readers: &[LineReader<S, R>],
+    row: &HeldRow<A, S, R>,
     taken: &mut Taken,
     into: &mut Written,
-    at: usize,
-) -> Option<usize>
-    requires few { (length readers.now ≤ 16) × (0 < length cells.now) }
-    requires within { All (λ place. place < length readers.now) cells.now }
-    requires readable { AreReadable ending cells.now readers.now }
-    requires held { Holds readers.now taken.old }
-    requires room { at ≤ 8192 }
-    ensures near { IfSome result (λ end. (at < end) × (end ≤ 8192)) }
+    full: Full,
+) -> Option<Full>
+    requires { Holds row.now.readers.now taken.old }
+    ensures on { IfSome result (λ next. full.end < next.end) }
     ensures row { IfSome result
-        (λ end. PutsRow ending delims.now cells.now readers.now taken.old taken.new (take at into.old) (take end into.new)) }
-    ensures kept { take at into.new ≡ take at into.old }
+        (λ next. PutsRow row.now.ending row.now.delims.now row.now.cells.now row.now.readers.now taken.old taken.new
+        (take full.end into.old) (take next.end into.new)) }
+    ensures kept { take full.end into.new ≡ take full.end into.old }
 {
-    let mut end = at;
+    let cells = row.cells;
+    let readers = row.readers;
+    let ending = row.ending;
+    let mut end = full.end;
     for (column, place) in cells.iter().enumerate() {
-        let from = put_lead(delims, column, into, end);
+        let from = put_lead(row.delims, column, into, Full { end });
         let begin = taken[*place] as usize;
         let rest = &readers[*place].held()[begin..];
         let count = put_line(ending, rest, into, from)?;
@@ -151,7 +163,7 @@ fn put_row<A: Allocator, S: Source, R: Source>(
         taken[*place] = (begin + (count + 1)) as u16;
     }
     into[end] = ending;
-    Some(end + 1)
+    Some(Full { end: end + 1 })
 }
 
 // Puts the next row of two cells, if the lines with which their bytes begin are whole and there is room for the row.
@@ -163,45 +175,40 @@ fn put_pair<A: Allocator>(
     first: &[u8],
     second: &[u8],
     into: &mut Written,
-    at: usize,
-) -> Option<(usize, usize, usize)>
-    requires { at ≤ 8192 }
+    full: Full,
+) -> Option<(usize, usize, Full)>
     ensures row { IfSome result (λ answer. PutsPair ending delims.now first.now second.now answer.0 answer.1
-        (take at into.old) (take answer.2 into.new)) }
-    ensures near { IfSome result (λ answer. (at < answer.2) × (answer.2 ≤ 8192)) }
-    ensures kept { IfNone result (take at into.new ≡ take at into.old) }
+        (take full.end into.old) (take answer.2.end into.new)) }
+    ensures on { IfSome result (λ answer. full.end < answer.2.end) }
+    ensures kept { IfNone result (take full.end into.new ≡ take full.end into.old) }
 {
-    let count = put_line(ending, first, into, at)?;
-    let from = put_lead(delims, 1, into, at + count);
+    let count = put_line(ending, first, into, full.end)?;
+    let behind = full.end + count;
+    let from = put_lead(delims, 1, into, Full { end: behind });
     let other = put_line(ending, second, into, from)?;
     into[from + other] = ending;
-    Some((count, other, from + other + 1))
+    let end = from + other + 1;
+    Some((count, other, Full { end }))
 }
 
 // Puts as many of the next rows as lie whole in what the readers hold, and in the room. The answer is where they end,
 // and how many bytes they take of each reader. Out of line, so that the loop has all registers.
 #[inline(never)]
 fn put_rows<A: Allocator, S: Source, R: Source>(
-    delims: &Delims<A>,
-    ending: u8,
-    cells: &[usize],
-    readers: &[LineReader<S, R>],
+    row: &HeldRow<A, S, R>,
     into: &mut Written,
-) -> (usize, Taken)
-    requires few { (length readers.now ≤ 16) × (0 < length cells.now) }
-    requires within { All (λ place. place < length readers.now) cells.now }
-    requires readable { AreReadable ending cells.now readers.now }
-    ensures near { result.0 ≤ 8192 }
-    ensures held { Holds readers.now result.1 }
-    ensures rows { PutsRows ending delims.now cells.now readers.now result.1 (take result.0 into.new) }
+) -> (Full, Taken)
+    ensures held { Holds row.now.readers.now result.1 }
+    ensures rows { PutsRows row.now.ending row.now.delims.now row.now.cells.now row.now.readers.now result.1
+        (take result.0.end into.new) }
 {
     let mut taken: Taken = [0; 16];
-    let mut end = 0;
+    let mut full = Full { end: 0 };
     'rows: loop {
         let before = taken;
-        match put_row(delims, ending, cells, readers, &mut taken, into, end) {
-            Some(next) => end = next,
-            None => return (end, before),
+        match put_row(row, &mut taken, into, full) {
+            Some(next) => full = next,
+            None => return (full, before),
         }
     }
 }
@@ -210,70 +217,63 @@ fn put_rows<A: Allocator, S: Source, R: Source>(
 // line, for the same reason.
 #[inline(never)]
 fn put_pairs<A: Allocator, S: Source, R: Source>(
-    delims: &Delims<A>,
-    ending: u8,
-    cells: &[usize],
-    readers: &[LineReader<S, R>],
+    row: &HeldRow<A, S, R>,
     into: &mut Written,
-) -> (usize, Taken)
-    requires few { length readers.now ≤ 16 }
-    requires two { (length cells.now ≡ 2) × (slice_index_or cells.now 0 0 ≢ slice_index_or cells.now 1 0) }
-    requires within { All (λ place. place < length readers.now) cells.now }
-    requires readable { AreReadable ending cells.now readers.now }
-    ensures near { result.0 ≤ 8192 }
-    ensures held { Holds readers.now result.1 }
-    ensures rows { PutsRows ending delims.now cells.now readers.now result.1 (take result.0 into.new) }
+) -> (Full, Taken)
+    requires { (length row.now.cells.now ≡ 2)
+        × (slice_index_or row.now.cells.now 0 0 ≢ slice_index_or row.now.cells.now 1 0) }
+    ensures held { Holds row.now.readers.now result.1 }
+    ensures rows { PutsRows row.now.ending row.now.delims.now row.now.cells.now row.now.readers.now result.1
+        (take result.0.end into.new) }
 {
+    let cells = row.cells;
+    let readers = row.readers;
+    let delims = row.delims;
+    let ending = row.ending;
     let first = readers[cells[0]].held();
     let second = readers[cells[1]].held();
     let mut passed = 0;
     let mut passed_other = 0;
-    let mut end = 0;
+    let mut full = Full { end: 0 };
     'rows: while let Some((count, other, next)) = put_pair(
         delims,
         ending,
         &first[passed..],
         &second[passed_other..],
         into,
-        end,
+        full,
     ) {
         passed += count + 1;
         passed_other += other + 1;
-        end = next;
+        full = next;
     }
     let mut taken: Taken = [0; 16];
     taken[cells[0]] = passed as u16;
     taken[cells[1]] = passed_other as u16;
-    (end, taken)
+    (full, taken)
 }
 
 // The same, by `put_pairs` where there are two cells of two readers.
 #[inline(always)]
 fn put_whole_rows<A: Allocator, S: Source, R: Source>(
-    delims: &Delims<A>,
-    ending: u8,
-    cells: &[usize],
-    readers: &[LineReader<S, R>],
+    row: &HeldRow<A, S, R>,
     into: &mut Written,
-) -> (usize, Taken)
-    requires few { (length readers.now ≤ 16) × (0 < length cells.now) }
-    requires within { All (λ place. place < length readers.now) cells.now }
-    requires readable { AreReadable ending cells.now readers.now }
-    ensures near { result.0 ≤ 8192 }
-    ensures held { Holds readers.now result.1 }
-    ensures rows { PutsRows ending delims.now cells.now readers.now result.1 (take result.0 into.new) }
+) -> (Full, Taken)
+    ensures held { Holds row.now.readers.now result.1 }
+    ensures rows { PutsRows row.now.ending row.now.delims.now row.now.cells.now row.now.readers.now result.1
+        (take result.0.end into.new) }
 {
+    let cells = row.cells;
     if cells.len() == 2 && cells[0] != cells[1] {
-        return put_pairs(delims, ending, cells, readers, into);
+        return put_pairs(row, into);
     }
-    put_rows(delims, ending, cells, readers, into)
+    put_rows(row, into)
 }
 
 // Moves past what was taken of each reader.
 #[inline(always)]
 fn consume_taken<S: Source, R: Source>(readers: &mut [LineReader<S, R>], taken: &Taken)
-    requires few { length readers.old ≤ 16 }
-    requires held { Holds readers.old taken.now }
+    requires { CanBeTaken readers.old taken.now }
     ensures { AreTaken taken.now readers.old readers.new }
 {
     for place in 0..readers.len() {
@@ -292,18 +292,23 @@ pub(crate) fn pass_rows<A: Allocator, S: Source, R: Source, W: Sink>(
     into: &mut Written,
     out: &mut Out<W>,
 ) -> Result<bool, WriteFault>
-    requires within { All (λ place. place < length readers.old) cells.now }
-    requires readable { AreReadable ending cells.now readers.old }
+    requires { CanBeRead ending cells.now readers.old }
     ensures { PassesRows ending delims.now cells.now readers.old readers.new out.old out.new result }
 {
     if cells.is_empty() || readers.len() > 16 {
         return Ok(false);
     }
-    let (end, taken) = put_whole_rows(delims, ending, cells, readers, into);
-    if end == 0 {
+    let row = HeldRow {
+        delims,
+        ending,
+        cells,
+        readers,
+    };
+    let (full, taken) = put_whole_rows(&row, into);
+    if full.end == 0 {
         return Ok(false);
     }
     consume_taken(readers, &taken);
-    out.push(&into[..end])?;
+    out.push(&into[..full.end])?;
     Ok(true)
 }

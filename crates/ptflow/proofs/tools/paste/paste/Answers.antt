@@ -24,8 +24,20 @@ rows-init g c = record {
 }
 
 pub pass_held_rows-requires-clause-readable : goal.pass_held_rows-requires-clause-readable
-pass_held_rows-requires-clause-readable g c =
-    λ place some. (now_fault c.rows.invariant.pasting place some, now_end c.rows.invariant.pasting place some ∙ sym c.rows.invariant.ends)
+pass_held_rows-requires-clause-readable g c = (
+  λ k d low. omega (arith, c.requires.within k d low, c.rows.auto.readers, c.set_endings.auto.readers),
+  λ place some. (now_fault c.rows.invariant.pasting place some, now_end c.rows.invariant.pasting place some ∙ sym c.rows.invariant.ends),
+)
+
+pub fill_row-requires : goal.fill_row-requires
+fill_row-requires g c =
+    let s = pasting_still c.rows.invariant.pasting (rw c.if-branch.false at c.in_ok-pass_held_rows.ensures) in
+    record {
+      within = λ k d low. omega (arith, c.requires.within k d low, c.pass_held_rows.auto.readers, c.rows.auto.readers, c.set_endings.auto.readers);
+      readable = now_fault s;
+      slots = pasting_room s;
+      clean = s.clean;
+    }
 
 pub returns-in_err-pass_held_rows : goal.returns-in_err-pass_held_rows
 returns-in_err-pass_held_rows g c =
@@ -39,12 +51,6 @@ pub rows-preserved-then-branch : goal.rows-preserved-then-branch
 rows-preserved-then-branch g c =
     let p = rw c.if-branch.true at c.in_ok-pass_held_rows.ensures in
     record { pasting = pasting_held c.rows.invariant.pasting c.rows.invariant.ends p; ends = c.rows.invariant.ends }
-
-pub fill_row-requires-clause-readable : goal.fill_row-requires-clause-readable
-fill_row-requires-clause-readable g c = now_fault (pasting_still c.rows.invariant.pasting (rw c.if-branch.false at c.in_ok-pass_held_rows.ensures))
-
-pub fill_row-requires-clause-slots : goal.fill_row-requires-clause-slots
-fill_row-requires-clause-slots g c = pasting_room (pasting_still c.rows.invariant.pasting (rw c.if-branch.false at c.in_ok-pass_held_rows.ensures))
 
 pub returns-in_err-fill_row : goal.returns-in_err-fill_row
 returns-in_err-fill_row g c =
@@ -76,13 +82,6 @@ returns-in_err-push_row g c =
     let f = rw c.if-not-branch.false at c.in_ok-fill_row.ensures.fills in
     let x = err_from_is_err_and c.from_residual-in_err-push_row.result c.from_residual-in_err-push_row.ensures.1 in
     rw (x.1, x.2) (paste_row_write s f (row_wrote s f c.rows.invariant.ends c.push_row.ensures.wrote) c.in_err-push_row.ensures.fault)
-
-pub pass_held_rows-requires-clause-within : goal.pass_held_rows-requires-clause-within
-pass_held_rows-requires-clause-within g c = λ k d low. omega (arith, c.requires.within k d low, c.rows.auto.readers, c.set_endings.auto.readers)
-
-pub fill_row-requires-clause-within : goal.fill_row-requires-clause-within
-fill_row-requires-clause-within g c =
-    λ k d low. omega (arith, c.requires.within k d low, c.pass_held_rows.auto.readers, c.rows.auto.readers, c.set_endings.auto.readers)
 
 pub rows-smaller : goal.rows-smaller
 rows-smaller g c =

@@ -1,5 +1,6 @@
 -- Each turn pushes one more cell. A push that fails leaves a beginning of the row.
 use Rattle.ptflow.proofs.Common.{◌≡◌, ℕ, ◌+◌, ◌<◌, ◌≤◌, List, [], ◌∷◌, length, take, drop, get_or, ◌∙◌, ap, arith, length-take-le, drop_more, drop_all, row_from, Cell}
+use Rattle.std.proofs.Common.{rules}
 use Rattle.std.proofs.lemmas.List.{get_or-take}
 use Rattle.ptflow.proofs.OfPasses.Continuations.{amid_starts}
 use Rattle.ptflow.proofs.OfPaste.SerialRests.{begun_number}
@@ -14,31 +15,40 @@ from_column lines count column fits low =
 pub loop-column-init : goal.loop-column-init
 loop-column-init g c = record {
   amid = amid_starts (row_from c.args.ending c.args.delims.now) first_cell
-      (take c.args.count c.args.store.now.lines) c.args.out.now c.requires.clean;
+      (take (length c.args.cells.now) c.args.store.now.lines) c.args.out.now c.requires.clean;
   bound = omega arith;
 }
 
-pub returns-in_err-cell-clause-wrote : goal.returns-in_err-cell-clause-wrote
-returns-in_err-cell-clause-wrote g c =
-    let a = rw (from_column c.args.store.now.lines c.args.count c.loop-column.column c.requires.slots c.loop-column-test.true) at c.loop-column.invariant.amid in
-    row_unled c.args.ending c.args.delims.now a c.begin_cell.ensures.wrote c.in_err-cell.ensures.fault
+pub returns-in_err-cell : goal.returns-in_err-cell
+returns-in_err-cell g c =
+    let a = rw (from_column c.args.store.now.lines (length c.args.cells.now) c.loop-column.column c.requires.slots c.loop-column-test.true) at c.loop-column.invariant.amid in
+    record { wrote = row_unled c.args.ending c.args.delims.now a c.begin_cell.ensures.wrote c.in_err-cell.ensures.fault; clean = search rules; fault = search rules }
 
-pub returns-in_err-push-clause-wrote : goal.returns-in_err-push-clause-wrote
-returns-in_err-push-clause-wrote g c =
-    let a = rw (from_column c.args.store.now.lines c.args.count c.loop-column.column c.requires.slots c.loop-column-test.true) at c.loop-column.invariant.amid in
-    row_cut c.args.ending c.args.delims.now a c.begin_cell.ensures.wrote c.in_ok-cell.ensures.clean (rw c.line.ensures at c.push.ensures.pushed.wrote) c.in_err-push.ensures.pushed.fault
+pub returns-in_err-push : goal.returns-in_err-push
+returns-in_err-push g c =
+    let a = rw (from_column c.args.store.now.lines (length c.args.cells.now) c.loop-column.column c.requires.slots c.loop-column-test.true) at c.loop-column.invariant.amid in
+    record {
+      wrote = row_cut c.args.ending c.args.delims.now a c.begin_cell.ensures.wrote c.in_ok-cell.ensures.clean (rw c.line.ensures at c.push.ensures.pushed.wrote)
+          c.in_err-push.ensures.pushed.fault;
+      clean = search rules;
+      fault = search rules;
+    }
 
 pub loop-column-preserved : goal.loop-column-preserved
 loop-column-preserved g c =
-    let a = rw (from_column c.args.store.now.lines c.args.count c.loop-column.column c.requires.slots c.loop-column-test.true) at c.loop-column.invariant.amid in
+    let a = rw (from_column c.args.store.now.lines (length c.args.cells.now) c.loop-column.column c.requires.slots c.loop-column-test.true) at c.loop-column.invariant.amid in
     let number : c.in_ok-cell.cell.number ≡ _ = ap (λ (x : Cell). x.number) c.in_ok-cell.ensures.begun in
     record {
       amid = rw number (row_more c.args.ending c.args.delims.now a c.begin_cell.ensures.wrote c.in_ok-cell.ensures.clean (rw c.line.ensures at c.push.ensures.pushed.wrote) c.in_ok-push.ensures.pushed.clean);
       bound = omega (arith, number, begun_number c.loop-column.cell, c.loop-column.invariant.bound);
     }
 
-pub returns-clause-wrote : goal.returns-clause-wrote
-returns-clause-wrote g c =
-    let all = take c.args.count c.args.store.now.lines in
-    let none = drop_all c.loop-column.column all (omega (arith, c.loop-column-test.false, length-take-le c.args.count c.args.store.now.lines c.requires.slots)) in
-    row_done c.args.ending c.args.delims.now (rw none at c.loop-column.invariant.amid) c.push-2.ensures.pushed.wrote
+pub returns : goal.returns
+returns g c =
+    let all = take (length c.args.cells.now) c.args.store.now.lines in
+    let none = drop_all c.loop-column.column all (omega (arith, c.loop-column-test.false, length-take-le (length c.args.cells.now) c.args.store.now.lines c.requires.slots)) in
+    record {
+      wrote = row_done c.args.ending c.args.delims.now (rw none at c.loop-column.invariant.amid) c.push-2.ensures.pushed.wrote;
+      clean = c.push-2.ensures.pushed.clean;
+      fault = c.push-2.ensures.pushed.fault;
+    }

@@ -9,14 +9,14 @@ use Rattle.ptflow.proofs.tools.paste.one_reader.pass_held_rows.Goals as goal
 use Rattle.ptflow.proofs.tools.paste.one_reader.pass_held_rows.Goals.{In-Some, After-push}
 
 low : (g : given.Over) (c : In-Some g) → get_or c.args.cells.now 0 0 < length c.args.readers.now
-low g c = All-get_or (λ (p : ℕ). p < length c.args.readers.now) c.args.cells.now 0 0 ((rw c.in-Some.is at c.requires.in_turn).0).some c.requires.within
+low g c = All-get_or (λ (p : ℕ). p < length c.args.readers.now) c.args.cells.now 0 0 ((rw c.in-Some.is at c.requires.in_turn).0).some c.requires.readable.0
 
 pushed : (g : given.Over) (c : After-push g) → PushedRows c.args.ending c.args.delims.now c.args.cells.now c.args.readers.now
     (set c.args.readers.now (get_or c.args.cells.now 0 0) c.consume.new.self) c.args.out.now c.push.new.self
 pushed g c =
     let put = c.put_held_rows-count.ensures in
-    held_put (subst (AreTurnsOfOne c.args.delims.now c.args.cells.now) (sym c.deref.ensures.0) ((rw c.in-Some.is at c.requires.in_turn).0)) c.requires.within c.requires.readable
-    c.index-readers-place.result c.held-bytes.ensures.sound c.held-bytes.ensures.held (omega (arith, c.if-count-eq0.false)) put.within put.rows
+    held_put (subst (AreTurnsOfOne c.args.delims.now c.args.cells.now) (sym c.deref.ensures.0) ((rw c.in-Some.is at c.requires.in_turn).0)) c.requires.readable.0 c.requires.readable.1
+    c.index-readers-place.result put.sound (omega (arith, c.if-count-eq0.false)) put.within put.rows
     c.index-readers-place-2.result c.consume.ensures.consumed put.put c.push.ensures.pushed.wrote
 
 pub returns-in_err-push : goal.returns-in_err-push
@@ -45,16 +45,7 @@ consume-requires g c =
     let readers = c.args.readers.now in
     let place = get_or c.args.cells.now 0 0 in
     let same = at_index readers place c.index-readers-place.result there ∙ sym (at_index readers place c.index-readers-place-2.result there) in
-    omega (arith, c.put_held_rows-count.ensures.within, ap length (c.held-bytes.ensures.held ∙ ap (λ (r : Reader). r.held) same))
+    omega (arith, c.put_held_rows-count.ensures.within, ap length (ap (λ (r : Reader). r.held) same))
 
-pub put_held_rows-count-requires-clause-spread : goal.put_held_rows-count-requires-clause-spread
-put_held_rows-count-requires-clause-spread g c = rw (c.deref.ensures.0, c.deref-2.ensures.0) ((rw c.in-Some.is at c.requires.in_turn).1)
-
-pub put_held_rows-count-requires-clause-room : goal.put_held_rows-count-requires-clause-room
-put_held_rows-count-requires-clause-room g c = omega (arith, c.held-bytes.ensures.sound.held, ap length c.held-bytes.ensures.held)
-
-pub pass_rows-requires-clause-within : goal.pass_rows-requires-clause-within
-pass_rows-requires-clause-within g c = c.requires.within
-
-pub bounds-cells-0 : goal.bounds-cells-0
-bounds-cells-0 g c = ((rw c.in-Some.is at c.requires.in_turn).0).some
+pub put_held_rows-count-requires : goal.put_held_rows-count-requires
+put_held_rows-count-requires g c = rw (c.deref.ensures.0, c.deref-2.ensures.0) ((rw c.in-Some.is at c.requires.in_turn).1)

@@ -4,20 +4,22 @@ use Rattle.ptflow.proofs.OfPaste.Turns.{length-turns}
 use Rattle.ptflow.proofs.tools.paste.one_reader.put_held_rows.Goals as goal
 
 pub returns-clause-rows : goal.returns-clause-rows
-returns-clause-rows c =
-    let bytes = c.args.bytes.now in
+returns-clause-rows g c =
+    let bytes = c.held-bytes.result.now in
     let at = c.end_before.result in
     let long : length (take at bytes) ≡ at = length-take-le at bytes c.end_before.ensures.within in
-    rows_known c.args.ending (length c.args.turns.now) (c.replace_by_spread-number.result / length c.args.turns.now) (take at bytes)
+    rw (← c.held-bytes.ensures.held)
+    (rows_known c.args.ending (length c.args.turns.now) (c.replace_by_spread-number.result / length c.args.turns.now) (take at bytes)
     (λ some. get_or-take at bytes (length (take at bytes) - 1) 0 (omega (arith, some, long)) ∙ ap (λ n. get_or bytes (n - 1) 0) long ∙ c.end_before.ensures.ends (omega (arith, some, long)))
-    (omega (arith, c.end_before.ensures.counted, c.replace_by_spread-number.ensures.number, c.requires.spread.some))
+    (omega (arith, c.end_before.ensures.counted, c.replace_by_spread-number.ensures.number, c.requires.some)))
 
 pub returns-clause-put : goal.returns-clause-put
-returns-clause-put c =
+returns-clause-put g c =
     let end = c.args.ending in
     let turns = c.args.turns.now in
-    let bytes = c.args.bytes.now in
+    let bytes = c.held-bytes.result.now in
     let at = c.end_before.result in
     let long : length (c.replace_by_spread-number.new.to) ≡ length bytes = ap length c.replace_by_spread-number.ensures.replaced ∙ length-turns end turns 0 bytes in
-    take-append-le at c.replace_by_spread-number.new.to _ (omega (arith, c.end_before.ensures.within, long))
-    ∙ ap (take at) c.replace_by_spread-number.ensures.replaced ∙ turns-take end turns at 0 bytes c.end_before.ensures.within
+    rw (← c.held-bytes.ensures.held)
+    (take-append-le at c.replace_by_spread-number.new.to _ (omega (arith, c.end_before.ensures.within, long))
+    ∙ ap (take at) c.replace_by_spread-number.ensures.replaced ∙ turns-take end turns at 0 bytes c.end_before.ensures.within)

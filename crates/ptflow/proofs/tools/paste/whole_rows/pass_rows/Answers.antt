@@ -6,11 +6,11 @@ use Rattle.ptflow.proofs.tools.paste.whole_rows.pass_rows.Goals.{After-push}
 
 pushed : (g : given.Over) (c : After-push g) → PushedRows c.args.ending c.args.delims.now c.args.cells.now c.args.readers.now c.consume_taken.new.readers c.args.out.now c.push.new.self
 pushed g c =
-    let put = c.put_whole_rows-end in
-    let long = length-take-le put.result.0 put.new.into (omega (arith, put.ensures.near, put.auto.into, c.told-into)) in
+    let put = c.put_whole_rows in
+    let long = length-take-le put.result.0.end put.new.into (omega (arith, c.told-into)) in
     record {
-      written = take put.result.0 put.new.into;
-      held = rows_taken (omega (arith, c.if-end-eq0.false, long)) put.ensures.rows c.consume_taken.ensures;
+      written = take put.result.0.end put.new.into;
+      held = rows_taken (omega (arith, c.if-full-eq0.false, long)) put.ensures.rows c.consume_taken.ensures;
       wrote = c.push.ensures.pushed.wrote;
     }
 
@@ -21,9 +21,3 @@ returns-in_err-push g c =
 
 pub returns : goal.returns
 returns g c = (pushed g (goal.at.returns g c).After-push, c.in_ok-push.ensures.pushed.clean)
-
-pub consume_taken-requires-clause-held : goal.consume_taken-requires-clause-held
-consume_taken-requires-clause-held g c = c.put_whole_rows-end.ensures.held
-
-pub put_whole_rows-end-requires-clause-within : goal.put_whole_rows-end-requires-clause-within
-put_whole_rows-end-requires-clause-within g c = c.requires.within

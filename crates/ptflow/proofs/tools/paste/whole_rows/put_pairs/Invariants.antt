@@ -5,11 +5,11 @@ use Rattle.ptflow.proofs.tools.paste.whole_rows.put_pairs.Given as goal
 
 abbrev pub invariant-rows : goal.invariant-rows
 invariant-rows g l = record {
-  rows : PairRows l.ending l.delims l.cells l.readers l.passed l.passed_other (take l.end l.into);
+  rows : PairRows l.ending l.delims l.cells l.row.readers.now l.passed l.passed_other (take l.full.0 l.into);
   low : l.passed ≤ length l.first;
   low_other : l.passed_other ≤ length l.second;
-  near : l.end ≤ 8192;
+  near : l.full.0 ≤ 8192;
 }
 
 abbrev pub decreases-rows : goal.decreases-rows
-decreases-rows g l = 8192 - l.end
+decreases-rows g l = 8192 - l.full.0

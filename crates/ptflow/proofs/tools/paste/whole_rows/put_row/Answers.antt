@@ -10,35 +10,28 @@ use Rattle.ptflow.proofs.tools.paste.whole_rows.put_row.Goals as goal
 use Rattle.ptflow.proofs.tools.paste.whole_rows.put_row.Goals.{In-loop-column, After-held}
 
 -- the cell names a reader
-low : (g : given.Over) (c : In-loop-column g) → get_or c.args.cells.now c.loop-column.column 0 < length c.args.readers.now
-low g c = All-get_or (λ (p : ℕ). p < length c.args.readers.now) c.args.cells.now c.loop-column.column 0 c.loop-column-test.true c.requires.within
+low : (g : given.Over) (c : In-loop-column g) → get_or c.args.row.now.cells.now c.loop-column.column 0 < length c.args.row.now.readers.now
+low g c = All-get_or (λ (p : ℕ). p < length c.args.row.now.readers.now) c.args.row.now.cells.now c.loop-column.column 0 c.loop-column-test.true c.args.row.now.readable.0
 
-read : (g : given.Over) (c : After-held g) → c.index-readers-place.result ≡ reader_at c.args.readers.now (get_or c.args.cells.now c.loop-column.column 0)
-read g c = c.index-readers-place.is ∙ at_index c.args.readers.now (get_or c.args.cells.now c.loop-column.column 0) c.index-readers-place.result
-    (All-get_or (λ (p : ℕ). p < length c.args.readers.now) c.args.cells.now c.loop-column.column 0 c.loop-column-test.true c.requires.within)
+read : (g : given.Over) (c : After-held g) → c.index-readers-place.result ≡ reader_at c.args.row.now.readers.now (get_or c.args.row.now.cells.now c.loop-column.column 0)
+read g c = c.index-readers-place.is ∙ at_index c.args.row.now.readers.now (get_or c.args.row.now.cells.now c.loop-column.column 0) c.index-readers-place.result
+    (All-get_or (λ (p : ℕ). p < length c.args.row.now.readers.now) c.args.row.now.cells.now c.loop-column.column 0 c.loop-column-test.true c.args.row.now.readable.0)
 
 -- what was taken of it is in what it held
-fits : (g : given.Over) (c : After-held g) → get_or c.loop-column.taken (get_or c.args.cells.now c.loop-column.column 0) 0 ≤ length c.held.result.now
-fits g c = omega (arith, c.loop-column.invariant.holds (get_or c.args.cells.now c.loop-column.column 0), ap length c.held.ensures.held, ap (λ (r : Reader). length r.held) (read g c))
+fits : (g : given.Over) (c : After-held g) → get_or c.loop-column.taken (get_or c.args.row.now.cells.now c.loop-column.column 0) 0 ≤ length c.held.result.now
+fits g c = omega (arith, c.loop-column.invariant.holds (get_or c.args.row.now.cells.now c.loop-column.column 0), ap length c.held.ensures.held, ap (λ (r : Reader). length r.held) (read g c))
 
 pub loop-column-init : goal.loop-column-init
 loop-column-init g c = record {
   written = [];
-  is = sym (append-nil (take c.args.at c.args.into.now));
+  is = sym (append-nil (take c.args.full.end c.args.into.now));
   puts = λ from moved. putting_starts moved;
   kept = refl;
-  holds = c.requires.held;
-  near = (omega arith, c.requires.room, λ some. absurd (omega (arith, some)));
+  holds = c.requires;
+  near = (omega arith, c.args.full.near, λ some. absurd (omega (arith, some)));
   places = c.told-taken;
   room = c.told-into;
 }
-
-pub put_lead-from-requires : goal.put_lead-from-requires
-put_lead-from-requires g c = record { room = c.loop-column.invariant.near.1 }
-
-pub put_line-requires : goal.put_line-requires
-put_line-requires g c =
-    omega (arith, c.put_lead-from.ensures.near, c.loop-column.invariant.near.1)
 
 pub overflow_add-end : goal.overflow_add-end
 overflow_add-end g c = omega (arith, c.in_ok-count.ensures.near)
@@ -54,8 +47,8 @@ overflow_add-result g c = omega (arith, c.loop-column.invariant.near.1)
 
 pub loop-column-preserved : goal.loop-column-preserved
 loop-column-preserved g c =
-    let cells = c.args.cells.now in
-    let readers = c.args.readers.now in
+    let cells = c.args.row.now.cells.now in
+    let readers = c.args.row.now.readers.now in
     let n = c.loop-column.column in
     let taken = c.loop-column.taken in
     let inv = c.loop-column.invariant in
@@ -63,28 +56,28 @@ loop-column-preserved g c =
     let count = c.in_ok-count.count in
     let within = low g (goal.at.loop-column-preserved g c).In-loop-column in
     let is_read = read g (goal.at.loop-column-preserved g c).After-held in
-    let ready = c.requires.readable place (omega (arith, times_below cells n c.loop-column-test.true)) in
+    let ready = c.args.row.now.readable.1 place (omega (arith, times_below cells n c.loop-column-test.true)) in
     let held_is : c.held.result.now ≡ (reader_at readers place).held = c.held.ensures.held ∙ ap (λ (r : Reader). r.held) is_read in
-    let found = subst (λ (h : List ℕ). IsFirstByte (is_byte c.args.ending) (drop (get_or taken place 0) h) (Some count)) held_is (rw take_rest at c.in_ok-count.ensures.line) in
-    let has : HasLine c.args.ending cells readers n taken count = record {
+    let found = subst (λ (h : List ℕ). IsFirstByte (is_byte c.args.row.now.ending) (drop (get_or taken place 0) h) (Some count)) held_is (rw take_rest at c.in_ok-count.ensures.line) in
+    let has : HasLine c.args.row.now.ending cells readers n taken count = record {
       low = c.loop-column-test.true;
       within = within;
-      place_low = omega (arith, within, c.requires.few.0, inv.places);
+      place_low = omega (arith, within, c.args.row.now.few.0, inv.places);
       clean = ready.0;
       ends = ready.1;
       sound = subst IsSound is_read c.held.ensures.sound;
       found = found;
     } in
-    let lead_of = lead c.args.delims.now (in_front n) in
+    let lead_of = lead c.args.row.now.delims.now (in_front n) in
     let line = take count (drop (get_or taken place 0) (reader_at readers place).held) in
-    let is = line_put (take c.args.at c.args.into.now) inv.written lead_of line
+    let is = line_put (take c.args.full.end c.args.into.now) inv.written lead_of line
     ((rw take_rest at c.in_ok-count.ensures.put) ∙ ap (λ (h : List ℕ). take c.put_lead-from.result c.put_lead-from.new.into ++ take count (drop (get_or taken place 0) h)) held_is)
     c.put_lead-from.ensures.put inv.is in
     record {
       written = (inv.written ++ lead_of) ++ line;
       is = is;
       puts = λ from moved. putting_more has refl (inv.puts from moved);
-      kept = front_kept c.args.at _ _ c.args.into.now ((inv.written ++ lead_of) ++ line) (omega (arith, c.put_lead-from.ensures.near.0, inv.near.0)) (omega (arith, c.requires.room, c.told-into)) is;
+      kept = front_kept c.args.full.end _ _ c.args.into.now ((inv.written ++ lead_of) ++ line) (omega (arith, c.put_lead-from.ensures.near.0, inv.near.0)) (omega (arith, c.args.full.near, c.told-into)) is;
       holds = holds_more has inv.holds;
       near = (omega (arith, c.put_lead-from.ensures.near.0, inv.near.0), omega (arith, c.in_ok-count.ensures.near), λ some. omega (arith, c.in_ok-count.ensures.near));
       places = length-set taken place (get_or taken place 0 + (count + 1)) ∙ inv.places;
@@ -94,47 +87,38 @@ loop-column-preserved g c =
 pub returns-in_err-count-clause-kept : goal.returns-in_err-count-clause-kept
 returns-in_err-count-clause-kept g c =
     let inv = c.loop-column.invariant in
-    front_kept c.args.at c.put_lead-from.result c.put_line.new.into c.args.into.now (inv.written ++ lead c.args.delims.now (in_front c.loop-column.column))
-    (omega (arith, c.put_lead-from.ensures.near.0, inv.near.0)) (omega (arith, c.requires.room, c.told-into))
-    (c.put_line.ensures.kept ∙ end_put (take c.args.at c.args.into.now) inv.written (lead c.args.delims.now (in_front c.loop-column.column)) c.put_lead-from.ensures.put inv.is)
-
-pub returns-clause-near : goal.returns-clause-near
-returns-clause-near g c =
-    let inv = c.loop-column.invariant in
-    let all = inv.near.2 (omega (arith, c.requires.few.1, c.loop-column-test.false, c.loop-column.auto.column-end)) in
-    (omega (arith, inv.near.0), omega (arith, all))
+    front_kept c.args.full.end c.put_lead-from.result c.put_line.new.into c.args.into.now (inv.written ++ lead c.args.row.now.delims.now (in_front c.loop-column.column))
+    (omega (arith, c.put_lead-from.ensures.near.0, inv.near.0)) (omega (arith, c.args.full.near, c.told-into))
+    (c.put_line.ensures.kept ∙ end_put (take c.args.full.end c.args.into.now) inv.written (lead c.args.row.now.delims.now (in_front c.loop-column.column)) c.put_lead-from.ensures.put inv.is)
 
 pub returns-clause-row : goal.returns-clause-row
 returns-clause-row g c =
     let inv = c.loop-column.invariant in
     record {
-      written = inv.written ++ c.args.ending ∷ [];
-      is = end_put (take c.args.at c.args.into.now) inv.written (c.args.ending ∷ []) (take_more_set c.loop-column.into c.loop-column.end c.args.ending (omega (arith, inv.near, inv.room))) inv.is;
+      written = inv.written ++ c.args.row.now.ending ∷ [];
+      is = end_put (take c.args.full.end c.args.into.now) inv.written (c.args.row.now.ending ∷ []) (take_more_set c.loop-column.into c.loop-column.end c.args.row.now.ending (omega (arith, inv.near, inv.room))) inv.is;
       held = inv.holds;
-      row = λ from moved. putting_done (omega (arith, c.loop-column-test.false, c.loop-column.auto.column-end)) c.requires.few.1 c.requires.readable moved (inv.puts from moved);
+      row = λ from moved. putting_done (omega (arith, c.loop-column-test.false, c.loop-column.auto.column-end)) c.args.row.now.few.1 c.args.row.now.readable.1 moved (inv.puts from moved);
     }
 
 pub returns-clause-kept : goal.returns-clause-kept
 returns-clause-kept g c =
     let inv = c.loop-column.invariant in
-    front_kept c.args.at (c.loop-column.end + 1) _ c.args.into.now (inv.written ++ c.args.ending ∷ []) (omega (arith, inv.near.0)) (omega (arith, c.requires.room, c.told-into))
-    (end_put (take c.args.at c.args.into.now) inv.written (c.args.ending ∷ [])
-    (take_more_set c.loop-column.into c.loop-column.end c.args.ending (omega (arith, inv.near, inv.room))) inv.is)
-
-pub bounds-cells-column : goal.bounds-cells-column
-bounds-cells-column g c = c.loop-column-test.true
+    front_kept c.args.full.end (c.loop-column.end + 1) _ c.args.into.now (inv.written ++ c.args.row.now.ending ∷ []) (omega (arith, inv.near.0)) (omega (arith, c.args.full.near, c.told-into))
+    (end_put (take c.args.full.end c.args.into.now) inv.written (c.args.row.now.ending ∷ [])
+    (take_more_set c.loop-column.into c.loop-column.end c.args.row.now.ending (omega (arith, inv.near, inv.room))) inv.is)
 
 pub offset_bounds-taken-place : goal.offset_bounds-taken-place
-offset_bounds-taken-place g c = omega (arith, low g (goal.at.offset_bounds-taken-place g c).In-loop-column, c.requires.few.0)
+offset_bounds-taken-place g c = omega (arith, low g (goal.at.offset_bounds-taken-place g c).In-loop-column, c.args.row.now.few.0)
 
 pub bounds-taken-place : goal.bounds-taken-place
-bounds-taken-place g c = omega (arith, low g (goal.at.bounds-taken-place g c).In-loop-column, c.requires.few.0)
+bounds-taken-place g c = omega (arith, low g (goal.at.bounds-taken-place g c).In-loop-column, c.args.row.now.few.0)
 
 pub offset_bounds-taken-place-in-loop-column : goal.offset_bounds-taken-place-in-loop-column
-offset_bounds-taken-place-in-loop-column g c = omega (arith, low g (goal.at.offset_bounds-taken-place-in-loop-column g c).In-loop-column, c.requires.few.0)
+offset_bounds-taken-place-in-loop-column g c = omega (arith, low g (goal.at.offset_bounds-taken-place-in-loop-column g c).In-loop-column, c.args.row.now.few.0)
 
 pub bounds-taken-place-in-loop-column : goal.bounds-taken-place-in-loop-column
-bounds-taken-place-in-loop-column g c = omega (arith, low g (goal.at.bounds-taken-place-in-loop-column g c).In-loop-column, c.requires.few.0)
+bounds-taken-place-in-loop-column g c = omega (arith, low g (goal.at.bounds-taken-place-in-loop-column g c).In-loop-column, c.args.row.now.few.0)
 
 pub offset_bounds-readers-place : goal.offset_bounds-readers-place
 offset_bounds-readers-place g c = omega (arith, low g (goal.at.offset_bounds-readers-place g c).In-loop-column)

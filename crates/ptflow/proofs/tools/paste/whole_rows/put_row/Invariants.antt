@@ -6,11 +6,11 @@ use Rattle.ptflow.proofs.tools.paste.whole_rows.put_row.Given as goal
 abbrev pub invariant-loop-column : goal.invariant-loop-column
 invariant-loop-column g l = record {
   written : List ℕ;
-  is : take l.end l.into ≡ take l.at l.initial.into ++ written;
-  puts : (from : List Reader) → AreTaken l.initial.taken l.readers from → Putting l.ending l.delims l.cells l.column l.readers from l.taken written;
-  kept : take l.at l.into ≡ take l.at l.initial.into;
+  is : take l.end l.into ≡ take l.fn.full.end l.initial.into ++ written;
+  puts : (from : List Reader) → AreTaken l.initial.taken l.readers from → Putting l.ending l.row.delims.now l.cells l.column l.readers from l.taken written;
+  kept : take l.fn.full.end l.into ≡ take l.fn.full.end l.initial.into;
   holds : Holds l.readers l.taken;
-  near : (l.at ≤ l.end) × (l.end ≤ 8192) × (0 < l.column → l.end < 8192);
+  near : (l.fn.full.end ≤ l.end) × (l.end ≤ 8192) × (0 < l.column → l.end < 8192);
   places : length l.taken ≡ 16;
   room : length l.into ≡ 8208;
 }

@@ -2,24 +2,18 @@ use Rattle.std.proofs.Common.{arith}
 use Rattle.ptflow.proofs.OfPaste.WholeRows.{rows_none, holds_none, rows_more}
 use Rattle.ptflow.proofs.tools.paste.whole_rows.put_rows.Goals as goal
 
+pub invariant_of-full : goal.invariant_of-full
+invariant_of-full g c = record { near = c.rows.invariant.near }
+
 pub rows-init : goal.rows-init
-rows-init g c = record { rows = rows_none; holds = holds_none c.args.readers.now; near = omega arith }
+rows-init g c = record { rows = rows_none; holds = holds_none c.args.row.now.readers.now; near = omega arith }
 
 pub rows-preserved : goal.rows-preserved
 rows-preserved g c = record {
   rows = rows_more c.rows.invariant.rows c.in-Some.ensures.row;
   holds = c.in-Some.ensures.row.held;
-  near = c.in-Some.ensures.near.1;
+  near = c.in-Some.next.near;
 }
 
 pub returns-in-None-clause-rows : goal.returns-in-None-clause-rows
 returns-in-None-clause-rows g c = rw c.put_row.ensures.kept c.rows.invariant.rows
-
-pub returns-in-None-clause-held : goal.returns-in-None-clause-held
-returns-in-None-clause-held g c = c.rows.invariant.holds
-
-pub put_row-requires-clause-within : goal.put_row-requires-clause-within
-put_row-requires-clause-within g c = c.requires.within
-
-pub put_row-requires-clause-held : goal.put_row-requires-clause-held
-put_row-requires-clause-held g c = c.rows.invariant.holds

@@ -4,10 +4,10 @@ use Rattle.ptflow.proofs.tools.paste.whole_rows.put_rows.Given as goal
 
 abbrev pub invariant-rows : goal.invariant-rows
 invariant-rows g l = record {
-  rows : PutsRows l.ending l.delims l.cells l.readers l.taken (take l.end l.into);
-  holds : Holds l.readers l.taken;
-  near : l.end ≤ 8192;
+  rows : PutsRows l.row.ending l.row.delims.now l.row.cells.now l.row.readers.now l.taken (take l.full.0 l.into);
+  holds : Holds l.row.readers.now l.taken;
+  near : l.full.0 ≤ 8192;
 }
 
 abbrev pub decreases-rows : goal.decreases-rows
-decreases-rows g l = 8192 - l.end
+decreases-rows g l = 8192 - l.full.0
