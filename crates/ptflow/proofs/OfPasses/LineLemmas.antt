@@ -104,7 +104,7 @@ module _ {S X E : Type 0} {tool : Tool} {state : S → Slots → X} {rest_from :
         reached = record {
           goes = goes_trans _ _ _ _ _ r.reached.goes goes;
           wrote = rw (t.apart r.passed c.passed) (wrote_trans _ _ _ _ _ r.reached.clean r.reached.wrote c.wrote);
-          clean = c.clean;
+          clean = c.clean r.reached.clean;
         };
         first = r.first;
         on = λ more.
@@ -114,15 +114,14 @@ module _ {S X E : Type 0} {tool : Tool} {state : S → Slots → X} {rest_from :
       }
 
       -- the lines of a block came, and were consumed
-      pub run_block : {ending : ℕ} → ending ≡ old.ending → {shown new : Reader} {block : List ℕ} {count : ℕ} → Goes reader shown [] → shown.held ≡ block
-          → PassesLines ending block count → new ≡ record shown { held = drop count shown.held }
-          → {next : X} {is' : Output} → On now next (ended_lines ending block) is is' → Run old new was is' before store next
-      run_block ends {new} {block} goes held passed consumed c =
+      pub run_block : {shown new : Reader} {block : List ℕ} {count : ℕ} → Goes reader shown [] → shown.held ≡ block
+          → PassesLines tool.end block count → new ≡ record shown { held = drop count shown.held }
+          → {next : X} {is' : Output} → On now next (ended_lines tool.end block) is is' → Run old new was is' before store next
+      run_block {new} {block} goes held passed consumed c =
           let ls = ended_lines end block in
-          let same = ends ∙ r.ending in
           let front = subst (Goes reader new) (cc) (goes_past _ goes held passed.0 consumed) in
           run_more ls front (lines_block r.came ls front (parts_of end block).whole)
-          (keeps_more (max (longest r.ls) (longest ls)) r.keeps (omega arith)) (rw same at c)
+          (keeps_more (max (longest r.ls) (longest ls)) r.keeps (omega arith)) (rw t.ends at c)
 
       -- ---- how it ends
 
@@ -219,23 +218,23 @@ module _ {S X E : Type 0} {tool : Tool} {state : S → Slots → X} {rest_from :
             })
 
         -- the lines of a block
-        pub run_block_halts : {ending : ℕ} → ending ≡ old.ending → {shown : Reader} {block : List ℕ} → IsSound shown → Goes reader shown [] → shown.held ≡ block
-            → {is' : Output} → Halt now (ended_lines ending block) is is' → IsPass tool old shown was is' before store (Err Write)
-        run_block_halts ends {shown} {block} is_sound goes held {is'} h =
+        pub run_block_halts : {shown : Reader} {block : List ℕ} → IsSound shown → Goes reader shown [] → shown.held ≡ block
+            → {is' : Output} → Halt now (ended_lines tool.end block) is is' → IsPass tool old shown was is' before store (Err Write)
+        run_block_halts {shown} {block} is_sound goes held {is'} h =
             halts goes.reads (kept (given_of (r.given ++ []) shown) (keeps_more (max (longest r.ls) 0) r.keeps (omega arith))
             (short_piece goes.reads tt is_sound))
-            (works_piece goes.reads tt is_sound) goes.failed r.keeps.denied (subst (λ b. Halt now (ended_lines b block) is is') (ends ∙ r.ending) h)
+            (works_piece goes.reads tt is_sound) goes.failed r.keeps.denied (subst (λ b. Halt now (ended_lines b block) is is') t.ends h)
             (λ rest may. (lines end ((parts_of end block).piece ++ rest), cc (ended_front end block rest)))
 
         -- what was staged could not be sent
         pub run_unsent : {is' : Output} → Wrote is is' [] → is'.faulted ≡ true → IsPass tool old reader was is' before store (Err Write)
         run_unsent wrote fault =
-            run_block_halts refl sound (goes_nothing reader r.reached.goes.fault) refl
+            run_block_halts sound (goes_nothing reader r.reached.goes.fault) refl
             (record {
               passed = [];
               wrote = rw (← none_written) at wrote;
               fault = fault;
-              true_so_far = λ more. (rest_from now (ended_lines old.ending reader.held ++ more), refl);
+              true_so_far = λ more. (rest_from now (ended_lines tool.end reader.held ++ more), refl);
             })
 
     -- ---- by way of the last slot

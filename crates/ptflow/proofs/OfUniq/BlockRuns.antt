@@ -1,12 +1,13 @@
 -- The runs of the lines of a block, line by line.
 use Rattle.ptflow.proofs.Common.{◌≡◌, ℕ, ◌+◌, ◌-◌, ◌<◌, ◌≤◌, ◌&&◌, Bool, true, false, List, [], ◌∷◌, ◌++◌, Some, length, take, drop, refl, sym, ◌∙◌, ap, subst, arith, append_assoc, length-append}
 use Rattle.ptflow.proofs.Common.{common_steps, bytes_eq, nat_lt, slice_range, nat_tests, drop_split, append-nil, take-take, take_at, drop_at, IsFirstByte, is_byte, Output, Wrote, text, ended_lines}
-use Rattle.ptflow.proofs.Common.{IsLine, wrote_nothing, wrote_trans, text_push, ended_none, Uniq, Run, key, is_same, entries, run_of, open_run, runs_behind, is_shown, run_text, RunsOn, RunsHalt}
+use Rattle.ptflow.proofs.Common.{IsLine, wrote_nothing, text_push, ended_none, Uniq, Run, key, is_same, entries, run_of, open_run, runs_behind, is_shown, run_text, RunsOn, RunsHalt}
 use Rattle.ptflow.proofs.Common.{GoesOnWith, span_of, IsSpan, Waits}
 use Rattle.ptlines.proofs.Given.{length_range}
 use Rattle.ptlangs.specs.declared.jobs.Show.{Show}
 use Rattle.ptflow.specs.Workings.Uniq.OpenRuns.{lead}
 use Rattle.ptflow.specs.declared.tools.uniq.runs.Span.{Span}
+use Rattle.ptflow.proofs.OfPasses.Fronts.{wrote_then}
 use Rattle.ptflow.proofs.OfPasses.LineLaws.{split_of, ended_next}
 use Rattle.ptflow.proofs.OfUniq.OpenRuns.{behind_more, behind_turn, entries-append, open_is}
 
@@ -146,7 +147,6 @@ pub record Running (job : Uniq) (block rest : List ℕ) (count : ℕ) (line wait
   pub passed : List Run
   pub pushed : List ℕ
   pub wrote : Wrote was is pushed
-  pub clean : is.faulted ≡ false
   pub waits : pushed ++ span_of block waiting ≡ entries job passed
   pub first : List ℕ
   pub on : (more : List (List ℕ)) → runs_behind job (run_of [] 0) (front ++ more) ≡ passed ++ runs_behind job (run_of first count) more
@@ -169,16 +169,15 @@ line_in_block : {end : ℕ} {block rest : List ℕ} {front : List (List ℕ)} �
     → (slice_range block from to ≡ take at rest ++ end ∷ []) × (from < to) × (to ≤ length block)
 line_in_block lies at first from to from_is to_is = grind (arith, common_steps)
 
-pub running_starts : (job : Uniq) (block : List ℕ) (at : ℕ) → IsFirstByte (is_byte job.end) block (Some at) → {own : List ℕ} → own ≡ key job (take at block) → (was : Output) → was.faulted ≡ false
+pub running_starts : (job : Uniq) (block : List ℕ) (at : ℕ) → IsFirstByte (is_byte job.end) block (Some at) → {own : List ℕ} → own ≡ key job (take at block) → (was : Output)
     → Running job block (drop (at + 1) block) 1 (record { from = 0; to = at + 1 }) (record { from = 0; to = 0 }) own was was
-running_starts job block at first own_is was clean =
+running_starts job block at first own_is was =
     let l = line_in_block (front_nothing job.end block) at first 0 (at + 1) (omega arith) (omega arith) in record {
       front = take at block ∷ [];
       lies = front_more (front_nothing job.end block) at first;
       passed = [];
       pushed = [];
       wrote = wrote_nothing was;
-      clean = clean;
       waits = refl;
       first = take at block;
       on = λ more. behind_turn job (run_of [] 0) (take at block) more refl;
@@ -208,7 +207,6 @@ module _ {job : Uniq} {block : List ℕ} {rest : List ℕ} {count : ℕ} {line w
       passed = r.passed;
       pushed = r.pushed;
       wrote = r.wrote;
-      clean = r.clean;
       waits = r.waits;
       first = r.first;
       on = λ more. cc (one_more more, behind_more job (run_of r.first count) next more (some_count r.some same));
@@ -236,17 +234,16 @@ module _ {job : Uniq} {block : List ℕ} {rest : List ℕ} {count : ℕ} {line w
             entries-append job r.passed (open_run (run_of r.first count)),
           )
 
-      pub running_turn : {is' : Output} {now : Span} → Waits (span_of block waiting ++ run_text job.show count (span_of block line)) block now is is' → is'.faulted ≡ false
+      pub running_turn : {is' : Output} {now : Span} → Waits (span_of block waiting ++ run_text job.show count (span_of block line)) block now is is'
           → (from to : ℕ) → from ≡ length block - length rest → to ≡ from + at + 1 → {own' : List ℕ} → own' ≡ key job next
           → Running job block (drop (at + 1) rest) 1 (record { from = from; to = to }) now own' was is'
-      running_turn {now} w clean from to from_is to_is own_is' =
+      running_turn {now} w from to from_is to_is own_is' =
           let l = line_in_block r.lies at found _ _ from_is to_is in record {
             front = r.front ++ next ∷ [];
             lies = front_more r.lies at found;
             passed = r.passed ++ open_run (run_of r.first count);
             pushed = r.pushed ++ w.pushed;
-            wrote = wrote_trans _ _ _ _ _ r.clean r.wrote w.wrote;
-            clean = clean;
+            wrote = wrote_then _ _ _ r.wrote w.wrote;
             waits = all_entries w.pushed (span_of block now) w.all;
             first = next;
             on = turned;
@@ -267,7 +264,7 @@ module _ {job : Uniq} {block : List ℕ} {rest : List ℕ} {count : ℕ} {line w
         wrote = subst (Wrote was is')
             (sym (append-nil (r.pushed ++ (span_of block waiting ++ run_text job.show count (span_of block line))))
             ∙ all_entries (span_of block waiting ++ run_text job.show count (span_of block line)) [] (append-nil (span_of block waiting ++ run_text job.show count (span_of block line))))
-            (wrote_trans _ _ _ _ _ r.clean r.wrote wrote);
+            (wrote_then _ _ _ r.wrote wrote);
         true_so_far = λ more.
             let behind = ended_lines job.end (drop (at + 1) rest) ++ more in
             (runs_behind job (run_of next 1) behind, cc (lines_on more, turned behind));
@@ -283,13 +280,13 @@ module _ {job : Uniq} {block : List ℕ} {rest : List ℕ} {count : ℕ} {line w
     all_lines = front_all r.lies none
 
     all_wrote : Wrote was is' (entries job r.passed)
-    all_wrote = rw r.waits at (wrote_trans _ _ _ _ _ r.clean r.wrote wrote)
+    all_wrote = rw r.waits at (wrote_then _ _ _ r.wrote wrote)
 
     pub running_done : is'.faulted ≡ false → RunsOn job (run_of [] 0) (run_of (slice_range block line.from (line.to - 1)) count) (ended_lines job.end block) was is'
     running_done clean = record {
       passed = r.passed;
       wrote = all_wrote;
-      clean = clean;
+      clean = λ _. clean;
       on = λ more. cc (all_lines, r.on more, first_is);
       count = omega (arith, ap length all_lines);
       some = λ h. omega arith;

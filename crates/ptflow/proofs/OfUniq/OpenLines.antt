@@ -1,11 +1,12 @@
 -- The run that is open, with the lines that are taken one by one and block by block.
 use Rattle.ptflow.proofs.Common.{◌≡◌, ℕ, ◌+◌, ◌<◌, ◌&&◌, Bool, true, false, List, [], ◌∷◌, ◌++◌, Option, None, Some, length, take, drop, refl, sym, ◌∙◌, common_steps, ap, subst, arith, append_assoc}
 use Rattle.ptflow.proofs.Common.{length-append, take-append-drop, nat_lt, swap, is_some, take-append-add, append-nil, length-take-le, get_or-set_other, sum_by-cons, IsFirstByte, is_byte, Output}
-use Rattle.ptflow.proofs.Common.{Wrote, whole_lines, Slots, line, total, with_line, text, ended_lines, IsLine, wrote_nothing, wrote_trans, no_end, text-append, ended_none, Uniq, Run, is_same, runs}
+use Rattle.ptflow.proofs.Common.{Wrote, whole_lines, Slots, line, total, with_line, text, ended_lines, IsLine, wrote_nothing, no_end, text-append, ended_none, Uniq, Run, is_same, runs}
 use Rattle.ptflow.proofs.Common.{entries, uniq_tool, Empties, IsLineTool, first_line, open_run_of, RunsOn, RunsHalt, GoesOnWith, run_of, count_of, open_run, runs_behind, run_text}
 use Rattle.ptflow.specs.declared.tools.uniq.Open.{Open}
 use Rattle.ptflow.specs.declared.tools.uniq.runs.Same.{Same}
 use Rattle.ptflow.proofs.OfUniq.BlockRuns.{other_count}
+use Rattle.ptflow.proofs.OfPasses.Fronts.{wrote_then}
 use Rattle.ptflow.proofs.OfPasses.LineLaws.{ended_next}
 use Rattle.ptflow.proofs.OfUniq.OpenRuns.{behind_more, behind_turn, entries-append, open_is, but_open}
 
@@ -62,13 +63,13 @@ line_tested job count is seen_is came_is answered = cc
 
 module _ (job : Uniq) (run : Run) (next : List ℕ) where
   -- it is of the run
-  pub line_more : (was : Output) → was.faulted ≡ false → (nat_lt 0 run.count && is_same job run.line next) ≡ true → RunsOn job run (run_of run.line (run.count + 1)) (next ∷ []) was was
-  line_more was clean same = record { passed = []; wrote = wrote_nothing was; clean = clean; on = λ more. behind_more job run next more same; count = omega arith; some = λ h. omega arith }
+  pub line_more : (was : Output) → (nat_lt 0 run.count && is_same job run.line next) ≡ true → RunsOn job run (run_of run.line (run.count + 1)) (next ∷ []) was was
+  line_more was same = record { passed = []; wrote = wrote_nothing was; clean = λ clean. clean; on = λ more. behind_more job run next more same; count = omega arith; some = λ h. omega arith }
 
   -- or it begins another one
   module _ {was is : Output} (other : (nat_lt 0 run.count && is_same job run.line next) ≡ false) (wrote : Wrote was is (entries job (open_run run))) where
     pub line_turns : is.faulted ≡ false → RunsOn job run (run_of next 1) (next ∷ []) was is
-    line_turns clean = record { passed = open_run run; wrote = wrote; clean = clean; on = λ more. behind_turn job run next more other; count = omega arith; some = λ h. omega arith }
+    line_turns clean = record { passed = open_run run; wrote = wrote; clean = λ _. clean; on = λ more. behind_turn job run next more other; count = omega arith; some = λ h. omega arith }
 
     pub line_halts : is.faulted ≡ true → RunsHalt job run (next ∷ []) was is
     line_halts fault = record { passed = open_run run; wrote = wrote; fault = fault; true_so_far = λ more. (runs_behind job (run_of next 1) more, behind_turn job run next more other) }
@@ -80,11 +81,11 @@ not_found end block None none said = no_end end block none
 not_found end block (Some at) first said = cc
 
 -- no line of it is whole
-pub block_none : (job : Uniq) (end : ℕ) (run : Run) (block : List ℕ) (was : Output) → was.faulted ≡ false → IsLine end block → RunsOn job run run (ended_lines end block) was was
-block_none job end run block was clean none = record {
+pub block_none : (job : Uniq) (end : ℕ) (run : Run) (block : List ℕ) (was : Output) → IsLine end block → RunsOn job run run (ended_lines end block) was was
+block_none job end run block was none = record {
   passed = [];
   wrote = wrote_nothing was;
-  clean = clean;
+  clean = λ clean. clean;
   on = λ more. cc (ended_none end block none);
   count = omega arith;
   some = λ h. absurd (omega (arith, ap length (ended_none end block none)));
@@ -106,11 +107,11 @@ module _ {job : Uniq} {end : ℕ} {first block : List ℕ} {same : Same} (g : Go
 
   -- no line more is whole
   module _ (none : IsLine end rest) where
-    pub block_on : (was : Output) → was.faulted ≡ false → RunsOn job (run_of first count) run (ended_lines end block) was was
-    block_on was clean = record {
+    pub block_on : (was : Output) → RunsOn job (run_of first count) run (ended_lines end block) was was
+    block_on was = record {
       passed = [];
       wrote = wrote_nothing was;
-      clean = clean;
+      clean = λ clean. clean;
       on = λ more. cc (went_on more, ended_none end rest none);
       count = omega (arith, many);
       some = λ h. omega arith;
@@ -137,23 +138,23 @@ module _ {job : Uniq} {end : ℕ} {first block : List ℕ} {same : Same} (g : Go
       pub block_run_halts : is.faulted ≡ true → RunsHalt job (run_of first count) (ended_lines end block) was is
       block_run_halts fault = record { passed = open_run run; wrote = wrote; fault = fault; true_so_far = λ more. (runs_behind job (run_of [] 0) (ended_lines end rest ++ more), turned more) }
 
-      both_wrote : (passed : List Run) → is.faulted ≡ false → Wrote is is' (entries job passed) → Wrote was is' (entries job (open_run run ++ passed))
-      both_wrote passed clean more = rw (entries-append job (open_run run) passed) (wrote_trans _ _ _ _ _ clean wrote more)
+      both_wrote : (passed : List Run) → Wrote is is' (entries job passed) → Wrote was is' (entries job (open_run run ++ passed))
+      both_wrote passed more = rw (entries-append job (open_run run) passed) (wrote_then _ _ _ wrote more)
 
       pub block_turns : is.faulted ≡ false → (after : Run) → RunsOn job (run_of [] 0) after (ended_lines end rest) is is' → RunsOn job (run_of first count) after (ended_lines end block) was is'
       block_turns clean after r = record {
         passed = open_run run ++ r.passed;
-        wrote = both_wrote r.passed clean r.wrote;
-        clean = r.clean;
+        wrote = both_wrote r.passed r.wrote;
+        clean = λ _. r.clean clean;
         on = λ more. cc (turned more, r.on more, append_assoc (open_run run) r.passed (runs_behind job after more));
         count = omega (arith, many);
         some = λ h. r.some (omega (arith, ap length (ended_next end rest at found)));
       }
 
-      pub block_halts : is.faulted ≡ false → RunsHalt job (run_of [] 0) (ended_lines end rest) is is' → RunsHalt job (run_of first count) (ended_lines end block) was is'
-      block_halts clean h = record {
+      pub block_halts : RunsHalt job (run_of [] 0) (ended_lines end rest) is is' → RunsHalt job (run_of first count) (ended_lines end block) was is'
+      block_halts h = record {
         passed = open_run run ++ h.passed;
-        wrote = both_wrote h.passed clean h.wrote;
+        wrote = both_wrote h.passed h.wrote;
         fault = h.fault;
         true_so_far = λ more. let t = h.true_so_far more in (t.0, cc (turned more, append_assoc (open_run run) h.passed t.0));
       }

@@ -60,8 +60,15 @@ fn begin(run: &mut Open, count: u64, line: &[u8])
     let _ = run.bytes.try_extend_from_slice(line);
 }
 
-impl LineTool for UniqJob {
-    ghost use Rattle.std.specs.Prelude.{◌≡◌};
+// What is to be done, and the byte that ends a line.
+#[derive(Drop)]
+pub(crate) struct LineUniq<'a> {
+    pub job: &'a UniqJob,
+    pub ending: u8,
+    ghost ends: { ending ≡ (uniq_job job.now).end },
+}
+
+impl<'a> LineTool for LineUniq<'a> {
     ghost use Rattle.ptlangs.specs.Jobs.{uniq_job};
     ghost use Rattle.ptflow.specs.Uniqs.{Run, entries, uniq_tool};
     ghost use Rattle.ptflow.specs.Workings.Uniq.OpenLines.{open_run_of};
@@ -69,11 +76,9 @@ impl LineTool for UniqJob {
 
     type State = Open;
 
-    const SLOTS: usize = 2;
-
     ghost SLOTS = { 2 };
 
-    ghost tool = { λ job. uniq_tool (uniq_job job) };
+    ghost tool = { λ t. uniq_tool (uniq_job t.job.now) };
 
     ghost Carried = { Run };
 
@@ -81,27 +86,35 @@ impl LineTool for UniqJob {
 
     ghost Item = { Run };
 
-    ghost rest = { λ job. runs_behind (uniq_job job) };
+    ghost rest = { λ t. runs_behind (uniq_job t.job.now) };
 
-    ghost written = { λ job. entries (uniq_job job) };
+    ghost written = { λ t. entries (uniq_job t.job.now) };
 
     ghost counted = { count_of };
 
-    ghost Fits = { λ job ending. ending ≡ (uniq_job job).end };
+    #[inline(always)]
+    fn slots(&self) -> usize {
+        2
+    }
 
     // The line is one more of the run that is open, or else the first one of the next run.
     fn take_line<A: Allocator + Copy, W: Sink>(
         &self,
-        ending: u8,
         run: &mut Open,
         store: &mut Store<A>,
         out: &mut Out<W>,
     ) -> Result<(), WriteFault> {
-        if goes_on(self, run.count, first_line(run, store), store.line(1)) {
+        if goes_on(self.job, run.count, first_line(run, store), store.line(1)) {
             run.count += 1;
             return Ok(());
         }
-        push_run(self.show, run.count, first_line(run, store), &[ending], out)?;
+        push_run(
+            self.job.show,
+            run.count,
+            first_line(run, store),
+            &[self.ending],
+            out,
+        )?;
         store.swap(0, 1);
         run.count = 1;
         run.kept = false;
@@ -111,35 +124,40 @@ impl LineTool for UniqJob {
     // Only the first line of the last run is copied. Nothing of a run is pushed before the next key is known.
     fn take_block<A: Allocator + Copy, W: Sink>(
         &self,
-        ending: u8,
         block: &[u8],
         run: &mut Open,
         store: &Store<A>,
         out: &mut Out<W>,
     ) -> Result<usize, WriteFault> {
+        let LineUniq { job, ending } = *self;
         if find_near(ending, block).is_none() {
             return Ok(0);
         }
-        let same = count_same(self, ending, first_line(run, store), block);
+        let same = count_same(self, first_line(run, store), block);
         run.count += same.count;
         let rest = &block[same.passed..];
         let Some(at) = find_near(ending, rest) else {
             return Ok(same.passed);
         };
-        push_run(self.show, run.count, first_line(run, store), &[ending], out)?;
-        let last = push_runs(self, ending, at, rest, out)?;
+        push_run(job.show, run.count, first_line(run, store), &[ending], out)?;
+        let last = push_runs(self, at, rest, out)?;
         begin(run, last.count, &rest[last.line.from..last.line.to - 1]);
         Ok(same.passed + last.passed)
     }
 
     fn push_end<A: Allocator + Copy, W: Sink>(
         &self,
-        ending: u8,
         run: &Open,
         store: &mut Store<A>,
         out: &mut Out<W>,
     ) -> Result<(), WriteFault> {
-        push_run(self.show, run.count, first_line(run, store), &[ending], out)?;
+        push_run(
+            self.job.show,
+            run.count,
+            first_line(run, store),
+            &[self.ending],
+            out,
+        )?;
         store.clear(0);
         Ok(())
     }
@@ -173,5 +191,9 @@ pub fn uniq<A: Allocator + Copy, S: Source, R: Source, W: Sink>(
         kept: false,
         bytes: ArrayVec::new(),
     };
-    over_lines(job, &mut run, reader, store, out)
+    let tool = LineUniq {
+        job,
+        ending: reader.ending(),
+    };
+    over_lines(&tool, &mut run, reader, store, out)
 }

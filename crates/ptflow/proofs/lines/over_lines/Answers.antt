@@ -1,6 +1,7 @@
 -- What was staged is sent before each read, so each answer first passes over that. Behind the line that came by way of
 -- the last slot what is staged is sent again, and the lines of the block follow. Each exit is one of the ends of a
 -- pass.
+use Rattle.std.proofs.Common.{rules}
 use Rattle.ptflow.proofs.Common.{refl, subst, arith, err_from_is_err_and, IsLine}
 use Rattle.ptflow.proofs.OfPasses.LineLemmas.{came_line, run_starts, run_unslotted, run_sent, run_count, run_room, run_unsent, run_line, run_line_halts, filled_count}
 use Rattle.ptflow.proofs.OfPasses.LineLemmas.{run_broken, run_memory, run_no_block, run_done, run_unended, run_block, run_block_halts}
@@ -11,122 +12,122 @@ use Rattle.ptflow.proofs.lines.over_lines.Goals as goal
 pub returns-in_err-need_slots : goal.returns-in_err-need_slots
 returns-in_err-need_slots g c =
     let x = err_from_is_err_and c.from_residual.result c.from_residual.ensures.1 in
-    let adds = rw c.SLOTS-slots.ensures at c.need_slots.ensures.adds in
+    let adds = rw c.slots-slots.ensures at c.need_slots.ensures.adds in
     rw (x.1, x.2, c.in_err-need_slots.ensures.err)
-    (run_unslotted c.requires.tool refl c.requires.ready c.requires.sound c.requires.clean adds c.need_slots.ensures.same_peak c.in_err-need_slots.ensures.denied)
+    (run_unslotted c.requires.tool refl c.requires.begins.ready c.requires.begins.sound c.requires.begins.clean adds c.need_slots.ensures.same_peak c.in_err-need_slots.ensures.denied)
 
 pub turns-init : goal.turns-init
 turns-init g c =
-    let adds = rw c.SLOTS-slots.ensures at c.need_slots.ensures.adds in
-    run_starts c.requires.tool refl c.requires.ready c.requires.clean (keeps_starts adds c.in_ok-need_slots.ensures.allowed
+    let adds = rw c.slots-slots.ensures at c.need_slots.ensures.adds in
+    run_starts c.requires.tool refl c.requires.begins.ready c.requires.begins.clean (keeps_starts adds c.in_ok-need_slots.ensures.allowed
     (cc) c.need_slots.ensures.same_peak)
 
 pub returns-in_err-send_before_wait : goal.returns-in_err-send_before_wait
 returns-in_err-send_before_wait g c =
     let x = err_from_is_err_and c.from_residual-in_err-send_before_wait.result c.from_residual-in_err-send_before_wait.ensures.1 in
-    rw (x.1, x.2) (run_unsent c.requires.tool c.turns.invariant c.requires.ready c.send_before_wait.ensures.sound c.send_before_wait.ensures.pushed.wrote c.in_err-send_before_wait.ensures.pushed.fault)
+    rw (x.1, x.2) (run_unsent c.requires.tool c.turns.invariant c.requires.begins.ready c.send_before_wait.ensures.sound c.send_before_wait.ensures.pushed.wrote c.in_err-send_before_wait.ensures.pushed.fault)
 
-pub take_line-requires-clause-few : goal.take_line-requires-clause-few
-take_line-requires-clause-few g c =
+pub take_line-requires : goal.take_line-requires
+take_line-requires g c =
     let r = run_sent c.requires.tool c.turns.invariant c.send_before_wait.ensures.pushed.wrote c.in_ok-send_before_wait.ensures.pushed.clean in
-    let e = came_line c.SLOTS-slots.ensures c.in-Ok-true.field-0-test (c.in-Ok-true.ensures.fills r.reached.goes.fault) in
-    filled_count c.requires.tool r c.requires.sound c.fill.ensures.was_sound e.line e.stored
+    let e = came_line c.slots-slots.ensures c.in-Ok-true.field-0-test (c.in-Ok-true.ensures.fills r.reached.goes.fault) in
+    record { room = omega (arith, run_room c.requires.tool r, c.fill.ensures.slots); few = filled_count c.requires.tool r c.requires.begins.sound c.fill.ensures.was_sound e.line e.stored }
 
 pub returns-in_err-take_line-in-Ok-true : goal.returns-in_err-take_line-in-Ok-true
 returns-in_err-take_line-in-Ok-true g c =
     let r = run_sent c.requires.tool c.turns.invariant c.send_before_wait.ensures.pushed.wrote c.in_ok-send_before_wait.ensures.pushed.clean in
-    let e = came_line c.SLOTS-slots.ensures c.in-Ok-true.field-0-test (c.in-Ok-true.ensures.fills r.reached.goes.fault) in
+    let e = came_line c.slots-slots.ensures c.in-Ok-true.field-0-test (c.in-Ok-true.ensures.fills r.reached.goes.fault) in
     let x = err_from_is_err_and c.from_residual-in_err-take_line-in-Ok-true.result c.from_residual-in_err-take_line-in-Ok-true.ensures.1 in
     rw (x.1, x.2, c.in_err-take_line-in-Ok-true.ensures.same)
-    (run_line_halts c.requires.tool r e c.requires.ready c.fill.ensures.was_sound c.fill.ensures.is_sound c.in_err-take_line-in-Ok-true.ensures.halts)
+    (run_line_halts c.requires.tool r e c.requires.begins.ready c.fill.ensures.was_sound c.fill.ensures.is_sound c.in_err-take_line-in-Ok-true.ensures.halts)
 
 pub returns-in_err-push_end-in-Ok-false : goal.returns-in_err-push_end-in-Ok-false
 returns-in_err-push_end-in-Ok-false g c =
     let r = run_sent c.requires.tool c.turns.invariant c.send_before_wait.ensures.pushed.wrote c.in_ok-send_before_wait.ensures.pushed.clean in
-    let e = rw (c.in-Ok-false.field-0-test, c.SLOTS-slots.ensures) at (c.in-Ok-false.ensures.fills r.reached.goes.fault) in
+    let e = rw (c.in-Ok-false.field-0-test, c.slots-slots.ensures) at (c.in-Ok-false.ensures.fills r.reached.goes.fault) in
+    let end = c.in_err-push_end-in-Ok-false.ensures.pushed r.reached.clean in
     let x = err_from_is_err_and c.from_residual-in_err-push_end-in-Ok-false.result c.from_residual-in_err-push_end-in-Ok-false.ensures.1 in
     rw (x.1, x.2, c.in_err-push_end-in-Ok-false.ensures.same)
-    (run_unended c.requires.tool r c.requires.ready c.fill.ensures.was_sound c.fill.ensures.is_sound e.0 e.1 e.2 c.push_end.ensures.wrote c.in_err-push_end-in-Ok-false.ensures.fault)
+    (run_unended c.requires.tool r c.requires.begins.ready c.fill.ensures.was_sound c.fill.ensures.is_sound e.0 e.1 e.2 end.wrote end.fault)
 
 pub returns-in-Ok-false : goal.returns-in-Ok-false
 returns-in-Ok-false g c =
     let r = run_sent c.requires.tool c.turns.invariant c.send_before_wait.ensures.pushed.wrote c.in_ok-send_before_wait.ensures.pushed.clean in
-    let e = rw (c.in-Ok-false.field-0-test, c.SLOTS-slots.ensures) at (c.in-Ok-false.ensures.fills r.reached.goes.fault) in
+    let e = rw (c.in-Ok-false.field-0-test, c.slots-slots.ensures) at (c.in-Ok-false.ensures.fills r.reached.goes.fault) in
     let end = c.in_ok-push_end-in-Ok-false.ensures in
-    run_done c.requires.tool r c.requires.ready c.fill.ensures.was_sound c.fill.ensures.is_sound e.0 e.1 e.2 c.push_end.ensures.wrote end.emptied end.clean
+    let pushed = end.pushed r.reached.clean in
+    run_done c.requires.tool r c.requires.begins.ready c.fill.ensures.was_sound c.fill.ensures.is_sound e.0 e.1 e.2 pushed.wrote end.emptied pushed.clean
 
 pub returns-in-Err-Read : goal.returns-in-Err-Read
 returns-in-Err-Read g c =
     let r = run_sent c.requires.tool c.turns.invariant c.send_before_wait.ensures.pushed.wrote c.in_ok-send_before_wait.ensures.pushed.clean in
-    let e = rw (c.in-Err-Read.field-0-is, c.SLOTS-slots.ensures) at (c.in-Err-Read.ensures.fills r.reached.goes.fault) in
+    let e = rw (c.in-Err-Read.field-0-is, c.slots-slots.ensures) at (c.in-Err-Read.ensures.fills r.reached.goes.fault) in
     let free = subst (λ b. IsLine b e.piece) r.reached.goes.reads.ending e.faults.whole in
-    run_broken c.requires.tool r c.requires.ready c.fill.ensures.was_sound e.faults.reads free c.fill.ensures.is_sound e.stored e.cause
+    run_broken c.requires.tool r c.requires.begins.ready c.fill.ensures.was_sound e.faults.reads free c.fill.ensures.is_sound e.stored e.cause
 
 pub returns-in-Err-Memory : goal.returns-in-Err-Memory
 returns-in-Err-Memory g c =
     let r = run_sent c.requires.tool c.turns.invariant c.send_before_wait.ensures.pushed.wrote c.in_ok-send_before_wait.ensures.pushed.clean in
-    let e = rw (c.in-Err-Memory.field-0-is, c.SLOTS-slots.ensures) at (c.in-Err-Memory.ensures.fills r.reached.goes.fault) in
+    let e = rw (c.in-Err-Memory.field-0-is, c.slots-slots.ensures) at (c.in-Err-Memory.ensures.fills r.reached.goes.fault) in
     let free = subst (λ b. IsLine b e.piece) r.reached.goes.reads.ending e.faults.whole in
-    run_memory c.requires.tool r c.requires.ready c.fill.ensures.was_sound e.faults.reads free c.fill.ensures.is_sound e.stored e.failed
+    run_memory c.requires.tool r c.requires.begins.ready c.fill.ensures.was_sound e.faults.reads free c.fill.ensures.is_sound e.stored e.failed
 
 pub returns-in_err-send_before_wait-2 : goal.returns-in_err-send_before_wait-2
 returns-in_err-send_before_wait-2 g c =
     let r = run_sent c.requires.tool c.turns.invariant c.send_before_wait.ensures.pushed.wrote c.in_ok-send_before_wait.ensures.pushed.clean in
-    let e = came_line c.SLOTS-slots.ensures c.in-Ok-true.field-0-test (c.in-Ok-true.ensures.fills r.reached.goes.fault) in
+    let e = came_line c.slots-slots.ensures c.in-Ok-true.field-0-test (c.in-Ok-true.ensures.fills r.reached.goes.fault) in
     let took = c.in_ok-take_line-in-Ok-true.ensures in
     let v = run_line c.requires.tool r e took.continues took.swapped in
     let x = err_from_is_err_and c.from_residual-in_err-send_before_wait-2.result c.from_residual-in_err-send_before_wait-2.ensures.1 in
-    rw (x.1, x.2) (run_unsent c.requires.tool v c.requires.ready c.fill.ensures.is_sound c.send_before_wait-in-turns.ensures.pushed.wrote c.in_err-send_before_wait-2.ensures.pushed.fault)
+    rw (x.1, x.2) (run_unsent c.requires.tool v c.requires.begins.ready c.fill.ensures.is_sound c.send_before_wait-in-turns.ensures.pushed.wrote c.in_err-send_before_wait-2.ensures.pushed.fault)
 
 pub turns-smaller : goal.turns-smaller
 turns-smaller g c =
-    let e = came_line c.SLOTS-slots.ensures c.in-Ok-true.field-0-test (c.in-Ok-true.ensures.fills c.turns.invariant.reached.goes.fault) in
+    let e = came_line c.slots-slots.ensures c.in-Ok-true.field-0-test (c.in-Ok-true.ensures.fills c.turns.invariant.reached.goes.fault) in
     let shows = (rw c.in-Ok.is at c.block.follows.holds-at-none.shows) e.goes.fault in
     budget_less c.turns.reader c.in_ok-passed-in-Ok.passed e.less shows.0 c.consume.ensures.consumed
 
-pub take_block-requires-clause-open : goal.take_block-requires-clause-open
-take_block-requires-clause-open g c =
+pub take_block-requires : goal.take_block-requires
+take_block-requires g c =
     let r = run_sent c.requires.tool c.turns.invariant c.send_before_wait.ensures.pushed.wrote c.in_ok-send_before_wait.ensures.pushed.clean in
-    let e = came_line c.SLOTS-slots.ensures c.in-Ok-true.field-0-test (c.in-Ok-true.ensures.fills r.reached.goes.fault) in
+    let e = came_line c.slots-slots.ensures c.in-Ok-true.field-0-test (c.in-Ok-true.ensures.fills r.reached.goes.fault) in
     let took = c.in_ok-take_line-in-Ok-true.ensures in
-    (took.continues.some (omega arith), run_count c.requires.tool (run_line c.requires.tool r e took.continues took.swapped) c.requires.sound c.fill.ensures.is_sound)
-
-pub take_block-requires-clause-slots : goal.take_block-requires-clause-slots
-take_block-requires-clause-slots g c =
-    let r = run_sent c.requires.tool c.turns.invariant c.send_before_wait.ensures.pushed.wrote c.in_ok-send_before_wait.ensures.pushed.clean in
-    let e = came_line c.SLOTS-slots.ensures c.in-Ok-true.field-0-test (c.in-Ok-true.ensures.fills r.reached.goes.fault) in
-    let took = c.in_ok-take_line-in-Ok-true.ensures in
-    run_room c.requires.tool (run_line c.requires.tool r e took.continues took.swapped)
+    let v = run_line c.requires.tool r e took.continues took.swapped in
+    record {
+      lines = record { room = run_room c.requires.tool v; few = run_count c.requires.tool v c.requires.begins.sound c.fill.ensures.is_sound };
+      waits = took.continues.some (omega arith);
+      short = search rules;
+    }
 
 pub returns-in_err-passed-in-Ok : goal.returns-in_err-passed-in-Ok
 returns-in_err-passed-in-Ok g c =
     let r = run_sent c.requires.tool c.turns.invariant c.send_before_wait.ensures.pushed.wrote c.in_ok-send_before_wait.ensures.pushed.clean in
-    let e = came_line c.SLOTS-slots.ensures c.in-Ok-true.field-0-test (c.in-Ok-true.ensures.fills r.reached.goes.fault) in
+    let e = came_line c.slots-slots.ensures c.in-Ok-true.field-0-test (c.in-Ok-true.ensures.fills r.reached.goes.fault) in
     let took = c.in_ok-take_line-in-Ok-true.ensures in
     let v = run_line c.requires.tool r e took.continues took.swapped in
     let u = run_sent c.requires.tool v c.send_before_wait-in-turns.ensures.pushed.wrote c.in_ok-send_before_wait-2.ensures.pushed.clean in
     let shows = (rw c.in-Ok.is at c.block.follows.holds-at-none.shows) u.reached.goes.fault in
     let x = err_from_is_err_and c.from_residual-in_err-passed-in-Ok.result c.from_residual-in_err-passed-in-Ok.ensures.1 in
     rw (x.1, x.2)
-    (run_block_halts c.requires.tool u c.requires.ready c.fill.ensures.is_sound c.ending-ending.ensures c.block.follows.holds-at-none.is_sound shows.0 shows.1 c.in_err-passed-in-Ok.ensures.halts)
+    (run_block_halts c.requires.tool u c.requires.begins.ready c.fill.ensures.is_sound c.block.follows.holds-at-none.is_sound shows.0 shows.1 c.in_err-passed-in-Ok.ensures.halts)
 
 pub returns-in-Err : goal.returns-in-Err
 returns-in-Err g c =
     let r = run_sent c.requires.tool c.turns.invariant c.send_before_wait.ensures.pushed.wrote c.in_ok-send_before_wait.ensures.pushed.clean in
-    let e = came_line c.SLOTS-slots.ensures c.in-Ok-true.field-0-test (c.in-Ok-true.ensures.fills r.reached.goes.fault) in
+    let e = came_line c.slots-slots.ensures c.in-Ok-true.field-0-test (c.in-Ok-true.ensures.fills r.reached.goes.fault) in
     let took = c.in_ok-take_line-in-Ok-true.ensures in
     let v = run_line c.requires.tool r e took.continues took.swapped in
     let u = run_sent c.requires.tool v c.send_before_wait-in-turns.ensures.pushed.wrote c.in_ok-send_before_wait-2.ensures.pushed.clean in
     let shows = (rw c.in-Err.is at c.block.follows.holds-at-none.shows) u.reached.goes.fault in
-    run_no_block c.requires.tool u c.requires.ready c.fill.ensures.is_sound shows.0.reads c.block.follows.holds-at-none.is_sound shows.1
+    run_no_block c.requires.tool u c.requires.begins.ready c.fill.ensures.is_sound shows.0.reads c.block.follows.holds-at-none.is_sound shows.1
 
 pub turns-preserved : goal.turns-preserved
 turns-preserved g c =
     let r = run_sent c.requires.tool c.turns.invariant c.send_before_wait.ensures.pushed.wrote c.in_ok-send_before_wait.ensures.pushed.clean in
-    let e = came_line c.SLOTS-slots.ensures c.in-Ok-true.field-0-test (c.in-Ok-true.ensures.fills r.reached.goes.fault) in
+    let e = came_line c.slots-slots.ensures c.in-Ok-true.field-0-test (c.in-Ok-true.ensures.fills r.reached.goes.fault) in
     let took = c.in_ok-take_line-in-Ok-true.ensures in
     let v = run_line c.requires.tool r e took.continues took.swapped in
     let u = run_sent c.requires.tool v c.send_before_wait-in-turns.ensures.pushed.wrote c.in_ok-send_before_wait-2.ensures.pushed.clean in
     let shows = (rw c.in-Ok.is at c.block.follows.holds-at-none.shows) u.reached.goes.fault in
     let rest = c.in_ok-passed-in-Ok.ensures in
-    run_block c.requires.tool u c.ending-ending.ensures shows.0 shows.1 rest.passed c.consume.ensures.consumed rest.continues
+    run_block c.requires.tool u shows.0 shows.1 rest.passed c.consume.ensures.consumed rest.continues

@@ -2,16 +2,35 @@
 use Rattle.std.specs.Prelude.{◌≡◌, ◌⊎◌, ◌+◌, ◌-◌, ◌*◌, ◌<◌, ◌≤◌, ◌^◌, ℕ, List, ◌++◌, true, false, length, take, drop, max, swap}
 use Rattle.ptlines.specs.Inputs.{Given, Begins, whole_lines}
 use Rattle.ptlines.specs.Outputs.{Output, Wrote}
+use Rattle.ptlines.specs.Readers.{Reader, IsSound}
 use Rattle.ptlines.specs.Slots.{Slots, total, with_line}
 use Rattle.ptlines.specs.Text.{text, lines, ended_lines, longest_line}
 use Rattle.ptflow.specs.Tools.{Tool}
+use Rattle.ptflow.specs.Passes.{IsReady}
+
+-- A pass over lines may begin: nothing was kept or refused so far, and no write failed.
+pub record MayBegin (reader : Reader) (out : Output) (store : Slots) : Type 0 where
+  pub ready : IsReady reader store
+  pub sound : IsSound reader
+  pub clean : out.faulted ≡ false
+
+-- Lines may be taken: so many slots are there, and what is written is held back for no more lines than may come.
+pub record MayTake (slots held : ℕ) (store : Slots) : Type 0 where
+  pub room : slots ≤ length store.lines
+  pub few : held ≤ 2 ^ 63
+
+-- The lines of a block may be taken. A line came before them, for which what is written is held back.
+pub record MayTakeBlock (slots held : ℕ) (store : Slots) (block : List ℕ) : Type 0 where
+  pub lines : MayTake slots held store
+  pub waits : 0 < held
+  pub short : length block ≤ 8192
 
 -- These lines came: what was passed on comes before what is made of the rest, whatever comes. Of no more lines than
 -- came what is written is held back.
 pub record LinesOn {X E : Type 0} (rest_from : X → List (List ℕ) → List E) (written : List E → List ℕ) (counted : X → ℕ) (before after : X) (ls : List (List ℕ)) (was is : Output) : Type 0 where
   pub passed : List E
   pub wrote : Wrote was is (written passed)
-  pub clean : is.faulted ≡ false
+  pub clean : was.faulted ≡ false → is.faulted ≡ false
   pub on : (more : List (List ℕ)) → rest_from before (ls ++ more) ≡ passed ++ rest_from after more
   pub count : counted after ≤ counted before + length ls
   pub some : 0 < length ls → 0 < counted after
@@ -22,10 +41,6 @@ pub record LinesHalt {X E : Type 0} (rest_from : X → List (List ℕ) → List 
   pub wrote : Wrote was is (written passed)
   pub fault : is.faulted ≡ true
   pub true_so_far : (more : List (List ℕ)) → (rest : List E) × (rest_from before (ls ++ more) ≡ passed ++ rest)
-
--- a run of lines is open, and has no more than may come
-abbrev pub IsOpen : ℕ → Type 0
-IsOpen count = (0 < count) × (count ≤ 2 ^ 63)
 
 -- so many bytes of a block are the lines whose end is in it
 abbrev pub PassesLines : ℕ → List ℕ → ℕ → Type 0

@@ -1,12 +1,12 @@
 //! `cut` by fields.
 
-ghost use Rattle.std.specs.Prelude.{◌≡◌, ◌+◌, ◌-◌, ◌<◌, ◌≤◌, ◌^◌, ◌++◌, ◌⊎◌, length, take, drop, slice_index, true, false, [], ◌∷◌, Some, IfOk, IfSome, OnOk, OnErr, MatchOption};
+ghost use Rattle.std.specs.Prelude.{◌≡◌, ◌+◌, ◌-◌, ◌<◌, ◌≤◌, ◌++◌, ◌⊎◌, length, take, drop, slice_index, true, false, [], ◌∷◌, Some, IfOk, IfSome, OnOk, OnErr, MatchOption};
 ghost use Rattle.memchr.specs.Find.{IsFirstByte, is_byte};
 ghost use Rattle.ptlines.specs.Outputs.{Wrote};
-ghost use Rattle.ptlines.specs.Readers.{IsSound};
 ghost use Rattle.ptlangs.specs.Jobs.{cut_job};
 ghost use Rattle.ptflow.specs.Cuts.{cut_fields, cut_lines, cut_tool};
-ghost use Rattle.ptflow.specs.Passes.{IsReady, IsPass};
+ghost use Rattle.ptflow.specs.Passes.{IsPass};
+ghost use Rattle.ptflow.specs.Workings.Passes.Lines.{MayBegin};
 ghost use Rattle.ptflow.specs.Workings.Cut.FieldPlaces.{fields, StartsAt};
 ghost use Rattle.ptflow.specs.Workings.Cut.CutRests.{PutsLines};
 
@@ -75,11 +75,9 @@ fn push_fields<A: Allocator + Copy, W: Sink>(
     line: &[u8],
     out: &mut Out<W>,
 ) -> Result<(), WriteFault>
-    requires first { IsFirstByte (is_byte job.now.delim) line.now (Some first) }
-    requires short { length line.now < 2 ^ 63 }
-    requires clean { out.old.faulted ≡ false }
+    requires { IsFirstByte (is_byte job.now.delim) line.now (Some first) }
     ensures wrote { Wrote out.old out.new (cut_fields (cut_job job.now) line.now) }
-    ensures clean { OnOk result (out.new.faulted ≡ false) }
+    ensures clean { OnOk result (out.old.faulted ≡ false → out.new.faulted ≡ false) }
     ensures fault { OnErr result (out.new.faulted ≡ true) }
 {
     let selected = job.list.intervals();
@@ -105,31 +103,35 @@ fn push_fields<A: Allocator + Copy, W: Sink>(
     Ok(())
 }
 
+// What is to be done by fields, and the byte that ends a line.
+#[derive(Drop)]
+struct FieldCut<'a, A: Allocator> {
+    job: &'a CutJob<A>,
+    ending: u8,
+    ghost by_fields: { job.now.fields ≡ true },
+    ghost ends: { ending ≡ (cut_job job.now).end },
+}
+
 // Pushes what is written for a line that comes without the byte that ends it.
 fn push_kept<A: Allocator + Copy, W: Sink>(
-    job: &CutJob<A>,
-    ending: u8,
+    by: &FieldCut<A>,
     line: &[u8],
     out: &mut Out<W>,
 ) -> Result<(), WriteFault>
-    requires by_fields { job.now.fields ≡ true }
-    requires ending { ending ≡ (cut_job job.now).end }
-    requires short { length line.now < 2 ^ 63 }
-    requires clean { out.old.faulted ≡ false }
-    ensures wrote { Wrote out.old out.new (cut_lines (cut_job job.now) (line.now ∷ [])) }
-    ensures clean { OnOk result (out.new.faulted ≡ false) }
+    ensures wrote { Wrote out.old out.new (cut_lines (cut_job by.now.job.now) (line.now ∷ [])) }
+    ensures clean { OnOk result (out.old.faulted ≡ false → out.new.faulted ≡ false) }
     ensures fault { OnErr result (out.new.faulted ≡ true) }
 {
-    match find_near(job.delim, line) {
-        Some(first) => push_fields(job, first, line, out)?,
+    match find_near(by.job.delim, line) {
+        Some(first) => push_fields(by.job, first, line, out)?,
         None => {
-            if job.only {
+            if by.job.only {
                 return Ok(());
             }
             out.push(line)?;
         }
     }
-    out.push(&[ending])
+    out.push(&[by.ending])
 }
 
 // Puts the selected fields of a line, the first `to` of these bytes, and then the byte after it, which ends it, to the
@@ -145,7 +147,6 @@ fn put_fields<A: Allocator + Copy>(
 ) -> usize
     requires first { IsFirstByte (is_byte job.now.delim) (take to bytes.now) (Some first) }
     requires within { to < length bytes.now }
-    requires short { length bytes.now < 2 ^ 63 }
     requires room { start + to + 17 ≤ length room.old }
     ensures long { length room.new ≡ length room.old }
     ensures put { take result room.new ≡ take start room.old
@@ -201,22 +202,20 @@ fn whole_lines(ending: u8, bytes: &[u8], to: usize, up_to: usize) -> usize
 // bytes these lines are, and where what was put ends.
 #[inline(always)]
 fn put_lines<A: Allocator + Copy>(
-    job: &CutJob<A>,
-    ending: u8,
+    by: &FieldCut<A>,
     to: usize,
     bytes: &[u8],
     room: &mut [u8],
     start: usize,
 ) -> (usize, usize)
-    requires by_fields { job.now.fields ≡ true }
-    requires ending { ending ≡ (cut_job job.now).end }
-    requires first { IsFirstByte (is_byte ending) bytes.now (Some to) }
-    requires short { length bytes.now < 2 ^ 63 }
+    requires first { IsFirstByte (is_byte by.now.ending) bytes.now (Some to) }
     requires room { start + length bytes.now + 16 ≤ length room.old }
     ensures long { length room.new ≡ length room.old }
-    ensures put { PutsLines (cut_job job.now) ending bytes.now result.0 (take start room.old) (take result.1 room.new) }
+    ensures put { PutsLines (cut_job by.now.job.now) by.now.ending bytes.now result.0
+        (take start room.old) (take result.1 room.new) }
     ensures end { (start ≤ result.1) × (result.1 ≤ start + result.0) }
 {
+    let FieldCut { job, ending } = *by;
     let first = find_near(job.delim, bytes).unwrap_or(bytes.len());
     if first < to {
         return (to + 1, put_fields(job, first, bytes, to, room, start));
@@ -229,19 +228,17 @@ fn put_lines<A: Allocator + Copy>(
     (size, start + size)
 }
 
-impl<A: Allocator + Copy> LineTool for CutJob<A> {
-    ghost use Rattle.std.specs.Prelude.{◌≡◌, ℕ, true};
+impl<'a, A: Allocator + Copy> LineTool for FieldCut<'a, A> {
+    ghost use Rattle.std.specs.Prelude.{ℕ};
     ghost use Rattle.ptlangs.specs.Jobs.{cut_job};
     ghost use Rattle.ptflow.specs.Cuts.{cut_tool};
     ghost use Rattle.ptflow.specs.Workings.Cut.CutRests.{cut_from};
 
     type State = Room;
 
-    const SLOTS: usize = 1;
-
     ghost SLOTS = { 1 };
 
-    ghost tool = { λ job. cut_tool (cut_job job) };
+    ghost tool = { λ t. cut_tool (cut_job t.job.now) };
 
     // Nothing is carried.
     ghost Carried = { Unit {0} };
@@ -250,22 +247,24 @@ impl<A: Allocator + Copy> LineTool for CutJob<A> {
 
     ghost Item = { ℕ };
 
-    ghost rest = { λ job. cut_from (cut_job job) };
+    ghost rest = { λ t. cut_from (cut_job t.job.now) };
 
-    ghost written = { λ job bytes. bytes };
+    ghost written = { λ t bytes. bytes };
 
     ghost counted = { λ u. 1 };
 
-    ghost Fits = { λ job ending. (job.fields ≡ true) × (ending ≡ (cut_job job).end) };
+    #[inline(always)]
+    fn slots(&self) -> usize {
+        1
+    }
 
     fn take_line<B: Allocator + Copy, W: Sink>(
         &self,
-        ending: u8,
         _room: &mut Room,
         store: &mut Store<B>,
         out: &mut Out<W>,
     ) -> Result<(), WriteFault> {
-        push_kept(self, ending, store.line(0), out)?;
+        push_kept(self, store.line(0), out)?;
         Ok(())
     }
 
@@ -274,16 +273,19 @@ impl<A: Allocator + Copy> LineTool for CutJob<A> {
     #[inline(never)]
     fn take_block<B: Allocator + Copy, W: Sink>(
         &self,
-        ending: u8,
         block: &[u8],
         room: &mut Room,
         _store: &Store<B>,
         out: &mut Out<W>,
     ) -> Result<usize, WriteFault> {
+        let by = FieldCut {
+            job: self.job,
+            ending: self.ending,
+        };
         let mut end = 0;
         let mut rest = block;
-        'lines: while let Some(to) = line_end(ending, rest) {
-            let (size, put) = put_lines(self, ending, to, rest, room, end);
+        'lines: while let Some(to) = line_end(by.ending, rest) {
+            let (size, put) = put_lines(&by, to, rest, room, end);
             rest = &rest[size..];
             end = put;
         }
@@ -294,7 +296,6 @@ impl<A: Allocator + Copy> LineTool for CutJob<A> {
     // Nothing is left to write.
     fn push_end<B: Allocator + Copy, W: Sink>(
         &self,
-        _ending: u8,
         _room: &Room,
         _store: &mut Store<B>,
         _out: &mut Out<W>,
@@ -312,11 +313,13 @@ pub(crate) fn cut_by_fields<A: Allocator + Copy, S: Source, R: Source, W: Sink>(
 ) -> Result<(), FlowFault>
     requires by_fields { job.now.fields ≡ true }
     requires ending { reader.old.ending ≡ (cut_job job.now).end }
-    requires sound { IsSound reader.old }
-    requires ready { IsReady reader.old store.old }
-    requires clean { out.old.faulted ≡ false }
+    requires begins { MayBegin reader.old out.old store.old }
     ensures { IsPass (cut_tool (cut_job job.now)) reader.old reader.new out.old out.new store.old store.new result }
 {
+    let by = FieldCut {
+        job,
+        ending: reader.ending(),
+    };
     let mut room = [0; 8192 + 16];
-    over_lines(job, &mut room, reader, store, out)
+    over_lines(&by, &mut room, reader, store, out)
 }

@@ -2,13 +2,14 @@
 
 ghost use Rattle.std.specs.Prelude.{◌≡◌, ℕ, ◌-◌, ◌<◌, ◌≤◌, ◌^◌, ◌++◌, ◌∷◌, [], length, true, false, Some, IfOk, OnOk, OnErr, slice_range};
 ghost use Rattle.memchr.specs.Find.{IsFirstByte, is_byte};
-ghost use Rattle.ptlines.specs.Outputs.{Wrote};
+ghost use Rattle.ptlines.specs.Outputs.{Wrote, Pushes};
 ghost use Rattle.ptlines.specs.Text.{ended_lines};
 ghost use Rattle.ptlangs.specs.Jobs.{uniq_job};
 ghost use Rattle.ptflow.specs.Workings.Passes.Lines.{PassesLines};
 ghost use Rattle.ptflow.specs.Workings.Uniq.OpenRuns.{is_shown, lead, run_of, run_text};
 ghost use Rattle.ptflow.specs.Workings.Uniq.BlockRuns.{RunsOn, RunsHalt, GoesOnWith, Waits, IsSpan, span_of};
 
+use crate::tools::uniq::LineUniq;
 use crate::tools::uniq::keys::key;
 use itoa::Buffer;
 use ptlangs::jobs::{Show, UniqJob};
@@ -37,10 +38,7 @@ fn has_lead(show: Show) -> bool
 
 // Pushes what comes before a run's line.
 fn push_lead<W: Sink>(show: Show, count: u64, out: &mut Out<W>) -> Result<(), WriteFault>
-    requires { out.old.faulted ≡ false }
-    ensures wrote { Wrote out.old out.new (lead show count) }
-    ensures clean { OnOk result (out.new.faulted ≡ false) }
-    ensures fault { OnErr result (out.new.faulted ≡ true) }
+    ensures { Pushes out.old out.new (lead show count) result }
 {
     match show {
         Show::Counts => {
@@ -60,10 +58,7 @@ pub(crate) fn push_run<W: Sink>(
     behind: &[u8],
     out: &mut Out<W>,
 ) -> Result<(), WriteFault>
-    requires { out.old.faulted ≡ false }
-    ensures wrote { Wrote out.old out.new (run_text show count (bytes.now ++ behind.now)) }
-    ensures clean { OnOk result (out.new.faulted ≡ false) }
-    ensures fault { OnErr result (out.new.faulted ≡ true) }
+    ensures { Pushes out.old out.new (run_text show count (bytes.now ++ behind.now)) result }
 {
     if !is_shown(show, count) {
         return out.push(b"");
@@ -82,10 +77,11 @@ pub(crate) struct Same {
 
 // The first lines of a block that go on with the run whose first line this is. Out of line, as the other loop is.
 #[inline(never)]
-pub(crate) fn count_same(job: &UniqJob, ending: u8, first: &[u8], block: &[u8]) -> Same
-    requires { length block.now < 2 ^ 63 }
-    ensures { GoesOnWith (uniq_job job.now) ending first.now block.now result }
+pub(crate) fn count_same(by: &LineUniq, first: &[u8], block: &[u8]) -> Same
+    ensures { let job = uniq_job by.now.job.now in GoesOnWith job job.end first.now block.now result }
 {
+    let LineUniq { job, ending } = *by;
+    let size = block.len();
     let own = key(job, first);
     let mut count = 0;
     let mut rest = block;
@@ -93,7 +89,7 @@ pub(crate) fn count_same(job: &UniqJob, ending: u8, first: &[u8], block: &[u8]) 
         if own != key(job, &rest[..at]) {
             return Same {
                 count,
-                passed: block.len() - rest.len(),
+                passed: size - rest.len(),
             };
         }
         count += 1;
@@ -101,7 +97,7 @@ pub(crate) fn count_same(job: &UniqJob, ending: u8, first: &[u8], block: &[u8]) 
     }
     Same {
         count,
-        passed: block.len() - rest.len(),
+        passed: size - rest.len(),
     }
 }
 
@@ -120,10 +116,7 @@ fn push_waiting<W: Sink>(
     waiting: &[u8],
     out: &mut Out<W>,
 ) -> Result<(), WriteFault>
-    requires { out.old.faulted ≡ false }
-    ensures wrote { Wrote out.old out.new (waiting.now ++ lead show count) }
-    ensures clean { OnOk result (out.new.faulted ≡ false) }
-    ensures fault { OnErr result (out.new.faulted ≡ true) }
+    ensures { Pushes out.old out.new (waiting.now ++ lead show count) result }
 {
     out.push(waiting)?;
     push_lead(show, count, out)
@@ -143,13 +136,11 @@ fn let_wait<W: Sink>(
 ) -> Result<Span, WriteFault>
     requires waiting { IsSpan block.now waiting }
     requires line { IsSpan block.now line }
-    requires clean { out.old.faulted ≡ false }
     ensures waits { IfOk result
         (λ now. Waits (span_of block.now waiting ++ run_text show count (span_of block.now line))
         block.now now out.old out.new) }
     ensures wrote { OnErr result
         (Wrote out.old out.new (span_of block.now waiting ++ run_text show count (span_of block.now line))) }
-    ensures clean { OnOk result (out.new.faulted ≡ false) }
     ensures fault { OnErr result (out.new.faulted ≡ true) }
 {
     if !is_shown(show, count) {
@@ -178,24 +169,22 @@ pub(crate) struct LastRun {
 // at this place. Out of line, so that what the loop needs stays in registers.
 #[inline(never)]
 pub(crate) fn push_runs<W: Sink>(
-    job: &UniqJob,
-    ending: u8,
+    by: &LineUniq,
     at: usize,
     block: &[u8],
     out: &mut Out<W>,
 ) -> Result<LastRun, WriteFault>
-    requires ending { ending ≡ (uniq_job job.now).end }
-    requires first { IsFirstByte (is_byte ending) block.now (Some at) }
-    requires short { length block.now < 2 ^ 63 }
-    requires clean { out.old.faulted ≡ false }
-    ensures continues { IfOk result (λ last. RunsOn (uniq_job job.now) (run_of [] 0)
+    requires { IsFirstByte (is_byte (uniq_job by.now.job.now).end) block.now (Some at) }
+    ensures continues { IfOk result (λ last. RunsOn (uniq_job by.now.job.now) (run_of [] 0)
         (run_of (slice_range block.now last.line.from (last.line.to - 1)) last.count)
-        (ended_lines ending block.now) out.old out.new) }
+        (ended_lines (uniq_job by.now.job.now).end block.now) out.old out.new) }
     ensures halts { OnErr result
-        (RunsHalt (uniq_job job.now) (run_of [] 0) (ended_lines ending block.now) out.old out.new) }
+        (RunsHalt (uniq_job by.now.job.now) (run_of [] 0) (ended_lines (uniq_job by.now.job.now).end block.now) out.old out.new) }
     ensures span { IfOk result (λ last. (last.line.from < last.line.to) × (last.line.to ≤ length block.now)) }
-    ensures passed { IfOk result (λ last. PassesLines ending block.now last.passed) }
+    ensures passed { IfOk result (λ last. PassesLines (uniq_job by.now.job.now).end block.now last.passed) }
 {
+    let LineUniq { job, ending } = *by;
+    let size = block.len();
     let mut count = 1;
     let mut line = Span {
         from: 0,
@@ -206,7 +195,7 @@ pub(crate) fn push_runs<W: Sink>(
     let mut rest = &block[at + 1..];
     'lines: while let Some(at) = find_near(ending, rest) {
         let next = key(job, &rest[..at]);
-        let from = block.len() - rest.len();
+        let from = size - rest.len();
         rest = &rest[at + 1..];
         if own == next {
             count += 1;
@@ -224,6 +213,6 @@ pub(crate) fn push_runs<W: Sink>(
     Ok(LastRun {
         count,
         line,
-        passed: block.len() - rest.len(),
+        passed: size - rest.len(),
     })
 }

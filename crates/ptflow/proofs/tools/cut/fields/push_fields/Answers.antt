@@ -14,9 +14,10 @@ loop-interval-init g c =
     let d = c.args.job.now.delim in
     let line = c.args.line.now in
     let kept = ap (λ l. join_with_byte d (chosen (is_selected l) 1 (fields d line))) c.intervals-selected.ensures.kept in record {
-      front = front_starts (cc (append-nil (cut_fields (cut_job c.args.job.now) line), kept, all_coming d c.intervals-selected.result.now line [])) c.requires.clean;
+      front = front_starts (cc (append-nil (cut_fields (cut_job c.args.job.now) line), kept, all_coming d c.intervals-selected.result.now line []));
       walk = walking_starts c.intervals-selected.ensures.apart;
       known = λ le. refl;
+      clean = λ clean. clean;
     }
 
 -- what a step found in the line, which is all of these bytes
@@ -56,9 +57,10 @@ loop-interval-preserved g c =
     let s = found c.args.line.now c.loop-interval.at c.in-Some.ensures.found in
     let p = found c.args.line.now (c.loop-interval.at + c.in-Some.skipped) c.in-Some-field_behind.ensures.found in record {
       front = front_more l.invariant.front _ (walking_slice all [] l.interval-index l.invariant.walk c.loop-interval-test.true s p)
-          c.in_ok-push.ensures.pushed.wrote c.in_ok-push.ensures.pushed.clean;
+          c.in_ok-push.ensures.pushed.wrote;
       walk = walking_more all [] l.interval-index l.invariant.walk c.loop-interval-test.true s p;
       known = c.in-Some-field_behind.ensures.start;
+      clean = λ was_clean. c.in_ok-push.ensures.pushed.clean;
     }
 
 pub returns-clause-wrote : goal.returns-clause-wrote
@@ -75,7 +77,7 @@ far g c =
 pub overflow_add-number : goal.overflow_add-number
 overflow_add-number g c =
     let near = far g (goal.at.overflow_add-number g c).In-Some-field_behind in
-    omega (arith, c.in-Some-field_behind.ensures.found.count, c.in-Some.ensures.found.count, c.loop-interval.invariant.walk.count, c.requires.short)
+    omega (arith, c.in-Some-field_behind.ensures.found.count, c.in-Some.ensures.found.count, c.loop-interval.invariant.walk.count)
 
 pub overflow_add-at : goal.overflow_add-at
 overflow_add-at g c = omega (arith, far g (goal.at.overflow_add-at g c).In-Some-field_behind)
@@ -84,12 +86,12 @@ pub overflow_add-from : goal.overflow_add-from
 overflow_add-from g c = omega (arith, step_fits c.loop-interval.invariant.walk (found c.args.line.now c.loop-interval.at c.in-Some.ensures.found))
 
 pub field_behind-requires-clause-first : goal.field_behind-requires-clause-first
-field_behind-requires-clause-first g c = rw (take_all (length c.args.line.now) c.args.line.now (omega arith)) c.requires.first
+field_behind-requires-clause-first g c = rw (take_all (length c.args.line.now) c.args.line.now (omega arith)) c.requires
 
 pub field_behind-requires-in-loop-interval-clause-first : goal.field_behind-requires-in-loop-interval-clause-first
 field_behind-requires-in-loop-interval-clause-first g c =
     subst (λ l. IsFirstByte (is_byte c.args.job.now.delim) l (Some c.args.first))
-    (sym (take_all (length c.args.line.now) c.args.line.now (omega arith))) c.requires.first
+    (sym (take_all (length c.args.line.now) c.args.line.now (omega arith))) c.requires
 
 pub overflow_add-last : goal.overflow_add-last
 overflow_add-last g c =

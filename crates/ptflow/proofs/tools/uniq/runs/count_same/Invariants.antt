@@ -5,7 +5,7 @@ use Rattle.ptflow.proofs.tools.uniq.runs.count_same.Given as goal
 
 abbrev pub invariant-lines : goal.invariant-lines
 invariant-lines l = record {
-  counting : Counting (uniq_job l.job) l.ending l.first l.block l.rest l.count;
+  counting : Counting (uniq_job l.job) (uniq_job l.job).end l.first l.block l.rest l.count;
   own : l.own ≡ key (uniq_job l.job) l.first;
 }
 

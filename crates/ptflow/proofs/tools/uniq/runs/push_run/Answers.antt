@@ -1,19 +1,28 @@
-use Rattle.ptflow.proofs.Common.{◌≡◌, ◌++◌, true, arith, wrote_trans, wrote_past, is_shown}
+use Rattle.std.proofs.Common.{rules}
+use Rattle.ptflow.proofs.Common.{◌≡◌, ◌++◌, true, arith, wrote_past, is_shown}
+use Rattle.ptflow.proofs.OfPasses.Fronts.{wrote_then, pushes_then}
 use Rattle.ptflow.proofs.tools.uniq.runs.push_run.Goals as goal
 
-pub returns-in_err-push_lead-clause-wrote : goal.returns-in_err-push_lead-clause-wrote
-returns-in_err-push_lead-clause-wrote g c =
+pub returns-in_err-push_lead : goal.returns-in_err-push_lead
+returns-in_err-push_lead g c =
     let shown : is_shown c.args.show c.args.count ≡ true = grind arith in
-    rw shown (wrote_past _ _ _ (c.args.bytes.now ++ c.args.behind.now) c.in_err-push_lead.ensures.fault c.push_lead.ensures.wrote)
+    rw shown (record {
+      wrote = wrote_past _ _ _ (c.args.bytes.now ++ c.args.behind.now) c.in_err-push_lead.ensures.fault c.push_lead.ensures.wrote;
+      clean = search rules;
+      fault = search rules;
+    })
 
-pub returns-in_err-push-clause-wrote : goal.returns-in_err-push-clause-wrote
-returns-in_err-push-clause-wrote g c =
+pub returns-in_err-push : goal.returns-in_err-push
+returns-in_err-push g c =
     let shown : is_shown c.args.show c.args.count ≡ true = grind arith in
-    rw shown (wrote_trans _ _ _ _ _ c.in_ok-push_lead.ensures.clean c.push_lead.ensures.wrote
-    (wrote_past _ _ _ c.args.behind.now c.in_err-push.ensures.pushed.fault c.push-2.ensures.pushed.wrote))
+    rw shown (record {
+      wrote = wrote_then _ _ _ c.push_lead.ensures.wrote
+          (wrote_past _ _ _ c.args.behind.now c.in_err-push.ensures.pushed.fault c.push-2.ensures.pushed.wrote);
+      clean = search rules;
+      fault = search rules;
+    })
 
-pub returns-clause-wrote : goal.returns-clause-wrote
-returns-clause-wrote g c =
+pub returns : goal.returns
+returns g c =
     let shown : is_shown c.args.show c.args.count ≡ true = grind arith in
-    rw shown (wrote_trans _ _ _ _ _ c.in_ok-push_lead.ensures.clean c.push_lead.ensures.wrote
-    (wrote_trans _ _ _ _ _ c.in_ok-push.ensures.pushed.clean c.push-2.ensures.pushed.wrote c.push-3.ensures.pushed.wrote))
+    rw shown (pushes_then c.push_lead.ensures.wrote (pushes_then c.push-2.ensures.pushed.wrote c.push-3.ensures.pushed))

@@ -1,9 +1,15 @@
-use Rattle.ptlines.proofs.Pushed.{wrote_trans, wrote_past}
+use Rattle.std.proofs.Common.{rules}
+use Rattle.ptflow.proofs.Common.{wrote_past}
 use Rattle.ptflow.specs.Workings.Uniq.OpenRuns.{lead}
+use Rattle.ptflow.proofs.OfPasses.Fronts.{pushes_then}
 use Rattle.ptflow.proofs.tools.uniq.runs.push_waiting.Goals as goal
 
-pub returns-in_err-push-clause-wrote : goal.returns-in_err-push-clause-wrote
-returns-in_err-push-clause-wrote g c = wrote_past _ _ _ (lead c.args.show c.args.count) c.in_err-push.ensures.pushed.fault c.push.ensures.pushed.wrote
+pub returns-in_err-push : goal.returns-in_err-push
+returns-in_err-push g c = record {
+  wrote = wrote_past _ _ _ (lead c.args.show c.args.count) c.in_err-push.ensures.pushed.fault c.push.ensures.pushed.wrote;
+  clean = search rules;
+  fault = search rules;
+}
 
-pub returns-clause-wrote : goal.returns-clause-wrote
-returns-clause-wrote g c = wrote_trans _ _ _ _ _ c.in_ok-push.ensures.pushed.clean c.push.ensures.pushed.wrote c.push_lead.ensures.wrote
+pub returns : goal.returns
+returns g c = pushes_then c.push.ensures.pushed.wrote c.push_lead.ensures

@@ -1,11 +1,11 @@
 use Rattle.ptflow.proofs.Common.{◌∷◌, [], arith, line, cut_job, cut_lines}
 use Rattle.ptflow.proofs.OfCut.FieldLines.{cut_lines-append}
 use Rattle.ptflow.proofs.OfPasses.Continuations.{on_err}
-use Rattle.ptflow.proofs.tools.cut.fields.CutJobLineTool.take_line.Goals as goal
+use Rattle.ptflow.proofs.tools.cut.fields.FieldCutLineTool.take_line.Goals as goal
 
 pub returns-in_err-push_kept-clause-halts : goal.returns-in_err-push_kept-clause-halts
 returns-in_err-push_kept-clause-halts g c =
-    let job = cut_job c.args.self.now in
+    let job = cut_job c.args.self.now.job.now in
     let ls = line c.args.store.now 0 ∷ [] in
     on_err c.from_residual.result
     (record {
@@ -17,7 +17,7 @@ returns-in_err-push_kept-clause-halts g c =
 
 pub returns-clause-continues : goal.returns-clause-continues
 returns-clause-continues g c =
-    let job = cut_job c.args.self.now in
+    let job = cut_job c.args.self.now.job.now in
     let ls = line c.args.store.now 0 ∷ [] in record {
       passed = cut_lines job ls;
       wrote = rw c.line.ensures at c.push_kept.ensures.wrote;

@@ -6,70 +6,70 @@ use Rattle.ptflow.proofs.Common.{open_run_of}
 use Rattle.ptflow.proofs.OfPasses.Continuations.{on_err}
 use Rattle.ptflow.proofs.OfUniq.OpenLines.{not_found, run_wrote, block_none, block_on, block_on_passed, block_run_halts, block_turns, block_halts, block_passed}
 use Rattle.ptflow.proofs.OfUniq.BlockRuns.{text_long}
-use Rattle.ptflow.proofs.tools.uniq.UniqJobLineTool.take_block.Goals as goal
+use Rattle.ptflow.proofs.tools.uniq.LineUniqLineTool.take_block.Goals as goal
 
 pub returns-then-is_none-clause-continues : goal.returns-then-is_none-clause-continues
 returns-then-is_none-clause-continues g c =
-    block_none (uniq_job c.args.self.now) c.args.ending (open_run_of c.args.run.now c.args.store.now) c.args.block.now c.args.out.now c.requires.clean
-    (not_found c.args.ending c.args.block.now c.find_near.result c.find_near.ensures c.if-is_none.ensures)
+    block_none (uniq_job c.args.self.now.job.now) (uniq_job c.args.self.now.job.now).end (open_run_of c.args.run.now c.args.store.now) c.args.block.now c.args.out.now
+    (not_found _ c.args.block.now c.find_near.result (rw c.args.self.now.ends at c.find_near.ensures) c.if-is_none.ensures)
 
 pub returns-then-is_none-clause-passed : goal.returns-then-is_none-clause-passed
 returns-then-is_none-clause-passed g c =
-    (omega arith, sym (ap (text c.args.ending) (ended_none c.args.ending c.args.block.now (not_found c.args.ending c.args.block.now c.find_near.result c.find_near.ensures c.if-is_none.ensures))))
+    (omega arith, sym (ap (text (uniq_job c.args.self.now.job.now).end) (ended_none (uniq_job c.args.self.now.job.now).end c.args.block.now (not_found _ c.args.block.now c.find_near.result (rw c.args.self.now.ends at c.find_near.ensures) c.if-is_none.ensures))))
 
 pub overflow_add-run : goal.overflow_add-run
 overflow_add-run g c =
     let w = c.count_same-same.ensures in
-    omega (arith, text_long c.args.ending w.front, ap length w.texts, length-take-le c.count_same-same.result.passed c.args.block.now w.within)
+    omega (arith, text_long (uniq_job c.args.self.now.job.now).end w.front, ap length w.texts, length-take-le c.count_same-same.result.passed c.args.block.now w.within)
 
 pub returns-in_default-clause-continues : goal.returns-in_default-clause-continues
 returns-in_default-clause-continues g c =
     let same = c.count_same-same.result in
     let went = rw c.first_line.ensures at c.count_same-same.ensures in
-    block_on went c.requires.open.0
-    (no_end c.args.ending (drop same.passed c.args.block.now) (rw take_rest at c.in_default.ensures)) c.args.out.now c.requires.clean
+    block_on went c.requires.waits
+    (no_end _ (drop same.passed c.args.block.now) (rw (c.args.self.now.ends, take_rest) at c.in_default.ensures)) c.args.out.now
 
 pub returns-in_default-clause-passed : goal.returns-in_default-clause-passed
 returns-in_default-clause-passed g c =
     let same = c.count_same-same.result in
     let went = rw c.first_line.ensures at c.count_same-same.ensures in (
       went.within,
-      block_on_passed went c.requires.open.0
-          (no_end c.args.ending (drop same.passed c.args.block.now) (rw take_rest at c.in_default.ensures)),
+      block_on_passed went c.requires.waits
+          (no_end _ (drop same.passed c.args.block.now) (rw (c.args.self.now.ends, take_rest) at c.in_default.ensures)),
     )
 
 pub returns-in_err-push_run-clause-halts : goal.returns-in_err-push_run-clause-halts
 returns-in_err-push_run-clause-halts g c =
-    let job = uniq_job c.args.self.now in
+    let job = uniq_job c.args.self.now.job.now in
     let same = c.count_same-same.result in
-    let went = subst (λ l. GoesOnWith job c.args.ending l c.args.block.now same) c.first_line.ensures c.count_same-same.ensures in
+    let went = subst (λ l. GoesOnWith job (uniq_job c.args.self.now.job.now).end l c.args.block.now same) c.first_line.ensures c.count_same-same.ensures in
     let out = c.push_run.new.out in
     on_err c.from_residual.result
-    (block_run_halts went c.requires.open.0 c.in-Some.at (rw take_rest at c.in-Some.ensures) out
+    (block_run_halts went c.requires.waits c.in-Some.at (rw (c.args.self.now.ends, take_rest) at c.in-Some.ensures) out
     (run_wrote job (c.args.run.now.count + same.count) c.first_line-2.ensures
-    (cc (c.requires.fits)) c.push_run.ensures.wrote) c.in_err-push_run.ensures.fault)
+    (cc (c.args.self.now.ends)) c.push_run.ensures.wrote) c.in_err-push_run.ensures.fault)
 
 pub returns-in_err-last-clause-halts : goal.returns-in_err-last-clause-halts
 returns-in_err-last-clause-halts g c =
-    let job = uniq_job c.args.self.now in
+    let job = uniq_job c.args.self.now.job.now in
     let same = c.count_same-same.result in
-    let went = subst (λ l. GoesOnWith job c.args.ending l c.args.block.now same) c.first_line.ensures c.count_same-same.ensures in
+    let went = subst (λ l. GoesOnWith job (uniq_job c.args.self.now.job.now).end l c.args.block.now same) c.first_line.ensures c.count_same-same.ensures in
     on_err c.from_residual-in_err-last.result
-    (block_halts went c.requires.open.0 c.in-Some.at (rw take_rest at c.in-Some.ensures) c.push_runs.new.out
+    (block_halts went c.requires.waits c.in-Some.at (rw (c.args.self.now.ends, take_rest) at c.in-Some.ensures) c.push_runs.new.out
     (run_wrote job (c.args.run.now.count + same.count) c.first_line-2.ensures
-    (ap (λ b. b ∷ []) c.requires.fits) c.push_run.ensures.wrote)
-    c.in_ok-push_run.ensures.clean (rw take_rest at c.in_err-last.ensures.halts))
+    (ap (λ b. b ∷ []) c.args.self.now.ends) c.push_run.ensures.wrote)
+    (rw take_rest at c.in_err-last.ensures.halts))
 
 pub returns-clause-continues : goal.returns-clause-continues
 returns-clause-continues g c =
-    let job = uniq_job c.args.self.now in
+    let job = uniq_job c.args.self.now.job.now in
     let same = c.count_same-same.result in
-    let went = subst (λ l. GoesOnWith job c.args.ending l c.args.block.now same) c.first_line.ensures c.count_same-same.ensures in
+    let went = subst (λ l. GoesOnWith job (uniq_job c.args.self.now.job.now).end l c.args.block.now same) c.first_line.ensures c.count_same-same.ensures in
     subst (λ r. RunsOn job (open_run_of c.args.run.now c.args.store.now) r
-    (ended_lines c.args.ending c.args.block.now) c.args.out.now c.push_runs.new.out) (sym (c.begin.ensures c.args.store.now))
-    (rw take_rest (block_turns went c.requires.open.0 c.in-Some.at (rw take_rest at c.in-Some.ensures) c.push_runs.new.out
+    (ended_lines (uniq_job c.args.self.now.job.now).end c.args.block.now) c.args.out.now c.push_runs.new.out) (sym (c.begin.ensures c.args.store.now))
+    (rw take_rest (block_turns went c.requires.waits c.in-Some.at (rw (c.args.self.now.ends, take_rest) at c.in-Some.ensures) c.push_runs.new.out
     (run_wrote job (c.args.run.now.count + same.count) c.first_line-2.ensures
-    (ap (λ b. b ∷ []) c.requires.fits) c.push_run.ensures.wrote)
+    (ap (λ b. b ∷ []) c.args.self.now.ends) c.push_run.ensures.wrote)
     c.in_ok-push_run.ensures.clean _ (rw take_rest at c.in_ok-last.ensures.continues)))
 
 pub returns-clause-passed : goal.returns-clause-passed
@@ -78,5 +78,5 @@ returns-clause-passed g c =
     let went = rw c.first_line.ensures at c.count_same-same.ensures in
     let passed = rw take_rest at c.in_ok-last.ensures.passed in (
       omega (arith, length-drop same.passed c.args.block.now),
-      block_passed went c.requires.open.0 c.in_ok-last.last.passed passed.1,
+      block_passed went c.requires.waits c.in_ok-last.last.passed passed.1,
     )
