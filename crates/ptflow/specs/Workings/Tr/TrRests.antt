@@ -1,5 +1,5 @@
 -- What `tr` writes of the rest of a text.
-use Rattle.std.specs.Prelude.{◌≡◌, ℕ, List, Bool, false, Option, None, Some, slice_index_or}
+use Rattle.std.specs.Prelude.{◌≡◌, ◌<◌, ◌≤◌, ℕ, List, Bool, false, Option, None, Some, length, slice_index_or}
 use Rattle.std.proofs.Props.{props}
 use Rattle.ptlangs.specs.TrTables.{Tables, squeezes}
 use Rattle.ptflow.specs.declared.kernels.sets.ByteSet.{ByteSet}
