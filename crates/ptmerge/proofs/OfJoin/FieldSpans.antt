@@ -4,9 +4,9 @@ use Rattle.std.proofs.lemmas.Bool.{false_from_ne_true}
 use Rattle.ptmerge.proofs.Common.{nil_from_length, drop_more, length-drop, length-append, ◌≡◌, ℕ, suc, ◌+◌, ◌-◌, ◌≤◌, Bool, true, false, ltb, List, [], ◌∷◌, Option, None, Some, length, drop, get_or}
 use Rattle.ptmerge.proofs.Common.{refl, sym, ◌∙◌, ap, arith, zero, ◌<◌, ◌==◌, cond, ◌++◌, take, append_assoc, position, IfSome, MatchOption, filter, is_some, position_or_len, slice_split, nat_tests}
 use Rattle.ptmerge.proofs.Common.{drop-drop, get_or_past, take-append-drop, take_all, position_or_len_is, IsFirstByte, nth_field, has_bytes, is_blank, Lines, false≢true, split_around, split_whole}
-use Rattle.ptmerge.proofs.Common.{EndsFirst, IsFieldIn, IsPiece, ends_field, entry_with, fields_left, IsSpan, ◌||◌, ◌&&◌, map, remove, unwrap_or, onto_first, join_with_byte, eqb-true, drop-append_seam}
+use Rattle.ptmerge.proofs.Common.{EndsFirst, IsFieldIn, IsPiece, ends_field, entry_with, fields_left, IsSpan, ◌||◌, ◌&&◌, map, remove, unwrap_or, onto_first, join_with_byte, eqb-true}
 use Rattle.ptmerge.proofs.Common.{append-nil, flat_map-append, Join, Output, Wrote, between, entry, fields, filled, named, others, written, IsAsWritten, is_tidy, led, ⊎_elim, ◌%◌, ◌^◌, eqb, not}
-use Rattle.ptmerge.proofs.Common.{replicate, bit_and, bit_or, or_cases, or_left, or_parts, or_right, length-map, Nowhere, IsEven, UnevenAt, is_uneven}
+use Rattle.ptmerge.proofs.Common.{replicate, bit_and, bit_or, or_cases, or_left, or_parts, or_right, length-map, Nowhere, IsEven, UnevenAt, is_uneven, drop-append_seam}
 use Rattle.std.proofs.lemmas.List.Quantifiers.{position-Some}
 use Rattle.ptlangs.specs.declared.outlist.OutField.{OutField}
 use Rattle.ptmerge.proofs.OfJoin.Amid.{Amid}
