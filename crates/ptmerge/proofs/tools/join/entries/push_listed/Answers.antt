@@ -1,6 +1,6 @@
 -- The first field of a list has nothing in front of it, so it is pushed before the loop; each turn pushes one more.
 use Rattle.ptmerge.proofs.Common.{◌∷◌, ℕ, List, sym, option_copied, ◌∙◌, join_job, between}
-use Rattle.ptmerge.proofs.OfJoin.Amid.{each_fails, each_more, first_fails}
+use Rattle.ptmerge.proofs.OfJoin.Amid.{amid_first, each_fails, each_more, first_fails}
 use Rattle.ptmerge.proofs.OfJoin.FieldSpans.{between_is, entry_listed, item_of, listed}
 use Rattle.ptmerge.proofs.tools.join.entries.push_listed.Goals as goal
 
@@ -11,13 +11,10 @@ returns-in_err-push g c =
     c.in-len1-up.len_at_least c.listed_field.ensures) c.push.ensures.pushed.wrote c.in_err-push.ensures.pushed.fault
 
 pub items-init : goal.items-init
-items-init g c = let e = c.args.entry.now in record {
-  done = c.listed_field.result.now;
-  split = entry_listed (join_job e.job.now) e.key.now (option_copied e.one) (option_copied e.two) c.args.items.now _
-      c.in-len1-up.len_at_least c.listed_field.ensures;
-  wrote = c.push.ensures.pushed.wrote;
-  clean = λ _. c.in_ok-push.ensures.pushed.clean;
-}
+items-init g c =
+    let e = c.args.entry.now in
+    amid_first (entry_listed (join_job e.job.now) e.key.now (option_copied e.one) (option_copied e.two) c.args.items.now _ c.in-len1-up.len_at_least c.listed_field.ensures)
+    c.push.ensures.pushed.wrote c.in_ok-push.ensures.pushed.clean
 
 pub returns-in_err-push_led : goal.returns-in_err-push_led
 returns-in_err-push_led g c =
