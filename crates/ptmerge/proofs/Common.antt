@@ -1,6 +1,6 @@
 -- Names of other crates and of this one's definitions that many of its proofs take from here.
-pub use Rattle.std.proofs.Common.{Bool, Err, IsErrAnd, List, None, Ok, Option, Result, Some, [], ap, append_assoc, arith, bit_and, bit_or, cond, drop, eqb, false, get_or, inl, inr, length}
-pub use Rattle.std.proofs.Common.{length-append, length-drop, ltb, map, max, min, not, option_copied, refl, replicate, rules, set, subst, suc, sym, take, true, zero, ℕ, ⊎_elim, ◌%◌, ◌&&◌, ◌*◌, ◌++◌, ◌+◌}
+pub use Rattle.std.proofs.Common.{Bool, Err, IsErrAnd, List, None, Ok, Option, Result, Some, [], ap, append_assoc, arith, bit_and, bit_or, cond, drop, eqb, false, get_or, inl, inr, length, ◌++◌, ◌+◌}
+pub use Rattle.std.proofs.Common.{length-append, length-drop, ltb, map, max, min, not, option_copied, refl, replicate, rules, set, subst, suc, sym, take, true, zero, ℕ, ⊎_elim, ◌%◌, ◌&&◌, ◌*◌}
 pub use Rattle.std.proofs.Common.{◌-◌, ◌<◌, ◌==◌, ◌^◌, ◌||◌, ◌∙◌, ◌∷◌, ◌≡◌, ◌≢◌, ◌≤◌, ◌⊎◌}
 pub use Rattle.std.proofs.Math.Seq.{drop-append_seam}
 pub use Rattle.std.proofs.lemmas.Bool.{eqb-true, false≢true, or_cases, or_left, or_parts, or_right}

@@ -1,11 +1,12 @@
 -- What is left of a line whose fields are taken one after another.
-use Rattle.std.specs.Prelude.{◌≡◌, ◌≤◌, ◌+◌, ◌++◌, ℕ, length, take, MatchOption, ◌==◌, List, [], ◌∷◌, Option, Some, None, Bool, false, true, not, ◌||◌, ◌&&◌, ◌-◌, slice_index, if◌then◌else◌}
+use Rattle.std.specs.Prelude.{◌≡◌, ◌≤◌, ◌+◌, ◌++◌, ℕ, length, take, IfSome, MatchOption, ◌==◌, List, [], ◌∷◌, Option, Some, None, Bool, false, true, not, ◌||◌, ◌&&◌, ◌-◌, slice_index, if◌then◌else◌}
 use Rattle.std.specs.List.{flat_map, join_with_byte, slice_split}
 use Rattle.memchr.specs.Find.{Nowhere}
 use Rattle.ptlangs.specs.Jobs.{Join}
 use Rattle.ptlangs.specs.declared.outlist.OutField.{OutField}
 use Rattle.ptmerge.specs.Keyed.{Lines}
-use Rattle.ptmerge.specs.Join.{between, fields, is_blank, written}
+use Rattle.ptmerge.specs.declared.order.Side.{Side}
+use Rattle.ptmerge.specs.Join.{between, fields, is_blank, join_key, written}
 
 -- where a byte ends a field
 abbrev pub ends_field : Option ℕ → ℕ → Bool
@@ -16,6 +17,10 @@ ends_field None = is_blank
 abbrev pub fields_left : Option ℕ → Option (List ℕ) → Lines
 fields_left separator None = []
 fields_left separator (Some bytes) = fields separator bytes
+
+-- this is the join field of a line, if there is one
+abbrev pub IsKeyOf : Join → Side → List ℕ → Option (List ℕ) → Type 0
+IsKeyOf job side k line = IfSome line (λ bytes. join_key job side bytes ≡ k)
 
 -- each field, with this byte before it
 abbrev pub led : ℕ → Lines → List ℕ

@@ -1,9 +1,9 @@
 -- What `comm` writes of a line, what is known at each of its turns, and what comes of the turn.
 use Rattle.ptmerge.proofs.Common.{◌≡◌, ℕ, ◌<◌, false, List, [], ◌∷◌, ◌++◌, Result, Ok, Err, length, refl, sym, ◌∙◌, ap, arith, false≢true, Comm, Output, Wrote, Reader, Slots, line, total}
 use Rattle.ptmerge.proofs.Common.{text, longest, wrote_nothing, MergeFault, Side, First, Second, Sorted, Head, Ended, comm_by, entries_in, tab_unless, Lines, Tool, by_keys, with_key, HasPassed}
-use Rattle.ptmerge.proofs.Common.{StandsAt, State, CanBegin, IsMerge, IsUnread, Ends, seen, Cmp, Key, both, put, other, AreEqual, CannotStart, IsAlone, IsDecided, IsLent, IsPlaced, Starts, inputs}
+use Rattle.ptmerge.proofs.Common.{StandsAt, State, IsMerge, IsUnread, Ends, seen, Cmp, Key, both, put, other, AreEqual, CannotStart, IsAlone, IsDecided, IsLent, IsPlaced, Starts, inputs}
 use Rattle.ptmerge.proofs.Common.{Adds, IsCleared, suc, ◌-◌, min, append_assoc, append-nil, bytes_decides, tied_itself, entries, Bool}
-use Rattle.ptmerge.proofs.OfMerges.Turning.{opened_by, CannotPass, IsOpened, Placed, Running, adds_of, comes_slots, goes, goes_merging, passes_slots, passing_now, runs_on, slots_of, standing}
+use Rattle.ptmerge.proofs.OfMerges.Turning.{CannotPass, IsOpened, Placed, Running, adds_of, comes_slots, goes, goes_merging, passes_slots, passing_now, runs_on, slots_of, standing}
 use Rattle.ptmerge.proofs.OfMerges.Turning.{turn_stops, went, IsLineByLine, ahead, all_ended, alone, pass_one, stops_at, left, less, lent_on, place_is, wrote_and_sent}
 use Rattle.ptmerge.proofs.OfMerges.Orders.{IsKeyOrder}
 use Rattle.ptmerge.proofs.OfMerges.Slotted.{put_other, put_same, has_lines_total}
@@ -70,10 +70,6 @@ module _ (job : Comm) (cmp : Cmp) (key : Side → Key) where
   written_both o x y whole same = simp (same ∙ whole, whole, tied_itself o.total x, (bytes_decides x x).1 refl, append-nil) (one_common job x)
 
 -- ---- what is known
-
-pub is_opened : (job : Comm) {cmp : Cmp} {key : Side → Key} {first second : Reader} {out : Output} {store : Slots} → IsKeyOrder cmp
-    → CanBegin job.end first second out store → IsOpened (comm_by job cmp key) (seen first second out store)
-is_opened job o begins = opened_by o (λ ls. (omega arith, omega arith)) begins
 
 -- what is known at a turn
 pub record IsTurn (job : Comm) (cmp : Cmp) (key : Side → Key) (old now : State) (one two : Sorted) : Type 0 where

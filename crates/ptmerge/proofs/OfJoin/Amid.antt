@@ -13,6 +13,10 @@ pub record Amid (was is : Output) (all left : List ℕ) : Type 0 where
 pub amid_starts : {was : Output} {all left : List ℕ} → all ≡ left → Amid was was all left
 amid_starts {was} is = record { done = []; split = is; wrote = wrote_nothing was; clean = λ fine. fine }
 
+-- the first bytes are pushed
+pub amid_first : {was is : Output} {all bytes left : List ℕ} → all ≡ bytes ++ left → Wrote was is bytes → is.faulted ≡ false → Amid was is all left
+amid_first {bytes = bytes} split wrote clean = record { done = bytes; split = split; wrote = wrote; clean = λ _. clean }
+
 -- a push failed, of the first bytes or of others
 module _ {E : Type 0} {r : Result (Unit {0}) E} (P : E → Type 0) (told : IsErrAnd r P) {was new : Output} {all bytes : List ℕ} (left : List ℕ) where
   pub first_fails : all ≡ bytes ++ left → Wrote was new bytes → new.faulted ≡ true → MayPush was new all r

@@ -4,12 +4,11 @@ use Rattle.std.proofs.lemmas.Bool.{false_from_ne_true}
 use Rattle.ptmerge.proofs.Common.{nil_from_length, drop_more, length-drop, length-append, ◌≡◌, ℕ, suc, ◌+◌, ◌-◌, ◌≤◌, Bool, true, false, ltb, List, [], ◌∷◌, Option, None, Some, length, drop, get_or}
 use Rattle.ptmerge.proofs.Common.{refl, sym, ◌∙◌, ap, arith, zero, ◌<◌, ◌==◌, cond, ◌++◌, take, append_assoc, position, IfSome, MatchOption, filter, is_some, position_or_len, slice_split, nat_tests}
 use Rattle.ptmerge.proofs.Common.{drop-drop, get_or_past, take-append-drop, take_all, position_or_len_is, IsFirstByte, nth_field, has_bytes, is_blank, Lines, false≢true, split_around, split_whole}
-use Rattle.ptmerge.proofs.Common.{EndsFirst, IsFieldIn, IsPiece, ends_field, entry_with, fields_left, IsSpan, ◌||◌, ◌&&◌, map, remove, unwrap_or, onto_first, join_with_byte, eqb-true, drop-append_seam}
-use Rattle.ptmerge.proofs.Common.{append-nil, flat_map-append, Join, Output, Wrote, between, entry, fields, filled, named, others, written, IsAsWritten, is_tidy, led, ⊎_elim, ◌%◌, ◌^◌, eqb, not}
-use Rattle.ptmerge.proofs.Common.{replicate, bit_and, bit_or, or_cases, or_left, or_parts, or_right, length-map, Nowhere, IsEven, UnevenAt, is_uneven}
+use Rattle.ptmerge.proofs.Common.{EndsFirst, IsFieldIn, IsPiece, ends_field, entry_with, fields_left, IsSpan, ◌||◌, ◌&&◌, map, remove, unwrap_or, onto_first, join_with_byte, eqb-true}
+use Rattle.ptmerge.proofs.Common.{append-nil, flat_map-append, Join, between, entry, fields, filled, named, others, written, IsAsWritten, is_tidy, led, ⊎_elim, ◌%◌, ◌^◌, eqb, not}
+use Rattle.ptmerge.proofs.Common.{replicate, bit_and, bit_or, or_cases, or_left, or_parts, or_right, length-map, Nowhere, IsEven, UnevenAt, is_uneven, drop-append_seam}
 use Rattle.std.proofs.lemmas.List.Quantifiers.{position-Some}
 use Rattle.ptlangs.specs.declared.outlist.OutField.{OutField}
-use Rattle.ptmerge.proofs.OfJoin.Amid.{Amid}
 use Rattle.std.proofs.lemmas.Simd.{get_or-chunk, get_or-zip2, length-chunk, length-zip2, mask_l-mod}
 use Rattle.std.specs.Simd.Lanes.{chunk, mask_l, top, zip2}
 
@@ -188,12 +187,6 @@ pub entry_listed : (job : Join) (k : List ℕ) (one two : Option (List ℕ)) (it
     → entry_with job (Some items) k one two ≡ bytes ++ led (between job.separator) (map (item_of job k one two) (take (length items - 1) (drop 1 items)))
 entry_listed job k one two items d some {bytes} first =
     ap (join_with_byte (between job.separator)) (listed (item_of job k one two) items d some first) ∙ join_led (between job.separator) bytes _
-
--- without an output list the key is pushed, and then the other fields of both lines
-pub after_key : (job : Join) (one two : Option (List ℕ)) → job.list ≡ None → {was mid : Output} {k : List ℕ} → Wrote was mid k → mid.faulted ≡ false
-    → Amid was mid (entry job k (fields_left job.separator one) (fields_left job.separator two))
-    (led (between job.separator) (others job.field1 (fields_left job.separator one)) ++ led (between job.separator) (others job.field2 (fields_left job.separator two)))
-after_key job one two none {k = k} wrote clean = record { done = k; split = entry_plain job k one two none; wrote = wrote; clean = λ _. clean }
 
 -- ---- words with one space between each two are written as they stand
 

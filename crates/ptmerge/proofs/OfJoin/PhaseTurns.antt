@@ -1,8 +1,8 @@
 -- What each turn of `join` does while a group is gathered, and while a line is paired with it, and each way out of it.
 use Rattle.ptmerge.proofs.Common.{Comes, ◌≡◌, ℕ, true, false, List, [], ◌∷◌, ◌++◌, refl, ap, sym, ◌∙◌, inl, inr, ◌+◌, ◌≤◌, ◌<◌, Result, Err, length, subst, arith, Join, Side, First, Second, join_by}
 use Rattle.ptmerge.proofs.Common.{join_key, pairs_of, Lines, Cmp, Key, Output, Wrote, Reader, Slots, line, text, MergeFault, Sorted, Gathered, Gathers, IsGroup, IsGroupCleared, end_slot, first_slot}
-use Rattle.ptmerge.proofs.Common.{group, CanGoOn, HasPassed, JoinsAt, StandsAt, State, IsMerge, both, put, ⊎_elim, ◌-◌, ◌==◌, wrote_trans, other, nat_tests, length_push, text-append, append_assoc, false≢true}
-use Rattle.ptmerge.proofs.Common.{nil_from_length, IsKept, NotGathered, most_lines}
+use Rattle.ptmerge.proofs.Common.{group, CanGoOn, HasPassed, JoinsAt, StandsAt, State, IsMerge, both, put, ⊎_elim, ◌-◌, ◌==◌, wrote_trans, other, nat_tests, length_push, text-append, append_assoc}
+use Rattle.ptmerge.proofs.Common.{nil_from_length, IsKept, NotGathered, most_lines, false≢true}
 use Rattle.ptmerge.proofs.OfJoin.Turns.{Gathering, Held, IsTurn, Leaves, Pairing, call_of, end_in, leaves, joins_at, slots, went_on}
 use Rattle.ptmerge.proofs.OfMerges.Turning.{comes_slots, same_state, wrote_as, breaks_slots, IsAbove, placed_keeps, wrote_and_sent}
 use Rattle.ptmerge.proofs.OfJoin.GroupTurns.{Call, NotPassed, moved, fits_kept, not_failed, AtLine, GoneOn, Grouped, closes, goes_on, goes_past, gone_on, group_breaks, grown, is_past, next_slots}

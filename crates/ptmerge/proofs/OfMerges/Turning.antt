@@ -3,8 +3,8 @@
 use Rattle.ptmerge.proofs.Common.{◌≡◌, ◌≢◌, ⊎_elim, inl, inr, ℕ, ◌+◌, ◌≤◌, true, false, List, [], ◌∷◌, ◌++◌, Option, Some, None, Err, length, refl, sym, ◌∙◌, arith, is_lt, is_le, false≢true}
 use Rattle.ptmerge.proofs.Common.{append-nil, Output, Wrote, Reader, Reads, IsDone, IsSound, Slots, line, with_line, text, IsLine, wrote_nothing, MergeFault, Read, Memory, Side, First, Second, Sorted}
 use Rattle.ptmerge.proofs.Common.{Stand, Head, Ended, Disorder, Lines, Tool, Fall, by_keys, disorder_of, fall, with_key, State, IsMerge, Cmp, Key, CannotRead, Comes, HasSlots, slot_of, put, other}
-use Rattle.ptmerge.proofs.Common.{GoesBefore, IsDecided, IsNamed, last_key, ap, ◌⊎◌, ◌*◌, max, length-set, total, longest, Write, CanBegin, IsReady, seen, IsUnwritten, PassesLine, both, IsPlaced, Adds, ◌<◌, Result}
-use Rattle.ptmerge.proofs.Common.{budget, IsLent, subst, wrote_trans, ◌&&◌, cond, nat_lt, Ordering, is_eq, is_gt, nat_tests, length_push, IsKept, same_at, stand_at, IsNoted}
+use Rattle.ptmerge.proofs.Common.{GoesBefore, IsDecided, IsNamed, last_key, ap, ◌⊎◌, ◌*◌, max, length-set, total, longest, Write, CanBegin, IsReady, seen, IsUnwritten, PassesLine, both, IsPlaced}
+use Rattle.ptmerge.proofs.Common.{budget, IsLent, subst, wrote_trans, ◌&&◌, cond, nat_lt, Ordering, is_eq, is_gt, nat_tests, length_push, IsKept, same_at, stand_at, IsNoted, Adds, ◌<◌, Result}
 use Rattle.ptmerge.proofs.OfMerges.Passing.{Bound, From, Fallen, Over, Coming, Falling, FallFrom, Under, Begun, IsFront, Late, Merging, StopsAt, front_line, late_none, not_below, pass_front, settles}
 use Rattle.ptmerge.proofs.OfMerges.Passing.{all_keys, none_wanted}
 use Rattle.ptmerge.proofs.OfMerges.Orders.{EachKey, EachKey-weaker, with_key-above, IsKeyOrder, Above, above_at_most, above_up, greater_flips, is_greater}

@@ -160,7 +160,8 @@ fn join_in_order<K: KeyOrder, A: Allocator + Copy, S: Source, R: Source, W: Sink
     store: &mut Store<A>,
     out: &mut Out<W>,
 ) -> Result<(), MergeFault>
-    requires keys { (side : Sided) (line : List ℕ) → K.key_of order side line ≡ join_key (join_job job.now) side line }
+    requires keys { (side : Sided) (line : List ℕ) →
+        K.key_of order side line ≡ join_key (join_job job.now) side line }
     requires begins { CanBegin (join_job job.now).end first.old second.old out.old store.old }
     ensures merged { let tool = join_by (join_job job.now) (K.order order) (K.key_of order) in
         let was = seen first.old second.old out.old store.old in
@@ -225,8 +226,8 @@ fn join_in_order<K: KeyOrder, A: Allocator + Copy, S: Source, R: Source, W: Sink
 /// at most a slot for each of the second input's lines of one key; after `Ok` or `Disorder` all are empty. Where one of
 /// the first four is refused, nothing is read or pushed. On an output that has failed nothing is done. Neither input is
 /// read more than two blocks ahead of what is pushed, or after a disorder, whatever came of the other. The pairs of a
-/// key are pushed once all lines of the second input with it came. Only tested: what was pushed is sent before a read that
-/// may have to wait, and a line that is the only one of its key takes no slot of its own.
+/// key are pushed once all lines of the second input with it came. Only tested: what was pushed is sent before a read
+/// that may have to wait, and a line that is the only one of its key takes no slot of its own.
 /// # Errors
 /// `Read`, with the input, or `Write` where a read or a write failed; `Memory` where a growth of the store was refused,
 /// and the store is then denied; `Disorder`, with the input and the line, where an input is out of order: then all

@@ -1,11 +1,11 @@
 //! What `join` writes for a pair of lines, or for one of them.
 
-ghost use Rattle.std.specs.Prelude.{◌≡◌, ◌++◌, ◌∷◌, [], None, Some, option_copied, true, IfSome};
+ghost use Rattle.std.specs.Prelude.{◌≡◌, ◌++◌, ◌∷◌, [], None, Some, option_copied, true};
 ghost use Rattle.std.proofs.Props.{props};
 ghost use Rattle.ptlines.specs.Outputs.{Pushes};
 ghost use Rattle.ptlangs.specs.Jobs.{join_job};
 ghost use Rattle.ptmerge.specs.Join.{fields, others, between, filled, named, entry, join_key};
-ghost use Rattle.ptmerge.specs.JoinFields.{IsAsWritten, entry_with, fields_left, led};
+ghost use Rattle.ptmerge.specs.JoinFields.{IsAsWritten, IsKeyOf, entry_with, fields_left, led};
 ghost use Rattle.ptmerge.specs.Pushes.{MayPush};
 ghost use Rattle.ptmerge.specs.declared.order.Side.TheVariants.{First, Second};
 
@@ -87,8 +87,8 @@ struct Entry<'a, A: Allocator> {
     key: &'a [u8],
     one: Option<&'a [u8]>,
     two: Option<&'a [u8]>,
-    ghost keyed1: { IfSome (option_copied one) (λ line. join_key (join_job job.now) First line ≡ key.now) } by { Prim.hlevel props },
-    ghost keyed2: { IfSome (option_copied two) (λ line. join_key (join_job job.now) Second line ≡ key.now) } by { Prim.hlevel props },
+    ghost keyed1: { IsKeyOf (join_job job.now) First key.now (option_copied one) } by { Prim.hlevel props },
+    ghost keyed2: { IsKeyOf (join_job job.now) Second key.now (option_copied two) } by { Prim.hlevel props },
 }
 
 // What an element of the output list names: the join field, or a field of a line, which may be the join field too.
@@ -213,7 +213,8 @@ pub(crate) fn push_pair<'a, A: Allocator, W: Sink>(
     ending: u8,
     out: &mut Out<W>,
 ) -> Result<(), WriteFault>
-    requires { let of = join_key (join_job job.now) in (of First first.now ≡ key.now) × (of Second second.now ≡ key.now) }
+    requires { let of = join_key (join_job job.now) in
+        (of First first.now ≡ key.now) × (of Second second.now ≡ key.now) }
     ensures { let of = fields (join_job job.now).separator in
         let bytes = entry (join_job job.now) key.now (of first.now) (of second.now) in
         Pushes out.old out.new (bytes ++ ending ∷ []) result }

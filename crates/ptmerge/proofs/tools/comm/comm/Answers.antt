@@ -1,15 +1,8 @@
 -- An output that has failed is left alone; otherwise both orders are one proof, over the order that the job names.
-use Rattle.ptmerge.proofs.Common.{◌≡◌, sym, ◌∙◌, comm_job, Side, comm_tool, seen, both}
+use Rattle.ptmerge.proofs.Common.{sym, ◌∙◌, comm_job, comm_tool, seen}
 use Rattle.ptmerge.proofs.OfMerges.Starting.{set_is}
 use Rattle.ptmerge.proofs.OfMerges.Stopping.{merge_halted, merge_set, unread_set}
-use Rattle.ptmerge.proofs.tools.comm.comm.Given as given
 use Rattle.ptmerge.proofs.tools.comm.comm.Goals as goal
-use Rattle.ptmerge.proofs.tools.comm.comm.Goals.{After-set_ending-2}
-
--- both endings were set
-set : (g : given.Over) (c : After-set_ending-2 g) (side : Side)
-    → both c.set_ending.new.self c.set_ending-2.new.self side ≡ record (both c.args.first.now c.args.second.now side) { ending = (comm_job c.args.job.now).end }
-set g c = set_is c.args.first.now c.args.second.now c.set_ending.new.self c.set_ending-2.new.self c.args.job.now.zero c.set_ending.ensures.set c.set_ending-2.ensures.set
 
 pub returns-then-has_failed-clause-merged : goal.returns-then-has_failed-clause-merged
 returns-then-has_failed-clause-merged g c =
@@ -17,18 +10,15 @@ returns-then-has_failed-clause-merged g c =
     c.requires.allowed (sym c.has_failed.ensures ∙ c.if-has_failed.true)
 
 pub returns-then-job-clause-merged : goal.returns-then-job-clause-merged
-returns-then-job-clause-merged g c =
-    merge_set _ _ _ _ (set g (goal.at.returns-then-job-clause-merged g c).After-set_ending-2) _ _ (rw c.if-job.true c.comm_in_order.ensures.merged)
+returns-then-job-clause-merged g c = merge_set _ _ _ _ (set_is _ _ _ _ _ c.set_ending.ensures.set c.set_ending-2.ensures.set) _ _ (rw c.if-job.true c.comm_in_order.ensures.merged)
 
 pub returns-clause-merged : goal.returns-clause-merged
-returns-clause-merged g c = merge_set _ _ _ _ (set g (goal.at.returns-clause-merged g c).After-set_ending-2) _ _ (rw c.if-job.false c.comm_in_order-2.ensures.merged)
+returns-clause-merged g c = merge_set _ _ _ _ (set_is _ _ _ _ _ c.set_ending.ensures.set c.set_ending-2.ensures.set) _ _ (rw c.if-job.false c.comm_in_order-2.ensures.merged)
 
 pub returns-then-job-clause-refused : goal.returns-then-job-clause-refused
-returns-then-job-clause-refused g c = λ fine few.
-    unread_set (seen c.args.first.now c.args.second.now c.args.out.now c.args.store.now) _ _ _
-    (set g (goal.at.returns-then-job-clause-refused g c).After-set_ending-2) (c.comm_in_order.ensures.refused few)
+returns-then-job-clause-refused g c = λ fine few. unread_set (seen c.args.first.now c.args.second.now c.args.out.now c.args.store.now) _ _ _
+    (set_is _ _ _ _ _ c.set_ending.ensures.set c.set_ending-2.ensures.set) (c.comm_in_order.ensures.refused few)
 
 pub returns-clause-refused : goal.returns-clause-refused
-returns-clause-refused g c = λ fine few.
-    unread_set (seen c.args.first.now c.args.second.now c.args.out.now c.args.store.now) _ _ _
-    (set g (goal.at.returns-clause-refused g c).After-set_ending-2) (c.comm_in_order-2.ensures.refused few)
+returns-clause-refused g c = λ fine few. unread_set (seen c.args.first.now c.args.second.now c.args.out.now c.args.store.now) _ _ _
+    (set_is _ _ _ _ _ c.set_ending.ensures.set c.set_ending-2.ensures.set) (c.comm_in_order-2.ensures.refused few)

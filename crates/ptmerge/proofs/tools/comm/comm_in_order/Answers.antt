@@ -1,7 +1,7 @@
 -- Each turn goes on to the next by one lemma of `Turns`, and each way out of it leaves what the clauses say.
-use Rattle.ptmerge.proofs.Common.{◌≡◌, Result, Err, IsErrAnd, refl, ◌∙◌, err_from_is_err_and, comm_job, MergeFault, comm_by, seen}
-use Rattle.ptmerge.proofs.OfMerges.Turning.{IsOpened, told}
-use Rattle.ptmerge.proofs.OfComm.Turns.{alone_less, alone_on, alone_stops, ended, fallen, is_opened, pair_less, pair_on, pair_stops, second_stands, second_stops, stands_at, start_stops, starts}
+use Rattle.ptmerge.proofs.Common.{◌≡◌, Result, Err, IsErrAnd, arith, refl, ◌∙◌, err_from_is_err_and, comm_job, MergeFault, comm_by, seen}
+use Rattle.ptmerge.proofs.OfMerges.Turning.{IsOpened, opened_by, told}
+use Rattle.ptmerge.proofs.OfComm.Turns.{alone_less, alone_on, alone_stops, ended, fallen, pair_less, pair_on, pair_stops, second_stands, second_stops, stands_at, start_stops, starts}
 use Rattle.ptmerge.proofs.tools.comm.comm_in_order.Goals.{After-start}
 use Rattle.ptmerge.specs.declared.order.Side.TheVariants as sides
 use Rattle.ptmerge.proofs.tools.comm.comm_in_order.Given as given
@@ -9,9 +9,7 @@ use Rattle.ptmerge.proofs.tools.comm.comm_in_order.Goals as goal
 
 opened : (g : given.Over) (c : After-start g) → IsOpened (comm_by (comm_job c.args.job.now) (g.K.KeyOrder.order c.args.order) (g.K.KeyOrder.key_of c.args.order))
     (seen c.args.first.now c.args.second.now c.args.out.now c.args.store.now)
-opened g c =
-    is_opened (comm_job c.args.job.now) (record { total = g.met.K.KeyOrder.total c.args.order; exact = g.met.K.KeyOrder.exact c.args.order })
-    c.requires.begins
+opened g c = opened_by (record { total = g.met.K.KeyOrder.total c.args.order; exact = g.met.K.KeyOrder.exact c.args.order }) (λ ls. (omega arith, omega arith)) c.requires.begins
 
 -- a fault that is handed on
 is_told : {r : Result (Unit {0}) MergeFault} {fault : MergeFault} → IsErrAnd r (λ y. y ≡ fault) → r ≡ Err fault
