@@ -2,7 +2,7 @@
 
 ghost use Rattle.std.specs.Prelude.{◌≤◌, ◌+◌, ℕ, List, [], length, OnOk, OnErr};
 ghost use Rattle.ptlines.specs.Outputs.{Pushes};
-ghost use Rattle.ptflow.specs.Workings.Passes.Blocks.{IsBlock, IsFirst, GoesOver};
+ghost use Rattle.ptflow.specs.Workings.Passes.Blocks.{IsBlock, IsAtStart, GoesOver};
 ghost use Rattle.ptflow.specs.Workings.Passes.Continuations.{Continues, Halts};
 
 use crate::faults::FlowFault;
@@ -38,7 +38,7 @@ pub(crate) fn over_blocks<T: BlockTool, S: Source, R: Source, W: Sink>(
     reader: &mut LineReader<S, R>,
     out: &mut Out<W>,
 ) -> Result<(), FlowFault>
-    requires { IsFirst (T.counted tool.old) reader.old out.old }
+    requires { IsAtStart (T.counted tool.old) reader.old out.old }
     ensures { GoesOver T.rest T.Holds tool.old reader.old reader.new out.old out.new result }
 {
     'turns: loop {

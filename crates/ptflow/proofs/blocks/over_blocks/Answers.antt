@@ -38,9 +38,9 @@ push_block-requires g c =
     let shows = (rw c.in-Ok.is at b.shows) i.midway.reached.goes.fault in
     record {
       some = omega (arith, eqb-false (length c.in-Ok.block.now) 0 (cc));
-      fits = record {
+      room = record {
         short = omega (arith, counted_block shows.0 shows.1 b.was_sound i.counted, b.is_sound.long shows.0.fault);
-        room = omega (arith, b.is_sound.count, ap length shows.1);
+        small = omega (arith, b.is_sound.count, ap length shows.1);
       };
     }
 

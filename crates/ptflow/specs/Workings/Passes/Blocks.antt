@@ -7,19 +7,18 @@ use Rattle.ptflow.specs.Passes.{IsBarePass}
 use Rattle.ptflow.specs.Tools.{Tool}
 use Rattle.ptflow.specs.declared.faults.FlowFault.{FlowFault}
 
--- A tool that counted so many bytes can count so many more, and so many more can be written for a block behind those
--- that were written for it.
-pub record Fits (counted written more : ℕ) : Type 0 where
+-- Where so many bytes were counted, and so many were written for a block, there is room for so many more.
+pub record HasRoom (counted written more : ℕ) : Type 0 where
   pub short : counted + more < 2 ^ 63
-  pub room : written + more ≤ 8192
+  pub small : written + more ≤ 8192
 
 -- a block comes to a tool that counted so many bytes
 pub record IsBlock (counted : ℕ) (block : List ℕ) : Type 0 where
   pub some : 0 < length block
-  pub fits : Fits counted 0 (length block)
+  pub room : HasRoom counted 0 (length block)
 
 -- Before its first block a tool has counted nothing; the reader can be read, and no write has failed.
-pub record IsFirst (counted : ℕ) (reader : Reader) (out : Output) : Type 0 where
+pub record IsAtStart (counted : ℕ) (reader : Reader) (out : Output) : Type 0 where
   pub fresh : counted ≡ 0
   pub readable : reader.fault ≡ None
   pub clean : out.faulted ≡ false

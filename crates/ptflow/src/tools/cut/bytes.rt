@@ -6,7 +6,7 @@ ghost use Rattle.ptlangs.specs.Jobs.{cut_job};
 ghost use Rattle.ptflow.specs.Cuts.{cut_tool};
 ghost use Rattle.ptflow.specs.Passes.{IsBarePass};
 ghost use Rattle.ptflow.specs.Workings.Cut.CutRests.{rest_by, chosen_piece, IsCutTo, CutsOn, HasEnds, IsStepAt, GoesOn};
-ghost use Rattle.ptflow.specs.Workings.Passes.Blocks.{Fits, IsFirst};
+ghost use Rattle.ptflow.specs.Workings.Passes.Blocks.{HasRoom, IsAtStart};
 ghost use Rattle.ptflow.specs.Workings.Cut.Picks.{IsPick, AreApart-prop};
 
 use crate::blocks::{BlockTool, over_blocks};
@@ -45,7 +45,7 @@ fn copy_selected(
     at: usize,
 ) -> usize
     requires within { (count ≤ end) × (end ≤ length bytes.now) }
-    requires fits { Fits before at end }
+    requires room { HasRoom before at end }
     ensures copied { take result into.new
         ≡ take at into.old ++ chosen_piece by.now.selected.now before count (take end bytes.now) }
     ensures near { result ≤ at + end }
@@ -80,7 +80,7 @@ fn copy_line(
     at: usize,
 ) -> usize
     requires within { count + 16 ≤ length bytes.now }
-    requires fits { Fits before at (count + 1) }
+    requires room { HasRoom before at (count + 1) }
     ensures copied { take result into.new
         ≡ take at into.old ++ chosen_piece by.now.selected.now before count (take (count + 1) bytes.now) }
     ensures near { result ≤ at + count + 1 }
@@ -159,7 +159,7 @@ fn cut_rest(
     into: &mut Written,
     at: usize,
 ) -> (usize, u64)
-    requires { Fits before at (length bytes.now) }
+    requires { HasRoom before at (length bytes.now) }
     ensures cut { CutsOn ending by.now.selected.now before bytes.now (take at into.old)
         result.1 [] (take result.0 into.new) }
     ensures near { result.0 ≤ at + length bytes.now }
@@ -187,7 +187,7 @@ fn cut_pieces(
     block: &[u8],
     into: &mut Written,
 ) -> (usize, u64)
-    requires { Fits before 0 (length block.now) }
+    requires { HasRoom before 0 (length block.now) }
     ensures cut { IsCutTo ending by.now.selected.now before block.now result.1 [] (take result.0 into.new) }
     ensures near { result.0 ≤ length block.now }
     ensures bound { result.1 ≤ before + length block.now }
@@ -260,7 +260,7 @@ pub(crate) fn cut_by_bytes<A: Allocator + Copy, S: Source, R: Source, W: Sink>(
     out: &mut Out<W>,
 ) -> Result<(), FlowFault>
     requires by_bytes { job.now.fields ≡ false }
-    requires first { IsFirst 0 reader.old out.old }
+    requires start { IsAtStart 0 reader.old out.old }
     ensures { IsBarePass (cut_tool (cut_job job.now)) reader.old reader.new out.old out.new result }
 {
     let ending = if job.zero { 0 } else { b'\n' };

@@ -5,7 +5,7 @@ ghost use Rattle.ptlines.specs.Outputs.{Wrote, Pushes};
 ghost use Rattle.ptlangs.specs.Jobs.{paste_job};
 ghost use Rattle.ptflow.specs.Passes.{IsReady, IsPass};
 ghost use Rattle.ptflow.specs.Pastes.{delimiter, serial_tool};
-ghost use Rattle.ptflow.specs.Workings.Passes.Blocks.{Fits};
+ghost use Rattle.ptflow.specs.Workings.Passes.Blocks.{HasRoom};
 ghost use Rattle.ptflow.specs.Workings.Paste.SerialRests.{begun, lead, Puts, PutsBlock, IsAlways};
 
 use crate::blocks::{BlockTool, over_blocks};
@@ -24,7 +24,7 @@ pub(crate) struct Cell {
 }
 
 // Pushes what follows the cell of this number.
-pub(crate) fn push_delimiter<A: Allocator, W: Sink>(
+fn push_delimiter<A: Allocator, W: Sink>(
     delims: &Delims<A>,
     number: u64,
     out: &mut Out<W>,
@@ -65,7 +65,7 @@ pub(crate) type Written = [u8; 8208];
 
 // Puts what follows the cell of this number, and says where that ends.
 #[inline(always)]
-pub(crate) fn put_delimiter<A: Allocator>(
+fn put_delimiter<A: Allocator>(
     delims: &Delims<A>,
     number: u64,
     into: &mut Written,
@@ -103,7 +103,7 @@ fn put_pieces<A: Allocator>(
     bytes: &[u8],
     into: &mut Written,
 ) -> (usize, u64)
-    requires { Fits number 0 (length bytes.now) }
+    requires { HasRoom number 0 (length bytes.now) }
     ensures puts { Puts ending delims.now number bytes.now result.1 [] (take result.0 into.new) }
     ensures near { result.0 ≤ length bytes.now }
     ensures bound { result.1 ≤ number + length bytes.now }
@@ -130,7 +130,7 @@ fn put_cells<A: Allocator>(
     bytes: &[u8],
     into: &mut Written,
 ) -> (usize, u64)
-    requires { Fits number 0 (length bytes.now) }
+    requires { HasRoom number 0 (length bytes.now) }
     ensures puts { Puts ending delims.now number bytes.now result.1 [] (take result.0 into.new) }
     ensures near { result.0 ≤ length bytes.now }
     ensures bound { result.1 ≤ number + length bytes.now }
@@ -159,7 +159,7 @@ fn put_block<A: Allocator>(
     last: u8,
     into: &mut Written,
 ) -> (usize, Cell)
-    requires { Fits number 0 (length bytes.now) }
+    requires { HasRoom number 0 (length bytes.now) }
     ensures puts { PutsBlock ending delims.now number (bytes.now ++ last ∷ []) result.1 (take result.0 into.new) }
     ensures near { result.0 ≤ length bytes.now + 1 }
     ensures bound { result.1.number ≤ number + length bytes.now }

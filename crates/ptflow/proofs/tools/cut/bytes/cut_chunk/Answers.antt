@@ -34,9 +34,9 @@ pub copy_line-at-requires-clause-within : goal.copy_line-at-requires-clause-with
 copy_line-at-requires-clause-within c =
     let e = next (goal.at.copy_line-at-requires-clause-within c).In-loop-end in omega (arith, length-drop c.loop-end.step.start c.args.block.now)
 
-pub copy_line-at-requires-clause-fits : goal.copy_line-at-requires-clause-fits
-copy_line-at-requires-clause-fits c =
-    let e = next (goal.at.copy_line-at-requires-clause-fits c).In-loop-end in record { short = omega arith; room = omega arith }
+pub copy_line-at-requires-clause-room : goal.copy_line-at-requires-clause-room
+copy_line-at-requires-clause-room c =
+    let e = next (goal.at.copy_line-at-requires-clause-room c).In-loop-end in record { short = omega arith; small = omega arith }
 
 pub loop-end-preserved : goal.loop-end-preserved
 loop-end-preserved c =

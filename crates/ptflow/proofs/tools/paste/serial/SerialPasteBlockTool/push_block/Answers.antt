@@ -27,7 +27,7 @@ pub put_block-end-requires : goal.put_block-end-requires
 put_block-end-requires g c =
     let number = ap (λ (x : Cell). x.number) c.in_ok-begun.ensures.begun in
     let few = length-take-le (length c.args.block.now - 1) c.args.block.now (omega arith) in
-    record { short = omega (arith, number, few, begun_number c.args.self.now.cell); room = omega (arith, few) }
+    record { short = omega (arith, number, few, begun_number c.args.self.now.cell); small = omega (arith, few) }
 
 -- the bytes of a block up to the last one, and the last one
 parts : (block : List ℕ) → 0 < length block → take (length block - 1) block ++ get_or block (length block - 1) 0 ∷ [] ≡ block
