@@ -61,7 +61,7 @@ pub use Rattle.ptflow.specs.Pastes.{columns, delimiter, every, glued_from, heigh
 pub use Rattle.ptflow.specs.Tools.{Tool}
 pub use Rattle.ptflow.specs.Translations.{squeeze, squeeze_behind, stays, tr, tr_decided, tr_tool, translated}
 pub use Rattle.ptflow.specs.Uniqs.{Run, after_fields, all_but_last, ends_word, entries, is_blank, is_same, key, onto_runs, runs, shown, uniq_tool, word_ends}
-pub use Rattle.ptflow.specs.Workings.Bytes.ByteSets.{IsSetOf, IsTableOf, Keeps, holds, marks, mask_of}
+pub use Rattle.ptflow.specs.Workings.Bytes.ByteSets.{IsSetOf, Keeps, holds, marks, mask_of}
 pub use Rattle.ptflow.specs.Workings.Bytes.Lanes.{IsMovedTo, by_four, by_reach, by_two, told_adds}
 pub use Rattle.ptflow.specs.Workings.Bytes.Nths.{IsBehind}
 pub use Rattle.ptflow.specs.Workings.Bytes.Packings.{IsPacking, IsRow, chosen_by, places_of}

@@ -1,8 +1,8 @@
 -- What lanes say of a set of bytes.
-use Rattle.ptflow.proofs.Common.{◌≡◌, ℕ, suc, ◌+◌, ◌*◌, ◌/◌, ◌%◌, ◌<◌, ◌≤◌, ◌^◌, ◌&&◌, ◌||◌, Bool, true, false, List, [], ◌∷◌, length, map, cond, leb, ltb, eqb, zero, ◌≢◌, ⊎_elim, get_or, get_or-take}
-use Rattle.ptflow.proofs.Common.{get_or-drop, take, drop, ◌-◌, set, bit_or, replicate, negsuc, pos, bit_and, refl, ap, ◌∙◌, arith, w8, Fits, top, zip2, sel_l, Each1, cast_signed, bit_at, from_bool}
+use Rattle.ptflow.proofs.Common.{◌≡◌, ℕ, suc, ◌+◌, ◌*◌, ◌/◌, ◌%◌, ◌<◌, ◌≤◌, ◌^◌, ◌&&◌, ◌||◌, Bool, true, false, List, [], ◌∷◌, length, map, cond, leb, ltb, eqb, zero, ◌≢◌, ⊎_elim, get_or}
+use Rattle.ptflow.proofs.Common.{get_or-drop, drop, ◌-◌, set, bit_or, replicate, negsuc, pos, bit_and, refl, ap, ◌∙◌, arith, w8, Fits, top, zip2, sel_l, Each1, cast_signed, bit_at, from_bool}
 use Rattle.ptflow.proofs.Common.{swz_l, SwzOk, SwzOk-from_below, zip2_splat, zip2_of_maps, map-map, and_mask, lt-leb, lt-ltb, le-ltb, cases_eq, cases_lt, eq-eqb, nat_tests, get_or-map-range_with_len}
-use Rattle.ptflow.proofs.Common.{pow_pos, length-map, set-get_or, get_or-set_same, get_or-set_other, marks, holds, IsTableOf, IsSetOf, mask_of, ne_eqb}
+use Rattle.ptflow.proofs.Common.{pow_pos, length-map, set-get_or, get_or-set_same, get_or-set_other, marks, holds, IsSetOf, mask_of, ne_eqb}
 use Rattle.std.proofs.lemmas.Nat.Bits.{and_pow, bit_at-lt, bit_at_set_same, bit_at_set_other}
 use Rattle.std.specs.Int.Bits.{or_zero_r}
 use Rattle.ptflow.specs.declared.kernels.sets.ByteSet.{ByteSet}
@@ -137,11 +137,12 @@ one_more_flag table flags n long within is marked b byte =
 -- ---- a set of two tables
 
 -- its tables hold the flags of the first 128 bytes, and of the others
-pub set_of_halves : (set : ByteSet) (flags : List Bool) → IsTableOf set.low (take 128 flags) → IsTableOf set.high (drop 128 flags) → IsSetOf set flags
-set_of_halves set flags low high b byte = ⊎_elim
-    (λ less. cc (lt-ltb b 128 less, low b less, get_or-take 128 flags b false less))
+pub set_of_halves : (set : ByteSet) (flags : List Bool) (n : ℕ) → 128 ≤ n → ((b : ℕ) → b < 128 → marks set.low b ≡ (ltb b n && get_or flags b false))
+    → ((b : ℕ) → b < 128 → marks set.high b ≡ (ltb b n && get_or (drop 128 flags) b false)) → IsSetOf set flags
+set_of_halves set flags n all low high b byte = ⊎_elim
+    (λ less. cc (lt-ltb b 128 less, low b less, lt-ltb b n (omega (arith, less, all))))
     (λ more.
     let entry : b % 16 ≡ (b - 128) % 16 = omega (arith, more) in
     let bit : b / 16 % 8 ≡ (b - 128) / 16 % 8 = omega (arith, more) in
     let place : 128 + (b - 128) ≡ b = omega (arith, more) in
-    cc (le-ltb b 128 more, high (b - 128) (omega arith), get_or-drop 128 flags (b - 128) false)) (cases_lt b 128)
+    cc (le-ltb b 128 more, high (b - 128) (omega arith), lt-ltb (b - 128) n (omega arith), get_or-drop 128 flags (b - 128) false)) (cases_lt b 128)

@@ -1,6 +1,6 @@
 //! Bytes that are moved many at a time: by stretches of them, or in any other way that moves 16 at once.
 
-ghost use Rattle.std.specs.Prelude.{◌≡◌, ◌<◌, ◌≤◌, ◌+◌, ◌++◌, ℕ, length, map, take, drop};
+ghost use Rattle.std.specs.Prelude.{◌≡◌, ◌<◌, ◌≤◌, ◌+◌, ◌++◌, ℕ, length, map, take};
 ghost use Rattle.ptlangs.specs.TrShifts.{shifted};
 ghost use Rattle.ptflow.specs.Workings.Bytes.Lanes.{IsMovedTo};
 
@@ -16,16 +16,14 @@ pub(crate) trait Mover: Copy {
         ensures { result ≡ map (becomes self) v };
 }
 
-// Moves the 16 bytes from a place on.
+// Puts what 16 bytes become from a place on.
 #[inline(always)]
-fn move_lanes<M: Mover>(by: M, from: &[u8], at: usize, to: &mut [u8])
-    requires room { at + 16 ≤ length from.now }
-    requires same { length to.old ≡ length from.now }
-    ensures long { length to.new ≡ length from.now }
-    ensures begun { take (at + 16) to.new ≡ take at to.old ++ map (M.becomes by) (take 16 (drop at from.now)) }
+fn move_lanes<M: Mover>(by: M, v: u8x16, to: &mut [u8], at: usize)
+    requires { at + 16 ≤ length to.old }
+    ensures long { length to.new ≡ length to.old }
+    ensures begun { take (at + 16) to.new ≡ take at to.old ++ map (M.becomes by) v }
 {
-    let lanes = by.moved(u8x16::from_slice(&from[at..]));
-    lanes.copy_to_slice(&mut to[at..]);
+    by.moved(v).copy_to_slice(&mut to[at..]);
 }
 
 /// Moves all but the last bytes, and says how many that is.
@@ -36,8 +34,8 @@ pub(crate) fn move_most<M: Mover>(by: M, from: &[u8], to: &mut [u8]) -> usize
 {
     let mut at = 0;
     while from.len() - at >= 32 {
-        move_lanes(by, from, at, to);
-        move_lanes(by, from, at + 16, to);
+        move_lanes(by, u8x16::from_slice(&from[at..]), to, at);
+        move_lanes(by, u8x16::from_slice(&from[at + 16..]), to, at + 16);
         at += 32;
     }
     at

@@ -1,7 +1,7 @@
 //! Sets of bytes, 16 of which are looked up at once.
 
-ghost use Rattle.std.specs.Prelude.{◌≡◌, ◌/◌, ◌%◌, length, map, slice_index};
-ghost use Rattle.ptflow.specs.Workings.Bytes.ByteSets.{IsSetOf, IsTableOf};
+ghost use Rattle.std.specs.Prelude.{◌≡◌, ◌/◌, ◌%◌, map, slice_index};
+ghost use Rattle.ptflow.specs.Workings.Bytes.ByteSets.{IsSetOf};
 
 use std::simd::Mask;
 use std::simd::prelude::*;
@@ -23,18 +23,6 @@ pub(crate) fn by_high_half(table: u8x16, v: u8x16) -> u8x16
     ensures { result ≡ map (λ b. slice_index table (b / 16)) v }
 {
     table.swizzle_dyn(v >> u8x16::splat(4))
-}
-
-// The table of the bytes whose flag is true.
-fn table_of(flags: &[bool]) -> u8x16
-    requires { length flags.now ≡ 128 }
-    ensures { IsTableOf result flags.now }
-{
-    let mut table = [0; 16];
-    for (byte, flag) in flags.iter().enumerate() {
-        table[byte % 16] |= u8::from(*flag) << (byte / 16);
-    }
-    u8x16::from_array(table)
 }
 
 // A set of bytes: a table of those below 128, and one of the others. A byte's low half says which of the 16 entries of
@@ -60,10 +48,15 @@ impl ByteSet {
     pub(crate) fn of(flags: &[bool; 256]) -> ByteSet
         ensures { IsSetOf result flags.now }
     {
-        let (low, high) = flags.split_at(128);
+        let mut low = [0; 16];
+        let mut high = [0; 16];
+        for byte in 0..128 {
+            low[byte % 16] |= u8::from(flags[byte]) << (byte / 16);
+            high[byte % 16] |= u8::from(flags[128 + byte]) << (byte / 16);
+        }
         ByteSet {
-            low: table_of(low),
-            high: table_of(high),
+            low: u8x16::from_array(low),
+            high: u8x16::from_array(high),
         }
     }
 

@@ -11,10 +11,6 @@ marks table b = bit_at (slice_index table (b % 16)) (b / 16 % 8) == 1
 abbrev pub holds : ByteSet → ℕ → Bool
 holds set b = marks (if nat_lt b 128 then set.low else set.high) b
 
--- the table of the bytes whose flag is true
-abbrev pub IsTableOf : List ℕ → List Bool → Type 0
-IsTableOf table flags = (b : ℕ) → b < 128 → marks table b ≡ slice_index_or flags b false
-
 -- the set of the bytes whose flag is true
 abbrev pub IsSetOf : ByteSet → List Bool → Type 0
 IsSetOf set flags = (b : ℕ) → b < 256 → holds set b ≡ slice_index_or flags b false

@@ -1,9 +1,16 @@
-use Rattle.std.proofs.Common.{◌∙◌, ap, get_or, false}
-use Rattle.ptflow.proofs.OfBytes.ByteSetLemmas.{set_of_halves}
+use Rattle.ptflow.proofs.Common.{false, sym, ap, ◌∙◌, length-set, arith, from_bool}
+use Rattle.std.proofs.lemmas.List.{get_or-drop}
+use Rattle.ptflow.proofs.OfBytes.ByteSetLemmas.{set_of_halves, one_more_flag}
 use Rattle.ptflow.proofs.kernels.sets.ByteSet.of.Goals as goal
 
+pub loop-byte-preserved : goal.loop-byte-preserved
+loop-byte-preserved c = record {
+  long_low = simp length-set c.loop-byte.invariant.long_low;
+  long_high = simp length-set c.loop-byte.invariant.long_high;
+  low = one_more_flag c.loop-byte.low c.args.flags.now c.loop-byte.byte c.loop-byte.invariant.long_low (omega arith) c.from.ensures c.loop-byte.invariant.low;
+  high = one_more_flag c.loop-byte.high _ c.loop-byte.byte c.loop-byte.invariant.long_high (omega arith)
+      (c.from-in-loop-byte.ensures ∙ ap from_bool (sym (get_or-drop 128 c.args.flags.now c.loop-byte.byte false))) c.loop-byte.invariant.high;
+}
+
 pub returns : goal.returns
-returns c =
-    set_of_halves (record { low = c.table_of.result; high = c.table_of-2.result }) c.args.flags.now
-    (λ b byte. c.table_of.ensures b byte ∙ ap (λ flags. get_or flags b false) c.split_at.ensures.front)
-    (λ b byte. c.table_of-2.ensures b byte ∙ ap (λ flags. get_or flags b false) c.split_at.ensures.back)
+returns c = set_of_halves _ c.args.flags.now c.loop-byte.byte c.loop-byte-test.false c.loop-byte.invariant.low c.loop-byte.invariant.high
