@@ -1,6 +1,7 @@
 -- The fields of a line.
-use Rattle.std.specs.Prelude.{◌≡◌, ℕ, ◌≤◌, ◌==◌, List, ◌∷◌, length, take, drop}
+use Rattle.std.specs.Prelude.{◌≡◌, ℕ, ◌≤◌, ◌==◌, List, ◌∷◌, Some, length, take, drop}
 use Rattle.std.specs.List.{flat_map, slice_split}
+use Rattle.memchr.specs.Find.{IsFirstByte, is_byte}
 
 -- a line is split at every delimiter
 abbrev pub fields : ℕ → List ℕ → List (List ℕ)
@@ -17,3 +18,14 @@ pub record StartsAt (delimiter n : ℕ) (line : List ℕ) (at : ℕ) : Type 0 wh
   pub front : take at (delimiter ∷ line) ≡ led delimiter (take n (fields delimiter line))
   pub behind : drop at (delimiter ∷ line) ≡ delimiter ∷ drop at line
   pub later : drop n (fields delimiter line) ≡ fields delimiter (drop at line)
+
+-- The first delimiter of a line, which is the first `to` of some bytes, stands at this place.
+pub record IsParted (delimiter : ℕ) (bytes : List ℕ) (to first : ℕ) : Type 0 where
+  pub found : IsFirstByte (is_byte delimiter) (take to bytes) (Some first)
+  pub within : to ≤ length bytes
+
+-- Of such a line what follows from a place on is searched: from its start, or from behind that delimiter.
+pub record IsSearched (delimiter : ℕ) (bytes : List ℕ) (to first from : ℕ) : Type 0 where
+  pub line : IsParted delimiter bytes to first
+  pub start : from ≤ first → from ≡ 0
+  pub near : from ≤ to

@@ -7,7 +7,7 @@ ghost use Rattle.ptlangs.specs.Jobs.{cut_job};
 ghost use Rattle.ptflow.specs.Cuts.{cut_fields, cut_lines, cut_tool};
 ghost use Rattle.ptflow.specs.Passes.{IsPass};
 ghost use Rattle.ptflow.specs.Workings.Passes.Lines.{MayBegin};
-ghost use Rattle.ptflow.specs.Workings.Cut.FieldPlaces.{fields, StartsAt};
+ghost use Rattle.ptflow.specs.Workings.Cut.FieldPlaces.{fields, StartsAt, IsParted, IsSearched};
 ghost use Rattle.ptflow.specs.Workings.Cut.CutRests.{PutsLines};
 
 use crate::faults::FlowFault;
@@ -52,9 +52,7 @@ fn field_behind(
     to: usize,
     count: u64,
 ) -> Option<usize>
-    requires first { IsFirstByte (is_byte delimiter) (take to bytes.now) (Some first) }
-    requires start { from ≤ first → from ≡ 0 }
-    requires within { (from ≤ to) × (to ≤ length bytes.now) }
+    requires { IsSearched delimiter bytes.now to first from }
     ensures found { MatchOption result (length (fields delimiter (drop from (take to bytes.now))) ≤ count)
         (StartsAt delimiter count (drop from (take to bytes.now))) }
     ensures start { IfSome result (λ passed. from + passed ≤ first → from + passed ≡ 0) }
@@ -145,9 +143,8 @@ fn put_fields<A: Allocator + Copy>(
     room: &mut [u8],
     start: usize,
 ) -> usize
-    requires first { IsFirstByte (is_byte job.now.delim) (take to bytes.now) (Some first) }
-    requires within { to < length bytes.now }
-    requires room { start + to + 17 ≤ length room.old }
+    requires line { IsParted job.now.delim bytes.now to first }
+    requires room { (to < length bytes.now) × (start + to + 17 ≤ length room.old) }
     ensures long { length room.new ≡ length room.old }
     ensures put { take result room.new ≡ take start room.old
         ++ (cut_fields (cut_job job.now) (take to bytes.now) ++ take 1 (drop to bytes.now)) }

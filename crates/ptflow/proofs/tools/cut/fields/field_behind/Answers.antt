@@ -28,7 +28,7 @@ returns-in_err-passed-clause-found c =
     let zero : c.args.from ≡ 0 = c.requires.start c.if-from-first.false in
     let left = rw (← (rest_of (c.args.first + 1) c.args.to bytes)) at (rw take_rest at c.in_err-passed.ensures) in
     let few : length (fields c.args.delimiter (drop c.args.from (take c.args.to bytes))) ≤ c.args.count =
-    rw zero (few_behind_first c.args.delimiter (take c.args.to bytes) c.args.first c.args.count c.requires.first (omega arith) left) in
+    rw zero (few_behind_first c.args.delimiter (take c.args.to bytes) c.args.first c.args.count c.requires.line.found (omega arith) left) in
     rw c.from_residual.ensures few
 
 pub returns-clause-found : goal.returns-clause-found
@@ -36,4 +36,4 @@ returns-clause-found c =
     let bytes = c.args.bytes.now in
     let zero : c.args.from ≡ 0 = c.requires.start c.if-from-first.false in
     let s = rw (← (rest_of (c.args.first + 1) c.args.to bytes)) at (rw take_rest at c.in_ok-passed.ensures) in
-    rw zero (starts_past_first c.args.delimiter (take c.args.to bytes) c.args.first c.args.count c.requires.first (omega arith) s)
+    rw zero (starts_past_first c.args.delimiter (take c.args.to bytes) c.args.first c.args.count c.requires.line.found (omega arith) s)

@@ -2,6 +2,7 @@
 -- pushed, and a push may fail: then what was pushed is a beginning of the selected fields.
 use Rattle.ptflow.proofs.Common.{Some, ◌-◌, ◌≤◌, ℕ, List, [], take, drop, length, refl, sym, subst, arith, take_all, take_rest, drop_all, append-nil, IsFirstByte, is_byte, wrote_nothing, cut_job}
 use Rattle.ptflow.proofs.Common.{cut_fields, fields, StartsAt, ap, join_with_byte, is_selected, ◌+◌}
+use Rattle.ptflow.specs.Workings.Cut.FieldPlaces.{IsParted}
 use Rattle.ptflow.proofs.OfPasses.Fronts.{front_starts, front_more, front_fails, front_ends}
 use Rattle.ptflow.proofs.OfCut.FieldWalks.{not_past, step_fits, slice_fits, all_coming, walking_starts, walking_done, walking_short, walking_ends, walking_slice, walking_more}
 use Rattle.ptflow.proofs.OfBytes.Chosen.{chosen}
@@ -85,13 +86,23 @@ overflow_add-at g c = omega (arith, far g (goal.at.overflow_add-at g c).In-Some-
 pub overflow_add-from : goal.overflow_add-from
 overflow_add-from g c = omega (arith, step_fits c.loop-interval.invariant.walk (found c.args.line.now c.loop-interval.at c.in-Some.ensures.found))
 
-pub field_behind-requires-clause-first : goal.field_behind-requires-clause-first
-field_behind-requires-clause-first g c = rw (take_all (length c.args.line.now) c.args.line.now (omega arith)) c.requires
+-- the line is all of its bytes
+parted : {d first : ℕ} (line : List ℕ) → IsFirstByte (is_byte d) line (Some first) → IsParted d line (length line) first
+parted {d} {first} line is = record {
+  found = subst (λ l. IsFirstByte (is_byte d) l (Some first)) (sym (take_all (length line) line (omega arith))) is;
+  within = omega arith;
+}
 
-pub field_behind-requires-in-loop-interval-clause-first : goal.field_behind-requires-in-loop-interval-clause-first
-field_behind-requires-in-loop-interval-clause-first g c =
-    subst (λ l. IsFirstByte (is_byte c.args.job.now.delim) l (Some c.args.first))
-    (sym (take_all (length c.args.line.now) c.args.line.now (omega arith))) c.requires
+pub field_behind-requires : goal.field_behind-requires
+field_behind-requires g c =
+    record { line = parted c.args.line.now c.requires; start = c.loop-interval.invariant.known; near = c.loop-interval.invariant.walk.fits }
+
+pub field_behind-requires-in-loop-interval : goal.field_behind-requires-in-loop-interval
+field_behind-requires-in-loop-interval g c = record {
+  line = parted c.args.line.now c.requires;
+  start = c.in-Some.ensures.start;
+  near = step_fits c.loop-interval.invariant.walk (found c.args.line.now c.loop-interval.at c.in-Some.ensures.found);
+}
 
 pub overflow_add-last : goal.overflow_add-last
 overflow_add-last g c =
@@ -106,10 +117,3 @@ slice_bounds-push-start g c = back c.loop-interval.lead (step_fits c.loop-interv
 
 pub slice_bounds-push-count : goal.slice_bounds-push-count
 slice_bounds-push-count g c = back c.loop-interval.lead (step_fits c.loop-interval.invariant.walk (found c.args.line.now c.loop-interval.at c.in-Some.ensures.found))
-
-itself : (size : ℕ) → size ≤ size
-itself size = omega arith
-
-pub field_behind-requires-in-loop-interval-clause-within : goal.field_behind-requires-in-loop-interval-clause-within
-field_behind-requires-in-loop-interval-clause-within g c =
-    (step_fits c.loop-interval.invariant.walk (found c.args.line.now c.loop-interval.at c.in-Some.ensures.found), itself (length c.args.line.now))

@@ -29,7 +29,7 @@ returns-in_default-clause-put g c =
     let l = c.loop-interval in
     let room : l.end < length l.room = omega (arith, l.invariant.high, l.invariant.long, l.invariant.walk.fits, length-take-le to bytes (omega arith)) in
     let none = walking_short c.intervals-selected.result.now (take 1 (drop to bytes)) _ l.invariant.walk c.loop-interval-test.true c.in_default.ensures.found in
-    cc (put_byte l.room bytes l.end room c.requires.within, none, l.invariant.put)
+    cc (put_byte l.room bytes l.end room c.requires.room.0, none, l.invariant.put)
 
 pub returns-in_default-field_behind-clause-put : goal.returns-in_default-field_behind-clause-put
 returns-in_default-field_behind-clause-put g c =
@@ -78,7 +78,18 @@ returns-clause-put g c =
     let l = c.loop-interval in
     let room : l.end < length l.room = omega (arith, l.invariant.high, l.invariant.long, l.invariant.walk.fits, length-take-le to bytes (omega arith)) in
     let none = walking_done c.intervals-selected.result.now (take 1 (drop to bytes)) _ l.invariant.walk c.loop-interval-test.false in
-    cc (put_byte l.room bytes l.end room c.requires.within, none, l.invariant.put)
+    cc (put_byte l.room bytes l.end room c.requires.room.0, none, l.invariant.put)
+
+pub field_behind-requires : goal.field_behind-requires
+field_behind-requires g c =
+    record { line = c.requires.line; start = c.loop-interval.invariant.known; near = omega (arith, c.loop-interval.invariant.walk.fits, length-take-le c.args.to c.args.bytes.now (omega arith)) }
+
+pub field_behind-requires-in-loop-interval : goal.field_behind-requires-in-loop-interval
+field_behind-requires-in-loop-interval g c = record {
+  line = c.requires.line;
+  start = c.in-Some.ensures.start;
+  near = omega (arith, step_fits c.loop-interval.invariant.walk c.in-Some.ensures.found, length-take-le c.args.to c.args.bytes.now (omega arith));
+}
 
 pub overflow_add-number : goal.overflow_add-number
 overflow_add-number g c =
@@ -99,7 +110,7 @@ overflow_add-from g c = omega (arith, step_fits c.loop-interval.invariant.walk c
 pub copy_near-requires-in-loop-interval-clause-within : goal.copy_near-requires-in-loop-interval-clause-within
 copy_near-requires-in-loop-interval-clause-within g c =
     let far = slice_fits c.loop-interval.invariant.walk c.in-Some.ensures.found c.in-Some-field_behind.ensures.found in
-    (omega (arith, c.in-Some-field_behind.ensures.found.count), omega (arith, length-take-le c.args.to c.args.bytes.now (omega arith), c.requires.within))
+    (omega (arith, c.in-Some-field_behind.ensures.found.count), omega (arith, length-take-le c.args.to c.args.bytes.now (omega arith), c.requires.room.0))
 
 pub copy_near-requires-clause-within : goal.copy_near-requires-clause-within
 copy_near-requires-clause-within g c =

@@ -33,6 +33,8 @@ returns-clause-put g c =
     size.ensures.within.0 size.ensures.within.1 size.ensures.ended
     size.ensures.up_to c.if-first-to.false free c.if-job.false copied
 
-pub put_fields-requires-clause-first : goal.put_fields-requires-clause-first
-put_fields-requires-clause-first g c =
-    rw c.unwrap_or-first.ensures (first_within c.args.by.now.job.now.delim c.args.bytes.now c.find_near.result c.args.to c.find_near.ensures (omega arith) (omega arith))
+pub put_fields-requires-clause-line : goal.put_fields-requires-clause-line
+put_fields-requires-clause-line g c = record {
+  found = rw c.unwrap_or-first.ensures (first_within c.args.by.now.job.now.delim c.args.bytes.now c.find_near.result c.args.to c.find_near.ensures (omega arith) (omega arith));
+  within = omega arith;
+}
