@@ -39,7 +39,7 @@ pub record IsLent (place : Sorted) (reader : Reader) : Type 0 where
   pub clean : reader.fault ≡ None
   pub counted : place.number + budget reader ≤ 2 ^ 63
 
--- an input can go to its next line: its slots are there, its reader is lent, and where the key of its line is is noted
+-- an input can go to its next line: its slots are there, its reader is lent, and the place of its line's key is noted
 pub record CanAdvance (key : Key) (place : Sorted) (reader : Reader) (store : Slots) : Type 0 where
   pub there : AreThere place store
   pub lent : IsLent place reader

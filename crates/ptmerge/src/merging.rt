@@ -75,10 +75,7 @@ impl<K: KeyOrder> Merge<K> {
     {
         let mut one = Sorted::unread(Side::First, first);
         let mut two = Sorted::unread(Side::Second, second);
-        match need_four(store) {
-            Ok(()) => {}
-            Err(_) => return Err(MergeFault::Memory),
-        }
+        need_four(store).map_err(|_| MergeFault::Memory)?;
         one.next(&order, Side::First, first, store)?;
         two.next(&order, Side::Second, second, store)?;
         Ok(Merge {

@@ -16,6 +16,7 @@ ghost use Rattle.ptmerge.specs.declared.order.Side.{Side as Of};
 use crate::faults::MergeFault;
 use crate::merging::slots::clear_four;
 use crate::merging::{Merge, Step};
+use crate::order::Side::{First, Second};
 use crate::order::{Descending, KeyOrder, Side, WholeLine};
 use ptlangs::jobs::CommJob;
 use ptlines::{LineReader, Out, Sink, Source, Store, WriteFault};
@@ -99,38 +100,11 @@ fn comm_in_order<K: KeyOrder, A: Allocator + Copy, S: Source, R: Source, W: Sink
     let mut merge = Merge::start(order, first, second, store)?;
     'steps: loop {
         match merge.step(store) {
-            Step::First => pass(
-                &mut merge,
-                Side::First,
-                hide1,
-                b"",
-                ending,
-                first,
-                store,
-                out,
-            )?,
-            Step::Second => pass(
-                &mut merge,
-                Side::Second,
-                hide2,
-                lead2,
-                ending,
-                second,
-                store,
-                out,
-            )?,
+            Step::First => pass(&mut merge, First, hide1, b"", ending, first, store, out)?,
+            Step::Second => pass(&mut merge, Second, hide2, lead2, ending, second, store, out)?,
             Step::Both => {
-                pass(
-                    &mut merge,
-                    Side::First,
-                    hide3,
-                    lead3,
-                    ending,
-                    first,
-                    store,
-                    out,
-                )?;
-                merge.go_on(Side::Second, second, store, out)?;
+                pass(&mut merge, First, hide3, lead3, ending, first, store, out)?;
+                merge.go_on(Second, second, store, out)?;
             }
             Step::End => {
                 clear_four(store);

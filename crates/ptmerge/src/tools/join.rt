@@ -25,6 +25,7 @@ mod groups;
 use crate::faults::MergeFault;
 use crate::merging::slots::clear_four;
 use crate::merging::{Merge, Step};
+use crate::order::Side::{First, Second};
 use crate::order::{Descending, FieldKeys, KeyOrder, Side};
 use crate::tools::join::entries::{push_first, push_pair, push_second};
 use crate::tools::join::groups::{clear_group, gather, group_slots};
@@ -46,13 +47,13 @@ fn push_alone<A: Allocator, W: Sink>(
     ensures { MayPush out.old out.new (text ending (alone_entry (join_job job.now) side line.now)) result }
 {
     match side {
-        Side::First => {
+        First => {
             if !job.unpaired[0] {
                 return Ok(());
             }
             push_first(job, key, line, ending, out)
         }
-        Side::Second => {
+        Second => {
             if !job.unpaired[1] {
                 return Ok(());
             }
@@ -136,11 +137,11 @@ fn pass_pairs<K: KeyOrder, A: Allocator + Copy, S: Source, R: Source, W: Sink>(
         reader.old reader.new store.old store.new out.new result }
     ensures order { merge.new.order ≡ merge.old.order }
 {
-    let key = merge.key(Side::First, store);
-    let line = merge.head(Side::First, store);
+    let key = merge.key(First, store);
+    let line = merge.head(First, store);
     let (from, to) = group_slots(merge, end);
     push_pairs(job, key, line, from, to, store, ending, out)?;
-    merge.go_on(Side::First, reader, store, out)
+    merge.go_on(First, reader, store, out)
 }
 
 // What a turn of `join` does: goes between groups, gathers the second input's lines of a key, or pairs them.
@@ -177,16 +178,8 @@ fn join_in_order<K: KeyOrder, A: Allocator + Copy, S: Source, R: Source, W: Sink
     'turns: loop {
         match phase {
             Phase::Between => match merge.step(store) {
-                Step::First => pass_alone(&mut merge, job, Side::First, ending, first, store, out)?,
-                Step::Second => pass_alone(
-                    &mut merge,
-                    job,
-                    Side::Second,
-                    ending,
-                    second,
-                    store,
-                    out,
-                )?,
+                Step::First => pass_alone(&mut merge, job, First, ending, first, store, out)?,
+                Step::Second => pass_alone(&mut merge, job, Second, ending, second, store, out)?,
                 Step::Both => phase = Phase::Gathering,
                 Step::End => {
                     clear_four(store);
@@ -199,13 +192,13 @@ fn join_in_order<K: KeyOrder, A: Allocator + Copy, S: Source, R: Source, W: Sink
             },
             Phase::Gathering => {
                 end = gather(&mut merge, end, second, store, out)?;
-                if !merge.repeats(Side::Second) {
+                if !merge.repeats(Second) {
                     phase = Phase::Pairing;
                 }
             }
             Phase::Pairing => {
                 pass_pairs(&mut merge, job, end, ending, first, store, out)?;
-                if !merge.repeats(Side::First) {
+                if !merge.repeats(First) {
                     clear_group(store, end);
                     end = 4;
                     phase = Phase::Between;
