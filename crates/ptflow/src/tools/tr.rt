@@ -17,7 +17,7 @@ use crate::kernels::keeping::keep_others;
 use crate::kernels::packing::Shuffles;
 use crate::kernels::sets::{ByteSet, FlagSet};
 use crate::kernels::squeezing::squeeze_block;
-use crate::tools::tr::mapping::{Mapping, look_up_from};
+use crate::tools::tr::mapping::Mapping;
 use ptlangs::CharPlan;
 use ptlines::{LineReader, Out, Sink, Source, WriteFault};
 
@@ -87,8 +87,12 @@ impl<'a> Translation<'a> {
             return bytes;
         }
         let images = &mut into[..bytes.len()];
-        let at = self.mapping.move_front(bytes, images);
-        look_up_from(self.plan, at, bytes, images);
+        let table = self.plan.images();
+        let mut at = self.mapping.move_front(bytes, images);
+        while at < bytes.len() {
+            images[at] = table[usize::from(bytes[at])];
+            at += 1;
+        }
         images
     }
 

@@ -1,7 +1,7 @@
 //! How `tr` makes the images of bytes: many at a time, where the plan allows it.
 
-ghost use Rattle.std.specs.Prelude.{◌≡◌, ◌<◌, ℕ, IfSome, length, map, slice_index};
-ghost use Rattle.ptlangs.specs.TrTables.{Tables, image};
+ghost use Rattle.std.specs.Prelude.{◌≡◌, ◌<◌, ℕ, IfSome, length, slice_index};
+ghost use Rattle.ptlangs.specs.TrTables.{Tables};
 ghost use Rattle.ptflow.specs.Workings.Bytes.Lanes.{IsMovedTo};
 ghost use Rattle.ptflow.specs.Workings.Tr.Mappings.{IsMapping, blended, mapped_by};
 
@@ -124,18 +124,5 @@ impl Mapping {
                 None => move_most(*rows, from, to),
             },
         }
-    }
-}
-
-/// The bytes from a place on become their images, one by one.
-pub(crate) fn look_up_from(plan: &CharPlan, start: usize, from: &[u8], to: &mut [u8])
-    requires { IsMovedTo start (image plan.now) from.now to.old }
-    ensures { to.new ≡ map (image plan.now) from.now }
-{
-    let images = plan.images();
-    let mut at = start;
-    while at < from.len() {
-        to[at] = images[usize::from(from[at])];
-        at += 1;
     }
 }

@@ -9,7 +9,7 @@ returns-in-Same c =
     let same = rw c.in-Same.is at c.args.self.now.is_mapping in
     sym (map-id bytes) ∙ bytes_same (λ b. b) (image c.args.self.now.plan.now) same bytes (bytes_fit bytes c.type_inv.bytes)
 
-pub look_up_from-requires : goal.look_up_from-requires
-look_up_from-requires c =
+pub loop-at-init : goal.loop-at-init
+loop-at-init c =
     let by = c.args.self.now in
     moved_same (mapped_by by.mapping by.plan.now) (image by.plan.now) _ c.args.bytes.now _ by.is_mapping c.type_inv.bytes (c.move_front-at.ensures by.plan.now)
