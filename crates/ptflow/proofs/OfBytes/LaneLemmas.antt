@@ -40,6 +40,10 @@ pub bytes_same : {X : Type 0} (f g : ℕ → X) → ((b : ℕ) → b < 256 → f
 bytes_same f g same [] fit = refl
 bytes_same f g same (b ∷ v) fit = λ i. same b fit.0.fits i ∷ bytes_same f g same v fit.1 i
 
+pub filter_same : (p q : ℕ → Bool) → ((b : ℕ) → b < 256 → p b ≡ q b) → (v : List ℕ) → Each1 (Fits w8) v → filter p v ≡ filter q v
+filter_same p q same [] fit = refl
+filter_same p q same (b ∷ v) fit = λ i. cond (same b fit.0.fits i) (b ∷ filter_same p q same v fit.1 i) (filter_same p q same v fit.1 i)
+
 pub bytes_fit : (v : List ℕ) → ((k : ℕ) → Fits w8 (get_or v k 0)) → Each1 (Fits w8) v
 bytes_fit v fit = Each1-from_get_or (Fits w8) v 0 (λ k _. fit k)
 
@@ -228,22 +232,6 @@ module _ {test : ℕ → Bool} {from into : List ℕ} {at count : ℕ} (before :
       bit : (t : Bool) → (from_bool t ≤ 1) × (from_bool t ≡ cond t 1 0)
       bit true = (omega arith, refl)
       bit false = (omega arith, refl)
-
--- ---- two tests that say the same of bytes
-
-kept_same : (p q : ℕ → Bool) → ((b : ℕ) → b < 256 → p b ≡ q b) → (n : ℕ) (xs : List ℕ) → ((i : ℕ) → Fits w8 (get_or xs i 0)) → filter p (take n xs) ≡ filter q (take n xs)
-kept_same p q same zero xs fit = refl
-kept_same p q same (suc n) [] fit = refl
-kept_same p q same (suc n) (x ∷ xs) fit = λ i. cond (same x (fit 0).fits i) (x ∷ kept_same p q same n xs (λ k. fit (suc k)) i) (kept_same p q same n xs (λ k. fit (suc k)) i)
-
-pub keeps_same : (p : ℕ → Bool) {q : ℕ → Bool} {from into : List ℕ} {at count : ℕ} → ((b : ℕ) → b < 256 → p b ≡ q b) → ((i : ℕ) → Fits w8 (get_or from i 0))
-    → at ≤ length from → count ≤ at → length into ≡ 8224 → take count into ≡ filter p (take at from) → Keeps q from at into count
-keeps_same p {q} {from} {at} same fit within few room kept = record {
-  within = within;
-  few = few;
-  room = room;
-  kept = kept ∙ kept_same p q same at from fit;
-}
 
 -- all bytes
 pub keeps_all : {test : ℕ → Bool} {from into : List ℕ} {at count : ℕ} → Keeps test from at into count → length from ≤ at → (take count into ≡ filter test from) × (count ≤ length from)

@@ -5,6 +5,7 @@ ghost use Rattle.ptflow.specs.Workings.Bytes.Rowings.{row_adds, by_two_rows, by_
 
 use crate::kernels::lanes::Mover;
 use crate::kernels::sets::{by_high_half, by_low_half};
+use std::array;
 use std::simd::prelude::*;
 
 /// What is added to the bytes of some high halves, for each low half. The mask of such a high half is 255, and that of
@@ -75,18 +76,6 @@ impl Mover for Rows {
     }
 }
 
-// What is added to the bytes of a high half, where these are the images of all bytes.
-fn deltas_of(images: &[u8; 256], half: usize) -> [u8; 16]
-    requires { half < 16 }
-{
-    let mut deltas = [0; 16];
-    for low in 0..16 {
-        let byte = 16 * half + low;
-        deltas[low] = images[byte].wrapping_sub(byte as u8);
-    }
-    deltas
-}
-
 // Takes a high half into the first row that has its deltas, or that has none. Where there is no such row it is left
 // out.
 fn put(rows: &mut [Row; 4], half: usize, deltas: [u8; 16])
@@ -102,11 +91,14 @@ fn put(rows: &mut [Row; 4], half: usize, deltas: [u8; 16])
 }
 
 impl Rows {
-    // Rows in which each high half is, while there is room for its deltas.
+    // Rows in which each high half is, while there is room for its deltas. These are the images of all bytes.
     fn filled(images: &[u8; 256]) -> Rows {
         let mut rows = [Row::none(); 4];
         for half in 0..16 {
-            let deltas = deltas_of(images, half);
+            let deltas = array::from_fn(|low| {
+                let byte = 16 * half + low;
+                images[byte].wrapping_sub(byte as u8)
+            });
             if deltas != [0; 16] {
                 put(&mut rows, half, deltas);
             }

@@ -109,11 +109,10 @@ pub(crate) fn keep_others(
     ensures within { result ≤ length from.now }
 {
     let block = Block { bytes: from };
-    let flags = gone.flags;
     let (mut at, mut count) = keep_most(gone.set, shuffles, block, into);
     while at < from.len() {
         into[count] = from[at];
-        count += usize::from(!flags[usize::from(from[at])]);
+        count += usize::from(!gone.has(from[at]));
         at += 1;
     }
     count

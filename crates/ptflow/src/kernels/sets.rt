@@ -41,6 +41,18 @@ pub(crate) struct FlagSet<'a> {
     ghost same: { IsSetOf set flags.now },
 }
 
+impl FlagSet<'_> {
+    ghost use Rattle.ptflow.specs.Workings.Bytes.ByteSets.{holds};
+
+    // Whether a byte is in the set.
+    #[inline(always)]
+    pub(crate) fn has(self, byte: u8) -> bool
+        ensures { result ≡ holds self.entry.set byte }
+    {
+        self.flags[usize::from(byte)]
+    }
+}
+
 impl ByteSet {
     ghost use Rattle.ptflow.specs.Workings.Bytes.ByteSets.{IsSetOf, holds, mask_of};
 

@@ -15,13 +15,13 @@ use std::simd::prelude::*;
 /// What ends become, turn after turn, and again and again: at each of the first 64 turns there are 64 more.
 pub(crate) type Spread = ArrayVec<u8, 128>;
 
-/// What ends become in turn, and the same spread.
+/// What ends become in turn, and the same over 128 turns.
 #[derive(Clone, Copy)]
 pub(crate) struct Spreading<'a> {
     pub turns: &'a [Option<u8>],
     pub spread: &'a [u8],
     pub ending: u8,
-    ghost is: { IsSpread ending turns.now spread.now },
+    ghost is_spread: { IsSpread ending turns.now spread.now },
 }
 
 /// Puts what ends become one after another.

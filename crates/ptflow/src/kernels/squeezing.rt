@@ -98,12 +98,11 @@ fn squeeze_rest(
     ensures end { result ≤ length block.entry.bytes.now }
 {
     let from = block.bytes;
-    let flags = by.flags;
     let mut at = start;
     let mut count = count;
     while at < from.len() {
         let byte = from[at];
-        let repeats = (from[at - 1] == byte) & flags[usize::from(byte)];
+        let repeats = (from[at - 1] == byte) & by.has(byte);
         into[count] = byte;
         count += usize::from(!repeats);
         at += 1;
@@ -162,7 +161,7 @@ pub(crate) fn squeeze_block(
         return 0;
     }
     let first = from[0];
-    let repeats = (last == Some(first)) & by.flags[usize::from(first)];
+    let repeats = (last == Some(first)) & by.has(first);
     into[0] = first;
     let mut count = usize::from(!repeats);
     let mut at = 1;

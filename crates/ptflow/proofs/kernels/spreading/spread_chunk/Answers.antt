@@ -19,9 +19,9 @@ loop-behind-preserved c =
     let v = chunk c.args.at 64 c.args.from.now in
     let counted = ap count_ones c.marks-marked.ensures ∙ ones-mask_l (is_byte c.args.by.now.ending) v in
     let few : n < 64 = omega (arith, count_by-le-length (is_byte c.args.by.now.ending) v, length-chunk c.args.at 64 c.args.from.now c.requires.room) in
-    let low : place < 64 = omega (arith, mod-lt first c.args.by.now.is.some) in
+    let low : place < 64 = omega (arith, mod-lt first c.args.by.now.is_spread.some) in
     let byte : slice_index_or c.args.by.now.spread.now (place + n) 0 ≡ unwrap_or (delim_at c.args.by.now.turns.now (first + n)) c.args.by.now.ending =
-    cc (c.args.by.now.is.at (place + n) (omega arith), mod-add-mod first (length c.args.by.now.turns.now) n) in
+    cc (c.args.by.now.is_spread.at (place + n) (omega arith), mod-add-mod first (length c.args.by.now.turns.now) n) in
     replacing_more loop.invariant c.marks-marked.ensures (omega arith) loop.auto.marked-fits.fits byte (cc) refl
 
 pub returns-clause-next : goal.returns-clause-next
