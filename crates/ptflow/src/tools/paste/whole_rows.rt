@@ -192,8 +192,8 @@ fn put_pair<A: Allocator>(
 }
 
 // Puts as many of the next rows as lie whole in what the readers hold, and in the room. The answer is where they end,
-// and how many bytes they take of each reader. Out of line, so that the loop has all registers, and by value, so that it
-// need not read again what the row is made of.
+// and how many bytes they take of each reader. Out of line, so that the loop has all registers, and by value, so that
+// it need not read again what the row is made of.
 #[inline(never)]
 fn put_rows<A: Allocator, S: Source, R: Source>(
     row: HeldRow<A, S, R>,
