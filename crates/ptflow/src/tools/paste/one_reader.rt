@@ -20,11 +20,13 @@ use ptlines::{LineReader, Out, Sink, Source, WriteFault};
 use std::alloc::Allocator;
 
 /// What follows each cell of a row: a delimiter, and after the last one the end that is there. The same is
-/// spread over 128 ends.
+/// spread over 128 ends, which are this byte.
 #[derive(Drop)]
 pub(crate) struct Turns {
     list: ArrayVec<Option<u8>, 64>,
     spread: Spread,
+    ending: u8,
+    ghost is_spread: { IsSpread ending list.items spread.items },
 }
 
 // What follows each cell, if they are few and all name one reader, and a byte stands between each two of them.
@@ -56,11 +58,15 @@ pub(crate) fn turns_of_one<A: Allocator>(
     cells: &[usize],
 ) -> Option<Turns>
     ensures { IfSome result (λ turns. AreTurnsOfOne delims.now cells.now turns.list.items
-        × IsSpread ending turns.list.items turns.spread.items) }
+        × (turns.ending ≡ ending)) }
 {
     let list = list_of_one(delims, cells)?;
     let spread = spread_of(&list, ending);
-    Some(Turns { list, spread })
+    Some(Turns {
+        list,
+        spread,
+        ending,
+    })
 }
 
 // The place after the last end of a line after which so many more ends come, or 0.
@@ -86,18 +92,19 @@ fn end_before(ending: u8, bytes: &[u8], over: u64) -> usize
 // Puts the rows that lie whole in what the reader holds, and says where they end. Bytes that lack a whole row, as those
 // of long lines, are only searched.
 fn put_held_rows<S: Source, R: Source>(
-    turns: &[Option<u8>],
-    spread: &[u8],
-    ending: u8,
+    row: &Turns,
     reader: &LineReader<S, R>,
     into: &mut Written,
 ) -> usize
-    requires { IsSpread ending turns.now spread.now }
     ensures within { result ≤ length reader.now.held }
-    ensures rows { AreRows ending (length turns.now) (take result reader.now.held) }
-    ensures put { take result into.new ≡ with_turns ending turns.now 0 (take result reader.now.held) }
+    ensures rows { AreRows row.now.ending (length row.now.list.items) (take result reader.now.held) }
+    ensures put { take result into.new
+        ≡ with_turns row.now.ending row.now.list.items 0 (take result reader.now.held) }
     ensures sound { IsSound reader.now }
 {
+    let turns: &[Option<u8>] = &row.list;
+    let spread: &[u8] = &row.spread;
+    let ending = row.ending;
     let bytes = reader.held();
     let count = bytes.len();
     if nth_place(ending, bytes, count, turns.len() as u64).is_none() {
@@ -124,7 +131,7 @@ pub(crate) fn pass_held_rows<A: Allocator, S: Source, R: Source, W: Sink>(
     out: &mut Out<W>,
 ) -> Result<bool, WriteFault>
     requires in_turn { IfSome turns.now (λ t. AreTurnsOfOne delims.now cells.now t.list.items
-        × IsSpread ending t.list.items t.spread.items) }
+        × (t.ending ≡ ending)) }
     requires readable { CanBeRead ending cells.now readers.old }
     ensures { PassesRows ending delims.now cells.now readers.old readers.new out.old out.new result }
 {
@@ -132,7 +139,7 @@ pub(crate) fn pass_held_rows<A: Allocator, S: Source, R: Source, W: Sink>(
         return pass_rows(delims, ending, cells, readers, into, out);
     };
     let place = cells[0];
-    let count = put_held_rows(&turns.list, &turns.spread, ending, &readers[place], into);
+    let count = put_held_rows(turns, &readers[place], into);
     if count == 0 {
         return Ok(false);
     }

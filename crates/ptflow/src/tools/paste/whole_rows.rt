@@ -192,21 +192,22 @@ fn put_pair<A: Allocator>(
 }
 
 // Puts as many of the next rows as lie whole in what the readers hold, and in the room. The answer is where they end,
-// and how many bytes they take of each reader. Out of line, so that the loop has all registers.
+// and how many bytes they take of each reader. Out of line, so that the loop has all registers, and by value, so that
+// it need not read again what the row is made of.
 #[inline(never)]
 fn put_rows<A: Allocator, S: Source, R: Source>(
-    row: &HeldRow<A, S, R>,
+    row: HeldRow<A, S, R>,
     into: &mut Written,
 ) -> (Full, Taken)
-    ensures held { Holds row.now.readers.now result.1 }
-    ensures rows { PutsRows row.now.ending row.now.delims.now row.now.cells.now row.now.readers.now result.1
+    ensures held { Holds row.entry.readers.now result.1 }
+    ensures rows { PutsRows row.entry.ending row.entry.delims.now row.entry.cells.now row.entry.readers.now result.1
         (take result.0.end into.new) }
 {
     let mut taken: Taken = [0; 16];
     let mut full = Full { end: 0 };
     'rows: loop {
         let before = taken;
-        match put_row(row, &mut taken, into, full) {
+        match put_row(&row, &mut taken, into, full) {
             Some(next) => full = next,
             None => return (full, before),
         }
@@ -217,13 +218,12 @@ fn put_rows<A: Allocator, S: Source, R: Source>(
 // line, for the same reason.
 #[inline(never)]
 fn put_pairs<A: Allocator, S: Source, R: Source>(
-    row: &HeldRow<A, S, R>,
+    row: HeldRow<A, S, R>,
     into: &mut Written,
 ) -> (Full, Taken)
-    requires { (length row.now.cells.now ≡ 2)
-        × (slice_index_or row.now.cells.now 0 0 ≢ slice_index_or row.now.cells.now 1 0) }
-    ensures held { Holds row.now.readers.now result.1 }
-    ensures rows { PutsRows row.now.ending row.now.delims.now row.now.cells.now row.now.readers.now result.1
+    requires { (length row.cells.now ≡ 2) × (slice_index_or row.cells.now 0 0 ≢ slice_index_or row.cells.now 1 0) }
+    ensures held { Holds row.entry.readers.now result.1 }
+    ensures rows { PutsRows row.entry.ending row.entry.delims.now row.entry.cells.now row.entry.readers.now result.1
         (take result.0.end into.new) }
 {
     let cells = row.cells;
@@ -256,11 +256,11 @@ fn put_pairs<A: Allocator, S: Source, R: Source>(
 // The same, by `put_pairs` where there are two cells of two readers.
 #[inline(always)]
 fn put_whole_rows<A: Allocator, S: Source, R: Source>(
-    row: &HeldRow<A, S, R>,
+    row: HeldRow<A, S, R>,
     into: &mut Written,
 ) -> (Full, Taken)
-    ensures held { Holds row.now.readers.now result.1 }
-    ensures rows { PutsRows row.now.ending row.now.delims.now row.now.cells.now row.now.readers.now result.1
+    ensures held { Holds row.entry.readers.now result.1 }
+    ensures rows { PutsRows row.entry.ending row.entry.delims.now row.entry.cells.now row.entry.readers.now result.1
         (take result.0.end into.new) }
 {
     let cells = row.cells;
@@ -304,7 +304,7 @@ pub(crate) fn pass_rows<A: Allocator, S: Source, R: Source, W: Sink>(
         cells,
         readers,
     };
-    let (full, taken) = put_whole_rows(&row, into);
+    let (full, taken) = put_whole_rows(row, into);
     if full.end == 0 {
         return Ok(false);
     }

@@ -1,5 +1,5 @@
 -- What the reader at the place of the first cell holds begins with whole rows, and what was put of them is pushed.
-use Rattle.ptflow.proofs.Common.{ℕ, ◌<◌, length, set, get_or, sym, ◌∙◌, ap, subst, arith, All-get_or, err_from_is_err_and, Reader, AreTurnsOfOne, PushedRows}
+use Rattle.ptflow.proofs.Common.{ℕ, ◌<◌, length, set, get_or, sym, ◌∙◌, ap, arith, All-get_or, err_from_is_err_and, Reader, PushedRows}
 use borrow.Author.Rules.{scaled_Fits}
 use Rattle.ptflow.proofs.OfPaste.OneReader.{held_put}
 use Rattle.ptflow.proofs.OfPaste.RowTurns.{at_index}
@@ -15,9 +15,10 @@ pushed : (g : given.Over) (c : After-push g) → PushedRows c.args.ending c.args
     (set c.args.readers.now (get_or c.args.cells.now 0 0) c.consume.new.self) c.args.out.now c.push.new.self
 pushed g c =
     let put = c.put_held_rows-count.ensures in
-    held_put (subst (AreTurnsOfOne c.args.delims.now c.args.cells.now) (sym c.deref.ensures.0) ((rw c.in-Some.is at c.requires.in_turn).0)) c.requires.readable.0 c.requires.readable.1
-    c.index-readers-place.result put.sound (omega (arith, c.if-count-eq0.false)) put.within put.rows
-    c.index-readers-place-2.result c.consume.ensures.consumed put.put c.push.ensures.pushed.wrote
+    let t = rw c.in-Some.is at c.requires.in_turn in
+    held_put t.0 c.requires.readable.0 c.requires.readable.1
+    c.index-readers-place.result put.sound (omega (arith, c.if-count-eq0.false)) put.within (rw t.1 at put.rows)
+    c.index-readers-place-2.result c.consume.ensures.consumed (rw t.1 at put.put) c.push.ensures.pushed.wrote
 
 pub returns-in_err-push : goal.returns-in_err-push
 returns-in_err-push g c =
@@ -46,6 +47,3 @@ consume-requires g c =
     let place = get_or c.args.cells.now 0 0 in
     let same = at_index readers place c.index-readers-place.result there ∙ sym (at_index readers place c.index-readers-place-2.result there) in
     omega (arith, c.put_held_rows-count.ensures.within, ap length (ap (λ (r : Reader). r.held) same))
-
-pub put_held_rows-count-requires : goal.put_held_rows-count-requires
-put_held_rows-count-requires g c = rw (c.deref.ensures.0, c.deref-2.ensures.0) ((rw c.in-Some.is at c.requires.in_turn).1)

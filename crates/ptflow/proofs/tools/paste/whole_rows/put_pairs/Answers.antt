@@ -40,16 +40,16 @@ pub overflow_cast-taken-2 : goal.overflow_cast-taken-2
 overflow_cast-taken-2 g c = omega (arith, c.rows.invariant.low_other, c.held-second.ensures.sound.held, ap length c.held-second.ensures.held)
 
 pub bounds-readers-cells : goal.bounds-readers-cells
-bounds-readers-cells g c = within_one c.args.row.now.cells.now c.args.row.now.readers.now c.requires c.args.row.now.readable.0
+bounds-readers-cells g c = within_one c.args.row.cells.now c.args.row.readers.now c.requires c.args.row.readable.0
 
 pub offset_bounds-readers-cells : goal.offset_bounds-readers-cells
-offset_bounds-readers-cells g c = omega (arith, within_one c.args.row.now.cells.now c.args.row.now.readers.now c.requires c.args.row.now.readable.0)
+offset_bounds-readers-cells g c = omega (arith, within_one c.args.row.cells.now c.args.row.readers.now c.requires c.args.row.readable.0)
 
 pub bounds-readers-cells-2 : goal.bounds-readers-cells-2
-bounds-readers-cells-2 g c = within_two c.args.row.now.cells.now c.args.row.now.readers.now c.requires c.args.row.now.readable.0
+bounds-readers-cells-2 g c = within_two c.args.row.cells.now c.args.row.readers.now c.requires c.args.row.readable.0
 
 pub offset_bounds-readers-cells-2 : goal.offset_bounds-readers-cells-2
-offset_bounds-readers-cells-2 g c = omega (arith, within_two c.args.row.now.cells.now c.args.row.now.readers.now c.requires c.args.row.now.readable.0)
+offset_bounds-readers-cells-2 g c = omega (arith, within_two c.args.row.cells.now c.args.row.readers.now c.requires c.args.row.readable.0)
 
 -- the row by what the readers hold
 row_held : {end : ℕ} {delims : List (Option ℕ)} {count other : ℕ} {front put one two a b : List ℕ} → one ≡ a → two ≡ b
@@ -58,17 +58,17 @@ row_held same both r = rw (← same, ← both) r
 
 pub rows-preserved : goal.rows-preserved
 rows-preserved g c =
-    let cells = c.args.row.now.cells.now in
-    let readers = c.args.row.now.readers.now in
+    let cells = c.args.row.cells.now in
+    let readers = c.args.row.readers.now in
     let inv = c.rows.invariant in
-    let read_one = c.index-readers-cells.is ∙ at_index readers (get_or cells 0 0) c.index-readers-cells.result (within_one cells readers c.requires c.args.row.now.readable.0) in
-    let read_two = c.index-readers-cells-2.is ∙ at_index readers (get_or cells 1 0) c.index-readers-cells-2.result (within_two cells readers c.requires c.args.row.now.readable.0) in
+    let read_one = c.index-readers-cells.is ∙ at_index readers (get_or cells 0 0) c.index-readers-cells.result (within_one cells readers c.requires c.args.row.readable.0) in
+    let read_two = c.index-readers-cells-2.is ∙ at_index readers (get_or cells 1 0) c.index-readers-cells-2.result (within_two cells readers c.requires c.args.row.readable.0) in
     let held_one : c.held-first.result.now ≡ (reader_at readers (get_or cells 0 0)).held = c.held-first.ensures.held ∙ ap (λ (r : Reader). r.held) read_one in
     let held_two : c.held-second.result.now ≡ (reader_at readers (get_or cells 1 0)).held = c.held-second.ensures.held ∙ ap (λ (r : Reader). r.held) read_two in
     let row = row_held (take_rest c.held-first.result.now c.rows.passed ∙ ap (λ (h : List ℕ). drop c.rows.passed h) held_one)
     (take_rest c.held-second.result.now c.rows.passed_other ∙ ap (λ (h : List ℕ). drop c.rows.passed_other h) held_two) c.in-Some.ensures.row in
     record {
-      rows = pairs_more cells readers c.requires c.args.row.now.readable.0 c.args.row.now.few.0 c.args.row.now.readable.1
+      rows = pairs_more cells readers c.requires c.args.row.readable.0 c.args.row.few.0 c.args.row.readable.1
           (subst IsSound read_one c.held-first.ensures.sound) (subst IsSound read_two c.held-second.ensures.sound) inv.rows row;
       low = omega (arith, inv.low, row.first.0.high, ap length held_one, length-drop c.rows.passed (reader_at readers (get_or cells 0 0)).held);
       low_other = omega (arith, inv.low_other, row.second.0.high, ap length held_two, length-drop c.rows.passed_other (reader_at readers (get_or cells 1 0)).held);
@@ -76,23 +76,23 @@ rows-preserved g c =
     }
 
 pub offset_bounds-taken-cells : goal.offset_bounds-taken-cells
-offset_bounds-taken-cells g c = omega (arith, within_one c.args.row.now.cells.now c.args.row.now.readers.now c.requires c.args.row.now.readable.0, c.args.row.now.few.0)
+offset_bounds-taken-cells g c = omega (arith, within_one c.args.row.cells.now c.args.row.readers.now c.requires c.args.row.readable.0, c.args.row.few.0)
 
 pub bounds-taken-cells : goal.bounds-taken-cells
-bounds-taken-cells g c = omega (arith, within_one c.args.row.now.cells.now c.args.row.now.readers.now c.requires c.args.row.now.readable.0, c.args.row.now.few.0)
+bounds-taken-cells g c = omega (arith, within_one c.args.row.cells.now c.args.row.readers.now c.requires c.args.row.readable.0, c.args.row.few.0)
 
 pub offset_bounds-taken-cells-2 : goal.offset_bounds-taken-cells-2
-offset_bounds-taken-cells-2 g c = omega (arith, within_two c.args.row.now.cells.now c.args.row.now.readers.now c.requires c.args.row.now.readable.0, c.args.row.now.few.0)
+offset_bounds-taken-cells-2 g c = omega (arith, within_two c.args.row.cells.now c.args.row.readers.now c.requires c.args.row.readable.0, c.args.row.few.0)
 
 pub bounds-taken-cells-2 : goal.bounds-taken-cells-2
-bounds-taken-cells-2 g c = omega (arith, within_two c.args.row.now.cells.now c.args.row.now.readers.now c.requires c.args.row.now.readable.0, c.args.row.now.few.0)
+bounds-taken-cells-2 g c = omega (arith, within_two c.args.row.cells.now c.args.row.readers.now c.requires c.args.row.readable.0, c.args.row.few.0)
 
 pub returns-clause-held : goal.returns-clause-held
 returns-clause-held g c =
-    subst (Holds c.args.row.now.readers.now) (pairs_taken c.args.row.now.cells.now c.args.row.now.readers.now c.requires c.args.row.now.readable.0 c.args.row.now.few.0 c.rows.invariant.rows) c.rows.invariant.rows.holds
+    subst (Holds c.args.row.readers.now) (pairs_taken c.args.row.cells.now c.args.row.readers.now c.requires c.args.row.readable.0 c.args.row.few.0 c.rows.invariant.rows) c.rows.invariant.rows.holds
 
 pub returns-clause-rows : goal.returns-clause-rows
 returns-clause-rows g c =
     rw c.in_default.ensures.kept
-    (subst (λ (t : List ℕ). PutsRows c.args.row.now.ending c.args.row.now.delims.now c.args.row.now.cells.now c.args.row.now.readers.now t (take c.rows.full.0 c.rows.into))
-    (pairs_taken c.args.row.now.cells.now c.args.row.now.readers.now c.requires c.args.row.now.readable.0 c.args.row.now.few.0 c.rows.invariant.rows) c.rows.invariant.rows.rows)
+    (subst (λ (t : List ℕ). PutsRows c.args.row.ending c.args.row.delims.now c.args.row.cells.now c.args.row.readers.now t (take c.rows.full.0 c.rows.into))
+    (pairs_taken c.args.row.cells.now c.args.row.readers.now c.requires c.args.row.readable.0 c.args.row.few.0 c.rows.invariant.rows) c.rows.invariant.rows.rows)

@@ -6,7 +6,7 @@ pub invariant_of-full : goal.invariant_of-full
 invariant_of-full g c = record { near = c.rows.invariant.near }
 
 pub rows-init : goal.rows-init
-rows-init g c = record { rows = rows_none; holds = holds_none c.args.row.now.readers.now; near = omega arith }
+rows-init g c = record { rows = rows_none; holds = holds_none c.args.row.readers.now; near = omega arith }
 
 pub rows-preserved : goal.rows-preserved
 rows-preserved g c = record {

@@ -4,8 +4,8 @@ use Rattle.ptflow.proofs.tools.paste.whole_rows.put_rows.Given as goal
 
 abbrev pub invariant-rows : goal.invariant-rows
 invariant-rows g l = record {
-  rows : PutsRows l.row.ending l.row.delims.now l.row.cells.now l.row.readers.now l.taken (take l.full.0 l.into);
-  holds : Holds l.row.readers.now l.taken;
+  rows : PutsRows l.fn.row.ending l.fn.row.delims.now l.fn.row.cells.now l.fn.row.readers.now l.taken (take l.full.0 l.into);
+  holds : Holds l.fn.row.readers.now l.taken;
   near : l.full.0 ≤ 8192;
 }
 
