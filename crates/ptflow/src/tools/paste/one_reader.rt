@@ -98,7 +98,7 @@ fn put_held_rows(
     ensures put { take result into.new ≡ with_turns ending turns.now 0 (take result bytes.now) }
 {
     let count = bytes.len();
-    if nth_place(ending, bytes, count, turns.len() as u64).is_none() {
+    if nth_place(ending, bytes, count, turns.len() as u64 - 1).is_none() {
         return 0;
     }
     let number = replace_by_spread(turns, spread, ending, bytes, &mut into[..count]);
