@@ -157,7 +157,7 @@ module _ (p : ℕ → Bool) (bytes : List ℕ) where
         let same : 0 + k ≡ k = omega arith in
         rw (← same) (behind_front size 0 0 k (omega arith) in_front (omega arith) le)
 
-    pub none_front : {to : ℕ} → to ≤ k → count_by p (take to bytes) < 1
+    pub none_front : {to : ℕ} → to ≤ k → count_by p (take to bytes) ≤ 0
     none_front {to} le = omega (arith, count_front size 0 0 k (omega arith) in_front, count_up_to to (0 + k) (omega arith))
 
     pub first_of_all : NoneBefore (Passes p bytes) 0 (length bytes) k × Passes p bytes k

@@ -4,7 +4,7 @@ ghost use Rattle.std.specs.Prelude.{◌≡◌, ◌<◌, ◌≤◌, ◌+◌, ℕ,
 ghost use Rattle.std.specs.List.{count_by};
 ghost use Rattle.std.specs.Simd.Lanes.{mask_l, chunk};
 ghost use Rattle.memchr.specs.Find.{IsFirstByte, is_byte};
-ghost use Rattle.ptflow.specs.Workings.Bytes.Nths.{IsBehind, IsNth};
+ghost use Rattle.ptflow.specs.Workings.Bytes.Nths.{IsBehind, IsAfter};
 
 use ptlines::find_near;
 use std::simd::prelude::*;
@@ -44,17 +44,17 @@ fn bit_behind(marked: u64, count: u64) -> usize
     rest.trailing_zeros() as usize
 }
 
-// The place of the byte with this number, counted on from `from`, up to `to`. Byte by byte, for the last bytes.
+// The place of the byte that comes after so many others, counted on from `from`, up to `to`. Byte by byte, for the last
+// bytes.
 #[inline(never)]
-fn nth_slow(byte: u8, bytes: &[u8], from: usize, to: usize, number: u64) -> Option<usize>
-    requires within { to ≤ length bytes.now }
-    requires some { 0 < number }
-    ensures { IsNth (is_byte byte) (number + count_by (is_byte byte) (take from bytes.now)) (take to bytes.now) result }
+fn nth_slow(byte: u8, bytes: &[u8], from: usize, to: usize, before: u64) -> Option<usize>
+    requires { to ≤ length bytes.now }
+    ensures { IsAfter (is_byte byte) (before + count_by (is_byte byte) (take from bytes.now)) (take to bytes.now) result }
 {
-    let mut left = number;
+    let mut left = before;
     for at in from..to {
         if bytes[at] == byte {
-            if left == 1 {
+            if left == 0 {
                 return Some(at);
             }
             left -= 1;
@@ -63,21 +63,20 @@ fn nth_slow(byte: u8, bytes: &[u8], from: usize, to: usize, number: u64) -> Opti
     None
 }
 
-// The place of the byte with this number, counted from 1, among the first `to` bytes, 64 at a time. Out of line, so
-// that the first place is found without a call.
+// The place of the byte that comes after so many others, among the first `to` bytes, 64 at a time. Out of line, so that
+// the first place is found without a call.
 #[inline(never)]
-fn nth_far(byte: u8, bytes: &[u8], to: usize, number: u64) -> Option<usize>
-    requires within { to ≤ length bytes.now }
-    requires some { 0 < number }
-    ensures { IsNth (is_byte byte) number (take to bytes.now) result }
+fn nth_far(byte: u8, bytes: &[u8], to: usize, before: u64) -> Option<usize>
+    requires { to ≤ length bytes.now }
+    ensures { IsAfter (is_byte byte) before (take to bytes.now) result }
 {
     let mut at = 0;
-    let mut left = number;
+    let mut left = before;
     while at < to && bytes.len() - at >= 64 {
         let marked = marks(byte, bytes, at);
         let count = u64::from(marked.count_ones());
-        if left <= count {
-            let place = at + bit_behind(marked, left - 1);
+        if left < count {
+            let place = at + bit_behind(marked, left);
             return if place < to { Some(place) } else { None };
         }
         left -= count;
@@ -90,7 +89,7 @@ fn nth_far(byte: u8, bytes: &[u8], to: usize, number: u64) -> Option<usize>
 #[inline(always)]
 fn first_place(byte: u8, bytes: &[u8], to: usize) -> Option<usize>
     requires { to ≤ length bytes.now }
-    ensures { IsNth (is_byte byte) 1 (take to bytes.now) result }
+    ensures { IsAfter (is_byte byte) 0 (take to bytes.now) result }
 {
     if bytes.len() >= 16 {
         let marked = marks_16(byte, bytes);
@@ -99,21 +98,20 @@ fn first_place(byte: u8, bytes: &[u8], to: usize) -> Option<usize>
             return if place < to { Some(place) } else { None };
         }
     }
-    nth_far(byte, bytes, to, 1)
+    nth_far(byte, bytes, to, 0)
 }
 
-/// The place of the byte with this number, counted from 1, among the first `to` bytes. Some bytes after these are
+/// The place of the byte that comes after so many others like it, among the first `to` bytes. Some bytes after these are
 /// looked at too, since a vector of them is as cheap as a part of it.
 #[inline(always)]
-pub(crate) fn nth_place(byte: u8, bytes: &[u8], to: usize, number: u64) -> Option<usize>
-    requires within { to ≤ length bytes.now }
-    requires some { 0 < number }
-    ensures { IsNth (is_byte byte) number (take to bytes.now) result }
+pub(crate) fn nth_place(byte: u8, bytes: &[u8], to: usize, before: u64) -> Option<usize>
+    requires { to ≤ length bytes.now }
+    ensures { IsAfter (is_byte byte) before (take to bytes.now) result }
 {
-    if number == 1 {
+    if before == 0 {
         return first_place(byte, bytes, to);
     }
-    nth_far(byte, bytes, to, number)
+    nth_far(byte, bytes, to, before)
 }
 
 /// The first place of a byte that is often one of the first 64, as the end of a line is.

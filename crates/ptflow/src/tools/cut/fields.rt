@@ -37,7 +37,7 @@ fn field_start(delimiter: u8, bytes: &[u8], to: usize, count: u64) -> Option<usi
     if count == 0 {
         return Some(0);
     }
-    let at = nth_place(delimiter, bytes, to, count)?;
+    let at = nth_place(delimiter, bytes, to, count - 1)?;
     Some(at + 1)
 }
 

@@ -107,7 +107,7 @@ fn put_held_rows<S: Source, R: Source>(
     let ending = row.ending;
     let bytes = reader.held();
     let count = bytes.len();
-    if nth_place(ending, bytes, count, turns.len() as u64).is_none() {
+    if nth_place(ending, bytes, count, turns.len() as u64 - 1).is_none() {
         return 0;
     }
     let by = Spreading {

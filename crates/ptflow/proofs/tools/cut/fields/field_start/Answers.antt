@@ -13,7 +13,7 @@ returns-then-count-eq0 c =
     rw c.if-count-eq0.true (starts_first c.args.delimiter (take c.args.to c.args.bytes.now))
 
 pub returns-in_err-at : goal.returns-in_err-at
-returns-in_err-at c = rw c.from_residual.ensures (few_fields c.args.delimiter (take c.args.to c.args.bytes.now) c.in_err-at.ensures)
+returns-in_err-at c = rw c.from_residual.ensures (few_fields c.args.delimiter (take c.args.to c.args.bytes.now) (omega (arith, c.in_err-at.ensures)))
 
 pub returns : goal.returns
 returns c = starts_behind_nth c.args.delimiter (take c.args.to c.args.bytes.now) c.in_ok-at.at (omega arith) c.in_ok-at.ensures
