@@ -7,7 +7,7 @@ ghost use Rattle.ptlines.specs.Text.{ended_lines};
 ghost use Rattle.ptlangs.specs.Jobs.{uniq_job};
 ghost use Rattle.ptflow.specs.Workings.Passes.Lines.{PassesLines};
 ghost use Rattle.ptflow.specs.Workings.Uniq.OpenRuns.{is_shown, lead, run_of, run_text};
-ghost use Rattle.ptflow.specs.Workings.Uniq.BlockRuns.{RunsOn, RunsHalt, GoesOnWith, Waits, IsSpan, span_of};
+ghost use Rattle.ptflow.specs.Workings.Uniq.BlockRuns.{RunsOn, RunsHalt, GoesOnWith, Waits, AreSpans, span_of};
 
 use crate::tools::uniq::LineUniq;
 use crate::tools::uniq::keys::key;
@@ -134,8 +134,7 @@ fn let_wait<W: Sink>(
     line: Span,
     out: &mut Out<W>,
 ) -> Result<Span, WriteFault>
-    requires waiting { IsSpan block.now waiting }
-    requires line { IsSpan block.now line }
+    requires { AreSpans block.now waiting line }
     ensures waits { IfOk result
         (λ now. Waits (span_of block.now waiting ++ run_text show count (span_of block.now line))
         block.now now out.old out.new) }
