@@ -1,6 +1,6 @@
 //! The runs of the lines of a block.
 
-ghost use Rattle.std.specs.Prelude.{◌≡◌, ℕ, ◌-◌, ◌<◌, ◌≤◌, ◌^◌, ◌++◌, ◌∷◌, [], length, true, false, Some, IfOk, OnOk, OnErr, slice_range};
+ghost use Rattle.std.specs.Prelude.{◌≡◌, ℕ, ◌-◌, ◌<◌, ◌≤◌, ◌++◌, [], length, true, false, Some, IfOk, OnErr, slice_range};
 ghost use Rattle.memchr.specs.Find.{IsFirstByte, is_byte};
 ghost use Rattle.ptlines.specs.Outputs.{Wrote, Pushes};
 ghost use Rattle.ptlines.specs.Text.{ended_lines};
@@ -178,7 +178,8 @@ pub(crate) fn push_runs<W: Sink>(
         (run_of (slice_range block.now last.line.from (last.line.to - 1)) last.count)
         (ended_lines (uniq_job by.now.job.now).end block.now) out.old out.new) }
     ensures halts { OnErr result
-        (RunsHalt (uniq_job by.now.job.now) (run_of [] 0) (ended_lines (uniq_job by.now.job.now).end block.now) out.old out.new) }
+        (RunsHalt (uniq_job by.now.job.now) (run_of [] 0)
+        (ended_lines (uniq_job by.now.job.now).end block.now) out.old out.new) }
     ensures span { IfOk result (λ last. (last.line.from < last.line.to) × (last.line.to ≤ length block.now)) }
     ensures passed { IfOk result (λ last. PassesLines (uniq_job by.now.job.now).end block.now last.passed) }
 {
