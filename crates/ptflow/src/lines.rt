@@ -98,8 +98,8 @@ pub(crate) fn over_lines<T: LineTool, A: Allocator + Copy, S: Source, R: Source,
     out: &mut Out<W>,
 ) -> Result<(), FlowFault>
     requires tool { IsLineTool (T.tool tool.now) T.carried (T.rest tool.now) (T.written tool.now) T.counted
-        reader.old.ending T.SLOTS state.old }
-    requires begins { MayBegin reader.old out.old store.old }
+        T.SLOTS state.old }
+    requires begins { MayBegin (T.tool tool.now).end reader.old out.old store.old }
     ensures { IsPass (T.tool tool.now) reader.old reader.new out.old out.new store.old store.new result }
 {
     let slots = tool.slots();

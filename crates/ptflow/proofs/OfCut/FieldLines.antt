@@ -45,7 +45,7 @@ module _ (job : Cut) where
   cut_sure ls pushed on = record { rest = []; is = cc (append-nil pushed, append-nil ls, append-nil (cut_lines job ls)) }
 
   pub cut_line_tool : {S : Type 0} (start : S) → job.fields ≡ true
-      → IsLineTool {S = S} {X = Unit {0}} {E = ℕ} (cut_tool job) (λ room store. tt) (cut_from job) (λ bytes. bytes) (λ u. 1) job.end 1 start
+      → IsLineTool {S = S} {X = Unit {0}} {E = ℕ} (cut_tool job) (λ room store. tt) (cut_from job) (λ bytes. bytes) (λ u. 1) 1 start
   cut_line_tool start by_fields = record {
     apart = λ xs ys. refl;
     stays = λ now store bytes room. refl;
@@ -54,7 +54,6 @@ module _ (job : Cut) where
     decided = λ store given passed now on. cut_sure (whole_lines job.end given) passed (on []);
     size = λ bytes. omega arith;
     slots = cc;
-    ends = refl;
     some = omega arith;
   }
 

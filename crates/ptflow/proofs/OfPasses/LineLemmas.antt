@@ -29,8 +29,11 @@ pub came_line : {slots width : ℕ} {came : Bool} {old new : Reader} {before aft
     → GivesLine old new before after (width - 1)
 came_line same is fills = rw same at (rw is at fills)
 
-module _ {S X E : Type 0} {tool : Tool} {state : S → Slots → X} {rest_from : X → List (List ℕ) → List E} {written : List E → List ℕ} {counted : X → ℕ} {end width : ℕ} {start : S}
-    (t : IsLineTool tool state rest_from written counted end width start) where
+module _ {S X E : Type 0} {tool : Tool} {state : S → Slots → X} {rest_from : X → List (List ℕ) → List E} {written : List E → List ℕ} {counted : X → ℕ} {width : ℕ} {start : S}
+    (t : IsLineTool tool state rest_from written counted width start) where
+  abbrev end : ℕ
+  end = tool.end
+
   -- midway
   abbrev Run : Reader → Reader → Output → Output → Slots → Slots → X → Type 0
   Run old reader was is before store now = LineRun state rest_from written counted end width start now old reader was is before store
@@ -121,7 +124,7 @@ module _ {S X E : Type 0} {tool : Tool} {state : S → Slots → X} {rest_from :
           let ls = ended_lines end block in
           let front = subst (Goes reader new) (cc) (goes_past _ goes held passed.0 consumed) in
           run_more ls front (lines_block r.came ls front (parts_of end block).whole)
-          (keeps_more (max (longest r.ls) (longest ls)) r.keeps (omega arith)) (rw t.ends at c)
+          (keeps_more (max (longest r.ls) (longest ls)) r.keeps (omega arith)) c
 
       -- ---- how it ends
 
@@ -223,7 +226,7 @@ module _ {S X E : Type 0} {tool : Tool} {state : S → Slots → X} {rest_from :
         run_block_halts {shown} {block} is_sound goes held {is'} h =
             halts goes.reads (kept (given_of (r.given ++ []) shown) (keeps_more (max (longest r.ls) 0) r.keeps (omega arith))
             (short_piece goes.reads tt is_sound))
-            (works_piece goes.reads tt is_sound) goes.failed r.keeps.denied (subst (λ b. Halt now (ended_lines b block) is is') t.ends h)
+            (works_piece goes.reads tt is_sound) goes.failed r.keeps.denied h
             (λ rest may. (lines end ((parts_of end block).piece ++ rest), cc (ended_front end block rest)))
 
         -- what was staged could not be sent

@@ -38,7 +38,7 @@ run_wrote job count {first} {is} {is'} bytes_are behind_is wrote =
 
 -- It is a tool over lines: the first of two slots may hold the first line of the run that is open, and what is decided
 -- leaves out that run.
-pub uniq_line_tool : (job : Uniq) (start : Open) → start.count ≡ 0 → IsLineTool (uniq_tool job) open_run_of (runs_behind job) (entries job) count_of job.end 2 start
+pub uniq_line_tool : (job : Uniq) (start : Open) → start.count ≡ 0 → IsLineTool (uniq_tool job) open_run_of (runs_behind job) (entries job) count_of 2 start
 uniq_line_tool job start none = record {
   apart = entries-append job;
   stays = λ now store bytes room. cc (get_or-set_other store.lines 1 0 bytes [] (λ e. absurd (omega (arith, e))));
@@ -50,7 +50,6 @@ uniq_line_tool job start none = record {
       rw all (but_open job passed now);
   size = λ bytes. refl;
   slots = refl;
-  ends = refl;
   some = omega arith;
 }
 

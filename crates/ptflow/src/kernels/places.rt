@@ -1,6 +1,6 @@
 //! The n-th place of a byte, by masks of 64 bytes.
 
-ghost use Rattle.std.specs.Prelude.{◌≡◌, ◌<◌, ◌≤◌, ◌+◌, ℕ, Bool, List, false, length, map, take, count_ones};
+ghost use Rattle.std.specs.Prelude.{◌≡◌, ◌<◌, ◌≤◌, ◌+◌, ℕ, Bool, List, length, map, take};
 ghost use Rattle.std.specs.List.{count_by};
 ghost use Rattle.std.specs.Simd.Lanes.{mask_l, chunk};
 ghost use Rattle.memchr.specs.Find.{IsFirstByte, is_byte};
@@ -49,7 +49,8 @@ fn bit_behind(marked: u64, count: u64) -> usize
 #[inline(never)]
 fn nth_slow(byte: u8, bytes: &[u8], from: usize, to: usize, before: u64) -> Option<usize>
     requires { to ≤ length bytes.now }
-    ensures { IsAfter (is_byte byte) (before + count_by (is_byte byte) (take from bytes.now)) (take to bytes.now) result }
+    ensures { IsAfter (is_byte byte) (before + count_by (is_byte byte) (take from bytes.now))
+        (take to bytes.now) result }
 {
     let mut left = before;
     for at in from..to {
@@ -101,8 +102,8 @@ fn first_place(byte: u8, bytes: &[u8], to: usize) -> Option<usize>
     nth_far(byte, bytes, to, 0)
 }
 
-/// The place of the byte that comes after so many others like it, among the first `to` bytes. Some bytes after these are
-/// looked at too, since a vector of them is as cheap as a part of it.
+/// The place of the byte that comes after so many others like it, among the first `to` bytes. Some bytes after these
+/// are looked at too, since a vector of them is as cheap as a part of it.
 #[inline(always)]
 pub(crate) fn nth_place(byte: u8, bytes: &[u8], to: usize, before: u64) -> Option<usize>
     requires { to ≤ length bytes.now }

@@ -2,7 +2,7 @@
 -- the last slot what is staged is sent again, and the lines of the block follow. Each exit is one of the ends of a
 -- pass.
 use Rattle.std.proofs.Common.{rules}
-use Rattle.ptflow.proofs.Common.{refl, subst, arith, err_from_is_err_and, IsLine}
+use Rattle.ptflow.proofs.Common.{◌∙◌, subst, arith, err_from_is_err_and, IsLine}
 use Rattle.ptflow.proofs.OfPasses.LineLemmas.{came_line, run_starts, run_unslotted, run_sent, run_count, run_room, run_unsent, run_line, run_line_halts, filled_count}
 use Rattle.ptflow.proofs.OfPasses.LineLemmas.{run_broken, run_memory, run_no_block, run_done, run_unended, run_block, run_block_halts}
 use Rattle.ptflow.proofs.OfPasses.ReaderFacts.{budget_less}
@@ -14,12 +14,12 @@ returns-in_err-need_slots g c =
     let x = err_from_is_err_and c.from_residual.result c.from_residual.ensures.1 in
     let adds = rw c.slots-slots.ensures at c.need_slots.ensures.adds in
     rw (x.1, x.2, c.in_err-need_slots.ensures.err)
-    (run_unslotted c.requires.tool refl c.requires.begins.ready c.requires.begins.sound c.requires.begins.clean adds c.need_slots.ensures.same_peak c.in_err-need_slots.ensures.denied)
+    (run_unslotted c.requires.tool c.requires.begins.ends c.requires.begins.ready c.requires.begins.sound c.requires.begins.clean adds c.need_slots.ensures.same_peak c.in_err-need_slots.ensures.denied)
 
 pub turns-init : goal.turns-init
 turns-init g c =
     let adds = rw c.slots-slots.ensures at c.need_slots.ensures.adds in
-    run_starts c.requires.tool refl c.requires.begins.ready c.requires.begins.clean (keeps_starts adds c.in_ok-need_slots.ensures.allowed
+    run_starts c.requires.tool c.requires.begins.ends c.requires.begins.ready c.requires.begins.clean (keeps_starts adds c.in_ok-need_slots.ensures.allowed
     (cc) c.need_slots.ensures.same_peak)
 
 pub returns-in_err-send_before_wait : goal.returns-in_err-send_before_wait
@@ -62,14 +62,14 @@ pub returns-in-Err-Read : goal.returns-in-Err-Read
 returns-in-Err-Read g c =
     let r = run_sent c.requires.tool c.turns.invariant c.send_before_wait.ensures.pushed.wrote c.in_ok-send_before_wait.ensures.pushed.clean in
     let e = rw (c.in-Err-Read.field-0-is, c.slots-slots.ensures) at (c.in-Err-Read.ensures.fills r.reached.goes.fault) in
-    let free = subst (λ b. IsLine b e.piece) r.reached.goes.reads.ending e.faults.whole in
+    let free = subst (λ b. IsLine b e.piece) (r.reached.goes.reads.ending ∙ r.ending) e.faults.whole in
     run_broken c.requires.tool r c.requires.begins.ready c.fill.ensures.was_sound e.faults.reads free c.fill.ensures.is_sound e.stored e.cause
 
 pub returns-in-Err-Memory : goal.returns-in-Err-Memory
 returns-in-Err-Memory g c =
     let r = run_sent c.requires.tool c.turns.invariant c.send_before_wait.ensures.pushed.wrote c.in_ok-send_before_wait.ensures.pushed.clean in
     let e = rw (c.in-Err-Memory.field-0-is, c.slots-slots.ensures) at (c.in-Err-Memory.ensures.fills r.reached.goes.fault) in
-    let free = subst (λ b. IsLine b e.piece) r.reached.goes.reads.ending e.faults.whole in
+    let free = subst (λ b. IsLine b e.piece) (r.reached.goes.reads.ending ∙ r.ending) e.faults.whole in
     run_memory c.requires.tool r c.requires.begins.ready c.fill.ensures.was_sound e.faults.reads free c.fill.ensures.is_sound e.stored e.failed
 
 pub returns-in_err-send_before_wait-2 : goal.returns-in_err-send_before_wait-2

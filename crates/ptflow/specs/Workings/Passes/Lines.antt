@@ -8,8 +8,9 @@ use Rattle.ptlines.specs.Text.{text, lines, ended_lines, longest_line}
 use Rattle.ptflow.specs.Tools.{Tool}
 use Rattle.ptflow.specs.Passes.{IsReady}
 
--- A pass over lines may begin: nothing was kept or refused so far, and no write failed.
-pub record MayBegin (reader : Reader) (out : Output) (store : Slots) : Type 0 where
+-- A pass over lines that end with this byte may begin: nothing was kept or refused so far, and no write failed.
+pub record MayBegin (end : ℕ) (reader : Reader) (out : Output) (store : Slots) : Type 0 where
+  pub ends : reader.ending ≡ end
   pub ready : IsReady reader store
   pub sound : IsSound reader
   pub clean : out.faulted ≡ false
@@ -60,15 +61,14 @@ pub record Empties (count : ℕ) (before after : Slots) : Type 0 where
 -- What is written of lines that come in the state x is `written (rest_from x ..)`, and so is all that this tool writes
 -- in the state at the start. The last of its slots is for the line that comes.
 pub record IsLineTool {S X E : Type 0} (tool : Tool) (state : S → Slots → X) (rest_from : X → List (List ℕ) → List E) (written : List E → List ℕ) (counted : X → ℕ)
-    (end width : ℕ) (start : S) : Type 0 where
+    (width : ℕ) (start : S) : Type 0 where
   pub apart : (xs ys : List E) → written (xs ++ ys) ≡ written xs ++ written ys
   pub stays : (now : S) (store : Slots) (bytes : List ℕ) → width ≤ length store.lines → state now (with_line store (width - 1) bytes) ≡ state now store
   pub fresh : (store : Slots) → counted (state start store) ≤ 1
-  pub text : (store : Slots) (bytes : List ℕ) → written (rest_from (state start store) (lines end bytes)) ≡ tool.text bytes
+  pub text : (store : Slots) (bytes : List ℕ) → written (rest_from (state start store) (lines tool.end bytes)) ≡ tool.text bytes
   -- all that is decided of some lines was written once they came
-  pub decided : (store : Slots) (given : Given) (passed : List E) (now : X) → ((more : List (List ℕ)) → rest_from (state start store) (whole_lines end given ++ more) ≡ passed ++ rest_from now more)
+  pub decided : (store : Slots) (given : Given) (passed : List E) (now : X) → ((more : List (List ℕ)) → rest_from (state start store) (whole_lines tool.end given ++ more) ≡ passed ++ rest_from now more)
       → Begins (tool.decided given) (written passed)
-  pub size : (bytes : List ℕ) → tool.size bytes ≡ width * longest_line end bytes
+  pub size : (bytes : List ℕ) → tool.size bytes ≡ width * longest_line tool.end bytes
   pub slots : tool.slots ≡ width
-  pub ends : tool.end ≡ end
   pub some : 0 < width

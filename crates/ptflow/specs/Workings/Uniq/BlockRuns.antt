@@ -38,6 +38,11 @@ pub record IsSpan (block : List ℕ) (span : Span) : Type 0 where
   pub ordered : span.from ≤ span.to
   pub within : span.to ≤ length block
 
+-- what waits, and the line of a run, are in it
+pub record AreSpans (block : List ℕ) (a b : Span) : Type 0 where
+  pub waiting : IsSpan block a
+  pub line : IsSpan block b
+
 -- Of these bytes some were pushed, and the others are this piece of the block.
 pub record Waits (bytes block : List ℕ) (waiting : Span) (was is : Output) : Type 0 where
   pub pushed : List ℕ

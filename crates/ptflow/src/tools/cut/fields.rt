@@ -1,6 +1,6 @@
 //! `cut` by fields.
 
-ghost use Rattle.std.specs.Prelude.{◌≡◌, ◌+◌, ◌-◌, ◌<◌, ◌≤◌, ◌++◌, ◌⊎◌, length, take, drop, slice_index, true, false, [], ◌∷◌, Some, IfOk, IfSome, OnOk, OnErr, MatchOption};
+ghost use Rattle.std.specs.Prelude.{◌≡◌, ◌+◌, ◌-◌, ◌<◌, ◌≤◌, ◌++◌, ◌⊎◌, length, take, drop, slice_index, true, false, [], ◌∷◌, Some, IfSome, OnOk, OnErr, MatchOption};
 ghost use Rattle.memchr.specs.Find.{IsFirstByte, is_byte};
 ghost use Rattle.ptlines.specs.Outputs.{Wrote};
 ghost use Rattle.ptlangs.specs.Jobs.{cut_job};
@@ -275,6 +275,7 @@ impl<'a, A: Allocator + Copy> LineTool for FieldCut<'a, A> {
         _store: &Store<B>,
         out: &mut Out<W>,
     ) -> Result<usize, WriteFault> {
+        // A copy, so that the loop does not read it through `self`.
         let by = FieldCut {
             job: self.job,
             ending: self.ending,
@@ -309,8 +310,7 @@ pub(crate) fn cut_by_fields<A: Allocator + Copy, S: Source, R: Source, W: Sink>(
     out: &mut Out<W>,
 ) -> Result<(), FlowFault>
     requires by_fields { job.now.fields ≡ true }
-    requires ending { reader.old.ending ≡ (cut_job job.now).end }
-    requires begins { MayBegin reader.old out.old store.old }
+    requires begins { MayBegin (cut_job job.now).end reader.old out.old store.old }
     ensures { IsPass (cut_tool (cut_job job.now)) reader.old reader.new out.old out.new store.old store.new result }
 {
     let by = FieldCut {

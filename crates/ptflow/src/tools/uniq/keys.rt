@@ -1,6 +1,6 @@
 //! The part of a line that `uniq` compares.
 
-ghost use Rattle.std.specs.Prelude.{◌≡◌, ◌<◌, ◌≤◌, length};
+ghost use Rattle.std.specs.Prelude.{◌≡◌, ◌<◌, ◌≤◌};
 ghost use Rattle.memchr.specs.Find.{Nowhere, Passes, is_byte};
 ghost use Rattle.ptlangs.specs.Jobs.{uniq_job};
 ghost use Rattle.ptflow.specs.Uniqs.{is_blank, after_fields, key};

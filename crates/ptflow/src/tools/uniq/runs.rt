@@ -1,13 +1,13 @@
 //! The runs of the lines of a block.
 
-ghost use Rattle.std.specs.Prelude.{◌≡◌, ℕ, ◌-◌, ◌<◌, ◌≤◌, ◌^◌, ◌++◌, ◌∷◌, [], length, true, false, Some, IfOk, OnOk, OnErr, slice_range};
+ghost use Rattle.std.specs.Prelude.{◌≡◌, ℕ, ◌-◌, ◌<◌, ◌≤◌, ◌++◌, [], length, true, false, Some, IfOk, OnErr, slice_range};
 ghost use Rattle.memchr.specs.Find.{IsFirstByte, is_byte};
 ghost use Rattle.ptlines.specs.Outputs.{Wrote, Pushes};
 ghost use Rattle.ptlines.specs.Text.{ended_lines};
 ghost use Rattle.ptlangs.specs.Jobs.{uniq_job};
 ghost use Rattle.ptflow.specs.Workings.Passes.Lines.{PassesLines};
 ghost use Rattle.ptflow.specs.Workings.Uniq.OpenRuns.{is_shown, lead, run_of, run_text};
-ghost use Rattle.ptflow.specs.Workings.Uniq.BlockRuns.{RunsOn, RunsHalt, GoesOnWith, Waits, IsSpan, span_of};
+ghost use Rattle.ptflow.specs.Workings.Uniq.BlockRuns.{RunsOn, RunsHalt, GoesOnWith, Waits, AreSpans, span_of};
 
 use crate::tools::uniq::LineUniq;
 use crate::tools::uniq::keys::key;
@@ -134,8 +134,7 @@ fn let_wait<W: Sink>(
     line: Span,
     out: &mut Out<W>,
 ) -> Result<Span, WriteFault>
-    requires waiting { IsSpan block.now waiting }
-    requires line { IsSpan block.now line }
+    requires { AreSpans block.now waiting line }
     ensures waits { IfOk result
         (λ now. Waits (span_of block.now waiting ++ run_text show count (span_of block.now line))
         block.now now out.old out.new) }
@@ -179,7 +178,8 @@ pub(crate) fn push_runs<W: Sink>(
         (run_of (slice_range block.now last.line.from (last.line.to - 1)) last.count)
         (ended_lines (uniq_job by.now.job.now).end block.now) out.old out.new) }
     ensures halts { OnErr result
-        (RunsHalt (uniq_job by.now.job.now) (run_of [] 0) (ended_lines (uniq_job by.now.job.now).end block.now) out.old out.new) }
+        (RunsHalt (uniq_job by.now.job.now) (run_of [] 0)
+        (ended_lines (uniq_job by.now.job.now).end block.now) out.old out.new) }
     ensures span { IfOk result (λ last. (last.line.from < last.line.to) × (last.line.to ≤ length block.now)) }
     ensures passed { IfOk result (λ last. PassesLines (uniq_job by.now.job.now).end block.now last.passed) }
 {

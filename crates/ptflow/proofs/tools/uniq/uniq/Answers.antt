@@ -1,4 +1,4 @@
-use Rattle.ptflow.proofs.Common.{◌≡◌, Bool, true, false, cond, refl, sym, ◌∙◌, ending, uniq_job, uniq_tool}
+use Rattle.ptflow.proofs.Common.{cond, refl, sym, ◌∙◌, uniq_job, uniq_tool}
 use Rattle.ptflow.proofs.OfPasses.PassLemmas.{pass_halted, pass_set}
 use Rattle.ptflow.proofs.OfUniq.OpenLines.{uniq_line_tool}
 use Rattle.ptflow.proofs.tools.uniq.uniq.Goals as goal
@@ -6,12 +6,8 @@ use Rattle.ptflow.proofs.tools.uniq.uniq.Goals as goal
 pub returns-then-has_failed : goal.returns-then-has_failed
 returns-then-has_failed g c = pass_halted (uniq_tool (uniq_job c.args.job.now)) _ c.args.out.now _ c.requires (cc)
 
-ends : (zero : Bool) → cond zero 0 10 ≡ ending zero
-ends true = refl
-ends false = refl
-
 pub over_lines-requires-clause-tool : goal.over_lines-requires-clause-tool
-over_lines-requires-clause-tool g c = rw (c.set_ending.ensures.set, ends c.args.job.now.zero) (uniq_line_tool (uniq_job c.args.job.now) _ refl)
+over_lines-requires-clause-tool g c = uniq_line_tool (uniq_job c.args.job.now) _ refl
 
 pub returns : goal.returns
 returns g c =

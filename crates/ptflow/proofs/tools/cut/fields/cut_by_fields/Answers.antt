@@ -5,4 +5,4 @@ use Rattle.ptflow.proofs.OfCut.FieldLines.{cut_line_tool}
 use Rattle.ptflow.proofs.tools.cut.fields.cut_by_fields.Goals as goal
 
 pub over_lines-requires-clause-tool : goal.over_lines-requires-clause-tool
-over_lines-requires-clause-tool g c = rw c.requires.ending (cut_line_tool (cut_job c.args.job.now) _ c.requires.by_fields)
+over_lines-requires-clause-tool g c = cut_line_tool (cut_job c.args.job.now) _ c.requires.by_fields

@@ -80,10 +80,6 @@ returns-clause-put g c =
     let none = walking_done c.intervals-selected.result.now (take 1 (drop to bytes)) _ l.invariant.walk c.loop-interval-test.false in
     cc (put_byte l.room bytes l.end room c.requires.room.0, none, l.invariant.put)
 
-pub field_behind-requires : goal.field_behind-requires
-field_behind-requires g c =
-    record { line = c.requires.line; start = c.loop-interval.invariant.known; near = omega (arith, c.loop-interval.invariant.walk.fits, length-take-le c.args.to c.args.bytes.now (omega arith)) }
-
 pub field_behind-requires-in-loop-interval : goal.field_behind-requires-in-loop-interval
 field_behind-requires-in-loop-interval g c = record {
   line = c.requires.line;
