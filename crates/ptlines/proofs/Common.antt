@@ -1,6 +1,7 @@
 -- Names of other crates and of this one's definitions that many of its proofs take from here.
 pub use Rattle.std.proofs.Common.{Bool, Err, Fits, IfOk, List, None, Ok, OnErr, OnOk, Option, Result, Some, [], ap, append_assoc, arith, cond, drop, eqb, false, get_or, inl, inr, length}
-pub use Rattle.std.proofs.Common.{length-append, length-drop, length-take, map, max, min, not, refl, rules, set, subst, suc, sym, take, take-append-drop, true, w8, zero, ℕ, ⊎_elim, ◌%◌, ◌*◌, ◌++◌, ◌+◌, ◌-◌}
+pub use Rattle.std.proofs.Common.{length-append, length-drop, length-take, map, max, min, not, refl, rules, set, subst, suc, sym, take, take-append-drop, true, w8, zero, ℕ, ⊎_elim, ◌%◌}
+pub use Rattle.std.proofs.Common.{◌*◌, ◌++◌, ◌+◌, ◌-◌}
 pub use Rattle.std.proofs.Common.{◌<◌, ◌==◌, ◌^◌, ◌∙◌, ◌∷◌, ◌≡◌, ◌≢◌, ◌≤◌, ◌⊎◌}
 pub use Rattle.std.proofs.Math.Seq.{take-add, take-append-add}
 pub use Rattle.std.proofs.lemmas.Bool.{cases_Bool, cases_order, eq-eqb, eqb-false, eqb-true, false≢true}

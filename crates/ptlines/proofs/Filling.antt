@@ -50,9 +50,6 @@ pub record Filling (old now : Reader) (before so_far : Slots) (slot : ℕ) : Typ
   pub whole : IsLine old.ending piece
   pub stored : so_far ≡ with_line before slot piece
 
-pub filling_slots : (old now : Reader) (before so_far : Slots) (slot : ℕ) → Filling old now before so_far slot → length so_far.lines ≡ length before.lines
-filling_slots old now before so_far slot f = ap (λ (s : Slots). length s.lines) f.stored ∙ length-set before.lines slot f.piece
-
 pub filling_more : (old now new : Reader) (before so_far after : Slots) (slot : ℕ) → slot < length before.lines → Filling old now before so_far slot
     → GivesPiece now new so_far after slot → Filling old new before after slot
 filling_more old now new before so_far after slot within f p = record {
@@ -110,30 +107,6 @@ end_done old now new before so_far after slot empty within short f goes done sam
           stored = s;
           less = spends old new (x ∷ piece) g some short;
         })
-
-pub stop_done : (old now new : Reader) (before so_far after : Slots) (slot : ℕ) (fault : LineFault) → Filling old now before so_far slot
-    → Stops now new so_far after fault → Fills old new before after slot (Err fault)
-stop_done old now new before so_far after slot Read f s = record {
-  piece = f.piece;
-  faults = record {
-    reads = subst (λ (b : List ℕ). Reads old new b) (append-nil f.piece) (reads_trans old now new f.piece [] f.goes.reads s.0.reads);
-    whole = f.whole;
-    is = s.0.is;
-  };
-  cause = ⊎_elim (λ failed. inl failed) (λ long. inr (long.0, long.1 ∙ f.goes.failed)) s.1;
-  stored = s.2 ∙ f.stored;
-}
-stop_done old now new before so_far after slot Memory f s = record {
-  piece = f.piece;
-  faults = record {
-    reads = subst (λ (b : List ℕ). Reads old new b) (append-nil f.piece) (reads_trans old now new f.piece [] f.goes.reads s.0.reads);
-    whole = f.whole;
-    is = s.0.is;
-  };
-  failed = s.1 ∙ f.goes.failed;
-  stored = s.2 ∙ ap with_denied f.stored;
-  left = s.3;
-}
 
 -- a line whose end is one of the next n bytes, which begin `front`, was put into the slot at once
 module _ (n : ℕ) (old new : Reader) (block front : List ℕ) (start end size : ℕ) (before after : Slots) (slot : ℕ) where

@@ -44,7 +44,8 @@ module _ {X : Type 0} {rest_from : X → List ℕ → List ℕ} {start : X} {now
 
 module _ {X : Type 0} {tool : Tool} {rest_from : X → List ℕ → List ℕ} {Holds : X → X → Type 0} {start : X} (b : IsBlockTool tool rest_from Holds start)
     {now : X} {old reader new : Reader} {was is : Output} {store : Slots}
-    (m : Midway rest_from start now old reader was is) (ready : IsReady old store) (sound : IsSound reader) (reads : Reads reader new []) (is_sound : IsSound new) (holds : Holds start start → Holds start now)
+    (m : Midway rest_from start now old reader was is) (ready : IsReady old store) (sound : IsSound reader) (reads : Reads reader new [])
+    (is_sound : IsSound new) (holds : Holds start start → Holds start now)
     (all : (rest : List ℕ) → rest_from start (m.given ++ rest) ≡ m.pushed ++ rest_from now rest) where
   -- what was passed on before this block
   works : Works tool (given_of (m.given ++ []) new) m.pushed

@@ -1,6 +1,7 @@
 -- Bytes that stay where repeats are squeezed. Whether one stays is told by it and the byte in front of it, so a text is
 -- worked in pieces, each of them with the byte in front of it.
-use Rattle.ptflow.proofs.Common.{◌≡◌, ℕ, zero, suc, ◌%◌, ◌^◌, map, bit_and, negsuc, pos, ◌+◌, ◌-◌, ◌<◌, ◌≤◌, ◌&&◌, not, eqb, Bool, true, false, cond, List, [], ◌∷◌, ◌++◌, Option, None, Some, length, take}
+use Rattle.ptflow.proofs.Common.{◌≡◌, ℕ, zero, suc, ◌%◌, ◌^◌, map, bit_and, negsuc, pos, ◌+◌, ◌-◌, ◌<◌, ◌≤◌, ◌&&◌, not, eqb, Bool, true, false, cond, List, [], ◌∷◌, ◌++◌, Option, None}
+use Rattle.ptflow.proofs.Common.{Some, length, take}
 use Rattle.ptflow.proofs.Common.{drop, set, get_or, refl, sym, ◌∙◌, ap, arith, append_assoc, add-one, drop-cons, w8, option_eq, bit_not, cast_unsigned, zip2, chunk, Each1, mask_l, top, append-nil}
 use Rattle.ptflow.proofs.Common.{drop-drop, drop_all, take-set, take_more_set, take-take, get_or-chunk, length-chunk, length-zip2, mask_l-mod, squeeze_behind, mask_of, chosen_by, squeeze_from}
 use mir.Val.{bool_byte, Fits}

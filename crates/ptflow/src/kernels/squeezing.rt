@@ -46,7 +46,8 @@ fn squeeze_chunk(
     requires chunk { HasChunk block.bytes.now at count }
     ensures squeezed { take result into.new
         ≡ take count into.old
-        ++ squeeze_behind (holds set) (slice_index block.entry.bytes.now (at - 1)) (take 64 (drop at block.entry.bytes.now)) }
+        ++ squeeze_behind (holds set) (slice_index block.entry.bytes.now (at - 1))
+        (take 64 (drop at block.entry.bytes.now)) }
     ensures end { result ≤ count + 64 }
 {
     let from = block.bytes;

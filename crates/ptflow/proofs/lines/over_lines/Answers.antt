@@ -14,7 +14,8 @@ returns-in_err-need_slots g c =
     let x = err_from_is_err_and c.from_residual.result c.from_residual.ensures.1 in
     let adds = rw c.slots-slots.ensures at c.need_slots.ensures.adds in
     rw (x.1, x.2, c.in_err-need_slots.ensures.err)
-    (run_unslotted c.requires.tool c.requires.begins.ends c.requires.begins.ready c.requires.begins.sound c.requires.begins.clean adds c.need_slots.ensures.same_peak c.in_err-need_slots.ensures.denied)
+    (run_unslotted c.requires.tool c.requires.begins.ends c.requires.begins.ready c.requires.begins.sound c.requires.begins.clean adds
+    c.need_slots.ensures.same_peak c.in_err-need_slots.ensures.denied)
 
 pub turns-init : goal.turns-init
 turns-init g c =
@@ -25,7 +26,8 @@ turns-init g c =
 pub returns-in_err-send_before_wait : goal.returns-in_err-send_before_wait
 returns-in_err-send_before_wait g c =
     let x = err_from_is_err_and c.from_residual-in_err-send_before_wait.result c.from_residual-in_err-send_before_wait.ensures.1 in
-    rw (x.1, x.2) (run_unsent c.requires.tool c.turns.invariant c.requires.begins.ready c.send_before_wait.ensures.sound c.send_before_wait.ensures.pushed.wrote c.in_err-send_before_wait.ensures.pushed.fault)
+    rw (x.1, x.2) (run_unsent c.requires.tool c.turns.invariant c.requires.begins.ready c.send_before_wait.ensures.sound
+    c.send_before_wait.ensures.pushed.wrote c.in_err-send_before_wait.ensures.pushed.fault)
 
 pub take_line-requires : goal.take_line-requires
 take_line-requires g c =

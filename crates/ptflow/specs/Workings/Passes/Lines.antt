@@ -67,7 +67,8 @@ pub record IsLineTool {S X E : Type 0} (tool : Tool) (state : S → Slots → X)
   pub fresh : (store : Slots) → counted (state start store) ≤ 1
   pub text : (store : Slots) (bytes : List ℕ) → written (rest_from (state start store) (lines tool.end bytes)) ≡ tool.text bytes
   -- all that is decided of some lines was written once they came
-  pub decided : (store : Slots) (given : Given) (passed : List E) (now : X) → ((more : List (List ℕ)) → rest_from (state start store) (whole_lines tool.end given ++ more) ≡ passed ++ rest_from now more)
+  pub decided : (store : Slots) (given : Given) (passed : List E) (now : X)
+      → ((more : List (List ℕ)) → rest_from (state start store) (whole_lines tool.end given ++ more) ≡ passed ++ rest_from now more)
       → Begins (tool.decided given) (written passed)
   pub size : (bytes : List ℕ) → tool.size bytes ≡ width * longest_line tool.end bytes
   pub slots : tool.slots ≡ width

@@ -120,7 +120,8 @@ fn cut_chunk(
 ) -> Step
     requires ends { HasEnds ending block.now from marked }
     requires step { IsStepAt ending block.now from step }
-    ensures on { GoesOn ending by.now.selected.now block.now step (take step.at into.old) result (take result.at into.new) }
+    ensures on { GoesOn ending by.now.selected.now block.now step (take step.at into.old) result
+        (take result.at into.new) }
     ensures passed { (from < result.start) × (result.start ≤ from + 64) }
 {
     if marked == u64::MAX && step.start == from && step.before == 0 {

@@ -39,7 +39,8 @@ loop-column-preserved g c =
     let a = rw (from_column c.args.store.now.lines (length c.args.cells.now) c.loop-column.column c.requires.slots c.loop-column-test.true) at c.loop-column.invariant.amid in
     let number : c.in_ok-cell.cell.number ≡ _ = ap (λ (x : Cell). x.number) c.in_ok-cell.ensures.begun in
     record {
-      amid = rw number (row_more c.args.ending c.args.delims.now a c.begin_cell.ensures.wrote c.in_ok-cell.ensures.clean (rw c.line.ensures at c.push.ensures.pushed.wrote) c.in_ok-push.ensures.pushed.clean);
+      amid = rw number (row_more c.args.ending c.args.delims.now a c.begin_cell.ensures.wrote c.in_ok-cell.ensures.clean
+          (rw c.line.ensures at c.push.ensures.pushed.wrote) c.in_ok-push.ensures.pushed.clean);
       bound = omega (arith, number, begun_number c.loop-column.cell, c.loop-column.invariant.bound);
     }
 

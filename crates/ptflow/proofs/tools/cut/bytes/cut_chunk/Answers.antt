@@ -1,6 +1,7 @@
 -- The lowest bit that is left is the next end. The line up to it is cut, and the next line begins behind it; then that
 -- bit is taken away. As many turns are made as the mask has bits, so at the end no bit is left.
-use Rattle.ptflow.proofs.Common.{◌≡◌, ◌+◌, ◌-◌, suc, map, take, drop, ◌∙◌, ap, arith, count_ones, chunk, length-chunk, take_more_put_chunk, take_rest, drop-drop, length-drop, ones-mask_l, is_byte, is_selected, chosen_piece}
+use Rattle.ptflow.proofs.Common.{◌≡◌, ◌+◌, ◌-◌, suc, map, take, drop, ◌∙◌, ap, arith, count_ones, chunk, length-chunk, take_more_put_chunk, take_rest, drop-drop, length-drop, ones-mask_l}
+use Rattle.ptflow.proofs.Common.{is_byte, is_selected, chosen_piece}
 use lib.Count.{count_trailing_zeros}
 use Rattle.ptflow.proofs.OfCut.ByteRests.{line_on, ends_on, cut_on}
 use Rattle.ptflow.proofs.OfBytes.Nths.{NextEnd, cleared, next_end, some_counted}

@@ -77,7 +77,8 @@ loop-column-preserved g c =
       written = (inv.written ++ lead_of) ++ line;
       is = is;
       puts = λ from moved. putting_more has refl (inv.puts from moved);
-      kept = front_kept c.args.full.end _ _ c.args.into.now ((inv.written ++ lead_of) ++ line) (omega (arith, c.put_lead-from.ensures.near.0, inv.near.0)) (omega (arith, c.args.full.near, c.told-into)) is;
+      kept = front_kept c.args.full.end _ _ c.args.into.now ((inv.written ++ lead_of) ++ line)
+          (omega (arith, c.put_lead-from.ensures.near.0, inv.near.0)) (omega (arith, c.args.full.near, c.told-into)) is;
       holds = holds_more has inv.holds;
       near = (omega (arith, c.put_lead-from.ensures.near.0, inv.near.0), omega (arith, c.in_ok-count.ensures.near), λ some. omega (arith, c.in_ok-count.ensures.near));
       places = length-set taken place (get_or taken place 0 + (count + 1)) ∙ inv.places;
@@ -96,7 +97,8 @@ returns-clause-row g c =
     let inv = c.loop-column.invariant in
     record {
       written = inv.written ++ c.args.row.now.ending ∷ [];
-      is = end_put (take c.args.full.end c.args.into.now) inv.written (c.args.row.now.ending ∷ []) (take_more_set c.loop-column.into c.loop-column.end c.args.row.now.ending (omega (arith, inv.near, inv.room))) inv.is;
+      is = end_put (take c.args.full.end c.args.into.now) inv.written (c.args.row.now.ending ∷ [])
+          (take_more_set c.loop-column.into c.loop-column.end c.args.row.now.ending (omega (arith, inv.near, inv.room))) inv.is;
       held = inv.holds;
       row = λ from moved. putting_done (omega (arith, c.loop-column-test.false, c.loop-column.auto.column-end)) c.args.row.now.few.1 c.args.row.now.readable.1 moved (inv.puts from moved);
     }

@@ -14,8 +14,11 @@ returns-then-is_none-clause-continues g c =
     (not_found _ c.args.block.now c.find_near.result (rw c.args.self.now.ends at c.find_near.ensures) c.if-is_none.ensures)
 
 pub returns-then-is_none-clause-passed : goal.returns-then-is_none-clause-passed
-returns-then-is_none-clause-passed g c =
-    (omega arith, sym (ap (text (uniq_job c.args.self.now.job.now).end) (ended_none (uniq_job c.args.self.now.job.now).end c.args.block.now (not_found _ c.args.block.now c.find_near.result (rw c.args.self.now.ends at c.find_near.ensures) c.if-is_none.ensures))))
+returns-then-is_none-clause-passed g c = (
+  omega arith,
+  sym (ap (text (uniq_job c.args.self.now.job.now).end) (ended_none (uniq_job c.args.self.now.job.now).end c.args.block.now
+      (not_found _ c.args.block.now c.find_near.result (rw c.args.self.now.ends at c.find_near.ensures) c.if-is_none.ensures))),
+)
 
 pub overflow_add-run : goal.overflow_add-run
 overflow_add-run g c =

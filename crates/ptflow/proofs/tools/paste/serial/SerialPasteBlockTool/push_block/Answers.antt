@@ -1,6 +1,7 @@
 -- What stands in front of the cell is pushed, and then what is written of the block: both are what is written of the
 -- block in this cell, whatever comes. Where a push fails, what was pushed is a beginning of that.
-use Rattle.ptflow.proofs.Common.{◌≡◌, ◌+◌, ◌-◌, ◌<◌, ◌++◌, ℕ, List, ◌∷◌, [], length, take, get_or, sym, ◌∙◌, ap, arith, append_assoc, take_more, take_all, length-take-le, wrote_trans, serial_rest, begun, lead, Cell}
+use Rattle.ptflow.proofs.Common.{◌≡◌, ◌+◌, ◌-◌, ◌<◌, ◌++◌, ℕ, List, ◌∷◌, [], length, take, get_or, sym, ◌∙◌, ap, arith, append_assoc, take_more, take_all, length-take-le, wrote_trans}
+use Rattle.ptflow.proofs.Common.{serial_rest, begun, lead, Cell}
 use Rattle.ptflow.proofs.OfPasses.Continuations.{on_err}
 use Rattle.ptflow.proofs.OfPaste.SerialRests.{begun_on, begun_number}
 use Rattle.ptflow.proofs.tools.paste.serial.SerialPasteBlockTool.push_block.Given as given
