@@ -1,6 +1,6 @@
 //! `comm` over sources and sinks of the tests.
 
-use crate::comparing::same;
+use crate::merged::{ANY, Answer, Case, Left, TWO, Wanted, is_left};
 use ptfakes::{Kept, Pieces, Refusing};
 use ptlangs::jobs::CommJob;
 use ptlines::{LineReader, Out, Store};
@@ -9,36 +9,14 @@ use std::alloc::{Allocator, Global};
 use std::process::Abort;
 use std::test::Fail;
 
-// Two inputs and a sink: so many bytes a pull, how many pulls of each input pass, and what the sink takes.
-#[derive(Clone, Copy)]
-struct Case<'a> {
-    job: CommJob,
-    first: &'a [u8],
-    second: &'a [u8],
-    size: usize,
-    passing: [u64; 2],
-    room: usize,
-}
-
-fn over<'a>(first: &'a [u8], second: &'a [u8]) -> Case<'a> {
-    Case {
-        job: CommJob::default(),
-        first,
-        second,
-        size: 2,
-        passing: [u64::MAX, u64::MAX],
-        room: usize::MAX,
-    }
-}
-
 type Reader<'a> = LineReader<Pieces<'a>, Pieces<'a>>;
 
-// What `comm` answered, the sink, and the most that the store held.
 fn run<A: Allocator + Copy>(
     alloc: Global,
     lines: A,
+    job: &CommJob,
     case: &Case<'_>,
-) -> Result<(Result<(), MergeFault>, Kept, u128), Fail> {
+) -> Result<Left, Fail> {
     let mut first: Reader<'_> = LineReader::standard(Pieces::new(
         case.first,
         case.size,
@@ -51,98 +29,276 @@ fn run<A: Allocator + Copy>(
     ));
     let mut store = Store::new(lines, 0)?;
     let mut out = Out::new(Kept::limited(alloc, usize::MAX, case.room, u64::MAX));
-    let result = comm(&case.job, &mut first, &mut second, &mut store, &mut out);
+    let result = comm(job, &mut first, &mut second, &mut store, &mut out);
     let _ = out.finish();
-    Ok((result, out.into_sink(), store.peak()))
+    Ok(Left {
+        result,
+        kept: out.into_sink(),
+        peak: store.peak(),
+    })
 }
 
+// Looks at what is left of a case, which goes by a name and a number.
 fn expect(
     rt: &impl Abort,
     alloc: Global,
-    case: &Case<'_>,
-    expected: Result<(), MergeFault>,
-    bytes: &[u8],
+    of: (&str, usize),
+    (job, case): (&CommJob, &Case<'_>),
+    wanted: &Wanted<'_>,
 ) -> Result<(), Fail> {
-    let (result, kept, _peak) = run(alloc, alloc, case)?;
-    same(rt, &result, &expected);
-    assert!(rt; kept.bytes() == bytes);
+    let left = run(alloc, alloc, job, case)?;
+    is_left(rt, of, &left, wanted);
     Ok(())
 }
 
-#[test]
-fn common_lines_come_first(rt: HostRuntime) -> Result<(), Fail> {
-    let lines = over(b"a\na\nb\n", b"a\nc\n");
-    expect(&rt, rt.alloc(), &lines, Ok(()), b"\t\ta\na\nb\n\tc\n")?;
-    let job = CommJob {
-        hide: [true, true, false],
-        ..CommJob::default()
-    };
-    let common = Case { job, ..lines };
-    expect(&rt, rt.alloc(), &common, Ok(()), b"a\n")
+struct Row {
+    name: &'static str,
+    job: CommJob,
+    case: Case<'static>,
+    wanted: Wanted<'static>,
 }
 
-#[test]
-fn an_input_out_of_order(rt: HostRuntime) -> Result<(), Fail> {
-    let lines = over(b"b\na\nc\n", b"a\nb\nb\nd\n");
-    let fault = Err(MergeFault::Disorder(Side::First, 2));
-    expect(&rt, rt.alloc(), &lines, fault, b"\ta\n\t\tb\n\tb\n")
-}
+const PLAIN: CommJob = CommJob {
+    hide: [false; 3],
+    zero: false,
+    descending: false,
+};
+
+const COMMON: Case = Case {
+    first: b"a\na\nb\n",
+    second: b"a\nc\n",
+    ..TWO
+};
+
+const FALLS: Case = Case {
+    first: b"b\na\nc\n",
+    second: b"a\nb\nb\nd\n",
+    ..TWO
+};
+
+const SECOND_FALLS: Case = Case {
+    first: b"a\nb\nb\nd\n",
+    second: b"b\na\nc\n",
+    ..TWO
+};
+
+const TURNS: Case = Case {
+    first: b"a\nc\n",
+    second: b"b\nd\n",
+    ..TWO
+};
+
+const OK: Answer = Some(Ok(()));
+
+const FIRST_UNREAD: Answer = Some(Err(MergeFault::Read(Side::First)));
+
+const SECOND_UNREAD: Answer = Some(Err(MergeFault::Read(Side::Second)));
+
+const DISORDER: Answer = Some(Err(MergeFault::Disorder(Side::First, 2)));
+
+const SECOND_DISORDER: Answer = Some(Err(MergeFault::Disorder(Side::Second, 2)));
+
+const ROWS: &[Row] = &[
+    Row {
+        name: "common lines come first",
+        job: PLAIN,
+        case: COMMON,
+        wanted: Wanted {
+            result: OK,
+            bytes: Some(b"\t\ta\na\nb\n\tc\n"),
+            ..ANY
+        },
+    },
+    Row {
+        name: "common lines alone",
+        job: CommJob {
+            hide: [true, true, false],
+            ..PLAIN
+        },
+        case: COMMON,
+        wanted: Wanted {
+            result: OK,
+            bytes: Some(b"a\n"),
+            ..ANY
+        },
+    },
+    Row {
+        name: "an input out of order",
+        job: PLAIN,
+        case: FALLS,
+        wanted: Wanted {
+            result: DISORDER,
+            bytes: Some(b"\ta\n\t\tb\n\tb\n"),
+            ..ANY
+        },
+    },
+    Row {
+        name: "lines that end with zero in descending order",
+        job: CommJob {
+            zero: true,
+            descending: true,
+            ..PLAIN
+        },
+        case: Case {
+            first: b"b\0a\0a\0",
+            second: b"c\0a\0",
+            ..TWO
+        },
+        wanted: Wanted {
+            result: OK,
+            bytes: Some(b"\tc\0b\0\t\ta\0a\0"),
+            ..ANY
+        },
+    },
+    Row {
+        name: "a read that fails",
+        job: PLAIN,
+        case: Case {
+            first: b"a\nc\n",
+            second: b"b\n",
+            passing: [u64::MAX, 1],
+            ..TWO
+        },
+        wanted: Wanted {
+            result: SECOND_UNREAD,
+            bytes: Some(b"a\n\tb\n"),
+            ..ANY
+        },
+    },
+    Row {
+        name: "a read that fails before a disorder",
+        job: PLAIN,
+        case: Case {
+            first: b"a\nb\na\n",
+            second: b"a\nb\n",
+            passing: [u64::MAX, 2],
+            ..TWO
+        },
+        wanted: Wanted {
+            result: SECOND_UNREAD,
+            bytes: Some(b"\t\ta\n\t\tb\n"),
+            ..ANY
+        },
+    },
+    // Nothing is read behind a line out of order. One pull fewer, and a read fails: so many are needed, and no more are
+    // made.
+    Row {
+        name: "enough pulls for a disorder of the first",
+        job: PLAIN,
+        case: Case {
+            passing: [2, 4],
+            ..FALLS
+        },
+        wanted: Wanted {
+            result: DISORDER,
+            bytes: Some(b"\ta\n\t\tb\n\tb\n"),
+            ..ANY
+        },
+    },
+    Row {
+        name: "one pull fewer for a disorder of the first",
+        job: PLAIN,
+        case: Case {
+            passing: [1, 4],
+            ..FALLS
+        },
+        wanted: Wanted {
+            result: FIRST_UNREAD,
+            bytes: Some(b"\ta\n\t\tb\n"),
+            ..ANY
+        },
+    },
+    Row {
+        name: "enough pulls for a disorder of the second",
+        job: PLAIN,
+        case: Case {
+            passing: [4, 2],
+            ..SECOND_FALLS
+        },
+        wanted: Wanted {
+            result: SECOND_DISORDER,
+            bytes: Some(b"a\n\t\tb\nb\n"),
+            ..ANY
+        },
+    },
+    Row {
+        name: "one pull fewer for a disorder of the second",
+        job: PLAIN,
+        case: Case {
+            passing: [3, 2],
+            ..SECOND_FALLS
+        },
+        wanted: Wanted {
+            result: FIRST_UNREAD,
+            bytes: Some(b"a\n\t\tb\nb\n"),
+            ..ANY
+        },
+    },
+    // What is staged is put before each pull; where a block holds the next line there is none to wait for.
+    Row {
+        name: "sent before each read of a line",
+        job: PLAIN,
+        case: TURNS,
+        wanted: Wanted {
+            result: OK,
+            calls: Some(5),
+            ..ANY
+        },
+    },
+    Row {
+        name: "sent before the ends are asked for",
+        job: PLAIN,
+        case: Case {
+            size: usize::MAX,
+            ..TURNS
+        },
+        wanted: Wanted {
+            result: OK,
+            calls: Some(3),
+            ..ANY
+        },
+    },
+    Row {
+        name: "sent behind a common line",
+        job: PLAIN,
+        case: Case {
+            first: b"a\nb\n",
+            second: b"a\n",
+            size: 4,
+            ..TWO
+        },
+        wanted: Wanted {
+            result: OK,
+            calls: Some(3),
+            ..ANY
+        },
+    },
+];
 
 #[test]
-fn lines_that_end_with_zero_in_descending_order(rt: HostRuntime) -> Result<(), Fail> {
-    let mut lines = over(b"b\0a\0a\0", b"c\0a\0");
-    lines.job.zero = true;
-    lines.job.descending = true;
-    expect(&rt, rt.alloc(), &lines, Ok(()), b"\tc\0b\0\t\ta\0a\0")
+fn lines_of_two_inputs(rt: HostRuntime) -> Result<(), Fail> {
+    for row in ROWS {
+        let asked = (&row.job, &row.case);
+        expect(&rt, rt.alloc(), (row.name, 0), asked, &row.wanted)?;
+    }
+    Ok(())
 }
 
-#[test]
-fn a_read_that_fails(rt: HostRuntime) -> Result<(), Fail> {
-    let mut lines = over(b"a\nc\n", b"b\n");
-    lines.passing = [u64::MAX, 1];
-    let fault = Err(MergeFault::Read(Side::Second));
-    expect(&rt, rt.alloc(), &lines, fault, b"a\n\tb\n")?;
-    let mut falls = over(b"a\nb\na\n", b"a\nb\n");
-    falls.passing = [u64::MAX, 2];
-    expect(&rt, rt.alloc(), &falls, fault, b"\t\ta\n\t\tb\n")
-}
-
-// One pull fewer, and a read fails: so many are needed, and no more are made.
-#[test]
-fn nothing_is_read_behind_a_line_out_of_order(rt: HostRuntime) -> Result<(), Fail> {
-    let mut first = over(b"b\na\nc\n", b"a\nb\nb\nd\n");
-    first.passing = [2, 4];
-    let fault = Err(MergeFault::Disorder(Side::First, 2));
-    expect(&rt, rt.alloc(), &first, fault, b"\ta\n\t\tb\n\tb\n")?;
-    first.passing = [1, 4];
-    let fault = Err(MergeFault::Read(Side::First));
-    expect(&rt, rt.alloc(), &first, fault, b"\ta\n\t\tb\n")?;
-    let mut second = over(b"a\nb\nb\nd\n", b"b\na\nc\n");
-    second.passing = [4, 2];
-    let fault = Err(MergeFault::Disorder(Side::Second, 2));
-    expect(&rt, rt.alloc(), &second, fault, b"a\n\t\tb\nb\n")?;
-    second.passing = [3, 2];
-    let fault = Err(MergeFault::Read(Side::First));
-    expect(&rt, rt.alloc(), &second, fault, b"a\n\t\tb\nb\n")
-}
-
-// How many calls of the sink there were: each put, and the flush at the end.
-fn calls(rt: &impl Abort, alloc: Global, case: &Case<'_>) -> Result<u64, Fail> {
-    let (result, kept, _peak) = run(alloc, alloc, case)?;
-    same(rt, &result, &Ok(()));
-    Ok(kept.calls())
-}
-
-// What is staged is put before each pull; where a block holds the next line there is none to wait for.
-#[test]
-fn what_is_staged_is_sent_before_a_read(rt: HostRuntime) -> Result<(), Fail> {
-    let mut turns = over(b"a\nc\n", b"b\nd\n");
-    same(&rt, &calls(&rt, rt.alloc(), &turns)?, &5);
-    turns.size = usize::MAX;
-    same(&rt, &calls(&rt, rt.alloc(), &turns)?, &3);
-    let mut common = over(b"a\nb\n", b"a\n");
-    common.size = 4;
-    same(&rt, &calls(&rt, rt.alloc(), &common)?, &3);
+fn expect_long(rt: &impl Abort, alloc: Global, long: &[u8]) -> Result<(), Fail> {
+    for (room, result) in [
+        (usize::MAX, FIRST_UNREAD),
+        (0, Some(Err(MergeFault::Write))),
+    ] {
+        let case = Case {
+            first: &*long,
+            second: b"c\n",
+            size: usize::MAX,
+            passing: [2, 1],
+            room,
+        };
+        let wanted = Wanted { result, ..ANY };
+        expect(rt, alloc, ("a long line", room), (&PLAIN, &case), &wanted)?;
+    }
     Ok(())
 }
 
@@ -152,60 +308,75 @@ fn nothing_is_read_behind_a_failed_write(rt: HostRuntime) -> Result<(), Fail> {
     let mut long = vec![in rt.alloc(); b'a'; 18002]?;
     long[9000] = b'\n';
     long[18001] = b'\n';
-    let mut lines = over(&long, b"c\n");
-    lines.size = usize::MAX;
-    lines.passing = [2, 1];
-    let (result, _kept, _peak) = run(rt.alloc(), rt.alloc(), &lines)?;
-    same(&rt, &result, &Err(MergeFault::Read(Side::First)));
-    lines.room = 0;
-    let (result, _kept, _peak) = run(rt.alloc(), rt.alloc(), &lines)?;
-    same(&rt, &result, &Err(MergeFault::Write));
-    Ok(())
+    expect_long(&rt, rt.alloc(), &long)
 }
+
+const ALL: &[u8] = b"\t\ta\na\nb\n\tc\n";
+
+const BEGINNING: Wanted = Wanted {
+    bytes: Some(ALL),
+    whole: false,
+    ..ANY
+};
 
 #[test]
 fn a_write_that_fails(rt: HostRuntime) -> Result<(), Fail> {
-    let mut lines = over(b"a\na\nb\n", b"a\nc\n");
     for room in 0..13usize {
-        lines.room = room;
-        let (_result, kept, _peak) = run(rt.alloc(), rt.alloc(), &lines)?;
-        assert!(rt; b"\t\ta\na\nb\n\tc\n".starts_with(kept.bytes()));
+        let case = Case { room, ..COMMON };
+        expect(&rt, rt.alloc(), ("room", room), (&PLAIN, &case), &BEGINNING)?;
     }
     Ok(())
 }
 
 #[test]
 fn each_read_fails_in_turn(rt: HostRuntime) -> Result<(), Fail> {
-    for passing in 0..8u64 {
-        let mut lines = over(b"a\na\nb\n", b"a\nc\n");
-        lines.size = 1;
-        lines.passing = [passing, u64::MAX];
-        let (result, kept, _peak) = run(rt.alloc(), rt.alloc(), &lines)?;
-        assert!(rt; b"\t\ta\na\nb\n\tc\n".starts_with(kept.bytes()));
-        if passing < 7 {
-            same(&rt, &result, &Err(MergeFault::Read(Side::First)));
-        } else {
-            same(&rt, &result, &Ok(()));
-        }
+    for passing in 0..8usize {
+        let case = Case {
+            size: 1,
+            passing: [passing as u64, u64::MAX],
+            ..COMMON
+        };
+        let wanted = Wanted {
+            result: if passing < 7 { FIRST_UNREAD } else { OK },
+            ..BEGINNING
+        };
+        expect(
+            &rt,
+            rt.alloc(),
+            ("reads", passing),
+            (&PLAIN, &case),
+            &wanted,
+        )?;
     }
     Ok(())
 }
 
+// Refuses the growth behind so many, and says whether there was such a one.
+fn is_refused(rt: &impl Abort, own: Global, passing: usize) -> Result<bool, Fail> {
+    let alloc = Refusing::after(own, passing as u64);
+    let left = run(own, &alloc, &PLAIN, &COMMON)?;
+    let refused = alloc.refused();
+    let wanted = Wanted {
+        result: if refused {
+            Some(Err(MergeFault::Memory))
+        } else {
+            OK
+        },
+        bytes: Some(ALL),
+        whole: !refused,
+        calls: None,
+        peak: (0, 4),
+    };
+    is_left(rt, ("growths", passing), &left, &wanted);
+    Ok(refused)
+}
+
 #[test]
 fn each_growth_refused_in_turn(rt: HostRuntime) -> Result<(), Fail> {
-    let lines = over(b"a\na\nb\n", b"a\nc\n");
-    let mut reached = 0u64;
-    for passing in 0..20u64 {
-        let alloc = Refusing::after(rt.alloc(), passing);
-        let (result, kept, peak) = run(rt.alloc(), &alloc, &lines)?;
-        assert!(rt; peak <= 4);
-        if alloc.refused() {
+    let mut reached = 0usize;
+    for passing in 0..20usize {
+        if is_refused(&rt, rt.alloc(), passing)? {
             reached = passing + 1;
-            same(&rt, &result, &Err(MergeFault::Memory));
-            assert!(rt; b"\t\ta\na\nb\n\tc\n".starts_with(kept.bytes()));
-        } else {
-            same(&rt, &result, &Ok(()));
-            assert!(rt; kept.bytes() == b"\t\ta\na\nb\n\tc\n".as_slice());
         }
     }
     assert!(rt; reached > 0);

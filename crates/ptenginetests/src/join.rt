@@ -1,6 +1,6 @@
 //! `join` over sources and sinks of the tests.
 
-use crate::comparing::same;
+use crate::merged::{ANY, Answer, Case, Left, TWO, Wanted, is_left};
 use ptfakes::{Kept, Pieces, Refusing};
 use ptlangs::jobs::JoinJob;
 use ptlangs::outlist::OutList;
@@ -10,35 +10,14 @@ use std::alloc::{Allocator, Global};
 use std::process::Abort;
 use std::test::Fail;
 
-// Two inputs and a sink: so many bytes a pull, how many pulls of each input pass, and what the sink takes.
-#[derive(Clone, Copy)]
-struct Case<'a> {
-    first: &'a [u8],
-    second: &'a [u8],
-    size: usize,
-    passing: [u64; 2],
-    room: usize,
-}
-
-fn over<'a>(first: &'a [u8], second: &'a [u8]) -> Case<'a> {
-    Case {
-        first,
-        second,
-        size: 2,
-        passing: [u64::MAX, u64::MAX],
-        room: usize::MAX,
-    }
-}
-
 type Reader<'a> = LineReader<Pieces<'a>, Pieces<'a>>;
 
-// What `join` answered, the sink, and the most that the store held.
 fn run<A: Allocator + Copy>(
     alloc: Global,
     lines: A,
     job: &JoinJob<A>,
     case: &Case<'_>,
-) -> Result<(Result<(), MergeFault>, Kept, u128), Fail> {
+) -> Result<Left, Fail> {
     let mut first: Reader<'_> = LineReader::standard(Pieces::new(
         case.first,
         case.size,
@@ -53,120 +32,278 @@ fn run<A: Allocator + Copy>(
     let mut out = Out::new(Kept::limited(alloc, usize::MAX, case.room, u64::MAX));
     let result = join(job, &mut first, &mut second, &mut store, &mut out);
     let _ = out.finish();
-    Ok((result, out.into_sink(), store.peak()))
+    Ok(Left {
+        result,
+        kept: out.into_sink(),
+        peak: store.peak(),
+    })
 }
 
-// In pieces of 1, of 7 and of all bytes.
+// Looks at what is left of a case, which goes by a name and a number.
 fn expect(
     rt: &impl Abort,
     alloc: Global,
-    job: &JoinJob,
-    first: &[u8],
-    second: &[u8],
-    expected: Result<(), MergeFault>,
-    bytes: &[u8],
+    of: (&str, usize),
+    (job, case): (&JoinJob, &Case<'_>),
+    wanted: &Wanted<'_>,
 ) -> Result<(), Fail> {
-    let mut case = over(first, second);
+    let left = run(alloc, alloc, job, case)?;
+    is_left(rt, of, &left, wanted);
+    Ok(())
+}
+
+// What a job is made of.
+#[derive(Clone, Copy)]
+struct Options {
+    pairs: bool,
+    unpaired: [bool; 2],
+    empty: &'static [u8],
+    list: Option<&'static [u8]>,
+    sep: Option<u8>,
+    field: [u64; 2],
+    zero: bool,
+    descending: bool,
+}
+
+// The job without options.
+const PLAIN: Options = Options {
+    pairs: true,
+    unpaired: [false, false],
+    empty: b"",
+    list: None,
+    sep: None,
+    field: [1, 1],
+    zero: false,
+    descending: false,
+};
+
+fn job_of(alloc: Global, options: &Options) -> Result<JoinJob, Fail> {
+    let mut job = JoinJob::new(alloc);
+    job.pairs = options.pairs;
+    job.unpaired = options.unpaired;
+    job.sep = options.sep;
+    job.field = options.field;
+    job.zero = options.zero;
+    job.descending = options.descending;
+    job.empty.extend_from_slice(options.empty)?;
+    if let Some(list) = options.list {
+        job.list = Some(OutList::read(alloc, list)?);
+    }
+    Ok(job)
+}
+
+// A name, what the job is made of, two inputs, what is answered, and what is written.
+type Pieced = (
+    &'static str,
+    Options,
+    [&'static [u8]; 2],
+    Answer,
+    &'static [u8],
+);
+
+struct Row {
+    name: &'static str,
+    options: Options,
+    case: Case<'static>,
+    wanted: Wanted<'static>,
+}
+
+const OK: Answer = Some(Ok(()));
+
+const FIRST_UNREAD: Answer = Some(Err(MergeFault::Read(Side::First)));
+
+const SECOND_UNREAD: Answer = Some(Err(MergeFault::Read(Side::Second)));
+
+const FIRST_DISORDER: Answer = Some(Err(MergeFault::Disorder(Side::First, 2)));
+
+const SECOND_DISORDER: Answer = Some(Err(MergeFault::Disorder(Side::Second, 2)));
+
+// Each in pieces of 1, of 7 and of all bytes.
+const IN_PIECES: &[Pieced] = &[
+    (
+        "pairs by the first input's line",
+        PLAIN,
+        [b"a 1\na 2\nc 9\n", b"a x\na y\nb z\n"],
+        OK,
+        b"a 1 x\na 1 y\na 2 x\na 2 y\n",
+    ),
+    (
+        "a list, and lines that pair with none",
+        Options {
+            unpaired: [false, true],
+            empty: b"-",
+            list: Some(b"0,1.2,2.2"),
+            ..PLAIN
+        },
+        [b"a 1\na 2\nc 9\n", b"a x\na y\nb z\n"],
+        OK,
+        b"a 1 x\na 1 y\na 2 x\na 2 y\nb - z\n",
+    ),
+    (
+        "empty fields between separators",
+        Options {
+            sep: Some(b','),
+            ..PLAIN
+        },
+        [b"a,1\n", b"a,\n"],
+        OK,
+        b"a,1,\n",
+    ),
+    (
+        "no pairs, with separators",
+        Options {
+            pairs: false,
+            unpaired: [true, false],
+            sep: Some(b','),
+            ..PLAIN
+        },
+        [b",1\nk\n", b"k,2\n"],
+        OK,
+        b",1\n",
+    ),
+    (
+        "another join field",
+        Options {
+            field: [2, 1],
+            ..PLAIN
+        },
+        [b"x a\ny b\n", b"a 1\nb 2\n"],
+        OK,
+        b"a x 1\nb y 2\n",
+    ),
+    (
+        "the greatest join field",
+        Options {
+            unpaired: [true, false],
+            field: [u64::MAX, 1],
+            ..PLAIN
+        },
+        [b"x y\n", b""],
+        OK,
+        b" x y\n",
+    ),
+    (
+        "lines that pair with none",
+        Options {
+            unpaired: [true, true],
+            ..PLAIN
+        },
+        [b"a 1\nc 3\n", b"b 2\nc 4\n"],
+        OK,
+        b"a 1\nb 2\nc 3 4\n",
+    ),
+    (
+        "a list of empty fields",
+        Options {
+            unpaired: [true, false],
+            empty: b"X",
+            list: Some(b"1.2,0,2.3"),
+            sep: Some(b':'),
+            ..PLAIN
+        },
+        [b"a:\nb:q\n", b"b:r\n"],
+        OK,
+        b"X:a:X\nq:b:X\n",
+    ),
+    (
+        "lines without the join field",
+        PLAIN,
+        [b"\na 1\n", b" \na 2\n"],
+        OK,
+        b"\na 1 2\n",
+    ),
+    (
+        "runs of blanks",
+        PLAIN,
+        [
+            b"a  1\t2\nlongerkeythan16bytes\tv  w\n",
+            b" a\tx\nlongerkeythan16bytes y z\n",
+        ],
+        OK,
+        b"a 1 2 x\nlongerkeythan16bytes v w y z\n",
+    ),
+    (
+        "a first input out of order",
+        PLAIN,
+        [b"b 1\na 2\n", b"a x\nb y\n"],
+        FIRST_DISORDER,
+        b"b 1 y\n",
+    ),
+    (
+        "a second input out of order",
+        PLAIN,
+        [b"a\n", b"b\na\n"],
+        SECOND_DISORDER,
+        b"",
+    ),
+    (
+        "lines that end with zero",
+        Options {
+            zero: true,
+            ..PLAIN
+        },
+        [b"a 1\nq\0", b"a x\0"],
+        OK,
+        b"a 1\nq x\0",
+    ),
+    (
+        "lines that end with zero in descending order",
+        Options {
+            zero: true,
+            descending: true,
+            ..PLAIN
+        },
+        [b"b 1\0a 2\0", b"b x\0a y\0"],
+        OK,
+        b"b 1 x\0a 2 y\0",
+    ),
+    (
+        "descending order with a separator",
+        Options {
+            unpaired: [true, false],
+            sep: Some(b','),
+            descending: true,
+            ..PLAIN
+        },
+        [b"k\n,1\n", b""],
+        OK,
+        b"k\n,1\n",
+    ),
+];
+
+// Two inputs, in pieces of 1, of 7 and of all bytes.
+fn expect_in_pieces(
+    rt: &impl Abort,
+    alloc: Global,
+    of: &str,
+    (job, first, second): (&JoinJob, &[u8], &[u8]),
+    (answer, bytes): (Answer, &[u8]),
+) -> Result<(), Fail> {
     for size in [1usize, 7, 4096] {
-        case.size = size;
-        let (result, kept, _peak) = run(alloc, alloc, job, &case)?;
-        same(rt, &result, &expected);
-        assert!(rt; kept.bytes() == bytes);
+        let case = Case {
+            first: &*first,
+            second: &*second,
+            size,
+            ..TWO
+        };
+        let wanted = Wanted {
+            result: answer,
+            bytes: Some(&*bytes),
+            ..ANY
+        };
+        expect(rt, alloc, (of, size), (job, &case), &wanted)?;
     }
     Ok(())
 }
 
 #[test]
-fn pairs_by_the_first_inputs_line(rt: HostRuntime) -> Result<(), Fail> {
-    let mut job = JoinJob::new(rt.alloc());
-    let pairs = b"a 1 x\na 1 y\na 2 x\na 2 y\n";
-    let first = b"a 1\na 2\nc 9\n";
-    let second = b"a x\na y\nb z\n";
-    expect(&rt, rt.alloc(), &job, first, second, Ok(()), pairs)?;
-    job.unpaired = [false, true];
-    job.empty.push(b'-')?;
-    job.list = Some(OutList::read(rt.alloc(), b"0,1.2,2.2")?);
-    let listed = b"a 1 x\na 1 y\na 2 x\na 2 y\nb - z\n";
-    expect(&rt, rt.alloc(), &job, first, second, Ok(()), listed)
-}
-
-#[test]
-fn empty_fields_between_separators(rt: HostRuntime) -> Result<(), Fail> {
-    let mut job = JoinJob::new(rt.alloc());
-    job.sep = Some(b',');
-    expect(&rt, rt.alloc(), &job, b"a,1\n", b"a,\n", Ok(()), b"a,1,\n")?;
-    job.pairs = false;
-    job.unpaired = [true, false];
-    expect(&rt, rt.alloc(), &job, b",1\nk\n", b"k,2\n", Ok(()), b",1\n")
-}
-
-#[test]
-fn another_join_field(rt: HostRuntime) -> Result<(), Fail> {
-    let mut job = JoinJob::new(rt.alloc());
-    job.field = [2, 1];
-    expect(
-        &rt,
-        rt.alloc(),
-        &job,
-        b"x a\ny b\n",
-        b"a 1\nb 2\n",
-        Ok(()),
-        b"a x 1\nb y 2\n",
-    )?;
-    job.field = [u64::MAX, 1];
-    job.unpaired = [true, false];
-    expect(&rt, rt.alloc(), &job, b"x y\n", b"", Ok(()), b" x y\n")
-}
-
-#[test]
-fn lines_that_pair_with_none(rt: HostRuntime) -> Result<(), Fail> {
-    let mut job = JoinJob::new(rt.alloc());
-    job.unpaired = [true, true];
-    expect(
-        &rt,
-        rt.alloc(),
-        &job,
-        b"a 1\nc 3\n",
-        b"b 2\nc 4\n",
-        Ok(()),
-        b"a 1\nb 2\nc 3 4\n",
-    )?;
-    job.sep = Some(b':');
-    job.unpaired = [true, false];
-    job.empty.push(b'X')?;
-    job.list = Some(OutList::read(rt.alloc(), b"1.2,0,2.3")?);
-    expect(
-        &rt,
-        rt.alloc(),
-        &job,
-        b"a:\nb:q\n",
-        b"b:r\n",
-        Ok(()),
-        b"X:a:X\nq:b:X\n",
-    )
-}
-
-#[test]
-fn lines_without_the_join_field(rt: HostRuntime) -> Result<(), Fail> {
-    let job = JoinJob::new(rt.alloc());
-    expect(
-        &rt,
-        rt.alloc(),
-        &job,
-        b"\na 1\n",
-        b" \na 2\n",
-        Ok(()),
-        b"\na 1 2\n",
-    )
-}
-
-#[test]
-fn runs_of_blanks(rt: HostRuntime) -> Result<(), Fail> {
-    let job = JoinJob::new(rt.alloc());
-    let first = b"a  1\t2\nlongerkeythan16bytes\tv  w\n";
-    let second = b" a\tx\nlongerkeythan16bytes y z\n";
-    let pairs = b"a 1 2 x\nlongerkeythan16bytes v w y z\n";
-    expect(&rt, rt.alloc(), &job, first, second, Ok(()), pairs)
+fn lines_of_two_inputs(rt: HostRuntime) -> Result<(), Fail> {
+    for (name, options, [first, second], result, bytes) in IN_PIECES {
+        let job = job_of(rt.alloc(), options)?;
+        let lines = (&job, *first, *second);
+        expect_in_pieces(&rt, rt.alloc(), name, lines, (*result, bytes))?;
+    }
+    Ok(())
 }
 
 // A line of so many words, with one space between each two, and a blank more behind the word at this place.
@@ -185,190 +322,284 @@ fn words(alloc: Global, count: usize, place: usize, blank: u8) -> Result<Vec<u8>
     Ok(line)
 }
 
+// A blank more behind the word at this place, in the first line and in the second.
+fn expect_tidy(
+    rt: &impl Abort,
+    alloc: Global,
+    job: &JoinJob,
+    (count, place): (usize, usize),
+    tidy: &[u8],
+) -> Result<(), Fail> {
+    let blank = if place < 4 { b'\t' } else { b' ' };
+    let more = words(alloc, count, place, blank)?;
+    let lines: (&JoinJob, &[u8], &[u8]) = (job, &more, b"k");
+    expect_in_pieces(rt, alloc, "a blank more in the first", lines, (OK, tidy))?;
+    let lines: (&JoinJob, &[u8], &[u8]) = (job, b"k", &more);
+    expect_in_pieces(rt, alloc, "a blank more in the second", lines, (OK, tidy))
+}
+
 #[test]
 fn a_blank_more_at_each_place(rt: HostRuntime) -> Result<(), Fail> {
     let job = JoinJob::new(rt.alloc());
     for count in [2usize, 3, 5, 6, 9, 10, 17, 18, 33, 34, 66] {
         let tidy = words(rt.alloc(), count, count, b' ')?;
         for place in 0..count {
-            let more = words(
-                rt.alloc(),
-                count,
-                place,
-                if place < 4 { b'\t' } else { b' ' },
-            )?;
-            expect(&rt, rt.alloc(), &job, &more, b"k", Ok(()), &tidy)?;
-            expect(&rt, rt.alloc(), &job, b"k", &more, Ok(()), &tidy)?;
+            expect_tidy(&rt, rt.alloc(), &job, (count, place), &tidy)?;
         }
     }
     Ok(())
 }
 
-#[test]
-fn inputs_out_of_order(rt: HostRuntime) -> Result<(), Fail> {
-    let job = JoinJob::new(rt.alloc());
-    let first = Err(MergeFault::Disorder(Side::First, 2));
-    expect(
-        &rt,
-        rt.alloc(),
-        &job,
-        b"b 1\na 2\n",
-        b"a x\nb y\n",
-        first,
-        b"b 1 y\n",
-    )?;
-    let second = Err(MergeFault::Disorder(Side::Second, 2));
-    expect(&rt, rt.alloc(), &job, b"a\n", b"b\na\n", second, b"")
-}
+const PULLS: &[Row] = &[
+    // Nothing is read behind a line out of order. One pull fewer, and a read fails: so many are needed, and no more are
+    // made.
+    Row {
+        name: "enough pulls for a disorder of the first",
+        options: PLAIN,
+        case: Case {
+            first: b"b\na\nc\n",
+            second: b"a\nb\nc\nd\n",
+            passing: [2, 3],
+            ..TWO
+        },
+        wanted: Wanted {
+            result: FIRST_DISORDER,
+            bytes: Some(b"b\n"),
+            ..ANY
+        },
+    },
+    Row {
+        name: "one pull fewer for a disorder of the first",
+        options: PLAIN,
+        case: Case {
+            first: b"b\na\nc\n",
+            second: b"a\nb\nc\nd\n",
+            passing: [2, 2],
+            ..TWO
+        },
+        wanted: Wanted {
+            result: SECOND_UNREAD,
+            ..ANY
+        },
+    },
+    Row {
+        name: "enough pulls for a disorder of the second",
+        options: PLAIN,
+        case: Case {
+            first: b"a\nb\nc\nd\n",
+            second: b"b\na\nc\n",
+            passing: [3, 2],
+            ..TWO
+        },
+        wanted: Wanted {
+            result: SECOND_DISORDER,
+            bytes: Some(b"b\n"),
+            ..ANY
+        },
+    },
+    Row {
+        name: "one pull fewer for a disorder of the second",
+        options: PLAIN,
+        case: Case {
+            first: b"a\nb\nc\nd\n",
+            second: b"b\na\nc\n",
+            passing: [2, 2],
+            ..TWO
+        },
+        wanted: Wanted {
+            result: FIRST_UNREAD,
+            ..ANY
+        },
+    },
+    // What is staged is put before each pull: between groups, while a group is gathered, and behind its pairs.
+    Row {
+        name: "sent between groups",
+        options: Options {
+            unpaired: [true, true],
+            ..PLAIN
+        },
+        case: Case {
+            first: b"a\nc\n",
+            second: b"b\nd\n",
+            ..TWO
+        },
+        wanted: Wanted {
+            result: OK,
+            calls: Some(5),
+            ..ANY
+        },
+    },
+    Row {
+        name: "sent before the ends are asked for",
+        options: Options {
+            unpaired: [true, true],
+            ..PLAIN
+        },
+        case: Case {
+            first: b"a\nc\n",
+            second: b"b\nd\n",
+            size: usize::MAX,
+            ..TWO
+        },
+        wanted: Wanted {
+            result: OK,
+            calls: Some(3),
+            ..ANY
+        },
+    },
+    Row {
+        name: "sent while a group is gathered",
+        options: Options {
+            unpaired: [true, true],
+            ..PLAIN
+        },
+        case: Case {
+            first: b"a\nb\n",
+            second: b"b 2\n",
+            size: 4,
+            ..TWO
+        },
+        wanted: Wanted {
+            result: OK,
+            calls: Some(3),
+            ..ANY
+        },
+    },
+    Row {
+        name: "sent behind the pairs",
+        options: Options {
+            unpaired: [true, true],
+            ..PLAIN
+        },
+        case: Case {
+            first: b"a 1\nc 1\n",
+            second: b"a 2\nd\n",
+            size: 4,
+            ..TWO
+        },
+        wanted: Wanted {
+            result: OK,
+            calls: Some(4),
+            ..ANY
+        },
+    },
+    // The bytes of four lines, and of the greatest group of the second input, which is the first one.
+    Row {
+        name: "a group is kept until its last pair",
+        options: PLAIN,
+        case: Case {
+            first: b"a 1\na 2\nb 3\nc 4\n",
+            second: b"a x\na y\na z\nb u\nc v\nc w\n",
+            ..TWO
+        },
+        wanted: Wanted {
+            result: OK,
+            bytes: Some(b"a 1 x\na 1 y\na 1 z\na 2 x\na 2 y\na 2 z\nb 3 u\nc 4 v\nc 4 w\n"),
+            peak: (0, 2 * 3 + 2 * 3 + 9),
+            ..ANY
+        },
+    },
+    // The bytes of four lines: a line that is the only one of its key is not copied.
+    Row {
+        name: "a line alone of its key is kept once",
+        options: PLAIN,
+        case: Case {
+            first: b"a 1\nb 2\nc 3\n",
+            second: b"a x\nb y\nc z\n",
+            ..TWO
+        },
+        wanted: Wanted {
+            result: OK,
+            bytes: Some(b"a 1 x\nb 2 y\nc 3 z\n"),
+            peak: (4 * 3, 4 * 3),
+            ..ANY
+        },
+    },
+    Row {
+        name: "a read that fails",
+        options: Options {
+            unpaired: [true, true],
+            ..PLAIN
+        },
+        case: Case {
+            first: b"a\nc\n",
+            second: b"b\n",
+            passing: [u64::MAX, 1],
+            ..TWO
+        },
+        wanted: Wanted {
+            result: SECOND_UNREAD,
+            bytes: Some(b"a\nb\n"),
+            ..ANY
+        },
+    },
+];
 
-// One pull fewer, and a read fails: so many are needed, and no more are made.
 #[test]
-fn nothing_is_read_behind_a_line_out_of_order(rt: HostRuntime) -> Result<(), Fail> {
-    let job = JoinJob::new(rt.alloc());
-    let mut lines = over(b"b\na\nc\n", b"a\nb\nc\nd\n");
-    lines.passing = [2, 3];
-    let (result, kept, _peak) = run(rt.alloc(), rt.alloc(), &job, &lines)?;
-    same(&rt, &result, &Err(MergeFault::Disorder(Side::First, 2)));
-    assert!(rt; kept.bytes() == b"b\n".as_slice());
-    lines.passing = [2, 2];
-    let (result, _kept, _peak) = run(rt.alloc(), rt.alloc(), &job, &lines)?;
-    same(&rt, &result, &Err(MergeFault::Read(Side::Second)));
-    let mut lines = over(b"a\nb\nc\nd\n", b"b\na\nc\n");
-    lines.passing = [3, 2];
-    let (result, kept, _peak) = run(rt.alloc(), rt.alloc(), &job, &lines)?;
-    same(&rt, &result, &Err(MergeFault::Disorder(Side::Second, 2)));
-    assert!(rt; kept.bytes() == b"b\n".as_slice());
-    lines.passing = [2, 2];
-    let (result, _kept, _peak) = run(rt.alloc(), rt.alloc(), &job, &lines)?;
-    same(&rt, &result, &Err(MergeFault::Read(Side::First)));
+fn pulls_and_calls_and_what_is_kept(rt: HostRuntime) -> Result<(), Fail> {
+    for row in PULLS {
+        let job = job_of(rt.alloc(), &row.options)?;
+        expect(
+            &rt,
+            rt.alloc(),
+            (row.name, 0),
+            (&job, &row.case),
+            &row.wanted,
+        )?;
+    }
     Ok(())
 }
 
-// How many calls of the sink there were: each put, and the flush at the end.
-fn calls(rt: &impl Abort, alloc: Global, job: &JoinJob, case: &Case<'_>) -> Result<u64, Fail> {
-    let (result, kept, _peak) = run(alloc, alloc, job, case)?;
-    same(rt, &result, &Ok(()));
-    Ok(kept.calls())
-}
-
-// What is staged is put before each pull: between groups, while a group is gathered, and behind its pairs.
-#[test]
-fn what_is_staged_is_sent_before_a_read(rt: HostRuntime) -> Result<(), Fail> {
-    let mut job = JoinJob::new(rt.alloc());
-    job.unpaired = [true, true];
-    let mut turns = over(b"a\nc\n", b"b\nd\n");
-    same(&rt, &calls(&rt, rt.alloc(), &job, &turns)?, &5);
-    turns.size = usize::MAX;
-    same(&rt, &calls(&rt, rt.alloc(), &job, &turns)?, &3);
-    let mut gathers = over(b"a\nb\n", b"b 2\n");
-    gathers.size = 4;
-    same(&rt, &calls(&rt, rt.alloc(), &job, &gathers)?, &3);
-    let mut pairs = over(b"a 1\nc 1\n", b"a 2\nd\n");
-    pairs.size = 4;
-    same(&rt, &calls(&rt, rt.alloc(), &job, &pairs)?, &4);
+fn expect_long(rt: &impl Abort, alloc: Global, long: &[u8], line: &[u8]) -> Result<(), Fail> {
+    let job = JoinJob::new(alloc);
+    for (room, result) in [
+        (usize::MAX, FIRST_UNREAD),
+        (0, Some(Err(MergeFault::Write))),
+    ] {
+        let case = Case {
+            first: &*long,
+            second: &*line,
+            size: usize::MAX,
+            passing: [2, 3],
+            room,
+        };
+        let wanted = Wanted { result, ..ANY };
+        expect(rt, alloc, ("a long line", room), (&job, &case), &wanted)?;
+    }
     Ok(())
 }
 
 // Two lines of 9000 bytes in pulls of 8192: a third pull is made for the second line alone.
 #[test]
 fn nothing_is_read_behind_a_failed_write(rt: HostRuntime) -> Result<(), Fail> {
-    let job = JoinJob::new(rt.alloc());
     let mut long = vec![in rt.alloc(); b'a'; 18002]?;
     long[9000] = b'\n';
     long[18001] = b'\n';
     let mut line = vec![in rt.alloc(); b'a'; 9001]?;
     line[9000] = b'\n';
-    let mut lines = over(&long, &line);
-    lines.size = usize::MAX;
-    lines.passing = [2, 3];
-    let (result, _kept, _peak) = run(rt.alloc(), rt.alloc(), &job, &lines)?;
-    same(&rt, &result, &Err(MergeFault::Read(Side::First)));
-    lines.room = 0;
-    let (result, _kept, _peak) = run(rt.alloc(), rt.alloc(), &job, &lines)?;
-    same(&rt, &result, &Err(MergeFault::Write));
-    Ok(())
+    expect_long(&rt, rt.alloc(), &long, &line)
 }
 
-#[test]
-fn lines_that_end_with_zero_in_descending_order(rt: HostRuntime) -> Result<(), Fail> {
-    let mut job = JoinJob::new(rt.alloc());
-    job.zero = true;
-    expect(
-        &rt,
-        rt.alloc(),
-        &job,
-        b"a 1\nq\0",
-        b"a x\0",
-        Ok(()),
-        b"a 1\nq x\0",
-    )?;
-    job.descending = true;
-    expect(
-        &rt,
-        rt.alloc(),
-        &job,
-        b"b 1\0a 2\0",
-        b"b x\0a y\0",
-        Ok(()),
-        b"b 1 x\0a 2 y\0",
-    )?;
-    job.zero = false;
-    job.sep = Some(b',');
-    job.unpaired = [true, false];
-    expect(&rt, rt.alloc(), &job, b"k\n,1\n", b"", Ok(()), b"k\n,1\n")
-}
-
-// The bytes of four lines, and of the greatest group of the second input, which is the first one.
-#[test]
-fn a_group_is_kept_until_its_last_pair(rt: HostRuntime) -> Result<(), Fail> {
-    let job = JoinJob::new(rt.alloc());
-    let case = over(b"a 1\na 2\nb 3\nc 4\n", b"a x\na y\na z\nb u\nc v\nc w\n");
-    let (result, kept, peak) = run(rt.alloc(), rt.alloc(), &job, &case)?;
-    same(&rt, &result, &Ok(()));
-    let pairs = b"a 1 x\na 1 y\na 1 z\na 2 x\na 2 y\na 2 z\nb 3 u\nc 4 v\nc 4 w\n";
-    assert!(rt; kept.bytes() == pairs.as_slice());
-    assert!(rt; peak <= 2 * 3 + 2 * 3 + 9);
-    Ok(())
-}
-
-// The bytes of four lines: a line that is the only one of its key is not copied.
-#[test]
-fn a_line_alone_of_its_key_is_kept_once(rt: HostRuntime) -> Result<(), Fail> {
-    let job = JoinJob::new(rt.alloc());
-    let case = over(b"a 1\nb 2\nc 3\n", b"a x\nb y\nc z\n");
-    let (result, kept, peak) = run(rt.alloc(), rt.alloc(), &job, &case)?;
-    same(&rt, &result, &Ok(()));
-    assert!(rt; kept.bytes() == b"a 1 x\nb 2 y\nc 3 z\n".as_slice());
-    assert!(rt; peak == 4 * 3);
-    Ok(())
-}
-
-#[test]
-fn a_read_that_fails(rt: HostRuntime) -> Result<(), Fail> {
-    let mut job = JoinJob::new(rt.alloc());
-    job.unpaired = [true, true];
-    let mut case = over(b"a\nc\n", b"b\n");
-    case.passing = [u64::MAX, 1];
-    let (result, kept, _peak) = run(rt.alloc(), rt.alloc(), &job, &case)?;
-    same(&rt, &result, &Err(MergeFault::Read(Side::Second)));
-    assert!(rt; kept.bytes() == b"a\nb\n".as_slice());
-    Ok(())
-}
-
-const FIRST: &[u8] = b"a 1\na 2\nc 9\n";
-
-const SECOND: &[u8] = b"a x\na y\na z\nb w\n";
+const PAIRED: Case = Case {
+    first: b"a 1\na 2\nc 9\n",
+    second: b"a x\na y\na z\nb w\n",
+    ..TWO
+};
 
 const PAIRS: &[u8] = b"a 1 x\na 1 y\na 1 z\na 2 x\na 2 y\na 2 z\n";
+
+const BEGINNING: Wanted = Wanted {
+    bytes: Some(PAIRS),
+    whole: false,
+    ..ANY
+};
 
 #[test]
 fn each_write_fails_in_turn(rt: HostRuntime) -> Result<(), Fail> {
     let job = JoinJob::new(rt.alloc());
-    let mut case = over(FIRST, SECOND);
     for room in 0..36usize {
-        case.room = room;
-        let (_result, kept, _peak) = run(rt.alloc(), rt.alloc(), &job, &case)?;
-        assert!(rt; PAIRS.starts_with(kept.bytes()));
+        let case = Case { room, ..PAIRED };
+        expect(&rt, rt.alloc(), ("room", room), (&job, &case), &BEGINNING)?;
     }
     Ok(())
 }
@@ -376,33 +607,47 @@ fn each_write_fails_in_turn(rt: HostRuntime) -> Result<(), Fail> {
 #[test]
 fn each_read_fails_in_turn(rt: HostRuntime) -> Result<(), Fail> {
     let job = JoinJob::new(rt.alloc());
-    let mut case = over(FIRST, SECOND);
-    case.size = 1;
-    for passing in 0..16u64 {
-        case.passing = [u64::MAX, passing];
-        let (result, kept, _peak) = run(rt.alloc(), rt.alloc(), &job, &case)?;
-        assert!(rt; PAIRS.starts_with(kept.bytes()));
-        same(&rt, &result, &Err(MergeFault::Read(Side::Second)));
+    for passing in 0..16usize {
+        let case = Case {
+            size: 1,
+            passing: [u64::MAX, passing as u64],
+            ..PAIRED
+        };
+        let wanted = Wanted {
+            result: SECOND_UNREAD,
+            ..BEGINNING
+        };
+        expect(&rt, rt.alloc(), ("reads", passing), (&job, &case), &wanted)?;
     }
     Ok(())
 }
 
+// Refuses the growth behind so many, and says whether there was such a one.
+fn is_refused(rt: &impl Abort, own: Global, passing: usize) -> Result<bool, Fail> {
+    let alloc = Refusing::after(own, passing as u64);
+    let left = run(own, &alloc, &JoinJob::new(&alloc), &PAIRED)?;
+    let refused = alloc.refused();
+    let wanted = Wanted {
+        result: if refused {
+            Some(Err(MergeFault::Memory))
+        } else {
+            OK
+        },
+        bytes: Some(PAIRS),
+        whole: !refused,
+        calls: None,
+        peak: (0, 21),
+    };
+    is_left(rt, ("growths", passing), &left, &wanted);
+    Ok(refused)
+}
+
 #[test]
 fn each_growth_refused_in_turn(rt: HostRuntime) -> Result<(), Fail> {
-    let case = over(FIRST, SECOND);
-    let mut reached = 0u64;
-    for passing in 0..40u64 {
-        let alloc = Refusing::after(rt.alloc(), passing);
-        let job = JoinJob::new(&alloc);
-        let (result, kept, peak) = run(rt.alloc(), &alloc, &job, &case)?;
-        assert!(rt; peak <= 21);
-        if alloc.refused() {
+    let mut reached = 0usize;
+    for passing in 0..40usize {
+        if is_refused(&rt, rt.alloc(), passing)? {
             reached = passing + 1;
-            same(&rt, &result, &Err(MergeFault::Memory));
-            assert!(rt; PAIRS.starts_with(kept.bytes()));
-        } else {
-            same(&rt, &result, &Ok(()));
-            assert!(rt; kept.bytes() == PAIRS);
         }
     }
     assert!(rt; reached > 0);

@@ -10,6 +10,8 @@ mod join;
 #[cfg(test)]
 mod lengths;
 #[cfg(test)]
+mod merged;
+#[cfg(test)]
 mod orders;
 #[cfg(test)]
 mod pasting;

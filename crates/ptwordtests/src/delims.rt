@@ -1,6 +1,6 @@
 //! Lists of `paste`.
 
-use crate::comparing::same;
+use crate::comparing::{same, same_of};
 use ptfakes::Refusing;
 use ptlangs::delims::{DelimFault, Delims};
 use std::process::Abort;
@@ -39,8 +39,10 @@ fn keeps_the_delimiters(rt: HostRuntime) -> Result<(), Fail> {
 
 // The delimiters are these, and then these again.
 fn has_twice(rt: &impl Abort, read: &Delims, delims: &[Option<u8>]) {
-    for (column, delim) in delims.iter().chain(delims.iter()).enumerate() {
+    for (column, delim) in delims.iter().enumerate() {
+        let again = column.saturating_add(delims.len());
         same(rt, &read.at(column as u64), delim);
+        same(rt, &read.at(again as u64), delim);
     }
 }
 
@@ -53,43 +55,43 @@ fn refuses_by_the_first_faulty_element(rt: HostRuntime) {
     }
 }
 
+// A place, and the delimiter there.
+type Place = (u64, Option<u8>);
+
+fn has_at(rt: &impl Abort, delims: &Delims, places: &[Place]) {
+    for (place, delim) in places {
+        same_of(rt, place, &delims.at(*place), delim);
+    }
+}
+
+const THREE: &[Place] = &[
+    (0, None),
+    (1, Some(b',')),
+    (2, Some(b';')),
+    (3, None),
+    (4, Some(b',')),
+    (u64::MAX, None),
+];
+
+fn has_three(rt: &impl Abort, delims: &Delims) {
+    same(rt, &delims.count(), &3);
+    same(rt, &delims.as_slice().len(), &3);
+    assert!(rt; delims.as_slice().contains(&Some(b';')));
+    has_at(rt, delims, THREE);
+}
+
 #[test]
 fn begins_again_behind_the_last(rt: HostRuntime) -> Result<(), Fail> {
     let delims = Delims::read(rt.alloc(), b"\\0,;")?;
-    same(&rt, &delims.count(), &3);
-    same(&rt, &delims.as_slice().len(), &3);
-    same(&rt, &delims.as_slice().contains(&Some(b';')), &true);
-    same(&rt, &delims.at(0), &None);
-    same(&rt, &delims.at(1), &Some(b','));
-    same(&rt, &delims.at(2), &Some(b';'));
-    same(&rt, &delims.at(3), &None);
-    same(&rt, &delims.at(4), &Some(b','));
-    same(&rt, &delims.at(u64::MAX), &None);
+    has_three(&rt, &delims);
     Ok(())
 }
 
 #[test]
 fn is_a_tab_by_default(rt: HostRuntime) -> Result<(), Fail> {
     let delims = Delims::tab(rt.alloc())?;
-    same(&rt, &delims.at(0), &Some(b'\t'));
-    same(&rt, &delims.at(7), &Some(b'\t'));
+    has_at(&rt, &delims, &[(0, Some(b'\t')), (7, Some(b'\t'))]);
     Ok(())
-}
-
-#[test]
-fn each_growth_refused_in_turn(rt: HostRuntime) {
-    let mut refused = 0u64;
-    for passed in 0..8u64 {
-        let alloc = Refusing::after(rt.alloc(), passed);
-        match Delims::read(&alloc, b"abcdefghi") {
-            Ok(delims) => same(&rt, &delims.at(8), &Some(b'i')),
-            Err(fault) => {
-                same(&rt, &fault, &DelimFault::Memory);
-                refused = refused.wrapping_add(1);
-            }
-        }
-    }
-    same(&rt, &refused, &3);
 }
 
 #[test]

@@ -3,6 +3,7 @@
 use crate::comparing::same;
 use ptfakes::Refusing;
 use ptlangs::jobs::{CommJob, JoinJob, PasteJob, Show, UniqJob};
+use std::process::Abort;
 use std::test::Fail;
 
 #[test]
@@ -19,16 +20,19 @@ fn the_default_of_paste_refused(rt: HostRuntime) {
     assert!(rt; PasteJob::new(&alloc).is_err());
 }
 
-#[test]
-fn joins_pairs_by_their_first_fields_by_default(rt: HostRuntime) {
-    let job = JoinJob::new(rt.alloc());
+fn joins_pairs(rt: &impl Abort, job: &JoinJob) {
     assert!(rt; job.pairs);
-    same(&rt, &job.unpaired, &[false, false]);
+    same(rt, &job.unpaired, &[false, false]);
     assert!(rt; job.empty.is_empty());
     assert!(rt; job.list.is_none());
-    same(&rt, &job.sep, &None);
-    same(&rt, &job.field, &[1, 1]);
+    same(rt, &job.sep, &None);
+    same(rt, &job.field, &[1, 1]);
     assert!(rt; !job.zero && !job.descending);
+}
+
+#[test]
+fn joins_pairs_by_their_first_fields_by_default(rt: HostRuntime) {
+    joins_pairs(&rt, &JoinJob::new(rt.alloc()));
 }
 
 #[test]

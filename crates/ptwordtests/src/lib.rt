@@ -6,6 +6,8 @@ mod comparing;
 #[cfg(test)]
 mod delims;
 #[cfg(test)]
+mod growths;
+#[cfg(test)]
 mod jobs;
 #[cfg(test)]
 mod meant;

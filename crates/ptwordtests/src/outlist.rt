@@ -1,8 +1,9 @@
 //! Output lists of `join`.
 
-use crate::comparing::same;
+use crate::comparing::{same, same_of};
 use ptfakes::Refusing;
 use ptlangs::outlist::{File, OutFault, OutField, OutList};
+use std::process::Abort;
 use std::test::Fail;
 
 const ACCEPTED: &[(&[u8], &[OutField])] = &[
@@ -61,36 +62,28 @@ fn refuses_by_the_first_faulty_element(rt: HostRuntime) {
     // The first growth would be refused: no list with a fault asks for one.
     let alloc = Refusing::after(rt.alloc(), 0);
     for (list, fault) in REFUSED {
-        match OutList::read(&alloc, list) {
-            Ok(_) => assert!(rt; false),
-            Err(found) => same(&rt, &found, fault),
-        }
+        same(&rt, &OutList::read(&alloc, list).err(), &Some(*fault));
+    }
+}
+
+// A place, and the field there.
+const AT: &[(usize, Option<(u8, u64)>)] = &[
+    (0, Some((0, 0))),
+    (1, Some((1, 2))),
+    (2, Some((2, 3))),
+    (3, None),
+    (usize::MAX, None),
+];
+
+fn has_at(rt: &impl Abort, list: &OutList) {
+    for (place, field) in AT {
+        same_of(rt, place, &list.at(*place), field);
     }
 }
 
 #[test]
 fn tells_the_fields_as_numbers(rt: HostRuntime) -> Result<(), Fail> {
     let list = OutList::read(rt.alloc(), b"0,1.2,2.3")?;
-    same(&rt, &list.at(0), &Some((0, 0)));
-    same(&rt, &list.at(1), &Some((1, 2)));
-    same(&rt, &list.at(2), &Some((2, 3)));
-    same(&rt, &list.at(3), &None);
-    same(&rt, &list.at(usize::MAX), &None);
+    has_at(&rt, &list);
     Ok(())
-}
-
-#[test]
-fn each_growth_refused_in_turn(rt: HostRuntime) {
-    let mut refused = 0u64;
-    for passed in 0..8u64 {
-        let alloc = Refusing::after(rt.alloc(), passed);
-        match OutList::read(&alloc, b"0,1.1,1.2,1.3,2.1,2.2") {
-            Ok(list) => same(&rt, &list.at(5), &Some((2, 2))),
-            Err(fault) => {
-                same(&rt, &fault, &OutFault::Memory);
-                refused = refused.wrapping_add(1);
-            }
-        }
-    }
-    same(&rt, &refused, &2);
 }

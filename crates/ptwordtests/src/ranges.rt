@@ -1,8 +1,9 @@
 //! Lists of `cut`.
 
-use crate::comparing::same;
+use crate::comparing::{same, same_of};
 use ptfakes::Refusing;
 use ptlangs::ranges::{Interval, ListFault, Ranges};
+use std::process::Abort;
 use std::test::Fail;
 
 struct Accepted {
@@ -113,36 +114,27 @@ fn refuses_by_the_first_faulty_element(rt: HostRuntime) {
     // The first growth would be refused: no list with a fault asks for one.
     let alloc = Refusing::after(rt.alloc(), 0);
     for (list, fault) in REFUSED {
-        match Ranges::read(&alloc, list) {
-            Ok(_) => assert!(rt; false),
-            Err(found) => same(&rt, &found, fault),
-        }
+        same(&rt, &Ranges::read(&alloc, list).err(), &Some(*fault));
+    }
+}
+
+const NUMBERS: &[(u64, bool)] = &[
+    (1, true),
+    (2, false),
+    (3, true),
+    (u64::MAX, true),
+    (0, false),
+];
+
+fn selects(rt: &impl Abort, ranges: &Ranges) {
+    for (number, selected) in NUMBERS {
+        same_of(rt, number, &ranges.contains(*number), selected);
     }
 }
 
 #[test]
 fn tells_selected_numbers(rt: HostRuntime) -> Result<(), Fail> {
     let ranges = Ranges::read(rt.alloc(), b"3-,1")?;
-    assert!(rt; ranges.contains(1));
-    assert!(rt; !ranges.contains(2));
-    assert!(rt; ranges.contains(3));
-    assert!(rt; ranges.contains(u64::MAX));
-    assert!(rt; !ranges.contains(0));
+    selects(&rt, &ranges);
     Ok(())
-}
-
-#[test]
-fn each_growth_refused_in_turn(rt: HostRuntime) {
-    let mut refused = 0u64;
-    for passed in 0..8u64 {
-        let alloc = Refusing::after(rt.alloc(), passed);
-        match Ranges::read(&alloc, b"1,3,5,7,9,11") {
-            Ok(ranges) => assert!(rt; ranges.contains(11)),
-            Err(fault) => {
-                same(&rt, &fault, &ListFault::Memory);
-                refused = refused.wrapping_add(1);
-            }
-        }
-    }
-    same(&rt, &refused, &4);
 }

@@ -1,6 +1,6 @@
 //! Worked strings of `tr`.
 
-use crate::comparing::holds_of;
+use crate::comparing::{holds_of, same_of};
 use ptlangs::{
     CharPlan, Form, SetFault, SetFaultKind, SetString, parts_are_of_the_grammar,
     tables_hold_the_plan,
@@ -407,38 +407,43 @@ fn classes_are_of_ascii(rt: HostRuntime) {
     }
 }
 
-// The first bytes, the last bytes and the shifts of the stretches of a plan, one after another; none where there are
-// too many.
-fn stretches_of(alloc: Global, s1: &str, s2: &str) -> Result<Option<Vec<u8>>, Fail> {
-    let plan = CharPlan::read(Form::Translate, false, s1.as_bytes(), Some(s2.as_bytes()))?;
-    let Some(shifts) = plan.shifts() else {
-        return Ok(None);
-    };
-    let mut told = Vec::new(alloc);
-    for place in 0..5 {
-        if let Some((first, last, by)) = shifts.stretch(place) {
-            told.extend_from_slice(&[first, last, by])?;
+// The first byte, the last byte and the shift of a stretch.
+type Stretch = (u8, u8, u8);
+
+// Two strings, and the stretches of their plan in turn; none where there are too many.
+const STRETCHES: &[(&str, &str, Option<&[Stretch]>)] = &[
+    ("a-z", "A-Z", Some(&[(97, 122, 224)])),
+    (
+        "abc",
+        "x",
+        Some(&[(97, 97, 23), (98, 98, 22), (99, 99, 21)]),
+    ),
+    (
+        "a-zA-Z",
+        "n-za-mN-ZA-M",
+        Some(&[(65, 77, 13), (78, 90, 243), (97, 109, 13), (110, 122, 243)]),
+    ),
+    ("ab", "ab", Some(&[])),
+    ("acegi", "12345", None),
+];
+
+// A plan has these stretches and no more.
+fn has_stretches(rt: &impl Abort, s1: &str, plan: &CharPlan, wanted: Option<&[Stretch]>) {
+    let shifts = plan.shifts();
+    holds_of(rt, &s1, shifts.is_some() == wanted.is_some());
+    if let (Some(shifts), Some(wanted)) = (shifts, wanted) {
+        for place in 0..5 {
+            same_of(rt, &s1, &shifts.stretch(place), &wanted.get(place).copied());
         }
     }
-    Ok(Some(told))
 }
 
 #[test]
 fn plans_are_stretches(rt: HostRuntime) -> Result<(), Fail> {
-    for (s1, s2, wanted) in [
-        ("a-z", "A-Z", [97, 122, 224].as_slice()),
-        ("abc", "x", &[97, 97, 23, 98, 98, 22, 99, 99, 21]),
-        (
-            "a-zA-Z",
-            "n-za-mN-ZA-M",
-            &[65, 77, 13, 78, 90, 243, 97, 109, 13, 110, 122, 243],
-        ),
-        ("ab", "ab", &[]),
-    ] {
-        let told = stretches_of(rt.alloc(), s1, s2)?;
-        assert!(rt; told.is_some_and(|told| told.as_slice() == wanted), "{s1}");
+    for (s1, s2, wanted) in STRETCHES {
+        let plan = CharPlan::read(Form::Translate, false, s1.as_bytes(), Some(s2.as_bytes()))?;
+        has_stretches(&rt, s1, &plan, *wanted);
     }
-    assert!(rt; stretches_of(rt.alloc(), "acegi", "12345")?.is_none());
     Ok(())
 }
 
