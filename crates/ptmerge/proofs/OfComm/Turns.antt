@@ -90,11 +90,7 @@ module _ (job : Comm) {cmp : Cmp} {key : Side → Key} {old : State} (w : IsOpen
   pub start_stops : {new1 new2 : Reader} {after : Slots} {fault : MergeFault} {r : Result (Unit {0}) MergeFault} → r ≡ Err fault
       → CannotStart key cmp (record { reader = old.reader; store = old.store }) (record { reader = both new1 new2; store = after }) fault
       → Leaves (comm_by job cmp key) old (seen new1 new2 old.out after) r
-  start_stops {new1} {new2} {after} {fault} is h = rw is (record {
-    merged = starts_badly w h;
-    refused = start_refused w h;
-    slots = start_slots w h;
-  })
+  start_stops {new1} {new2} {after} {fault} is h = rw is (record { merged = starts_badly w h; refused = start_refused w h; slots = start_slots w h })
 
   pub starts : ((side : Side) (x : List ℕ) → key side x ≡ x) → {first second : Reader} {store : Slots} {one two : Sorted}
       → Starts key cmp (both one two) (record { reader = old.reader; store = old.store }) (inputs first second store)
@@ -123,11 +119,7 @@ module _ {job : Comm} {cmp : Cmp} {key : Side → Key} {old now : State} {one tw
   head s = line now.store (both one two s).standing
 
   leaves : {new : State} {r : Result (Unit {0}) MergeFault} → length new.store.lines ≡ length now.store.lines → IsMerge tool old new r → Leaves tool old new r
-  leaves same merged = record {
-    merged = merged;
-    refused = λ few. absurd (omega (arith, few, same, placed.slots));
-    slots = adds_of (same ∙ keeps.slots);
-  }
+  leaves same merged = record { merged = merged; refused = λ few. absurd (omega (arith, few, same, placed.slots)); slots = adds_of (same ∙ keeps.slots) }
 
   pub stands_at : (s : Side) → (both one two s).stand ≡ Head → StandsAt key s one two (now.reader s) now.store now.out
   stands_at s head = record { placed = placed; head = head; lent = lent s; clean = clean }
@@ -160,19 +152,13 @@ module _ {job : Comm} {cmp : Cmp} {key : Side → Key} {old now : State} {one tw
 
       pub alone_stops : {reader : Reader} {after : Slots} {fault : MergeFault} {r : Result (Unit {0}) MergeFault} → r ≡ Err fault
           → CannotPass s (both one two s) (now.reader s) reader now.store after new fault → Leaves tool old (state (put s reader now.reader) new after) r
-      alone_stops {fault = fault} is h = rw is
-          (leaves (passes_slots (key s) cmp s (both one two s) (both one two s) _ _ _ _ _ fault h)
+      alone_stops {fault = fault} is h = rw is (leaves (passes_slots (key s) cmp s (both one two s) (both one two s) _ _ _ _ _ fault h)
           (turn_stops w stood s step.stands passed_one (put_same s (ls s) p) (rw (put_other s (ls s) p) (standing w stood (other s))) h))
 
   -- a line that both inputs have: the first one went on, and the second one stands at it
   pub second_stands : AreEqual cmp key (both one two) now.store → {one2 two2 : Sorted} {reader : Reader} {after : Slots} {mid : Output}
       → HasPassed key cmp First one two one2 two2 (now.reader First) reader now.store after mid → StandsAt key Second one2 two2 (now.reader Second) after mid
-  second_stands step h = record {
-    placed = h.on.placed;
-    head = ap (λ (q : Sorted). q.stand) h.on.others ∙ step.second;
-    lent = rw h.on.others (lent Second);
-    clean = h.on.clean;
-  }
+  second_stands step h = record { placed = h.on.placed; head = ap (λ (q : Sorted). q.stand) h.on.others ∙ step.second; lent = rw h.on.others (lent Second); clean = h.on.clean }
 
   module _ (step : AreEqual cmp key (both one two) now.store) where
     pub pair_less : {one2 two2 one3 two3 : Sorted} {reader reader2 : Reader} {after last : Slots} {mid new : Output}
@@ -204,8 +190,7 @@ module _ {job : Comm} {cmp : Cmp} {key : Side → Key} {old now : State} {one tw
 
       pub pair_stops : {reader : Reader} {after : Slots} {fault : MergeFault} {r : Result (Unit {0}) MergeFault} → r ≡ Err fault
           → CannotPass First one (now.reader First) reader now.store after mid fault → Leaves tool old (state (put First reader now.reader) mid after) r
-      pair_stops {fault = fault} is h = rw is
-          (leaves (passes_slots (key First) cmp First one one _ _ _ _ _ fault h)
+      pair_stops {fault = fault} is h = rw is (leaves (passes_slots (key First) cmp First one one _ _ _ _ _ fault h)
           (turn_stops w stood First step.first (passed_both wrote_pair) refl (passing_now w stood Second step.second) h))
 
       -- the first input went on, and what was pushed was sent
@@ -241,8 +226,7 @@ module _ {job : Comm} {cmp : Cmp} {key : Side → Key} {old now : State} {one tw
     concludes result ends conclusion =
         let l = has_lines_total now.store.lines (λ side. longest (ls side)) 0 keeps.lines in
         leaves clear.slots (stops _ w.o _ _ _ (λ side. []) _ _ _ (standing w stood) merging (late_none _ _ _ _ _ _ clean merging.wrote (wrote_nothing now.out))
-        result (ends (omega (arith, clear.emptied, l.2)))
-        (λ side fail. absurd (false≢true (sym (went w stood side ∙ w.unfailed side) ∙ fail))) conclusion
+        result (ends (omega (arith, clear.emptied, l.2))) (λ side fail. absurd (false≢true (sym (went w stood side ∙ w.unfailed side) ∙ fail))) conclusion
         (λ all h. (omega (arith, clear.peak, l.1, keeps.peak, (h First).1, (h Second).1), omega (arith, clear.slots, keeps.slots))))
 
     pub ended : ((side : Side) → (both one two side).stand ≡ Ended) → Leaves tool old (state now.reader now.out after) (Ok tt)
@@ -258,8 +242,7 @@ module _ {job : Comm} {cmp : Cmp} {key : Side → Key} {old now : State} {one tw
           empty = empty;
         }) (λ side. (e side).0)
 
-    pub fallen : {s : Side} {n : ℕ} → IsDecided cmp key (both one two) now.store s n
-        → Leaves tool old (state now.reader now.out after) (Err (faults.Disorder s n))
+    pub fallen : {s : Side} {n : ℕ} → IsDecided cmp key (both one two) now.store s n → Leaves tool old (state now.reader now.out after) (Err (faults.Disorder s n))
     fallen {s} {n} step = concludes (Err (faults.Disorder s n)) (λ empty. record {
       fault = λ side. (sides side).got.goes.fault;
       failed = went w stood;

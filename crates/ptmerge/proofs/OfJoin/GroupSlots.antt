@@ -160,8 +160,7 @@ pub record Keeping (key : Key) (before store : Slots) (ls : Side → Lines) (g :
   pub empty : total tail ≡ 0
   pub lines : HasLines (λ side. longest (ls side)) (total g) store.lines
   -- whatever the second input goes on with
-  pub bounds : (all more : Lines) → all ≡ ls Second ++ more
-      → InGroup key g all × (store.peak ≤ max before.peak (2 * longest (ls First) + 2 * longest (ls Second) + largest_group key all))
+  pub bounds : (all more : Lines) → all ≡ ls Second ++ more → InGroup key g all × (store.peak ≤ max before.peak (2 * longest (ls First) + 2 * longest (ls Second) + largest_group key all))
       × (length store.lines ≤ max (length before.lines) (4 + most_lines key all))
   pub least : length before.lines ≤ length store.lines
   pub four : 4 ≤ length store.lines
@@ -263,8 +262,7 @@ module _ {key : Key} {before store : Slots} {ls : Side → Lines} {g : Lines} (k
           let split : drop 4 made.lines ≡ g ++ (k.tail ++ w.more)
           = ap (λ (l : Lines). drop 4 l) w.lines ∙ drop-append-le 4 store.lines w.more k.four ∙ ap (λ (l : Lines). l ++ w.more) k.split ∙ append_assoc g k.tail w.more in
           record {
-            keeping = by_tail (k.tail ++ w.more) (omega (arith, sum_by-append length k.tail w.more, k.empty, w.empty))
-                (omega (arith, within, at, ap length split, length-drop 4 made.lines))
+            keeping = by_tail (k.tail ++ w.more) (omega (arith, sum_by-append length k.tail w.more, k.empty, w.empty)) (omega (arith, within, at, ap length split, length-drop 4 made.lines))
                 (rw at (drop-set-add 4 made.lines (length g) y) ∙ ap (λ (l : Lines). set l (length g) y) split);
             same = first_same;
           }

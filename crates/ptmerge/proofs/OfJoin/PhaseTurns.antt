@@ -170,8 +170,7 @@ module _ {job : Join} {cmp : Cmp} {key : Side → Key} {old : State} {phase : Ph
         (pushed : Wrote now.out new (text e (pairs_of job (key First (line now.store one.standing)) z (group now.store (first_slot two end) (end_slot two end))))) where
       wrote_more : Wrote r.q.mid new (text job.end (pairs_of job r.k (r.g First ++ z) (r.g Second)))
       wrote_more = rw (call.laws.more r.k (r.g First) z (r.g Second), text-append job.end (pairs_of job r.k (r.g First) (r.g Second)) (pairs_of job r.k z (r.g Second)))
-          (wrote_trans _ _ _ _ _ t.clean r.q.wrote
-          (wrote_as _ _ _ _ _ _ (ends ∙ t.opened.w.ending First) (λ j. pairs_of job (sym r.head.1 j) z (sym group_stands j)) pushed))
+          (wrote_trans _ _ _ _ _ t.clean r.q.wrote (wrote_as _ _ _ _ _ _ (ends ∙ t.opened.w.ending First) (λ j. pairs_of job (sym r.head.1 j) z (sym group_stands j)) pushed))
 
       begins : StartsWith (join_by job cmp key) (grown now (both one two) First r.g) r.q.d r.k (pairs_of job r.k (r.g First ++ z) (r.g Second))
       begins = starts call (within_more at_first) r.some r.above
@@ -183,8 +182,7 @@ module _ {job : Join} {cmp : Cmp} {key : Side → Key} {old : State} {phase : Ph
           (elim [ First ↦ passing at_first (now.reader First) [] (reads_nothing (now.reader First)) tt (r.q.sides First).sound First | Second ↦ standing r.q Second ])
           (record { faulted = e.1.faulted; failed = went r.q; denied = r.q.keeps.denied }) (λ side. not_failed call side (went r.q side)) (λ input pushed. tt)
           (fits_kept call r.q.keeps now.store (omega arith) refl)))
-      pair_stops {reader} {fault = fault} is_fault (inr e) = leaves t is_fault (omega (arith, breaks_slots First one _ _ _ _ fault e.1))
-          (group_breaks at_first e.0 begins wrote_more reader fault e.1)
+      pair_stops {reader} {fault = fault} is_fault (inr e) = leaves t is_fault (omega (arith, breaks_slots First one _ _ _ _ fault e.1)) (group_breaks at_first e.0 begins wrote_more reader fault e.1)
 
       module _ {one2 two2 : Sorted} {reader : Reader} {after : Slots} (h : HasPassed key cmp First one two one2 two2 (now.reader First) reader now.store after new) where
         on_first : GoneOn at_first h.came new

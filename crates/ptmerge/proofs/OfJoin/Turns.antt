@@ -154,11 +154,7 @@ module _ {job : Join} {cmp : Cmp} {key : Side → Key} {old : State} (a : IsOpen
       → {r : Result (Unit {0}) MergeFault} → r ≡ Err fault → Leaves job cmp key old (seen first second old.out store) r
   start_stops {first} {second} {store} {fault} cannot is_fault =
       let adds = start_slots a.w cannot in
-      rw is_fault (record {
-        merged = starts_badly a.w cannot;
-        refused = start_refused a.w cannot;
-        slots = record { least = adds.least; all = λ fine. omega (arith, adds.all fine) };
-      })
+      rw is_fault (record { merged = starts_badly a.w cannot; refused = start_refused a.w cannot; slots = record { least = adds.least; all = λ fine. omega (arith, adds.all fine) } })
 
 module _ {job : Join} {cmp : Cmp} {key : Side → Key} {old : State} {phase : Phase} {now : State} {one two : Sorted} {end : ℕ}
     (t : IsTurn job cmp key old phase now one two end) where
@@ -257,8 +253,7 @@ module _ {job : Join} {cmp : Cmp} {key : Side → Key} {old : State} {phase : Ph
       pub alone_stops : {reader : Reader} {after : Slots} {fault : MergeFault} {r : Result (Unit {0}) MergeFault} → r ≡ Err fault
           → NotPassed now s (both one two s) reader after new fault → Leaves job cmp key old (moved now s reader new after) r
       alone_stops {reader} {fault = fault} is_fault (inl e) = leaves is_fault (omega (arith, ap (λ (z : Slots). length z.lines) e.1.store)) (same_state _ _ s now _ reader _ _ e.0 e.1
-          (stops (join_by job cmp key) o _ _ _ _ _ _ _
-          (put_each (λ side (l : Lines). GoneOf (call_of t.opened) now side (now.reader side) [] (r.ls side) l (r.b side)) s (r.ls s) r.p
+          (stops (join_by job cmp key) o _ _ _ _ _ _ _ (put_each (λ side (l : Lines). GoneOf (call_of t.opened) now side (now.reader side) [] (r.ls side) l (r.b side)) s (r.ls s) r.p
           (passing_one (now.reader s) [] (reads_nothing (now.reader s)) tt (r.sides s).sound) stand)
           pushed_alone.0 pushed_alone.1 (Err Write) (record { faulted = e.1.faulted; failed = went; denied = r.keeps.denied }) (λ side. not_failed (call_of t.opened) side (went side)) tt
           (fits_kept (call_of t.opened) r.keeps now.store (omega arith) refl)))

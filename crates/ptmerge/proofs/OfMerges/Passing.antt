@@ -136,9 +136,7 @@ reaches_head {cmp} o {key} {p} {x} g = record {
 -- a line that falls
 pub reaches_fallen : {cmp : Cmp} {key : Key} {p : Lines} {k : List ℕ} (x : List ℕ) → Begun cmp key p (Some k) → is_gt (cmp k (key x)) ≡ true
     → Reaches cmp key (p ++ x ∷ []) p (Fallen (record { last_key = k; line = length p + 1 }))
-reaches_fallen {p = p} x g fell = record {
-  future = λ w _. ([], rw (append_assoc p (x ∷ []) w, g.ordered (x ∷ w), fell), refl, rw (append_assoc p (x ∷ []) w, g.falling (x ∷ w), fell));
-}
+reaches_fallen {p = p} x g fell = record { future = λ w _. ([], rw (append_assoc p (x ∷ []) w, g.ordered (x ∷ w), fell), refl, rw (append_assoc p (x ∷ []) w, g.falling (x ∷ w), fell)) }
 
 -- ---- what is written
 
@@ -325,8 +323,7 @@ pass_front {tool} o k q f {b} {p} {was} {is} {new} front all none law clean m wr
 
 -- an input has gone to its next line
 pub settles : {tool : Tool} {b : Side → Bound} {p : Side → Lines} {was is : Output} (s : Side) (d : Bound) → Merging tool b p was is
-    → ((r : Lines) → Coming tool.cmp (tool.key s) d r → Coming tool.cmp (tool.key s) (b s) r) → ((k : List ℕ) → Under tool.cmp (b s) k → Under tool.cmp d k)
-    → Merging tool (put s d b) p was is
+    → ((r : Lines) → Coming tool.cmp (tool.key s) d r → Coming tool.cmp (tool.key s) (b s) r) → ((k : List ℕ) → Under tool.cmp (b s) k → Under tool.cmp d k) → Merging tool (put s d b) p was is
 settles {tool} {b} {p} s d m coming under = record {
   splits = record {
     split = λ w r c.

@@ -93,12 +93,8 @@ pub record Keeps (before store : Slots) (m : Side → ℕ) : Type 0 where
   pub denied : store.denied ≡ false
 
 pub keeps_none : {before store : Slots} → HasFour before store → before.denied ≡ false → total before.lines ≡ 0 → Keeps before store (λ side. 0)
-keeps_none {store = store} four allowed empty = record {
-  lines = has_lines_none store.lines (omega (arith, four.slots)) (four.total ∙ empty);
-  peak = omega (arith, four.peak);
-  slots = four.slots;
-  denied = four.denied ∙ allowed;
-}
+keeps_none {store = store} four allowed empty = record
+    { lines = has_lines_none store.lines (omega (arith, four.slots)) (four.total ∙ empty); peak = omega (arith, four.peak); slots = four.slots; denied = four.denied ∙ allowed }
 
 pub keeps_line : {before store after : Slots} (s : Side) (place : Sorted) {m : Side → ℕ} (k : Side → ℕ) (x : List ℕ) → HasSlots s place → Keeps before store m
     → ((side : Side) → m side ≤ k side) → length x ≤ k s → after ≡ with_line store place.previous x → Keeps before after k

@@ -295,8 +295,7 @@ module _ (tool : Tool) (o : IsKeyOrder tool.cmp) (old new : State) (now : Side �
         → ((input : Side → List ℕ) → Agree given input → IsWhole tool input (text tool.end done) result) → Fits tool old.store now ls piece new.store → IsMerge tool old new result
     halted done is ends all failed whole fits = record {
       given = given;
-      came = λ side. came_of (old.reader side) (new.reader side) ((g side).got.given ++ piece side)
-          (reads_trans _ _ _ _ _ (g side).got.goes.reads (g side).reads);
+      came = λ side. came_of (old.reader side) (new.reader side) ((g side).got.given ++ piece side) (reads_trans _ _ _ _ _ (g side).got.goes.reads (g side).reads);
       pushed = text tool.end done;
       wrote = rw is at (wrote_trans _ _ _ _ _ clean wrote more);
       ends = ends;

@@ -55,12 +55,7 @@ alone s x = put s (x ∷ []) (λ side. [])
 
 -- an input that has no line of the key, and only greater ones
 front_none : {cmp : Cmp} (o : IsKeyOrder cmp) {key : Key} {b : Bound} {k : List ℕ} → IsAbove cmp key k b → Under cmp b k → IsFront cmp key b k []
-front_none {cmp} o {key} {k = k} above under = record {
-  own = tt;
-  coming = λ r c. c;
-  behind = λ r c. EachKey-weaker _ _ (λ y g. above_at_most cmp o k y g) _ _ (above r c);
-  under = under;
-}
+front_none {cmp} o {key} {k = k} above under = record { own = tt; coming = λ r c. c; behind = λ r c. EachKey-weaker _ _ (λ y g. above_at_most cmp o k y g) _ _ (above r c); under = under }
 
 -- a line whose key goes before all that may come of the other input is passed
 pub pass_one : (tool : Tool) (o : IsKeyOrder tool.cmp) → IsLineByLine tool
@@ -163,15 +158,13 @@ module _ (cmp : Cmp) (o : IsKeyOrder cmp) where
 
 -- an input is out of order, and nothing that may come is wanted
 pub stops_at : (tool : Tool) (o : IsKeyOrder tool.cmp) (old now : Side → Reader) (place : Side → Sorted) (store : Slots) (ls p : Side → Lines)
-    (b : Side → Bound) → BothStand tool old now place store ls p b
-    → (s : Side) (n : ℕ) → IsDecided tool.cmp tool.key place store s n → StopsAt tool b s n
+    (b : Side → Bound) → BothStand tool old now place store ls p b → (s : Side) (n : ℕ) → IsDecided tool.cmp tool.key place store s n → StopsAt tool b s n
 stops_at tool o old now place store ls p b sides s n dec l r c f =
     let d : Fall = record { last_key = last_key tool.key place store s; line = n } in
     let fallen : b s ≡ Fallen d = rw dec.stands at (sides s).stands in
     let rest = named_other _ o _ s d _ _ _ _ _ _ _ dec.named (sides (other s)).stands _ _ (c (other s)) (f (other s)) in
     rw (named_is tool.cmp s (λ side. fall tool.cmp (tool.key side) (l side)) d (rw fallen at (f s)) rest.0) (
-      none_wanted tool (λ k. is_le (tool.cmp k d.last_key)) r
-          (side_case (λ side. EachKey (λ k. is_le (tool.cmp k d.last_key) ≡ false) (tool.key side) (r side)) s (rw (rw fallen at (c s)) tt) rest.1),
+      none_wanted tool (λ k. is_le (tool.cmp k d.last_key)) r (side_case (λ side. EachKey (λ k. is_le (tool.cmp k d.last_key) ≡ false) (tool.key side) (r side)) s (rw (rw fallen at (c s)) tt) rest.1),
       (refl, refl),
     )
 
@@ -192,8 +185,7 @@ module _ (tool : Tool) (o : IsKeyOrder tool.cmp) (old now : State) (ls q : Side 
   -- the next line of an input could not be read
   pub breaks : (s : Side) (place : Sorted) (new : Reader) (after : Slots) (fault : MergeFault)
       → ((r : Reader) (piece : List ℕ) → Reads (now.reader s) r piece → IsLine (now.reader s).ending piece → IsSound r → GoneOf s r piece) → ls s ≡ q s
-      → (last : Option (List ℕ)) → Begun tool.cmp (tool.key s) (q s) last
-      → GoneOf (other s) (now.reader (other s)) [] → now.store.denied ≡ false
+      → (last : Option (List ℕ)) → Begun tool.cmp (tool.key s) (q s) last → GoneOf (other s) (now.reader (other s)) [] → now.store.denied ≡ false
       → ((piece : List ℕ) → Fits tool old.store now.reader ls (put s piece (λ side. [])) (with_line now.store place.previous piece)) → CannotRead s place (now.reader s) new now.store after fault
       → IsMerge tool old (record { reader = put s new now.reader; out = now.out; store = after }) (Err fault)
   breaks s place new after (Read file) gone all last begun rest roomy fits moves =
@@ -234,8 +226,7 @@ put_self s f = λ i side. put_each (λ (t : Side) (r : Reader). r ≡ f t) s (f 
 
 -- a write failed, and nothing more was read
 pub same_state : (tool : Tool) (old : State) (s : Side) (now : State) (out : Output) (reader : Reader) (after : Slots) (fault : MergeFault) → fault ≡ Write
-    → IsUnwritten (now.reader s) reader now.store after out → IsMerge tool old (state now.reader out now.store) (Err Write)
-    → IsMerge tool old (state (put s reader now.reader) out after) (Err fault)
+    → IsUnwritten (now.reader s) reader now.store after out → IsMerge tool old (state now.reader out now.store) (Err Write) → IsMerge tool old (state (put s reader now.reader) out after) (Err fault)
 same_state tool old s now out reader after fault is e m = rw (is, e.unread, e.store, put_self s now.reader) m
 
 -- no source has failed whose reader is sound
@@ -356,19 +347,15 @@ module _ {tool : Tool} {old : State} (w : IsOpened tool old) {reader : Side → 
   -- the turn could not be ended, and the lines q are passed
   pub turn_stops : (s : Side) → (place s).stand ≡ Head → {q : Side → Lines} {out : Output} → Merging tool b q old.out out × Late tool b q old.out out → q s ≡ ls s → GoneBy (other s) (q (other s))
       → {new : Reader} {after : Slots} {fault : MergeFault} → CannotPass s (place s) (reader s) new store after out fault → IsMerge tool old (state (put s new reader) out after) (Err fault)
-  turn_stops s head {q} {out} m same rest {new} {after} {fault} (inl e) = same_state tool old s (state reader out store) out new after fault e.0 e.1
-      (stops _ w.o _ _ _ (λ side. []) _ q _
-      (side_case (λ side. GoneBy side (q side)) s (rw same (passing_now s head)) rest) m.0 m.1 (Err Write)
-      (record { faulted = e.1.faulted; failed = went; denied = a.keeps.denied })
+  turn_stops s head {q} {out} m same rest {new} {after} {fault} (inl e) = same_state tool old s (state reader out store) out new after fault e.0 e.1 (stops _ w.o _ _ _ (λ side. []) _ q _
+      (side_case (λ side. GoneBy side (q side)) s (rw same (passing_now s head)) rest) m.0 m.1 (Err Write) (record { faulted = e.1.faulted; failed = went; denied = a.keeps.denied })
       (λ side fail. absurd (false≢true (sym (went side ∙ w.unfailed side) ∙ fail))) tt
       (λ all h. (omega (arith, a.keeps.peak, (w.fits all).0, (h First).1, (h Second).1), omega (arith, a.keeps.slots, (w.fits all).1))))
   turn_stops s head {q} {out} m same rest {new} {after} {fault} (inr e) =
       let h = passed head (a.sides s) in
       breaks tool w.o old (state reader out store) ls q b m.0 w.unfailed went e.0 s (place s) new after fault
-      (λ r piece reads free sound. rw same (passing s head r piece reads free sound)) (sym same) (Some (tool.key s (line store (place s).standing)))
-      (rw same h.begun) rest a.keeps.denied
-      (λ piece all l. within_size tool w.fits s (place s) ls all piece (a.slots s) a.keeps (λ side. omega (arith, (l side).1))
-      (omega (arith, (l s).1, ap length (put_same s piece (λ side. []))))) e.1
+      (λ r piece reads free sound. rw same (passing s head r piece reads free sound)) (sym same) (Some (tool.key s (line store (place s).standing))) (rw same h.begun) rest a.keeps.denied
+      (λ piece all l. within_size tool w.fits s (place s) ls all piece (a.slots s) a.keeps (λ side. omega (arith, (l side).1)) (omega (arith, (l s).1, ap length (put_same s piece (λ side. []))))) e.1
 
   -- an input goes to its next line
   module _ (s : Side) (head : (place s).stand ≡ Head) {next : Sorted} {new : Reader} {after : Slots}
@@ -430,8 +417,7 @@ later_stands key cmp number last next r some is =
     (λ i. cond (sym t i && is_gt (is i)) (Disorder (number + 1)) Head, λ i. sym t i && is_eq (is i))
 
 -- what is noted is of the same line, whatever other slots hold
-noted_keeps : (key : Key) (place : Sorted) (before after : Slots) → line after place.standing ≡ line before place.standing
-    → IsNoted key place before → IsNoted key place after
+noted_keeps : (key : Key) (place : Sorted) (before after : Slots) → line after place.standing ≡ line before place.standing → IsNoted key place before → IsNoted key place after
 noted_keeps key place before after same noted = record { head = λ stands. rw same (noted.head stands); broken = noted.broken }
 
 -- the slots behind the first four may change

@@ -37,8 +37,7 @@ module _ (p : List ℕ → Bool) where
   keys_kept key (x ∷ ls) = grind (arith, keys_kept key ls)
 
   -- lists that are put together, of which the one passes and the other does not
-  kept_parts : (key : Key) (xs ys : Lines) → EachKey (λ k. p k ≡ true) key xs → EachKey (λ k. p k ≡ false) key ys
-      → (kept key (xs ++ ys) ≡ xs) × (filter (λ line. not (p (key line))) (xs ++ ys) ≡ ys)
+  kept_parts : (key : Key) (xs ys : Lines) → EachKey (λ k. p k ≡ true) key xs → EachKey (λ k. p k ≡ false) key ys → (kept key (xs ++ ys) ≡ xs) × (filter (λ line. not (p (key line))) (xs ++ ys) ≡ ys)
   kept_parts key [] [] e f = (refl, refl)
   kept_parts key [] (y ∷ ys) e f = let ih = kept_parts key [] ys tt f.1 in rw f.0 (ih.0, ap (λ l. y ∷ l) ih.1)
   kept_parts key (x ∷ xs) ys e f = let ih = kept_parts key xs ys e.1 f in rw e.0 (ap (λ l. x ∷ l) ih.0, ih.1)
@@ -226,8 +225,7 @@ of_parts tool o first second cut =
     let low = λ (side : Side). of_keys tool side (λ k. p k ≡ true) a (Each-weaker _ (λ k. p k ≡ true) (below_under tool.cmp o (keys tool b)) (keys tool a) cut.below) in
     let high = λ (side : Side). of_keys tool side (λ k. p k ≡ false) b (none_under tool.cmp o (keys tool b)) in
     ap (text tool.end) ((λ i. merged_entries tool (λ side. the_lines_of_parts tool.end (first side) (second side) (cut.whole side) i))
-    ∙ entries_together tool o p (down_under tool.cmp o (keys tool b)) a b cut.in_order low high)
-    ∙ text-append tool.end (merged_entries tool a) (merged_entries tool b)
+    ∙ entries_together tool o p (down_under tool.cmp o (keys tool b)) a b cut.in_order low high) ∙ text-append tool.end (merged_entries tool a) (merged_entries tool b)
 
 pub comm_of_parts : PartsOfComm
 comm_of_parts job = of_parts (comm_tool job) (line_order job.descending)

@@ -105,6 +105,7 @@ fn is_even_in<const N: usize>(bytes: &[u8], at: usize) -> bool
 
 // The same of all bytes after the first one, which are N or up to twice as many: the first N and the last N.
 #[inline(always)]
+#[tactic(auto, using(crate::proofs::OfJoin::FieldSpans::part_uneven))]
 fn is_even_at_ends<const N: usize>(bytes: &[u8]) -> bool
     requires { HasEnds N 1 bytes.now }
     ensures { IsEven bytes.now 1 (length bytes.now) result }
@@ -133,6 +134,7 @@ fn is_even_few(bytes: &[u8]) -> bool
 
 // The same of more than 16 bytes.
 #[inline(always)]
+#[tactic(auto, using(crate::proofs::OfJoin::FieldSpans::part_uneven))]
 fn is_even_far(bytes: &[u8]) -> bool
     requires { 16 < length bytes.now }
     ensures { IsEven bytes.now 1 (length bytes.now) result }
