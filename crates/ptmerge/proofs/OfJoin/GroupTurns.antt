@@ -1,10 +1,10 @@
 -- A group of lines of one key: its lines are gathered, paired and closed.
-use Rattle.ptmerge.proofs.Common.{◌≡◌, ◌⊎◌, ⊎_elim, inl, inr, ℕ, ◌+◌, ◌*◌, ◌≤◌, ◌<◌, ◌&&◌, Bool, true, false, List, [], ◌∷◌, ◌++◌, Some, Err, length, max, refl, sym, ◌∙◌, ap, subst, arith}
+use Rattle.ptmerge.proofs.Common.{◌≡◌, ⊎_elim, inl, inr, ℕ, ◌+◌, ◌*◌, ◌≤◌, ◌<◌, ◌&&◌, Bool, true, false, List, [], ◌∷◌, ◌++◌, Some, Err, length, max, refl, sym, ◌∙◌, ap, subst, arith}
 use Rattle.ptmerge.proofs.Common.{append_assoc, bytes_eq, bytes_decides, is_gt, false≢true, append-nil, Output, Wrote, Reader, Reads, IsSound, Slots, line, total, with_line, text, IsLine, longest}
-use Rattle.ptmerge.proofs.Common.{wrote_trans, text-append, MergeFault, Read, Write, Memory, Side, First, Second, Sorted, Stand, Head, Ended, Disorder, is_head, largest_group, most_lines, Lines, Tool}
-use Rattle.ptmerge.proofs.Common.{by_keys, entries_of, with_key, IsUnwritten, State, IsMerge, CannotRead, Comes, HasSlots, put, other, GoesBefore, disorder, merged_entries, ordered, up_to, Ends}
-use Rattle.ptmerge.proofs.Common.{IsWhole, Cmp, Key}
-use Rattle.ptmerge.proofs.OfMerges.Turning.{slots_on, BothStand, IsAbove, IsLineByLine, ahead, next_at, own_slots, passed_at, sides_on, slots_apart}
+use Rattle.ptmerge.proofs.Common.{wrote_trans, text-append, MergeFault, Read, Memory, Side, First, Second, Sorted, Stand, Head, Ended, Disorder, is_head, largest_group, most_lines, Lines, Tool}
+use Rattle.ptmerge.proofs.Common.{by_keys, entries_of, with_key, State, IsMerge, CannotRead, Comes, HasSlots, put, other, GoesBefore, disorder, merged_entries, ordered, up_to, Ends, IsWhole, Cmp, Key}
+use Rattle.ptmerge.proofs.Common.{Write}
+use Rattle.ptmerge.proofs.OfMerges.Turning.{slots_on, BothStand, IsAbove, IsLineByLine, ahead, next_at, own_slots, passed_at, sides_on, slots_apart, Holds}
 use Rattle.ptmerge.proofs.OfMerges.Passing.{Bound, From, Coming, Under, Merging, Seen, MayCome, all_keys, splits_step, all_wanted, passed_is_wanted}
 use Rattle.ptmerge.proofs.OfJoin.GroupSlots.{AllSlots, Keeping, keeping_line, keeping_next, low_slot, put_more}
 use Rattle.ptmerge.proofs.OfMerges.Orders.{EachKey, EachKey-append, EachKey-weaker, at_most-same, front_first, front_is, others_of, with_key-above, IsKeyOrder, AtMost, least_or_above, self_at_most}
@@ -114,11 +114,6 @@ moved now s reader out store = record { reader = put s reader now.reader; out = 
 abbrev pub GoneOf : Call → State → Side → Reader → List ℕ → Lines → Lines → Bound → Type 0
 GoneOf call now side new piece ls p b = Gone call.end call.cmp (call.key side) (call.old.reader side) (now.reader side) new piece ls p b
 
--- a write failed, or the next line of an input could not be read
-abbrev pub NotPassed : State → Side → Sorted → Reader → Slots → Output → MergeFault → Type 0
-NotPassed now s place reader after new fault =
-    ((fault ≡ Write) × IsUnwritten (now.reader s) reader now.store after new) ⊎ ((new.faulted ≡ false) × CannotRead s place (now.reader s) reader now.store after fault)
-
 -- no read has failed, so nothing needs to be shown for one that has
 pub not_failed : (call : Call) (side : Side) {b : Bool} {X : Type 0} → b ≡ (call.old.reader side).failed → b ≡ true → X
 not_failed call side same fail = absurd (false≢true (sym (same ∙ call.unfailed side) ∙ fail))
@@ -145,6 +140,11 @@ module _ (call : Call) {store : Slots} {ls : Side → Lines} {g : Lines} (h : Ke
   -- a store that holds no more, and has no more slots
   pub fits_kept : (after : Slots) → after.peak ≤ max store.peak (total store.lines) → length after.lines ≡ length store.lines → Fits call.tool call.old.store now ls (λ side. []) after
   fits_kept after peak same all w = omega (arith, peak, same, size_of call h all (λ side. omega (arith, (w side).1)) ((w Second).0.more, (w Second).0.is))
+
+pub holds_between : (call : Call) {reader : Side → Reader} {place : Side → Sorted} {store : Slots} {ls : Side → Lines} → Keeping (call.key Second) call.old.store store ls [] → AllSlots place
+    → Holds call.tool call.old.store reader place store ls
+holds_between call {place = place} h slots =
+    record { lines = h.lines; denied = h.denied; fits = fits_kept call h; line = λ s. peak_line call h s (place s) (slots s) }
 
 -- both inputs stand as they did where the first four slots are the same
 pub stand_still : (tool : Tool) {old now : Side → Reader} {place : Side → Sorted} {before after : Slots} {ls p : Side → Lines} {b : Side → Bound} → BothStand tool old now place before ls p b

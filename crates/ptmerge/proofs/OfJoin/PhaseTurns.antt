@@ -4,10 +4,9 @@ use Rattle.ptmerge.proofs.Common.{join_key, pairs_of, Lines, Cmp, Key, Output, W
 use Rattle.ptmerge.proofs.Common.{group, CanGoOn, HasPassed, JoinsAt, StandsAt, State, IsMerge, both, put, ⊎_elim, ◌-◌, ◌==◌, wrote_trans, other, nat_tests, length_push, text-append, append_assoc}
 use Rattle.ptmerge.proofs.Common.{nil_from_length, IsKept, NotGathered, most_lines, false≢true}
 use Rattle.ptmerge.proofs.OfJoin.Turns.{Gathering, Held, IsTurn, Leaves, Pairing, call_of, end_in, leaves, joins_at, slots, went_on}
-use Rattle.ptmerge.proofs.OfMerges.Turning.{comes_slots, same_state, wrote_as, breaks_slots, IsAbove, placed_keeps, wrote_and_sent}
-use Rattle.ptmerge.proofs.OfJoin.GroupTurns.{Call, NotPassed, moved, fits_kept, not_failed, AtLine, GoneOn, Grouped, closes, goes_on, goes_past, gone_on, group_breaks, grown, is_past, next_slots}
-use Rattle.ptmerge.proofs.OfJoin.GroupTurns.{others_stay, passing, stand_still, standing, starts, went, within_more, grouped_keeps, last_stays, own_more, size_of, starts_none, with_head, StartsWith}
-use Rattle.ptmerge.proofs.OfJoin.GroupTurns.{halts}
+use Rattle.ptmerge.proofs.OfMerges.Turning.{comes_slots, same_state, wrote_as, breaks_slots, IsAbove, placed_keeps, wrote_and_sent, CannotPass}
+use Rattle.ptmerge.proofs.OfJoin.GroupTurns.{Call, moved, fits_kept, not_failed, AtLine, GoneOn, Grouped, closes, goes_on, goes_past, gone_on, group_breaks, grown, is_past, next_slots, others_stay}
+use Rattle.ptmerge.proofs.OfJoin.GroupTurns.{passing, stand_still, standing, starts, went, within_more, grouped_keeps, last_stays, own_more, size_of, starts_none, with_head, StartsWith, halts}
 use Rattle.ptmerge.specs.declared.tools.join.Phase.{Phase}
 use Rattle.ptmerge.proofs.OfJoin.GroupSlots.{group_is, kept_line, keeping_cleared, low_slot, group_one, InGroup, Kept, group_in, keeping_kept}
 use Rattle.ptmerge.proofs.OfMerges.Got.{reads_nothing}
@@ -176,7 +175,7 @@ module _ {job : Join} {cmp : Cmp} {key : Side → Key} {old : State} {phase : Ph
       begins = starts call (within_more at_first) r.some r.above
 
       pub pair_stops : {reader : Reader} {after : Slots} {fault : MergeFault} {r : Result (Unit {0}) MergeFault} → r ≡ Err fault
-          → NotPassed now First one reader after new fault → Leaves job cmp key old (moved now First reader new after) r
+          → CannotPass First one (now.reader First) reader now.store after new fault → Leaves job cmp key old (moved now First reader new after) r
       pair_stops {reader} is_fault (inl e) = leaves t is_fault (omega (arith, ap (λ (z : Slots). length z.lines) e.1.store)) (same_state _ _ First now _ reader _ _ e.0 e.1
           (halts o old (record now { out = new }) {now = now.reader} {piece = λ side. []} {ls = r.q.ls} (within_more at_first) begins wrote_more
           (elim [ First ↦ passing at_first (now.reader First) [] (reads_nothing (now.reader First)) tt (r.q.sides First).sound First | Second ↦ standing r.q Second ])

@@ -1,7 +1,6 @@
 -- What holds of each of two inputs, and the lines in the slots of a store.
-use Rattle.ptmerge.proofs.Common.{◌≡◌, arith, Side, First, Second, both, put, other}
 use Rattle.ptmerge.proofs.Common.{◌≡◌, ◌≢◌, inl, inr, ℕ, zero, suc, ◌+◌, ◌*◌, ◌≤◌, false, List, [], ◌∷◌, ◌++◌, length, max, refl, sym, ◌∙◌, arith, get_or, set, length-set, get_or-set_other}
-use Rattle.ptmerge.proofs.Common.{sum_by-cons, Slots, line, total, with_added, with_line, Side, First, Second, Sorted, HasSlots, HasFour, IsCleared, Bool}
+use Rattle.ptmerge.proofs.Common.{sum_by-cons, Slots, line, total, with_added, with_line, Side, First, Second, Sorted, HasSlots, HasFour, IsCleared, Bool, both, put, other}
 
 module _ {X : Type 0} (P : Side → X → Type 0) where
   pub both_each : (x y : X) → P First x → P Second y → (side : Side) → P side (both x y side)

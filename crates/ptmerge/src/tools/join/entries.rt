@@ -40,6 +40,7 @@ fn push_words<W: Sink>(bytes: &[u8], out: &mut Out<W>) -> Result<(), WriteFault>
 }
 
 // Pushes all fields of what is left of a line, each with what stands between fields before it.
+#[tactic(auto, using(crate::proofs::OfJoin::FieldSpans::led_fields, crate::proofs::OfMerges::Pushes::may_push))]
 fn push_left<W: Sink>(
     separator: Option<u8>,
     line: Option<&[u8]>,

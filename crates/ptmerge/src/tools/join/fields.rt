@@ -24,6 +24,7 @@ fn field_end(separator: Option<u8>, bytes: &[u8]) -> Option<usize>
 
 // What comes before the first byte that ends a field, and what is left after it, if there is one.
 #[inline(always)]
+#[tactic(auto, using(ptlangs::proofs::Elements::split_whole, ptlangs::proofs::Elements::split_around))]
 fn first_piece(separator: Option<u8>, bytes: &[u8]) -> (&[u8], Option<&[u8]>)
     ensures first { MatchOption result.1
         (slice_split (ends_field separator) bytes.now ≡ result.0.now ∷ [])
@@ -88,6 +89,7 @@ fn first_field(separator: Option<u8>, line: &[u8]) -> &[u8]
 
 // The piece with this number between separators, or nothing where it is not there.
 #[inline(never)]
+#[tactic(auto, using(crate::proofs::OfJoin::FieldSpans::dropped_more, crate::proofs::OfJoin::FieldSpans::nth_past))]
 fn nth_piece(separator: u8, number: u64, line: &[u8]) -> &[u8]
     ensures { result.now ≡ nth_field number (fields_left (Some separator) (Some line.now)) }
 {

@@ -26,6 +26,7 @@ fn need_slot<A: Allocator + Copy>(store: &mut Store<A>, slot: usize) -> Result<(
 }
 
 // Copies the line of a slot to another one, which is added if it is missing. The answer is the slot after that one.
+#[tactic(auto, using(crate::proofs::OfJoin::GroupSlots::refused_copy))]
 fn keep_line<A: Allocator + Copy>(
     store: &mut Store<A>,
     from: usize,
