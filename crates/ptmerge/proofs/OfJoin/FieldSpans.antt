@@ -179,8 +179,7 @@ item_of job k one two i = filled job.empty (named i k (fields_left job.separator
 -- the entry of a list begins with its first item
 pub entry_listed : (job : Join) (k : List ℕ) (one two : Option (List ℕ)) (items : List OutField) (d : OutField) → 1 ≤ length items → {bytes : List ℕ} → bytes ≡ item_of job k one two (get_or items 0 d)
     → entry_with job (Some items) k one two ≡ bytes ++ led (between job.separator) (map (item_of job k one two) (take (length items - 1) (drop 1 items)))
-entry_listed job k one two items d some {bytes} first =
-    ap (join_with_byte (between job.separator)) (listed (item_of job k one two) items d some first) ∙ join_led (between job.separator) bytes _
+entry_listed job k one two items d some {bytes} first = ap (join_with_byte (between job.separator)) (listed (item_of job k one two) items d some first) ∙ join_led (between job.separator) bytes _
 
 -- ---- words with one space between each two are written as they stand
 

@@ -202,8 +202,7 @@ module _ (tool : Tool) where
       ap (flat_map (entries_of tool p)) (pass ∙ sym (filter_all all_keys ks (Each-all _ (λ k. refl) ks)))
 
   pub none_wanted : (w : List ℕ → Bool) (r : Side → Lines) → ((side : Side) → EachKey (λ k. w k ≡ false) (tool.key side) (r side)) → by_keys tool w r ≡ []
-  none_wanted w r e =
-      ap (flat_map (entries_of tool r)) (filter_none w (distinct tool.cmp (keys tool r)) (Each-distinct _ _ _ (Each-append _ _ _ (e First) (e Second))))
+  none_wanted w r e = ap (flat_map (entries_of tool r)) (filter_none w (distinct tool.cmp (keys tool r)) (Each-distinct _ _ _ (Each-append _ _ _ (e First) (e Second))))
 
   -- the entries of the keys below one are the first
   pub down_splits : IsKeyOrder tool.cmp → (w p : List ℕ → Bool) → IsDown tool.cmp p → (ls : Side → Lines)

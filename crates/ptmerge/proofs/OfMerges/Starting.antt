@@ -95,8 +95,7 @@ module _ {tool : Tool} {old : State} (w : IsOpened tool old) where
     slots_then (inr (inr f)) = let s = f.begins in inr (breaks_slots Second (fresh Second) (old.reader Second) new2 s.mid after fault s.later ∙ (half_keeps s).slots)
 
     pub start_slots : Cannot new1 new2 after fault → Adds old.store after 4
-    start_slots c =
-        ⊎_elim (λ u. record { least = u.slots.least; most = u.slots.most; all = λ allowed. absurd (false≢true (sym allowed ∙ u.slots.denied)) }) adds_of (slots_then c)
+    start_slots c = ⊎_elim (λ u. record { least = u.slots.least; most = u.slots.most; all = λ allowed. absurd (false≢true (sym allowed ∙ u.slots.denied)) }) adds_of (slots_then c)
 
     -- nothing was read where one of the first four slots was refused
     pub start_refused : Cannot new1 new2 after fault → length after.lines < 4 → IsUnread old (state (both new1 new2) old.out after)

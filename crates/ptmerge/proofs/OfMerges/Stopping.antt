@@ -98,8 +98,7 @@ over cmp key last r none = grind arith
 from_next : {cmp : Cmp} (o : IsKeyOrder cmp) (key : Key) (last : Option (List ℕ)) (x : List ℕ) → falls cmp last (key x) ≡ false
     → ((r : Lines) → EachKey (AtMost cmp (key x)) key r → Coming cmp key (behind last) r) × ((k : List ℕ) → Under cmp (behind last) k → AtMost cmp k (key x))
 from_next o key None x h = (λ r c. tt, λ k u. absurd u)
-from_next {cmp} o key (Some j) x h =
-    (λ r c. EachKey-weaker _ _ (λ y a. at_most_trans cmp o j (key x) y h a) _ _ c, λ k u. at_most_trans cmp o k j (key x) u h)
+from_next {cmp} o key (Some j) x h = (λ r c. EachKey-weaker _ _ (λ y a. at_most_trans cmp o j (key x) y h a) _ _ c, λ k u. at_most_trans cmp o k j (key x) u h)
 
 module _ (end : ℕ) (cmp : Cmp) (o : IsKeyOrder cmp) (key : Key) (old now new : Reader) (place next : Sorted) (before after : Slots) (ls : Lines) where
   abbrev turned : Stand → ℕ → Bool → Sorted

@@ -3,9 +3,9 @@
 use Rattle.ptmerge.proofs.Common.{◌≡◌, ◌≢◌, ⊎_elim, inl, inr, ℕ, ◌+◌, ◌≤◌, true, false, List, [], ◌∷◌, ◌++◌, Option, Some, None, Err, length, refl, sym, ◌∙◌, arith, is_lt, is_le, false≢true}
 use Rattle.ptmerge.proofs.Common.{append-nil, Output, Wrote, Reader, Reads, IsDone, IsSound, Slots, line, with_line, text, IsLine, wrote_nothing, MergeFault, Read, Memory, Side, First, Second, Sorted}
 use Rattle.ptmerge.proofs.Common.{Stand, Head, Ended, Disorder, Lines, Tool, Fall, by_keys, disorder_of, fall, with_key, State, IsMerge, Cmp, Key, CannotRead, Comes, HasSlots, slot_of, put, other}
-use Rattle.ptmerge.proofs.Common.{GoesBefore, IsDecided, IsNamed, last_key, ap, ◌⊎◌, ◌*◌, max, length-set, total, longest, Write, CanBegin, IsReady, seen, IsUnwritten, PassesLine, both, IsPlaced}
-use Rattle.ptmerge.proofs.Common.{budget, IsLent, subst, wrote_trans, ◌&&◌, cond, nat_lt, Ordering, is_eq, is_gt, nat_tests, length_push, IsKept, same_at, stand_at, IsNoted, Adds, ◌<◌, Result}
-use Rattle.ptmerge.proofs.Common.{IsCleared, Ends, Ok}
+use Rattle.ptmerge.proofs.Common.{GoesBefore, IsDecided, IsNamed, last_key, ap, ◌⊎◌, ◌*◌, max, length-set, total, longest, Write, CanBegin, seen, IsUnwritten, PassesLine, both, IsPlaced, budget}
+use Rattle.ptmerge.proofs.Common.{IsLent, subst, wrote_trans, ◌&&◌, cond, nat_lt, Ordering, is_eq, is_gt, nat_tests, length_push, IsKept, same_at, stand_at, IsNoted, Adds, ◌<◌, Result, IsCleared}
+use Rattle.ptmerge.proofs.Common.{Ends, Ok}
 use Rattle.ptmerge.proofs.OfMerges.Passing.{Bound, From, Fallen, Over, Coming, Falling, FallFrom, Under, Begun, IsFront, Late, Merging, StopsAt, front_line, late_none, not_below, pass_front, settles}
 use Rattle.ptmerge.proofs.OfMerges.Passing.{all_keys, none_wanted}
 use Rattle.ptmerge.proofs.OfMerges.Orders.{EachKey, EachKey-weaker, with_key-above, IsKeyOrder, Above, above_at_most, above_up, greater_flips, is_greater}
@@ -114,8 +114,7 @@ module _ (tool : Tool) (o : IsKeyOrder tool.cmp) (old now : Side → Reader) (pl
 
     -- what was pushed comes first as before
     pub merging_on : (q : Side → Lines) (was is : Output) → Merging tool b q was is → Merging tool (put s n.bound b) q was is
-    merging_on q was is m =
-        settles s n.bound m (λ r c. rw passed_at.bound (n.coming r c)) (λ k u. n.under k (rw passed_at.bound at u))
+    merging_on q was is m = settles s n.bound m (λ r c. rw passed_at.bound (n.coming r c)) (λ k u. n.under k (rw passed_at.bound at u))
 
 -- ---- the end
 
@@ -223,21 +222,12 @@ pub record Running (tool : Tool) (Keep : Slots → (Side → Lines) → Type 0) 
   pub merging : Merging tool b p old.out now.out
   pub keeps : Keep now.store ls
 
--- nothing was read of this input
-put_self : (s : Side) (f : Side → Reader) → put s (f s) f ≡ f
-put_self s f = λ i side. put_each (λ (t : Side) (r : Reader). r ≡ f t) s (f s) f refl (λ t. refl) side i
-
 -- a write failed, and nothing more was read
 pub same_state : (tool : Tool) (old : State) (s : Side) (now : State) (out : Output) (reader : Reader) (after : Slots) (fault : MergeFault) → fault ≡ Write
     → IsUnwritten (now.reader s) reader now.store after out → IsMerge tool old (state now.reader out now.store) (Err Write) → IsMerge tool old (state (put s reader now.reader) out after) (Err fault)
-same_state tool old s now out reader after fault is e m = rw (is, e.unread, e.store, put_self s now.reader) m
-
--- no source has failed whose reader is sound
-pub unfailed_of : (first second : Reader) (store : Slots) → IsReady first second store → IsSound first × IsSound second → (side : Side) → (both first second side).failed ≡ false
-unfailed_of first second store ready sound = elim [ First ↦ sound.0.unfailed ready.opened1 ready.readable1 | Second ↦ sound.1.unfailed ready.opened2 ready.readable2 ]
-
-pub readable_of : (first second : Reader) (store : Slots) → IsReady first second store → (side : Side) → (both first second side).fault ≡ None
-readable_of first second store ready = elim [ First ↦ ready.readable1 | Second ↦ ready.readable2 ]
+same_state tool old s now out reader after fault is e m =
+    let unmoved : put s (now.reader s) now.reader ≡ now.reader = λ i side. put_each (λ (t : Side) (r : Reader). r ≡ now.reader t) s (now.reader s) now.reader refl (λ t. refl) side i in
+    rw (is, e.unread, e.store, unmoved) m
 
 pub slots_of : {key : Side → Key} (one two : Sorted) (store : Slots) → IsPlaced key one two store → (side : Side) → HasSlots side (both one two side)
 slots_of one two store placed = elim [ First ↦ placed.first | Second ↦ placed.second ]
@@ -305,8 +295,9 @@ opened_by {tool} {first} {second} {store = store} o fits b = record {
   fits = fits;
   ending = both_each (λ (side : Side) (r : Reader). r.ending ≡ tool.end) first second b.ending.0 b.ending.1;
   sound = both_each (λ (side : Side) (r : Reader). IsSound r) first second b.sound.0 b.sound.1;
-  readable = readable_of first second store b.ready;
-  unfailed = unfailed_of first second store b.ready b.sound;
+  readable = elim [ First ↦ b.ready.readable1 | Second ↦ b.ready.readable2 ];
+  -- no source has failed whose reader is sound
+  unfailed = elim [ First ↦ b.sound.0.unfailed b.ready.opened1 b.ready.readable1 | Second ↦ b.sound.1.unfailed b.ready.opened2 b.ready.readable2 ];
   writable = b.writable;
   allowed = b.ready.allowed;
   empty = b.ready.empty;
@@ -369,9 +360,7 @@ module _ {tool : Tool} {old : State} (w : IsOpened tool old) {reader : Side → 
 
   passing : (s : Side) → (place s).stand ≡ Head → (new : Reader) (piece : List ℕ) → Reads (reader s) new piece → IsLine (reader s).ending piece → IsSound new
       → Gone tool.end tool.cmp (tool.key s) (old.reader s) (reader s) new piece (ls s) (ls s) (b s)
-  passing s head new piece reads free sound =
-      let h = passed head (a.sides s) in
-      rw h.bound (gone_passed w.o (a.sides s).got reads free sound h.begun)
+  passing s head new piece reads free sound = let h = passed head (a.sides s) in rw h.bound (gone_passed w.o (a.sides s).got reads free sound h.begun)
 
   pub passing_now : (s : Side) → (place s).stand ≡ Head → GoneBy s (ls s)
   passing_now s head = passing s head (reader s) [] (reads_nothing (reader s)) tt (a.sides s).sound
@@ -494,5 +483,4 @@ kept_line before after from to slot low e =
     rw e.copied (line_other e.made to slot (line e.made from) (λ is. absurd (omega (arith, is, low))) ∙ grown)
 
 pub kept_least : (before after : Slots) (from to : ℕ) → IsKept before after from to → length before.lines ≤ length after.lines
-kept_least before after from to e =
-    rw (e.copied, length-set) (⊎_elim (λ h. rw h (omega arith)) (λ h. rw h (omega (arith, length_push before.lines []))) e.grown.grown)
+kept_least before after from to e = rw (e.copied, length-set) (⊎_elim (λ h. rw h (omega arith)) (λ h. rw h (omega (arith, length_push before.lines []))) e.grown.grown)
