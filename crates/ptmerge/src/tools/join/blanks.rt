@@ -29,6 +29,7 @@ fn find_blank_in<const N: usize>(bytes: &[u8], at: usize) -> Option<usize>
 
 // The first blank among N bytes or up to twice as many: in the first N or in the last N, which may overlap.
 #[inline(always)]
+#[tactic(auto, using(ptlines::proofs::Masks::first_behind))]
 fn find_blank_ends<const N: usize>(bytes: &[u8]) -> Option<usize>
     requires { HasEnds N 0 bytes.now }
     ensures { IsFirstByte is_blank bytes.now result }
@@ -60,6 +61,7 @@ fn find_blank_few(bytes: &[u8]) -> Option<usize>
 
 // The first blank among 16 bytes or more. Out of line, so that what is near is found without a call.
 #[inline(never)]
+#[tactic(auto, using(ptlines::proofs::Masks::first_behind))]
 fn find_blank_far(bytes: &[u8]) -> Option<usize>
     requires { 16 ≤ length bytes.now }
     ensures { IsFirstByte is_blank bytes.now result }

@@ -88,6 +88,7 @@ pub(crate) fn group_slots<K: KeyOrder>(merge: &Merge<K>, end: usize) -> (usize, 
 }
 
 // Empties the slots of the group.
+#[tactic(auto, using(crate::proofs::OfJoin::GroupSlots::clears_none))]
 pub(crate) fn clear_group<A: Allocator + Copy>(store: &mut Store<A>, end: usize)
     requires { (4 ≤ end) × (end ≤ length store.old.lines) }
     ensures { IsGroupCleared store.old store.new end }

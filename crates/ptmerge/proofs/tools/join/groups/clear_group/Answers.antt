@@ -1,9 +1,6 @@
 use Rattle.std.proofs.Common.{arith}
-use Rattle.ptmerge.proofs.OfJoin.GroupSlots.{clears_none, clears_more}
+use Rattle.ptmerge.proofs.OfJoin.GroupSlots.{clears_more}
 use Rattle.ptmerge.proofs.tools.join.groups.clear_group.Goals as goal
-
-pub loop-slot-init : goal.loop-slot-init
-loop-slot-init g c = record { cleared = clears_none c.args.store.now; from = omega arith }
 
 pub loop-slot-preserved : goal.loop-slot-preserved
 loop-slot-preserved g c =
