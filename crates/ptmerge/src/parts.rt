@@ -7,6 +7,7 @@ ghost use Rattle.ptmerge.specs.Parts.{PartsOfComm, PartsOfJoin, CommByKey, JoinB
 /// and each line of the first parts comes before each line of the rest. It holds for both orders, whichever columns are
 /// left out. As often as the rest is cut so, there are as many parts, and only the last ones may be out of order.
 /// The call does nothing at run time. It is there for its contract, which states this law.
+#[tactic(auto, using(crate::proofs::OfParts::PartsInOrder::comm_of_parts))]
 pub fn parts_of_comm()
     ensures { PartsOfComm }
 {}
@@ -16,6 +17,7 @@ pub fn parts_of_comm()
 /// and each join field of the first parts comes before each one of the rest. It holds for both orders and with all
 /// options. As often as the rest is cut so, there are as many parts, and only the last ones may be out of order.
 /// The call does nothing at run time. It is there for its contract, which states this law.
+#[tactic(auto, using(crate::proofs::OfParts::PartsInOrder::join_of_parts))]
 pub fn parts_of_join()
     ensures { PartsOfJoin }
 {}

@@ -1,14 +1,14 @@
 -- What `comm` writes of a line, what is known at each of its turns, and what comes of the turn.
-use Rattle.ptmerge.proofs.Common.{◌≡◌, ℕ, ◌<◌, false, List, [], ◌∷◌, ◌++◌, Result, Ok, Err, length, refl, sym, ◌∙◌, ap, arith, false≢true, Comm, Output, Wrote, Reader, Slots, line, total}
-use Rattle.ptmerge.proofs.Common.{text, longest, wrote_nothing, MergeFault, Side, First, Second, Sorted, Head, Ended, comm_by, entries_in, tab_unless, Lines, Tool, by_keys, with_key, HasPassed}
-use Rattle.ptmerge.proofs.Common.{StandsAt, State, IsMerge, IsUnread, Ends, seen, Cmp, Key, both, put, other, AreEqual, CannotStart, IsAlone, IsDecided, IsLent, IsPlaced, Starts, inputs}
-use Rattle.ptmerge.proofs.Common.{Adds, IsCleared, suc, ◌-◌, min, append_assoc, append-nil, bytes_decides, tied_itself, entries, Bool}
-use Rattle.ptmerge.proofs.OfMerges.Turning.{CannotPass, IsOpened, Placed, Running, adds_of, comes_slots, goes, goes_merging, passes_slots, passing_now, runs_on, slots_of, standing}
-use Rattle.ptmerge.proofs.OfMerges.Turning.{turn_stops, went, IsLineByLine, ahead, all_ended, alone, pass_one, stops_at, left, less, lent_on, place_is, wrote_and_sent}
+use Rattle.ptmerge.proofs.Common.{◌≡◌, ℕ, ◌<◌, false, List, [], ◌∷◌, ◌++◌, Result, Ok, Err, length, refl, sym, ◌∙◌, ap, arith, Comm, Output, Wrote, Reader, Slots, line, text, MergeFault, Side, First}
+use Rattle.ptmerge.proofs.Common.{Second, Sorted, Head, Ended, comm_by, entries_in, tab_unless, Lines, Tool, by_keys, with_key, HasPassed, StandsAt, State, IsMerge, IsUnread, seen, Cmp, Key, both}
+use Rattle.ptmerge.proofs.Common.{put, other, AreEqual, CannotStart, IsAlone, IsDecided, IsLent, IsPlaced, Starts, inputs, Adds, IsCleared, suc, ◌-◌, min, append_assoc, append-nil, bytes_decides}
+use Rattle.ptmerge.proofs.Common.{tied_itself, entries, Bool}
+use Rattle.ptmerge.proofs.OfMerges.Turning.{CannotPass, IsOpened, Placed, Running, adds_of, comes_slots, goes, goes_merging, passes_slots, passing_now, runs_on, slots_of, standing, turn_stops}
+use Rattle.ptmerge.proofs.OfMerges.Turning.{IsLineByLine, ahead, alone, pass_one, left, less, lent_on, place_is, wrote_and_sent, TwoLines, holds_two, keeps_two, ends_well, ends_fallen}
 use Rattle.ptmerge.proofs.OfMerges.Orders.{IsKeyOrder}
-use Rattle.ptmerge.proofs.OfMerges.Slotted.{put_other, put_same, has_lines_total}
+use Rattle.ptmerge.proofs.OfMerges.Slotted.{put_other, put_same}
 use Rattle.ptmerge.proofs.OfMerges.Passing.{Late, Merging, front_line, late_none, pass_front, all_keys}
-use Rattle.ptmerge.proofs.OfMerges.Stopping.{passed, Concludes, state, stops}
+use Rattle.ptmerge.proofs.OfMerges.Stopping.{passed, state}
 use Rattle.ptmerge.proofs.OfMerges.Starting.{starts_well, starts_badly, start_slots, start_refused}
 use Rattle.ptmerge.specs.declared.faults.MergeFault.TheVariants as faults
 
@@ -75,7 +75,7 @@ module _ (job : Comm) (cmp : Cmp) (key : Side → Key) where
 pub record IsTurn (job : Comm) (cmp : Cmp) (key : Side → Key) (old now : State) (one two : Sorted) : Type 0 where
   pub opened : IsOpened (comm_by job cmp key) old
   pub whole : (side : Side) (x : List ℕ) → key side x ≡ x
-  pub running : Running (comm_by job cmp key) old now (both one two)
+  pub running : Running (comm_by job cmp key) (TwoLines old.store) old now (both one two)
   pub placed : IsPlaced key one two now.store
   pub lent : (side : Side) → IsLent (both one two side) (now.reader side)
   pub clean : now.out.faulted ≡ false
@@ -90,11 +90,7 @@ module _ (job : Comm) {cmp : Cmp} {key : Side → Key} {old : State} (w : IsOpen
   pub start_stops : {new1 new2 : Reader} {after : Slots} {fault : MergeFault} {r : Result (Unit {0}) MergeFault} → r ≡ Err fault
       → CannotStart key cmp (record { reader = old.reader; store = old.store }) (record { reader = both new1 new2; store = after }) fault
       → Leaves (comm_by job cmp key) old (seen new1 new2 old.out after) r
-  start_stops {new1} {new2} {after} {fault} is h = rw is (record {
-    merged = starts_badly w h;
-    refused = start_refused w h;
-    slots = start_slots w h;
-  })
+  start_stops {new1} {new2} {after} {fault} is h = rw is (record { merged = starts_badly w h; refused = start_refused w h; slots = start_slots w h })
 
   pub starts : ((side : Side) (x : List ℕ) → key side x ≡ x) → {first second : Reader} {store : Slots} {one two : Sorted}
       → Starts key cmp (both one two) (record { reader = old.reader; store = old.store }) (inputs first second store)
@@ -117,17 +113,13 @@ module _ {job : Comm} {cmp : Cmp} {key : Side → Key} {old now : State} {one tw
   tool = comm_by job cmp key
 
   stood : Placed tool old now.reader (both one two) now.store ls p b
-  stood = record { sides = sides; keeps = keeps; slots = slots_of one two now.store placed }
+  stood = let slots = slots_of one two now.store placed in record { sides = sides; holds = holds_two w.fits keeps slots; slots = slots }
 
   abbrev head : Side → List ℕ
   head s = line now.store (both one two s).standing
 
   leaves : {new : State} {r : Result (Unit {0}) MergeFault} → length new.store.lines ≡ length now.store.lines → IsMerge tool old new r → Leaves tool old new r
-  leaves same merged = record {
-    merged = merged;
-    refused = λ few. absurd (omega (arith, few, same, placed.slots));
-    slots = adds_of (same ∙ keeps.slots);
-  }
+  leaves same merged = record { merged = merged; refused = λ few. absurd (omega (arith, few, same, placed.slots)); slots = adds_of (same ∙ keeps.slots) }
 
   pub stands_at : (s : Side) → (both one two s).stand ≡ Head → StandsAt key s one two (now.reader s) now.store now.out
   stands_at s head = record { placed = placed; head = head; lent = lent s; clean = clean }
@@ -152,7 +144,7 @@ module _ {job : Comm} {cmp : Cmp} {key : Side → Key} {old now : State} {one tw
       alone_on {one2} {two2} {reader} h = record {
         opened = w;
         whole = whole;
-        running = rw (← place_is s one two one2 two2 h.on.others) (runs_on w stood s step.stands h.came passed_one.0);
+        running = rw (← place_is s one two one2 two2 h.on.others) (runs_on w stood s step.stands h.came (keeps_two w stood s step.stands h.came keeps) passed_one.0);
         placed = h.on.placed;
         lent = lent_on s one two one2 two2 now.reader reader h.on.others h.on.lent lent;
         clean = h.on.clean;
@@ -160,19 +152,13 @@ module _ {job : Comm} {cmp : Cmp} {key : Side → Key} {old now : State} {one tw
 
       pub alone_stops : {reader : Reader} {after : Slots} {fault : MergeFault} {r : Result (Unit {0}) MergeFault} → r ≡ Err fault
           → CannotPass s (both one two s) (now.reader s) reader now.store after new fault → Leaves tool old (state (put s reader now.reader) new after) r
-      alone_stops {fault = fault} is h = rw is
-          (leaves (passes_slots (key s) cmp s (both one two s) (both one two s) _ _ _ _ _ fault h)
+      alone_stops {fault = fault} is h = rw is (leaves (passes_slots (key s) cmp s (both one two s) (both one two s) _ _ _ _ _ fault h)
           (turn_stops w stood s step.stands passed_one (put_same s (ls s) p) (rw (put_other s (ls s) p) (standing w stood (other s))) h))
 
   -- a line that both inputs have: the first one went on, and the second one stands at it
   pub second_stands : AreEqual cmp key (both one two) now.store → {one2 two2 : Sorted} {reader : Reader} {after : Slots} {mid : Output}
       → HasPassed key cmp First one two one2 two2 (now.reader First) reader now.store after mid → StandsAt key Second one2 two2 (now.reader Second) after mid
-  second_stands step h = record {
-    placed = h.on.placed;
-    head = ap (λ (q : Sorted). q.stand) h.on.others ∙ step.second;
-    lent = rw h.on.others (lent Second);
-    clean = h.on.clean;
-  }
+  second_stands step h = record { placed = h.on.placed; head = ap (λ (q : Sorted). q.stand) h.on.others ∙ step.second; lent = rw h.on.others (lent Second); clean = h.on.clean }
 
   module _ (step : AreEqual cmp key (both one two) now.store) where
     pub pair_less : {one2 two2 one3 two3 : Sorted} {reader reader2 : Reader} {after last : Slots} {mid new : Output}
@@ -204,8 +190,7 @@ module _ {job : Comm} {cmp : Cmp} {key : Side → Key} {old now : State} {one tw
 
       pub pair_stops : {reader : Reader} {after : Slots} {fault : MergeFault} {r : Result (Unit {0}) MergeFault} → r ≡ Err fault
           → CannotPass First one (now.reader First) reader now.store after mid fault → Leaves tool old (state (put First reader now.reader) mid after) r
-      pair_stops {fault = fault} is h = rw is
-          (leaves (passes_slots (key First) cmp First one one _ _ _ _ _ fault h)
+      pair_stops {fault = fault} is h = rw is (leaves (passes_slots (key First) cmp First one one _ _ _ _ _ fault h)
           (turn_stops w stood First step.first (passed_both wrote_pair) refl (passing_now w stood Second step.second) h))
 
       -- the first input went on, and what was pushed was sent
@@ -217,53 +202,31 @@ module _ {job : Comm} {cmp : Cmp} {key : Side → Key} {old now : State} {one tw
         pub second_stops : {reader2 : Reader} {last : Slots} {fault : MergeFault} {r : Result (Unit {0}) MergeFault} → r ≡ Err fault
             → CannotPass Second two2 (now.reader Second) reader2 after last new fault → Leaves tool old (state (both reader reader2) new last) r
         second_stops {fault = fault} is k =
-            let g = goes w stood First step.first h.came in
+            let g = goes w stood First step.first h.came w.fits keeps in
             let m = goes_merging w stood First step.first h.came passed_sent in
             rw is (leaves (passes_slots (key Second) cmp Second two2 two2 _ _ _ _ _ fault k ∙ comes_slots _ _ _ _ _ _ _ _ h.came)
             (turn_stops w g Second step.second (m, late_none _ _ _ _ _ _ h.on.clean (passed_both wrote_pair).0.wrote sent) refl (standing w g First) (rw h.on.others at k)))
 
-        module _ {one3 two3 : Sorted} {reader2 : Reader} {last : Slots} (k : HasPassed key cmp Second one2 two2 one3 two3 (now.reader Second) reader2 after last new) where
-          pub pair_on : IsTurn job cmp key old (state (both reader reader2) new last) one3 two3
-          pair_on = record {
-            opened = w;
-            whole = whole;
-            running = rw k.on.others (runs_on w (goes w stood First step.first h.came) Second step.second (rw h.on.others at k.came) (goes_merging w stood First step.first h.came passed_sent));
-            placed = k.on.placed;
-            lent = elim [ First ↦ rw k.on.others h.on.lent | Second ↦ k.on.lent ];
-            clean = k.on.clean;
-          }
+        pub pair_on : {one3 two3 : Sorted} {reader2 : Reader} {last : Slots} → HasPassed key cmp Second one2 two2 one3 two3 (now.reader Second) reader2 after last new
+            → IsTurn job cmp key old (state (both reader reader2) new last) one3 two3
+        pair_on k =
+            let g = goes w stood First step.first h.came w.fits keeps in
+            let came = rw h.on.others at k.came in
+            let kept = keeps_two w g Second step.second came (keeps_two w stood First step.first h.came keeps) in
+            record {
+              opened = w;
+              whole = whole;
+              running = rw k.on.others (runs_on w g Second step.second came kept (goes_merging w stood First step.first h.came passed_sent));
+              placed = k.on.placed;
+              lent = elim [ First ↦ rw k.on.others h.on.lent | Second ↦ k.on.lent ];
+              clean = k.on.clean;
+            }
 
   -- ---- the end
 
   module _ {after : Slots} (clear : IsCleared now.store after) where
-    concludes : (result : Result (Unit {0}) MergeFault) → (total after.lines ≡ 0 → Ends old (state now.reader now.out after) result)
-        → Concludes tool b result → Leaves tool old (state now.reader now.out after) result
-    concludes result ends conclusion =
-        let l = has_lines_total now.store.lines (λ side. longest (ls side)) 0 keeps.lines in
-        leaves clear.slots (stops _ w.o _ _ _ (λ side. []) _ _ _ (standing w stood) merging (late_none _ _ _ _ _ _ clean merging.wrote (wrote_nothing now.out))
-        result (ends (omega (arith, clear.emptied, l.2)))
-        (λ side fail. absurd (false≢true (sym (went w stood side ∙ w.unfailed side) ∙ fail))) conclusion
-        (λ all h. (omega (arith, clear.peak, l.1, keeps.peak, (h First).1, (h Second).1), omega (arith, clear.slots, keeps.slots))))
-
     pub ended : ((side : Side) → (both one two side).stand ≡ Ended) → Leaves tool old (state now.reader now.out after) (Ok tt)
-    ended step =
-        let e = all_ended tool _ _ _ _ _ _ _ sides step in
-        concludes (Ok tt) (λ empty. record {
-          done = λ side. (e side).1;
-          fault = λ side. (sides side).got.goes.fault;
-          failed = went w stood;
-          short = λ side. (sides side).got.goes.short ((w.sound side).long (w.readable side));
-          clean = clean;
-          denied = clear.denied ∙ keeps.denied;
-          empty = empty;
-        }) (λ side. (e side).0)
+    ended step = leaves clear.slots (ends_well w stood merging clean clear step)
 
-    pub fallen : {s : Side} {n : ℕ} → IsDecided cmp key (both one two) now.store s n
-        → Leaves tool old (state now.reader now.out after) (Err (faults.Disorder s n))
-    fallen {s} {n} step = concludes (Err (faults.Disorder s n)) (λ empty. record {
-      fault = λ side. (sides side).got.goes.fault;
-      failed = went w stood;
-      clean = clean;
-      denied = clear.denied ∙ keeps.denied;
-      empty = empty;
-    }) (stops_at tool w.o _ _ _ _ _ _ _ sides s n step)
+    pub fallen : {s : Side} {n : ℕ} → IsDecided cmp key (both one two) now.store s n → Leaves tool old (state now.reader now.out after) (Err (faults.Disorder s n))
+    fallen step = leaves clear.slots (ends_fallen w stood merging clean clear step)

@@ -27,12 +27,8 @@ module _ {E : Type 0} {r : Result (Unit {0}) E} (P : E → Type 0) (told : IsErr
       may_push (push_fails P told fault (rw (a.split, e, ← append_assoc a.done bytes left) (wrote_past was new (a.done ++ bytes) left fault (wrote_then a.clean a.wrote wrote))))
 
 pub amid_more : {was is new : Output} {all bytes now left : List ℕ} → now ≡ bytes ++ left → Amid was is all now → Wrote is new bytes → new.faulted ≡ false → Amid was new all left
-amid_more {was} {is} {new} {all} {bytes} {now} {left} e a wrote clean = record {
-  done = a.done ++ bytes;
-  split = a.split ∙ (rw e (sym (append_assoc a.done bytes left)));
-  wrote = wrote_then a.clean a.wrote wrote;
-  clean = λ _. clean;
-}
+amid_more {was} {is} {new} {all} {bytes} {now} {left} e a wrote clean = record
+    { done = a.done ++ bytes; split = a.split ∙ (rw e (sym (append_assoc a.done bytes left))); wrote = wrote_then a.clean a.wrote wrote; clean = λ _. clean }
 
 -- the last bytes are pushed, or a push of them failed
 pub amid_ends : {E : Type 0} {r : Result (Unit {0}) E} {was is new : Output} {all bytes now : List ℕ} → now ≡ bytes → Amid was is all now → MayPush is new bytes r → MayPush was new all r

@@ -68,21 +68,20 @@ piece_at p bytes at is = record {
   is = sym (take-append-drop at bytes);
   ends = (
     get_or bytes at 0,
-    drop_more bytes at 0 (position-Some p bytes at 0 is).0
-        ∙ ap (λ (l : List ℕ). get_or bytes at 0 ∷ l) (sym (take_all _ (drop (at + 1) bytes) (omega (arith, length-drop (at + 1) bytes)))),
+    drop_more bytes at 0 (position-Some p bytes at 0 is).0 ∙ ap (λ (l : List ℕ). get_or bytes at 0 ∷ l) (sym (take_all _ (drop (at + 1) bytes) (omega (arith, length-drop (at + 1) bytes)))),
   );
 }
 
 -- the same place, as the end of the first piece
-pub ends_at : (separator : Option ℕ) (bytes : List ℕ) (at : ℕ) → position (ends_field separator) bytes ≡ Some at → EndsFirst separator bytes at
-ends_at separator bytes at is = record {
+pub ends_at : (separator : Option ℕ) (bytes : List ℕ) (at : ℕ) (end : Option ℕ) → end ≡ position (ends_field separator) bytes → end ≡ Some at → EndsFirst separator bytes at
+ends_at separator bytes at end first some = let is = sym first ∙ some in record {
   behind = slice_split (ends_field separator) (take (length bytes - (at + 1)) (drop (at + 1) bytes));
   is = split_around (ends_field separator) bytes at is;
   within = omega (arith, (position-Some (ends_field separator) bytes at 0 is).0);
 }
 
-pub ends_whole : (separator : Option ℕ) (bytes : List ℕ) → position (ends_field separator) bytes ≡ None → EndsFirst separator bytes (length bytes)
-ends_whole separator bytes none = record {
+pub ends_whole : (separator : Option ℕ) (bytes : List ℕ) (end : Option ℕ) → end ≡ position (ends_field separator) bytes → end ≡ None → EndsFirst separator bytes (length bytes)
+ends_whole separator bytes end first is_none = let none = sym first ∙ is_none in record {
   behind = [];
   is = split_whole (ends_field separator) bytes none ∙ ap (λ (l : List ℕ). l ∷ []) (sym (take_all (length bytes) bytes (omega arith)));
   within = omega arith;
@@ -96,20 +95,16 @@ pub first_piece_span : (c number end : ℕ) (line : List ℕ) → number ≤ 1 �
     → IsSpan line (nth_field number (fields_left (Some c) (Some line))) (record { start = 0; end = end })
 first_piece_span c number end line low e =
     let first : number - 1 ≡ 0 = omega (arith, low) in
-    front_span line (nth_field number (fields_left (Some c) (Some line))) end e.within
-    (sym ((λ i. get_or (e.is i) (first i) [])))
+    front_span line (nth_field number (fields_left (Some c) (Some line))) end e.within (sym ((λ i. get_or (e.is i) (first i) [])))
 
-word_first : (line bytes : List ℕ) (end : ℕ) (behind : List (List ℕ)) → 0 < end → end ≤ length line
-    → get_or (filter has_bytes (take end line ∷ behind)) 0 [] ≡ take end line
+word_first : (line bytes : List ℕ) (end : ℕ) (behind : List (List ℕ)) → 0 < end → end ≤ length line → get_or (filter has_bytes (take end line ∷ behind)) 0 [] ≡ take end line
 word_first [] bytes end behind some within = absurd (omega (arith, some, within))
 word_first (x ∷ xs) bytes zero behind some within = absurd (omega (arith, some))
 word_first (x ∷ xs) bytes (suc end) behind some within = refl
 
-pub first_word_span : (end : ℕ) (line : List ℕ) → EndsFirst None line end → 0 < end
-    → IsSpan line (nth_field 1 (fields_left None (Some line))) (record { start = 0; end = end })
+pub first_word_span : (end : ℕ) (line : List ℕ) → EndsFirst None line end → 0 < end → IsSpan line (nth_field 1 (fields_left None (Some line))) (record { start = 0; end = end })
 first_word_span end line e some =
-    front_span line (nth_field 1 (fields_left None (Some line))) end e.within
-    (sym (ap (λ fs. get_or (filter has_bytes fs) 0 []) e.is ∙ word_first line [] end e.behind some e.within))
+    front_span line (nth_field 1 (fields_left None (Some line))) end e.within (sym (ap (λ fs. get_or (filter has_bytes fs) 0 []) e.is ∙ word_first line [] end e.behind some e.within))
 
 -- no bytes stand at the front
 pub span_none : (line bytes : List ℕ) → bytes ≡ [] → IsSpan line bytes (record { start = 0; end = 0 })
@@ -182,11 +177,9 @@ abbrev pub item_of : Join → List ℕ → Option (List ℕ) → Option (List �
 item_of job k one two i = filled job.empty (named i k (fields_left job.separator one) (fields_left job.separator two))
 
 -- the entry of a list begins with its first item
-pub entry_listed : (job : Join) (k : List ℕ) (one two : Option (List ℕ)) (items : List OutField) (d : OutField) → 1 ≤ length items
-    → {bytes : List ℕ} → bytes ≡ item_of job k one two (get_or items 0 d)
+pub entry_listed : (job : Join) (k : List ℕ) (one two : Option (List ℕ)) (items : List OutField) (d : OutField) → 1 ≤ length items → {bytes : List ℕ} → bytes ≡ item_of job k one two (get_or items 0 d)
     → entry_with job (Some items) k one two ≡ bytes ++ led (between job.separator) (map (item_of job k one two) (take (length items - 1) (drop 1 items)))
-entry_listed job k one two items d some {bytes} first =
-    ap (join_with_byte (between job.separator)) (listed (item_of job k one two) items d some first) ∙ join_led (between job.separator) bytes _
+entry_listed job k one two items d some {bytes} first = ap (join_with_byte (between job.separator)) (listed (item_of job k one two) items d some first) ∙ join_led (between job.separator) bytes _
 
 -- ---- words with one space between each two are written as they stand
 
@@ -248,8 +241,7 @@ module _ (job : Join) (key : List ℕ) (none : job.list ≡ None) where
       → nth_field job.field2 (of two) ≡ key → one ++ take (length two - length key) (drop (length key) two) ++ end ∷ [] ≡ entry job key (of one) (of two) ++ end ∷ []
   pair_is {one} {two} end w1 w2 keyed1 keyed2 =
       let ys = led lead (others job.field2 (of two)) in
-      ap (λ (l : List ℕ). one ++ l ++ end ∷ []) (behind_key key ys two (stands_is w2 keyed2))
-      ∙ ap (λ (l : List ℕ). l ++ ys ++ end ∷ []) (stands_is w1 keyed1)
+      ap (λ (l : List ℕ). one ++ l ++ end ∷ []) (behind_key key ys two (stands_is w2 keyed2)) ∙ ap (λ (l : List ℕ). l ++ ys ++ end ∷ []) (stands_is w1 keyed1)
       ∙ ap (λ (l : List ℕ). l ++ end ∷ []) (append_assoc key (led lead (others job.field1 (of one))) ys ∙ sym (entry_plain job key (Some one) (Some two) none))
 
   -- the entry of such a line alone
@@ -268,10 +260,7 @@ lanes_of v n byte = zip2 (λ a b. cond (eqb a b) 255 0) v (replicate n byte)
 -- ---- blanks
 
 or_lane : (p q : Bool) → top 7 (bit_or (cond p 255 0) (cond q 255 0)) ≡ (p || q)
-or_lane true true = refl
-or_lane true false = refl
-or_lane false true = refl
-or_lane false false = refl
+or_lane p q = grind arith
 
 blank_lanes : (v : List ℕ) (n : ℕ) → length v ≡ n → map (top 7) (zip2 bit_or (lanes_of v n 32) (lanes_of v n 9)) ≡ map is_blank v
 blank_lanes [] n long = refl
@@ -288,10 +277,7 @@ blank_mask bytes at n within few =
 -- ---- a tab, or a space behind another one
 
 and_lane : (p q : Bool) → bit_and (cond p 255 0) (cond q 255 0) ≡ cond (p && q) 255 0
-and_lane true true = refl
-and_lane true false = refl
-and_lane false true = refl
-and_lane false false = refl
+and_lane p q = grind arith
 
 uneven_lanes : (u v : List ℕ) (n : ℕ) → length u ≡ n → length v ≡ n → map (top 7) (zip2 bit_or (lanes_of v n 9) (zip2 bit_and (lanes_of u n 32) (lanes_of v n 32))) ≡ zip2 is_uneven u v
 uneven_lanes [] [] n lu lv = refl
@@ -328,8 +314,7 @@ module _ (bytes : List ℕ) (at n : ℕ) (behind : 0 < at) (room : at + n ≤ le
   lane_at k low =
       let before : (at - 1) + k ≡ (at + k) - 1 = omega (arith, behind) in
       get_or-zip2 is_uneven front here k 0 0 false (omega (arith, low, front_long)) (omega (arith, low, here_long))
-      ∙ (λ i. is_uneven (get_or-chunk (at - 1) n bytes k 0 low i) (get_or-chunk at n bytes k 0 low i))
-      ∙ ap (λ (i : ℕ). is_uneven (get_or bytes i 0) (get_or bytes (at + k) 0)) before
+      ∙ (λ i. is_uneven (get_or-chunk (at - 1) n bytes k 0 low i) (get_or-chunk at n bytes k 0 low i)) ∙ ap (λ (i : ℕ). is_uneven (get_or bytes i 0) (get_or bytes (at + k) 0)) before
 
   lanes_long : length (zip2 is_uneven front here) ≡ n
   lanes_long = length-zip2 is_uneven front here (front_long ∙ sym here_long) ∙ front_long
@@ -348,8 +333,7 @@ module _ (bytes : List ℕ) (at n : ℕ) (behind : 0 < at) (room : at + n ≤ le
   }
 
   pub even_lanes : IsEven bytes at (at + n) (eqb (mask_l (map (top 7) (zip2 bit_or (lanes_of here n 9) (zip2 bit_and (lanes_of front n 32) (lanes_of here n 32)))) % 2 ^ 64) 0)
-  even_lanes = even_by _
-      (ap (λ (ms : List Bool). mask_l ms % 2 ^ 64) (uneven_lanes front here n front_long here_long) ∙ mask_l-mod (zip2 is_uneven front here) 64 (omega (arith, lanes_long, few)))
+  even_lanes = even_by _ (ap (λ (ms : List Bool). mask_l ms % 2 ^ 64) (uneven_lanes front here n front_long here_long) ∙ mask_l-mod (zip2 is_uneven front here) 64 (omega (arith, lanes_long, few)))
 
 -- ---- words with one space between each two
 
@@ -360,8 +344,7 @@ even_tail b x xs none (suc k) low high uneven = let e : suc (suc k) - 1 ≡ suc 
 tidy_rest : (b : ℕ) (xs : List ℕ) → Nowhere (UnevenAt (b ∷ xs)) 1 (length (b ∷ xs)) → (get_or (b ∷ xs) (length xs) 0 == 32) ≡ false → is_tidy (b == 32) xs ≡ true
 tidy_rest b [] none last = ap not last
 tidy_rest b (x ∷ xs) none last =
-    ap (λ (t : Bool). cond t false (is_tidy (x == 32) xs)) (false_from_ne_true (is_uneven b x) (none 1 (omega arith) (omega arith)))
-    ∙ tidy_rest x xs (even_tail b x xs none) last
+    ap (λ (t : Bool). cond t false (is_tidy (x == 32) xs)) (false_from_ne_true (is_uneven b x) (none 1 (omega arith) (omega arith))) ∙ tidy_rest x xs (even_tail b x xs none) last
 
 rest_tidy : (b : ℕ) (xs : List ℕ) → is_tidy (b == 32) xs ≡ true → Nowhere (UnevenAt (b ∷ xs)) 1 (length (b ∷ xs)) × ((get_or (b ∷ xs) (length xs) 0 == 32) ≡ false)
 rest_tidy b [] is = (λ k low high uneven. absurd (omega (arith, low, high)), elim (b == 32) as (λ t. not t ≡ true → t ≡ false) [ true ↦ λ h. sym h | false ↦ λ h. refl ] is)

@@ -29,9 +29,7 @@ group_more store from end least within =
 
 -- one slot has one line
 pub group_one : (store : Slots) (slot : ℕ) → slot < length store.lines → group store slot (slot + 1) ≡ line store slot ∷ []
-group_one store slot within =
-    let none : slot - slot ≡ 0 = omega arith in
-    group_more store slot slot (omega arith) within ∙ ap (λ n. take n (drop slot store.lines) ++ line store slot ∷ []) none
+group_one store slot within = let none : slot - slot ≡ 0 = omega arith in group_more store slot slot (omega arith) within ∙ ap (λ n. take n (drop slot store.lines) ++ line store slot ∷ []) none
 
 -- ---- what is written
 
@@ -105,12 +103,6 @@ record IsMeasure (m : Lines → ℕ) : Type 0 where
   none : m [] ≡ 0
   more : (x : List ℕ) (xs : Lines) → m (x ∷ xs) ≡ weight x + m xs
 
-by_bytes : IsMeasure total
-by_bytes = record { weight = length; none = refl; more = λ x xs. sum_by-cons length x xs }
-
-by_lines : IsMeasure length
-by_lines = record { weight = λ x. 1; none = refl; more = λ x xs. omega arith }
-
 module _ (m : Lines → ℕ) (laws : IsMeasure m) (key : Key) where
   -- a list that has lines of one key has no fewer of it
   own_in : (k : List ℕ) (p g c : Lines) → EachKey (λ x. x ≡ k) key g → m g ≤ m (with_key key (p ++ (g ++ c)) k)
@@ -137,7 +129,10 @@ abbrev pub InGroup : Key → Lines → Lines → Type 0
 InGroup key g ls = (total g ≤ largest_group key ls) × (length g ≤ most_lines key ls)
 
 pub group_in : (key : Key) (k : List ℕ) (p g : Lines) (y : List ℕ) (w : Lines) → EachKey (λ x. x ≡ k) key (g ++ y ∷ []) → key y ≡ k → InGroup key (g ++ y ∷ []) (((p ++ g) ++ y ∷ []) ++ w)
-group_in key k p g y w own is = (measure_in total by_bytes key k p g y w own is, measure_in length by_lines key k p g y w own is)
+group_in key k p g y w own is = (
+  measure_in total (record { weight = length; none = refl; more = λ x xs. sum_by-cons length x xs }) key k p g y w own is,
+  measure_in length (record { weight = λ x. 1; none = refl; more = λ x xs. omega arith }) key k p g y w own is,
+)
 
 -- ---- what the slots hold
 
@@ -160,8 +155,7 @@ pub record Keeping (key : Key) (before store : Slots) (ls : Side → Lines) (g :
   pub empty : total tail ≡ 0
   pub lines : HasLines (λ side. longest (ls side)) (total g) store.lines
   -- whatever the second input goes on with
-  pub bounds : (all more : Lines) → all ≡ ls Second ++ more
-      → InGroup key g all × (store.peak ≤ max before.peak (2 * longest (ls First) + 2 * longest (ls Second) + largest_group key all))
+  pub bounds : (all more : Lines) → all ≡ ls Second ++ more → InGroup key g all × (store.peak ≤ max before.peak (2 * longest (ls First) + 2 * longest (ls Second) + largest_group key all))
       × (length store.lines ≤ max (length before.lines) (4 + most_lines key all))
   pub least : length before.lines ≤ length store.lines
   pub four : 4 ≤ length store.lines
@@ -263,17 +257,14 @@ module _ {key : Key} {before store : Slots} {ls : Side → Lines} {g : Lines} (k
           let split : drop 4 made.lines ≡ g ++ (k.tail ++ w.more)
           = ap (λ (l : Lines). drop 4 l) w.lines ∙ drop-append-le 4 store.lines w.more k.four ∙ ap (λ (l : Lines). l ++ w.more) k.split ∙ append_assoc g k.tail w.more in
           record {
-            keeping = by_tail (k.tail ++ w.more) (omega (arith, sum_by-append length k.tail w.more, k.empty, w.empty))
-                (omega (arith, within, at, ap length split, length-drop 4 made.lines))
+            keeping = by_tail (k.tail ++ w.more) (omega (arith, sum_by-append length k.tail w.more, k.empty, w.empty)) (omega (arith, within, at, ap length split, length-drop 4 made.lines))
                 (rw at (drop-set-add 4 made.lines (length g) y) ∙ ap (λ (l : Lines). set l (length g) y) split);
             same = first_same;
           }
 
   pub keeping_kept : {after : Slots} {from to : ℕ} → to ≡ 4 + length g → from < 4 → IsKept store after from to → {y : List ℕ} → line store from ≡ y
       → ((l : Lines) → InGroup key (g ++ y ∷ []) (ls Second ++ l)) → Kept after y
-  keeping_kept {after} {from} {to} at low e {y} is largest =
-      let w = made_so store e.made to e.grown in
-      rw (e.copied, made_same w from low, is) (kept w y at e.grown.within largest)
+  keeping_kept {after} {from} {to} at low e {y} is largest = let w = made_so store e.made to e.grown in rw (e.copied, made_same w from low, is) (kept w y at e.grown.within largest)
 
   -- the lines of the group stand in its slots
   pub kept_line : (slot : ℕ) → 4 ≤ slot → slot < 4 + length g → line store slot ≡ get_or g (slot - 4) []

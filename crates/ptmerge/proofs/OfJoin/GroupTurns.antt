@@ -1,10 +1,10 @@
 -- A group of lines of one key: its lines are gathered, paired and closed.
-use Rattle.ptmerge.proofs.Common.{◌≡◌, ◌⊎◌, ⊎_elim, inl, inr, ℕ, ◌+◌, ◌*◌, ◌≤◌, ◌<◌, ◌&&◌, Bool, true, false, List, [], ◌∷◌, ◌++◌, Some, Err, length, max, refl, sym, ◌∙◌, ap, subst, arith}
+use Rattle.ptmerge.proofs.Common.{◌≡◌, ⊎_elim, inl, inr, ℕ, ◌+◌, ◌*◌, ◌≤◌, ◌<◌, ◌&&◌, Bool, true, false, List, [], ◌∷◌, ◌++◌, Some, Err, length, max, refl, sym, ◌∙◌, ap, subst, arith}
 use Rattle.ptmerge.proofs.Common.{append_assoc, bytes_eq, bytes_decides, is_gt, false≢true, append-nil, Output, Wrote, Reader, Reads, IsSound, Slots, line, total, with_line, text, IsLine, longest}
-use Rattle.ptmerge.proofs.Common.{wrote_trans, text-append, MergeFault, Read, Write, Memory, Side, First, Second, Sorted, Stand, Head, Ended, Disorder, is_head, largest_group, most_lines, Lines, Tool}
-use Rattle.ptmerge.proofs.Common.{by_keys, entries_of, with_key, IsUnwritten, State, IsMerge, CannotRead, Comes, HasSlots, put, other, GoesBefore, disorder, merged_entries, ordered, up_to, Ends}
-use Rattle.ptmerge.proofs.Common.{IsWhole, Cmp, Key}
-use Rattle.ptmerge.proofs.OfMerges.Turning.{slots_on, BothStand, IsAbove, IsLineByLine, ahead, next_at, own_slots, passed_at, sides_on, slots_apart}
+use Rattle.ptmerge.proofs.Common.{wrote_trans, text-append, MergeFault, Read, Memory, Side, First, Second, Sorted, Stand, Head, Ended, Disorder, is_head, largest_group, most_lines, Lines, Tool}
+use Rattle.ptmerge.proofs.Common.{by_keys, entries_of, with_key, State, IsMerge, CannotRead, Comes, HasSlots, put, other, GoesBefore, disorder, merged_entries, ordered, up_to, Ends, IsWhole, Cmp, Key}
+use Rattle.ptmerge.proofs.Common.{Write}
+use Rattle.ptmerge.proofs.OfMerges.Turning.{slots_on, BothStand, IsAbove, IsLineByLine, ahead, next_at, own_slots, passed_at, sides_on, slots_apart, Holds}
 use Rattle.ptmerge.proofs.OfMerges.Passing.{Bound, From, Coming, Under, Merging, Seen, MayCome, all_keys, splits_step, all_wanted, passed_is_wanted}
 use Rattle.ptmerge.proofs.OfJoin.GroupSlots.{AllSlots, Keeping, keeping_line, keeping_next, low_slot, put_more}
 use Rattle.ptmerge.proofs.OfMerges.Orders.{EachKey, EachKey-append, EachKey-weaker, at_most-same, front_first, front_is, others_of, with_key-above, IsKeyOrder, AtMost, least_or_above, self_at_most}
@@ -114,11 +114,6 @@ moved now s reader out store = record { reader = put s reader now.reader; out = 
 abbrev pub GoneOf : Call → State → Side → Reader → List ℕ → Lines → Lines → Bound → Type 0
 GoneOf call now side new piece ls p b = Gone call.end call.cmp (call.key side) (call.old.reader side) (now.reader side) new piece ls p b
 
--- a write failed, or the next line of an input could not be read
-abbrev pub NotPassed : State → Side → Sorted → Reader → Slots → Output → MergeFault → Type 0
-NotPassed now s place reader after new fault =
-    ((fault ≡ Write) × IsUnwritten (now.reader s) reader now.store after new) ⊎ ((new.faulted ≡ false) × CannotRead s place (now.reader s) reader now.store after fault)
-
 -- no read has failed, so nothing needs to be shown for one that has
 pub not_failed : (call : Call) (side : Side) {b : Bool} {X : Type 0} → b ≡ (call.old.reader side).failed → b ≡ true → X
 not_failed call side same fail = absurd (false≢true (sym (same ∙ call.unfailed side) ∙ fail))
@@ -145,6 +140,11 @@ module _ (call : Call) {store : Slots} {ls : Side → Lines} {g : Lines} (h : Ke
   -- a store that holds no more, and has no more slots
   pub fits_kept : (after : Slots) → after.peak ≤ max store.peak (total store.lines) → length after.lines ≡ length store.lines → Fits call.tool call.old.store now ls (λ side. []) after
   fits_kept after peak same all w = omega (arith, peak, same, size_of call h all (λ side. omega (arith, (w side).1)) ((w Second).0.more, (w Second).0.is))
+
+pub holds_between : (call : Call) {reader : Side → Reader} {place : Side → Sorted} {store : Slots} {ls : Side → Lines} → Keeping (call.key Second) call.old.store store ls [] → AllSlots place
+    → Holds call.tool call.old.store reader place store ls
+holds_between call {place = place} h slots =
+    record { lines = h.lines; denied = h.denied; fits = fits_kept call h; line = λ s. peak_line call h s (place s) (slots s) }
 
 -- both inputs stand as they did where the first four slots are the same
 pub stand_still : (tool : Tool) {old now : Side → Reader} {place : Side → Sorted} {before after : Slots} {ls p : Side → Lines} {b : Side → Bound} → BothStand tool old now place before ls p b
@@ -202,8 +202,7 @@ module _ (call : Call) {was mid : Output} {p g : Side → Lines} {d : Side → B
       splits_off w r c =
           let none = λ (side : Side). with_key-above tool o (key side) k (r side) (above side (r side) (c side)) in
           let nothing : entries_of tool r k ≡ [] = (λ i. entries k (none First i) (none Second i)) ∙ laws.alone.none k in
-          front_first tool o w k g r m.own (λ side. m.beyond side (r side) (c side)) (laws.alone.none k)
-          (simp (none First, none Second, nothing, append-nil))
+          front_first tool o w k g r m.own (λ side. m.beyond side (r side) (c side)) (laws.alone.none k) (simp (none First, none Second, nothing, append-nil))
 
       all : by_keys tool all_keys (λ side. p side ++ g side) ≡ by_keys tool all_keys p ++ pairs k (g First) (g Second)
       all =
@@ -236,14 +235,11 @@ module _ {call : Call} {now : State} {place : Side → Sorted} {end : ℕ} {k : 
 
   -- an input is past the lines of the key where it stands at no line with it
   pub is_past : (s : Side) → ((place s).stand ≡ Head → ¬ (key s (head_of now place s) ≡ k)) → IsAbove cmp (key s) k (q.d s)
-  is_past s other = (ahead cmp o (key s) k (place s).stand (place s) now.store (now.reader s) (q.ls s) (q.p s ++ g s) (q.d s)
-      (by (place s).stand (q.sides s).stands other) (q.sides s).stands).0
+  is_past s other = (ahead cmp o (key s) k (place s).stand (place s) now.store (now.reader s) (q.ls s) (q.p s ++ g s) (q.d s) (by (place s).stand (q.sides s).stands other) (q.sides s).stands).0
     where
-      by : (t : Stand) → Stands cmp (key s) t (place s) now.store (now.reader s) (q.ls s) (q.p s ++ g s) (q.d s)
-          → (t ≡ Head → ¬ (key s (head_of now place s) ≡ k))
+      by : (t : Stand) → Stands cmp (key s) t (place s) now.store (now.reader s) (q.ls s) (q.p s ++ g s) (q.d s) → (t ≡ Head → ¬ (key s (head_of now place s) ≡ k))
           → GoesBefore cmp k t (key s (head_of now place s)) (key s (line now.store (place s).previous))
-      by Head st other = ap is_gt (⊎_elim (λ same. absurd (other refl same.1)) (λ h. h.1)
-          (least_or_above cmp o k (key s (head_of now place s)) (subst (λ b. Under cmp b k) st.2 (q.within.under s))))
+      by Head st other = ap is_gt (⊎_elim (λ same. absurd (other refl same.1)) (λ h. h.1) (least_or_above cmp o k (key s (head_of now place s)) (subst (λ b. Under cmp b k) st.2 (q.within.under s))))
       by Ended st other = tt
       by (Disorder n) st other = subst (λ b. Under cmp b k) st (q.within.under s)
 
@@ -279,25 +275,18 @@ module _ {call : Call} {now : State} {place : Side → Sorted} {end : ℕ} {k : 
   with_head = at_head.all ∙ append_assoc (q.p s) (g s) (x ∷ [])
 
   pub own_more : (side : Side) → EachKey (λ z. z ≡ k) (key side) (grown now place s g side)
-  own_more = put_each (λ side (l : Lines). EachKey (λ z. z ≡ k) (key side) l) s (g s ++ x ∷ []) g
-      (EachKey-append (λ z. z ≡ k) (key s) (g s) (x ∷ []) (q.within.own s) (l.is, tt)) q.within.own
+  own_more = put_each (λ side (l : Lines). EachKey (λ z. z ≡ k) (key side) l) s (g s ++ x ∷ []) g (EachKey-append (λ z. z ≡ k) (key s) (g s) (x ∷ []) (q.within.own s) (l.is, tt)) q.within.own
 
   pub within_more : Within tool old.out q.mid q.p (grown now place s g) q.d k
   within_more = record { merging = q.within.merging; clean = q.within.clean; own = own_more; beyond = q.within.beyond; under = q.within.under }
 
   fails_in : (new : Reader) → new.held ≡ [] → new.ended ≡ false → Fails cmp (key s) new (q.ls s) (q.p s ++ grown now place s g s)
-  fails_in new held ended = record {
-    held = held;
-    ended = ended;
-    all = with_head ∙ sym (ap (λ (l : Lines). q.p s ++ l) (put_same s (g s ++ x ∷ []) g));
-    last = Some (key s x);
-    begun = rw put_same (rw with_head at at_head.begun);
-  }
+  fails_in new held ended = record
+      { held = held; ended = ended; all = with_head ∙ sym (ap (λ (l : Lines). q.p s ++ l) (put_same s (g s ++ x ∷ []) g)); last = Some (key s x); begun = rw put_same (rw with_head at at_head.begun) }
 
   pub passing : (new : Reader) (piece : List ℕ) → Reads (now.reader s) new piece → IsLine (now.reader s).ending piece → IsSound new
       → (side : Side) → GoneOf call now side (put s new now.reader side) (put s piece (λ t. []) side) (q.ls side) (q.p side ++ grown now place s g side) (q.d side)
-  passing new piece reads free sound = side_case
-      (λ side. GoneOf call now side (put s new now.reader side) (put s piece (λ t. []) side) (q.ls side) (q.p side ++ grown now place s g side) (q.d side)) s
+  passing new piece reads free sound = side_case (λ side. GoneOf call now side (put s new now.reader side) (put s piece (λ t. []) side) (q.ls side) (q.p side ++ grown now place s g side) (q.d side)) s
       (simp put_same (subst (λ (l : Lines). GoneOf call now s new piece (q.ls s) l (q.d s)) with_head
       (rw at_head.bound (gone_passed o (q.sides s).got reads free sound at_head.begun)))) (simp put_other (standing q (other s)))
 
@@ -349,8 +338,7 @@ module _ {call : Call} {now : State} {place : Side → Sorted} {end : ℕ} {k : 
 
     says : next.same ≡ (is_head next.stand && bytes_eq k (key s (line after next.standing)))
     says =
-        comes_repeats cmp o (key s) (place s) next (now.reader s) reader now.store after at_head.some
-        (omega (arith, q.keeps.four, (low_slot s (place s) (l.slots s)).1)) comes
+        comes_repeats cmp o (key s) (place s) next (now.reader s) reader now.store after at_head.some (omega (arith, q.keeps.four, (low_slot s (place s) (l.slots s)).1)) comes
         ∙ ap (λ (z : List ℕ). is_head next.stand && bytes_eq z (key s (line after next.standing))) l.is
 
     -- whether that line has the group's key, too

@@ -4,10 +4,9 @@ use Rattle.ptmerge.proofs.Common.{join_key, pairs_of, Lines, Cmp, Key, Output, W
 use Rattle.ptmerge.proofs.Common.{group, CanGoOn, HasPassed, JoinsAt, StandsAt, State, IsMerge, both, put, ⊎_elim, ◌-◌, ◌==◌, wrote_trans, other, nat_tests, length_push, text-append, append_assoc}
 use Rattle.ptmerge.proofs.Common.{nil_from_length, IsKept, NotGathered, most_lines, false≢true}
 use Rattle.ptmerge.proofs.OfJoin.Turns.{Gathering, Held, IsTurn, Leaves, Pairing, call_of, end_in, leaves, joins_at, slots, went_on}
-use Rattle.ptmerge.proofs.OfMerges.Turning.{comes_slots, same_state, wrote_as, breaks_slots, IsAbove, placed_keeps, wrote_and_sent}
-use Rattle.ptmerge.proofs.OfJoin.GroupTurns.{Call, NotPassed, moved, fits_kept, not_failed, AtLine, GoneOn, Grouped, closes, goes_on, goes_past, gone_on, group_breaks, grown, is_past, next_slots}
-use Rattle.ptmerge.proofs.OfJoin.GroupTurns.{others_stay, passing, stand_still, standing, starts, went, within_more, grouped_keeps, last_stays, own_more, size_of, starts_none, with_head, StartsWith}
-use Rattle.ptmerge.proofs.OfJoin.GroupTurns.{halts}
+use Rattle.ptmerge.proofs.OfMerges.Turning.{comes_slots, same_state, wrote_as, breaks_slots, IsAbove, placed_keeps, wrote_and_sent, CannotPass}
+use Rattle.ptmerge.proofs.OfJoin.GroupTurns.{Call, moved, fits_kept, not_failed, AtLine, GoneOn, Grouped, closes, goes_on, goes_past, gone_on, group_breaks, grown, is_past, next_slots, others_stay}
+use Rattle.ptmerge.proofs.OfJoin.GroupTurns.{passing, stand_still, standing, starts, went, within_more, grouped_keeps, last_stays, own_more, size_of, starts_none, with_head, StartsWith, halts}
 use Rattle.ptmerge.specs.declared.tools.join.Phase.{Phase}
 use Rattle.ptmerge.proofs.OfJoin.GroupSlots.{group_is, kept_line, keeping_cleared, low_slot, group_one, InGroup, Kept, group_in, keeping_kept}
 use Rattle.ptmerge.proofs.OfMerges.Got.{reads_nothing}
@@ -170,21 +169,19 @@ module _ {job : Join} {cmp : Cmp} {key : Side → Key} {old : State} {phase : Ph
         (pushed : Wrote now.out new (text e (pairs_of job (key First (line now.store one.standing)) z (group now.store (first_slot two end) (end_slot two end))))) where
       wrote_more : Wrote r.q.mid new (text job.end (pairs_of job r.k (r.g First ++ z) (r.g Second)))
       wrote_more = rw (call.laws.more r.k (r.g First) z (r.g Second), text-append job.end (pairs_of job r.k (r.g First) (r.g Second)) (pairs_of job r.k z (r.g Second)))
-          (wrote_trans _ _ _ _ _ t.clean r.q.wrote
-          (wrote_as _ _ _ _ _ _ (ends ∙ t.opened.w.ending First) (λ j. pairs_of job (sym r.head.1 j) z (sym group_stands j)) pushed))
+          (wrote_trans _ _ _ _ _ t.clean r.q.wrote (wrote_as _ _ _ _ _ _ (ends ∙ t.opened.w.ending First) (λ j. pairs_of job (sym r.head.1 j) z (sym group_stands j)) pushed))
 
       begins : StartsWith (join_by job cmp key) (grown now (both one two) First r.g) r.q.d r.k (pairs_of job r.k (r.g First ++ z) (r.g Second))
       begins = starts call (within_more at_first) r.some r.above
 
       pub pair_stops : {reader : Reader} {after : Slots} {fault : MergeFault} {r : Result (Unit {0}) MergeFault} → r ≡ Err fault
-          → NotPassed now First one reader after new fault → Leaves job cmp key old (moved now First reader new after) r
+          → CannotPass First one (now.reader First) reader now.store after new fault → Leaves job cmp key old (moved now First reader new after) r
       pair_stops {reader} is_fault (inl e) = leaves t is_fault (omega (arith, ap (λ (z : Slots). length z.lines) e.1.store)) (same_state _ _ First now _ reader _ _ e.0 e.1
           (halts o old (record now { out = new }) {now = now.reader} {piece = λ side. []} {ls = r.q.ls} (within_more at_first) begins wrote_more
           (elim [ First ↦ passing at_first (now.reader First) [] (reads_nothing (now.reader First)) tt (r.q.sides First).sound First | Second ↦ standing r.q Second ])
           (record { faulted = e.1.faulted; failed = went r.q; denied = r.q.keeps.denied }) (λ side. not_failed call side (went r.q side)) (λ input pushed. tt)
           (fits_kept call r.q.keeps now.store (omega arith) refl)))
-      pair_stops {reader} {fault = fault} is_fault (inr e) = leaves t is_fault (omega (arith, breaks_slots First one _ _ _ _ fault e.1))
-          (group_breaks at_first e.0 begins wrote_more reader fault e.1)
+      pair_stops {reader} {fault = fault} is_fault (inr e) = leaves t is_fault (omega (arith, breaks_slots First one _ _ _ _ fault e.1)) (group_breaks at_first e.0 begins wrote_more reader fault e.1)
 
       module _ {one2 two2 : Sorted} {reader : Reader} {after : Slots} (h : HasPassed key cmp First one two one2 two2 (now.reader First) reader now.store after new) where
         on_first : GoneOn at_first h.came new

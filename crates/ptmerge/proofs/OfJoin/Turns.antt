@@ -1,21 +1,19 @@
 -- What is known at each turn of `join`, and what comes of a turn between two groups.
-use Rattle.ptmerge.proofs.Common.{Comes, ◌≡◌, ℕ, Bool, true, false, cond, List, [], ◌∷◌, ◌++◌, map, refl, ap, sym, ◌∙◌, inl, inr, ◌+◌, ◌*◌, ◌≤◌, ◌<◌, Result, Ok, Err, length, subst, arith, append-nil}
+use Rattle.ptmerge.proofs.Common.{Comes, ◌≡◌, ℕ, Bool, true, false, cond, List, [], ◌∷◌, ◌++◌, map, refl, ap, sym, ◌∙◌, ◌+◌, ◌*◌, ◌≤◌, ◌<◌, Result, Ok, Err, length, subst, arith, append-nil}
 use Rattle.ptmerge.proofs.Common.{flat_map-append, bytes_decides, Join, Side, First, Second, alone1, alone2, alone_entry, entry, fields, join_by, join_entries, join_key, pairs_of, Lines, by_keys, Cmp}
-use Rattle.ptmerge.proofs.Common.{Key, Output, Wrote, Reader, IsSound, Slots, line, text, MergeFault, Sorted, Head, Ended, AddsLeast, CanGoOn, HasPassed, State, IsMerge, IsUnread}
-use Rattle.ptmerge.proofs.Common.{seen, HasSlots, both, put, AreEqual, CannotStart, IsAlone, IsDecided, IsLent, IsPlaced, Starts, inputs, IsCleared, Some, ◌⊎◌, Reads, total, IsLine, longest}
-use Rattle.ptmerge.proofs.Common.{CanBegin, JoinsAt, wrote_nothing, Write, Ends, other}
-use Rattle.ptmerge.proofs.OfMerges.Turning.{opened_by, same_state, slots_of, wrote_as, breaks_slots, IsLineByLine, alone, BothStand, ahead, all_ended, breaks, merging_on, next_at}
-use Rattle.ptmerge.proofs.OfMerges.Turning.{IsOpened as Opened, pass_one, sides_on, stops_at, IsAbove, left, less, lent_on, place_is}
+use Rattle.ptmerge.proofs.Common.{Key, Output, Wrote, Reader, Slots, line, text, MergeFault, Sorted, Head, Ended, AddsLeast, CanGoOn, HasPassed, State, IsMerge, IsUnread, seen, HasSlots, both, put}
+use Rattle.ptmerge.proofs.Common.{AreEqual, CannotStart, IsAlone, IsDecided, IsLent, IsPlaced, Starts, inputs, IsCleared, ◌⊎◌, CanBegin, JoinsAt, wrote_nothing, other}
+use Rattle.ptmerge.proofs.OfMerges.Turning.{opened_by, slots_of, wrote_as, IsLineByLine, alone, ahead, IsOpened as Opened, pass_one, IsAbove, left, less, lent_on, place_is, Running, Placed}
+use Rattle.ptmerge.proofs.OfMerges.Turning.{CannotPass, passes_slots, turn_stops, standing, runs_on, n, ends_well, ends_fallen}
 use Rattle.std.specs.List.{flat_map}
-use Rattle.ptmerge.proofs.OfJoin.GroupTurns.{IsPairing, head_of, Call, NotPassed, moved, GoneOf, fits_kept, not_failed, peak_line, Grouped}
-use Rattle.ptmerge.proofs.OfMerges.Passing.{all_keys, Bound, From, Late, Merging, late_none}
+use Rattle.ptmerge.proofs.OfJoin.GroupTurns.{IsPairing, head_of, Call, moved, Grouped, holds_between}
+use Rattle.ptmerge.proofs.OfMerges.Passing.{all_keys, From, Late, Merging, Bound}
 use Rattle.ptmerge.specs.declared.tools.join.Phase.{Phase}
 use Rattle.ptmerge.proofs.OfJoin.GroupSlots.{end_within, pair_of, Keeping, keeping_next, keeping_starts}
 use Rattle.ptmerge.proofs.OfMerges.Orders.{IsKeyOrder, self_at_most}
-use Rattle.ptmerge.proofs.OfMerges.Slotted.{put_each, put_other, put_same, has_lines_total}
+use Rattle.ptmerge.proofs.OfMerges.Slotted.{put_other, put_same}
 use Rattle.ptmerge.proofs.OfMerges.Starting.{starts_badly, starts_well, start_refused, start_slots}
-use Rattle.ptmerge.proofs.OfMerges.Stopping.{Passed, passed, Concludes, gone_passed, gone_standing, stops}
-use Rattle.ptmerge.proofs.OfMerges.Got.{reads_nothing}
+use Rattle.ptmerge.proofs.OfMerges.Stopping.{passed}
 use Rattle.ptmerge.specs.declared.faults.MergeFault.TheVariants as faults
 use Rattle.ptmerge.specs.declared.tools.join.Phase.TheVariants as phases
 
@@ -62,14 +60,13 @@ module _ (job : Join) (cmp : Cmp) (key : Side → Key) where
 
 -- ---- the phases
 
+-- between groups the store keeps two lines of each input
+abbrev pub Ungrouped : Call → Slots → (Side → Lines) → Type 0
+Ungrouped call store ls = Keeping (call.key Second) call.old.store store ls []
+
 -- no group is open
-pub record Between (call : Call) (now : State) (place : Side → Sorted) : Type 0 where
-  pub ls : Side → Lines
-  pub p : Side → Lines
-  pub b : Side → Bound
-  pub sides : BothStand call.tool call.old.reader now.reader place now.store ls p b
-  pub merging : Merging call.tool b p call.old.out now.out
-  pub keeps : Keeping (call.key Second) call.old.store now.store ls []
+abbrev pub Between : Call → State → (Side → Sorted) → Type 0
+Between call now place = Running call.tool (Ungrouped call) call.old now place
 
 -- both inputs stand at a line of a key, and the second one's lines of it are gathered
 pub record Gathering (call : Call) (now : State) (place : Side → Sorted) (end : ℕ) : Type 0 where
@@ -154,11 +151,7 @@ module _ {job : Join} {cmp : Cmp} {key : Side → Key} {old : State} (a : IsOpen
       → {r : Result (Unit {0}) MergeFault} → r ≡ Err fault → Leaves job cmp key old (seen first second old.out store) r
   start_stops {first} {second} {store} {fault} cannot is_fault =
       let adds = start_slots a.w cannot in
-      rw is_fault (record {
-        merged = starts_badly a.w cannot;
-        refused = start_refused a.w cannot;
-        slots = record { least = adds.least; all = λ fine. omega (arith, adds.all fine) };
-      })
+      rw is_fault (record { merged = starts_badly a.w cannot; refused = start_refused a.w cannot; slots = record { least = adds.least; all = λ fine. omega (arith, adds.all fine) } })
 
 module _ {job : Join} {cmp : Cmp} {key : Side → Key} {old : State} {phase : Phase} {now : State} {one two : Sorted} {end : ℕ}
     (t : IsTurn job cmp key old phase now one two end) where
@@ -212,62 +205,30 @@ module _ {job : Join} {cmp : Cmp} {key : Side → Key} {old : State} {phase : Ph
     r : Between (call_of t.opened) now (both one two)
     r = between.0
 
-    went : (side : Side) → (now.reader side).failed ≡ (old.reader side).failed
-    went side = (r.sides side).got.goes.failed
-
-    stand : (side : Side) → GoneOf (call_of t.opened) now side (now.reader side) [] (r.ls side) (r.p side) (r.b side)
-    stand side = gone_standing (r.sides side)
+    stood : Placed (join_by job cmp key) old now.reader (both one two) now.store r.ls r.p r.b
+    stood = record { sides = r.sides; holds = holds_between (call_of t.opened) r.keeps slots; slots = slots }
 
     -- a line that one input alone has
     module _ {s : Side} (step : IsAlone cmp key (both one two) now.store s) {new : Output} {e : ℕ} (ends : e ≡ (old.reader First).ending)
         (pushed : Wrote now.out new (text e (alone_entry job s (head_of now (both one two) s)))) where
-      abbrev q : Side → Lines
-      q = put s (r.ls s) r.p
-
-      at_head : Passed cmp (key s) (both one two s) now.store (r.ls s) (r.p s) (r.b s)
-      at_head = passed step.stands (r.sides s)
-
-      pushed_alone : Merging (join_by job cmp key) r.b q old.out new × Late (join_by job cmp key) r.b q old.out new
+      pushed_alone : Merging (join_by job cmp key) r.b (put s (r.ls s) r.p) old.out new × Late (join_by job cmp key) r.b (put s (r.ls s) r.p) old.out new
       pushed_alone =
           let x = head_of now (both one two) s in
+          let h = passed step.stands (r.sides s) in
           let a = ahead cmp o _ _ _ _ _ _ _ _ _ step.before (r.sides (other s)).stands in
-          rw at_head.all (pass_one _ o (line_by_line job cmp key) s x r.b r.p _ _ _ t.clean r.merging at_head.bound a.0 a.1
+          rw h.all (pass_one _ o (line_by_line job cmp key) s x r.b r.p _ _ _ t.clean r.merging h.bound a.0 a.1
           (wrote_as _ _ _ _ _ _ (ends ∙ t.opened.w.ending First) (written_alone job cmp key s x (t.opened.keys s x)) pushed))
 
       pub alone_on : {one2 two2 : Sorted} {reader : Reader} {after : Slots} → HasPassed key cmp s one two one2 two2 (now.reader s) reader now.store after new
           → IsTurn job cmp key old phase (moved now s reader new after) one2 two2 end
-      alone_on {one2} {two2} {reader} {after} h =
-          let n = next_at (join_by job cmp key) o _ _ _ _ _ _ _ r.sides slots r.keeps.four s step.stands reader (both one2 two2 s) after h.came in
-          went_on {next = phase} s h.on (rw is (
-            record {
-              ls = put s n.now_ls r.ls;
-              p = q;
-              b = put s n.bound r.b;
-              sides = sides_on (join_by job cmp key) o _ _ _ _ _ _ _ r.sides slots r.keeps.four s step.stands reader (both one2 two2 s) after n;
-              merging = merging_on (join_by job cmp key) o _ _ _ _ _ _ _ r.sides slots r.keeps.four s step.stands reader (both one2 two2 s) after n q _ _ pushed_alone.0;
-              keeps = keeping_next s (both one two s) (slots s) r.keeps n;
-            },
-            between.1,
-          ))
-
-      passing_one : (reader : Reader) (piece : List ℕ) → Reads (now.reader s) reader piece → IsLine (now.reader s).ending piece → IsSound reader
-          → GoneOf (call_of t.opened) now s reader piece (r.ls s) (r.ls s) (r.b s)
-      passing_one reader piece reads free sound = rw at_head.bound (gone_passed o (r.sides s).got reads free sound at_head.begun)
+      alone_on h =
+          let keeps = keeping_next s (both one two s) (slots s) r.keeps (n t.opened.w stood s step.stands h.came) in
+          went_on {next = phase} s h.on (rw is (runs_on t.opened.w stood s step.stands h.came keeps pushed_alone.0, between.1))
 
       pub alone_stops : {reader : Reader} {after : Slots} {fault : MergeFault} {r : Result (Unit {0}) MergeFault} → r ≡ Err fault
-          → NotPassed now s (both one two s) reader after new fault → Leaves job cmp key old (moved now s reader new after) r
-      alone_stops {reader} {fault = fault} is_fault (inl e) = leaves is_fault (omega (arith, ap (λ (z : Slots). length z.lines) e.1.store)) (same_state _ _ s now _ reader _ _ e.0 e.1
-          (stops (join_by job cmp key) o _ _ _ _ _ _ _
-          (put_each (λ side (l : Lines). GoneOf (call_of t.opened) now side (now.reader side) [] (r.ls side) l (r.b side)) s (r.ls s) r.p
-          (passing_one (now.reader s) [] (reads_nothing (now.reader s)) tt (r.sides s).sound) stand)
-          pushed_alone.0 pushed_alone.1 (Err Write) (record { faulted = e.1.faulted; failed = went; denied = r.keeps.denied }) (λ side. not_failed (call_of t.opened) side (went side)) tt
-          (fits_kept (call_of t.opened) r.keeps now.store (omega arith) refl)))
-      alone_stops {reader} {after} {fault} is_fault (inr e) =
-          let same : q s ≡ r.ls s = put_same s (r.ls s) r.p in
-          leaves is_fault (omega (arith, breaks_slots s (both one two s) _ _ _ _ fault e.1))
-          (breaks (join_by job cmp key) o old (record now { out = new }) r.ls q r.b pushed_alone.0 t.opened.w.unfailed went e.0 s (both one two s) reader after fault
-          (λ new piece reads free sound. rw same (passing_one new piece reads free sound)) (sym same) (Some (key s (head_of now (both one two) s)))
-          (rw same at_head.begun) (rw (put_other s (r.ls s) r.p) (stand (other s))) r.keeps.denied (λ piece. peak_line (call_of t.opened) r.keeps s (both one two s) (slots s) piece) e.1)
+          → CannotPass s (both one two s) (now.reader s) reader now.store after new fault → Leaves job cmp key old (moved now s reader new after) r
+      alone_stops {fault = fault} is_fault h = leaves is_fault (omega (arith, passes_slots (key s) cmp s (both one two s) (both one two s) _ _ _ _ _ fault h))
+          (turn_stops t.opened.w stood s step.stands pushed_alone (put_same s (r.ls s) r.p) (rw (put_other s (r.ls s) r.p) (standing t.opened.w stood (other s))) h)
 
     -- both inputs have a key, and a group of it opens
     pub opens : AreEqual cmp key (both one two) now.store → IsTurn job cmp key old phases.Gathering now one two end
@@ -310,29 +271,8 @@ module _ {job : Join} {cmp : Cmp} {key : Side → Key} {old : State} {phase : Ph
 
     -- the end
     module _ {after : Slots} (clear : IsCleared now.store after) where
-      empty : total after.lines ≡ 0
-      empty = omega (arith, clear.emptied, (has_lines_total now.store.lines (λ side. longest (r.ls side)) 0 r.keeps.lines).2)
-
-      concludes : (result : Result (Unit {0}) MergeFault) → Ends old (record now { store = after }) result → Concludes (join_by job cmp key) r.b result
-          → Leaves job cmp key old (record now { store = after }) result
-      concludes result ends at = leaves refl (omega (arith, clear.slots)) (stops (join_by job cmp key) o _ _ _ _ _ _ _ stand r.merging
-          (late_none _ _ _ _ _ _ t.clean r.merging.wrote (wrote_nothing now.out)) result ends (λ side. not_failed (call_of t.opened) side (went side)) at
-          (fits_kept (call_of t.opened) r.keeps after clear.peak clear.slots))
-
       pub ended : ((side : Side) → (both one two side).stand ≡ Ended) → Leaves job cmp key old (record now { store = after }) (Ok tt)
-      ended step =
-          let e = all_ended (join_by job cmp key) _ _ _ _ _ _ _ r.sides step in
-          concludes (Ok tt) (record {
-            done = λ side. (e side).1;
-            fault = λ side. (r.sides side).got.goes.fault;
-            failed = went;
-            short = λ side. (r.sides side).got.goes.short ((t.opened.w.sound side).long (t.opened.w.readable side));
-            clean = t.clean;
-            denied = clear.denied ∙ r.keeps.denied;
-            empty = empty;
-          }) (λ side. (e side).0)
+      ended step = leaves refl (omega (arith, clear.slots)) (ends_well t.opened.w stood r.merging t.clean clear step)
 
       pub fallen : {s : Side} {n : ℕ} → IsDecided cmp key (both one two) now.store s n → Leaves job cmp key old (record now { store = after }) (Err (faults.Disorder s n))
-      fallen {s} {n} step = concludes (Err (faults.Disorder s n))
-          (record { fault = λ side. (r.sides side).got.goes.fault; failed = went; clean = t.clean; denied = clear.denied ∙ r.keeps.denied; empty = empty })
-          (stops_at (join_by job cmp key) o _ _ _ _ _ _ _ r.sides s n step)
+      fallen step = leaves refl (omega (arith, clear.slots)) (ends_fallen t.opened.w stood r.merging t.clean clear step)

@@ -27,12 +27,7 @@ pub reads_nothing : (r : Reader) → Reads r r []
 reads_nothing r = record { moved = sym (prepend_known-nil (unread r)); count = omega arith; refused = refl; ending = refl; still = λ ended. (refl, ended); end = λ h. h }
 
 pub got_none : {end : ℕ} {old : Reader} → old.fault ≡ None → old.ending ≡ end → Got end old old []
-got_none {old = old} clean ending = record {
-  given = [];
-  so_far = inl (refl, tt);
-  goes = record { reads = reads_nothing old; fault = clean; failed = refl; short = λ h. h };
-  ending = ending;
-}
+got_none {old = old} clean ending = record { given = []; so_far = inl (refl, tt); goes = record { reads = reads_nothing old; fault = clean; failed = refl; short = λ h. h }; ending = ending }
 
 -- where nothing can come any more, nothing came
 pub done_gives_nothing : {now new : Reader} {bytes : List ℕ} → IsDone now → Reads now new bytes → (bytes ≡ []) × (new.held ≡ []) × (new.ended ≡ true)

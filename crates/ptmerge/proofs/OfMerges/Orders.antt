@@ -44,11 +44,8 @@ module _ (cmp : Cmp) (o : IsKeyOrder cmp) where
   pub less_flips : (a b : List ℕ) → cmp a b ≡ Less → cmp b a ≡ Greater
   less_flips a b l = o.total.antisymm b a ∙ ap ordering_reverse l
 
-  pub less_at_most : (a b : List ℕ) → cmp a b ≡ Less → AtMost cmp a b
-  less_at_most a b l = ap is_gt l
-
   pub above_at_most : (k y : List ℕ) → cmp y k ≡ Greater → AtMost cmp k y
-  above_at_most k y g = less_at_most k y (greater_flips y k g)
+  above_at_most k y g = ap is_gt (greater_flips y k g)
 
   pub above_not_same : (k y : List ℕ) → cmp y k ≡ Greater → bytes_eq y k ≡ false
   above_not_same k y g = not_equal y k (ap is_eq g)
@@ -217,9 +214,7 @@ module _ (tool : Tool) (o : IsKeyOrder tool.cmp) where
   -- lines of one key, in front of lines of no lesser keys
   pub with_key-front : (key : Key) (k : List ℕ) (f r : Lines) → EachKey (λ x. x ≡ k) key f → (with_key key (f ++ r) k ≡ f ++ with_key key r k) × (without key k (f ++ r) ≡ without key k r)
   with_key-front key k [] r e = (refl, refl)
-  with_key-front key k (x ∷ f) r e =
-      let ih = with_key-front key k f r e.1 in
-      rw ((bytes_decides (key x) k).1 e.0) (ap (λ l. x ∷ l) ih.0, ih.1)
+  with_key-front key k (x ∷ f) r e = let ih = with_key-front key k f r e.1 in rw ((bytes_decides (key x) k).1 e.0) (ap (λ l. x ∷ l) ih.0, ih.1)
 
   pub at_most-same : (key : Key) (k : List ℕ) (f r : Lines) → EachKey (λ x. x ≡ k) key f → EachKey (AtMost tool.cmp k) key r → EachKey (AtMost tool.cmp k) key (f ++ r)
   at_most-same key k f r e h = EachKey-append _ key f r (EachKey-weaker _ _ (λ x is. rw is (self_at_most tool.cmp o k)) key f e) h

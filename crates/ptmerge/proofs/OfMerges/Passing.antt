@@ -136,9 +136,7 @@ reaches_head {cmp} o {key} {p} {x} g = record {
 -- a line that falls
 pub reaches_fallen : {cmp : Cmp} {key : Key} {p : Lines} {k : List ℕ} (x : List ℕ) → Begun cmp key p (Some k) → is_gt (cmp k (key x)) ≡ true
     → Reaches cmp key (p ++ x ∷ []) p (Fallen (record { last_key = k; line = length p + 1 }))
-reaches_fallen {p = p} x g fell = record {
-  future = λ w _. ([], rw (append_assoc p (x ∷ []) w, g.ordered (x ∷ w), fell), refl, rw (append_assoc p (x ∷ []) w, g.falling (x ∷ w), fell));
-}
+reaches_fallen {p = p} x g fell = record { future = λ w _. ([], rw (append_assoc p (x ∷ []) w, g.ordered (x ∷ w), fell), refl, rw (append_assoc p (x ∷ []) w, g.falling (x ∷ w), fell)) }
 
 -- ---- what is written
 
@@ -204,8 +202,7 @@ module _ (tool : Tool) where
       ap (flat_map (entries_of tool p)) (pass ∙ sym (filter_all all_keys ks (Each-all _ (λ k. refl) ks)))
 
   pub none_wanted : (w : List ℕ → Bool) (r : Side → Lines) → ((side : Side) → EachKey (λ k. w k ≡ false) (tool.key side) (r side)) → by_keys tool w r ≡ []
-  none_wanted w r e =
-      ap (flat_map (entries_of tool r)) (filter_none w (distinct tool.cmp (keys tool r)) (Each-distinct _ _ _ (Each-append _ _ _ (e First) (e Second))))
+  none_wanted w r e = ap (flat_map (entries_of tool r)) (filter_none w (distinct tool.cmp (keys tool r)) (Each-distinct _ _ _ (Each-append _ _ _ (e First) (e Second))))
 
   -- the entries of the keys below one are the first
   pub down_splits : IsKeyOrder tool.cmp → (w p : List ℕ → Bool) → IsDown tool.cmp p → (ls : Side → Lines)
@@ -325,8 +322,7 @@ pass_front {tool} o k q f {b} {p} {was} {is} {new} front all none law clean m wr
 
 -- an input has gone to its next line
 pub settles : {tool : Tool} {b : Side → Bound} {p : Side → Lines} {was is : Output} (s : Side) (d : Bound) → Merging tool b p was is
-    → ((r : Lines) → Coming tool.cmp (tool.key s) d r → Coming tool.cmp (tool.key s) (b s) r) → ((k : List ℕ) → Under tool.cmp (b s) k → Under tool.cmp d k)
-    → Merging tool (put s d b) p was is
+    → ((r : Lines) → Coming tool.cmp (tool.key s) d r → Coming tool.cmp (tool.key s) (b s) r) → ((k : List ℕ) → Under tool.cmp (b s) k → Under tool.cmp d k) → Merging tool (put s d b) p was is
 settles {tool} {b} {p} s d m coming under = record {
   splits = record {
     split = λ w r c.

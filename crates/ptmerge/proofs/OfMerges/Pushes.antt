@@ -4,12 +4,10 @@ use Rattle.std.proofs.lemmas.Bool.{cases_Bool}
 use Rattle.ptlines.proofs.Pushed.{wrote_after_fault}
 
 pub wrote_then : {a b c : Output} {xs ys : List ℕ} → (a.faulted ≡ false → b.faulted ≡ false) → Wrote a b xs → Wrote b c ys → Wrote a c (xs ++ ys)
-wrote_then {a} {b} {c} {xs} {ys} clean p q = ⊎_elim
-    (λ fault. let same = p.stays fault in rw (q.stays (rw same fault), same) (wrote_after_fault a (xs ++ ys) fault))
+wrote_then {a} {b} {c} {xs} {ys} clean p q = ⊎_elim (λ fault. let same = p.stays fault in rw (q.stays (rw same fault), same) (wrote_after_fault a (xs ++ ys) fault))
     (λ fine. wrote_trans a b c xs ys (clean fine) p q) (cases_Bool a.faulted)
 
-pub then_pushes : {E : Type 0} {a b c : Output} {xs ys : List ℕ} {r : Result (Unit {0}) E} → (a.faulted ≡ false → b.faulted ≡ false) → Wrote a b xs → Pushes b c ys r
-    → Pushes a c (xs ++ ys) r
+pub then_pushes : {E : Type 0} {a b c : Output} {xs ys : List ℕ} {r : Result (Unit {0}) E} → (a.faulted ≡ false → b.faulted ≡ false) → Wrote a b xs → Pushes b c ys r → Pushes a c (xs ++ ys) r
 then_pushes clean p q = record { wrote = wrote_then clean p q.wrote; clean = q.clean; fault = q.fault }
 
 -- what surely pushes its bytes

@@ -1,27 +1,22 @@
 -- What holds of each of two inputs, and the lines in the slots of a store.
-use Rattle.ptmerge.proofs.Common.{◌≡◌, arith, Side, First, Second, both, put, other}
 use Rattle.ptmerge.proofs.Common.{◌≡◌, ◌≢◌, inl, inr, ℕ, zero, suc, ◌+◌, ◌*◌, ◌≤◌, false, List, [], ◌∷◌, ◌++◌, length, max, refl, sym, ◌∙◌, arith, get_or, set, length-set, get_or-set_other}
-use Rattle.ptmerge.proofs.Common.{sum_by-cons, Slots, line, total, with_added, with_line, Side, First, Second, Sorted, HasSlots, HasFour, IsCleared, Bool}
+use Rattle.ptmerge.proofs.Common.{sum_by-cons, Slots, line, total, with_added, with_line, Side, First, Second, Sorted, HasSlots, HasFour, IsCleared, Bool, both, put, other}
 
-module _ {X : Type 0} (P : Side → X → Type 0) where
-  pub both_each : (x y : X) → P First x → P Second y → (side : Side) → P side (both x y side)
-  both_each x y p q First = p
-  both_each x y p q Second = q
-
-  -- one was changed
-  pub put_each : (s : Side) (x : X) (f : Side → X) → P s x → ((side : Side) → P side (f side)) → (side : Side) → P side (put s x f side)
-  put_each First x f p q First = p
-  put_each First x f p q Second = q Second
-  put_each Second x f p q First = q First
-  put_each Second x f p q Second = p
-
--- the same for two functions of a side at once
+-- two functions of a side were changed at one
 pub put_both : {X Y : Type 0} (P : Side → X → Y → Type 0) (s : Side) (x : X) (f : Side → X) (y : Y) (g : Side → Y) → P s x y → P (other s) (f (other s)) (g (other s))
     → (side : Side) → P side (put s x f side) (put s y g side)
 put_both P First x f y g p q First = p
 put_both P First x f y g p q Second = q
 put_both P Second x f y g p q First = q
 put_both P Second x f y g p q Second = p
+
+module _ {X : Type 0} (P : Side → X → Type 0) where
+  pub both_each : (x y : X) → P First x → P Second y → (side : Side) → P side (both x y side)
+  both_each x y p q = elim [ First ↦ p | Second ↦ q ]
+
+  -- one was changed
+  pub put_each : (s : Side) (x : X) (f : Side → X) → P s x → ((side : Side) → P side (f side)) → (side : Side) → P side (put s x f side)
+  put_each s x f p q = put_both {Y = Unit {0}} (λ side z u. P side z) s x f tt (λ side. tt) p (q (other s))
 
 pub put_same : {X : Type 0} (s : Side) (x : X) (f : Side → X) → put s x f s ≡ x
 put_same s x f = grind arith
@@ -31,10 +26,7 @@ put_other s x f = grind arith
 
 -- it holds of this one and of the other
 pub side_case : (Q : Side → Type 0) (s : Side) → Q s → Q (other s) → (side : Side) → Q side
-side_case Q First p q First = p
-side_case Q First p q Second = q
-side_case Q Second p q First = q
-side_case Q Second p q Second = p
+side_case Q s p q = put_both {X = Unit {0}} {Y = Unit {0}} (λ side x y. Q side) s tt (λ side. tt) tt (λ side. tt) p q
 
 -- ---- the slots
 
@@ -55,8 +47,7 @@ HasLines m more (a ∷ b ∷ c ∷ d ∷ rest) = (length a ≤ m First) × (leng
 HasLines m more few = ⊥
 
 four_total : (a b c d : List ℕ) (rest : List (List ℕ)) → total (a ∷ b ∷ c ∷ d ∷ rest) ≡ ((length a + length b) + length c) + length d + total rest
-four_total a b c d rest =
-    omega (arith, sum_by-cons length a (b ∷ c ∷ d ∷ rest), sum_by-cons length b (c ∷ d ∷ rest), sum_by-cons length c (d ∷ rest), sum_by-cons length d rest)
+four_total a b c d rest = omega (arith, sum_by-cons length a (b ∷ c ∷ d ∷ rest), sum_by-cons length b (c ∷ d ∷ rest), sum_by-cons length c (d ∷ rest), sum_by-cons length d rest)
 
 pub has_lines_none : (xs : List (List ℕ)) → 4 ≤ length xs → total xs ≡ 0 → HasLines (λ side. 0) 0 xs
 has_lines_none (a ∷ b ∷ c ∷ d ∷ rest) four none = omega (arith, four_total a b c d rest)
@@ -93,12 +84,8 @@ pub record Keeps (before store : Slots) (m : Side → ℕ) : Type 0 where
   pub denied : store.denied ≡ false
 
 pub keeps_none : {before store : Slots} → HasFour before store → before.denied ≡ false → total before.lines ≡ 0 → Keeps before store (λ side. 0)
-keeps_none {store = store} four allowed empty = record {
-  lines = has_lines_none store.lines (omega (arith, four.slots)) (four.total ∙ empty);
-  peak = omega (arith, four.peak);
-  slots = four.slots;
-  denied = four.denied ∙ allowed;
-}
+keeps_none {store = store} four allowed empty = record
+    { lines = has_lines_none store.lines (omega (arith, four.slots)) (four.total ∙ empty); peak = omega (arith, four.peak); slots = four.slots; denied = four.denied ∙ allowed }
 
 pub keeps_line : {before store after : Slots} (s : Side) (place : Sorted) {m : Side → ℕ} (k : Side → ℕ) (x : List ℕ) → HasSlots s place → Keeps before store m
     → ((side : Side) → m side ≤ k side) → length x ≤ k s → after ≡ with_line store place.previous x → Keeps before after k

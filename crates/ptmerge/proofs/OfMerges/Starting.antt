@@ -3,7 +3,7 @@ use Rattle.ptmerge.proofs.Common.{◌≡◌, inl, inr, ◌≤◌, ◌<◌, Bool,
 use Rattle.ptmerge.proofs.Common.{longest, wrote_nothing, MergeFault, Memory, Side, First, Second, Sorted, Lines, Tool, State, IsMerge, IsUnread, Comes, HasSlots, fresh, slot_of, both, Inputs}
 use Rattle.ptmerge.proofs.Common.{CannotStart, Starts, Adds, FirstCame, IsUnslotted, ⊎_elim, max, ◌⊎◌}
 use Rattle.ptmerge.proofs.OfMerges.Passing.{Free, begun_none, Merging, late_none, merging_none, settles}
-use Rattle.ptmerge.proofs.OfMerges.Turning.{Running, adds_of, breaks_slots, within_size, IsOpened, breaks, own_slots, slot_low, slots_apart}
+use Rattle.ptmerge.proofs.OfMerges.Turning.{Running, adds_of, breaks_slots, within_size, IsOpened, TwoLines, breaks, own_slots, slot_low, slots_apart}
 use Rattle.ptmerge.proofs.OfMerges.Got.{got_none, reads_nothing}
 use Rattle.ptmerge.proofs.OfMerges.Slotted.{Keeps, has_lines_total, keeps_line, keeps_none, line_other}
 use Rattle.ptmerge.proofs.OfMerges.Stopping.{Next, goes_next, sided_keeps, Gone, gone_free, gone_standing, state, stops}
@@ -44,7 +44,7 @@ module _ {tool : Tool} {old : State} (w : IsOpened tool old) where
     mid_four = (has_lines_total s.mid.lines (λ side. longest (both n.now_ls [] side)) 0 half_keeps.lines).0
 
   pub starts_well : (new : Inputs) (place : Side → Sorted) → HasSlots First (place First) → Starts tool.key tool.cmp place unstarted new
-      → Running tool old (state (both (new.reader First) (new.reader Second)) old.out new.store) (both (place First) (place Second))
+      → Running tool (TwoLines old.store) old (state (both (new.reader First) (new.reader Second)) old.out new.store) (both (place First) (place Second))
   starts_well new place slots s =
       let f = n s in
       let k = first_line Second (mid_four s) s.later in
@@ -95,8 +95,7 @@ module _ {tool : Tool} {old : State} (w : IsOpened tool old) where
     slots_then (inr (inr f)) = let s = f.begins in inr (breaks_slots Second (fresh Second) (old.reader Second) new2 s.mid after fault s.later ∙ (half_keeps s).slots)
 
     pub start_slots : Cannot new1 new2 after fault → Adds old.store after 4
-    start_slots c =
-        ⊎_elim (λ u. record { least = u.slots.least; most = u.slots.most; all = λ allowed. absurd (false≢true (sym allowed ∙ u.slots.denied)) }) adds_of (slots_then c)
+    start_slots c = ⊎_elim (λ u. record { least = u.slots.least; most = u.slots.most; all = λ allowed. absurd (false≢true (sym allowed ∙ u.slots.denied)) }) adds_of (slots_then c)
 
     -- nothing was read where one of the first four slots was refused
     pub start_refused : Cannot new1 new2 after fault → length after.lines < 4 → IsUnread old (state (both new1 new2) old.out after)

@@ -98,8 +98,7 @@ over cmp key last r none = grind arith
 from_next : {cmp : Cmp} (o : IsKeyOrder cmp) (key : Key) (last : Option (List ℕ)) (x : List ℕ) → falls cmp last (key x) ≡ false
     → ((r : Lines) → EachKey (AtMost cmp (key x)) key r → Coming cmp key (behind last) r) × ((k : List ℕ) → Under cmp (behind last) k → AtMost cmp k (key x))
 from_next o key None x h = (λ r c. tt, λ k u. absurd u)
-from_next {cmp} o key (Some j) x h =
-    (λ r c. EachKey-weaker _ _ (λ y a. at_most_trans cmp o j (key x) y h a) _ _ c, λ k u. at_most_trans cmp o k j (key x) u h)
+from_next {cmp} o key (Some j) x h = (λ r c. EachKey-weaker _ _ (λ y a. at_most_trans cmp o j (key x) y h a) _ _ c, λ k u. at_most_trans cmp o k j (key x) u h)
 
 module _ (end : ℕ) (cmp : Cmp) (o : IsKeyOrder cmp) (key : Key) (old now new : Reader) (place next : Sorted) (before after : Slots) (ls : Lines) where
   abbrev turned : Stand → ℕ → Bool → Sorted
@@ -295,8 +294,7 @@ module _ (tool : Tool) (o : IsKeyOrder tool.cmp) (old new : State) (now : Side �
         → ((input : Side → List ℕ) → Agree given input → IsWhole tool input (text tool.end done) result) → Fits tool old.store now ls piece new.store → IsMerge tool old new result
     halted done is ends all failed whole fits = record {
       given = given;
-      came = λ side. came_of (old.reader side) (new.reader side) ((g side).got.given ++ piece side)
-          (reads_trans _ _ _ _ _ (g side).got.goes.reads (g side).reads);
+      came = λ side. came_of (old.reader side) (new.reader side) ((g side).got.given ++ piece side) (reads_trans _ _ _ _ _ (g side).got.goes.reads (g side).reads);
       pushed = text tool.end done;
       wrote = rw is at (wrote_trans _ _ _ _ _ clean wrote more);
       ends = ends;

@@ -3,14 +3,17 @@
 use Rattle.ptmerge.proofs.Common.{◌≡◌, ◌≢◌, ⊎_elim, inl, inr, ℕ, ◌+◌, ◌≤◌, true, false, List, [], ◌∷◌, ◌++◌, Option, Some, None, Err, length, refl, sym, ◌∙◌, arith, is_lt, is_le, false≢true}
 use Rattle.ptmerge.proofs.Common.{append-nil, Output, Wrote, Reader, Reads, IsDone, IsSound, Slots, line, with_line, text, IsLine, wrote_nothing, MergeFault, Read, Memory, Side, First, Second, Sorted}
 use Rattle.ptmerge.proofs.Common.{Stand, Head, Ended, Disorder, Lines, Tool, Fall, by_keys, disorder_of, fall, with_key, State, IsMerge, Cmp, Key, CannotRead, Comes, HasSlots, slot_of, put, other}
-use Rattle.ptmerge.proofs.Common.{GoesBefore, IsDecided, IsNamed, last_key, ap, ◌⊎◌, ◌*◌, max, length-set, total, longest, Write, CanBegin, IsReady, seen, IsUnwritten, PassesLine, both, IsPlaced}
-use Rattle.ptmerge.proofs.Common.{budget, IsLent, subst, wrote_trans, ◌&&◌, cond, nat_lt, Ordering, is_eq, is_gt, nat_tests, length_push, IsKept, same_at, stand_at, IsNoted, Adds, ◌<◌, Result}
+use Rattle.ptmerge.proofs.Common.{GoesBefore, IsDecided, IsNamed, last_key, ap, ◌⊎◌, ◌*◌, max, length-set, total, longest, Write, CanBegin, seen, IsUnwritten, PassesLine, both, IsPlaced, budget}
+use Rattle.ptmerge.proofs.Common.{IsLent, subst, wrote_trans, ◌&&◌, cond, nat_lt, Ordering, is_eq, is_gt, nat_tests, length_push, IsKept, same_at, stand_at, IsNoted, Adds, ◌<◌, Result, IsCleared}
+use Rattle.ptmerge.proofs.Common.{Ends, Ok}
 use Rattle.ptmerge.proofs.OfMerges.Passing.{Bound, From, Fallen, Over, Coming, Falling, FallFrom, Under, Begun, IsFront, Late, Merging, StopsAt, front_line, late_none, not_below, pass_front, settles}
 use Rattle.ptmerge.proofs.OfMerges.Passing.{all_keys, none_wanted}
 use Rattle.ptmerge.proofs.OfMerges.Orders.{EachKey, EachKey-weaker, with_key-above, IsKeyOrder, Above, above_at_most, above_up, greater_flips, is_greater}
-use Rattle.ptmerge.proofs.OfMerges.Slotted.{both_each, put_both, put_each, put_other, put_same, side_case, line_other, Keeps, has_lines_total, keeps_line, line_added}
+use Rattle.ptmerge.proofs.OfMerges.Slotted.{both_each, put_both, put_each, put_other, put_same, side_case, line_other, Keeps, has_lines_total, keeps_line, line_added, HasLines}
 use Rattle.ptmerge.proofs.OfMerges.Stopping.{Sided, Stands, Next, Passed, goes_next, passed, sided_keeps, Fails, Fits, Gone, state, stops, FitsIn, gone_passed, gone_standing, alive, comes_less}
+use Rattle.ptmerge.proofs.OfMerges.Stopping.{Concludes}
 use Rattle.ptmerge.proofs.OfMerges.Got.{reads_nothing}
+use Rattle.ptmerge.specs.declared.faults.MergeFault.TheVariants as faults
 
 -- ---- slots
 
@@ -55,12 +58,7 @@ alone s x = put s (x ∷ []) (λ side. [])
 
 -- an input that has no line of the key, and only greater ones
 front_none : {cmp : Cmp} (o : IsKeyOrder cmp) {key : Key} {b : Bound} {k : List ℕ} → IsAbove cmp key k b → Under cmp b k → IsFront cmp key b k []
-front_none {cmp} o {key} {k = k} above under = record {
-  own = tt;
-  coming = λ r c. c;
-  behind = λ r c. EachKey-weaker _ _ (λ y g. above_at_most cmp o k y g) _ _ (above r c);
-  under = under;
-}
+front_none {cmp} o {key} {k = k} above under = record { own = tt; coming = λ r c. c; behind = λ r c. EachKey-weaker _ _ (λ y g. above_at_most cmp o k y g) _ _ (above r c); under = under }
 
 -- a line whose key goes before all that may come of the other input is passed
 pub pass_one : (tool : Tool) (o : IsKeyOrder tool.cmp) → IsLineByLine tool
@@ -116,8 +114,7 @@ module _ (tool : Tool) (o : IsKeyOrder tool.cmp) (old now : Side → Reader) (pl
 
     -- what was pushed comes first as before
     pub merging_on : (q : Side → Lines) (was is : Output) → Merging tool b q was is → Merging tool (put s n.bound b) q was is
-    merging_on q was is m =
-        settles s n.bound m (λ r c. rw passed_at.bound (n.coming r c)) (λ k u. n.under k (rw passed_at.bound at u))
+    merging_on q was is m = settles s n.bound m (λ r c. rw passed_at.bound (n.coming r c)) (λ k u. n.under k (rw passed_at.bound at u))
 
 -- ---- the end
 
@@ -163,15 +160,13 @@ module _ (cmp : Cmp) (o : IsKeyOrder cmp) where
 
 -- an input is out of order, and nothing that may come is wanted
 pub stops_at : (tool : Tool) (o : IsKeyOrder tool.cmp) (old now : Side → Reader) (place : Side → Sorted) (store : Slots) (ls p : Side → Lines)
-    (b : Side → Bound) → BothStand tool old now place store ls p b
-    → (s : Side) (n : ℕ) → IsDecided tool.cmp tool.key place store s n → StopsAt tool b s n
+    (b : Side → Bound) → BothStand tool old now place store ls p b → (s : Side) (n : ℕ) → IsDecided tool.cmp tool.key place store s n → StopsAt tool b s n
 stops_at tool o old now place store ls p b sides s n dec l r c f =
     let d : Fall = record { last_key = last_key tool.key place store s; line = n } in
     let fallen : b s ≡ Fallen d = rw dec.stands at (sides s).stands in
     let rest = named_other _ o _ s d _ _ _ _ _ _ _ dec.named (sides (other s)).stands _ _ (c (other s)) (f (other s)) in
     rw (named_is tool.cmp s (λ side. fall tool.cmp (tool.key side) (l side)) d (rw fallen at (f s)) rest.0) (
-      none_wanted tool (λ k. is_le (tool.cmp k d.last_key)) r
-          (side_case (λ side. EachKey (λ k. is_le (tool.cmp k d.last_key) ≡ false) (tool.key side) (r side)) s (rw (rw fallen at (c s)) tt) rest.1),
+      none_wanted tool (λ k. is_le (tool.cmp k d.last_key)) r (side_case (λ side. EachKey (λ k. is_le (tool.cmp k d.last_key) ≡ false) (tool.key side) (r side)) s (rw (rw fallen at (c s)) tt) rest.1),
       (refl, refl),
     )
 
@@ -192,8 +187,7 @@ module _ (tool : Tool) (o : IsKeyOrder tool.cmp) (old now : State) (ls q : Side 
   -- the next line of an input could not be read
   pub breaks : (s : Side) (place : Sorted) (new : Reader) (after : Slots) (fault : MergeFault)
       → ((r : Reader) (piece : List ℕ) → Reads (now.reader s) r piece → IsLine (now.reader s).ending piece → IsSound r → GoneOf s r piece) → ls s ≡ q s
-      → (last : Option (List ℕ)) → Begun tool.cmp (tool.key s) (q s) last
-      → GoneOf (other s) (now.reader (other s)) [] → now.store.denied ≡ false
+      → (last : Option (List ℕ)) → Begun tool.cmp (tool.key s) (q s) last → GoneOf (other s) (now.reader (other s)) [] → now.store.denied ≡ false
       → ((piece : List ℕ) → Fits tool old.store now.reader ls (put s piece (λ side. [])) (with_line now.store place.previous piece)) → CannotRead s place (now.reader s) new now.store after fault
       → IsMerge tool old (record { reader = put s new now.reader; out = now.out; store = after }) (Err fault)
   breaks s place new after (Read file) gone all last begun rest roomy fits moves =
@@ -219,31 +213,21 @@ module _ (tool : Tool) (o : IsKeyOrder tool.cmp) (old now : State) (ls q : Side 
 
 -- ---- between the turns
 
--- where a tool stands between two turns
-pub record Running (tool : Tool) (old now : State) (place : Side → Sorted) : Type 0 where
+-- where a tool stands between two turns, and what its store keeps of the lines that came
+pub record Running (tool : Tool) (Keep : Slots → (Side → Lines) → Type 0) (old now : State) (place : Side → Sorted) : Type 0 where
   pub ls : Side → Lines
   pub p : Side → Lines
   pub b : Side → Bound
   pub sides : BothStand tool old.reader now.reader place now.store ls p b
   pub merging : Merging tool b p old.out now.out
-  pub keeps : Keeps old.store now.store (λ side. longest (ls side))
-
--- nothing was read of this input
-put_self : (s : Side) (f : Side → Reader) → put s (f s) f ≡ f
-put_self s f = λ i side. put_each (λ (t : Side) (r : Reader). r ≡ f t) s (f s) f refl (λ t. refl) side i
+  pub keeps : Keep now.store ls
 
 -- a write failed, and nothing more was read
 pub same_state : (tool : Tool) (old : State) (s : Side) (now : State) (out : Output) (reader : Reader) (after : Slots) (fault : MergeFault) → fault ≡ Write
-    → IsUnwritten (now.reader s) reader now.store after out → IsMerge tool old (state now.reader out now.store) (Err Write)
-    → IsMerge tool old (state (put s reader now.reader) out after) (Err fault)
-same_state tool old s now out reader after fault is e m = rw (is, e.unread, e.store, put_self s now.reader) m
-
--- no source has failed whose reader is sound
-pub unfailed_of : (first second : Reader) (store : Slots) → IsReady first second store → IsSound first × IsSound second → (side : Side) → (both first second side).failed ≡ false
-unfailed_of first second store ready sound = elim [ First ↦ sound.0.unfailed ready.opened1 ready.readable1 | Second ↦ sound.1.unfailed ready.opened2 ready.readable2 ]
-
-pub readable_of : (first second : Reader) (store : Slots) → IsReady first second store → (side : Side) → (both first second side).fault ≡ None
-readable_of first second store ready = elim [ First ↦ ready.readable1 | Second ↦ ready.readable2 ]
+    → IsUnwritten (now.reader s) reader now.store after out → IsMerge tool old (state now.reader out now.store) (Err Write) → IsMerge tool old (state (put s reader now.reader) out after) (Err fault)
+same_state tool old s now out reader after fault is e m =
+    let unmoved : put s (now.reader s) now.reader ≡ now.reader = λ i side. put_each (λ (t : Side) (r : Reader). r ≡ now.reader t) s (now.reader s) now.reader refl (λ t. refl) side i in
+    rw (is, e.unread, e.store, unmoved) m
 
 pub slots_of : {key : Side → Key} (one two : Sorted) (store : Slots) → IsPlaced key one two store → (side : Side) → HasSlots side (both one two side)
 slots_of one two store placed = elim [ First ↦ placed.first | Second ↦ placed.second ]
@@ -311,17 +295,41 @@ opened_by {tool} {first} {second} {store = store} o fits b = record {
   fits = fits;
   ending = both_each (λ (side : Side) (r : Reader). r.ending ≡ tool.end) first second b.ending.0 b.ending.1;
   sound = both_each (λ (side : Side) (r : Reader). IsSound r) first second b.sound.0 b.sound.1;
-  readable = readable_of first second store b.ready;
-  unfailed = unfailed_of first second store b.ready b.sound;
+  readable = elim [ First ↦ b.ready.readable1 | Second ↦ b.ready.readable2 ];
+  -- no source has failed whose reader is sound
+  unfailed = elim [ First ↦ b.sound.0.unfailed b.ready.opened1 b.ready.readable1 | Second ↦ b.sound.1.unfailed b.ready.opened2 b.ready.readable2 ];
   writable = b.writable;
   allowed = b.ready.allowed;
   empty = b.ready.empty;
 }
 
+-- A store between two turns has two lines of each input. It is within the measure of all lists that go on with these
+-- lines: also when it is emptied, and with a piece of one more line.
+pub record Holds (tool : Tool) (before : Slots) (reader : Side → Reader) (place : Side → Sorted) (store : Slots) (ls : Side → Lines) : Type 0 where
+  pub lines : HasLines (λ side. longest (ls side)) 0 store.lines
+  pub denied : store.denied ≡ false
+  pub fits : (after : Slots) → after.peak ≤ max store.peak (total store.lines) → length after.lines ≡ length store.lines → Fits tool before reader ls (λ side. []) after
+  pub line : (s : Side) (piece : List ℕ) → Fits tool before reader ls (put s piece (λ side. [])) (with_line store (place s).previous piece)
+
+-- two lines of each input are all that the store keeps
+abbrev pub TwoLines : Slots → Slots → (Side → Lines) → Type 0
+TwoLines before store ls = Keeps before store (λ side. longest (ls side))
+
+pub holds_two : {tool : Tool} (fits : KeepsTwo tool) {before store : Slots} {reader : Side → Reader} {place : Side → Sorted} {ls : Side → Lines} → TwoLines before store ls
+    → ((side : Side) → HasSlots side (place side)) → Holds tool before reader place store ls
+holds_two {tool} fits {store = store} {place = place} {ls} k slots = record {
+  lines = k.lines;
+  denied = k.denied;
+  fits = λ after peak same all l.
+      let sum = (has_lines_total store.lines (λ side. longest (ls side)) 0 k.lines).1 in
+      (omega (arith, peak, sum, k.peak, (fits all).0, (l First).1, (l Second).1), omega (arith, same, k.slots, (fits all).1));
+  line = λ s piece all l. within_size tool fits s (place s) ls all piece (slots s) k (λ side. omega (arith, (l side).1)) (omega (arith, (l s).1, ap length (put_same s piece (λ side. []))));
+}
+
 -- where both inputs stand, whatever was pushed
 pub record Placed (tool : Tool) (old : State) (reader : Side → Reader) (place : Side → Sorted) (store : Slots) (ls p : Side → Lines) (b : Side → Bound) : Type 0 where
   pub sides : BothStand tool old.reader reader place store ls p b
-  pub keeps : Keeps old.store store (λ side. longest (ls side))
+  pub holds : Holds tool old.store reader place store ls
   pub slots : (side : Side) → HasSlots side (place side)
 
 pub slots_on : {key : Key} {cmp : Cmp} {place next : Sorted} {was is : Reader} {before after : Slots} (s : Side) → HasSlots s place → Comes key cmp place next was is before after → HasSlots s next
@@ -331,10 +339,16 @@ slots_on s h (inr e) = rw e.place (⊎_elim (λ k. inr (k.1, k.0)) (λ k. inl (k
 module _ {tool : Tool} {old : State} (w : IsOpened tool old) {reader : Side → Reader} {place : Side → Sorted} {store : Slots} {ls p : Side → Lines} {b : Side → Bound}
     (a : Placed tool old reader place store ls p b) where
   four : 4 ≤ length store.lines
-  four = (has_lines_total store.lines (λ side. longest (ls side)) 0 a.keeps.lines).0
+  four = (has_lines_total store.lines (λ side. longest (ls side)) 0 a.holds.lines).0
 
   pub went : (side : Side) → (reader side).failed ≡ (old.reader side).failed
   went side = (a.sides side).got.goes.failed
+
+  no_failure : (X : Side → Type 0) (side : Side) → (reader side).failed ≡ true → X side
+  no_failure X side fail = absurd (false≢true (sym (went side ∙ w.unfailed side) ∙ fail))
+
+  fault : (side : Side) → (reader side).fault ≡ None
+  fault side = (a.sides side).got.goes.fault
 
   -- an input of which the lines q are passed
   abbrev GoneBy : Side → Lines → Type 0
@@ -346,9 +360,7 @@ module _ {tool : Tool} {old : State} (w : IsOpened tool old) {reader : Side → 
 
   passing : (s : Side) → (place s).stand ≡ Head → (new : Reader) (piece : List ℕ) → Reads (reader s) new piece → IsLine (reader s).ending piece → IsSound new
       → Gone tool.end tool.cmp (tool.key s) (old.reader s) (reader s) new piece (ls s) (ls s) (b s)
-  passing s head new piece reads free sound =
-      let h = passed head (a.sides s) in
-      rw h.bound (gone_passed w.o (a.sides s).got reads free sound h.begun)
+  passing s head new piece reads free sound = let h = passed head (a.sides s) in rw h.bound (gone_passed w.o (a.sides s).got reads free sound h.begun)
 
   pub passing_now : (s : Side) → (place s).stand ≡ Head → GoneBy s (ls s)
   passing_now s head = passing s head (reader s) [] (reads_nothing (reader s)) tt (a.sides s).sound
@@ -356,19 +368,36 @@ module _ {tool : Tool} {old : State} (w : IsOpened tool old) {reader : Side → 
   -- the turn could not be ended, and the lines q are passed
   pub turn_stops : (s : Side) → (place s).stand ≡ Head → {q : Side → Lines} {out : Output} → Merging tool b q old.out out × Late tool b q old.out out → q s ≡ ls s → GoneBy (other s) (q (other s))
       → {new : Reader} {after : Slots} {fault : MergeFault} → CannotPass s (place s) (reader s) new store after out fault → IsMerge tool old (state (put s new reader) out after) (Err fault)
-  turn_stops s head {q} {out} m same rest {new} {after} {fault} (inl e) = same_state tool old s (state reader out store) out new after fault e.0 e.1
-      (stops _ w.o _ _ _ (λ side. []) _ q _
-      (side_case (λ side. GoneBy side (q side)) s (rw same (passing_now s head)) rest) m.0 m.1 (Err Write)
-      (record { faulted = e.1.faulted; failed = went; denied = a.keeps.denied })
-      (λ side fail. absurd (false≢true (sym (went side ∙ w.unfailed side) ∙ fail))) tt
-      (λ all h. (omega (arith, a.keeps.peak, (w.fits all).0, (h First).1, (h Second).1), omega (arith, a.keeps.slots, (w.fits all).1))))
+  turn_stops s head {q} {out} m same rest {new} {after} {fault} (inl e) = same_state tool old s (state reader out store) out new after fault e.0 e.1 (stops _ w.o _ _ _ (λ side. []) _ q _
+      (side_case (λ side. GoneBy side (q side)) s (rw same (passing_now s head)) rest) m.0 m.1 (Err Write) (record { faulted = e.1.faulted; failed = went; denied = a.holds.denied })
+      (no_failure _) tt (a.holds.fits store (omega arith) refl))
   turn_stops s head {q} {out} m same rest {new} {after} {fault} (inr e) =
       let h = passed head (a.sides s) in
       breaks tool w.o old (state reader out store) ls q b m.0 w.unfailed went e.0 s (place s) new after fault
-      (λ r piece reads free sound. rw same (passing s head r piece reads free sound)) (sym same) (Some (tool.key s (line store (place s).standing)))
-      (rw same h.begun) rest a.keeps.denied
-      (λ piece all l. within_size tool w.fits s (place s) ls all piece (a.slots s) a.keeps (λ side. omega (arith, (l side).1))
-      (omega (arith, (l s).1, ap length (put_same s piece (λ side. []))))) e.1
+      (λ r piece reads free sound. rw same (passing s head r piece reads free sound)) (sym same) (Some (tool.key s (line store (place s).standing))) (rw same h.begun) rest a.holds.denied
+      (a.holds.line s) e.1
+
+  -- the slots are emptied at the end
+  module _ {out : Output} (m : Merging tool b p old.out out) (clean : out.faulted ≡ false) {after : Slots} (clear : IsCleared store after) where
+    concludes : (result : Result (Unit {0}) MergeFault) → Ends old (state reader out after) result → Concludes tool b result → IsMerge tool old (state reader out after) result
+    concludes result ends conclusion = stops _ w.o _ _ _ (λ side. []) _ _ _ standing m (late_none _ _ _ _ _ _ clean m.wrote (wrote_nothing out)) result ends (no_failure _) conclusion
+        (a.holds.fits after clear.peak clear.slots)
+
+    empty : total after.lines ≡ 0
+    empty = omega (arith, clear.emptied, (has_lines_total store.lines (λ side. longest (ls side)) 0 a.holds.lines).2)
+
+    denied : after.denied ≡ false
+    denied = clear.denied ∙ a.holds.denied
+
+    pub ends_well : ((side : Side) → (place side).stand ≡ Ended) → IsMerge tool old (state reader out after) (Ok tt)
+    ends_well step =
+        let e = all_ended tool _ _ _ _ _ _ _ a.sides step in
+        let short = λ (side : Side). (a.sides side).got.goes.short ((w.sound side).long (w.readable side)) in
+        concludes (Ok tt) (record { done = λ side. (e side).1; fault = fault; failed = went; short = short; clean = clean; denied = denied; empty = empty }) (λ side. (e side).0)
+
+    pub ends_fallen : {s : Side} {n : ℕ} → IsDecided tool.cmp tool.key place store s n → IsMerge tool old (state reader out after) (Err (faults.Disorder s n))
+    ends_fallen {s} {n} step =
+        concludes (Err (faults.Disorder s n)) (record { fault = fault; failed = went; clean = clean; denied = denied; empty = empty }) (stops_at tool w.o _ _ _ _ _ _ _ a.sides s n step)
 
   -- an input goes to its next line
   module _ (s : Side) (head : (place s).stand ≡ Head) {next : Sorted} {new : Reader} {after : Slots}
@@ -376,20 +405,23 @@ module _ {tool : Tool} {old : State} (w : IsOpened tool old) {reader : Side → 
     pub n : Next tool.end tool.cmp (tool.key s) (old.reader s) new next (place s).previous store after (ls s) (Some (tool.key s (line store (place s).standing)))
     n = next_at tool w.o _ _ _ _ _ _ _ a.sides a.slots four s head _ _ _ comes
 
-    pub goes : Placed tool old (put s new reader) (put s next place) after (put s n.now_ls ls) (put s (ls s) p) (put s n.bound b)
-    goes = record {
-      sides = sides_on tool w.o _ _ _ _ _ _ _ a.sides a.slots four s head _ _ _ n;
-      keeps = keeps_line s (place s) (λ side. longest (put s n.now_ls ls side)) n.bytes (a.slots s) a.keeps
-          (put_each (λ side (l : Lines). longest (ls side) ≤ longest l) s n.now_ls ls n.longer (λ side. omega arith)) (rw (put_same s n.now_ls ls) n.fits) n.stored;
-      slots = put_each HasSlots s next place (slots_on s (a.slots s) comes) a.slots;
-    }
+    pub keeps_two : TwoLines old.store store ls → TwoLines old.store after (put s n.now_ls ls)
+    keeps_two keeps = keeps_line s (place s) (λ side. longest (put s n.now_ls ls side)) n.bytes (a.slots s) keeps
+        (put_each (λ side (l : Lines). longest (ls side) ≤ longest l) s n.now_ls ls n.longer (λ side. omega arith)) (rw (put_same s n.now_ls ls) n.fits) n.stored
+
+    sides_next : BothStand tool old.reader (put s new reader) (put s next place) after (put s n.now_ls ls) (put s (ls s) p) (put s n.bound b)
+    sides_next = sides_on tool w.o _ _ _ _ _ _ _ a.sides a.slots four s head _ _ _ n
+
+    pub goes : KeepsTwo tool → TwoLines old.store store ls → Placed tool old (put s new reader) (put s next place) after (put s n.now_ls ls) (put s (ls s) p) (put s n.bound b)
+    goes fits keeps = let slots = put_each HasSlots s next place (slots_on s (a.slots s) comes) a.slots in record { sides = sides_next; holds = holds_two fits (keeps_two keeps) slots; slots = slots }
 
     -- what was pushed comes first as before
     pub goes_merging : {q : Side → Lines} {out : Output} → Merging tool b q old.out out → Merging tool (put s n.bound b) q old.out out
     goes_merging m = merging_on tool w.o _ _ _ _ _ _ _ a.sides a.slots four s head _ _ _ n _ _ _ m
 
-    pub runs_on : {out : Output} → Merging tool b (put s (ls s) p) old.out out → Running tool old (state (put s new reader) out after) (put s next place)
-    runs_on m = record { ls = put s n.now_ls ls; p = put s (ls s) p; b = put s n.bound b; sides = goes.sides; merging = goes_merging m; keeps = goes.keeps }
+    pub runs_on : {Keep : Slots → (Side → Lines) → Type 0} {out : Output} → Keep after (put s n.now_ls ls) → Merging tool b (put s (ls s) p) old.out out
+        → Running tool Keep old (state (put s new reader) out after) (put s next place)
+    runs_on keeps m = record { ls = put s n.now_ls ls; p = put s (ls s) p; b = put s n.bound b; sides = sides_next; merging = goes_merging m; keeps = keeps }
 
 -- ---- one input went on
 
@@ -430,8 +462,7 @@ later_stands key cmp number last next r some is =
     (λ i. cond (sym t i && is_gt (is i)) (Disorder (number + 1)) Head, λ i. sym t i && is_eq (is i))
 
 -- what is noted is of the same line, whatever other slots hold
-noted_keeps : (key : Key) (place : Sorted) (before after : Slots) → line after place.standing ≡ line before place.standing
-    → IsNoted key place before → IsNoted key place after
+noted_keeps : (key : Key) (place : Sorted) (before after : Slots) → line after place.standing ≡ line before place.standing → IsNoted key place before → IsNoted key place after
 noted_keeps key place before after same noted = record { head = λ stands. rw same (noted.head stands); broken = noted.broken }
 
 -- the slots behind the first four may change
@@ -452,5 +483,4 @@ kept_line before after from to slot low e =
     rw e.copied (line_other e.made to slot (line e.made from) (λ is. absurd (omega (arith, is, low))) ∙ grown)
 
 pub kept_least : (before after : Slots) (from to : ℕ) → IsKept before after from to → length before.lines ≤ length after.lines
-kept_least before after from to e =
-    rw (e.copied, length-set) (⊎_elim (λ h. rw h (omega arith)) (λ h. rw h (omega (arith, length_push before.lines []))) e.grown.grown)
+kept_least before after from to e = rw (e.copied, length-set) (⊎_elim (λ h. rw h (omega arith)) (λ h. rw h (omega (arith, length_push before.lines []))) e.grown.grown)

@@ -4,10 +4,10 @@ use Rattle.ptmerge.proofs.Common.{◌≡◌, ◌⊎◌, ⊎_elim, inl, inr, ℕ,
 use Rattle.ptmerge.proofs.Common.{append-nil, append_cancel_right, Given, whole_lines, Before, Reader, text, ended_lines, IsLine, AreLines, given_of, ended_of_text, text_push, the_lines, Lines, fall}
 use Rattle.ptmerge.proofs.Common.{is_below, ordered_part, Cmp, Key, Bool, filter-append, filter, Begins, text-append, Side, First, Second, Tool, by_keys, decided_entries, disorder, disorder_of}
 use Rattle.ptmerge.proofs.Common.{is_decided, is_settled, other, WorksOff, decided, settled, put, Fall, map-append}
-use Rattle.ptmerge.proofs.OfMerges.Passing.{fall_after, fall_is, falls, ordered_after, ordered_is, Bound, FallFrom, Under, Coming, not_below, down_decided, last_has, not_decided, past_none, all_keys}
-use Rattle.ptmerge.proofs.OfMerges.Passing.{down_begins}
+use Rattle.ptmerge.proofs.OfMerges.Passing.{fall_after, fall_is, falls, ordered_after, ordered_is, Bound, FallFrom, Under, Coming, not_below, down_decided, not_decided, past_none, all_keys}
+use Rattle.ptmerge.proofs.OfMerges.Passing.{down_begins, From}
 use Rattle.ptmerge.proofs.OfMerges.Got.{Far}
-use Rattle.ptmerge.proofs.OfMerges.Orders.{EachKey, Each-all, EachKey-weaker, Each-parts, kept_none, IsKeyOrder, AtMost, at_most_trans}
+use Rattle.ptmerge.proofs.OfMerges.Orders.{EachKey, Each-all, EachKey-weaker, Each-parts, kept_none, IsKeyOrder, AtMost, at_most_trans, self_at_most}
 use Rattle.ptmerge.proofs.OfParts.PartsInOrder.{by_keys_kept}
 use Rattle.ptmerge.proofs.OfMerges.Slotted.{put_each, put_other, put_same}
 use Rattle.ptlines.proofs.Scanned.{IsLine-append}
@@ -134,8 +134,7 @@ module _ (end : ℕ) (given piece : List ℕ) (ls p : Lines) (now new : Reader) 
 -- two lists that differ in lines that are left out
 kept_same : (w : List ℕ → Bool) (key : Key) (xs ys rest tail : Lines) → xs ++ rest ≡ ys ++ tail → EachKey (λ k. w k ≡ false) key rest
     → EachKey (λ k. w k ≡ false) key tail → filter (λ line. w (key line)) xs ≡ filter (λ line. w (key line)) ys
-kept_same w key xs ys rest tail same none1 none2 =
-    simp (filter-append, kept_none w key rest none1, kept_none w key tail none2, append-nil) at (ap (filter (λ line. w (key line))) same)
+kept_same w key xs ys rest tail same none1 none2 = simp (filter-append, kept_none w key rest none1, kept_none w key tail none2, append-nil) at (ap (filter (λ line. w (key line))) same)
 
 -- these lines are those, but for lines whose keys are not below this one
 pub record Differ (tool : Tool) (last : Option (List ℕ)) (key : Key) (xs ys : Lines) : Type 0 where
@@ -144,13 +143,6 @@ pub record Differ (tool : Tool) (last : Option (List ℕ)) (key : Key) (xs ys : 
   pub same : xs ++ rest ≡ ys ++ tail
   pub none_rest : EachKey (λ k. is_below tool.cmp k last ≡ false) key rest
   pub none_tail : EachKey (λ k. is_below tool.cmp k last ≡ false) key tail
-
--- what is at least each key is not below the last one
-below_last : (cmp : Cmp) → IsKeyOrder cmp → (key : Key) (xs : Lines) (e : List ℕ) → EachKey (λ k. AtMost cmp k e) key xs → is_below cmp e (last_or None (map key xs)) ≡ false
-below_last cmp o key xs e up = elim (last_or None (map key xs)) as (λ l. last_or None (map key xs) ≡ l → is_below cmp e l ≡ false) [
-  | None ↦ λ h. refl
-  | Some x ↦ λ h. not_below cmp o e x (last_has key (λ k. AtMost cmp k e) None xs x h (λ y bad. cc) up)
-] refl
 
 -- where one list does not fall, a test of the disorder is one of the fall of the other
 of_other : (cmp : Cmp) (s : Side) (f : Side → Option Fall) (test : Option Disorder → Bool) → f s ≡ None → test None ≡ false
@@ -183,8 +175,10 @@ module _ (tool : Tool) (o : IsKeyOrder tool.cmp) (ended : Side → Bool) (ls : S
   -- no key of it is behind the fall of the other: no disorder is settled
   not_settled : EachKey (λ k. FallFrom tool.cmp k (fall tool.cmp (tool.key (other of)) (ls (other of)))) (tool.key of) (ls of) → is_settled tool ended ls (disorder tool ls) ≡ false
   not_settled up =
-      of_other tool.cmp of (λ side. fall tool.cmp (tool.key side) (ls side)) (is_settled tool ended ls) rises refl
-      (λ d is. undecided d.last_key (below_last tool.cmp o (tool.key of) (ls of) d.last_key (rw is at up)))
+      -- what is at least each key is not below the last one
+      let above = λ (e : List ℕ) (most : EachKey (λ k. AtMost tool.cmp k e) (tool.key of) (ls of)).
+      undecided e (past_none tool.cmp o (tool.key of) (λ k. k) (From e) (ls of) (e ∷ []) most (self_at_most tool.cmp o e, tt)).0 in
+      of_other tool.cmp of (λ side. fall tool.cmp (tool.key side) (ls side)) (is_settled tool ended ls) rises refl (λ d is. above d.last_key (rw is at up))
 
 -- ---- what was decided two blocks earlier
 

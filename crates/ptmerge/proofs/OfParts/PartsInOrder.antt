@@ -37,8 +37,7 @@ module _ (p : List ℕ → Bool) where
   keys_kept key (x ∷ ls) = grind (arith, keys_kept key ls)
 
   -- lists that are put together, of which the one passes and the other does not
-  kept_parts : (key : Key) (xs ys : Lines) → EachKey (λ k. p k ≡ true) key xs → EachKey (λ k. p k ≡ false) key ys
-      → (kept key (xs ++ ys) ≡ xs) × (filter (λ line. not (p (key line))) (xs ++ ys) ≡ ys)
+  kept_parts : (key : Key) (xs ys : Lines) → EachKey (λ k. p k ≡ true) key xs → EachKey (λ k. p k ≡ false) key ys → (kept key (xs ++ ys) ≡ xs) × (filter (λ line. not (p (key line))) (xs ++ ys) ≡ ys)
   kept_parts key [] [] e f = (refl, refl)
   kept_parts key [] (y ∷ ys) e f = let ih = kept_parts key [] ys tt f.1 in rw f.0 (ih.0, ap (λ l. y ∷ l) ih.1)
   kept_parts key (x ∷ xs) ys e f = let ih = kept_parts key xs ys e.1 f in rw e.0 (ap (λ l. x ∷ l) ih.0, ih.1)
@@ -46,9 +45,7 @@ module _ (p : List ℕ → Bool) where
   -- all lines of a key go where the key goes
   with_key_kept : (key : Key) (k : List ℕ) (ls : Lines) → p k ≡ true → with_key key (kept key ls) k ≡ with_key key ls k
   with_key_kept key k [] h = refl
-  with_key_kept key k (x ∷ ls) h =
-      let same : bytes_eq (key x) k ≡ true → p (key x) ≡ true = λ e. ap p ((bytes_decides (key x) k).0 e) ∙ h in
-      grind (arith, with_key_kept key k ls h, same)
+  with_key_kept key k (x ∷ ls) h = let same : bytes_eq (key x) k ≡ true → p (key x) ≡ true = λ e. ap p ((bytes_decides (key x) k).0 e) ∙ h in grind (arith, with_key_kept key k ls h, same)
 
   module _ (tool : Tool) (o : IsKeyOrder tool.cmp) (ls : Side → Lines) where
     open tool use {cmp, entries, key}
@@ -89,9 +86,7 @@ module _ (cmp : Cmp) (o : IsKeyOrder cmp) where
 
   down_under : (ls : Lines) → IsDown cmp (is_under cmp ls)
   down_under [] a b g h = refl
-  down_under (x ∷ ls) a b g h =
-      let less : cmp b x ≡ Less → cmp a x ≡ Less = λ l. o.total.trans a b x (greater_flips cmp o b a g) l in
-      grind (arith, down_under ls a b g, less)
+  down_under (x ∷ ls) a b g h = let less : cmp b x ≡ Less → cmp a x ≡ Less = λ l. o.total.trans a b x (greater_flips cmp o b a g) l in grind (arith, down_under ls a b g, less)
 
   none_under : (ls : Lines) → Each (λ l. is_under cmp ls l ≡ false) ls
   none_under [] = tt
@@ -176,9 +171,7 @@ module _ (tool : Tool) (o : IsKeyOrder tool.cmp) where
 
   -- some lines of lists in order are in order
   pub kept_in_order : (p : Side → List ℕ → Bool) (ls : Side → Lines) → disorder tool ls ≡ None → disorder tool (λ side. filter (p side) (ls side)) ≡ None
-  kept_in_order p ls e =
-      let none = λ (side : Side). in_order_kept cmp o (key side) (p side) (ls side) (none_falls ls e side) in
-      λ i. disorder_of cmp (none First i) (none Second i)
+  kept_in_order p ls e = let none = λ (side : Side). in_order_kept cmp o (key side) (p side) (ls side) (none_falls ls e side) in λ i. disorder_of cmp (none First i) (none Second i)
 
   -- what is written of lists in order is what is written of all their keys
   pub merged_in_order : (ls : Side → Lines) → disorder tool ls ≡ None → merged_entries tool ls ≡ by_keys tool all_keys ls
@@ -200,9 +193,7 @@ module _ (tool : Tool) (o : IsKeyOrder tool.cmp) where
 
     -- of the first lists all keys are wanted
     low_wanted : (k : List ℕ) → p k ≡ true → up_to cmp (disorder tool b) k ≡ true
-    low_wanted k h =
-        let from = λ (side : Side). from_below cmp o (key side) k (b side) (at_most_high side k h) in
-        up_to_from cmp o k _ _ (from First) (from Second)
+    low_wanted k h = let from = λ (side : Side). from_below cmp o (key side) k (b side) (at_most_high side k h) in up_to_from cmp o k _ _ (from First) (from Second)
 
     -- The entries of lists that are put together are those of the first ones, and then those of the others.
     entries_together : merged_entries tool (λ side. a side ++ b side) ≡ merged_entries tool a ++ merged_entries tool b
@@ -226,8 +217,7 @@ of_parts tool o first second cut =
     let low = λ (side : Side). of_keys tool side (λ k. p k ≡ true) a (Each-weaker _ (λ k. p k ≡ true) (below_under tool.cmp o (keys tool b)) (keys tool a) cut.below) in
     let high = λ (side : Side). of_keys tool side (λ k. p k ≡ false) b (none_under tool.cmp o (keys tool b)) in
     ap (text tool.end) ((λ i. merged_entries tool (λ side. the_lines_of_parts tool.end (first side) (second side) (cut.whole side) i))
-    ∙ entries_together tool o p (down_under tool.cmp o (keys tool b)) a b cut.in_order low high)
-    ∙ text-append tool.end (merged_entries tool a) (merged_entries tool b)
+    ∙ entries_together tool o p (down_under tool.cmp o (keys tool b)) a b cut.in_order low high) ∙ text-append tool.end (merged_entries tool a) (merged_entries tool b)
 
 pub comm_of_parts : PartsOfComm
 comm_of_parts job = of_parts (comm_tool job) (line_order job.descending)

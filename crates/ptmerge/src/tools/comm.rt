@@ -35,6 +35,7 @@ fn lead(hide1: bool, hide2: bool) -> &'static [u8]
 
 // Pushes a line of a column after what comes before it, unless the column is left out.
 #[inline(always)]
+#[tactic(auto, using(crate::proofs::OfMerges::Pushes::may_push))]
 fn push_entry<W: Sink>(
     hidden: bool,
     lead: &[u8],

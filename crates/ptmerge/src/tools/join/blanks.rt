@@ -29,6 +29,7 @@ fn find_blank_in<const N: usize>(bytes: &[u8], at: usize) -> Option<usize>
 
 // The first blank among N bytes or up to twice as many: in the first N or in the last N, which may overlap.
 #[inline(always)]
+#[tactic(auto, using(ptlines::proofs::Masks::first_behind))]
 fn find_blank_ends<const N: usize>(bytes: &[u8]) -> Option<usize>
     requires { HasEnds N 0 bytes.now }
     ensures { IsFirstByte is_blank bytes.now result }
@@ -60,6 +61,7 @@ fn find_blank_few(bytes: &[u8]) -> Option<usize>
 
 // The first blank among 16 bytes or more. Out of line, so that what is near is found without a call.
 #[inline(never)]
+#[tactic(auto, using(ptlines::proofs::Masks::first_behind))]
 fn find_blank_far(bytes: &[u8]) -> Option<usize>
     requires { 16 ≤ length bytes.now }
     ensures { IsFirstByte is_blank bytes.now result }
@@ -105,6 +107,7 @@ fn is_even_in<const N: usize>(bytes: &[u8], at: usize) -> bool
 
 // The same of all bytes after the first one, which are N or up to twice as many: the first N and the last N.
 #[inline(always)]
+#[tactic(auto, using(crate::proofs::OfJoin::FieldSpans::part_uneven))]
 fn is_even_at_ends<const N: usize>(bytes: &[u8]) -> bool
     requires { HasEnds N 1 bytes.now }
     ensures { IsEven bytes.now 1 (length bytes.now) result }
@@ -133,6 +136,7 @@ fn is_even_few(bytes: &[u8]) -> bool
 
 // The same of more than 16 bytes.
 #[inline(always)]
+#[tactic(auto, using(crate::proofs::OfJoin::FieldSpans::part_uneven))]
 fn is_even_far(bytes: &[u8]) -> bool
     requires { 16 < length bytes.now }
     ensures { IsEven bytes.now 1 (length bytes.now) result }

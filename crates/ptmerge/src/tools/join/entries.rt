@@ -25,6 +25,7 @@ fn push_led<W: Sink>(byte: u8, field: &[u8], out: &mut Out<W>) -> Result<(), Wri
 }
 
 // Pushes all fields of what is left of a line, each with a space before it.
+#[tactic(auto, using(crate::proofs::OfJoin::Amid::amid_starts))]
 fn push_words<W: Sink>(bytes: &[u8], out: &mut Out<W>) -> Result<(), WriteFault>
     ensures { MayPush out.old out.new (led 32 (fields_left None (Some bytes.now))) result }
 {
@@ -40,6 +41,7 @@ fn push_words<W: Sink>(bytes: &[u8], out: &mut Out<W>) -> Result<(), WriteFault>
 }
 
 // Pushes all fields of what is left of a line, each with what stands between fields before it.
+#[tactic(auto, using(crate::proofs::OfJoin::FieldSpans::led_fields, crate::proofs::OfMerges::Pushes::may_push))]
 fn push_left<W: Sink>(
     separator: Option<u8>,
     line: Option<&[u8]>,
@@ -175,6 +177,7 @@ fn push_fields<A: Allocator, W: Sink>(
 
 // Whether a line stands as its fields are written, of which the one with this number comes first.
 #[inline(always)]
+#[tactic(auto, using(crate::proofs::OfJoin::FieldSpans::led_fields))]
 fn stands_as_written(separator: Option<u8>, number: u64, line: &[u8]) -> bool
     ensures { result ≡ true → IsAsWritten separator number line.now }
 {

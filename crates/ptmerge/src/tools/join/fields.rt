@@ -12,6 +12,7 @@ use ptlines::find_near;
 
 // The place where the first field of these bytes ends, if anything ends it.
 #[inline(always)]
+#[tactic(auto, using(crate::proofs::OfJoin::FieldSpans::found_at))]
 fn field_end(separator: Option<u8>, bytes: &[u8]) -> Option<usize>
     ensures { result ≡ position (ends_field separator) bytes.now }
 {
@@ -23,6 +24,7 @@ fn field_end(separator: Option<u8>, bytes: &[u8]) -> Option<usize>
 
 // What comes before the first byte that ends a field, and what is left after it, if there is one.
 #[inline(always)]
+#[tactic(auto, using(ptlangs::proofs::Elements::split_whole, ptlangs::proofs::Elements::split_around))]
 fn first_piece(separator: Option<u8>, bytes: &[u8]) -> (&[u8], Option<&[u8]>)
     ensures first { MatchOption result.1
         (slice_split (ends_field separator) bytes.now ≡ result.0.now ∷ [])
@@ -87,6 +89,7 @@ fn first_field(separator: Option<u8>, line: &[u8]) -> &[u8]
 
 // The piece with this number between separators, or nothing where it is not there.
 #[inline(never)]
+#[tactic(auto, using(crate::proofs::OfJoin::FieldSpans::dropped_more, crate::proofs::OfJoin::FieldSpans::nth_past))]
 fn nth_piece(separator: u8, number: u64, line: &[u8]) -> &[u8]
     ensures { result.now ≡ nth_field number (fields_left (Some separator) (Some line.now)) }
 {
@@ -103,6 +106,7 @@ fn nth_piece(separator: u8, number: u64, line: &[u8]) -> &[u8]
 
 // The field of a line with this number, or nothing where it is not there.
 #[inline(never)]
+#[tactic(auto, using(crate::proofs::OfJoin::FieldSpans::dropped_more))]
 fn later_field<'a>(separator: Option<u8>, number: u64, line: Option<&'a [u8]>) -> &'a [u8]
     ensures { result.now ≡ nth_field number (fields_left separator (option_copied line.entry)) }
 {
@@ -171,6 +175,7 @@ fn later_span(separator: Option<u8>, number: u64, line: &[u8]) -> Span
 
 // Where the first piece of these bytes ends.
 #[inline(always)]
+#[tactic(auto, using(crate::proofs::OfJoin::FieldSpans::ends_at, crate::proofs::OfJoin::FieldSpans::ends_whole))]
 fn first_end(separator: Option<u8>, bytes: &[u8]) -> usize
     ensures { EndsFirst separator bytes.now result }
 {

@@ -26,6 +26,7 @@ fn need_slot<A: Allocator + Copy>(store: &mut Store<A>, slot: usize) -> Result<(
 }
 
 // Copies the line of a slot to another one, which is added if it is missing. The answer is the slot after that one.
+#[tactic(auto, using(crate::proofs::OfJoin::GroupSlots::refused_copy))]
 fn keep_line<A: Allocator + Copy>(
     store: &mut Store<A>,
     from: usize,
@@ -87,6 +88,7 @@ pub(crate) fn group_slots<K: KeyOrder>(merge: &Merge<K>, end: usize) -> (usize, 
 }
 
 // Empties the slots of the group.
+#[tactic(auto, using(crate::proofs::OfJoin::GroupSlots::clears_none))]
 pub(crate) fn clear_group<A: Allocator + Copy>(store: &mut Store<A>, end: usize)
     requires { (4 ≤ end) × (end ≤ length store.old.lines) }
     ensures { IsGroupCleared store.old store.new end }

@@ -16,8 +16,7 @@ is_told : {r : Result (Unit {0}) MergeFault} {fault : MergeFault} → IsErrAnd r
 is_told {r} h = told (err_from_is_err_and r h)
 
 pub returns-in_err-merge : goal.returns-in_err-merge
-returns-in_err-merge g c =
-    start_stops (comm_job c.args.job.now) (opened g (goal.at.returns-in_err-merge g c).After-start) (is_told c.from_residual.ensures.1) c.in_err-merge.ensures.breaks
+returns-in_err-merge g c = start_stops (comm_job c.args.job.now) (opened g (goal.at.returns-in_err-merge g c).After-start) (is_told c.from_residual.ensures.1) c.in_err-merge.ensures.breaks
 
 pub steps-init : goal.steps-init
 steps-init g c =
@@ -63,8 +62,7 @@ pub steps-smaller-in-Continue-branch-3 : goal.steps-smaller-in-Continue-branch-3
 steps-smaller-in-Continue-branch-3 g c = alone_less c.steps.invariant.turn c.in-Second.ensures c.in_ok-pass-in-Second.ensures.passes
 
 pub steps-smaller : goal.steps-smaller
-steps-smaller g c =
-    pair_less c.steps.invariant.turn c.in-Both.ensures c.in_ok-pass-in-Both.ensures.passes (rw c.pass-in-Both.ensures.order at c.in_ok-go_on-in-Both.ensures.passes)
+steps-smaller g c = pair_less c.steps.invariant.turn c.in-Both.ensures c.in_ok-pass-in-Both.ensures.passes (rw c.pass-in-Both.ensures.order at c.in_ok-go_on-in-Both.ensures.passes)
 
 pub returns-in_err-pass-in-First : goal.returns-in_err-pass-in-First
 returns-in_err-pass-in-First g c =

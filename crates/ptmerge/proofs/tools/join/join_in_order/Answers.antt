@@ -122,8 +122,7 @@ returns-in_err-pass_pairs-in-Pairing g c =
     (told (err_from_is_err_and _ c.from_residual-in_err-pass_pairs-in-Pairing.ensures.1)) c.in_err-pass_pairs-in-Pairing.ensures.passes)
 
 pub clear_group-requires : goal.clear_group-requires
-clear_group-requires g c =
-    group_there c.turns.invariant.turn c.in-Pairing.is c.ending-ending.ensures c.pass_pairs.ensures.wrote c.in_ok-pass_pairs-in-Pairing.ensures.passes
+clear_group-requires g c = group_there c.turns.invariant.turn c.in-Pairing.is c.ending-ending.ensures c.pass_pairs.ensures.wrote c.in_ok-pass_pairs-in-Pairing.ensures.passes
 
 pub turns-preserved-then-not-repeats-2 : goal.turns-preserved-then-not-repeats-2
 turns-preserved-then-not-repeats-2 g c =

@@ -25,13 +25,6 @@ returns-clause-moves g c =
     let same = c.is_eq-self.ensures ∙ stands.1 in
     inl (record {
       gives = e;
-      place = λ i. record {
-        standing = old.previous;
-        previous = old.standing;
-        number = old.number + 1;
-        stand = stand i;
-        same = same i;
-        key = span;
-      };
+      place = λ i. record { standing = old.previous; previous = old.standing; number = old.number + 1; stand = stand i; same = same i; key = span };
       sound = c.fill.ensures.is_sound;
     })
