@@ -24,12 +24,11 @@ abbrev pub PassesLine : Key → Cmp → Side → Sorted → Sorted → Reader �
 PassesLine key cmp side old new was is before after out (Ok u) = (out.faulted ≡ false) × Comes key cmp old new was is before after
 PassesLine key cmp side old new was is before after out (Err fault) = ((fault ≡ Write) × IsUnwritten was is before after out) ⊎ ((out.faulted ≡ false) × CannotRead side old was is before after fault)
 
--- a merge stands at a line of this input, whose reader this is, and no write to this output failed
-pub record StandsAt (key : Side → Key) (side : Side) (one two : Sorted) (reader : Reader) (store : Slots) (out : Output) : Type 0 where
+-- a merge stands at a line of this input, whose reader this is
+pub record StandsAt (key : Side → Key) (side : Side) (one two : Sorted) (reader : Reader) (store : Slots) : Type 0 where
   pub placed : IsPlaced key one two store
   pub head : (both one two side).stand ≡ Head
   pub lent : IsLent (both one two side) reader
-  pub clean : out.faulted ≡ false
 
 -- this input went on, the other one stands where it stood, and the merge can go on from there
 pub record CanGoOn (key : Side → Key) (side : Side) (one two one2 two2 : Sorted) (reader : Reader) (store : Slots) (out : Output) : Type 0 where

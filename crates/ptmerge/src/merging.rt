@@ -2,7 +2,7 @@
 //!
 //! `sorted` is one of the inputs, which has to be in order; `slots` are those of the store that both need.
 
-ghost use Rattle.std.specs.Prelude.{◌≡◌, None, [], OnOk, IfOk, IfErr};
+ghost use Rattle.std.specs.Prelude.{◌≡◌, None, false, [], OnOk, IfOk, IfErr};
 ghost use Rattle.ptlines.specs.Outputs.{Wrote};
 ghost use Rattle.ptlines.specs.Slots.{line};
 ghost use Rattle.ptmerge.specs.LinePasses.{Passes, StandsAt};
@@ -246,8 +246,9 @@ impl<K: KeyOrder> Merge<K> {
         store: &mut Store<A>,
         out: &mut Out<W>,
     ) -> Result<(), MergeFault>
-        requires { let key = K.key_of self.old.order in
-            StandsAt key side self.old.first self.old.second reader.old store.old out.old }
+        requires stands { let key = K.key_of self.old.order in
+            StandsAt key side self.old.first self.old.second reader.old store.old }
+        requires clean { out.old.faulted ≡ false }
         ensures sent { Wrote out.old out.new [] }
         ensures passes { let key = K.key_of self.old.order in
             Passes key (K.order self.old.order) side self.old.first self.old.second self.new.first self.new.second

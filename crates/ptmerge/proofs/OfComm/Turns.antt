@@ -121,8 +121,8 @@ module _ {job : Comm} {cmp : Cmp} {key : Side → Key} {old now : State} {one tw
   leaves : {new : State} {r : Result (Unit {0}) MergeFault} → length new.store.lines ≡ length now.store.lines → IsMerge tool old new r → Leaves tool old new r
   leaves same merged = record { merged = merged; refused = λ few. absurd (omega (arith, few, same, placed.slots)); slots = adds_of (same ∙ keeps.slots) }
 
-  pub stands_at : (s : Side) → (both one two s).stand ≡ Head → StandsAt key s one two (now.reader s) now.store now.out
-  stands_at s head = record { placed = placed; head = head; lent = lent s; clean = clean }
+  pub stands_at : (s : Side) → (both one two s).stand ≡ Head → StandsAt key s one two (now.reader s) now.store
+  stands_at s head = record { placed = placed; head = head; lent = lent s }
 
   -- a line that one input alone has
   module _ {s : Side} (step : IsAlone cmp key (both one two) now.store s) where
@@ -157,8 +157,8 @@ module _ {job : Comm} {cmp : Cmp} {key : Side → Key} {old now : State} {one tw
 
   -- a line that both inputs have: the first one went on, and the second one stands at it
   pub second_stands : AreEqual cmp key (both one two) now.store → {one2 two2 : Sorted} {reader : Reader} {after : Slots} {mid : Output}
-      → HasPassed key cmp First one two one2 two2 (now.reader First) reader now.store after mid → StandsAt key Second one2 two2 (now.reader Second) after mid
-  second_stands step h = record { placed = h.on.placed; head = ap (λ (q : Sorted). q.stand) h.on.others ∙ step.second; lent = rw h.on.others (lent Second); clean = h.on.clean }
+      → HasPassed key cmp First one two one2 two2 (now.reader First) reader now.store after mid → StandsAt key Second one2 two2 (now.reader Second) after
+  second_stands step h = record { placed = h.on.placed; head = ap (λ (q : Sorted). q.stand) h.on.others ∙ step.second; lent = rw h.on.others (lent Second) }
 
   module _ (step : AreEqual cmp key (both one two) now.store) where
     pub pair_less : {one2 two2 one3 two3 : Sorted} {reader reader2 : Reader} {after last : Slots} {mid new : Output}

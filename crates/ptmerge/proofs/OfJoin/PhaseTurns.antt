@@ -32,7 +32,7 @@ module _ {job : Join} {cmp : Cmp} {key : Side → Key} {old : State} {phase : Ph
     a : Gathering call now (both one two) end
     a = rw is at t.phased
 
-    pub gather_stands : StandsAt key Second one two (now.reader Second) now.store now.out
+    pub gather_stands : StandsAt key Second one two (now.reader Second) now.store
     gather_stands = (joins_at t Second (a.heads Second).0).stands
 
     abbrev y : List ℕ

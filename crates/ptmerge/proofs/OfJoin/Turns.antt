@@ -194,7 +194,7 @@ module _ {job : Join} {cmp : Cmp} {key : Side → Key} {old : State} {phase : Ph
   falls s next {one2} {two2} {reader} {made} head came on = omega (arith, less (key s) cmp s one two one2 two2 now.reader reader now.store made head on.others came, rank_few next)
 
   pub joins_at : (s : Side) → (both one two s).stand ≡ Head → JoinsAt job key s one two (now.reader s) now.store now.out
-  joins_at s head = record { stands = record { placed = t.placed; head = head; lent = t.lent s; clean = t.clean }; keys = t.opened.keys }
+  joins_at s head = record { stands = record { placed = t.placed; head = head; lent = t.lent s }; keys = t.opened.keys; clean = t.clean }
 
   -- ---- between groups
 

@@ -63,8 +63,9 @@ fn pass<K: KeyOrder, A: Allocator + Copy, S: Source, R: Source, W: Sink>(
     store: &mut Store<A>,
     out: &mut Out<W>,
 ) -> Result<(), MergeFault>
-    requires { let key = K.key_of merge.old.order in
-        StandsAt key side merge.old.first merge.old.second reader.old store.old out.old }
+    requires stands { let key = K.key_of merge.old.order in
+        StandsAt key side merge.old.first merge.old.second reader.old store.old }
+    requires clean { out.old.faulted ≡ false }
     ensures wrote { let standing = line store.old (both merge.old.first merge.old.second side).standing in
         Wrote out.old out.new (text ending (entries_in hidden lead.now 1 standing)) }
     ensures passes { let key = K.key_of merge.old.order in

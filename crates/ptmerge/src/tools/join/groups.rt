@@ -1,6 +1,6 @@
 //! The group: the second input's lines of one key. Where there are several, `join` copies them to slots of their own;
 //! one alone stays where it was read.
-ghost use Rattle.std.specs.Prelude.{◌≡◌, ◌≤◌, ◌<◌, ◌+◌, ◌-◌, [], length, IfOk, OnOk, OnErr};
+ghost use Rattle.std.specs.Prelude.{◌≡◌, ◌≤◌, ◌<◌, ◌+◌, ◌-◌, [], false, length, IfOk, OnOk, OnErr};
 ghost use Rattle.ptlines.specs.Outputs.{Wrote};
 ghost use Rattle.ptlines.specs.Slots.{with_denied};
 ghost use Rattle.ptmerge.specs.declared.order.Side.TheVariants as Of;
@@ -54,8 +54,9 @@ pub(crate) fn gather<K: KeyOrder, A: Allocator + Copy, S: Source, R: Source, W: 
     out: &mut Out<W>,
 ) -> Result<usize, MergeFault>
     requires stands { let key = K.key_of merge.old.order in
-        StandsAt key Of.Second merge.old.first merge.old.second reader.old store.old out.old }
+        StandsAt key Of.Second merge.old.first merge.old.second reader.old store.old }
     requires group { (4 ≤ end) × (end ≤ length store.old.lines) }
+    requires clean { out.old.faulted ≡ false }
     ensures sent { Wrote out.old out.new [] }
     ensures gathers { let key = K.key_of merge.old.order Of.Second in
         Gathers key (K.order merge.old.order)

@@ -23,17 +23,17 @@ steps-init g c =
     let p = c.in_ok-merge.ensures in
     record { turn = rw p.order (starts (comm_job c.args.job.now) (opened g (goal.at.steps-init g c).After-start) c.requires.whole p.starts (rw p.order at p.placed) p.lent); order = p.order }
 
-pub pass-requires : goal.pass-requires
-pass-requires g c = stands_at c.steps.invariant.turn sides.First c.in-First.ensures.stands
+pub pass-requires-clause-stands : goal.pass-requires-clause-stands
+pass-requires-clause-stands g c = stands_at c.steps.invariant.turn sides.First c.in-First.ensures.stands
 
-pub pass-requires-in-Second : goal.pass-requires-in-Second
-pass-requires-in-Second g c = stands_at c.steps.invariant.turn sides.Second c.in-Second.ensures.stands
+pub pass-requires-in-Second-clause-stands : goal.pass-requires-in-Second-clause-stands
+pass-requires-in-Second-clause-stands g c = stands_at c.steps.invariant.turn sides.Second c.in-Second.ensures.stands
 
-pub pass-requires-in-Both : goal.pass-requires-in-Both
-pass-requires-in-Both g c = stands_at c.steps.invariant.turn sides.First c.in-Both.ensures.first
+pub pass-requires-in-Both-clause-stands : goal.pass-requires-in-Both-clause-stands
+pass-requires-in-Both-clause-stands g c = stands_at c.steps.invariant.turn sides.First c.in-Both.ensures.first
 
-pub go_on-requires : goal.go_on-requires
-go_on-requires g c = rw c.pass-in-Both.ensures.order (second_stands c.steps.invariant.turn c.in-Both.ensures c.in_ok-pass-in-Both.ensures.passes)
+pub go_on-requires-clause-stands : goal.go_on-requires-clause-stands
+go_on-requires-clause-stands g c = rw c.pass-in-Both.ensures.order (second_stands c.steps.invariant.turn c.in-Both.ensures c.in_ok-pass-in-Both.ensures.passes)
 
 pub steps-preserved-in-Continue-branch-2 : goal.steps-preserved-in-Continue-branch-2
 steps-preserved-in-Continue-branch-2 g c =
