@@ -243,6 +243,9 @@ def lacking_names():
     lacking += [it for it in rows if not glob.glob(f"{TOP}/crates/pt*tests/proofs/**/{it}.antt", recursive=True)]
     tests = set(re.findall(r"`(pt\w+)::(\w+)::(\w+)`", text))
     lacking += ["::".join(it) for it in tests if not holds(f"{it[0]}/src/{it[1]}.rt", rf"^fn {it[2]}\b")]
+    # The name of a case stands after the test that has it.
+    for crate, module, case in re.findall(r'`(pt\w+)::(\w+)::\w+`, "([^"]*)"', text):
+        lacking += [] if holds(f"{crate}/src/{module}.rt", f'"{re.escape(case)}"') else [f"{crate}::{module}: {case}"]
     # Titles stand after program.sh, up to the end of a cell or a sentence.
     for titles in re.findall(r'program\.sh, ("[^|.;`]*")', text):
         lacking += [it for it in re.findall(r'"([^"]*)"', titles) if f'same "{it}"' not in cases]
