@@ -26,7 +26,7 @@ IsKeyOf job side k line = IfSome line (λ bytes. join_key job side bytes ≡ k)
 abbrev pub led : ℕ → Lines → List ℕ
 led byte fs = flat_map (λ f. byte ∷ f) fs
 
--- what is written of what is left of two lines with this join field, or of one, if these fields are asked for
+-- what is written of two lines with this join field, or of one alone, by this output list, if there is one
 abbrev pub entry_with : Join → Option (List OutField) → List ℕ → Option (List ℕ) → Option (List ℕ) → List ℕ
 entry_with job list k one two =
     join_with_byte (between job.separator) (written job k (fields_left job.separator one) (fields_left job.separator two) list)

@@ -58,7 +58,7 @@ fn fill_row<A: Allocator + Copy, S: Source, R: Source, W: Sink>(
     Ok(came)
 }
 
-// Pushes a row of so many cells as these, which are the first slots.
+// Pushes a row of as many cells as these, which are the first slots.
 fn push_row<A: Allocator + Copy, W: Sink>(
     delims: &Delims<A>,
     ending: u8,

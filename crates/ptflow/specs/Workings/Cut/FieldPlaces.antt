@@ -19,12 +19,12 @@ pub record StartsAt (delimiter n : ℕ) (line : List ℕ) (at : ℕ) : Type 0 wh
   pub behind : drop at (delimiter ∷ line) ≡ delimiter ∷ drop at line
   pub later : drop n (fields delimiter line) ≡ fields delimiter (drop at line)
 
--- The first delimiter of a line, which is the first `to` of some bytes, stands at this place.
+-- The first `to` of these bytes are a line, and its first delimiter stands at this place.
 pub record IsParted (delimiter : ℕ) (bytes : List ℕ) (to first : ℕ) : Type 0 where
   pub found : IsFirstByte (is_byte delimiter) (take to bytes) (Some first)
   pub within : to ≤ length bytes
 
--- Of such a line what follows from a place on is searched: from its start, or from behind that delimiter.
+-- Such a line is searched from a place on: from its start, or from behind that delimiter.
 pub record IsSearched (delimiter : ℕ) (bytes : List ℕ) (to first from : ℕ) : Type 0 where
   pub line : IsParted delimiter bytes to first
   pub start : from ≤ first → from ≡ 0

@@ -21,6 +21,7 @@ pub record IsPick (selected : ℕ → Bool) (pick : Pick) : Type 0 where
   pub counts : (count : ℕ) → count ≤ 16 → slice_index pick.counts count ≡ length (picked selected count)
   pub most : (place : ℕ) → 16 < place → place ≤ pick.most → selected place ≡ false
 
+-- two proofs of it are the same, as a ghost field needs
 pub AreApart-prop : (low : ℕ) (list : List Interval) → IsProp (AreApart low list)
 AreApart-prop low [] = Unit-prop
 AreApart-prop low (interval ∷ list) = ×₃_prop le_prop le_prop (AreApart-prop (interval.last + 1) list)

@@ -26,6 +26,7 @@ abbrev pub IsSetIfAny : Option ByteSet → List Bool → Type 0
 IsSetIfAny None flags = (b : ℕ) → slice_index_or flags b false ≡ false
 IsSetIfAny (Some set) flags = IsSetOf set flags
 
+-- two proofs of it are the same, as a ghost field needs
 pub IsSetIfAny-prop : (set : Option ByteSet) (flags : List Bool) → IsProp (IsSetIfAny set flags)
 IsSetIfAny-prop None flags = Prim.hlevel props
 IsSetIfAny-prop (Some set) flags = Prim.hlevel props

@@ -82,7 +82,7 @@ fn push_others<W: Sink>(
     }
 }
 
-// What an entry is made of: the line of each input that it is of, if there is one, and the join field of these lines.
+// What an entry is made of: a line of each input, or of one alone, and the join field of these lines.
 #[derive(Drop)]
 struct Entry<'a, A: Allocator> {
     job: &'a JoinJob<A>,
