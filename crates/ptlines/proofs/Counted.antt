@@ -1,6 +1,6 @@
 -- The count of the bytes in the slots, and what a write of one slot does to it.
 use Rattle.ptlines.proofs.Common.{◌≡◌, ◌≢◌, ℕ, zero, suc, ◌+◌, ◌^◌, ◌<◌, ◌≤◌, List, [], ◌∷◌, ◌++◌, length, take, drop, get_or, sym, ◌∙◌, ap, arith, set, take-append-drop, subst, refl, get_or-take}
-use Rattle.ptlines.proofs.Common.{get_or-drop, set-get_or, get_or-set_same, get_or-set_other, set-set, swap, Slots, AreShort, total, with_line}
+use Rattle.ptlines.proofs.Common.{get_or-drop, set-get_or, get_or-set_same, get_or-set_other, set-set, swap, Slots, AreShort, line, total, with_line, with_denied, true}
 use Rattle.std.proofs.lemmas.List.Elements.{All-append, All-set, All-get_or}
 use Rattle.std.specs.Prelude.{max}
 use Rattle.std.proofs.lemmas.List.Sums.{sum_by-append, sum_by-set, sum_by-le}
@@ -60,6 +60,21 @@ module _ (lines : List (List ℕ)) (slot held : ℕ) (had : List ℕ) (within : 
 empty_short : AreShort ([] ∷ [])
 empty_short zero d within = omega arith
 empty_short (suc k) d within = absurd (omega (arith, within))
+
+-- a slot of the store is one of its list
+pub in_slots : {before now : Slots} {slot : ℕ} → before ≡ now → slot < length now.lines → slot < length before.lines
+in_slots {slot} is low = subst (λ (t : Slots). slot < length t.lines) (sym is) low
+
+-- the line of a slot, by the list of slots
+pub had_line : {before now : Slots} (slot : ℕ) {had : List ℕ} → before ≡ now → slot < length before.lines → had ≡ get_or before.lines slot had → had ≡ line now slot
+had_line {before} slot {had} is low there = there ∙ same_at before.lines slot had [] low ∙ ap (λ (t : Slots). line t slot) is
+
+-- memory was refused, so what was written to a slot is what it had
+pub refused_line : {before now : Slots} (slot : ℕ) {had new : List ℕ} → before ≡ now → had ≡ get_or before.lines slot had → new ≡ had
+    → record before { lines = set before.lines slot new; denied = true } ≡ with_denied now
+refused_line {before} slot {had} is there same =
+    let lines : set before.lines slot _ ≡ before.lines = ap (set before.lines slot) (same ∙ there) ∙ set-get_or before.lines slot had in
+    (λ i. record before { lines = lines i; denied = true }) ∙ ap with_denied is
 
 -- what the store is once a slot was written
 pub written : {before now : Slots} (slot : ℕ) {new bytes : List ℕ} {held peak : ℕ} → before ≡ now → new ≡ bytes → held ≡ total (set before.lines slot new)

@@ -1,7 +1,7 @@
 -- A line that comes in pieces, and one whose end is near, which is put into its slot at once.
 use Rattle.ptlines.proofs.Common.{◌≡◌, ℕ, ◌+◌, ◌-◌, ◌^◌, ◌<◌, ◌≤◌, None, Some, get_or, take, drop, Bool, List, [], ◌∷◌, ◌++◌, Option, length, set, max, refl, sym, ◌∙◌, ap, subst, arith, append_assoc}
-use Rattle.ptlines.proofs.Common.{length-append, nat_tests, append-nil, set-set, length-set, get_or-set_same, take-take, get_or-take, prepend_known, Slots, line, total, with_line, with_denied, false}
-use Rattle.ptlines.proofs.Common.{not, ◌==◌, inl, inr, ⊎_elim, Ok, Err, LineFault, Read, Memory, IsLine, Reader, unread, Reads, Goes, IsDone, budget, GivesPiece, GivesEnd, GivesLine, Stops, Fills}
+use Rattle.ptlines.proofs.Common.{length-append, nat_tests, append-nil, set-set, get_or-set_same, take-take, get_or-take, prepend_known, Slots, line, total, with_line, false}
+use Rattle.ptlines.proofs.Common.{not, ◌==◌, inl, inr, Ok, IsLine, Reader, unread, Reads, Goes, IsDone, budget, GivesPiece, GivesEnd, GivesLine, Fills}
 use Rattle.ptlines.proofs.Common.{Grows, IsFirst, IsFirstByte, Passes, is_byte, slice_range}
 use Rattle.ptlines.proofs.Known.{prepend_known-append}
 use Rattle.ptlines.proofs.Counted.{total_set}
@@ -25,6 +25,26 @@ goes_trans a b c xs ys p q = record {
   failed = q.failed ∙ p.failed;
   short = λ h. q.short (p.short h);
 }
+
+-- what a call gives after a read that gave nothing
+module _ (old now new : Reader) (before after : Slots) (slot : ℕ) (first : Goes old now []) where
+  pub then_piece : GivesPiece now new before after slot → GivesPiece old new before after slot
+  then_piece p = record {
+    piece = p.piece;
+    goes = goes_trans old now new [] p.piece first p.goes;
+    whole = subst (λ (end : ℕ). IsLine end p.piece) first.reads.ending p.whole;
+    some = p.some;
+    empty = p.empty;
+    grows = p.grows;
+  }
+
+  pub then_end : GivesEnd now new before after slot → GivesEnd old new before after slot
+  then_end e = record {
+    piece = e.piece;
+    goes = subst (λ (end : ℕ). Goes old new (e.piece ++ end ∷ [])) first.reads.ending (goes_trans old now new [] (e.piece ++ now.ending ∷ []) first e.goes);
+    whole = subst (λ (end : ℕ). IsLine end e.piece) first.reads.ending e.whole;
+    grows = e.grows;
+  }
 
 -- one line after another in a slot is the last
 pub with_line_again : (s : Slots) (slot : ℕ) (xs ys : List ℕ) → slot < length s.lines → length xs ≤ length ys → with_line (with_line s slot xs) slot ys ≡ with_line s slot ys

@@ -1,6 +1,6 @@
 -- What one read does to a reader whose block is empty.
 use Rattle.ptlines.proofs.Common.{◌≡◌, ℕ, zero, suc, ◌+◌, ◌<◌, ◌≤◌, Bool, List, [], Option, length, take, refl, sym, ◌∙◌, ap, arith, length-take-le, take-take, prepend_known, SourceState, Gives, ◌^◌}
-use Rattle.ptlines.proofs.Common.{true, false, None, Some, Ok, Err, inl, inr, slice_range, false≢true, IsAtEnd, LineFault, Read, Reader, reader_of, unread, Reads, Refills}
+use Rattle.ptlines.proofs.Common.{true, false, None, Some, Ok, Err, inl, inr, slice_range, false≢true, IsAtEnd, LineFault, Read, Reader, reader_of, unread, Reads, Refills, IsSound}
 use Rattle.std.proofs.lemmas.Slice.{between_from_start}
 use Rattle.ptlines.proofs.Known.{prepend_known-nil}
 
@@ -58,6 +58,17 @@ module _ (old : Reader) (was is : SourceState) (block held : List ℕ) (p n : �
   filled new_fault gives small =
       refilled old (reader_of is (slice_range block 0 n) (p + n) new_fault q' end) was is (take 8192 block) n gives (ap (λ (r : Reader). r.left) view) empty small
       (front small) refl (ap (λ (r : Reader). r.pulled + n) view) same_refused same_ending going (ends_right was is (take 8192 block) n gives (ap (λ (r : Reader). r.ended) view ∙ going))
+
+  -- a block that holds bytes is sound, whether a fault was answered then or not
+  pub filled_sound : (new_fault : Option LineFault) → Gives was is (take 8192 block) n → n ≤ 8192 → 0 < n → (new_fault ≡ None → p + n < 2 ^ 63)
+      → (q' ≡ false → new_fault ≡ None → is.failed ≡ false) → IsSound (reader_of is (slice_range block 0 n) (p + n) new_fault q' end)
+  filled_sound new_fault gives small some short unfailed = record {
+    held = omega (arith, ap length (front small), length-take-le n (take 8192 block) gives.fits, small);
+    count = omega (arith, ap length (front small), length-take-le n (take 8192 block) gives.fits);
+    end = ends_right was is (take 8192 block) n gives (ap (λ (r : Reader). r.ended) view ∙ going);
+    long = short;
+    unfailed = unfailed;
+  }
 
   same_failed : Gives was is (take 8192 block) n → is.failed ≡ old.failed
   same_failed gives = gives.failed ∙ ap (λ (r : Reader). r.failed) view

@@ -1,5 +1,6 @@
 use Rattle.ptlines.proofs.Filling.{filling_more, line_done, end_done}
-use Rattle.std.proofs.Common.{◌∙◌, ◌==◌, ap, arith, length, List, ℕ}
+use Rattle.ptlines.proofs.Common.{◌∙◌, ◌==◌, [], ap, arith, length, length-set, refl, List, ℕ, Slots}
+use Rattle.ptlines.proofs.Scanned.{goes_front}
 use Rattle.ptlines.proofs.reader.LineReader.fill_far.Goals as goal
 
 pub pieces-preserved : goal.pieces-preserved
@@ -21,3 +22,13 @@ returns-in-End-clause-fills g c =
     end_done c.args.self.now c.pieces.self c.step.new.self c.args.store.now c.pieces.store c.step.new.store c.args.slot c.is_empty.result c.requires.in_store
     (c.requires.sound.long c.requires.clean) c.pieces.invariant.0 e.0 e.1 e.2
     (c.is_empty.ensures ∙ ap (λ (l : List ℕ). length l == 0) c.line.ensures)
+
+pub pieces-init : goal.pieces-init
+pieces-init g c = (
+  record { piece = []; goes = goes_front c.args.self.now c.args.self.now 0 c.requires.clean (omega arith) refl; whole = tt; stored = c.clear.ensures },
+  record {
+    clean = c.requires.clean;
+    sound = c.requires.sound;
+    in_store = omega (arith, ap (λ (s : Slots). length s.lines) c.clear.ensures, length-set c.args.store.now.lines c.args.slot [], c.requires.in_store);
+  },
+)

@@ -1,6 +1,6 @@
 -- The slot that is copied from lies in front of the cut or behind it; either way one slot is set, and the sum of all
 -- lengths grows by its line. Where the growth is refused the slots are those from before.
-use Rattle.ptlines.proofs.Common.{◌≡◌, true, [], get_or, set, max, sym, ◌∙◌, ap, subst, arith, with_items_is, Slots, AreShort, total}
+use Rattle.ptlines.proofs.Common.{◌≡◌, true, [], get_or, length, set, max, sym, ◌∙◌, ap, subst, arith, length-set, with_items_is, Slots, AreShort, total}
 use Rattle.std.specs.Vec.{with_items}
 use Rattle.ptlines.proofs.Counted.{fits, copy_lines, copy_total}
 use Rattle.ptlines.proofs.store.Store.copy.Goals as goal
@@ -52,3 +52,15 @@ returns-in-Err-clause-err g c =
     let whole = with_items_is s.slots c.append_from.new.slots (c.append_from.auto.slots ∙ c.deref_mut.ensures.len) in
     let lines = whole ∙ c.in-Err.ensures.err ∙ c.deref_mut.ensures.value ∙ ap (λ (t : Slots). t.lines) emptied in
     λ i. record { lines = lines i; peak = (emptied i).peak; denied = true }
+
+pub append_from-requires : goal.append_from-requires
+append_from-requires g c =
+    let long : length c.deref_mut.result.now ≡ length c.args.self.now.lines =
+    ap length c.deref_mut.ensures.value ∙ ap (λ (t : Slots). length t.lines) (c.self.view_is ∙ c.clear.ensures) ∙ length-set c.args.self.now.lines c.args.to [] in
+    record { from_in = omega (arith, long, c.requires.from_in); to_in = omega (arith, long, c.requires.to_in); differ = c.requires.differ }
+
+pub index-requires : goal.index-requires
+index-requires g c =
+    let long : length c.self.inside.slots.items ≡ length c.args.self.now.lines =
+    ap (λ (t : Slots). length t.lines) (c.self.view_is ∙ c.clear.ensures) ∙ length-set c.args.self.now.lines c.args.to [] in
+    omega (arith, long, c.requires.from_in, c.self.inside.slots.ok)

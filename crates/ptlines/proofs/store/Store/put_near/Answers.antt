@@ -1,6 +1,6 @@
 -- The line of a slot is replaced, so what is held changes by the difference of two lengths. The peak is then what is held, or stays.
-use Rattle.ptlines.proofs.Common.{◌≡◌, ◌≤◌, ◌<◌, ◌+◌, ◌-◌, ℕ, List, length, take, get_or, set, sym, ◌∙◌, ap, subst, arith, length-take-le, Slots, AreShort, total}
-use Rattle.ptlines.proofs.Counted.{counted_in, counted_set, fits, written}
+use Rattle.ptlines.proofs.Common.{◌≡◌, ◌≤◌, ◌<◌, ◌+◌, ◌-◌, ℕ, List, length, take, get_or, set, ◌∙◌, ap, arith, length-take-le, AreShort, total}
+use Rattle.ptlines.proofs.Counted.{counted_in, counted_set, fits, written, in_slots}
 use Rattle.ptlines.proofs.store.Store.put_near.Goals as goal
 
 -- what is held once the line of a slot is some of these bytes
@@ -15,7 +15,7 @@ put_counted lines slot held had low is counts short was was_is bytes n size lane
 pub overflow_sub-self : goal.overflow_sub-self
 overflow_sub-self g c =
     let s = c.self.inside in
-    let low = subst (λ (t : Slots). c.args.slot < length t.lines) (sym c.self.view_is) c.requires in
+    let low = in_slots c.self.view_is c.requires in
     omega (arith, counted_in s.slots.items c.args.slot s.held c.index.result.now low c.index.ensures c.self.invariant.0, c.size-was.ensures.size)
 
 pub overflow_add-self : goal.overflow_add-self
@@ -27,14 +27,14 @@ overflow_add-self g c =
 pub invariant_of-self : goal.invariant_of-self
 invariant_of-self g c =
     let s = c.self.inside in
-    let low = subst (λ (t : Slots). c.args.slot < length t.lines) (sym c.self.view_is) c.requires in
+    let low = in_slots c.self.view_is c.requires in
     put_counted s.slots.items c.args.slot s.held c.index.result.now low c.index.ensures c.self.invariant.0 c.self.invariant.2 c.size-was.result c.size-was.ensures.size
     c.args.near.front.bytes.now 64 c.args.near.size (omega arith) c.args.near.near c.args.near.front.long c.put_near.new.self c.put_near.ensures _ (omega arith)
 
 pub invariant_of-self-else-self : goal.invariant_of-self-else-self
 invariant_of-self-else-self g c =
     let s = c.self.inside in
-    let low = subst (λ (t : Slots). c.args.slot < length t.lines) (sym c.self.view_is) c.requires in
+    let low = in_slots c.self.view_is c.requires in
     put_counted s.slots.items c.args.slot s.held c.index.result.now low c.index.ensures c.self.invariant.0 c.self.invariant.2 c.size-was.result c.size-was.ensures.size
     c.args.near.front.bytes.now 64 c.args.near.size (omega arith) c.args.near.near c.args.near.front.long c.put_near.new.self c.put_near.ensures s.peak (omega (arith, c.if-self.false))
 
@@ -43,3 +43,9 @@ returns-then-self g c = written c.args.slot c.self.view_is c.put_near.ensures (i
 
 pub returns-else-self : goal.returns-else-self
 returns-else-self g c = written c.args.slot c.self.view_is c.put_near.ensures (invariant_of-self-else-self g c).0 (omega (arith, c.self.invariant.1, c.if-self.false))
+
+pub index-requires : goal.index-requires
+index-requires g c = omega (arith, in_slots c.self.view_is c.requires, c.self.inside.slots.ok)
+
+pub index_mut-requires : goal.index_mut-requires
+index_mut-requires g c = omega (arith, in_slots c.self.view_is c.requires, c.self.inside.slots.ok)
