@@ -27,42 +27,26 @@ returns-in-Err-clause-refills g c =
     refill_failed c.args.self.now _ _ c.pull_front.new.block _ c.self.inside.pulled 0 _ _ c.self.inside.fault c.self.inside.ending c.self.view_is
     c.requires.empty c.in-Err.ensures.refused c.requires.clean c.requires.going c.pull_front.new.block c.in-Err.ensures.pulled
 
-pub returns-then-self-clause-sound : goal.returns-then-self-clause-sound
-returns-then-self-clause-sound g c =
-    let small : c.in-Ok.count ≤ 8192 = c.in-Ok.ensures.few in
-    filled_sound c.args.self.now _ _ c.pull_front.new.block _ c.self.inside.pulled c.in-Ok.count _ _ c.self.inside.fault c.self.inside.ending c.self.view_is
-    c.requires.empty c.in-Ok.ensures.refused c.requires.clean c.requires.going
-    _ c.in-Ok.ensures.pulled small (omega (arith, c.if-count-eq0.false)) (grind arith) (grind arith)
-
+-- what is held now is sound, and so is the reader
 pub invariant_of-self-then-self : goal.invariant_of-self-then-self
 invariant_of-self-then-self g c =
     let small : c.in-Ok.count ≤ 8192 = c.in-Ok.ensures.few in
-    let some : 0 < c.in-Ok.count = omega (arith, c.if-count-eq0.false) in (
-      omega arith,
-      small,
-      c.self.invariant.2 ∙ sym (c.in-Ok.ensures.pulled.more some),
-      filled_sound c.args.self.now _ _ c.pull_front.new.block _ c.self.inside.pulled c.in-Ok.count _ _ c.self.inside.fault c.self.inside.ending c.self.view_is
-          c.requires.empty c.in-Ok.ensures.refused c.requires.clean c.requires.going
-          _ c.in-Ok.ensures.pulled small some (grind arith) (grind arith),
-    )
+    let some : 0 < c.in-Ok.count = omega (arith, c.if-count-eq0.false) in
+    let sound = filled_sound c.args.self.now _ _ c.pull_front.new.block _ c.self.inside.pulled c.in-Ok.count _ _ c.self.inside.fault c.self.inside.ending c.self.view_is
+    c.requires.empty c.in-Ok.ensures.refused c.requires.clean c.requires.going _ c.in-Ok.ensures.pulled small some (grind arith) (grind arith) in
+    (omega arith, small, c.self.invariant.2 ∙ sym (c.in-Ok.ensures.pulled.more some), sound)
 
-pub returns-else-self-clause-sound : goal.returns-else-self-clause-sound
-returns-else-self-clause-sound g c =
-    let small : c.in-Ok.count ≤ 8192 = c.in-Ok.ensures.few in
-    filled_sound c.args.self.now _ _ c.pull_front.new.block _ c.self.inside.pulled c.in-Ok.count _ _ c.self.inside.fault c.self.inside.ending c.self.view_is
-    c.requires.empty c.in-Ok.ensures.refused c.requires.clean c.requires.going
-    _ c.in-Ok.ensures.pulled small (omega (arith, c.if-count-eq0.false)) (λ _. c.if-self.false)
-    (λ there clean. c.in-Ok.ensures.pulled.failed ∙ c.self.invariant.3.unfailed (sym c.in-Ok.ensures.refused ∙ there) clean)
+pub returns-then-self-clause-sound : goal.returns-then-self-clause-sound
+returns-then-self-clause-sound g c = (invariant_of-self-then-self g c).3
 
 pub invariant_of-self-else-self : goal.invariant_of-self-else-self
 invariant_of-self-else-self g c =
     let small : c.in-Ok.count ≤ 8192 = c.in-Ok.ensures.few in
-    let some : 0 < c.in-Ok.count = omega (arith, c.if-count-eq0.false) in (
-      omega arith,
-      small,
-      c.self.invariant.2 ∙ sym (c.in-Ok.ensures.pulled.more some),
-      filled_sound c.args.self.now _ _ c.pull_front.new.block _ c.self.inside.pulled c.in-Ok.count _ _ c.self.inside.fault c.self.inside.ending c.self.view_is
-          c.requires.empty c.in-Ok.ensures.refused c.requires.clean c.requires.going
-          _ c.in-Ok.ensures.pulled small some (λ _. c.if-self.false)
-          (λ there clean. c.in-Ok.ensures.pulled.failed ∙ c.self.invariant.3.unfailed (sym c.in-Ok.ensures.refused ∙ there) clean),
-    )
+    let some : 0 < c.in-Ok.count = omega (arith, c.if-count-eq0.false) in
+    let sound = filled_sound c.args.self.now _ _ c.pull_front.new.block _ c.self.inside.pulled c.in-Ok.count _ _ c.self.inside.fault c.self.inside.ending c.self.view_is
+    c.requires.empty c.in-Ok.ensures.refused c.requires.clean c.requires.going _ c.in-Ok.ensures.pulled small some (λ _. c.if-self.false)
+    (λ there clean. c.in-Ok.ensures.pulled.failed ∙ c.self.invariant.3.unfailed (sym c.in-Ok.ensures.refused ∙ there) clean) in
+    (omega arith, small, c.self.invariant.2 ∙ sym (c.in-Ok.ensures.pulled.more some), sound)
+
+pub returns-else-self-clause-sound : goal.returns-else-self-clause-sound
+returns-else-self-clause-sound g c = (invariant_of-self-else-self g c).3
