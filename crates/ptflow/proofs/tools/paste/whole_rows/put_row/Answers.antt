@@ -9,6 +9,22 @@ use Rattle.ptflow.proofs.tools.paste.whole_rows.put_row.Given as given
 use Rattle.ptflow.proofs.tools.paste.whole_rows.put_row.Goals as goal
 use Rattle.ptflow.proofs.tools.paste.whole_rows.put_row.Goals.{In-loop-column, After-held}
 
+-- after the last cell there is room for the end of the row
+row_near : {size column end : ℕ} → 0 < size → size ≤ column → (0 < column → end < 8192) → end + 1 ≤ 8192
+row_near some past near = omega (arith, near (omega arith))
+
+taken_low : {place readers taken : ℕ} → place < readers → readers ≤ 16 → taken ≡ 16 → place < taken
+taken_low low few same = omega arith
+
+goes_on : {a b c : ℕ} → a ≤ b → b ≤ c → (n : ℕ) → a ≤ c + n
+goes_on le further n = omega arith
+
+no_more : {n m : ℕ} → n < m → n ≤ m
+no_more lt = omega arith
+
+fits_in : {at size : ℕ} → at ≤ 8192 → size ≡ 8208 → at ≤ size
+fits_in near same = omega arith
+
 -- the cell names a reader
 low : (g : given.Over) (c : In-loop-column g) → get_or c.args.row.now.cells.now c.loop-column.column 0 < length c.args.row.now.readers.now
 low g c = All-get_or (λ (p : ℕ). p < length c.args.row.now.readers.now) c.args.row.now.cells.now c.loop-column.column 0 c.loop-column-test.true c.args.row.now.readable.0
@@ -19,7 +35,7 @@ read g c = c.index-readers-place.is ∙ at_index c.args.row.now.readers.now (get
 
 -- what was taken of it is in what it held
 fits : (g : given.Over) (c : After-held g) → get_or c.loop-column.taken (get_or c.args.row.now.cells.now c.loop-column.column 0) 0 ≤ length c.held.result.now
-fits g c = omega (arith, c.loop-column.invariant.holds (get_or c.args.row.now.cells.now c.loop-column.column 0), ap length c.held.ensures.held, ap (λ (r : Reader). length r.held) (read g c))
+fits g c = omega (arith, c.loop-column.invariant.holds.at (get_or c.args.row.now.cells.now c.loop-column.column 0), ap length c.held.ensures.held, ap (λ (r : Reader). length r.held) (read g c))
 
 pub loop-column-init : goal.loop-column-init
 loop-column-init g c = record {
@@ -38,6 +54,9 @@ overflow_add-end g c = omega (arith, c.in_ok-count.ensures.near)
 
 pub overflow_add-taken : goal.overflow_add-taken
 overflow_add-taken g c = omega (arith, c.in_ok-count.ensures.near)
+
+pub invariant_of-result : goal.invariant_of-result
+invariant_of-result g c = record { near = row_near c.args.row.now.few.1 c.loop-column-test.false c.loop-column.invariant.near.2 }
 
 pub bounds-into-end : goal.bounds-into-end
 bounds-into-end g c = omega (arith, c.loop-column.invariant.near.1)
@@ -62,7 +81,7 @@ loop-column-preserved g c =
     let has : HasLine c.args.row.now.ending cells readers n taken count = record {
       low = c.loop-column-test.true;
       within = within;
-      place_low = omega (arith, within, c.args.row.now.few.0, inv.places);
+      place_low = taken_low within c.args.row.now.few.0 inv.places;
       clean = ready.0;
       ends = ready.1;
       sound = subst IsSound is_read c.held.ensures.sound;
@@ -78,9 +97,9 @@ loop-column-preserved g c =
       is = is;
       puts = λ from moved. putting_more has refl (inv.puts from moved);
       kept = front_kept c.args.full.end _ _ c.args.into.now ((inv.written ++ lead_of) ++ line)
-          (omega (arith, c.put_lead-from.ensures.near.0, inv.near.0)) (omega (arith, c.args.full.near, c.told-into)) is;
+          (goes_on inv.near.0 c.put_lead-from.ensures.near.0 count) (fits_in c.args.full.near c.told-into) is;
       holds = holds_more has inv.holds;
-      near = (omega (arith, c.put_lead-from.ensures.near.0, inv.near.0), omega (arith, c.in_ok-count.ensures.near), λ some. omega (arith, c.in_ok-count.ensures.near));
+      near = (goes_on inv.near.0 c.put_lead-from.ensures.near.0 count, no_more c.in_ok-count.ensures.near, λ some. c.in_ok-count.ensures.near);
       places = length-set taken place (get_or taken place 0 + (count + 1)) ∙ inv.places;
       room = c.put_line.array_long;
     }

@@ -29,7 +29,7 @@ pub returns-in_default-clause-continues : goal.returns-in_default-clause-continu
 returns-in_default-clause-continues g c =
     let same = c.count_same-same.result in
     let went = rw c.first_line.ensures at c.count_same-same.ensures in
-    block_on went c.requires.waits
+    block_on went c.requires.held.waits
     (no_end _ (drop same.passed c.args.block.now) (rw (c.args.self.now.ends, take_rest) at c.in_default.ensures)) c.args.out.now
 
 pub returns-in_default-clause-passed : goal.returns-in_default-clause-passed
@@ -37,7 +37,7 @@ returns-in_default-clause-passed g c =
     let same = c.count_same-same.result in
     let went = rw c.first_line.ensures at c.count_same-same.ensures in (
       went.within,
-      block_on_passed went c.requires.waits
+      block_on_passed went c.requires.held.waits
           (no_end _ (drop same.passed c.args.block.now) (rw (c.args.self.now.ends, take_rest) at c.in_default.ensures)),
     )
 
@@ -48,9 +48,9 @@ returns-in_err-push_run-clause-halts g c =
     let went = subst (λ l. GoesOnWith job (uniq_job c.args.self.now.job.now).end l c.args.block.now same) c.first_line.ensures c.count_same-same.ensures in
     let out = c.push_run.new.out in
     on_err c.from_residual.result
-    (block_run_halts went c.requires.waits c.in-Some.at (rw (c.args.self.now.ends, take_rest) at c.in-Some.ensures) out
+    (block_run_halts went c.requires.held.waits c.in-Some.at (rw (c.args.self.now.ends, take_rest) at c.in-Some.ensures) out
     (run_wrote job (c.args.run.now.count + same.count) c.first_line-2.ensures
-    (cc (c.args.self.now.ends)) c.push_run.ensures.wrote) c.in_err-push_run.ensures.fault)
+    (ap (λ b. b ∷ []) c.args.self.now.ends) c.push_run.ensures.wrote) c.in_err-push_run.ensures.fault)
 
 pub returns-in_err-last-clause-halts : goal.returns-in_err-last-clause-halts
 returns-in_err-last-clause-halts g c =
@@ -58,7 +58,7 @@ returns-in_err-last-clause-halts g c =
     let same = c.count_same-same.result in
     let went = subst (λ l. GoesOnWith job (uniq_job c.args.self.now.job.now).end l c.args.block.now same) c.first_line.ensures c.count_same-same.ensures in
     on_err c.from_residual-in_err-last.result
-    (block_halts went c.requires.waits c.in-Some.at (rw (c.args.self.now.ends, take_rest) at c.in-Some.ensures) c.push_runs.new.out
+    (block_halts went c.requires.held.waits c.in-Some.at (rw (c.args.self.now.ends, take_rest) at c.in-Some.ensures) c.push_runs.new.out
     (run_wrote job (c.args.run.now.count + same.count) c.first_line-2.ensures
     (ap (λ b. b ∷ []) c.args.self.now.ends) c.push_run.ensures.wrote)
     (rw take_rest at c.in_err-last.ensures.halts))
@@ -70,7 +70,7 @@ returns-clause-continues g c =
     let went = subst (λ l. GoesOnWith job (uniq_job c.args.self.now.job.now).end l c.args.block.now same) c.first_line.ensures c.count_same-same.ensures in
     subst (λ r. RunsOn job (open_run_of c.args.run.now c.args.store.now) r
     (ended_lines (uniq_job c.args.self.now.job.now).end c.args.block.now) c.args.out.now c.push_runs.new.out) (sym (c.begin.ensures c.args.store.now))
-    (rw take_rest (block_turns went c.requires.waits c.in-Some.at (rw (c.args.self.now.ends, take_rest) at c.in-Some.ensures) c.push_runs.new.out
+    (rw take_rest (block_turns went c.requires.held.waits c.in-Some.at (rw (c.args.self.now.ends, take_rest) at c.in-Some.ensures) c.push_runs.new.out
     (run_wrote job (c.args.run.now.count + same.count) c.first_line-2.ensures
     (ap (λ b. b ∷ []) c.args.self.now.ends) c.push_run.ensures.wrote)
     c.in_ok-push_run.ensures.clean _ (rw take_rest at c.in_ok-last.ensures.continues)))
@@ -81,5 +81,5 @@ returns-clause-passed g c =
     let went = rw c.first_line.ensures at c.count_same-same.ensures in
     let passed = rw take_rest at c.in_ok-last.ensures.passed in (
       omega (arith, length-drop same.passed c.args.block.now),
-      block_passed went c.requires.waits c.in_ok-last.last.passed passed.1,
+      block_passed went c.requires.held.waits c.in_ok-last.last.passed passed.1,
     )

@@ -15,5 +15,5 @@ returns-in_err-push-in-Counts g c =
 
 pub returns-in_ok-push-in-Counts : goal.returns-in_ok-push-in-Counts
 returns-in_ok-push-in-Counts g c =
-    let digits : c.as_bytes.result.now ≡ decimal c.args.count = cc in
-    rw c.in-Counts.is (pushes_then (rw digits at c.push.ensures.pushed.wrote) c.push-in-Counts.ensures.pushed)
+    let digits : c.as_bytes.result.now ≡ decimal c.args.count = c.as_bytes.ensures.value ∙ c.format.ensures.text in
+    rw c.in-Counts.is (pushes_then (subst (Wrote c.args.out.now c.push.new.self) digits c.push.ensures.pushed.wrote) c.push-in-Counts.ensures.pushed)
