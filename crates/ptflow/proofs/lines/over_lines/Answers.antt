@@ -2,7 +2,8 @@
 -- the last slot what is staged is sent again, and the lines of the block follow. Each exit is one of the ends of a
 -- pass.
 use Rattle.ptflow.proofs.Common.{◌∙◌, subst, err_from_is_err_and, IsLine}
-use Rattle.ptflow.proofs.OfPasses.LineLemmas.{LineRun, short_block, came_line, run_starts, run_unslotted, run_sent, run_count, run_room, run_unsent, run_line, run_line_halts, filled_count, same_room, some_line}
+use Rattle.ptflow.proofs.OfPasses.LineLemmas.{LineRun, short_block, came_line, run_starts, run_unslotted, run_sent, run_count, run_room, run_unsent, run_line, run_line_halts, filled_count, same_room}
+use Rattle.ptflow.proofs.OfPasses.LineLemmas.{some_line}
 use Rattle.ptflow.proofs.OfPasses.LineLemmas.{run_broken, run_memory, run_no_block, run_done, run_unended, run_block, run_block_halts}
 use Rattle.ptflow.proofs.OfPasses.ReaderFacts.{budget_less}
 use Rattle.ptflow.proofs.OfPasses.SlotFacts.{keeps_starts, swapped_room}
@@ -149,4 +150,4 @@ turns-preserved g c =
     let u = sent_again g (goal.at.turns-preserved g c).In_ok-send_before_wait-2 in
     let shows = (rw c.in-Ok.is at c.block.follows.holds-at-none.shows) u.reached.goes.fault in
     let rest = c.in_ok-passed-in-Ok.ensures in
-    run_block c.requires.tool u shows.0 shows.1 rest.passed c.consume.ensures.consumed rest.continues
+    run_block c.requires.tool u shows.0 shows.1 rest.passed c.consume.ensures.consumed {next = g.T.LineTool.carried c.take_block.new.state c.take_line.new.store} rest.continues

@@ -1,10 +1,12 @@
 -- An interval is walked in two steps: to the start of its first field, and to the end of its last one (`FieldWalks`).
 -- What lies between is one slice, with a delimiter in front of it if it is not the first. A walk that meets the end of
 -- the line leaves no field to come.
-use Rattle.ptflow.proofs.Common.{◌+◌, ◌-◌, ◌≤◌, take, drop, get_or, refl, sym, ◌∙◌, arith, append_assoc, take-take, length-take-le, ◌<◌, ℕ, List, Fits, StartsAt, length, length-set, ap, join_with_byte, is_selected, fields, ◌++◌, ◌≡◌}
+use Rattle.ptflow.proofs.Common.{◌+◌, ◌-◌, ◌≤◌, take, drop, get_or, refl, sym, ◌∙◌, arith, append_assoc, take-take, length-take-le, ◌<◌, ℕ, List, Fits, StartsAt, length, length-set, ap}
+use Rattle.ptflow.proofs.Common.{join_with_byte, is_selected, fields, ◌++◌, ◌≡◌}
 use Rattle.std.proofs.Common.{w64}
 use Rattle.ptflow.proofs.OfCut.FieldPlaces.{rest_of, slice_of, line_with_end, put_byte}
-use Rattle.ptflow.proofs.OfCut.FieldWalks.{not_past, not_before, in_order, led_step, some_step, slice_order, step_fits, slice_fits, coming, all_coming, walking_starts, walking_done, walking_short, walking_ends, walking_slice, walking_more}
+use Rattle.ptflow.proofs.OfCut.FieldWalks.{not_past, not_before, in_order, led_step, some_step, slice_order, step_fits, slice_fits, coming, all_coming, walking_starts, walking_done, walking_short}
+use Rattle.ptflow.proofs.OfCut.FieldWalks.{walking_ends, walking_slice, walking_more}
 use Rattle.ptflow.proofs.OfBytes.Chosen.{chosen}
 use Rattle.ptflow.proofs.tools.cut.fields.put_fields.Goals as goal
 

@@ -1,7 +1,7 @@
 -- Each turn puts one more cell behind its delimiter, if it is whole in what its reader holds; what was taken of each
 -- reader is counted.
 use Rattle.ptflow.proofs.Common.{refl, sym, [], ◌∷◌, ◌≡◌, ◌+◌, ◌<◌, ◌≤◌, ◌++◌, ℕ, List, Some, length, take, drop, get_or, ◌∙◌, ap, subst, arith, append-nil, take_rest, take_more_set, length-set}
-use Rattle.ptflow.proofs.Common.{All-get_or, IsFirstByte, is_byte, Reader, IsSound, reader_at, lead, in_front}
+use Rattle.ptflow.proofs.Common.{◌^◌, All-get_or, IsFirstByte, is_byte, Reader, IsSound, reader_at, lead, in_front}
 use Rattle.ptflow.proofs.OfPaste.Grids.{times_below}
 use Rattle.ptflow.proofs.OfPaste.RowTurns.{at_index}
 use Rattle.ptflow.proofs.OfPaste.WholeRows.{HasLine, putting_starts, putting_more, putting_done, holds_more, front_kept, line_put, end_put}
@@ -24,6 +24,12 @@ no_more lt = omega arith
 
 fits_in : {at size : ℕ} → at ≤ 8192 → size ≡ 8208 → at ≤ size
 fits_in near same = omega arith
+
+taken_small : (begin count from : ℕ) {bytes : List ℕ} {reader : Reader} → begin ≤ length bytes → bytes ≡ reader.held → IsSound reader → from + count < 8192 → begin + (count + 1) < 2 ^ 16
+taken_small begin count from within same sound near = omega (arith, ap length same, sound.held)
+
+wider : {n : ℕ} → n < 2 ^ 16 → n < 2 ^ 64
+wider lt = omega arith
 
 -- the cell names a reader
 low : (g : given.Over) (c : In-loop-column g) → get_or c.args.row.now.cells.now c.loop-column.column 0 < length c.args.row.now.readers.now
@@ -157,8 +163,12 @@ pub slice_bounds-rest-end : goal.slice_bounds-rest-end
 slice_bounds-rest-end g c = omega (arith, fits g (goal.at.slice_bounds-rest-end g c).After-held)
 
 pub overflow_add-taken-in-loop-column : goal.overflow_add-taken-in-loop-column
-overflow_add-taken-in-loop-column g c = omega
-    (arith, fits g (goal.at.overflow_add-taken-in-loop-column g c).After-held, ap length c.held.ensures.held, c.held.ensures.sound.held, c.in_ok-count.ensures.near)
+overflow_add-taken-in-loop-column g c =
+    let here = (goal.at.overflow_add-taken-in-loop-column g c).After-held in
+    let small = taken_small _ c.in_ok-count.count _ (fits g here) c.held.ensures.held c.held.ensures.sound c.in_ok-count.ensures.near in
+    record { fits = wider small }
 
 pub overflow_cast-taken : goal.overflow_cast-taken
-overflow_cast-taken g c = omega (arith, fits g (goal.at.overflow_cast-taken g c).After-held, ap length c.held.ensures.held, c.held.ensures.sound.held, c.in_ok-count.ensures.near)
+overflow_cast-taken g c = record {
+  fits = taken_small _ c.in_ok-count.count _ (fits g (goal.at.overflow_cast-taken g c).After-held) c.held.ensures.held c.held.ensures.sound c.in_ok-count.ensures.near;
+}
