@@ -1,8 +1,8 @@
 //! The loop of the tools that work block by block, and keep nothing in a store.
 
-ghost use Rattle.std.specs.Prelude.{◌≤◌, ◌+◌, ℕ, List, [], length, OnOk, OnErr};
+ghost use Rattle.std.specs.Prelude.{◌<◌, ◌≤◌, ◌+◌, ℕ, List, [], length, OnOk, OnErr};
 ghost use Rattle.ptlines.specs.Outputs.{Pushes};
-ghost use Rattle.ptflow.specs.Workings.Passes.Blocks.{IsBlock, IsAtStart, GoesOver};
+ghost use Rattle.ptflow.specs.Workings.Passes.Blocks.{HasRoom, IsAtStart, GoesOver};
 ghost use Rattle.ptflow.specs.Workings.Passes.Continuations.{Continues, Halts};
 
 use crate::faults::FlowFault;
@@ -21,7 +21,8 @@ pub(crate) trait BlockTool: Drop {
 
     /// Pushes what is written for a block.
     fn push_block<W: Sink>(&mut self, block: &[u8], out: &mut Out<W>) -> Result<(), WriteFault>
-        requires { IsBlock (counted self.old) block.now }
+        requires some { 0 < length block.now }
+        requires room { HasRoom (counted self.old) 0 (length block.now) }
         ensures continues { OnOk result (Continues rest self.old self.new block.now out.old out.new) }
         ensures counts { counted self.new ≤ counted self.old + length block.now }
         ensures holds { (start : Self) → Holds start self.old → Holds start self.new }

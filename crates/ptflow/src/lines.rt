@@ -1,12 +1,12 @@
 //! The loop of the tools that work line by line, and keep a line in each of a few slots.
 
-ghost use Rattle.std.specs.Prelude.{◌≡◌, ◌≤◌, ◌-◌, ℕ, List, ◌∷◌, [], length, false, IfOk, OnOk, OnErr};
+ghost use Rattle.std.specs.Prelude.{◌≡◌, ◌≤◌, ◌-◌, ◌^◌, ℕ, List, ◌∷◌, [], length, false, IfOk, OnOk, OnErr};
 ghost use Rattle.ptlines.specs.Outputs.{Pushes};
 ghost use Rattle.ptlines.specs.Slots.{Slots, line};
 ghost use Rattle.ptlines.specs.Text.{ended_lines};
 ghost use Rattle.ptflow.specs.Tools.{Tool};
 ghost use Rattle.ptflow.specs.Passes.{IsPass};
-ghost use Rattle.ptflow.specs.Workings.Passes.Lines.{LinesOn, LinesHalt, MayBegin, MayTake, MayTakeBlock, PassesLines};
+ghost use Rattle.ptflow.specs.Workings.Passes.Lines.{LinesOn, LinesHalt, MayBegin, MayTakeBlock, PassesLines};
 ghost use Rattle.ptflow.specs.Workings.Passes.Lines.{IsSwapped, Empties, IsLineTool};
 
 use crate::faults::FlowFault;
@@ -50,7 +50,8 @@ pub(crate) trait LineTool {
         store: &mut Store<A>,
         out: &mut Out<W>,
     ) -> Result<(), WriteFault>
-        requires { MayTake SLOTS (counted (carried state.old store.old)) store.old }
+        requires room { SLOTS ≤ length store.old.lines }
+        requires few { counted (carried state.old store.old) ≤ 2 ^ 63 }
         ensures continues { OnOk result (LinesOn (rest self.now) (written self.now) counted
             (carried state.old store.old) (carried state.new store.new)
             (line store.old (SLOTS - 1) ∷ []) out.old out.new) }
@@ -67,7 +68,8 @@ pub(crate) trait LineTool {
         store: &Store<A>,
         out: &mut Out<W>,
     ) -> Result<usize, WriteFault>
-        requires { MayTakeBlock SLOTS (counted (carried state.old store.now)) store.now block.now }
+        requires room { SLOTS ≤ length store.now.lines }
+        requires held { MayTakeBlock (counted (carried state.old store.now)) block.now }
         ensures continues { OnOk result (LinesOn (rest self.now) (written self.now) counted
             (carried state.old store.now) (carried state.new store.now) (ended_lines (tool self.now).end block.now)
             out.old out.new) }

@@ -95,6 +95,13 @@ pub record Choosing (all : List Interval) (i before : ℕ) (piece tail was is : 
   pub near : at ≤ start + (low - (before + 1))
   pub within : at ≤ start + length piece
 
+pub choosing_starts : {all : List Interval} {before : ℕ} {piece tail was : List ℕ} {start : ℕ} → AreApart 0 all → Choosing all 0 before piece tail was was start start
+choosing_starts apart = record { front = refl; low = 0; apart = apart; near = omega arith; within = omega arith }
+
+pub choosing_order : {all : List Interval} {i before : ℕ} {piece tail was is : List ℕ} {start at : ℕ} → Choosing all i before piece tail was is start at → i < length all
+    → (get_or all i (record { first = 0; last = 0 })).first ≤ (get_or all i (record { first = 0; last = 0 })).last
+choosing_order {all} {i} k within = (rw (drop_more all i (record { first = 0; last = 0 }) within) at k.apart).1
+
 module _ {all : List Interval} {before : ℕ} {piece tail was : List ℕ} {start : ℕ} where
   module _ {i : ℕ} {is : List ℕ} {at : ℕ} (k : Choosing all i before piece tail was is start at) where
     -- no interval is left

@@ -179,6 +179,11 @@ module _ (test : ℕ → Bool) where
       let c = chunk (at + 32) 16 from in
       cc (kept_on t a b, kept_on t (a ++ b) c, kept_on t ((a ++ b) ++ c) (chunk (at + 48) 16 from), chunk_in_four at from)
 
+  -- the same, put one behind the other
+  pub kept_after : (t : List ℕ) (at : ℕ) (from : List ℕ) {a b c d : List ℕ} → a ≡ t ++ filter test (chunk at 16 from) → b ≡ a ++ filter test (chunk (at + 16) 16 from)
+      → c ≡ b ++ filter test (chunk (at + 32) 16 from) → d ≡ c ++ filter test (chunk (at + 48) 16 from) → d ≡ t ++ filter test (chunk at 64 from)
+  kept_after t at from ea eb ec ed = cc (kept_in_four t at from)
+
 -- where no flag is set in four vectors, all of their 64 bytes are kept
 pub all_kept_in_four : (test : ℕ → Bool) (at : ℕ) (from : List ℕ) → InFour (λ k. mask_l (map test (chunk k 16 from)) ≡ 0) at → filter (λ b. not (test b)) (chunk at 64 from) ≡ chunk at 64 from
 all_kept_in_four test at from none =

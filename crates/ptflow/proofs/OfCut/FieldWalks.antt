@@ -33,6 +33,16 @@ pub slice_fits : {d n m number at lead skipped passed : ℕ} {others : List Inte
     → StartsAt d m (drop (at + skipped) line) passed → at + skipped + passed ≤ length line
 slice_fits {at} {skipped} {line} w s p = omega (arith, step_fits w s, length-drop (at + skipped) line)
 
+pub led_step : {d number at lead : ℕ} {others : List Interval} {line : List ℕ} → Walking d others line number at lead → (skipped : ℕ) → lead ≤ at + skipped
+led_step w skipped = omega (arith, w.passed)
+
+-- a step over some fields takes some bytes, of which the last is a delimiter
+pub some_step : (n : ℕ) {d : ℕ} {line : List ℕ} {passed : ℕ} → StartsAt d (n + 1) line passed → (from : ℕ) → 1 ≤ from + passed
+some_step n s from = omega (arith, s.count)
+
+pub slice_order : (n : ℕ) {d : ℕ} {line : List ℕ} {passed : ℕ} → StartsAt d (n + 1) line passed → (from lead : ℕ) → from - lead ≤ from + passed - 1
+slice_order n s from lead = omega (arith, s.count)
+
 -- the selected fields of a line are to come
 pub all_coming : (d : ℕ) (all : List Interval) (line tail : List ℕ) → join_with_byte d (chosen (is_selected all) 1 (fields d line)) ++ tail ≡ coming d all line tail 1 0 0
 all_coming d all line tail = cc (join_led d (chosen (is_selected all) 1 (fields d line)))
@@ -87,6 +97,12 @@ module _ {d : ℕ} (all : List Interval) {line : List ℕ} (tail : List ℕ) (i 
 
     pub not_past : number + lead ≤ r.first
     not_past = omega (arith, apart.0)
+
+    pub not_before : number ≤ r.first
+    not_before = omega (arith, not_past)
+
+    pub in_order : r.first ≤ r.last
+    in_order = apart.1
 
     -- the line ends in front of the interval
     pub walking_short : length here ≤ skip → to_come ≡ tail

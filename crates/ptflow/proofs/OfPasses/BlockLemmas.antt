@@ -2,17 +2,23 @@
 -- was not passed on is what the reader holds.
 use Rattle.ptflow.proofs.Common.{◌≡◌, ℕ, ◌+◌, ◌-◌, ◌≤◌, ◌<◌, ◌^◌, true, false, List, [], ◌++◌, None, Ok, Err, length, drop, refl, sym, ◌∙◌, ap, subst, arith, append_assoc, length-drop, false≢true}
 use Rattle.ptflow.proofs.Common.{append-nil, take_all, Reader, Reads, Goes, IsDone, IsSound, HasReadCause, Begins, Output, Wrote, Slots, goes_trans, wrote_trans, Tool, IsReady, IsPass, Read, Write}
-use Rattle.ptflow.proofs.Common.{Continues, Halts, given_of}
-use Rattle.ptflow.specs.Workings.Passes.Blocks.{IsBlockTool}
+use Rattle.ptflow.proofs.Common.{Continues, Halts, given_of, eqb, eqb-false}
+use Rattle.ptflow.specs.Workings.Passes.Blocks.{HasRoom, IsBlockTool}
 use Rattle.ptflow.proofs.OfPasses.Continuations.{halts_before}
 use Rattle.ptflow.proofs.OfPasses.ReaderFacts.{may_come, goes_past}
 use Rattle.ptflow.proofs.OfPasses.PassLemmas.{Midway, Works, Stored, stored_nothing, reached_nothing, pass_read, pass_write, pass_done, pass_unended}
 
+pub not_empty : (block : List ℕ) → eqb (length block) 0 ≡ false → 0 < length block
+not_empty block other = omega (arith, eqb-false (length block) 0 other)
+
 -- No more is counted than was given.
 module _ {reader shown : Reader} {block : List ℕ} (goes : Goes reader shown []) (held : shown.held ≡ block) (sound : IsSound reader) {counted : ℕ}
     (few : counted ≤ reader.pulled - length reader.held) where
-  pub counted_block : counted + length block ≤ shown.pulled
+  counted_block : counted + length block ≤ shown.pulled
   counted_block = omega (arith, ap length held)
+
+  pub block_room : IsSound shown → HasRoom counted 0 (length block)
+  block_room is_sound = record { short = omega (arith, counted_block, is_sound.long goes.fault); small = omega (arith, is_sound.held, ap length held) }
 
   pub counted_more : {new : Reader} {more : ℕ} → new ≡ record shown { held = drop (length block) shown.held } → more ≤ counted + length block → more ≤ new.pulled - length new.held
   counted_more consumed least =

@@ -1,7 +1,7 @@
 -- Bytes that are pushed piece by piece: a front of them was, and the rest is to come.
 use Rattle.ptflow.proofs.Common.{◌≡◌, ℕ, Bool, false, true, List, [], ◌++◌, refl, sym, subst, append_assoc, Output, Wrote, wrote_nothing, wrote_trans, wrote_past}
 use Rattle.ptlines.specs.Outputs.{Pushes}
-use Rattle.std.specs.Prelude.{Result}
+use Rattle.std.specs.Prelude.{Err, Result}
 
 -- one push after another, also after a fault
 pub wrote_then : (a b c : Output) {xs ys : List ℕ} → Wrote a b xs → Wrote b c ys → Wrote a c (xs ++ ys)
@@ -13,6 +13,10 @@ wrote_then a b c {xs} {ys} p q = by_fault b.faulted refl
 
 pub pushes_then : {E : Type 0} {a b c : Output} {xs ys : List ℕ} {r : Result (Unit {0}) E} → Wrote a b xs → Pushes b c ys r → Pushes a c (xs ++ ys) r
 pushes_then p q = record { wrote = wrote_then _ _ _ p q.wrote; clean = q.clean; fault = q.fault }
+
+-- a push failed, and so did the call
+pub pushes_breaks : {E : Type 0} {a b : Output} {xs : List ℕ} {r : Result (Unit {0}) E} {e : E} → r ≡ Err e → Wrote a b xs → b.faulted ≡ true → Pushes a b xs r
+pushes_breaks {a = a} {b = b} {xs = xs} failed wrote fault = subst (Pushes a b xs) (sym failed) (record { wrote = wrote; clean = tt; fault = fault })
 
 pub record Front (whole rest : List ℕ) (was is : Output) : Type 0 where
   pub pushed : List ℕ

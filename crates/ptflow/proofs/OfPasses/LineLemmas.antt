@@ -1,6 +1,6 @@
 -- A tool that works line by line, whatever it carries. What was passed on of the lines that came, and what is made of
 -- the lines to come, is the whole, whatever comes; so midway it is what PassLemmas asks for.
-use Rattle.ptflow.proofs.Common.{◌≡◌, Bool, ℕ, ◌+◌, ◌-◌, ◌*◌, ◌≤◌, ◌^◌, true, false, List, [], ◌∷◌, ◌++◌, Ok, Err, length, drop, max, refl, ◌∙◌, ap, subst, arith, append_assoc, length-append}
+use Rattle.ptflow.proofs.Common.{◌≡◌, Bool, ℕ, ◌+◌, ◌-◌, ◌*◌, ◌<◌, ◌≤◌, ◌^◌, true, false, List, [], ◌∷◌, ◌++◌, Ok, Err, length, drop, max, refl, ◌∙◌, ap, subst, arith, append_assoc, length-append}
 use Rattle.ptflow.proofs.Common.{mul-le-mul_left, false≢true, nil_from_length, get_or-set_same, lines, ended_lines, IsLine, longest, longest_line, Given, whole_lines, Begins, Agrees, Output, Wrote}
 use Rattle.ptflow.proofs.Common.{Reader, Reads, Goes, IsDone, IsSound, HasReadCause, Slots, line, with_line, with_denied, Fills, GivesLine, goes_trans, wrote_trans, Tool, IsReady, IsPass, Adds}
 use Rattle.ptflow.proofs.Common.{LinesCame, LinesOn, LinesHalt, PassesLines, IsSwapped, Empties, IsLineTool, Read, Write, Memory, given_of}
@@ -28,6 +28,16 @@ pub record LineRun {S X E : Type 0} (state : S → Slots → X) (rest_from : X �
 pub came_line : {slots width : ℕ} {came : Bool} {old new : Reader} {before after : Slots} → slots ≡ width → came ≡ true → Fills old new before after (slots - 1) (Ok came)
     → GivesLine old new before after (width - 1)
 came_line same is fills = rw same at (rw is at fills)
+
+-- no slot was added or taken away
+pub same_room : {width before after : ℕ} → after ≡ before → width ≤ before → width ≤ after
+same_room same room = omega arith
+
+pub short_block : {shown : Reader} {block : List ℕ} → shown.held ≡ block → IsSound shown → length block ≤ 8192
+short_block same sound = omega (arith, ap length same, sound.held)
+
+pub some_line : 0 < 1
+some_line = omega arith
 
 module _ {S X E : Type 0} {tool : Tool} {state : S → Slots → X} {rest_from : X → List (List ℕ) → List E} {written : List E → List ℕ} {counted : X → ℕ} {width : ℕ} {start : S}
     (t : IsLineTool tool state rest_from written counted width start) where

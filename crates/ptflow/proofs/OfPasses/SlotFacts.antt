@@ -70,6 +70,20 @@ keeps_line {width} {most} {store} new slot bytes k within fits is = record {
     others = cc (drop-set-lt width store.lines slot bytes within)
 
 -- the first and the last slot may have changed places
+pub swapped_room : {width : ℕ} {before after : Slots} → IsSwapped width before after → 0 < width → width ≤ length before.lines → width ≤ length after.lines
+swapped_room {width} {before} {after} either some room = ⊎_elim (λ same. omega (arith, ap (λ (s : Slots). length s.lines) same)) changed either
+  where
+    changed : after ≡ record before { lines = swap before.lines 0 (width - 1) } → width ≤ length after.lines
+    changed is =
+        let first = set before.lines 0 (get_or before.lines (width - 1) []) in
+        omega (
+          arith,
+          ap (λ (s : Slots). length s.lines) is,
+          ap length (swap_is before.lines 0 (width - 1) [] (omega arith) (omega arith)),
+          length-set first (width - 1) (get_or before.lines 0 []),
+          length-set before.lines 0 (get_or before.lines (width - 1) []),
+        )
+
 pub keeps_swapped : {width most : ℕ} {before store : Slots} (new : Slots) → 0 < width → Keeps width most before store → IsSwapped width store new → Keeps width most before new
 keeps_swapped {width} {most} {before} {store} new some k either = ⊎_elim (λ same. subst (Keeps width most before) (sym same) k) changed either
   where

@@ -25,6 +25,9 @@ module _ {delims : List (Option ℕ)} {n : ℕ} {turns : List (Option ℕ)} (t :
   stays : (turn : Option ℕ) (c : ℕ) → c + 1 < n → (d : ℕ) × (slice_index_or (turns ++ turn ∷ []) c None ≡ Some d) × (delimiter delims c ≡ d ∷ [])
   stays turn c low = let b = t.between c low in (b.0, get_or_append_left turns (turn ∷ []) None c (omega (arith, low, t.count)) ∙ b.1, b.2)
 
+  pub turns_few : (turn : Option ℕ) {after : List (Option ℕ)} {size : ℕ} → after ≡ turns ++ turn ∷ [] → n < size → size ≤ 64 → length after < 64
+  turns_few turn is low few = omega (arith, ap length is, length-append turns (turn ∷ []), t.count)
+
   pub turns_more : {d : ℕ} {after : List (Option ℕ)} → after ≡ turns ++ Some d ∷ [] → delim_at delims (n - 1) ≡ Some d → TurnsSoFar delims (n + 1) after
   turns_more {d} is delim = rw is (record {
     count = omega (arith, length-append turns (Some d ∷ []), t.count);

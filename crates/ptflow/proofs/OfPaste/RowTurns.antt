@@ -2,7 +2,7 @@
 use Rattle.ptflow.proofs.Common.{◌≡◌, ◌≢◌, ⊎_elim, ℕ, ◌+◌, ◌<◌, ◌≤◌, ◌==◌, ◌||◌, Bool, true, false, cond, List, [], ◌∷◌, ◌++◌, None, Ok, length, take, get_or, set, refl, sym, ◌∙◌, ap, subst, arith}
 use Rattle.ptflow.proofs.Common.{length-append, sum_by, cases_eq, cases_lt, eq-eqb, ne_eqb, append-nil, take-take, length-set, get_or-set_same, get_or-set_other, get_or_past, get_or_append_left}
 use Rattle.ptflow.proofs.Common.{get_or_at, get_or_default, sum_by-set, longest, Reader, Goes, IsDone, IsSound, budget, Slots, with_line, GivesLine, Fills, no_reader, reader_at, times, AreSet}
-use Rattle.ptflow.proofs.Common.{RowTaken, Filling, RowBroken, Took}
+use Rattle.ptflow.proofs.Common.{RowFilled, RowTaken, Filling, RowBroken, Took}
 use Rattle.std.specs.Prelude.{slice_index_or}
 use Rattle.ptflow.proofs.OfPaste.CellSlots.{cells_line}
 use Rattle.ptflow.proofs.OfPaste.Grids.{times_here, times_other, times_front}
@@ -124,6 +124,13 @@ module _ {cells : List ℕ} {n : ℕ} {old now : List Reader} {before store : Sl
     kept = λ first top k high. rw stored (cells_line (t.kept first top k (λ q. omega (arith, high q, more_long place ls got q))) n bytes low
         (omega (arith, fits, high place, ap longest (more_here place ls got place refl), longest-append (got place) ls)));
   }
+
+-- behind the last cell the row is filled
+pub all_filled : {cells : List ℕ} {n : ℕ} {old new : List Reader} {before store : Slots} {came : Bool} → Filling cells n old new before store came → length cells ≤ n → n ≤ length cells
+    → RowFilled cells old new before store came
+all_filled {cells} {n} {old} {new} {before} {store} {came} f past within =
+    let all : n ≡ length cells = omega arith in
+    subst (λ (k : ℕ). Filling cells k old new before store came) all f
 
 pub filling_starts : {cells : List ℕ} {old : List Reader} {before : Slots} → Filling cells 0 old old before before false
 filling_starts = record {

@@ -2,6 +2,8 @@
 use Rattle.ptflow.proofs.Common.{◌≡◌, ⊎_elim, ℕ, zero, suc, ◌+◌, ◌-◌, ◌%◌, ◌==◌, ◌<◌, ◌≤◌, eqb, Bool, true, false, cond, List, [], ◌∷◌, ◌++◌, Option, None, Some, length, take, drop, get_or, slice_set}
 use Rattle.ptflow.proofs.Common.{refl, sym, ◌∙◌, ap, arith, unwrap_or, list_any, count_by, option_eq, mod-lt, mod-add-mod, mod-eq_of_lt, take-add, take-set-lt, cases_Bool, eq-eqb, set-append_right}
 use Rattle.ptflow.proofs.Common.{drop_more, take_more_set, take-set, length-set, list_any_at, sum_by-cons, sum_by-append, is_byte, other_byte, delim_at, delimiter, IsBehind, with_turns, IsTurnedTo}
+use Rattle.ptflow.proofs.Common.{count_by-le-length, length-take-le}
+use Rattle.ptflow.specs.Workings.Paste.SerialRests.{CanReplace, CanReplaceAll}
 use Rattle.ptflow.specs.declared.kernels.replacing.Turn.{Turn}
 
 -- the place in a list of this length that is next, in front of its end
@@ -123,3 +125,16 @@ set_in_chunk to front xs at size k v is long near =
     let there : at + k - at ≡ k = omega arith in
     take-set-lt (at + size) to (at + k) v (omega (arith, near)) ∙ ap (λ (l : List ℕ). slice_set l (at + k) v) is ∙ set-append_right front xs at (at + k) v long (omega arith)
     ∙ ap (λ (n : ℕ). front ++ slice_set xs n v) there
+
+-- amid the chunks, one more can be replaced
+pub can_replace : (end : ℕ) {delims : List (Option ℕ)} {number : ℕ} {turn : Turn} {at : ℕ} {from was to : List ℕ} → CanReplaceAll delims number from was → IsTurnedTo end delims number turn at from to
+    → 64 ≤ length from - at → CanReplace delims turn at from to
+can_replace end {at = at} {from = from} all turned more = record {
+  turns = record {
+    some = all.some;
+    place = turned.3;
+    short = omega (arith, turned.2, count_by-le-length (is_byte end) (take at from), length-take-le at from turned.0, all.short);
+  };
+  room = omega (arith, turned.0);
+  same = turned.1;
+}

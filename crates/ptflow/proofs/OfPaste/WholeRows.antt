@@ -81,10 +81,12 @@ module _ {end : ℕ} {cells : List ℕ} {old : List Reader} {n : ℕ} {taken : L
 
   -- no more is taken than is held
   pub holds_more : Holds old taken → Holds old (taken_with cells n taken at)
-  holds_more holds p = ⊎_elim
-      (λ same. rw same (rw (get_or-set_same taken place behind 0 l.place_low) (omega (arith, l.found.0.high, length-drop (get_or taken place 0) (reader_at old place).held, holds place))))
-      (λ differ. rw (get_or-set_other taken place p behind 0 differ) (holds p))
-      (cases_eq p place)
+  holds_more holds = record {
+    at = λ p. ⊎_elim
+        (λ same. rw same (rw (get_or-set_same taken place behind 0 l.place_low) (omega (arith, l.found.0.high, length-drop (get_or taken place 0) (reader_at old place).held, holds.at place))))
+        (λ differ. rw (get_or-set_other taken place p behind 0 differ) (holds.at p))
+        (cases_eq p place);
+  }
 
   module _ {delims : List (Option ℕ)} {from : List Reader} {written next : List ℕ}
       (is : next ≡ (written ++ lead delims (in_front n)) ++ take at (drop (get_or taken (get_or cells n 0) 0) (reader_at old (get_or cells n 0)).held))
@@ -183,7 +185,7 @@ pub zeros : (p : ℕ) → get_or {A = ℕ} nothing p 0 ≡ 0
 zeros p = ⊎_elim (λ low. get_or-replicate {A = ℕ} 16 p 0 0 low) (λ past. get_or_past nothing p 0 past) (cases_lt p 16)
 
 pub holds_none : (old : List Reader) → Holds old nothing
-holds_none old p = omega (arith, zeros p)
+holds_none old = record { at = λ p. omega (arith, zeros p) }
 
 module _ {end : ℕ} {delims : List (Option ℕ)} {cells : List ℕ} {old : List Reader} where
   pub rows_none : PutsRows end delims cells old nothing []
@@ -232,5 +234,5 @@ module _ (taken : List ℕ) (old now : List Reader) (n : ℕ) (front : (p : ℕ)
       past : (p : ℕ) → n ≤ p → reader_at old p ≡ moved_at taken (reader_at old p) p
       past p over =
           let nobody : reader_at old p ≡ no_reader = get_or_past old p no_reader (omega (arith, over, all)) in
-          let none : get_or taken p 0 ≡ 0 = omega (arith, holds p, ap (λ (r : Reader). length r.held) nobody) in
+          let none : get_or taken p 0 ≡ 0 = omega (arith, holds.at p, ap (λ (r : Reader). length r.held) nobody) in
           rw none refl

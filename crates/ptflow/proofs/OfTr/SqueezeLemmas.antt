@@ -200,6 +200,17 @@ module _ (test : ℕ → Bool) (from : List ℕ) where
           behind_parts at 48 16 (omega arith) (omega arith),
         )
 
+    -- and put behind what was put
+    pub stays_after : (t : List ℕ) {a b c d : List ℕ} → a ≡ t ++ stays_at at → b ≡ a ++ stays_at (at + 16) → c ≡ b ++ stays_at (at + 32) → d ≡ c ++ stays_at (at + 48)
+        → d ≡ t ++ squeeze_behind test (get_or from (at - 1) 0) (chunk at 64 from)
+    stays_after t ea eb ec ed =
+        cc (
+          append_assoc t (stays_at at) (stays_at (at + 16)),
+          append_assoc t (stays_at at ++ stays_at (at + 16)) (stays_at (at + 32)),
+          append_assoc t ((stays_at at ++ stays_at (at + 16)) ++ stays_at (at + 32)) (stays_at (at + 48)),
+          stays_in_four,
+        )
+
     long_fronts : (k : ℕ) → at ≤ k → k ≤ at + 48 → length (chunk (k - 1) 16 from) ≡ length (chunk k 16 from)
     long_fronts k low high = length-chunk (k - 1) 16 from (omega arith) ∙ sym (length-chunk k 16 from (omega arith))
 

@@ -39,7 +39,8 @@ fn fill_row<A: Allocator + Copy, S: Source, R: Source, W: Sink>(
     store: &mut Store<A>,
     out: &mut Out<W>,
 ) -> Result<bool, FlowFault>
-    requires { CanFill cells.now readers.old store.old out.old }
+    requires cells { CanFill cells.now readers.old store.old }
+    requires clean { out.old.faulted ≡ false }
     ensures fills { FillsRow cells.now readers.old readers.new store.old store.new result }
     ensures wrote { Wrote out.old out.new [] }
     ensures faulted { out.new.faulted ≡ is_write result }

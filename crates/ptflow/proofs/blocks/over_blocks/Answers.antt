@@ -1,7 +1,7 @@
 -- A turn takes one block, and what the tool says of that block carries the invariant on. Each way out is a lemma of
 -- `PassLemmas` or of `BlockLemmas`. The budget falls, since a block that is not empty was consumed.
 use Rattle.ptflow.proofs.Common.{◌≡◌, [], ◌++◌, length, refl, sym, ◌∙◌, ap, append_assoc, arith, eqb-true, eqb-false, nil_from_length, err_from_is_err_and}
-use Rattle.ptflow.proofs.OfPasses.BlockLemmas.{midway_starts, midway_more, counted_block, counted_more, block_read, block_write, block_unsent, block_done, block_unended}
+use Rattle.ptflow.proofs.OfPasses.BlockLemmas.{midway_starts, midway_more, block_room, not_empty, counted_more, block_read, block_write, block_unsent, block_done, block_unended}
 use Rattle.ptflow.proofs.OfPasses.PassLemmas.{midway_sent}
 use Rattle.ptflow.proofs.OfPasses.ReaderFacts.{goes_nothing, block_less}
 use Rattle.ptflow.proofs.blocks.over_blocks.Goals as goal
@@ -31,18 +31,15 @@ returns-in-Err g c =
     λ t tool store ready. block_read tool
     m ready b.was_sound shows.0.reads b.is_sound c.turns.invariant.holds c.turns.invariant.all shows.1
 
-pub push_block-requires : goal.push_block-requires
-push_block-requires g c =
+pub push_block-requires-clause-some : goal.push_block-requires-clause-some
+push_block-requires-clause-some g c = not_empty c.in-Ok.block.now (sym c.is_empty.ensures ∙ c.if-is_empty.false)
+
+pub push_block-requires-clause-room : goal.push_block-requires-clause-room
+push_block-requires-clause-room g c =
     let b = c.block.follows.holds-at-none in
     let i = c.turns.invariant in
     let shows = (rw c.in-Ok.is at b.shows) i.midway.reached.goes.fault in
-    record {
-      some = omega (arith, eqb-false (length c.in-Ok.block.now) 0 (cc));
-      room = record {
-        short = omega (arith, counted_block shows.0 shows.1 b.was_sound i.counted, b.is_sound.long shows.0.fault);
-        small = omega (arith, b.is_sound.count, ap length shows.1);
-      };
-    }
+    block_room shows.0 shows.1 b.was_sound i.counted b.is_sound
 
 pub returns-in_err-push_block-in-Ok : goal.returns-in_err-push_block-in-Ok
 returns-in_err-push_block-in-Ok g c =
@@ -98,6 +95,6 @@ turns-preserved g c =
 pub turns-smaller : goal.turns-smaller
 turns-smaller g c =
     let shows = (rw c.in-Ok.is at c.block.follows.holds-at-none.shows) c.turns.invariant.midway.reached.goes.fault in
-    let some = eqb-false (length c.in-Ok.block.now) 0 (cc) in
+    let some = eqb-false (length c.in-Ok.block.now) 0 (sym c.is_empty.ensures ∙ c.if-is_empty.false) in
     block_less shows.0 shows.1 c.block.follows.holds-at-none.is_sound.count some c.consume.ensures.consumed
     (c.block.follows.holds-at-none.is_sound.long shows.0.fault)

@@ -1,5 +1,5 @@
 -- Tools that work block by block, and keep nothing in the store.
-use Rattle.std.specs.Prelude.{◌≡◌, ◌<◌, ◌≤◌, ◌+◌, ◌^◌, ℕ, List, ◌++◌, false, None, Result, length}
+use Rattle.std.specs.Prelude.{◌≡◌, ◌<◌, ◌≤◌, ◌+◌, ◌^◌, ℕ, List, ◌++◌, false, None, Result}
 use Rattle.ptlines.specs.Inputs.{Begins}
 use Rattle.ptlines.specs.Outputs.{Output}
 use Rattle.ptlines.specs.Readers.{Reader}
@@ -11,11 +11,6 @@ use Rattle.ptflow.specs.declared.faults.FlowFault.{FlowFault}
 pub record HasRoom (counted written more : ℕ) : Type 0 where
   pub short : counted + more < 2 ^ 63
   pub small : written + more ≤ 8192
-
--- a block comes to a tool that counted so many bytes
-pub record IsBlock (counted : ℕ) (block : List ℕ) : Type 0 where
-  pub some : 0 < length block
-  pub room : HasRoom counted 0 (length block)
 
 -- Before its first block a tool has counted nothing; the reader can be read, and no write has failed.
 pub record IsAtStart (counted : ℕ) (reader : Reader) (out : Output) : Type 0 where

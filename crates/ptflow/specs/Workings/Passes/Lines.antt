@@ -15,14 +15,10 @@ pub record MayBegin (end : ℕ) (reader : Reader) (out : Output) (store : Slots)
   pub sound : IsSound reader
   pub clean : out.faulted ≡ false
 
--- Lines may be taken: so many slots are there, and what is written is held back for no more lines than may come.
-pub record MayTake (slots held : ℕ) (store : Slots) : Type 0 where
-  pub room : slots ≤ length store.lines
+-- The lines of a block may be taken. A line came before them, and what is written is held back for some lines, but for
+-- no more than may come.
+pub record MayTakeBlock (held : ℕ) (block : List ℕ) : Type 0 where
   pub few : held ≤ 2 ^ 63
-
--- The lines of a block may be taken. A line came before them, for which what is written is held back.
-pub record MayTakeBlock (slots held : ℕ) (store : Slots) (block : List ℕ) : Type 0 where
-  pub lines : MayTake slots held store
   pub waits : 0 < held
   pub short : length block ≤ 8192
 

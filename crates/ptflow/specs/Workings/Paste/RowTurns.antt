@@ -2,7 +2,6 @@
 use Rattle.std.specs.Prelude.{◌≡◌, ◌≢◌, ℕ, ◌+◌, ◌<◌, ◌≤◌, Bool, true, false, List, [], None, Result, Ok, Err, All, length, take, drop, max, sum_by, slice_index_or}
 use Rattle.ptlines.specs.Text.{longest}
 use Rattle.ptlines.specs.Readers.{Reader, IsSound, budget}
-use Rattle.ptlines.specs.Outputs.{Output}
 use Rattle.ptlines.specs.Slots.{Slots, line, total}
 use Rattle.ptlines.specs.Fills.{BreaksRead, BreaksMemory}
 use Rattle.ptflow.specs.Passes.{Adds}
@@ -21,12 +20,11 @@ pub record IsSet (end named : ℕ) (old new : Reader) : Type 0 where
 abbrev pub AreSet : ℕ → List ℕ → List Reader → List Reader → Type 0
 AreSet end cells old new = (place : ℕ) → IsSet end (times cells place) (reader_at old place) (reader_at new place)
 
--- Each cell names a reader that can be read, there is a slot for each, and a write has not failed.
-pub record CanFill (cells : List ℕ) (readers : List Reader) (store : Slots) (out : Output) : Type 0 where
+-- Each cell names a reader that can be read, and there is a slot for each.
+pub record CanFill (cells : List ℕ) (readers : List Reader) (store : Slots) : Type 0 where
   pub within : All (λ place. place < length readers) cells
   pub readable : (place : ℕ) → 0 < times cells place → (reader_at readers place).fault ≡ None
   pub slots : length cells ≤ length store.lines
-  pub clean : out.faulted ≡ false
 
 -- The slots of the cells hold all that the store holds, each at most so many bytes as are said of its place.
 pub record KeepsCells (cells : List ℕ) (top : ℕ → ℕ) (before store : Slots) : Type 0 where

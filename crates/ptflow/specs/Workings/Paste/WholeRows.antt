@@ -25,12 +25,8 @@ abbrev pub CanBeRead : ℕ → List ℕ → List Reader → Type 0
 CanBeRead end cells readers = All (λ place. place < length readers) cells × AreReadable end cells readers
 
 -- each reader holds as many bytes as are to be taken of it
-abbrev pub Holds : List Reader → List ℕ → Type 0
-Holds readers taken = (place : ℕ) → slice_index_or taken place 0 ≤ length (reader_at readers place).held
-
--- the readers are few, and these bytes of them can be taken
-abbrev pub CanBeTaken : List Reader → List ℕ → Type 0
-CanBeTaken readers taken = (length readers ≤ 16) × Holds readers taken
+pub record Holds (readers : List Reader) (taken : List ℕ) : Type 0 where
+  pub at : (place : ℕ) → slice_index_or taken place 0 ≤ length (reader_at readers place).held
 
 -- so many bytes were taken of each reader, and nothing else happened
 pub record AreTaken (taken : List ℕ) (old new : List Reader) : Type 0 where

@@ -4,7 +4,7 @@ ghost use Rattle.std.specs.Prelude.{◌≡◌, ◌≢◌, ◌<◌, ◌≤◌, �
 ghost use Rattle.memchr.specs.Find.{IsFirstByte, is_byte};
 ghost use Rattle.ptlangs.specs.DelimLists.{delim_at};
 ghost use Rattle.ptflow.specs.Workings.Paste.SerialRests.{lead};
-ghost use Rattle.ptflow.specs.Workings.Paste.WholeRows.{in_front, CanBeRead, CanBeTaken, Holds, AreTaken, PutsPair, PutsRow, PutsRows, PassesRows};
+ghost use Rattle.ptflow.specs.Workings.Paste.WholeRows.{in_front, CanBeRead, Holds, AreTaken, PutsPair, PutsRow, PutsRows, PassesRows};
 
 use crate::tools::paste::serial::Written;
 use ptlangs::delims::Delims;
@@ -273,7 +273,8 @@ fn put_whole_rows<A: Allocator, S: Source, R: Source>(
 // Moves past what was taken of each reader.
 #[inline(always)]
 fn consume_taken<S: Source, R: Source>(readers: &mut [LineReader<S, R>], taken: &Taken)
-    requires { CanBeTaken readers.old taken.now }
+    requires few { length readers.old ≤ 16 }
+    requires held { Holds readers.old taken.now }
     ensures { AreTaken taken.now readers.old readers.new }
 {
     for place in 0..readers.len() {

@@ -1,9 +1,14 @@
-use Rattle.ptflow.proofs.Common.{◌+◌, ◌∙◌, not, refl, ap, arith}
+use Rattle.ptflow.proofs.Common.{ℕ, ◌<◌, ◌≤◌, from_bool, ◌+◌, ◌∙◌, not, refl, ap, arith}
 use Rattle.ptflow.proofs.OfBytes.LaneLemmas.{bytes_fit, filter_same, keeps_byte, keeps_all}
 use Rattle.ptflow.proofs.kernels.keeping.keep_others.Goals as goal
 
+small : {at size : ℕ} → at < size → size ≤ 8192 → at < 8224
+small low few = omega arith
+
 pub loop-at-preserved : goal.loop-at-preserved
-loop-at-preserved c = keeps_byte c.loop-at.invariant c.loop-at-test.true (omega arith) refl (ap (◌+◌ c.loop-at.count) (cc))
+loop-at-preserved c =
+    keeps_byte c.loop-at.invariant c.loop-at-test.true (small c.loop-at-test.true c.requires) refl
+    (ap (◌+◌ c.loop-at.count) (c.from-count.ensures ∙ ap (λ t. from_bool (not t)) c.has.ensures))
 
 pub returns-clause-kept : goal.returns-clause-kept
 returns-clause-kept c =

@@ -1,6 +1,6 @@
-use Rattle.ptflow.proofs.Common.{ℕ, ◌+◌, ◌-◌, ◌++◌, ◌∙◌, ◌&&◌, ℤ, List, cond, map, bit_and, eqb, take, sym, ap, w8, append_assoc, cast_unsigned, zip2, chunk, holds}
+use Rattle.ptflow.proofs.Common.{ℕ, ◌+◌, ◌-◌, ◌++◌, ◌∙◌, ◌&&◌, ℤ, List, cond, map, bit_and, eqb, take, sym, ap, w8, cast_unsigned, zip2, chunk, holds}
 use Rattle.ptflow.proofs.OfBytes.LaneLemmas.{none_of_four}
-use Rattle.ptflow.proofs.OfTr.SqueezeLemmas.{same_flags, gone_flags, long_flags, same_lanes, gone_lanes, none_same, stays_at, stays_in_four, all_stay_in_four}
+use Rattle.ptflow.proofs.OfTr.SqueezeLemmas.{same_flags, gone_flags, long_flags, same_lanes, gone_lanes, none_same, stays_after, all_stay_in_four}
 use Rattle.ptflow.proofs.kernels.squeezing.squeeze_chunk.Goals as goal
 
 pub returns-then-same-eq0-clause-squeezed : goal.returns-then-same-eq0-clause-squeezed
@@ -29,12 +29,5 @@ returns-then-gone-eq0-clause-squeezed c =
 
 pub returns-clause-squeezed : goal.returns-clause-squeezed
 returns-clause-squeezed c =
-    let at = c.args.at in
-    let stays = stays_at (holds c.args.set) c.args.block.bytes.now in
-    let before = take c.args.count c.args.into.now in
-    cc (
-      append_assoc before (stays at) (stays (at + 16)),
-      append_assoc before (stays at ++ stays (at + 16)) (stays (at + 32)),
-      append_assoc before ((stays at ++ stays (at + 16)) ++ stays (at + 32)) (stays (at + 48)),
-      stays_in_four (holds c.args.set) c.args.block.bytes.now c.requires.behind c.requires.chunk.lanes,
-    )
+    stays_after (holds c.args.set) c.args.block.bytes.now c.requires.behind c.requires.chunk.lanes (take c.args.count c.args.into.now)
+    c.squeeze_lanes-first.ensures.squeezed c.squeeze_lanes-second.ensures.squeezed c.squeeze_lanes-third.ensures.squeezed c.squeeze_lanes.ensures.squeezed

@@ -4,7 +4,7 @@ use Rattle.ptflow.proofs.Common.{◌≡◌, ◌<◌, ℕ, Bool, true, false, [],
 use Rattle.ptflow.proofs.Common.{wrote_nothing, wrote_trans, reader_at, NotAsked}
 use borrow.Author.Rules.{scaled_Fits}
 use Rattle.ptflow.proofs.OfPaste.Grids.{times_below}
-use Rattle.ptflow.proofs.OfPaste.RowTurns.{filling_starts, filling_next, filling_breaks, at_index}
+use Rattle.ptflow.proofs.OfPaste.RowTurns.{all_filled, filling_starts, filling_next, filling_breaks, at_index}
 use Rattle.ptflow.proofs.tools.paste.fill_row.Given as given
 use Rattle.ptflow.proofs.tools.paste.fill_row.Goals as goal
 use Rattle.ptflow.proofs.tools.paste.fill_row.Goals.{After-send_before_wait}
@@ -25,11 +25,11 @@ reader_of g c =
     let f = c.loop-column.invariant.filling in
     let place = get_or c.args.cells.now c.loop-column.column 0 in
     let within : place < length c.loop-column.readers =
-    omega (arith, All-get_or (λ (p : ℕ). p < length c.args.readers.now) c.args.cells.now c.loop-column.column 0 c.loop-column-test.true c.requires.within, f.taken.count) in
+    omega (arith, All-get_or (λ (p : ℕ). p < length c.args.readers.now) c.args.cells.now c.loop-column.column 0 c.loop-column-test.true c.requires.cells.within, f.taken.count) in
     let is_read = at_index c.loop-column.readers place c.index-readers-place.result within in (
       within,
       is_read,
-      ap (λ (r : Reader). r.fault) is_read ∙ (f.taken.took place).fault ∙ c.requires.readable place (omega (arith, times_below c.args.cells.now c.loop-column.column c.loop-column-test.true)),
+      ap (λ (r : Reader). r.fault) is_read ∙ (f.taken.took place).fault ∙ c.requires.cells.readable place (omega (arith, times_below c.args.cells.now c.loop-column.column c.loop-column-test.true)),
     )
 
 sent : (g : given.Over) (c : After-send_before_wait g) → Wrote c.args.out.now c.send_before_wait.new.out []
@@ -79,17 +79,20 @@ loop-column-preserved g c =
     let r = reader_of g here in
     let f = c.loop-column.invariant.filling in
     record {
-      filling = filling_next f c.loop-column-test.true r.0 (omega (arith, c.loop-column-test.true, c.requires.slots, f.taken.same)) r.1 r.2 c.in-Ok.ensures.is_sound
+      filling = filling_next f c.loop-column-test.true r.0 (omega (arith, c.loop-column-test.true, c.requires.cells.slots, f.taken.same)) r.1 r.2 c.in-Ok.ensures.is_sound
           c.in-Ok.has_line (c.in-Ok.ensures.fills r.2);
       wrote = sent g here;
       clean = c.in_ok-send_before_wait.ensures.pushed.clean;
     }
 
+pub returns-clause-fills : goal.returns-clause-fills
+returns-clause-fills g c = all_filled c.loop-column.invariant.filling c.loop-column-test.false c.loop-column.auto.column-end
+
 pub bounds-readers-place : goal.bounds-readers-place
 bounds-readers-place g c =
-    omega (arith, All-get_or (λ (p : ℕ). p < length c.args.readers.now) c.args.cells.now c.loop-column.column 0 c.loop-column-test.true c.requires.within, c.loop-column.auto.readers)
+    omega (arith, All-get_or (λ (p : ℕ). p < length c.args.readers.now) c.args.cells.now c.loop-column.column 0 c.loop-column-test.true c.requires.cells.within, c.loop-column.auto.readers)
 
 pub offset_bounds-readers-place : goal.offset_bounds-readers-place
 offset_bounds-readers-place g c =
-    let low = All-get_or (λ (p : ℕ). p < length c.args.readers.now) c.args.cells.now c.loop-column.column 0 c.loop-column-test.true c.requires.within in
+    let low = All-get_or (λ (p : ℕ). p < length c.args.readers.now) c.args.cells.now c.loop-column.column 0 c.loop-column-test.true c.requires.cells.within in
     search (scaled_Fits, low)

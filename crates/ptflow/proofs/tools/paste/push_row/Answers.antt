@@ -1,8 +1,8 @@
 -- Each turn pushes one more cell. A push that fails leaves a beginning of the row.
-use Rattle.ptflow.proofs.Common.{◌≡◌, ℕ, ◌+◌, ◌<◌, ◌≤◌, List, [], ◌∷◌, length, take, drop, get_or, ◌∙◌, ap, arith, length-take-le, drop_more, drop_all, row_from, Cell}
-use Rattle.std.proofs.Common.{rules}
+use Rattle.ptflow.proofs.Common.{◌≡◌, ℕ, ◌+◌, ◌<◌, ◌≤◌, List, [], ◌∷◌, length, take, drop, get_or, ◌∙◌, ap, arith, length-take-le, drop_more, drop_all, row_from, Cell, err_from_is_err_and}
 use Rattle.std.proofs.lemmas.List.{get_or-take}
 use Rattle.ptflow.proofs.OfPasses.Continuations.{amid_starts}
+use Rattle.ptflow.proofs.OfPasses.Fronts.{pushes_breaks}
 use Rattle.ptflow.proofs.OfPaste.SerialRests.{begun_number}
 use Rattle.ptflow.proofs.OfPaste.SheetRows.{first_cell, row_unled, row_cut, row_more, row_done}
 use Rattle.ptflow.proofs.tools.paste.push_row.Goals as goal
@@ -22,17 +22,15 @@ loop-column-init g c = record {
 pub returns-in_err-cell : goal.returns-in_err-cell
 returns-in_err-cell g c =
     let a = rw (from_column c.args.store.now.lines (length c.args.cells.now) c.loop-column.column c.requires.slots c.loop-column-test.true) at c.loop-column.invariant.amid in
-    record { wrote = row_unled c.args.ending c.args.delims.now a c.begin_cell.ensures.wrote c.in_err-cell.ensures.fault; clean = search rules; fault = search rules }
+    let e = err_from_is_err_and c.from_residual.result c.from_residual.ensures.1 in
+    pushes_breaks e.1 (row_unled c.args.ending c.args.delims.now a c.begin_cell.ensures.wrote c.in_err-cell.ensures.fault) c.in_err-cell.ensures.fault
 
 pub returns-in_err-push : goal.returns-in_err-push
 returns-in_err-push g c =
     let a = rw (from_column c.args.store.now.lines (length c.args.cells.now) c.loop-column.column c.requires.slots c.loop-column-test.true) at c.loop-column.invariant.amid in
-    record {
-      wrote = row_cut c.args.ending c.args.delims.now a c.begin_cell.ensures.wrote c.in_ok-cell.ensures.clean (rw c.line.ensures at c.push.ensures.pushed.wrote)
-          c.in_err-push.ensures.pushed.fault;
-      clean = search rules;
-      fault = search rules;
-    }
+    let e = err_from_is_err_and c.from_residual-in_err-push.result c.from_residual-in_err-push.ensures.1 in
+    pushes_breaks e.1 (row_cut c.args.ending c.args.delims.now a c.begin_cell.ensures.wrote c.in_ok-cell.ensures.clean (rw c.line.ensures at c.push.ensures.pushed.wrote)
+    c.in_err-push.ensures.pushed.fault) c.in_err-push.ensures.pushed.fault
 
 pub loop-column-preserved : goal.loop-column-preserved
 loop-column-preserved g c =

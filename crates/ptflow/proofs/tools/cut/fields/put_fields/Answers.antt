@@ -1,11 +1,62 @@
 -- An interval is walked in two steps: to the start of its first field, and to the end of its last one (`FieldWalks`).
 -- What lies between is one slice, with a delimiter in front of it if it is not the first. A walk that meets the end of
 -- the line leaves no field to come.
-use Rattle.ptflow.proofs.Common.{◌+◌, ◌-◌, ◌≤◌, take, drop, get_or, refl, sym, ◌∙◌, arith, append_assoc, take-take, length-take-le, ◌<◌, length, ap, join_with_byte, is_selected, fields, ◌++◌, ◌≡◌}
+use Rattle.ptflow.proofs.Common.{◌+◌, ◌-◌, ◌≤◌, take, drop, get_or, refl, sym, ◌∙◌, arith, append_assoc, take-take, length-take-le, ◌<◌, ℕ, List, Fits, StartsAt, length, length-set, ap}
+use Rattle.ptflow.proofs.Common.{join_with_byte, is_selected, fields, ◌++◌, ◌≡◌}
+use Rattle.std.proofs.Common.{w64}
 use Rattle.ptflow.proofs.OfCut.FieldPlaces.{rest_of, slice_of, line_with_end, put_byte}
-use Rattle.ptflow.proofs.OfCut.FieldWalks.{not_past, step_fits, slice_fits, coming, all_coming, walking_starts, walking_done, walking_short, walking_ends, walking_slice, walking_more}
+use Rattle.ptflow.proofs.OfCut.FieldWalks.{not_past, not_before, in_order, led_step, some_step, slice_order, step_fits, slice_fits, coming, all_coming, walking_starts, walking_done, walking_short}
+use Rattle.ptflow.proofs.OfCut.FieldWalks.{walking_ends, walking_slice, walking_more}
 use Rattle.ptflow.proofs.OfBytes.Chosen.{chosen}
 use Rattle.ptflow.proofs.tools.cut.fields.put_fields.Goals as goal
+
+-- what ends in the line ends among the bytes up to its end
+line_to : {n to : ℕ} (bytes : List ℕ) → to ≤ length bytes → n ≤ length (take to bytes) → n ≤ to
+line_to {n} {to} bytes within near = omega (arith, length-take-le to bytes within)
+
+no_more : {n m : ℕ} → Fits w64 m → n ≤ m → Fits w64 n
+no_more fits le = record { fits = omega (arith, fits.fits) }
+
+no_less : {a b : ℕ} (n : ℕ) → a ≤ b → a ≤ b + n
+no_less n le = omega arith
+
+refl-le : {n : ℕ} → n ≤ n
+refl-le = omega arith
+
+one_more : {n m : ℕ} → n < m → n + 1 ≤ m
+one_more lt = omega arith
+
+less : {n m k : ℕ} → n ≤ m → m ≤ k → n - 1 ≤ k
+less le further = omega arith
+
+back : {from to : ℕ} (lead : ℕ) → from ≤ to → from - lead ≤ to + 1
+back lead le = omega arith
+
+-- where what was put ends there is room for the rest of the line, its end, and what a copy changes behind it
+in_room : (start at lead to : ℕ) {end old now : ℕ} → end + lead ≤ start + at → at ≤ to → start + to + 17 ≤ old → now ≡ old → end < now
+in_room start at lead to high near room same = omega arith
+
+end_near : (start at lead end : ℕ) {to : ℕ} → start ≤ end → end + lead ≤ start + at → at ≤ to → (start ≤ end + 1) × (end + 1 ≤ start + to + 1)
+end_near start at lead end low high near = (omega arith, omega arith)
+
+rest_near : (start at lead end skipped : ℕ) {to : ℕ} → start ≤ end → end + lead ≤ start + at → lead ≤ at → at + skipped ≤ to
+    → (start ≤ end + (to + 1 - (at + skipped - lead))) × (end + (to + 1 - (at + skipped - lead)) ≤ start + to + 1)
+rest_near start at lead end skipped low high led near = (omega arith, omega arith)
+
+has_room : (end start to : ℕ) {old now : ℕ} → end ≤ start + to + 1 → start + to + 17 ≤ old → now ≡ old → end + 16 ≤ now
+has_room end start to near room same = omega arith
+
+module _ (n : ℕ) {d passed : ℕ} {line : List ℕ} (p : StartsAt d (n + 1) line passed) where
+  slice_in_line : (from lead : ℕ) {to : ℕ} → from + passed ≤ to → (from - lead) + ((from + passed - 1) - (from - lead)) ≤ to
+  slice_in_line from lead near = omega (arith, p.count)
+
+  slice_near : (start at lead end skipped : ℕ) → lead ≤ at → end + lead ≤ start + at
+      → end + ((at + skipped + passed - 1) - (at + skipped - lead)) + 1 ≤ start + (at + skipped + passed)
+  slice_near start at lead end skipped led high = omega (arith, p.count)
+
+  slice_room : (start at lead end skipped : ℕ) {to old now : ℕ} → lead ≤ at → end + lead ≤ start + at → at + skipped + passed ≤ to → start + to + 17 ≤ old → now ≡ old
+      → end + ((at + skipped + passed - 1) - (at + skipped - lead)) + 16 ≤ now
+  slice_room start at lead end skipped led high near room same = omega (arith, p.count)
 
 pub loop-interval-init : goal.loop-interval-init
 loop-interval-init g c =
@@ -14,33 +65,13 @@ loop-interval-init g c =
     let tail = take 1 (drop c.args.to c.args.bytes.now) in
     let kept = ap (λ l. join_with_byte d (chosen (is_selected l) 1 (fields d line))) c.intervals-selected.ensures.kept in
     record {
-      put = cc (kept, all_coming d c.intervals-selected.result.now line tail);
+      put = ap (◌++◌ (take c.args.start c.args.room.now)) (ap (λ l. l ++ tail) (sym kept) ∙ all_coming d c.intervals-selected.result.now line tail);
       walk = walking_starts c.intervals-selected.ensures.apart;
       known = λ le. refl;
       low = omega arith;
       high = omega arith;
       long = refl;
     }
-
-pub returns-in_default-clause-put : goal.returns-in_default-clause-put
-returns-in_default-clause-put g c =
-    let bytes = c.args.bytes.now in
-    let to = c.args.to in
-    let l = c.loop-interval in
-    let room : l.end < length l.room = omega (arith, l.invariant.high, l.invariant.long, l.invariant.walk.fits, length-take-le to bytes (omega arith)) in
-    let none = walking_short c.intervals-selected.result.now (take 1 (drop to bytes)) _ l.invariant.walk c.loop-interval-test.true c.in_default.ensures.found in
-    cc (put_byte l.room bytes l.end room c.requires.room.0, none, l.invariant.put)
-
-pub returns-in_default-field_behind-clause-put : goal.returns-in_default-field_behind-clause-put
-returns-in_default-field_behind-clause-put g c =
-    let bytes = c.args.bytes.now in
-    let to = c.args.to in
-    let line = take to bytes in
-    let l = c.loop-interval in
-    let from = l.at + c.in-Some.skipped in
-    let same = walking_ends c.intervals-selected.result.now _ _ l.invariant.walk c.loop-interval-test.true
-    c.in-Some.ensures.found to (take (to + 1) bytes) (sym (take-take to (to + 1) bytes (omega arith))) (sym (line_with_end to bytes)) c.in_default-field_behind.ensures.found in
-    cc (c.copy_near.ensures.copied, same, rest_of (from - l.lead) (to + 1) bytes, l.invariant.put)
 
 pub loop-interval-preserved : goal.loop-interval-preserved
 loop-interval-preserved g c =
@@ -57,35 +88,17 @@ loop-interval-preserved g c =
     let next = from + c.in-Some-field_behind.passed in
     let size = (next - 1) - (from - l.lead) in
     let more = coming c.args.job.now.delim (drop (i + 1) all) line tail ((get_or all i (record { first = 0; last = 0 })).last + 1) next 1 in
-    let some : 1 ≤ c.in-Some-field_behind.passed = omega (arith, p.count) in
-    let within : (from - l.lead) + size ≤ to =
-    omega (arith, slice_fits l.invariant.walk s p, some, l.invariant.walk.begun, l.invariant.walk.passed, length-take-le to bytes (omega arith)) in
+    let within = slice_in_line _ p from l.lead (line_to bytes c.requires.line.within (slice_fits l.invariant.walk s p)) in
     let copied : take l.end l.room ++ take size (drop (from - l.lead) line) ≡ take (l.end + size) c.copy_near-in-loop-interval.new.into =
-    cc (slice_of (from - l.lead) size bytes within) in record {
+    ap (◌++◌ (take l.end l.room)) (slice_of (from - l.lead) size bytes within) ∙ sym c.copy_near-in-loop-interval.ensures.copied in record {
       put = l.invariant.put ∙ ap (◌++◌ (take l.end l.room)) (walking_slice all tail i l.invariant.walk c.loop-interval-test.true s p)
           ∙ sym (append_assoc (take l.end l.room) (take size (drop (from - l.lead) line)) more) ∙ ap (λ b. b ++ more) copied;
       walk = walking_more all tail i l.invariant.walk c.loop-interval-test.true s p;
       known = c.in-Some-field_behind.ensures.start;
-      low = omega (arith, l.invariant.low);
-      high = omega (arith, l.invariant.high, some, l.invariant.walk.passed);
+      low = no_less _ l.invariant.low;
+      high = slice_near _ p _ _ _ _ _ l.invariant.walk.passed l.invariant.high;
       long = c.copy_near-in-loop-interval.ensures.long ∙ l.invariant.long;
     }
-
-pub returns-clause-put : goal.returns-clause-put
-returns-clause-put g c =
-    let bytes = c.args.bytes.now in
-    let to = c.args.to in
-    let l = c.loop-interval in
-    let room : l.end < length l.room = omega (arith, l.invariant.high, l.invariant.long, l.invariant.walk.fits, length-take-le to bytes (omega arith)) in
-    let none = walking_done c.intervals-selected.result.now (take 1 (drop to bytes)) _ l.invariant.walk c.loop-interval-test.false in
-    cc (put_byte l.room bytes l.end room c.requires.room.0, none, l.invariant.put)
-
-pub field_behind-requires-in-loop-interval : goal.field_behind-requires-in-loop-interval
-field_behind-requires-in-loop-interval g c = record {
-  line = c.requires.line;
-  start = c.in-Some.ensures.start;
-  near = omega (arith, step_fits c.loop-interval.invariant.walk c.in-Some.ensures.found, length-take-le c.args.to c.args.bytes.now (omega arith));
-}
 
 pub overflow_add-number : goal.overflow_add-number
 overflow_add-number g c =
@@ -96,26 +109,135 @@ pub overflow_add-end : goal.overflow_add-end
 overflow_add-end g c =
     omega (arith, slice_fits c.loop-interval.invariant.walk c.in-Some.ensures.found c.in-Some-field_behind.ensures.found, length-take-le c.args.to c.args.bytes.now (omega arith))
 
-pub overflow_add-at : goal.overflow_add-at
-overflow_add-at g c =
-    omega (arith, slice_fits c.loop-interval.invariant.walk c.in-Some.ensures.found c.in-Some-field_behind.ensures.found, length-take-le c.args.to c.args.bytes.now (omega arith))
-
-pub overflow_add-from : goal.overflow_add-from
-overflow_add-from g c = omega (arith, step_fits c.loop-interval.invariant.walk c.in-Some.ensures.found, length-take-le c.args.to c.args.bytes.now (omega arith))
-
-pub copy_near-requires-in-loop-interval-clause-within : goal.copy_near-requires-in-loop-interval-clause-within
-copy_near-requires-in-loop-interval-clause-within g c =
-    let far = slice_fits c.loop-interval.invariant.walk c.in-Some.ensures.found c.in-Some-field_behind.ensures.found in
-    (omega (arith, c.in-Some-field_behind.ensures.found.count), omega (arith, length-take-le c.args.to c.args.bytes.now (omega arith), c.requires.room.0))
-
-pub copy_near-requires-clause-within : goal.copy_near-requires-clause-within
-copy_near-requires-clause-within g c =
-    (omega (arith, step_fits c.loop-interval.invariant.walk c.in-Some.ensures.found, length-take-le c.args.to c.args.bytes.now (omega arith)), omega arith)
-
 pub overflow_add-last : goal.overflow_add-last
 overflow_add-last g c =
     omega (arith, not_past c.intervals-selected.result.now (take 1 (drop c.args.to c.args.bytes.now)) _ c.loop-interval.invariant.walk c.loop-interval-test.true)
 
+-- ---- how far the steps go
+
+pub returns-in_default-clause-put : goal.returns-in_default-clause-put
+returns-in_default-clause-put g c =
+    let tail = take 1 (drop c.args.to c.args.bytes.now) in
+    let l = c.loop-interval in
+    let room = in_room _ _ _ _ l.invariant.high (line_to c.args.bytes.now c.requires.line.within l.invariant.walk.fits) c.requires.room.1 l.invariant.long in
+    let none = walking_short c.intervals-selected.result.now tail _ l.invariant.walk c.loop-interval-test.true c.in_default.ensures.found in
+    put_byte l.room c.args.bytes.now l.end room c.requires.room.0 ∙ ap (◌++◌ (take l.end l.room)) (sym none) ∙ sym l.invariant.put
+
+pub returns-clause-put : goal.returns-clause-put
+returns-clause-put g c =
+    let tail = take 1 (drop c.args.to c.args.bytes.now) in
+    let l = c.loop-interval in
+    let room = in_room _ _ _ _ l.invariant.high (line_to c.args.bytes.now c.requires.line.within l.invariant.walk.fits) c.requires.room.1 l.invariant.long in
+    let none = walking_done c.intervals-selected.result.now tail _ l.invariant.walk c.loop-interval-test.false in
+    put_byte l.room c.args.bytes.now l.end room c.requires.room.0 ∙ ap (◌++◌ (take l.end l.room)) (sym none) ∙ sym l.invariant.put
+
+pub returns-in_default-field_behind-clause-put : goal.returns-in_default-field_behind-clause-put
+returns-in_default-field_behind-clause-put g c =
+    let bytes = c.args.bytes.now in
+    let to = c.args.to in
+    let l = c.loop-interval in
+    let from = l.at + c.in-Some.skipped - l.lead in
+    let same = walking_ends c.intervals-selected.result.now _ _ l.invariant.walk c.loop-interval-test.true
+    c.in-Some.ensures.found to (take (to + 1) bytes) (sym (take-take to (to + 1) bytes (no_less 1 refl-le))) (sym (line_with_end to bytes)) c.in_default-field_behind.ensures.found in
+    c.copy_near.ensures.copied ∙ ap (◌++◌ (take l.end l.room)) (sym (same ∙ rest_of from (to + 1) bytes)) ∙ sym l.invariant.put
+
+pub field_behind-requires-in-loop-interval : goal.field_behind-requires-in-loop-interval
+field_behind-requires-in-loop-interval g c = record {
+  line = c.requires.line;
+  start = c.in-Some.ensures.start;
+  near = line_to c.args.bytes.now c.requires.line.within (step_fits c.loop-interval.invariant.walk c.in-Some.ensures.found);
+}
+
+pub overflow_add-from : goal.overflow_add-from
+overflow_add-from g c =
+    no_more c.ranges.to (line_to c.args.bytes.now c.requires.line.within (step_fits c.loop-interval.invariant.walk c.in-Some.ensures.found))
+
+pub overflow_add-at : goal.overflow_add-at
+overflow_add-at g c =
+    no_more c.ranges.to (line_to c.args.bytes.now c.requires.line.within (slice_fits c.loop-interval.invariant.walk c.in-Some.ensures.found c.in-Some-field_behind.ensures.found))
+
+pub overflow_sub-from : goal.overflow_sub-from
+overflow_sub-from g c = led_step c.loop-interval.invariant.walk c.in-Some.skipped
+
+pub overflow_sub-from-in-loop-interval : goal.overflow_sub-from-in-loop-interval
+overflow_sub-from-in-loop-interval g c = led_step c.loop-interval.invariant.walk c.in-Some.skipped
+
+pub overflow_sub-result : goal.overflow_sub-result
+overflow_sub-result g c = led_step c.loop-interval.invariant.walk c.in-Some.skipped
+
+pub overflow_sub-end-in-loop-interval : goal.overflow_sub-end-in-loop-interval
+overflow_sub-end-in-loop-interval g c = led_step c.loop-interval.invariant.walk c.in-Some.skipped
+
+pub overflow_sub-at : goal.overflow_sub-at
+overflow_sub-at g c = some_step _ c.in-Some-field_behind.ensures.found (c.loop-interval.at + c.in-Some.skipped)
+
+pub overflow_sub-end : goal.overflow_sub-end
+overflow_sub-end g c = some_step _ c.in-Some-field_behind.ensures.found (c.loop-interval.at + c.in-Some.skipped)
+
+pub overflow_sub-end-in-loop-interval-2 : goal.overflow_sub-end-in-loop-interval-2
+overflow_sub-end-in-loop-interval-2 g c = slice_order _ c.in-Some-field_behind.ensures.found (c.loop-interval.at + c.in-Some.skipped) c.loop-interval.lead
+
+pub overflow_sub-result-in_default-field_behind : goal.overflow_sub-result-in_default-field_behind
+overflow_sub-result-in_default-field_behind g c =
+    back c.loop-interval.lead (line_to c.args.bytes.now c.requires.line.within (step_fits c.loop-interval.invariant.walk c.in-Some.ensures.found))
+
+pub overflow_sub-last : goal.overflow_sub-last
+overflow_sub-last g c =
+    in_order c.intervals-selected.result.now (take 1 (drop c.args.to c.args.bytes.now)) c.loop-interval.interval-index c.loop-interval.invariant.walk c.loop-interval-test.true
+
+pub overflow_sub-low : goal.overflow_sub-low
+overflow_sub-low g c =
+    not_before c.intervals-selected.result.now (take 1 (drop c.args.to c.args.bytes.now)) c.loop-interval.interval-index c.loop-interval.invariant.walk c.loop-interval-test.true
+
+pub bounds-room-end : goal.bounds-room-end
+bounds-room-end g c =
+    let l = c.loop-interval.invariant in
+    in_room _ _ _ _ l.high (line_to c.args.bytes.now c.requires.line.within l.walk.fits) c.requires.room.1 l.long
+
+pub returns-in_default-clause-long : goal.returns-in_default-clause-long
+returns-in_default-clause-long g c = length-set c.loop-interval.room c.loop-interval.end (get_or c.args.bytes.now c.args.to 0) ∙ c.loop-interval.invariant.long
+
+pub returns-clause-long : goal.returns-clause-long
+returns-clause-long g c = length-set c.loop-interval.room c.loop-interval.end (get_or c.args.bytes.now c.args.to 0) ∙ c.loop-interval.invariant.long
+
+pub returns-in_default-field_behind-clause-long : goal.returns-in_default-field_behind-clause-long
+returns-in_default-field_behind-clause-long g c = c.copy_near.ensures.long ∙ c.loop-interval.invariant.long
+
+pub returns-in_default-clause-end : goal.returns-in_default-clause-end
+returns-in_default-clause-end g c =
+    let l = c.loop-interval.invariant in
+    end_near _ _ _ _ l.low l.high (line_to c.args.bytes.now c.requires.line.within l.walk.fits)
+
+pub returns-clause-end : goal.returns-clause-end
+returns-clause-end g c =
+    let l = c.loop-interval.invariant in
+    end_near _ _ _ _ l.low l.high (line_to c.args.bytes.now c.requires.line.within l.walk.fits)
+
+pub returns-in_default-field_behind-clause-end : goal.returns-in_default-field_behind-clause-end
+returns-in_default-field_behind-clause-end g c =
+    let l = c.loop-interval.invariant in
+    rest_near _ _ _ _ _ l.low l.high l.walk.passed (line_to c.args.bytes.now c.requires.line.within (step_fits l.walk c.in-Some.ensures.found))
+
+pub copy_near-requires-clause-room : goal.copy_near-requires-clause-room
+copy_near-requires-clause-room g c =
+    let l = c.loop-interval.invariant in
+    let near = rest_near _ _ _ _ _ l.low l.high l.walk.passed (line_to c.args.bytes.now c.requires.line.within (step_fits l.walk c.in-Some.ensures.found)) in
+    has_room _ _ _ near.1 c.requires.room.1 l.long
+
+pub copy_near-requires-clause-within : goal.copy_near-requires-clause-within
+copy_near-requires-clause-within g c = (
+  back c.loop-interval.lead (line_to c.args.bytes.now c.requires.line.within (step_fits c.loop-interval.invariant.walk c.in-Some.ensures.found)),
+  one_more c.requires.room.0,
+)
+
+pub copy_near-requires-in-loop-interval-clause-within : goal.copy_near-requires-in-loop-interval-clause-within
+copy_near-requires-in-loop-interval-clause-within g c = (
+  slice_order _ c.in-Some-field_behind.ensures.found (c.loop-interval.at + c.in-Some.skipped) c.loop-interval.lead,
+  less (line_to c.args.bytes.now c.requires.line.within (slice_fits c.loop-interval.invariant.walk c.in-Some.ensures.found c.in-Some-field_behind.ensures.found)) c.requires.line.within,
+)
+
 pub copy_near-requires-in-loop-interval-clause-room : goal.copy_near-requires-in-loop-interval-clause-room
 copy_near-requires-in-loop-interval-clause-room g c =
-    omega (arith, slice_fits c.loop-interval.invariant.walk c.in-Some.ensures.found c.in-Some-field_behind.ensures.found, length-take-le c.args.to c.args.bytes.now (omega arith))
+    let l = c.loop-interval.invariant in
+    let p = c.in-Some-field_behind.ensures.found in
+    slice_room _ p _ _ _ _ _ l.walk.passed l.high (line_to c.args.bytes.now c.requires.line.within (slice_fits l.walk c.in-Some.ensures.found p)) c.requires.room.1 l.long

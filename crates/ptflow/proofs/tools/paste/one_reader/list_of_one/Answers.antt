@@ -1,17 +1,15 @@
 -- Each turn but the last is the byte of a delimiter, since an empty one was answered by none; the last is the end's
 -- own.
 use Rattle.ptflow.proofs.Common.{◌≡◌, ℕ, length, get_or, sym, ◌∙◌, ap, arith, ⊎_elim, cases_lt, eqb-false, All-from_get_or}
-use Rattle.ptflow.proofs.OfPaste.OneReader.{turns_more, turns_done}
+use Rattle.ptflow.proofs.OfPaste.OneReader.{turns_few, turns_more, turns_done}
 use Rattle.ptflow.proofs.tools.paste.one_reader.list_of_one.Goals as goal
 
 pub loop-column-init : goal.loop-column-init
 loop-column-init g c = record {
   so_far = record { count = omega (arith, ap length c.new-turns.ensures); between = λ k low. absurd (omega (arith, low)) };
+  few = omega (arith, ap length c.new-turns.ensures);
   same = λ k low. let first : k ≡ 0 = omega (arith, low) in ap (λ (m : ℕ). get_or c.args.cells.now m 0) first;
 }
-
-pub push-requires : goal.push-requires
-push-requires g c = (omega arith, omega (arith, c.loop-column.invariant.so_far.count, c.loop-column-test.true, c.if-cells-gt64.false))
 
 pub loop-column-preserved : goal.loop-column-preserved
 loop-column-preserved g c =
@@ -19,16 +17,12 @@ loop-column-preserved g c =
     let inv = c.loop-column.invariant in
     record {
       so_far = turns_more inv.so_far c.push.ensures.items (sym c.at.ensures ∙ c.in_ok-delim.was);
+      few = turns_few inv.so_far _ c.push.ensures.items c.loop-column-test.true c.if-cells-gt64.false;
       same = λ k near. ⊎_elim
           (λ before. inv.same k before)
           (λ last. (let here : k ≡ n = omega (arith, last, near) in ap (λ (m : ℕ). get_or c.args.cells.now m 0) here) ∙ c.if-cells-column.false)
           (cases_lt k n);
     }
-
-pub push-requires-2 : goal.push-requires-2
-push-requires-2 g c =
-    let some = eqb-false (length c.args.cells.now) 0 (sym c.if-is_empty.ensures) in
-    (omega arith, omega (arith, some, c.loop-column.invariant.so_far.count, c.loop-column.auto.column-end, c.if-cells-gt64.false))
 
 pub returns : goal.returns
 returns g c =

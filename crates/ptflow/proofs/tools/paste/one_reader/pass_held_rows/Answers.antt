@@ -28,6 +28,9 @@ returns-in_err-push g c =
 pub returns : goal.returns
 returns g c = (pushed g (goal.at.returns g c).After-push, c.in_ok-push.ensures.pushed.clean)
 
+pub bounds-cells-0 : goal.bounds-cells-0
+bounds-cells-0 g c = (rw c.in-Some.is at c.requires.in_turn).0.some
+
 pub bounds-readers-place : goal.bounds-readers-place
 bounds-readers-place g c = low g (goal.at.bounds-readers-place g c).In-Some
 

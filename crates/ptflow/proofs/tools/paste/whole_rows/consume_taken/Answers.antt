@@ -23,7 +23,7 @@ pub returns : goal.returns
 returns g c =
     let i = c.loop-place.invariant in
     taking_done c.args.taken.now c.args.readers.now c.loop-place.readers c.loop-place.place i.front i.rest
-    (omega (arith, c.loop-place-test.false, c.loop-place.auto.readers, c.loop-place.auto.place-end)) (omega (arith, c.loop-place.auto.readers)) c.requires.1
+    (omega (arith, c.loop-place-test.false, c.loop-place.auto.readers, c.loop-place.auto.place-end)) (omega (arith, c.loop-place.auto.readers)) c.requires.held
 
 pub offset_bounds-readers-place : goal.offset_bounds-readers-place
 offset_bounds-readers-place g c =
@@ -36,4 +36,4 @@ consume-requires g c =
     let n = c.loop-place.place in
     let low : n < length now = omega (arith, c.loop-place-test.true, c.loop-place.auto.readers, c.loop-place.auto.place-end) in
     let same = at_index now n c.index-readers-place.result low ∙ c.loop-place.invariant.rest n (omega arith) in
-    omega (arith, c.requires.1 n, ap (λ (r : Reader). length r.held) same)
+    omega (arith, c.requires.held.at n, ap (λ (r : Reader). length r.held) same)

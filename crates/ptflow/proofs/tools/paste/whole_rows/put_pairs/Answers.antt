@@ -1,8 +1,23 @@
 -- Each turn puts one more row, and what is taken of both readers is counted.
-use Rattle.ptflow.proofs.Common.{◌≡◌, ℕ, List, Option, length, take, drop, get_or, subst, ◌∙◌, ap, arith, length-drop, take_rest, Reader, IsSound, reader_at, PutsPair, Holds, PutsRows}
+use Rattle.ptflow.proofs.Common.{◌≡◌, ◌+◌, ◌<◌, ◌≤◌, Fits, ℕ, List, Option, length, take, drop, get_or, subst, ◌∙◌, ap, arith, length-drop, take_rest, Reader, IsSound, reader_at, PutsPair, Holds}
+use Rattle.ptflow.proofs.Common.{PutsRows}
+use Rattle.std.proofs.Common.{w64}
 use Rattle.ptflow.proofs.OfPaste.PairRows.{pairs_start, pairs_more, pairs_taken, within_one, within_two}
 use Rattle.ptflow.proofs.OfPaste.RowTurns.{at_index}
 use Rattle.ptflow.proofs.tools.paste.whole_rows.put_pairs.Goals as goal
+
+-- what was taken of a reader and a line with its end are held
+still_low : (bytes : List ℕ) (passed : ℕ) {count : ℕ} → passed ≤ length bytes → count < length (drop passed bytes) → passed + (count + 1) ≤ length bytes
+still_low bytes passed low within = omega (arith, length-drop passed bytes)
+
+held_fits : {n : ℕ} {bytes : List ℕ} {reader : Reader} → n ≤ length bytes → bytes ≡ reader.held → IsSound reader → Fits w64 n
+held_fits low same sound = record { fits = omega (arith, ap length same, sound.held) }
+
+first_there : {n : ℕ} → n ≡ 2 → 0 < n
+first_there two = omega arith
+
+second_there : {n : ℕ} → n ≡ 2 → 1 < n
+second_there two = omega arith
 
 pub invariant_of-full : goal.invariant_of-full
 invariant_of-full g c = record { near = c.rows.invariant.near }
@@ -12,32 +27,31 @@ rows-init g c = record { rows = pairs_start; low = omega arith; low_other = omeg
 
 pub overflow_add-passed-in-Some : goal.overflow_add-passed-in-Some
 overflow_add-passed-in-Some g c =
-    omega (
-      arith,
-      (rw take_rest at c.in-Some.ensures.row.first.0.high),
-      length-drop c.rows.passed c.held-first.result.now,
-      c.rows.invariant.low,
-      c.held-first.ensures.sound.held,
-      ap length
-          c.held-first.ensures.held,
-    )
+    held_fits (still_low c.held-first.result.now c.rows.passed c.rows.invariant.low (rw take_rest at c.in-Some.ensures.row.first.0.high))
+    c.held-first.ensures.held c.held-first.ensures.sound
 
 pub overflow_add-passed_other-in-Some : goal.overflow_add-passed_other-in-Some
 overflow_add-passed_other-in-Some g c =
-    omega (
-      arith,
-      (rw take_rest at c.in-Some.ensures.row.second.0.high),
-      length-drop c.rows.passed_other c.held-second.result.now,
-      c.rows.invariant.low_other,
-      c.held-second.ensures.sound.held,
-      ap length c.held-second.ensures.held,
-    )
+    held_fits (still_low c.held-second.result.now c.rows.passed_other c.rows.invariant.low_other (rw take_rest at c.in-Some.ensures.row.second.0.high))
+    c.held-second.ensures.held c.held-second.ensures.sound
 
 pub overflow_cast-taken : goal.overflow_cast-taken
 overflow_cast-taken g c = omega (arith, c.rows.invariant.low, c.held-first.ensures.sound.held, ap length c.held-first.ensures.held)
 
 pub overflow_cast-taken-2 : goal.overflow_cast-taken-2
 overflow_cast-taken-2 g c = omega (arith, c.rows.invariant.low_other, c.held-second.ensures.sound.held, ap length c.held-second.ensures.held)
+
+pub bounds-cells-0 : goal.bounds-cells-0
+bounds-cells-0 g c = first_there c.requires.0
+
+pub bounds-cells-0-2 : goal.bounds-cells-0-2
+bounds-cells-0-2 g c = first_there c.requires.0
+
+pub bounds-cells-1 : goal.bounds-cells-1
+bounds-cells-1 g c = second_there c.requires.0
+
+pub bounds-cells-1-2 : goal.bounds-cells-1-2
+bounds-cells-1-2 g c = second_there c.requires.0
 
 pub bounds-readers-cells : goal.bounds-readers-cells
 bounds-readers-cells g c = within_one c.args.row.cells.now c.args.row.readers.now c.requires c.args.row.readable.0
@@ -70,8 +84,8 @@ rows-preserved g c =
     record {
       rows = pairs_more cells readers c.requires c.args.row.readable.0 c.args.row.few.0 c.args.row.readable.1
           (subst IsSound read_one c.held-first.ensures.sound) (subst IsSound read_two c.held-second.ensures.sound) inv.rows row;
-      low = omega (arith, inv.low, row.first.0.high, ap length held_one, length-drop c.rows.passed (reader_at readers (get_or cells 0 0)).held);
-      low_other = omega (arith, inv.low_other, row.second.0.high, ap length held_two, length-drop c.rows.passed_other (reader_at readers (get_or cells 1 0)).held);
+      low = still_low c.held-first.result.now c.rows.passed inv.low (rw take_rest at c.in-Some.ensures.row.first.0.high);
+      low_other = still_low c.held-second.result.now c.rows.passed_other inv.low_other (rw take_rest at c.in-Some.ensures.row.second.0.high);
       near = c.in-Some.next.near;
     }
 

@@ -1,13 +1,35 @@
 -- Each turn puts one more cell behind its delimiter, if it is whole in what its reader holds; what was taken of each
 -- reader is counted.
 use Rattle.ptflow.proofs.Common.{refl, sym, [], ◌∷◌, ◌≡◌, ◌+◌, ◌<◌, ◌≤◌, ◌++◌, ℕ, List, Some, length, take, drop, get_or, ◌∙◌, ap, subst, arith, append-nil, take_rest, take_more_set, length-set}
-use Rattle.ptflow.proofs.Common.{All-get_or, IsFirstByte, is_byte, Reader, IsSound, reader_at, lead, in_front}
+use Rattle.ptflow.proofs.Common.{◌^◌, All-get_or, IsFirstByte, is_byte, Reader, IsSound, reader_at, lead, in_front}
 use Rattle.ptflow.proofs.OfPaste.Grids.{times_below}
 use Rattle.ptflow.proofs.OfPaste.RowTurns.{at_index}
 use Rattle.ptflow.proofs.OfPaste.WholeRows.{HasLine, putting_starts, putting_more, putting_done, holds_more, front_kept, line_put, end_put}
 use Rattle.ptflow.proofs.tools.paste.whole_rows.put_row.Given as given
 use Rattle.ptflow.proofs.tools.paste.whole_rows.put_row.Goals as goal
 use Rattle.ptflow.proofs.tools.paste.whole_rows.put_row.Goals.{In-loop-column, After-held}
+
+-- after the last cell there is room for the end of the row
+row_near : {size column end : ℕ} → 0 < size → size ≤ column → (0 < column → end < 8192) → end + 1 ≤ 8192
+row_near some past near = omega (arith, near (omega arith))
+
+taken_low : {place readers taken : ℕ} → place < readers → readers ≤ 16 → taken ≡ 16 → place < taken
+taken_low low few same = omega arith
+
+goes_on : {a b c : ℕ} → a ≤ b → b ≤ c → (n : ℕ) → a ≤ c + n
+goes_on le further n = omega arith
+
+no_more : {n m : ℕ} → n < m → n ≤ m
+no_more lt = omega arith
+
+fits_in : {at size : ℕ} → at ≤ 8192 → size ≡ 8208 → at ≤ size
+fits_in near same = omega arith
+
+taken_small : (begin count from : ℕ) {bytes : List ℕ} {reader : Reader} → begin ≤ length bytes → bytes ≡ reader.held → IsSound reader → from + count < 8192 → begin + (count + 1) < 2 ^ 16
+taken_small begin count from within same sound near = omega (arith, ap length same, sound.held)
+
+wider : {n : ℕ} → n < 2 ^ 16 → n < 2 ^ 64
+wider lt = omega arith
 
 -- the cell names a reader
 low : (g : given.Over) (c : In-loop-column g) → get_or c.args.row.now.cells.now c.loop-column.column 0 < length c.args.row.now.readers.now
@@ -19,7 +41,7 @@ read g c = c.index-readers-place.is ∙ at_index c.args.row.now.readers.now (get
 
 -- what was taken of it is in what it held
 fits : (g : given.Over) (c : After-held g) → get_or c.loop-column.taken (get_or c.args.row.now.cells.now c.loop-column.column 0) 0 ≤ length c.held.result.now
-fits g c = omega (arith, c.loop-column.invariant.holds (get_or c.args.row.now.cells.now c.loop-column.column 0), ap length c.held.ensures.held, ap (λ (r : Reader). length r.held) (read g c))
+fits g c = omega (arith, c.loop-column.invariant.holds.at (get_or c.args.row.now.cells.now c.loop-column.column 0), ap length c.held.ensures.held, ap (λ (r : Reader). length r.held) (read g c))
 
 pub loop-column-init : goal.loop-column-init
 loop-column-init g c = record {
@@ -38,6 +60,9 @@ overflow_add-end g c = omega (arith, c.in_ok-count.ensures.near)
 
 pub overflow_add-taken : goal.overflow_add-taken
 overflow_add-taken g c = omega (arith, c.in_ok-count.ensures.near)
+
+pub invariant_of-result : goal.invariant_of-result
+invariant_of-result g c = record { near = row_near c.args.row.now.few.1 c.loop-column-test.false c.loop-column.invariant.near.2 }
 
 pub bounds-into-end : goal.bounds-into-end
 bounds-into-end g c = omega (arith, c.loop-column.invariant.near.1)
@@ -62,7 +87,7 @@ loop-column-preserved g c =
     let has : HasLine c.args.row.now.ending cells readers n taken count = record {
       low = c.loop-column-test.true;
       within = within;
-      place_low = omega (arith, within, c.args.row.now.few.0, inv.places);
+      place_low = taken_low within c.args.row.now.few.0 inv.places;
       clean = ready.0;
       ends = ready.1;
       sound = subst IsSound is_read c.held.ensures.sound;
@@ -78,9 +103,9 @@ loop-column-preserved g c =
       is = is;
       puts = λ from moved. putting_more has refl (inv.puts from moved);
       kept = front_kept c.args.full.end _ _ c.args.into.now ((inv.written ++ lead_of) ++ line)
-          (omega (arith, c.put_lead-from.ensures.near.0, inv.near.0)) (omega (arith, c.args.full.near, c.told-into)) is;
+          (goes_on inv.near.0 c.put_lead-from.ensures.near.0 count) (fits_in c.args.full.near c.told-into) is;
       holds = holds_more has inv.holds;
-      near = (omega (arith, c.put_lead-from.ensures.near.0, inv.near.0), omega (arith, c.in_ok-count.ensures.near), λ some. omega (arith, c.in_ok-count.ensures.near));
+      near = (goes_on inv.near.0 c.put_lead-from.ensures.near.0 count, no_more c.in_ok-count.ensures.near, λ some. c.in_ok-count.ensures.near);
       places = length-set taken place (get_or taken place 0 + (count + 1)) ∙ inv.places;
       room = c.put_line.array_long;
     }
@@ -138,8 +163,12 @@ pub slice_bounds-rest-end : goal.slice_bounds-rest-end
 slice_bounds-rest-end g c = omega (arith, fits g (goal.at.slice_bounds-rest-end g c).After-held)
 
 pub overflow_add-taken-in-loop-column : goal.overflow_add-taken-in-loop-column
-overflow_add-taken-in-loop-column g c = omega
-    (arith, fits g (goal.at.overflow_add-taken-in-loop-column g c).After-held, ap length c.held.ensures.held, c.held.ensures.sound.held, c.in_ok-count.ensures.near)
+overflow_add-taken-in-loop-column g c =
+    let here = (goal.at.overflow_add-taken-in-loop-column g c).After-held in
+    let small = taken_small _ c.in_ok-count.count _ (fits g here) c.held.ensures.held c.held.ensures.sound c.in_ok-count.ensures.near in
+    record { fits = wider small }
 
 pub overflow_cast-taken : goal.overflow_cast-taken
-overflow_cast-taken g c = omega (arith, fits g (goal.at.overflow_cast-taken g c).After-held, ap length c.held.ensures.held, c.held.ensures.sound.held, c.in_ok-count.ensures.near)
+overflow_cast-taken g c = record {
+  fits = taken_small _ c.in_ok-count.count _ (fits g (goal.at.overflow_cast-taken g c).After-held) c.held.ensures.held c.held.ensures.sound c.in_ok-count.ensures.near;
+}

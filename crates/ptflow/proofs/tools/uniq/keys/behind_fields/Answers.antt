@@ -8,7 +8,7 @@ loop-field-init c = ap (λ n. behind n c.args.line.now) (omega arith)
 pub returns-then-is_empty : goal.returns-then-is_empty
 returns-then-is_empty c =
     let rest = c.loop-field.rest.now in
-    let none : rest ≡ [] = nil_from_length rest (eqb-true (length rest) 0 (cc)) in
+    let none : rest ≡ [] = nil_from_length rest (eqb-true (length rest) 0 (sym c.is_empty.ensures ∙ c.if-is_empty.true)) in
     cc (behind_none (c.args.fields - c.loop-field._field), behind_is c.args.fields c.args.line.now)
 
 pub loop-field-preserved : goal.loop-field-preserved

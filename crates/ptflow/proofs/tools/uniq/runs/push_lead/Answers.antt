@@ -1,19 +1,15 @@
-use Rattle.ptflow.proofs.Common.{◌≡◌, [], ◌∷◌, ◌∙◌, subst, decimal, Wrote, wrote_past}
-use Rattle.ptflow.proofs.OfPasses.Fronts.{pushes_then}
-use Rattle.std.proofs.Common.{rules}
+use Rattle.ptflow.proofs.Common.{◌≡◌, [], ◌∷◌, ◌∙◌, subst, decimal, err_from_is_err_and, Wrote, wrote_past}
+use Rattle.ptflow.proofs.OfPasses.Fronts.{pushes_breaks, pushes_then}
 use Rattle.ptflow.proofs.tools.uniq.runs.push_lead.Goals as goal
 
 pub returns-in_err-push-in-Counts : goal.returns-in_err-push-in-Counts
 returns-in_err-push-in-Counts g c =
     let digits : c.as_bytes.result.now ≡ decimal c.args.count = c.as_bytes.ensures.value ∙ c.format.ensures.text in
-    rw c.in-Counts.is (record {
-      wrote = wrote_past _ _ _ (32 ∷ []) c.in_err-push-in-Counts.ensures.pushed.fault
-          (subst (Wrote c.args.out.now c.push.new.self) digits c.push.ensures.pushed.wrote);
-      clean = search rules;
-      fault = search rules;
-    })
+    let e = err_from_is_err_and c.from_residual.result c.from_residual.ensures.1 in
+    rw c.in-Counts.is (pushes_breaks e.1 (wrote_past _ _ _ (32 ∷ []) c.in_err-push-in-Counts.ensures.pushed.fault
+    (subst (Wrote c.args.out.now c.push.new.self) digits c.push.ensures.pushed.wrote)) c.in_err-push-in-Counts.ensures.pushed.fault)
 
 pub returns-in_ok-push-in-Counts : goal.returns-in_ok-push-in-Counts
 returns-in_ok-push-in-Counts g c =
-    let digits : c.as_bytes.result.now ≡ decimal c.args.count = cc in
-    rw c.in-Counts.is (pushes_then (rw digits at c.push.ensures.pushed.wrote) c.push-in-Counts.ensures.pushed)
+    let digits : c.as_bytes.result.now ≡ decimal c.args.count = c.as_bytes.ensures.value ∙ c.format.ensures.text in
+    rw c.in-Counts.is (pushes_then (subst (Wrote c.args.out.now c.push.new.self) digits c.push.ensures.pushed.wrote) c.push-in-Counts.ensures.pushed)

@@ -19,7 +19,7 @@ lines-preserved-then-eq g c =
     let r = c.lines.invariant in
     let at = c.in-Some.at in
     rw take_rest (running_more r at (rw c.args.by.now.ends at c.in-Some.ensures)
-    (cc (same_by_keys job r.first (take at c.lines.rest.now) r.own_is c.key-next.ensures)))
+    (same_by_keys job r.first (take at c.lines.rest.now) r.own_is c.key-next.ensures ∙ sym c.eq.ensures ∙ c.if-eq.true))
 
 pub returns-in_err-waiting-clause-halts : goal.returns-in_err-waiting-clause-halts
 returns-in_err-waiting-clause-halts g c =

@@ -1,8 +1,11 @@
 -- Each turn puts what is written of the first lines of the rest into the room, which is pushed at the end.
-use Rattle.ptflow.proofs.Common.{◌++◌, take, ◌∙◌, ap, arith, length-drop, take_rest, ended_lines, no_end, ended_none, cut_job, cut_lines}
+use Rattle.ptflow.proofs.Common.{ℕ, List, ◌+◌, ◌≤◌, length, drop, ◌++◌, take, ◌∙◌, ap, arith, length-drop, take_rest, ended_lines, no_end, ended_none, cut_job, cut_lines}
 use Rattle.ptflow.proofs.OfPasses.Continuations.{on_err}
 use Rattle.ptflow.proofs.OfPasses.LineLaws.{taken_more, taken_all}
 use Rattle.ptflow.proofs.tools.cut.fields.FieldCutLineTool.take_block.Goals as goal
+
+less_left : (start size : ℕ) (rest : List ℕ) {end all : ℕ} → size ≤ length rest → end ≤ start + size → start + length rest ≤ all → end + length (drop size rest) ≤ all
+less_left start size rest fits near space = omega (arith, length-drop size rest)
 
 pub lines-preserved : goal.lines-preserved
 lines-preserved g c =
@@ -11,8 +14,8 @@ lines-preserved g c =
     rw take_rest (record {
       taken = taken_more _ c.put_lines-size.result.0 put.taken l.invariant.taken;
       on = λ more. l.invariant.on more ∙ put.on more;
-      space = omega (arith, length-drop c.put_lines-size.result.0 l.rest.now);
-      long = cc;
+      space = less_left _ _ l.rest.now put.fits c.put_lines-size.ensures.end.1 l.invariant.space;
+      long = c.put_lines-size.ensures.long ∙ l.invariant.long;
     })
 
 pub returns-in_err-push-clause-halts : goal.returns-in_err-push-clause-halts
