@@ -1,7 +1,7 @@
 -- Each turn goes on to the next by one lemma of `Turns`, and each way out of it leaves what the clauses say.
 use Rattle.ptmerge.proofs.Common.{sym, ◌∙◌, err_from_is_err_and, join_job}
 use Rattle.ptmerge.proofs.OfJoin.PhaseTurns.{gather_stands, gather_stops, gathers_on, group_closed, group_there, pair_group, pair_joins, pair_stops, pairs_next, pairs_on}
-use Rattle.ptmerge.proofs.OfJoin.Turns.{alone_on, alone_stops, begins, end_in, ended, fallen, falls, joins_at, opened, opens, opens_less, start_stops}
+use Rattle.ptmerge.proofs.OfJoin.Turns.{alone_on, alone_stops, begins, end_in, ended, fallen, falls, joins, opened, opens, opens_less, stands_at, start_stops}
 use Rattle.ptmerge.proofs.OfMerges.Turning.{told}
 use Rattle.ptmerge.specs.declared.order.Side.TheVariants as sides
 use Rattle.ptmerge.specs.declared.tools.join.Phase.TheVariants as phases
@@ -19,11 +19,17 @@ turns-init g c =
     (record { total = g.met.K.KeyOrder.total c.args.order; exact = g.met.K.KeyOrder.exact c.args.order }) c.requires.keys c.requires.begins in
     record { order = c.in_ok-merge.ensures.order; turn = let e = c.in_ok-merge.ensures in let placed = rw e.order at e.placed in rw e.order (begins a e.starts placed e.lent) }
 
-pub pass_alone-requires : goal.pass_alone-requires
-pass_alone-requires g c = joins_at c.turns.invariant.turn sides.First c.in-First.ensures.stands
+pub pass_alone-requires-clause-stands : goal.pass_alone-requires-clause-stands
+pass_alone-requires-clause-stands g c = stands_at c.turns.invariant.turn sides.First c.in-First.ensures.stands
 
-pub pass_alone-requires-in-Second : goal.pass_alone-requires-in-Second
-pass_alone-requires-in-Second g c = joins_at c.turns.invariant.turn sides.Second c.in-Second.ensures.stands
+pub pass_alone-requires-clause-joins : goal.pass_alone-requires-clause-joins
+pass_alone-requires-clause-joins g c = joins c.turns.invariant.turn
+
+pub pass_alone-requires-in-Second-clause-stands : goal.pass_alone-requires-in-Second-clause-stands
+pass_alone-requires-in-Second-clause-stands g c = stands_at c.turns.invariant.turn sides.Second c.in-Second.ensures.stands
+
+pub pass_alone-requires-in-Second-clause-joins : goal.pass_alone-requires-in-Second-clause-joins
+pass_alone-requires-in-Second-clause-joins g c = joins c.turns.invariant.turn
 
 pub turns-preserved-in-Continue-branch-2 : goal.turns-preserved-in-Continue-branch-2
 turns-preserved-in-Continue-branch-2 g c =
