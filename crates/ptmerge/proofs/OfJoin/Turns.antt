@@ -131,6 +131,16 @@ pub record IsTurn (job : Join) (cmp : Cmp) (key : Side → Key) (old : State) (p
 abbrev pub Leaves : Join → Cmp → (Side → Key) → State → State → Result (Unit {0}) MergeFault → Type 0
 Leaves job cmp key old new result = record { merged : IsMerge (join_by job cmp key) old new result; refused : length new.store.lines < 4 → IsUnread old new; slots : AddsLeast old.store new.store 4 }
 
+-- the same in an order that is equal, since a call leaves the order of a merge as it was
+module _ {K : Type 0} (order : K → Cmp) (key_of : K → Side → Key) {a b : K} where
+  pub turn_as : {job : Join} {old : State} {phase : Phase} {now : State} {one two : Sorted} {end : ℕ}
+      → b ≡ a → IsTurn job (order a) (key_of a) old phase now one two end → IsTurn job (order b) (key_of b) old phase now one two end
+  turn_as is t = rw is t
+
+  pub leaves_as : (job : Join) {old new : State} {r : Result (Unit {0}) MergeFault}
+      → a ≡ b → Leaves job (order a) (key_of a) old new r → Leaves job (order b) (key_of b) old new r
+  leaves_as job is l = rw (← is) l
+
 -- ---- the start
 
 module _ {job : Join} {cmp : Cmp} {key : Side → Key} {old : State} (a : IsOpened job cmp key old) where

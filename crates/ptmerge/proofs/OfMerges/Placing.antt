@@ -34,4 +34,5 @@ advanced key cmp s one two next was is before after (Err fault) p moves noted = 
 -- and both are so once each has come to its first line
 pub start_placed : (key : Side → Key) {cmp : Cmp} {one two : Sorted} {old new : Inputs} (s : Starts key cmp (both one two) old new)
     → IsNoted (key First) one s.mid → IsNoted (key Second) two new.store → IsPlaced key one two new.store
-start_placed key {cmp} s noted1 noted2 = placed_on key cmp Second s.later (inr (refl, refl)) (slots_on First (inr (refl, refl)) s.came) noted2 noted1 (omega (arith, comes_slots _ _ _ _ _ _ _ _ s.came, s.four.slots))
+start_placed key {cmp} s noted1 noted2 =
+    placed_on key cmp Second s.later (inr (refl, refl)) (slots_on First (inr (refl, refl)) s.came) noted2 noted1 (omega (arith, comes_slots _ _ _ _ _ _ _ _ s.came, s.four.slots))
