@@ -37,7 +37,7 @@ pub use Rattle.ptlines.specs.Readers.{Goes, IsDone, IsSound, Reader, Reads, budg
 pub use Rattle.ptlines.specs.Slots.{Slots, line, total, with_added, with_denied, with_line}
 pub use Rattle.ptlines.specs.Text.{AreLines, IsLine, ended_lines, lines, longest, text}
 pub use Rattle.ptmerge.specs.Comm.{comm_by, comm_tool, entries, entries_in, tab_unless}
-pub use Rattle.ptmerge.specs.Groups.{AddsLeast, Gathered, Gathers, IsGroup, IsGroupCleared, IsGrown, IsKept, IsRefused, JoinsAt, NotGathered, end_slot, first_slot, group, is_head}
+pub use Rattle.ptmerge.specs.Groups.{AddsLeast, Gathered, Gathers, IsGroup, IsGroupCleared, IsGrown, IsKept, IsRefused, Joins, JoinsAt, NotGathered, end_slot, first_slot, group, is_head}
 pub use Rattle.ptmerge.specs.Join.{alone1, alone2, alone_entry, between, entry, fields, filled, greatest_of, has_bytes, is_blank, join_by, join_entries, join_key, join_tool, largest_group, most_lines}
 pub use Rattle.ptmerge.specs.Join.{named, nth_field, others, pairs_of, written}
 pub use Rattle.ptmerge.specs.JoinFields.{EndsFirst, IsAsWritten, IsEven, IsFieldIn, IsPiece, UnevenAt, ends_field, entry_with, fields_left, is_tidy, is_uneven, led}

@@ -96,11 +96,15 @@ pub record HasKey (key : Key) (store : Slots) (from end : ℕ) (k : List ℕ) : 
   pub within : end ≤ length store.lines
   pub keyed : (slot : ℕ) → from ≤ slot → slot < end → key (line store slot) ≡ k
 
--- `join` stands at a line of this input, keys are the join fields, and no write to the output has failed
-pub record JoinsAt (job : Join) (key : Side → Key) (side : Side) (one two : Sorted) (reader : Reader) (store : Slots) (out : Output) : Type 0 where
-  pub stands : StandsAt key side one two reader store
+-- keys are the join fields, and no write to the output has failed
+pub record Joins (job : Join) (key : Side → Key) (out : Output) : Type 0 where
   pub keys : (side : Side) (line : List ℕ) → key side line ≡ join_key job side line
   pub clean : out.faulted ≡ false
+
+-- so it is, and `join` stands at a line of this input
+pub record JoinsAt (job : Join) (key : Side → Key) (side : Side) (one two : Sorted) (reader : Reader) (store : Slots) (out : Output) : Type 0 where
+  pub stands : StandsAt key side one two reader store
+  pub joins : Joins job key out
 
 -- the group's slots are there, and its lines have this key
 pub record IsGroup (key : Key) (second : Sorted) (store : Slots) (end : ℕ) (k : List ℕ) : Type 0 where

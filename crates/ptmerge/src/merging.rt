@@ -75,9 +75,18 @@ impl<K: KeyOrder> Merge<K> {
     {
         let mut one = Sorted::unread(Side::First, first);
         let mut two = Sorted::unread(Side::Second, second);
-        need_four(store).map_err(|_| MergeFault::Memory)?;
-        one.next(&order, Side::First, first, store)?;
-        two.next(&order, Side::Second, second, store)?;
+        match need_four(store) {
+            Ok(()) => {}
+            Err(_) => return Err(MergeFault::Memory),
+        }
+        match one.next(&order, Side::First, first, store) {
+            Ok(()) => {}
+            Err(fault) => return Err(fault),
+        }
+        match two.next(&order, Side::Second, second, store) {
+            Ok(()) => {}
+            Err(fault) => return Err(fault),
+        }
         Ok(Merge {
             order,
             first: one,

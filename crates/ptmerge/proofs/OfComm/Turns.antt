@@ -84,6 +84,15 @@ pub record IsTurn (job : Comm) (cmp : Cmp) (key : Side → Key) (old now : State
 abbrev pub Leaves : Tool → State → State → Result (Unit {0}) MergeFault → Type 0
 Leaves tool old new result = record { merged : IsMerge tool old new result; refused : length new.store.lines < 4 → IsUnread old new; slots : Adds old.store new.store 4 }
 
+-- the same in an order that is equal, since a call leaves the order of a merge as it was
+pub turn_as : {K : Type 0} (order : K → Cmp) (key_of : K → Side → Key) {a b : K} {job : Comm} {old now : State} {one two : Sorted}
+    → b ≡ a → IsTurn job (order a) (key_of a) old now one two → IsTurn job (order b) (key_of b) old now one two
+turn_as order key_of is t = rw is t
+
+pub leaves_as : {K : Type 0} (order : K → Cmp) (key_of : K → Side → Key) {a b : K} (job : Comm) {old new : State} {r : Result (Unit {0}) MergeFault}
+    → a ≡ b → Leaves (comm_by job (order a) (key_of a)) old new r → Leaves (comm_by job (order b) (key_of b)) old new r
+leaves_as order key_of job is l = rw (← is) l
+
 -- ---- the start
 
 module _ (job : Comm) {cmp : Cmp} {key : Side → Key} {old : State} (w : IsOpened (comm_by job cmp key) old) where

@@ -3,7 +3,7 @@ use Rattle.ptmerge.proofs.Common.{Comes, ◌≡◌, ℕ, true, false, List, [], 
 use Rattle.ptmerge.proofs.Common.{join_key, pairs_of, Lines, Cmp, Key, Output, Wrote, Reader, Slots, line, text, MergeFault, Sorted, Gathered, Gathers, IsGroup, IsGroupCleared, end_slot, first_slot}
 use Rattle.ptmerge.proofs.Common.{group, CanGoOn, HasPassed, JoinsAt, StandsAt, State, IsMerge, both, put, ⊎_elim, ◌-◌, ◌==◌, wrote_trans, other, nat_tests, length_push, text-append, append_assoc}
 use Rattle.ptmerge.proofs.Common.{nil_from_length, IsKept, NotGathered, most_lines, false≢true}
-use Rattle.ptmerge.proofs.OfJoin.Turns.{Gathering, Held, IsTurn, Leaves, Pairing, call_of, end_in, leaves, joins_at, slots, went_on}
+use Rattle.ptmerge.proofs.OfJoin.Turns.{Gathering, Held, IsTurn, Leaves, Pairing, call_of, end_in, joins, leaves, slots, stands_at, went_on}
 use Rattle.ptmerge.proofs.OfMerges.Turning.{comes_slots, same_state, wrote_as, breaks_slots, IsAbove, placed_keeps, wrote_and_sent, CannotPass}
 use Rattle.ptmerge.proofs.OfJoin.GroupTurns.{Call, moved, fits_kept, not_failed, AtLine, GoneOn, Grouped, closes, goes_on, goes_past, gone_on, group_breaks, grown, is_past, next_slots, others_stay}
 use Rattle.ptmerge.proofs.OfJoin.GroupTurns.{passing, stand_still, standing, starts, went, within_more, grouped_keeps, last_stays, own_more, size_of, starts_none, with_head, StartsWith, halts}
@@ -33,7 +33,7 @@ module _ {job : Join} {cmp : Cmp} {key : Side → Key} {old : State} {phase : Ph
     a = rw is at t.phased
 
     pub gather_stands : StandsAt key Second one two (now.reader Second) now.store
-    gather_stands = (joins_at t Second (a.heads Second).0).stands
+    gather_stands = stands_at t Second (a.heads Second).0
 
     abbrev y : List ℕ
     y = line now.store two.standing
@@ -130,7 +130,7 @@ module _ {job : Join} {cmp : Cmp} {key : Side → Key} {old : State} {phase : Ph
     r = rw is at t.phased
 
     pub pair_joins : JoinsAt job key First one two (now.reader First) now.store now.out
-    pair_joins = joins_at t First r.head.0
+    pair_joins = record { stands = stands_at t First r.head.0; joins = joins t }
 
     is_kept : r.kept ≡ r.g Second → (end == 4) ≡ false
     is_kept same = let more : 4 < end = omega (arith, r.q.at, ap length same, r.some) in grind (arith, nat_tests)

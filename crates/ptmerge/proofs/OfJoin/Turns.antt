@@ -2,7 +2,7 @@
 use Rattle.ptmerge.proofs.Common.{Comes, ◌≡◌, ℕ, Bool, true, false, cond, List, [], ◌∷◌, ◌++◌, map, refl, ap, sym, ◌∙◌, ◌+◌, ◌*◌, ◌≤◌, ◌<◌, Result, Ok, Err, length, subst, arith, append-nil}
 use Rattle.ptmerge.proofs.Common.{flat_map-append, bytes_decides, Join, Side, First, Second, alone1, alone2, alone_entry, entry, fields, join_by, join_entries, join_key, pairs_of, Lines, by_keys, Cmp}
 use Rattle.ptmerge.proofs.Common.{Key, Output, Wrote, Reader, Slots, line, text, MergeFault, Sorted, Head, Ended, AddsLeast, CanGoOn, HasPassed, State, IsMerge, IsUnread, seen, HasSlots, both, put}
-use Rattle.ptmerge.proofs.Common.{AreEqual, CannotStart, IsAlone, IsDecided, IsLent, IsPlaced, Starts, inputs, IsCleared, ◌⊎◌, CanBegin, JoinsAt, wrote_nothing, other}
+use Rattle.ptmerge.proofs.Common.{AreEqual, CannotStart, IsAlone, IsDecided, IsLent, IsPlaced, Starts, inputs, IsCleared, ◌⊎◌, CanBegin, Joins, StandsAt, wrote_nothing, other}
 use Rattle.ptmerge.proofs.OfMerges.Turning.{opened_by, slots_of, wrote_as, IsLineByLine, alone, ahead, IsOpened as Opened, pass_one, IsAbove, left, less, lent_on, place_is, Running, Placed}
 use Rattle.ptmerge.proofs.OfMerges.Turning.{CannotPass, passes_slots, turn_stops, standing, runs_on, n, ends_well, ends_fallen}
 use Rattle.std.specs.List.{flat_map}
@@ -131,6 +131,16 @@ pub record IsTurn (job : Join) (cmp : Cmp) (key : Side → Key) (old : State) (p
 abbrev pub Leaves : Join → Cmp → (Side → Key) → State → State → Result (Unit {0}) MergeFault → Type 0
 Leaves job cmp key old new result = record { merged : IsMerge (join_by job cmp key) old new result; refused : length new.store.lines < 4 → IsUnread old new; slots : AddsLeast old.store new.store 4 }
 
+-- the same in an order that is equal, since a call leaves the order of a merge as it was
+module _ {K : Type 0} (order : K → Cmp) (key_of : K → Side → Key) {a b : K} where
+  pub turn_as : {job : Join} {old : State} {phase : Phase} {now : State} {one two : Sorted} {end : ℕ}
+      → b ≡ a → IsTurn job (order a) (key_of a) old phase now one two end → IsTurn job (order b) (key_of b) old phase now one two end
+  turn_as is t = rw is t
+
+  pub leaves_as : (job : Join) {old new : State} {r : Result (Unit {0}) MergeFault}
+      → a ≡ b → Leaves job (order a) (key_of a) old new r → Leaves job (order b) (key_of b) old new r
+  leaves_as job is l = rw (← is) l
+
 -- ---- the start
 
 module _ {job : Join} {cmp : Cmp} {key : Side → Key} {old : State} (a : IsOpened job cmp key old) where
@@ -193,8 +203,11 @@ module _ {job : Join} {cmp : Cmp} {key : Side → Key} {old : State} {phase : Ph
       → 3 * left (put s reader now.reader) one2 two2 + rank next < 3 * left now.reader one two + rank phase
   falls s next {one2} {two2} {reader} {made} head came on = omega (arith, less (key s) cmp s one two one2 two2 now.reader reader now.store made head on.others came, rank_few next)
 
-  pub joins_at : (s : Side) → (both one two s).stand ≡ Head → JoinsAt job key s one two (now.reader s) now.store now.out
-  joins_at s head = record { stands = record { placed = t.placed; head = head; lent = t.lent s }; keys = t.opened.keys; clean = t.clean }
+  pub stands_at : (s : Side) → (both one two s).stand ≡ Head → StandsAt key s one two (now.reader s) now.store
+  stands_at s head = record { placed = t.placed; head = head; lent = t.lent s }
+
+  pub joins : Joins job key now.out
+  joins = record { keys = t.opened.keys; clean = t.clean }
 
   -- ---- between groups
 

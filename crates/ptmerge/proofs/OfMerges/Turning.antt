@@ -462,7 +462,7 @@ later_stands key cmp number last next r some is =
     (λ i. cond (sym t i && is_gt (is i)) (Disorder (number + 1)) Head, λ i. sym t i && is_eq (is i))
 
 -- what is noted is of the same line, whatever other slots hold
-noted_keeps : (key : Key) (place : Sorted) (before after : Slots) → line after place.standing ≡ line before place.standing → IsNoted key place before → IsNoted key place after
+pub noted_keeps : (key : Key) (place : Sorted) (before after : Slots) → line after place.standing ≡ line before place.standing → IsNoted key place before → IsNoted key place after
 noted_keeps key place before after same noted = record { head = λ stands. rw same (noted.head stands); broken = noted.broken }
 
 -- the slots behind the first four may change

@@ -12,7 +12,7 @@ use ptlines::{LineFault, LineReader, Source, Store};
 use std::alloc::Allocator;
 
 /// Where an input stands: at a line, at its end, or at the line of this number, whose key falls.
-#[derive(Clone, Copy, Debug, PartialEq, Eq)]
+#[derive(Clone, Copy)]
 pub enum Stand {
     Head,
     Ended,

@@ -8,11 +8,11 @@ ghost use Rattle.ptlangs.specs.Jobs.{join_job};
 ghost use Rattle.ptlines.specs.Outputs.{Wrote};
 ghost use Rattle.ptlines.specs.Slots.{line};
 ghost use Rattle.ptlines.specs.Text.{text};
-ghost use Rattle.ptmerge.specs.Groups.{AddsLeast, HasKey, IsGroup, JoinsAt, end_slot, first_slot, group};
+ghost use Rattle.ptmerge.specs.Groups.{AddsLeast, HasKey, IsGroup, Joins, JoinsAt, end_slot, first_slot, group};
 ghost use Rattle.ptmerge.specs.Merges.{CanBegin, IsMerge, IsReady, IsUnread, Untouched, ended_by, seen};
 ghost use Rattle.ptmerge.specs.declared.order.Side.{Side as Sided};
 ghost use Rattle.ptmerge.specs.Join.{alone_entry, join_by, join_key, join_tool, pairs_of};
-ghost use Rattle.ptmerge.specs.LinePasses.{Passes};
+ghost use Rattle.ptmerge.specs.LinePasses.{Passes, StandsAt};
 ghost use Rattle.ptmerge.specs.Pushes.{MayPush};
 ghost use Rattle.ptmerge.specs.Sides.{both};
 ghost use Rattle.ptmerge.specs.declared.order.Side.TheVariants as Of;
@@ -100,8 +100,9 @@ fn pass_alone<K: KeyOrder, A: Allocator + Copy, S: Source, R: Source, W: Sink>(
     store: &mut Store<A>,
     out: &mut Out<W>,
 ) -> Result<(), MergeFault>
-    requires { let key = K.key_of merge.old.order in
-        JoinsAt (join_job job.now) key side merge.old.first merge.old.second reader.old store.old out.old }
+    requires stands { let key = K.key_of merge.old.order in
+        StandsAt key side merge.old.first merge.old.second reader.old store.old }
+    requires joins { Joins (join_job job.now) (K.key_of merge.old.order) out.old }
     ensures wrote { let standing = line store.old (both merge.old.first merge.old.second side).standing in
         Wrote out.old out.new (text ending (alone_entry (join_job job.now) side standing)) }
     ensures passes { let key = K.key_of merge.old.order in

@@ -115,12 +115,20 @@ fn is_even_at_ends<const N: usize>(bytes: &[u8]) -> bool
     is_even_in::<N>(bytes, 1) && is_even_in::<N>(bytes, bytes.len() - N)
 }
 
-// The same of fewer than 17 bytes.
+// The same of however many bytes.
 #[inline(always)]
-fn is_even_few(bytes: &[u8]) -> bool
-    requires { (0 < length bytes.now) × (length bytes.now ≤ 16) }
+fn is_even(bytes: &[u8]) -> bool
     ensures { IsEven bytes.now 1 (length bytes.now) result }
 {
+    if bytes.len() > 64 {
+        return is_even_far(bytes);
+    }
+    if bytes.len() > 32 {
+        return is_even_at_ends::<32>(bytes);
+    }
+    if bytes.len() > 16 {
+        return is_even_at_ends::<16>(bytes);
+    }
     if bytes.len() > 8 {
         return is_even_at_ends::<8>(bytes);
     }
@@ -128,25 +136,19 @@ fn is_even_few(bytes: &[u8]) -> bool
         return is_even_at_ends::<4>(bytes);
     }
     match bytes.len() {
-        1 => true,
+        0 | 1 => true,
         2 => is_even_at_ends::<1>(bytes),
         _ => is_even_at_ends::<2>(bytes),
     }
 }
 
-// The same of more than 16 bytes.
+// The same of more than 64 bytes.
 #[inline(always)]
 #[tactic(auto, using(crate::proofs::OfJoin::FieldSpans::part_uneven))]
 fn is_even_far(bytes: &[u8]) -> bool
-    requires { 16 < length bytes.now }
+    requires { 64 < length bytes.now }
     ensures { IsEven bytes.now 1 (length bytes.now) result }
 {
-    if bytes.len() <= 33 {
-        return is_even_at_ends::<16>(bytes);
-    }
-    if bytes.len() <= 64 {
-        return is_even_at_ends::<32>(bytes);
-    }
     let mut at = 1;
     while bytes.len() - at >= 64 {
         if !is_even_in::<64>(bytes, at) {
@@ -165,9 +167,5 @@ pub(crate) fn is_tidy(bytes: &[u8]) -> bool
     if bytes.is_empty() || is_blank(bytes[0]) || bytes[bytes.len() - 1] == b' ' {
         return false;
     }
-    if bytes.len() <= 16 {
-        is_even_few(bytes)
-    } else {
-        is_even_far(bytes)
-    }
+    is_even(bytes)
 }

@@ -12,8 +12,5 @@ returns-then-is_empty c = elim c.then-is_empty.branch [
       (sym w.is_blank.ensures ∙ w.if-is_blank.false) w.if-bytes-eq32.true
 ]
 
-pub returns-then-bytes-le16 : goal.returns-then-bytes-le16
-returns-then-bytes-le16 c = tidy_is _ _ (sym c.is_empty.ensures ∙ c.if-is_empty.false) (sym c.is_blank.ensures ∙ c.if-is_blank.false) c.if-bytes-eq32.false c.is_even_few.ensures
-
-pub returns-else-bytes-le16 : goal.returns-else-bytes-le16
-returns-else-bytes-le16 c = tidy_is _ _ (sym c.is_empty.ensures ∙ c.if-is_empty.false) (sym c.is_blank.ensures ∙ c.if-is_blank.false) c.if-bytes-eq32.false c.is_even_far.ensures
+pub returns : goal.returns
+returns c = tidy_is _ _ (sym c.is_empty.ensures ∙ c.if-is_empty.false) (sym c.is_blank.ensures ∙ c.if-is_blank.false) c.if-bytes-eq32.false c.is_even.ensures
