@@ -3,12 +3,14 @@
 ghost use Rattle.std.specs.Prelude.{◌≡◌, ◌<◌, ◌+◌, ◌≤◌, false, length, All};
 ghost use Rattle.ptlines.specs.Slots.{total};
 ghost use Rattle.ptopts.specs.Meant.{words_seen};
-ghost use Rattle.ptrun.specs.Engines.{blame, Went};
+ghost use Rattle.ptrun.specs.Engines.{AreGiven, Ran, Went, blame};
 ghost use Rattle.ptrun.specs.Worlds.{IsFresh};
 ghost use Rattle.ptrun.specs.Messages.{name_of};
 ghost use Rattle.ptrun.specs.Operands.{place, places, one_by_one};
+ghost use Rattle.ptrun.specs.Runs.{AreUnused, sinks, outcome};
 
-use crate::engine::{Done, Engine};
+use crate::engine::{Done, Engine, run_engine};
+use crate::report::Report;
 use crate::tools::OneByOne;
 use crate::voice::Voice;
 use ptflow::FlowFault;
@@ -61,6 +63,32 @@ impl<'a, A: Allocator + Copy, T: OneByOne<A>> Engine<A> for InTurn<'a, A, T> {
         } = &self.operands;
         go_over_each(&self.tool, order, names, inputs, store, out, voice)
     }
+}
+
+/// Runs a tool over its operands in turn.
+pub(crate) fn run_in_turn<A, T, S, R, W, E>(
+    store: &mut Store<A>,
+    tool: T,
+    operands: Inputs<'_, A>,
+    inputs: &mut [LineReader<S, R>],
+    out: W,
+    voice: Voice<E>,
+) -> Report<W, E>
+where
+    A: Allocator + Copy,
+    T: OneByOne<A>,
+    S: Source,
+    R: Source,
+    W: Sink,
+    E: Sink,
+    requires given { AreGiven (one_by_one (T.word tool) (T.tool tool)
+        (words_seen operands.names.items) (places operands.order.items)) inputs.old }
+    requires unused { AreUnused store.old (sinks (W.state out) voice) }
+    ensures { Ran (one_by_one (T.word tool) (T.tool tool)
+        (words_seen operands.entry.names.items) (places operands.entry.order.items))
+        inputs.old inputs.new (sinks (W.state out) voice) (outcome W.state E.state result) store.old store.new }
+{
+    run_engine(store, &InTurn { tool, operands }, inputs, out, voice)
 }
 
 // Where the reader of an input is.

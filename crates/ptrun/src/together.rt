@@ -3,14 +3,18 @@
 ghost use Rattle.std.specs.Prelude.{◌≡◌, ◌<◌, ◌+◌, length, All};
 ghost use Rattle.std.specs.List.{list_any};
 ghost use Rattle.ptopts.specs.Meant.{words_seen};
+ghost use Rattle.ptrun.specs.Engines.{AreGiven, Ran};
 ghost use Rattle.ptrun.specs.Meanings.{unopened};
 ghost use Rattle.ptrun.specs.Operands.{place, places};
+ghost use Rattle.ptrun.specs.Runs.{AreUnused, sinks, outcome};
 ghost use Rattle.ptrun.specs.Sayings.{Tells};
+ghost use Rattle.ptrun.specs.Together.{together};
 ghost use Rattle.ptrun.specs.Worlds.{shut};
 
-use crate::engine::{Done, Engine};
+use crate::engine::{Done, Engine, run_engine};
 use crate::joint::Together;
 use crate::operands::{name_at, place_of};
+use crate::report::Report;
 use crate::voice::Voice;
 use ptflow::FlowFault;
 use ptlines::{LineReader, Out, Sink, Source, Store};
@@ -63,6 +67,32 @@ impl<'a, A: Allocator + Copy, T: Together<A>> Engine<A> for AllTogether<'a, A, T
     ) -> Result<Done, FlowFault> {
         self.tool.go_over(&self.operands.order, inputs, store, out)
     }
+}
+
+/// Runs a tool over all its operands together.
+pub(crate) fn run_together<A, T, S, R, W, E>(
+    store: &mut Store<A>,
+    tool: T,
+    operands: Inputs<'_, A>,
+    inputs: &mut [LineReader<S, R>],
+    out: W,
+    voice: Voice<E>,
+) -> Report<W, E>
+where
+    A: Allocator + Copy,
+    T: Together<A>,
+    S: Source,
+    R: Source,
+    W: Sink,
+    E: Sink,
+    requires given { AreGiven (together (T.word tool) (T.tool tool)
+        (words_seen operands.names.items) (places operands.order.items)) inputs.old }
+    requires unused { AreUnused store.old (sinks (W.state out) voice) }
+    ensures { Ran (together (T.word tool) (T.tool tool)
+        (words_seen operands.entry.names.items) (places operands.entry.order.items))
+        inputs.old inputs.new (sinks (W.state out) voice) (outcome W.state E.state result) store.old store.new }
+{
+    run_engine(store, &AllTogether { tool, operands }, inputs, out, voice)
 }
 
 // Names each operand that could not be opened. The answer is whether there was one.
