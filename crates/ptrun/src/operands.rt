@@ -5,9 +5,10 @@ ghost use Rattle.ptlines.specs.Slots.{total};
 ghost use Rattle.ptopts.specs.Meant.{words_seen};
 ghost use Rattle.ptrun.specs.Engines.{AreGiven, Ran, Went, blame};
 ghost use Rattle.ptrun.specs.Worlds.{IsFresh};
-ghost use Rattle.ptrun.specs.Messages.{name_of};
+ghost use Rattle.ptrun.specs.Messages.{name_of, not_opened};
 ghost use Rattle.ptrun.specs.Operands.{place, places, one_by_one};
 ghost use Rattle.ptrun.specs.Runs.{AreUnused, sinks, outcome};
+ghost use Rattle.ptrun.specs.Sayings.{Tells};
 
 use crate::engine::{Done, Engine, run_engine};
 use crate::report::Report;
@@ -114,6 +115,13 @@ pub(crate) fn name_at<'a>(names: &[&'a str], place: usize) -> &'a str
     }
 }
 
+// Says that the input of this name could not be opened.
+pub(crate) fn say_unopened<'a, E: Sink>(tool: &'a str, name: &'a str, voice: &mut Voice<E>)
+    ensures { Tells voice.old voice.new (not_opened tool.now name.now) }
+{
+    voice.say(&[tool, ": ", name, ": cannot be opened"]);
+}
+
 // The failure of a call that had one reader, the one at this place.
 pub(crate) fn at_operand(fault: FlowFault, place: usize) -> FlowFault
     ensures { result ≡ blame place fault }
@@ -149,12 +157,7 @@ fn go_over_each<A: Allocator + Copy, T: OneByOne<A>, S: Source, R: Source, W: Si
         let place = place_of(*input);
         let reader = &mut inputs[place];
         if reader.is_refused() {
-            voice.say(&[
-                tool.name(),
-                ": ",
-                name_at(names, place),
-                ": cannot be opened",
-            ]);
+            say_unopened(tool.name(), name_at(names, place), voice);
             done = Done::Unopened;
         } else {
             match tool.go_over(reader, store, out) {

@@ -13,7 +13,7 @@ ghost use Rattle.ptrun.specs.Worlds.{shut};
 
 use crate::engine::{Done, Engine, run_engine};
 use crate::joint::Together;
-use crate::operands::{name_at, place_of};
+use crate::operands::{name_at, place_of, say_unopened};
 use crate::report::Report;
 use crate::voice::Voice;
 use ptflow::FlowFault;
@@ -113,7 +113,7 @@ fn name_unopened<S: Source, R: Source, E: Sink>(
     for input in order {
         let place = place_of(*input);
         if inputs[place].is_refused() {
-            voice.say(&[tool, ": ", name_at(names, place), ": cannot be opened"]);
+            say_unopened(tool, name_at(names, place), voice);
             any = true;
         }
     }

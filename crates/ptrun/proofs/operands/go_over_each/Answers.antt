@@ -21,7 +21,7 @@ loop-input-preserved g c =
     elim c.if-is_refused.branch [
       | then-is_refused w ↦
           pass_as (w.inputs-is ∙ set-get_or c.loop-input.inputs c.place_of-place.result d) w.store-is w.out-is w.voice-is w.done-is turn.next
-          (pass_unopened c.requires.fresh k turn.low d (sym c.is_refused.ensures.refused ∙ w.if-is_refused.true) (rw (w.name.ensures, w.name_at.ensures) at w.say.ensures))
+          (pass_unopened c.requires.fresh k turn.low d (sym c.is_refused.ensures.refused ∙ w.if-is_refused.true) (rw (w.name.ensures, w.name_at.ensures) at w.say_unopened.ensures))
       | else-is_refused+in-Ok w ↦
           pass_as w.inputs-is w.store-is w.out-is w.voice-is w.done-is turn.next
           (pass_done c.requires.fresh k turn.low d (sym c.is_refused.ensures.refused ∙ w.if-is_refused.false) c.is_refused.ensures.sound w.go_over.ensures w.in-Ok.is)
