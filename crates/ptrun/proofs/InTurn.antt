@@ -31,6 +31,12 @@ pub record Pass (word : List ℕ) (t : Tool) (names : List (List ℕ)) (old now 
   pub empty : total store.lines ≡ 0
   pub peak : (w : World) → Allows gave w → store.peak ≤ max before.peak (each_bound t w done)
 
+-- the same of what is equal to all that the pass left
+pub pass_as : {word : List ℕ} {t : Tool} {names : List (List ℕ)} {old now now' : List Reader} {was is is' : Output} {told heard heard' : SinkState} {before store store' : Slots}
+    {done done' : List ℕ} {so_far so_far' : Done} → now' ≡ now → store' ≡ store → is' ≡ is → heard' ≡ heard → so_far' ≡ so_far → done' ≡ done
+    → Pass word t names old now was is told heard before store done so_far → Pass word t names old now' was is' told heard' before store' done' so_far'
+pass_as inputs kept out voice far places k = rw (inputs, kept, out, voice, far, places) k
+
 module _ {word : List ℕ} {t : Tool} {names : List (List ℕ)} {old : List Reader} {was : Output} {told : SinkState} {before : Slots} (fresh : All IsFresh old) where
   pub pass_nothing : was.faulted ≡ false → before.denied ≡ false → total before.lines ≡ 0 → Pass word t names old old was was told told before before [] Whole
   pass_nothing clean roomy empty = record {

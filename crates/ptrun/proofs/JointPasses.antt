@@ -62,6 +62,12 @@ at_received given n (r ∷ readers) (suc q) m is = at_received given (n + 1) rea
 
 -- ---- a run but its last words
 
+-- how such a tool finds things
+pub joint_ready : (word : List ℕ) {t : JointTool} (names : List (List ℕ)) {places : List ℕ} {inputs : List Reader} {out : Output} {store : Slots}
+    → IsStart (together word t names places) inputs out store → AreReady t places inputs out store
+joint_ready word names s =
+    record { taken = s.given.taken; fresh = s.given.fresh; fits = s.given.fits; opened = s.complete; writable = s.writable; roomy = s.roomy; empty = s.empty }
+
 ends_with : (word : List ℕ) (names : List (List ℕ)) (found : Option (ℕ × ℕ)) → (last_words word names (Ok (done_of found)) ≡ disorder_text word names found)
     × (status_after (Ok (done_of found)) ≡ disorder_status found)
 ends_with word names None = (refl, refl)

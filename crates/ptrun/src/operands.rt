@@ -3,12 +3,15 @@
 ghost use Rattle.std.specs.Prelude.{◌≡◌, ◌<◌, ◌+◌, ◌≤◌, false, length, All};
 ghost use Rattle.ptlines.specs.Slots.{total};
 ghost use Rattle.ptopts.specs.Meant.{words_seen};
-ghost use Rattle.ptrun.specs.Engines.{blame, Went};
+ghost use Rattle.ptrun.specs.Engines.{AreGiven, Ran, Went, blame};
 ghost use Rattle.ptrun.specs.Worlds.{IsFresh};
-ghost use Rattle.ptrun.specs.Messages.{name_of};
+ghost use Rattle.ptrun.specs.Messages.{name_of, not_opened};
 ghost use Rattle.ptrun.specs.Operands.{place, places, one_by_one};
+ghost use Rattle.ptrun.specs.Runs.{AreUnused, sinks, outcome};
+ghost use Rattle.ptrun.specs.Sayings.{Tells};
 
-use crate::engine::{Done, Engine};
+use crate::engine::{Done, Engine, run_engine};
+use crate::report::Report;
 use crate::tools::OneByOne;
 use crate::voice::Voice;
 use ptflow::FlowFault;
@@ -63,6 +66,32 @@ impl<'a, A: Allocator + Copy, T: OneByOne<A>> Engine<A> for InTurn<'a, A, T> {
     }
 }
 
+/// Runs a tool over its operands in turn.
+pub(crate) fn run_in_turn<A, T, S, R, W, E>(
+    store: &mut Store<A>,
+    tool: T,
+    operands: Inputs<'_, A>,
+    inputs: &mut [LineReader<S, R>],
+    out: W,
+    voice: Voice<E>,
+) -> Report<W, E>
+where
+    A: Allocator + Copy,
+    T: OneByOne<A>,
+    S: Source,
+    R: Source,
+    W: Sink,
+    E: Sink,
+    requires given { AreGiven (one_by_one (T.word tool) (T.tool tool)
+        (words_seen operands.names.items) (places operands.order.items)) inputs.old }
+    requires unused { AreUnused store.old (sinks (W.state out) voice) }
+    ensures { Ran (one_by_one (T.word tool) (T.tool tool)
+        (words_seen operands.entry.names.items) (places operands.entry.order.items))
+        inputs.old inputs.new (sinks (W.state out) voice) (outcome W.state E.state result) store.old store.new }
+{
+    run_engine(store, &InTurn { tool, operands }, inputs, out, voice)
+}
+
 // Where the reader of an input is.
 pub(crate) fn place_of(input: Input) -> usize
     requires { place input < usize.MAX }
@@ -84,6 +113,13 @@ pub(crate) fn name_at<'a>(names: &[&'a str], place: usize) -> &'a str
     } else {
         names[place - 1]
     }
+}
+
+// Says that the input of this name could not be opened.
+pub(crate) fn say_unopened<'a, E: Sink>(tool: &'a str, name: &'a str, voice: &mut Voice<E>)
+    ensures { Tells voice.old voice.new (not_opened tool.now name.now) }
+{
+    voice.say(&[tool, ": ", name, ": cannot be opened"]);
 }
 
 // The failure of a call that had one reader, the one at this place.
@@ -121,12 +157,7 @@ fn go_over_each<A: Allocator + Copy, T: OneByOne<A>, S: Source, R: Source, W: Si
         let place = place_of(*input);
         let reader = &mut inputs[place];
         if reader.is_refused() {
-            voice.say(&[
-                tool.name(),
-                ": ",
-                name_at(names, place),
-                ": cannot be opened",
-            ]);
+            say_unopened(tool.name(), name_at(names, place), voice);
             done = Done::Unopened;
         } else {
             match tool.go_over(reader, store, out) {

@@ -1,8 +1,9 @@
 //! What is said of words that are no command.
 
-ghost use Rattle.std.specs.Prelude.{◌≡◌};
+ghost use Rattle.std.specs.Prelude.{◌≡◌, ◌∷◌, [], encode_utf8};
+ghost use Rattle.ptopts.specs.Faults.{Together};
 ghost use Rattle.ptopts.specs.Meant.{meant};
-ghost use Rattle.ptrun.specs.Sayings.{Tells};
+ghost use Rattle.ptrun.specs.Sayings.{Tells, line_of};
 ghost use Rattle.ptrun.specs.Messages as messages;
 ghost use Rattle.ptrun.specs.Messages.{said_of, status_of, string_refusal};
 
@@ -20,39 +21,21 @@ pub(crate) fn refuse<E: Sink>(tool: &str, fault: UseFault<'_>, voice: &mut Voice
         UseFault::Tool => voice.say(&["ptext: first word: ", TOOLS]),
         UseFault::Unknown(word) => voice.say(&[tool, ": unknown option in ", word]),
         UseFault::NeedsValue(letter) => {
-            voice.say(&[
-                tool,
-                ": option -",
-                char::from(letter).encode_utf8(&mut [0; 4]),
-                " needs a value",
-            ]);
+            say_option(tool, ": option -", letter, " needs a value", "", voice);
         }
         UseFault::Twice(letter) => {
-            voice.say(&[
-                tool,
-                ": option -",
-                char::from(letter).encode_utf8(&mut [0; 4]),
-                " is given twice",
-            ]);
+            say_option(tool, ": option -", letter, " is given twice", "", voice);
         }
-        UseFault::Together(first, second) => {
-            voice.say(&[
-                tool,
-                ": options -",
-                char::from(first).encode_utf8(&mut [0; 4]),
-                " and -",
-                char::from(second).encode_utf8(&mut [0; 4]),
-                " do not go together",
-            ]);
-        }
+        UseFault::Together(first, second) => say_together(tool, first, second, voice),
         UseFault::Value(letter, value) => {
-            voice.say(&[
+            say_option(
                 tool,
                 ": wrong value for option -",
-                char::from(letter).encode_utf8(&mut [0; 4]),
+                letter,
                 ": ",
                 value,
-            ]);
+                voice,
+            );
         }
         UseFault::Operands => voice.say(&[tool, ": wrong number of operands"]),
         UseFault::StandardTwice => voice.say(&[tool, ": standard input is named twice"]),
@@ -64,6 +47,40 @@ pub(crate) fn refuse<E: Sink>(tool: &str, fault: UseFault<'_>, voice: &mut Voice
         }
     }
     2
+}
+
+// Says something about the option with this letter.
+fn say_option<'a, E: Sink>(
+    tool: &'a str,
+    before: &'a str,
+    letter: u8,
+    after: &'a str,
+    value: &'a str,
+    voice: &mut Voice<E>,
+)
+    ensures { Tells voice.old voice.new
+        (line_of (tool.now ∷ before.now ∷ encode_utf8 letter ∷ after.now ∷ value.now ∷ [])) }
+{
+    let mut room = [0; 4];
+    let option = char::from(letter).encode_utf8(&mut room);
+    voice.say(&[tool, before, option, after, value]);
+}
+
+// Says that two options do not go together.
+fn say_together<E: Sink>(tool: &str, first: u8, second: u8, voice: &mut Voice<E>)
+    ensures { Tells voice.old voice.new (messages.refusal tool.now (Together first second)) }
+{
+    let (mut room, mut more) = ([0; 4], [0; 4]);
+    let one = char::from(first).encode_utf8(&mut room);
+    let two = char::from(second).encode_utf8(&mut more);
+    voice.say(&[
+        tool,
+        ": options -",
+        one,
+        " and -",
+        two,
+        " do not go together",
+    ]);
 }
 
 // Says why a string of `tr` was refused.

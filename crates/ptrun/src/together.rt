@@ -3,14 +3,18 @@
 ghost use Rattle.std.specs.Prelude.{◌≡◌, ◌<◌, ◌+◌, length, All};
 ghost use Rattle.std.specs.List.{list_any};
 ghost use Rattle.ptopts.specs.Meant.{words_seen};
+ghost use Rattle.ptrun.specs.Engines.{AreGiven, Ran};
 ghost use Rattle.ptrun.specs.Meanings.{unopened};
 ghost use Rattle.ptrun.specs.Operands.{place, places};
+ghost use Rattle.ptrun.specs.Runs.{AreUnused, sinks, outcome};
 ghost use Rattle.ptrun.specs.Sayings.{Tells};
+ghost use Rattle.ptrun.specs.Together.{together};
 ghost use Rattle.ptrun.specs.Worlds.{shut};
 
-use crate::engine::{Done, Engine};
+use crate::engine::{Done, Engine, run_engine};
 use crate::joint::Together;
-use crate::operands::{name_at, place_of};
+use crate::operands::{name_at, place_of, say_unopened};
+use crate::report::Report;
 use crate::voice::Voice;
 use ptflow::FlowFault;
 use ptlines::{LineReader, Out, Sink, Source, Store};
@@ -65,6 +69,32 @@ impl<'a, A: Allocator + Copy, T: Together<A>> Engine<A> for AllTogether<'a, A, T
     }
 }
 
+/// Runs a tool over all its operands together.
+pub(crate) fn run_together<A, T, S, R, W, E>(
+    store: &mut Store<A>,
+    tool: T,
+    operands: Inputs<'_, A>,
+    inputs: &mut [LineReader<S, R>],
+    out: W,
+    voice: Voice<E>,
+) -> Report<W, E>
+where
+    A: Allocator + Copy,
+    T: Together<A>,
+    S: Source,
+    R: Source,
+    W: Sink,
+    E: Sink,
+    requires given { AreGiven (together (T.word tool) (T.tool tool)
+        (words_seen operands.names.items) (places operands.order.items)) inputs.old }
+    requires unused { AreUnused store.old (sinks (W.state out) voice) }
+    ensures { Ran (together (T.word tool) (T.tool tool)
+        (words_seen operands.entry.names.items) (places operands.entry.order.items))
+        inputs.old inputs.new (sinks (W.state out) voice) (outcome W.state E.state result) store.old store.new }
+{
+    run_engine(store, &AllTogether { tool, operands }, inputs, out, voice)
+}
+
 // Names each operand that could not be opened. The answer is whether there was one.
 fn name_unopened<S: Source, R: Source, E: Sink>(
     tool: &str,
@@ -83,7 +113,7 @@ fn name_unopened<S: Source, R: Source, E: Sink>(
     for input in order {
         let place = place_of(*input);
         if inputs[place].is_refused() {
-            voice.say(&[tool, ": ", name_at(names, place), ": cannot be opened"]);
+            say_unopened(tool, name_at(names, place), voice);
             any = true;
         }
     }

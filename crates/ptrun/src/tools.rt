@@ -9,11 +9,10 @@ ghost use Rattle.ptrun.specs.Asked.{command_meaning};
 ghost use Rattle.ptrun.specs.Engines.{AreGiven, Ran};
 ghost use Rattle.ptrun.specs.Runs.{AreUnused, sinks, outcome};
 
-use crate::engine::run_engine;
-use crate::operands::InTurn;
+use crate::operands::run_in_turn;
 use crate::paired::OfTwo;
 use crate::report::Report;
-use crate::together::AllTogether;
+use crate::together::run_together;
 use crate::voice::Voice;
 use ptflow::{FlowFault, cut, paste_serial, tr};
 use ptlangs::CharPlan;
@@ -36,32 +35,21 @@ pub(crate) fn run_command<A: Allocator + Copy, S: Source, R: Source, W: Sink, E:
         (outcome W.state E.state result) store.old store.new }
 {
     match command {
-        Command::Cut(tool, operands) => {
-            let engine = InTurn { tool, operands };
-            run_engine(store, &engine, inputs, out, voice)
-        }
-        Command::Tr(tool, operands) => {
-            let engine = InTurn { tool, operands };
-            run_engine(store, &engine, inputs, out, voice)
-        }
+        Command::Cut(tool, operands) => run_in_turn(store, tool, operands, inputs, out, voice),
+        Command::Tr(tool, operands) => run_in_turn(store, tool, operands, inputs, out, voice),
         Command::Paste(tool, operands) => {
             if tool.serial {
-                run_engine(store, &InTurn { tool, operands }, inputs, out, voice)
+                run_in_turn(store, tool, operands, inputs, out, voice)
             } else {
-                run_engine(store, &AllTogether { tool, operands }, inputs, out, voice)
+                run_together(store, tool, operands, inputs, out, voice)
             }
         }
-        Command::Uniq(tool, operands) => {
-            let engine = AllTogether { tool, operands };
-            run_engine(store, &engine, inputs, out, voice)
-        }
+        Command::Uniq(tool, operands) => run_together(store, tool, operands, inputs, out, voice),
         Command::Comm(tool, operands) => {
-            let tool = OfTwo { tool };
-            run_engine(store, &AllTogether { tool, operands }, inputs, out, voice)
+            run_together(store, OfTwo { tool }, operands, inputs, out, voice)
         }
         Command::Join(tool, operands) => {
-            let tool = OfTwo { tool };
-            run_engine(store, &AllTogether { tool, operands }, inputs, out, voice)
+            run_together(store, OfTwo { tool }, operands, inputs, out, voice)
         }
     }
 }

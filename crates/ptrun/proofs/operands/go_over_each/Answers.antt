@@ -2,7 +2,7 @@
 use Rattle.ptrun.proofs.Common.{scaled_Fits, ◌<◌, ◌+◌, length, drop, sym, ◌∙◌, arith, set-get_or, places, Standard}
 use Rattle.ptrun.proofs.operands.go_over_each.Goals as goal
 use Rattle.ptrun.proofs.Sources.{turn_of, places_end}
-use Rattle.ptrun.proofs.InTurn.{pass_nothing, ready_here, pass_all, pass_unopened, pass_done, pass_stopped}
+use Rattle.ptrun.proofs.InTurn.{pass_as, pass_nothing, ready_here, pass_all, pass_unopened, pass_done, pass_stopped}
 use Rattle.ptrun.proofs.operands.go_over_each.Goals.{then-is_refused, else-is_refused+in-Ok}
 
 pub loop-input-init : goal.loop-input-init
@@ -20,10 +20,10 @@ loop-input-preserved g c =
     let turn = turn_of c.args.order.now c.loop-input.input-index _ c.requires.fits c.loop-input-test.true c.place_of-place.ensures in
     elim c.if-is_refused.branch [
       | then-is_refused w ↦
-          rw (w.inputs-is, set-get_or c.loop-input.inputs c.place_of-place.result d, w.store-is, w.out-is, w.voice-is, w.done-is, turn.next)
-          (pass_unopened c.requires.fresh k turn.low d (sym c.is_refused.ensures.refused ∙ w.if-is_refused.true) (rw (w.name.ensures, w.name_at.ensures) at w.say.ensures))
+          pass_as (w.inputs-is ∙ set-get_or c.loop-input.inputs c.place_of-place.result d) w.store-is w.out-is w.voice-is w.done-is turn.next
+          (pass_unopened c.requires.fresh k turn.low d (sym c.is_refused.ensures.refused ∙ w.if-is_refused.true) (rw (w.name.ensures, w.name_at.ensures) at w.say_unopened.ensures))
       | else-is_refused+in-Ok w ↦
-          rw (w.inputs-is, w.store-is, w.out-is, w.voice-is, w.done-is, turn.next)
+          pass_as w.inputs-is w.store-is w.out-is w.voice-is w.done-is turn.next
           (pass_done c.requires.fresh k turn.low d (sym c.is_refused.ensures.refused ∙ w.if-is_refused.false) c.is_refused.ensures.sound w.go_over.ensures w.in-Ok.is)
     ]
 

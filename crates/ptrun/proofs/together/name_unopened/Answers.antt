@@ -21,7 +21,7 @@ loop-input-preserved g c =
     let refused = ap (λ (r : Reader). r.refused) (sym (c.index-inputs-place.is ∙ get_or_default inputs p _ no_reader turn.low)) ∙ sym c.is_refused.ensures.refused in
     elim c.if-is_refused.branch [
       | then-is_refused w ↦ rw (w.voice-is, w.any-is, turn.next) (record {
-        said = tells_more tool names (shut inputs) done p k.said (rw (refused ∙ w.if-is_refused.true) (rw w.name_at.ensures at w.say.ensures));
+        said = tells_more tool names (shut inputs) done p k.said (rw (refused ∙ w.if-is_refused.true) (rw w.name_at.ensures at w.say_unopened.ensures));
         any_is = sym (any_now (shut inputs) done p (refused ∙ w.if-is_refused.true));
       })
       | else-is_refused w ↦ rw (w.voice-is, w.any-is, turn.next) (record {
