@@ -1,55 +1,14 @@
 //! `comm` over sources and sinks of the tests.
 
-use crate::merged::{ANY, Answer, Case, Left, TWO, Wanted, is_left};
-use ptfakes::{Kept, Pieces, Refusing};
+use crate::merged::{
+    ANY, Answer, Case, Job, OK, TWO, Wanted, each_room, expect, is_refused, passes,
+};
+use ptfakes::Refusing;
 use ptlangs::jobs::CommJob;
-use ptlines::{LineReader, Out, Store};
-use ptmerge::{MergeFault, Side, comm};
-use std::alloc::{Allocator, Global};
+use ptmerge::{MergeFault, Side};
+use std::alloc::Global;
 use std::process::Abort;
 use std::test::Fail;
-
-type Reader<'a> = LineReader<Pieces<'a>, Pieces<'a>>;
-
-fn run<A: Allocator + Copy>(
-    alloc: Global,
-    lines: A,
-    job: &CommJob,
-    case: &Case<'_>,
-) -> Result<Left, Fail> {
-    let mut first: Reader<'_> = LineReader::standard(Pieces::new(
-        case.first,
-        case.size,
-        case.passing[0],
-    ));
-    let mut second: Reader<'_> = LineReader::file(Pieces::new(
-        case.second,
-        case.size,
-        case.passing[1],
-    ));
-    let mut store = Store::new(lines, 0)?;
-    let mut out = Out::new(Kept::limited(alloc, usize::MAX, case.room, u64::MAX));
-    let result = comm(job, &mut first, &mut second, &mut store, &mut out);
-    let _ = out.finish();
-    Ok(Left {
-        result,
-        kept: out.into_sink(),
-        peak: store.peak(),
-    })
-}
-
-// Looks at what is left of a case, which goes by a name and a number.
-fn expect(
-    rt: &impl Abort,
-    alloc: Global,
-    of: (&str, usize),
-    (job, case): (&CommJob, &Case<'_>),
-    wanted: &Wanted<'_>,
-) -> Result<(), Fail> {
-    let left = run(alloc, alloc, job, case)?;
-    is_left(rt, of, &left, wanted);
-    Ok(())
-}
 
 struct Row {
     name: &'static str,
@@ -87,8 +46,6 @@ const TURNS: Case = Case {
     second: b"b\nd\n",
     ..TWO
 };
-
-const OK: Answer = Some(Ok(()));
 
 const FIRST_UNREAD: Answer = Some(Err(MergeFault::Read(Side::First)));
 
@@ -276,110 +233,70 @@ const ROWS: &[Row] = &[
 ];
 
 #[test]
-fn lines_of_two_inputs(rt: HostRuntime) -> Result<(), Fail> {
+fn lines_of_two_inputs(rt: HostRuntime) {
     for row in ROWS {
-        let asked = (&row.job, &row.case);
-        expect(&rt, rt.alloc(), (row.name, 0), asked, &row.wanted)?;
+        let asked = (Job::Comm(&row.job), &row.case);
+        expect(&rt, &(row.name, 0), rt.alloc(), asked, &row.wanted);
     }
-    Ok(())
 }
 
-fn expect_long(rt: &impl Abort, alloc: Global, long: &[u8]) -> Result<(), Fail> {
-    for (room, result) in [
-        (usize::MAX, FIRST_UNREAD),
-        (0, Some(Err(MergeFault::Write))),
-    ] {
-        let case = Case {
-            first: &*long,
-            second: b"c\n",
-            size: usize::MAX,
-            passing: [2, 1],
-            room,
-        };
-        let wanted = Wanted { result, ..ANY };
-        expect(rt, alloc, ("a long line", room), (&PLAIN, &case), &wanted)?;
-    }
-    Ok(())
+// A third pull is made for the second line alone, where the first can be written.
+fn expect_long(rt: &impl Abort, alloc: Global, long: &[u8]) {
+    let mut case = Case {
+        first: long,
+        second: b"c\n",
+        size: usize::MAX,
+        passing: [2, 1],
+        room: usize::MAX,
+    };
+    let mut wanted = ANY;
+    wanted.result = FIRST_UNREAD;
+    expect(rt, &("long", 0), alloc, (Job::Comm(&PLAIN), &case), &wanted);
+    case.room = 0;
+    wanted.result = Some(Err(MergeFault::Write));
+    expect(rt, &("long", 1), alloc, (Job::Comm(&PLAIN), &case), &wanted);
 }
 
-// Two lines of 9000 bytes in pulls of 8192: a third pull is made for the second line alone.
+// Two lines of 9000 bytes in pulls of 8192.
 #[test]
 fn nothing_is_read_behind_a_failed_write(rt: HostRuntime) -> Result<(), Fail> {
     let mut long = vec![in rt.alloc(); b'a'; 18002]?;
     long[9000] = b'\n';
     long[18001] = b'\n';
-    expect_long(&rt, rt.alloc(), &long)
+    expect_long(&rt, rt.alloc(), &long);
+    Ok(())
 }
 
 const ALL: &[u8] = b"\t\ta\na\nb\n\tc\n";
 
-const BEGINNING: Wanted = Wanted {
-    bytes: Some(ALL),
-    whole: false,
-    ..ANY
-};
-
-#[test]
-fn a_write_that_fails(rt: HostRuntime) -> Result<(), Fail> {
-    for room in 0..13usize {
-        let case = Case { room, ..COMMON };
-        expect(&rt, rt.alloc(), ("room", room), (&PLAIN, &case), &BEGINNING)?;
+fn each_call_fails(rt: &impl Abort, alloc: Global, asked: (Job<'_, Global>, &Case<'_>)) {
+    each_room(rt, alloc, asked, 13, ALL);
+    for passing in 0..8u64 {
+        let result = if passing < 7 { FIRST_UNREAD } else { OK };
+        passes(rt, alloc, asked, [passing, u64::MAX], result, ALL);
     }
-    Ok(())
 }
 
 #[test]
-fn each_read_fails_in_turn(rt: HostRuntime) -> Result<(), Fail> {
-    for passing in 0..8usize {
-        let case = Case {
-            size: 1,
-            passing: [passing as u64, u64::MAX],
-            ..COMMON
-        };
-        let wanted = Wanted {
-            result: if passing < 7 { FIRST_UNREAD } else { OK },
-            ..BEGINNING
-        };
-        expect(
-            &rt,
-            rt.alloc(),
-            ("reads", passing),
-            (&PLAIN, &case),
-            &wanted,
-        )?;
-    }
-    Ok(())
+fn each_write_and_read_fails_in_turn(rt: HostRuntime) {
+    each_call_fails(&rt, rt.alloc(), (Job::Comm(&PLAIN), &COMMON));
 }
 
 // Refuses the growth behind so many, and says whether there was such a one.
-fn is_refused(rt: &impl Abort, own: Global, passing: usize) -> Result<bool, Fail> {
+fn is_refused_after(rt: &impl Abort, own: Global, passing: usize) -> bool {
     let alloc = Refusing::after(own, passing as u64);
-    let left = run(own, &alloc, &PLAIN, &COMMON)?;
-    let refused = alloc.refused();
-    let wanted = Wanted {
-        result: if refused {
-            Some(Err(MergeFault::Memory))
-        } else {
-            OK
-        },
-        bytes: Some(ALL),
-        whole: !refused,
-        calls: None,
-        peak: (0, 4),
-    };
-    is_left(rt, ("growths", passing), &left, &wanted);
-    Ok(refused)
+    let asked = (Job::Comm(&PLAIN), &COMMON);
+    is_refused(rt, passing, (own, &alloc), asked, (ALL, 4))
 }
 
 #[test]
-fn each_growth_refused_in_turn(rt: HostRuntime) -> Result<(), Fail> {
+fn each_growth_refused_in_turn(rt: HostRuntime) {
     let mut reached = 0usize;
     for passing in 0..20usize {
-        if is_refused(&rt, rt.alloc(), passing)? {
+        if is_refused_after(&rt, rt.alloc(), passing) {
             reached = passing + 1;
         }
     }
     assert!(rt; reached > 0);
     assert!(rt; reached < 20);
-    Ok(())
 }

@@ -2,57 +2,13 @@
 
 mod failing;
 
-use crate::merged::{ANY, Answer, Case, Left, TWO, Wanted, is_left};
-use ptfakes::{Kept, Pieces};
+use crate::merged::{ANY, Answer, Case, Job, OK, TWO, Wanted, expect};
 use ptlangs::jobs::JoinJob;
 use ptlangs::outlist::OutList;
-use ptlines::{LineReader, Out, Store};
-use ptmerge::{MergeFault, Side, join};
-use std::alloc::{Allocator, Global};
+use ptmerge::{MergeFault, Side};
+use std::alloc::{AllocError, Global};
 use std::process::Abort;
 use std::test::Fail;
-
-type Reader<'a> = LineReader<Pieces<'a>, Pieces<'a>>;
-
-fn run<A: Allocator + Copy>(
-    alloc: Global,
-    lines: A,
-    job: &JoinJob<A>,
-    case: &Case<'_>,
-) -> Result<Left, Fail> {
-    let mut first: Reader<'_> = LineReader::standard(Pieces::new(
-        case.first,
-        case.size,
-        case.passing[0],
-    ));
-    let mut second: Reader<'_> = LineReader::file(Pieces::new(
-        case.second,
-        case.size,
-        case.passing[1],
-    ));
-    let mut store = Store::new(lines, 0)?;
-    let mut out = Out::new(Kept::limited(alloc, usize::MAX, case.room, u64::MAX));
-    let result = join(job, &mut first, &mut second, &mut store, &mut out);
-    let _ = out.finish();
-    Ok(Left {
-        result,
-        kept: out.into_sink(),
-        peak: store.peak(),
-    })
-}
-
-// Looks at what is left of a case, which goes by a name and a number.
-fn expect(
-    rt: &impl Abort,
-    alloc: Global,
-    of: (&str, usize),
-    (job, case): (&JoinJob, &Case<'_>),
-    wanted: &Wanted<'_>,
-) -> Result<(), Fail> {
-    let left = run(alloc, alloc, job, case)?;
-    is_left(rt, of, &left, wanted);
-    Ok(())
-}
 
 // What a job is made of.
 #[derive(Clone, Copy)]
@@ -79,8 +35,7 @@ const PLAIN: Options = Options {
     descending: false,
 };
 
-fn job_of(alloc: Global, options: &Options) -> Result<JoinJob, Fail> {
-    let mut job = JoinJob::new(alloc);
+fn set_options(alloc: Global, job: &mut JoinJob, options: &Options) -> Result<(), Fail> {
     job.pairs = options.pairs;
     job.unpaired = options.unpaired;
     job.sep = options.sep;
@@ -91,6 +46,12 @@ fn job_of(alloc: Global, options: &Options) -> Result<JoinJob, Fail> {
     if let Some(list) = options.list {
         job.list = Some(OutList::read(alloc, list)?);
     }
+    Ok(())
+}
+
+fn job_of(alloc: Global, options: &Options) -> Result<JoinJob, Fail> {
+    let mut job = JoinJob::new(alloc);
+    set_options(alloc, &mut job, options)?;
     Ok(job)
 }
 
@@ -102,8 +63,6 @@ type Pieced = (
     Answer,
     &'static [u8],
 );
-
-const OK: Answer = Some(Ok(()));
 
 const FIRST_DISORDER: Answer = Some(Err(MergeFault::Disorder(Side::First, 2)));
 
@@ -266,77 +225,113 @@ const IN_PIECES: &[Pieced] = &[
 fn expect_in_pieces(
     rt: &impl Abort,
     alloc: Global,
-    of: &str,
-    (job, first, second): (&JoinJob, &[u8], &[u8]),
+    name: &str,
+    (job, first, second): (Job<'_, Global>, &[u8], &[u8]),
     (answer, bytes): (Answer, &[u8]),
-) -> Result<(), Fail> {
+) {
+    let mut case = Case {
+        first,
+        second,
+        ..TWO
+    };
+    let wanted = Wanted {
+        result: answer,
+        bytes: Some(bytes),
+        ..ANY
+    };
     for size in [1usize, 7, 4096] {
-        let case = Case {
-            first: &*first,
-            second: &*second,
-            size,
-            ..TWO
-        };
-        let wanted = Wanted {
-            result: answer,
-            bytes: Some(&*bytes),
-            ..ANY
-        };
-        expect(rt, alloc, (of, size), (job, &case), &wanted)?;
+        case.size = size;
+        expect(rt, &(name, size), alloc, (job, &case), &wanted);
     }
+}
+
+fn expect_pieced(rt: &impl Abort, alloc: Global, row: &Pieced) -> Result<(), Fail> {
+    let (name, options, [first, second], answer, bytes) = row;
+    let job = job_of(alloc, options)?;
+    let lines = (Job::Join(&job), *first, *second);
+    expect_in_pieces(rt, alloc, name, lines, (*answer, bytes));
     Ok(())
 }
 
 #[test]
 fn lines_of_two_inputs(rt: HostRuntime) -> Result<(), Fail> {
-    for (name, options, [first, second], result, bytes) in IN_PIECES {
-        let job = job_of(rt.alloc(), options)?;
-        let lines = (&job, *first, *second);
-        expect_in_pieces(&rt, rt.alloc(), name, lines, (*result, bytes))?;
+    for row in IN_PIECES {
+        expect_pieced(&rt, rt.alloc(), row)?;
     }
     Ok(())
 }
 
 // A line of so many words, with one space between each two, and a blank more behind the word at this place.
-fn words(alloc: Global, count: usize, place: usize, blank: u8) -> Result<Vec<u8>, Fail> {
-    let mut line = Vec::new(alloc);
+fn add_words(line: &mut Vec<u8>, count: usize, place: usize, blank: u8) -> Result<(), AllocError> {
     for at in 0..count {
-        if at > 0 {
-            line.push(b' ')?;
-        }
-        line.push(b'k')?;
+        line.extend_from_slice(if at > 0 { b" k" } else { b"k" })?;
         if at == place {
             line.push(blank)?;
         }
     }
     line.push(b'\n')?;
-    Ok(line)
+    Ok(())
 }
 
 // A blank more behind the word at this place, in the first line and in the second.
 fn expect_tidy(
     rt: &impl Abort,
     alloc: Global,
-    job: &JoinJob,
+    job: Job<'_, Global>,
     (count, place): (usize, usize),
     tidy: &[u8],
-) -> Result<(), Fail> {
-    let blank = if place < 4 { b'\t' } else { b' ' };
-    let more = words(alloc, count, place, blank)?;
-    let lines: (&JoinJob, &[u8], &[u8]) = (job, &more, b"k");
-    expect_in_pieces(rt, alloc, "a blank more in the first", lines, (OK, tidy))?;
-    let lines: (&JoinJob, &[u8], &[u8]) = (job, b"k", &more);
-    expect_in_pieces(rt, alloc, "a blank more in the second", lines, (OK, tidy))
+) -> Result<(), AllocError> {
+    let mut more = Vec::new(alloc);
+    add_words(
+        &mut more,
+        count,
+        place,
+        if place < 4 { b'\t' } else { b' ' },
+    )?;
+    let of_more = (OK, tidy);
+    expect_in_pieces(rt, alloc, "more in the first", (job, &more, b"k"), of_more);
+    expect_in_pieces(rt, alloc, "more in the second", (job, b"k", &more), of_more);
+    Ok(())
+}
+
+fn expect_all_tidy(
+    rt: &impl Abort,
+    alloc: Global,
+    job: Job<'_, Global>,
+    count: usize,
+    tidy: &[u8],
+) -> Result<(), AllocError> {
+    for place in 0..count {
+        expect_tidy(rt, alloc, job, (count, place), tidy)?;
+    }
+    Ok(())
+}
+
+fn expect_words(
+    rt: &impl Abort,
+    alloc: Global,
+    job: Job<'_, Global>,
+    count: usize,
+) -> Result<(), AllocError> {
+    let mut tidy = Vec::new(alloc);
+    add_words(&mut tidy, count, count, b' ')?;
+    expect_all_tidy(rt, alloc, job, count, &tidy)
+}
+
+fn expect_each_count(
+    rt: &impl Abort,
+    alloc: Global,
+    job: Job<'_, Global>,
+) -> Result<(), AllocError> {
+    for count in [2usize, 3, 5, 6, 9, 10, 17, 18, 33, 34, 66] {
+        expect_words(rt, alloc, job, count)?;
+    }
+    Ok(())
 }
 
 #[test]
 fn a_blank_more_at_each_place(rt: HostRuntime) -> Result<(), Fail> {
     let job = JoinJob::new(rt.alloc());
-    for count in [2usize, 3, 5, 6, 9, 10, 17, 18, 33, 34, 66] {
-        let tidy = words(rt.alloc(), count, count, b' ')?;
-        for place in 0..count {
-            expect_tidy(&rt, rt.alloc(), &job, (count, place), &tidy)?;
-        }
-    }
+    expect_each_count(&rt, rt.alloc(), Job::Join(&job))?;
     Ok(())
 }

@@ -1,6 +1,6 @@
 //! The sources, sinks and the allocator of the tests themselves.
 
-use crate::comparing::{same, same_of};
+use crate::comparing::{holds_of, same, same_of};
 use ptfakes::{Kept, Pieces, Refusing, Repeated, Watched};
 use ptlines::{Failed, Sink, Source};
 use std::alloc::{Allocator, Global};
@@ -8,90 +8,122 @@ use std::cell::Cell;
 use std::process::Abort;
 use std::test::Fail;
 
-// Pulls into four bytes, and looks at the answer and at the bytes given.
-fn pulls<S: Source>(rt: &impl Abort, source: &mut S, answer: Result<usize, Failed>, given: &[u8]) {
+/// What a pull answers, and the first bytes of the buffer then.
+pub type Pull = (Result<usize, Failed>, &'static [u8]);
+
+/// Pulls into a buffer, each time with this answer.
+pub fn pulls<S: Source>(rt: &impl Abort, source: &mut S, into: &mut [u8], answers: &[Pull]) {
+    assert!(rt; !into.is_empty());
+    for (number, (answer, given)) in answers.iter().enumerate() {
+        same_of(rt, &number, &source.pull(into), answer);
+        holds_of(rt, &number, into.starts_with(given));
+    }
+}
+
+// Pulls into four bytes.
+fn gives<S: Source>(rt: &impl Abort, source: &mut S, answers: &[Pull]) {
     let mut into = [0u8; 4];
-    same(rt, &source.pull(&mut into), &answer);
-    assert!(rt; into.starts_with(given));
+    pulls(rt, source, &mut into, answers);
 }
 
-// These sinks may be called after a failure too, and count that call.
-fn puts<A: Allocator + Drop>(
-    rt: &impl Abort,
-    sink: &mut Kept<A>,
-    bytes: &[u8],
-    answer: Result<usize, Failed>,
-) {
-    assert!(rt; !bytes.is_empty());
-    same(rt, &sink.put(bytes), &answer);
-}
+const IN_PIECES: &[Pull] = &[
+    (Ok(2), b"ab"),
+    (Ok(2), b"cd"),
+    (Ok(1), b"e"),
+    (Ok(0), b""),
+    (Err(Failed), b""),
+    (Err(Failed), b""),
+];
 
-fn flushes<A: Allocator + Drop>(rt: &impl Abort, sink: &mut Kept<A>, answer: Result<(), Failed>) {
-    same(rt, &sink.flush(), &answer);
-}
+const WHOLE: &[Pull] = &[(Ok(4), b"abcd"), (Ok(1), b"e"), (Ok(0), b"")];
 
 #[test]
 fn pieces_of_a_text(rt: HostRuntime) {
     let mut source = Pieces::new(b"abcde", 2, 4);
-    pulls(&rt, &mut source, Ok(2), b"ab");
-    pulls(&rt, &mut source, Ok(2), b"cd");
-    pulls(&rt, &mut source, Ok(1), b"e");
-    pulls(&rt, &mut source, Ok(0), b"");
-    pulls(&rt, &mut source, Err(Failed), b"");
-    pulls(&rt, &mut source, Err(Failed), b"");
+    gives(&rt, &mut source, IN_PIECES);
     same(&rt, &source.pulls(), &6);
     let mut whole = Pieces::whole(b"abcde");
-    pulls(&rt, &mut whole, Ok(4), b"abcd");
-    pulls(&rt, &mut whole, Ok(1), b"e");
-    pulls(&rt, &mut whole, Ok(0), b"");
+    gives(&rt, &mut whole, WHOLE);
     same(&rt, &whole.pulls(), &3);
 }
+
+const REPEATED: &[Pull] = &[
+    (Ok(3), b"xxx"),
+    (Ok(2), b"xx"),
+    (Ok(0), b""),
+    (Err(Failed), b""),
+];
 
 #[test]
 fn one_byte_repeated(rt: HostRuntime) {
     let seen = Cell::new(0);
     let mut source = Watched::new(Repeated::new(b'x', 5, 3, 3), &seen);
-    pulls(&rt, &mut source, Ok(3), b"xxx");
-    pulls(&rt, &mut source, Ok(2), b"xx");
-    pulls(&rt, &mut source, Ok(0), b"");
-    pulls(&rt, &mut source, Err(Failed), b"");
+    gives(&rt, &mut source, REPEATED);
     same(&rt, &seen.get(), &4);
     let mut other = Repeated::new(b'y', 1, 0, 0);
-    pulls(&rt, &mut other, Err(Failed), b"");
+    gives(&rt, &mut other, &[(Err(Failed), b"")]);
     same(&rt, &other.pulls(), &1);
 }
+
+// A call of a sink and its answer: what is put, or a flush.
+enum Call {
+    Put(&'static [u8], Result<usize, Failed>),
+    Flush(Result<(), Failed>),
+}
+
+// These sinks may be called after a failure too, and count that call.
+fn answers<A: Allocator + Drop>(rt: &impl Abort, sink: &mut Kept<A>, calls: &[Call]) {
+    for (number, call) in calls.iter().enumerate() {
+        match call {
+            Call::Put(bytes, answer) => {
+                assert!(rt; !bytes.is_empty());
+                same_of(rt, &number, &sink.put(bytes), answer);
+            }
+            Call::Flush(answer) => same_of(rt, &number, &sink.flush(), answer),
+        }
+    }
+}
+
+const LIMITED: &[Call] = &[
+    Call::Put(b"abcd", Ok(3)),
+    Call::Flush(Ok(())),
+    Call::Put(b"defg", Ok(2)),
+    Call::Put(b"f", Ok(0)),
+    Call::Put(b"f", Err(Failed)),
+    Call::Flush(Err(Failed)),
+];
 
 #[test]
 fn a_sink_with_limits(rt: HostRuntime) {
     let mut sink = Kept::limited(rt.alloc(), 3, 5, 4);
-    puts(&rt, &mut sink, b"abcd", Ok(3));
-    flushes(&rt, &mut sink, Ok(()));
-    puts(&rt, &mut sink, b"defg", Ok(2));
-    puts(&rt, &mut sink, b"f", Ok(0));
-    puts(&rt, &mut sink, b"f", Err(Failed));
-    flushes(&rt, &mut sink, Err(Failed));
-    same(&rt, &sink.bytes(), &b"abcde".as_slice());
-    same(&rt, &sink.calls(), &6);
-    same(&rt, &sink.flushes(), &2);
+    answers(&rt, &mut sink, LIMITED);
+    assert!(rt; sink.bytes() == b"abcde".as_slice());
+    same(&rt, &(sink.calls(), sink.flushes()), &(6, 2));
 }
+
+const WITHOUT_MEMORY: &[Call] = &[Call::Put(b"a", Err(Failed)), Call::Put(b"a", Ok(1))];
 
 #[test]
 fn a_sink_without_memory(rt: HostRuntime) {
     let alloc = Refusing::after(rt.alloc(), 0);
     let mut sink = Kept::new(&alloc);
-    puts(&rt, &mut sink, b"a", Err(Failed));
-    puts(&rt, &mut sink, b"a", Ok(1));
-    same(&rt, &sink.bytes(), &b"a".as_slice());
+    answers(&rt, &mut sink, WITHOUT_MEMORY);
+    assert!(rt; sink.bytes() == b"a".as_slice());
+}
+
+// Whether a new list grows.
+fn grows(alloc: &Refusing<Global>) -> bool {
+    let mut list = Vec::new(alloc);
+    list.push(7u8).is_ok()
 }
 
 // Six lists grow once each.
 fn one_of_six(rt: &impl Abort, alloc: Global, passing: u64) {
     let alloc = Refusing::after(alloc, passing);
     for growth in 0..6u64 {
-        same(rt, &alloc.refused(), &(growth > passing));
-        let mut list = Vec::new(&alloc);
-        let is_pushed = list.push(7u8).is_ok();
-        same_of(rt, &(growth, passing), &is_pushed, &(growth != passing));
+        let of = (growth, passing);
+        same_of(rt, &of, &alloc.refused(), &(growth > passing));
+        same_of(rt, &of, &grows(&alloc), &(growth != passing));
     }
 }
 
@@ -102,16 +134,21 @@ fn one_growth_is_refused(rt: HostRuntime) {
     }
 }
 
+const DIGITS: &[u8] = b"0123456789";
+
+// The second growth of a list is refused.
+fn keeps(rt: &impl Abort, alloc: &Refusing<Global>, list: &mut Vec<u8, &Refusing<Global>>) {
+    let more = [b'x'; 100];
+    assert!(rt; list.extend_from_slice(DIGITS).is_ok());
+    same(rt, &alloc.left(), &0);
+    assert!(rt; list.extend_from_slice(&more).is_err());
+    assert!(rt; alloc.refused() && list.as_slice() == DIGITS);
+    assert!(rt; list.extend_from_slice(&more).is_ok());
+    same(rt, &list.len(), &110);
+}
+
 #[test]
-fn a_list_keeps_what_it_has(rt: HostRuntime) -> Result<(), Fail> {
+fn a_list_keeps_what_it_has(rt: HostRuntime) {
     let alloc = Refusing::after(rt.alloc(), 1);
-    let mut list = Vec::new(&alloc);
-    list.extend_from_slice(b"0123456789")?;
-    same(&rt, &alloc.left(), &0);
-    assert!(rt; list.extend_from_slice(&[b'x'; 100]).is_err());
-    assert!(rt; alloc.refused());
-    same(&rt, &list.as_slice(), &b"0123456789".as_slice());
-    list.extend_from_slice(&[b'x'; 100])?;
-    same(&rt, &list.len(), &110);
-    Ok(())
+    keeps(&rt, &alloc, &mut Vec::new(&alloc));
 }

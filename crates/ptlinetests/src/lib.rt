@@ -8,6 +8,8 @@ mod copying;
 #[cfg(test)]
 mod faking;
 #[cfg(test)]
+mod giving;
+#[cfg(test)]
 mod lining;
 #[cfg(test)]
 mod ordering;
@@ -16,7 +18,7 @@ mod reading;
 #[cfg(test)]
 mod searching;
 #[cfg(test)]
-mod slots;
+mod stepping;
 #[cfg(test)]
 mod storing;
 #[cfg(test)]

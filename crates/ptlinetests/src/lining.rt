@@ -25,16 +25,6 @@ fn line_of(alloc: Global, length: usize) -> Result<Vec<u8>, AllocError> {
     Ok(bytes)
 }
 
-// So many bytes, then a line, and then others.
-fn wanted_of(alloc: Global, front: usize, lead: &[u8], line: &[u8]) -> Result<Vec<u8>, AllocError> {
-    let mut wanted = Vec::new(alloc);
-    wanted.resize(front, b'.')?;
-    wanted.extend_from_slice(lead)?;
-    wanted.extend_from_slice(line)?;
-    wanted.extend_from_slice(b"\nnext")?;
-    Ok(wanted)
-}
-
 // Pushes bytes, then a line, and then others.
 fn written(rt: &impl Abort, alloc: Global, front: &[u8], lead: &[u8], line: &[u8]) -> Kept {
     let mut out = Out::new(Kept::new(alloc));
@@ -45,66 +35,76 @@ fn written(rt: &impl Abort, alloc: Global, front: &[u8], lead: &[u8], line: &[u8
     out.into_sink()
 }
 
-// Pushes so many bytes, and then a line, and looks at what is written in the end.
-fn pushes(
-    rt: &impl Abort,
-    alloc: Global,
-    front: usize,
-    lead: &[u8],
-    length: usize,
-) -> Result<(), Fail> {
-    let around = line_of(alloc, length)?;
+// Whether the bytes are these parts one behind the other.
+fn is_of(bytes: &[u8], parts: [&[u8]; 4]) -> bool {
+    let mut left = bytes;
+    for part in parts {
+        if left.len() < part.len() || !left.starts_with(part) {
+            return false;
+        }
+        left = &left[part.len()..];
+    }
+    left.is_empty()
+}
+
+// Pushes bytes, and then a line, and looks at what is written in the end.
+fn is_pushed(rt: &impl Abort, alloc: Global, front: &[u8], lead: &[u8], line: &[u8]) {
+    let kept = written(rt, alloc, front, lead, line);
+    let is_written = is_of(kept.bytes(), [front, lead, line, b"\nnext"]);
+    holds_of(rt, &(front.len(), lead.len(), line.len()), is_written);
+}
+
+// Behind so many of these bytes, a line in the midst of others.
+fn is_pushed_behind(rt: &impl Abort, alloc: Global, dots: &[u8], around: &[u8], length: usize) {
     assert!(rt; around.len() == length.saturating_add(5));
     let line = &around[2..2 + length];
-    let wanted = wanted_of(alloc, front, lead, line)?;
-    assert!(rt; front <= wanted.len());
-    let kept = written(rt, alloc, &wanted[..front], lead, line);
-    let of = (front, lead.len(), length);
-    holds_of(rt, &of, kept.bytes() == wanted.as_slice());
+    for lead in LEADS {
+        for front in FRONTS {
+            assert!(rt; front <= dots.len());
+            is_pushed(rt, alloc, &dots[..front], lead, line);
+        }
+    }
+}
+
+const FRONTS: [usize; 9] = [0, 5, 8100, 8127, 8128, 8180, 8190, 8191, 8192];
+
+fn are_pushed(rt: &impl Abort, alloc: Global, dots: &[u8]) -> Result<(), AllocError> {
+    for length in LENGTHS {
+        let around = line_of(alloc, length)?;
+        is_pushed_behind(rt, alloc, dots, &around, length);
+    }
     Ok(())
 }
 
 #[test]
 fn a_line_is_pushed_at_once(rt: HostRuntime) -> Result<(), Fail> {
-    for lead in LEADS {
-        for length in LENGTHS {
-            for front in [0, 5, 8100, 8127, 8128, 8180, 8190, 8191, 8192] {
-                pushes(&rt, rt.alloc(), front, lead, length)?;
-            }
-        }
-    }
+    let dots = vec![in rt.alloc(); b'.'; 8192]?;
+    are_pushed(&rt, rt.alloc(), &dots)?;
     Ok(())
 }
 
 // How many bytes a sink has, where so many are pushed and then a line of 4 bytes with its end, and a tab in front.
-fn sent(rt: &impl Abort, alloc: Global, front: usize) -> Result<usize, Fail> {
-    let mut bytes = Vec::new(alloc);
-    bytes.resize(front, b'.')?;
+fn sent(rt: &impl Abort, alloc: Global, front: usize) -> Result<usize, AllocError> {
+    let dots = vec![in alloc; b'.'; front]?;
     let mut out = Out::new(Kept::new(alloc));
-    same(rt, &out.push(&bytes), &Ok(()));
+    same(rt, &out.push(&dots), &Ok(()));
     same(rt, &out.push_line(b"\t", b"line", b"\0"), &Ok(()));
-    let kept = out.into_sink();
-    Ok(kept.bytes().len())
+    Ok(out.into_sink().bytes().len())
 }
 
 #[test]
-fn a_line_for_which_there_is_room_is_staged(rt: HostRuntime) -> Result<(), Fail> {
-    same(&rt, &sent(&rt, rt.alloc(), 8186)?, &0);
+fn a_line_for_which_there_is_room_is_staged(rt: HostRuntime) {
+    same(&rt, &sent(&rt, rt.alloc(), 8186), &Ok(0));
     // The tab and the line are staged before the end is pushed, for which there is no room.
-    same(&rt, &sent(&rt, rt.alloc(), 8187)?, &8192);
-    Ok(())
+    same(&rt, &sent(&rt, rt.alloc(), 8187), &Ok(8192));
 }
 
 #[test]
 fn a_line_is_not_pushed_after_a_fault(rt: HostRuntime) {
     let mut out = Out::new(Kept::limited(rt.alloc(), 3, 4, u64::MAX));
+    let fault = Err(WriteFault::Write);
     same(&rt, &out.push_line(b"\t", b"line", b"\n"), &Ok(()));
-    same(&rt, &out.finish(), &Err(WriteFault::Write));
-    same(
-        &rt,
-        &out.push_line(b"", b"more", b"\n"),
-        &Err(WriteFault::Write),
-    );
-    let kept = out.into_sink();
-    same(&rt, &kept.bytes(), &b"\tlin".as_slice());
+    same(&rt, &out.finish(), &fault);
+    same(&rt, &out.push_line(b"", b"more", b"\n"), &fault);
+    assert!(rt; out.into_sink().bytes() == b"\tlin".as_slice());
 }

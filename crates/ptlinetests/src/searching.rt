@@ -3,18 +3,22 @@
 use crate::comparing::{same, same_of};
 use ptfakes::texts::text_of;
 use ptlines::{find_in, find_near};
-use std::alloc::Global;
+use std::alloc::{AllocError, Global};
 use std::process::Abort;
 use std::test::Fail;
 
+// Where the first newline is, and the first byte 0.
+fn has_at(rt: &impl Abort, bytes: &[u8], newline: usize, zero: Option<usize>) {
+    same_of(rt, &newline, &find_near(b'\n', bytes), &Some(newline));
+    same_of(rt, &newline, &find_near(0, bytes), &zero);
+}
+
 // One byte among others, at each of these places.
-fn finds(rt: &impl Abort, alloc: Global, place: usize) -> Result<(), Fail> {
+fn finds(rt: &impl Abort, alloc: Global, place: usize) -> Result<(), AllocError> {
     let mut bytes = text_of(alloc, &[place], b'\n', true)?;
-    same(rt, &find_near(b'\n', &bytes), &Some(place));
-    same_of(rt, &place, &find_near(0, &bytes), &None);
+    has_at(rt, &bytes, place, None);
     bytes.extend_from_slice(b"\n\0\n")?;
-    same(rt, &find_near(b'\n', &bytes), &Some(place));
-    same(rt, &find_near(0, &bytes), &Some(place.saturating_add(2)));
+    has_at(rt, &bytes, place, Some(place.saturating_add(2)));
     Ok(())
 }
 

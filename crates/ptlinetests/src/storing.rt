@@ -1,149 +1,252 @@
 //! Numbered slots, what they hold and held, and refused growths.
 
 use crate::comparing::{holds_of, same, same_of};
-use crate::slots::{clear, copy, expect, hold, line, swap};
-use ptfakes::Refusing;
-use ptlines::{LineFault, Store};
+use ptfakes::{Pieces, Refusing};
+use ptlines::{LineFault, LineReader, Store};
 use std::alloc::{Allocator, Global};
 use std::process::Abort;
 use std::test::Fail;
 
-#[test]
-fn slots_hold_lines(rt: HostRuntime) -> Result<(), Fail> {
-    let mut store = Store::new(rt.alloc(), 3)?;
-    expect(&rt, &store, &[b"", b"", b""], 0, false);
-    hold(&rt, &mut store, 0, b"abc")?;
-    hold(&rt, &mut store, 2, b"xy")?;
-    expect(&rt, &store, &[b"abc", b"", b"xy"], 5, false);
-    hold(&rt, &mut store, 0, b"abcd")?;
-    hold(&rt, &mut store, 1, b"")?;
-    expect(&rt, &store, &[b"abcd", b"", b"xy"], 6, false);
-    clear(&rt, &mut store, 0);
-    expect(&rt, &store, &[b"", b"", b"xy"], 6, false);
-    clear(&rt, &mut store, 0);
-    swap(&rt, &mut store, 1, 2);
-    expect(&rt, &store, &[b"", b"xy", b""], 6, false);
-    swap(&rt, &mut store, 1, 1);
-    expect(&rt, &store, &[b"", b"xy", b""], 6, false);
+// What is done to a store.
+#[derive(Clone, Copy)]
+enum Step {
+    // Reads a line, which has no newline in it, into a slot.
+    Hold(usize, &'static [u8]),
+    Copy(usize, usize),
+    Clear(usize),
+    Swap(usize, usize),
+    Add,
+}
+
+// The lines of a store, and how many bytes it held at most.
+type Lines = (&'static [&'static [u8]], u128);
+
+// What is done, what the store has then, and what it has where this was refused memory.
+type Row = (Step, Lines, Lines);
+
+// Nothing is refused.
+const NONE: Lines = (&[], 0);
+
+// A name, so many slots, and what is done to them in turn.
+const CASES: &[(&str, usize, &[Row])] = &[
+    (
+        "slots hold lines",
+        3,
+        &[
+            (Step::Hold(0, b"abc"), (&[b"abc", b"", b""], 3), NONE),
+            (Step::Hold(2, b"xy"), (&[b"abc", b"", b"xy"], 5), NONE),
+            (Step::Hold(0, b"abcd"), (&[b"abcd", b"", b"xy"], 6), NONE),
+            (Step::Hold(1, b""), (&[b"abcd", b"", b"xy"], 6), NONE),
+            (Step::Clear(0), (&[b"", b"", b"xy"], 6), NONE),
+            (Step::Clear(0), (&[b"", b"", b"xy"], 6), NONE),
+            (Step::Swap(1, 2), (&[b"", b"xy", b""], 6), NONE),
+            (Step::Swap(1, 1), (&[b"", b"xy", b""], 6), NONE),
+        ],
+    ),
+    (
+        "slots are copied and added",
+        3,
+        &[
+            (Step::Hold(1, b"xy"), (&[b"", b"xy", b""], 2), NONE),
+            (Step::Copy(1, 0), (&[b"xy", b"xy", b""], 4), NONE),
+            (Step::Hold(0, b"xyz"), (&[b"xyz", b"xy", b""], 5), NONE),
+            (Step::Copy(0, 1), (&[b"xyz", b"xyz", b""], 6), NONE),
+            (Step::Copy(2, 1), (&[b"xyz", b"", b""], 6), NONE),
+            (Step::Add, (&[b"xyz", b"", b"", b""], 6), NONE),
+            (
+                Step::Hold(3, b"\0\r\xff\x80"),
+                (&[b"xyz", b"", b"", b"\0\r\xff\x80"], 7),
+                NONE,
+            ),
+        ],
+    ),
+    ("no slots", 0, &[(Step::Add, (&[b""], 0), NONE)]),
+];
+
+// Does this to slots that are there.
+fn takes<A: Allocator + Copy>(
+    rt: &impl Abort,
+    store: &mut Store<A>,
+    step: Step,
+) -> Result<(), LineFault> {
+    let slots = store.slots();
+    match step {
+        Step::Hold(slot, line) => {
+            assert!(rt; slot < slots);
+            return hold(rt, store, slot, line);
+        }
+        Step::Copy(from, to) => {
+            assert!(rt; from < slots && to < slots && from != to);
+            return store.copy(from, to);
+        }
+        Step::Clear(slot) => {
+            assert!(rt; slot < slots);
+            store.clear(slot);
+        }
+        Step::Swap(a, b) => {
+            assert!(rt; a < slots && b < slots);
+            store.swap(a, b);
+        }
+        Step::Add => same(rt, &store.add()?, &slots),
+    }
     Ok(())
 }
 
-#[test]
-fn slots_are_copied_and_added(rt: HostRuntime) -> Result<(), Fail> {
-    let mut store = Store::new(rt.alloc(), 3)?;
-    hold(&rt, &mut store, 1, b"xy")?;
-    copy(&rt, &mut store, 1, 0)?;
-    expect(&rt, &store, &[b"xy", b"xy", b""], 4, false);
-    hold(&rt, &mut store, 0, b"xyz")?;
-    copy(&rt, &mut store, 0, 1)?;
-    expect(&rt, &store, &[b"xyz", b"xyz", b""], 6, false);
-    copy(&rt, &mut store, 2, 1)?;
-    expect(&rt, &store, &[b"xyz", b"", b""], 6, false);
-    same(&rt, &store.add()?, &3);
-    hold(&rt, &mut store, 3, b"\0\r\xff\x80")?;
-    expect(&rt, &store, &[b"xyz", b"", b"", b"\0\r\xff\x80"], 7, false);
-    Ok(())
+fn hold<A: Allocator + Copy>(
+    rt: &impl Abort,
+    store: &mut Store<A>,
+    slot: usize,
+    line: &[u8],
+) -> Result<(), LineFault> {
+    assert!(rt; slot < store.slots());
+    let mut reader: LineReader<Pieces<'_>, Pieces<'_>> = LineReader::standard(Pieces::whole(line));
+    let given = reader.fill(store, slot);
+    if given.is_ok() {
+        same(rt, &given, &Ok(!line.is_empty()));
+    }
+    given.map(|_| ())
+}
+
+// Ends the test unless the store has these lines, and is denied or not.
+fn has<A: Allocator + Copy>(
+    rt: &impl Abort,
+    of: &(&str, usize),
+    store: &Store<A>,
+    (lines, peak): Lines,
+    denied: bool,
+) {
+    let mut now = 0u128;
+    for (slot, line) in lines.iter().enumerate() {
+        assert!(rt; slot < store.slots());
+        holds_of(rt, of, store.line(slot) == *line);
+        now = now.saturating_add(line.len() as u128);
+    }
+    same_of(rt, of, &store.slots(), &lines.len());
+    same_of(rt, of, &(store.now(), store.peak()), &(now, peak));
+    same_of(rt, of, &store.denied(), &denied);
+}
+
+// Does this, and says whether it was refused. If so it is done once more and goes well, since one growth is refused.
+fn is_refused<A: Allocator + Copy>(
+    rt: &impl Abort,
+    of: &(&str, usize),
+    store: &mut Store<A>,
+    step: Step,
+    refused: Lines,
+) -> bool {
+    let told = takes(rt, store, step);
+    if told.is_ok() {
+        return false;
+    }
+    same_of(rt, of, &told, &Err(LineFault::Memory));
+    has(rt, of, store, refused, true);
+    same_of(rt, of, &takes(rt, store, step), &Ok(()));
+    true
+}
+
+// Does these in turn, up to one that is refused, and says how many were not.
+fn follows<A: Allocator + Copy>(
+    rt: &impl Abort,
+    name: &str,
+    store: &mut Store<A>,
+    rows: &[Row],
+) -> usize {
+    for (number, (step, lines, refused)) in rows.iter().enumerate() {
+        let of = (name, number);
+        let stops = is_refused(rt, &of, store, *step, *refused);
+        has(rt, &of, store, *lines, stops);
+        if stops {
+            return number;
+        }
+    }
+    rows.len()
 }
 
 #[test]
-fn a_store_of_no_slots(rt: HostRuntime) -> Result<(), Fail> {
-    let mut store = Store::new(rt.alloc(), 0)?;
-    expect(&rt, &store, &[], 0, false);
-    same(&rt, &store.add()?, &0);
-    expect(&rt, &store, &[b""], 0, false);
+fn what_is_done_to_slots(rt: HostRuntime) -> Result<(), Fail> {
+    for (name, slots, rows) in CASES {
+        let mut store = Store::new(rt.alloc(), *slots)?;
+        same_of(&rt, name, &(store.slots(), store.peak()), &(*slots, 0));
+        same_of(
+            &rt,
+            name,
+            &follows(&rt, name, &mut store, rows),
+            &rows.len(),
+        );
+    }
     Ok(())
 }
 
 // It is made where no growth is left, and then its first slot is refused.
 #[test]
-fn an_empty_store_takes_no_memory(rt: HostRuntime) -> Result<(), Fail> {
+fn an_empty_store_takes_no_memory(rt: HostRuntime) {
     let refusing = Refusing::after(rt.alloc(), 0);
     let mut store = Store::empty(&refusing);
-    expect(&rt, &store, &[], 0, false);
+    has(&rt, &("empty", 0), &store, (&[], 0), false);
     assert!(rt; !refusing.refused());
-    same(&rt, &store.add(), &Err(LineFault::Memory));
-    expect(&rt, &store, &[], 0, true);
-    same(&rt, &store.add(), &Ok(0));
-    expect(&rt, &store, &[b""], 0, true);
-    Ok(())
-}
-
-// The call whose growth was refused, or none.
-#[derive(Clone, Copy, Debug, PartialEq, Eq)]
-enum Stopped {
-    New,
-    Hold,
-    Copy,
-    Add,
-    Nowhere,
+    follows(&rt, "empty", &mut store, &[(Step::Add, (&[b""], 0), NONE)]);
+    assert!(rt; refusing.refused());
 }
 
 const LONG: &[u8] = b"0123456789012345678901234567890123456789012345678901234567890123456789";
 
-// Grows a store of two slots in each way, and looks at what a refusal leaves.
-fn grow<A: Allocator + Copy>(rt: &impl Abort, alloc: A) -> Stopped {
+// Two slots grow in each way.
+const GROWING: &[Row] = &[
+    (Step::Hold(0, LONG), (&[LONG, b""], 70), (&[b"", b""], 0)),
+    (Step::Hold(1, b"b"), (&[LONG, b"b"], 71), (&[LONG, b""], 70)),
+    (Step::Copy(0, 1), (&[LONG, LONG], 140), (&[LONG, b""], 71)),
+];
+
+// Then so many are added.
+const MANY: &[&[u8]] = &[
+    LONG, LONG, b"", b"", b"", b"", b"", b"", b"", b"", b"", b"", b"", b"", b"", b"", b"", b"",
+    b"", b"", b"", b"", b"", b"", b"", b"", b"", b"", b"", b"", b"", b"", b"", b"", b"", b"", b"",
+    b"", b"", b"",
+];
+
+// Adds slots up to one that is refused, and says whether there was such a one.
+fn add_many<A: Allocator + Copy>(rt: &impl Abort, store: &mut Store<A>) -> bool {
+    for slot in 2..40usize {
+        assert!(rt; slot < MANY.len());
+        let of = ("added", slot);
+        if is_refused(rt, &of, store, Step::Add, (&MANY[..slot], 140)) {
+            return true;
+        }
+    }
+    has(rt, &("added", 40), store, (MANY, 140), false);
+    false
+}
+
+// Where the growth of two slots stops: when they are made, at one of three rows, when more are added, or nowhere.
+fn stop_of<A: Allocator + Copy>(rt: &impl Abort, alloc: A) -> usize {
     match Store::new(alloc, 2) {
-        Ok(mut store) => fill(rt, &mut store),
+        Ok(mut store) => stop_in(rt, &mut store),
         Err(fault) => {
             same(rt, &fault, &LineFault::Memory);
-            Stopped::New
+            0
         }
     }
 }
 
-// Reads into the first slot, and then goes on.
-fn fill<A: Allocator + Copy>(rt: &impl Abort, store: &mut Store<A>) -> Stopped {
-    expect(rt, store, &[b"", b""], 0, false);
-    if hold(rt, store, 0, LONG) == Err(LineFault::Memory) {
-        expect(rt, store, &[b"", b""], 0, true);
-        // Only one growth is refused, and the store stays denied.
-        same(rt, &hold(rt, store, 0, LONG), &Ok(()));
-        expect(rt, store, &[LONG, b""], 70, true);
-        return Stopped::Hold;
+const NOWHERE: usize = 5;
+
+fn stop_in<A: Allocator + Copy>(rt: &impl Abort, store: &mut Store<A>) -> usize {
+    has(rt, &("new", 0), store, (&[b"", b""], 0), false);
+    let done = follows(rt, "growing", store, GROWING);
+    if done < GROWING.len() {
+        return done.saturating_add(1);
     }
-    expect(rt, store, &[LONG, b""], 70, false);
-    copy_over(rt, store)
+    if add_many(rt, store) { 4 } else { NOWHERE }
 }
 
-// Reads into the second slot, copies the first over it, and then goes on.
-fn copy_over<A: Allocator + Copy>(rt: &impl Abort, store: &mut Store<A>) -> Stopped {
-    if hold(rt, store, 1, b"b") == Err(LineFault::Memory) {
-        expect(rt, store, &[LONG, b""], 70, true);
-        return Stopped::Hold;
-    }
-    expect(rt, store, &[LONG, b"b"], 71, false);
-    if copy(rt, store, 0, 1) == Err(LineFault::Memory) {
-        expect(rt, store, &[LONG, b""], 71, true);
-        return Stopped::Copy;
-    }
-    expect(rt, store, &[LONG, LONG], 140, false);
-    add_many(rt, store)
-}
-
-fn add_many<A: Allocator + Copy>(rt: &impl Abort, store: &mut Store<A>) -> Stopped {
-    for slot in 2..40usize {
-        let added = store.add();
-        if added == Err(LineFault::Memory) {
-            same(rt, &store.slots(), &slot);
-            same(rt, &line(rt, store, 1), &LONG);
-            assert!(rt; store.denied());
-            return Stopped::Add;
-        }
-        same(rt, &added, &Ok(slot));
-    }
-    assert!(rt; !store.denied());
-    Stopped::Nowhere
-}
-
-// How many of the first growths, refused in turn, stop the store at this call.
-fn stops(rt: &impl Abort, alloc: Global, stopped: Stopped) -> u32 {
+// How many of the first growths, refused in turn, stop the store at one of these.
+fn stops(rt: &impl Abort, alloc: Global, stopped: &[usize]) -> u32 {
     let mut count = 0u32;
     for passing in 0..80u64 {
         let refusing = Refusing::after(alloc, passing);
-        let ended = grow(rt, &refusing);
-        let is_stopped = ended != Stopped::Nowhere;
-        same_of(rt, &passing, &refusing.refused(), &is_stopped);
-        if ended == stopped {
+        let stop = stop_of(rt, &refusing);
+        same_of(rt, &passing, &refusing.refused(), &(stop != NOWHERE));
+        if stopped.contains(&stop) {
             count = count.saturating_add(1);
         }
     }
@@ -152,10 +255,9 @@ fn stops(rt: &impl Abort, alloc: Global, stopped: Stopped) -> u32 {
 
 #[test]
 fn each_growth_refused(rt: HostRuntime) {
-    for stopped in [Stopped::New, Stopped::Hold, Stopped::Copy, Stopped::Add] {
-        let count = stops(&rt, rt.alloc(), stopped);
-        holds_of(&rt, &stopped, count > 0);
+    for stopped in [[0, 0], [1, 2], [3, 3], [4, 4]] {
+        holds_of(&rt, &stopped, stops(&rt, rt.alloc(), &stopped) > 0);
     }
     // At last no growth is left to be refused.
-    assert!(rt; stops(&rt, rt.alloc(), Stopped::Nowhere) > 20);
+    assert!(rt; stops(&rt, rt.alloc(), &[NOWHERE]) > 20);
 }

@@ -1,9 +1,11 @@
 //! Readers and writers of std as sources and sinks.
 
-use crate::comparing::same;
-use ptlines::{
-    Failed, FromRead, FromWrite, LineFault, LineReader, Out, Sink, Source, Store, WriteFault,
-};
+use crate::comparing::{holds_of, same, same_of};
+use crate::faking::{Pull, pulls};
+use crate::stepping::{END, FAULT, LINE, Step, follows};
+use ptlines::{Failed, FromRead, FromWrite, LineFault, LineReader, Out, Sink, WriteFault};
+use std::alloc::Global;
+use std::cell::Cell;
 use std::io::{self, ErrorKind, Read, Write};
 use std::process::Abort;
 use std::test::Fail;
@@ -57,50 +59,63 @@ impl Write for Narrow<'_> {
 
 type Through<R> = LineReader<FromRead<R>, FromRead<R>>;
 
-fn next<R: Read + Drop>(
-    rt: &impl Abort,
-    reader: &mut Through<R>,
-    store: &mut Store,
-) -> Result<bool, LineFault> {
-    assert!(rt; store.slots() == 1);
-    reader.fill(store, 0)
-}
+const TO_THE_END: &[Step<'_>] = &[
+    Step {
+        bytes: b"ab",
+        ..LINE
+    },
+    LINE,
+    Step {
+        bytes: b"cd",
+        ..LINE
+    },
+    END,
+    END,
+];
 
-fn current<'a>(rt: &impl Abort, store: &'a Store) -> &'a [u8] {
-    assert!(rt; store.slots() == 1);
-    store.line(0)
-}
-
-#[test]
-fn reads_to_the_end(rt: HostRuntime) -> Result<(), Fail> {
+fn of_slices(rt: &impl Abort, alloc: Global) -> Result<(), LineFault> {
     let mut reader: Through<&[u8]> = LineReader::standard(FromRead::new(b"ab\n\ncd".as_slice()));
-    let mut store = Store::new(rt.alloc(), 1)?;
-    for line in [b"ab".as_slice(), b"", b"cd"] {
-        same(&rt, &next(&rt, &mut reader, &mut store), &Ok(true));
-        same(&rt, &current(&rt, &store), &line);
-    }
-    same(&rt, &next(&rt, &mut reader, &mut store), &Ok(false));
-    same(&rt, &next(&rt, &mut reader, &mut store), &Ok(false));
-    Ok(())
+    follows(
+        rt,
+        alloc,
+        "to the end",
+        &mut reader,
+        &Cell::new(0),
+        TO_THE_END,
+    )
+}
+
+const TO_A_FAULT: &[Step<'_>] = &[
+    Step {
+        bytes: b"ab",
+        ..LINE
+    },
+    Step {
+        bytes: b"cd",
+        ..FAULT
+    },
+    Step {
+        bytes: b"cd",
+        ..FAULT
+    },
+];
+
+fn of_broken(rt: &impl Abort, alloc: Global) -> Result<(), LineFault> {
+    let mut reader: Through<Broken<'_>> = LineReader::file(FromRead::new(Broken(b"ab\ncd")));
+    follows(
+        rt,
+        alloc,
+        "to a fault",
+        &mut reader,
+        &Cell::new(0),
+        TO_A_FAULT,
+    )
 }
 
 #[test]
-fn a_failed_read_is_a_fault(rt: HostRuntime) -> Result<(), Fail> {
-    let mut reader: Through<Broken<'_>> = LineReader::file(FromRead::new(Broken(b"ab\ncd")));
-    let mut store = Store::new(rt.alloc(), 1)?;
-    same(&rt, &next(&rt, &mut reader, &mut store), &Ok(true));
-    same(&rt, &current(&rt, &store), &b"ab".as_slice());
-    same(
-        &rt,
-        &next(&rt, &mut reader, &mut store),
-        &Err(LineFault::Read),
-    );
-    same(&rt, &current(&rt, &store), &b"cd".as_slice());
-    same(
-        &rt,
-        &next(&rt, &mut reader, &mut store),
-        &Err(LineFault::Read),
-    );
+fn readers_of_std_give_lines(rt: HostRuntime) -> Result<(), Fail> {
+    of_slices(&rt, rt.alloc())?;
+    of_broken(&rt, rt.alloc())?;
     Ok(())
 }
 
@@ -117,45 +132,75 @@ fn writes(bytes: &mut Vec<u8>, room: usize, flushes: bool) -> Result<(), WriteFa
     out.finish()
 }
 
+// What is written to a writer that has room for so many bytes, and whose flush passes or not.
+fn is_written(
+    rt: &impl Abort,
+    alloc: Global,
+    room: usize,
+    flushes: bool,
+    wanted: Result<(), WriteFault>,
+) {
+    let mut bytes = Vec::new(alloc);
+    same_of(rt, &room, &writes(&mut bytes, room, flushes), &wanted);
+    let count = room.min(5);
+    holds_of(rt, &room, bytes.as_slice() == &b"abcde"[..count]);
+}
+
 #[test]
 fn writes_all_or_a_beginning(rt: HostRuntime) {
     for room in 0..8usize {
-        let mut bytes = Vec::new(rt.alloc());
-        let written = writes(&mut bytes, room, true);
-        same(&rt, &written.is_ok(), &(room >= 5));
-        assert!(rt; bytes.as_slice() == &b"abcde"[..room.min(5)]);
+        let wanted = if room < 5 {
+            Err(WriteFault::Write)
+        } else {
+            Ok(())
+        };
+        is_written(&rt, rt.alloc(), room, true, wanted);
     }
-    let mut bytes = Vec::new(rt.alloc());
-    same(&rt, &writes(&mut bytes, 9, false), &Err(WriteFault::Write));
-    same(&rt, &bytes.as_slice(), &b"abcde".as_slice());
+    is_written(&rt, rt.alloc(), 9, false, Err(WriteFault::Write));
 }
 
-// What a source or a sink over std answers, at each kind of answer that the reader or writer has.
-#[test]
-fn answers_as_std_does(rt: HostRuntime) {
-    let mut source = FromRead::new(Broken(b"abc"));
-    let mut into = [0u8; 3];
-    same(&rt, &source.pull(&mut into), &Ok(2));
-    same(&rt, &into, &*b"ab\0");
-    same(&rt, &source.pull(&mut into), &Ok(1));
-    same(&rt, &into, &*b"cb\0");
-    same(&rt, &source.pull(&mut into), &Err(Failed));
-    let mut ended = FromRead::new(b"x".as_slice());
-    same(&rt, &ended.pull(&mut into), &Ok(1));
-    same(&rt, &ended.pull(&mut into), &Ok(0));
-    let mut bytes = Vec::new(rt.alloc());
+const OF_BROKEN: &[Pull] = &[(Ok(2), b"ab\0"), (Ok(1), b"cb\0"), (Err(Failed), b"cb\0")];
+
+const OF_SLICE: &[Pull] = &[(Ok(1), b"x"), (Ok(0), b"x")];
+
+// A writer with so much room takes a byte, or none, and its flush fails.
+fn sinks(rt: &impl Abort, bytes: &mut Vec<u8>) {
     let mut sink = FromWrite::new(Narrow {
-        bytes: &mut bytes,
+        bytes,
         room: 1,
         flushes: false,
     });
     // (that it has not failed is what the next call asks for)
     assert_eq!(rt; sink.put(b"ab"), Ok(1));
-    same(&rt, &sink.put(b"b"), &Ok(0));
-    let mut other = FromWrite::new(Narrow {
-        bytes: &mut bytes,
+    same(rt, &sink.put(b"b"), &Ok(0));
+}
+
+fn flush_fails(rt: &impl Abort, bytes: &mut Vec<u8>) {
+    let mut sink = FromWrite::new(Narrow {
+        bytes,
         room: 0,
         flushes: false,
     });
-    same(&rt, &other.flush(), &Err(Failed));
+    same(rt, &sink.flush(), &Err(Failed));
+}
+
+// What a source or a sink over std answers, at each kind of answer that the reader or writer has.
+#[test]
+fn answers_as_std_does(rt: HostRuntime) {
+    let mut into = [0u8; 3];
+    pulls(
+        &rt,
+        &mut FromRead::new(Broken(b"abc")),
+        &mut into,
+        OF_BROKEN,
+    );
+    pulls(
+        &rt,
+        &mut FromRead::new(b"x".as_slice()),
+        &mut into,
+        OF_SLICE,
+    );
+    let mut bytes = Vec::new(rt.alloc());
+    sinks(&rt, &mut bytes);
+    flush_fails(&rt, &mut bytes);
 }

@@ -4,25 +4,30 @@ use crate::comparing::{holds_of, same, same_of};
 use ptfakes::texts::{is_line, text_of};
 use ptfakes::{Fixed, Kept};
 use ptlines::{Out, Sink, WriteFault, send};
-use std::alloc::Global;
+use std::alloc::{AllocError, Global};
 use std::process::Abort;
 use std::test::Fail;
 
-const PUSHES: &[&[usize]] = &[
-    &[],
-    &[0],
-    &[1],
-    &[8191],
-    &[8192],
-    &[8193],
-    &[20000],
-    &[8191, 1],
-    &[8192, 1],
-    &[8191, 2],
-    &[1, 8192],
-    &[4000, 4192, 1],
-    &[5, 20000, 0, 5],
-    &[3000, 3000, 3000, 3000, 3000, 3000],
+// The lengths of what is pushed, by which a case is known; how many bytes the sink has before the end; and how many
+// calls of it there are in all, with one flush. A block of 8,192 bytes is sent when it would overflow, and what is
+// larger than a block past it.
+const PUSHES: &[(&[usize], usize, u64)] = &[
+    (&[], 0, 1),
+    (&[0], 0, 1),
+    (&[1], 0, 2),
+    (&[3, 0, 4], 0, 2),
+    (&[8191], 0, 2),
+    (&[8192], 0, 2),
+    (&[8193], 8193, 2),
+    (&[20000], 20000, 2),
+    (&[8191, 1], 0, 2),
+    (&[8192, 1], 8192, 3),
+    (&[8191, 2], 8191, 3),
+    (&[1, 8192], 1, 3),
+    (&[4000, 4192, 1], 8192, 3),
+    (&[5, 20000, 0, 5], 20005, 4),
+    (&[5, 20000, 5], 20005, 4),
+    (&[3000, 3000, 3000, 3000, 3000, 3000], 12000, 4),
 ];
 
 // How many bytes these are.
@@ -37,269 +42,219 @@ fn total(lengths: &[usize]) -> usize {
 // Pushes stretches of these lengths, which together are one line of known bytes, and says how many went well.
 fn push_all<W: Sink>(rt: &impl Abort, out: &mut Out<W>, text: &[u8], lengths: &[usize]) -> usize {
     let mut from = 0usize;
-    let mut pushed = 0usize;
-    for length in lengths {
+    for (number, length) in lengths.iter().enumerate() {
         let to = from.saturating_add(*length);
         assert!(rt; from <= to && to <= text.len());
         if out.push(&text[from..to]).is_err() {
-            return pushed;
+            return number;
         }
         from = to;
-        pushed = pushed.saturating_add(1);
     }
-    pushed
-}
-
-#[test]
-fn all_is_sent(rt: HostRuntime) -> Result<(), Fail> {
-    for lengths in PUSHES {
-        let all = total(lengths);
-        let text = text_of(rt.alloc(), &[all], b'\n', false)?;
-        for size in [1, 7, 8192, usize::MAX] {
-            let mut out = Out::new(Kept::limited(rt.alloc(), size, usize::MAX, u64::MAX));
-            same(
-                &rt,
-                &push_all(&rt, &mut out, &text, lengths),
-                &lengths.len(),
-            );
-            same(&rt, &out.finish(), &Ok(()));
-            let kept = out.into_sink();
-            holds_of(&rt, &(lengths, size), is_line(kept.bytes(), all));
-            same(&rt, &kept.flushes(), &1);
-        }
-    }
-    Ok(())
-}
-
-struct Staged {
-    lengths: &'static [usize],
-    // The bytes that the sink has before the end, and its calls at the end with one flush.
-    taken: usize,
-    calls: u64,
-}
-
-// A block of 8,192 bytes is sent when it would overflow, and what is larger than a block past it.
-const STAGED: &[Staged] = &[
-    Staged {
-        lengths: &[],
-        taken: 0,
-        calls: 1,
-    },
-    Staged {
-        lengths: &[1],
-        taken: 0,
-        calls: 2,
-    },
-    Staged {
-        lengths: &[8191],
-        taken: 0,
-        calls: 2,
-    },
-    Staged {
-        lengths: &[8192],
-        taken: 0,
-        calls: 2,
-    },
-    Staged {
-        lengths: &[8193],
-        taken: 8193,
-        calls: 2,
-    },
-    Staged {
-        lengths: &[8191, 1],
-        taken: 0,
-        calls: 2,
-    },
-    Staged {
-        lengths: &[8191, 2],
-        taken: 8191,
-        calls: 3,
-    },
-    Staged {
-        lengths: &[5, 20000, 5],
-        taken: 20005,
-        calls: 4,
-    },
-];
-
-// Pushes a text in these stretches.
-fn pushed(rt: &impl Abort, alloc: Global, text: &[u8], lengths: &[usize]) -> Out<Kept> {
-    let mut out = Out::new(Kept::new(alloc));
-    same(rt, &push_all(rt, &mut out, text, lengths), &lengths.len());
-    out
-}
-
-fn expect_staged(rt: &impl Abort, alloc: Global, row: &Staged) -> Result<(), Fail> {
-    let lengths = row.lengths;
-    let all = total(lengths);
-    let text = text_of(alloc, &[all], b'\n', false)?;
-    let kept = pushed(rt, alloc, &text, lengths).into_sink();
-    holds_of(rt, &lengths, is_line(kept.bytes(), row.taken));
-    let mut out = pushed(rt, alloc, &text, lengths);
-    same(rt, &out.finish(), &Ok(()));
-    let kept = out.into_sink();
-    same_of(rt, &lengths, &kept.calls(), &row.calls);
-    holds_of(rt, &lengths, is_line(kept.bytes(), all));
-    Ok(())
-}
-
-#[test]
-fn a_block_is_staged(rt: HostRuntime) -> Result<(), Fail> {
-    for row in STAGED {
-        expect_staged(&rt, rt.alloc(), row)?;
-    }
-    Ok(())
+    lengths.len()
 }
 
 // After a fault each call answers it, and nothing more is sent.
 fn stays_faulted(rt: &impl Abort, out: &mut Out<Kept>) {
     assert!(rt; out.has_failed());
-    same(rt, &out.push(b"more"), &Err(WriteFault::Write));
-    same(rt, &out.push(b""), &Err(WriteFault::Write));
+    for more in [b"more".as_slice(), b""] {
+        same(rt, &out.push(more), &Err(WriteFault::Write));
+    }
     same(rt, &out.finish(), &Err(WriteFault::Write));
 }
 
-// Pushes a text before a sink of which so many calls pass, and says whether all went well. In both cases the sink has
-// a beginning, and no call was made behind the failed one.
+// Whether all goes well, up to the end or before it. After a fault each call answers it.
+fn goes_well(
+    rt: &impl Abort,
+    out: &mut Out<Kept>,
+    text: &[u8],
+    lengths: &[usize],
+    ends: bool,
+) -> bool {
+    let goes_well = push_all(rt, out, text, lengths) == lengths.len();
+    let goes_well = goes_well && (!ends || out.finish().is_ok());
+    if !goes_well {
+        stays_faulted(rt, out);
+    }
+    goes_well
+}
+
+// What a sink takes: so many bytes a call, so many in all, and so many calls.
+type Limits = (usize, usize, u64);
+
+// What is left: whether all went well, the calls of the sink and those that were flushes, and how many bytes it has.
+type Left = (bool, u64, u64, usize);
+
+// Pushes a text before a sink with limits. It has a beginning of the text.
+fn written(
+    rt: &impl Abort,
+    alloc: Global,
+    text: &[u8],
+    lengths: &[usize],
+    (size, room, passing): Limits,
+    ends: bool,
+) -> Left {
+    let mut out = Out::new(Kept::limited(alloc, size, room, passing));
+    let goes_well = goes_well(rt, &mut out, text, lengths, ends);
+    let kept = out.into_sink();
+    let taken = kept.bytes().len();
+    holds_of(rt, &lengths, is_line(kept.bytes(), taken));
+    (goes_well, kept.calls(), kept.flushes(), taken)
+}
+
+// A sink that takes so many bytes a call has all of them at the end, with one flush.
+fn is_sent(rt: &impl Abort, alloc: Global, text: &[u8], lengths: &[usize]) {
+    for size in [1, 7, 8192, usize::MAX] {
+        let limits = (size, usize::MAX, u64::MAX);
+        let (goes_well, _, flushes, taken) = written(rt, alloc, text, lengths, limits, true);
+        let left = (goes_well, flushes, taken);
+        same_of(rt, &(lengths, size), &left, &(true, 1, text.len()));
+    }
+}
+
+fn is_staged(
+    rt: &impl Abort,
+    alloc: Global,
+    text: &[u8],
+    (lengths, before, calls): (&[usize], usize, u64),
+) {
+    let limits = (usize::MAX, usize::MAX, u64::MAX);
+    let (goes_well, _, flushes, taken) = written(rt, alloc, text, lengths, limits, false);
+    same_of(
+        rt,
+        &lengths,
+        &(goes_well, flushes, taken),
+        &(true, 0, before),
+    );
+    let left = written(rt, alloc, text, lengths, limits, true);
+    same_of(rt, &lengths, &left, &(true, calls, 1, text.len()));
+}
+
+// Whether all goes well before a sink of which so many calls pass. No call was made behind the failed one.
 fn passes(
     rt: &impl Abort,
     alloc: Global,
     text: &[u8],
     lengths: &[usize],
-    size: usize,
-    passing: u64,
+    (size, passing): (usize, u64),
 ) -> bool {
-    let mut out = Out::new(Kept::limited(alloc, size, usize::MAX, passing));
-    let pushed = push_all(rt, &mut out, text, lengths);
-    let passes = pushed == lengths.len() && out.finish().is_ok();
-    if !passes {
-        stays_faulted(rt, &mut out);
-    }
-    let kept = out.into_sink();
-    let calls = if passes {
+    let limits = (size, usize::MAX, passing);
+    let (passes, calls, _, taken) = written(rt, alloc, text, lengths, limits, true);
+    let wanted = if passes {
         passing
     } else {
         passing.saturating_add(1)
     };
-    same_of(rt, &passing, &kept.calls(), &calls);
-    let taken = kept.bytes().len();
+    same_of(rt, &(lengths, passing), &calls, &wanted);
     let is_whole = taken == text.len();
-    holds_of(rt, &passing, is_whole || !passes && taken < text.len());
-    holds_of(rt, &passing, is_line(kept.bytes(), taken));
+    let is_part = !passes && taken < text.len();
+    holds_of(rt, &(lengths, passing), is_whole || is_part);
     passes
 }
 
 // With a sink that fails at each of its calls in turn, up to the first that is not reached.
-fn fails(rt: &impl Abort, alloc: Global, lengths: &[usize], size: usize) -> Result<(), Fail> {
-    let text = text_of(alloc, &[total(lengths)], b'\n', false)?;
+fn fails(rt: &impl Abort, alloc: Global, text: &[u8], lengths: &[usize], size: usize) {
     for passing in 0..40000u64 {
-        if passes(rt, alloc, &text, lengths, size, passing) {
-            return Ok(());
+        if passes(rt, alloc, text, lengths, (size, passing)) {
+            return;
         }
     }
-    Err("each call fails")?
+    holds_of(rt, &lengths, false);
 }
 
-#[test]
-fn each_call_fails(rt: HostRuntime) -> Result<(), Fail> {
-    for lengths in PUSHES {
-        fails(&rt, rt.alloc(), lengths, usize::MAX)?;
-        fails(&rt, rt.alloc(), lengths, 1000)?;
+// A sink that takes no more bytes answers 0, which is a failure, and has what fits.
+fn fits(rt: &impl Abort, alloc: Global, text: &[u8], lengths: &[usize]) {
+    for room in [0, 1, 8191, 8192, 8193, 19999] {
+        let limits = (3000, room, u64::MAX);
+        let (goes_well, _, _, taken) = written(rt, alloc, text, lengths, limits, true);
+        let wanted = (text.len() <= room, text.len().min(room));
+        same_of(rt, &(lengths, room), &(goes_well, taken), &wanted);
     }
-    fails(&rt, rt.alloc(), &[3, 0, 4], 1)?;
-    Ok(())
 }
 
-// Whether all goes well before a sink with so much room, and whether that sink then has what fits.
-fn taken_in(
+fn is_pushed(
     rt: &impl Abort,
     alloc: Global,
-    text: &[u8],
-    lengths: &[usize],
-    room: usize,
-) -> (bool, bool) {
-    let mut out = Out::new(Kept::limited(alloc, 3000, room, u64::MAX));
-    let pushed = push_all(rt, &mut out, text, lengths);
-    let finished = pushed == lengths.len() && out.finish().is_ok();
-    if !finished {
-        stays_faulted(rt, &mut out);
+    (lengths, before, calls): (&[usize], usize, u64),
+) -> Result<(), AllocError> {
+    let text = text_of(alloc, &[total(lengths)], b'\n', false)?;
+    is_sent(rt, alloc, &text, lengths);
+    is_staged(rt, alloc, &text, (lengths, before, calls));
+    fails(rt, alloc, &text, lengths, usize::MAX);
+    fails(rt, alloc, &text, lengths, 1000);
+    if text.len() < 8 {
+        fails(rt, alloc, &text, lengths, 1);
     }
-    let kept = out.into_sink();
-    let is_taken = is_line(kept.bytes(), total(lengths).min(room));
-    (finished, is_taken)
+    fits(rt, alloc, &text, lengths);
+    Ok(())
 }
 
-// A sink that takes no more bytes answers 0, which is a failure.
 #[test]
-fn nothing_taken_is_a_fault(rt: HostRuntime) -> Result<(), Fail> {
-    for lengths in PUSHES {
-        let all = total(lengths);
-        let text = text_of(rt.alloc(), &[all], b'\n', false)?;
-        for room in [0, 1, 8191, 8192, 8193, 19999] {
-            let taken = taken_in(&rt, rt.alloc(), &text, lengths, room);
-            same_of(&rt, &(lengths, room), &taken, &(all <= room, true));
-        }
+fn stretches_are_pushed(rt: HostRuntime) -> Result<(), Fail> {
+    for row in PUSHES {
+        is_pushed(&rt, rt.alloc(), *row)?;
     }
     Ok(())
+}
+
+// Pushes bytes, and sends them all.
+fn pushes_and_ends(
+    rt: &impl Abort,
+    out: &mut Out<Fixed<16>>,
+    bytes: &[u8],
+    ended: Result<(), WriteFault>,
+) {
+    same(rt, &out.push(bytes), &Ok(()));
+    assert!(rt; !out.has_failed());
+    same(rt, &out.finish(), &ended);
 }
 
 #[test]
 fn a_sink_with_no_memory(rt: HostRuntime) {
     let mut out = Out::new(Fixed::<16>::new(5, u64::MAX));
-    same(&rt, &out.push(b"0123456789"), &Ok(()));
-    same(&rt, &out.finish(), &Ok(()));
-    same(&rt, &out.push(b"abcdef"), &Ok(()));
-    same(&rt, &out.finish(), &Ok(()));
-    same(&rt, &out.push(b"!"), &Ok(()));
-    assert!(rt; !out.has_failed());
-    same(&rt, &out.finish(), &Err(WriteFault::Write));
+    pushes_and_ends(&rt, &mut out, b"0123456789", Ok(()));
+    pushes_and_ends(&rt, &mut out, b"abcdef", Ok(()));
+    pushes_and_ends(&rt, &mut out, b"!", Err(WriteFault::Write));
     let fixed = out.into_sink();
-    same(&rt, &fixed.bytes(), &b"0123456789abcdef".as_slice());
+    assert!(rt; fixed.bytes() == b"0123456789abcdef".as_slice());
     // 5 and 5 bytes, 5 and 1, none, and two flushes.
-    same(&rt, &fixed.calls(), &7);
-    same(&rt, &fixed.flushes(), &2);
+    same(&rt, &(fixed.calls(), fixed.flushes()), &(7, 2));
 }
 
-// Sends a text to a sink with room for so many bytes, and looks at what it has then.
-fn sends(
-    rt: &impl Abort,
-    alloc: Global,
-    room: usize,
-    passing: u64,
-    answer: Result<(), WriteFault>,
-) -> usize {
+// A text, how many bytes the sink has room for, how many of its calls pass, the answer, what the sink has then, and how
+// many calls of it there are.
+type Sent = (
+    &'static [u8],
+    usize,
+    u64,
+    Result<(), WriteFault>,
+    &'static [u8],
+    u64,
+);
+
+const FAULT: Result<(), WriteFault> = Err(WriteFault::Write);
+
+const SENT: &[Sent] = &[
+    (b"abcde", 9, 9, Ok(()), b"abcde", 3),
+    (b"abcde", 5, 3, Ok(()), b"abcde", 3),
+    (b"abcde", 4, 9, FAULT, b"abcd", 3),
+    (b"abcde", 9, 2, FAULT, b"abcd", 3),
+    (b"abcde", 9, 0, FAULT, b"", 1),
+    (b"abcde", 0, 9, FAULT, b"", 1),
+    (b"", usize::MAX, u64::MAX, Ok(()), b"", 0),
+];
+
+fn is_sent_at_once(rt: &impl Abort, alloc: Global, row: &Sent) {
+    let (text, room, passing, answer, taken, calls) = *row;
     let mut sink = Kept::limited(alloc, 2, room, passing);
-    same(rt, &send(&mut sink, b"abcde"), &answer);
-    assert!(rt; b"abcde".starts_with(sink.bytes()));
-    same(rt, &sink.flushes(), &0);
-    sink.bytes().len()
+    same_of(rt, &(room, passing), &send(&mut sink, text), &answer);
+    holds_of(rt, &(room, passing), sink.bytes() == taken);
+    let counts = (sink.calls(), sink.flushes());
+    same_of(rt, &(room, passing), &counts, &(calls, 0));
 }
 
 #[test]
 fn bytes_are_sent_at_once(rt: HostRuntime) {
-    same(&rt, &sends(&rt, rt.alloc(), 9, 9, Ok(())), &5);
-    same(&rt, &sends(&rt, rt.alloc(), 5, 3, Ok(())), &5);
-    same(
-        &rt,
-        &sends(&rt, rt.alloc(), 4, 9, Err(WriteFault::Write)),
-        &4,
-    );
-    same(
-        &rt,
-        &sends(&rt, rt.alloc(), 9, 2, Err(WriteFault::Write)),
-        &4,
-    );
-    same(
-        &rt,
-        &sends(&rt, rt.alloc(), 9, 0, Err(WriteFault::Write)),
-        &0,
-    );
-    same(
-        &rt,
-        &sends(&rt, rt.alloc(), 0, 9, Err(WriteFault::Write)),
-        &0,
-    );
-    let mut sink = Kept::new(rt.alloc());
-    same(&rt, &send(&mut sink, b""), &Ok(()));
-    same(&rt, &sink.calls(), &0);
+    for row in SENT {
+        is_sent_at_once(&rt, rt.alloc(), row);
+    }
 }

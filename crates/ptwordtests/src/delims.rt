@@ -53,6 +53,7 @@ fn refuses_by_the_first_faulty_element(rt: HostRuntime) {
     for (list, fault) in REFUSED {
         same(&rt, &Delims::read(&alloc, list).err(), &Some(*fault));
     }
+    assert!(rt; Delims::tab(&alloc).is_err());
 }
 
 // A place, and the delimiter there.
@@ -80,22 +81,11 @@ fn has_three(rt: &impl Abort, delims: &Delims) {
     has_at(rt, delims, THREE);
 }
 
+const TABS: &[Place] = &[(0, Some(b'\t')), (7, Some(b'\t'))];
+
 #[test]
 fn begins_again_behind_the_last(rt: HostRuntime) -> Result<(), Fail> {
-    let delims = Delims::read(rt.alloc(), b"\\0,;")?;
-    has_three(&rt, &delims);
+    has_three(&rt, &Delims::read(rt.alloc(), b"\\0,;")?);
+    has_at(&rt, &Delims::tab(rt.alloc())?, TABS);
     Ok(())
-}
-
-#[test]
-fn is_a_tab_by_default(rt: HostRuntime) -> Result<(), Fail> {
-    let delims = Delims::tab(rt.alloc())?;
-    has_at(&rt, &delims, &[(0, Some(b'\t')), (7, Some(b'\t'))]);
-    Ok(())
-}
-
-#[test]
-fn the_tab_refused(rt: HostRuntime) {
-    let alloc = Refusing::after(rt.alloc(), 0);
-    assert!(rt; Delims::tab(&alloc).is_err());
 }

@@ -6,11 +6,37 @@ use ptlangs::jobs::{CommJob, JoinJob, PasteJob, Show, UniqJob};
 use std::process::Abort;
 use std::test::Fail;
 
+fn pastes(rt: &impl Abort, job: &PasteJob) {
+    same(rt, &(job.serial, job.zero), &(false, false));
+    same(rt, &job.delims.at(1), &Some(b'\t'));
+}
+
+fn joins_pairs(rt: &impl Abort, job: &JoinJob) {
+    same(rt, &(job.pairs, job.sep), &(true, None));
+    same(rt, &(job.unpaired, job.field), &([false, false], [1, 1]));
+    same(rt, &(job.empty.len(), job.list.is_none()), &(0, true));
+    same(rt, &(job.zero, job.descending), &(false, false));
+}
+
+const UNIQ: UniqJob = UniqJob {
+    show: Show::All,
+    fields: 0,
+    chars: 0,
+    zero: false,
+};
+
+const COMM: CommJob = CommJob {
+    hide: [false, false, false],
+    zero: false,
+    descending: false,
+};
+
 #[test]
-fn pastes_with_tabs_by_default(rt: HostRuntime) -> Result<(), Fail> {
-    let job = PasteJob::new(rt.alloc())?;
-    assert!(rt; !job.serial && !job.zero);
-    same(&rt, &job.delims.at(1), &Some(b'\t'));
+fn what_tools_do_by_default(rt: HostRuntime) -> Result<(), Fail> {
+    same(&rt, &UniqJob::default(), &UNIQ);
+    same(&rt, &CommJob::default(), &COMM);
+    joins_pairs(&rt, &JoinJob::new(rt.alloc()));
+    pastes(&rt, &PasteJob::new(rt.alloc())?);
     Ok(())
 }
 
@@ -18,31 +44,4 @@ fn pastes_with_tabs_by_default(rt: HostRuntime) -> Result<(), Fail> {
 fn the_default_of_paste_refused(rt: HostRuntime) {
     let alloc = Refusing::after(rt.alloc(), 0);
     assert!(rt; PasteJob::new(&alloc).is_err());
-}
-
-fn joins_pairs(rt: &impl Abort, job: &JoinJob) {
-    assert!(rt; job.pairs);
-    same(rt, &job.unpaired, &[false, false]);
-    assert!(rt; job.empty.is_empty());
-    assert!(rt; job.list.is_none());
-    same(rt, &job.sep, &None);
-    same(rt, &job.field, &[1, 1]);
-    assert!(rt; !job.zero && !job.descending);
-}
-
-#[test]
-fn joins_pairs_by_their_first_fields_by_default(rt: HostRuntime) {
-    joins_pairs(&rt, &JoinJob::new(rt.alloc()));
-}
-
-#[test]
-fn shows_all_by_default(rt: HostRuntime) {
-    let job = UniqJob::default();
-    same(&rt, &job.show, &Show::All);
-    same(&rt, &job.fields, &0);
-    same(&rt, &job.chars, &0);
-    assert!(rt; !job.zero);
-    let job = CommJob::default();
-    same(&rt, &job.hide, &[false, false, false]);
-    assert!(rt; !job.zero && !job.descending);
 }

@@ -18,6 +18,8 @@ mod outlist;
 #[cfg(test)]
 mod ranges;
 #[cfg(test)]
+mod refusals;
+#[cfg(test)]
 mod strings;
 #[cfg(test)]
 mod words;

@@ -11,6 +11,9 @@ use std::alloc::Global;
 use std::process::Abort;
 use std::test::Fail;
 
+/// Words, and what they mean.
+pub type Row = (&'static [&'static str], Meant);
+
 /// What words mean.
 #[derive(Clone, Copy)]
 pub enum Meant {

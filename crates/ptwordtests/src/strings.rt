@@ -369,7 +369,7 @@ fn strings_are_refused(rt: HostRuntime) -> Result<(), Fail> {
             string: *string,
             kind: *kind,
         };
-        assert_eq!(rt; plan, Err(fault), "{s1} {s2:?}");
+        same_of(&rt, &(*s1, *s2), &plan.err(), &Some(fault));
     }
     Ok(())
 }

@@ -1,15 +1,13 @@
-//! Words of `join`.
+//! Words of `join`, which `words` reads.
 
 use crate::comparing::same;
-use crate::meant::{Files, Job, Meant, expect_meant};
+use crate::meant::{Files, Job, Meant, Row};
 use ptlangs::outlist::{File, OutField};
 use ptopts::{Command, Input};
 use std::process::Abort;
-use std::test::Fail;
 
-/// Words, and the job that they mean.
+/// The job of `join` that words mean.
 pub struct Join {
-    words: &'static [&'static str],
     pairs: bool,
     unpaired: [bool; 2],
     empty: &'static [u8],
@@ -18,40 +16,62 @@ pub struct Join {
     field: [u64; 2],
 }
 
-const JOINS: &[Join] = &[
-    Join {
-        words: &["join", "-", "g"],
-        pairs: true,
-        unpaired: [false, false],
-        empty: b"",
-        list: None,
-        sep: None,
-        field: [1, 1],
-    },
-    Join {
-        words: &["join", "-a", "2", "-e", "-", "-o", "0,1.2 2.2", "-", "g"],
-        pairs: true,
-        unpaired: [false, true],
-        empty: b"-",
-        list: Some(&[
-            OutField::Join,
-            OutField::Field(File::First, 2),
-            OutField::Field(File::Second, 2),
-        ]),
-        sep: None,
-        field: [1, 1],
-    },
-    Join {
-        words: &["join", "-t", ",", "-v", "1", "-v1", "-e", "", "-", "g"],
-        pairs: false,
-        unpaired: [true, false],
-        empty: b"",
-        list: None,
-        sep: Some(b','),
-        field: [1, 1],
-    },
-    Join {
-        words: &[
+const OF_JOIN: Files = Files {
+    order: &[Input::Standard, Input::File(0)],
+    names: &["g"],
+    output: None,
+};
+
+/// Words of `join`.
+pub const JOINS: &[Row] = &[
+    (
+        &["join", "-", "g"],
+        Meant::Of(
+            OF_JOIN,
+            Job::Join(&Join {
+                pairs: true,
+                unpaired: [false, false],
+                empty: b"",
+                list: None,
+                sep: None,
+                field: [1, 1],
+            }),
+        ),
+    ),
+    (
+        &["join", "-a", "2", "-e", "-", "-o", "0,1.2 2.2", "-", "g"],
+        Meant::Of(
+            OF_JOIN,
+            Job::Join(&Join {
+                pairs: true,
+                unpaired: [false, true],
+                empty: b"-",
+                list: Some(&[
+                    OutField::Join,
+                    OutField::Field(File::First, 2),
+                    OutField::Field(File::Second, 2),
+                ]),
+                sep: None,
+                field: [1, 1],
+            }),
+        ),
+    ),
+    (
+        &["join", "-t", ",", "-v", "1", "-v1", "-e", "", "-", "g"],
+        Meant::Of(
+            OF_JOIN,
+            Job::Join(&Join {
+                pairs: false,
+                unpaired: [true, false],
+                empty: b"",
+                list: None,
+                sep: Some(b','),
+                field: [1, 1],
+            }),
+        ),
+    ),
+    (
+        &[
             "join",
             "-t\t",
             "-a1",
@@ -64,20 +84,19 @@ const JOINS: &[Join] = &[
             "-",
             "g",
         ],
-        pairs: true,
-        unpaired: [true, true],
-        empty: b"\xc3\xa9",
-        list: None,
-        sep: Some(b'\t'),
-        field: [3, u64::MAX],
-    },
+        Meant::Of(
+            OF_JOIN,
+            Job::Join(&Join {
+                pairs: true,
+                unpaired: [true, true],
+                empty: b"\xc3\xa9",
+                list: None,
+                sep: Some(b'\t'),
+                field: [3, u64::MAX],
+            }),
+        ),
+    ),
 ];
-
-const OF_JOIN: Files = Files {
-    order: &[Input::Standard, Input::File(0)],
-    names: &["g"],
-    output: None,
-};
 
 /// Ends the test unless a command is this one of `join`.
 pub fn is_join(rt: &impl Abort, command: &Command, row: &Join) {
@@ -89,13 +108,4 @@ pub fn is_join(rt: &impl Abort, command: &Command, row: &Join) {
     same(rt, &job.empty.as_slice(), &row.empty);
     same(rt, &job.list.as_ref().map(|list| list.fields()), &row.list);
     same(rt, &job.field, &row.field);
-}
-
-#[test]
-fn the_words_of_join(rt: HostRuntime) -> Result<(), Fail> {
-    for row in JOINS {
-        let meant = Meant::Of(OF_JOIN, Job::Join(row));
-        expect_meant(&rt, rt.alloc(), row.words, &meant)?;
-    }
-    Ok(())
 }

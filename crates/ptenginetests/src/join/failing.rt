@@ -1,7 +1,9 @@
 //! How often `join` pulls, and what it leaves where a read, a write or a growth fails.
 
-use crate::join::{FIRST_DISORDER, OK, Options, PLAIN, SECOND_DISORDER, expect, job_of, run};
-use crate::merged::{ANY, Answer, Case, TWO, Wanted, is_left};
+use crate::join::{FIRST_DISORDER, Options, PLAIN, SECOND_DISORDER, job_of};
+use crate::merged::{
+    ANY, Answer, Case, Job, OK, TWO, Wanted, each_room, expect, is_refused, passes,
+};
 use ptfakes::Refusing;
 use ptlangs::jobs::JoinJob;
 use ptmerge::{MergeFault, Side};
@@ -206,49 +208,53 @@ const PULLS: &[Row] = &[
     },
 ];
 
+fn expect_row(rt: &impl Abort, alloc: Global, row: &Row) -> Result<(), Fail> {
+    let job = job_of(alloc, &row.options)?;
+    let asked = (Job::Join(&job), &row.case);
+    expect(rt, &(row.name, 0), alloc, asked, &row.wanted);
+    Ok(())
+}
+
 #[test]
 fn pulls_and_calls_and_what_is_kept(rt: HostRuntime) -> Result<(), Fail> {
     for row in PULLS {
-        let job = job_of(rt.alloc(), &row.options)?;
-        expect(
-            &rt,
-            rt.alloc(),
-            (row.name, 0),
-            (&job, &row.case),
-            &row.wanted,
-        )?;
+        expect_row(&rt, rt.alloc(), row)?;
     }
     Ok(())
 }
 
-fn expect_long(rt: &impl Abort, alloc: Global, long: &[u8], line: &[u8]) -> Result<(), Fail> {
+// A third pull is made for the second line alone, where the first can be written.
+fn expect_long(rt: &impl Abort, alloc: Global, job: Job<'_, Global>, [first, second]: [&[u8]; 2]) {
+    let mut case = Case {
+        first,
+        second,
+        size: usize::MAX,
+        passing: [2, 3],
+        room: usize::MAX,
+    };
+    let mut wanted = ANY;
+    wanted.result = FIRST_UNREAD;
+    expect(rt, &("long", 0), alloc, (job, &case), &wanted);
+    case.room = 0;
+    wanted.result = Some(Err(MergeFault::Write));
+    expect(rt, &("long", 1), alloc, (job, &case), &wanted);
+}
+
+// Two lines, and the first of them, which ends here.
+fn expect_lines(rt: &impl Abort, alloc: Global, long: &[u8], end: usize) {
+    assert!(rt; end <= long.len());
     let job = JoinJob::new(alloc);
-    for (room, result) in [
-        (usize::MAX, FIRST_UNREAD),
-        (0, Some(Err(MergeFault::Write))),
-    ] {
-        let case = Case {
-            first: &*long,
-            second: &*line,
-            size: usize::MAX,
-            passing: [2, 3],
-            room,
-        };
-        let wanted = Wanted { result, ..ANY };
-        expect(rt, alloc, ("a long line", room), (&job, &case), &wanted)?;
-    }
-    Ok(())
+    expect_long(rt, alloc, Job::Join(&job), [long, &long[..end]]);
 }
 
-// Two lines of 9000 bytes in pulls of 8192: a third pull is made for the second line alone.
+// Two lines of 9000 bytes in pulls of 8192.
 #[test]
 fn nothing_is_read_behind_a_failed_write(rt: HostRuntime) -> Result<(), Fail> {
     let mut long = vec![in rt.alloc(); b'a'; 18002]?;
     long[9000] = b'\n';
     long[18001] = b'\n';
-    let mut line = vec![in rt.alloc(); b'a'; 9001]?;
-    line[9000] = b'\n';
-    expect_long(&rt, rt.alloc(), &long, &line)
+    expect_lines(&rt, rt.alloc(), &long, 9001);
+    Ok(())
 }
 
 const PAIRED: Case = Case {
@@ -259,69 +265,35 @@ const PAIRED: Case = Case {
 
 const PAIRS: &[u8] = b"a 1 x\na 1 y\na 1 z\na 2 x\na 2 y\na 2 z\n";
 
-const BEGINNING: Wanted = Wanted {
-    bytes: Some(PAIRS),
-    whole: false,
-    ..ANY
-};
-
-#[test]
-fn each_write_fails_in_turn(rt: HostRuntime) -> Result<(), Fail> {
-    let job = JoinJob::new(rt.alloc());
-    for room in 0..36usize {
-        let case = Case { room, ..PAIRED };
-        expect(&rt, rt.alloc(), ("room", room), (&job, &case), &BEGINNING)?;
+fn each_call_fails(rt: &impl Abort, alloc: Global, asked: (Job<'_, Global>, &Case<'_>)) {
+    each_room(rt, alloc, asked, 36, PAIRS);
+    for passing in 0..16u64 {
+        passes(rt, alloc, asked, [u64::MAX, passing], SECOND_UNREAD, PAIRS);
     }
-    Ok(())
 }
 
 #[test]
-fn each_read_fails_in_turn(rt: HostRuntime) -> Result<(), Fail> {
+fn each_write_and_read_fails_in_turn(rt: HostRuntime) {
     let job = JoinJob::new(rt.alloc());
-    for passing in 0..16usize {
-        let case = Case {
-            size: 1,
-            passing: [u64::MAX, passing as u64],
-            ..PAIRED
-        };
-        let wanted = Wanted {
-            result: SECOND_UNREAD,
-            ..BEGINNING
-        };
-        expect(&rt, rt.alloc(), ("reads", passing), (&job, &case), &wanted)?;
-    }
-    Ok(())
+    each_call_fails(&rt, rt.alloc(), (Job::Join(&job), &PAIRED));
 }
 
 // Refuses the growth behind so many, and says whether there was such a one.
-fn is_refused(rt: &impl Abort, own: Global, passing: usize) -> Result<bool, Fail> {
+fn is_refused_after(rt: &impl Abort, own: Global, passing: usize) -> bool {
     let alloc = Refusing::after(own, passing as u64);
-    let left = run(own, &alloc, &JoinJob::new(&alloc), &PAIRED)?;
-    let refused = alloc.refused();
-    let wanted = Wanted {
-        result: if refused {
-            Some(Err(MergeFault::Memory))
-        } else {
-            OK
-        },
-        bytes: Some(PAIRS),
-        whole: !refused,
-        calls: None,
-        peak: (0, 21),
-    };
-    is_left(rt, ("growths", passing), &left, &wanted);
-    Ok(refused)
+    let job = JoinJob::new(&alloc);
+    let asked = (Job::Join(&job), &PAIRED);
+    is_refused(rt, passing, (own, &alloc), asked, (PAIRS, 21))
 }
 
 #[test]
-fn each_growth_refused_in_turn(rt: HostRuntime) -> Result<(), Fail> {
+fn each_growth_refused_in_turn(rt: HostRuntime) {
     let mut reached = 0usize;
     for passing in 0..40usize {
-        if is_refused(&rt, rt.alloc(), passing)? {
+        if is_refused_after(&rt, rt.alloc(), passing) {
             reached = passing + 1;
         }
     }
     assert!(rt; reached > 0);
     assert!(rt; reached < 40);
-    Ok(())
 }

@@ -1,0 +1,466 @@
+//! What a reader gives step by step, in cases that are known by their names.
+
+use crate::comparing::holds_of;
+use crate::stepping::{END, FAULT, LINE, NO_BLOCK, SIZES, Step, follows};
+use ptfakes::{Pieces, Watched};
+use ptlines::{LineFault, LineReader};
+use std::alloc::Global;
+use std::cell::Cell;
+use std::process::Abort;
+use std::test::Fail;
+
+type Reader<'a> = LineReader<Watched<'a, Pieces<'a>>, Pieces<'a>>;
+
+// A name, a text, of what sizes the pieces are, how many pulls pass, and what is asked for.
+struct Case {
+    name: &'static str,
+    text: &'static [u8],
+    sizes: &'static [usize],
+    passing: u64,
+    steps: &'static [Step<'static>],
+}
+
+// A file in pieces of each size.
+const FILE: Case = Case {
+    name: "",
+    text: b"",
+    sizes: SIZES,
+    passing: u64::MAX,
+    steps: &[],
+};
+
+// A standard input in pieces of four bytes.
+const STANDARD: Case = Case {
+    sizes: &[4],
+    ..FILE
+};
+
+// Four pieces of two bytes; the fifth pull is the end.
+const FAILING: Case = Case {
+    text: b"ab\ncd\nef",
+    sizes: &[2],
+    ..STANDARD
+};
+
+const FILES: &[Case] = &[
+    Case {
+        name: "nothing",
+        text: b"",
+        steps: &[END],
+        ..FILE
+    },
+    Case {
+        name: "nothing, and zero",
+        text: b"",
+        steps: &[Step { zero: true, ..END }],
+        ..FILE
+    },
+    Case {
+        name: "a newline",
+        text: b"\n",
+        steps: &[LINE, END],
+        ..FILE
+    },
+    Case {
+        name: "a newline is data",
+        text: b"\n",
+        steps: &[
+            Step {
+                zero: true,
+                bytes: b"\n",
+                ..LINE
+            },
+            Step { zero: true, ..END },
+        ],
+        ..FILE
+    },
+    Case {
+        name: "a zero",
+        text: b"\0",
+        steps: &[Step { zero: true, ..LINE }, Step { zero: true, ..END }],
+        ..FILE
+    },
+    Case {
+        name: "a zero is data",
+        text: b"\0",
+        steps: &[
+            Step {
+                bytes: b"\0",
+                ..LINE
+            },
+            END,
+        ],
+        ..FILE
+    },
+    Case {
+        name: "zeros among lines",
+        text: b"a\0b\n\0\n",
+        steps: &[
+            Step {
+                bytes: b"a\0b",
+                ..LINE
+            },
+            Step {
+                bytes: b"\0",
+                ..LINE
+            },
+            END,
+        ],
+        ..FILE
+    },
+    Case {
+        name: "newlines among lines",
+        text: b"a\0b\n\0\n",
+        steps: &[
+            Step {
+                zero: true,
+                bytes: b"a",
+                ..LINE
+            },
+            Step {
+                zero: true,
+                bytes: b"b\n",
+                ..LINE
+            },
+            Step {
+                zero: true,
+                bytes: b"\n",
+                ..LINE
+            },
+            Step { zero: true, ..END },
+        ],
+        ..FILE
+    },
+    Case {
+        name: "a zero before a newline",
+        text: b"a\nb\0\n",
+        steps: &[
+            Step {
+                bytes: b"a",
+                ..LINE
+            },
+            Step {
+                bytes: b"b\0",
+                ..LINE
+            },
+            END,
+        ],
+        ..FILE
+    },
+    Case {
+        name: "empty lines, and a last one without its end",
+        text: b"\n\nx",
+        steps: &[
+            LINE,
+            LINE,
+            Step {
+                bytes: b"x",
+                ..LINE
+            },
+            END,
+        ],
+        ..FILE
+    },
+    Case {
+        name: "other bytes",
+        text: b"\xff\x80\r\n\x0b",
+        steps: &[
+            Step {
+                bytes: b"\xff\x80\r",
+                ..LINE
+            },
+            Step {
+                bytes: b"\x0b",
+                ..LINE
+            },
+            END,
+        ],
+        ..FILE
+    },
+];
+
+const STANDARDS: &[Case] = &[
+    Case {
+        name: "the ending is set and set back",
+        text: b"a\nb\0c\nd\0\n",
+        sizes: &[usize::MAX],
+        steps: &[
+            Step {
+                bytes: b"a",
+                ..LINE
+            },
+            Step {
+                zero: true,
+                bytes: b"b",
+                ..LINE
+            },
+            Step {
+                bytes: b"c",
+                ..LINE
+            },
+            Step {
+                bytes: b"d\0",
+                ..LINE
+            },
+            END,
+        ],
+        ..STANDARD
+    },
+    Case {
+        name: "a line is given at its end",
+        text: b"ab\n\ncd",
+        sizes: &[1],
+        steps: &[
+            Step {
+                bytes: b"ab",
+                pulled: Some(3),
+                ..LINE
+            },
+            Step {
+                pulled: Some(4),
+                ..LINE
+            },
+            Step {
+                bytes: b"cd",
+                pulled: Some(7),
+                ..LINE
+            },
+        ],
+        ..STANDARD
+    },
+    Case {
+        name: "lines and blocks in turn",
+        text: b"ab\ncd\nef",
+        steps: &[
+            Step {
+                bytes: b"ab",
+                ..LINE
+            },
+            Step {
+                passed: Some(0),
+                bytes: b"c",
+                ..LINE
+            },
+            Step {
+                passed: Some(0),
+                bytes: b"c",
+                ..LINE
+            },
+            Step {
+                bytes: b"cd",
+                ..LINE
+            },
+            Step {
+                passed: Some(1),
+                bytes: b"ef",
+                ..LINE
+            },
+            Step {
+                bytes: b"f",
+                ..LINE
+            },
+            Step {
+                passed: Some(0),
+                ..LINE
+            },
+            END,
+        ],
+        ..STANDARD
+    },
+    Case {
+        name: "what was not given is held",
+        text: b"ab\ncd\nef",
+        steps: &[
+            Step {
+                held: Some(b""),
+                bytes: b"ab",
+                ..LINE
+            },
+            Step {
+                held: Some(b"c"),
+                bytes: b"cd",
+                ..LINE
+            },
+            Step {
+                held: Some(b"ef"),
+                passed: Some(1),
+                bytes: b"ef",
+                ..LINE
+            },
+            Step {
+                held: Some(b"f"),
+                passed: Some(0),
+                bytes: b"f",
+                ..LINE
+            },
+        ],
+        ..STANDARD
+    },
+    Case {
+        name: "the first pull fails",
+        passing: 0,
+        steps: &[
+            FAULT,
+            Step {
+                pulled: Some(1),
+                ..NO_BLOCK
+            },
+            FAULT,
+            Step {
+                pulled: Some(1),
+                ..NO_BLOCK
+            },
+        ],
+        ..FAILING
+    },
+    Case {
+        name: "the second pull fails",
+        passing: 1,
+        steps: &[
+            Step {
+                bytes: b"ab",
+                ..FAULT
+            },
+            Step {
+                pulled: Some(2),
+                ..NO_BLOCK
+            },
+            Step {
+                bytes: b"ab",
+                ..FAULT
+            },
+            Step {
+                pulled: Some(2),
+                ..NO_BLOCK
+            },
+        ],
+        ..FAILING
+    },
+    Case {
+        name: "the third pull fails",
+        passing: 2,
+        steps: &[
+            Step {
+                bytes: b"ab",
+                ..LINE
+            },
+            Step {
+                bytes: b"c",
+                ..FAULT
+            },
+            Step {
+                pulled: Some(3),
+                ..NO_BLOCK
+            },
+            Step {
+                bytes: b"c",
+                ..FAULT
+            },
+            Step {
+                pulled: Some(3),
+                ..NO_BLOCK
+            },
+        ],
+        ..FAILING
+    },
+    Case {
+        name: "the fourth pull fails",
+        passing: 3,
+        steps: &[
+            Step {
+                bytes: b"ab",
+                ..LINE
+            },
+            Step {
+                bytes: b"cd",
+                ..LINE
+            },
+            FAULT,
+            Step {
+                pulled: Some(4),
+                ..NO_BLOCK
+            },
+            FAULT,
+            Step {
+                pulled: Some(4),
+                ..NO_BLOCK
+            },
+        ],
+        ..FAILING
+    },
+    Case {
+        name: "the pull of the end fails",
+        passing: 4,
+        steps: &[
+            Step {
+                bytes: b"ab",
+                ..LINE
+            },
+            Step {
+                bytes: b"cd",
+                ..LINE
+            },
+            Step {
+                bytes: b"ef",
+                ..FAULT
+            },
+            Step {
+                pulled: Some(5),
+                ..NO_BLOCK
+            },
+            Step {
+                bytes: b"ef",
+                ..FAULT
+            },
+            Step {
+                pulled: Some(5),
+                ..NO_BLOCK
+            },
+        ],
+        ..FAILING
+    },
+];
+
+fn runs(rt: &impl Abort, alloc: Global, case: &Case, size: usize) -> Result<(), LineFault> {
+    let pulls = Cell::new(0);
+    let source = Watched::new(Pieces::new(case.text, size, case.passing), &pulls);
+    let mut reader: Reader<'_> = LineReader::standard(source);
+    follows(rt, alloc, case.name, &mut reader, &pulls, case.steps)
+}
+
+fn runs_file(rt: &impl Abort, alloc: Global, case: &Case, size: usize) -> Result<(), LineFault> {
+    let source = Pieces::new(case.text, size, case.passing);
+    let mut reader: LineReader<Pieces<'_>, Pieces<'_>> = LineReader::file(source);
+    holds_of(rt, &case.name, !reader.is_refused());
+    follows(rt, alloc, case.name, &mut reader, &Cell::new(0), case.steps)
+}
+
+const OF_REFUSED: &[Step<'_>] = &[FAULT, NO_BLOCK, FAULT, NO_BLOCK];
+
+fn runs_refused(rt: &impl Abort, alloc: Global) -> Result<(), LineFault> {
+    let mut reader: Reader<'_> = LineReader::refused();
+    assert!(rt; reader.is_refused());
+    let told = follows(rt, alloc, "refused", &mut reader, &Cell::new(0), OF_REFUSED);
+    assert!(rt; reader.is_refused());
+    told
+}
+
+fn runs_all(rt: &impl Abort, alloc: Global) -> Result<(), LineFault> {
+    for case in FILES {
+        for size in case.sizes {
+            runs_file(rt, alloc, case, *size)?;
+        }
+    }
+    for case in STANDARDS {
+        for size in case.sizes {
+            runs(rt, alloc, case, *size)?;
+        }
+    }
+    runs_refused(rt, alloc)
+}
+
+#[test]
+fn what_a_reader_gives(rt: HostRuntime) -> Result<(), Fail> {
+    runs_all(&rt, rt.alloc())?;
+    Ok(())
+}
