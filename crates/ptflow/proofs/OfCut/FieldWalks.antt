@@ -33,13 +33,6 @@ pub slice_fits : {d n m number at lead skipped passed : ℕ} {others : List Inte
     → StartsAt d m (drop (at + skipped) line) passed → at + skipped + passed ≤ length line
 slice_fits {at} {skipped} {line} w s p = omega (arith, step_fits w s, length-drop (at + skipped) line)
 
-pub led_step : {d number at lead : ℕ} {others : List Interval} {line : List ℕ} → Walking d others line number at lead → (skipped : ℕ) → lead ≤ at + skipped
-led_step w skipped = omega (arith, w.passed)
-
--- a step over some fields takes some bytes, of which the last is a delimiter
-pub some_step : (n : ℕ) {d : ℕ} {line : List ℕ} {passed : ℕ} → StartsAt d (n + 1) line passed → (from : ℕ) → 1 ≤ from + passed
-some_step n s from = omega (arith, s.count)
-
 pub slice_order : (n : ℕ) {d : ℕ} {line : List ℕ} {passed : ℕ} → StartsAt d (n + 1) line passed → (from lead : ℕ) → from - lead ≤ from + passed - 1
 slice_order n s from lead = omega (arith, s.count)
 

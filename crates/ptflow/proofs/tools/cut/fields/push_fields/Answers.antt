@@ -1,13 +1,10 @@
 -- As in `put_fields`, an interval is walked in two steps, to its first field and behind its last one. But its slice is
 -- pushed, and a push may fail: then what was pushed is a beginning of the selected fields.
 use Rattle.ptflow.proofs.Common.{Some, ◌-◌, ◌≤◌, ℕ, List, [], take, drop, length, refl, sym, subst, arith, take_all, take_rest, drop_all, append-nil, IsFirstByte, is_byte, wrote_nothing, cut_job}
-use Rattle.ptflow.proofs.Common.{◌≡◌, false, ◌∙◌, ◌++◌, cut_fields, fields, StartsAt, ap, join_with_byte, is_selected, ◌+◌}
+use Rattle.ptflow.proofs.Common.{cut_fields, fields, StartsAt, ap, join_with_byte, is_selected, ◌+◌}
 use Rattle.ptflow.specs.Workings.Cut.FieldPlaces.{IsParted}
-use Rattle.std.specs.Prelude.{Result, Ok, Err, OnOk}
-use Rattle.ptflow.proofs.OfPasses.Continuations.{on_err}
 use Rattle.ptflow.proofs.OfPasses.Fronts.{front_starts, front_more, front_fails, front_ends}
-use Rattle.ptflow.proofs.OfCut.FieldWalks.{not_past, not_before, in_order, led_step, some_step, slice_order, step_fits, slice_fits, all_coming, walking_starts, walking_done, walking_short}
-use Rattle.ptflow.proofs.OfCut.FieldWalks.{walking_ends, walking_slice, walking_more}
+use Rattle.ptflow.proofs.OfCut.FieldWalks.{not_past, step_fits, slice_fits, all_coming, walking_starts, walking_done, walking_short, walking_ends, walking_slice, walking_more}
 use Rattle.ptflow.proofs.OfBytes.Chosen.{chosen}
 use Rattle.ptflow.proofs.tools.cut.fields.push_fields.Given as given
 use Rattle.ptflow.proofs.tools.cut.fields.push_fields.Goals as goal
@@ -18,7 +15,7 @@ loop-interval-init g c =
     let d = c.args.job.now.delim in
     let line = c.args.line.now in
     let kept = ap (λ l. join_with_byte d (chosen (is_selected l) 1 (fields d line))) c.intervals-selected.ensures.kept in record {
-      front = front_starts (sym (append-nil (cut_fields (cut_job c.args.job.now) line)) ∙ ap (λ l. l ++ []) (sym kept) ∙ all_coming d c.intervals-selected.result.now line []);
+      front = front_starts (cc (append-nil (cut_fields (cut_job c.args.job.now) line), kept, all_coming d c.intervals-selected.result.now line []));
       walk = walking_starts c.intervals-selected.ensures.apart;
       known = λ le. refl;
       clean = λ clean. clean;
@@ -120,42 +117,3 @@ slice_bounds-push-start g c = back c.loop-interval.lead (step_fits c.loop-interv
 
 pub slice_bounds-push-count : goal.slice_bounds-push-count
 slice_bounds-push-count g c = back c.loop-interval.lead (step_fits c.loop-interval.invariant.walk (found c.args.line.now c.loop-interval.at c.in-Some.ensures.found))
-
-pub slice_bounds-push-count-in-loop-interval : goal.slice_bounds-push-count-in-loop-interval
-slice_bounds-push-count-in-loop-interval g c = slice_order _ c.in-Some-field_behind.ensures.found (c.loop-interval.at + c.in-Some.skipped) c.loop-interval.lead
-
-pub overflow_sub-last : goal.overflow_sub-last
-overflow_sub-last g c = in_order c.intervals-selected.result.now [] c.loop-interval.interval-index c.loop-interval.invariant.walk c.loop-interval-test.true
-
-pub overflow_sub-low : goal.overflow_sub-low
-overflow_sub-low g c = not_before c.intervals-selected.result.now [] c.loop-interval.interval-index c.loop-interval.invariant.walk c.loop-interval-test.true
-
-pub overflow_sub-from : goal.overflow_sub-from
-overflow_sub-from g c = led_step c.loop-interval.invariant.walk c.in-Some.skipped
-
-pub overflow_sub-from-in-loop-interval : goal.overflow_sub-from-in-loop-interval
-overflow_sub-from-in-loop-interval g c = led_step c.loop-interval.invariant.walk c.in-Some.skipped
-
-pub overflow_sub-at : goal.overflow_sub-at
-overflow_sub-at g c = some_step _ c.in-Some-field_behind.ensures.found (c.loop-interval.at + c.in-Some.skipped)
-
--- ---- whether a write failed
-
-on_ok_after : (P Q : Type 0) {E : Type 0} (r : Result (Unit {0}) E) → OnOk r Q → OnOk r (P → Q)
-on_ok_after P Q (Ok u) q = λ p. q
-on_ok_after P Q (Err e) q = tt
-
-pub returns-in_default-field_behind-clause-clean : goal.returns-in_default-field_behind-clause-clean
-returns-in_default-field_behind-clause-clean g c = on_ok_after (c.args.out.now.faulted ≡ false) (c.push.new.self.faulted ≡ false) c.push.result c.push.ensures.pushed.clean
-
-pub returns-in_default-field_behind-clause-fault : goal.returns-in_default-field_behind-clause-fault
-returns-in_default-field_behind-clause-fault g c = c.push.ensures.pushed.fault
-
-pub returns-in_default-clause-clean : goal.returns-in_default-clause-clean
-returns-in_default-clause-clean g c = c.loop-interval.invariant.clean
-
-pub returns-in_default-clause-fault : goal.returns-in_default-clause-fault
-returns-in_default-clause-fault g c = tt
-
-pub returns-in_err-push-clause-fault : goal.returns-in_err-push-clause-fault
-returns-in_err-push-clause-fault g c = on_err c.from_residual.result c.in_err-push.ensures.pushed.fault

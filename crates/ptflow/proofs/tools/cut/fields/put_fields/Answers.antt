@@ -1,11 +1,11 @@
 -- An interval is walked in two steps: to the start of its first field, and to the end of its last one (`FieldWalks`).
 -- What lies between is one slice, with a delimiter in front of it if it is not the first. A walk that meets the end of
 -- the line leaves no field to come.
-use Rattle.ptflow.proofs.Common.{◌+◌, ◌-◌, ◌≤◌, take, drop, get_or, refl, sym, ◌∙◌, arith, append_assoc, take-take, length-take-le, ◌<◌, ℕ, List, Fits, StartsAt, length, length-set, ap}
+use Rattle.ptflow.proofs.Common.{◌+◌, ◌-◌, ◌≤◌, take, drop, get_or, refl, sym, ◌∙◌, arith, append_assoc, take-take, length-take-le, ◌<◌, ℕ, List, Fits, StartsAt, length, ap}
 use Rattle.ptflow.proofs.Common.{join_with_byte, is_selected, fields, ◌++◌, ◌≡◌}
 use Rattle.std.proofs.Common.{w64}
 use Rattle.ptflow.proofs.OfCut.FieldPlaces.{rest_of, slice_of, line_with_end, put_byte}
-use Rattle.ptflow.proofs.OfCut.FieldWalks.{not_past, not_before, in_order, led_step, some_step, slice_order, step_fits, slice_fits, coming, all_coming, walking_starts, walking_done, walking_short}
+use Rattle.ptflow.proofs.OfCut.FieldWalks.{not_past, not_before, in_order, slice_order, step_fits, slice_fits, coming, all_coming, walking_starts, walking_done, walking_short}
 use Rattle.ptflow.proofs.OfCut.FieldWalks.{walking_ends, walking_slice, walking_more}
 use Rattle.ptflow.proofs.OfBytes.Chosen.{chosen}
 use Rattle.ptflow.proofs.tools.cut.fields.put_fields.Goals as goal
@@ -156,24 +156,6 @@ pub overflow_add-at : goal.overflow_add-at
 overflow_add-at g c =
     no_more c.ranges.to (line_to c.args.bytes.now c.requires.line.within (slice_fits c.loop-interval.invariant.walk c.in-Some.ensures.found c.in-Some-field_behind.ensures.found))
 
-pub overflow_sub-from : goal.overflow_sub-from
-overflow_sub-from g c = led_step c.loop-interval.invariant.walk c.in-Some.skipped
-
-pub overflow_sub-from-in-loop-interval : goal.overflow_sub-from-in-loop-interval
-overflow_sub-from-in-loop-interval g c = led_step c.loop-interval.invariant.walk c.in-Some.skipped
-
-pub overflow_sub-result : goal.overflow_sub-result
-overflow_sub-result g c = led_step c.loop-interval.invariant.walk c.in-Some.skipped
-
-pub overflow_sub-end-in-loop-interval : goal.overflow_sub-end-in-loop-interval
-overflow_sub-end-in-loop-interval g c = led_step c.loop-interval.invariant.walk c.in-Some.skipped
-
-pub overflow_sub-at : goal.overflow_sub-at
-overflow_sub-at g c = some_step _ c.in-Some-field_behind.ensures.found (c.loop-interval.at + c.in-Some.skipped)
-
-pub overflow_sub-end : goal.overflow_sub-end
-overflow_sub-end g c = some_step _ c.in-Some-field_behind.ensures.found (c.loop-interval.at + c.in-Some.skipped)
-
 pub overflow_sub-end-in-loop-interval-2 : goal.overflow_sub-end-in-loop-interval-2
 overflow_sub-end-in-loop-interval-2 g c = slice_order _ c.in-Some-field_behind.ensures.found (c.loop-interval.at + c.in-Some.skipped) c.loop-interval.lead
 
@@ -193,15 +175,6 @@ pub bounds-room-end : goal.bounds-room-end
 bounds-room-end g c =
     let l = c.loop-interval.invariant in
     in_room _ _ _ _ l.high (line_to c.args.bytes.now c.requires.line.within l.walk.fits) c.requires.room.1 l.long
-
-pub returns-in_default-clause-long : goal.returns-in_default-clause-long
-returns-in_default-clause-long g c = length-set c.loop-interval.room c.loop-interval.end (get_or c.args.bytes.now c.args.to 0) ∙ c.loop-interval.invariant.long
-
-pub returns-clause-long : goal.returns-clause-long
-returns-clause-long g c = length-set c.loop-interval.room c.loop-interval.end (get_or c.args.bytes.now c.args.to 0) ∙ c.loop-interval.invariant.long
-
-pub returns-in_default-field_behind-clause-long : goal.returns-in_default-field_behind-clause-long
-returns-in_default-field_behind-clause-long g c = c.copy_near.ensures.long ∙ c.loop-interval.invariant.long
 
 pub returns-in_default-clause-end : goal.returns-in_default-clause-end
 returns-in_default-clause-end g c =

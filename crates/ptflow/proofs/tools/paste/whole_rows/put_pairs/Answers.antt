@@ -13,12 +13,6 @@ still_low bytes passed low within = omega (arith, length-drop passed bytes)
 held_fits : {n : ℕ} {bytes : List ℕ} {reader : Reader} → n ≤ length bytes → bytes ≡ reader.held → IsSound reader → Fits w64 n
 held_fits low same sound = record { fits = omega (arith, ap length same, sound.held) }
 
-first_there : {n : ℕ} → n ≡ 2 → 0 < n
-first_there two = omega arith
-
-second_there : {n : ℕ} → n ≡ 2 → 1 < n
-second_there two = omega arith
-
 pub invariant_of-full : goal.invariant_of-full
 invariant_of-full g c = record { near = c.rows.invariant.near }
 
@@ -40,18 +34,6 @@ overflow_cast-taken g c = omega (arith, c.rows.invariant.low, c.held-first.ensur
 
 pub overflow_cast-taken-2 : goal.overflow_cast-taken-2
 overflow_cast-taken-2 g c = omega (arith, c.rows.invariant.low_other, c.held-second.ensures.sound.held, ap length c.held-second.ensures.held)
-
-pub bounds-cells-0 : goal.bounds-cells-0
-bounds-cells-0 g c = first_there c.requires.0
-
-pub bounds-cells-0-2 : goal.bounds-cells-0-2
-bounds-cells-0-2 g c = first_there c.requires.0
-
-pub bounds-cells-1 : goal.bounds-cells-1
-bounds-cells-1 g c = second_there c.requires.0
-
-pub bounds-cells-1-2 : goal.bounds-cells-1-2
-bounds-cells-1-2 g c = second_there c.requires.0
 
 pub bounds-readers-cells : goal.bounds-readers-cells
 bounds-readers-cells g c = within_one c.args.row.cells.now c.args.row.readers.now c.requires c.args.row.readable.0

@@ -17,14 +17,3 @@ returns-in_err-push_waiting-clause-wrote g c =
     on_err c.from_residual.result (subst (Wrote c.args.out.now c.push_waiting.new.out)
     (append_assoc waiting (lead c.args.show c.args.count) line ∙ ap (◌++◌ waiting) (run_text_shown c.args.show c.args.count line (sym c.is_shown.ensures ∙ c.if-not-is_shown.false)))
     (wrote_past _ _ _ line c.in_err-push_waiting.ensures.fault c.push_waiting.ensures.wrote))
-
-pub returns-clause-waits : goal.returns-clause-waits
-returns-clause-waits g c =
-    let waiting = span_of c.args.block.now c.args.waiting in
-    let line = span_of c.args.block.now c.args.line in record {
-      pushed = waiting ++ lead c.args.show c.args.count;
-      wrote = c.push_waiting.ensures.wrote;
-      all = append_assoc waiting (lead c.args.show c.args.count) line
-          ∙ ap (◌++◌ waiting) (run_text_shown c.args.show c.args.count line (sym c.is_shown.ensures ∙ c.if-not-is_shown.false));
-      span = c.requires.line;
-    }
