@@ -2,7 +2,6 @@
 pub mod Got
 pub mod Orders
 pub mod Passing
-pub mod Placing
 pub mod Pushes
 pub mod Slotted
 pub mod Starting
