@@ -3,8 +3,9 @@
 
 use crate::commands::{Case, Input, SIZES, growths, over_files, run_in, run_over};
 use crate::comparing::same;
-use ptfakes::Refusing;
+use ptfakes::{Kept, Refusing};
 use ptlines::Store;
+use ptrun::Report;
 use std::alloc::Global;
 use std::process::Abort;
 use std::test::Fail;
@@ -27,15 +28,37 @@ fn text_of(alloc: Global, parts: &[Part]) -> Result<Vec<u8>, Fail> {
 // Runs a command, and again in a store that is lent: both say that so much was held at most, and so does the store.
 fn expect_peak(rt: &impl Abort, own: Global, case: &Case<'_>, peak: u128) -> Result<(), Fail> {
     let report = run_over(rt, own, own, case)?;
-    let left = (report.status, report.peak, report.denied);
-    same(rt, &left, &(0, peak, false));
+    expect_alike(rt, own, case, &report, peak)
+}
+
+// Runs a command in a store that is lent: it leaves the same, and so much was held.
+fn expect_alike(
+    rt: &impl Abort,
+    own: Global,
+    case: &Case<'_>,
+    report: &Report<Kept, Kept>,
+    peak: u128,
+) -> Result<(), Fail> {
     let mut store = Store::empty(own);
     let lent = run_in(rt, &mut store, own, own, case)?;
+    let held = (store.peak(), store.denied());
+    assert_alike(rt, report, &lent, held, peak);
+    Ok(())
+}
+
+fn assert_alike(
+    rt: &impl Abort,
+    report: &Report<Kept, Kept>,
+    lent: &Report<Kept, Kept>,
+    held: (u128, bool),
+    peak: u128,
+) {
+    let left = (report.status, report.peak, report.denied);
+    same(rt, &left, &(0, peak, false));
     let left = (lent.status, lent.peak, lent.denied);
     same(rt, &left, &(0, peak, false));
-    same(rt, &(store.peak(), store.denied()), &(peak, false));
+    same(rt, &held, &(peak, false));
     same(rt, &lent.out.bytes(), &report.out.bytes());
-    Ok(())
 }
 
 // A command over two files, whole and in pieces.
@@ -153,12 +176,23 @@ fn expect_sent(
     let alloc = Refusing::after(own, last);
     let mut store = Store::empty(&alloc);
     let report = run_in(rt, &mut store, &alloc, own, case)?;
+    let held = (store.peak(), store.denied());
+    assert_sent(rt, &report, held, decided, message);
+    Ok(())
+}
+
+fn assert_sent(
+    rt: &impl Abort,
+    report: &Report<Kept, Kept>,
+    (peak, denied): (u128, bool),
+    decided: &str,
+    message: &str,
+) {
     same(rt, &report.out.bytes(), &decided.as_bytes());
     same(rt, &report.messages.bytes(), &message.as_bytes());
-    let left = (report.status, report.denied, store.denied());
+    let left = (report.status, report.denied, denied);
     same(rt, &left, &(1, true, true));
-    same(rt, &report.peak, &store.peak());
-    Ok(())
+    same(rt, &report.peak, &peak);
 }
 
 // Words, the first file if there are two, what stands in the last file in front of a long line, what is decided of
