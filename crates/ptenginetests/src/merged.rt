@@ -73,12 +73,14 @@ fn is_left(rt: &impl Abort, of: &Name<'_>, kept: &Kept, peak: u128, wanted: &Wan
         let is_part = kept.bytes().len() < all.len();
         holds_of(rt, of, !is_part || !wanted.whole);
     }
+    // (where no number is wanted, it is compared with itself)
     same_of(rt, of, &kept.calls(), &wanted.calls.unwrap_or(kept.calls()));
     let (least, most) = wanted.peak;
     holds_of(rt, of, least <= peak && peak <= most);
 }
 
-/// Merges, ends the test unless this is left, and says what was answered and how many bytes were written.
+/// Merges, and ends the test unless this is left. It says what was answered, which it does not compare, and how many
+/// bytes were written.
 pub fn merge<A: Allocator + Copy>(
     rt: &impl Abort,
     of: &Name<'_>,
@@ -114,7 +116,7 @@ pub fn expect(
     same_of(rt, of, &result, &wanted.result.unwrap_or(result));
 }
 
-/// The sink has room for so many bytes and for fewer, each number in turn, and has a beginning of these.
+/// The sink has room for fewer bytes than this, each number in turn, and has a beginning of these.
 pub fn each_room(
     rt: &impl Abort,
     alloc: Global,

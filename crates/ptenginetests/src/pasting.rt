@@ -123,8 +123,8 @@ fn rows_over_blocks(
 }
 
 // The digests are of what GNU's `paste -d ',;:' - -` and so on wrote of these lines. Rows cross the ends of blocks, one
-// has the long line, and of 3 and 7 columns the last row is short. In the last two rows there are two readers, of which
-// the first has two columns in the second case.
+// has the long line, and of 3 and 7 columns the last row is short. The last two take both readers, and the first of them
+// has two columns in the second case.
 #[test]
 fn rows_of_readers_over_blocks(rt: HostRuntime) -> Result<(), Fail> {
     let alloc = rt.alloc();

@@ -125,6 +125,7 @@ fn write_fails(rt: &impl Abort, alloc: Global, plan: &CharPlan, text: &[u8]) {
     same(rt, &out.into_sink().bytes().len(), &5000);
 }
 
+// A text that is longer than a block, without the byte that is squeezed.
 fn expect_no_runs(rt: &impl Abort, alloc: Global, plan: &CharPlan) -> Result<(), AllocError> {
     let text = repeated(alloc, b"b", 20000)?;
     write_fails(rt, alloc, plan, &text);

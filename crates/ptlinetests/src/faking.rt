@@ -11,7 +11,7 @@ use std::test::Fail;
 /// What a pull answers, and the first bytes of the buffer then.
 pub type Pull = (Result<usize, Failed>, &'static [u8]);
 
-/// Pulls into a buffer, each time with this answer.
+/// Pulls into a buffer, with these answers in turn.
 pub fn pulls<S: Source>(rt: &impl Abort, source: &mut S, into: &mut [u8], answers: &[Pull]) {
     assert!(rt; !into.is_empty());
     for (number, (answer, given)) in answers.iter().enumerate() {
@@ -20,10 +20,12 @@ pub fn pulls<S: Source>(rt: &impl Abort, source: &mut S, into: &mut [u8], answer
     }
 }
 
-// Pulls into four bytes.
+// Pulls into four bytes, which are 0 before each pull.
 fn gives<S: Source>(rt: &impl Abort, source: &mut S, answers: &[Pull]) {
-    let mut into = [0u8; 4];
-    pulls(rt, source, &mut into, answers);
+    for answer in answers {
+        let mut into = [0u8; 4];
+        pulls(rt, source, &mut into, &[*answer]);
+    }
 }
 
 const IN_PIECES: &[Pull] = &[

@@ -11,7 +11,7 @@ pub const SIZES: &[usize] = &[1, 7, usize::MAX];
 
 /// What is asked of a reader and its store of one slot, and what is to come of it.
 pub struct Step<'a> {
-    /// Whether lines end with byte 0 from here on.
+    /// Whether lines end with byte 0 in this step.
     pub zero: bool,
     /// What is held before, where it is looked at.
     pub held: Option<&'a [u8]>,
@@ -159,6 +159,7 @@ pub fn follows<S: Source, R: Source>(
     for (number, step) in steps.iter().enumerate() {
         let of = (name, number);
         takes(rt, &of, reader, &mut store, step);
+        // (where none is wanted, it is compared with itself)
         let pulled = step.pulled.unwrap_or(pulls.get());
         same_of(rt, &of, &pulls.get(), &pulled);
     }

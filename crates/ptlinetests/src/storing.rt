@@ -166,7 +166,13 @@ fn follows<A: Allocator + Copy>(
 fn what_is_done_to_slots(rt: HostRuntime) -> Result<(), Fail> {
     for (name, slots, rows) in CASES {
         let mut store = Store::new(rt.alloc(), *slots)?;
-        same_of(&rt, name, &(store.slots(), store.peak()), &(*slots, 0));
+        same_of(
+            &rt,
+            name,
+            &(store.slots(), store.denied()),
+            &(*slots, false),
+        );
+        same_of(&rt, name, &(store.now(), store.peak()), &(0, 0));
         same_of(
             &rt,
             name,
@@ -184,7 +190,8 @@ fn an_empty_store_takes_no_memory(rt: HostRuntime) {
     let mut store = Store::empty(&refusing);
     has(&rt, &("empty", 0), &store, (&[], 0), false);
     assert!(rt; !refusing.refused());
-    follows(&rt, "empty", &mut store, &[(Step::Add, (&[b""], 0), NONE)]);
+    let rows: &[Row] = &[(Step::Add, (&[b""], 0), (&[], 0))];
+    same(&rt, &follows(&rt, "empty", &mut store, rows), &0);
     assert!(rt; refusing.refused());
 }
 
@@ -255,6 +262,7 @@ fn stops(rt: &impl Abort, alloc: Global, stopped: &[usize]) -> u32 {
 
 #[test]
 fn each_growth_refused(rt: HostRuntime) {
+    // When they are made; at a line that a slot gets; at the copy; when more are added.
     for stopped in [[0, 0], [1, 2], [3, 3], [4, 4]] {
         holds_of(&rt, &stopped, stops(&rt, rt.alloc(), &stopped) > 0);
     }

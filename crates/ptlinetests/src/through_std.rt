@@ -163,7 +163,7 @@ const OF_BROKEN: &[Pull] = &[(Ok(2), b"ab\0"), (Ok(1), b"cb\0"), (Err(Failed), b
 
 const OF_SLICE: &[Pull] = &[(Ok(1), b"x"), (Ok(0), b"x")];
 
-// A writer with so much room takes a byte, or none, and its flush fails.
+// A writer with room for one byte takes one, and then none.
 fn sinks(rt: &impl Abort, bytes: &mut Vec<u8>) {
     let mut sink = FromWrite::new(Narrow {
         bytes,
@@ -175,6 +175,7 @@ fn sinks(rt: &impl Abort, bytes: &mut Vec<u8>) {
     same(rt, &sink.put(b"b"), &Ok(0));
 }
 
+// A flush that fails.
 fn flush_fails(rt: &impl Abort, bytes: &mut Vec<u8>) {
     let mut sink = FromWrite::new(Narrow {
         bytes,

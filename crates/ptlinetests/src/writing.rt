@@ -70,12 +70,12 @@ fn goes_well(
     lengths: &[usize],
     ends: bool,
 ) -> bool {
-    let goes_well = push_all(rt, out, text, lengths) == lengths.len();
-    let goes_well = goes_well && (!ends || out.finish().is_ok());
-    if !goes_well {
+    let are_pushed = push_all(rt, out, text, lengths) == lengths.len();
+    let is_well = are_pushed && (!ends || out.finish().is_ok());
+    if !is_well {
         stays_faulted(rt, out);
     }
-    goes_well
+    is_well
 }
 
 // What a sink takes: so many bytes a call, so many in all, and so many calls.
@@ -181,6 +181,7 @@ fn is_pushed(
     is_staged(rt, alloc, &text, (lengths, before, calls));
     fails(rt, alloc, &text, lengths, usize::MAX);
     fails(rt, alloc, &text, lengths, 1000);
+    // Few bytes, one at each call.
     if text.len() < 8 {
         fails(rt, alloc, &text, lengths, 1);
     }

@@ -53,6 +53,7 @@ fn refuses_by_the_first_faulty_element(rt: HostRuntime) {
     for (list, fault) in REFUSED {
         same(&rt, &Delims::read(&alloc, list).err(), &Some(*fault));
     }
+    // So it is still to come, and is that of the tab.
     assert!(rt; Delims::tab(&alloc).is_err());
 }
 

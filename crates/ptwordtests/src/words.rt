@@ -258,7 +258,8 @@ fn is_refused(rt: &impl Abort, alloc: Global, words: &[&str], fault: UseFault) {
     same(rt, &Command::read(alloc, words).err(), &Some(fault));
 }
 
-// At most 512 operands of `cut`, and at least one of `paste`. A wrong value comes before too many operands.
+// At most 512 operands, of `cut` and of `paste`, of which one is enough for `paste`. A wrong value comes before too
+// many operands.
 fn counts_operands(rt: &impl Abort, alloc: Global) -> Result<(), Fail> {
     let mut words = ["-"; 515];
     words[0] = "cut";
