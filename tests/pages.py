@@ -265,7 +265,9 @@ def lacking_paths():
             text = it.read().replace("specs/File.antt", "specs")
         for path in re.findall(r"\b(?:crates/|(?<=`)pt[a-z]+/)[\w/*.-]*[\w*]", text):
             ends = [f"{TOP}/crates/{path.removeprefix('crates/')}{it}" for it in ("", ".rt", ".antt")]
-            found += [] if any(glob.glob(it) for it in ends) else [f"{file} names a path that is not there: {path}\n"]
+            # (What checks keep is there only after a check.)
+            is_there = path.endswith("/out") or any(glob.glob(it) for it in ends)
+            found += [] if is_there else [f"{file} names a path that is not there: {path}\n"]
         # Those in some crate, but for the ones that stand for many, as `src/NAME.rt` does.
         for path in re.findall(r"`((?:src|specs|proofs|must-fail)/[\w/.-]+)`", text):
             ends = [f"{TOP}/crates/*/{path}{it}" for it in ("", ".rt", ".antt")]
