@@ -79,14 +79,8 @@ impl<K: KeyOrder> Merge<K> {
             Ok(()) => {}
             Err(_) => return Err(MergeFault::Memory),
         }
-        match one.next(&order, Side::First, first, store) {
-            Ok(()) => {}
-            Err(fault) => return Err(fault),
-        }
-        match two.next(&order, Side::Second, second, store) {
-            Ok(()) => {}
-            Err(fault) => return Err(fault),
-        }
+        one.next(&order, Side::First, first, store)?;
+        two.next(&order, Side::Second, second, store)?;
         Ok(Merge {
             order,
             first: one,
