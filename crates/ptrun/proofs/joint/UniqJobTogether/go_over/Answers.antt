@@ -22,7 +22,8 @@ offset_bounds-inputs-place g c =
     search (scaled_Fits, low)
 
 pub place_of-place-requires : goal.place_of-place-requires
-place_of-place-requires g c = omega (arith, place_fits c.args.order.now (length c.args.inputs.now) c.requires.ready.fits 0 Standard (sole_there c.args.order.now c.requires.ready c.requires.ready.taken))
+place_of-place-requires g c =
+    omega (arith, place_fits c.args.order.now (length c.args.inputs.now) c.requires.ready.fits 0 Standard (sole_there c.args.order.now c.requires.ready c.requires.ready.taken))
 
 pub prove-unreachable-requires : goal.prove-unreachable-requires
 prove-unreachable-requires g c =

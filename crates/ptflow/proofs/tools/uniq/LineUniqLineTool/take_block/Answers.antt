@@ -11,7 +11,8 @@ use Rattle.ptflow.proofs.tools.uniq.LineUniqLineTool.take_block.Goals as goal
 use Rattle.ptflow.proofs.tools.uniq.LineUniqLineTool.take_block.Goals.{After-count_same-same}
 
 -- the first lines go on with the open run
-went_on : (g : given.Over) (c : After-count_same-same g) → GoesOnWith (uniq_job c.args.self.now.job.now) (uniq_job c.args.self.now.job.now).end (first_line c.args.run.now c.args.store.now) c.args.block.now
+went_on : (g : given.Over) (c : After-count_same-same g)
+    → GoesOnWith (uniq_job c.args.self.now.job.now) (uniq_job c.args.self.now.job.now).end (first_line c.args.run.now c.args.store.now) c.args.block.now
     c.count_same-same.result
 went_on g c = rw c.first_line.ensures at c.count_same-same.ensures
 
