@@ -9,7 +9,8 @@ not proved again, whether by `make`, by `make test` or in another clone.
 
 One run of the gate gives each crate one processor while others are to be proved beside it. So where the gate keeps what
 it proved, crates of which none stands on another have a run each at first, all at the same time, and each run uses two.
-A last run has the rest, and builds the program. Where it does not, one run does all.
+The one with the most text takes longest, so the others leave the processors to it. A last run has the rest, and builds
+the program. Where the gate keeps nothing, one run does all.
 """
 import os
 import re
@@ -70,12 +71,19 @@ def keeps():
     return os.access(os.path.dirname(at), os.W_OK)
 
 
-def side_by_side(crates, uses):
-    """The crates that have a run each at first: lists of those of which none stands on another, lowest first."""
+def size(folder):
+    """How many bytes the files of a folder have."""
+    return sum(os.path.getsize(f"{at}/{name}") for at, _, names in os.walk(folder) for name in names)
+
+
+def side_by_side(crates, uses, room):
+    """The crates that have a run each at first: lists of those of which none stands on another, lowest first. Each list
+    begins with the crate that has the most text."""
     height = {}
     for crate in crates:
         height[crate] = 1 + max((height[it] for it in uses[crate] if it in height), default=0)
-    found = [[it for it in crates if height[it] == number] for number in sorted(set(height.values()))]
+    by_size = sorted(crates, key=lambda it: -size(f"{room}/crates/{it}"))
+    found = [[it for it in by_size if height[it] == number] for number in sorted(set(height.values()))]
     return [it for it in found if len(it) > 1]
 
 
@@ -98,13 +106,14 @@ class Progress:
         return time.monotonic() - self.began
 
 
-def begun(names, room):
-    """A run of the gate over these crates, or over all if none is named."""
+def begun(names, room, is_first):
+    """A run of the gate over these crates, or over all if none is named. One that is not the first gives way to it."""
     # What it leaves among the temporary files, if it is ended, goes with the room. (It takes no names where CI is set,
     # since then it is no gate.)
     words = {it: os.environ[it] for it in os.environ if it != "CI"} | {"TMPDIR": os.path.dirname(room)}
     streams = {"stdin": subprocess.DEVNULL, "stdout": subprocess.PIPE, "stderr": subprocess.STDOUT}
-    return subprocess.Popen(["rt", "ci", *names], cwd=room, env=words, text=True, errors="replace", **streams)
+    run = [*([] if is_first else ["nice"]), "rt", "ci", *names]
+    return subprocess.Popen(run, cwd=room, env=words, text=True, errors="replace", **streams)
 
 
 def followed(child, progress):
@@ -119,7 +128,7 @@ def followed(child, progress):
 
 def failure(runs, room, progress):
     """Runs the gate over each of these lists of crates, all at the same time. Answers what the first to fail said."""
-    children = [begun(names, room) for names in runs]
+    children = [begun(names, room, names is runs[0]) for names in runs]
     with ThreadPoolExecutor(len(runs)) as pool:
         try:
             ends = [pool.submit(followed, it, progress) for it in children]
@@ -147,7 +156,7 @@ def main():
     with tempfile.TemporaryDirectory(prefix="ptext-") as place:
         room = f"{place}/room"
         bring(crates, uses, room)
-        first = [[[it] for it in together] for together in side_by_side(crates, uses)] if keeps() else []
+        first = [[[it] for it in together] for together in side_by_side(crates, uses, room)] if keeps() else []
         for runs in [*first, [[]]]:
             why = failure(runs, room, progress)
             if why:

@@ -120,25 +120,15 @@ fn is_even_at_ends<const N: usize>(bytes: &[u8]) -> bool
 fn is_even(bytes: &[u8]) -> bool
     ensures { IsEven bytes.now 1 (length bytes.now) result }
 {
-    if bytes.len() > 64 {
-        return is_even_far(bytes);
-    }
-    if bytes.len() > 32 {
-        return is_even_at_ends::<32>(bytes);
-    }
-    if bytes.len() > 16 {
-        return is_even_at_ends::<16>(bytes);
-    }
-    if bytes.len() > 8 {
-        return is_even_at_ends::<8>(bytes);
-    }
-    if bytes.len() > 4 {
-        return is_even_at_ends::<4>(bytes);
-    }
     match bytes.len() {
         0 | 1 => true,
         2 => is_even_at_ends::<1>(bytes),
-        _ => is_even_at_ends::<2>(bytes),
+        3..=4 => is_even_at_ends::<2>(bytes),
+        5..=8 => is_even_at_ends::<4>(bytes),
+        9..=16 => is_even_at_ends::<8>(bytes),
+        17..=32 => is_even_at_ends::<16>(bytes),
+        33..=64 => is_even_at_ends::<32>(bytes),
+        _ => is_even_far(bytes),
     }
 }
 
