@@ -9,8 +9,8 @@ not proved again, whether by `make`, by `make test` or in another clone.
 
 One run of the gate gives each crate one processor while others are to be proved beside it. So where the gate keeps what
 it proved, crates of which none stands on another have a run each at first, all at the same time, and each run uses two.
-The one with the most text takes longest, so the others leave the processors to it. A last run has the rest, and builds
-the program. Where the gate keeps nothing, one run does all.
+Where that is more than there are, the crate with the most text has two, and each of the others one. A last run has the
+rest, and builds the program. Where the gate keeps nothing, one run does all.
 """
 import os
 import re
@@ -106,14 +106,14 @@ class Progress:
         return time.monotonic() - self.began
 
 
-def begun(names, room, is_first):
-    """A run of the gate over these crates, or over all if none is named. One that is not the first gives way to it."""
+def begun(names, room, is_narrow):
+    """A run of the gate over these crates, or over all if none is named. A narrow one uses one processor."""
     # What it leaves among the temporary files, if it is ended, goes with the room. (It takes no names where CI is set,
     # since then it is no gate.)
     words = {it: os.environ[it] for it in os.environ if it != "CI"} | {"TMPDIR": os.path.dirname(room)}
     streams = {"stdin": subprocess.DEVNULL, "stdout": subprocess.PIPE, "stderr": subprocess.STDOUT}
-    run = [*([] if is_first else ["nice"]), "rt", "ci", *names]
-    return subprocess.Popen(run, cwd=room, env=words, text=True, errors="replace", **streams)
+    words |= {"RT_JOBS": "1"} if is_narrow else {}
+    return subprocess.Popen(["rt", "ci", *names], cwd=room, env=words, text=True, errors="replace", **streams)
 
 
 def followed(child, progress):
@@ -128,7 +128,8 @@ def followed(child, progress):
 
 def failure(runs, room, progress):
     """Runs the gate over each of these lists of crates, all at the same time. Answers what the first to fail said."""
-    children = [begun(names, room, names is runs[0]) for names in runs]
+    is_crowded = 2 * len(runs) > len(os.sched_getaffinity(0))
+    children = [begun(names, room, is_crowded and names is not runs[0]) for names in runs]
     with ThreadPoolExecutor(len(runs)) as pool:
         try:
             ends = [pool.submit(followed, it, progress) for it in children]

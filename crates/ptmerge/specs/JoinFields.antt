@@ -2,6 +2,7 @@
 use Rattle.std.specs.Prelude.{◌≡◌, ◌≤◌, ◌+◌, ◌++◌, ℕ, length, take, IfSome, MatchOption, ◌==◌, List, [], ◌∷◌, Option, Some, None, Bool, false, true, not, ◌||◌, ◌&&◌, ◌-◌, slice_index, if◌then◌else◌}
 use Rattle.std.specs.List.{flat_map, join_with_byte, slice_split}
 use Rattle.memchr.specs.Find.{Nowhere}
+use Rattle.ptlines.specs.Lanes.{HasLanes}
 use Rattle.ptlangs.specs.Jobs.{Join}
 use Rattle.ptlangs.specs.declared.outlist.OutField.{OutField}
 use Rattle.ptmerge.specs.Keyed.{Lines}
@@ -40,10 +41,6 @@ pub record IsAsWritten (separator : Option ℕ) (number : ℕ) (line : List ℕ)
 abbrev pub is_tidy : Bool → List ℕ → Bool
 is_tidy blank [] = not blank
 is_tidy blank (b ∷ bytes) = if (b == 9) || (blank && (b == 32)) then false else is_tidy (b == 32) bytes
-
--- so many bytes from a place on, which can be looked at all at once
-abbrev pub HasLanes : ℕ → ℕ → List ℕ → Type 0
-HasLanes n at bytes = (n ≤ 64) × (at + n ≤ length bytes)
 
 -- the bytes from a place on are so many or up to twice as many: the first and the last of them are all
 abbrev pub HasEnds : ℕ → ℕ → List ℕ → Type 0

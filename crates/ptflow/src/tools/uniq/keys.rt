@@ -4,7 +4,8 @@ ghost use Rattle.std.specs.Prelude.{◌≡◌, ◌<◌, ◌≤◌};
 ghost use Rattle.memchr.specs.Find.{Nowhere, Passes, is_byte};
 ghost use Rattle.ptlangs.specs.Jobs.{uniq_job};
 ghost use Rattle.ptflow.specs.Uniqs.{is_blank, after_fields, key};
-ghost use Rattle.ptflow.specs.Workings.Uniq.UniqWords.{after_bytes, HasLanes};
+ghost use Rattle.ptflow.specs.Workings.Uniq.UniqWords.{after_bytes};
+ghost use Rattle.ptlines.specs.Lanes.{HasLanes};
 
 use memchr::memchr2;
 use ptlangs::jobs::UniqJob;
@@ -30,7 +31,7 @@ fn behind_far(line: &[u8]) -> &[u8]
 // The first place of a byte among the first N, or N.
 #[inline(always)]
 fn first_of<const N: usize>(byte: u8, line: &[u8]) -> usize
-    requires { HasLanes N line.now }
+    requires { HasLanes N 0 line.now }
     ensures before { Nowhere (Passes (is_byte byte) line.now) 0 result }
     ensures found { result < N → Passes (is_byte byte) line.now result }
     ensures within { result ≤ N }
@@ -44,7 +45,7 @@ fn first_of<const N: usize>(byte: u8, line: &[u8]) -> usize
 // The same as `behind_far`, where a blank often is one of the first N bytes.
 #[inline(always)]
 fn behind_near<const N: usize>(line: &[u8]) -> &[u8]
-    requires { HasLanes N line.now }
+    requires { HasLanes N 0 line.now }
     ensures { result.now ≡ after_bytes line.now }
 {
     let at = first_of::<N>(b' ', line).min(first_of::<N>(b'\t', line));

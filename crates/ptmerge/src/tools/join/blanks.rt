@@ -2,7 +2,8 @@
 ghost use Rattle.std.specs.Prelude.{◌≡◌, ◌<◌, ◌≤◌, ◌+◌, length, true};
 ghost use Rattle.memchr.specs.Find.{IsFirst, IsFirstByte, Passes};
 ghost use Rattle.ptmerge.specs.Join.{is_blank};
-ghost use Rattle.ptmerge.specs.JoinFields.{HasEnds, HasLanes, IsEven, is_tidy};
+ghost use Rattle.ptmerge.specs.JoinFields.{HasEnds, IsEven, is_tidy};
+ghost use Rattle.ptlines.specs.Lanes.{HasLanes};
 
 use std::simd::prelude::*;
 

@@ -22,11 +22,8 @@ returns-in_err-merge g c = start_stops (comm_job c.args.job.now) (opened g (goal
 pub steps-init : goal.steps-init
 steps-init g c =
     let p = c.in_ok-merge.ensures in
-    record {
-      turn = turn_as g.K.KeyOrder.order g.K.KeyOrder.key_of p.order
-          (starts (comm_job c.args.job.now) (opened g (goal.at.steps-init g c).After-start) c.requires.whole p.starts (rw p.order at p.placed) p.lent);
-      order = p.order;
-    }
+    let turn = starts (comm_job c.args.job.now) (opened g (goal.at.steps-init g c).After-start) c.requires.whole p.starts (rw p.order at p.placed) p.lent in
+    record { turn = turn_as g.K.KeyOrder.order g.K.KeyOrder.key_of p.order turn; order = p.order }
 
 pub pass-requires-clause-stands : goal.pass-requires-clause-stands
 pass-requires-clause-stands g c = stands_at c.steps.invariant.turn sides.First c.in-First.ensures.stands
@@ -43,21 +40,15 @@ go_on-requires-clause-stands g c = rw c.pass-in-Both.ensures.order (second_stand
 pub steps-preserved-in-Continue-branch-2 : goal.steps-preserved-in-Continue-branch-2
 steps-preserved-in-Continue-branch-2 g c =
     let p = c.pass.ensures in
-    record {
-      turn = turn_as g.K.KeyOrder.order g.K.KeyOrder.key_of p.order
-          (alone_on c.steps.invariant.turn c.in-First.ensures (c.ending-ending.ensures ∙ c.requires.begins.ending.0) refl p.wrote c.in_ok-pass-in-First.ensures.passes);
-      order = p.order ∙ c.steps.invariant.order;
-    }
+    let turn = alone_on c.steps.invariant.turn c.in-First.ensures (c.ending-ending.ensures ∙ c.requires.begins.ending.0) refl p.wrote c.in_ok-pass-in-First.ensures.passes in
+    record { turn = turn_as g.K.KeyOrder.order g.K.KeyOrder.key_of p.order turn; order = p.order ∙ c.steps.invariant.order }
 
 pub steps-preserved-in-Continue-branch-3 : goal.steps-preserved-in-Continue-branch-3
 steps-preserved-in-Continue-branch-3 g c =
     let i = c.steps.invariant in
     let p = c.pass-in-Second.ensures in
-    record {
-      turn = turn_as g.K.KeyOrder.order g.K.KeyOrder.key_of p.order
-          (alone_on i.turn c.in-Second.ensures (c.ending-ending.ensures ∙ c.requires.begins.ending.0) c.lead-lead2.ensures p.wrote c.in_ok-pass-in-Second.ensures.passes);
-      order = p.order ∙ i.order;
-    }
+    let turn = alone_on i.turn c.in-Second.ensures (c.ending-ending.ensures ∙ c.requires.begins.ending.0) c.lead-lead2.ensures p.wrote c.in_ok-pass-in-Second.ensures.passes in
+    record { turn = turn_as g.K.KeyOrder.order g.K.KeyOrder.key_of p.order turn; order = p.order ∙ i.order }
 
 pub steps-preserved : goal.steps-preserved
 steps-preserved g c =

@@ -37,21 +37,15 @@ pub turns-preserved-in-Continue-branch-2 : goal.turns-preserved-in-Continue-bran
 turns-preserved-in-Continue-branch-2 g c =
     let i = c.turns.invariant in
     let p = c.pass_alone.ensures in
-    record {
-      order = p.order ∙ i.order;
-      turn = turn_as g.K.KeyOrder.order g.K.KeyOrder.key_of p.order
-          (alone_on i.turn c.in-Between.is c.in-First.ensures c.ending-ending.ensures p.wrote c.in_ok-pass_alone-in-First.ensures.passes);
-    }
+    let turn = alone_on i.turn c.in-Between.is c.in-First.ensures c.ending-ending.ensures p.wrote c.in_ok-pass_alone-in-First.ensures.passes in
+    record { order = p.order ∙ i.order; turn = turn_as g.K.KeyOrder.order g.K.KeyOrder.key_of p.order turn }
 
 pub turns-preserved-in-Continue-branch-3 : goal.turns-preserved-in-Continue-branch-3
 turns-preserved-in-Continue-branch-3 g c =
     let i = c.turns.invariant in
     let p = c.pass_alone-in-Second.ensures in
-    record {
-      order = p.order ∙ i.order;
-      turn = turn_as g.K.KeyOrder.order g.K.KeyOrder.key_of p.order
-          (alone_on i.turn c.in-Between.is c.in-Second.ensures c.ending-ending.ensures p.wrote c.in_ok-pass_alone-in-Second.ensures.passes);
-    }
+    let turn = alone_on i.turn c.in-Between.is c.in-Second.ensures c.ending-ending.ensures p.wrote c.in_ok-pass_alone-in-Second.ensures.passes in
+    record { order = p.order ∙ i.order; turn = turn_as g.K.KeyOrder.order g.K.KeyOrder.key_of p.order turn }
 
 pub turns-smaller-in-Continue-branch-2 : goal.turns-smaller-in-Continue-branch-2
 turns-smaller-in-Continue-branch-2 g c = let h = c.in_ok-pass_alone-in-First.ensures.passes in falls c.turns.invariant.turn sides.First c.turns.phase c.in-First.ensures.stands h.came h.on
@@ -104,22 +98,16 @@ turns-preserved-then-not-repeats g c =
     let i = c.turns.invariant in
     let p = c.gather.ensures in
     let ok = c.in_ok-end-in-Gathering.ensures in
-    record {
-      order = p.order ∙ i.order;
-      turn = turn_as g.K.KeyOrder.order g.K.KeyOrder.key_of p.order
-          (pairs_next i.turn c.in-Gathering.is p.sent ok.gathers ok.on (sym c.repeats.ensures ∙ c.if-not-repeats.true));
-    }
+    let turn = pairs_next i.turn c.in-Gathering.is p.sent ok.gathers ok.on (sym c.repeats.ensures ∙ c.if-not-repeats.true) in
+    record { order = p.order ∙ i.order; turn = turn_as g.K.KeyOrder.order g.K.KeyOrder.key_of p.order turn }
 
 pub turns-preserved-else-not-repeats : goal.turns-preserved-else-not-repeats
 turns-preserved-else-not-repeats g c =
     let i = c.turns.invariant in
     let p = c.gather.ensures in
     let ok = c.in_ok-end-in-Gathering.ensures in
-    record {
-      order = p.order ∙ i.order;
-      turn = turn_as g.K.KeyOrder.order g.K.KeyOrder.key_of p.order
-          (gathers_on i.turn c.in-Gathering.is p.sent ok.gathers ok.on (sym c.repeats.ensures ∙ c.if-not-repeats.false));
-    }
+    let turn = gathers_on i.turn c.in-Gathering.is p.sent ok.gathers ok.on (sym c.repeats.ensures ∙ c.if-not-repeats.false) in
+    record { order = p.order ∙ i.order; turn = turn_as g.K.KeyOrder.order g.K.KeyOrder.key_of p.order turn }
 
 pub turns-smaller-else-not-repeats : goal.turns-smaller-else-not-repeats
 turns-smaller-else-not-repeats g c =
@@ -161,19 +149,12 @@ turns-preserved-then-not-repeats-2 g c =
     let i = c.turns.invariant in
     let p = c.pass_pairs.ensures in
     let on = group_closed i.turn c.in-Pairing.is c.ending-ending.ensures p.wrote c.in_ok-pass_pairs-in-Pairing.ensures.passes in
-    record {
-      order = p.order ∙ i.order;
-      turn = turn_as g.K.KeyOrder.order g.K.KeyOrder.key_of p.order
-          (on c.clear_group.ensures (sym c.repeats-in-Pairing.ensures ∙ c.if-not-repeats-2.true));
-    }
+    let turn = on c.clear_group.ensures (sym c.repeats-in-Pairing.ensures ∙ c.if-not-repeats-2.true) in
+    record { order = p.order ∙ i.order; turn = turn_as g.K.KeyOrder.order g.K.KeyOrder.key_of p.order turn }
 
 pub turns-preserved : goal.turns-preserved
 turns-preserved g c =
     let i = c.turns.invariant in
     let p = c.pass_pairs.ensures in
     let on = pairs_on i.turn c.in-Pairing.is c.ending-ending.ensures p.wrote c.in_ok-pass_pairs-in-Pairing.ensures.passes in
-    record {
-      order = p.order ∙ i.order;
-      turn = turn_as g.K.KeyOrder.order g.K.KeyOrder.key_of p.order
-          (on (sym c.repeats-in-Pairing.ensures ∙ c.if-not-repeats-2.false));
-    }
+    record { order = p.order ∙ i.order; turn = turn_as g.K.KeyOrder.order g.K.KeyOrder.key_of p.order (on (sym c.repeats-in-Pairing.ensures ∙ c.if-not-repeats-2.false)) }

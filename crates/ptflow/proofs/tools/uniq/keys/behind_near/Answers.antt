@@ -8,7 +8,7 @@ returns-then-at g c =
     let space = c.first_of.ensures in
     let tab = c.first_of-2.ensures in
     let near : min c.first_of.result c.first_of-2.result < g.row.N = omega (arith, c.min-at.ensures, c.if-at.true) in
-    cc (take_rest line c.min-at.result, both_near line c.first_of.result c.first_of-2.result space.before tab.before space.found tab.found c.requires.1 near)
+    cc (take_rest line c.min-at.result, both_near line c.first_of.result c.first_of-2.result space.before tab.before space.found tab.found (omega (arith, c.requires.within)) near)
 
 pub returns : goal.returns
 returns g c =
@@ -17,4 +17,4 @@ returns g c =
     let tab = c.first_of-2.ensures in
     let all : min c.first_of.result c.first_of-2.result ≡ g.row.N = omega (arith, c.min-at.ensures, c.if-at.false, space.within, tab.within) in
     c.behind_far.ensures ∙ ap after_bytes (take_rest line g.row.N ∙ ap (λ at. drop at line) (sym all))
-    ∙ sym (both_later line c.first_of.result c.first_of-2.result space.before tab.before (omega (arith, all, c.requires.1)))
+    ∙ sym (both_later line c.first_of.result c.first_of-2.result space.before tab.before (omega (arith, all, c.requires.within)))
