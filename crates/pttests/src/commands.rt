@@ -132,11 +132,7 @@ fn file_at<'a>(files: &[Input<'a>], place: usize, size: usize) -> Reader<'a>
 }
 
 // Standard input, and then so many files.
-fn readers<'a>(
-    alloc: Global,
-    case: &Case<'a>,
-    count: usize,
-) -> Result<Vec<Reader<'a>>, AllocError>
+fn readers<'a>(alloc: Global, case: &Case<'a>, count: usize) -> Result<Vec<Reader<'a>>, AllocError>
     ensures count { IfOk result (λ inputs. vec_len inputs ≡ count + 1) }
     ensures fresh { IfOk result (λ inputs. All IsFresh inputs.items) }
 {
@@ -412,7 +408,13 @@ pub fn expect_long<'a>(
 }
 
 /// A command, what it writes and says, what is said where memory is refused, and whether its run asks for none.
-pub type Growing = (Case<'static>, &'static str, &'static str, &'static str, bool);
+pub type Growing = (
+    Case<'static>,
+    &'static str,
+    &'static str,
+    &'static str,
+    bool,
+);
 
 // Refuses the growth behind so many, and says whether there was such a one.
 fn is_growth_refused(
@@ -442,7 +444,11 @@ fn assert_stopped(
     refusal: &str,
     passing: u64,
 ) {
-    holds_of(rt, &passing, most.as_bytes().starts_with(report.out.bytes()));
+    holds_of(
+        rt,
+        &passing,
+        most.as_bytes().starts_with(report.out.bytes()),
+    );
     same_of(rt, &passing, &report.messages.bytes(), &refusal.as_bytes());
     same_of(rt, &passing, &report.status, &1);
 }

@@ -16,13 +16,37 @@ const ROWS: &[Row] = &[
     (&["cut", "-b", "2 4,1"], Text(b"abcd\n"), &[], "abd\n", ""),
     (&["cut", "-b", "2-"], Text(b"a\nbcd"), &[], "\ncd\n", ""),
     (&["cut", "-nb", "2-"], Text(b"a\nbcd"), &[], "\ncd\n", ""),
-    (&["cut", "-b1,3", "-n", "--", "-"], Text(b"abc\nde\n"), &[], "ac\nd\n", ""),
+    (
+        &["cut", "-b1,3", "-n", "--", "-"],
+        Text(b"abc\nde\n"),
+        &[],
+        "ac\nd\n",
+        "",
+    ),
     (&["cut", "-c", "1"], Text(b""), &[], "", ""),
     (&["cut", "-c", "1"], Text(b"\n\na"), &[], "\n\na\n", ""),
-    (&["cut", "-b", "18446744073709551615-"], Text(b"abc\n"), &[], "\n", ""),
+    (
+        &["cut", "-b", "18446744073709551615-"],
+        Text(b"abc\n"),
+        &[],
+        "\n",
+        "",
+    ),
     // Lines that end with byte 0, in which newline is data.
-    (&["cut", "-z", "-c", "1"], Text(b"ab\0\ncd"), &[], "a\0\n\0", ""),
-    (&["cut", "-zc2-", "-", "-"], Text(b"\0a\n\0\n"), &[], "\0\n\0\0", ""),
+    (
+        &["cut", "-z", "-c", "1"],
+        Text(b"ab\0\ncd"),
+        &[],
+        "a\0\n\0",
+        "",
+    ),
+    (
+        &["cut", "-zc2-", "-", "-"],
+        Text(b"\0a\n\0\n"),
+        &[],
+        "\0\n\0\0",
+        "",
+    ),
     (&["cut", "-b1", "-nz"], Text(b""), &[], "", ""),
 ];
 
@@ -36,40 +60,34 @@ const FIRST: &[&str] = &["cut", "-c", "1", "f", "g", "h"];
 const FILES: &[Input] = &[Text(b"ab\n"), Refused, Text(b"cd\n")];
 
 // A file that cannot be opened is named in its turn.
-const NAMED: &[Row] = &[
-    (
-        FIRST,
-        Text(b""),
-        FILES,
-        "a\nc\n",
-        "cut: g: cannot be opened\n",
-    ),
-];
+const NAMED: &[Row] = &[(
+    FIRST,
+    Text(b""),
+    FILES,
+    "a\nc\n",
+    "cut: g: cannot be opened\n",
+)];
 
 // The message about it fails.
-const UNSAID: &[Run] = &[
-    (
-        Case {
-            words: FIRST,
-            files: FILES,
-            messages: Limits { room: 10, ..FREE },
-            ..PLAIN
-        },
-        "a\nc\n",
-        "cut: g: ca",
-    ),
-];
+const UNSAID: &[Run] = &[(
+    Case {
+        words: FIRST,
+        files: FILES,
+        messages: Limits { room: 10, ..FREE },
+        ..PLAIN
+    },
+    "a\nc\n",
+    "cut: g: ca",
+)];
 
 // A read that fails is the last message.
-const LAST: &[Row] = &[
-    (
-        &["cut", "-c", "1", "g", "f", "h"],
-        Text(b""),
-        &[Refused, Failing(b"ab\n", 0), Refused],
-        "",
-        "cut: g: cannot be opened\ncut: f: read failed\n",
-    ),
-];
+const LAST: &[Row] = &[(
+    &["cut", "-c", "1", "g", "f", "h"],
+    Text(b""),
+    &[Refused, Failing(b"ab\n", 0), Refused],
+    "",
+    "cut: g: cannot be opened\ncut: f: read failed\n",
+)];
 
 #[test]
 fn a_refused_file_is_named_in_its_turn(rt: HostRuntime) -> Result<(), Fail> {
@@ -167,7 +185,13 @@ const READS: &[Row] = &[
     (WORDS, Failing(LINES, 5), &[], "bd\nb\n\n", UNREAD),
     (WORDS, Failing(LINES, 6), &[], "bd\nb\n\ny", UNREAD),
     (WORDS, Failing(LINES, 7), &[], "bd\nb\n\ny", UNREAD),
-    (&["cut", "-c", "1-3"], Failing(b"abcd\n", 1), &[], "ab", UNREAD),
+    (
+        &["cut", "-c", "1-3"],
+        Failing(b"abcd\n", 1),
+        &[],
+        "ab",
+        UNREAD,
+    ),
 ];
 
 const SHORT: Case = Case {
@@ -179,26 +203,24 @@ const SHORT: Case = Case {
 const CUT: &str = "bd\nb\n\ny\n";
 
 // The last newline comes once the end is known, and all else is sent before the end is asked for.
-const UNWRITTEN: &[Unwritten] = &[
-    (
-        SHORT,
-        "cut: output: write failed\n",
-        &[
-            (3, usize::MAX, 0, ""),
-            (3, usize::MAX, 1, "bd\n"),
-            (3, usize::MAX, 2, "bd\nb\n\n"),
-            (3, usize::MAX, 3, "bd\nb\n\ny"),
-            (3, usize::MAX, 4, "bd\nb\n\ny\n"),
-            (1, usize::MAX, 2, "bd"),
-            (1, usize::MAX, 8, "bd\nb\n\ny\n"),
-            (usize::MAX, usize::MAX, 0, ""),
-            (usize::MAX, usize::MAX, 1, "bd\nb\n\ny"),
-            (usize::MAX, usize::MAX, 2, "bd\nb\n\ny\n"),
-            (usize::MAX, 4, u64::MAX, "bd\nb"),
-            (1, 0, u64::MAX, ""),
-        ],
-    ),
-];
+const UNWRITTEN: &[Unwritten] = &[(
+    SHORT,
+    "cut: output: write failed\n",
+    &[
+        (3, usize::MAX, 0, ""),
+        (3, usize::MAX, 1, "bd\n"),
+        (3, usize::MAX, 2, "bd\nb\n\n"),
+        (3, usize::MAX, 3, "bd\nb\n\ny"),
+        (3, usize::MAX, 4, "bd\nb\n\ny\n"),
+        (1, usize::MAX, 2, "bd"),
+        (1, usize::MAX, 8, "bd\nb\n\ny\n"),
+        (usize::MAX, usize::MAX, 0, ""),
+        (usize::MAX, usize::MAX, 1, "bd\nb\n\ny"),
+        (usize::MAX, usize::MAX, 2, "bd\nb\n\ny\n"),
+        (usize::MAX, 4, u64::MAX, "bd\nb"),
+        (1, 0, u64::MAX, ""),
+    ],
+)];
 
 const ONE: Limits = Limits {
     size: 1,
@@ -217,7 +239,15 @@ const MANY: Limits = Limits { passing: 3, ..FREE };
 // As many calls pass as it takes, with the flush.
 const ENOUGH: &[Counted] = &[
     (Case { out: ONE, ..SHORT }, CUT, "", 9),
-    (Case { out: THREE, ..SHORT }, CUT, "", 5),
+    (
+        Case {
+            out: THREE,
+            ..SHORT
+        },
+        CUT,
+        "",
+        5,
+    ),
     (Case { out: MANY, ..SHORT }, CUT, "", 3),
 ];
 

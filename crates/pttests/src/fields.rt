@@ -12,27 +12,93 @@ use std::test::Fail;
 const THREE: &[&str] = &["cut", "-d", ",", "-f", "2-", "f", "-", "g"];
 
 const ROWS: &[Row] = &[
-    (&["cut", "-d", ":", "-f", "2,2,1"], Text(b"a:b:c\nxyz\n"), &[], "a:b\nxyz\n", ""),
-    (&["cut", "-s", "-d", ":", "-f", "5"], Text(b"a:b\nxyz\n"), &[], "\n", ""),
+    (
+        &["cut", "-d", ":", "-f", "2,2,1"],
+        Text(b"a:b:c\nxyz\n"),
+        &[],
+        "a:b\nxyz\n",
+        "",
+    ),
+    (
+        &["cut", "-s", "-d", ":", "-f", "5"],
+        Text(b"a:b\nxyz\n"),
+        &[],
+        "\n",
+        "",
+    ),
     (&["cut", "-f", "1"], Text(b"a\tb"), &[], "a\n", ""),
     // A second `-` is an empty input.
     (&["cut", "-f", "1", "-", "-"], Text(b"a\tb"), &[], "a\n", ""),
-    (&["cut", "-d,", "-f2-"], Text(b"a,b,c\n,\nx"), &[], "b,c\n\nx\n", ""),
+    (
+        &["cut", "-d,", "-f2-"],
+        Text(b"a,b,c\n,\nx"),
+        &[],
+        "b,c\n\nx\n",
+        "",
+    ),
     // A line that ends in delimiters.
-    (&["cut", "-d,", "-f1,3"], Text(b"a,b,c,d\na,,,\n,,c\n"), &[], "a,c\na,\n,c\n", ""),
-    (&["cut", "-d,", "-f3-4,1"], Text(b"a,b,c,d,e\na,b\n"), &[], "a,c,d\na\n", ""),
+    (
+        &["cut", "-d,", "-f1,3"],
+        Text(b"a,b,c,d\na,,,\n,,c\n"),
+        &[],
+        "a,c\na,\n,c\n",
+        "",
+    ),
+    (
+        &["cut", "-d,", "-f3-4,1"],
+        Text(b"a,b,c,d,e\na,b\n"),
+        &[],
+        "a,c,d\na\n",
+        "",
+    ),
     (&["cut", "-d,", "-f2-"], Text(b"a,,\n,,"), &[], ",\n,\n", ""),
     // An empty line.
     (&["cut", "-f", "1"], Text(b"\n\n"), &[], "\n\n", ""),
     (&["cut", "-s", "-f", "1"], Text(b"\n\n"), &[], "", ""),
-    (&["cut", "-s", "-f", "2"], Text(b"a\t\nb\n\t\n"), &[], "\n\n", ""),
-    (&["cut", "-d", " ", "-f", "18446744073709551615"], Text(b"a b\n"), &[], "\n", ""),
+    (
+        &["cut", "-s", "-f", "2"],
+        Text(b"a\t\nb\n\t\n"),
+        &[],
+        "\n\n",
+        "",
+    ),
+    (
+        &["cut", "-d", " ", "-f", "18446744073709551615"],
+        Text(b"a b\n"),
+        &[],
+        "\n",
+        "",
+    ),
     (&["cut", "-f", "2"], Text(b""), &[], "", ""),
     // Lines that end with byte 0: newline is data, and may be the delimiter.
-    (&["cut", "-d", "\n", "-f", "2", "-z"], Text(b"a\nb\0"), &[], "b\0", ""),
-    (&["cut", "-z", "-f2"], Text(b"a\tb\nc\0d\n\0\t"), &[], "b\nc\0d\n\0\0", ""),
-    (&["cut", "-szd", "\n", "-f1"], Text(b"a\nb\0c\0"), &[], "a\0", ""),
-    (&["cut", "-zf1", "-", "-"], Text(b"a\tb\0\n\tc"), &[], "a\0\n\0", ""),
+    (
+        &["cut", "-d", "\n", "-f", "2", "-z"],
+        Text(b"a\nb\0"),
+        &[],
+        "b\0",
+        "",
+    ),
+    (
+        &["cut", "-z", "-f2"],
+        Text(b"a\tb\nc\0d\n\0\t"),
+        &[],
+        "b\nc\0d\n\0\0",
+        "",
+    ),
+    (
+        &["cut", "-szd", "\n", "-f1"],
+        Text(b"a\nb\0c\0"),
+        &[],
+        "a\0",
+        "",
+    ),
+    (
+        &["cut", "-zf1", "-", "-"],
+        Text(b"a\tb\0\n\tc"),
+        &[],
+        "a\0\n\0",
+        "",
+    ),
     // Files in their order.
     (
         THREE,
@@ -108,24 +174,58 @@ const F_UNREAD: &str = "cut: f: read failed\n";
 const G_UNREAD: &str = "cut: g: read failed\n";
 
 // A read of seven bytes passes, and the next fails amid a line.
-const AMID: &[Row] = &[
-    (
-        &["cut", "-d", ":", "-f", "1"],
-        Failing(b"a:b\nc:d", 1),
-        &[],
-        "a\n",
-        "cut: standard input: read failed\n",
-    ),
-];
+const AMID: &[Row] = &[(
+    &["cut", "-d", ":", "-f", "1"],
+    Failing(b"a:b\nc:d", 1),
+    &[],
+    "a\n",
+    "cut: standard input: read failed\n",
+)];
 
 // In reads of four bytes.
 const READS: &[Row] = &[
-    (WORDS, Text(b""), &[Failing(F, 0), Failing(G, 0)], "", F_UNREAD),
-    (WORDS, Text(b""), &[Failing(F, 1), Failing(G, 0)], "b\n", F_UNREAD),
-    (WORDS, Text(b""), &[Failing(F, 2), Failing(G, 0)], "b\nc\n", F_UNREAD),
-    (WORDS, Text(b""), &[Failing(F, 3), Failing(G, 0)], "b\nc\n", G_UNREAD),
-    (WORDS, Text(b""), &[Failing(F, 3), Failing(G, 1)], "b\nc\nd\n", G_UNREAD),
-    (WORDS, Text(b""), &[Failing(F, 3), Failing(G, 2)], "b\nc\nd\n", G_UNREAD),
+    (
+        WORDS,
+        Text(b""),
+        &[Failing(F, 0), Failing(G, 0)],
+        "",
+        F_UNREAD,
+    ),
+    (
+        WORDS,
+        Text(b""),
+        &[Failing(F, 1), Failing(G, 0)],
+        "b\n",
+        F_UNREAD,
+    ),
+    (
+        WORDS,
+        Text(b""),
+        &[Failing(F, 2), Failing(G, 0)],
+        "b\nc\n",
+        F_UNREAD,
+    ),
+    (
+        WORDS,
+        Text(b""),
+        &[Failing(F, 3), Failing(G, 0)],
+        "b\nc\n",
+        G_UNREAD,
+    ),
+    (
+        WORDS,
+        Text(b""),
+        &[Failing(F, 3), Failing(G, 1)],
+        "b\nc\nd\n",
+        G_UNREAD,
+    ),
+    (
+        WORDS,
+        Text(b""),
+        &[Failing(F, 3), Failing(G, 2)],
+        "b\nc\nd\n",
+        G_UNREAD,
+    ),
 ];
 
 const SHORT: Case = Case {
@@ -135,22 +235,20 @@ const SHORT: Case = Case {
 };
 
 // What is decided is sent before the end of a file is asked for.
-const UNWRITTEN: &[Unwritten] = &[
-    (
-        SHORT,
-        "cut: output: write failed\n",
-        &[
-            (3, usize::MAX, 0, ""),
-            (3, usize::MAX, 1, "b\nc"),
-            (3, usize::MAX, 2, "b\nc\n"),
-            (3, usize::MAX, 3, "b\nc\nd\n"),
-            (3, usize::MAX, 4, CUT),
-            (1, usize::MAX, 5, "b\nc\nd"),
-            (1, usize::MAX, 8, CUT),
-            (usize::MAX, 5, u64::MAX, "b\nc\nd"),
-        ],
-    ),
-];
+const UNWRITTEN: &[Unwritten] = &[(
+    SHORT,
+    "cut: output: write failed\n",
+    &[
+        (3, usize::MAX, 0, ""),
+        (3, usize::MAX, 1, "b\nc"),
+        (3, usize::MAX, 2, "b\nc\n"),
+        (3, usize::MAX, 3, "b\nc\nd\n"),
+        (3, usize::MAX, 4, CUT),
+        (1, usize::MAX, 5, "b\nc\nd"),
+        (1, usize::MAX, 8, CUT),
+        (usize::MAX, 5, u64::MAX, "b\nc\nd"),
+    ],
+)];
 
 const GROWING: &[Growing] = &[(SHORT, CUT, "", "cut: out of memory\n", false)];
 

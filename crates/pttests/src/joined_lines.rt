@@ -31,27 +31,135 @@ const G_FALLS: &str = "join: g: line 2 is out of order\n";
 
 const ROWS: &[Row] = &[
     (JOIN, Text(b""), PAIRED, PAIRS, ""),
-    (LISTED, Text(b""), PAIRED, "a 1 x\na 1 y\na 2 x\na 2 y\nb - z\n", ""),
-    (&["join", "-t", ",", "-v", "1", "f", "g"], Text(b""), &[Text(b",1\nk\n"), Text(b"k,2\n")], ",1\n", ""),
-    (&["join", "-1", "2", "f", "g"], Text(b""), &[Text(b"x a\ny b\n"), Text(b"a 1\nb 2\n")], "a x 1\nb y 2\n", ""),
-    (&["join", "-a", "1", "-a", "2", "f", "g"], Text(b""), &[Text(b"a 1\nc 3\n"), Text(b"b 2\nc 4\n")], "a 1\nb 2\nc 3 4\n", ""),
-    (&["join", "-t", ":", "-o", "1.2,0,2.3", "-e", "X", "-a", "1", "f", "g"], Text(b""), &[Text(b"a:\nb:q\n"), Text(b"b:r\n")], "X:a:X\nq:b:X\n", ""),
-    (JOIN, Text(b""), &[Text(b"\na 1\n"), Text(b" \na 2\n")], "\na 1 2\n", ""),
-    (&["join", "-t", ",", "f", "g"], Text(b""), &[Text(b"a,1\n"), Text(b"a,\n")], "a,1,\n", ""),
-    (&["join", "-1", "5", "-a", "1", "f", "g"], Text(b""), &[Text(b"x y\n"), Text(b"")], " x y\n", ""),
+    (
+        LISTED,
+        Text(b""),
+        PAIRED,
+        "a 1 x\na 1 y\na 2 x\na 2 y\nb - z\n",
+        "",
+    ),
+    (
+        &["join", "-t", ",", "-v", "1", "f", "g"],
+        Text(b""),
+        &[Text(b",1\nk\n"), Text(b"k,2\n")],
+        ",1\n",
+        "",
+    ),
+    (
+        &["join", "-1", "2", "f", "g"],
+        Text(b""),
+        &[Text(b"x a\ny b\n"), Text(b"a 1\nb 2\n")],
+        "a x 1\nb y 2\n",
+        "",
+    ),
+    (
+        &["join", "-a", "1", "-a", "2", "f", "g"],
+        Text(b""),
+        &[Text(b"a 1\nc 3\n"), Text(b"b 2\nc 4\n")],
+        "a 1\nb 2\nc 3 4\n",
+        "",
+    ),
+    (
+        &[
+            "join",
+            "-t",
+            ":",
+            "-o",
+            "1.2,0,2.3",
+            "-e",
+            "X",
+            "-a",
+            "1",
+            "f",
+            "g",
+        ],
+        Text(b""),
+        &[Text(b"a:\nb:q\n"), Text(b"b:r\n")],
+        "X:a:X\nq:b:X\n",
+        "",
+    ),
+    (
+        JOIN,
+        Text(b""),
+        &[Text(b"\na 1\n"), Text(b" \na 2\n")],
+        "\na 1 2\n",
+        "",
+    ),
+    (
+        &["join", "-t", ",", "f", "g"],
+        Text(b""),
+        &[Text(b"a,1\n"), Text(b"a,\n")],
+        "a,1,\n",
+        "",
+    ),
+    (
+        &["join", "-1", "5", "-a", "1", "f", "g"],
+        Text(b""),
+        &[Text(b"x y\n"), Text(b"")],
+        " x y\n",
+        "",
+    ),
     // Nothing of two empty files.
     (JOIN, Text(b""), &[Text(b""), Text(b"")], "", ""),
-    (&["join", "-z", "f", "g"], Text(b""), &[Text(b"a 1\nq\x00"), Text(b"a x\x00")], "a 1\nq x\x00", ""),
-    (&["join", "-r", "f", "g"], Text(b""), &[Text(b"b 1\na 2\n"), Text(b"b x\na y\n")], "b 1 x\na 2 y\n", ""),
-    (&["join", "-r", "-t", ",", "-a", "1", "f", "g"], Text(b""), &[Text(b"k\n,1\n"), Text(b"")], "k\n,1\n", ""),
+    (
+        &["join", "-z", "f", "g"],
+        Text(b""),
+        &[Text(b"a 1\nq\x00"), Text(b"a x\x00")],
+        "a 1\nq x\x00",
+        "",
+    ),
+    (
+        &["join", "-r", "f", "g"],
+        Text(b""),
+        &[Text(b"b 1\na 2\n"), Text(b"b x\na y\n")],
+        "b 1 x\na 2 y\n",
+        "",
+    ),
+    (
+        &["join", "-r", "-t", ",", "-a", "1", "f", "g"],
+        Text(b""),
+        &[Text(b"k\n,1\n"), Text(b"")],
+        "k\n,1\n",
+        "",
+    ),
     (JOIN, Text(b""), FALLS, "b 1 y\n", F_FALLS),
-    (JOIN, Text(b""), &[Text(b"a\n"), Text(b"b\na\n")], "", G_FALLS),
-    (&["join", "-r", "f", "g"], Text(b""), &[Text(b"b 1\nc 2\n"), Text(b"b x\n")], "b 1 x\n", F_FALLS),
-    (&["join", "-z", "f", "g"], Text(b""), &[Text(b"b 1\x00"), Text(b"b x\x00a y\x00")], "b 1 x\x00", G_FALLS),
+    (
+        JOIN,
+        Text(b""),
+        &[Text(b"a\n"), Text(b"b\na\n")],
+        "",
+        G_FALLS,
+    ),
+    (
+        &["join", "-r", "f", "g"],
+        Text(b""),
+        &[Text(b"b 1\nc 2\n"), Text(b"b x\n")],
+        "b 1 x\n",
+        F_FALLS,
+    ),
+    (
+        &["join", "-z", "f", "g"],
+        Text(b""),
+        &[Text(b"b 1\x00"), Text(b"b x\x00a y\x00")],
+        "b 1 x\x00",
+        G_FALLS,
+    ),
     // Standard input and a file.
-    (&["join", "f", "-"], Text(b"a x\nb z"), &[Text(b"a 1\nb 2")], "a 1 x\nb 2 z\n", ""),
+    (
+        &["join", "f", "-"],
+        Text(b"a x\nb z"),
+        &[Text(b"a 1\nb 2")],
+        "a 1 x\nb 2 z\n",
+        "",
+    ),
     (&["join", "-", "g"], Text(b""), &[Text(b"a 1\n")], "", ""),
-    (&["join", "-", "g"], Text(b"b 1\na 2\n"), &[Text(b"b x\n")], "b 1 x\n", "join: standard input: line 2 is out of order\n"),
+    (
+        &["join", "-", "g"],
+        Text(b"b 1\na 2\n"),
+        &[Text(b"b x\n")],
+        "b 1 x\n",
+        "join: standard input: line 2 is out of order\n",
+    ),
 ];
 
 #[test]
@@ -68,23 +176,119 @@ const G_FAILED: &str = "join: g: read failed\n";
 // Each read gives a line. The pairs of a line of f are written before the next one is asked for, once all lines of g
 // with their key are there; a line without a pair before the next one of its file.
 const READS: &[Row] = &[
-    (JOIN, Text(b""), &[Failing(PAIRED_F, 0), Failing(PAIRED_G, ALL)], "", F_FAILED),
-    (JOIN, Text(b""), &[Failing(PAIRED_F, 1), Failing(PAIRED_G, ALL)], "a 1 x\na 1 y\n", F_FAILED),
-    (JOIN, Text(b""), &[Failing(PAIRED_F, 2), Failing(PAIRED_G, ALL)], PAIRS, F_FAILED),
-    (JOIN, Text(b""), &[Failing(PAIRED_F, 3), Failing(PAIRED_G, ALL)], PAIRS, F_FAILED),
-    (JOIN, Text(b""), &[Failing(PAIRED_F, ALL), Failing(PAIRED_G, 0)], "", G_FAILED),
-    (JOIN, Text(b""), &[Failing(PAIRED_F, ALL), Failing(PAIRED_G, 1)], "", G_FAILED),
-    (JOIN, Text(b""), &[Failing(PAIRED_F, ALL), Failing(PAIRED_G, 2)], "", G_FAILED),
-    (JOIN, Text(b""), &[Failing(PAIRED_F, ALL), Failing(PAIRED_G, 3)], PAIRS, G_FAILED),
-    (JOIN, Text(b""), &[Failing(PAIRED_F, 3), Failing(PAIRED_G, 3)], PAIRS, G_FAILED),
-    (JOIN, Text(b""), &[Failing(FALLS_F, 0), Failing(FALLS_G, ALL)], "", F_FAILED),
-    (JOIN, Text(b""), &[Failing(FALLS_F, 1), Failing(FALLS_G, ALL)], "b 1 y\n", F_FAILED),
-    (JOIN, Text(b""), &[Failing(FALLS_F, ALL), Failing(FALLS_G, 0)], "", G_FAILED),
-    (JOIN, Text(b""), &[Failing(FALLS_F, ALL), Failing(FALLS_G, 1)], "", G_FAILED),
-    (JOIN, Text(b""), &[Failing(FALLS_F, ALL), Failing(FALLS_G, 2)], "", G_FAILED),
+    (
+        JOIN,
+        Text(b""),
+        &[Failing(PAIRED_F, 0), Failing(PAIRED_G, ALL)],
+        "",
+        F_FAILED,
+    ),
+    (
+        JOIN,
+        Text(b""),
+        &[Failing(PAIRED_F, 1), Failing(PAIRED_G, ALL)],
+        "a 1 x\na 1 y\n",
+        F_FAILED,
+    ),
+    (
+        JOIN,
+        Text(b""),
+        &[Failing(PAIRED_F, 2), Failing(PAIRED_G, ALL)],
+        PAIRS,
+        F_FAILED,
+    ),
+    (
+        JOIN,
+        Text(b""),
+        &[Failing(PAIRED_F, 3), Failing(PAIRED_G, ALL)],
+        PAIRS,
+        F_FAILED,
+    ),
+    (
+        JOIN,
+        Text(b""),
+        &[Failing(PAIRED_F, ALL), Failing(PAIRED_G, 0)],
+        "",
+        G_FAILED,
+    ),
+    (
+        JOIN,
+        Text(b""),
+        &[Failing(PAIRED_F, ALL), Failing(PAIRED_G, 1)],
+        "",
+        G_FAILED,
+    ),
+    (
+        JOIN,
+        Text(b""),
+        &[Failing(PAIRED_F, ALL), Failing(PAIRED_G, 2)],
+        "",
+        G_FAILED,
+    ),
+    (
+        JOIN,
+        Text(b""),
+        &[Failing(PAIRED_F, ALL), Failing(PAIRED_G, 3)],
+        PAIRS,
+        G_FAILED,
+    ),
+    (
+        JOIN,
+        Text(b""),
+        &[Failing(PAIRED_F, 3), Failing(PAIRED_G, 3)],
+        PAIRS,
+        G_FAILED,
+    ),
+    (
+        JOIN,
+        Text(b""),
+        &[Failing(FALLS_F, 0), Failing(FALLS_G, ALL)],
+        "",
+        F_FAILED,
+    ),
+    (
+        JOIN,
+        Text(b""),
+        &[Failing(FALLS_F, 1), Failing(FALLS_G, ALL)],
+        "b 1 y\n",
+        F_FAILED,
+    ),
+    (
+        JOIN,
+        Text(b""),
+        &[Failing(FALLS_F, ALL), Failing(FALLS_G, 0)],
+        "",
+        G_FAILED,
+    ),
+    (
+        JOIN,
+        Text(b""),
+        &[Failing(FALLS_F, ALL), Failing(FALLS_G, 1)],
+        "",
+        G_FAILED,
+    ),
+    (
+        JOIN,
+        Text(b""),
+        &[Failing(FALLS_F, ALL), Failing(FALLS_G, 2)],
+        "",
+        G_FAILED,
+    ),
     // The disorder is decided, and nothing behind it is read.
-    (JOIN, Text(b""), &[Failing(FALLS_F, 2), Failing(FALLS_G, 3)], "b 1 y\n", F_FALLS),
-    (&["join", "-a", "1", "-a", "2", "f", "g"], Text(b""), &[Failing(b"a 1\nc 3\n", ALL), Failing(b"b 2\n", 1)], "a 1\nb 2\n", G_FAILED),
+    (
+        JOIN,
+        Text(b""),
+        &[Failing(FALLS_F, 2), Failing(FALLS_G, 3)],
+        "b 1 y\n",
+        F_FALLS,
+    ),
+    (
+        &["join", "-a", "1", "-a", "2", "f", "g"],
+        Text(b""),
+        &[Failing(b"a 1\nc 3\n", ALL), Failing(b"b 2\n", 1)],
+        "a 1\nb 2\n",
+        G_FAILED,
+    ),
 ];
 
 const OF_PAIRS: Case = Case {
@@ -101,21 +305,29 @@ const OUT_OF_ORDER: Case = Case {
 
 // The failed write is told in place of the disorder.
 const UNWRITTEN: &[Unwritten] = &[
-    (OF_PAIRS, "join: output: write failed\n", &[
-        (7, usize::MAX, 0, ""),
-        (7, usize::MAX, 1, "a 1 x\na"),
-        (7, usize::MAX, 2, "a 1 x\na 1 y\na "),
-        (7, usize::MAX, 3, "a 1 x\na 1 y\na 2 x\na 2"),
-        (7, usize::MAX, 4, PAIRS),
-        (usize::MAX, 6, u64::MAX, "a 1 x\n"),
-        (1, usize::MAX, 8, "a 1 x\na "),
-        (1, usize::MAX, 24, PAIRS),
-    ]),
-    (OUT_OF_ORDER, "join: output: write failed\n", &[
-        (4, usize::MAX, 0, ""),
-        (4, usize::MAX, 1, "b 1 "),
-        (4, usize::MAX, 2, "b 1 y\n"),
-    ]),
+    (
+        OF_PAIRS,
+        "join: output: write failed\n",
+        &[
+            (7, usize::MAX, 0, ""),
+            (7, usize::MAX, 1, "a 1 x\na"),
+            (7, usize::MAX, 2, "a 1 x\na 1 y\na "),
+            (7, usize::MAX, 3, "a 1 x\na 1 y\na 2 x\na 2"),
+            (7, usize::MAX, 4, PAIRS),
+            (usize::MAX, 6, u64::MAX, "a 1 x\n"),
+            (1, usize::MAX, 8, "a 1 x\na "),
+            (1, usize::MAX, 24, PAIRS),
+        ],
+    ),
+    (
+        OUT_OF_ORDER,
+        "join: output: write failed\n",
+        &[
+            (4, usize::MAX, 0, ""),
+            (4, usize::MAX, 1, "b 1 "),
+            (4, usize::MAX, 2, "b 1 y\n"),
+        ],
+    ),
 ];
 
 const NO_MEMORY: &str = "join: out of memory\n";
@@ -123,10 +335,7 @@ const NO_MEMORY: &str = "join: out of memory\n";
 // Three lines of g have one key.
 const GROUP: Case = Case {
     words: JOIN,
-    files: &[
-        Text(b"a 1\na 2\nc 9\n"),
-        Text(b"a x\na y\na z\nb w\n"),
-    ],
+    files: &[Text(b"a 1\na 2\nc 9\n"), Text(b"a x\na y\na z\nb w\n")],
     ..PLAIN
 };
 

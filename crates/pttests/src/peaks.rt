@@ -67,11 +67,7 @@ fn assert_alike(
 type Peak = (&'static [&'static str], &'static [&'static [Part]], u128);
 
 // A command over its files, whole and in pieces.
-fn expect_peaks(
-    rt: &impl Abort,
-    own: Global,
-    (words, files, peak): &Peak,
-) -> Result<(), Fail> {
+fn expect_peaks(rt: &impl Abort, own: Global, (words, files, peak): &Peak) -> Result<(), Fail> {
     let first = text_of(own, files.first().unwrap_or(&NO_PARTS))?;
     let second = text_of(own, files.get(1).unwrap_or(&NO_PARTS))?;
     let texts = [Text(&first), Text(&second)];

@@ -11,7 +11,7 @@ type Refusal = (&'static [&'static str], &'static str);
 
 const NO_TOOL: &str = "ptext: first word: cut, paste, join, comm, uniq or tr\n";
 
-const REFUSED: &[Refusal] = &[
+const OPTIONS: &[Refusal] = &[
     // No tool.
     (&[], NO_TOOL),
     (&["cat"], NO_TOOL),
@@ -44,6 +44,9 @@ const REFUSED: &[Refusal] = &[
     (&["join", "-t"], "join: option -t needs a value\n"),
     (&["join", "-1"], "join: option -1 needs a value\n"),
     (&["join", "-2"], "join: option -2 needs a value\n"),
+];
+
+const TWICE: &[Refusal] = &[
     // Options that are given twice.
     (
         &["cut", "-b", "1", "-b", "2"],
@@ -125,6 +128,9 @@ const REFUSED: &[Refusal] = &[
         &["tr", "-cC", "a", "b"],
         "tr: options -c and -C do not go together\n",
     ),
+];
+
+const VALUES: &[Refusal] = &[
     // `cut` without a list.
     (&["cut"], "cut: one of -b, -c and -f is needed\n"),
     (
@@ -170,6 +176,9 @@ const REFUSED: &[Refusal] = &[
         &["cut", "-d", "::", "-f", "x"],
         "cut: wrong value for option -f: x\n",
     ),
+];
+
+const OTHER_VALUES: &[Refusal] = &[
     // Values of `paste` and `uniq`.
     (
         &["paste", "-d", "", "f"],
@@ -229,6 +238,9 @@ const REFUSED: &[Refusal] = &[
         &["join", "-2", "x", "f", "g"],
         "join: wrong value for option -2: x\n",
     ),
+];
+
+const OPERANDS: &[Refusal] = &[
     // Numbers of operands, and standard input twice.
     (&["paste"], "paste: wrong number of operands\n"),
     (
@@ -310,12 +322,28 @@ const REFUSED: &[Refusal] = &[
     ),
 ];
 
-#[test]
-fn words_that_are_no_command(rt: HostRuntime) -> Result<(), Fail> {
-    for (words, message) in REFUSED {
-        expect_refused(&rt, rt.alloc(), words, message)?;
+fn expect_refusals(rt: &impl Abort, alloc: Global, rows: &[Refusal]) -> Result<(), Fail> {
+    for (words, message) in rows {
+        expect_refused(rt, alloc, words, message)?;
     }
     Ok(())
+}
+
+#[test]
+fn options_that_are_refused(rt: HostRuntime) -> Result<(), Fail> {
+    expect_refusals(&rt, rt.alloc(), OPTIONS)?;
+    expect_refusals(&rt, rt.alloc(), TWICE)
+}
+
+#[test]
+fn values_that_are_refused(rt: HostRuntime) -> Result<(), Fail> {
+    expect_refusals(&rt, rt.alloc(), VALUES)?;
+    expect_refusals(&rt, rt.alloc(), OTHER_VALUES)
+}
+
+#[test]
+fn operands_that_are_refused(rt: HostRuntime) -> Result<(), Fail> {
+    expect_refusals(&rt, rt.alloc(), OPERANDS)
 }
 
 // A tool and a word, how many words `-` follow, standard input, what is written, and what is said in place of that.

@@ -10,19 +10,55 @@ use std::process::Abort;
 use std::test::Fail;
 
 const ROWS: &[Row] = &[
-    (&["uniq", "-c"], Text(b"a\na\nb\na"), &[], "2 a\n1 b\n1 a\n", ""),
-    (&["uniq", "-f", "1", "-s", "1"], Text(b" x 1a\ny 1a\n"), &[], " x 1a\n", ""),
-    (&["uniq", "-c", "-f", "1"], Text(b"1 x\n2 x\n3 y"), &[], "2 1 x\n1 3 y\n", ""),
+    (
+        &["uniq", "-c"],
+        Text(b"a\na\nb\na"),
+        &[],
+        "2 a\n1 b\n1 a\n",
+        "",
+    ),
+    (
+        &["uniq", "-f", "1", "-s", "1"],
+        Text(b" x 1a\ny 1a\n"),
+        &[],
+        " x 1a\n",
+        "",
+    ),
+    (
+        &["uniq", "-c", "-f", "1"],
+        Text(b"1 x\n2 x\n3 y"),
+        &[],
+        "2 1 x\n1 3 y\n",
+        "",
+    ),
     // Fewer fields or bytes than are passed over: the keys are empty.
     (&["uniq", "-f", "2"], Text(b"a b\nc\n"), &[], "a b\n", ""),
-    (&["uniq", "-s", "18446744073709551615"], Text(b"a\nb\n"), &[], "a\n", ""),
+    (
+        &["uniq", "-s", "18446744073709551615"],
+        Text(b"a\nb\n"),
+        &[],
+        "a\n",
+        "",
+    ),
     (&["uniq", "-d"], Text(b"a\na\nb\n"), &[], "a\n", ""),
     (&["uniq", "-u"], Text(b"a\na\nb\n"), &[], "b\n", ""),
     (&["uniq", "-"], Text(b"a\na\n"), &[], "a\n", ""),
     (&["uniq"], Text(b"\n\n"), &[], "\n", ""),
     (&["uniq", "-c"], Text(b""), &[], "", ""),
-    (&["uniq", "-zc"], Text(b"a\x00a\x00b"), &[], "2 a\x001 b\x00", ""),
-    (&["uniq", "-z"], Text(b"a\nb\x00a\nb\x00a\x00"), &[], "a\nb\x00a\x00", ""),
+    (
+        &["uniq", "-zc"],
+        Text(b"a\x00a\x00b"),
+        &[],
+        "2 a\x001 b\x00",
+        "",
+    ),
+    (
+        &["uniq", "-z"],
+        Text(b"a\nb\x00a\nb\x00a\x00"),
+        &[],
+        "a\nb\x00a\x00",
+        "",
+    ),
     // A file and an output.
     (
         &["uniq", "-d", "f", "out"],
@@ -42,35 +78,87 @@ const UNREAD: &str = "uniq: standard input: read failed\n";
 
 // In reads of two bytes. Nothing of the last run is written.
 const READS: &[Row] = &[
-    (&["uniq", "-c"], Failing(b"a\na\nb\nb\nc", 0), &[], "", UNREAD),
-    (&["uniq", "-c"], Failing(b"a\na\nb\nb\nc", 1), &[], "", UNREAD),
-    (&["uniq", "-c"], Failing(b"a\na\nb\nb\nc", 2), &[], "", UNREAD),
-    (&["uniq", "-c"], Failing(b"a\na\nb\nb\nc", 3), &[], "2 a\n", UNREAD),
-    (&["uniq", "-c"], Failing(b"a\na\nb\nb\nc", 4), &[], "2 a\n", UNREAD),
-    (&["uniq", "-c"], Failing(b"a\na\nb\nb\nc", 5), &[], "2 a\n", UNREAD),
+    (
+        &["uniq", "-c"],
+        Failing(b"a\na\nb\nb\nc", 0),
+        &[],
+        "",
+        UNREAD,
+    ),
+    (
+        &["uniq", "-c"],
+        Failing(b"a\na\nb\nb\nc", 1),
+        &[],
+        "",
+        UNREAD,
+    ),
+    (
+        &["uniq", "-c"],
+        Failing(b"a\na\nb\nb\nc", 2),
+        &[],
+        "",
+        UNREAD,
+    ),
+    (
+        &["uniq", "-c"],
+        Failing(b"a\na\nb\nb\nc", 3),
+        &[],
+        "2 a\n",
+        UNREAD,
+    ),
+    (
+        &["uniq", "-c"],
+        Failing(b"a\na\nb\nb\nc", 4),
+        &[],
+        "2 a\n",
+        UNREAD,
+    ),
+    (
+        &["uniq", "-c"],
+        Failing(b"a\na\nb\nb\nc", 5),
+        &[],
+        "2 a\n",
+        UNREAD,
+    ),
     (&["uniq", "-c"], Failing(b"a\na\nb\na", 0), &[], "", UNREAD),
     (&["uniq", "-c"], Failing(b"a\na\nb\na", 1), &[], "", UNREAD),
     (&["uniq", "-c"], Failing(b"a\na\nb\na", 2), &[], "", UNREAD),
-    (&["uniq", "-c"], Failing(b"a\na\nb\na", 3), &[], "2 a\n", UNREAD),
-    (&["uniq", "-c"], Failing(b"a\na\nb\na", 4), &[], "2 a\n", UNREAD),
+    (
+        &["uniq", "-c"],
+        Failing(b"a\na\nb\na", 3),
+        &[],
+        "2 a\n",
+        UNREAD,
+    ),
+    (
+        &["uniq", "-c"],
+        Failing(b"a\na\nb\na", 4),
+        &[],
+        "2 a\n",
+        UNREAD,
+    ),
     (&["uniq"], Failing(b"a\na\nb", 3), &[], "", UNREAD),
-    (&["uniq", "-c"], Failing(b"a\nb\nc", 3), &[], "1 a\n", UNREAD),
+    (
+        &["uniq", "-c"],
+        Failing(b"a\nb\nc", 3),
+        &[],
+        "1 a\n",
+        UNREAD,
+    ),
 ];
 
 // Nothing is written, and the sink, which would fail, is not flushed.
-const UNOPENED: &[Run] = &[
-    (
-        Case {
-            words: &["uniq", "g", "out"],
-            standard: Text(b"a\n"),
-            files: &[Refused],
-            out: Limits { passing: 0, ..FREE },
-            ..PLAIN
-        },
-        "",
-        "uniq: g: cannot be opened\n",
-    ),
-];
+const UNOPENED: &[Run] = &[(
+    Case {
+        words: &["uniq", "g", "out"],
+        standard: Text(b"a\n"),
+        files: &[Refused],
+        out: Limits { passing: 0, ..FREE },
+        ..PLAIN
+    },
+    "",
+    "uniq: g: cannot be opened\n",
+)];
 
 const ONCE: &str = "ab\ncd\n";
 
@@ -98,29 +186,37 @@ const LONGER: Case = Case {
 };
 
 const UNWRITTEN: &[Unwritten] = &[
-    (LINES, "uniq: output: write failed\n", &[
-    (2, usize::MAX, 0, ""),
-    (2, usize::MAX, 1, "ab"),
-    (2, usize::MAX, 2, "ab\n"),
-    (2, usize::MAX, 3, "ab\ncd"),
-    (2, usize::MAX, 4, ONCE),
-    (usize::MAX, 5, u64::MAX, "ab\ncd"),
-]),
-    (COUNTED, "uniq: output: write failed\n", &[
-    (1, usize::MAX, 0, ""),
-    (1, usize::MAX, 1, "2"),
-    (1, usize::MAX, 2, "2 "),
-    (1, usize::MAX, 3, "2 a"),
-    (1, usize::MAX, 4, "2 a\n"),
-    (1, usize::MAX, 5, "2 a\n1"),
-    (1, usize::MAX, 6, "2 a\n1 "),
-    (1, usize::MAX, 7, "2 a\n1 b"),
-    (1, usize::MAX, 8, "2 a\n1 b\n"),
-    (1, usize::MAX, 9, "2 a\n1 b\n1"),
-    (1, usize::MAX, 10, "2 a\n1 b\n1 "),
-    (1, usize::MAX, 11, "2 a\n1 b\n1 a"),
-    (1, usize::MAX, 12, COUNTS),
-]),
+    (
+        LINES,
+        "uniq: output: write failed\n",
+        &[
+            (2, usize::MAX, 0, ""),
+            (2, usize::MAX, 1, "ab"),
+            (2, usize::MAX, 2, "ab\n"),
+            (2, usize::MAX, 3, "ab\ncd"),
+            (2, usize::MAX, 4, ONCE),
+            (usize::MAX, 5, u64::MAX, "ab\ncd"),
+        ],
+    ),
+    (
+        COUNTED,
+        "uniq: output: write failed\n",
+        &[
+            (1, usize::MAX, 0, ""),
+            (1, usize::MAX, 1, "2"),
+            (1, usize::MAX, 2, "2 "),
+            (1, usize::MAX, 3, "2 a"),
+            (1, usize::MAX, 4, "2 a\n"),
+            (1, usize::MAX, 5, "2 a\n1"),
+            (1, usize::MAX, 6, "2 a\n1 "),
+            (1, usize::MAX, 7, "2 a\n1 b"),
+            (1, usize::MAX, 8, "2 a\n1 b\n"),
+            (1, usize::MAX, 9, "2 a\n1 b\n1"),
+            (1, usize::MAX, 10, "2 a\n1 b\n1 "),
+            (1, usize::MAX, 11, "2 a\n1 b\n1 a"),
+            (1, usize::MAX, 12, COUNTS),
+        ],
+    ),
 ];
 
 const NO_MEMORY: &str = "uniq: out of memory\n";

@@ -44,7 +44,11 @@ fn growths_over(
 ) -> Result<u64, Fail> {
     let text = numbers(alloc, lines)?;
     let both = [Text(&text), Text(&text)];
-    growths(rt, alloc, &over(&*words, Text(b""), &both[..files.min(2)], 20))
+    growths(
+        rt,
+        alloc,
+        &over(&*words, Text(b""), &both[..files.min(2)], 20),
+    )
 }
 
 // Memory is asked for as often over 10 lines as over 100,000, in so many files, which are one or two.
