@@ -1,136 +1,104 @@
 //! `paste` in whole runs.
 
+use crate::commands::Input::{Failing, Refused, Text};
 use crate::commands::{
-    Case, Expected, FREE, Input, Limits, Row, SIZES, expect, expect_growths_refused, expect_rows,
-    expect_untouched, expect_without_growth, over_files, over_standard, run_over, writes,
+    Case, FREE, Growing, Input, Limits, PLAIN, Row, Run, SIZES, Unwritten, expect_growths_refused,
+    expect_long, expect_rows, expect_runs, expect_untouched, expect_unwritten,
 };
-use crate::comparing::{holds_of, same};
 use ptfakes::texts::text_of;
-use std::alloc::{AllocError, Global};
+use std::alloc::Global;
 use std::process::Abort;
-use std::str;
 use std::test::Fail;
 
 const ROWS: &[Row] = &[
     (
         &["paste", "-d", "\\0,", "-", "-", "-"],
-        "1\n2\n3\n4\n",
+        Text(b"1\n2\n3\n4\n"),
+        &[],
         "12,3\n4,\n",
+        "",
     ),
-    (&["paste", "-"], "", ""),
-    (&["paste", "-"], "a\n\nb", "a\n\nb\n"),
-    (&["paste", "-", "-"], "a\0b\n", "a\0b\t\n"),
-    (&["paste", "-zd", "\\n", "-", "-"], "1\x002\n3", "1\n2\n3\0"),
-    (&["paste", "-s", "-"], "", "\n"),
-    (&["paste", "-s", "-"], "1\n\n2", "1\t\t2\n"),
+    (&["paste", "-"], Text(b""), &[], "", ""),
+    (&["paste", "-"], Text(b"a\n\nb"), &[], "a\n\nb\n", ""),
+    (&["paste", "-", "-"], Text(b"a\0b\n"), &[], "a\0b\t\n", ""),
+    (
+        &["paste", "-zd", "\\n", "-", "-"],
+        Text(b"1\x002\n3"),
+        &[],
+        "1\n2\n3\0",
+        "",
+    ),
+    (&["paste", "-s", "-"], Text(b""), &[], "\n", ""),
+    (&["paste", "-s", "-"], Text(b"1\n\n2"), &[], "1\t\t2\n", ""),
     (
         &["paste", "-s", "-d", "\\0\\n", "-"],
-        "a\nb\nc\nd\n",
+        Text(b"a\nb\nc\nd\n"),
+        &[],
         "ab\ncd\n",
+        "",
     ),
-    (&["paste", "-sz", "-"], "1\x002\n3", "1\t2\n3\0"),
-];
-
-#[test]
-fn lines_of_standard_input(rt: HostRuntime) -> Result<(), Fail> {
-    expect_rows(&rt, rt.alloc(), ROWS)
-}
-
-// Words, standard input, the files, and what is written.
-type FileRow = (
-    &'static [&'static str],
-    &'static str,
-    &'static [&'static str],
-    &'static str,
-);
-
-const FILE_ROWS: &[FileRow] = &[
+    (
+        &["paste", "-sz", "-"],
+        Text(b"1\x002\n3"),
+        &[],
+        "1\t2\n3\0",
+        "",
+    ),
+    // Files.
     (
         &["paste", "f", "-", "g", "-"],
-        "1\n2\n3\n",
-        &["a\n", ""],
+        Text(b"1\n2\n3\n"),
+        &[Text(b"a\n"), Text(b"")],
         "a\t1\t\t2\n\t3\t\t\n",
+        "",
     ),
-    (&["paste", "f", "f"], "", &["a\nb", "a\nb"], "a\ta\nb\tb\n"),
+    (
+        &["paste", "f", "f"],
+        Text(b""),
+        &[Text(b"a\nb"), Text(b"a\nb")],
+        "a\ta\nb\tb\n",
+        "",
+    ),
     (
         &["paste", "-s", "-d", "\\0\\n", "f"],
-        "",
-        &["a\nb\nc\nd\n"],
+        Text(b""),
+        &[Text(b"a\nb\nc\nd\n")],
         "ab\ncd\n",
+        "",
     ),
     (
         &["paste", "-d", "12", "-", "f", "-"],
-        "1\n2\n3\n4\n5\n",
-        &["a\nb"],
+        Text(b"1\n2\n3\n4\n5\n"),
+        &[Text(b"a\nb")],
         "11a22\n31b24\n512\n",
+        "",
     ),
     (
         &["paste", "-z", "f", "g"],
-        "",
-        &["a\0b\nc", "1\0"],
+        Text(b""),
+        &[Text(b"a\0b\nc"), Text(b"1\0")],
         "a\t1\0b\nc\t\0",
+        "",
     ),
     (
         &["paste", "-s", "-d", ",;", "f", "g"],
-        "",
-        &["a\nb\nc\n", ""],
+        Text(b""),
+        &[Text(b"a\nb\nc\n"), Text(b"")],
         "a,b;c\n\n",
+        "",
     ),
     (
         &["paste", "-s", "-", "f", "-"],
-        "1\n2\n",
-        &["x\n"],
+        Text(b"1\n2\n"),
+        &[Text(b"x\n")],
         "1\t2\nx\n\n",
+        "",
     ),
 ];
 
-// Files in pieces of so many bytes.
-fn in_pieces<'a>(
-    alloc: Global,
-    texts: &[&'a str],
-    size: usize,
-) -> Result<Vec<Input<'a>>, AllocError> {
-    let mut files = Vec::new(alloc);
-    for text in texts {
-        files.push(Input::Pieces(text.as_bytes(), size))?;
-    }
-    Ok(files)
-}
-
-fn expect_of_files(
-    rt: &impl Abort,
-    alloc: Global,
-    (words, standard, texts, out): &FileRow,
-) -> Result<(), Fail> {
-    for size in SIZES {
-        let files = in_pieces(alloc, texts, *size)?;
-        let case = Case {
-            words,
-            standard: Input::Pieces(standard.as_bytes(), *size),
-            files: &files,
-            out: FREE,
-            messages: FREE,
-        };
-        expect(rt, alloc, &case, &writes(out))?;
-    }
-    Ok(())
-}
-
 #[test]
-fn lines_of_files(rt: HostRuntime) -> Result<(), Fail> {
-    for row in FILE_ROWS {
-        expect_of_files(&rt, rt.alloc(), row)?;
-    }
-    Ok(())
-}
-
-#[test]
-fn as_many_columns_as_it_takes(rt: HostRuntime) -> Result<(), Fail> {
-    let mut words = vec![in rt.alloc(); "-"; 514]?;
-    words[0] = "paste";
-    words[1] = "-d\\0";
-    let case = over_standard(&words, b"ab\n\ncd\n", 7);
-    expect(&rt, rt.alloc(), &case, &writes("abcd\n"))
+fn lines_of_standard_input_and_files(rt: HostRuntime) -> Result<(), Fail> {
+    expect_rows(&rt, rt.alloc(), SIZES, ROWS)
 }
 
 // Words, the byte that ends lines, and how many lines are held.
@@ -144,7 +112,7 @@ const LONG: &[(&[&str], u8, u128)] = &[
 const LENGTHS: &[usize] = &[0, 1, 8190, 8191, 8192, 8193, 20000];
 
 // Two lines of this length in one row.
-fn expect_long(
+fn expect_across(
     rt: &impl Abort,
     alloc: Global,
     length: usize,
@@ -153,83 +121,69 @@ fn expect_long(
     let text = text_of(alloc, &[length, length], *ending, true)?;
     let mut row = text_of(alloc, &[length, length], b'\t', false)?;
     row.push(*ending)?;
-    for size in SIZES {
-        let case = over_standard(words, &text, *size);
-        let report = run_over(rt, alloc, alloc, &case)?;
-        same(rt, &report.status, &0);
-        let is_row = report.out.bytes() == row.as_slice();
-        holds_of(rt, &(length, *size), is_row);
-        let longest = held.saturating_mul(length as u128);
-        holds_of(rt, &(length, *size), report.peak <= longest);
-    }
-    Ok(())
+    let longest = held.saturating_mul(length as u128);
+    expect_long(rt, alloc, words, (length, &text), &row, longest)
 }
 
 #[test]
 fn lines_across_blocks(rt: HostRuntime) -> Result<(), Fail> {
     for long in LONG {
         for length in LENGTHS {
-            expect_long(&rt, rt.alloc(), *length, long)?;
+            expect_across(&rt, rt.alloc(), *length, long)?;
         }
     }
     Ok(())
 }
 
-#[test]
-fn a_long_line_in_series_takes_no_memory(rt: HostRuntime) -> Result<(), Fail> {
-    let text = text_of(rt.alloc(), &[1_000_000], b'\n', true)?;
-    let line = str::from_utf8(&text)?;
-    let case = over_standard(&["paste", "-s", "-"], &text, usize::MAX);
-    expect_without_growth(&rt, rt.alloc(), &case, &writes(line))
-}
+const REFUSED: &[Input] = &[Refused, Text(b"a\nb\n"), Refused];
 
-#[test]
-fn nothing_is_touched_where_an_operand_is_refused(rt: HostRuntime) -> Result<(), Fail> {
-    let words = ["paste", "-", "g", "-"];
-    expect_untouched(&rt, rt.alloc(), &words, "paste: g: cannot be opened\n")
-}
+const BOTH_REFUSED: &str = "paste: g: cannot be opened\npaste: h: cannot be opened\n";
 
-const REFUSED: &[Input] = &[Input::Refused, Input::Whole(b"a\nb\n"), Input::Refused];
-
-// Words, and what is written. Each refused file is named in both cases.
-const WITHOUT: &[(&[&str], &str)] = &[
-    (&["paste", "g", "f", "h"], ""),
-    (&["paste", "-s", "g", "f", "h"], "a\tb\n"),
-    (&["paste", "-s", "g", "f", "-", "h"], "a\tb\n\n"),
+const UNOPENED: &[Row] = &[
+    // A second column.
+    (
+        &["paste", "f", "g"],
+        Text(b""),
+        &[Text(b"a\n"), Refused],
+        "",
+        "paste: g: cannot be opened\n",
+    ),
+    // Each refused file is named.
+    (
+        &["paste", "g", "f", "h"],
+        Text(b""),
+        REFUSED,
+        "",
+        BOTH_REFUSED,
+    ),
+    (
+        &["paste", "-s", "g", "f", "h"],
+        Text(b""),
+        REFUSED,
+        "a\tb\n",
+        BOTH_REFUSED,
+    ),
+    (
+        &["paste", "-s", "g", "f", "-", "h"],
+        Text(b""),
+        REFUSED,
+        "a\tb\n\n",
+        BOTH_REFUSED,
+    ),
 ];
 
 #[test]
-fn a_refused_second_column(rt: HostRuntime) -> Result<(), Fail> {
-    let files = [Input::Whole(b"a\n"), Input::Refused];
-    let expected = Expected {
-        out: "",
-        messages: "paste: g: cannot be opened\n",
-        status: 1,
-    };
-    expect(
-        &rt,
-        rt.alloc(),
-        &over_files(&["paste", "f", "g"], &files),
-        &expected,
-    )
-}
-
-#[test]
 fn refused_operands_are_named(rt: HostRuntime) -> Result<(), Fail> {
-    for (words, out) in WITHOUT {
-        let expected = Expected {
-            out,
-            messages: "paste: g: cannot be opened\npaste: h: cannot be opened\n",
-            status: 1,
-        };
-        expect(&rt, rt.alloc(), &over_files(words, REFUSED), &expected)?;
-    }
-    Ok(())
+    expect_rows(&rt, rt.alloc(), &[usize::MAX], UNOPENED)?;
+    let words = ["paste", "-", "g", "-"];
+    expect_untouched(&rt, rt.alloc(), &words, "paste: g: cannot be opened\n")
 }
 
 const F: &[u8] = b"1\n2\n3\n";
 
 const G: &[u8] = b"x\ny";
+
+const FILES: &[Input] = &[Text(F), Text(G)];
 
 pub const BESIDE: &[&str] = &["paste", "f", "g"];
 
@@ -239,223 +193,242 @@ pub const SERIES: &[&str] = &["paste", "-s", "f", "g"];
 
 const SERIES_OUT: &str = "1\t2\t3\nx\ty\n";
 
-// How many reads of two bytes pass, of the first file and of the second, what is written, and which file is named.
-type Unread = (u64, u64, &'static str, &'static str);
-
-// Nothing of the row in which the read fails is written.
-const BESIDE_UNREAD: &[Unread] = &[
-    (0, 0, "", "paste: f: read failed\n"),
-    (1, 0, "", "paste: g: read failed\n"),
-    (1, 1, "1\tx\n", "paste: f: read failed\n"),
-    (2, 1, "1\tx\n", "paste: g: read failed\n"),
-    (2, 2, "1\tx\n", "paste: g: read failed\n"),
-    (2, 3, "1\tx\n2\ty\n", "paste: f: read failed\n"),
-    (3, 3, BESIDE_OUT, "paste: f: read failed\n"),
-];
-
-// All that came is written.
-const SERIES_UNREAD: &[Unread] = &[
-    (0, 9, "", "paste: f: read failed\n"),
-    (1, 9, "1", "paste: f: read failed\n"),
-    (2, 9, "1\t2", "paste: f: read failed\n"),
-    (3, 9, "1\t2\t3", "paste: f: read failed\n"),
-    (4, 0, "1\t2\t3\n", "paste: g: read failed\n"),
-    (4, 1, "1\t2\t3\nx", "paste: g: read failed\n"),
-    (4, 2, "1\t2\t3\nx\ty", "paste: g: read failed\n"),
-];
-
-fn expect_unread(
-    rt: &impl Abort,
-    alloc: Global,
-    words: &[&str],
-    rows: &[Unread],
-) -> Result<(), Fail> {
-    for (first, second, out, messages) in rows {
-        let files = [Input::Failing(F, 2, *first), Input::Failing(G, 2, *second)];
-        let expected = Expected {
-            out,
-            messages,
-            status: 1,
-        };
-        expect(rt, alloc, &over_files(&*words, &files), &expected)?;
-    }
-    Ok(())
-}
-
-#[test]
-fn each_read_fails(rt: HostRuntime) -> Result<(), Fail> {
-    expect_unread(&rt, rt.alloc(), BESIDE, BESIDE_UNREAD)?;
-    expect_unread(&rt, rt.alloc(), SERIES, SERIES_UNREAD)
-}
-
-// How many reads of standard input pass, and what two columns of it give.
-const SHARED: &[(u64, &str)] = &[
-    (0, ""),
-    (1, ""),
-    (2, "1\t2\n"),
-    (3, "1\t2\n"),
-    (4, "1\t2\n"),
-];
-
-#[test]
-fn each_read_of_a_shared_input_fails(rt: HostRuntime) -> Result<(), Fail> {
-    for (passing, out) in SHARED {
-        let mut case = over_standard(&["paste", "-", "-"], b"", 2);
-        case.standard = Input::Failing(b"1\n2\n3\n4", 2, *passing);
-        let expected = Expected {
-            out,
-            messages: "paste: standard input: read failed\n",
-            status: 1,
-        };
-        expect(&rt, rt.alloc(), &case, &expected)?;
-    }
-    Ok(())
-}
+const TWO: &[&str] = &["paste", "-", "-"];
 
 const THREE: &[&str] = &["paste", "-d", "\\0,", "-", "-", "-"];
 
 const THREE_OUT: &str = "12,3\n4,\n";
 
-// How many reads of standard input pass, and what three columns of it give.
-const THREE_UNREAD: &[(u64, &str)] = &[(0, ""), (1, ""), (2, ""), (3, "12,3\n"), (4, "12,3\n")];
+const UNREAD: &str = "paste: standard input: read failed\n";
 
-// How many writes of one byte pass, and what is written. The last call is a flush.
-const THREE_UNWRITTEN: &[(u64, &str)] = &[
-    (0, ""),
-    (1, "1"),
-    (2, "12"),
-    (3, "12,"),
-    (4, "12,3"),
-    (5, "12,3\n"),
-    (6, "12,3\n4"),
-    (7, "12,3\n4,"),
-    (8, THREE_OUT),
+const F_UNREAD: &str = "paste: f: read failed\n";
+
+const G_UNREAD: &str = "paste: g: read failed\n";
+
+// In reads of two bytes.
+const READS: &[Row] = &[
+    // Nothing of the row in which the read fails is written.
+    (
+        BESIDE,
+        Text(b""),
+        &[Failing(F, 0), Failing(G, 0)],
+        "",
+        F_UNREAD,
+    ),
+    (
+        BESIDE,
+        Text(b""),
+        &[Failing(F, 1), Failing(G, 0)],
+        "",
+        G_UNREAD,
+    ),
+    (
+        BESIDE,
+        Text(b""),
+        &[Failing(F, 1), Failing(G, 1)],
+        "1\tx\n",
+        F_UNREAD,
+    ),
+    (
+        BESIDE,
+        Text(b""),
+        &[Failing(F, 2), Failing(G, 1)],
+        "1\tx\n",
+        G_UNREAD,
+    ),
+    (
+        BESIDE,
+        Text(b""),
+        &[Failing(F, 2), Failing(G, 2)],
+        "1\tx\n",
+        G_UNREAD,
+    ),
+    (
+        BESIDE,
+        Text(b""),
+        &[Failing(F, 2), Failing(G, 3)],
+        "1\tx\n2\ty\n",
+        F_UNREAD,
+    ),
+    (
+        BESIDE,
+        Text(b""),
+        &[Failing(F, 3), Failing(G, 3)],
+        BESIDE_OUT,
+        F_UNREAD,
+    ),
+    // In series all that came is written.
+    (
+        SERIES,
+        Text(b""),
+        &[Failing(F, 0), Failing(G, 9)],
+        "",
+        F_UNREAD,
+    ),
+    (
+        SERIES,
+        Text(b""),
+        &[Failing(F, 1), Failing(G, 9)],
+        "1",
+        F_UNREAD,
+    ),
+    (
+        SERIES,
+        Text(b""),
+        &[Failing(F, 2), Failing(G, 9)],
+        "1\t2",
+        F_UNREAD,
+    ),
+    (
+        SERIES,
+        Text(b""),
+        &[Failing(F, 3), Failing(G, 9)],
+        "1\t2\t3",
+        F_UNREAD,
+    ),
+    (
+        SERIES,
+        Text(b""),
+        &[Failing(F, 4), Failing(G, 0)],
+        "1\t2\t3\n",
+        G_UNREAD,
+    ),
+    (
+        SERIES,
+        Text(b""),
+        &[Failing(F, 4), Failing(G, 1)],
+        "1\t2\t3\nx",
+        G_UNREAD,
+    ),
+    (
+        SERIES,
+        Text(b""),
+        &[Failing(F, 4), Failing(G, 2)],
+        "1\t2\t3\nx\ty",
+        G_UNREAD,
+    ),
+    // Columns share standard input.
+    (TWO, Failing(b"1\n2\n3\n4", 0), &[], "", UNREAD),
+    (TWO, Failing(b"1\n2\n3\n4", 1), &[], "", UNREAD),
+    (TWO, Failing(b"1\n2\n3\n4", 2), &[], "1\t2\n", UNREAD),
+    (TWO, Failing(b"1\n2\n3\n4", 3), &[], "1\t2\n", UNREAD),
+    (TWO, Failing(b"1\n2\n3\n4", 4), &[], "1\t2\n", UNREAD),
+    (THREE, Failing(b"1\n2\n3\n4\n", 0), &[], "", UNREAD),
+    (THREE, Failing(b"1\n2\n3\n4\n", 1), &[], "", UNREAD),
+    (THREE, Failing(b"1\n2\n3\n4\n", 2), &[], "", UNREAD),
+    (THREE, Failing(b"1\n2\n3\n4\n", 3), &[], "12,3\n", UNREAD),
+    (THREE, Failing(b"1\n2\n3\n4\n", 4), &[], "12,3\n", UNREAD),
 ];
 
-#[test]
-fn three_columns_of_standard_input_fail(rt: HostRuntime) -> Result<(), Fail> {
-    for (passing, out) in THREE_UNREAD {
-        let mut case = over_standard(THREE, b"", 2);
-        case.standard = Input::Failing(b"1\n2\n3\n4\n", 2, *passing);
-        let messages = "paste: standard input: read failed\n";
-        let expected = Expected {
-            out,
-            messages,
-            status: 1,
-        };
-        expect(&rt, rt.alloc(), &case, &expected)?;
-    }
-    for (passing, out) in THREE_UNWRITTEN {
-        let mut case = over_standard(THREE, b"1\n2\n3\n4\n", 1);
-        case.out.size = 1;
-        case.out.passing = *passing;
-        let messages = "paste: output: write failed\n";
-        let expected = Expected {
-            out,
-            messages,
-            status: 1,
-        };
-        expect(&rt, rt.alloc(), &case, &expected)?;
-    }
-    Ok(())
-}
+const IN_ROWS: Case = Case {
+    words: BESIDE,
+    files: FILES,
+    ..PLAIN
+};
 
-const FILES: &[Input] = &[Input::Whole(F), Input::Whole(G)];
+const IN_SERIES: Case = Case {
+    words: SERIES,
+    files: FILES,
+    ..PLAIN
+};
 
-// How many bytes a call takes, how many in all, how many calls pass, and what is written. The last call is a flush.
-type Unwritten = (usize, usize, u64, &'static str);
+const OF_THREE: Case = Case {
+    words: THREE,
+    standard: Text(b"1\n2\n3\n4\n"),
+    size: 1,
+    ..PLAIN
+};
 
-// The first row is sent before the end of g is asked for, and the others before that of f.
-const BESIDE_UNWRITTEN: &[Unwritten] = &[
-    (3, usize::MAX, 0, ""),
-    (3, usize::MAX, 1, "1\tx"),
-    (3, usize::MAX, 2, "1\tx\n"),
-    (3, usize::MAX, 3, "1\tx\n2\ty"),
-    (3, usize::MAX, 4, "1\tx\n2\ty\n3\t"),
-    (3, usize::MAX, 5, BESIDE_OUT),
-    (usize::MAX, usize::MAX, 1, "1\tx\n"),
-    (usize::MAX, usize::MAX, 2, BESIDE_OUT),
-    (usize::MAX, 4, u64::MAX, "1\tx\n"),
-    (1, 5, u64::MAX, "1\tx\n2"),
+const ONE_COLUMN: Case = Case {
+    words: &["paste", "f"],
+    files: &[Text(b"ab\ncd\n")],
+    ..PLAIN
+};
+
+const WRITE_FAILED: &str = "paste: output: write failed\n";
+
+const UNWRITTEN: &[Unwritten] = &[
+    // The first row is sent before the end of g is asked for, and the others before that of f.
+    (
+        IN_ROWS,
+        WRITE_FAILED,
+        &[
+            (3, usize::MAX, 0, ""),
+            (3, usize::MAX, 1, "1\tx"),
+            (3, usize::MAX, 2, "1\tx\n"),
+            (3, usize::MAX, 3, "1\tx\n2\ty"),
+            (3, usize::MAX, 4, "1\tx\n2\ty\n3\t"),
+            (3, usize::MAX, 5, BESIDE_OUT),
+            (usize::MAX, usize::MAX, 1, "1\tx\n"),
+            (usize::MAX, usize::MAX, 2, BESIDE_OUT),
+            (usize::MAX, 4, u64::MAX, "1\tx\n"),
+            (1, 5, u64::MAX, "1\tx\n2"),
+        ],
+    ),
+    // The lines of a file are sent before its end is asked for, and the newline behind them comes with the end.
+    (
+        IN_SERIES,
+        WRITE_FAILED,
+        &[
+            (3, usize::MAX, 0, ""),
+            (3, usize::MAX, 1, "1\t2"),
+            (3, usize::MAX, 2, "1\t2\t3"),
+            (3, usize::MAX, 3, "1\t2\t3\n"),
+            (3, usize::MAX, 4, "1\t2\t3\nx\ty"),
+            (3, usize::MAX, 5, SERIES_OUT),
+            (usize::MAX, usize::MAX, 1, "1\t2\t3"),
+            (usize::MAX, usize::MAX, 4, SERIES_OUT),
+            (usize::MAX, 4, u64::MAX, "1\t2\t"),
+            (1, 7, u64::MAX, "1\t2\t3\nx"),
+        ],
+    ),
+    (
+        OF_THREE,
+        WRITE_FAILED,
+        &[
+            (1, usize::MAX, 0, ""),
+            (1, usize::MAX, 1, "1"),
+            (1, usize::MAX, 2, "12"),
+            (1, usize::MAX, 3, "12,"),
+            (1, usize::MAX, 4, "12,3"),
+            (1, usize::MAX, 5, "12,3\n"),
+            (1, usize::MAX, 6, "12,3\n4"),
+            (1, usize::MAX, 7, "12,3\n4,"),
+            (1, usize::MAX, 8, THREE_OUT),
+        ],
+    ),
+    (
+        ONE_COLUMN,
+        WRITE_FAILED,
+        &[(usize::MAX, 3, u64::MAX, "ab\n")],
+    ),
 ];
-
-// The lines of a file are sent before its end is asked for, and the newline behind them comes with the end.
-const SERIES_UNWRITTEN: &[Unwritten] = &[
-    (3, usize::MAX, 0, ""),
-    (3, usize::MAX, 1, "1\t2"),
-    (3, usize::MAX, 2, "1\t2\t3"),
-    (3, usize::MAX, 3, "1\t2\t3\n"),
-    (3, usize::MAX, 4, "1\t2\t3\nx\ty"),
-    (3, usize::MAX, 5, SERIES_OUT),
-    (usize::MAX, usize::MAX, 1, "1\t2\t3"),
-    (usize::MAX, usize::MAX, 4, SERIES_OUT),
-    (usize::MAX, 4, u64::MAX, "1\t2\t"),
-    (1, 7, u64::MAX, "1\t2\t3\nx"),
-];
-
-fn expect_unwritten(
-    rt: &impl Abort,
-    alloc: Global,
-    words: &[&str],
-    rows: &[Unwritten],
-) -> Result<(), Fail> {
-    for (size, room, passing, out) in rows {
-        let mut case = over_files(&*words, FILES);
-        case.out = Limits {
-            size: *size,
-            room: *room,
-            passing: *passing,
-        };
-        let expected = Expected {
-            out,
-            messages: "paste: output: write failed\n",
-            status: 1,
-        };
-        expect(rt, alloc, &case, &expected)?;
-    }
-    Ok(())
-}
-
-#[test]
-fn each_write_and_the_flush_fail(rt: HostRuntime) -> Result<(), Fail> {
-    expect_unwritten(&rt, rt.alloc(), BESIDE, BESIDE_UNWRITTEN)?;
-    expect_unwritten(&rt, rt.alloc(), SERIES, SERIES_UNWRITTEN)
-}
-
-#[test]
-fn a_column_up_to_a_failed_write(rt: HostRuntime) -> Result<(), Fail> {
-    let mut case = over_files(&["paste", "f"], &[Input::Whole(b"ab\ncd\n")]);
-    case.out.room = 3;
-    let expected = Expected {
-        out: "ab\n",
-        messages: "paste: output: write failed\n",
-        status: 1,
-    };
-    expect(&rt, rt.alloc(), &case, &expected)
-}
 
 // A write that fails is told before a read that does.
-#[test]
-fn a_write_and_a_read_fail(rt: HostRuntime) -> Result<(), Fail> {
-    let files = [Input::Failing(F, 2, 1), Input::Failing(G, 2, 1)];
-    let mut case = over_files(BESIDE, &files);
-    case.out.room = 3;
-    let expected = Expected {
-        out: "1\tx",
-        messages: "paste: output: write failed\n",
-        status: 1,
-    };
-    expect(&rt, rt.alloc(), &case, &expected)
-}
+const BOTH_FAIL: &[Run] = &[(
+    Case {
+        words: BESIDE,
+        files: &[Failing(F, 1), Failing(G, 1)],
+        size: 2,
+        out: Limits { room: 3, ..FREE },
+        ..PLAIN
+    },
+    "1\tx",
+    WRITE_FAILED,
+)];
 
 const NO_MEMORY: &str = "paste: out of memory\n";
 
+const GROWING: &[Growing] = &[
+    (IN_ROWS, BESIDE_OUT, "", NO_MEMORY, false),
+    (IN_SERIES, SERIES_OUT, "", NO_MEMORY, false),
+    (OF_THREE, THREE_OUT, "", NO_MEMORY, false),
+];
+
 #[test]
-fn each_growth_is_refused(rt: HostRuntime) -> Result<(), Fail> {
-    let beside = over_files(BESIDE, FILES);
-    expect_growths_refused(&rt, rt.alloc(), &beside, &writes(BESIDE_OUT), NO_MEMORY)?;
-    let series = over_files(SERIES, FILES);
-    expect_growths_refused(&rt, rt.alloc(), &series, &writes(SERIES_OUT), NO_MEMORY)?;
-    let three = over_standard(THREE, b"1\n2\n3\n4\n", 1);
-    expect_growths_refused(&rt, rt.alloc(), &three, &writes(THREE_OUT), NO_MEMORY)
+fn each_call_and_each_growth_fails(rt: HostRuntime) -> Result<(), Fail> {
+    expect_rows(&rt, rt.alloc(), &[2], READS)?;
+    expect_unwritten(&rt, rt.alloc(), UNWRITTEN)?;
+    expect_runs(&rt, rt.alloc(), BOTH_FAIL)?;
+    expect_growths_refused(&rt, rt.alloc(), GROWING)
 }

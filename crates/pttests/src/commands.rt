@@ -18,12 +18,10 @@ use std::test::Fail;
 /// An input of a command.
 #[derive(Clone, Copy)]
 pub enum Input<'a> {
-    /// In pieces as large as the buffers.
-    Whole(&'a [u8]),
-    /// In pieces of so many bytes.
-    Pieces(&'a [u8], usize),
-    /// In pieces of so many bytes; so many reads pass, and every later one fails.
-    Failing(&'a [u8], usize, u64),
+    /// A text.
+    Text(&'a [u8]),
+    /// A text of which so many reads pass, and every later one fails.
+    Failing(&'a [u8], u64),
     /// A file that cannot be opened.
     Refused,
 }
@@ -43,50 +41,39 @@ pub const FREE: Limits = Limits {
     passing: u64::MAX,
 };
 
-/// A command, and what it is run over.
+/// A command, and what it is run over. Its inputs come in pieces of at most so many bytes.
 #[derive(Clone, Copy)]
 pub struct Case<'a> {
     pub words: &'a [&'a str],
     pub standard: Input<'a>,
     pub files: &'a [Input<'a>],
+    pub size: usize,
     pub out: Limits,
     pub messages: Limits,
 }
 
-/// What a command is to leave.
-#[derive(Clone, Copy)]
-pub struct Expected<'a> {
-    pub out: &'a str,
-    pub messages: &'a str,
-    pub status: u8,
-}
+/// Nothing to read, and sinks that take all. A case says what it has beside that.
+pub const PLAIN: Case<'static> = Case {
+    words: &[],
+    standard: Input::Text(b""),
+    files: &[],
+    size: usize::MAX,
+    out: FREE,
+    messages: FREE,
+};
 
-/// The command writes this, says nothing and succeeds.
-pub fn writes(out: &str) -> Expected<'_> {
-    Expected {
-        out,
-        messages: "",
-        status: 0,
-    }
-}
-
-/// A command over standard input, in pieces of so many bytes.
-pub fn over_standard<'a>(words: &'a [&'a str], text: &'a [u8], size: usize) -> Case<'a> {
+/// A command over these inputs, with sinks that take all.
+pub fn over<'a>(
+    words: &'a [&'a str],
+    standard: Input<'a>,
+    files: &'a [Input<'a>],
+    size: usize,
+) -> Case<'a> {
     Case {
         words,
-        standard: Input::Pieces(text, size),
-        files: &[],
-        out: FREE,
-        messages: FREE,
-    }
-}
-
-/// A command over files. Standard input is empty.
-pub fn over_files<'a>(words: &'a [&'a str], files: &'a [Input<'a>]) -> Case<'a> {
-    Case {
-        words,
-        standard: Input::Whole(b""),
+        standard,
         files,
+        size,
         out: FREE,
         messages: FREE,
     }
@@ -95,31 +82,30 @@ pub fn over_files<'a>(words: &'a [&'a str], files: &'a [Input<'a>]) -> Case<'a> 
 type Reader<'a> = LineReader<Pieces<'a>, Pieces<'a>>;
 
 // What gives an input; nothing for a file that cannot be opened.
-fn source_of<'a>(input: Input<'a>) -> Option<Pieces<'a>>
+fn source_of<'a>(input: Input<'a>, size: usize) -> Option<Pieces<'a>>
     ensures unended { IfSome result (λ source. source.ended ≡ false) }
     ensures unfailed { IfSome result (λ source. source.failed ≡ false) }
 {
     match input {
-        Input::Whole(text) => Some(Pieces::whole(text)),
-        Input::Pieces(text, size) => Some(Pieces::new(text, size, u64::MAX)),
-        Input::Failing(text, size, passing) => Some(Pieces::new(text, size, passing)),
+        Input::Text(text) => Some(Pieces::new(text, size, u64::MAX)),
+        Input::Failing(text, passing) => Some(Pieces::new(text, size, passing)),
         Input::Refused => None,
     }
 }
 
-fn file_of(input: Input<'_>) -> Reader<'_>
+fn file_of(input: Input<'_>, size: usize) -> Reader<'_>
     ensures { IsFresh result }
 {
-    match source_of(input) {
+    match source_of(input, size) {
         Some(source) => LineReader::file(source),
         None => LineReader::refused(),
     }
 }
 
-fn standard_of(input: Input<'_>) -> Reader<'_>
+fn standard_of(input: Input<'_>, size: usize) -> Reader<'_>
     ensures { IsFresh result }
 {
-    match source_of(input) {
+    match source_of(input, size) {
         Some(source) => LineReader::standard(source),
         None => LineReader::refused(),
     }
@@ -136,29 +122,24 @@ pub fn files_named<A: Allocator>(command: &Result<Command<'_, A>, UseFault<'_>>)
 }
 
 // The file at a place; one that cannot be opened where there is none.
-fn file_at<'a>(files: &[Input<'a>], place: usize) -> Reader<'a>
+fn file_at<'a>(files: &[Input<'a>], place: usize, size: usize) -> Reader<'a>
     ensures { IsFresh result }
 {
     match files.get(place) {
-        Some(file) => file_of(*file),
+        Some(file) => file_of(*file, size),
         None => LineReader::refused(),
     }
 }
 
 // Standard input, and then so many files.
-fn readers<'a>(
-    alloc: Global,
-    standard: Input<'a>,
-    files: &[Input<'a>],
-    count: usize,
-) -> Result<Vec<Reader<'a>>, AllocError>
+fn readers<'a>(alloc: Global, case: &Case<'a>, count: usize) -> Result<Vec<Reader<'a>>, AllocError>
     ensures count { IfOk result (λ inputs. vec_len inputs ≡ count + 1) }
     ensures fresh { IfOk result (λ inputs. All IsFresh inputs.items) }
 {
     let mut inputs = Vec::new(alloc);
-    inputs.push(standard_of(standard))?;
+    inputs.push(standard_of(case.standard, case.size))?;
     for place in 0..count {
-        inputs.push(file_at(files, place))?;
+        inputs.push(file_at(case.files, place, case.size))?;
     }
     Ok(inputs)
 }
@@ -179,7 +160,7 @@ pub fn run_over<A: Allocator + Copy>(
     let command = Command::read(alloc, case.words);
     let count = files_named(&command);
     assert!(rt; command.is_err() || case.files.len() == count);
-    let mut inputs = readers(own, case.standard, case.files, count)?;
+    let mut inputs = readers(own, case, count)?;
     let out = sink_of(own, case.out);
     let messages = sink_of(own, case.messages);
     Ok(run(alloc, command, case.words, &mut inputs, out, messages))
@@ -198,7 +179,7 @@ pub fn run_in<A: Allocator + Copy>(
     let command = Command::read(alloc, case.words);
     let count = files_named(&command);
     assert!(rt; case.files.len() == count);
-    let mut inputs = readers(own, case.standard, case.files, count)?;
+    let mut inputs = readers(own, case, count)?;
     let out = sink_of(own, case.out);
     let messages = sink_of(own, case.messages);
     Ok(run_with_store(store, command, case.words, &mut inputs, out, messages))
@@ -209,27 +190,30 @@ pub fn expect(
     rt: &impl Abort,
     alloc: Global,
     case: &Case<'_>,
-    expected: &Expected<'_>,
+    out: &[u8],
+    messages: &str,
 ) -> Result<(), Fail> {
     let report = run_over(rt, alloc, alloc, case)?;
-    assert_left(rt, case, &report, expected);
-    assert!(rt; !report.denied);
+    assert_left(rt, case.words, &report, out, messages);
+    holds_of(rt, &case.words, !report.denied);
     Ok(())
 }
 
-/// Runs a command whose run is refused each growth, those behind the reading of its words: it is to ask for none.
+/// Runs a command whose run is refused each growth, those behind the reading of its words: it is to ask for none, to
+/// hold no line, and to write this.
 pub fn expect_without_growth(
     rt: &impl Abort,
     alloc: Global,
     case: &Case<'_>,
-    expected: &Expected<'_>,
+    out: &[u8],
 ) -> Result<(), Fail> {
     let asked = growths_of_words(rt, alloc, case.words);
     let refusing = Refusing::after(alloc, asked);
     let report = run_over(rt, &refusing, alloc, case)?;
     holds_of(rt, &case.words, !refusing.refused());
-    assert_unheld(rt, case.words, &report);
-    assert_left(rt, case, &report, expected);
+    holds_of(rt, &case.words, !report.denied);
+    same_of(rt, &case.words, &report.peak, &0);
+    assert_left(rt, case.words, &report, out, "");
     Ok(())
 }
 
@@ -242,12 +226,6 @@ fn growths_of_words(rt: &impl Abort, alloc: Global, words: &[&str]) -> u64 {
 
 fn is_command<A: Allocator + Copy>(alloc: A, words: &[&str]) -> bool {
     Command::read(alloc, words).is_ok()
-}
-
-// No line was held, and no memory refused.
-fn assert_unheld(rt: &impl Abort, words: &[&str], report: &Report<Kept, Kept>) {
-    holds_of(rt, &words, !report.denied);
-    same_of(rt, &words, &report.peak, &0);
 }
 
 // An input that counts what is pulled of it.
@@ -310,102 +288,187 @@ fn assert_untouched(
     same_of(rt, &words, &calls, &(0, 0, 0));
 }
 
-/// A command of which a file cannot be opened, over inputs whose reads fail: this is said, and no call of the output is
-/// made.
-pub fn expect_only_said(
+// This was written and said, and the status is 1 where something was said.
+fn assert_left(
+    rt: &impl Abort,
+    words: &[&str],
+    report: &Report<Kept, Kept>,
+    out: &[u8],
+    messages: &str,
+) {
+    same_of(rt, &words, &report.out.bytes(), &out);
+    same_of(rt, &words, &report.messages.bytes(), &messages.as_bytes());
+    same_of(rt, &words, &report.status, &u8::from(!messages.is_empty()));
+}
+
+/// Words, standard input, the files, what is written, and what is said.
+pub type Row = (
+    &'static [&'static str],
+    Input<'static>,
+    &'static [Input<'static>],
+    &'static str,
+    &'static str,
+);
+
+/// The sizes of pieces in which inputs come.
+pub const SIZES: &[usize] = &[1, 7, usize::MAX];
+
+/// Runs each row with its inputs in pieces of each of these sizes.
+pub fn expect_rows(
     rt: &impl Abort,
     alloc: Global,
-    case: &Case<'_>,
-    messages: &str,
+    sizes: &[usize],
+    rows: &[Row],
 ) -> Result<(), Fail> {
-    let report = run_over(rt, alloc, alloc, case)?;
-    same(rt, &report.messages.bytes(), &messages.as_bytes());
-    same(rt, &report.out.calls(), &0);
-    same(rt, &report.peak, &0);
-    same(rt, &report.status, &1);
-    Ok(())
-}
-
-/// Looks at what was written and said, and at the status.
-pub fn assert_left(
-    rt: &impl Abort,
-    case: &Case<'_>,
-    report: &Report<Kept, Kept>,
-    expected: &Expected<'_>,
-) {
-    let words = case.words;
-    same_of(rt, &words, &report.out.bytes(), &expected.out.as_bytes());
-    let (said, message) = (report.messages.bytes(), expected.messages.as_bytes());
-    same_of(rt, &words, &said, &message);
-    same_of(rt, &words, &report.status, &expected.status);
-}
-
-/// Words, standard input, and what is written.
-pub type Row = (&'static [&'static str], &'static str, &'static str);
-
-/// Runs each row with standard input in pieces of 1 byte, of 7 and whole.
-pub fn expect_rows(rt: &impl Abort, alloc: Global, rows: &[Row]) -> Result<(), Fail> {
-    for (words, standard, out) in rows {
-        for size in SIZES {
-            let case = over_standard(words, standard.as_bytes(), *size);
-            expect(rt, alloc, &case, &writes(out))?;
+    for (words, standard, files, out, messages) in rows {
+        for size in sizes {
+            let case = over(words, *standard, files, *size);
+            expect(rt, alloc, &case, out.as_bytes(), messages)?;
         }
     }
     Ok(())
 }
 
-/// The sizes of pieces.
-pub const SIZES: &[usize] = &[1, 7, usize::MAX];
+/// A command over limited sinks, what is written, and what is said.
+pub type Run = (Case<'static>, &'static str, &'static str);
+
+/// Runs each of these commands.
+pub fn expect_runs(rt: &impl Abort, alloc: Global, runs: &[Run]) -> Result<(), Fail> {
+    for (case, out, messages) in runs {
+        expect(rt, alloc, case, out.as_bytes(), messages)?;
+    }
+    Ok(())
+}
+
+/// A command, what is said where its output fails, and its runs: how many bytes a call of the output takes, how many
+/// in all, how many calls pass, and what is written. The last call is a flush.
+pub type Unwritten = (
+    Case<'static>,
+    &'static str,
+    &'static [(usize, usize, u64, &'static str)],
+);
+
+/// Runs each of these commands over an output that fails.
+pub fn expect_unwritten(
+    rt: &impl Abort,
+    alloc: Global,
+    commands: &[Unwritten],
+) -> Result<(), Fail> {
+    for (case, message, runs) in commands {
+        for (size, room, passing, out) in *runs {
+            let out_limits = Limits {
+                size: *size,
+                room: *room,
+                passing: *passing,
+            };
+            let case = Case {
+                out: out_limits,
+                ..*case
+            };
+            expect(rt, alloc, &case, out.as_bytes(), message)?;
+        }
+    }
+    Ok(())
+}
+
+/// A command, what is written and said, and how many calls of the output that takes.
+pub type Counted = (Case<'static>, &'static str, &'static str, u64);
+
+/// Runs each of these commands, and counts the calls of its output. No line is held.
+pub fn expect_calls(rt: &impl Abort, alloc: Global, commands: &[Counted]) -> Result<(), Fail> {
+    for (case, out, messages, calls) in commands {
+        let report = run_over(rt, alloc, alloc, case)?;
+        assert_left(rt, case.words, &report, out.as_bytes(), messages);
+        same_of(rt, &case.words, &report.out.calls(), calls);
+        same_of(rt, &case.words, &report.peak, &0);
+    }
+    Ok(())
+}
+
+/// Runs a command over a long text in standard input, in pieces of each size: this is written, and lines of so many
+/// bytes are held at most. `length` says which text it is.
+pub fn expect_long<'a>(
+    rt: &impl Abort,
+    alloc: Global,
+    words: &'a [&'a str],
+    (length, text): (usize, &'a [u8]),
+    out: &[u8],
+    held: u128,
+) -> Result<(), Fail> {
+    for size in SIZES {
+        let case = over(words, Input::Text(text), &[], *size);
+        let report = run_over(rt, alloc, alloc, &case)?;
+        let of = (length, *size);
+        holds_of(rt, &of, report.out.bytes() == out);
+        let said = report.messages.bytes().len();
+        same_of(rt, &of, &(report.status, said), &(0, 0));
+        holds_of(rt, &of, report.peak <= held && !report.denied);
+    }
+    Ok(())
+}
+
+/// A command, what it writes and says, what is said where memory is refused, and whether its run asks for none.
+pub type Growing = (
+    Case<'static>,
+    &'static str,
+    &'static str,
+    &'static str,
+    bool,
+);
 
 // Refuses the growth behind so many, and says whether there was such a one.
 fn is_growth_refused(
     rt: &impl Abort,
     own: Global,
-    case: &Case<'_>,
-    expected: &Expected<'_>,
-    message: &str,
+    (case, out, messages, refusal, streams): &Growing,
     passing: u64,
 ) -> Result<bool, Fail> {
     let alloc = Refusing::after(own, passing);
     let report = run_over(rt, &alloc, own, case)?;
     let refused = alloc.refused();
     if refused {
-        assert_stopped(rt, &report, expected, message, passing);
+        let most = if *streams { "" } else { *out };
+        assert_stopped(rt, &report, most, refusal, passing);
     } else {
-        assert_left(rt, case, &report, expected);
+        assert_left(rt, case.words, &report, out.as_bytes(), messages);
     }
+    holds_of(rt, &passing, !*streams || report.peak == 0);
     Ok(refused)
 }
 
-// A beginning of what is expected was written, and this was said.
+// A beginning of this was written, and the refusal was said.
 fn assert_stopped(
     rt: &impl Abort,
     report: &Report<Kept, Kept>,
-    expected: &Expected<'_>,
-    message: &str,
+    most: &str,
+    refusal: &str,
     passing: u64,
 ) {
-    let out = expected.out.as_bytes();
-    holds_of(rt, &passing, out.starts_with(report.out.bytes()));
-    same_of(rt, &passing, &report.messages.bytes(), &message.as_bytes());
+    holds_of(
+        rt,
+        &passing,
+        most.as_bytes().starts_with(report.out.bytes()),
+    );
+    same_of(rt, &passing, &report.messages.bytes(), &refusal.as_bytes());
     same_of(rt, &passing, &report.status, &1);
 }
 
-/// Refuses each growth of a command in turn, of fewer than 40. Then this message is said.
+/// Refuses each growth of these commands in turn, of fewer than 40 each. A run that asks for no memory writes nothing
+/// where the reading of its words is refused some, and holds no line.
 pub fn expect_growths_refused(
     rt: &impl Abort,
     own: Global,
-    case: &Case<'_>,
-    expected: &Expected<'_>,
-    message: &str,
+    commands: &[Growing],
 ) -> Result<(), Fail> {
-    let mut count = 0u64;
-    for passing in 0..40u64 {
-        if is_growth_refused(rt, own, case, expected, message, passing)? {
-            count = count.saturating_add(1);
+    for command in commands {
+        let mut count = 0u64;
+        for passing in 0..40u64 {
+            if is_growth_refused(rt, own, command, passing)? {
+                count = count.saturating_add(1);
+            }
         }
+        holds_of(rt, &count, count > 0 && count < 40);
     }
-    assert!(rt; count > 0 && count < 40, "{count}");
     Ok(())
 }
 

@@ -1,365 +1,483 @@
 //! `comm`.
 
+use crate::commands::Input::{Failing, Refused, Text};
 use crate::commands::{
-    Expected, FREE, Input, Limits, SIZES, expect, expect_growths_refused, expect_only_said,
-    over_files, writes,
+    Case, Counted, FREE, Growing, Limits, PLAIN, Row, Run, SIZES, Unwritten, expect_calls,
+    expect_growths_refused, expect_rows, expect_runs, expect_unwritten,
 };
-use crate::steady_memory::expect_steady_memory;
 use std::test::Fail;
 
-/// Words, the two files, and what is written.
-type Row = (&'static [&'static str], [&'static str; 2], &'static str);
-
-/// Words, the two files, what is written, and what is said.
-type Told = (
-    &'static [&'static str],
-    [&'static str; 2],
-    &'static str,
-    &'static str,
-);
-
-const COMMON: &[&str] = &["comm", "f", "g"];
+pub const COMMON: &[&str] = &["comm", "f", "g"];
 
 const ROWS: &[Row] = &[
-    (COMMON, ["a\na\nb\n", "a\nc\n"], "\t\ta\na\nb\n\tc\n"),
-    (&["comm", "-12", "f", "g"], ["a\na\nb\n", "a\nc\n"], "a\n"),
-    (&["comm", "-1", "f", "g"], ["a\nb\n", "b\nc\n"], "\tb\nc\n"),
-    (&["comm", "-3", "f", "g"], ["a\nb\n", "b\nc\n"], "a\n\tc\n"),
-    (&["comm", "-123", "f", "g"], ["a\nb\n", "b\nc\n"], ""),
-    (COMMON, ["", ""], ""),
+    (
+        COMMON,
+        Text(b""),
+        &[Text(b"a\na\nb\n"), Text(b"a\nc\n")],
+        "\t\ta\na\nb\n\tc\n",
+        "",
+    ),
+    (
+        &["comm", "-12", "f", "g"],
+        Text(b""),
+        &[Text(b"a\na\nb\n"), Text(b"a\nc\n")],
+        "a\n",
+        "",
+    ),
+    (
+        &["comm", "-1", "f", "g"],
+        Text(b""),
+        &[Text(b"a\nb\n"), Text(b"b\nc\n")],
+        "\tb\nc\n",
+        "",
+    ),
+    (
+        &["comm", "-3", "f", "g"],
+        Text(b""),
+        &[Text(b"a\nb\n"), Text(b"b\nc\n")],
+        "a\n\tc\n",
+        "",
+    ),
+    (
+        &["comm", "-123", "f", "g"],
+        Text(b""),
+        &[Text(b"a\nb\n"), Text(b"b\nc\n")],
+        "",
+        "",
+    ),
+    (COMMON, Text(b""), &[Text(b""), Text(b"")], "", ""),
     // The end of a last line may be lacking.
-    (COMMON, ["a", "a\nb"], "\t\ta\n\tb\n"),
+    (
+        COMMON,
+        Text(b""),
+        &[Text(b"a"), Text(b"a\nb")],
+        "\t\ta\n\tb\n",
+        "",
+    ),
     // A line comes before each one that it begins.
     (
         COMMON,
-        ["ab\n", "\na\nab\nabc\n"],
+        Text(b""),
+        &[Text(b"ab\n"), Text(b"\na\nab\nabc\n")],
         "\t\n\ta\n\t\tab\n\tabc\n",
+        "",
     ),
     (
         &["comm", "-r", "f", "g"],
-        ["b\na\na\n", "c\na\n"],
+        Text(b""),
+        &[Text(b"b\na\na\n"), Text(b"c\na\n")],
         "\tc\nb\n\t\ta\na\n",
+        "",
     ),
     (
         &["comm", "-r", "f", "g"],
-        ["ab\na\n\n", "a\n"],
+        Text(b""),
+        &[Text(b"ab\na\n\n"), Text(b"a\n")],
         "ab\n\t\ta\n\n",
+        "",
     ),
     (
         &["comm", "-z", "f", "g"],
-        ["a\nb\x00c", "a\x00c\x00"],
+        Text(b""),
+        &[Text(b"a\nb\x00c"), Text(b"a\x00c\x00")],
         "\ta\x00a\nb\x00\t\tc\x00",
+        "",
     ),
     (
         &["comm", "-rz", "f", "g"],
-        ["b\x00a\x00", "b\x00"],
+        Text(b""),
+        &[Text(b"b\x00a\x00"), Text(b"b\x00")],
         "\t\tb\x00a\x00",
+        "",
     ),
-];
-
-const OUT_OF_ORDER: &[Told] = &[
+    // Files out of order.
     (
         COMMON,
-        ["b\na\nc\n", "a\nb\nb\nd\n"],
+        Text(b""),
+        &[Text(b"b\na\nc\n"), Text(b"a\nb\nb\nd\n")],
         "\ta\n\t\tb\n\tb\n",
         "comm: f: line 2 is out of order\n",
     ),
     (
         COMMON,
-        ["b\na\n", "c\nb\n"],
+        Text(b""),
+        &[Text(b"b\na\n"), Text(b"c\nb\n")],
         "b\n",
         "comm: f: line 2 is out of order\n",
     ),
     (
         COMMON,
-        ["c\nb\n", "b\na\n"],
+        Text(b""),
+        &[Text(b"c\nb\n"), Text(b"b\na\n")],
         "\tb\n",
         "comm: g: line 2 is out of order\n",
     ),
     (
         COMMON,
-        ["b\na\n", "b\nb\na\n"],
+        Text(b""),
+        &[Text(b"b\na\n"), Text(b"b\nb\na\n")],
         "\t\tb\n\tb\n",
         "comm: f: line 2 is out of order\n",
     ),
     (
         COMMON,
-        ["b\nb\na\n", "b\na\n"],
+        Text(b""),
+        &[Text(b"b\nb\na\n"), Text(b"b\na\n")],
         "\t\tb\nb\n",
         "comm: f: line 3 is out of order\n",
     ),
     (
         COMMON,
-        ["a\nab\n", "ab\na\n"],
+        Text(b""),
+        &[Text(b"a\nab\n"), Text(b"ab\na\n")],
         "a\n\t\tab\n",
         "comm: g: line 2 is out of order\n",
     ),
     (
         &["comm", "-r", "f", "g"],
-        ["a\nab\n", ""],
+        Text(b""),
+        &[Text(b"a\nab\n"), Text(b"")],
         "a\n",
         "comm: f: line 2 is out of order\n",
     ),
     (
         &["comm", "-r", "f", "g"],
-        ["b\nc\n", "a\nb\n"],
+        Text(b""),
+        &[Text(b"b\nc\n"), Text(b"a\nb\n")],
         "b\n",
         "comm: f: line 2 is out of order\n",
     ),
     (
         &["comm", "-z", "f", "g"],
-        ["b\x00a\x00", ""],
+        Text(b""),
+        &[Text(b"b\x00a\x00"), Text(b"")],
         "b\x00",
         "comm: f: line 2 is out of order\n",
     ),
     // An input goes on to be read although none of its lines is written, and the other one has ended.
     (
         &["comm", "-23", "f", "g"],
-        ["", "b\na\n"],
+        Text(b""),
+        &[Text(b""), Text(b"b\na\n")],
         "",
         "comm: g: line 2 is out of order\n",
     ),
     (
         &["comm", "-123", "f", "g"],
-        ["a\nc\nb\n", "a\n"],
+        Text(b""),
+        &[Text(b"a\nc\nb\n"), Text(b"a\n")],
         "",
         "comm: f: line 3 is out of order\n",
     ),
-];
-
-// What is said, with the status that goes with it.
-fn tells<'a>(out: &'a str, messages: &'a str) -> Expected<'a> {
-    Expected {
-        out,
-        messages,
-        status: 1,
-    }
-}
-
-#[test]
-fn columns_of_two_files(rt: HostRuntime) -> Result<(), Fail> {
-    for (words, [first, second], out) in ROWS {
-        for size in SIZES {
-            let files = [
-                Input::Pieces(first.as_bytes(), *size),
-                Input::Pieces(second.as_bytes(), *size),
-            ];
-            expect(&rt, rt.alloc(), &over_files(words, &files), &writes(out))?;
-        }
-    }
-    Ok(())
-}
-
-#[test]
-fn files_out_of_order(rt: HostRuntime) -> Result<(), Fail> {
-    for (words, [first, second], out, messages) in OUT_OF_ORDER {
-        for size in SIZES {
-            let files = [
-                Input::Pieces(first.as_bytes(), *size),
-                Input::Pieces(second.as_bytes(), *size),
-            ];
-            let case = over_files(words, &files);
-            expect(&rt, rt.alloc(), &case, &tells(out, messages))?;
-        }
-    }
-    Ok(())
-}
-
-// Words with standard input, it and the file, what is written, and what is said.
-const STANDARD: &[Told] = &[
-    (&["comm", "f", "-"], ["b\n", "a\nb\n"], "a\n\t\tb\n", ""),
-    (&["comm", "-", "g"], ["b\n", "a\nb\n"], "\ta\n\t\tb\n", ""),
-    (&["comm", "-", "g"], ["", "a\n"], "\ta\n", ""),
+    // Standard input and a file.
     (
         &["comm", "f", "-"],
-        ["b\na\n", ""],
+        Text(b"b\n"),
+        &[Text(b"a\nb\n")],
+        "a\n\t\tb\n",
+        "",
+    ),
+    (
+        &["comm", "-", "g"],
+        Text(b"b\n"),
+        &[Text(b"a\nb\n")],
+        "\ta\n\t\tb\n",
+        "",
+    ),
+    (&["comm", "-", "g"], Text(b""), &[Text(b"a\n")], "\ta\n", ""),
+    (
+        &["comm", "f", "-"],
+        Text(b"b\na\n"),
+        &[Text(b"")],
         "\tb\n",
         "comm: standard input: line 2 is out of order\n",
     ),
 ];
 
 #[test]
-fn standard_input_and_a_file(rt: HostRuntime) -> Result<(), Fail> {
-    for (words, [standard, file], out, messages) in STANDARD {
-        let files = [Input::Pieces(file.as_bytes(), 1)];
-        let mut case = over_files(words, &files);
-        case.standard = Input::Pieces(standard.as_bytes(), 1);
-        let expected = Expected {
-            out,
-            messages,
-            status: u8::from(!messages.is_empty()),
-        };
-        expect(&rt, rt.alloc(), &case, &expected)?;
-    }
-    Ok(())
+fn columns_of_two_files(rt: HostRuntime) -> Result<(), Fail> {
+    expect_rows(&rt, rt.alloc(), SIZES, ROWS)
 }
-
-// Two files, how many reads of each pass, what is written, and what is said.
-type Unread = ([&'static str; 2], u64, u64, &'static str, &'static str);
 
 const ALL: u64 = u64::MAX;
 
-const SAME: [&str; 2] = ["a\na\nb\n", "a\nc\n"];
+const SAME_F: &[u8] = b"a\na\nb\n";
 
-const FALLS: [&str; 2] = ["b\na\nc\n", "a\nb\nb\nd\n"];
+const SAME_G: &[u8] = b"a\nc\n";
+
+const FALLS_F: &[u8] = b"b\na\nc\n";
+
+const FALLS_G: &[u8] = b"a\nb\nb\nd\n";
 
 const F_FAILED: &str = "comm: f: read failed\n";
 
 const G_FAILED: &str = "comm: g: read failed\n";
 
+const F_FALLS: &str = "comm: f: line 2 is out of order\n";
+
 // Each read gives a line. An entry is written before a line behind its own is asked for.
-const UNREAD: &[Unread] = &[
-    (SAME, 0, ALL, "", F_FAILED),
-    (SAME, 1, ALL, "\t\ta\n", F_FAILED),
-    (SAME, 2, ALL, "\t\ta\na\n", F_FAILED),
-    (SAME, 3, ALL, "\t\ta\na\nb\n", F_FAILED),
-    (SAME, ALL, 0, "", G_FAILED),
-    (SAME, ALL, 1, "\t\ta\n", G_FAILED),
-    (SAME, ALL, 2, "\t\ta\na\nb\n\tc\n", G_FAILED),
-    (FALLS, 0, ALL, "", F_FAILED),
-    (FALLS, 1, ALL, "\ta\n\t\tb\n", F_FAILED),
-    (FALLS, ALL, 0, "", G_FAILED),
-    (FALLS, ALL, 1, "\ta\n", G_FAILED),
-    (FALLS, ALL, 2, "\ta\n\t\tb\n", G_FAILED),
-    (FALLS, ALL, 3, "\ta\n\t\tb\n\tb\n", G_FAILED),
+const READS: &[Row] = &[
+    (
+        COMMON,
+        Text(b""),
+        &[Failing(SAME_F, 0), Failing(SAME_G, ALL)],
+        "",
+        F_FAILED,
+    ),
+    (
+        COMMON,
+        Text(b""),
+        &[Failing(SAME_F, 1), Failing(SAME_G, ALL)],
+        "\t\ta\n",
+        F_FAILED,
+    ),
+    (
+        COMMON,
+        Text(b""),
+        &[Failing(SAME_F, 2), Failing(SAME_G, ALL)],
+        "\t\ta\na\n",
+        F_FAILED,
+    ),
+    (
+        COMMON,
+        Text(b""),
+        &[Failing(SAME_F, 3), Failing(SAME_G, ALL)],
+        "\t\ta\na\nb\n",
+        F_FAILED,
+    ),
+    (
+        COMMON,
+        Text(b""),
+        &[Failing(SAME_F, ALL), Failing(SAME_G, 0)],
+        "",
+        G_FAILED,
+    ),
+    (
+        COMMON,
+        Text(b""),
+        &[Failing(SAME_F, ALL), Failing(SAME_G, 1)],
+        "\t\ta\n",
+        G_FAILED,
+    ),
+    (
+        COMMON,
+        Text(b""),
+        &[Failing(SAME_F, ALL), Failing(SAME_G, 2)],
+        "\t\ta\na\nb\n\tc\n",
+        G_FAILED,
+    ),
+    (
+        COMMON,
+        Text(b""),
+        &[Failing(FALLS_F, 0), Failing(FALLS_G, ALL)],
+        "",
+        F_FAILED,
+    ),
+    (
+        COMMON,
+        Text(b""),
+        &[Failing(FALLS_F, 1), Failing(FALLS_G, ALL)],
+        "\ta\n\t\tb\n",
+        F_FAILED,
+    ),
+    (
+        COMMON,
+        Text(b""),
+        &[Failing(FALLS_F, ALL), Failing(FALLS_G, 0)],
+        "",
+        G_FAILED,
+    ),
+    (
+        COMMON,
+        Text(b""),
+        &[Failing(FALLS_F, ALL), Failing(FALLS_G, 1)],
+        "\ta\n",
+        G_FAILED,
+    ),
+    (
+        COMMON,
+        Text(b""),
+        &[Failing(FALLS_F, ALL), Failing(FALLS_G, 2)],
+        "\ta\n\t\tb\n",
+        G_FAILED,
+    ),
+    (
+        COMMON,
+        Text(b""),
+        &[Failing(FALLS_F, ALL), Failing(FALLS_G, 3)],
+        "\ta\n\t\tb\n\tb\n",
+        G_FAILED,
+    ),
     // The disorder is decided, and nothing behind it is read.
     (
-        FALLS,
-        2,
-        4,
+        COMMON,
+        Text(b""),
+        &[Failing(FALLS_F, 2), Failing(FALLS_G, 4)],
         "\ta\n\t\tb\n\tb\n",
-        "comm: f: line 2 is out of order\n",
+        F_FALLS,
     ),
-    (["a\nc\n", "b\n"], ALL, 1, "a\n\tb\n", G_FAILED),
-    (["a\nb\na\n", "a\nb\n"], ALL, 2, "\t\ta\n\t\tb\n", G_FAILED),
+    (
+        COMMON,
+        Text(b""),
+        &[Failing(b"a\nc\n", ALL), Failing(b"b\n", 1)],
+        "a\n\tb\n",
+        G_FAILED,
+    ),
+    (
+        COMMON,
+        Text(b""),
+        &[Failing(b"a\nb\na\n", ALL), Failing(b"a\nb\n", 2)],
+        "\t\ta\n\t\tb\n",
+        G_FAILED,
+    ),
+    // Both are read to their ends, though nothing can be written, and the reads that find the ends fail.
+    (
+        &["comm", "-123", "f", "g"],
+        Text(b""),
+        &[Text(b""), Failing(b"a\nb\n", 2)],
+        "",
+        G_FAILED,
+    ),
+    (
+        &["comm", "-23", "f", "g"],
+        Text(b""),
+        &[Text(b""), Failing(b"a\nb\n", 2)],
+        "",
+        G_FAILED,
+    ),
+    (
+        &["comm", "-1", "f", "g"],
+        Text(b""),
+        &[Failing(b"a\nb\n", 2), Text(b"")],
+        "",
+        F_FAILED,
+    ),
 ];
 
-#[test]
-fn each_read_fails(rt: HostRuntime) -> Result<(), Fail> {
-    for ([first, second], of_first, of_second, out, messages) in UNREAD {
-        let files = [
-            Input::Failing(first.as_bytes(), 2, *of_first),
-            Input::Failing(second.as_bytes(), 2, *of_second),
-        ];
-        let case = over_files(COMMON, &files);
-        expect(&rt, rt.alloc(), &case, &tells(out, messages))?;
-    }
-    Ok(())
-}
+const SAME: Case = Case {
+    words: COMMON,
+    files: &[Text(SAME_F), Text(SAME_G)],
+    ..PLAIN
+};
 
-// Nothing can be written, and the reads that find the ends fail.
-#[test]
-fn both_are_read_to_their_ends(rt: HostRuntime) -> Result<(), Fail> {
-    for words in [&["comm", "-123", "f", "g"], &["comm", "-23", "f", "g"]] {
-        let files = [Input::Whole(b""), Input::Failing(b"a\nb\n", 2, 2)];
-        expect(
-            &rt,
-            rt.alloc(),
-            &over_files(words, &files),
-            &tells("", G_FAILED),
-        )?;
-    }
-    let files = [Input::Failing(b"a\nb\n", 2, 2), Input::Whole(b"")];
-    let case = over_files(&["comm", "-1", "f", "g"], &files);
-    expect(&rt, rt.alloc(), &case, &tells("", F_FAILED))
-}
-
-// Two files, how many bytes a call takes, how many in all, how many calls pass, and what is written. The last call is
-// a flush.
-type Unwritten = ([&'static str; 2], usize, usize, u64, &'static str);
-
-const ROOM: usize = usize::MAX;
-
-const UNWRITTEN: &[Unwritten] = &[
-    (SAME, 4, ROOM, 0, ""),
-    (SAME, 4, ROOM, 1, "\t\ta\n"),
-    (SAME, 4, ROOM, 2, "\t\ta\na\nb\n"),
-    (SAME, 4, ROOM, 3, "\t\ta\na\nb\n\tc\n"),
-    (SAME, ROOM, 4, ALL, "\t\ta\n"),
-    (FALLS, 4, ROOM, 0, ""),
-    (FALLS, 4, ROOM, 1, "\ta\n\t"),
-    (FALLS, 4, ROOM, 2, "\ta\n\t\tb\n\t"),
-    (FALLS, 4, ROOM, 3, "\ta\n\t\tb\n\tb\n"),
-    (FALLS, ROOM, 7, ALL, "\ta\n\t\tb\n"),
-    (SAME, 1, ROOM, 5, "\t\ta\na"),
-    (FALLS, 1, ROOM, 10, "\ta\n\t\tb\n\tb\n"),
-];
+const FALLS: Case = Case {
+    words: COMMON,
+    files: &[Text(FALLS_F), Text(FALLS_G)],
+    ..PLAIN
+};
 
 // The failed write is told in place of the disorder.
-#[test]
-fn each_write_and_the_flush_fail(rt: HostRuntime) -> Result<(), Fail> {
-    for ([first, second], size, room, passing, out) in UNWRITTEN {
-        let files = [
-            Input::Whole(first.as_bytes()),
-            Input::Whole(second.as_bytes()),
-        ];
-        let mut case = over_files(COMMON, &files);
-        case.out = Limits {
-            size: *size,
-            room: *room,
-            passing: *passing,
-        };
-        let messages = "comm: output: write failed\n";
-        expect(&rt, rt.alloc(), &case, &tells(out, messages))?;
-    }
-    Ok(())
-}
+const UNWRITTEN: &[Unwritten] = &[
+    (
+        SAME,
+        "comm: output: write failed\n",
+        &[
+            (4, usize::MAX, 0, ""),
+            (4, usize::MAX, 1, "\t\ta\n"),
+            (4, usize::MAX, 2, "\t\ta\na\nb\n"),
+            (4, usize::MAX, 3, "\t\ta\na\nb\n\tc\n"),
+            (usize::MAX, 4, u64::MAX, "\t\ta\n"),
+            (1, usize::MAX, 5, "\t\ta\na"),
+        ],
+    ),
+    (
+        FALLS,
+        "comm: output: write failed\n",
+        &[
+            (4, usize::MAX, 0, ""),
+            (4, usize::MAX, 1, "\ta\n\t"),
+            (4, usize::MAX, 2, "\ta\n\t\tb\n\t"),
+            (4, usize::MAX, 3, "\ta\n\t\tb\n\tb\n"),
+            (usize::MAX, 7, u64::MAX, "\ta\n\t\tb\n"),
+            (1, usize::MAX, 10, "\ta\n\t\tb\n\tb\n"),
+        ],
+    ),
+];
+
+const NO_MEMORY: &str = "comm: out of memory\n";
+
+const GROWING: &[Growing] = &[
+    (SAME, "\t\ta\na\nb\n\tc\n", "", NO_MEMORY, false),
+    (FALLS, "\ta\n\t\tb\n\tb\n", F_FALLS, NO_MEMORY, false),
+];
 
 #[test]
-fn each_growth_is_refused(rt: HostRuntime) -> Result<(), Fail> {
-    let files = [Input::Whole(b"a\na\nb\n"), Input::Whole(b"a\nc\n")];
-    let case = over_files(COMMON, &files);
-    let expected = writes("\t\ta\na\nb\n\tc\n");
-    expect_growths_refused(&rt, rt.alloc(), &case, &expected, "comm: out of memory\n")?;
-    let files = [Input::Whole(b"b\na\nc\n"), Input::Whole(b"a\nb\nb\nd\n")];
-    let case = over_files(COMMON, &files);
-    let expected = tells("\ta\n\t\tb\n\tb\n", "comm: f: line 2 is out of order\n");
-    expect_growths_refused(&rt, rt.alloc(), &case, &expected, "comm: out of memory\n")
+fn each_call_and_each_growth_fails(rt: HostRuntime) -> Result<(), Fail> {
+    expect_rows(&rt, rt.alloc(), &[2], READS)?;
+    expect_unwritten(&rt, rt.alloc(), UNWRITTEN)?;
+    expect_growths_refused(&rt, rt.alloc(), GROWING)
 }
 
-// A beginning of the message is taken.
-#[test]
-fn the_message_is_cut_short(rt: HostRuntime) -> Result<(), Fail> {
-    let files = [Input::Whole(b"b\na\n"), Input::Whole(b"")];
-    let mut case = over_files(COMMON, &files);
-    case.messages = Limits { room: 10, ..FREE };
-    expect(&rt, rt.alloc(), &case, &tells("b\n", "comm: f: l"))
-}
+const DISORDER: Case = Case {
+    words: COMMON,
+    files: &[Text(b"b\na\n"), Text(b"")],
+    ..PLAIN
+};
 
-// A message of usual length is one call of the sink.
-#[test]
-fn the_message_is_one_write(rt: HostRuntime) -> Result<(), Fail> {
-    let files = [Input::Whole(b"b\na\n"), Input::Whole(b"")];
-    let mut case = over_files(COMMON, &files);
-    case.messages = Limits { passing: 1, ..FREE };
-    let message = "comm: f: line 2 is out of order\n";
-    expect(&rt, rt.alloc(), &case, &tells("b\n", message))
-}
+const TEN_BYTES: Limits = Limits { room: 10, ..FREE };
+
+const ONE_CALL: Limits = Limits { passing: 1, ..FREE };
+
+const SAID: &[Run] = &[
+    // A beginning of the message is taken.
+    (
+        Case {
+            messages: TEN_BYTES,
+            ..DISORDER
+        },
+        "b\n",
+        "comm: f: l",
+    ),
+    // A message of usual length is one call of the sink.
+    (
+        Case {
+            messages: ONE_CALL,
+            ..DISORDER
+        },
+        "b\n",
+        F_FALLS,
+    ),
+];
+
+// The reads would fail, and no call of the output is made.
+const UNOPENED: &[Counted] = &[
+    (
+        Case {
+            words: COMMON,
+            files: &[Refused, Refused],
+            ..PLAIN
+        },
+        "",
+        "comm: f: cannot be opened\ncomm: g: cannot be opened\n",
+        0,
+    ),
+    (
+        Case {
+            words: COMMON,
+            files: &[Failing(b"b\na\n", 0), Refused],
+            size: 1,
+            ..PLAIN
+        },
+        "",
+        "comm: g: cannot be opened\n",
+        0,
+    ),
+    (
+        Case {
+            words: &["comm", "-", "f"],
+            standard: Failing(b"b\na\n", 0),
+            files: &[Refused],
+            size: 1,
+            ..PLAIN
+        },
+        "",
+        "comm: f: cannot be opened\n",
+        0,
+    ),
+];
 
 #[test]
 fn refused_files_are_named(rt: HostRuntime) -> Result<(), Fail> {
-    let unread = Input::Failing(b"b\na\n", 1, 0);
-    let both = [Input::Refused, Input::Refused];
-    expect_only_said(
-        &rt,
-        rt.alloc(),
-        &over_files(COMMON, &both),
-        "comm: f: cannot be opened\ncomm: g: cannot be opened\n",
-    )?;
-    let second = [unread, Input::Refused];
-    expect_only_said(
-        &rt,
-        rt.alloc(),
-        &over_files(COMMON, &second),
-        "comm: g: cannot be opened\n",
-    )?;
-    let one = [Input::Refused];
-    let mut case = over_files(&["comm", "-", "f"], &one);
-    case.standard = unread;
-    expect_only_said(&rt, rt.alloc(), &case, "comm: f: cannot be opened\n")
-}
-
-#[test]
-fn memory_does_not_grow_with_the_lines(rt: HostRuntime) -> Result<(), Fail> {
-    expect_steady_memory(&rt, rt.alloc(), &["comm", "f", "g"], 2)
+    expect_runs(&rt, rt.alloc(), SAID)?;
+    expect_calls(&rt, rt.alloc(), UNOPENED)
 }

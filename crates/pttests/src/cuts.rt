@@ -1,122 +1,118 @@
 //! `cut` by bytes.
 
+use crate::commands::Input::{Failing, Refused, Text};
 use crate::commands::{
-    Expected, Input, Limits, Row, SIZES, assert_left, expect, expect_rows, expect_without_growth,
-    over_files, over_standard, run_over, writes,
+    Case, Counted, FREE, Growing, Input, Limits, PLAIN, Row, Run, SIZES, Unwritten, expect_calls,
+    expect_growths_refused, expect_long, expect_rows, expect_runs, expect_unwritten,
 };
-use crate::comparing::{holds_of, same, same_of};
-use ptfakes::Refusing;
-use ptfakes::texts::{ENDINGS, byte_at, text_of, text_with};
+use ptfakes::texts::{byte_at, text_of, text_with};
 use std::alloc::{AllocError, Global};
 use std::process::Abort;
 use std::test::Fail;
 
 const ROWS: &[Row] = &[
-    (&["cut", "-c", "3-,1"], "abcd\n", "acd\n"),
-    (&["cut", "-b", "-2"], "abc", "ab\n"),
-    (&["cut", "-b", "2 4,1"], "abcd\n", "abd\n"),
-    (&["cut", "-b", "2-"], "a\nbcd", "\ncd\n"),
-    (&["cut", "-nb", "2-"], "a\nbcd", "\ncd\n"),
-    (&["cut", "-b1,3", "-n", "--", "-"], "abc\nde\n", "ac\nd\n"),
-    (&["cut", "-c", "1"], "", ""),
-    (&["cut", "-c", "1"], "\n\na", "\n\na\n"),
-    (&["cut", "-b", "18446744073709551615-"], "abc\n", "\n"),
+    (&["cut", "-c", "3-,1"], Text(b"abcd\n"), &[], "acd\n", ""),
+    (&["cut", "-b", "-2"], Text(b"abc"), &[], "ab\n", ""),
+    (&["cut", "-b", "2 4,1"], Text(b"abcd\n"), &[], "abd\n", ""),
+    (&["cut", "-b", "2-"], Text(b"a\nbcd"), &[], "\ncd\n", ""),
+    (&["cut", "-nb", "2-"], Text(b"a\nbcd"), &[], "\ncd\n", ""),
+    (
+        &["cut", "-b1,3", "-n", "--", "-"],
+        Text(b"abc\nde\n"),
+        &[],
+        "ac\nd\n",
+        "",
+    ),
+    (&["cut", "-c", "1"], Text(b""), &[], "", ""),
+    (&["cut", "-c", "1"], Text(b"\n\na"), &[], "\n\na\n", ""),
+    (
+        &["cut", "-b", "18446744073709551615-"],
+        Text(b"abc\n"),
+        &[],
+        "\n",
+        "",
+    ),
     // Lines that end with byte 0, in which newline is data.
-    (&["cut", "-z", "-c", "1"], "ab\0\ncd", "a\0\n\0"),
-    (&["cut", "-zc2-", "-", "-"], "\0a\n\0\n", "\0\n\0\0"),
-    (&["cut", "-b1", "-nz"], "", ""),
+    (
+        &["cut", "-z", "-c", "1"],
+        Text(b"ab\0\ncd"),
+        &[],
+        "a\0\n\0",
+        "",
+    ),
+    (
+        &["cut", "-zc2-", "-", "-"],
+        Text(b"\0a\n\0\n"),
+        &[],
+        "\0\n\0\0",
+        "",
+    ),
+    (&["cut", "-b1", "-nz"], Text(b""), &[], "", ""),
 ];
 
 #[test]
 fn bytes_are_cut(rt: HostRuntime) -> Result<(), Fail> {
-    expect_rows(&rt, rt.alloc(), ROWS)
+    expect_rows(&rt, rt.alloc(), SIZES, ROWS)
 }
 
-const FILES: &[Input] = &[Input::Whole(b"ab\n"), Input::Refused, Input::Whole(b"cd\n")];
+const FIRST: &[&str] = &["cut", "-c", "1", "f", "g", "h"];
+
+const FILES: &[Input] = &[Text(b"ab\n"), Refused, Text(b"cd\n")];
+
+// A file that cannot be opened is named in its turn.
+const NAMED: &[Row] = &[(
+    FIRST,
+    Text(b""),
+    FILES,
+    "a\nc\n",
+    "cut: g: cannot be opened\n",
+)];
+
+// The message about it fails.
+const UNSAID: &[Run] = &[(
+    Case {
+        words: FIRST,
+        files: FILES,
+        messages: Limits { room: 10, ..FREE },
+        ..PLAIN
+    },
+    "a\nc\n",
+    "cut: g: ca",
+)];
+
+// A read that fails is the last message.
+const LAST: &[Row] = &[(
+    &["cut", "-c", "1", "g", "f", "h"],
+    Text(b""),
+    &[Refused, Failing(b"ab\n", 0), Refused],
+    "",
+    "cut: g: cannot be opened\ncut: f: read failed\n",
+)];
 
 #[test]
 fn a_refused_file_is_named_in_its_turn(rt: HostRuntime) -> Result<(), Fail> {
-    let case = over_files(&["cut", "-c", "1", "f", "g", "h"], FILES);
-    let expected = Expected {
-        out: "a\nc\n",
-        messages: "cut: g: cannot be opened\n",
-        status: 1,
-    };
-    expect(&rt, rt.alloc(), &case, &expected)
+    expect_rows(&rt, rt.alloc(), &[usize::MAX], NAMED)?;
+    expect_runs(&rt, rt.alloc(), UNSAID)?;
+    expect_rows(&rt, rt.alloc(), &[1], LAST)
 }
 
-#[test]
-fn a_message_that_fails(rt: HostRuntime) -> Result<(), Fail> {
-    let mut case = over_files(&["cut", "-c", "1", "f", "g", "h"], FILES);
-    case.messages.room = 10;
-    let expected = Expected {
-        out: "a\nc\n",
-        messages: "cut: g: ca",
-        status: 1,
-    };
-    expect(&rt, rt.alloc(), &case, &expected)
-}
-
-const FAILING: &[Input] = &[
-    Input::Refused,
-    Input::Failing(b"ab\n", 1, 0),
-    Input::Refused,
-];
-
-#[test]
-fn a_read_that_fails_is_the_last_message(rt: HostRuntime) -> Result<(), Fail> {
-    let case = over_files(&["cut", "-c", "1", "g", "f", "h"], FAILING);
-    let expected = Expected {
-        out: "",
-        messages: "cut: g: cannot be opened\ncut: f: read failed\n",
-        status: 1,
-    };
-    expect(&rt, rt.alloc(), &case, &expected)
-}
+// The bytes that end lines, the other one as data, and the options that ask for it.
+const ENDINGS: &[(u8, u8, [&str; 2])] = &[(b'\n', 0, ["-c", "-b"]), (0, b'\n', ["-zc", "-zb"])];
 
 const LENGTHS: &[usize] = &[0, 1, 8191, 8192, 8193, 20000];
-
-// These bytes are written of a text, and none is held, whatever the pieces. `length` says which text it is.
-fn expect_bytes<'a>(
-    rt: &impl Abort,
-    alloc: Global,
-    words: &'a [&'a str],
-    text: &'a [u8],
-    length: usize,
-    bytes: &[u8],
-) -> Result<(), Fail> {
-    for size in SIZES {
-        let report = run_over(rt, alloc, alloc, &over_standard(words, text, *size))?;
-        let of = (length, *size);
-        holds_of(rt, &of, report.out.bytes() == bytes);
-        same_of(rt, &of, &(report.status, report.peak), &(0, 0));
-    }
-    Ok(())
-}
 
 // Three lines, of which the last has no end: `cut` ends it, unless it is empty.
 fn cut_across_blocks(
     rt: &impl Abort,
     alloc: Global,
     length: usize,
-    (ending, other, flags): (u8, u8, &str),
+    (ending, other, [option, _]): (u8, u8, [&str; 2]),
 ) -> Result<(), Fail> {
     let text = text_with(alloc, &[length, 3, length], ending, false, other)?;
     let short = length.min(8192);
     let cut = text_with(alloc, &[short, 3, short], ending, length > 0, other)?;
-    let option = format!(in alloc; "{flags}c")?;
-    let words = ["cut", option.as_str(), "1-8000,8000-8192"];
-    expect_bytes(rt, alloc, &words, &text, length, &cut)
-}
-
-#[test]
-fn lines_across_blocks(rt: HostRuntime) -> Result<(), Fail> {
-    for ending in ENDINGS {
-        for length in LENGTHS {
-            cut_across_blocks(&rt, rt.alloc(), *length, *ending)?;
-        }
-    }
-    Ok(())
+    let words = ["cut", option, "1-8000,8000-8192"];
+    expect_long(rt, alloc, &words, (length, &text), &cut, 0)
 }
 
 // The second, fourth and fifth byte of lines of these lengths.
@@ -138,19 +134,21 @@ fn cut_behind(
     rt: &impl Abort,
     alloc: Global,
     length: usize,
-    (ending, other, flags): (u8, u8, &str),
+    (ending, other, [_, option]): (u8, u8, [&str; 2]),
 ) -> Result<(), Fail> {
     let lengths = [length, 0, 1, 4, 15, 16, 17, 64, 0, 0, 5];
     let text = text_with(alloc, &lengths, ending, true, other)?;
     let cut = chosen_of(alloc, &lengths, ending)?;
-    let option = format!(in alloc; "{flags}b")?;
-    let words = ["cut", option.as_str(), "2,4-5"];
-    expect_bytes(rt, alloc, &words, &text, length, &cut)
+    let words = ["cut", option, "2,4-5"];
+    expect_long(rt, alloc, &words, (length, &text), &cut, 0)
 }
 
 #[test]
-fn ends_at_each_place_of_a_chunk(rt: HostRuntime) -> Result<(), Fail> {
+fn lines_across_blocks_and_chunks(rt: HostRuntime) -> Result<(), Fail> {
     for ending in ENDINGS {
+        for length in LENGTHS {
+            cut_across_blocks(&rt, rt.alloc(), *length, *ending)?;
+        }
         for length in 0..65 {
             cut_behind(&rt, rt.alloc(), length, *ending)?;
         }
@@ -166,146 +164,99 @@ fn empty_lines_stay(rt: HostRuntime) -> Result<(), Fail> {
         lines.extend_from_slice(&text)?;
     }
     let words = ["cut", "-c", "1-3"];
-    expect_bytes(&rt, rt.alloc(), &words, &lines, lines.len(), &lines)?;
+    expect_long(&rt, rt.alloc(), &words, (lines.len(), &lines), &lines, 0)?;
     let (words, empty) = (["cut", "-c", "2-"], [b'\n'; 200]);
-    expect_bytes(&rt, rt.alloc(), &words, &empty, empty.len(), &empty)
-}
-
-#[test]
-fn a_long_line_takes_no_memory(rt: HostRuntime) -> Result<(), Fail> {
-    let text = text_of(rt.alloc(), &[1_000_000], b'\n', true)?;
-    let case = over_standard(&["cut", "-b", "1,1000000-"], &text, usize::MAX);
-    // The bytes go round 'a' to 'w', and 999,999 is 43,478 times 23 and 5.
-    expect_without_growth(&rt, rt.alloc(), &case, &writes("af\n"))
+    expect_long(&rt, rt.alloc(), &words, (empty.len(), &empty), &empty, 0)
 }
 
 const WORDS: &[&str] = &["cut", "-b", "2,4-"];
 
 const LINES: &[u8] = b"abcd\nabc\n\nxyz";
 
-// What is written where so many reads of two bytes pass.
-const WRITTEN: &[(u64, &str)] = &[
-    (0, ""),
-    (1, "b"),
-    (2, "bd"),
-    (3, "bd\n"),
-    (4, "bd\nb"),
-    (5, "bd\nb\n\n"),
-    (6, "bd\nb\n\ny"),
-    (7, "bd\nb\n\ny"),
+const UNREAD: &str = "cut: standard input: read failed\n";
+
+// In reads of two bytes. The last fails amid a line.
+const READS: &[Row] = &[
+    (WORDS, Failing(LINES, 0), &[], "", UNREAD),
+    (WORDS, Failing(LINES, 1), &[], "b", UNREAD),
+    (WORDS, Failing(LINES, 2), &[], "bd", UNREAD),
+    (WORDS, Failing(LINES, 3), &[], "bd\n", UNREAD),
+    (WORDS, Failing(LINES, 4), &[], "bd\nb", UNREAD),
+    (WORDS, Failing(LINES, 5), &[], "bd\nb\n\n", UNREAD),
+    (WORDS, Failing(LINES, 6), &[], "bd\nb\n\ny", UNREAD),
+    (WORDS, Failing(LINES, 7), &[], "bd\nb\n\ny", UNREAD),
+    (
+        &["cut", "-c", "1-3"],
+        Failing(b"abcd\n", 1),
+        &[],
+        "ab",
+        UNREAD,
+    ),
 ];
 
-#[test]
-fn each_read_fails(rt: HostRuntime) -> Result<(), Fail> {
-    for (passing, out) in WRITTEN {
-        let mut case = over_standard(WORDS, LINES, 2);
-        case.standard = Input::Failing(LINES, 2, *passing);
-        let expected = Expected {
-            out,
-            messages: "cut: standard input: read failed\n",
-            status: 1,
-        };
-        expect(&rt, rt.alloc(), &case, &expected)?;
-    }
-    Ok(())
-}
+const SHORT: Case = Case {
+    words: WORDS,
+    standard: Text(LINES),
+    ..PLAIN
+};
 
-#[test]
-fn a_read_that_fails_amid_a_line(rt: HostRuntime) -> Result<(), Fail> {
-    let mut case = over_standard(&["cut", "-c", "1-3"], b"", 2);
-    case.standard = Input::Failing(b"abcd\n", 2, 1);
-    let expected = Expected {
-        out: "ab",
-        messages: "cut: standard input: read failed\n",
-        status: 1,
-    };
-    expect(&rt, rt.alloc(), &case, &expected)
-}
+const CUT: &str = "bd\nb\n\ny\n";
 
-// How many bytes a call takes, how many in all, how many calls pass, and what is written. The last newline comes once
-// the end is known, and all else is sent before the end is asked for. The last call is a flush.
-const UNWRITTEN: &[(usize, usize, u64, &str)] = &[
-    (3, usize::MAX, 0, ""),
-    (3, usize::MAX, 1, "bd\n"),
-    (3, usize::MAX, 2, "bd\nb\n\n"),
-    (3, usize::MAX, 3, "bd\nb\n\ny"),
-    (3, usize::MAX, 4, "bd\nb\n\ny\n"),
-    (1, usize::MAX, 2, "bd"),
-    (1, usize::MAX, 8, "bd\nb\n\ny\n"),
-    (usize::MAX, usize::MAX, 0, ""),
-    (usize::MAX, usize::MAX, 1, "bd\nb\n\ny"),
-    (usize::MAX, usize::MAX, 2, "bd\nb\n\ny\n"),
-    (usize::MAX, 4, u64::MAX, "bd\nb"),
-    (1, 0, u64::MAX, ""),
+// The last newline comes once the end is known, and all else is sent before the end is asked for.
+const UNWRITTEN: &[Unwritten] = &[(
+    SHORT,
+    "cut: output: write failed\n",
+    &[
+        (3, usize::MAX, 0, ""),
+        (3, usize::MAX, 1, "bd\n"),
+        (3, usize::MAX, 2, "bd\nb\n\n"),
+        (3, usize::MAX, 3, "bd\nb\n\ny"),
+        (3, usize::MAX, 4, "bd\nb\n\ny\n"),
+        (1, usize::MAX, 2, "bd"),
+        (1, usize::MAX, 8, "bd\nb\n\ny\n"),
+        (usize::MAX, usize::MAX, 0, ""),
+        (usize::MAX, usize::MAX, 1, "bd\nb\n\ny"),
+        (usize::MAX, usize::MAX, 2, "bd\nb\n\ny\n"),
+        (usize::MAX, 4, u64::MAX, "bd\nb"),
+        (1, 0, u64::MAX, ""),
+    ],
+)];
+
+const ONE: Limits = Limits {
+    size: 1,
+    passing: 9,
+    ..FREE
+};
+
+const THREE: Limits = Limits {
+    size: 3,
+    passing: 5,
+    ..FREE
+};
+
+const MANY: Limits = Limits { passing: 3, ..FREE };
+
+// As many calls pass as it takes, with the flush.
+const ENOUGH: &[Counted] = &[
+    (Case { out: ONE, ..SHORT }, CUT, "", 9),
+    (
+        Case {
+            out: THREE,
+            ..SHORT
+        },
+        CUT,
+        "",
+        5,
+    ),
+    (Case { out: MANY, ..SHORT }, CUT, "", 3),
 ];
 
-#[test]
-fn each_write_and_the_flush_fail(rt: HostRuntime) -> Result<(), Fail> {
-    for (size, room, passing, out) in UNWRITTEN {
-        let mut case = over_standard(WORDS, LINES, usize::MAX);
-        case.out = Limits {
-            size: *size,
-            room: *room,
-            passing: *passing,
-        };
-        let expected = Expected {
-            out,
-            messages: "cut: output: write failed\n",
-            status: 1,
-        };
-        expect(&rt, rt.alloc(), &case, &expected)?;
-    }
-    Ok(())
-}
-
-// How many bytes a call takes, and how many calls that is with the flush.
-const ENOUGH: &[(usize, u64)] = &[(1, 9), (3, 5), (usize::MAX, 3)];
+const GROWING: &[Growing] = &[(SHORT, CUT, "", "cut: out of memory\n", true)];
 
 #[test]
-fn as_many_calls_as_it_takes(rt: HostRuntime) -> Result<(), Fail> {
-    for (size, passing) in ENOUGH {
-        let mut case = over_standard(WORDS, LINES, usize::MAX);
-        case.out.size = *size;
-        case.out.passing = *passing;
-        let report = run_over(&rt, rt.alloc(), rt.alloc(), &case)?;
-        assert_left(&rt, &case, &report, &CUT);
-        same(&rt, &report.out.calls(), passing);
-    }
-    Ok(())
-}
-
-const CUT: Expected = Expected {
-    out: "bd\nb\n\ny\n",
-    messages: "",
-    status: 0,
-};
-
-const NO_MEMORY: Expected = Expected {
-    out: "",
-    messages: "cut: out of memory\n",
-    status: 1,
-};
-
-// Refuses the growth behind so many, and says whether there was such a one.
-fn refused_growth(rt: &impl Abort, own: Global, passing: u64) -> Result<bool, Fail> {
-    let alloc = Refusing::after(own, passing);
-    let case = over_standard(WORDS, LINES, usize::MAX);
-    let report = run_over(rt, &alloc, own, &case)?;
-    let refused = alloc.refused();
-    let expected = if refused { &NO_MEMORY } else { &CUT };
-    assert_left(rt, &case, &report, expected);
-    same(rt, &report.peak, &0);
-    Ok(refused)
-}
-
-#[test]
-fn each_growth_is_refused(rt: HostRuntime) -> Result<(), Fail> {
-    let mut count = 0u64;
-    for passing in 0..40u64 {
-        if refused_growth(&rt, rt.alloc(), passing)? {
-            count = count.saturating_add(1);
-        }
-    }
-    assert!(rt; count > 0 && count < 40, "{count}");
-    Ok(())
+fn each_call_and_each_growth_fails(rt: HostRuntime) -> Result<(), Fail> {
+    expect_rows(&rt, rt.alloc(), &[2], READS)?;
+    expect_unwritten(&rt, rt.alloc(), UNWRITTEN)?;
+    expect_calls(&rt, rt.alloc(), ENOUGH)?;
+    expect_growths_refused(&rt, rt.alloc(), GROWING)
 }

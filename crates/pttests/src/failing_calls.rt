@@ -1,11 +1,10 @@
-//! Each read, each write and the flush of a run fail in turn.
+//! Each read, each write and the flush of a run fail in turn, of `tr -cs` and of `join` with a list.
 
+use crate::commands::Input::{Failing, Text};
 use crate::commands::{
-    Case, Expected, Input, Limits, expect, expect_growths_refused, over_files, over_standard,
-    run_over, writes,
+    Case, Growing, Limits, PLAIN, Row, Run, Unwritten, expect, expect_growths_refused, expect_rows,
+    expect_unwritten,
 };
-use crate::comparing::same;
-use crate::steady_memory::expect_steady_memory;
 use std::alloc::Global;
 use std::process::Abort;
 use std::test::Fail;
@@ -22,25 +21,22 @@ const G: &[u8] = b"a x\na y\nb z\n";
 
 const ALL: &str = "a 1 x\na 1 y\na 2 x\na 2 y\nb - z\n";
 
-// So many calls of a sink that takes so many bytes at each of them pass: so many bytes are written, and this is said.
-fn stops_behind(
-    rt: &impl Abort,
-    alloc: Global,
-    case: &Case<'_>,
-    limits: Limits,
-    written: &[u8],
-    message: &str,
-) -> Result<(), Fail> {
-    let case = Case {
-        out: limits,
-        ..*case
-    };
-    let report = run_over(rt, alloc, alloc, &case)?;
-    same(rt, &report.out.bytes(), &written);
-    same(rt, &report.messages.bytes(), &message.as_bytes());
-    same(rt, &report.status, &1);
-    Ok(())
-}
+const OF_WORDS: Case = Case {
+    words: WORDS,
+    standard: Text(TEXT),
+    size: 4,
+    ..PLAIN
+};
+
+const OF_A_LIST: Case = Case {
+    words: LISTED,
+    files: &[Text(F), Text(G)],
+    ..PLAIN
+};
+
+const TR_UNWRITTEN: &str = "tr: output: write failed\n";
+
+const JOIN_UNWRITTEN: &str = "join: output: write failed\n";
 
 // Over a sink that takes one byte a call each of its puts fails in turn, and then the flush.
 fn each_call_fails(
@@ -56,111 +52,109 @@ fn each_call_fails(
             room: usize::MAX,
             passing: passing as u64,
         };
-        stops_behind(rt, alloc, case, limits, &all[..passing], message)?;
-    }
-    Ok(())
-}
-
-// A sink takes nothing.
-const NOTHING: Limits = Limits {
-    size: 0,
-    room: usize::MAX,
-    passing: u64::MAX,
-};
-
-const TR_UNWRITTEN: &str = "tr: output: write failed\n";
-
-const JOIN_UNWRITTEN: &str = "join: output: write failed\n";
-
-#[test]
-fn each_write_of_words_fails(rt: HostRuntime) -> Result<(), Fail> {
-    let case = over_standard(WORDS, TEXT, 4);
-    each_call_fails(&rt, rt.alloc(), &case, b"one\ntwo\n", TR_UNWRITTEN)
-}
-
-#[test]
-fn no_byte_of_words_is_taken(rt: HostRuntime) -> Result<(), Fail> {
-    let case = over_standard(WORDS, TEXT, 4);
-    stops_behind(&rt, rt.alloc(), &case, NOTHING, b"", TR_UNWRITTEN)
-}
-
-#[test]
-fn each_write_of_a_list_fails(rt: HostRuntime) -> Result<(), Fail> {
-    let files = [Input::Whole(F), Input::Whole(G)];
-    let case = over_files(LISTED, &files);
-    each_call_fails(&rt, rt.alloc(), &case, ALL.as_bytes(), JOIN_UNWRITTEN)
-}
-
-#[test]
-fn no_byte_of_a_list_is_taken(rt: HostRuntime) -> Result<(), Fail> {
-    let files = [Input::Whole(F), Input::Whole(G)];
-    let case = over_files(LISTED, &files);
-    stops_behind(&rt, rt.alloc(), &case, NOTHING, b"", JOIN_UNWRITTEN)
-}
-
-// What is written once so many reads of four bytes passed: `one,`, ` two` and `.` with a newline came.
-const WORDS_READ: &[(u64, &str)] = &[(0, ""), (1, "one\n"), (2, "one\ntwo"), (3, "one\ntwo\n")];
-
-#[test]
-fn each_read_of_words_fails(rt: HostRuntime) -> Result<(), Fail> {
-    for (passing, out) in WORDS_READ {
         let case = Case {
-            standard: Input::Failing(TEXT, 4, *passing),
-            ..over_standard(WORDS, b"", 4)
+            out: limits,
+            ..*case
         };
-        let expected = Expected {
-            out,
-            messages: "tr: standard input: read failed\n",
-            status: 1,
-        };
-        expect(&rt, rt.alloc(), &case, &expected)?;
+        expect(rt, alloc, &case, &all[..passing], message)?;
     }
     Ok(())
 }
 
-const NEVER: u64 = u64::MAX;
+// Commands, what they write, and what is said where it cannot be written.
+const WRITING: &[Run] = &[
+    (OF_WORDS, "one\ntwo\n", TR_UNWRITTEN),
+    (OF_A_LIST, ALL, JOIN_UNWRITTEN),
+];
+
+// No byte is taken.
+const UNTAKEN: &[Unwritten] = &[
+    (OF_WORDS, TR_UNWRITTEN, &[(0, usize::MAX, u64::MAX, "")]),
+    (OF_A_LIST, JOIN_UNWRITTEN, &[(0, usize::MAX, u64::MAX, "")]),
+];
+
+#[test]
+fn each_write_fails(rt: HostRuntime) -> Result<(), Fail> {
+    for (case, all, message) in WRITING {
+        each_call_fails(&rt, rt.alloc(), case, all.as_bytes(), message)?;
+    }
+    expect_unwritten(&rt, rt.alloc(), UNTAKEN)
+}
+
+const UNREAD: &str = "tr: standard input: read failed\n";
 
 const F_FAILED: &str = "join: f: read failed\n";
 
 const G_FAILED: &str = "join: g: read failed\n";
 
+const NEVER: u64 = u64::MAX;
+
 const PAIRS: &str = "a 1 x\na 1 y\na 2 x\na 2 y\n";
 
-// How many reads of each file pass, a line a read, what is written, and what is said. No row has three reads of g: then
-// `b - z` is not decided, since g stands at b, but would be true, so the definition lets it be written or not.
-const LIST_READ: &[(u64, u64, &str, &str)] = &[
-    (0, NEVER, "", F_FAILED),
-    (1, NEVER, "a 1 x\na 1 y\n", F_FAILED),
-    (2, NEVER, PAIRS, F_FAILED),
-    (3, NEVER, ALL, F_FAILED),
-    (NEVER, 0, "", G_FAILED),
-    (NEVER, 1, "", G_FAILED),
-    (NEVER, 2, "", G_FAILED),
+// In reads of four bytes. Of the words `one,`, ` two` and `.` with a newline come, and of the files a line. No row has
+// three reads of g: then `b - z` is not decided, since g stands at b, but would be true, so the definition lets it be
+// written or not.
+const READS: &[Row] = &[
+    (WORDS, Failing(TEXT, 0), &[], "", UNREAD),
+    (WORDS, Failing(TEXT, 1), &[], "one\n", UNREAD),
+    (WORDS, Failing(TEXT, 2), &[], "one\ntwo", UNREAD),
+    (WORDS, Failing(TEXT, 3), &[], "one\ntwo\n", UNREAD),
+    (
+        LISTED,
+        Text(b""),
+        &[Failing(F, 0), Failing(G, NEVER)],
+        "",
+        F_FAILED,
+    ),
+    (
+        LISTED,
+        Text(b""),
+        &[Failing(F, 1), Failing(G, NEVER)],
+        "a 1 x\na 1 y\n",
+        F_FAILED,
+    ),
+    (
+        LISTED,
+        Text(b""),
+        &[Failing(F, 2), Failing(G, NEVER)],
+        PAIRS,
+        F_FAILED,
+    ),
+    (
+        LISTED,
+        Text(b""),
+        &[Failing(F, 3), Failing(G, NEVER)],
+        ALL,
+        F_FAILED,
+    ),
+    (
+        LISTED,
+        Text(b""),
+        &[Failing(F, NEVER), Failing(G, 0)],
+        "",
+        G_FAILED,
+    ),
+    (
+        LISTED,
+        Text(b""),
+        &[Failing(F, NEVER), Failing(G, 1)],
+        "",
+        G_FAILED,
+    ),
+    (
+        LISTED,
+        Text(b""),
+        &[Failing(F, NEVER), Failing(G, 2)],
+        "",
+        G_FAILED,
+    ),
 ];
 
-#[test]
-fn each_read_of_a_list_fails(rt: HostRuntime) -> Result<(), Fail> {
-    for (of_f, of_g, out, messages) in LIST_READ {
-        let files = [Input::Failing(F, 4, *of_f), Input::Failing(G, 4, *of_g)];
-        let expected = Expected {
-            out,
-            messages,
-            status: 1,
-        };
-        expect(&rt, rt.alloc(), &over_files(LISTED, &files), &expected)?;
-    }
-    Ok(())
-}
-
 // The reading of words of `tr` asks for memory, and no run of it does.
-#[test]
-fn each_growth_of_words_is_refused(rt: HostRuntime) -> Result<(), Fail> {
-    let case = over_standard(WORDS, TEXT, 4);
-    let expected = writes("one\ntwo\n");
-    expect_growths_refused(&rt, rt.alloc(), &case, &expected, "tr: out of memory\n")
-}
+const GROWING: &[Growing] = &[(OF_WORDS, "one\ntwo\n", "", "tr: out of memory\n", true)];
 
 #[test]
-fn cut_by_fields_grows_alike_over_few_and_many_lines(rt: HostRuntime) -> Result<(), Fail> {
-    expect_steady_memory(&rt, rt.alloc(), &["cut", "-f2", "f"], 1)
+fn each_read_and_each_growth_fails(rt: HostRuntime) -> Result<(), Fail> {
+    expect_rows(&rt, rt.alloc(), &[4], READS)?;
+    expect_growths_refused(&rt, rt.alloc(), GROWING)
 }

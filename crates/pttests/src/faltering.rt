@@ -1,6 +1,6 @@
 //! Readers and writers of std that fail once and would work again: the failure is answered, and it is not tried again.
 
-use crate::comparing::same;
+use crate::comparing::{same, same_of};
 use ptfakes::Kept;
 use ptlines::{Failed, FromRead, FromWrite, LineFault, LineReader, Out, Sink, Source, Store};
 use ptopts::Command;
@@ -104,23 +104,20 @@ fn a_pull_is_one_read(rt: HostRuntime) {
 }
 
 #[test]
-fn a_put_is_one_write(rt: HostRuntime) {
-    let calls = Calls::failing_at(1);
+fn a_put_and_a_flush_are_one_call(rt: HostRuntime) {
     let mut bytes = Vec::new(rt.alloc());
-    let mut sink = FromWrite::new(Stumbling {
-        bytes: &mut bytes,
-        calls: &calls,
-    });
-    assert_eq!(rt; sink.put(b"ab"), Ok(1));
-    saw(&rt, &calls, 1, 0);
-    same(&rt, &sink.put(b"b"), &Err(Failed));
-    saw(&rt, &calls, 2, 0);
-}
-
-#[test]
-fn a_flush_is_one_flush(rt: HostRuntime) {
+    {
+        let calls = Calls::failing_at(1);
+        let mut sink = FromWrite::new(Stumbling {
+            bytes: &mut bytes,
+            calls: &calls,
+        });
+        assert_eq!(rt; sink.put(b"ab"), Ok(1));
+        saw(&rt, &calls, 1, 0);
+        same(&rt, &sink.put(b"b"), &Err(Failed));
+        saw(&rt, &calls, 2, 0);
+    }
     let calls = Calls::failing_at(1);
-    let mut bytes = Vec::new(rt.alloc());
     let mut sink = FromWrite::new(Stumbling {
         bytes: &mut bytes,
         calls: &calls,
@@ -232,40 +229,42 @@ fn ended(
     report.status
 }
 
-#[test]
-fn a_run_ends_at_a_failed_read(rt: HostRuntime) {
-    for failing in 0..4u64 {
-        let (reads, writes) = (Calls::failing_at(failing), Calls::failing_at(u64::MAX));
-        let mut bytes = Vec::new(rt.alloc());
-        let said = b"tr: standard input: read failed\n";
-        let status = ended(&rt, rt.alloc(), &reads, &mut bytes, &writes, said);
-        same(&rt, &status, &1);
-        saw(&rt, &reads, failing.saturating_add(1), 0);
-        // What came is written, a byte a call, and flushed once.
-        let came = failing.saturating_mul(2);
-        saw(&rt, &writes, came.saturating_add(1), 1);
-        assert!(rt; bytes.as_slice() == &b"ABCDEF"[..bytes.len().min(6)]);
-        same(&rt, &(bytes.len() as u64), &came);
-    }
-}
+// Which read fails and which write, what is said, how many reads there are, how many writes and flushes, how many of
+// these are flushes, and how many bytes are written.
+type Ending = (u64, u64, &'static [u8], u64, u64, u64, u64);
+
+const NEVER: u64 = u64::MAX;
+
+const UNREAD: &[u8] = b"tr: standard input: read failed\n";
+
+const UNWRITTEN: &[u8] = b"tr: output: write failed\n";
+
+const ENDINGS: &[Ending] = &[
+    // What came is written, a byte a call, and flushed once.
+    (0, NEVER, UNREAD, 1, 1, 1, 0),
+    (1, NEVER, UNREAD, 2, 3, 1, 2),
+    (2, NEVER, UNREAD, 3, 5, 1, 4),
+    (3, NEVER, UNREAD, 4, 7, 1, 6),
+    // Two bytes come with a read, and are sent, one a call, before the next. The seventh call is the flush.
+    (NEVER, 0, UNWRITTEN, 1, 1, 0, 0),
+    (NEVER, 1, UNWRITTEN, 1, 2, 0, 1),
+    (NEVER, 2, UNWRITTEN, 2, 3, 0, 2),
+    (NEVER, 3, UNWRITTEN, 2, 4, 0, 3),
+    (NEVER, 4, UNWRITTEN, 3, 5, 0, 4),
+    (NEVER, 5, UNWRITTEN, 3, 6, 0, 5),
+    (NEVER, 6, UNWRITTEN, 4, 7, 1, 6),
+];
 
 #[test]
-fn a_run_ends_at_a_failed_write(rt: HostRuntime) {
-    // Two bytes come with a read, and are sent, one a call, before the next. The seventh call is the flush.
-    for failing in 0..7u64 {
-        let (reads, writes) = (Calls::failing_at(u64::MAX), Calls::failing_at(failing));
+fn a_run_ends_at_a_failed_call(rt: HostRuntime) {
+    for (read, write, said, pulls, calls, flushes, written) in ENDINGS {
+        let (reads, writes) = (Calls::failing_at(*read), Calls::failing_at(*write));
         let mut bytes = Vec::new(rt.alloc());
-        let said = b"tr: output: write failed\n";
         let status = ended(&rt, rt.alloc(), &reads, &mut bytes, &writes, said);
         same(&rt, &status, &1);
-        saw(&rt, &reads, (failing / 2).saturating_add(1), 0);
-        saw(
-            &rt,
-            &writes,
-            failing.saturating_add(1),
-            u64::from(failing == 6),
-        );
+        saw(&rt, &reads, *pulls, 0);
+        saw(&rt, &writes, *calls, *flushes);
         assert!(rt; bytes.as_slice() == &b"ABCDEF"[..bytes.len().min(6)]);
-        same(&rt, &(bytes.len() as u64), &failing.min(6));
+        same_of(&rt, &(*read, *write), &(bytes.len() as u64), written);
     }
 }

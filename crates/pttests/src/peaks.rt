@@ -1,7 +1,8 @@
 //! What whole runs hold: as much as their bounds allow, over inputs in which the bounds are reached, and whether a
 //! growth was refused. Then what was decided before it is written, also what was staged.
 
-use crate::commands::{Case, Input, SIZES, growths, over_files, run_in, run_over};
+use crate::commands::Input::Text;
+use crate::commands::{Case, SIZES, growths, over, run_in, run_over};
 use crate::comparing::same;
 use ptfakes::{Kept, Refusing};
 use ptlines::Store;
@@ -61,92 +62,78 @@ fn assert_alike(
     same(rt, &lent.out.bytes(), &report.out.bytes());
 }
 
-// A command over two files, whole and in pieces.
-fn expect_peak_of_two(
-    rt: &impl Abort,
-    own: Global,
-    words: &[&str],
-    (first, second): (&[Part], &[Part]),
-    peak: u128,
-) -> Result<(), Fail> {
-    let (first, second) = (text_of(own, first)?, text_of(own, second)?);
+// Words, one file or two, and the most that is held. A long line is longer than a block, so that it is kept wherever
+// blocks end.
+type Peak = (&'static [&'static str], &'static [&'static [Part]], u128);
+
+// A command over its files, whole and in pieces.
+fn expect_peaks(rt: &impl Abort, own: Global, (words, files, peak): &Peak) -> Result<(), Fail> {
+    let first = text_of(own, files.first().unwrap_or(&NO_PARTS))?;
+    let second = text_of(own, files.get(1).unwrap_or(&NO_PARTS))?;
+    let texts = [Text(&first), Text(&second)];
     for size in SIZES {
-        let files = [Input::Pieces(&first, *size), Input::Pieces(&second, *size)];
-        expect_peak(rt, own, &over_files(words, &files), peak)?;
+        let case = over(words, Text(b""), &texts[..files.len().min(2)], *size);
+        expect_peak(rt, own, &case, *peak)?;
     }
     Ok(())
 }
 
-// Words, two files and the most that is held. A long line is longer than a block, so that it is kept wherever blocks
-// end.
-type Peak = (
-    &'static [&'static str],
-    (&'static [Part], &'static [Part]),
-    u128,
-);
+const NO_PARTS: &[Part] = &[];
 
 const PEAKS: &[Peak] = &[
     // The longest line.
     (
         &["cut", "-f", "2", "f", "g"],
-        (
+        &[
             &[("c\td\n", b'a', 9000, "\tb\ne\n")],
             &[("shorter\t", b'b', 8500, "\n")],
-        ),
+        ],
         9002,
     ),
     // The longest line of each column; here they stand in one row.
     (
         &["paste", "f", "g"],
-        (
+        &[
             &[("b\n", b'a', 9000, "\nb\n")],
             &[("d\n", b'c', 10000, "\nd\n")],
-        ),
+        ],
         19000,
     ),
     // Twice the longest line of each input: the one at which it stands, and the one before. The inputs take turns, so
     // that both come to their second line.
     (
         &["comm", "f", "g"],
-        (
+        &[
             &[("", b'a', 9000, "\n"), ("", b'c', 9000, "\n")],
             &[("", b'b', 10000, "\n"), ("", b'd', 10000, "\n")],
-        ),
+        ],
         38000,
     ),
     // The same, 2 * 9002 + 2 * 10002, and the second input's two lines of the key a, which are 20004 bytes.
     (
         &["join", "f", "g"],
-        (
+        &[
             &[("a ", b'1', 9000, "\n"), ("b ", b'2', 9000, "\n")],
             &[
                 ("a ", b'x', 10000, "\n"),
                 ("a ", b'y', 10000, "\n"),
                 ("b ", b'z', 10000, "\n"),
             ],
-        ),
+        ],
         58012,
+    ),
+    // Twice the longest line: the one of which the run began, and the one that is compared with it.
+    (
+        &["uniq", "-c", "f"],
+        &[&[("", b'a', 9000, "\n"), ("", b'a', 9000, "\nb\n")]],
+        18000,
     ),
 ];
 
 #[test]
-fn the_bound_of_two_inputs_is_reached(rt: HostRuntime) -> Result<(), Fail> {
-    for (words, files, peak) in PEAKS {
-        expect_peak_of_two(&rt, rt.alloc(), words, *files, *peak)?;
-    }
-    Ok(())
-}
-
-const REPEATED: &[Part] = &[("", b'a', 9000, "\n"), ("", b'a', 9000, "\nb\n")];
-
-// Twice the longest line: the one of which the run began, and the one that is compared with it.
-#[test]
-fn the_bound_of_uniq_is_reached(rt: HostRuntime) -> Result<(), Fail> {
-    let text = text_of(rt.alloc(), REPEATED)?;
-    for size in SIZES {
-        let files = [Input::Pieces(&text, *size)];
-        let case = over_files(&["uniq", "-c", "f"], &files);
-        expect_peak(&rt, rt.alloc(), &case, 18000)?;
+fn the_bounds_are_reached(rt: HostRuntime) -> Result<(), Fail> {
+    for peak in PEAKS {
+        expect_peaks(&rt, rt.alloc(), peak)?;
     }
     Ok(())
 }
@@ -205,7 +192,7 @@ type Sent = (
     &'static str,
 );
 
-const OF_ONE: &[Sent] = &[
+const SENT: &[Sent] = &[
     (
         &["cut", "-f", "1", "f"],
         "",
@@ -220,9 +207,6 @@ const OF_ONE: &[Sent] = &[
         "1 a\n",
         "uniq: out of memory\n",
     ),
-];
-
-const OF_TWO: &[Sent] = &[
     (
         &["paste", "f", "g"],
         "a\nb\n",
@@ -246,24 +230,22 @@ const OF_TWO: &[Sent] = &[
     ),
 ];
 
-#[test]
-fn what_is_staged_of_one_input_is_sent(rt: HostRuntime) -> Result<(), Fail> {
-    for (words, _, front, decided, message) in OF_ONE {
-        let text = text_of(rt.alloc(), &[(*front, b'z', 9000, "\n")])?;
-        let files = [Input::Whole(&text)];
-        let case = over_files(words, &files);
-        expect_sent(&rt, rt.alloc(), &case, decided, message)?;
-    }
-    Ok(())
+fn expect_staged(
+    rt: &impl Abort,
+    own: Global,
+    (words, first, front, decided, message): &Sent,
+) -> Result<(), Fail> {
+    let text = text_of(own, &[(*front, b'z', 9000, "\n")])?;
+    let files = [Text(first.as_bytes()), Text(&text)];
+    let alone = usize::from(first.is_empty());
+    let case = over(words, Text(b""), &files[alone.min(2)..], usize::MAX);
+    expect_sent(rt, own, &case, decided, message)
 }
 
 #[test]
-fn what_is_staged_of_two_inputs_is_sent(rt: HostRuntime) -> Result<(), Fail> {
-    for (words, first, front, decided, message) in OF_TWO {
-        let text = text_of(rt.alloc(), &[(*front, b'z', 9000, "\n")])?;
-        let files = [Input::Whole(first.as_bytes()), Input::Whole(&text)];
-        let case = over_files(words, &files);
-        expect_sent(&rt, rt.alloc(), &case, decided, message)?;
+fn what_is_staged_is_sent(rt: HostRuntime) -> Result<(), Fail> {
+    for sent in SENT {
+        expect_staged(&rt, rt.alloc(), sent)?;
     }
     Ok(())
 }

@@ -1,7 +1,8 @@
 //! What is said of words that are no command: the message of each fault of each tool, and status 2.
 
-use crate::commands::{expect, expect_refused, over_standard, writes};
-use std::alloc::Global;
+use crate::commands::Input::Text;
+use crate::commands::{expect, expect_refused, over};
+use std::alloc::{AllocError, Global};
 use std::process::Abort;
 use std::test::Fail;
 
@@ -10,14 +11,13 @@ type Refusal = (&'static [&'static str], &'static str);
 
 const NO_TOOL: &str = "ptext: first word: cut, paste, join, comm, uniq or tr\n";
 
-const TOOLS: &[Refusal] = &[
+const OPTIONS: &[Refusal] = &[
+    // No tool.
     (&[], NO_TOOL),
     (&["cat"], NO_TOOL),
     (&["Cut", "-b1"], NO_TOOL),
     (&["", "-b1"], NO_TOOL),
-];
-
-const UNKNOWN: &[Refusal] = &[
+    // Unknown options.
     (&["cut", "-xb"], "cut: unknown option in -xb\n"),
     (&["cut", "-b1", "-s-"], "cut: unknown option in -s-\n"),
     (&["cut", "-b1", "-sé"], "cut: unknown option in -sé\n"),
@@ -29,9 +29,7 @@ const UNKNOWN: &[Refusal] = &[
     (&["join", "-x", "f", "g"], "join: unknown option in -x\n"),
     (&["tr", "-x", "a", "b"], "tr: unknown option in -x\n"),
     (&["tr", "-z", "a", "b"], "tr: unknown option in -z\n"),
-];
-
-const NEEDS_VALUE: &[Refusal] = &[
+    // Options without a value.
     (&["cut", "-b"], "cut: option -b needs a value\n"),
     (&["cut", "-c"], "cut: option -c needs a value\n"),
     (&["cut", "-sf"], "cut: option -f needs a value\n"),
@@ -49,6 +47,7 @@ const NEEDS_VALUE: &[Refusal] = &[
 ];
 
 const TWICE: &[Refusal] = &[
+    // Options that are given twice.
     (
         &["cut", "-b", "1", "-b", "2"],
         "cut: option -b is given twice\n",
@@ -72,9 +71,7 @@ const TWICE: &[Refusal] = &[
     (&["join", "-t,", "-t,"], "join: option -t is given twice\n"),
     (&["join", "-11", "-12"], "join: option -1 is given twice\n"),
     (&["join", "-21", "-22"], "join: option -2 is given twice\n"),
-];
-
-const TOGETHER: &[Refusal] = &[
+    // Options that do not go together.
     (
         &["cut", "-b", "0", "-c", "1"],
         "cut: options -b and -c do not go together\n",
@@ -133,16 +130,15 @@ const TOGETHER: &[Refusal] = &[
     ),
 ];
 
-const NEEDS_LIST: &[Refusal] = &[
+const VALUES: &[Refusal] = &[
+    // `cut` without a list.
     (&["cut"], "cut: one of -b, -c and -f is needed\n"),
     (
         &["cut", "-d", "::", "-s"],
         "cut: one of -b, -c and -f is needed\n",
     ),
     (&["cut", "-n", "f"], "cut: one of -b, -c and -f is needed\n"),
-];
-
-const VALUES_OF_CUT: &[Refusal] = &[
+    // Values of `cut`.
     (&["cut", "-f", "0"], "cut: wrong value for option -f: 0\n"),
     (
         &["cut", "-z", "-d", "\0", "-f", "1"],
@@ -182,7 +178,8 @@ const VALUES_OF_CUT: &[Refusal] = &[
     ),
 ];
 
-const VALUES_OF_OTHERS: &[Refusal] = &[
+const OTHER_VALUES: &[Refusal] = &[
+    // Values of `paste` and `uniq`.
     (
         &["paste", "-d", "", "f"],
         "paste: wrong value for option -d: \n",
@@ -208,9 +205,7 @@ const VALUES_OF_OTHERS: &[Refusal] = &[
         &["uniq", "-f", "18446744073709551616"],
         "uniq: wrong value for option -f: 18446744073709551616\n",
     ),
-];
-
-const VALUES_OF_JOIN: &[Refusal] = &[
+    // Values of `join`.
     (
         &["join", "-o", "1.0", "-a", "3", "f"],
         "join: wrong value for option -a: 3\n",
@@ -246,6 +241,7 @@ const VALUES_OF_JOIN: &[Refusal] = &[
 ];
 
 const OPERANDS: &[Refusal] = &[
+    // Numbers of operands, and standard input twice.
     (&["paste"], "paste: wrong number of operands\n"),
     (
         &["uniq", "--", "-c", "a", "b"],
@@ -275,10 +271,34 @@ const OPERANDS: &[Refusal] = &[
         &["join", "-a1", "-", "-"],
         "join: standard input is named twice\n",
     ),
-];
-
-// Each fault of an earlier step comes before those of later ones, and of the reading the leftmost is the first.
-const FIRST: &[Refusal] = &[
+    // Strings of `tr`.
+    (&["tr", "", "b"], "tr: wrong string1: empty\n"),
+    (&["tr", "a", ""], "tr: wrong string2: empty\n"),
+    (&["tr", "-d", "\\400"], "tr: wrong string1: octal\n"),
+    (&["tr", "a", "b\\"], "tr: wrong string2: escape\n"),
+    (&["tr", "z-a", "b"], "tr: wrong string1: descending\n"),
+    (
+        &["tr", "-d", "a-[:digit:]"],
+        "tr: wrong string1: descending\n",
+    ),
+    (&["tr", "[:foo:]", "a"], "tr: wrong string1: class\n"),
+    (&["tr", "a-z", "[:upper:]"], "tr: wrong string2: pairing\n"),
+    (
+        &["tr", "[:lower:]", "[:lower:]"],
+        "tr: wrong string2: pairing\n",
+    ),
+    (
+        &["tr", "-c", "[:alpha:]", "[:upper:]"],
+        "tr: wrong string2: pairing\n",
+    ),
+    (&["tr", "0", "[=x=]"], "tr: wrong string2: equivalence\n"),
+    (&["tr", "[a*3]", "b"], "tr: wrong string1: repeat\n"),
+    (&["tr", "abc", "[x*08]"], "tr: wrong string2: size\n"),
+    (&["tr", "a", "[x*65536]"], "tr: wrong string2: size\n"),
+    (&["tr", "a", "[x*][y*]"], "tr: wrong string2: fill\n"),
+    (&["tr", "z-a", "\\400"], "tr: wrong string1: descending\n"),
+    (&["tr", "-d", "z-a", "b"], "tr: wrong number of operands\n"),
+    // Each fault of an earlier step comes before those of later ones, and of the reading the leftmost is the first.
     (&["cut", "-x", "-b1", "-b"], "cut: unknown option in -x\n"),
     (
         &["cut", "-b1", "-b1", "-x"],
@@ -310,72 +330,83 @@ fn expect_refusals(rt: &impl Abort, alloc: Global, rows: &[Refusal]) -> Result<(
 }
 
 #[test]
-fn words_of_no_tool(rt: HostRuntime) -> Result<(), Fail> {
-    expect_refusals(&rt, rt.alloc(), TOOLS)
-}
-
-#[test]
-fn unknown_options(rt: HostRuntime) -> Result<(), Fail> {
-    expect_refusals(&rt, rt.alloc(), UNKNOWN)
-}
-
-#[test]
-fn options_without_a_value(rt: HostRuntime) -> Result<(), Fail> {
-    expect_refusals(&rt, rt.alloc(), NEEDS_VALUE)
-}
-
-#[test]
-fn options_given_twice(rt: HostRuntime) -> Result<(), Fail> {
+fn options_that_are_refused(rt: HostRuntime) -> Result<(), Fail> {
+    expect_refusals(&rt, rt.alloc(), OPTIONS)?;
     expect_refusals(&rt, rt.alloc(), TWICE)
 }
 
 #[test]
-fn options_that_do_not_go_together(rt: HostRuntime) -> Result<(), Fail> {
-    expect_refusals(&rt, rt.alloc(), TOGETHER)
+fn values_that_are_refused(rt: HostRuntime) -> Result<(), Fail> {
+    expect_refusals(&rt, rt.alloc(), VALUES)?;
+    expect_refusals(&rt, rt.alloc(), OTHER_VALUES)
 }
 
 #[test]
-fn cut_without_a_list(rt: HostRuntime) -> Result<(), Fail> {
-    expect_refusals(&rt, rt.alloc(), NEEDS_LIST)
-}
-
-#[test]
-fn values_of_cut(rt: HostRuntime) -> Result<(), Fail> {
-    expect_refusals(&rt, rt.alloc(), VALUES_OF_CUT)
-}
-
-#[test]
-fn values_of_paste_and_uniq(rt: HostRuntime) -> Result<(), Fail> {
-    expect_refusals(&rt, rt.alloc(), VALUES_OF_OTHERS)
-}
-
-#[test]
-fn values_of_join(rt: HostRuntime) -> Result<(), Fail> {
-    expect_refusals(&rt, rt.alloc(), VALUES_OF_JOIN)
-}
-
-#[test]
-fn numbers_of_operands(rt: HostRuntime) -> Result<(), Fail> {
+fn operands_that_are_refused(rt: HostRuntime) -> Result<(), Fail> {
     expect_refusals(&rt, rt.alloc(), OPERANDS)
 }
 
-#[test]
-fn the_first_fault_is_said(rt: HostRuntime) -> Result<(), Fail> {
-    expect_refusals(&rt, rt.alloc(), FIRST)
+// A tool and a word, how many words `-` follow, standard input, what is written, and what is said in place of that.
+// There may be 512 operands, and as many columns.
+type Many = (
+    [&'static str; 2],
+    usize,
+    &'static [u8],
+    &'static str,
+    &'static str,
+);
+
+const MANY: &[Many] = &[
+    (
+        ["cut", "-b1"],
+        513,
+        b"",
+        "",
+        "cut: wrong number of operands\n",
+    ),
+    (["cut", "-b1"], 512, b"ab\n", "a\n", ""),
+    (
+        ["paste", "-"],
+        512,
+        b"",
+        "",
+        "paste: wrong number of operands\n",
+    ),
+    (["paste", "-d\\0"], 512, b"ab\n\ncd\n", "abcd\n", ""),
+];
+
+// These two words, and so many words `-`.
+fn many_words<'a>(
+    alloc: Global,
+    first: &[&'a str],
+    count: usize,
+) -> Result<Vec<&'a str>, AllocError> {
+    let mut words = Vec::new(alloc);
+    words.extend_from_slice(first)?;
+    for _ in 0..count {
+        words.push("-")?;
+    }
+    Ok(words)
+}
+
+fn expect_many(
+    rt: &impl Abort,
+    alloc: Global,
+    words: &[&str],
+    (_, _, standard, out, message): &Many,
+) -> Result<(), Fail> {
+    if !message.is_empty() {
+        return expect_refused(rt, alloc, words, message);
+    }
+    let case = over(words, Text(standard), &[], 7);
+    expect(rt, alloc, &case, out.as_bytes(), "")
 }
 
 #[test]
 fn at_most_512_operands(rt: HostRuntime) -> Result<(), Fail> {
-    let mut words = vec![in rt.alloc(); "-"; 515]?;
-    words[0] = "cut";
-    words[1] = "-b1";
-    let message = "cut: wrong number of operands\n";
-    expect_refused(&rt, rt.alloc(), &words, message)?;
-    words.truncate(514);
-    let case = over_standard(&words, b"ab\n", usize::MAX);
-    expect(&rt, rt.alloc(), &case, &writes("a\n"))?;
-    words[0] = "paste";
-    words[1] = "-";
-    let message = "paste: wrong number of operands\n";
-    expect_refused(&rt, rt.alloc(), &words, message)
+    for many in MANY {
+        let words = many_words(rt.alloc(), &many.0, many.1)?;
+        expect_many(&rt, rt.alloc(), &words, many)?;
+    }
+    Ok(())
 }

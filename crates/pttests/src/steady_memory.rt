@@ -1,8 +1,12 @@
-//! How often memory is asked for, over few lines and over many.
+//! How often memory is asked for, over few lines and over many, and over a long one.
 
 use crate::columns::{BESIDE, SERIES};
-use crate::commands::{Input, growths, over_files};
-use crate::comparing::same;
+use crate::commands::Input::Text;
+use crate::commands::{expect_without_growth, growths, over};
+use crate::common_lines::COMMON;
+use crate::comparing::same_of;
+use crate::joined_lines::JOIN;
+use ptfakes::texts::text_of;
 use std::alloc::{AllocError, Global};
 use std::process::Abort;
 use std::test::Fail;
@@ -39,12 +43,16 @@ fn growths_over(
     lines: usize,
 ) -> Result<u64, Fail> {
     let text = numbers(alloc, lines)?;
-    let both = [Input::Pieces(&text, 20), Input::Pieces(&text, 20)];
-    growths(rt, alloc, &over_files(&*words, &both[..files.min(2)]))
+    let both = [Text(&text), Text(&text)];
+    growths(
+        rt,
+        alloc,
+        &over(&*words, Text(b""), &both[..files.min(2)], 20),
+    )
 }
 
-/// Expects that memory is asked for as often over 10 lines as over 100,000, in so many files, which are one or two.
-pub fn expect_steady_memory(
+// Memory is asked for as often over 10 lines as over 100,000, in so many files, which are one or two.
+fn expect_steady_memory(
     rt: &impl Abort,
     alloc: Global,
     words: &[&str],
@@ -52,12 +60,47 @@ pub fn expect_steady_memory(
 ) -> Result<(), Fail> {
     let few = growths_over(rt, alloc, &*words, files, 10)?;
     let many = growths_over(rt, alloc, &*words, files, 100_000)?;
-    same(rt, &many, &few);
+    same_of(rt, &words, &many, &few);
     Ok(())
 }
 
+// Words, and how many files they name.
+const STEADY: &[(&[&str], usize)] = &[
+    (&["cut", "-f2", "f"], 1),
+    (BESIDE, 2),
+    (SERIES, 2),
+    (COMMON, 2),
+    (JOIN, 2),
+    (&["uniq", "-c", "f"], 1),
+];
+
 #[test]
 fn memory_does_not_grow_with_the_lines(rt: HostRuntime) -> Result<(), Fail> {
-    expect_steady_memory(&rt, rt.alloc(), BESIDE, 2)?;
-    expect_steady_memory(&rt, rt.alloc(), SERIES, 2)
+    for (words, files) in STEADY {
+        expect_steady_memory(&rt, rt.alloc(), words, *files)?;
+    }
+    Ok(())
+}
+
+// Words, and what they write of a line of a million bytes: so many of its bytes, its newline among them, or else this.
+const LONG: &[(&[&str], usize, &str)] = &[
+    (&["tr", "-ds", "\n", "a-z"], 1_000_000, ""),
+    (&["tr", "-cd", "\n"], 0, "\n"),
+    // The bytes go round 'a' to 'w', and 999,999 is 43,478 times 23 and 5.
+    (&["cut", "-b", "1,1000000-"], 0, "af\n"),
+    (&["paste", "-s", "-"], 1_000_001, ""),
+];
+
+#[test]
+fn a_long_line_takes_no_memory(rt: HostRuntime) -> Result<(), Fail> {
+    let text = text_of(rt.alloc(), &[1_000_000], b'\n', true)?;
+    for (words, kept, out) in LONG {
+        let case = over(words, Text(&text), &[], usize::MAX);
+        let out = match *kept {
+            0 => out.as_bytes(),
+            _ => &text[..text.len().min(*kept)],
+        };
+        expect_without_growth(&rt, rt.alloc(), &case, out)?;
+    }
+    Ok(())
 }

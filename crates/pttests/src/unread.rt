@@ -52,33 +52,20 @@ fn expect_pulls(rt: &impl Abort, alloc: Global, words: &[&str], lines: u64) {
     }
 }
 
-#[test]
-fn cut_by_bytes_stops_at_a_failed_write(rt: HostRuntime) {
-    expect_pulls(&rt, rt.alloc(), &["cut", "-b", "1"], 1);
-}
+// Words, and how many lines were read by the time the first byte is written.
+const COMMANDS: &[(&[&str], u64)] = &[
+    (&["cut", "-b", "1"], 1),
+    (&["cut", "-f", "1"], 1),
+    (&["tr", "a", "x"], 1),
+    // A run is known once the line behind it came.
+    (&["uniq"], 2),
+    (&["paste", "-s", "-"], 1),
+    (&["paste", "-"], 1),
+];
 
 #[test]
-fn cut_by_fields_stops_at_a_failed_write(rt: HostRuntime) {
-    expect_pulls(&rt, rt.alloc(), &["cut", "-f", "1"], 1);
-}
-
-#[test]
-fn tr_stops_at_a_failed_write(rt: HostRuntime) {
-    expect_pulls(&rt, rt.alloc(), &["tr", "a", "x"], 1);
-}
-
-// A run is known once the line behind it came.
-#[test]
-fn uniq_stops_at_a_failed_write(rt: HostRuntime) {
-    expect_pulls(&rt, rt.alloc(), &["uniq"], 2);
-}
-
-#[test]
-fn paste_in_series_stops_at_a_failed_write(rt: HostRuntime) {
-    expect_pulls(&rt, rt.alloc(), &["paste", "-s", "-"], 1);
-}
-
-#[test]
-fn paste_in_rows_stops_at_a_failed_write(rt: HostRuntime) {
-    expect_pulls(&rt, rt.alloc(), &["paste", "-"], 1);
+fn reading_stops_at_a_failed_write(rt: HostRuntime) {
+    for (words, lines) in COMMANDS {
+        expect_pulls(&rt, rt.alloc(), words, *lines);
+    }
 }
