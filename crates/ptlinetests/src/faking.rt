@@ -3,28 +3,19 @@
 use crate::comparing::{holds_of, same, same_of};
 use ptfakes::{Kept, Pieces, Refusing, Repeated, Watched};
 use ptlines::{Failed, Sink, Source};
-use std::alloc::{Allocator, Global};
+use std::alloc::Global;
 use std::cell::Cell;
 use std::process::Abort;
-use std::test::Fail;
 
 /// What a pull answers, and the first bytes of the buffer then.
 pub type Pull = (Result<usize, Failed>, &'static [u8]);
 
-/// Pulls into a buffer, with these answers in turn.
-pub fn pulls<S: Source>(rt: &impl Abort, source: &mut S, into: &mut [u8], answers: &[Pull]) {
-    assert!(rt; !into.is_empty());
+/// Pulls into four bytes, which are 0 before each pull, with these answers in turn.
+pub fn pulls<S: Source>(rt: &impl Abort, source: &mut S, answers: &[Pull]) {
     for (number, (answer, given)) in answers.iter().enumerate() {
-        same_of(rt, &number, &source.pull(into), answer);
-        holds_of(rt, &number, into.starts_with(given));
-    }
-}
-
-// Pulls into four bytes, which are 0 before each pull.
-fn gives<S: Source>(rt: &impl Abort, source: &mut S, answers: &[Pull]) {
-    for answer in answers {
         let mut into = [0u8; 4];
-        pulls(rt, source, &mut into, &[*answer]);
+        same_of(rt, &number, &source.pull(&mut into), answer);
+        holds_of(rt, &number, into.starts_with(given));
     }
 }
 
@@ -39,16 +30,6 @@ const IN_PIECES: &[Pull] = &[
 
 const WHOLE: &[Pull] = &[(Ok(4), b"abcd"), (Ok(1), b"e"), (Ok(0), b"")];
 
-#[test]
-fn pieces_of_a_text(rt: HostRuntime) {
-    let mut source = Pieces::new(b"abcde", 2, 4);
-    gives(&rt, &mut source, IN_PIECES);
-    same(&rt, &source.pulls(), &6);
-    let mut whole = Pieces::whole(b"abcde");
-    gives(&rt, &mut whole, WHOLE);
-    same(&rt, &whole.pulls(), &3);
-}
-
 const REPEATED: &[Pull] = &[
     (Ok(3), b"xxx"),
     (Ok(2), b"xx"),
@@ -57,13 +38,19 @@ const REPEATED: &[Pull] = &[
 ];
 
 #[test]
-fn one_byte_repeated(rt: HostRuntime) {
+fn pieces_of_a_text_and_one_byte_repeated(rt: HostRuntime) {
+    let mut source = Pieces::new(b"abcde", 2, 4);
+    pulls(&rt, &mut source, IN_PIECES);
+    same(&rt, &source.pulls(), &6);
+    let mut whole = Pieces::whole(b"abcde");
+    pulls(&rt, &mut whole, WHOLE);
+    same(&rt, &whole.pulls(), &3);
     let seen = Cell::new(0);
     let mut source = Watched::new(Repeated::new(b'x', 5, 3, 3), &seen);
-    gives(&rt, &mut source, REPEATED);
+    pulls(&rt, &mut source, REPEATED);
     same(&rt, &seen.get(), &4);
     let mut other = Repeated::new(b'y', 1, 0, 0);
-    gives(&rt, &mut other, &[(Err(Failed), b"")]);
+    pulls(&rt, &mut other, &[(Err(Failed), b"")]);
     same(&rt, &other.pulls(), &1);
 }
 
@@ -71,19 +58,6 @@ fn one_byte_repeated(rt: HostRuntime) {
 enum Call {
     Put(&'static [u8], Result<usize, Failed>),
     Flush(Result<(), Failed>),
-}
-
-// These sinks may be called after a failure too, and count that call.
-fn answers<A: Allocator + Drop>(rt: &impl Abort, sink: &mut Kept<A>, calls: &[Call]) {
-    for (number, call) in calls.iter().enumerate() {
-        match call {
-            Call::Put(bytes, answer) => {
-                assert!(rt; !bytes.is_empty());
-                same_of(rt, &number, &sink.put(bytes), answer);
-            }
-            Call::Flush(answer) => same_of(rt, &number, &sink.flush(), answer),
-        }
-    }
 }
 
 const LIMITED: &[Call] = &[
@@ -95,28 +69,27 @@ const LIMITED: &[Call] = &[
     Call::Flush(Err(Failed)),
 ];
 
-#[test]
-fn a_sink_with_limits(rt: HostRuntime) {
-    let mut sink = Kept::limited(rt.alloc(), 3, 5, 4);
-    answers(&rt, &mut sink, LIMITED);
-    assert!(rt; sink.bytes() == b"abcde".as_slice());
-    same(&rt, &(sink.calls(), sink.flushes()), &(6, 2));
-}
-
 const WITHOUT_MEMORY: &[Call] = &[Call::Put(b"a", Err(Failed)), Call::Put(b"a", Ok(1))];
 
-#[test]
-fn a_sink_without_memory(rt: HostRuntime) {
-    let alloc = Refusing::after(rt.alloc(), 0);
-    let mut sink = Kept::new(&alloc);
-    answers(&rt, &mut sink, WITHOUT_MEMORY);
-    assert!(rt; sink.bytes() == b"a".as_slice());
-}
-
-// Whether a new list grows.
-fn grows(alloc: &Refusing<Global>) -> bool {
-    let mut list = Vec::new(alloc);
-    list.push(7u8).is_ok()
+// These sinks may be called after a failure too, and count that call. In the end they have these bytes.
+fn answers(
+    rt: &impl Abort,
+    sink: &mut Kept<&Refusing<Global>>,
+    calls: &[Call],
+    (bytes, flushes): (&[u8], u64),
+) {
+    for (number, call) in calls.iter().enumerate() {
+        match call {
+            Call::Put(bytes, answer) => {
+                assert!(rt; !bytes.is_empty());
+                same_of(rt, &number, &sink.put(bytes), answer);
+            }
+            Call::Flush(answer) => same_of(rt, &number, &sink.flush(), answer),
+        }
+    }
+    holds_of(rt, &bytes, sink.bytes() == bytes);
+    let counts = (sink.calls(), sink.flushes());
+    same_of(rt, &bytes, &counts, &(calls.len() as u64, flushes));
 }
 
 // Six lists grow once each.
@@ -125,14 +98,8 @@ fn one_of_six(rt: &impl Abort, alloc: Global, passing: u64) {
     for growth in 0..6u64 {
         let of = (growth, passing);
         same_of(rt, &of, &alloc.refused(), &(growth > passing));
-        same_of(rt, &of, &grows(&alloc), &(growth != passing));
-    }
-}
-
-#[test]
-fn one_growth_is_refused(rt: HostRuntime) {
-    for passing in 0..4u64 {
-        one_of_six(&rt, rt.alloc(), passing);
+        let mut list = Vec::new(&alloc);
+        same_of(rt, &of, &list.push(7u8).is_ok(), &(growth != passing));
     }
 }
 
@@ -150,7 +117,16 @@ fn keeps(rt: &impl Abort, alloc: &Refusing<Global>, list: &mut Vec<u8, &Refusing
 }
 
 #[test]
-fn a_list_keeps_what_it_has(rt: HostRuntime) {
+fn sinks_with_limits_and_refused_growths(rt: HostRuntime) {
+    let alloc = Refusing::after(rt.alloc(), u64::MAX);
+    let mut limited = Kept::limited(&alloc, 3, 5, 4);
+    answers(&rt, &mut limited, LIMITED, (b"abcde", 2));
+    let alloc = Refusing::after(rt.alloc(), 0);
+    let mut without = Kept::new(&alloc);
+    answers(&rt, &mut without, WITHOUT_MEMORY, (b"a", 0));
+    for passing in 0..4u64 {
+        one_of_six(&rt, rt.alloc(), passing);
+    }
     let alloc = Refusing::after(rt.alloc(), 1);
     keeps(&rt, &alloc, &mut Vec::new(&alloc));
 }

@@ -1,19 +1,17 @@
 //! What a reader gives step by step, in cases that are known by their names.
 
-use crate::comparing::holds_of;
-use crate::stepping::{END, FAULT, LINE, NO_BLOCK, SIZES, Step, follows};
-use ptfakes::{Pieces, Watched};
-use ptlines::{LineFault, LineReader};
+use crate::comparing::same_of;
+use crate::stepping::{END, FAULT, Input, LINE, NO_BLOCK, SIZES, Step, follows, reader_of};
+use ptlines::LineFault;
 use std::alloc::Global;
 use std::cell::Cell;
 use std::process::Abort;
 use std::test::Fail;
 
-type Reader<'a> = LineReader<Watched<'a, Pieces<'a>>, Pieces<'a>>;
-
-// A name, a text, of what sizes the pieces are, how many pulls pass, and what is asked for.
+// A name, what is read, a text, of what sizes the pieces are, how many pulls pass, and what is asked for.
 struct Case {
     name: &'static str,
+    input: Input,
     text: &'static [u8],
     sizes: &'static [usize],
     passing: u64,
@@ -23,6 +21,7 @@ struct Case {
 // A file in pieces of each size.
 const FILE: Case = Case {
     name: "",
+    input: Input::File,
     text: b"",
     sizes: SIZES,
     passing: u64::MAX,
@@ -31,6 +30,7 @@ const FILE: Case = Case {
 
 // A standard input in pieces of four bytes.
 const STANDARD: Case = Case {
+    input: Input::Standard,
     sizes: &[4],
     ..FILE
 };
@@ -180,6 +180,12 @@ const FILES: &[Case] = &[
 ];
 
 const STANDARDS: &[Case] = &[
+    Case {
+        name: "refused",
+        input: Input::Refused,
+        steps: &[FAULT, NO_BLOCK, FAULT, NO_BLOCK],
+        ..STANDARD
+    },
     Case {
         name: "the ending is set and set back",
         text: b"a\nb\0c\nd\0\n",
@@ -423,44 +429,22 @@ const STANDARDS: &[Case] = &[
 
 fn runs(rt: &impl Abort, alloc: Global, case: &Case, size: usize) -> Result<(), LineFault> {
     let pulls = Cell::new(0);
-    let source = Watched::new(Pieces::new(case.text, size, case.passing), &pulls);
-    let mut reader: Reader<'_> = LineReader::standard(source);
-    follows(rt, alloc, case.name, &mut reader, &pulls, case.steps)
-}
-
-fn runs_file(rt: &impl Abort, alloc: Global, case: &Case, size: usize) -> Result<(), LineFault> {
-    let source = Pieces::new(case.text, size, case.passing);
-    let mut reader: LineReader<Pieces<'_>, Pieces<'_>> = LineReader::file(source);
-    holds_of(rt, &case.name, !reader.is_refused());
-    follows(rt, alloc, case.name, &mut reader, &Cell::new(0), case.steps)
-}
-
-const OF_REFUSED: &[Step<'_>] = &[FAULT, NO_BLOCK, FAULT, NO_BLOCK];
-
-fn runs_refused(rt: &impl Abort, alloc: Global) -> Result<(), LineFault> {
-    let mut reader: Reader<'_> = LineReader::refused();
-    assert!(rt; reader.is_refused());
-    let told = follows(rt, alloc, "refused", &mut reader, &Cell::new(0), OF_REFUSED);
-    assert!(rt; reader.is_refused());
+    let mut reader = reader_of(&case.input, case.text, (size, case.passing), &pulls);
+    let is_refused = matches!(&case.input, Input::Refused);
+    same_of(rt, &case.name, &reader.is_refused(), &is_refused);
+    let told = follows(rt, alloc, case.name, &mut reader, &pulls, case.steps);
+    same_of(rt, &case.name, &reader.is_refused(), &is_refused);
     told
-}
-
-fn runs_all(rt: &impl Abort, alloc: Global) -> Result<(), LineFault> {
-    for case in FILES {
-        for size in case.sizes {
-            runs_file(rt, alloc, case, *size)?;
-        }
-    }
-    for case in STANDARDS {
-        for size in case.sizes {
-            runs(rt, alloc, case, *size)?;
-        }
-    }
-    runs_refused(rt, alloc)
 }
 
 #[test]
 fn what_a_reader_gives(rt: HostRuntime) -> Result<(), Fail> {
-    runs_all(&rt, rt.alloc())?;
+    for cases in [FILES, STANDARDS] {
+        for case in cases {
+            for size in case.sizes {
+                runs(&rt, rt.alloc(), case, *size)?;
+            }
+        }
+    }
     Ok(())
 }

@@ -4,19 +4,15 @@
 #[cfg(test)]
 mod comparing;
 #[cfg(test)]
-mod copying;
-#[cfg(test)]
 mod faking;
 #[cfg(test)]
 mod giving;
 #[cfg(test)]
+mod kernels;
+#[cfg(test)]
 mod lining;
 #[cfg(test)]
-mod ordering;
-#[cfg(test)]
 mod reading;
-#[cfg(test)]
-mod searching;
 #[cfg(test)]
 mod stepping;
 #[cfg(test)]

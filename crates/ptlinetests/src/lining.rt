@@ -14,25 +14,17 @@ const LENGTHS: [usize; 20] = [
     0, 1, 2, 3, 4, 5, 7, 8, 9, 15, 16, 17, 31, 32, 33, 63, 64, 65, 100, 9000,
 ];
 
-// A line of this length, in front of which and behind which stand bytes that are no part of it.
-fn line_of(alloc: Global, length: usize) -> Result<Vec<u8>, AllocError> {
-    let mut bytes = Vec::new(alloc);
+const FRONTS: [usize; 9] = [0, 5, 8100, 8127, 8128, 8180, 8190, 8191, 8192];
+
+// 8192 bytes, and then a line of this length, in front of which and behind which stand bytes that are no part of it.
+fn text_of(alloc: Global, length: usize) -> Result<Vec<u8>, AllocError> {
+    let mut bytes = vec![in alloc; b'.'; 8192]?;
     bytes.extend_from_slice(b"\n\t")?;
     for place in 0..length {
         bytes.push(byte_at(place))?;
     }
     bytes.extend_from_slice(b"\n\t\0")?;
     Ok(bytes)
-}
-
-// Pushes bytes, then a line, and then others.
-fn written(rt: &impl Abort, alloc: Global, front: &[u8], lead: &[u8], line: &[u8]) -> Kept {
-    let mut out = Out::new(Kept::new(alloc));
-    same(rt, &out.push(front), &Ok(()));
-    same(rt, &out.push_line(lead, line, b"\n"), &Ok(()));
-    same(rt, &out.push(b"next"), &Ok(()));
-    same(rt, &out.finish(), &Ok(()));
-    out.into_sink()
 }
 
 // Whether the bytes are these parts one behind the other.
@@ -47,39 +39,36 @@ fn is_of(bytes: &[u8], parts: [&[u8]; 4]) -> bool {
     left.is_empty()
 }
 
-// Pushes bytes, and then a line, and looks at what is written in the end.
+// Pushes bytes, then a line, and then others, and looks at what is written in the end.
 fn is_pushed(rt: &impl Abort, alloc: Global, front: &[u8], lead: &[u8], line: &[u8]) {
-    let kept = written(rt, alloc, front, lead, line);
-    let is_written = is_of(kept.bytes(), [front, lead, line, b"\nnext"]);
+    let mut out = Out::new(Kept::new(alloc));
+    same(rt, &out.push(front), &Ok(()));
+    same(rt, &out.push_line(lead, line, b"\n"), &Ok(()));
+    same(rt, &out.push(b"next"), &Ok(()));
+    same(rt, &out.finish(), &Ok(()));
+    let parts = [front, lead, line, b"\nnext"];
+    let is_written = is_of(out.into_sink().bytes(), parts);
     holds_of(rt, &(front.len(), lead.len(), line.len()), is_written);
 }
 
 // Behind so many of these bytes, a line in the midst of others.
-fn is_pushed_behind(rt: &impl Abort, alloc: Global, dots: &[u8], around: &[u8], length: usize) {
-    assert!(rt; around.len() == length.saturating_add(5));
-    let line = &around[2..2 + length];
+fn is_pushed_behind(rt: &impl Abort, alloc: Global, text: &[u8], length: usize) {
+    assert!(rt; text.len() == length.saturating_add(8197));
+    let line = &text[8194..8194 + length];
     for lead in LEADS {
         for front in FRONTS {
-            assert!(rt; front <= dots.len());
-            is_pushed(rt, alloc, &dots[..front], lead, line);
+            assert!(rt; front <= text.len());
+            is_pushed(rt, alloc, &text[..front], lead, line);
         }
     }
 }
 
-const FRONTS: [usize; 9] = [0, 5, 8100, 8127, 8128, 8180, 8190, 8191, 8192];
-
-fn are_pushed(rt: &impl Abort, alloc: Global, dots: &[u8]) -> Result<(), AllocError> {
-    for length in LENGTHS {
-        let around = line_of(alloc, length)?;
-        is_pushed_behind(rt, alloc, dots, &around, length);
-    }
-    Ok(())
-}
-
 #[test]
 fn a_line_is_pushed_at_once(rt: HostRuntime) -> Result<(), Fail> {
-    let dots = vec![in rt.alloc(); b'.'; 8192]?;
-    are_pushed(&rt, rt.alloc(), &dots)?;
+    for length in LENGTHS {
+        let text = text_of(rt.alloc(), length)?;
+        is_pushed_behind(&rt, rt.alloc(), &text, length);
+    }
     Ok(())
 }
 
@@ -93,14 +82,11 @@ fn sent(rt: &impl Abort, alloc: Global, front: usize) -> Result<usize, AllocErro
 }
 
 #[test]
-fn a_line_for_which_there_is_room_is_staged(rt: HostRuntime) {
+fn a_line_is_staged_or_not_pushed(rt: HostRuntime) {
     same(&rt, &sent(&rt, rt.alloc(), 8186), &Ok(0));
     // The tab and the line are staged before the end is pushed, for which there is no room.
     same(&rt, &sent(&rt, rt.alloc(), 8187), &Ok(8192));
-}
-
-#[test]
-fn a_line_is_not_pushed_after_a_fault(rt: HostRuntime) {
+    // After a fault nothing is pushed.
     let mut out = Out::new(Kept::limited(rt.alloc(), 3, 4, u64::MAX));
     let fault = Err(WriteFault::Write);
     same(&rt, &out.push_line(b"\t", b"line", b"\n"), &Ok(()));

@@ -1,16 +1,14 @@
 //! Lines and blocks of texts of known lengths in pieces, a line that grows, and one that is very long.
 
 use crate::comparing::{holds_of, same, same_of};
-use crate::stepping::{SIZES, current, ends, next, shows, stays_at};
+use crate::stepping::{Input, Reader, SIZES, current, ends, next, reader_of, shows};
 use ptfakes::texts::{is_line, lines_of, text_of};
-use ptfakes::{Pieces, Refusing, Repeated, Watched};
-use ptlines::{LineFault, LineReader, Source, Store};
-use std::alloc::{Allocator, Global};
+use ptfakes::{Refusing, Repeated};
+use ptlines::{LineFault, LineReader, Store};
+use std::alloc::{AllocError, Global};
 use std::cell::Cell;
 use std::process::Abort;
 use std::test::Fail;
-
-type Reader<'a> = LineReader<Watched<'a, Pieces<'a>>, Pieces<'a>>;
 
 const LENGTHS: &[&[usize]] = &[
     &[],
@@ -30,61 +28,28 @@ fn pulls_of(text: &[u8], size: usize) -> u64 {
     (text.len().div_ceil(size.clamp(1, 8192)) as u64).saturating_add(1)
 }
 
-// A reader of a text in pieces of a size.
-fn reader_of<'a>(text: &'a [u8], size: usize, pulls: &'a Cell<u64>) -> Reader<'a> {
-    LineReader::standard(Watched::new(Pieces::new(text, size, u64::MAX), pulls))
-}
-
-// Reads lines of these lengths, and then the end.
-fn reads_all(
-    rt: &impl Abort,
-    alloc: Global,
-    size: usize,
-    reader: &mut Reader<'_>,
-    lengths: &[usize],
-) -> Result<(), LineFault> {
-    let mut store = Store::new(alloc, 1)?;
-    for length in lengths {
-        let of = (*length, size);
-        same_of(rt, &of, &next(rt, reader, &mut store), &Ok(true));
-        holds_of(rt, &of, is_line(current(rt, &store), *length));
-    }
-    ends(rt, &("lengths", size), reader, &mut store);
-    Ok(())
-}
-
 // Reads the lines of a text in pieces of a size, and then its end, twice.
 fn reads(
     rt: &impl Abort,
-    alloc: Global,
-    text: &[u8],
-    size: usize,
+    store: &mut Store,
+    (text, size): (&[u8], usize),
     zero: bool,
     lengths: &[usize],
-) -> Result<(), LineFault> {
+) {
     let pulls = Cell::new(0);
-    let mut reader = reader_of(text, size, &pulls);
+    let mut reader = reader_of(&Input::Standard, text, (size, u64::MAX), &pulls);
     if zero {
         reader.set_ending(true);
     }
-    reads_all(rt, alloc, size, &mut reader, lengths)?;
-    same_of(rt, &size, &pulls.get(), &pulls_of(text, size));
-    reads_all(rt, alloc, size, &mut reader, &[])?;
-    same_of(rt, &size, &pulls.get(), &pulls_of(text, size));
-    Ok(())
-}
-
-fn reads_in_pieces(
-    rt: &impl Abort,
-    alloc: Global,
-    text: &[u8],
-    zero: bool,
-    lengths: &[usize],
-) -> Result<(), LineFault> {
-    for size in SIZES {
-        reads(rt, alloc, text, *size, zero, lengths)?;
+    for length in lengths {
+        let of = (*length, size);
+        same_of(rt, &of, &next(rt, &mut reader, store), &Ok(true));
+        holds_of(rt, &of, is_line(current(rt, store), *length));
     }
-    Ok(())
+    for _ in 0..2 {
+        ends(rt, &("lengths", size), &mut reader, store);
+        same_of(rt, &size, &pulls.get(), &pulls_of(text, size));
+    }
 }
 
 // A text of these lengths, whose last line ends or not, with this ending.
@@ -93,27 +58,42 @@ fn reads_text(
     alloc: Global,
     lengths: &[usize],
     (zero, ended): (bool, bool),
-) -> Result<(), LineFault> {
-    let Ok(text) = text_of(alloc, lengths, if zero { 0 } else { b'\n' }, ended) else {
-        return Err(LineFault::Memory);
-    };
-    reads_in_pieces(rt, alloc, &text, zero, lines_of(lengths, ended))
+) -> Result<(), Fail> {
+    let text = text_of(alloc, lengths, if zero { 0 } else { b'\n' }, ended)?;
+    for size in SIZES {
+        let mut store = Store::new(alloc, 1)?;
+        let lengths = lines_of(lengths, ended);
+        reads(rt, &mut store, (&text, *size), zero, lengths);
+    }
+    Ok(())
+}
+
+// One line of a million bytes.
+fn has_long(rt: &impl Abort, reader: &mut LineReader<Repeated, Repeated>, store: &mut Store) {
+    same(rt, &next(rt, reader, store), &Ok(true));
+    same(rt, &current(rt, store).len(), &1_000_000);
+    assert!(rt; current(rt, store).iter().all(|byte| *byte == b'a'));
+    ends(rt, &("long", 0), reader, store);
+    same(rt, &(store.peak(), store.now()), &(1_000_000, 0));
 }
 
 #[test]
-fn lines_in_pieces(rt: HostRuntime) -> Result<(), Fail> {
+fn lines_in_pieces_and_a_very_long_one(rt: HostRuntime) -> Result<(), Fail> {
     for lengths in LENGTHS {
         for kind in [(false, true), (false, false), (true, true), (true, false)] {
             reads_text(&rt, rt.alloc(), lengths, kind)?;
         }
     }
+    let mut store = Store::new(rt.alloc(), 1)?;
+    let mut reader = LineReader::file(Repeated::new(b'a', 1_000_000, usize::MAX, u64::MAX));
+    has_long(&rt, &mut reader, &mut store);
     Ok(())
 }
 
 // Passes the next bytes, which are the next of those left, at most `step`, and says how many.
-fn passes<S: Source, R: Source>(
+fn passes(
     rt: &impl Abort,
-    reader: &mut LineReader<S, R>,
+    reader: &mut Reader<'_>,
     step: usize,
     left: &[u8],
 ) -> Result<usize, LineFault> {
@@ -125,9 +105,9 @@ fn passes<S: Source, R: Source>(
 }
 
 // Passes a text block by block, at most `step` bytes at a time.
-fn pass_all<S: Source, R: Source>(
+fn pass_all(
     rt: &impl Abort,
-    reader: &mut LineReader<S, R>,
+    reader: &mut Reader<'_>,
     step: usize,
     text: &[u8],
 ) -> Result<(), LineFault> {
@@ -145,32 +125,25 @@ fn pass_all<S: Source, R: Source>(
 }
 
 // A text in pieces of a size is shown whole, and pulled as often as it has pieces.
-fn shows_all(rt: &impl Abort, text: &[u8], size: usize, step: usize) -> Result<(), LineFault> {
+fn shows_all(rt: &impl Abort, text: &[u8], size: usize, step: usize) {
     let pulls = Cell::new(0);
-    let mut reader = reader_of(text, size, &pulls);
+    let mut reader = reader_of(&Input::Standard, text, (size, u64::MAX), &pulls);
     let passed = pass_all(rt, &mut reader, step, text);
     let of = (text.len(), size);
     same_of(rt, &of, &(passed, shows(&mut reader)), &(Ok(()), Ok(0)));
     same_of(rt, &of, &pulls.get(), &pulls_of(text, size));
-    Ok(())
-}
-
-fn shows_in_pieces(rt: &impl Abort, text: &[u8], length: usize) -> Result<(), LineFault> {
-    holds_of(rt, &length, is_line(text, length));
-    for size in SIZES {
-        for step in [1, 5, usize::MAX] {
-            shows_all(rt, text, *size, step)?;
-        }
-    }
-    Ok(())
 }
 
 // A line of this length without its end.
-fn shows_line(rt: &impl Abort, alloc: Global, length: usize) -> Result<(), LineFault> {
-    let Ok(text) = text_of(alloc, &[length], b'\n', false) else {
-        return Err(LineFault::Memory);
-    };
-    shows_in_pieces(rt, &text, length)
+fn shows_line(rt: &impl Abort, alloc: Global, length: usize) -> Result<(), AllocError> {
+    let text = text_of(alloc, &[length], b'\n', false)?;
+    holds_of(rt, &length, is_line(&text, length));
+    for size in SIZES {
+        for step in [1, 5, usize::MAX] {
+            shows_all(rt, &text, *size, step);
+        }
+    }
+    Ok(())
 }
 
 #[test]
@@ -182,9 +155,9 @@ fn blocks_in_pieces(rt: HostRuntime) -> Result<(), Fail> {
 }
 
 // Reads a line of 20,000 bytes, or a beginning of it where a growth is refused: then nothing more is read. Says which.
-fn reads_while_it_grows<A: Allocator + Copy>(
+fn reads_while_it_grows(
     rt: &impl Abort,
-    alloc: A,
+    alloc: &Refusing<Global>,
     reader: &mut Reader<'_>,
     pulls: &Cell<u64>,
 ) -> Result<bool, LineFault> {
@@ -205,13 +178,11 @@ fn reads_while_it_grows<A: Allocator + Copy>(
     same(rt, &(count < 20000), &is_denied);
     if is_denied {
         let pulled = pulls.get();
-        stays_at(
-            rt,
-            &("growths", count),
-            reader,
-            &mut store,
-            LineFault::Memory,
-        );
+        for _ in 0..2 {
+            let fault = LineFault::Memory;
+            same(rt, &next(rt, reader, &mut store), &Err(fault));
+            same(rt, &shows(reader), &Err(fault));
+        }
         same(
             rt,
             &(current(rt, &store).len(), pulls.get()),
@@ -230,7 +201,7 @@ fn is_refused_after(
 ) -> Result<bool, LineFault> {
     let refusing = Refusing::after(alloc, passing);
     let pulls = Cell::new(0);
-    let mut reader = reader_of(text, usize::MAX, &pulls);
+    let mut reader = reader_of(&Input::Standard, text, (usize::MAX, u64::MAX), &pulls);
     let denied = reads_while_it_grows(rt, &refusing, &mut reader, &pulls);
     same(rt, &refusing.refused(), &(denied != Ok(false)));
     denied
@@ -256,22 +227,5 @@ fn each_growth_refused(rt: HostRuntime) -> Result<(), Fail> {
     let text = text_of(rt.alloc(), &[20000], b'\n', true)?;
     let refused = refusals(&rt, rt.alloc(), &text);
     holds_of(&rt, &refused, refused > 1 && refused < 29);
-    Ok(())
-}
-
-// One line of a million bytes.
-fn has_long(rt: &impl Abort, reader: &mut LineReader<Repeated, Repeated>, store: &mut Store) {
-    same(rt, &next(rt, reader, store), &Ok(true));
-    same(rt, &current(rt, store).len(), &1_000_000);
-    assert!(rt; current(rt, store).iter().all(|byte| *byte == b'a'));
-    ends(rt, &("long", 0), reader, store);
-    same(rt, &(store.peak(), store.now()), &(1_000_000, 0));
-}
-
-#[test]
-fn a_very_long_line(rt: HostRuntime) -> Result<(), Fail> {
-    let mut store = Store::new(rt.alloc(), 1)?;
-    let mut reader = LineReader::file(Repeated::new(b'a', 1_000_000, usize::MAX, u64::MAX));
-    has_long(&rt, &mut reader, &mut store);
     Ok(())
 }

@@ -1,6 +1,7 @@
 //! What a reader of lines is asked for step by step, and what is to come of it.
 
 use crate::comparing::{holds_of, same_of};
+use ptfakes::{Pieces, Watched};
 use ptlines::{LineFault, LineReader, Source, Store};
 use std::alloc::{Allocator, Global};
 use std::cell::Cell;
@@ -8,6 +9,31 @@ use std::process::Abort;
 
 /// The sizes of the pieces in which a text comes.
 pub const SIZES: &[usize] = &[1, 7, usize::MAX];
+
+/// A reader of a text, whose pulls are counted where it is a standard input.
+pub type Reader<'a> = LineReader<Watched<'a, Pieces<'a>>, Pieces<'a>>;
+
+/// What is read.
+pub enum Input {
+    File,
+    Standard,
+    Refused,
+}
+
+/// A reader of a text in pieces of a size, of which so many pass.
+pub fn reader_of<'a>(
+    input: &Input,
+    text: &'a [u8],
+    (size, passing): (usize, u64),
+    pulls: &'a Cell<u64>,
+) -> Reader<'a> {
+    let source = Pieces::new(text, size, passing);
+    match input {
+        Input::File => LineReader::file(source),
+        Input::Standard => LineReader::standard(Watched::new(source, pulls)),
+        Input::Refused => LineReader::refused(),
+    }
+}
 
 /// What is asked of a reader and its store of one slot, and what is to come of it.
 pub struct Step<'a> {
@@ -80,20 +106,6 @@ pub fn ends<S: Source, R: Source, A: Allocator + Copy>(
     same_of(rt, of, &current(rt, store).len(), &0);
 }
 
-/// Each of the next calls answers this fault.
-pub fn stays_at<S: Source, R: Source, A: Allocator + Copy>(
-    rt: &impl Abort,
-    of: &(&str, usize),
-    reader: &mut LineReader<S, R>,
-    store: &mut Store<A>,
-    fault: LineFault,
-) {
-    for _ in 0..2 {
-        same_of(rt, of, &next(rt, reader, store), &Err(fault));
-        same_of(rt, of, &shows(reader), &Err(fault));
-    }
-}
-
 /// How many bytes the block shows.
 pub fn shows<S: Source, R: Source>(reader: &mut LineReader<S, R>) -> Result<usize, LineFault> {
     Ok(reader.block()?.len())
@@ -112,19 +124,6 @@ fn shown<S: Source, R: Source>(
     Ok(is_shown)
 }
 
-// Whether there is a line. The slot has these bytes, also where a call fails.
-fn filled<S: Source, R: Source, A: Allocator + Copy>(
-    rt: &impl Abort,
-    of: &(&str, usize),
-    reader: &mut LineReader<S, R>,
-    store: &mut Store<A>,
-    wanted: &[u8],
-) -> Result<bool, LineFault> {
-    let told = next(rt, reader, store);
-    holds_of(rt, of, current(rt, store) == wanted);
-    told
-}
-
 // Asks for a step, and looks at what comes of it.
 fn takes<S: Source, R: Source, A: Allocator + Copy>(
     rt: &impl Abort,
@@ -140,7 +139,12 @@ fn takes<S: Source, R: Source, A: Allocator + Copy>(
     }
     let told = match step.passed {
         Some(count) => shown(reader, step.bytes, count),
-        None => filled(rt, of, reader, store, step.bytes),
+        // (the slot has these bytes, also where the call fails)
+        None => {
+            let told = next(rt, reader, store);
+            holds_of(rt, of, current(rt, store) == step.bytes);
+            told
+        }
     };
     same_of(rt, of, &told, &step.told);
     holds_of(rt, of, !store.denied());

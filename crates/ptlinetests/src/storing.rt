@@ -3,7 +3,7 @@
 use crate::comparing::{holds_of, same, same_of};
 use ptfakes::{Pieces, Refusing};
 use ptlines::{LineFault, LineReader, Store};
-use std::alloc::{Allocator, Global};
+use std::alloc::Global;
 use std::process::Abort;
 use std::test::Fail;
 
@@ -17,6 +17,9 @@ enum Step {
     Swap(usize, usize),
     Add,
 }
+
+// The growths of these stores can be refused.
+type Lent<'a> = &'a Refusing<Global>;
 
 // The lines of a store, and how many bytes it held at most.
 type Lines = (&'static [&'static [u8]], u128);
@@ -64,11 +67,7 @@ const CASES: &[(&str, usize, &[Row])] = &[
 ];
 
 // Does this to slots that are there.
-fn takes<A: Allocator + Copy>(
-    rt: &impl Abort,
-    store: &mut Store<A>,
-    step: Step,
-) -> Result<(), LineFault> {
+fn takes(rt: &impl Abort, store: &mut Store<Lent<'_>>, step: Step) -> Result<(), LineFault> {
     let slots = store.slots();
     match step {
         Step::Hold(slot, line) => {
@@ -92,9 +91,9 @@ fn takes<A: Allocator + Copy>(
     Ok(())
 }
 
-fn hold<A: Allocator + Copy>(
+fn hold(
     rt: &impl Abort,
-    store: &mut Store<A>,
+    store: &mut Store<Lent<'_>>,
     slot: usize,
     line: &[u8],
 ) -> Result<(), LineFault> {
@@ -108,10 +107,10 @@ fn hold<A: Allocator + Copy>(
 }
 
 // Ends the test unless the store has these lines, and is denied or not.
-fn has<A: Allocator + Copy>(
+fn has(
     rt: &impl Abort,
     of: &(&str, usize),
-    store: &Store<A>,
+    store: &Store<Lent<'_>>,
     (lines, peak): Lines,
     denied: bool,
 ) {
@@ -127,10 +126,10 @@ fn has<A: Allocator + Copy>(
 }
 
 // Does this, and says whether it was refused. If so it is done once more and goes well, since one growth is refused.
-fn is_refused<A: Allocator + Copy>(
+fn is_refused(
     rt: &impl Abort,
     of: &(&str, usize),
-    store: &mut Store<A>,
+    store: &mut Store<Lent<'_>>,
     step: Step,
     refused: Lines,
 ) -> bool {
@@ -145,12 +144,7 @@ fn is_refused<A: Allocator + Copy>(
 }
 
 // Does these in turn, up to one that is refused, and says how many were not.
-fn follows<A: Allocator + Copy>(
-    rt: &impl Abort,
-    name: &str,
-    store: &mut Store<A>,
-    rows: &[Row],
-) -> usize {
+fn follows(rt: &impl Abort, name: &str, store: &mut Store<Lent<'_>>, rows: &[Row]) -> usize {
     for (number, (step, lines, refused)) in rows.iter().enumerate() {
         let of = (name, number);
         let stops = is_refused(rt, &of, store, *step, *refused);
@@ -164,8 +158,9 @@ fn follows<A: Allocator + Copy>(
 
 #[test]
 fn what_is_done_to_slots(rt: HostRuntime) -> Result<(), Fail> {
+    let alloc = Refusing::after(rt.alloc(), u64::MAX);
     for (name, slots, rows) in CASES {
-        let mut store = Store::new(rt.alloc(), *slots)?;
+        let mut store = Store::new(&alloc, *slots)?;
         same_of(
             &rt,
             name,
@@ -183,17 +178,7 @@ fn what_is_done_to_slots(rt: HostRuntime) -> Result<(), Fail> {
     Ok(())
 }
 
-// It is made where no growth is left, and then its first slot is refused.
-#[test]
-fn an_empty_store_takes_no_memory(rt: HostRuntime) {
-    let refusing = Refusing::after(rt.alloc(), 0);
-    let mut store = Store::empty(&refusing);
-    has(&rt, &("empty", 0), &store, (&[], 0), false);
-    assert!(rt; !refusing.refused());
-    let rows: &[Row] = &[(Step::Add, (&[b""], 0), (&[], 0))];
-    same(&rt, &follows(&rt, "empty", &mut store, rows), &0);
-    assert!(rt; refusing.refused());
-}
+const ADDED: &[Row] = &[(Step::Add, (&[b""], 0), (&[], 0))];
 
 const LONG: &[u8] = b"0123456789012345678901234567890123456789012345678901234567890123456789";
 
@@ -212,7 +197,7 @@ const MANY: &[&[u8]] = &[
 ];
 
 // Adds slots up to one that is refused, and says whether there was such a one.
-fn add_many<A: Allocator + Copy>(rt: &impl Abort, store: &mut Store<A>) -> bool {
+fn add_many(rt: &impl Abort, store: &mut Store<Lent<'_>>) -> bool {
     for slot in 2..40usize {
         assert!(rt; slot < MANY.len());
         let of = ("added", slot);
@@ -225,7 +210,7 @@ fn add_many<A: Allocator + Copy>(rt: &impl Abort, store: &mut Store<A>) -> bool 
 }
 
 // Where the growth of two slots stops: when they are made, at one of three rows, when more are added, or nowhere.
-fn stop_of<A: Allocator + Copy>(rt: &impl Abort, alloc: A) -> usize {
+fn stop_of(rt: &impl Abort, alloc: Lent<'_>) -> usize {
     match Store::new(alloc, 2) {
         Ok(mut store) => stop_in(rt, &mut store),
         Err(fault) => {
@@ -237,7 +222,7 @@ fn stop_of<A: Allocator + Copy>(rt: &impl Abort, alloc: A) -> usize {
 
 const NOWHERE: usize = 5;
 
-fn stop_in<A: Allocator + Copy>(rt: &impl Abort, store: &mut Store<A>) -> usize {
+fn stop_in(rt: &impl Abort, store: &mut Store<Lent<'_>>) -> usize {
     has(rt, &("new", 0), store, (&[b"", b""], 0), false);
     let done = follows(rt, "growing", store, GROWING);
     if done < GROWING.len() {
@@ -246,26 +231,28 @@ fn stop_in<A: Allocator + Copy>(rt: &impl Abort, store: &mut Store<A>) -> usize 
     if add_many(rt, store) { 4 } else { NOWHERE }
 }
 
-// How many of the first growths, refused in turn, stop the store at one of these.
-fn stops(rt: &impl Abort, alloc: Global, stopped: &[usize]) -> u32 {
-    let mut count = 0u32;
-    for passing in 0..80u64 {
-        let refusing = Refusing::after(alloc, passing);
-        let stop = stop_of(rt, &refusing);
-        same_of(rt, &passing, &refusing.refused(), &(stop != NOWHERE));
-        if stopped.contains(&stop) {
-            count = count.saturating_add(1);
-        }
-    }
-    count
-}
-
 #[test]
 fn each_growth_refused(rt: HostRuntime) {
-    // When they are made; at a line that a slot gets; at the copy; when more are added.
-    for stopped in [[0, 0], [1, 2], [3, 3], [4, 4]] {
-        holds_of(&rt, &stopped, stops(&rt, rt.alloc(), &stopped) > 0);
+    // An empty store is made where no growth is left, and then its first slot is refused.
+    let refusing = Refusing::after(rt.alloc(), 0);
+    let mut store = Store::empty(&refusing);
+    has(&rt, &("empty", 0), &store, (&[], 0), false);
+    assert!(rt; !refusing.refused());
+    same(&rt, &follows(&rt, "empty", &mut store, ADDED), &0);
+    assert!(rt; refusing.refused());
+    // How many of the first growths, refused in turn, stop a store at each of these.
+    let mut counts = [0u32; 6];
+    for passing in 0..80u64 {
+        let refusing = Refusing::after(rt.alloc(), passing);
+        let stop = stop_of(&rt, &refusing);
+        same_of(&rt, &passing, &refusing.refused(), &(stop != NOWHERE));
+        if let Some(count) = counts.get_mut(stop) {
+            *count = count.saturating_add(1);
+        }
     }
+    // When they are made; at a line that a slot gets; at the copy; when more are added.
+    let [made, first, second, copied, added, nowhere] = counts;
+    let is_each = made > 0 && (first > 0 || second > 0) && copied > 0 && added > 0;
     // At last no growth is left to be refused.
-    assert!(rt; stops(&rt, rt.alloc(), &[NOWHERE]) > 20);
+    holds_of(&rt, &counts, is_each && nowhere > 20);
 }

@@ -3,7 +3,7 @@
 use crate::comparing::{holds_of, same, same_of};
 use crate::faking::{Pull, pulls};
 use crate::stepping::{END, FAULT, LINE, Step, follows};
-use ptlines::{Failed, FromRead, FromWrite, LineFault, LineReader, Out, Sink, WriteFault};
+use ptlines::{Failed, FromRead, FromWrite, LineReader, Out, Sink, WriteFault};
 use std::alloc::Global;
 use std::cell::Cell;
 use std::io::{self, ErrorKind, Read, Write};
@@ -73,18 +73,6 @@ const TO_THE_END: &[Step<'_>] = &[
     END,
 ];
 
-fn of_slices(rt: &impl Abort, alloc: Global) -> Result<(), LineFault> {
-    let mut reader: Through<&[u8]> = LineReader::standard(FromRead::new(b"ab\n\ncd".as_slice()));
-    follows(
-        rt,
-        alloc,
-        "to the end",
-        &mut reader,
-        &Cell::new(0),
-        TO_THE_END,
-    )
-}
-
 const TO_A_FAULT: &[Step<'_>] = &[
     Step {
         bytes: b"ab",
@@ -100,22 +88,38 @@ const TO_A_FAULT: &[Step<'_>] = &[
     },
 ];
 
-fn of_broken(rt: &impl Abort, alloc: Global) -> Result<(), LineFault> {
+const OF_BROKEN: &[Pull] = &[
+    (Ok(2), b"ab\0\0"),
+    (Ok(1), b"c\0\0\0"),
+    (Err(Failed), b"\0\0\0\0"),
+];
+
+const OF_SLICE: &[Pull] = &[(Ok(1), b"x\0\0\0"), (Ok(0), b"\0\0\0\0")];
+
+// At each kind of answer that the reader has.
+#[test]
+fn readers_of_std_are_sources(rt: HostRuntime) -> Result<(), Fail> {
+    let pulled = Cell::new(0);
+    let mut reader: Through<&[u8]> = LineReader::standard(FromRead::new(b"ab\n\ncd".as_slice()));
+    follows(
+        &rt,
+        rt.alloc(),
+        "to the end",
+        &mut reader,
+        &pulled,
+        TO_THE_END,
+    )?;
     let mut reader: Through<Broken<'_>> = LineReader::file(FromRead::new(Broken(b"ab\ncd")));
     follows(
-        rt,
-        alloc,
+        &rt,
+        rt.alloc(),
         "to a fault",
         &mut reader,
-        &Cell::new(0),
+        &pulled,
         TO_A_FAULT,
-    )
-}
-
-#[test]
-fn readers_of_std_give_lines(rt: HostRuntime) -> Result<(), Fail> {
-    of_slices(&rt, rt.alloc())?;
-    of_broken(&rt, rt.alloc())?;
+    )?;
+    pulls(&rt, &mut FromRead::new(Broken(b"abc")), OF_BROKEN);
+    pulls(&rt, &mut FromRead::new(b"x".as_slice()), OF_SLICE);
     Ok(())
 }
 
@@ -146,8 +150,29 @@ fn is_written(
     holds_of(rt, &room, bytes.as_slice() == &b"abcde"[..count]);
 }
 
+// A writer with room for one byte takes one, and then none. A flush fails.
+fn fails(rt: &impl Abort, bytes: &mut Vec<u8>) {
+    let mut sink = FromWrite::new(Narrow {
+        bytes,
+        room: 1,
+        flushes: false,
+    });
+    // (that it has not failed is what the next call asks for)
+    assert_eq!(rt; sink.put(b"ab"), Ok(1));
+    same(rt, &sink.put(b"b"), &Ok(0));
+    let mut sink = FromWrite::new(Narrow {
+        bytes,
+        room: 0,
+        flushes: false,
+    });
+    same(rt, &sink.flush(), &Err(Failed));
+}
+
+// At each kind of answer that the writer has.
 #[test]
-fn writes_all_or_a_beginning(rt: HostRuntime) {
+fn writers_of_std_are_sinks(rt: HostRuntime) {
+    let mut bytes = Vec::new(rt.alloc());
+    fails(&rt, &mut bytes);
     for room in 0..8usize {
         let wanted = if room < 5 {
             Err(WriteFault::Write)
@@ -157,51 +182,4 @@ fn writes_all_or_a_beginning(rt: HostRuntime) {
         is_written(&rt, rt.alloc(), room, true, wanted);
     }
     is_written(&rt, rt.alloc(), 9, false, Err(WriteFault::Write));
-}
-
-const OF_BROKEN: &[Pull] = &[(Ok(2), b"ab\0"), (Ok(1), b"cb\0"), (Err(Failed), b"cb\0")];
-
-const OF_SLICE: &[Pull] = &[(Ok(1), b"x"), (Ok(0), b"x")];
-
-// A writer with room for one byte takes one, and then none.
-fn sinks(rt: &impl Abort, bytes: &mut Vec<u8>) {
-    let mut sink = FromWrite::new(Narrow {
-        bytes,
-        room: 1,
-        flushes: false,
-    });
-    // (that it has not failed is what the next call asks for)
-    assert_eq!(rt; sink.put(b"ab"), Ok(1));
-    same(rt, &sink.put(b"b"), &Ok(0));
-}
-
-// A flush that fails.
-fn flush_fails(rt: &impl Abort, bytes: &mut Vec<u8>) {
-    let mut sink = FromWrite::new(Narrow {
-        bytes,
-        room: 0,
-        flushes: false,
-    });
-    same(rt, &sink.flush(), &Err(Failed));
-}
-
-// What a source or a sink over std answers, at each kind of answer that the reader or writer has.
-#[test]
-fn answers_as_std_does(rt: HostRuntime) {
-    let mut into = [0u8; 3];
-    pulls(
-        &rt,
-        &mut FromRead::new(Broken(b"abc")),
-        &mut into,
-        OF_BROKEN,
-    );
-    pulls(
-        &rt,
-        &mut FromRead::new(b"x".as_slice()),
-        &mut into,
-        OF_SLICE,
-    );
-    let mut bytes = Vec::new(rt.alloc());
-    sinks(&rt, &mut bytes);
-    flush_fails(&rt, &mut bytes);
 }

@@ -3,7 +3,7 @@
 use crate::comparing::{holds_of, same, same_of};
 use ptfakes::texts::{is_line, text_of};
 use ptfakes::{Fixed, Kept};
-use ptlines::{Out, Sink, WriteFault, send};
+use ptlines::{Out, WriteFault, send};
 use std::alloc::{AllocError, Global};
 use std::process::Abort;
 use std::test::Fail;
@@ -30,17 +30,8 @@ const PUSHES: &[(&[usize], usize, u64)] = &[
     (&[3000, 3000, 3000, 3000, 3000, 3000], 12000, 4),
 ];
 
-// How many bytes these are.
-fn total(lengths: &[usize]) -> usize {
-    let mut total = 0usize;
-    for length in lengths {
-        total = total.saturating_add(*length);
-    }
-    total
-}
-
 // Pushes stretches of these lengths, which together are one line of known bytes, and says how many went well.
-fn push_all<W: Sink>(rt: &impl Abort, out: &mut Out<W>, text: &[u8], lengths: &[usize]) -> usize {
+fn push_all(rt: &impl Abort, out: &mut Out<Kept>, text: &[u8], lengths: &[usize]) -> usize {
     let mut from = 0usize;
     for (number, length) in lengths.iter().enumerate() {
         let to = from.saturating_add(*length);
@@ -53,16 +44,9 @@ fn push_all<W: Sink>(rt: &impl Abort, out: &mut Out<W>, text: &[u8], lengths: &[
     lengths.len()
 }
 
-// After a fault each call answers it, and nothing more is sent.
-fn stays_faulted(rt: &impl Abort, out: &mut Out<Kept>) {
-    assert!(rt; out.has_failed());
-    for more in [b"more".as_slice(), b""] {
-        same(rt, &out.push(more), &Err(WriteFault::Write));
-    }
-    same(rt, &out.finish(), &Err(WriteFault::Write));
-}
+const FAULT: Result<(), WriteFault> = Err(WriteFault::Write);
 
-// Whether all goes well, up to the end or before it. After a fault each call answers it.
+// Whether all goes well, up to the end or before it. After a fault each call answers it, and nothing more is sent.
 fn goes_well(
     rt: &impl Abort,
     out: &mut Out<Kept>,
@@ -73,7 +57,11 @@ fn goes_well(
     let are_pushed = push_all(rt, out, text, lengths) == lengths.len();
     let is_well = are_pushed && (!ends || out.finish().is_ok());
     if !is_well {
-        stays_faulted(rt, out);
+        assert!(rt; out.has_failed());
+        for more in [b"more".as_slice(), b""] {
+            same(rt, &out.push(more), &FAULT);
+        }
+        same(rt, &out.finish(), &FAULT);
     }
     is_well
 }
@@ -101,68 +89,25 @@ fn written(
     (goes_well, kept.calls(), kept.flushes(), taken)
 }
 
-// A sink that takes so many bytes a call has all of them at the end, with one flush.
-fn is_sent(rt: &impl Abort, alloc: Global, text: &[u8], lengths: &[usize]) {
-    for size in [1, 7, 8192, usize::MAX] {
-        let limits = (size, usize::MAX, u64::MAX);
-        let (goes_well, _, flushes, taken) = written(rt, alloc, text, lengths, limits, true);
-        let left = (goes_well, flushes, taken);
-        same_of(rt, &(lengths, size), &left, &(true, 1, text.len()));
-    }
-}
-
-fn is_staged(
+// A sink that takes so many bytes a call has all of them at the end, with one flush. Before the end it has those that
+// were not staged. One that takes no more bytes answers 0, which is a failure, and has what fits.
+fn is_sent(
     rt: &impl Abort,
     alloc: Global,
     text: &[u8],
     (lengths, before, calls): (&[usize], usize, u64),
 ) {
+    for size in [1, 7, 8192, usize::MAX] {
+        let limits = (size, usize::MAX, u64::MAX);
+        let (goes_well, made, flushes, taken) = written(rt, alloc, text, lengths, limits, true);
+        let left = (goes_well, flushes, taken);
+        same_of(rt, &(lengths, size), &left, &(true, 1, text.len()));
+        holds_of(rt, &lengths, made == calls || size < usize::MAX);
+    }
     let limits = (usize::MAX, usize::MAX, u64::MAX);
     let (goes_well, _, flushes, taken) = written(rt, alloc, text, lengths, limits, false);
-    same_of(
-        rt,
-        &lengths,
-        &(goes_well, flushes, taken),
-        &(true, 0, before),
-    );
-    let left = written(rt, alloc, text, lengths, limits, true);
-    same_of(rt, &lengths, &left, &(true, calls, 1, text.len()));
-}
-
-// Whether all goes well before a sink of which so many calls pass. No call was made behind the failed one.
-fn passes(
-    rt: &impl Abort,
-    alloc: Global,
-    text: &[u8],
-    lengths: &[usize],
-    (size, passing): (usize, u64),
-) -> bool {
-    let limits = (size, usize::MAX, passing);
-    let (passes, calls, _, taken) = written(rt, alloc, text, lengths, limits, true);
-    let wanted = if passes {
-        passing
-    } else {
-        passing.saturating_add(1)
-    };
-    same_of(rt, &(lengths, passing), &calls, &wanted);
-    let is_whole = taken == text.len();
-    let is_part = !passes && taken < text.len();
-    holds_of(rt, &(lengths, passing), is_whole || is_part);
-    passes
-}
-
-// With a sink that fails at each of its calls in turn, up to the first that is not reached.
-fn fails(rt: &impl Abort, alloc: Global, text: &[u8], lengths: &[usize], size: usize) {
-    for passing in 0..40000u64 {
-        if passes(rt, alloc, text, lengths, (size, passing)) {
-            return;
-        }
-    }
-    holds_of(rt, &lengths, false);
-}
-
-// A sink that takes no more bytes answers 0, which is a failure, and has what fits.
-fn fits(rt: &impl Abort, alloc: Global, text: &[u8], lengths: &[usize]) {
+    let left = (goes_well, flushes, taken);
+    same_of(rt, &lengths, &left, &(true, 0, before));
     for room in [0, 1, 8191, 8192, 8193, 19999] {
         let limits = (3000, room, u64::MAX);
         let (goes_well, _, _, taken) = written(rt, alloc, text, lengths, limits, true);
@@ -171,21 +116,41 @@ fn fits(rt: &impl Abort, alloc: Global, text: &[u8], lengths: &[usize]) {
     }
 }
 
+// With a sink that fails at each of its calls in turn, up to the first that is not reached. No call is made behind the
+// failed one.
+fn fails(rt: &impl Abort, alloc: Global, text: &[u8], lengths: &[usize], size: usize) {
+    for passing in 0..40000u64 {
+        let limits = (size, usize::MAX, passing);
+        let (passes, calls, _, taken) = written(rt, alloc, text, lengths, limits, true);
+        let of = (lengths, passing);
+        same_of(rt, &of, &calls, &passing.saturating_add(u64::from(!passes)));
+        let is_whole = taken == text.len();
+        let is_part = !passes && taken < text.len();
+        holds_of(rt, &of, is_whole || is_part);
+        if passes {
+            return;
+        }
+    }
+    holds_of(rt, &lengths, false);
+}
+
 fn is_pushed(
     rt: &impl Abort,
     alloc: Global,
     (lengths, before, calls): (&[usize], usize, u64),
 ) -> Result<(), AllocError> {
-    let text = text_of(alloc, &[total(lengths)], b'\n', false)?;
-    is_sent(rt, alloc, &text, lengths);
-    is_staged(rt, alloc, &text, (lengths, before, calls));
+    let mut total = 0usize;
+    for length in lengths {
+        total = total.saturating_add(*length);
+    }
+    let text = text_of(alloc, &[total], b'\n', false)?;
+    is_sent(rt, alloc, &text, (lengths, before, calls));
     fails(rt, alloc, &text, lengths, usize::MAX);
     fails(rt, alloc, &text, lengths, 1000);
     // Few bytes, one at each call.
     if text.len() < 8 {
         fails(rt, alloc, &text, lengths, 1);
     }
-    fits(rt, alloc, &text, lengths);
     Ok(())
 }
 
@@ -195,30 +160,6 @@ fn stretches_are_pushed(rt: HostRuntime) -> Result<(), Fail> {
         is_pushed(&rt, rt.alloc(), *row)?;
     }
     Ok(())
-}
-
-// Pushes bytes, and sends them all.
-fn pushes_and_ends(
-    rt: &impl Abort,
-    out: &mut Out<Fixed<16>>,
-    bytes: &[u8],
-    ended: Result<(), WriteFault>,
-) {
-    same(rt, &out.push(bytes), &Ok(()));
-    assert!(rt; !out.has_failed());
-    same(rt, &out.finish(), &ended);
-}
-
-#[test]
-fn a_sink_with_no_memory(rt: HostRuntime) {
-    let mut out = Out::new(Fixed::<16>::new(5, u64::MAX));
-    pushes_and_ends(&rt, &mut out, b"0123456789", Ok(()));
-    pushes_and_ends(&rt, &mut out, b"abcdef", Ok(()));
-    pushes_and_ends(&rt, &mut out, b"!", Err(WriteFault::Write));
-    let fixed = out.into_sink();
-    assert!(rt; fixed.bytes() == b"0123456789abcdef".as_slice());
-    // 5 and 5 bytes, 5 and 1, none, and two flushes.
-    same(&rt, &(fixed.calls(), fixed.flushes()), &(7, 2));
 }
 
 // A text, how many bytes the sink has room for, how many of its calls pass, the answer, what the sink has then, and how
@@ -231,8 +172,6 @@ type Sent = (
     &'static [u8],
     u64,
 );
-
-const FAULT: Result<(), WriteFault> = Err(WriteFault::Write);
 
 const SENT: &[Sent] = &[
     (b"abcde", 9, 9, Ok(()), b"abcde", 3),
@@ -253,9 +192,26 @@ fn is_sent_at_once(rt: &impl Abort, alloc: Global, row: &Sent) {
     same_of(rt, &(room, passing), &counts, &(calls, 0));
 }
 
+// What is pushed to a sink with a block of its own, and what sending it answers.
+const BLOCKS: &[(&[u8], Result<(), WriteFault>)] = &[
+    (b"0123456789", Ok(())),
+    (b"abcdef", Ok(())),
+    (b"!", FAULT),
+];
+
 #[test]
-fn bytes_are_sent_at_once(rt: HostRuntime) {
+fn bytes_are_sent_at_once_and_with_no_memory(rt: HostRuntime) {
     for row in SENT {
         is_sent_at_once(&rt, rt.alloc(), row);
     }
+    let mut out = Out::new(Fixed::<16>::new(5, u64::MAX));
+    for (bytes, ended) in BLOCKS {
+        same(&rt, &out.push(bytes), &Ok(()));
+        assert!(rt; !out.has_failed());
+        same(&rt, &out.finish(), ended);
+    }
+    let fixed = out.into_sink();
+    assert!(rt; fixed.bytes() == b"0123456789abcdef".as_slice());
+    // 5 and 5 bytes, 5 and 1, none, and two flushes.
+    same(&rt, &(fixed.calls(), fixed.flushes()), &(7, 2));
 }

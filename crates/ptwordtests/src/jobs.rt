@@ -37,11 +37,8 @@ fn what_tools_do_by_default(rt: HostRuntime) -> Result<(), Fail> {
     same(&rt, &CommJob::default(), &COMM);
     joins_pairs(&rt, &JoinJob::new(rt.alloc()));
     pastes(&rt, &PasteJob::new(rt.alloc())?);
-    Ok(())
-}
-
-#[test]
-fn the_default_of_paste_refused(rt: HostRuntime) {
+    // That of `paste` has a list, whose growth is refused.
     let alloc = Refusing::after(rt.alloc(), 0);
     assert!(rt; PasteJob::new(&alloc).is_err());
+    Ok(())
 }

@@ -4,19 +4,11 @@
 #[cfg(test)]
 mod comparing;
 #[cfg(test)]
-mod delims;
-#[cfg(test)]
-mod growths;
-#[cfg(test)]
 mod jobs;
 #[cfg(test)]
+mod lists;
+#[cfg(test)]
 mod meant;
-#[cfg(test)]
-mod numbers;
-#[cfg(test)]
-mod outlist;
-#[cfg(test)]
-mod ranges;
 #[cfg(test)]
 mod refusals;
 #[cfg(test)]

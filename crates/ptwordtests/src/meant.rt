@@ -2,7 +2,7 @@
 //! is let go at each of its exits, and each exit is proved.
 
 use crate::comparing::{holds_of, same};
-use crate::words::{Cut, Paste, is_comm, is_cut, is_paste, is_uniq};
+use crate::words::{Cut, Paste, is_cut, is_paste};
 use crate::words_of_join::{Join, is_join};
 use crate::words_of_tr::{Tr, is_tr};
 use ptlangs::jobs::{CommJob, UniqJob};
@@ -59,7 +59,9 @@ pub fn expect_meant(
 fn is_meant(rt: &impl Abort, command: &Command, words: &[&str], meant: &Meant) {
     match meant {
         Meant::Of(files, job) => {
-            has_files(rt, command, files);
+            same(rt, &command.inputs().order.as_slice(), &files.order);
+            same(rt, &command.names(), &files.names);
+            same(rt, &command.output(), &files.output);
             has_job(rt, command, job);
         }
         Meant::Inputs(count) => same(rt, &command.inputs().order.len(), count),
@@ -71,21 +73,15 @@ fn is_meant(rt: &impl Abort, command: &Command, words: &[&str], meant: &Meant) {
 
 /// Ends the test unless a command is of this tool, and is to do this.
 fn has_job(rt: &impl Abort, command: &Command, job: &Job) {
-    match job {
-        Job::Cut(row) => is_cut(rt, command, row),
-        Job::Paste(row) => is_paste(rt, command, row),
-        Job::Uniq(job) => is_uniq(rt, command, *job),
-        Job::Comm(job) => is_comm(rt, command, *job),
-        Job::Join(row) => is_join(rt, command, row),
-        Job::Tr(row) => is_tr(rt, command, row),
+    match (command, job) {
+        (Command::Cut(job, _), Job::Cut(row)) => is_cut(rt, job, row),
+        (Command::Paste(job, _), Job::Paste(row)) => is_paste(rt, job, row),
+        (Command::Uniq(job, _), Job::Uniq(wanted)) => same(rt, job, wanted),
+        (Command::Comm(job, _), Job::Comm(wanted)) => same(rt, job, wanted),
+        (Command::Join(job, _), Job::Join(row)) => is_join(rt, job, row),
+        (Command::Tr(plan, _), Job::Tr(row)) => is_tr(rt, plan, row),
+        _ => assert!(rt; false),
     }
-}
-
-/// Ends the test unless a command has these inputs in this order, these names, and this output.
-fn has_files(rt: &impl Abort, command: &Command, files: &Files) {
-    same(rt, &command.inputs().order.as_slice(), &files.order);
-    same(rt, &command.names(), &files.names);
-    same(rt, &command.output(), &files.output);
 }
 
 fn ends_and_orders(command: &Command) -> (bool, bool) {

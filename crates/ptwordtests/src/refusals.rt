@@ -1,16 +1,16 @@
 //! Words whose reading is refused memory.
 
-use crate::comparing::same;
+use crate::comparing::{same, same_of};
 use ptfakes::Refusing;
 use ptopts::{Command, UseFault};
-use std::alloc::{Allocator, Global};
+use std::alloc::Global;
 use std::process::Abort;
 
 // Whether memory was refused where words were read, which is the only fault that may be found. Else they name these
 // files.
-fn is_denied<A: Allocator>(
+fn is_denied(
     rt: &impl Abort,
-    read: &Result<Command<'_, A>, UseFault<'_>>,
+    read: &Result<Command<'_, &Refusing<Global>>, UseFault<'_>>,
     names: &[&str],
 ) -> bool {
     match read {
@@ -20,18 +20,15 @@ fn is_denied<A: Allocator>(
     read.is_err()
 }
 
-/// How many growths of reading these words can be refused, each in turn.
-fn growths<'a>(rt: &impl Abort, alloc: Global, words: &'a [&'a str], names: &[&str]) -> u64 {
-    let mut refused = 0u64;
-    for passed in 0..16u64 {
-        let refusing = Refusing::after(alloc, passed);
-        let read = Command::read(&refusing, words);
-        if is_denied(rt, &read, names) {
-            same(rt, &refused, &passed);
-            refused = refused.wrapping_add(1);
-        }
-    }
-    refused
+// The same, where the growth behind so many is refused.
+fn is_denied_after(
+    rt: &impl Abort,
+    (alloc, passed): (Global, u64),
+    words: &[&str],
+    names: &[&str],
+) -> bool {
+    let alloc = Refusing::after(alloc, passed);
+    is_denied(rt, &Command::read(&alloc, words), names)
 }
 
 /// Words, the files that they name, and how many growths their reading asks for.
@@ -52,6 +49,9 @@ const GROWTHS: &[(&[&str], &[&str], u64)] = &[
 #[test]
 fn each_growth_refused_in_turn(rt: HostRuntime) {
     for (words, names, count) in GROWTHS {
-        same(&rt, &growths(&rt, rt.alloc(), words, names), count);
+        for passed in 0..16u64 {
+            let is_denied = is_denied_after(&rt, (rt.alloc(), passed), words, names);
+            same_of(&rt, words, &is_denied, &(passed < *count));
+        }
     }
 }

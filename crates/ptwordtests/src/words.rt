@@ -4,7 +4,7 @@ use crate::comparing::{holds_of, same};
 use crate::meant::{Files, Job, Meant, Row, expect_meant};
 use crate::words_of_join::JOINS;
 use crate::words_of_tr::TRS;
-use ptlangs::jobs::{CommJob, Show, UniqJob};
+use ptlangs::jobs::{CommJob, CutJob, PasteJob, Show, UniqJob};
 use ptlangs::ranges::Interval;
 use ptlangs::{SetFault, SetFaultKind, SetString};
 use ptopts::{Command, Input, UseFault};
@@ -240,11 +240,8 @@ const CUTS: &[Row] = &[
     ),
 ];
 
-/// Ends the test unless a command is this one of `cut`.
-pub fn is_cut(rt: &impl Abort, command: &Command, row: &Cut) {
-    let Command::Cut(job, _) = command else {
-        return assert!(rt; false);
-    };
+/// Ends the test unless a job is this one of `cut`.
+pub fn is_cut(rt: &impl Abort, job: &CutJob, row: &Cut) {
     same(rt, &job.list.intervals(), &row.list);
     same(
         rt,
@@ -312,11 +309,8 @@ const PASTES: &[Row] = &[
     ),
 ];
 
-/// Ends the test unless a command is this one of `paste`.
-pub fn is_paste(rt: &impl Abort, command: &Command, row: &Paste) {
-    let Command::Paste(job, _) = command else {
-        return assert!(rt; false);
-    };
+/// Ends the test unless a job is this one of `paste`.
+pub fn is_paste(rt: &impl Abort, job: &PasteJob, row: &Paste) {
     same(rt, &job.serial, &row.serial);
     let delims = [job.delims.at(0), job.delims.at(1), job.delims.at(2)];
     holds_of(rt, &row.delims, delims.as_slice() == row.delims);
@@ -405,14 +399,6 @@ const UNIQS: &[Row] = &[
     ),
 ];
 
-/// Ends the test unless a command is `uniq` with this job.
-pub fn is_uniq(rt: &impl Abort, command: &Command, wanted: UniqJob) {
-    match command {
-        Command::Uniq(job, _) => same(rt, job, &wanted),
-        _ => assert!(rt; false),
-    }
-}
-
 const COMMS: &[Row] = &[
     (
         &["comm", "f", "-"],
@@ -455,33 +441,15 @@ const OF_COMM: Files = Files {
     output: None,
 };
 
-/// Ends the test unless a command is `comm` with this job.
-pub fn is_comm(rt: &impl Abort, command: &Command, wanted: CommJob) {
-    match command {
-        Command::Comm(job, _) => same(rt, job, &wanted),
-        _ => assert!(rt; false),
-    }
-}
-
-// Ends the test unless words mean this.
-fn are_meant(rt: &impl Abort, alloc: Global, rows: &[Row]) -> Result<(), Fail> {
-    for (words, meant) in rows {
-        expect_meant(rt, alloc, words, meant)?;
-    }
-    Ok(())
-}
-
-fn are_refused(rt: &impl Abort, alloc: Global) {
-    for (words, fault) in REFUSED {
-        is_refused(rt, alloc, words, *fault);
-    }
-}
-
 #[test]
 fn what_words_mean(rt: HostRuntime) -> Result<(), Fail> {
-    are_refused(&rt, rt.alloc());
+    for (words, fault) in REFUSED {
+        is_refused(&rt, rt.alloc(), words, *fault);
+    }
     for rows in [CUTS, PASTES, UNIQS, COMMS, JOINS, TRS, ENDS_AND_ORDERS] {
-        are_meant(&rt, rt.alloc(), rows)?;
+        for (words, meant) in rows {
+            expect_meant(&rt, rt.alloc(), words, meant)?;
+        }
     }
     counts_operands(&rt, rt.alloc())
 }

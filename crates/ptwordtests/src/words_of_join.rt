@@ -2,8 +2,9 @@
 
 use crate::comparing::same;
 use crate::meant::{Files, Job, Meant, Row};
+use ptlangs::jobs::JoinJob;
 use ptlangs::outlist::{File, OutField};
-use ptopts::{Command, Input};
+use ptopts::Input;
 use std::process::Abort;
 
 /// The job of `join` that words mean.
@@ -98,11 +99,8 @@ pub const JOINS: &[Row] = &[
     ),
 ];
 
-/// Ends the test unless a command is this one of `join`.
-pub fn is_join(rt: &impl Abort, command: &Command, row: &Join) {
-    let Command::Join(job, _) = command else {
-        return assert!(rt; false);
-    };
+/// Ends the test unless a job is this one of `join`.
+pub fn is_join(rt: &impl Abort, job: &JoinJob, row: &Join) {
     same(rt, &(job.pairs, job.sep), &(row.pairs, row.sep));
     same(rt, &job.unpaired, &row.unpaired);
     same(rt, &job.empty.as_slice(), &row.empty);

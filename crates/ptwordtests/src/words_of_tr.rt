@@ -2,7 +2,8 @@
 
 use crate::comparing::same;
 use crate::meant::{Files, Job, Meant, Row};
-use ptopts::{Command, Input};
+use ptlangs::CharPlan;
+use ptopts::Input;
 use std::process::Abort;
 
 /// Some bytes, what becomes of each, and whether what it becomes is squeezed.
@@ -77,11 +78,8 @@ pub const TRS: &[Row] = &[
     ),
 ];
 
-/// Ends the test unless a command is this one of `tr`.
-pub fn is_tr(rt: &impl Abort, command: &Command, row: &Tr) {
-    let Command::Tr(plan, _) = command else {
-        return assert!(rt; false);
-    };
+/// Ends the test unless a plan is this one of `tr`.
+pub fn is_tr(rt: &impl Abort, plan: &CharPlan, row: &Tr) {
     for (place, byte) in row.bytes.iter().enumerate() {
         let image = if plan.deletes(*byte) {
             None
