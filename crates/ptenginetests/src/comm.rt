@@ -1,29 +1,23 @@
-//! `comm` over sources and sinks of the tests.
+//! `comm` over sources and sinks of the tests. `failing` has what is left where a call fails.
 
 use crate::merged::{
-    ANY, Answer, Case, Job, OK, TWO, Wanted, each_room, expect, is_refused, passes,
+    ANY, Case, FIRST_DISORDER, FIRST_UNREAD, Job, OK, Row, SECOND_DISORDER, SECOND_UNREAD, TWO,
+    Wanted, expect,
 };
-use ptfakes::Refusing;
 use ptlangs::jobs::CommJob;
-use ptmerge::{MergeFault, Side};
-use std::alloc::Global;
-use std::process::Abort;
 use std::test::Fail;
 
-struct Row {
-    name: &'static str,
-    job: CommJob,
-    case: Case<'static>,
-    wanted: Wanted<'static>,
-}
+/// The job without options.
+pub const PLAIN: Job = Job::Comm(NONE);
 
-const PLAIN: CommJob = CommJob {
+const NONE: CommJob = CommJob {
     hide: [false; 3],
     zero: false,
     descending: false,
 };
 
-const COMMON: Case = Case {
+/// Two inputs with a common line.
+pub const COMMON: Case = Case {
     first: b"a\na\nb\n",
     second: b"a\nc\n",
     ..TWO
@@ -47,14 +41,6 @@ const TURNS: Case = Case {
     ..TWO
 };
 
-const FIRST_UNREAD: Answer = Some(Err(MergeFault::Read(Side::First)));
-
-const SECOND_UNREAD: Answer = Some(Err(MergeFault::Read(Side::Second)));
-
-const DISORDER: Answer = Some(Err(MergeFault::Disorder(Side::First, 2)));
-
-const SECOND_DISORDER: Answer = Some(Err(MergeFault::Disorder(Side::Second, 2)));
-
 const ROWS: &[Row] = &[
     Row {
         name: "common lines come first",
@@ -68,10 +54,10 @@ const ROWS: &[Row] = &[
     },
     Row {
         name: "common lines alone",
-        job: CommJob {
+        job: Job::Comm(CommJob {
             hide: [true, true, false],
-            ..PLAIN
-        },
+            ..NONE
+        }),
         case: COMMON,
         wanted: Wanted {
             result: OK,
@@ -84,18 +70,18 @@ const ROWS: &[Row] = &[
         job: PLAIN,
         case: FALLS,
         wanted: Wanted {
-            result: DISORDER,
+            result: FIRST_DISORDER,
             bytes: Some(b"\ta\n\t\tb\n\tb\n"),
             ..ANY
         },
     },
     Row {
         name: "lines that end with zero in descending order",
-        job: CommJob {
+        job: Job::Comm(CommJob {
             zero: true,
             descending: true,
-            ..PLAIN
-        },
+            ..NONE
+        }),
         case: Case {
             first: b"b\0a\0a\0",
             second: b"c\0a\0",
@@ -147,7 +133,7 @@ const ROWS: &[Row] = &[
             ..FALLS
         },
         wanted: Wanted {
-            result: DISORDER,
+            result: FIRST_DISORDER,
             bytes: Some(b"\ta\n\t\tb\n\tb\n"),
             ..ANY
         },
@@ -206,7 +192,7 @@ const ROWS: &[Row] = &[
         name: "sent before the ends are asked for",
         job: PLAIN,
         case: Case {
-            size: usize::MAX,
+            sizes: &[usize::MAX],
             ..TURNS
         },
         wanted: Wanted {
@@ -221,7 +207,7 @@ const ROWS: &[Row] = &[
         case: Case {
             first: b"a\nb\n",
             second: b"a\n",
-            size: 4,
+            sizes: &[4],
             ..TWO
         },
         wanted: Wanted {
@@ -233,70 +219,11 @@ const ROWS: &[Row] = &[
 ];
 
 #[test]
-fn lines_of_two_inputs(rt: HostRuntime) {
+fn lines_of_two_inputs(rt: HostRuntime) -> Result<(), Fail> {
     for row in ROWS {
-        let asked = (Job::Comm(&row.job), &row.case);
-        expect(&rt, &(row.name, 0), rt.alloc(), asked, &row.wanted);
-    }
-}
-
-// A third pull is made for the second line alone, where the first can be written.
-fn expect_long(rt: &impl Abort, alloc: Global, long: &[u8]) {
-    let mut case = Case {
-        first: long,
-        second: b"c\n",
-        size: usize::MAX,
-        passing: [2, 1],
-        room: usize::MAX,
-    };
-    let mut wanted = ANY;
-    wanted.result = FIRST_UNREAD;
-    expect(rt, &("long", 0), alloc, (Job::Comm(&PLAIN), &case), &wanted);
-    case.room = 0;
-    wanted.result = Some(Err(MergeFault::Write));
-    expect(rt, &("long", 1), alloc, (Job::Comm(&PLAIN), &case), &wanted);
-}
-
-// Two lines of 9000 bytes in pulls of 8192.
-#[test]
-fn nothing_is_read_behind_a_failed_write(rt: HostRuntime) -> Result<(), Fail> {
-    let mut long = vec![in rt.alloc(); b'a'; 18002]?;
-    long[9000] = b'\n';
-    long[18001] = b'\n';
-    expect_long(&rt, rt.alloc(), &long);
-    Ok(())
-}
-
-const ALL: &[u8] = b"\t\ta\na\nb\n\tc\n";
-
-fn each_call_fails(rt: &impl Abort, alloc: Global, asked: (Job<'_, Global>, &Case<'_>)) {
-    each_room(rt, alloc, asked, 13, ALL);
-    for passing in 0..8u64 {
-        let result = if passing < 7 { FIRST_UNREAD } else { OK };
-        passes(rt, alloc, asked, [passing, u64::MAX], result, ALL);
-    }
-}
-
-#[test]
-fn each_write_and_read_fails_in_turn(rt: HostRuntime) {
-    each_call_fails(&rt, rt.alloc(), (Job::Comm(&PLAIN), &COMMON));
-}
-
-// Refuses the growth behind so many, and says whether there was such a one.
-fn is_refused_after(rt: &impl Abort, own: Global, passing: usize) -> bool {
-    let alloc = Refusing::after(own, passing as u64);
-    let asked = (Job::Comm(&PLAIN), &COMMON);
-    is_refused(rt, passing, (own, &alloc), asked, (ALL, 4))
-}
-
-#[test]
-fn each_growth_refused_in_turn(rt: HostRuntime) {
-    let mut reached = 0usize;
-    for passing in 0..20usize {
-        if is_refused_after(&rt, rt.alloc(), passing) {
-            reached = passing + 1;
+        for size in row.case.sizes {
+            expect(&rt, rt.alloc(), row, *size)?;
         }
     }
-    assert!(rt; reached > 0);
-    assert!(rt; reached < 20);
+    Ok(())
 }

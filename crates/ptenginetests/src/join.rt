@@ -1,30 +1,16 @@
-//! `join` over sources and sinks of the tests. `failing` has what is pulled, and what is left where a call fails.
+//! `join` over sources and sinks of the tests. `failing` has what is left where a call fails.
 
-mod failing;
-
-use crate::merged::{ANY, Answer, Case, Job, OK, TWO, Wanted, expect};
-use ptlangs::jobs::JoinJob;
-use ptlangs::outlist::OutList;
-use ptmerge::{MergeFault, Side};
-use std::alloc::{AllocError, Global};
-use std::process::Abort;
+use crate::blanks::is_tidied;
+use crate::merged::{
+    ANY, Case, FIRST_DISORDER, FIRST_UNREAD, Job, OK, Options, Row, SECOND_DISORDER, SECOND_UNREAD,
+    TWO, Wanted, expect,
+};
 use std::test::Fail;
 
-// What a job is made of.
-#[derive(Clone, Copy)]
-struct Options {
-    pairs: bool,
-    unpaired: [bool; 2],
-    empty: &'static [u8],
-    list: Option<&'static [u8]>,
-    sep: Option<u8>,
-    field: [u64; 2],
-    zero: bool,
-    descending: bool,
-}
+/// The job without options.
+pub const PLAIN: Job = Job::Join(NONE);
 
-// The job without options.
-const PLAIN: Options = Options {
+const NONE: Options = Options {
     pairs: true,
     unpaired: [false, false],
     empty: b"",
@@ -35,303 +21,451 @@ const PLAIN: Options = Options {
     descending: false,
 };
 
-fn set_options(alloc: Global, job: &mut JoinJob, options: &Options) -> Result<(), Fail> {
-    job.pairs = options.pairs;
-    job.unpaired = options.unpaired;
-    job.sep = options.sep;
-    job.field = options.field;
-    job.zero = options.zero;
-    job.descending = options.descending;
-    job.empty.extend_from_slice(options.empty)?;
-    if let Some(list) = options.list {
-        job.list = Some(OutList::read(alloc, list)?);
-    }
-    Ok(())
-}
+// The lines that pair with none, too.
+const ALL_ALONE: Job = Job::Join(Options {
+    unpaired: [true, true],
+    ..NONE
+});
 
-fn job_of(alloc: Global, options: &Options) -> Result<JoinJob, Fail> {
-    let mut job = JoinJob::new(alloc);
-    set_options(alloc, &mut job, options)?;
-    Ok(job)
-}
+/// In pieces of 1, of 7 and of all bytes.
+pub const PIECES: Case = Case {
+    sizes: &[1, 7, 4096],
+    ..TWO
+};
 
-// A name, what the job is made of, two inputs, what is answered, and what is written.
-type Pieced = (
-    &'static str,
-    Options,
-    [&'static [u8]; 2],
-    Answer,
-    &'static [u8],
-);
-
-const FIRST_DISORDER: Answer = Some(Err(MergeFault::Disorder(Side::First, 2)));
-
-const SECOND_DISORDER: Answer = Some(Err(MergeFault::Disorder(Side::Second, 2)));
-
-// Each in pieces of 1, of 7 and of all bytes.
-const IN_PIECES: &[Pieced] = &[
-    (
-        "pairs by the first input's line",
-        PLAIN,
-        [b"a 1\na 2\nc 9\n", b"a x\na y\nb z\n"],
-        OK,
-        b"a 1 x\na 1 y\na 2 x\na 2 y\n",
-    ),
-    (
-        "a list, and lines that pair with none",
-        Options {
+const IN_PIECES: &[Row] = &[
+    Row {
+        name: "pairs by the first input's line",
+        job: PLAIN,
+        case: Case {
+            first: b"a 1\na 2\nc 9\n",
+            second: b"a x\na y\nb z\n",
+            ..PIECES
+        },
+        wanted: Wanted {
+            result: OK,
+            bytes: Some(b"a 1 x\na 1 y\na 2 x\na 2 y\n"),
+            ..ANY
+        },
+    },
+    Row {
+        name: "a list, and lines that pair with none",
+        job: Job::Join(Options {
             unpaired: [false, true],
             empty: b"-",
             list: Some(b"0,1.2,2.2"),
-            ..PLAIN
+            ..NONE
+        }),
+        case: Case {
+            first: b"a 1\na 2\nc 9\n",
+            second: b"a x\na y\nb z\n",
+            ..PIECES
         },
-        [b"a 1\na 2\nc 9\n", b"a x\na y\nb z\n"],
-        OK,
-        b"a 1 x\na 1 y\na 2 x\na 2 y\nb - z\n",
-    ),
-    (
-        "empty fields between separators",
-        Options {
+        wanted: Wanted {
+            result: OK,
+            bytes: Some(b"a 1 x\na 1 y\na 2 x\na 2 y\nb - z\n"),
+            ..ANY
+        },
+    },
+    Row {
+        name: "empty fields between separators",
+        job: Job::Join(Options {
             sep: Some(b','),
-            ..PLAIN
+            ..NONE
+        }),
+        case: Case {
+            first: b"a,1\n",
+            second: b"a,\n",
+            ..PIECES
         },
-        [b"a,1\n", b"a,\n"],
-        OK,
-        b"a,1,\n",
-    ),
-    (
-        "no pairs, with separators",
-        Options {
+        wanted: Wanted {
+            result: OK,
+            bytes: Some(b"a,1,\n"),
+            ..ANY
+        },
+    },
+    Row {
+        name: "no pairs, with separators",
+        job: Job::Join(Options {
             pairs: false,
             unpaired: [true, false],
             sep: Some(b','),
-            ..PLAIN
+            ..NONE
+        }),
+        case: Case {
+            first: b",1\nk\n",
+            second: b"k,2\n",
+            ..PIECES
         },
-        [b",1\nk\n", b"k,2\n"],
-        OK,
-        b",1\n",
-    ),
-    (
-        "another join field",
-        Options {
+        wanted: Wanted {
+            result: OK,
+            bytes: Some(b",1\n"),
+            ..ANY
+        },
+    },
+    Row {
+        name: "another join field",
+        job: Job::Join(Options {
             field: [2, 1],
-            ..PLAIN
+            ..NONE
+        }),
+        case: Case {
+            first: b"x a\ny b\n",
+            second: b"a 1\nb 2\n",
+            ..PIECES
         },
-        [b"x a\ny b\n", b"a 1\nb 2\n"],
-        OK,
-        b"a x 1\nb y 2\n",
-    ),
-    (
-        "the greatest join field",
-        Options {
+        wanted: Wanted {
+            result: OK,
+            bytes: Some(b"a x 1\nb y 2\n"),
+            ..ANY
+        },
+    },
+    Row {
+        name: "the greatest join field",
+        job: Job::Join(Options {
             unpaired: [true, false],
             field: [u64::MAX, 1],
-            ..PLAIN
+            ..NONE
+        }),
+        case: Case {
+            first: b"x y\n",
+            second: b"",
+            ..PIECES
         },
-        [b"x y\n", b""],
-        OK,
-        b" x y\n",
-    ),
-    (
-        "lines that pair with none",
-        Options {
-            unpaired: [true, true],
-            ..PLAIN
+        wanted: Wanted {
+            result: OK,
+            bytes: Some(b" x y\n"),
+            ..ANY
         },
-        [b"a 1\nc 3\n", b"b 2\nc 4\n"],
-        OK,
-        b"a 1\nb 2\nc 3 4\n",
-    ),
-    (
-        "a list of empty fields",
-        Options {
+    },
+    Row {
+        name: "lines that pair with none",
+        job: ALL_ALONE,
+        case: Case {
+            first: b"a 1\nc 3\n",
+            second: b"b 2\nc 4\n",
+            ..PIECES
+        },
+        wanted: Wanted {
+            result: OK,
+            bytes: Some(b"a 1\nb 2\nc 3 4\n"),
+            ..ANY
+        },
+    },
+    Row {
+        name: "a list of empty fields",
+        job: Job::Join(Options {
             unpaired: [true, false],
             empty: b"X",
             list: Some(b"1.2,0,2.3"),
             sep: Some(b':'),
-            ..PLAIN
+            ..NONE
+        }),
+        case: Case {
+            first: b"a:\nb:q\n",
+            second: b"b:r\n",
+            ..PIECES
         },
-        [b"a:\nb:q\n", b"b:r\n"],
-        OK,
-        b"X:a:X\nq:b:X\n",
-    ),
-    (
-        "lines without the join field",
-        PLAIN,
-        [b"\na 1\n", b" \na 2\n"],
-        OK,
-        b"\na 1 2\n",
-    ),
-    (
-        "runs of blanks",
-        PLAIN,
-        [
-            b"a  1\t2\nlongerkeythan16bytes\tv  w\n",
-            b" a\tx\nlongerkeythan16bytes y z\n",
-        ],
-        OK,
-        b"a 1 2 x\nlongerkeythan16bytes v w y z\n",
-    ),
-    (
-        "a first input out of order",
-        PLAIN,
-        [b"b 1\na 2\n", b"a x\nb y\n"],
-        FIRST_DISORDER,
-        b"b 1 y\n",
-    ),
-    (
-        "a second input out of order",
-        PLAIN,
-        [b"a\n", b"b\na\n"],
-        SECOND_DISORDER,
-        b"",
-    ),
-    (
-        "lines that end with zero",
-        Options {
-            zero: true,
-            ..PLAIN
+        wanted: Wanted {
+            result: OK,
+            bytes: Some(b"X:a:X\nq:b:X\n"),
+            ..ANY
         },
-        [b"a 1\nq\0", b"a x\0"],
-        OK,
-        b"a 1\nq x\0",
-    ),
-    (
-        "lines that end with zero in descending order",
-        Options {
+    },
+    Row {
+        name: "lines without the join field",
+        job: PLAIN,
+        case: Case {
+            first: b"\na 1\n",
+            second: b" \na 2\n",
+            ..PIECES
+        },
+        wanted: Wanted {
+            result: OK,
+            bytes: Some(b"\na 1 2\n"),
+            ..ANY
+        },
+    },
+    Row {
+        name: "runs of blanks",
+        job: PLAIN,
+        case: Case {
+            first: b"a  1\t2\nlongerkeythan16bytes\tv  w\n",
+            second: b" a\tx\nlongerkeythan16bytes y z\n",
+            ..PIECES
+        },
+        wanted: Wanted {
+            result: OK,
+            bytes: Some(b"a 1 2 x\nlongerkeythan16bytes v w y z\n"),
+            ..ANY
+        },
+    },
+    Row {
+        name: "a first input out of order",
+        job: PLAIN,
+        case: Case {
+            first: b"b 1\na 2\n",
+            second: b"a x\nb y\n",
+            ..PIECES
+        },
+        wanted: Wanted {
+            result: FIRST_DISORDER,
+            bytes: Some(b"b 1 y\n"),
+            ..ANY
+        },
+    },
+    Row {
+        name: "a second input out of order",
+        job: PLAIN,
+        case: Case {
+            first: b"a\n",
+            second: b"b\na\n",
+            ..PIECES
+        },
+        wanted: Wanted {
+            result: SECOND_DISORDER,
+            bytes: Some(b""),
+            ..ANY
+        },
+    },
+    Row {
+        name: "lines that end with zero",
+        job: Job::Join(Options { zero: true, ..NONE }),
+        case: Case {
+            first: b"a 1\nq\0",
+            second: b"a x\0",
+            ..PIECES
+        },
+        wanted: Wanted {
+            result: OK,
+            bytes: Some(b"a 1\nq x\0"),
+            ..ANY
+        },
+    },
+    Row {
+        name: "lines that end with zero in descending order",
+        job: Job::Join(Options {
             zero: true,
             descending: true,
-            ..PLAIN
+            ..NONE
+        }),
+        case: Case {
+            first: b"b 1\0a 2\0",
+            second: b"b x\0a y\0",
+            ..PIECES
         },
-        [b"b 1\0a 2\0", b"b x\0a y\0"],
-        OK,
-        b"b 1 x\0a 2 y\0",
-    ),
-    (
-        "descending order with a separator",
-        Options {
+        wanted: Wanted {
+            result: OK,
+            bytes: Some(b"b 1 x\0a 2 y\0"),
+            ..ANY
+        },
+    },
+    Row {
+        name: "descending order with a separator",
+        job: Job::Join(Options {
             unpaired: [true, false],
             sep: Some(b','),
             descending: true,
-            ..PLAIN
+            ..NONE
+        }),
+        case: Case {
+            first: b"k\n,1\n",
+            second: b"",
+            ..PIECES
         },
-        [b"k\n,1\n", b""],
-        OK,
-        b"k\n,1\n",
-    ),
+        wanted: Wanted {
+            result: OK,
+            bytes: Some(b"k\n,1\n"),
+            ..ANY
+        },
+    },
 ];
 
-// Two inputs, in pieces of 1, of 7 and of all bytes.
-fn expect_in_pieces(
-    rt: &impl Abort,
-    alloc: Global,
-    name: &str,
-    (job, first, second): (Job<'_, Global>, &[u8], &[u8]),
-    (answer, bytes): (Answer, &[u8]),
-) {
-    let mut case = Case {
-        first,
-        second,
-        ..TWO
-    };
-    let wanted = Wanted {
-        result: answer,
-        bytes: Some(bytes),
-        ..ANY
-    };
-    for size in [1usize, 7, 4096] {
-        case.size = size;
-        expect(rt, &(name, size), alloc, (job, &case), &wanted);
-    }
-}
-
-fn expect_pieced(rt: &impl Abort, alloc: Global, row: &Pieced) -> Result<(), Fail> {
-    let (name, options, [first, second], answer, bytes) = row;
-    let job = job_of(alloc, options)?;
-    let lines = (Job::Join(&job), *first, *second);
-    expect_in_pieces(rt, alloc, name, lines, (*answer, bytes));
-    Ok(())
-}
+// How often it pulls, how often it calls the sink, and what it keeps.
+const PULLS: &[Row] = &[
+    // Nothing is read behind a line out of order. One pull fewer, and a read fails: so many are needed, and no more are
+    // made.
+    Row {
+        name: "enough pulls for a disorder of the first",
+        job: PLAIN,
+        case: Case {
+            first: b"b\na\nc\n",
+            second: b"a\nb\nc\nd\n",
+            passing: [2, 3],
+            ..TWO
+        },
+        wanted: Wanted {
+            result: FIRST_DISORDER,
+            bytes: Some(b"b\n"),
+            ..ANY
+        },
+    },
+    Row {
+        name: "one pull fewer for a disorder of the first",
+        job: PLAIN,
+        case: Case {
+            first: b"b\na\nc\n",
+            second: b"a\nb\nc\nd\n",
+            passing: [2, 2],
+            ..TWO
+        },
+        wanted: Wanted {
+            result: SECOND_UNREAD,
+            ..ANY
+        },
+    },
+    Row {
+        name: "enough pulls for a disorder of the second",
+        job: PLAIN,
+        case: Case {
+            first: b"a\nb\nc\nd\n",
+            second: b"b\na\nc\n",
+            passing: [3, 2],
+            ..TWO
+        },
+        wanted: Wanted {
+            result: SECOND_DISORDER,
+            bytes: Some(b"b\n"),
+            ..ANY
+        },
+    },
+    Row {
+        name: "one pull fewer for a disorder of the second",
+        job: PLAIN,
+        case: Case {
+            first: b"a\nb\nc\nd\n",
+            second: b"b\na\nc\n",
+            passing: [2, 2],
+            ..TWO
+        },
+        wanted: Wanted {
+            result: FIRST_UNREAD,
+            ..ANY
+        },
+    },
+    // What is staged is put before each pull: between groups, while a group is gathered, and behind its pairs.
+    Row {
+        name: "sent between groups",
+        job: ALL_ALONE,
+        case: Case {
+            first: b"a\nc\n",
+            second: b"b\nd\n",
+            ..TWO
+        },
+        wanted: Wanted {
+            result: OK,
+            calls: Some(5),
+            ..ANY
+        },
+    },
+    Row {
+        name: "sent before the ends are asked for",
+        job: ALL_ALONE,
+        case: Case {
+            first: b"a\nc\n",
+            second: b"b\nd\n",
+            sizes: &[usize::MAX],
+            ..TWO
+        },
+        wanted: Wanted {
+            result: OK,
+            calls: Some(3),
+            ..ANY
+        },
+    },
+    Row {
+        name: "sent while a group is gathered",
+        job: ALL_ALONE,
+        case: Case {
+            first: b"a\nb\n",
+            second: b"b 2\n",
+            sizes: &[4],
+            ..TWO
+        },
+        wanted: Wanted {
+            result: OK,
+            calls: Some(3),
+            ..ANY
+        },
+    },
+    Row {
+        name: "sent behind the pairs",
+        job: ALL_ALONE,
+        case: Case {
+            first: b"a 1\nc 1\n",
+            second: b"a 2\nd\n",
+            sizes: &[4],
+            ..TWO
+        },
+        wanted: Wanted {
+            result: OK,
+            calls: Some(4),
+            ..ANY
+        },
+    },
+    // The bytes of four lines, and of the greatest group of the second input, which is the first one.
+    Row {
+        name: "a group is kept until its last pair",
+        job: PLAIN,
+        case: Case {
+            first: b"a 1\na 2\nb 3\nc 4\n",
+            second: b"a x\na y\na z\nb u\nc v\nc w\n",
+            ..TWO
+        },
+        wanted: Wanted {
+            result: OK,
+            bytes: Some(b"a 1 x\na 1 y\na 1 z\na 2 x\na 2 y\na 2 z\nb 3 u\nc 4 v\nc 4 w\n"),
+            peak: (0, 2 * 3 + 2 * 3 + 9),
+            ..ANY
+        },
+    },
+    // The bytes of four lines: a line that is the only one of its key is not copied.
+    Row {
+        name: "a line alone of its key is kept once",
+        job: PLAIN,
+        case: Case {
+            first: b"a 1\nb 2\nc 3\n",
+            second: b"a x\nb y\nc z\n",
+            ..TWO
+        },
+        wanted: Wanted {
+            result: OK,
+            bytes: Some(b"a 1 x\nb 2 y\nc 3 z\n"),
+            peak: (4 * 3, 4 * 3),
+            ..ANY
+        },
+    },
+    Row {
+        name: "a read that fails",
+        job: ALL_ALONE,
+        case: Case {
+            first: b"a\nc\n",
+            second: b"b\n",
+            passing: [u64::MAX, 1],
+            ..TWO
+        },
+        wanted: Wanted {
+            result: SECOND_UNREAD,
+            bytes: Some(b"a\nb\n"),
+            ..ANY
+        },
+    },
+];
 
 #[test]
 fn lines_of_two_inputs(rt: HostRuntime) -> Result<(), Fail> {
-    for row in IN_PIECES {
-        expect_pieced(&rt, rt.alloc(), row)?;
-    }
-    Ok(())
-}
-
-// A line of so many words, with one space between each two, and a blank more behind the word at this place.
-fn add_words(line: &mut Vec<u8>, count: usize, place: usize, blank: u8) -> Result<(), AllocError> {
-    for at in 0..count {
-        line.extend_from_slice(if at > 0 { b" k" } else { b"k" })?;
-        if at == place {
-            line.push(blank)?;
+    for rows in [IN_PIECES, PULLS] {
+        for row in rows {
+            for size in row.case.sizes {
+                expect(&rt, rt.alloc(), row, *size)?;
+            }
         }
     }
-    line.push(b'\n')?;
-    Ok(())
-}
-
-// A blank more behind the word at this place, in the first line and in the second.
-fn expect_tidy(
-    rt: &impl Abort,
-    alloc: Global,
-    job: Job<'_, Global>,
-    (count, place): (usize, usize),
-    tidy: &[u8],
-) -> Result<(), AllocError> {
-    let mut more = Vec::new(alloc);
-    add_words(
-        &mut more,
-        count,
-        place,
-        if place < 4 { b'\t' } else { b' ' },
-    )?;
-    let of_more = (OK, tidy);
-    expect_in_pieces(rt, alloc, "more in the first", (job, &more, b"k"), of_more);
-    expect_in_pieces(rt, alloc, "more in the second", (job, b"k", &more), of_more);
-    Ok(())
-}
-
-fn expect_all_tidy(
-    rt: &impl Abort,
-    alloc: Global,
-    job: Job<'_, Global>,
-    count: usize,
-    tidy: &[u8],
-) -> Result<(), AllocError> {
-    for place in 0..count {
-        expect_tidy(rt, alloc, job, (count, place), tidy)?;
-    }
-    Ok(())
-}
-
-fn expect_words(
-    rt: &impl Abort,
-    alloc: Global,
-    job: Job<'_, Global>,
-    count: usize,
-) -> Result<(), AllocError> {
-    let mut tidy = Vec::new(alloc);
-    add_words(&mut tidy, count, count, b' ')?;
-    expect_all_tidy(rt, alloc, job, count, &tidy)
-}
-
-fn expect_each_count(
-    rt: &impl Abort,
-    alloc: Global,
-    job: Job<'_, Global>,
-) -> Result<(), AllocError> {
+    // A blank more at each place of a line.
     for count in [2usize, 3, 5, 6, 9, 10, 17, 18, 33, 34, 66] {
-        expect_words(rt, alloc, job, count)?;
+        for place in 0..count {
+            is_tidied(&rt, rt.alloc(), count, place)?;
+        }
     }
-    Ok(())
-}
-
-#[test]
-fn a_blank_more_at_each_place(rt: HostRuntime) -> Result<(), Fail> {
-    let job = JoinJob::new(rt.alloc());
-    expect_each_count(&rt, rt.alloc(), Job::Join(&job))?;
     Ok(())
 }

@@ -2,13 +2,19 @@
 #![tactic(auto)]
 
 #[cfg(test)]
+mod blanks;
+#[cfg(test)]
 mod comm;
 #[cfg(test)]
 mod comparing;
 #[cfg(test)]
-mod join;
+mod cutting;
 #[cfg(test)]
-mod lengths;
+mod failing;
+#[cfg(test)]
+mod flowing;
+#[cfg(test)]
+mod join;
 #[cfg(test)]
 mod merged;
 #[cfg(test)]

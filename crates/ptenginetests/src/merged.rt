@@ -3,36 +3,65 @@
 use crate::comparing::{holds_of, same_of};
 use ptfakes::{Kept, Pieces, Refusing};
 use ptlangs::jobs::{CommJob, JoinJob};
+use ptlangs::outlist::OutList;
 use ptlines::{LineReader, Out, Store};
-use ptmerge::{MergeFault, comm, join};
-use std::alloc::{Allocator, Global};
+use ptmerge::{MergeFault, Side, comm, join};
+use std::alloc::Global;
 use std::process::Abort;
+use std::test::Fail;
 
 type Reader<'a> = LineReader<Pieces<'a>, Pieces<'a>>;
 
-/// Which tool merges.
+type Lent<'a> = &'a Refusing<Global>;
+
+/// A name, which tool merges, two inputs and a sink, and what is to be left.
 #[derive(Clone, Copy)]
-pub enum Job<'a, A: Allocator> {
-    Comm(&'a CommJob),
-    Join(&'a JoinJob<A>),
+pub struct Row<'a> {
+    pub name: &'static str,
+    pub job: Job,
+    pub case: Case<'a>,
+    pub wanted: Wanted<'a>,
 }
 
-/// Two inputs and a sink: so many bytes a pull, how many pulls of each input pass, and what the sink takes.
+/// Which tool merges.
+#[derive(Clone, Copy)]
+pub enum Job {
+    Comm(CommJob),
+    Join(Options),
+}
+
+/// What a job of `join` is made of.
+#[derive(Clone, Copy)]
+pub struct Options {
+    pub pairs: bool,
+    pub unpaired: [bool; 2],
+    pub empty: &'static [u8],
+    pub list: Option<&'static [u8]>,
+    pub sep: Option<u8>,
+    pub field: [u64; 2],
+    pub zero: bool,
+    pub descending: bool,
+}
+
+/// Two inputs and a sink: how many bytes a pull, how many pulls of each input pass, how many growths of the store and
+/// of the job pass before the one that is refused, and what the sink takes.
 #[derive(Clone, Copy)]
 pub struct Case<'a> {
     pub first: &'a [u8],
     pub second: &'a [u8],
-    pub size: usize,
+    pub sizes: &'static [usize],
     pub passing: [u64; 2],
+    pub growths: u64,
     pub room: usize,
 }
 
-/// Two empty inputs of which no pull fails, and a sink that takes all.
+/// Two empty inputs of which no pull fails, memory, and a sink that takes all.
 pub const TWO: Case = Case {
     first: b"",
     second: b"",
-    size: 2,
+    sizes: &[2],
     passing: [u64::MAX, u64::MAX],
+    growths: u64::MAX,
     room: usize::MAX,
 };
 
@@ -42,9 +71,21 @@ pub type Answer = Option<Result<(), MergeFault>>;
 /// All goes well.
 pub const OK: Answer = Some(Ok(()));
 
-/// What a merge is to leave: what it answers; all bytes that are written, or more of them; how many calls of the sink
-/// there are, each put, and the flush at the end; the least and the most that the store may have held. What is `None`
-/// may be anything.
+/// A pull of this input fails.
+pub const FIRST_UNREAD: Answer = Some(Err(MergeFault::Read(Side::First)));
+
+/// A pull of this input fails.
+pub const SECOND_UNREAD: Answer = Some(Err(MergeFault::Read(Side::Second)));
+
+/// This input is out of order at its second line.
+pub const FIRST_DISORDER: Answer = Some(Err(MergeFault::Disorder(Side::First, 2)));
+
+/// This input is out of order at its second line.
+pub const SECOND_DISORDER: Answer = Some(Err(MergeFault::Disorder(Side::Second, 2)));
+
+/// What a merge is to leave, but where a growth is refused: what it answers; all bytes that are written, or more of
+/// them; how many calls of the sink there are, each put, and the flush at the end; the least and the most that the
+/// store may have held. What is `None` may be anything.
 #[derive(Clone, Copy)]
 pub struct Wanted<'a> {
     pub result: Answer,
@@ -66,8 +107,8 @@ pub const ANY: Wanted = Wanted {
 // What a case goes by: a name and a number.
 type Name<'a> = (&'a str, usize);
 
-// Ends the test unless a sink has this, and a store held as much.
-fn is_left(rt: &impl Abort, of: &Name<'_>, kept: &Kept, peak: u128, wanted: &Wanted<'_>) {
+// Ends the test unless a sink has this.
+fn is_left(rt: &impl Abort, of: &Name<'_>, kept: &Kept, wanted: &Wanted<'_>) {
     if let Some(all) = wanted.bytes {
         holds_of(rt, of, all.starts_with(kept.bytes()));
         let is_part = kept.bytes().len() < all.len();
@@ -75,107 +116,85 @@ fn is_left(rt: &impl Abort, of: &Name<'_>, kept: &Kept, peak: u128, wanted: &Wan
     }
     // (where no number is wanted, it is compared with itself)
     same_of(rt, of, &kept.calls(), &wanted.calls.unwrap_or(kept.calls()));
-    let (least, most) = wanted.peak;
-    holds_of(rt, of, least <= peak && peak <= most);
 }
 
-/// Merges, and ends the test unless this is left. It says what was answered, which it does not compare, and how many
-/// bytes were written.
-pub fn merge<A: Allocator + Copy>(
-    rt: &impl Abort,
-    of: &Name<'_>,
-    (alloc, lines): (Global, A),
-    (job, case): (Job<'_, A>, &Case<'_>),
-    wanted: &Wanted<'_>,
-) -> (Result<(), MergeFault>, usize) {
+// Which tool merges, with what it owns.
+enum Task<'a, 'l> {
+    Comm(&'a CommJob),
+    Join(&'a JoinJob<Lent<'l>>),
+}
+
+// What a merge answers, what is written, and how much the store held at most.
+type Left = (Result<(), MergeFault>, Kept, u128);
+
+fn merge<'l>(
+    alloc: Global,
+    lines: Lent<'l>,
+    task: Task<'_, 'l>,
+    case: &Case<'_>,
+    size: usize,
+) -> Left {
     let [passing, second_passing] = case.passing;
-    let mut first: Reader<'_> = LineReader::standard(Pieces::new(case.first, case.size, passing));
-    let second = Pieces::new(case.second, case.size, second_passing);
+    let mut first: Reader<'_> = LineReader::standard(Pieces::new(case.first, size, passing));
+    let second = Pieces::new(case.second, size, second_passing);
     let mut second: Reader<'_> = LineReader::file(second);
     let mut store = Store::empty(lines);
     let mut out = Out::new(Kept::limited(alloc, usize::MAX, case.room, u64::MAX));
-    let result = match job {
-        Job::Comm(job) => comm(job, &mut first, &mut second, &mut store, &mut out),
-        Job::Join(job) => join(job, &mut first, &mut second, &mut store, &mut out),
+    let result = match task {
+        Task::Comm(job) => comm(job, &mut first, &mut second, &mut store, &mut out),
+        Task::Join(job) => join(job, &mut first, &mut second, &mut store, &mut out),
     };
     let _ = out.finish();
-    let kept = out.into_sink();
-    is_left(rt, of, &kept, store.peak(), wanted);
-    (result, kept.bytes().len())
+    (result, out.into_sink(), store.peak())
 }
 
-/// Merges, and ends the test unless this is left.
-pub fn expect(
-    rt: &impl Abort,
-    of: &Name<'_>,
-    alloc: Global,
-    (job, case): (Job<'_, Global>, &Case<'_>),
-    wanted: &Wanted<'_>,
-) {
-    let (result, _) = merge(rt, of, (alloc, alloc), (job, case), wanted);
-    same_of(rt, of, &result, &wanted.result.unwrap_or(result));
-}
-
-/// The sink has room for fewer bytes than this, each number in turn, and has a beginning of these.
-pub fn each_room(
-    rt: &impl Abort,
-    alloc: Global,
-    (job, case): (Job<'_, Global>, &Case<'_>),
-    rooms: usize,
-    all: &[u8],
-) {
-    let mut case = *case;
-    let mut wanted = ANY;
-    wanted.bytes = Some(all);
-    wanted.whole = false;
-    for room in 0..rooms {
-        case.room = room;
-        expect(rt, &("room", room), alloc, (job, &case), &wanted);
+fn job_of<'a>(alloc: Lent<'a>, options: &Options) -> Result<JoinJob<Lent<'a>>, Fail> {
+    let mut job = JoinJob::new(alloc);
+    job.pairs = options.pairs;
+    job.unpaired = options.unpaired;
+    job.sep = options.sep;
+    job.field = options.field;
+    job.zero = options.zero;
+    job.descending = options.descending;
+    job.empty.extend_from_slice(options.empty)?;
+    if let Some(list) = options.list {
+        job.list = Some(OutList::read(alloc, list)?);
     }
+    Ok(job)
 }
 
-/// A byte a pull, of which so many pass: of the first input, or of the second one.
-pub fn passes(
+// Merges with so many bytes a pull, and ends the test unless this is left. Where a growth is refused, memory is the
+// fault, and a beginning is written. Says whether there was such a one.
+fn expect_task<'l>(
     rt: &impl Abort,
-    alloc: Global,
-    (job, case): (Job<'_, Global>, &Case<'_>),
-    passing: [u64; 2],
-    answer: Answer,
-    all: &[u8],
-) {
-    let mut case = *case;
-    case.size = 1;
-    case.passing = passing;
-    let mut wanted = ANY;
-    wanted.result = answer;
-    wanted.bytes = Some(all);
-    wanted.whole = false;
-    let [first, second] = passing;
-    let of = ("reads", first.min(second) as usize);
-    expect(rt, &of, alloc, (job, &case), &wanted);
-}
-
-/// Merges where a growth may be refused, and says whether one was.
-pub fn is_refused<'a>(
-    rt: &impl Abort,
-    passing: usize,
-    (own, refusing): (Global, &'a Refusing<Global>),
-    (job, case): (Job<'_, &'a Refusing<Global>>, &Case<'_>),
-    (all, most): (&[u8], u128),
+    (alloc, lines): (Global, Lent<'l>),
+    task: Task<'_, 'l>,
+    row: &Row<'_>,
+    size: usize,
 ) -> bool {
-    let mut wanted = ANY;
-    wanted.bytes = Some(all);
-    wanted.whole = false;
-    wanted.peak = (0, most);
-    let of = ("growths", passing);
-    let (result, count) = merge(rt, &of, (own, refusing), (job, case), &wanted);
-    let refused = refusing.refused();
-    let answer = if refused {
-        Err(MergeFault::Memory)
-    } else {
-        Ok(())
+    let of = (row.name, size);
+    let (result, kept, peak) = merge(alloc, lines, task, &row.case, size);
+    let mut wanted = row.wanted;
+    if lines.refused() {
+        wanted.result = Some(Err(MergeFault::Memory));
+        wanted.whole = false;
+    }
+    same_of(rt, &of, &result, &wanted.result.unwrap_or(result));
+    let (least, most) = wanted.peak;
+    holds_of(rt, &of, least <= peak && peak <= most);
+    is_left(rt, &of, &kept, &wanted);
+    lines.refused()
+}
+
+/// The same, with the job of this row.
+pub fn expect(rt: &impl Abort, alloc: Global, row: &Row<'_>, size: usize) -> Result<bool, Fail> {
+    let lines = Refusing::after(alloc, row.case.growths);
+    let is_refused = match &row.job {
+        Job::Comm(job) => expect_task(rt, (alloc, &lines), Task::Comm(job), row, size),
+        Job::Join(options) => {
+            let job = job_of(&lines, options)?;
+            expect_task(rt, (alloc, &lines), Task::Join(&job), row, size)
+        }
     };
-    same_of(rt, &of, &result, &answer);
-    holds_of(rt, &of, refused || count == all.len());
-    refused
+    Ok(is_refused)
 }

@@ -1,9 +1,12 @@
 //! A merge in an order of its own.
 
+ghost use Rattle.std.specs.Prelude.{◌≡◌, None};
+
 use ptfakes::Pieces;
 use ptlines::{LineReader, Store};
 use ptmerge::{KeyOrder, Merge, Side, Span, Step};
 use std::cmp::Ordering;
+use std::process::Abort;
 use std::test::Fail;
 
 // The key is the line without its first byte, in byte order.
@@ -42,29 +45,38 @@ impl KeyOrder for Behind {
 
 type Reader<'a> = LineReader<Pieces<'a>, Pieces<'a>>;
 
+// Ends the test unless the lines of two inputs come in this order.
+fn in_order<'a>(
+    rt: &impl Abort,
+    first: &mut Reader<'a>,
+    second: &mut Reader<'a>,
+    store: &mut Store,
+) -> Result<(), Fail>
+    requires first { first.old.fault ≡ None }
+    requires second { second.old.fault ≡ None }
+{
+    let mut merge = Merge::start(Behind, first, second, store)?;
+    assert!(rt; merge.step(store) == Step::First);
+    assert!(rt; merge.head(Side::First, store) == b"xa".as_slice());
+    merge.advance(Side::First, first, store)?;
+    assert!(rt; merge.step(store) == Step::Second);
+    assert!(rt; merge.head(Side::Second, store) == b"zb".as_slice());
+    merge.advance(Side::Second, second, store)?;
+    let Step::Both = merge.step(store) else {
+        return Err("both".into());
+    };
+    assert!(rt; merge.head(Side::First, store) == b"yc".as_slice());
+    assert!(rt; merge.head(Side::Second, store) == b"wc".as_slice());
+    merge.advance(Side::First, first, store)?;
+    merge.advance(Side::Second, second, store)?;
+    assert!(rt; merge.step(store) == Step::End);
+    Ok(())
+}
+
 #[test]
 fn keys_without_the_first_byte(rt: HostRuntime) -> Result<(), Fail> {
     let mut first: Reader<'_> = LineReader::standard(Pieces::new(b"xa\nyc\n", 2, u64::MAX));
     let mut second: Reader<'_> = LineReader::file(Pieces::new(b"zb\nwc\n", 1, u64::MAX));
-    let mut store = Store::new(rt.alloc(), 0)?;
-    let mut merge = Merge::start(Behind, &mut first, &mut second, &mut store)?;
-    let Step::First = merge.step(&store) else {
-        return Err("first".into());
-    };
-    assert!(rt; merge.head(Side::First, &store) == b"xa".as_slice());
-    merge.advance(Side::First, &mut first, &mut store)?;
-    let Step::Second = merge.step(&store) else {
-        return Err("second".into());
-    };
-    assert!(rt; merge.head(Side::Second, &store) == b"zb".as_slice());
-    merge.advance(Side::Second, &mut second, &mut store)?;
-    let Step::Both = merge.step(&store) else {
-        return Err("both".into());
-    };
-    assert!(rt; merge.head(Side::First, &store) == b"yc".as_slice());
-    assert!(rt; merge.head(Side::Second, &store) == b"wc".as_slice());
-    merge.advance(Side::First, &mut first, &mut store)?;
-    merge.advance(Side::Second, &mut second, &mut store)?;
-    assert_eq!(rt; merge.step(&store), Step::End);
-    Ok(())
+    let mut store = Store::empty(rt.alloc());
+    in_order(&rt, &mut first, &mut second, &mut store)
 }

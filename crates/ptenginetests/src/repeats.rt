@@ -1,6 +1,9 @@
 //! `uniq` over a reader.
 
+ghost use Rattle.ptflow.specs.Passes.{IsReady};
+
 use crate::comparing::same;
+use crate::flowing::{Job, WELL, writes};
 use ptfakes::{Kept, Pieces, Refusing, Watched};
 use ptflow::{FlowFault, uniq};
 use ptlangs::jobs::{Show, UniqJob};
@@ -35,25 +38,6 @@ const COUNTS: UniqJob = UniqJob {
     zero: false,
 };
 
-fn expect_runs(rt: &impl Abort, alloc: Global, size: usize) {
-    let source = Pieces::new(FILE, size, u64::MAX);
-    let mut reader: LineReader<Pieces<'_>, Pieces<'_>> = LineReader::standard(source);
-    let mut store = Store::empty(alloc);
-    let mut out = Out::new(Kept::new(alloc));
-    let told = uniq(&COUNTS, &mut reader, &mut store, &mut out);
-    same(rt, &told, &Ok(()));
-    same(rt, &(store.slots(), store.now()), &(2, 0));
-    same(rt, &out.finish(), &Ok(()));
-    assert!(rt; out.into_sink().bytes() == RUNS_OF_FILE);
-}
-
-#[test]
-fn runs_of_a_reader(rt: HostRuntime) {
-    for size in [1, 7, usize::MAX] {
-        expect_runs(&rt, rt.alloc(), size);
-    }
-}
-
 const ALL: UniqJob = UniqJob {
     show: Show::All,
     fields: 0,
@@ -63,7 +47,22 @@ const ALL: UniqJob = UniqJob {
 
 type Reader<'a> = LineReader<Watched<'a, Pieces<'a>>, Pieces<'a>>;
 
-// What `uniq` answers where so many growths pass, of a reader that holds a line already. It writes nothing.
+// A reader that holds a line already still holds it where a slot is refused.
+fn is_refused(
+    rt: &impl Abort,
+    reader: &mut Reader<'_>,
+    store: &mut Store<&Refusing<Global>>,
+    out: &mut Out<Kept>,
+)
+    requires { IsReady reader.old store.old }
+{
+    let told = uniq(&ALL, reader, store, out);
+    same(rt, &told, &Err(FlowFault::Memory));
+    same(rt, &(store.slots() < 2), &true);
+    assert!(rt; reader.block() == Ok(b"a\n".as_slice()));
+}
+
+// The same where so many growths pass. It reads and writes nothing.
 fn is_unread(rt: &impl Abort, own: Global, passing: u64) {
     let alloc = Refusing::after(own, passing);
     let pulls = Cell::new(0);
@@ -72,17 +71,22 @@ fn is_unread(rt: &impl Abort, own: Global, passing: u64) {
     assert!(rt; reader.block() == Ok(b"a\n".as_slice()));
     let mut store = Store::empty(&alloc);
     let mut out = Out::new(Kept::new(own));
-    let told = uniq(&ALL, &mut reader, &mut store, &mut out);
-    same(rt, &told, &Err(FlowFault::Memory));
-    assert!(rt; store.slots() < 2);
-    same(rt, &pulls.get(), &1);
-    assert!(rt; reader.block() == Ok(b"a\n".as_slice()));
-    assert!(rt; out.into_sink().bytes().is_empty());
+    is_refused(rt, &mut reader, &mut store, &mut out);
+    let written = out.into_sink().bytes().len();
+    same(rt, &(pulls.get(), written), &(1, 0));
 }
 
-// Each of the two slots is refused.
 #[test]
-fn nothing_is_read_where_a_slot_is_refused(rt: HostRuntime) {
+fn runs_of_a_reader(rt: HostRuntime) {
+    let mut case = WELL;
+    case.text = FILE;
+    for size in [1, 7, usize::MAX] {
+        case.size = size;
+        let job = Job::Uniq(&COUNTS);
+        let kept = writes(&rt, rt.alloc(), (job, &case), Ok(()), RUNS_OF_FILE);
+        same(&rt, &kept, &(2, 0));
+    }
+    // Each of the two slots is refused.
     for passing in 0..2u64 {
         is_unread(&rt, rt.alloc(), passing);
     }
