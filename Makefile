@@ -2,7 +2,7 @@
 # make check                what to run while working: proves what changed since SINCE, what stands on it, its tests,
 #                           and the wrong bodies of the changed crates (SINCE=COMMIT; origin/main where it is known,
 #                           else HEAD~1)
-# make test                 the gate: every proof, the must-fail edits, all tests; then the program that the gate built,
+# make test                 the gate: every proof, the wrong bodies, all tests; then the program that the gate built,
 #                           its pages, its installation and its packages
 # make bench                ratios to the system's tools by the length of a line: table, data and chart in bench/; and
 #                           the tools over parts of their input, on all processors

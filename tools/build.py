@@ -151,7 +151,7 @@ def main():
     progress = Progress(len(crates))
     say(
         f"proving {len(crates)} crates and building the program. From nothing that takes 12 to 18 minutes on four "
-        "processors, and the first crate 3 of them"
+        "processors; the first crate alone takes 2 to 3 minutes"
         + ("; what was proved on this machine is not proved again." if keeps() else ".")
     )
     with tempfile.TemporaryDirectory(prefix="ptext-") as place:

@@ -135,8 +135,8 @@ Depends: libc6 (>= {libc})
 Description: {tools} in one proved program
  The six POSIX tools for lines and fields as one program, whose first word
  names the tool. What it writes, what it says and how it ends is proved, for
- every command line and every input. If a read, a write or a request for memory
- fails, what was written is a correct prefix of the output.
+ every command line in UTF-8 and every input. If a read, a write or a request
+ for memory fails, what was written is a correct prefix of the output.
  .
  /usr/libexec/ptext/bin has each tool by its own name.
 """

@@ -1,4 +1,4 @@
-//! `comm` over sources and sinks of the tests. `failing` has what is left where a call fails.
+//! `comm` over sources and sinks of the tests. `failing` lets each call fail in turn.
 
 use crate::merged::{
     ANY, Case, FIRST_DISORDER, FIRST_UNREAD, Job, OK, Row, SECOND_DISORDER, SECOND_UNREAD, TWO,

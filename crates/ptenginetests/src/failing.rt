@@ -1,5 +1,6 @@
 //! What `comm` and `join` leave where a read, a write or a growth fails.
 
+use crate::comparing::holds_of;
 use crate::merged::{ANY, Case, OK, Row, TWO, Wanted, expect};
 use crate::{comm, join};
 use ptmerge::{MergeFault, Side};
@@ -7,8 +8,8 @@ use std::alloc::Global;
 use std::process::Abort;
 use std::test::Fail;
 
-// A merge of which a beginning is written, one byte a pull; each number of bytes for which the sink has room is below
-// this one; of which input the pulls fail, up to which number of them, and how many are tried.
+// A merge, and how it fails: before sinks with room for fewer than `rooms` bytes; and where the pulls of one input fail,
+// of which `needed` have to pass, behind 0 of them and more, for fewer than `tried`.
 struct Failing {
     row: Row<'static>,
     rooms: usize,
@@ -165,7 +166,7 @@ fn nothing_is_read_behind_a_failed_write(rt: HostRuntime) -> Result<(), Fail> {
     expect_long(&rt, rt.alloc(), &long, 9001)
 }
 
-// A merge, of which less than so many growths are to be refused.
+// A merge, and how many growths are refused in turn, which is more than it asks for.
 const GROWING: &[(Row, u64)] = &[
     (
         Row {
@@ -200,17 +201,17 @@ const GROWING: &[(Row, u64)] = &[
 #[test]
 fn each_growth_refused_in_turn(rt: HostRuntime) -> Result<(), Fail> {
     for (row, most) in GROWING {
-        let mut refused = 0u64;
+        let mut reached = 0u64;
         for growths in 0..*most {
             let case = Case {
                 growths,
                 ..row.case
             };
             if expect(&rt, rt.alloc(), &Row { case, ..*row }, 2)? {
-                refused = growths.saturating_add(1);
+                reached = growths.saturating_add(1);
             }
         }
-        assert!(rt; 0 < refused && refused < *most);
+        holds_of(&rt, &(row.name, reached), 0 < reached && reached < *most);
     }
     Ok(())
 }

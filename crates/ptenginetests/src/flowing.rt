@@ -67,7 +67,7 @@ pub fn writes(
     (store.slots(), store.now())
 }
 
-/// Inputs of each length at which vectors, masks and blocks end.
+/// Inputs of each length at which vectors and masks end.
 pub const SHORT: &[usize] = &[0, 1, 15, 16, 17, 31, 32, 33, 63, 64, 65];
 
 /// A block, and a byte or two less or more.

@@ -1,4 +1,4 @@
-//! `join` over sources and sinks of the tests. `failing` has what is left where a call fails.
+//! `join` over sources and sinks of the tests. `failing` lets each call fail in turn.
 
 use crate::blanks::is_tidied;
 use crate::merged::{

@@ -83,7 +83,7 @@ pub const FIRST_DISORDER: Answer = Some(Err(MergeFault::Disorder(Side::First, 2)
 /// This input is out of order at its second line.
 pub const SECOND_DISORDER: Answer = Some(Err(MergeFault::Disorder(Side::Second, 2)));
 
-/// What a merge is to leave, but where a growth is refused: what it answers; all bytes that are written, or more of
+/// What a merge is to leave, where no growth is refused: what it answers; all bytes that are written, or more of
 /// them; how many calls of the sink there are, each put, and the flush at the end; the least and the most that the
 /// store may have held. What is `None` may be anything.
 #[derive(Clone, Copy)]
@@ -104,8 +104,8 @@ pub const ANY: Wanted = Wanted {
     peak: (0, u128::MAX),
 };
 
-// What a case goes by: a name and a number.
-type Name<'a> = (&'a str, usize);
+// What a case goes by: a name, the size of its pieces, the room of its sink, and how many pulls or growths pass.
+type Name<'a> = (&'a str, usize, (usize, u64));
 
 // Ends the test unless a sink has this.
 fn is_left(rt: &impl Abort, of: &Name<'_>, kept: &Kept, wanted: &Wanted<'_>) {
@@ -172,7 +172,9 @@ fn expect_task<'l>(
     row: &Row<'_>,
     size: usize,
 ) -> bool {
-    let of = (row.name, size);
+    let [first, second] = row.case.passing;
+    let passing = first.min(second).min(row.case.growths);
+    let of = (row.name, size, (row.case.room, passing));
     let (result, kept, peak) = merge(alloc, lines, task, &row.case, size);
     let mut wanted = row.wanted;
     if lines.refused() {
@@ -186,7 +188,8 @@ fn expect_task<'l>(
     lines.refused()
 }
 
-/// The same, with the job of this row.
+/// Merges by the job of this row, with so many bytes a pull, and ends the test unless what is wanted is left. Says
+/// whether a growth was refused.
 pub fn expect(rt: &impl Abort, alloc: Global, row: &Row<'_>, size: usize) -> Result<bool, Fail> {
     let lines = Refusing::after(alloc, row.case.growths);
     let is_refused = match &row.job {

@@ -45,7 +45,7 @@ impl KeyOrder for Behind {
 
 type Reader<'a> = LineReader<Pieces<'a>, Pieces<'a>>;
 
-// Ends the test unless the lines of two inputs come in this order.
+// Ends the test unless the lines of two inputs come in the order of `Behind`.
 fn in_order<'a>(
     rt: &impl Abort,
     first: &mut Reader<'a>,

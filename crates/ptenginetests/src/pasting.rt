@@ -70,7 +70,8 @@ fn lines_over_blocks(alloc: Global, ending: u8, ended: bool) -> Result<Vec<u8>, 
     text_of(alloc, &lengths, ending, ended)
 }
 
-// What `paste` writes has this digest, whatever the pieces in which the lines come. The last line ends or not.
+// What `paste` writes has this digest, whatever the pieces in which the lines come. `ends` says whether lines end with
+// byte 0, and whether the last one has an end.
 fn is_digest(
     rt: &impl Abort,
     alloc: Global,
@@ -90,8 +91,8 @@ fn is_digest(
 }
 
 // The digests are of what GNU's `paste -d ',;:' - -` and so on wrote of these lines. Rows cross the ends of blocks, one
-// has the long line, and of 3 and 7 columns the last row is short. The last two take both readers, and the first of
-// them has two columns in the second case.
+// has the long line, and of 3 and 7 columns the last row is short. The last two digests are of both readers, and the
+// first of them has two columns in the second case.
 #[test]
 fn rows_of_readers(rt: HostRuntime) -> Result<(), Fail> {
     let alloc = rt.alloc();
@@ -231,7 +232,7 @@ fn is_pasted(
     Ok(())
 }
 
-// Each end of these lines stands at each place of 64 bytes once.
+// Three short lines; and those of `is_pasted`, so that each end stands at each place of 64 bytes once.
 fn are_pasted(
     rt: &impl Abort,
     alloc: Global,

@@ -44,9 +44,6 @@ pub fn text_with(
     Ok(text)
 }
 
-/// A byte that ends lines, the other one as data, and the flags that ask for it.
-pub const ENDINGS: &[(u8, u8, &str)] = &[(b'\n', 0, "-"), (0, b'\n', "-z")];
-
 /// The lengths of the lines that such a text has: a last one is none where it is empty and has no end.
 pub fn lines_of(lengths: &[usize], ended: bool) -> &[usize] {
     match lengths.split_last() {

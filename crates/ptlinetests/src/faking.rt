@@ -10,10 +10,10 @@ use std::process::Abort;
 /// What a pull answers, and the first bytes of the buffer then.
 pub type Pull = (Result<usize, Failed>, &'static [u8]);
 
-/// Pulls into four bytes, which are 0 before each pull, with these answers in turn.
+/// Pulls into four bytes, which are dashes before each pull, with these answers in turn.
 pub fn pulls<S: Source>(rt: &impl Abort, source: &mut S, answers: &[Pull]) {
     for (number, (answer, given)) in answers.iter().enumerate() {
-        let mut into = [0u8; 4];
+        let mut into = [b'-'; 4];
         same_of(rt, &number, &source.pull(&mut into), answer);
         holds_of(rt, &number, into.starts_with(given));
     }

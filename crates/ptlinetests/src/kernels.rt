@@ -91,7 +91,7 @@ fn differ_at(rt: &impl Abort, length: usize, place: usize) {
     }
 }
 
-// The first byte that differs decides. The same bytes come in front of others, a beginning of them first.
+// The first byte that differs decides. Where one is a beginning of the other, the shorter comes first.
 #[test]
 fn few_and_many_bytes_are_ordered(rt: HostRuntime) {
     ordered(&rt, b"", b"", [0, 0], Ordering::Equal);

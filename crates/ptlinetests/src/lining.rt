@@ -51,7 +51,7 @@ fn is_pushed(rt: &impl Abort, alloc: Global, front: &[u8], lead: &[u8], line: &[
     holds_of(rt, &(front.len(), lead.len(), line.len()), is_written);
 }
 
-// Behind so many of these bytes, a line in the midst of others.
+// A line in the midst of a text, behind beginnings of that text.
 fn is_pushed_behind(rt: &impl Abort, alloc: Global, text: &[u8], length: usize) {
     assert!(rt; text.len() == length.saturating_add(8197));
     let line = &text[8194..8194 + length];

@@ -240,7 +240,7 @@ fn each_growth_refused(rt: HostRuntime) {
     assert!(rt; !refusing.refused());
     same(&rt, &follows(&rt, "empty", &mut store, ADDED), &0);
     assert!(rt; refusing.refused());
-    // How many of the first growths, refused in turn, stop a store at each of these.
+    // How many of the first growths, refused in turn, stop a store at each place that `stop_of` tells.
     let mut counts = [0u32; 6];
     for passing in 0..80u64 {
         let refusing = Refusing::after(rt.alloc(), passing);

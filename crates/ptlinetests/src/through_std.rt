@@ -88,13 +88,9 @@ const TO_A_FAULT: &[Step<'_>] = &[
     },
 ];
 
-const OF_BROKEN: &[Pull] = &[
-    (Ok(2), b"ab\0\0"),
-    (Ok(1), b"c\0\0\0"),
-    (Err(Failed), b"\0\0\0\0"),
-];
+const OF_BROKEN: &[Pull] = &[(Ok(2), b"ab--"), (Ok(1), b"c---"), (Err(Failed), b"----")];
 
-const OF_SLICE: &[Pull] = &[(Ok(1), b"x\0\0\0"), (Ok(0), b"\0\0\0\0")];
+const OF_SLICE: &[Pull] = &[(Ok(1), b"x---"), (Ok(0), b"----")];
 
 // At each kind of answer that the reader has.
 #[test]

@@ -5,7 +5,7 @@ ghost use Rattle.ptrun.specs.Asked.{count_of};
 ghost use Rattle.ptrun.specs.Runs.{IsUnused};
 ghost use Rattle.ptrun.specs.Worlds.{IsFresh};
 
-use crate::comparing::{holds_of, same, same_of};
+use crate::comparing::{holds_of, same_of};
 use ptfakes::{Kept, Pieces, Refusing, Watched};
 use ptlines::{LineReader, Store};
 use ptopts::{Command, UseFault};
@@ -329,7 +329,7 @@ pub fn expect_rows(
     Ok(())
 }
 
-/// A command over limited sinks, what is written, and what is said.
+/// A command, what is written, and what is said.
 pub type Run = (Case<'static>, &'static str, &'static str);
 
 /// Runs each of these commands.
@@ -398,11 +398,16 @@ pub fn expect_long<'a>(
     for size in SIZES {
         let case = over(words, Input::Text(text), &[], *size);
         let report = run_over(rt, alloc, alloc, &case)?;
-        let of = (length, *size);
+        let of = (words, length, *size);
         holds_of(rt, &of, report.out.bytes() == out);
         let said = report.messages.bytes().len();
-        same_of(rt, &of, &(report.status, said), &(0, 0));
-        holds_of(rt, &of, report.peak <= held && !report.denied);
+        same_of(
+            rt,
+            &of,
+            &(report.status, said, report.denied),
+            &(0, 0, false),
+        );
+        holds_of(rt, &of, report.peak <= held);
     }
     Ok(())
 }
@@ -428,29 +433,26 @@ fn is_growth_refused(
     let refused = alloc.refused();
     if refused {
         let most = if *streams { "" } else { *out };
-        assert_stopped(rt, &report, most, refusal, passing);
+        assert_stopped(rt, case.words, &report, (most, refusal), passing);
     } else {
         assert_left(rt, case.words, &report, out.as_bytes(), messages);
     }
-    holds_of(rt, &passing, !*streams || report.peak == 0);
+    holds_of(rt, &(case.words, passing), !*streams || report.peak == 0);
     Ok(refused)
 }
 
 // A beginning of this was written, and the refusal was said.
 fn assert_stopped(
     rt: &impl Abort,
+    words: &[&str],
     report: &Report<Kept, Kept>,
-    most: &str,
-    refusal: &str,
+    (most, refusal): (&str, &str),
     passing: u64,
 ) {
-    holds_of(
-        rt,
-        &passing,
-        most.as_bytes().starts_with(report.out.bytes()),
-    );
-    same_of(rt, &passing, &report.messages.bytes(), &refusal.as_bytes());
-    same_of(rt, &passing, &report.status, &1);
+    let of = (words, passing);
+    holds_of(rt, &of, most.as_bytes().starts_with(report.out.bytes()));
+    same_of(rt, &of, &report.messages.bytes(), &refusal.as_bytes());
+    same_of(rt, &of, &report.status, &1);
 }
 
 /// Refuses each growth of these commands in turn, of fewer than 40 each. A run that asks for no memory writes nothing
@@ -467,7 +469,7 @@ pub fn expect_growths_refused(
                 count = count.saturating_add(1);
             }
         }
-        holds_of(rt, &count, count > 0 && count < 40);
+        holds_of(rt, &(command.0.words, count), count > 0 && count < 40);
     }
     Ok(())
 }
@@ -476,6 +478,6 @@ pub fn expect_growths_refused(
 pub fn growths(rt: &impl Abort, own: Global, case: &Case<'_>) -> Result<u64, Fail> {
     let counted = Refusing::after(own, u64::MAX);
     let report = run_over(rt, &counted, own, case)?;
-    same(rt, &report.status, &0);
+    same_of(rt, &case.words, &report.status, &0);
     Ok(u64::MAX - counted.left())
 }

@@ -439,7 +439,7 @@ const SAID: &[Run] = &[
     ),
 ];
 
-// The reads would fail, and no call of the output is made.
+// Where a file is opened, its reads would fail; and no call of the output is made.
 const UNOPENED: &[Counted] = &[
     (
         Case {

@@ -68,7 +68,7 @@ const NAMED: &[Row] = &[(
     "cut: g: cannot be opened\n",
 )];
 
-// The message about it fails.
+// The message about the refused file is cut short.
 const UNSAID: &[Run] = &[(
     Case {
         words: FIRST,
@@ -96,7 +96,7 @@ fn a_refused_file_is_named_in_its_turn(rt: HostRuntime) -> Result<(), Fail> {
     expect_rows(&rt, rt.alloc(), &[1], LAST)
 }
 
-// The bytes that end lines, the other one as data, and the options that ask for it.
+// The byte that ends lines, the other one as data, and the options `-c` and `-b` with what asks for that end.
 const ENDINGS: &[(u8, u8, [&str; 2])] = &[(b'\n', 0, ["-c", "-b"]), (0, b'\n', ["-zc", "-zb"])];
 
 const LENGTHS: &[usize] = &[0, 1, 8191, 8192, 8193, 20000];

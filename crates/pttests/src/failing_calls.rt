@@ -91,9 +91,9 @@ const NEVER: u64 = u64::MAX;
 
 const PAIRS: &str = "a 1 x\na 1 y\na 2 x\na 2 y\n";
 
-// In reads of four bytes. Of the words `one,`, ` two` and `.` with a newline come, and of the files a line. No row has
-// three reads of g: then `b - z` is not decided, since g stands at b, but would be true, so the definition lets it be
-// written or not.
+// In reads of four bytes: those of the text give `one,`, ` two`, and `.` with a newline, and each of a file gives a line.
+// No row has three reads of g: then `b - z` is not decided, since g stands at b, but would be true, so the definition
+// lets it be written or not.
 const READS: &[Row] = &[
     (WORDS, Failing(TEXT, 0), &[], "", UNREAD),
     (WORDS, Failing(TEXT, 1), &[], "one\n", UNREAD),

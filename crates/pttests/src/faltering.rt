@@ -104,7 +104,7 @@ fn a_pull_is_one_read(rt: HostRuntime) {
 }
 
 #[test]
-fn a_put_and_a_flush_are_one_call(rt: HostRuntime) {
+fn a_put_is_one_write_and_a_flush_one_flush(rt: HostRuntime) {
     let mut bytes = Vec::new(rt.alloc());
     {
         let calls = Calls::failing_at(1);
@@ -261,7 +261,7 @@ fn a_run_ends_at_a_failed_call(rt: HostRuntime) {
         let (reads, writes) = (Calls::failing_at(*read), Calls::failing_at(*write));
         let mut bytes = Vec::new(rt.alloc());
         let status = ended(&rt, rt.alloc(), &reads, &mut bytes, &writes, said);
-        same(&rt, &status, &1);
+        same_of(&rt, &(*read, *write), &status, &1);
         saw(&rt, &reads, *pulls, 0);
         saw(&rt, &writes, *calls, *flushes);
         assert!(rt; bytes.as_slice() == &b"ABCDEF"[..bytes.len().min(6)]);

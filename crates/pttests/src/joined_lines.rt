@@ -368,7 +368,7 @@ fn each_call_and_each_growth_fails(rt: HostRuntime) -> Result<(), Fail> {
     expect_growths_refused(&rt, rt.alloc(), GROWING)
 }
 
-// The reads would fail, and no call of the output is made.
+// Where a file is opened, its reads would fail; and no call of the output is made.
 const UNOPENED: &[Counted] = &[
     (
         Case {

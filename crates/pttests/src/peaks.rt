@@ -3,7 +3,7 @@
 
 use crate::commands::Input::Text;
 use crate::commands::{Case, SIZES, growths, over, run_in, run_over};
-use crate::comparing::same;
+use crate::comparing::same_of;
 use ptfakes::{Kept, Refusing};
 use ptlines::Store;
 use ptrun::Report;
@@ -43,23 +43,24 @@ fn expect_alike(
     let mut store = Store::empty(own);
     let lent = run_in(rt, &mut store, own, own, case)?;
     let held = (store.peak(), store.denied());
-    assert_alike(rt, report, &lent, held, peak);
+    assert_alike(rt, case.words, report, &lent, held, peak);
     Ok(())
 }
 
 fn assert_alike(
     rt: &impl Abort,
+    words: &[&str],
     report: &Report<Kept, Kept>,
     lent: &Report<Kept, Kept>,
     held: (u128, bool),
     peak: u128,
 ) {
     let left = (report.status, report.peak, report.denied);
-    same(rt, &left, &(0, peak, false));
+    same_of(rt, &words, &left, &(0, peak, false));
     let left = (lent.status, lent.peak, lent.denied);
-    same(rt, &left, &(0, peak, false));
-    same(rt, &held, &(peak, false));
-    same(rt, &lent.out.bytes(), &report.out.bytes());
+    same_of(rt, &words, &left, &(0, peak, false));
+    same_of(rt, &words, &held, &(peak, false));
+    same_of(rt, &words, &lent.out.bytes(), &report.out.bytes());
 }
 
 // Words, one file or two, and the most that is held. A long line is longer than a block, so that it is kept wherever
@@ -164,25 +165,25 @@ fn expect_sent(
     let mut store = Store::empty(&alloc);
     let report = run_in(rt, &mut store, &alloc, own, case)?;
     let held = (store.peak(), store.denied());
-    assert_sent(rt, &report, held, decided, message);
+    assert_sent(rt, case.words, &report, held, (decided, message));
     Ok(())
 }
 
 fn assert_sent(
     rt: &impl Abort,
+    words: &[&str],
     report: &Report<Kept, Kept>,
     (peak, denied): (u128, bool),
-    decided: &str,
-    message: &str,
+    (decided, message): (&str, &str),
 ) {
-    same(rt, &report.out.bytes(), &decided.as_bytes());
-    same(rt, &report.messages.bytes(), &message.as_bytes());
+    same_of(rt, &words, &report.out.bytes(), &decided.as_bytes());
+    same_of(rt, &words, &report.messages.bytes(), &message.as_bytes());
     let left = (report.status, report.denied, denied);
-    same(rt, &left, &(1, true, true));
-    same(rt, &report.peak, &peak);
+    same_of(rt, &words, &left, &(1, true, true));
+    same_of(rt, &words, &report.peak, &peak);
 }
 
-// Words, the first file if there are two, what stands in the last file in front of a long line, what is decided of
+// Words, the first file (empty where there is one file only), what stands in the last file in front of a long line, what is decided of
 // that, and what is said.
 type Sent = (
     &'static [&'static str],

@@ -11,7 +11,7 @@ type Refusal = (&'static [&'static str], &'static str);
 
 const NO_TOOL: &str = "ptext: first word: cut, paste, join, comm, uniq or tr\n";
 
-const OPTIONS: &[Refusal] = &[
+const TOOLS_AND_OPTIONS: &[Refusal] = &[
     // No tool.
     (&[], NO_TOOL),
     (&["cat"], NO_TOOL),
@@ -46,7 +46,7 @@ const OPTIONS: &[Refusal] = &[
     (&["join", "-2"], "join: option -2 needs a value\n"),
 ];
 
-const TWICE: &[Refusal] = &[
+const TWICE_OR_TOGETHER: &[Refusal] = &[
     // Options that are given twice.
     (
         &["cut", "-b", "1", "-b", "2"],
@@ -130,7 +130,7 @@ const TWICE: &[Refusal] = &[
     ),
 ];
 
-const VALUES: &[Refusal] = &[
+const VALUES_OF_CUT: &[Refusal] = &[
     // `cut` without a list.
     (&["cut"], "cut: one of -b, -c and -f is needed\n"),
     (
@@ -178,7 +178,7 @@ const VALUES: &[Refusal] = &[
     ),
 ];
 
-const OTHER_VALUES: &[Refusal] = &[
+const VALUES_OF_OTHERS: &[Refusal] = &[
     // Values of `paste` and `uniq`.
     (
         &["paste", "-d", "", "f"],
@@ -240,7 +240,7 @@ const OTHER_VALUES: &[Refusal] = &[
     ),
 ];
 
-const OPERANDS: &[Refusal] = &[
+const OPERANDS_AND_STRINGS: &[Refusal] = &[
     // Numbers of operands, and standard input twice.
     (&["paste"], "paste: wrong number of operands\n"),
     (
@@ -331,19 +331,19 @@ fn expect_refusals(rt: &impl Abort, alloc: Global, rows: &[Refusal]) -> Result<(
 
 #[test]
 fn options_that_are_refused(rt: HostRuntime) -> Result<(), Fail> {
-    expect_refusals(&rt, rt.alloc(), OPTIONS)?;
-    expect_refusals(&rt, rt.alloc(), TWICE)
+    expect_refusals(&rt, rt.alloc(), TOOLS_AND_OPTIONS)?;
+    expect_refusals(&rt, rt.alloc(), TWICE_OR_TOGETHER)
 }
 
 #[test]
 fn values_that_are_refused(rt: HostRuntime) -> Result<(), Fail> {
-    expect_refusals(&rt, rt.alloc(), VALUES)?;
-    expect_refusals(&rt, rt.alloc(), OTHER_VALUES)
+    expect_refusals(&rt, rt.alloc(), VALUES_OF_CUT)?;
+    expect_refusals(&rt, rt.alloc(), VALUES_OF_OTHERS)
 }
 
 #[test]
 fn operands_that_are_refused(rt: HostRuntime) -> Result<(), Fail> {
-    expect_refusals(&rt, rt.alloc(), OPERANDS)
+    expect_refusals(&rt, rt.alloc(), OPERANDS_AND_STRINGS)
 }
 
 // A tool and a word, how many words `-` follow, standard input, what is written, and what is said in place of that.

@@ -82,7 +82,8 @@ fn memory_does_not_grow_with_the_lines(rt: HostRuntime) -> Result<(), Fail> {
     Ok(())
 }
 
-// Words, and what they write of a line of a million bytes: so many of its bytes, its newline among them, or else this.
+// Words; how many bytes they write of a line of a million bytes and its newline, from the front; and where that is 0,
+// what they write instead.
 const LONG: &[(&[&str], usize, &str)] = &[
     (&["tr", "-ds", "\n", "a-z"], 1_000_000, ""),
     (&["tr", "-cd", "\n"], 0, "\n"),

@@ -277,13 +277,13 @@ fn refuses_by_the_first_faulty_element(rt: HostRuntime) {
     // The first growth would be refused: no list with a fault asks for one.
     let alloc = Refusing::after(rt.alloc(), 0);
     for (list, fault) in NO_SELECTIONS {
-        same(&rt, &Ranges::read(&alloc, list).err(), &Some(*fault));
+        same_of(&rt, list, &Ranges::read(&alloc, list).err(), &Some(*fault));
     }
     for (list, fault) in NO_OUTPUTS {
-        same(&rt, &OutList::read(&alloc, list).err(), &Some(*fault));
+        same_of(&rt, list, &OutList::read(&alloc, list).err(), &Some(*fault));
     }
     for (list, fault) in NO_DELIMS {
-        same(&rt, &Delims::read(&alloc, list).err(), &Some(*fault));
+        same_of(&rt, list, &Delims::read(&alloc, list).err(), &Some(*fault));
     }
     // So it is still to come, and is that of the tab.
     assert!(rt; Delims::tab(&alloc).is_err());
