@@ -8,4 +8,5 @@ returns-then-marked-eq0 g c =
 
 pub returns : goal.returns
 returns g c =
-    first_marked is_blank c.args.bytes.now c.args.at g.row.N _ c.requires.lanes c.requires.within (blank_mask c.args.bytes.now c.args.at g.row.N c.requires.within c.requires.lanes) c.if-marked-eq0.false
+    first_marked is_blank c.args.bytes.now c.args.at g.row.N _ c.requires.lanes c.requires.within
+    (blank_mask c.args.bytes.now c.args.at g.row.N c.requires.within c.requires.lanes) c.if-marked-eq0.false
