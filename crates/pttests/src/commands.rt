@@ -398,16 +398,11 @@ pub fn expect_long<'a>(
     for size in SIZES {
         let case = over(words, Input::Text(text), &[], *size);
         let report = run_over(rt, alloc, alloc, &case)?;
-        let of = (words, length, *size);
+        let of = (length, *size);
         holds_of(rt, &of, report.out.bytes() == out);
         let said = report.messages.bytes().len();
-        same_of(
-            rt,
-            &of,
-            &(report.status, said, report.denied),
-            &(0, 0, false),
-        );
-        holds_of(rt, &of, report.peak <= held);
+        same_of(rt, &of, &(report.status, said), &(0, 0));
+        holds_of(rt, &of, report.peak <= held && !report.denied);
     }
     Ok(())
 }
