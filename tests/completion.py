@@ -149,12 +149,14 @@ def main():
                 print(f"left out: completion in {shell} (there is no {shell})")
                 continue
             try:
-                wrong += wrong_of(shell, room)
+                found = wrong_of(shell, room)
             except OSError as why:
                 print(f"left out: completion in {shell} (no terminal: {why})")
                 continue
-            count += len(COMPLETED) + len(OFFERED) + len(NOT_OFFERED)
-    print("".join(wrong), end="")
+            of = len(COMPLETED) + len(OFFERED) + len(NOT_OFFERED)
+            print("".join(found), end="")
+            print(f"{shell}: {of - len(found)} of {of} words are completed as wanted", flush=True)
+            wrong, count = wrong + found, count + of
     print(f"{count - len(wrong)} of {count} words are completed as wanted")
     return 1 if wrong else 0
 

@@ -65,6 +65,9 @@ if command -v dpkg-deb >/dev/null; then
         for page in README.md $(grep -o '\(docs\|bench\)/[A-Za-z]*[.][a-z]*' "$about/README.md" | sort -u); do
             is "$page, to read in the package" yes "$([ -s "$about/$page" ] && echo yes)"
         done
+        for library in $(sed -n 's/^---- //p' "$about/NOTICES"); do
+            is "its copyright names $library" 1 "$(grep '^Comment:' "$about/copyright" | grep -cw "$library")"
+        done
         is "its pages" 7 "$(ls "$room/root/usr/share/man/man1" | grep -c '^ptext.*\.1\.gz$')"
         dpkg --root="$room/root" --log=/dev/null --force-script-chrootless -P ptext >"$room/said" 2>&1 ||
             { cat "$room/said"; bad=$((bad + 1)); }

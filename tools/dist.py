@@ -71,11 +71,15 @@ def texts():
     return [(it, 0o644, bytes_of(f"{TOP}/{it}")) for it in read]
 
 
-def notices():
-    """The licenses of the toolchain's libraries whose code is in the program, as the toolchain has them."""
+def libraries_within():
+    """The toolchain's libraries whose code is in the program."""
     uses = uses_of(bytes_of(f"{TOP}/crates.txt").decode())
-    crates = below(PROGRAM, uses) | {PROGRAM}
-    libraries = sorted({it for crate in crates for it in uses[crate]} - set(uses))
+    return sorted({it for crate in below(PROGRAM, uses) | {PROGRAM} for it in uses[crate]} - set(uses))
+
+
+def notices():
+    """The licenses of these libraries, as the toolchain has them."""
+    libraries = libraries_within()
     bin_folder = os.path.dirname(os.path.realpath(shutil.which("rt") or "/opt/rattle/bin/rt"))
     text = f"ptext contains code of {', '.join(libraries)}, under these licenses.\n"
     for library in libraries:
@@ -112,6 +116,8 @@ def needed_libc(program):
 
 COPYRIGHT = """Format: https://www.debian.org/doc/packaging-manuals/copyright-format/1.0/
 Upstream-Name: ptext
+Comment: The program contains code of {libraries}.
+ Their licenses and authors are in the file NOTICES beside this one.
 
 Files: *
 Copyright: 2026 the ptext authors
@@ -169,7 +175,8 @@ def package_files():
     changes = CHANGES.format(version=VERSION, date=date.stdout.decode().strip())
     found.append((f"{about}/changelog.Debian.gz", 0o644, packed(changes.encode())))
     mit = bytes_of(f"{TOP}/LICENSE-MIT").decode().partition("\n\n")[2].partition("\n\n")[2]
-    found.append((f"{about}/copyright", 0o644, COPYRIGHT.format(mit=indented(mit)).encode()))
+    said = COPYRIGHT.format(mit=indented(mit), libraries=", ".join(libraries_within()))
+    found.append((f"{about}/copyright", 0o644, said.encode()))
     return found
 
 

@@ -116,17 +116,32 @@ fn is_even_at_ends<const N: usize>(bytes: &[u8]) -> bool
     is_even_in::<N>(bytes, 1) && is_even_in::<N>(bytes, bytes.len() - N)
 }
 
-// The same of however many bytes.
+// The same of fewer than 17 bytes.
+#[inline(always)]
+fn is_even_few(bytes: &[u8]) -> bool
+    requires { length bytes.now < 17 }
+    ensures { IsEven bytes.now 1 (length bytes.now) result }
+{
+    if bytes.len() > 8 {
+        return is_even_at_ends::<8>(bytes);
+    }
+    if bytes.len() > 4 {
+        return is_even_at_ends::<4>(bytes);
+    }
+    match bytes.len() {
+        0 | 1 => true,
+        2 => is_even_at_ends::<1>(bytes),
+        _ => is_even_at_ends::<2>(bytes),
+    }
+}
+
+// The same of however many bytes. Short lines are most, and the long ones have few questions before them.
 #[inline(always)]
 fn is_even(bytes: &[u8]) -> bool
     ensures { IsEven bytes.now 1 (length bytes.now) result }
 {
     match bytes.len() {
-        0 | 1 => true,
-        2 => is_even_at_ends::<1>(bytes),
-        3..=4 => is_even_at_ends::<2>(bytes),
-        5..=8 => is_even_at_ends::<4>(bytes),
-        9..=16 => is_even_at_ends::<8>(bytes),
+        0..=16 => is_even_few(bytes),
         17..=32 => is_even_at_ends::<16>(bytes),
         33..=64 => is_even_at_ends::<32>(bytes),
         _ => is_even_far(bytes),
