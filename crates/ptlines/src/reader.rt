@@ -162,9 +162,9 @@ impl<S: Source, R: Source> LineReader<S, R> {
         self.fault
     }
 
-    // Whether a read has answered the end of the source.
+    /// Whether a read has found the end of the input. Nothing is read, so false does not mean that more will come.
     #[inline(always)]
-    fn has_ended(&self) -> bool
+    pub fn has_ended(&self) -> bool
         ensures ended { result ≡ self.now.ended }
         ensures end { self.now.ended ≡ true → IsAtEnd self.now.left }
     {

@@ -58,7 +58,13 @@ const FILES: &[Case] = &[
     Case {
         name: "a newline",
         text: b"\n",
-        steps: &[LINE, END],
+        steps: &[
+            Step {
+                ended: Some(false),
+                ..LINE
+            },
+            END,
+        ],
         ..FILE
     },
     Case {
@@ -68,6 +74,7 @@ const FILES: &[Case] = &[
             Step {
                 zero: true,
                 bytes: b"\n",
+                ended: Some(true),
                 ..LINE
             },
             Step { zero: true, ..END },

@@ -47,6 +47,8 @@ pub struct Step<'a> {
     pub told: Result<bool, LineFault>,
     /// The line or the block, or a beginning of it where a call fails.
     pub bytes: &'a [u8],
+    /// Whether a read has found the end then, where it is looked at.
+    pub ended: Option<bool>,
     /// How many pulls were made then, where they are counted.
     pub pulled: Option<u64>,
 }
@@ -58,18 +60,21 @@ pub const LINE: Step<'static> = Step {
     passed: None,
     told: Ok(true),
     bytes: b"",
+    ended: None,
     pulled: None,
 };
 
 /// There is no line any more.
 pub const END: Step<'static> = Step {
     told: Ok(false),
+    ended: Some(true),
     ..LINE
 };
 
 /// A call for a line that fails.
 pub const FAULT: Step<'static> = Step {
     told: Err(LineFault::Read),
+    ended: Some(false),
     ..LINE
 };
 
@@ -147,6 +152,9 @@ fn takes<S: Source, R: Source, A: Allocator + Copy>(
         }
     };
     same_of(rt, of, &told, &step.told);
+    if let Some(ended) = step.ended {
+        same_of(rt, of, &reader.has_ended(), &ended);
+    }
     holds_of(rt, of, !store.denied());
 }
 

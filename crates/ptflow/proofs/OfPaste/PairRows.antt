@@ -92,7 +92,7 @@ module _ (cells : List ℕ) (old : List Reader) (two : (length cells ≡ 2) × (
         written = lines_of ++ end ∷ [];
         is = r.is;
         held = holds_more line_two (holds_more line_one h.holds);
-        row = λ from moved. putting_done (sym two.0) (omega (arith, two.0)) readable moved
+        row = λ from moved. putting_done (sym two.0) readable moved
             (putting_more line_two {next = lines_of} (ap (λ (k : ℕ). (first_line ++ lead delims (in_front 1)) ++ take other (drop k (reader_at old two_place).held)) (sym mid_second))
             (putting_more line_one {next = first_line} (ap (λ (k : ℕ). take count (drop k (reader_at old one_place).held)) (sym h.first)) (putting_starts moved)));
       }

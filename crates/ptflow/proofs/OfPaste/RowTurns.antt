@@ -172,7 +172,7 @@ module _ {cells : List ℕ} {n : ℕ} {old now : List Reader} {before store : Sl
         }
 
     -- the reader has ended
-    filling_end : {after : Slots} → Goes b r [] → IsDone r → after ≡ with_line store n [] → Filling cells (n + 1) old (set now p r) before after came
+    pub filling_end : {after : Slots} → Goes b r [] → IsDone r → after ≡ with_line store n [] → Filling cells (n + 1) old (set now p r) before after came
     filling_end goes done stored = record {
       got = more_at p [] f.got;
       taken = taken_more f.taken low within room (subst (λ (x : Reader). Took (reader_at old p).ending x r 1 []) is_read (took_end {b = b} goes done clean sound))

@@ -1,6 +1,6 @@
 -- Rows of `paste` whose cells lie whole in what the readers hold: they are told by the slots that filling them would
 -- fill.
-use Rattle.ptflow.proofs.Common.{◌≡◌, ⊎_elim, inl, inr, ℕ, zero, suc, ◌+◌, ◌-◌, ◌<◌, ◌≤◌, ◌^◌, Bool, true, false, cond, List, [], ◌∷◌, ◌++◌, Option, None, Some, length, take, drop, set, get_or, refl}
+use Rattle.ptflow.proofs.Common.{◌≡◌, ◌≢◌, ⊎_elim, inl, inr, ℕ, zero, suc, ◌+◌, ◌-◌, ◌<◌, ◌≤◌, ◌^◌, Bool, true, false, cond, List, [], ◌∷◌, ◌++◌, Option, None, Some, length, take, drop, set, get_or, refl}
 use Rattle.ptflow.proofs.Common.{sym, ◌∙◌, ap, subst, arith, append_assoc, length-append, length-drop, replicate, nat_lt, cases_eq, cases_lt, nat_tests, append-nil, take-take, take-append-le}
 use Rattle.ptflow.proofs.Common.{length-take-le, length-set, drop-drop, take_more_set, get_or-set_same, get_or-set_other, get_or-replicate, get_or_past, ext_get_or, IsFirstByte, is_byte, Reader, Goes}
 use Rattle.ptflow.proofs.Common.{IsSound, Output, Slots, with_line, GivesLine, before_end, take_end, goes_front, no_reader, reader_at, Filling, row_rest, row_from, begun, lead, in_front, AreReadable}
@@ -8,7 +8,7 @@ use Rattle.ptflow.proofs.Common.{AreTaken, Holds, HeldRows, HoldsTo, PassesRows,
 use Rattle.std.specs.Prelude.{Result, Err}
 use Rattle.ptlines.specs.declared.out.WriteFault.{WriteFault}
 use Rattle.ptflow.proofs.OfPaste.GivenRows.{blank, length_blank, held_row, held_trans}
-use Rattle.ptflow.proofs.OfPaste.RowTurns.{at_same, at_other, filling_starts, filling_line}
+use Rattle.ptflow.proofs.OfPaste.RowTurns.{at_same, at_other, filling_starts, filling_line, filling_end}
 use Rattle.ptflow.proofs.OfPaste.SerialRests.{row_begun, row_line, row_end}
 use Rattle.ptflow.proofs.OfPaste.SheetRows.{first_cell}
 
@@ -47,16 +47,62 @@ behind_cell end delims (suc n) more =
     let number : (begun (in_front (suc n))).number ≡ suc n + 1 - 1 = ap (λ (t : Bool). cond {A = ℕ} t (suc n - 1 + 1) (suc n - 1)) some ∙ same in
     λ i. row_rest end delims (number i) (sym later i) more
 
--- So many cells were put: their lines are in the slots of a store, and they were taken of readers, neither of which is
--- there.
-pub record Putting (end : ℕ) (delims : List (Option ℕ)) (cells : List ℕ) (n : ℕ) (old from : List Reader) (taken written : List ℕ) : Type 0 where
+-- So many cells were put, of which one has a line or none: what they hold is in the slots of a store, and it was taken of
+-- readers, neither of which is there.
+pub record Putting (end : ℕ) (delims : List (Option ℕ)) (cells : List ℕ) (n : ℕ) (old from : List Reader) (taken : List ℕ) (came : Bool) (written : List ℕ) : Type 0 where
   pub mid : List Reader
   pub store : Slots
-  pub came : Bool
   pub filling : Filling cells n from mid (blank cells) store came
-  pub began : 0 < n → came ≡ true
   pub moved : AreTaken taken old mid
   pub on : (more : List (List ℕ)) → row_from end delims first_cell (take n store.lines ++ more) ≡ written ++ row_from end delims (in_front n) more
+
+module _ {end : ℕ} {delims : List (Option ℕ)} {cells : List ℕ} {n : ℕ} {old from : List Reader} {taken written : List ℕ} {came : Bool}
+    (h : Putting end delims cells n old from taken came written) (low : n < length cells) (within : get_or cells n 0 < length old) where
+  room_here : n < length h.store.lines
+  room_here = omega (arith, low, length_blank cells, h.filling.taken.same)
+
+  within_mid : get_or cells n 0 < length h.mid
+  within_mid = omega (arith, within, h.moved.count)
+
+  -- One cell more was put, whose reader is this one then.
+  module _ (now line : List ℕ) {next : List ℕ} {has : Bool} (is : next ≡ (written ++ lead delims (in_front n)) ++ line) {r : Reader}
+      (here : r ≡ record (reader_at old (get_or cells n 0)) { held = drop (get_or now (get_or cells n 0) 0) (reader_at old (get_or cells n 0)).held })
+      (others : (p : ℕ) → p ≢ get_or cells n 0 → get_or now p 0 ≡ get_or taken p 0)
+      (filling : Filling cells (n + 1) from (set h.mid (get_or cells n 0) r) (blank cells) (with_line h.store n line) has) where
+    moved_next : (p : ℕ) → reader_at (set h.mid (get_or cells n 0) r) p ≡ record (reader_at old p) { held = drop (get_or now p 0) (reader_at old p).held }
+    moved_next p = ⊎_elim
+        (λ same. rw same (at_same h.mid (get_or cells n 0) r within_mid ∙ here))
+        (λ differ. rw (at_other h.mid (get_or cells n 0) p r differ, others p differ) (h.moved.held p))
+        (cases_eq p (get_or cells n 0))
+
+    on_next : (more : List (List ℕ)) → row_from end delims first_cell (take (n + 1) (set h.store.lines n line) ++ more) ≡ next ++ row_from end delims (in_front (n + 1)) more
+    on_next more =
+        ap (λ (l : List (List ℕ)). row_from end delims first_cell (l ++ more)) (take_more_set h.store.lines n line room_here)
+        ∙ ap (row_from end delims first_cell) (append_assoc (take n h.store.lines) (line ∷ []) more)
+        ∙ h.on (line ∷ more)
+        ∙ ap (λ (l : List ℕ). written ++ l) (row_begun end delims (in_front n) line more
+        ∙ ap (λ (l : List ℕ). lead delims (in_front n) ++ l) (row_line end delims (begun (in_front n)).number line more
+        ∙ ap (λ (l : List ℕ). line ++ l) (behind_cell end delims n more)))
+        ∙ rw is (simp append_assoc)
+
+    putting_next : Putting end delims cells (n + 1) old from now has next
+    putting_next = record {
+      mid = set h.mid (get_or cells n 0) r;
+      store = with_line h.store n line;
+      filling = filling;
+      moved = record { count = length-set h.mid (get_or cells n 0) r ∙ h.moved.count; held = moved_next };
+      on = on_next;
+    }
+
+  -- its reader has ended, and all that it held is taken
+  pub putting_end : (reader_at old (get_or cells n 0)).fault ≡ None → IsSound (reader_at old (get_or cells n 0)) → (reader_at old (get_or cells n 0)).ended ≡ true
+      → drop (get_or taken (get_or cells n 0) 0) (reader_at old (get_or cells n 0)).held ≡ [] → {next : List ℕ} → next ≡ written ++ lead delims (in_front n)
+      → Putting end delims cells (n + 1) old from taken came next
+  putting_end clean sound ended none is =
+      let r : Reader = record (reader_at old (get_or cells n 0)) { held = drop (get_or taken (get_or cells n 0) 0) (reader_at old (get_or cells n 0)).held } in
+      putting_next taken [] (is ∙ sym (append-nil (written ++ lead delims (in_front n)))) {r = r} refl (λ p differ. refl)
+      (filling_end h.filling low within_mid room_here (sym (h.moved.held (get_or cells n 0))) clean (sound_held (reader_at old (get_or cells n 0)) r (get_or taken (get_or cells n 0) 0) sound refl)
+      (goes_front r r 0 clean (omega arith) refl) (record { ended = ended; held = none; left = sound.end ended }) refl)
 
 -- The line of a cell, of this length, lies whole behind what was taken of its reader.
 pub record HasLine (end : ℕ) (cells : List ℕ) (old : List Reader) (n : ℕ) (taken : List ℕ) (at : ℕ) : Type 0 where
@@ -88,77 +134,39 @@ module _ {end : ℕ} {cells : List ℕ} {old : List Reader} {n : ℕ} {taken : L
         (cases_eq p place);
   }
 
-  module _ {delims : List (Option ℕ)} {from : List Reader} {written next : List ℕ}
+  module _ {delims : List (Option ℕ)} {from : List Reader} {written next : List ℕ} {came : Bool}
       (is : next ≡ (written ++ lead delims (in_front n)) ++ take at (drop (get_or taken (get_or cells n 0) 0) (reader_at old (get_or cells n 0)).held))
-      (h : Putting end delims cells n old from taken written) where
-    abbrev line_of : List ℕ
-    line_of = take at (drop (get_or taken place 0) (reader_at old place).held)
-
+      (h : Putting end delims cells n old from taken came written) where
     abbrev mid_reader : Reader
     mid_reader = record (reader_at old place) { held = drop (get_or taken place 0) (reader_at old place).held }
 
     abbrev new_reader : Reader
     new_reader = record (reader_at old place) { held = drop behind (reader_at old place).held }
 
-    gives : GivesLine mid_reader new_reader h.store (with_line h.store n line_of) n
+    gives : GivesLine mid_reader new_reader h.store (with_line h.store n (take at mid_reader.held)) n
     gives = held_line mid_reader new_reader at h.store n l.clean (l.sound.long l.clean)
         (rw l.ends l.found)
         (λ i. record (reader_at old place) { held = sym (drop-drop (at + 1) (get_or taken place 0) (reader_at old place).held) i })
 
-    room_here : n < length h.store.lines
-    room_here = omega (arith, l.low, length_blank cells, h.filling.taken.same)
-
-    within_mid : place < length h.mid
-    within_mid = omega (arith, l.within, h.moved.count)
-
-    moved_next : (p : ℕ) → reader_at (set h.mid place new_reader) p ≡ record (reader_at old p) { held = drop (get_or (taken_with cells n taken at) p 0) (reader_at old p).held }
-    moved_next p = ⊎_elim
-        (λ same. rw same (rw (at_same h.mid place new_reader within_mid, get_or-set_same taken place behind 0 l.place_low) refl))
-        (λ differ. rw (at_other h.mid place p new_reader differ, get_or-set_other taken place p behind 0 differ) (h.moved.held p))
-        (cases_eq p place)
-
-    on_next : (more : List (List ℕ)) → row_from end delims first_cell (take (n + 1) (set h.store.lines n line_of) ++ more) ≡ next ++ row_from end delims (in_front (n + 1)) more
-    on_next more =
-        ap (λ (l : List (List ℕ)). row_from end delims first_cell (l ++ more)) (take_more_set h.store.lines n line_of room_here)
-        ∙ ap (row_from end delims first_cell) (append_assoc (take n h.store.lines) (line_of ∷ []) more)
-        ∙ h.on (line_of ∷ more)
-        ∙ ap (λ (l : List ℕ). written ++ l) (row_begun end delims (in_front n) line_of more
-        ∙ ap (λ (l : List ℕ). lead delims (in_front n) ++ l) (row_line end delims (begun (in_front n)).number line_of more
-        ∙ ap (λ (l : List ℕ). line_of ++ l) (behind_cell end delims n more)))
-        ∙ rw is (simp append_assoc)
-
-    pub putting_more : Putting end delims cells (n + 1) old from (taken_with cells n taken at) next
-    putting_more = record {
-      mid = set h.mid place new_reader;
-      store = with_line h.store n line_of;
-      came = true;
-      filling = filling_line h.filling l.low within_mid room_here (sym (h.moved.held place)) l.clean (sound_held (reader_at old place) new_reader behind l.sound refl) gives;
-      began = λ some. refl;
-      moved = record { count = length-set h.mid place new_reader ∙ h.moved.count; held = moved_next };
-      on = on_next;
-    }
+    pub putting_more : Putting end delims cells (n + 1) old from (taken_with cells n taken at) true next
+    putting_more = putting_next h l.low l.within (taken_with cells n taken at) (take at mid_reader.held) is {r = new_reader}
+        (rw (get_or-set_same taken place behind 0 l.place_low) refl)
+        (λ p differ. get_or-set_other taken place p behind 0 differ)
+        (filling_line h.filling l.low (within_mid h l.low l.within) (room_here h l.low l.within) (sym (h.moved.held place)) l.clean (sound_held (reader_at old place) new_reader behind l.sound refl) gives)
 
 module _ {end : ℕ} {delims : List (Option ℕ)} {cells : List ℕ} {old from : List Reader} where
-  pub putting_starts : {taken : List ℕ} → AreTaken taken old from → Putting end delims cells 0 old from taken []
-  putting_starts moved = record {
-    mid = from;
-    store = blank cells;
-    came = false;
-    filling = filling_starts;
-    began = λ some. absurd (omega (arith, some));
-    moved = moved;
-    on = λ more. refl;
-  }
+  pub putting_starts : {taken : List ℕ} → AreTaken taken old from → Putting end delims cells 0 old from taken false []
+  putting_starts moved = record { mid = from; store = blank cells; filling = filling_starts; moved = moved; on = λ more. refl }
 
-  -- all cells were put
-  pub putting_done : {n : ℕ} {before taken written : List ℕ} → n ≡ length cells → 0 < length cells → AreReadable end cells old → AreTaken before old from
-      → Putting end delims cells n old from taken written → HoldsTo end delims cells old from taken (written ++ end ∷ [])
-  putting_done {n} {written = written} all some readable began h = record {
+  -- all cells were put, of which one has a line
+  pub putting_done : {n : ℕ} {before taken written : List ℕ} → n ≡ length cells → AreReadable end cells old → AreTaken before old from
+      → Putting end delims cells n old from taken true written → HoldsTo end delims cells old from taken (written ++ end ∷ [])
+  putting_done {n} {written = written} all readable began h = record {
     new = h.mid;
     moved = h.moved;
     rows = held_row (λ p named. ap (λ (r : Reader). r.ending) (began.held p) ∙ (readable p named).1)
         (λ p. ap (λ (r : Reader). r.pulled) (h.moved.held p) ∙ sym (ap (λ (r : Reader). r.pulled) (began.held p)))
-        (rw (all, h.began (omega (arith, all, some))) at h.filling)
+        (rw all at h.filling)
         (ap (λ (l : List ℕ). written ++ l) (sym (row_end end delims (in_front n))) ∙ sym (h.on [])
         ∙ ap (row_from end delims first_cell) (append-nil (take n h.store.lines)) ∙ ap (λ (k : ℕ). row_from end delims first_cell (take k h.store.lines)) all);
   }

@@ -29,7 +29,7 @@ struct HeldRow<'a, A: Allocator, S: Source, R: Source> {
     ending: u8,
     cells: &'a [usize],
     readers: &'a [LineReader<S, R>],
-    ghost few: { (length readers.now ≤ 16) × (0 < length cells.now) },
+    ghost few: { length readers.now ≤ 16 },
     ghost readable: { CanBeRead ending cells.now readers.now },
 }
 
@@ -134,8 +134,9 @@ fn put_line(ending: u8, bytes: &[u8], into: &mut Written, at: usize) -> Option<u
     put_far(ending, bytes, into, at)
 }
 
-// Puts the next row, if each cell's line lies whole in what its reader holds, and the row in the room. The answer is
-// where it ends, and `taken` has how many bytes are taken of each reader then, which are still held.
+// Puts the next row, if each cell's line lies whole in what its reader holds, or the reader has ended, and the row in
+// the room. The answer is where it ends, and `taken` has how many bytes are taken of each reader then, which are still
+// held. There is no row where all readers have ended.
 #[inline(always)]
 fn put_row<A: Allocator, S: Source, R: Source>(
     row: &HeldRow<A, S, R>,
@@ -154,13 +155,23 @@ fn put_row<A: Allocator, S: Source, R: Source>(
     let readers = row.readers;
     let ending = row.ending;
     let mut end = full.end;
+    let mut came = false;
     for (column, place) in cells.iter().enumerate() {
         let from = put_lead(row.delims, column, into, Full { end });
+        let reader = &readers[*place];
         let begin = taken[*place] as usize;
-        let rest = &readers[*place].held()[begin..];
+        let rest = &reader.held()[begin..];
+        if rest.is_empty() && reader.has_ended() && from < 8192 {
+            end = from;
+            continue;
+        }
         let count = put_line(ending, rest, into, from)?;
         end = from + count;
         taken[*place] = (begin + (count + 1)) as u16;
+        came = true;
+    }
+    if !came {
+        return None;
     }
     into[end] = ending;
     Some(Full { end: end + 1 })
@@ -253,7 +264,7 @@ fn put_pairs<A: Allocator, S: Source, R: Source>(
     (full, taken)
 }
 
-// The same, by `put_pairs` where there are two cells of two readers.
+// The same, by `put_pairs` where there are two cells of two readers that both hold lines.
 #[inline(always)]
 fn put_whole_rows<A: Allocator, S: Source, R: Source>(
     row: HeldRow<A, S, R>,
@@ -264,7 +275,12 @@ fn put_whole_rows<A: Allocator, S: Source, R: Source>(
         (take result.0.end into.new) }
 {
     let cells = row.cells;
-    if cells.len() == 2 && cells[0] != cells[1] {
+    let readers = row.readers;
+    if cells.len() == 2
+        && cells[0] != cells[1]
+        && !readers[cells[0]].held().is_empty()
+        && !readers[cells[1]].held().is_empty()
+    {
         return put_pairs(row, into);
     }
     put_rows(row, into)
@@ -296,7 +312,7 @@ pub(crate) fn pass_rows<A: Allocator, S: Source, R: Source, W: Sink>(
     requires { CanBeRead ending cells.now readers.old }
     ensures { PassesRows ending delims.now cells.now readers.old readers.new out.old out.new result }
 {
-    if cells.is_empty() || readers.len() > 16 {
+    if readers.len() > 16 {
         return Ok(false);
     }
     let row = HeldRow {

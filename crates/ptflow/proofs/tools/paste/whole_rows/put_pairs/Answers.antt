@@ -64,7 +64,7 @@ rows-preserved g c =
     let row = row_held (take_rest c.held-first.result.now c.rows.passed ∙ ap (λ (h : List ℕ). drop c.rows.passed h) held_one)
     (take_rest c.held-second.result.now c.rows.passed_other ∙ ap (λ (h : List ℕ). drop c.rows.passed_other h) held_two) c.in-Some.ensures.row in
     record {
-      rows = pairs_more cells readers c.requires c.args.row.readable.0 c.args.row.few.0 c.args.row.readable.1
+      rows = pairs_more cells readers c.requires c.args.row.readable.0 c.args.row.few c.args.row.readable.1
           (subst IsSound read_one c.held-first.ensures.sound) (subst IsSound read_two c.held-second.ensures.sound) inv.rows row;
       low = still_low c.held-first.result.now c.rows.passed inv.low (rw take_rest at c.in-Some.ensures.row.first.0.high);
       low_other = still_low c.held-second.result.now c.rows.passed_other inv.low_other (rw take_rest at c.in-Some.ensures.row.second.0.high);
@@ -72,23 +72,23 @@ rows-preserved g c =
     }
 
 pub offset_bounds-taken-cells : goal.offset_bounds-taken-cells
-offset_bounds-taken-cells g c = omega (arith, within_one c.args.row.cells.now c.args.row.readers.now c.requires c.args.row.readable.0, c.args.row.few.0)
+offset_bounds-taken-cells g c = omega (arith, within_one c.args.row.cells.now c.args.row.readers.now c.requires c.args.row.readable.0, c.args.row.few)
 
 pub bounds-taken-cells : goal.bounds-taken-cells
-bounds-taken-cells g c = omega (arith, within_one c.args.row.cells.now c.args.row.readers.now c.requires c.args.row.readable.0, c.args.row.few.0)
+bounds-taken-cells g c = omega (arith, within_one c.args.row.cells.now c.args.row.readers.now c.requires c.args.row.readable.0, c.args.row.few)
 
 pub offset_bounds-taken-cells-2 : goal.offset_bounds-taken-cells-2
-offset_bounds-taken-cells-2 g c = omega (arith, within_two c.args.row.cells.now c.args.row.readers.now c.requires c.args.row.readable.0, c.args.row.few.0)
+offset_bounds-taken-cells-2 g c = omega (arith, within_two c.args.row.cells.now c.args.row.readers.now c.requires c.args.row.readable.0, c.args.row.few)
 
 pub bounds-taken-cells-2 : goal.bounds-taken-cells-2
-bounds-taken-cells-2 g c = omega (arith, within_two c.args.row.cells.now c.args.row.readers.now c.requires c.args.row.readable.0, c.args.row.few.0)
+bounds-taken-cells-2 g c = omega (arith, within_two c.args.row.cells.now c.args.row.readers.now c.requires c.args.row.readable.0, c.args.row.few)
 
 pub returns-clause-held : goal.returns-clause-held
 returns-clause-held g c =
-    subst (Holds c.args.row.readers.now) (pairs_taken c.args.row.cells.now c.args.row.readers.now c.requires c.args.row.readable.0 c.args.row.few.0 c.rows.invariant.rows) c.rows.invariant.rows.holds
+    subst (Holds c.args.row.readers.now) (pairs_taken c.args.row.cells.now c.args.row.readers.now c.requires c.args.row.readable.0 c.args.row.few c.rows.invariant.rows) c.rows.invariant.rows.holds
 
 pub returns-clause-rows : goal.returns-clause-rows
 returns-clause-rows g c =
     rw c.in_default.ensures.kept
     (subst (λ (t : List ℕ). PutsRows c.args.row.ending c.args.row.delims.now c.args.row.cells.now c.args.row.readers.now t (take c.rows.full.0 c.rows.into))
-    (pairs_taken c.args.row.cells.now c.args.row.readers.now c.requires c.args.row.readable.0 c.args.row.few.0 c.rows.invariant.rows) c.rows.invariant.rows.rows)
+    (pairs_taken c.args.row.cells.now c.args.row.readers.now c.requires c.args.row.readable.0 c.args.row.few c.rows.invariant.rows) c.rows.invariant.rows.rows)

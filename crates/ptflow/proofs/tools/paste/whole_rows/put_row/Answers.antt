@@ -1,23 +1,30 @@
 -- Each turn puts one more cell behind its delimiter, if it is whole in what its reader holds; what was taken of each
 -- reader is counted.
-use Rattle.ptflow.proofs.Common.{refl, sym, [], ◌∷◌, ◌≡◌, ◌+◌, ◌<◌, ◌≤◌, ◌++◌, ℕ, List, Some, length, take, drop, get_or, ◌∙◌, ap, subst, arith, append-nil, take_rest, take_more_set, length-set}
+use Rattle.ptflow.proofs.Common.{refl, sym, [], ◌∷◌, ◌≡◌, ◌==◌, ◌+◌, ◌<◌, ◌≤◌, ◌++◌, ℕ, true, eqb-true, nil_from_length, List, Some, length, take, drop, get_or, ◌∙◌, ap, subst, arith, append-nil, take_rest, take_more_set, length-set}
 use Rattle.ptflow.proofs.Common.{◌^◌, All-get_or, IsFirstByte, is_byte, Reader, IsSound, reader_at, lead, in_front}
 use Rattle.ptflow.proofs.OfPaste.Grids.{times_below}
 use Rattle.ptflow.proofs.OfPaste.RowTurns.{at_index}
-use Rattle.ptflow.proofs.OfPaste.WholeRows.{HasLine, putting_starts, putting_more, putting_done, holds_more, front_kept, line_put, end_put}
+use Rattle.ptflow.proofs.OfPaste.WholeRows.{HasLine, putting_starts, putting_more, putting_end, putting_done, holds_more, front_kept, line_put, end_put}
 use Rattle.ptflow.proofs.tools.paste.whole_rows.put_row.Given as given
 use Rattle.ptflow.proofs.tools.paste.whole_rows.put_row.Goals as goal
 use Rattle.ptflow.proofs.tools.paste.whole_rows.put_row.Goals.{In-loop-column, After-held}
 
 -- after the last cell there is room for the end of the row
-row_near : {size column end : ℕ} → 0 < size → size ≤ column → (0 < column → end < 8192) → end + 1 ≤ 8192
-row_near some past near = omega (arith, near (omega arith))
+row_near : {end : ℕ} → end < 8192 → end + 1 ≤ 8192
+row_near near = omega (arith, near)
+
+-- all that was held is taken
+rest_none : (n : ℕ) {held bytes : List ℕ} → held ≡ bytes → (length (drop n held) == 0) ≡ true → drop n bytes ≡ []
+rest_none n {held} same none = ap (drop n) (sym same) ∙ nil_from_length (drop n held) (eqb-true (length (drop n held)) 0 none)
 
 taken_low : {place readers taken : ℕ} → place < readers → readers ≤ 16 → taken ≡ 16 → place < taken
 taken_low low few same = omega arith
 
 goes_on : {a b c : ℕ} → a ≤ b → b ≤ c → (n : ℕ) → a ≤ c + n
 goes_on le further n = omega arith
+
+goes_to : {a b c : ℕ} → a ≤ b → b ≤ c → a ≤ c
+goes_to le further = omega arith
 
 no_more : {n m : ℕ} → n < m → n ≤ m
 no_more lt = omega arith
@@ -50,7 +57,7 @@ loop-column-init g c = record {
   puts = λ from moved. putting_starts moved;
   kept = refl;
   holds = c.requires;
-  near = (omega arith, c.args.full.near, λ some. absurd (omega (arith, some)));
+  near = (omega arith, c.args.full.near, λ came. cc);
   places = c.told-taken;
   room = c.told-into;
 }
@@ -62,13 +69,39 @@ pub overflow_add-taken : goal.overflow_add-taken
 overflow_add-taken g c = omega (arith, c.in_ok-count.ensures.near)
 
 pub invariant_of-result : goal.invariant_of-result
-invariant_of-result g c = record { near = row_near c.args.row.now.few.1 c.loop-column-test.false c.loop-column.invariant.near.2 }
+invariant_of-result g c = record { near = row_near (c.loop-column.invariant.near.2 c.if-not-came.false) }
 
 pub bounds-into-end : goal.bounds-into-end
 bounds-into-end g c = omega (arith, c.loop-column.invariant.near.1)
 
 pub overflow_add-result : goal.overflow_add-result
 overflow_add-result g c = omega (arith, c.loop-column.invariant.near.1)
+
+pub loop-column-preserved-then-from-lt8192 : goal.loop-column-preserved-then-from-lt8192
+loop-column-preserved-then-from-lt8192 g c =
+    let cells = c.args.row.now.cells.now in
+    let readers = c.args.row.now.readers.now in
+    let n = c.loop-column.column in
+    let inv = c.loop-column.invariant in
+    let place = get_or cells n 0 in
+    let is_read = read g (goal.at.loop-column-preserved-then-from-lt8192 g c).After-held in
+    let ended : (reader_at readers place).ended ≡ true = ap (λ (r : Reader). r.ended) (sym is_read) ∙ sym c.has_ended.ensures.ended ∙ c.if-has_ended.true in
+    let held_is : c.held.result.now ≡ (reader_at readers place).held = c.held.ensures.held ∙ ap (λ (r : Reader). r.held) is_read in
+    let none = rest_none (get_or c.loop-column.taken place 0) held_is (rw take_rest at (sym c.is_empty.ensures ∙ c.if-is_empty.true)) in
+    let is = end_put (take c.args.full.end c.args.into.now) inv.written (lead c.args.row.now.delims.now (in_front n)) c.put_lead-from.ensures.put inv.is in
+    let front = goes_to inv.near.0 c.put_lead-from.ensures.near.0 in
+    record {
+      written = inv.written ++ lead c.args.row.now.delims.now (in_front n);
+      is = is;
+      puts = λ from moved. putting_end (inv.puts from moved) c.loop-column-test.true (low g (goal.at.loop-column-preserved-then-from-lt8192 g c).In-loop-column)
+          (c.args.row.now.readable.1 place (omega (arith, times_below cells n c.loop-column-test.true))).0 (subst IsSound is_read c.held.ensures.sound) ended none refl;
+      kept = front_kept c.args.full.end _ _ c.args.into.now (inv.written ++ lead c.args.row.now.delims.now (in_front n))
+          front (fits_in c.args.full.near c.told-into) is;
+      holds = inv.holds;
+      near = (front, no_more c.if-from-lt8192.true, λ came. c.if-from-lt8192.true);
+      places = inv.places;
+      room = c.put_lead-from.array_long;
+    }
 
 pub loop-column-preserved : goal.loop-column-preserved
 loop-column-preserved g c =
@@ -87,7 +120,7 @@ loop-column-preserved g c =
     let has : HasLine c.args.row.now.ending cells readers n taken count = record {
       low = c.loop-column-test.true;
       within = within;
-      place_low = taken_low within c.args.row.now.few.0 inv.places;
+      place_low = taken_low within c.args.row.now.few inv.places;
       clean = ready.0;
       ends = ready.1;
       sound = subst IsSound is_read c.held.ensures.sound;
@@ -105,7 +138,7 @@ loop-column-preserved g c =
       kept = front_kept c.args.full.end _ _ c.args.into.now ((inv.written ++ lead_of) ++ line)
           (goes_on inv.near.0 c.put_lead-from.ensures.near.0 count) (fits_in c.args.full.near c.told-into) is;
       holds = holds_more has inv.holds;
-      near = (goes_on inv.near.0 c.put_lead-from.ensures.near.0 count, no_more c.in_ok-count.ensures.near, λ some. c.in_ok-count.ensures.near);
+      near = (goes_on inv.near.0 c.put_lead-from.ensures.near.0 count, no_more c.in_ok-count.ensures.near, λ came. c.in_ok-count.ensures.near);
       places = length-set taken place (get_or taken place 0 + (count + 1)) ∙ inv.places;
       room = c.put_line.array_long;
     }
@@ -125,7 +158,7 @@ returns-clause-row g c =
       is = end_put (take c.args.full.end c.args.into.now) inv.written (c.args.row.now.ending ∷ [])
           (take_more_set c.loop-column.into c.loop-column.end c.args.row.now.ending (omega (arith, inv.near, inv.room))) inv.is;
       held = inv.holds;
-      row = λ from moved. putting_done (omega (arith, c.loop-column-test.false, c.loop-column.auto.column-end)) c.args.row.now.few.1 c.args.row.now.readable.1 moved (inv.puts from moved);
+      row = λ from moved. putting_done (omega (arith, c.loop-column-test.false, c.loop-column.auto.column-end)) c.args.row.now.readable.1 moved (rw c.if-not-came.false at (inv.puts from moved));
     }
 
 pub returns-clause-kept : goal.returns-clause-kept
@@ -136,16 +169,16 @@ returns-clause-kept g c =
     (take_more_set c.loop-column.into c.loop-column.end c.args.row.now.ending (omega (arith, inv.near, inv.room))) inv.is)
 
 pub offset_bounds-taken-place : goal.offset_bounds-taken-place
-offset_bounds-taken-place g c = omega (arith, low g (goal.at.offset_bounds-taken-place g c).In-loop-column, c.args.row.now.few.0)
+offset_bounds-taken-place g c = omega (arith, low g (goal.at.offset_bounds-taken-place g c).In-loop-column, c.args.row.now.few)
 
 pub bounds-taken-place : goal.bounds-taken-place
-bounds-taken-place g c = omega (arith, low g (goal.at.bounds-taken-place g c).In-loop-column, c.args.row.now.few.0)
+bounds-taken-place g c = omega (arith, low g (goal.at.bounds-taken-place g c).In-loop-column, c.args.row.now.few)
 
 pub offset_bounds-taken-place-in-loop-column : goal.offset_bounds-taken-place-in-loop-column
-offset_bounds-taken-place-in-loop-column g c = omega (arith, low g (goal.at.offset_bounds-taken-place-in-loop-column g c).In-loop-column, c.args.row.now.few.0)
+offset_bounds-taken-place-in-loop-column g c = omega (arith, low g (goal.at.offset_bounds-taken-place-in-loop-column g c).In-loop-column, c.args.row.now.few)
 
 pub bounds-taken-place-in-loop-column : goal.bounds-taken-place-in-loop-column
-bounds-taken-place-in-loop-column g c = omega (arith, low g (goal.at.bounds-taken-place-in-loop-column g c).In-loop-column, c.args.row.now.few.0)
+bounds-taken-place-in-loop-column g c = omega (arith, low g (goal.at.bounds-taken-place-in-loop-column g c).In-loop-column, c.args.row.now.few)
 
 pub offset_bounds-readers-place : goal.offset_bounds-readers-place
 offset_bounds-readers-place g c = omega (arith, low g (goal.at.offset_bounds-readers-place g c).In-loop-column)
