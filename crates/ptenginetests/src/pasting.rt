@@ -20,25 +20,25 @@ type Rows = (&'static [u8], bool);
 
 type Reader<'a> = LineReader<Pieces<'a>, Pieces<'a>>;
 
-// What `paste` writes for cells of two readers, each of this text, which comes in pieces of so many bytes.
+// What `paste` writes for cells of two readers of these texts, which come in pieces of so many bytes.
 fn pasted(
     rt: &impl Abort,
     alloc: Global,
     rows: Rows,
     cells: &[usize],
-    input: (&[u8], usize),
+    input: (&[u8], &[u8], usize),
 ) -> Result<Kept, Fail>
     requires { All (λ place. place < 2) cells.now }
 {
     let (delims, zero) = rows;
-    let (text, size) = input;
+    let (first, second, size) = input;
     let job = PasteJob {
         serial: false,
         delims: Delims::read(alloc, delims)?,
         zero,
     };
-    let reader: Reader<'_> = LineReader::standard(Pieces::new(text, size, u64::MAX));
-    let other: Reader<'_> = LineReader::standard(Pieces::new(text, size, u64::MAX));
+    let reader: Reader<'_> = LineReader::standard(Pieces::new(first, size, u64::MAX));
+    let other: Reader<'_> = LineReader::standard(Pieces::new(second, size, u64::MAX));
     let mut readers = [reader, other];
     let mut store = Store::empty(alloc);
     let mut out = Out::new(Kept::new(alloc));
@@ -57,34 +57,42 @@ fn digest(bytes: &[u8]) -> u64 {
     number
 }
 
-// 400 lines of up to 100 bytes, but for one that is longer than a block.
-fn lines_over_blocks(alloc: Global, ending: u8, ended: bool) -> Result<Vec<u8>, AllocError> {
+// So many lines of up to 100 bytes, but for one that is longer than a block.
+fn lines_over_blocks(
+    alloc: Global,
+    count: usize,
+    ending: u8,
+    ended: bool,
+) -> Result<Vec<u8>, AllocError> {
     let mut lengths = Vec::new(alloc);
-    for number in 0..400usize {
+    for number in 0..count {
         lengths.push(if number == 201 {
             9000
         } else {
-            number * 37 % 101
+            (number % 101) * 37 % 101
         })?;
     }
     text_of(alloc, &lengths, ending, ended)
 }
 
-// What `paste` writes has this digest, whatever the pieces in which the lines come. `ends` says whether lines end with
-// byte 0, and whether the last one has an end.
+// What `paste` writes has this digest, whatever the pieces in which the lines come: 400 of the first reader, and so many
+// of the second. `ends` says whether lines end with byte 0, and whether the last one has an end.
 fn is_digest(
     rt: &impl Abort,
     alloc: Global,
     cells: &[usize],
+    others: usize,
     ends: (bool, bool),
     wanted: u64,
 ) -> Result<(), Fail>
     requires { All (λ place. place < 2) cells.now }
 {
     let (zero, ended) = ends;
-    let text = lines_over_blocks(alloc, if zero { 0 } else { b'\n' }, ended)?;
+    let ending = if zero { 0 } else { b'\n' };
+    let first = lines_over_blocks(alloc, 400, ending, ended)?;
+    let second = lines_over_blocks(alloc, others, ending, ended)?;
     for size in [1, 7, 8191, usize::MAX] {
-        let kept = pasted(rt, alloc, (b",;:", zero), cells, (&text, size))?;
+        let kept = pasted(rt, alloc, (b",;:", zero), cells, (&first, &second, size))?;
         same_of(rt, &(cells, size), &digest(kept.bytes()), &wanted);
     }
     Ok(())
@@ -96,25 +104,97 @@ fn is_digest(
 #[test]
 fn rows_of_readers(rt: HostRuntime) -> Result<(), Fail> {
     let alloc = rt.alloc();
-    is_digest(&rt, alloc, &[0, 0], (false, true), 0x2d87_e996_c991_47fe)?;
+    is_digest(
+        &rt,
+        alloc,
+        &[0, 0],
+        400,
+        (false, true),
+        0x2d87_e996_c991_47fe,
+    )?;
     is_digest(
         &rt,
         alloc,
         &[0, 0, 0],
+        400,
         (false, false),
         0x7e70_6cd7_79c7_89ce,
     )?;
-    is_digest(&rt, alloc, &[0; 7], (true, true), 0x7cdd_b415_9467_0554)?;
-    is_digest(&rt, alloc, &[0, 1], (false, false), 0xed5c_fbfc_5a2a_4391)?;
-    is_digest(&rt, alloc, &[0, 1, 0], (true, true), 0x9bde_08fe_70b4_1009)?;
+    is_digest(
+        &rt,
+        alloc,
+        &[0; 7],
+        400,
+        (true, true),
+        0x7cdd_b415_9467_0554,
+    )?;
+    is_digest(
+        &rt,
+        alloc,
+        &[0, 1],
+        400,
+        (false, false),
+        0xed5c_fbfc_5a2a_4391,
+    )?;
+    is_digest(
+        &rt,
+        alloc,
+        &[0, 1, 0],
+        400,
+        (true, true),
+        0x9bde_08fe_70b4_1009,
+    )?;
     // Cells share a reader.
-    let text = (b"1\n2\n3\n4\n".as_slice(), 3);
+    let text = b"1\n2\n3\n4\n".as_slice();
+    let text = (text, text, 3);
     let kept = pasted(&rt, alloc, (b"\\0,", false), &[0, 0, 0], text)?;
     assert!(rt; kept.bytes() == b"12,3\n4,\n".as_slice());
     // The rows of a block are one put, and the flush at the end is the other call. (The first row fills the block, and
     // the others lie whole in it.)
-    let text = (b"1\n2\n3\n4\n5\n6\n".as_slice(), usize::MAX);
+    let text = b"1\n2\n3\n4\n5\n6\n".as_slice();
+    let text = (text, text, usize::MAX);
     let calls = pasted(&rt, alloc, (b"\\t", false), &[0, 0], text)?.calls();
+    same(&rt, &calls, &2);
+    Ok(())
+}
+
+// The digests are of what GNU's `paste` wrote where the second input has fewer lines: none, three of which the last one
+// lacks its end, 150, and 202 with the long one. Cells of an input that has ended are empty, in rows that fit a block
+// and in one that does not.
+#[test]
+fn rows_after_the_end_of_an_input(rt: HostRuntime) -> Result<(), Fail> {
+    let alloc = rt.alloc();
+    is_digest(&rt, alloc, &[0, 1], 0, (false, true), 0x6aa1_c50f_7918_8c5c)?;
+    is_digest(
+        &rt,
+        alloc,
+        &[1, 0],
+        3,
+        (false, false),
+        0xf9ee_e002_e2fe_2cb2,
+    )?;
+    is_digest(
+        &rt,
+        alloc,
+        &[0, 1, 0],
+        150,
+        (true, false),
+        0x8fea_700f_4ea6_dd70,
+    )?;
+    is_digest(
+        &rt,
+        alloc,
+        &[0, 1],
+        202,
+        (true, false),
+        0xf615_1408_e176_b4c9,
+    )?;
+    let mut cells = [1; 41];
+    cells[0] = 0;
+    is_digest(&rt, alloc, &cells, 0, (false, true), 0x1533_a4d7_1b7a_e7ec)?;
+    // The rows of a block are one put.
+    let text = (b"1\n2\n3\n4\n".as_slice(), b"".as_slice(), usize::MAX);
+    let calls = pasted(&rt, alloc, (b"\\t", false), &[0, 1], text)?.calls();
     same(&rt, &calls, &2);
     Ok(())
 }
