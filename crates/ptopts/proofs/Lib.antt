@@ -4,6 +4,7 @@ pub mod Chosen
 pub mod EachTool
 pub mod Groups
 pub mod Judged
+pub mod OneList
 pub mod Read
 pub mod Readings
 pub mod Seen

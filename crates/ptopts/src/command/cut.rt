@@ -1,6 +1,6 @@
 //! The command of `cut`.
 
-ghost use Rattle.std.specs.Prelude.{◌≡◌, None, IfOk, option_map};
+ghost use Rattle.std.specs.Prelude.{◌≡◌, None, Err, All, IfOk, IsSome, codes, option_map};
 ghost use Rattle.ptlangs.specs.CutLists.{is_selected};
 ghost use Rattle.ptlangs.specs.Jobs as jobs;
 ghost use Rattle.ptopts.specs.declared.tool.Tool.TheVariants.{Cut};
@@ -27,6 +27,7 @@ fn cut_list<'a, A: Allocator + Copy>(
     letter: u8,
 ) -> Result<Option<Ranges<A>>, UseFault<'a>>
     ensures fault { FindsBeforeMemory result (value_fault (options_seen options.now) (letter, is_cut_list)) }
+    ensures given { result ≡ Err UseFault.Memory → IsSome (value_of letter (options_seen options.now)) }
     ensures list { IfOk result
         (λ r. option_map is_selected r ≡ option_map set_of (value_of letter (options_seen options.now))) }
 {
@@ -46,6 +47,8 @@ fn cut_job<'a, A: Allocator + Copy>(
 ) -> Result<CutJob<A>, UseFault<'a>>
     requires { combination_fault Cut (options_seen options.now) ≡ None }
     ensures fault { FindsUnlessRefused result (values_fault Cut (options_seen options.now)) }
+    ensures memory { result ≡ Err UseFault.Memory
+        → All (λ letter. value_fault (options_seen options.now) (letter, is_cut_list) ≡ None) (codes "bcf") }
     ensures job { IfOk result (λ j. jobs.cut_job j ≡ commands.cut_job (options_seen options.now)) }
 {
     let bytes = cut_list(alloc, options, b'b')?;
