@@ -129,6 +129,7 @@ impl<S: Source, R: Source> LineReader<S, R> {
     }
 
     /// From now on lines end with byte 0 if `zero` is true, and otherwise with newline.
+    // (The clause `is_sound` follows from the other two. It is there for callers who set many readers in turn.)
     pub fn set_ending(&mut self, zero: bool)
         ensures set { self.new ≡ record self.old { ending = if zero then 0 else 10 } }
         ensures was_sound { IsSound self.old }
