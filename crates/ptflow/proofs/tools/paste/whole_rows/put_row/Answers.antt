@@ -62,20 +62,8 @@ loop-column-init g c = record {
   room = c.told-into;
 }
 
-pub overflow_add-end : goal.overflow_add-end
-overflow_add-end g c = omega (arith, c.in_ok-count.ensures.near)
-
-pub overflow_add-taken : goal.overflow_add-taken
-overflow_add-taken g c = omega (arith, c.in_ok-count.ensures.near)
-
 pub invariant_of-result : goal.invariant_of-result
 invariant_of-result g c = record { near = row_near (c.loop-column.invariant.near.2 c.if-not-came.false) }
-
-pub bounds-into-end : goal.bounds-into-end
-bounds-into-end g c = omega (arith, c.loop-column.invariant.near.1)
-
-pub overflow_add-result : goal.overflow_add-result
-overflow_add-result g c = omega (arith, c.loop-column.invariant.near.1)
 
 pub loop-column-preserved-then-from-lt8192 : goal.loop-column-preserved-then-from-lt8192
 loop-column-preserved-then-from-lt8192 g c =

@@ -17,6 +17,3 @@ rows-preserved g c = record {
 
 pub returns-in-None-clause-rows : goal.returns-in-None-clause-rows
 returns-in-None-clause-rows g c = rw c.put_row.ensures.kept c.rows.invariant.rows
-
-pub returns-in-None-clause-held : goal.returns-in-None-clause-held
-returns-in-None-clause-held g c = c.rows.invariant.holds
