@@ -264,7 +264,7 @@ fn put_pairs<A: Allocator, S: Source, R: Source>(
     (full, taken)
 }
 
-// The same, by `put_pairs` where there are two cells of two readers that both hold lines.
+// The same, by `put_pairs` where there are two cells of two readers, unless one holds nothing, as it may have ended.
 #[inline(always)]
 fn put_whole_rows<A: Allocator, S: Source, R: Source>(
     row: HeldRow<A, S, R>,
@@ -276,11 +276,8 @@ fn put_whole_rows<A: Allocator, S: Source, R: Source>(
 {
     let cells = row.cells;
     let readers = row.readers;
-    if cells.len() == 2
-        && cells[0] != cells[1]
-        && !readers[cells[0]].held().is_empty()
-        && !readers[cells[1]].held().is_empty()
-    {
+    let is_pair = cells.len() == 2 && cells[0] != cells[1];
+    if is_pair && readers.iter().all(|reader| !reader.held().is_empty()) {
         return put_pairs(row, into);
     }
     put_rows(row, into)

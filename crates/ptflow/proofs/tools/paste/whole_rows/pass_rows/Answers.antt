@@ -21,3 +21,6 @@ returns-in_err-push g c =
 
 pub returns : goal.returns
 returns g c = (pushed g (goal.at.returns g c).After-push, c.in_ok-push.ensures.pushed.clean)
+
+pub consume_taken-requires-clause-held : goal.consume_taken-requires-clause-held
+consume_taken-requires-clause-held g c = c.put_whole_rows.ensures.held

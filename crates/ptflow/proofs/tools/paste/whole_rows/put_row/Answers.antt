@@ -1,17 +1,14 @@
--- Each turn puts one more cell behind its delimiter, if it is whole in what its reader holds; what was taken of each
--- reader is counted.
+-- Each turn puts one more cell behind its delimiter, if it is whole in what its reader holds, or empty if its reader has
+-- ended; what was taken of each reader is counted.
 use Rattle.ptflow.proofs.Common.{refl, sym, [], ◌∷◌, ◌≡◌, ◌==◌, ◌+◌, ◌<◌, ◌≤◌, ◌++◌, ℕ, true, eqb-true, nil_from_length, List, Some, length, take, drop, get_or, ◌∙◌, ap, subst, arith, append-nil, take_rest, take_more_set, length-set}
 use Rattle.ptflow.proofs.Common.{◌^◌, All-get_or, IsFirstByte, is_byte, Reader, IsSound, reader_at, lead, in_front}
+use Rattle.std.proofs.Math.Nat.{le_of_lt, le_trans}
 use Rattle.ptflow.proofs.OfPaste.Grids.{times_below}
 use Rattle.ptflow.proofs.OfPaste.RowTurns.{at_index}
 use Rattle.ptflow.proofs.OfPaste.WholeRows.{HasLine, putting_starts, putting_more, putting_end, putting_done, holds_more, front_kept, line_put, end_put}
 use Rattle.ptflow.proofs.tools.paste.whole_rows.put_row.Given as given
 use Rattle.ptflow.proofs.tools.paste.whole_rows.put_row.Goals as goal
 use Rattle.ptflow.proofs.tools.paste.whole_rows.put_row.Goals.{In-loop-column, After-held}
-
--- after the last cell there is room for the end of the row
-row_near : {end : ℕ} → end < 8192 → end + 1 ≤ 8192
-row_near near = omega (arith, near)
 
 -- all that was held is taken
 rest_none : (n : ℕ) {held bytes : List ℕ} → held ≡ bytes → (length (drop n held) == 0) ≡ true → drop n bytes ≡ []
@@ -22,12 +19,6 @@ taken_low low few same = omega arith
 
 goes_on : {a b c : ℕ} → a ≤ b → b ≤ c → (n : ℕ) → a ≤ c + n
 goes_on le further n = omega arith
-
-goes_to : {a b c : ℕ} → a ≤ b → b ≤ c → a ≤ c
-goes_to le further = omega arith
-
-no_more : {n m : ℕ} → n < m → n ≤ m
-no_more lt = omega arith
 
 fits_in : {at size : ℕ} → at ≤ 8192 → size ≡ 8208 → at ≤ size
 fits_in near same = omega arith
@@ -63,7 +54,7 @@ loop-column-init g c = record {
 }
 
 pub invariant_of-result : goal.invariant_of-result
-invariant_of-result g c = record { near = row_near (c.loop-column.invariant.near.2 c.if-not-came.false) }
+invariant_of-result g c = record { near = omega (arith, c.loop-column.invariant.near.2 c.if-not-came.false) }
 
 pub loop-column-preserved-then-from-lt8192 : goal.loop-column-preserved-then-from-lt8192
 loop-column-preserved-then-from-lt8192 g c =
@@ -77,7 +68,7 @@ loop-column-preserved-then-from-lt8192 g c =
     let held_is : c.held.result.now ≡ (reader_at readers place).held = c.held.ensures.held ∙ ap (λ (r : Reader). r.held) is_read in
     let none = rest_none (get_or c.loop-column.taken place 0) held_is (rw take_rest at (sym c.is_empty.ensures ∙ c.if-is_empty.true)) in
     let is = end_put (take c.args.full.end c.args.into.now) inv.written (lead c.args.row.now.delims.now (in_front n)) c.put_lead-from.ensures.put inv.is in
-    let front = goes_to inv.near.0 c.put_lead-from.ensures.near.0 in
+    let front = le_trans inv.near.0 c.put_lead-from.ensures.near.0 in
     record {
       written = inv.written ++ lead c.args.row.now.delims.now (in_front n);
       is = is;
@@ -86,7 +77,7 @@ loop-column-preserved-then-from-lt8192 g c =
       kept = front_kept c.args.full.end _ _ c.args.into.now (inv.written ++ lead c.args.row.now.delims.now (in_front n))
           front (fits_in c.args.full.near c.told-into) is;
       holds = inv.holds;
-      near = (front, no_more c.if-from-lt8192.true, λ came. c.if-from-lt8192.true);
+      near = (front, le_of_lt c.if-from-lt8192.true, λ came. c.if-from-lt8192.true);
       places = inv.places;
       room = c.put_lead-from.array_long;
     }
@@ -126,7 +117,7 @@ loop-column-preserved g c =
       kept = front_kept c.args.full.end _ _ c.args.into.now ((inv.written ++ lead_of) ++ line)
           (goes_on inv.near.0 c.put_lead-from.ensures.near.0 count) (fits_in c.args.full.near c.told-into) is;
       holds = holds_more has inv.holds;
-      near = (goes_on inv.near.0 c.put_lead-from.ensures.near.0 count, no_more c.in_ok-count.ensures.near, λ came. c.in_ok-count.ensures.near);
+      near = (goes_on inv.near.0 c.put_lead-from.ensures.near.0 count, le_of_lt c.in_ok-count.ensures.near, λ came. c.in_ok-count.ensures.near);
       places = length-set taken place (get_or taken place 0 + (count + 1)) ∙ inv.places;
       room = c.put_line.array_long;
     }
