@@ -125,10 +125,11 @@ fn comm_in_order<K: KeyOrder, A: Allocator + Copy, S: Source, R: Source, W: Sink
 /// it fewer times, and then as often as the other one has it more (this project's own choice). With `-r` the order is
 /// the reverse of byte order, and with `-z` lines end with byte 0 (its own options).
 ///
-/// The slots 0 to 3 of the store are used; those that are missing are added before the first read, and after `Ok` and
-/// `Disorder` they are empty. Where one of them is refused, nothing is read or pushed. On an output that has failed
-/// nothing is done. Neither input is read more than two blocks ahead of what is pushed, or after a disorder, whatever
-/// came of the other. That what was pushed is sent before a read that may have to wait is tested, and no clause.
+/// The slots 0 to 3 of the store are used. Those that are missing are added, and after `Ok` and `Disorder` all four are
+/// empty. Where one of them is lacking in the end, since it was refused, nothing was read or pushed. On an output that
+/// has failed nothing is done. Neither input is read more than two blocks ahead of what is pushed, or after a disorder,
+/// whatever came of the other. Only tested: slots are added before the first read, and what was pushed is sent before a
+/// read that may have to wait.
 /// # Errors
 /// `Read`, with the input, or `Write` where a read or a write failed; `Memory` where a growth of the store was refused,
 /// and the store is then denied; `Disorder`, with the input and the line, where an input is out of order: then all

@@ -216,12 +216,14 @@ fn join_in_order<K: KeyOrder, A: Allocator + Copy, S: Source, R: Source, W: Sink
 /// an empty key (this project's own choice). With `-r` the order is the reverse of byte order, and with `-z` lines end
 /// with byte 0 (its own options).
 ///
-/// The slots 0 to 3 of the store are used, which are added before the first read where they are missing, and after them
-/// at most a slot for each of the second input's lines of one key; after `Ok` or `Disorder` all are empty. Where one of
-/// the first four is refused, nothing is read or pushed. On an output that has failed nothing is done. Neither input is
-/// read more than two blocks ahead of what is pushed, or after a disorder, whatever came of the other. The pairs of a
-/// key are pushed once all lines of the second input with it came. Only tested: what was pushed is sent before a read
-/// that may have to wait, and a line that is the only one of its key takes no slot of its own.
+/// The slots 0 to 3 of the store are used. Those that are missing are added, and after them at most a slot for each of
+/// the second input's lines of one key; after `Ok` or `Disorder` all are empty. Where one of the first four is lacking
+/// in the end, since it was refused, nothing was read or pushed. On an output that has failed nothing is done. Neither
+/// input is read more than two blocks ahead of what is pushed, or after a disorder, whatever came of the other. The
+/// pairs of a key are pushed once all lines of the second input with it came. A line that is the only one of its key
+/// takes no slot of its own: no clause of `join` says so, but one of the part that gathers these lines does. Only
+/// tested: the first four slots are added before the first read, and what was pushed is sent before a read that may
+/// have to wait.
 /// # Errors
 /// `Read`, with the input, or `Write` where a read or a write failed; `Memory` where a growth of the store was refused,
 /// and the store is then denied; `Disorder`, with the input and the line, where an input is out of order: then all
