@@ -215,3 +215,45 @@ fn each_growth_refused_in_turn(rt: HostRuntime) -> Result<(), Fail> {
     }
     Ok(())
 }
+
+// Memory is refused before the first four slots are there.
+const UNSLOTTED: Wanted = Wanted {
+    result: Some(Err(MergeFault::Memory)),
+    bytes: Some(b""),
+    calls: Some(1),
+    pulls: Some(0),
+    peak: (0, 0),
+    ..ANY
+};
+
+const SLOTTING: &[Row] = &[
+    Row {
+        name: "comm",
+        job: comm::PLAIN,
+        case: comm::COMMON,
+        wanted: UNSLOTTED,
+    },
+    Row {
+        name: "join",
+        job: join::PLAIN,
+        case: PAIRED,
+        wanted: UNSLOTTED,
+    },
+];
+
+// The first four slots take five growths. Where one of these is refused, no input is read, and no call of the sink is
+// made but the flush at the end.
+#[test]
+fn nothing_is_read_before_the_slots_are_there(rt: HostRuntime) -> Result<(), Fail> {
+    for row in SLOTTING {
+        for growths in 0..5u64 {
+            let case = Case {
+                growths,
+                ..row.case
+            };
+            let is_refused = expect(&rt, rt.alloc(), &Row { case, ..*row }, 2)?;
+            holds_of(&rt, &(row.name, growths), is_refused);
+        }
+    }
+    Ok(())
+}

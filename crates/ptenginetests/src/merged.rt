@@ -1,16 +1,17 @@
 //! A merge of two inputs, whichever tool merges, and what is to be left of it.
 
 use crate::comparing::{holds_of, same_of};
-use ptfakes::{Kept, Pieces, Refusing};
+use ptfakes::{Kept, Pieces, Refusing, Watched};
 use ptlangs::jobs::{CommJob, JoinJob};
 use ptlangs::outlist::OutList;
 use ptlines::{LineReader, Out, Store};
 use ptmerge::{MergeFault, Side, comm, join};
 use std::alloc::Global;
+use std::cell::Cell;
 use std::process::Abort;
 use std::test::Fail;
 
-type Reader<'a> = LineReader<Pieces<'a>, Pieces<'a>>;
+type Reader<'w, 'a, 'r> = LineReader<Watched<'w, Pieces<'a>>, Pieces<'r>>;
 
 type Lent<'a> = &'a Refusing<Global>;
 
@@ -84,14 +85,15 @@ pub const FIRST_DISORDER: Answer = Some(Err(MergeFault::Disorder(Side::First, 2)
 pub const SECOND_DISORDER: Answer = Some(Err(MergeFault::Disorder(Side::Second, 2)));
 
 /// What a merge is to leave, where no growth is refused: what it answers; all bytes that are written, or more of
-/// them; how many calls of the sink there are, each put, and the flush at the end; the least and the most that the
-/// store may have held. What is `None` may be anything.
+/// them; how many calls of the sink there are, each put, and the flush at the end; how many pulls of both inputs there
+/// are; the least and the most that the store may have held. What is `None` may be anything.
 #[derive(Clone, Copy)]
 pub struct Wanted<'a> {
     pub result: Answer,
     pub bytes: Option<&'a [u8]>,
     pub whole: bool,
     pub calls: Option<u64>,
+    pub pulls: Option<u64>,
     pub peak: (u128, u128),
 }
 
@@ -101,6 +103,7 @@ pub const ANY: Wanted = Wanted {
     bytes: None,
     whole: true,
     calls: None,
+    pulls: None,
     peak: (0, u128::MAX),
 };
 
@@ -124,8 +127,8 @@ enum Task<'a, 'l> {
     Join(&'a JoinJob<Lent<'l>>),
 }
 
-// What a merge answers, what is written, and how much the store held at most.
-type Left = (Result<(), MergeFault>, Kept, u128);
+// What a merge answers, what is written, how many pulls there were, and how much the store held at most.
+type Left = (Result<(), MergeFault>, Kept, u64, u128);
 
 fn merge<'l>(
     alloc: Global,
@@ -135,9 +138,11 @@ fn merge<'l>(
     size: usize,
 ) -> Left {
     let [passing, second_passing] = case.passing;
-    let mut first: Reader<'_> = LineReader::standard(Pieces::new(case.first, size, passing));
+    let pulls = Cell::new(0);
+    let first = Pieces::new(case.first, size, passing);
+    let mut first: Reader<'_, '_, '_> = LineReader::standard(Watched::new(first, &pulls));
     let second = Pieces::new(case.second, size, second_passing);
-    let mut second: Reader<'_> = LineReader::file(second);
+    let mut second: Reader<'_, '_, '_> = LineReader::standard(Watched::new(second, &pulls));
     let mut store = Store::empty(lines);
     let mut out = Out::new(Kept::limited(alloc, usize::MAX, case.room, u64::MAX));
     let result = match task {
@@ -145,7 +150,7 @@ fn merge<'l>(
         Task::Join(job) => join(job, &mut first, &mut second, &mut store, &mut out),
     };
     let _ = out.finish();
-    (result, out.into_sink(), store.peak())
+    (result, out.into_sink(), pulls.get(), store.peak())
 }
 
 fn job_of<'a>(alloc: Lent<'a>, options: &Options) -> Result<JoinJob<Lent<'a>>, Fail> {
@@ -175,13 +180,14 @@ fn expect_task<'l>(
     let [first, second] = row.case.passing;
     let passing = first.min(second).min(row.case.growths);
     let of = (row.name, size, (row.case.room, passing));
-    let (result, kept, peak) = merge(alloc, lines, task, &row.case, size);
+    let (result, kept, pulls, peak) = merge(alloc, lines, task, &row.case, size);
     let mut wanted = row.wanted;
     if lines.refused() {
         wanted.result = Some(Err(MergeFault::Memory));
         wanted.whole = false;
     }
     same_of(rt, &of, &result, &wanted.result.unwrap_or(result));
+    same_of(rt, &of, &pulls, &wanted.pulls.unwrap_or(pulls));
     let (least, most) = wanted.peak;
     holds_of(rt, &of, least <= peak && peak <= most);
     is_left(rt, &of, &kept, &wanted);
