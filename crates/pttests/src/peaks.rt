@@ -183,8 +183,8 @@ fn assert_sent(
     same_of(rt, &words, &report.peak, &peak);
 }
 
-// Words, the first file (empty where there is one file only), what stands in the last file in front of a long line, what is decided of
-// that, and what is said.
+// Words, the first file (empty where there is one file only), what stands in the last file in front of a long line,
+// what is decided of that, and what is said.
 type Sent = (
     &'static [&'static str],
     &'static str,
