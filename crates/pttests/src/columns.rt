@@ -421,7 +421,7 @@ const NO_MEMORY: &str = "paste: out of memory\n";
 
 const GROWING: &[Growing] = &[
     (IN_ROWS, BESIDE_OUT, "", NO_MEMORY, false),
-    (IN_SERIES, SERIES_OUT, "", NO_MEMORY, false),
+    (IN_SERIES, SERIES_OUT, "", NO_MEMORY, true),
     (OF_THREE, THREE_OUT, "", NO_MEMORY, false),
 ];
 

@@ -3,8 +3,11 @@
 use crate::commands::Input::{Failing, Text};
 use crate::commands::{
     Case, Growing, Limits, PLAIN, Row, Run, Unwritten, expect, expect_growths_refused, expect_rows,
-    expect_unwritten,
+    expect_unwritten, run_over,
 };
+use crate::comparing::{holds_of, same_of};
+use ptfakes::Kept;
+use ptrun::Report;
 use std::alloc::Global;
 use std::process::Abort;
 use std::test::Fail;
@@ -91,9 +94,8 @@ const NEVER: u64 = u64::MAX;
 
 const PAIRS: &str = "a 1 x\na 1 y\na 2 x\na 2 y\n";
 
-// In reads of four bytes: those of the text give `one,`, ` two`, and `.` with a newline, and each of a file gives a line.
-// No row has three reads of g: then `b - z` is not decided, since g stands at b, but would be true, so the definition
-// lets it be written or not.
+// In reads of four bytes: those of the text give `one,`, ` two`, and `.` with a newline, and each of a file gives a
+// line. Three reads of g are in a table of their own.
 const READS: &[Row] = &[
     (WORDS, Failing(TEXT, 0), &[], "", UNREAD),
     (WORDS, Failing(TEXT, 1), &[], "one\n", UNREAD),
@@ -150,11 +152,45 @@ const READS: &[Row] = &[
     ),
 ];
 
+// A command, two outputs of which it may write either, and what is said.
+type Either = (Case<'static>, &'static str, &'static str, &'static str);
+
+// After three reads of g `b - z` is not decided, since g stands at b, but would be true. So the definition lets it be
+// written or not.
+const UNDECIDED: &[Either] = &[(
+    Case {
+        files: &[Failing(F, NEVER), Failing(G, 3)],
+        size: 4,
+        ..OF_A_LIST
+    },
+    "a 1 x\na 1 y\na 2 x\na 2 y\n",
+    "a 1 x\na 1 y\na 2 x\na 2 y\nb - z\n",
+    G_FAILED,
+)];
+
+// One of the two was written, and this was said.
+fn assert_either(
+    rt: &impl Abort,
+    words: &[&str],
+    report: &Report<Kept, Kept>,
+    (one, other): (&str, &str),
+    message: &str,
+) {
+    let out = report.out.bytes();
+    holds_of(rt, &words, out == one.as_bytes() || out == other.as_bytes());
+    same_of(rt, &words, &report.messages.bytes(), &message.as_bytes());
+    same_of(rt, &words, &report.status, &1);
+}
+
 // The reading of words of `tr` asks for memory, and no run of it does.
 const GROWING: &[Growing] = &[(OF_WORDS, "one\ntwo\n", "", "tr: out of memory\n", true)];
 
 #[test]
 fn each_read_and_each_growth_fails(rt: HostRuntime) -> Result<(), Fail> {
     expect_rows(&rt, rt.alloc(), &[4], READS)?;
+    for (case, one, other, message) in UNDECIDED {
+        let report = run_over(&rt, rt.alloc(), rt.alloc(), case)?;
+        assert_either(&rt, case.words, &report, (one, other), message);
+    }
     expect_growths_refused(&rt, rt.alloc(), GROWING)
 }
