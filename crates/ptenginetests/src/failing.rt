@@ -8,8 +8,8 @@ use std::alloc::Global;
 use std::process::Abort;
 use std::test::Fail;
 
-// A merge, and how it fails: before sinks with room for fewer than `rooms` bytes; and where the pulls of one input fail,
-// of which `needed` have to pass, behind 0 of them and more, for fewer than `tried`.
+// A merge, and how it fails: before sinks with room for fewer than `rooms` bytes; and where the pulls of one input
+// fail, of which `needed` have to pass, behind 0 of them and more, for fewer than `tried`.
 struct Failing {
     row: Row<'static>,
     rooms: usize,

@@ -75,8 +75,8 @@ fn lines_over_blocks(
     text_of(alloc, &lengths, ending, ended)
 }
 
-// What `paste` writes has this digest, whatever the pieces in which the lines come: 400 of the first reader, and so many
-// of the second. `ends` says whether lines end with byte 0, and whether the last one has an end.
+// What `paste` writes has this digest, whatever the pieces in which the lines come: 400 of the first reader, and so
+// many of the second. `ends` says whether lines end with byte 0, and whether the last one has an end.
 fn is_digest(
     rt: &impl Abort,
     alloc: Global,

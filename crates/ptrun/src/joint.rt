@@ -25,8 +25,8 @@ pub(crate) trait Together<A: Allocator + Copy>: Drop {
     fn name(&self) -> &str
         ensures { result.now ≡ word self.now };
 
-    /// Goes over its inputs, each of which was opened. `writable` is a part of `ready`, and is a clause of its own so that
-    /// each is proved by itself, which takes less time.
+    /// Goes over its inputs, each of which was opened. `writable` is a part of `ready`, and is a clause of its own so
+    /// that each is proved by itself, which takes less time.
     fn go_over<S: Source, R: Source, W: Sink>(
         &self,
         order: &[Input],
