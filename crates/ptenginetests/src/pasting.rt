@@ -189,9 +189,14 @@ fn rows_after_the_end_of_an_input(rt: HostRuntime) -> Result<(), Fail> {
         (true, false),
         0xf615_1408_e176_b4c9,
     )?;
-    let mut cells = [1; 41];
-    cells[0] = 0;
-    is_digest(&rt, alloc, &cells, 0, (false, true), 0x1533_a4d7_1b7a_e7ec)?;
+    is_digest(
+        &rt,
+        alloc,
+        &[0, 1, 1, 1, 1, 1, 1, 1, 1, 1, 1, 1],
+        0,
+        (false, true),
+        0x2ab7_94e9_f5b1_5bb4,
+    )?;
     // The rows of a block are one put.
     let text = (b"1\n2\n3\n4\n".as_slice(), b"".as_slice(), usize::MAX);
     let calls = pasted(&rt, alloc, (b"\\t", false), &[0, 1], text)?.calls();
