@@ -2,7 +2,7 @@
 
 ghost use Rattle.std.specs.Prelude.{◌<◌, All};
 
-use crate::comparing::{same, same_of};
+use crate::comparing::{holds_of, same, same_of};
 use crate::flowing::{Case, Job, WELL, writes};
 use ptfakes::texts::{byte_at, text_of};
 use ptfakes::{Kept, Pieces, Refusing, Watched};
@@ -57,7 +57,7 @@ fn digest(bytes: &[u8]) -> u64 {
     number
 }
 
-// So many lines of up to 100 bytes, but for one that is longer than a block.
+// So many lines of up to 100 bytes; line 201 of them, if there is one, is longer than a block.
 fn lines_over_blocks(
     alloc: Global,
     count: usize,
@@ -93,7 +93,7 @@ fn is_digest(
     let second = lines_over_blocks(alloc, others, ending, ended)?;
     for size in [1, 7, 8191, usize::MAX] {
         let kept = pasted(rt, alloc, (b",;:", zero), cells, (&first, &second, size))?;
-        same_of(rt, &(cells, size), &digest(kept.bytes()), &wanted);
+        same_of(rt, &(cells, others, size), &digest(kept.bytes()), &wanted);
     }
     Ok(())
 }
@@ -158,9 +158,34 @@ fn rows_of_readers(rt: HostRuntime) -> Result<(), Fail> {
     Ok(())
 }
 
-// The digests are of what GNU's `paste` wrote where the second input has fewer lines: none, three of which the last one
-// lacks its end, 150, and 202 with the long one. Cells of an input that has ended are empty, in rows that fit a block
-// and in one that does not.
+// Rows of twelve cells, of which the last eleven are empty, with one line of this length among lines of 30 bytes: they
+// fill the room of a block to one more byte for each length.
+fn fills_the_room(rt: &impl Abort, alloc: Global, length: usize) -> Result<(), Fail> {
+    let mut lengths = vec![in alloc; 30usize; 250]?;
+    lengths[1] = length;
+    let text = text_of(alloc, &lengths, b'\n', true)?;
+    let mut wanted = Vec::new(alloc);
+    for line in &lengths {
+        add_row(
+            &mut wanted,
+            &[*line, 0, 0, 0, 0, 0, 0, 0, 0, 0, 0, 0],
+            [b',', b';'],
+        )?;
+    }
+    let texts = (text.as_slice(), b"".as_slice(), usize::MAX);
+    let kept = pasted(
+        rt,
+        alloc,
+        (b",;", false),
+        &[0, 1, 1, 1, 1, 1, 1, 1, 1, 1, 1, 1],
+        texts,
+    )?;
+    holds_of(rt, &length, kept.bytes() == wanted.as_slice());
+    Ok(())
+}
+
+// The digests are of what GNU's `paste` wrote where the second input has fewer lines: none, 3, 150, and 202 with the
+// long one; in the last three no last line has its end.
 #[test]
 fn rows_after_the_end_of_an_input(rt: HostRuntime) -> Result<(), Fail> {
     let alloc = rt.alloc();
@@ -197,7 +222,10 @@ fn rows_after_the_end_of_an_input(rt: HostRuntime) -> Result<(), Fail> {
         (false, true),
         0x2ab7_94e9_f5b1_5bb4,
     )?;
-    // The rows of a block are one put.
+    for length in 0..43 {
+        fills_the_room(&rt, alloc, length)?;
+    }
+    // Rows are not sent one by one.
     let text = (b"1\n2\n3\n4\n".as_slice(), b"".as_slice(), usize::MAX);
     let calls = pasted(&rt, alloc, (b"\\t", false), &[0, 1], text)?.calls();
     same(&rt, &calls, &2);

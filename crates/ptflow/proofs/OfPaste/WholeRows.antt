@@ -47,8 +47,8 @@ behind_cell end delims (suc n) more =
     let number : (begun (in_front (suc n))).number ≡ suc n + 1 - 1 = ap (λ (t : Bool). cond {A = ℕ} t (suc n - 1 + 1) (suc n - 1)) some ∙ same in
     λ i. row_rest end delims (number i) (sym later i) more
 
--- So many cells were put, of which one has a line or none: what they hold is in the slots of a store, and it was taken of
--- readers, neither of which is there.
+-- So many cells were put: what they hold is in the slots of a store, and it was taken of readers, neither of which is
+-- there. `came` says whether one of them has a line.
 pub record Putting (end : ℕ) (delims : List (Option ℕ)) (cells : List ℕ) (n : ℕ) (old from : List Reader) (taken : List ℕ) (came : Bool) (written : List ℕ) : Type 0 where
   pub mid : List Reader
   pub store : Slots
@@ -64,7 +64,7 @@ module _ {end : ℕ} {delims : List (Option ℕ)} {cells : List ℕ} {n : ℕ} {
   within_mid : get_or cells n 0 < length h.mid
   within_mid = omega (arith, within, h.moved.count)
 
-  -- One cell more was put, whose reader is this one then.
+  -- One cell more was put. `r` is its reader after it, and `now` is what is taken then.
   module _ (now line : List ℕ) {next : List ℕ} {has : Bool} (is : next ≡ (written ++ lead delims (in_front n)) ++ line) {r : Reader}
       (here : r ≡ record (reader_at old (get_or cells n 0)) { held = drop (get_or now (get_or cells n 0) 0) (reader_at old (get_or cells n 0)).held })
       (others : (p : ℕ) → p ≢ get_or cells n 0 → get_or now p 0 ≡ get_or taken p 0)

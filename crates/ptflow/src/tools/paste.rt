@@ -90,13 +90,13 @@ fn push_row<A: Allocator + Copy, W: Sink>(
 /// gives empty cells. A row ends with newline, or with byte 0 with `-z` (this project's own choice).
 ///
 /// A row of at most 8,192 bytes whose lines all lie whole in what the readers hold is pushed from there, if there are
-/// at most 16 readers; a cell of a reader that has ended is empty. Where at most 64 cells all name one reader, and no
-/// delimiter between them is empty, all rows that lie whole in what it holds are pushed at once. Of any other row a
-/// slot of the store for each cell holds its line. The slots that are missing are added first; where one of them is
-/// lacking then, nothing is read or pushed. Nothing of a row is pushed before all its cells are known, and what is
-/// known is pushed before two more blocks of an input are read. Only tested: that a row is pushed before anything more
-/// is read, and that what is staged is sent before a read that may have to wait ([`LineReader::send_before_wait`]). On
-/// an output that has faulted nothing is read. Without cells nothing is read or pushed.
+/// at most 16 readers; so is a row with the empty cells of readers that have ended. Where at most 64 cells all name one
+/// reader, and no delimiter between them is empty, all rows that lie whole in what it holds are pushed at once. Of any
+/// other row a slot of the store for each cell holds its line. The slots that are missing are added first; where one is
+/// still missing then, nothing is read or pushed. A row is pushed before two more blocks of an input are read. Tested,
+/// and not proved: that it is pushed before anything more is read, and nothing of it before all its cells are known;
+/// and that what is staged is sent before a read that may have to wait ([`LineReader::send_before_wait`]). On an output
+/// that has faulted nothing is read. Without cells nothing is read or pushed.
 /// # Errors
 /// `Read` with the place of a reader whose read failed, `Write` where a write failed; `Memory` where a growth of the
 /// store was refused, and the store is then denied.

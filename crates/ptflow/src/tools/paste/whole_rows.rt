@@ -1,4 +1,4 @@
-//! Rows of `paste` whose cells all lie whole in the blocks of their readers.
+//! Rows of `paste` whose lines all lie whole in the blocks of their readers, or are lacking since a reader has ended.
 
 ghost use Rattle.std.specs.Prelude.{◌≡◌, ◌≢◌, ◌<◌, ◌≤◌, ◌+◌, ◌++◌, length, take, slice_index_or, Some, IfNone, IfSome};
 ghost use Rattle.memchr.specs.Find.{IsFirstByte, is_byte};
@@ -134,9 +134,9 @@ fn put_line(ending: u8, bytes: &[u8], into: &mut Written, at: usize) -> Option<u
     put_far(ending, bytes, into, at)
 }
 
-// Puts the next row, if each cell's line lies whole in what its reader holds, or the reader has ended, and the row in
-// the room. The answer is where it ends, and `taken` has how many bytes are taken of each reader then, which are still
-// held. There is no row where all readers have ended.
+// Puts the next row, if there is room for it, and each line lies whole in what its reader holds; a reader that has ended
+// gives an empty cell. The answer is where the row ends, and `taken` has how many bytes are taken of each reader then,
+// which are still held. There is no row where all readers have ended.
 #[inline(always)]
 fn put_row<A: Allocator, S: Source, R: Source>(
     row: &HeldRow<A, S, R>,
@@ -161,6 +161,7 @@ fn put_row<A: Allocator, S: Source, R: Source>(
         let reader = &readers[*place];
         let begin = taken[*place] as usize;
         let rest = &reader.held()[begin..];
+        // (Where there is no room for an empty cell, no line is found in what is empty.)
         if rest.is_empty() && reader.has_ended() && from < 8192 {
             end = from;
             continue;
@@ -243,6 +244,10 @@ fn put_pairs<A: Allocator, S: Source, R: Source>(
     let ending = row.ending;
     let first = readers[cells[0]].held();
     let second = readers[cells[1]].held();
+    // A reader that holds nothing may have ended.
+    if first.is_empty() || second.is_empty() {
+        return put_rows(row, into);
+    }
     let mut passed = 0;
     let mut passed_other = 0;
     let mut full = Full { end: 0 };
@@ -264,7 +269,7 @@ fn put_pairs<A: Allocator, S: Source, R: Source>(
     (full, taken)
 }
 
-// The same, by `put_pairs` where there are two cells of two readers, unless one holds nothing, as it may have ended.
+// The same, by `put_pairs` where there are two cells of two readers.
 #[inline(always)]
 fn put_whole_rows<A: Allocator, S: Source, R: Source>(
     row: HeldRow<A, S, R>,
@@ -275,9 +280,7 @@ fn put_whole_rows<A: Allocator, S: Source, R: Source>(
         (take result.0.end into.new) }
 {
     let cells = row.cells;
-    let readers = row.readers;
-    let is_pair = cells.len() == 2 && cells[0] != cells[1];
-    if is_pair && readers.iter().all(|reader| !reader.held().is_empty()) {
+    if cells.len() == 2 && cells[0] != cells[1] {
         return put_pairs(row, into);
     }
     put_rows(row, into)

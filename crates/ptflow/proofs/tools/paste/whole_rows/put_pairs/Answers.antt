@@ -83,6 +83,9 @@ offset_bounds-taken-cells-2 g c = omega (arith, within_two c.args.row.cells.now 
 pub bounds-taken-cells-2 : goal.bounds-taken-cells-2
 bounds-taken-cells-2 g c = omega (arith, within_two c.args.row.cells.now c.args.row.readers.now c.requires c.args.row.readable.0, c.args.row.few)
 
+pub returns-then-is_empty-clause-held : goal.returns-then-is_empty-clause-held
+returns-then-is_empty-clause-held g c = c.put_rows.ensures.held
+
 pub returns-clause-held : goal.returns-clause-held
 returns-clause-held g c =
     subst (Holds c.args.row.readers.now) (pairs_taken c.args.row.cells.now c.args.row.readers.now c.requires c.args.row.readable.0 c.args.row.few c.rows.invariant.rows) c.rows.invariant.rows.holds
