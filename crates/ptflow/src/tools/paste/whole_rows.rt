@@ -134,9 +134,9 @@ fn put_line(ending: u8, bytes: &[u8], into: &mut Written, at: usize) -> Option<u
     put_far(ending, bytes, into, at)
 }
 
-// Puts the next row, if there is room for it, and each line lies whole in what its reader holds; a reader that has ended
-// gives an empty cell. The answer is where the row ends, and `taken` has how many bytes are taken of each reader then,
-// which are still held. There is no row where all readers have ended.
+// Puts the next row, if there is room for it, and each line lies whole in what its reader holds; a reader that has
+// ended gives an empty cell. The answer is where the row ends, and `taken` has how many bytes are taken of each reader
+// then, which are still held. There is no row where all readers have ended.
 #[inline(always)]
 fn put_row<A: Allocator, S: Source, R: Source>(
     row: &HeldRow<A, S, R>,
