@@ -88,6 +88,7 @@ CASES = {
     "cut": [(alone, " ", ["cut", "-c", "2-4"]), (fields, ",", ["cut", "-d", ",", "-f", "2"])],
     "paste": [
         (alone, " ", ["paste", "-", FILE]),
+        (alone, " ", ["paste", "-", "/dev/null"]),
         (alone, " ", ["paste", "-", "-", "-"]),
         (alone, " ", ["paste", "-s", "-"]),
     ],
