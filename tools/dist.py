@@ -78,7 +78,7 @@ def libraries_within():
 
 
 def notices():
-    """The licenses of these libraries, as the toolchain has them."""
+    """The licenses of the libraries within, as the toolchain has them."""
     libraries = libraries_within()
     bin_folder = os.path.dirname(os.path.realpath(shutil.which("rt") or "/opt/rattle/bin/rt"))
     text = f"ptext contains code of {', '.join(libraries)}, under these licenses.\n"

@@ -57,7 +57,7 @@ fn digest(bytes: &[u8]) -> u64 {
     number
 }
 
-// So many lines of up to 100 bytes; line 201 of them, if there is one, is longer than a block.
+// So many lines of up to 100 bytes; the 202nd, if there is one, is longer than a block.
 fn lines_over_blocks(
     alloc: Global,
     count: usize,
@@ -158,8 +158,8 @@ fn rows_of_readers(rt: HostRuntime) -> Result<(), Fail> {
     Ok(())
 }
 
-// Rows of twelve cells, of which the last eleven are empty, with one line of this length among lines of 30 bytes: they
-// fill the room of a block to one more byte for each length.
+// Rows of twelve cells, of which the last eleven are empty, with one line of this length among lines of 30 bytes. With
+// each length the last row for which a block has room ends one byte later.
 fn fills_the_room(rt: &impl Abort, alloc: Global, length: usize) -> Result<(), Fail> {
     let mut lengths = vec![in alloc; 30usize; 250]?;
     lengths[1] = length;
@@ -184,8 +184,8 @@ fn fills_the_room(rt: &impl Abort, alloc: Global, length: usize) -> Result<(), F
     Ok(())
 }
 
-// The digests are of what GNU's `paste` wrote where the second input has fewer lines: none, 3, 150, and 202 with the
-// long one; in the last three no last line has its end.
+// The digests are of what GNU's `paste` wrote where the second input has fewer lines: none, 3, 150, 202 with the long
+// one, and none again, beside it in eleven columns. With 3, 150 and 202 no last line has its end.
 #[test]
 fn rows_after_the_end_of_an_input(rt: HostRuntime) -> Result<(), Fail> {
     let alloc = rt.alloc();

@@ -92,7 +92,7 @@ pub record IsPass (tool : Tool) (old new : Reader) (was is : Output) (before sto
   -- the store held no more than the tool's measure of the input
   pub peak : (input : List ℕ) → Agrees given input → store.peak ≤ max before.peak (tool.size input)
   pub slots : was.faulted ≡ false → Adds before store tool.slots
-  -- where a slot was refused, nothing was read or pushed
+  -- where slots are lacking in the end, nothing was read or pushed
   pub refused : was.faulted ≡ false → length store.lines < tool.slots → IsUnread tool.end old new was is
   -- a tool without slots leaves the store alone
   pub unused : tool.slots ≡ 0 → store ≡ before

@@ -113,7 +113,7 @@ pub record IsPastePass (job : Paste) (cells : List ℕ) (old new : List Reader) 
   pub peak : (texts : ℕ → List ℕ) → ((place : ℕ) → Agrees (given place) (texts place))
       → store.peak ≤ max before.peak (paste_size job cells texts)
   pub slots : was.faulted ≡ false → Adds before store (length cells)
-  -- where a slot was refused, nothing was read or pushed
+  -- where slots are lacking in the end, nothing was read or pushed
   pub refused : was.faulted ≡ false → length store.lines < length cells → NothingRead job.end cells old new was is
   -- a reader that no cell names is left alone
   pub untouched : (place : ℕ) → times cells place ≡ 0 → reader_at new place ≡ reader_at old place

@@ -212,7 +212,7 @@ impl<A: Allocator + Copy> Store<A> {
     }
 
     /// How many bytes the lines of all slots have together. It is never more than [`peak`](Store::peak).
-    // (By the clause `below` callers know that: it follows from private fields.)
+    // (Callers need the clause `below` for that: they cannot see the private fields that it follows from.)
     pub fn now(&self) -> u128
         ensures now { result ≡ total self.now.lines }
         ensures below { result ≤ self.now.peak }

@@ -24,8 +24,8 @@ use std::alloc::Allocator;
 /// with `-s`. A line of which no field is selected is written as an empty line (this project's own choice).
 ///
 /// For bytes nothing is kept, and the store stays as it was. For fields the first slot, which is added if the store has
-/// none, holds a line at a time. What is decided by what came is pushed before two more blocks are read; that it is
-/// pushed before the next read is tested, and not proved. On an output that has faulted nothing is read.
+/// none, holds a line at a time. What the input so far decides is pushed before 16,384 more bytes are read. Only
+/// tested: it is pushed before the next read. On an output that has faulted nothing is read.
 /// # Errors
 /// `Read` or `Write` where a read or a write failed; `Memory` where a growth of the store was refused, and the store
 /// is then denied.

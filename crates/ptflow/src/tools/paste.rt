@@ -93,10 +93,10 @@ fn push_row<A: Allocator + Copy, W: Sink>(
 /// at most 16 readers; so is a row with the empty cells of readers that have ended. Where at most 64 cells all name one
 /// reader, and no delimiter between them is empty, all rows that lie whole in what it holds are pushed at once. Of any
 /// other row a slot of the store for each cell holds its line. The slots that are missing are added first; where one is
-/// still missing then, nothing is read or pushed. A row is pushed before two more blocks of an input are read. Tested,
-/// and not proved: that it is pushed before anything more is read, and nothing of it before all its cells are known;
-/// and that what is staged is sent before a read that may have to wait ([`LineReader::send_before_wait`]). On an output
-/// that has faulted nothing is read. Without cells nothing is read or pushed.
+/// still missing then, nothing is read or pushed. A row whose lines are known is pushed before 16,384 more bytes of an
+/// input are read. Only tested: it is pushed before anything more is read, and nothing of it before all its cells are
+/// known; and what is staged is sent before a read that may have to wait ([`LineReader::send_before_wait`]). On an
+/// output that has faulted nothing is read. Without cells nothing is read or pushed.
 /// # Errors
 /// `Read` with the place of a reader whose read failed, `Write` where a write failed; `Memory` where a growth of the
 /// store was refused, and the store is then denied.

@@ -153,8 +153,8 @@ impl<'a> BlockTool for Translator<'a> {
 /// Writes each byte of a reader as the plan says (XCU, `tr`): the bytes that are not deleted, each replaced by its
 /// image, and of each run of one byte whose repeats are squeezed only the first. A byte is a character.
 ///
-/// No memory is taken. What is decided by what came is pushed before two more blocks are read; that it is pushed before
-/// the next read is tested, and not proved. On an output that has faulted nothing is read.
+/// No memory is taken. What the input so far decides is pushed before 16,384 more bytes are read. Only tested: it is
+/// pushed before the next read. On an output that has faulted nothing is read.
 /// # Errors
 /// `Read` or `Write` where a read or a write failed.
 pub fn tr<S: Source, R: Source, W: Sink>(

@@ -169,8 +169,8 @@ impl<'a> LineTool for LineUniq<'a> {
 /// ends with newline, or with byte 0 with `-z` (this project's own choice), and then a newline is no blank.
 ///
 /// Two slots of the store, which are added if they are missing, hold the first line of the run and the line after it.
-/// What is decided by what came is pushed before two more blocks are read; that it is pushed before the next read, and
-/// nothing of a run before its end is known, is tested, and not proved. On an output that has faulted nothing is read.
+/// What the input so far decides is pushed before 16,384 more bytes are read. Only tested: it is pushed before the next
+/// read, and nothing of a run before its end is known. On an output that has faulted nothing is read.
 /// # Errors
 /// `Read` or `Write` where a read or a write failed; `Memory` where a growth of the store was refused, and the store
 /// is then denied.

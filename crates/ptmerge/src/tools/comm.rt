@@ -128,8 +128,7 @@ fn comm_in_order<K: KeyOrder, A: Allocator + Copy, S: Source, R: Source, W: Sink
 /// The slots 0 to 3 of the store are used. Those that are missing are added, and after `Ok` and `Disorder` all four are
 /// empty. Where one of them is lacking in the end, since it was refused, nothing was read or pushed. On an output that
 /// has failed nothing is done. Neither input is read more than two blocks ahead of what is pushed, or after a disorder,
-/// whatever came of the other. Only tested: slots are added before the first read, and what was pushed is sent before a
-/// read that may have to wait.
+/// whatever came of the other. Only tested: what was pushed is sent before a read that may have to wait.
 /// # Errors
 /// `Read`, with the input, or `Write` where a read or a write failed; `Memory` where a growth of the store was refused,
 /// and the store is then denied; `Disorder`, with the input and the line, where an input is out of order: then all

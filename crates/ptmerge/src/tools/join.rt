@@ -222,8 +222,7 @@ fn join_in_order<K: KeyOrder, A: Allocator + Copy, S: Source, R: Source, W: Sink
 /// input is read more than two blocks ahead of what is pushed, or after a disorder, whatever came of the other. The
 /// pairs of a key are pushed once all lines of the second input with it came. A line that is the only one of its key
 /// takes no slot of its own: no clause of `join` says so, but one of the part that gathers these lines does. Only
-/// tested: the first four slots are added before the first read, and what was pushed is sent before a read that may
-/// have to wait.
+/// tested: what was pushed is sent before a read that may have to wait.
 /// # Errors
 /// `Read`, with the input, or `Write` where a read or a write failed; `Memory` where a growth of the store was refused,
 /// and the store is then denied; `Disorder`, with the input and the line, where an input is out of order: then all

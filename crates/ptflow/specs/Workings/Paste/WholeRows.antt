@@ -1,4 +1,4 @@
--- Rows of `paste` whose cells lie whole in what the readers hold.
+-- Rows of `paste` whose lines lie whole in what the readers hold, or are lacking since a reader has ended.
 use Rattle.std.specs.Prelude.{◌≡◌, ℕ, ◌-◌, ◌*◌, ◌<◌, ◌≤◌, ◌⊎◌, Bool, true, false, List, [], ◌∷◌, ◌++◌, None, Some, Option, Result, Ok, Err, All}
 use Rattle.std.specs.Prelude.{length, map, take, drop, nat_lt, slice_index_or, sum_by}
 use Rattle.memchr.specs.Find.{IsFirstByte, is_byte}

@@ -230,9 +230,8 @@ impl<'a, A: Allocator> BlockTool for SerialPaste<'a, A> {
 /// line (XCU, `paste`, option `-s`). The row ends with newline, or with byte 0 with `-z` (this project's own choice). A
 /// reader without lines is an empty row (this project's own choice).
 ///
-/// No line is kept, and the store stays as it was. What is decided by what came is pushed before two more blocks are
-/// read; that it is pushed before the next read is tested, and not proved. On an output that has faulted nothing is
-/// read.
+/// No line is kept, and the store stays as it was. What the input so far decides is pushed before 16,384 more bytes are
+/// read. Only tested: it is pushed before the next read. On an output that has faulted nothing is read.
 /// # Errors
 /// `Read` or `Write` where a read or a write failed.
 pub fn paste_serial<A: Allocator + Copy, S: Source, R: Source, W: Sink>(

@@ -135,8 +135,8 @@ fn put_line(ending: u8, bytes: &[u8], into: &mut Written, at: usize) -> Option<u
 }
 
 // Puts the next row, if there is room for it, and each line lies whole in what its reader holds; a reader that has
-// ended gives an empty cell. The answer is where the row ends, and `taken` has how many bytes are taken of each reader
-// then, which are still held. There is no row where all readers have ended.
+// ended, and of which all is taken, gives an empty cell. The answer is where the row ends, and `taken` has how many
+// bytes are taken of each reader then, which are still held. There is no row where all cells would be empty so.
 #[inline(always)]
 fn put_row<A: Allocator, S: Source, R: Source>(
     row: &HeldRow<A, S, R>,
@@ -161,7 +161,7 @@ fn put_row<A: Allocator, S: Source, R: Source>(
         let reader = &readers[*place];
         let begin = taken[*place] as usize;
         let rest = &reader.held()[begin..];
-        // (Where there is no room for an empty cell, no line is found in what is empty.)
+        // (Without room for an empty cell `put_line` finds no line, and there is no row.)
         if rest.is_empty() && reader.has_ended() && from < 8192 {
             end = from;
             continue;

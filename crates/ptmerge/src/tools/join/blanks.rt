@@ -135,7 +135,7 @@ fn is_even_few(bytes: &[u8]) -> bool
     }
 }
 
-// The same of however many bytes. Short lines are most, and the long ones have few questions before them.
+// The same of however many bytes. Most lines are short; a long one is told apart after few comparisons.
 #[inline(always)]
 fn is_even(bytes: &[u8]) -> bool
     ensures { IsEven bytes.now 1 (length bytes.now) result }
