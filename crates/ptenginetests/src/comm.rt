@@ -1,16 +1,16 @@
-//! `comm` over sources and sinks of the tests. `failing` lets each call fail in turn.
+//! Tests of `comm` over in-memory sources and sinks. The module `failures` makes each call fail in turn.
 
-use crate::merged::{
-    ANY, Case, FIRST_DISORDER, FIRST_UNREAD, Job, OK, Row, SECOND_DISORDER, SECOND_UNREAD, TWO,
-    Wanted, expect,
+use crate::two_inputs::{
+    ANY, BOTH_EMPTY, Case, Example, Expected, FIRST_DISORDER, FIRST_READ_FAILS, Job, OK,
+    SECOND_DISORDER, SECOND_READ_FAILS, check_example,
 };
 use ptlangs::jobs::CommJob;
 use std::test::Fail;
 
 /// The job without options.
-pub const PLAIN: Job = Job::Comm(NONE);
+pub const DEFAULT: Job = Job::Comm(DEFAULT_JOB);
 
-const NONE: CommJob = CommJob {
+const DEFAULT_JOB: CommJob = CommJob {
     hide: [false; 3],
     zero: false,
     descending: false,
@@ -20,197 +20,197 @@ const NONE: CommJob = CommJob {
 pub const COMMON: Case = Case {
     first: b"a\na\nb\n",
     second: b"a\nc\n",
-    ..TWO
+    ..BOTH_EMPTY
 };
 
-const FALLS: Case = Case {
+const FIRST_UNSORTED: Case = Case {
     first: b"b\na\nc\n",
     second: b"a\nb\nb\nd\n",
-    ..TWO
+    ..BOTH_EMPTY
 };
 
-const SECOND_FALLS: Case = Case {
+const SECOND_UNSORTED: Case = Case {
     first: b"a\nb\nb\nd\n",
     second: b"b\na\nc\n",
-    ..TWO
+    ..BOTH_EMPTY
 };
 
-const TURNS: Case = Case {
+const ALTERNATING: Case = Case {
     first: b"a\nc\n",
     second: b"b\nd\n",
-    ..TWO
+    ..BOTH_EMPTY
 };
 
-const ROWS: &[Row] = &[
-    Row {
+const EXAMPLES: &[Example] = &[
+    Example {
         name: "common lines come first",
-        job: PLAIN,
+        job: DEFAULT,
         case: COMMON,
-        wanted: Wanted {
+        expected: Expected {
             result: OK,
             bytes: Some(b"\t\ta\na\nb\n\tc\n"),
             ..ANY
         },
     },
-    Row {
+    Example {
         name: "common lines alone",
         job: Job::Comm(CommJob {
             hide: [true, true, false],
-            ..NONE
+            ..DEFAULT_JOB
         }),
         case: COMMON,
-        wanted: Wanted {
+        expected: Expected {
             result: OK,
             bytes: Some(b"a\n"),
             ..ANY
         },
     },
-    Row {
+    Example {
         name: "an input out of order",
-        job: PLAIN,
-        case: FALLS,
-        wanted: Wanted {
+        job: DEFAULT,
+        case: FIRST_UNSORTED,
+        expected: Expected {
             result: FIRST_DISORDER,
             bytes: Some(b"\ta\n\t\tb\n\tb\n"),
             ..ANY
         },
     },
-    Row {
+    Example {
         name: "lines that end with zero in descending order",
         job: Job::Comm(CommJob {
             zero: true,
             descending: true,
-            ..NONE
+            ..DEFAULT_JOB
         }),
         case: Case {
             first: b"b\0a\0a\0",
             second: b"c\0a\0",
-            ..TWO
+            ..BOTH_EMPTY
         },
-        wanted: Wanted {
+        expected: Expected {
             result: OK,
             bytes: Some(b"\tc\0b\0\t\ta\0a\0"),
             ..ANY
         },
     },
-    Row {
+    Example {
         name: "a read that fails",
-        job: PLAIN,
+        job: DEFAULT,
         case: Case {
             first: b"a\nc\n",
             second: b"b\n",
             passing: [u64::MAX, 1],
-            ..TWO
+            ..BOTH_EMPTY
         },
-        wanted: Wanted {
-            result: SECOND_UNREAD,
+        expected: Expected {
+            result: SECOND_READ_FAILS,
             bytes: Some(b"a\n\tb\n"),
             ..ANY
         },
     },
-    Row {
+    Example {
         name: "a read that fails before a disorder",
-        job: PLAIN,
+        job: DEFAULT,
         case: Case {
             first: b"a\nb\na\n",
             second: b"a\nb\n",
             passing: [u64::MAX, 2],
-            ..TWO
+            ..BOTH_EMPTY
         },
-        wanted: Wanted {
-            result: SECOND_UNREAD,
+        expected: Expected {
+            result: SECOND_READ_FAILS,
             bytes: Some(b"\t\ta\n\t\tb\n"),
             ..ANY
         },
     },
-    // Nothing is read behind a line out of order. One pull fewer, and a read fails: so many are needed, and no more are
-    // made.
-    Row {
+    // Nothing is read after a line that is out of order: with one pull fewer a read fails, so exactly this number of
+    // pulls is made.
+    Example {
         name: "enough pulls for a disorder of the first",
-        job: PLAIN,
+        job: DEFAULT,
         case: Case {
             passing: [2, 4],
-            ..FALLS
+            ..FIRST_UNSORTED
         },
-        wanted: Wanted {
+        expected: Expected {
             result: FIRST_DISORDER,
             bytes: Some(b"\ta\n\t\tb\n\tb\n"),
             ..ANY
         },
     },
-    Row {
+    Example {
         name: "one pull fewer for a disorder of the first",
-        job: PLAIN,
+        job: DEFAULT,
         case: Case {
             passing: [1, 4],
-            ..FALLS
+            ..FIRST_UNSORTED
         },
-        wanted: Wanted {
-            result: FIRST_UNREAD,
+        expected: Expected {
+            result: FIRST_READ_FAILS,
             bytes: Some(b"\ta\n\t\tb\n"),
             ..ANY
         },
     },
-    Row {
+    Example {
         name: "enough pulls for a disorder of the second",
-        job: PLAIN,
+        job: DEFAULT,
         case: Case {
             passing: [4, 2],
-            ..SECOND_FALLS
+            ..SECOND_UNSORTED
         },
-        wanted: Wanted {
+        expected: Expected {
             result: SECOND_DISORDER,
             bytes: Some(b"a\n\t\tb\nb\n"),
             ..ANY
         },
     },
-    Row {
+    Example {
         name: "one pull fewer for a disorder of the second",
-        job: PLAIN,
+        job: DEFAULT,
         case: Case {
             passing: [3, 2],
-            ..SECOND_FALLS
+            ..SECOND_UNSORTED
         },
-        wanted: Wanted {
-            result: FIRST_UNREAD,
+        expected: Expected {
+            result: FIRST_READ_FAILS,
             bytes: Some(b"a\n\t\tb\nb\n"),
             ..ANY
         },
     },
-    // What is staged is put before each pull; where a block holds the next line there is none to wait for.
-    Row {
+    // Buffered output is written out before each pull. If the block already has the next line, no pull is made.
+    Example {
         name: "sent before each read of a line",
-        job: PLAIN,
-        case: TURNS,
-        wanted: Wanted {
+        job: DEFAULT,
+        case: ALTERNATING,
+        expected: Expected {
             result: OK,
             calls: Some(5),
             ..ANY
         },
     },
-    Row {
+    Example {
         name: "sent before the ends are asked for",
-        job: PLAIN,
+        job: DEFAULT,
         case: Case {
             sizes: &[usize::MAX],
-            ..TURNS
+            ..ALTERNATING
         },
-        wanted: Wanted {
+        expected: Expected {
             result: OK,
             calls: Some(3),
             ..ANY
         },
     },
-    Row {
+    Example {
         name: "sent behind a common line",
-        job: PLAIN,
+        job: DEFAULT,
         case: Case {
             first: b"a\nb\n",
             second: b"a\n",
             sizes: &[4],
-            ..TWO
+            ..BOTH_EMPTY
         },
-        wanted: Wanted {
+        expected: Expected {
             result: OK,
             calls: Some(3),
             ..ANY
@@ -220,9 +220,9 @@ const ROWS: &[Row] = &[
 
 #[test]
 fn lines_of_two_inputs(rt: HostRuntime) -> Result<(), Fail> {
-    for row in ROWS {
-        for size in row.case.sizes {
-            expect(&rt, rt.alloc(), row, *size)?;
+    for example in EXAMPLES {
+        for size in example.case.sizes {
+            check_example(&rt, rt.alloc(), example, *size)?;
         }
     }
     Ok(())

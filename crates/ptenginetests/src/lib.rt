@@ -1,27 +1,28 @@
-//! Tests of the engines and of a merge, over readers and outputs.
+//! Tests of the engines of `ptflow`, of `comm` and `join`, and of a merge in another order, over in-memory inputs and
+//! outputs; and worked examples of their specifications, as proofs.
 #![tactic(auto)]
 
 #[cfg(test)]
-mod blanks;
+mod asserts;
 #[cfg(test)]
 mod comm;
 #[cfg(test)]
-mod comparing;
+mod cut;
 #[cfg(test)]
-mod cutting;
-#[cfg(test)]
-mod failing;
-#[cfg(test)]
-mod flowing;
+mod failures;
 #[cfg(test)]
 mod join;
 #[cfg(test)]
-mod merged;
+mod join_blanks;
 #[cfg(test)]
-mod orders;
+mod key_order;
 #[cfg(test)]
-mod pasting;
+mod one_input;
 #[cfg(test)]
-mod repeats;
+mod paste;
 #[cfg(test)]
-mod translating;
+mod tr;
+#[cfg(test)]
+mod two_inputs;
+#[cfg(test)]
+mod uniq;

@@ -1,1 +1,1 @@
-pub mod Outlets
+pub mod CommandOutput

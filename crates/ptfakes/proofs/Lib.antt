@@ -1,3 +1,3 @@
-pub mod RefusingParts
-pub mod Repeating
-pub mod RowWords
+pub mod FailingAllocParts
+pub mod RepeatedBytes
+pub mod SplitWords

@@ -1,3 +1,3 @@
 pub mod Calls
-pub mod Feeds
-pub mod Keeps
+pub mod FakeSource
+pub mod FakeSink

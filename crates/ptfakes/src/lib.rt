@@ -1,18 +1,18 @@
-//! Sources, sinks, an allocator and texts for tests. The program uses none of them.
+//! Sources, sinks, an allocator and texts for the test crates. The program uses none of them.
 #![tactic(auto)]
 
-mod calls;
-mod fixed;
-mod kept;
-mod pieces;
-mod refusing;
-mod repeated;
+mod array_sink;
+mod call_limit;
+mod chunked_source;
+mod counted_source;
+mod failing_alloc;
+mod repeated_byte;
 pub mod texts;
-mod watched;
+mod vec_sink;
 
-pub use fixed::Fixed;
-pub use kept::Kept;
-pub use pieces::Pieces;
-pub use refusing::Refusing;
-pub use repeated::Repeated;
-pub use watched::Watched;
+pub use array_sink::ArraySink;
+pub use chunked_source::ChunkedSource;
+pub use counted_source::CountedSource;
+pub use failing_alloc::FailingAlloc;
+pub use repeated_byte::RepeatedByte;
+pub use vec_sink::VecSink;

@@ -1,41 +1,41 @@
-//! Texts of which each line is known by its length.
+//! Texts whose lines can be checked by their lengths alone. Used by most test crates.
 
 use std::alloc::{AllocError, Global};
 
-/// The byte at a place of each line. It is no newline, and not 0.
-pub fn byte_at(place: usize) -> u8 {
-    b'a' + (place % 23) as u8
+/// The byte in a column of every line. It is neither a newline nor 0.
+pub fn byte_at(column: usize) -> u8 {
+    b'a' + (column % 23) as u8
 }
 
-/// Lines of these lengths. Each ends with the byte `ending`, or the last does not where `ended` is false.
+/// Lines of these lengths. Each ends with the byte `terminator`, except the last if `terminated` is false.
 pub fn text_of(
     alloc: Global,
     lengths: &[usize],
-    ending: u8,
-    ended: bool,
+    terminator: u8,
+    terminated: bool,
 ) -> Result<Vec<u8>, AllocError> {
     let mut text = Vec::new(alloc);
     for length in lengths {
-        for place in 0..*length {
-            text.push(byte_at(place))?;
+        for column in 0..*length {
+            text.push(byte_at(column))?;
         }
-        text.push(ending)?;
+        text.push(terminator)?;
     }
-    if !ended {
+    if !terminated {
         text.pop();
     }
     Ok(text)
 }
 
-/// The same with another byte in place of each `a`, the first byte of a line among them.
+/// Like `text_of`, but with the byte `other` instead of every `a`, such as the first byte of each line.
 pub fn text_with(
     alloc: Global,
     lengths: &[usize],
-    ending: u8,
-    ended: bool,
+    terminator: u8,
+    terminated: bool,
     other: u8,
 ) -> Result<Vec<u8>, AllocError> {
-    let mut text = text_of(alloc, lengths, ending, ended)?;
+    let mut text = text_of(alloc, lengths, terminator, terminated)?;
     for byte in text.iter_mut() {
         if *byte == b'a' {
             *byte = other;
@@ -44,19 +44,19 @@ pub fn text_with(
     Ok(text)
 }
 
-/// The lengths of the lines that such a text has: a last one is none where it is empty and has no end.
-pub fn lines_of(lengths: &[usize], ended: bool) -> &[usize] {
+/// The lengths of the lines of such a text: an empty last line without a terminator is none.
+pub fn line_lengths(lengths: &[usize], terminated: bool) -> &[usize] {
     match lengths.split_last() {
-        Some((0, front)) if !ended => front,
+        Some((0, front)) if !terminated => front,
         _ => lengths,
     }
 }
 
-/// Whether this is a beginning of a line, of this length.
+/// Whether this is a line of such a text with the given length.
 pub fn is_line(line: &[u8], length: usize) -> bool {
     line.len() == length
         && line
             .iter()
             .enumerate()
-            .all(|(place, byte)| *byte == byte_at(place))
+            .all(|(column, byte)| *byte == byte_at(column))
 }

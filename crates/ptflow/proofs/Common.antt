@@ -1,4 +1,4 @@
--- Names of other crates and of this one's definitions that many of its proofs take from here.
+-- Names of other crates and of this one that many proofs use. They import them from here.
 pub use Rattle.std.proofs.Common.{Bool, Err, Fits, List, MatchOption, None, Ok, OnErr, Option, Result, Some, [], add-one, ap, append_assoc, ap₂, arith, bit_and, bit_or, cond, drop}
 pub use Rattle.std.proofs.Common.{drop-cons, eqb, false, get_or, get_or-drop, get_or-take, inl, inr, leb, length, length-append, length-drop, ltb, map, max, min, negsuc, not, pos, refl, replicate}
 pub use Rattle.std.proofs.Common.{set, slice_index, slice_index_or, slice_set, subst, suc, sym, take, take-append-drop, true, w8, zero, ℕ, ℤ, ⊎_elim, ◌%◌, ◌&&◌, ◌*◌, ◌++◌, ◌+◌, ◌-◌, ◌/◌, ◌<◌, ◌==◌}
@@ -31,55 +31,58 @@ pub use Rattle.std.specs.Option.{is_some, option_eq, option_map_or, option_or}
 pub use Rattle.std.specs.Prelude.{All, IfSome, bytes_eq, decimal, filter, fold, if◌then◌else◌, nat_eq, nat_le, nat_lt, option_map, option_to_list, slice_get, slice_range, sum_by, swap, unwrap_or}
 pub use Rattle.std.specs.Simd.Lanes.{Each1, chunk, mask_l, pick_l, put_chunk, sel_l, top, zip2}
 pub use Rattle.memchr.specs.Find.{IsFirstByte, IsLastByte, NoneBefore, Nowhere, Passes, is_byte, is_byte2}
-pub use Rattle.ptlangs.specs.CutLists.{AreApart, is_selected}
+pub use Rattle.ptlangs.specs.CutLists.{AreSeparated, is_selected}
 pub use Rattle.ptlangs.specs.DelimLists.{delim_at}
-pub use Rattle.ptlangs.specs.Jobs.{Cut, Paste, Uniq, cut_job, ending, paste_job, uniq_job}
-pub use Rattle.ptlangs.specs.TrShifts.{added, shifted}
+pub use Rattle.ptlangs.specs.Jobs.{Cut, Paste, Uniq, cut_job, terminator, paste_job, uniq_job}
+pub use Rattle.ptlangs.specs.TrShifts.{shift_at, image_of_shifts}
 pub use Rattle.ptlangs.specs.TrTables.{Tables, deletes, image, squeezes}
 pub use Rattle.ptlangs.specs.declared.ranges.Interval.{Interval}
-pub use Rattle.ptlines.proofs.Coming.{came_of, came_of_set, came_set, given_of}
-pub use Rattle.ptlines.proofs.Filling.{goes_trans, reads_trans}
-pub use Rattle.ptlines.proofs.Known.{prepend_known-nil}
+pub use Rattle.ptlines.proofs.Received.{has_received, has_received_of_set, has_received_set, received_with}
+pub use Rattle.ptlines.proofs.ReadLine.{advance_ok_trans, advance_trans}
+pub use Rattle.ptlines.proofs.KnownBytes.{prepend_known-nil}
 pub use Rattle.ptlines.proofs.PartLaws.{the_lines_of_parts}
-pub use Rattle.ptlines.proofs.Pushed.{wrote_nothing, wrote_past, wrote_trans}
-pub use Rattle.ptlines.proofs.Scanned.{before_end, drop_end, goes_front, no_end, take_end}
-pub use Rattle.ptlines.proofs.Sending.{keeps_more, keeps_still}
-pub use Rattle.ptlines.proofs.TextLaws.{AreLines_push, ended_first, ended_none, ended_of_text, lines-text, lines_are, lines_first, lines_last, lines_of_text, other_byte, same_byte, text-append}
-pub use Rattle.ptlines.proofs.TextLaws.{text_push, the_ended_lines, the_lines}
-pub use Rattle.ptlines.specs.Fills.{BreaksMemory, BreaksRead, Fills, GivesLine}
-pub use Rattle.ptlines.specs.Inputs.{Agrees, Begins, Came, Given, whole_lines}
-pub use Rattle.ptlines.specs.KeepingUp.{Before, KeepsUp, WorksOff}
-pub use Rattle.ptlines.specs.Outputs.{Output, Wrote}
-pub use Rattle.ptlines.specs.Readers.{Goes, HasReadCause, IsDone, IsSound, Reader, Reads, budget, unread}
-pub use Rattle.ptlines.specs.Slots.{Slots, line, total, with_denied, with_line}
-pub use Rattle.ptlines.specs.Text.{AreLines, EndsWithByte, IsLine, ended_lines, lines, longest, longest_line, onto_line, text}
-pub use Rattle.ptflow.specs.Cuts.{chosen_from, cut, cut_decided, cut_fields, cut_line, cut_lines, cut_tool, is_delimiter}
-pub use Rattle.ptflow.specs.Parts.{AreGrouped, BeginsWith, CutOfParts, EndsWith, HasRows, PasteOfParts, TrBehindByte, TrMeetsTwice, TrOfAnyParts, TrOfParts, UniqByKey, UniqOfParts}
-pub use Rattle.ptflow.specs.Passes.{Adds, Ends, IsBarePass, IsPass, IsReady, no_slots}
-pub use Rattle.ptflow.specs.PastePasses.{AreReady, IsPastePass, IsReadable, ReadAll, RowsEnd, no_reader, put_at, reader_at}
-pub use Rattle.ptflow.specs.Pastes.{columns, delimiter, every, glued_from, height, is_row_known, known_rows, paste, paste_decided, paste_size, row, rows, serial_decided, serial_tool, sheet, times}
-pub use Rattle.ptflow.specs.Tools.{Tool}
-pub use Rattle.ptflow.specs.Translations.{squeeze, squeeze_behind, stays, tr, tr_decided, tr_tool, translated}
-pub use Rattle.ptflow.specs.Uniqs.{Run, after_fields, all_but_last, ends_word, entries, is_blank, is_same, key, onto_runs, runs, shown, uniq_tool, word_ends}
-pub use Rattle.ptflow.specs.Workings.Bytes.ByteSets.{IsSetOf, Keeps, holds, marks, mask_of}
-pub use Rattle.ptflow.specs.Workings.Bytes.Lanes.{IsMovedTo, by_four, by_reach, by_two, told_adds}
-pub use Rattle.ptflow.specs.Workings.Bytes.Nths.{IsBehind}
-pub use Rattle.ptflow.specs.Workings.Bytes.Packings.{IsPacking, IsRow, chosen_by, places_of}
-pub use Rattle.ptflow.specs.Workings.Bytes.Rowings.{by_rows, by_two_rows}
-pub use Rattle.ptflow.specs.Workings.Cut.CutRests.{CutsOn, GoesOn, HasEnds, IsCutTo, IsLineAt, PutsLines, chosen_piece, cut_from, cut_rest, rest_by, rest_of_lines}
-pub use Rattle.ptflow.specs.Workings.Cut.FieldPlaces.{StartsAt, fields, led}
-pub use Rattle.ptflow.specs.Workings.Passes.Continuations.{Continues, Halts}
-pub use Rattle.ptflow.specs.Workings.Passes.Lines.{Empties, IsLineTool, IsSwapped, LinesHalt, LinesOn, PassesLines}
-pub use Rattle.ptflow.specs.Workings.Paste.OneReader.{AreRows, AreTurns, AreTurnsOfOne}
-pub use Rattle.ptflow.specs.Workings.Paste.RowTurns.{AreSet, Filling, FillsRow, KeepsCells, NotAsked, RowBroken, RowFilled, RowTaken, is_write}
-pub use Rattle.ptflow.specs.Workings.Paste.SerialRests.{IsAlways, IsTurnedTo, Puts, PutsBlock, begun, lead, row_from, row_rest, serial_rest, with_delimiter, with_turns}
-pub use Rattle.ptflow.specs.Workings.Paste.TakenLines.{LinesCame, Took}
-pub use Rattle.ptflow.specs.Workings.Paste.WholeRows.{AreReadable, AreTaken, GivesRows, HeldRows, Holds, HoldsTo, PassesRows, PushedRows, PutsPair, PutsRow, PutsRows, in_front}
-pub use Rattle.ptflow.specs.Workings.Tr.TrRests.{squeeze_from, tr_rest}
-pub use Rattle.ptflow.specs.Workings.Uniq.BlockRuns.{GoesOnWith, IsSpan, RunsHalt, RunsOn, Waits, span_of}
-pub use Rattle.ptflow.specs.Workings.Uniq.OpenLines.{first_line, open_run_of}
-pub use Rattle.ptflow.specs.Workings.Uniq.OpenRuns.{count_of, is_shown, open_run, run_of, run_text, runs_behind, runs_from}
-pub use Rattle.ptflow.specs.Workings.Uniq.UniqWords.{after_bytes}
+pub use Rattle.ptlines.proofs.Push.{push_nothing, push_past_failure, push_trans}
+pub use Rattle.ptlines.proofs.LineSearch.{line_before_terminator, drop_at_terminator, advance_ok_take, line_if_not_found, take_with_terminator}
+pub use Rattle.ptlines.proofs.Lag.{bounded_lag_after, bounded_lag_now}
+pub use Rattle.ptlines.proofs.TextLaws.{AreLines_push, complete_lines_cons, complete_lines_none, complete_lines_of_unlines, lines-unlines, lines_are, lines_cons, lines_of_last, lines_of_unlines, byte_ne, byte_eq, unlines-append}
+pub use Rattle.ptlines.proofs.TextLaws.{unlines_push, the_complete_lines, the_lines}
+pub use Rattle.ptlines.specs.ReadLine.{FillMemoryErr, FillReadErr, FillPost, FillLine}
+pub use Rattle.ptlines.specs.Received.{IsConsistent, IsPrefix, HasReceived, Received, known_lines}
+pub use Rattle.ptlines.specs.Lag.{LaggedInput, BoundedLag, ProcessLag}
+pub use Rattle.ptlines.specs.Outputs.{Output, PushEffect}
+pub use Rattle.ptlines.specs.Readers.{AdvanceOk, HasReadCause, IsDone, IsSound, Reader, ReaderAdvance, budget, remaining_bytes}
+pub use Rattle.ptlines.specs.Slots.{Slots, line, total_bytes, with_denied, with_line}
+pub use Rattle.ptlines.specs.Text.{AreLines, EndsWithByte, IsLine, complete_lines, lines, max_length, max_line_length, onto_first_if_any, unlines}
+pub use Rattle.ptflow.specs.Cuts.{select_from, cut, cut_decided, cut_fields, cut_line, cut_lines, cut_tool, is_field_delimiter}
+pub use Rattle.ptflow.specs.Parts.{HasGroupedKeys, BeginsWith, CutOfParts, EndsWith, IsRowSplit, PasteOfParts, TrAfterByte, TrMeetsTwice, TrOfAnyParts, TrOfParts, UniqByKey, UniqOfParts}
+pub use Rattle.ptflow.specs.Passes.{PassOutcome, StorelessPost, PassPost, PassPre, no_store}
+pub use Rattle.ptlines.specs.Slots.{AddedSlots}
+pub use Rattle.ptflow.specs.PasteCall.{PastePre, PastePost, IsReadable, IsReadToEnd, PasteOutcome, update_at}
+pub use Rattle.ptlines.specs.Readers.{no_reader, reader_at}
+pub use Rattle.ptflow.specs.PasteText.{columns, delimiter, every_kth, join_with_cycle, row_count, is_row_known, known_rows, paste, paste_decided, paste_size, row_at, rows, paste_serial_decided, paste_serial_tool, rows_text, uses_of}
+pub use Rattle.ptflow.specs.ToolSpec.{ToolSpec}
+pub use Rattle.ptflow.specs.TrOutput.{squeeze, squeeze_after, is_not_repeat, tr, tr_decided, tr_tool, translation}
+pub use Rattle.ptflow.specs.Uniqs.{Run, after_fields, init, ends_word, output_of, is_same, key, cons_run, runs, output_of_run, uniq_tool, word_ends}
+pub use Rattle.ptlines.specs.Text.{is_blank}
+pub use Rattle.ptflow.specs.Private.Vectors.ByteSets.{IsSetOf, IsFilteredTo, set_has, table_has, mask_of}
+pub use Rattle.ptflow.specs.Private.Vectors.Shift.{IsMappedTo, shift_by_four, shift_by_range, shift_by_two, stretch_delta}
+pub use Rattle.ptflow.specs.Private.Vectors.FindNth.{IsNth}
+pub use Rattle.ptflow.specs.Private.Vectors.Compress.{IsCompressTable, IsCompressRow, select_by, true_indices}
+pub use Rattle.ptflow.specs.Private.Vectors.Nibbles.{map_by_tables, map_by_two}
+pub use Rattle.ptflow.specs.Private.Cut.CutFrom.{ExtendsCut, CutChunkPost, HasTerminators, IsCutPart, IsSameLine, CopyLinesPost, cut_piece, cut_fields_from, cut_bytes_from, cut_list_from, cut_lines_from}
+pub use Rattle.ptflow.specs.Private.Cut.FieldOffsets.{IsFieldStart, fields, prefixed_fields}
+pub use Rattle.ptflow.specs.Private.Passes.StepOutput.{OutputPart, OutputFailed}
+pub use Rattle.ptflow.specs.Private.Passes.LineLoop.{SlotsCleared, IsLineFilter, IsSwapped, LinesFailed, LinesWritten, IsLinesLength}
+pub use Rattle.ptflow.specs.Private.Paste.SharedInput.{IsWholeRows, IsRowCycle, IsSharedCycle}
+pub use Rattle.ptflow.specs.Private.Paste.FillRow.{SetTerminatorsPost, CellsFilled, FillRowPost, SlotsBound, NotRead, RowFailed, RowFilled, CellsTaken, is_write_fault}
+pub use Rattle.ptflow.specs.Private.Paste.SerialRest.{IsOnlyDelimiter, IsReplacedTo, CopyCellsPost, CopyBlockPost, next_position, leading_delimiter, row_from, row_rest, serial_rest, with_delimiter, with_cycle}
+pub use Rattle.ptflow.specs.Private.Paste.TakenLines.{AreReceivedLines, LinesTaken}
+pub use Rattle.ptflow.specs.Private.Paste.BufferedRows.{AreReadable, AreConsumed, AreFirstRows, BufferedRowsTaken, HaveBuffered, BufferedRowsTakenTo, WriteRowsPost, RowsWritten, CopyPairRowPost, CopyRowPost, CopyRowsPost, position_before}
+pub use Rattle.ptflow.specs.Private.Tr.TrFrom.{squeeze_from, tr_from}
+pub use Rattle.ptflow.specs.Private.Uniq.BlockRuns.{CountRepeatsPost, IsSpan, RunsFailed, RunsWritten, IsPending, span_of}
+pub use Rattle.ptflow.specs.Private.Uniq.FirstLine.{first_line, current_run_of}
+pub use Rattle.ptflow.specs.Private.Uniq.RunsFrom.{count_of, has_output, current_run, run_of, run_output, runs_after, runs_from}
+pub use Rattle.ptflow.specs.Private.Uniq.Blanks.{after_nonblanks}
 pub use Rattle.ptflow.specs.declared.faults.FlowFault.{FlowFault}
 pub use Rattle.ptflow.specs.declared.faults.FlowFault.TheVariants.{Memory, Read, Write}
-pub use Rattle.ptflow.specs.declared.tools.paste.serial.Cell.{Cell}
+pub use Rattle.ptflow.specs.declared.tools.paste.serial.ColumnPos.{ColumnPos}

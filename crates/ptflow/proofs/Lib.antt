@@ -1,7 +1,7 @@
 pub mod Common
-pub mod OfBytes
-pub mod OfCut
-pub mod OfPasses
-pub mod OfPaste
-pub mod OfTr
-pub mod OfUniq
+pub mod Vectors
+pub mod CutLemmas
+pub mod Passes
+pub mod PasteLemmas
+pub mod TrLemmas
+pub mod UniqLemmas

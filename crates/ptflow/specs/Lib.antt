@@ -1,9 +1,9 @@
 pub mod Cuts
 pub mod Passes
-pub mod Tools
-pub mod Translations
-pub mod Workings
-pub mod Pastes
+pub mod ToolSpec
+pub mod TrOutput
+pub mod Private
+pub mod PasteText
 pub mod Uniqs
-pub mod PastePasses
+pub mod PasteCall
 pub mod Parts

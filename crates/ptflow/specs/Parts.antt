@@ -1,85 +1,89 @@
--- What the tools write of a text that is cut into two parts.
+-- The output of the tools for a text that is cut into two parts.
 use Rattle.std.specs.Prelude.{◌≡◌, ◌≢◌, ◌⊎◌, ◌≤◌, ◌<◌, ◌*◌, ℕ, Bool, true, false, List, [], ◌∷◌, ◌++◌, length, filter}
 use Rattle.std.specs.List.{AllByRecursion}
-use Rattle.ptlines.specs.Text.{text, lines}
-use Rattle.ptlines.specs.Parts.{IsWhole}
+use Rattle.ptlines.specs.Text.{unlines, lines}
+use Rattle.ptlines.specs.Parts.{HasOnlyCompleteLines}
 use Rattle.ptlangs.specs.Jobs.{Cut, Uniq, Paste}
 use Rattle.ptlangs.specs.TrTables.{Tables, deletes, image, squeezes}
 use Rattle.ptflow.specs.Cuts.{cut}
-use Rattle.ptflow.specs.Translations.{tr}
-use Rattle.ptflow.specs.Uniqs.{Run, uniq, key, runs, entries}
-use Rattle.ptflow.specs.Pastes.{times, paste}
+use Rattle.ptflow.specs.TrOutput.{tr}
+use Rattle.ptflow.specs.Uniqs.{Run, uniq, key, runs, output_of}
+use Rattle.ptflow.specs.PasteText.{uses_of, paste}
 
--- the first of some items
+-- the list begins with this item
 abbrev pub BeginsWith : {X : Type 0} → X → List X → Type 0
 BeginsWith {X} x xs = (rest : List X) × (xs ≡ x ∷ rest)
 
--- the last of some items
+-- the list ends with this item
 abbrev pub EndsWith : {X : Type 0} → X → List X → Type 0
 EndsWith {X} x xs = (front : List X) × (xs ≡ front ++ x ∷ [])
 
--- ---- cut: after any line
+-- ---- cut: after any terminator
 
+-- If the first part is complete lines, the output for both is the output for each, one after the other.
 abbrev pub CutOfParts : Type 0
-CutOfParts = (job : Cut) (a b : List ℕ) → IsWhole job.end a → cut job (a ++ b) ≡ cut job a ++ cut job b
+CutOfParts = (job : Cut) (a b : List ℕ) → HasOnlyCompleteLines job.terminator a → cut job (a ++ b) ≡ cut job a ++ cut job b
 
--- ---- tr: anywhere, but not between bytes that are squeezed
+-- ---- tr: anywhere but between two equal bytes that are squeezed
 
 -- no byte is squeezed
 abbrev pub SqueezesNone : Tables → Type 0
 SqueezesNone tables = (byte : ℕ) → squeezes tables byte ≡ false
 
+-- If nothing is squeezed, the output for both parts is the output for each, one after the other.
 abbrev pub TrOfAnyParts : Type 0
 TrOfAnyParts = (tables : Tables) (a b : List ℕ) → SqueezesNone tables → tr tables (a ++ b) ≡ tr tables a ++ tr tables b
 
--- a byte that ends what is written of one part, and begins what is written of the other, is not squeezed
+-- if the output for one part ends with the byte with which that for the other begins, that byte is not squeezed
 abbrev pub MeetUnsqueezed : Tables → List ℕ → List ℕ → Type 0
 MeetUnsqueezed tables a b = (byte : ℕ) → EndsWith byte (tr tables a) → BeginsWith byte (tr tables b) → squeezes tables byte ≡ false
 
+-- If the outputs do not meet in a squeezed byte, the output for both is that for each, one after the other.
 abbrev pub TrOfParts : Type 0
 TrOfParts = (tables : Tables) (a b : List ℕ) → MeetUnsqueezed tables a b → tr tables (a ++ b) ≡ tr tables a ++ tr tables b
 
--- after a byte that is not deleted, and becomes one that is not squeezed
-abbrev pub TrBehindByte : Type 0
-TrBehindByte = (tables : Tables) (byte : ℕ) (a b : List ℕ) → EndsWith byte a → deletes tables byte ≡ false → squeezes tables (image tables byte) ≡ false
+-- the cut is after a byte that is not deleted and whose image is not squeezed
+abbrev pub TrAfterByte : Type 0
+TrAfterByte = (tables : Tables) (byte : ℕ) (a b : List ℕ) → EndsWith byte a → deletes tables byte ≡ false → squeezes tables (image tables byte) ≡ false
     → tr tables (a ++ b) ≡ tr tables a ++ tr tables b
 
--- where both parts have a byte that is squeezed at the cut, it is written once and not twice
+-- if the outputs for both parts have the same squeezed byte at the cut, it is written once
 abbrev pub TrMeetsTwice : Type 0
 TrMeetsTwice = (tables : Tables) (byte : ℕ) (a b rest : List ℕ) → squeezes tables byte ≡ true → EndsWith byte (tr tables a) → tr tables b ≡ byte ∷ rest
     → tr tables (a ++ b) ≡ tr tables a ++ rest
 
--- ---- uniq: after any line that has another key than the next one
+-- ---- uniq: after a line whose key differs from that of the next one
 
--- the last line of one part and the first of the other have two keys
+-- the last line of one part and the first line of the other have different keys
 abbrev pub KeysChange : Uniq → List ℕ → List ℕ → Type 0
-KeysChange job a b = (last first : List ℕ) → EndsWith last (lines job.end a) → BeginsWith first (lines job.end b) → key job last ≢ key job first
+KeysChange job a b = (last first : List ℕ) → EndsWith last (lines job.terminator a) → BeginsWith first (lines job.terminator b) → key job last ≢ key job first
 
+-- If the cut is after a complete line and between two keys, the output for both is that for each.
 abbrev pub UniqOfParts : Type 0
-UniqOfParts = (job : Uniq) (a b : List ℕ) → IsWhole job.end a → KeysChange job a b → uniq job (a ++ b) ≡ uniq job a ++ uniq job b
+UniqOfParts = (job : Uniq) (a b : List ℕ) → HasOnlyCompleteLines job.terminator a → KeysChange job a b → uniq job (a ++ b) ≡ uniq job a ++ uniq job b
 
--- equal keys stand together, as in a sorted text: each line has the key of the next one, or its key does not come again
-abbrev pub AreGrouped : Uniq → List (List ℕ) → Type 0
-AreGrouped job [] = Unit {0}
-AreGrouped job (line ∷ more) =
+-- Equal keys are adjacent, as in a sorted text: each line has the key of the next one, or its key does not occur again.
+abbrev pub HasGroupedKeys : Uniq → List (List ℕ) → Type 0
+HasGroupedKeys job [] = Unit {0}
+HasGroupedKeys job (line ∷ more) =
     (((next : List ℕ) × BeginsWith next more × (key job line ≡ key job next)) ⊎ AllByRecursion (λ other. key job line ≢ key job other) more)
-    × AreGrouped job more
+    × HasGroupedKeys job more
 
--- of the lines with some keys what is written is what is written of the runs with these keys
+-- the output for the lines with some keys is the output of the runs with these keys
 abbrev pub UniqByKey : Type 0
-UniqByKey = (job : Uniq) (taken : List ℕ → Bool) (bytes : List ℕ) → let ls = lines job.end bytes in AreGrouped job ls
-    → uniq job (text job.end (filter (λ line. taken (key job line)) ls)) ≡ entries job (filter (λ (run : Run). taken (key job run.line)) (runs job ls))
+UniqByKey = (job : Uniq) (taken : List ℕ → Bool) (bytes : List ℕ) → let ls = lines job.terminator bytes in HasGroupedKeys job ls
+    → uniq job (unlines job.terminator (filter (λ line. taken (key job line)) ls)) ≡ output_of job (filter (λ (run : Run). taken (key job run.line)) (runs job ls))
 
--- ---- paste in rows: after the same row in all inputs
+-- ---- paste without -s: after the same row in all inputs
 
--- So many rows take all lines of the first part, where so many cells name it. It has as many and is whole,
--- or no more and the second part is empty.
-abbrev pub HasRows : ℕ → ℕ → ℕ → List ℕ → List ℕ → Type 0
-HasRows end rows cells a b =
-    (IsWhole end a × (length (lines end a) ≡ rows * cells)) ⊎ ((b ≡ []) × (length (lines end a) ≤ rows * cells))
+-- The first part of an input that is named by `cells` operands has the lines of `rows` rows: that many, all complete;
+-- or at most that many, and the second part is empty.
+abbrev pub IsRowSplit : ℕ → ℕ → ℕ → List ℕ → List ℕ → Type 0
+IsRowSplit end rows cells a b =
+    (HasOnlyCompleteLines end a × (length (lines end a) ≡ rows * cells)) ⊎ ((b ≡ []) × (length (lines end a) ≤ rows * cells))
 
--- the parts of the inputs are given by the places of the inputs
+-- If each input is cut after the same row, the output for both parts is that for each. Inputs are given by their index.
 abbrev pub PasteOfParts : Type 0
 PasteOfParts = (job : Paste) (cells : List ℕ) (rows : ℕ) (a b : ℕ → List ℕ)
-    → ((place : ℕ) → 0 < times cells place → HasRows job.end rows (times cells place) (a place) (b place))
+    → ((place : ℕ) → 0 < uses_of cells place → IsRowSplit job.terminator rows (uses_of cells place) (a place) (b place))
     → paste job cells (λ place. a place ++ b place) ≡ paste job cells a ++ paste job cells b

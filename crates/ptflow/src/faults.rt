@@ -1,15 +1,16 @@
-//! Why an engine stopped.
+//! `FlowFault`: the faults that an engine of this crate returns.
 
 use ptlines::WriteFault;
 
-/// Why an engine stopped. Nothing that was pushed before has to be taken back.
+/// The fault that stopped an engine. The bytes pushed before it are a prefix of the output of the whole input.
 #[derive(Clone, Copy, Debug, PartialEq, Eq)]
 pub enum FlowFault {
-    /// 1: a read failed, or 2^63 bytes or more came. With it the reader's place among those that were handed in.
+    /// 1: a read failed, or the reader received 2^63 bytes or more. The value is the index of the reader in the slice
+    /// of readers, and 0 for an engine with one reader.
     Read(usize),
     /// 2: a write failed.
     Write,
-    /// 3: the store was refused memory (`Store::denied`).
+    /// 3: the store could not grow (`Store::denied`).
     Memory,
 }
 

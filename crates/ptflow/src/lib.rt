@@ -1,23 +1,24 @@
-//! The engines: what `cut`, `paste`, `tr` and `uniq` do with their inputs.
+//! The engines: the functions that run `cut`, `paste`, `tr` and `uniq` on readers, and write to an output. `ptrun`
+//! calls them.
 //!
-//! - `tools` has a room for each tool: its engine, and what only this tool needs.
-//! - `kernels` works on bytes many at a time, and knows no reader.
-//! - `blocks` is the loop that tools over blocks share, `lines` that of tools over lines, and `slots` what tools that
-//!   keep lines ask of a store.
-//! - `parts` says which tools may be run on parts of their input.
+//! - `tools` has a module for each tool: its engine, and the code that only this tool needs.
+//! - `simd` has the vector code. It uses no reader and no output.
+//! - `block_loop` is the loop of the tools that work block by block, and `line_loop` that of the tools that work line
+//!   by line. `slots` adds the missing slots of a store.
+//! - `laws` states which tools can be run on parts of their input.
 #![tactic(auto)]
 
-mod blocks;
+mod block_loop;
 mod faults;
-mod kernels;
-mod lines;
-mod parts;
+mod laws;
+mod line_loop;
+mod simd;
 mod slots;
 mod tools;
 
 pub use faults::FlowFault;
-pub use kernels::lanes::translate;
-pub use parts::{parts_of_cut, parts_of_paste, parts_of_tr, parts_of_uniq, uniq_by_key};
+pub use laws::{parts_of_cut, parts_of_paste, parts_of_tr, parts_of_uniq, uniq_by_key};
+pub use simd::shift::translate;
 pub use tools::cut::cut;
 pub use tools::paste::paste;
 pub use tools::paste::serial::paste_serial;

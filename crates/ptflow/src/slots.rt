@@ -1,24 +1,24 @@
-//! The slots that an engine uses.
+//! The slots of a store that an engine needs. The line loop and `paste` use this file.
 
 ghost use Rattle.std.specs.Prelude.{◌≡◌, true, false, Err, OnOk, OnErr};
-ghost use Rattle.ptlines.specs.Slots.{total};
-ghost use Rattle.ptflow.specs.Passes.{Adds};
+ghost use Rattle.ptlines.specs.Slots.{total_bytes};
+ghost use Rattle.ptlines.specs.Slots.{AddedSlots};
 
 use crate::faults::FlowFault;
 use ptlines::Store;
 use std::alloc::Allocator;
 
-// Adds the slots that are missing.
-pub(crate) fn need_slots<A: Allocator + Copy>(
+// Adds empty slots until the store has at least `count`. Returns `Memory` if one could not be allocated.
+pub(crate) fn ensure_slots<A: Allocator + Copy>(
     store: &mut Store<A>,
     count: usize,
 ) -> Result<(), FlowFault>
     requires { store.old.denied ≡ false }
-    ensures adds { Adds store.old store.new count }
+    ensures adds { AddedSlots store.old store.new count }
     ensures allowed { OnOk result (store.new.denied ≡ false) }
     ensures err { OnErr result (result ≡ Err FlowFault.Memory) }
     ensures denied { OnErr result (store.new.denied ≡ true) }
-    ensures same_total { total store.new.lines ≡ total store.old.lines }
+    ensures same_total { total_bytes store.new.lines ≡ total_bytes store.old.lines }
     ensures same_peak { store.new.peak ≡ store.old.peak }
 {
     while store.slots() < count {

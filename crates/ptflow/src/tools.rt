@@ -1,4 +1,4 @@
-//! The tools, a room each. A room's first file has the engine, which the crate makes public.
+//! The tools, one module each. The module's own file has the engine, which the crate re-exports.
 pub(crate) mod cut;
 pub(crate) mod paste;
 pub(crate) mod tr;

@@ -1,4 +1,4 @@
--- Names of other crates and of this one's definitions that many of its proofs take from here.
+-- Names that many proofs of this crate use, from other crates and from the definitions of this one.
 pub use Rattle.std.proofs.Common.{Bool, Err, List, None, Ok, Option, Result, Some, [], ap, arith, cond, drop, eqb, false, get_or, inl, inr, leb, length, lit≤, ltb, map, max, min, nat_le, nat_lt, not}
 pub use Rattle.std.proofs.Common.{refl, replicate, reverse, rules, subst, suc, sym, take, tests, true, zero, ℕ, ◌%◌, ◌&&◌, ◌*◌, ◌++◌, ◌+◌, ◌-◌, ◌<◌, ◌==◌, ◌||◌, ◌∙◌, ◌∷◌, ◌≡◌, ◌≢◌, ◌≤◌, ◌⊎◌}
 pub use Rattle.std.proofs.Math.ListN.{set}
@@ -22,38 +22,38 @@ pub use Rattle.std.specs.Option.{option_and_then, option_copied, option_or, opti
 pub use Rattle.std.specs.Prelude.{filter, is_some, sum_by, unwrap_or}
 pub use Rattle.std.specs.Result.{result_err, result_map_both}
 pub use Rattle.std.specs.Str.Parse.{digits_value, digits_value_after}
-pub use Rattle.ptlangs.specs.CutLists.{AcceptsTheGrammar, AreApart, AreInOrder, From, FromTo, IsElement, IsProper, IsProperElement, One, UpTo, checked, cut_list, element, ends, is_dash, is_end}
-pub use Rattle.ptlangs.specs.CutLists.{is_selected, said, selection}
-pub use Rattle.ptlangs.specs.DelimLists.{Backslash, IsDelim, IsDelimList, Last, More, Newline, Nothing, Tab, backslash, delim_list, delims, escape, fault_of}
-pub use Rattle.ptlangs.specs.Numbers.{IsListOf, and_then, each, elements, greatest, is_empty, is_number, is_separator, number, put_first, value}
-pub use Rattle.ptlangs.specs.OutLists.{OfFirst, OfSecond, TheJoinField, field_of, out_list}
-pub use Rattle.ptlangs.specs.TrClasses.{are_cases, class_bytes, class_named, range_bytes, span}
-pub use Rattle.ptlangs.specs.TrParts.{AClass, ADescendingRange, AFaultyEnd, AFaultyUnit, ARange, ARepeat, Alone, AnEquivalence, AreParts, Begins, BeginsFaulty, ByEscape, ByItself, InBrackets, Means}
-pub use Rattle.ptlangs.specs.TrParts.{Opens, OpensForm, behind, behind_run, behind_two, class_at, class_name, class_of, count_in, equivalence_at, equivalence_of, equivalence_unit, first_part, form_at}
-pub use Rattle.ptlangs.specs.TrParts.{form_inside, from_byte, from_unit, is_plain, or_unit, parts, parts_behind, parts_from, plain_run, range_to, repeat_at, repeat_count, repeat_digits, with_rest}
-pub use Rattle.ptlangs.specs.TrPlan.{FaultsAreFirst, FirstFault, Later, NeverMemory, NoPart, NoPiece, Plan, array, class_places, collected, complement_of, fill_count, first_array, fitted}
-pub use Rattle.ptlangs.specs.TrPlan.{has_byte, image_by, image_of, in_string, is_deleted, is_fill, is_paired, is_squeezed, last_place, later_or, may_pair, members, piece, pieces, pieces_of, plan}
-pub use Rattle.ptlangs.specs.TrPlan.{plan_from, plan_of, plan_with, repeat_piece, second_place, second_plan, stands_at, string_pieces, takes_second}
-pub use Rattle.ptlangs.specs.TrReading.{Puts, pieces_left, places_of}
-pub use Rattle.ptlangs.specs.TrShifts.{added, in_front, shift_of, shifted, stretches_from}
+pub use Rattle.ptlangs.specs.CutLists.{CutListMatchesGrammar, AreSeparated, AreSortedFrom, From, FromTo, SpellsInterval, IsValidInterval, IsIntervalElement, One, UpTo, checked_interval, cut_list, element_interval, interval_of_bounds, is_dash, is_bound}
+pub use Rattle.ptlangs.specs.CutLists.{is_selected, interval_of_parts, selection}
+pub use Rattle.ptlangs.specs.DelimLists.{Backslash, IsDelim, IsDelimList, Last, More, Newline, Nothing, Tab, backslash, delim_list, delims, escape, delim_list_fault}
+pub use Rattle.ptlangs.specs.Numbers.{IsListOf, and_then, traverse, elements, max_u64, is_empty, is_number, is_list_separator, number, cons_ok, value}
+pub use Rattle.ptlangs.specs.OutLists.{FirstFileField, SecondFileField, JoinField, field_of, out_list}
+pub use Rattle.ptlangs.specs.TrClasses.{are_opposite_cases, class_bytes, class_named, range_bytes, span}
+pub use Rattle.ptlangs.specs.TrElements.{AClass, ADescendingRange, AnInvalidEnd, AnInvalidChar, ARange, ARepeat, Alone, AnEquivalence, AreElements, StartsElement, StartsInvalid, ByEscape, ByItself, InBrackets, DenotesByte}
+pub use Rattle.ptlangs.specs.TrElements.{StartsBracketed, HasBracketed, after_plain, after_run, after_two, class_at, class_after_colon, class_with_name, count_in_base, equivalence_at, equivalence_with_byte, equivalence_after_equals, first_set_element, bracketed_at}
+pub use Rattle.ptlangs.specs.TrElements.{bracketed_inside, single_or_range, char_or_range, is_plain, or_char, set_elements, elements_after, elements_from, plain_run, range_to, repeat_at, repeat_count, repeat_after_star, with_rest}
+pub use Rattle.ptlangs.specs.TrPlan.{FirstFaultIsReported, FirstFault, LaterFault, NoMemoryFault, NoElement, NoSegment, Plan, array, class_offsets, sequence, complement_of, fill_count, first_array, padded_to}
+pub use Rattle.ptlangs.specs.TrPlan.{has_byte, image_by, image_of, in_string, is_deleted, is_fill, are_paired, is_squeezed, last_position, next_index_or, has_valid_classes, members, segment, segments, segments_of, plan}
+pub use Rattle.ptlangs.specs.TrPlan.{plan_from, plan_of, plan_with, repeat_segment, second_role, second_plan, has_other_case_at, string_segments, takes_second}
+pub use Rattle.ptlangs.specs.TrParsing.{AppendPost, segments_left, last_positions}
+pub use Rattle.ptlangs.specs.TrShifts.{shift_at, prepend_shift, shift_of, image_of_shifts, stretches_from}
 pub use Rattle.ptlangs.specs.TrTables.{Tables, tables}
-pub use Rattle.ptlangs.specs.TrUnits.{ALargeOctal, ALoneBackslash, APlainByte, AUnit, AnEscape, AnOctal, IsOctalRun, NoUnit, OneDigit, SpellsUnit, SpellsUnits, ThreeDigits, TwoDigits, UnitsAreSpelled}
-pub use Rattle.ptlangs.specs.TrUnits.{after_backslash, byte_of, escaped, is_octal_digit, octal, octal_run, unit_at, units, units_behind}
-pub use Rattle.ptlangs.specs.declared.classes.CharClass.{CharClass}
+pub use Rattle.ptlangs.specs.TrChars.{ALargeOctal, ALoneBackslash, APlainByte, AChar, AnEscape, AnOctal, IsOctalRun, NoChar, OneDigit, SpellsChar, SpellsChars, ThreeDigits, TwoDigits, CharsMatchGrammar}
+pub use Rattle.ptlangs.specs.TrChars.{after_backslash, byte_of, byte_of_escape, is_octal_digit, octal, octal_run, char_at, chars, chars_after}
+pub use Rattle.ptlangs.specs.declared.tr.classes.CharClass.{CharClass}
 pub use Rattle.ptlangs.specs.declared.delims.DelimFault.{DelimFault}
 pub use Rattle.ptlangs.specs.declared.faults.SetFault.{SetFault}
 pub use Rattle.ptlangs.specs.declared.faults.SetFaultKind.{SetFaultKind}
 pub use Rattle.ptlangs.specs.declared.faults.SetFaultKind.TheVariants.{ClassPlace, Escape, Memory, Octal}
-pub use Rattle.ptlangs.specs.declared.parts.Part.{Part}
-pub use Rattle.ptlangs.specs.declared.parts.Part.TheVariants.{Class, Equivalence, Single}
-pub use Rattle.ptlangs.specs.declared.pieces.Piece.{Piece}
-pub use Rattle.ptlangs.specs.declared.pieces.Piece.TheVariants.{Fill, Repeat}
-pub use Rattle.ptlangs.specs.declared.pieces.Place.{Place}
-pub use Rattle.ptlangs.specs.declared.pieces.Place.TheVariants.{First, Images, Squeezed}
-pub use Rattle.ptlangs.specs.declared.places.Places.{Places}
-pub use Rattle.ptlangs.specs.declared.plan.Form.{Form}
-pub use Rattle.ptlangs.specs.declared.plan.Form.TheVariants.{Delete, DeleteSqueeze, Squeeze, Translate, TranslateSqueeze}
+pub use Rattle.ptlangs.specs.declared.tr.elements.SetElement.{SetElement}
+pub use Rattle.ptlangs.specs.declared.tr.elements.SetElement.TheVariants.{Class, Equivalence, Single}
+pub use Rattle.ptlangs.specs.declared.tr.segments.Segment.{Segment}
+pub use Rattle.ptlangs.specs.declared.tr.segments.Segment.TheVariants.{Fill, Repeat}
+pub use Rattle.ptlangs.specs.declared.tr.segments.SetRole.{SetRole}
+pub use Rattle.ptlangs.specs.declared.tr.segments.SetRole.TheVariants.{First, Images, Squeezed}
+pub use Rattle.ptlangs.specs.declared.tr.last_index.LastIndex.{LastIndex}
+pub use Rattle.ptlangs.specs.declared.tr.plan.Form.{Form}
+pub use Rattle.ptlangs.specs.declared.tr.plan.Form.TheVariants.{Delete, DeleteSqueeze, Squeeze, Translate, TranslateSqueeze}
 pub use Rattle.ptlangs.specs.declared.ranges.Interval.{Interval}
-pub use Rattle.ptlangs.specs.declared.shifts.Stretch.{Stretch}
-pub use Rattle.ptlangs.specs.declared.units.SetUnit.{SetUnit}
-pub use Rattle.ptlangs.specs.declared.units.SetUnit.TheVariants.{Escaped, Faulty, Plain}
+pub use Rattle.ptlangs.specs.declared.tr.shifts.Stretch.{Stretch}
+pub use Rattle.ptlangs.specs.declared.tr.chars.SetChar.{SetChar}
+pub use Rattle.ptlangs.specs.declared.tr.chars.SetChar.TheVariants.{Escaped, Invalid, Plain}

@@ -1,4 +1,5 @@
--- What the options of the tools ask for.
+-- The options of the five line tools, as plain values: the job of each tool, its defaults, and the view of the Rust
+-- type.
 use Rattle.std.specs.Prelude.{ℕ, List, [], ◌∷◌, Bool, true, false, Option, Some, None, slice_index, slice_index_or}
 use Rattle.ptlangs.specs.CutLists.{is_selected}
 use Rattle.ptlangs.specs.declared.jobs.CutJob.{CutJob}
@@ -10,109 +11,114 @@ use Rattle.ptlangs.specs.declared.jobs.CommJob.{CommJob}
 use Rattle.ptlangs.specs.declared.jobs.JoinJob.{JoinJob}
 use Rattle.ptlangs.specs.declared.outlist.OutField.{OutField}
 
--- the byte that ends a line: 0 with `-z`, else newline
-abbrev pub ending : Bool → ℕ
-ending true = 0
-ending false = 10
+-- the line terminator: NUL with `-z`, else newline
+abbrev pub terminator : Bool → ℕ
+terminator true = 0
+terminator false = 10
 
--- what `cut` is to do
+-- the options of `cut`
 pub record Cut : Type 0 where
-  -- fields, and not bytes
+  -- fields are selected, and not bytes
   pub fields : Bool
-  -- whether the byte or the field with this number, counted from 1, is selected
+  -- the byte or the field with this number, counted from 1, is selected
   pub selected : ℕ → Bool
   pub delimiter : ℕ
   -- a line without the delimiter is dropped
   pub only : Bool
-  -- the byte that ends a line
-  pub end : ℕ
+  -- the line terminator
+  pub terminator : ℕ
 
+-- the view of a job of the code
 abbrev pub cut_job : {A : Type 0} → CutJob A → Cut
 cut_job job = record {
   fields = job.fields;
   selected = is_selected job.list;
   delimiter = job.delim;
   only = job.only;
-  end = ending job.zero;
+  terminator = terminator job.zero;
 }
 
--- what `paste` is to do
+-- the options of `paste`
 pub record Paste : Type 0 where
-  -- the lines of one file in a row
+  -- the lines of each file are joined into one line (`-s`)
   pub serial : Bool
-  -- used in turn: a byte, or nothing
+  -- repeated as often as needed; `None` is the empty string
   pub delimiters : List (Option ℕ)
-  -- the byte that ends a line
-  pub end : ℕ
+  -- the line terminator
+  pub terminator : ℕ
 
+-- the view of a job of the code
 abbrev pub paste_job : {A : Type 0} → PasteJob A → Paste
-paste_job job = record { serial = job.serial; delimiters = job.delims; end = ending job.zero }
+paste_job job = record { serial = job.serial; delimiters = job.delims; terminator = terminator job.zero }
 
--- one line of each file in a row, with tabs
+-- `paste` without options: one line of each file, joined by tabs
 abbrev pub default_paste : Paste
-default_paste = record { serial = false; delimiters = Some 9 ∷ []; end = 10 }
+default_paste = record { serial = false; delimiters = Some 9 ∷ []; terminator = 10 }
 
--- what `uniq` is to do
+-- the options of `uniq`
 pub record Uniq : Type 0 where
   pub show : Show
-  -- how many fields, and then how many bytes, are not compared
+  -- the number of fields, and then of bytes, at the start of a line that are ignored in comparisons
   pub fields : ℕ
   pub chars : ℕ
-  -- the byte that ends a line
-  pub end : ℕ
+  -- the line terminator
+  pub terminator : ℕ
 
+-- the view of a job of the code
 abbrev pub uniq_job : UniqJob → Uniq
-uniq_job job = record { show = job.show; fields = job.fields; chars = job.chars; end = ending job.zero }
+uniq_job job = record { show = job.show; fields = job.fields; chars = job.chars; terminator = terminator job.zero }
 
--- one of each run of equal lines
+-- `uniq` without options: one line for each run of equal lines
 abbrev pub default_uniq : Uniq
-default_uniq = record { show = All; fields = 0; chars = 0; end = 10 }
+default_uniq = record { show = All; fields = 0; chars = 0; terminator = 10 }
 
--- what `comm` is to do
+-- the options of `comm`
 pub record Comm : Type 0 where
-  -- the columns that are left out
+  -- the columns that are suppressed
   pub hide1 : Bool
   pub hide2 : Bool
   pub hide3 : Bool
-  -- the byte that ends a line
-  pub end : ℕ
-  -- lines stand in descending order of their keys
+  -- the line terminator
+  pub terminator : ℕ
+  -- the lines are in descending order
   pub descending : Bool
 
+-- the view of a job of the code
 abbrev pub comm_job : CommJob → Comm
 comm_job job = record {
   hide1 = slice_index_or job.hide 0 false;
   hide2 = slice_index_or job.hide 1 false;
   hide3 = slice_index_or job.hide 2 false;
-  end = ending job.zero;
+  terminator = terminator job.zero;
   descending = job.descending;
 }
 
--- all three columns
+-- written for an empty field that the output list names
 abbrev pub default_comm : Comm
-default_comm = record { hide1 = false; hide2 = false; hide3 = false; end = 10; descending = false }
+default_comm = record { hide1 = false; hide2 = false; hide3 = false; terminator = 10; descending = false }
 
--- what `join` is to do
+-- the options of `join`
 pub record Join : Type 0 where
   -- pairs of lines are written
   pub pairs : Bool
-  -- lines of the file that pair with none are written
+  -- unpairable lines of the file are written
   pub unpaired1 : Bool
   pub unpaired2 : Bool
-  -- stands for an empty field that the output list names
+  -- written in place of an empty field that the output list names
   pub empty : List ℕ
-  -- the fields that are written, or none for the join field and then the others
+  -- the fields that are written; `None` for the join field and then the other fields of each line
   pub list : Option (List OutField)
-  -- the byte between fields, or none for blanks
+  -- the byte between fields; `None` for runs of blanks
   pub separator : Option ℕ
-  -- the number of the join field, counted from 1
+  -- the number of the join field in each file, counted from 1
   pub field1 : ℕ
   pub field2 : ℕ
-  -- the byte that ends a line
-  pub end : ℕ
-  -- lines stand in descending order of their keys
+  -- the line terminator
+  pub terminator : ℕ
+  -- the lines are in descending order of their join fields
   pub descending : Bool
 
+-- the view of a job of the code
 abbrev pub join_job : {A : Type 0} → JoinJob A → Join
 join_job job = record {
   pairs = job.pairs;
@@ -123,11 +129,11 @@ join_job job = record {
   separator = job.sep;
   field1 = slice_index job.field 0;
   field2 = slice_index job.field 1;
-  end = ending job.zero;
+  terminator = terminator job.zero;
   descending = job.descending;
 }
 
--- the pairs of lines with equal first fields
+-- `join` without options: the pairs of lines with equal first fields
 abbrev pub default_join : Join
 default_join = record {
   pairs = true;
@@ -138,6 +144,6 @@ default_join = record {
   separator = None;
   field1 = 1;
   field2 = 1;
-  end = 10;
+  terminator = 10;
   descending = false;
 }

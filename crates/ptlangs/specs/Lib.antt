@@ -1,13 +1,13 @@
-pub mod Answers
+pub mod Results
 pub mod CutLists
 pub mod DelimLists
 pub mod Jobs
 pub mod Numbers
 pub mod OutLists
 pub mod TrClasses
-pub mod TrParts
+pub mod TrElements
 pub mod TrPlan
-pub mod TrReading
+pub mod TrParsing
 pub mod TrShifts
 pub mod TrTables
-pub mod TrUnits
+pub mod TrChars

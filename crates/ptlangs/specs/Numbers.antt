@@ -1,4 +1,4 @@
--- Decimal numbers, and the elements of a list.
+-- Decimal numbers, and lists of elements between separators.
 use Rattle.std.specs.Prelude.{ℕ, ◌==◌, ◌||◌, ◌&&◌, List, [], ◌∷◌, ◌++◌, ◌≡◌, Bool, true, false, not, Option, Some, None, Result, Ok, Err, if◌then◌else◌, nat_le}
 use Rattle.std.specs.Char.{is_ascii_digit}
 use Rattle.std.specs.List.{list_all, slice_split}
@@ -6,46 +6,51 @@ use Rattle.std.specs.Result.{result_map_both}
 use Rattle.std.specs.Str.Parse.{digits_value}
 use Rattle.std.specs.Str.{byte}
 
--- the greatest number of 64 bits
-abbrev pub greatest : ℕ
-greatest = 18446744073709551615
+-- the greatest 64-bit number
+abbrev pub max_u64 : ℕ
+max_u64 = 18446744073709551615
 
+-- the list has no item
 abbrev pub is_empty : {X : Type 0} → List X → Bool
 is_empty [] = true
 is_empty (x ∷ xs) = false
 
--- one digit or more, and nothing else
+-- one decimal digit or more, and nothing else
 abbrev pub is_number : List ℕ → Bool
 is_number bs = not (is_empty bs) && list_all is_ascii_digit bs
 
+-- the value of decimal digits
 abbrev pub value : List ℕ → ℕ
 value bs = digits_value 10 bs
 
--- a number that is not too large
+-- the value of a decimal number that fits into 64 bits; `None` for any other text
 abbrev pub number : List ℕ → Option ℕ
-number bs = if is_number bs && nat_le (value bs) greatest then Some (value bs) else None
+number bs = if is_number bs && nat_le (value bs) max_u64 then Some (value bs) else None
 
--- the elements between single commas, spaces and tabs
-abbrev pub is_separator : ℕ → Bool
-is_separator b = (b == byte ",") || (b == byte " ") || (b == 9)
+-- a byte that separates elements: a comma, a space or a tab
+abbrev pub is_list_separator : ℕ → Bool
+is_list_separator b = (b == byte ",") || (b == byte " ") || (b == 9)
 
+-- the elements between single separators
 abbrev pub elements : List ℕ → List (List ℕ)
-elements bs = slice_split is_separator bs
+elements bs = slice_split is_list_separator bs
 
--- one reading after another; the first fault decides
+-- the second step on the value of the first, or the fault of the first
 abbrev pub and_then : {A B E : Type 0} → Result A E → (A → Result B E) → Result B E
 and_then (Ok x) f = f x
 and_then (Err e) f = Err e
 
-abbrev pub put_first : {A E : Type 0} → A → Result (List A) E → Result (List A) E
-put_first {A} {E} x r = result_map_both (λ (xs : List A). x ∷ xs) (λ (e : E). e) r
+-- the item before a list that was read, or the fault of the list
+abbrev pub cons_ok : {A E : Type 0} → A → Result (List A) E → Result (List A) E
+cons_ok {A} {E} x r = result_map_both (λ (xs : List A). x ∷ xs) (λ (e : E). e) r
 
--- each item read; the first faulty one decides
-abbrev pub each : {A B E : Type 0} → (A → Result B E) → List A → Result (List B) E
-each read [] = Ok []
-each read (x ∷ xs) = and_then (read x) (λ y. put_first y (each read xs))
+-- the values of all items, in order, or the fault of the first faulty item
+abbrev pub traverse : {A B E : Type 0} → (A → Result B E) → List A → Result (List B) E
+traverse read [] = Ok []
+traverse read (x ∷ xs) = and_then (read x) (λ y. cons_ok y (traverse read xs))
 
--- The same as a grammar: elements between single separators, where `Says` relates an element to what it says.
-pub data IsListOf {A : Type 0} (Says : List ℕ → A → Type 0) : List ℕ → List A → Type 0 where
-  Last : (e : List ℕ) (x : A) → Says e x → IsListOf Says e (x ∷ [])
-  More : (e : List ℕ) (s : ℕ) (bs : List ℕ) (x : A) (xs : List A) → Says e x → is_separator s ≡ true → IsListOf Says bs xs → IsListOf Says (e ++ s ∷ bs) (x ∷ xs)
+-- The grammar of a list: elements with a single separator between each two. `Spells` relates the text of an element to
+-- its value.
+pub data IsListOf {A : Type 0} (Spells : List ℕ → A → Type 0) : List ℕ → List A → Type 0 where
+  Last : (e : List ℕ) (x : A) → Spells e x → IsListOf Spells e (x ∷ [])
+  More : (e : List ℕ) (s : ℕ) (bs : List ℕ) (x : A) (xs : List A) → Spells e x → is_list_separator s ≡ true → IsListOf Spells bs xs → IsListOf Spells (e ++ s ∷ bs) (x ∷ xs)

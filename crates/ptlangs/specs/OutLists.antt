@@ -1,7 +1,7 @@
--- The output list of `join`.
+-- The output list of `join`, option `-o` (POSIX.1-2017, XCU, `join`).
 use Rattle.std.specs.Prelude.{ℕ, ◌==◌, ◌≡◌, ◌≤◌, ◌↔◌, List, [], ◌∷◌, ◌++◌, true, not, Option, Some, None, Result, Ok, Err, if◌then◌else◌, nat_lt, codes, option_map, slice_get}
 use Rattle.std.specs.Str.{byte}
-use Rattle.ptlangs.specs.Numbers.{greatest, is_number, value, elements, each, IsListOf}
+use Rattle.ptlangs.specs.Numbers.{max_u64, is_number, value, elements, traverse, IsListOf}
 use Rattle.ptlangs.specs.declared.outlist.File.{File}
 use Rattle.ptlangs.specs.declared.outlist.File.TheVariants.{First, Second}
 use Rattle.ptlangs.specs.declared.outlist.OutField.{OutField}
@@ -9,60 +9,64 @@ use Rattle.ptlangs.specs.declared.outlist.OutField.TheVariants.{Join, Field}
 use Rattle.ptlangs.specs.declared.outlist.OutFault.{OutFault}
 use Rattle.ptlangs.specs.declared.outlist.OutFault.TheVariants.{Empty, Malformed, Zero, TooLarge, Memory}
 
--- the list's fault, none for want of memory
-abbrev pub fault_of : OutFault → Option OutFault
-fault_of Memory = None
-fault_of fault = Some fault
+-- the fault that an error reports; `None` for an allocation failure
+abbrev pub out_list_fault : OutFault → Option OutFault
+out_list_fault Memory = None
+out_list_fault fault = Some fault
 
--- the field of a file with this number
+-- the field of the file with this number, or the fault of the number
 abbrev pub field_of : File → List ℕ → Result OutField OutFault
 field_of file number =
     if not (is_number number) then Err Malformed
-    else (if nat_lt greatest (value number) then Err TooLarge
+    else (if nat_lt max_u64 (value number) then Err TooLarge
     else (if value number == 0 then Err Zero else Ok (Field file (value number))))
 
--- after the number of a file, a point and a number
-abbrev pub pointed : ℕ → ℕ → List ℕ → Result OutField OutFault
-pointed name point number =
+-- the field of an element of the form `1.n` or `2.n`, from its first byte, its second byte and the rest
+abbrev pub field_after_point : ℕ → ℕ → List ℕ → Result OutField OutFault
+field_after_point name point number =
     if not (point == byte ".") then Err Malformed
     else (if name == byte "1" then field_of First number
     else (if name == byte "2" then field_of Second number else Err Malformed))
 
-abbrev pub element : List ℕ → Result OutField OutFault
-element [] = Err Empty
-element (b ∷ []) = if b == byte "0" then Ok Join else Err Malformed
-element (b ∷ c ∷ more) = pointed b c more
+-- the field that one element denotes, or its fault
+abbrev pub element_field : List ℕ → Result OutField OutFault
+element_field [] = Err Empty
+element_field (b ∷ []) = if b == byte "0" then Ok Join else Err Malformed
+element_field (b ∷ c ∷ more) = field_after_point b c more
 
--- the fields of a list, or its first fault
+-- the fields of a list, or the fault of the first faulty element
 abbrev pub out_list : List ℕ → Result (List OutField) OutFault
-out_list bs = each element (elements bs)
+out_list bs = traverse element_field (elements bs)
 
--- a field as two numbers: the file's and its own, or twice 0 for the join field
-abbrev pub numbered : OutField → ℕ × ℕ
-numbered Join = (0, 0)
-numbered (Field First n) = (1, n)
-numbered (Field Second n) = (2, n)
+-- a field as a pair: the number of the file and the number of the field; (0, 0) for the join field
+abbrev pub field_as_pair : OutField → ℕ × ℕ
+field_as_pair Join = (0, 0)
+field_as_pair (Field First n) = (1, n)
+field_as_pair (Field Second n) = (2, n)
 
+-- the field with this index in the list, counted from 0, as a pair
 abbrev pub field_at : List OutField → ℕ → Option (ℕ × ℕ)
-field_at fields place = option_map numbered (slice_get fields place)
+field_at fields index = option_map field_as_pair (slice_get fields index)
 
--- The same as a grammar: what an element spells, and a list.
-pub data IsElement : List ℕ → OutField → Type 0 where
-  TheJoinField : IsElement (codes "0") Join
-  OfFirst : (n : List ℕ) → is_number n ≡ true → IsElement (codes "1." ++ n) (Field First (value n))
-  OfSecond : (n : List ℕ) → is_number n ≡ true → IsElement (codes "2." ++ n) (Field Second (value n))
+-- The grammar of one element: its text, and the field that it denotes. Numbers are not checked here.
+pub data SpellsField : List ℕ → OutField → Type 0 where
+  JoinField : SpellsField (codes "0") Join
+  FirstFileField : (n : List ℕ) → is_number n ≡ true → SpellsField (codes "1." ++ n) (Field First (value n))
+  SecondFileField : (n : List ℕ) → is_number n ≡ true → SpellsField (codes "2." ++ n) (Field Second (value n))
 
--- the number of a field: positive, and not too large
-abbrev pub IsProper : OutField → Type 0
-IsProper Join = Unit {0}
-IsProper (Field file n) = (1 ≤ n) × (n ≤ greatest)
+-- the number of the field is positive and fits into 64 bits
+abbrev pub IsValidField : OutField → Type 0
+IsValidField Join = Unit {0}
+IsValidField (Field file n) = (1 ≤ n) × (n ≤ max_u64)
 
-abbrev pub IsProperElement : List ℕ → OutField → Type 0
-IsProperElement e f = IsElement e f × IsProper f
+-- an element whose field is valid
+abbrev pub IsFieldElement : List ℕ → OutField → Type 0
+IsFieldElement e f = SpellsField e f × IsValidField f
 
+-- the grammar of a list: its text, and the fields of its elements
 abbrev pub IsOutList : List ℕ → List OutField → Type 0
-IsOutList = IsListOf IsProperElement
+IsOutList = IsListOf IsFieldElement
 
--- the readings that `out_list` accepts are those of the grammar
-abbrev pub AcceptsTheGrammar : Type 0
-AcceptsTheGrammar = (bs : List ℕ) (fs : List OutField) → IsOutList bs fs ↔ (out_list bs ≡ Ok fs)
+-- `out_list` accepts the lists of the grammar and no others, and gives the fields that the grammar gives
+abbrev pub OutListMatchesGrammar : Type 0
+OutListMatchesGrammar = (bs : List ℕ) (fs : List OutField) → IsOutList bs fs ↔ (out_list bs ≡ Ok fs)

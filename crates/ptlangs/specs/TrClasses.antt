@@ -1,16 +1,16 @@
--- The classes of characters, in the POSIX locale over ASCII.
+-- The character classes of the POSIX locale, over ASCII (POSIX.1-2017, XBD 7.3.1).
 use Rattle.std.specs.Prelude.{ℕ, Bool, true, false, ◌+◌, ◌-◌, List, [], ◌∷◌, ◌++◌, Option, codes, bytes_eq}
 use Rattle.std.specs.List.{find, range_with_len}
 use Rattle.std.specs.Option.{option_map}
 use Rattle.std.specs.Str.{byte}
-use Rattle.ptlangs.specs.declared.classes.CharClass.{CharClass}
-use Rattle.ptlangs.specs.declared.classes.CharClass.TheVariants.{Alnum, Alpha, Blank, Cntrl, Digit, Graph, Lower, Print, Punct, Space, Upper, Xdigit}
+use Rattle.ptlangs.specs.declared.tr.classes.CharClass.{CharClass}
+use Rattle.ptlangs.specs.declared.tr.classes.CharClass.TheVariants.{Alnum, Alpha, Blank, Cntrl, Digit, Graph, Lower, Print, Punct, Space, Upper, Xdigit}
 
--- the bytes from a to b
+-- the bytes from `a` to `b`, both included
 abbrev pub span : ℕ → ℕ → List ℕ
 span a b = range_with_len a (b + 1 - a)
 
--- the same of a pair
+-- `span` of a pair of bounds
 abbrev pub range_bytes : ℕ × ℕ → List ℕ
 range_bytes r = span r.0 r.1
 
@@ -33,6 +33,7 @@ class_bytes Space = span 9 13 ++ byte " " ∷ []
 class_bytes Upper = span (byte "A") (byte "Z")
 class_bytes Xdigit = span (byte "0") (byte "9") ++ span (byte "A") (byte "F") ++ span (byte "a") (byte "f")
 
+-- each class with its name
 abbrev pub class_names : List (List ℕ × CharClass)
 class_names =
     (codes "alnum", Alnum) ∷ (codes "alpha", Alpha) ∷ (codes "blank", Blank) ∷ (codes "cntrl", Cntrl)
@@ -40,12 +41,12 @@ class_names =
     ∷ (codes "punct", Punct) ∷ (codes "space", Space) ∷ (codes "upper", Upper) ∷ (codes "xdigit", Xdigit)
     ∷ []
 
--- the class of this name, if there is one
+-- the class with this name; `None` if there is none
 abbrev pub class_named : List ℕ → Option CharClass
 class_named name = option_map (λ (c : List ℕ × CharClass). c.1) (find (λ (c : List ℕ × CharClass). bytes_eq name c.0) class_names)
 
--- whether the two are the lower and the upper case
-abbrev pub are_cases : CharClass → CharClass → Bool
-are_cases Lower Upper = true
-are_cases Upper Lower = true
-are_cases c d = false
+-- the two classes are `lower` and `upper`, in either order
+abbrev pub are_opposite_cases : CharClass → CharClass → Bool
+are_opposite_cases Lower Upper = true
+are_opposite_cases Upper Lower = true
+are_opposite_cases c d = false

@@ -1,147 +1,156 @@
--- What the strings of `tr` mean: arrays, and what is deleted, translated and squeezed.
+-- The plan of `tr`: the array of bytes of each string, and which bytes are deleted, translated and squeezed
+-- (POSIX.1-2017, XCU, `tr`).
 use Rattle.std.specs.Prelude.{◌≡◌, ◌≢◌, ◌↔◌, ℕ, zero, suc, ◌+◌, ◌-◌, ◌==◌, ◌&&◌, ◌||◌, List, [], ◌∷◌, ◌++◌, Bool, true, false, not, Option, Some, None, Result}
 use Rattle.std.specs.Prelude.{Ok, Err, if◌then◌else◌, length, take, filter, replicate, unwrap_or, slice_get}
 use Rattle.std.specs.List.{flat_map, list_all, list_any, last_or}
 use Rattle.std.specs.Option.{option_and_then, option_to_list}
 use Rattle.std.specs.Result.{result_map_both}
-use Rattle.ptlangs.specs.declared.classes.CharClass.{CharClass}
+use Rattle.ptlangs.specs.declared.tr.classes.CharClass.{CharClass}
 use Rattle.ptlangs.specs.declared.faults.SetFaultKind.{SetFaultKind}
 use Rattle.ptlangs.specs.declared.faults.SetFaultKind.TheVariants.{Empty, UnknownClass, ClassPlace, EquivPlace, RepeatPlace, RepeatSize, SecondFill, Memory}
 use Rattle.ptlangs.specs.declared.faults.SetString.TheVariants as string
 use Rattle.ptlangs.specs.declared.faults.SetString.{SetString}
 use Rattle.ptlangs.specs.declared.faults.SetFault.{SetFault}
-use Rattle.ptlangs.specs.declared.parts.Part.{Part}
-use Rattle.ptlangs.specs.declared.parts.Part.TheVariants as part
-use Rattle.ptlangs.specs.declared.pieces.Piece.{Piece}
-use Rattle.ptlangs.specs.declared.pieces.Piece.TheVariants.{Range, Class, Repeat, Fill}
-use Rattle.ptlangs.specs.declared.pieces.Place.{Place}
-use Rattle.ptlangs.specs.declared.pieces.Place.TheVariants.{First, Images, Squeezed}
-use Rattle.ptlangs.specs.declared.plan.Form.{Form}
-use Rattle.ptlangs.specs.declared.plan.Form.TheVariants.{Translate, TranslateSqueeze, Squeeze, Delete, DeleteSqueeze}
-use Rattle.ptlangs.specs.Numbers.{and_then, each}
-use Rattle.ptlangs.specs.TrUnits.{units}
-use Rattle.ptlangs.specs.declared.units.SetUnit.{SetUnit}
-use Rattle.ptlangs.specs.TrParts.{Begins, BeginsFaulty, parts}
-use Rattle.ptlangs.specs.TrClasses.{span, all_bytes, are_cases, class_bytes}
+use Rattle.ptlangs.specs.declared.tr.elements.SetElement.{SetElement}
+use Rattle.ptlangs.specs.declared.tr.elements.SetElement.TheVariants as element
+use Rattle.ptlangs.specs.declared.tr.segments.Segment.{Segment}
+use Rattle.ptlangs.specs.declared.tr.segments.Segment.TheVariants.{Range, Class, Repeat, Fill}
+use Rattle.ptlangs.specs.declared.tr.segments.SetRole.{SetRole}
+use Rattle.ptlangs.specs.declared.tr.segments.SetRole.TheVariants.{First, Images, Squeezed}
+use Rattle.ptlangs.specs.declared.tr.plan.Form.{Form}
+use Rattle.ptlangs.specs.declared.tr.plan.Form.TheVariants.{Translate, TranslateSqueeze, Squeeze, Delete, DeleteSqueeze}
+use Rattle.ptlangs.specs.Numbers.{and_then, traverse}
+use Rattle.ptlangs.specs.TrChars.{chars}
+use Rattle.ptlangs.specs.declared.tr.chars.SetChar.{SetChar}
+use Rattle.ptlangs.specs.TrElements.{StartsElement, StartsInvalid, set_elements}
+use Rattle.ptlangs.specs.TrClasses.{span, all_bytes, are_opposite_cases, class_bytes}
 
--- ---- the pieces of an array
+-- ---- the segments of an array
 
--- a repeat; a count of 0 makes it a fill, of which there may be one
-abbrev pub repeated : Bool → ℕ → ℕ → Result Piece SetFaultKind
-repeated filled b zero = if filled then Err SecondFill else Ok (Fill b)
-repeated filled b (suc n) = Ok (Repeat b (suc n))
+-- `[b*n]`; with a count of 0 it fills the array, which only one repeat of a string may do
+abbrev pub repeat_or_fill : Bool → ℕ → ℕ → Result Segment SetFaultKind
+repeat_or_fill has_fill b zero = if has_fill then Err SecondFill else Ok (Fill b)
+repeat_or_fill has_fill b (suc n) = Ok (Repeat b (suc n))
 
-abbrev pub repeat_piece : Bool → ℕ → Option ℕ → Result Piece SetFaultKind
-repeat_piece filled b None = Err RepeatSize
-repeat_piece filled b (Some n) = repeated filled b n
+-- the segment of a repeat with this count; `None` is no valid count
+abbrev pub repeat_segment : Bool → ℕ → Option ℕ → Result Segment SetFaultKind
+repeat_segment has_fill b None = Err RepeatSize
+repeat_segment has_fill b (Some n) = repeat_or_fill has_fill b n
 
-abbrev pub class_piece : Option CharClass → Result Piece SetFaultKind
-class_piece None = Err UnknownClass
-class_piece (Some class) = Ok (Class class)
+-- the segment of a class; `None` is an unknown class
+abbrev pub class_segment : Option CharClass → Result Segment SetFaultKind
+class_segment None = Err UnknownClass
+class_segment (Some class) = Ok (Class class)
 
--- what a part gives at its place, where a fill stood before it or not
-abbrev pub piece : Place → Bool → Part → Result Piece SetFaultKind
-piece place filled (part.Single b) = Ok (Range b b)
-piece place filled (part.Range a b) = Ok (Range a b)
-piece place filled (part.Class class) = class_piece class
-piece Images filled (part.Equivalence b) = Err EquivPlace
-piece First filled (part.Equivalence b) = Ok (Range b b)
-piece Squeezed filled (part.Equivalence b) = Ok (Range b b)
-piece First filled (part.Repeat b count) = Err RepeatPlace
-piece Images filled (part.Repeat b count) = repeat_piece filled b count
-piece Squeezed filled (part.Repeat b count) = repeat_piece filled b count
+-- The segment of an element, or its fault. `role` says which string of which form it is, `has_fill` whether a fill came
+-- before.
+abbrev pub segment : SetRole → Bool → SetElement → Result Segment SetFaultKind
+segment role has_fill (element.Single b) = Ok (Range b b)
+segment role has_fill (element.Range a b) = Ok (Range a b)
+segment role has_fill (element.Class class) = class_segment class
+segment Images has_fill (element.Equivalence b) = Err EquivPlace
+segment First has_fill (element.Equivalence b) = Ok (Range b b)
+segment Squeezed has_fill (element.Equivalence b) = Ok (Range b b)
+segment First has_fill (element.Repeat b count) = Err RepeatPlace
+segment Images has_fill (element.Repeat b count) = repeat_segment has_fill b count
+segment Squeezed has_fill (element.Repeat b count) = repeat_segment has_fill b count
 
-abbrev pub is_fill : Result Piece SetFaultKind → Bool
+-- the segment is a fill
+abbrev pub is_fill : Result Segment SetFaultKind → Bool
 is_fill (Ok (Range a b)) = false
 is_fill (Ok (Class class)) = false
 is_fill (Ok (Repeat b n)) = false
 is_fill (Ok (Fill b)) = true
 is_fill (Err k) = false
 
--- what each part gives, or its fault
-abbrev pub pieces : Place → Bool → List (Result Part SetFaultKind) → List (Result Piece SetFaultKind)
-pieces place filled [] = []
-pieces place filled (Err k ∷ more) = Err k ∷ []
-pieces place filled (Ok p ∷ more) = piece place filled p ∷ pieces place (filled || is_fill (piece place filled p)) more
+-- the segment of each element, or its fault
+abbrev pub segments : SetRole → Bool → List (Result SetElement SetFaultKind) → List (Result Segment SetFaultKind)
+segments role has_fill [] = []
+segments role has_fill (Err k ∷ more) = Err k ∷ []
+segments role has_fill (Ok p ∷ more) = segment role has_fill p ∷ segments role (has_fill || is_fill (segment role has_fill p)) more
 
-abbrev pub pieces_of : Place → List ℕ → List (Result Piece SetFaultKind)
-pieces_of place text = pieces place false (parts (units text))
+-- the segments of a string, or their faults
+abbrev pub segments_of : SetRole → List ℕ → List (Result Segment SetFaultKind)
+segments_of role text = segments role false (set_elements (chars text))
 
--- all of them, or the first fault
-abbrev pub collected : {A E : Type 0} → List (Result A E) → Result (List A) E
-collected rs = each (λ r. r) rs
+-- the values of all results, or the first fault
+abbrev pub sequence : {A E : Type 0} → List (Result A E) → Result (List A) E
+sequence rs = traverse (λ r. r) rs
 
--- the pieces of a string, or its leftmost fault
-abbrev pub string_pieces : Place → List ℕ → Result (List Piece) SetFaultKind
-string_pieces place [] = Err Empty
-string_pieces place (b ∷ text) = collected (pieces_of place (b ∷ text))
+-- the segments of a string, or its leftmost fault; a string is not empty
+abbrev pub string_segments : SetRole → List ℕ → Result (List Segment) SetFaultKind
+string_segments role [] = Err Empty
+string_segments role (b ∷ text) = sequence (segments_of role (b ∷ text))
 
--- the first part of these units that gives no piece, where a fill stood before them or not, has this fault
-pub data FirstFault (place : Place) : Bool → List SetUnit → SetFaultKind → Type 0 where
-  NoPart : (filled : Bool) (us : List SetUnit) (k : SetFaultKind) → BeginsFaulty us k → FirstFault place filled us k
-  NoPiece : (filled : Bool) (us rest : List SetUnit) (p : Part) (k : SetFaultKind) → Begins us p rest
-      → piece place filled p ≡ Err k → FirstFault place filled us k
-  Later : (filled : Bool) (us rest : List SetUnit) (p : Part) (x : Piece) (k : SetFaultKind) → Begins us p rest
-      → piece place filled p ≡ Ok x → FirstFault place (filled || is_fill (Ok x)) rest k → FirstFault place filled us k
+-- The first element of the characters that has no segment has this fault; `has_fill` says whether a fill came before.
+pub data FirstFault (role : SetRole) : Bool → List SetChar → SetFaultKind → Type 0 where
+  NoElement : (has_fill : Bool) (us : List SetChar) (k : SetFaultKind) → StartsInvalid us k → FirstFault role has_fill us k
+  NoSegment : (has_fill : Bool) (us rest : List SetChar) (p : SetElement) (k : SetFaultKind) → StartsElement us p rest
+      → segment role has_fill p ≡ Err k → FirstFault role has_fill us k
+  LaterFault : (has_fill : Bool) (us rest : List SetChar) (p : SetElement) (x : Segment) (k : SetFaultKind) → StartsElement us p rest
+      → segment role has_fill p ≡ Ok x → FirstFault role (has_fill || is_fill (Ok x)) rest k → FirstFault role has_fill us k
 
--- a string is refused for the fault of its first faulty part
-abbrev pub FaultsAreFirst : Type 0
-FaultsAreFirst = (place : Place) (b : ℕ) (text : List ℕ) (k : SetFaultKind)
-    → FirstFault place false (units (b ∷ text)) k ↔ (string_pieces place (b ∷ text) ≡ Err k)
+-- a string is rejected with the fault of its first faulty element
+abbrev pub FirstFaultIsReported : Type 0
+FirstFaultIsReported = (role : SetRole) (b : ℕ) (text : List ℕ) (k : SetFaultKind)
+    → FirstFault role false (chars (b ∷ text)) k ↔ (string_segments role (b ∷ text) ≡ Err k)
 
 -- ---- arrays
 
--- the bytes of a piece, where a fill gives n
-abbrev pub members : ℕ → Piece → List ℕ
+-- the bytes of a segment, if a fill has `n` bytes
+abbrev pub members : ℕ → Segment → List ℕ
 members n (Range a b) = span a b
 members n (Class class) = class_bytes class
 members n (Repeat b count) = replicate count b
 members n (Fill b) = replicate n b
 
-abbrev pub array : ℕ → List Piece → List ℕ
+-- the array of a string: the bytes of its segments, one after another
+abbrev pub array : ℕ → List Segment → List ℕ
 array n ps = flat_map (members n) ps
 
+-- the array contains the byte
 abbrev pub has_byte : ℕ → List ℕ → Bool
 has_byte c bytes = list_any (λ b. b == c) bytes
 
--- all other bytes, ascending
+-- all bytes that the array does not contain, ascending
 abbrev pub complement_of : List ℕ → List ℕ
 complement_of bytes = filter (λ b. not (has_byte b bytes)) all_bytes
 
--- the array of the first string
-abbrev pub first_array : Bool → List Piece → List ℕ
+-- the array of the first string, or its complement (`-c`)
+abbrev pub first_array : Bool → List Segment → List ℕ
 first_array complement ps = if complement then complement_of (array 0 ps) else array 0 ps
 
--- how much a fill gives, so that the array has n members
-abbrev pub fill_count : ℕ → List Piece → ℕ
+-- the number of bytes that a fill has, so that the array has `n` bytes
+abbrev pub fill_count : ℕ → List Segment → ℕ
 fill_count n ps = n - length (array 0 ps)
 
--- the classes of a string, each with the number of members before it
-abbrev pub class_places : ℕ → ℕ → List Piece → List (ℕ × CharClass)
-class_places n at [] = []
-class_places n at (Class class ∷ ps) = (at, class) ∷ class_places n (at + length (class_bytes class)) ps
-class_places n at (Range a b ∷ ps) = class_places n (at + length (span a b)) ps
-class_places n at (Repeat b count ∷ ps) = class_places n (at + count) ps
-class_places n at (Fill b ∷ ps) = class_places n (at + n) ps
+-- the classes of a string, each with its offset in the array
+abbrev pub class_offsets : ℕ → ℕ → List Segment → List (ℕ × CharClass)
+class_offsets n at [] = []
+class_offsets n at (Class class ∷ ps) = (at, class) ∷ class_offsets n (at + length (class_bytes class)) ps
+class_offsets n at (Range a b ∷ ps) = class_offsets n (at + length (span a b)) ps
+class_offsets n at (Repeat b count ∷ ps) = class_offsets n (at + count) ps
+class_offsets n at (Fill b ∷ ps) = class_offsets n (at + n) ps
 
--- the other case of this class stands there
-abbrev pub stands_at : List (ℕ × CharClass) → ℕ → CharClass → Bool
-stands_at firsts at class = list_any (λ (f : ℕ × CharClass). (f.0 == at) && are_cases f.1 class) firsts
+-- the other case of this class has this offset in the first string
+abbrev pub has_other_case_at : List (ℕ × CharClass) → ℕ → CharClass → Bool
+has_other_case_at firsts at class = list_any (λ (f : ℕ × CharClass). (f.0 == at) && are_opposite_cases f.1 class) firsts
 
--- each class of the second string faces its other case in the first
-abbrev pub is_paired : List (ℕ × CharClass) → List (ℕ × CharClass) → Bool
-is_paired firsts seconds = list_all (λ (s : ℕ × CharClass). stands_at firsts s.0 s.1) seconds
+-- each class of the second string has its other case at the same offset of the first string
+abbrev pub are_paired : List (ℕ × CharClass) → List (ℕ × CharClass) → Bool
+are_paired firsts seconds = list_all (λ (s : ℕ × CharClass). has_other_case_at firsts s.0 s.1) seconds
 
 -- ---- the plan
 
--- what `tr` does to bytes, by the arrays
+-- what happens to a byte, by arrays: a byte of `deleted` is deleted, a byte of `from` becomes the byte of `to` with the
+-- same index, and repeats of a byte of `squeezed` are squeezed to one
 pub record Plan : Type 0 where
   pub deleted : List ℕ
   pub from : List ℕ
   pub to : List ℕ
   pub squeezed : List ℕ
 
--- the plan of a form, from the two arrays
+-- the plan of a form, from the arrays of its strings
 abbrev pub plan_of : Form → List ℕ → List ℕ → Plan
 plan_of Translate first second = record { deleted = []; from = first; to = second; squeezed = [] }
 plan_of TranslateSqueeze first second = record { deleted = []; from = first; to = second; squeezed = second }
@@ -149,44 +158,50 @@ plan_of Squeeze first second = record { deleted = []; from = []; to = []; squeez
 plan_of Delete first second = record { deleted = first; from = []; to = []; squeezed = [] }
 plan_of DeleteSqueeze first second = record { deleted = first; from = []; to = []; squeezed = second }
 
--- as many bytes as n: filled up with the last one, or cut
-abbrev pub fitted : ℕ → List ℕ → List ℕ
-fitted n bytes = take n (bytes ++ flat_map (λ b. replicate n b) (option_to_list (last_or None bytes)))
+-- the array with exactly `n` bytes: its last byte is repeated, or the bytes after the first `n` are dropped
+abbrev pub padded_to : ℕ → List ℕ → List ℕ
+padded_to n bytes = take n (bytes ++ flat_map (λ b. replicate n b) (option_to_list (last_or None bytes)))
 
-abbrev pub later_or : Option ℕ → Bool → Option ℕ
-later_or (Some i) here = Some (i + 1)
-later_or None here = if here then Some 0 else None
+-- the index in a list, from the index in its tail, or 0 if only the head is found
+abbrev pub next_index_or : Option ℕ → Bool → Option ℕ
+next_index_or (Some i) here = Some (i + 1)
+next_index_or None here = if here then Some 0 else None
 
--- the last place at which the byte stands
-abbrev pub last_place : ℕ → List ℕ → Option ℕ
-last_place c [] = None
-last_place c (b ∷ bytes) = later_or (last_place c bytes) (b == c)
+-- the last index of a byte in an array; `None` if the array does not contain it
+abbrev pub last_position : ℕ → List ℕ → Option ℕ
+last_position c [] = None
+last_position c (b ∷ bytes) = next_index_or (last_position c bytes) (b == c)
 
--- the byte of the fitted second array at the last place of a byte in the first, else the byte itself
+-- the image of byte `b`: the byte of `to`, padded to the length of `from`, at the last position of `b` in `from`; a
+-- byte that `from` does not contain is its own image
 abbrev pub image_by : List ℕ → List ℕ → ℕ → ℕ
-image_by from to b = unwrap_or (option_and_then (slice_get (fitted (length from) to)) (last_place b from)) b
+image_by from to b = unwrap_or (option_and_then (slice_get (padded_to (length from) to)) (last_position b from)) b
 
--- whether a byte is deleted, what it becomes, and whether its repeats are squeezed
+-- the byte is deleted
 abbrev pub is_deleted : Plan → ℕ → Bool
 is_deleted plan b = has_byte b plan.deleted
 
+-- the image of the byte
 abbrev pub image_of : Plan → ℕ → ℕ
 image_of plan b = image_by plan.from plan.to b
 
+-- repeats of the byte are squeezed to one
 abbrev pub is_squeezed : Plan → ℕ → Bool
 is_squeezed plan b = has_byte b plan.squeezed
 
+-- the fault, with the string in which it is
 abbrev pub in_string : {A : Type 0} → SetString → Result A SetFaultKind → Result A SetFault
 in_string {A} string r = result_map_both (λ (x : A). x) (λ (k : SetFaultKind). record { string = string; kind = k }) r
 
-abbrev pub second_place : Form → Place
-second_place Translate = Images
-second_place TranslateSqueeze = Images
-second_place Squeeze = Images
-second_place Delete = Images
-second_place DeleteSqueeze = Squeezed
+-- the role of the second string of a form
+abbrev pub second_role : Form → SetRole
+second_role Translate = Images
+second_role TranslateSqueeze = Images
+second_role Squeeze = Images
+second_role Delete = Images
+second_role DeleteSqueeze = Squeezed
 
--- whether the form has a second string
+-- the form has a second string
 abbrev pub takes_second : Form → Bool
 takes_second Translate = true
 takes_second TranslateSqueeze = true
@@ -194,31 +209,34 @@ takes_second Squeeze = false
 takes_second Delete = false
 takes_second DeleteSqueeze = true
 
--- whether the classes of the second string stand where they may: a complement has none to face
-abbrev pub may_pair : Form → Bool → List (ℕ × CharClass) → List (ℕ × CharClass) → Bool
-may_pair DeleteSqueeze complement firsts seconds = true
-may_pair form true firsts seconds = is_paired [] seconds
-may_pair form false firsts seconds = is_paired firsts seconds
+-- The second string has only classes that are allowed. If it is only squeezed, every class is. If it translates, each
+-- class needs its other case at the same offset of the first string; a complement has no classes.
+abbrev pub has_valid_classes : Form → Bool → List (ℕ × CharClass) → List (ℕ × CharClass) → Bool
+has_valid_classes DeleteSqueeze complement firsts seconds = true
+has_valid_classes form true firsts seconds = are_paired [] seconds
+has_valid_classes form false firsts seconds = are_paired firsts seconds
 
--- the plan of two strings, whose first is read and has this array
-abbrev pub plan_with : Form → Bool → List Piece → List ℕ → List Piece → Result Plan SetFaultKind
+-- the plan of two strings, from the segments of both and the array of the first
+abbrev pub plan_with : Form → Bool → List Segment → List ℕ → List Segment → Result Plan SetFaultKind
 plan_with form complement firsts first seconds =
     let n = fill_count (length first) seconds in
-    if may_pair form complement (class_places 0 0 firsts) (class_places n 0 seconds) then Ok (plan_of form first (array n seconds)) else Err ClassPlace
+    if has_valid_classes form complement (class_offsets 0 0 firsts) (class_offsets n 0 seconds) then Ok (plan_of form first (array n seconds)) else Err ClassPlace
 
-abbrev pub second_plan : Form → Bool → List Piece → List ℕ → Result Plan SetFaultKind
+-- the plan of two strings, from the segments of the first and the text of the second
+abbrev pub second_plan : Form → Bool → List Segment → List ℕ → Result Plan SetFaultKind
 second_plan form complement firsts text =
-    and_then (string_pieces (second_place form) text) (λ seconds. plan_with form complement firsts (first_array complement firsts) seconds)
+    and_then (string_segments (second_role form) text) (λ seconds. plan_with form complement firsts (first_array complement firsts) seconds)
 
-abbrev pub plan_from : Form → Bool → List Piece → Option (List ℕ) → Result Plan SetFault
+-- the plan of one string or two, from the segments of the first
+abbrev pub plan_from : Form → Bool → List Segment → Option (List ℕ) → Result Plan SetFault
 plan_from form complement firsts None = Ok (plan_of form (first_array complement firsts) [])
 plan_from form complement firsts (Some text) = in_string string.Second (second_plan form complement firsts text)
 
--- the plan of a form, a complement or not, and the strings; else the first fault
+-- the plan of a form, with or without a complement, of these strings; or the first fault
 abbrev pub plan : Form → Bool → List ℕ → Option (List ℕ) → Result Plan SetFault
-plan form complement s1 s2 = and_then (in_string string.First (string_pieces First s1)) (λ firsts. plan_from form complement firsts s2)
+plan form complement s1 s2 = and_then (in_string string.First (string_segments First s1)) (λ firsts. plan_from form complement firsts s2)
 
--- no strings are refused for want of memory
-abbrev pub NeverMemory : Type 0
-NeverMemory = (form : Form) (complement : Bool) (s1 : List ℕ) (s2 : Option (List ℕ)) (fault : SetFault)
+-- reading a string never fails for lack of memory
+abbrev pub NoMemoryFault : Type 0
+NoMemoryFault = (form : Form) (complement : Bool) (s1 : List ℕ) (s2 : Option (List ℕ)) (fault : SetFault)
     → plan form complement s1 s2 ≡ Err fault → fault.kind ≢ Memory

@@ -1,22 +1,23 @@
--- A plan of `tr` as tables of 256 entries, one for each byte.
+-- A plan of `tr` as three tables, each with an entry for every byte.
 use Rattle.std.specs.Prelude.{◌≡◌, ◌<◌, ◌^◌, ℕ, List, Bool, false, map, slice_index, slice_index_or}
 use Rattle.ptlangs.specs.TrClasses.{all_bytes}
 use Rattle.ptlangs.specs.TrPlan.{Plan, is_deleted, image_of, is_squeezed}
 
+-- for each byte: is it deleted, its image, and is it squeezed
 pub record Tables : Type 0 where
   pub deleted : List Bool
   pub images : List ℕ
   pub squeezed : List Bool
 
--- whether a byte is deleted
+-- the byte is deleted
 abbrev pub deletes : Tables → ℕ → Bool
 deletes tables b = slice_index_or tables.deleted b false
 
--- what a byte becomes
+-- the image of the byte: the byte that replaces it
 abbrev pub image : Tables → ℕ → ℕ
 image tables b = slice_index tables.images b
 
--- whether repeats of a byte are squeezed
+-- repeats of the byte are squeezed to one
 abbrev pub squeezes : Tables → ℕ → Bool
 squeezes tables b = slice_index_or tables.squeezed b false
 
@@ -24,7 +25,7 @@ squeezes tables b = slice_index_or tables.squeezed b false
 abbrev pub tables : Plan → Tables
 tables plan = record { deleted = map (is_deleted plan) all_bytes; images = map (image_of plan) all_bytes; squeezed = map (is_squeezed plan) all_bytes }
 
--- what the tables of a plan say of a byte is what the plan says
-abbrev pub HoldPlan : Type 0
-HoldPlan = (plan : Plan) (b : ℕ) → b < 2 ^ 8
+-- for every byte the tables of a plan agree with the plan
+abbrev pub TablesMatchPlan : Type 0
+TablesMatchPlan = (plan : Plan) (b : ℕ) → b < 2 ^ 8
     → (deletes (tables plan) b ≡ is_deleted plan b) × (image (tables plan) b ≡ image_of plan b) × (squeezes (tables plan) b ≡ is_squeezed plan b)

@@ -1,21 +1,21 @@
-//! The list of `paste`: the delimiters between the columns of a line.
+//! The delimiter list of `paste` (option `-d`), as `ptopts` reads it and `ptflow` uses it.
 ghost use Rattle.std.specs.Prelude.{◌≡◌, ◌<◌, [], ◌∷◌, length, None, Err, IfOk, MatchResult};
 ghost use Rattle.std.specs.Result.{result_err};
-ghost use Rattle.ptlangs.specs.Answers.{Judges};
-ghost use Rattle.ptlangs.specs.DelimLists.{AcceptsTheGrammar, fault_of, escape, delims, delim_list, delim_at};
-ghost use Rattle.ptlangs.specs.Numbers.{put_first};
+ghost use Rattle.ptlangs.specs.Results.{ValidatedParsePost};
+ghost use Rattle.ptlangs.specs.DelimLists.{DelimListMatchesGrammar, delim_list_fault, escape, delims, delim_list, delim_at};
+ghost use Rattle.ptlangs.specs.Numbers.{cons_ok};
 
 use std::alloc::{AllocError, AllocFailed, Allocator, Global};
 use std::marker::Model;
 
-/// Why a list was refused. The first faulty element, from left to right, decides.
+/// Why a list is rejected: the fault of its first faulty element, from left to right.
 #[derive(Clone, Copy, Debug, PartialEq, Eq)]
 pub enum DelimFault {
     /// The list is empty.
     Empty = 1,
-    /// There is a backslash at the end, or before a byte that is none of `n`, `t`, `\` and `0`.
+    /// A backslash ends the list, or comes before a byte other than `n`, `t`, `\` and `0`.
     Escape = 2,
-    /// A request for memory was refused.
+    /// An allocation failed.
     Memory = 3,
 }
 
@@ -30,7 +30,7 @@ impl<T: Drop> From<AllocFailed<T>> for DelimFault {
     }
 }
 
-/// The delimiters of a list, used in turn: each is a byte, or the empty string.
+/// The delimiters of a list. They are reused from the first one when a line has more columns.
 #[derive(Drop)]
 pub struct Delims<A: Allocator = Global> {
     kept: Vec<Option<u8>, A>,
@@ -47,35 +47,36 @@ impl<A: Allocator> Model for Delims<A> {
 }
 
 impl<A: Allocator> Delims<A> {
-    /// Reads a list: bytes that stand for themselves, and the escapes `\n`, `\t`, `\\` and `\0`, a
-    /// newline, a tab, a backslash and the empty string (POSIX.1-2017, XCU, `paste`, option `-d`). What follows
-    /// `\0` makes no difference, and any other escape is refused (this project's own choices).
+    /// Parses a list: bytes that denote themselves, and the escapes `\n`, `\t`, `\\` and `\0` for a newline, a tab, a
+    /// backslash and the empty string (POSIX.1-2017, XCU, `paste`, option `-d`). POSIX leaves unspecified what other
+    /// escapes denote, and `\0` before a digit, `x` or `X`: here other escapes are rejected, and `\0` is always the
+    /// empty string.
     ///
     /// # Errors
     ///
-    /// The fault of the first faulty element. `Memory` is answered only for a list without a fault, since the whole
-    /// list is checked before memory is asked for.
+    /// The fault of the first faulty element. `Memory` is returned only for a list without a fault, because the whole
+    /// list is checked before anything is allocated.
     pub fn read(alloc: A, text: &[u8]) -> Result<Delims<A>, DelimFault>
-        ensures { Judges (λ d. d) fault_of result (delim_list text.now) }
+        ensures { ValidatedParsePost (λ d. d) delim_list_fault result (delim_list text.now) }
     {
         check(text)?;
         let mut kept = Vec::new(alloc);
         let mut left = text;
         loop {
-            let (delim, behind) = first_delim(left)?;
+            let (delim, rest) = first_delim(left)?;
             kept.push(delim)?;
-            if behind.is_empty() {
+            if rest.is_empty() {
                 return Ok(Delims { kept });
             }
-            left = behind;
+            left = rest;
         }
     }
 
-    /// The list of one tab, which `paste` uses without `-d` (POSIX.1-2017, XCU, `paste`, description).
+    /// The default list, a single tab (POSIX.1-2017, XCU, `paste`, description).
     ///
     /// # Errors
     ///
-    /// A request for memory was refused.
+    /// An allocation failed.
     pub fn tab(alloc: A) -> Result<Delims<A>, AllocError>
         ensures { IfOk result (λ d. d ≡ Some 9 ∷ []) }
     {
@@ -84,7 +85,7 @@ impl<A: Allocator> Delims<A> {
         Ok(Delims { kept })
     }
 
-    /// The delimiters, in the order of the list, which has at least one.
+    /// The delimiters in the order of the list, at least one. `None` is the empty string.
     pub fn as_slice(&self) -> &[Option<u8>]
         ensures all { result.now ≡ self.now }
         ensures some { 0 < length result.now }
@@ -92,15 +93,15 @@ impl<A: Allocator> Delims<A> {
         &self.kept[..]
     }
 
-    /// How many delimiters the list has: at least one.
+    /// The number of delimiters, at least one.
     pub fn count(&self) -> usize
         ensures { result ≡ length self.now }
     {
         self.kept.as_slice().len()
     }
 
-    /// The delimiter after a column, counted from 0, or `None` for the empty string. After the
-    /// last element comes the first one again.
+    /// The delimiter after `column`, counted from 0, or `None` for the empty string. After the last delimiter of the
+    /// list comes the first one again.
     pub fn at(&self, column: u64) -> Option<u8>
         ensures { result ≡ delim_at self.now column }
     {
@@ -108,44 +109,44 @@ impl<A: Allocator> Delims<A> {
     }
 }
 
-/// Does nothing at run time. Its contract says that the lists which [`Delims::read`] accepts are those of the grammar,
-/// and mean what the grammar says.
+/// Does nothing at run time. Its contract states that [`Delims::read`] accepts exactly the lists of the grammar in
+/// `specs/DelimLists.antt`, and returns the delimiters that the grammar gives.
 pub fn accepts_the_grammar()
-    ensures { AcceptsTheGrammar }
+    ensures { DelimListMatchesGrammar }
 {}
 
-/// Finds the fault of a list, if it has one, and takes no memory.
+/// Returns the first fault of a list, if there is one. Nothing is allocated.
 fn check(text: &[u8]) -> Result<(), DelimFault>
     ensures { MatchResult result
         (λ _. result_err (delim_list text.now) ≡ None)
-        (λ e. result_err (delim_list text.now) ≡ fault_of e) }
+        (λ e. result_err (delim_list text.now) ≡ delim_list_fault e) }
 {
     let mut left = text;
     loop {
-        let (_, behind) = first_delim(left)?;
-        if behind.is_empty() {
+        let (_, rest) = first_delim(left)?;
+        if rest.is_empty() {
             return Ok(());
         }
-        left = behind;
+        left = rest;
     }
 }
 
-/// The first delimiter of a list, and what follows it.
+/// The first delimiter of a list, and the rest of the list.
 fn first_delim(text: &[u8]) -> Result<(Option<u8>, &[u8]), DelimFault>
     ensures first { MatchResult result
-        (λ found. delim_list text.now ≡ put_first found.0 (delims found.1.now))
+        (λ found. delim_list text.now ≡ cons_ok found.0 (delims found.1.now))
         (λ fault. delim_list text.now ≡ Err fault) }
     ensures shorter { IfOk result (λ found. length found.1.now < length text.now) }
 {
     match text {
         [] => Err(DelimFault::Empty),
         [b'\\'] => Err(DelimFault::Escape),
-        [b'\\', escaped, behind @ ..] => Ok((escape(*escaped)?, behind)),
-        [byte, behind @ ..] => Ok((Some(*byte), behind)),
+        [b'\\', escaped, rest @ ..] => Ok((escape(*escaped)?, rest)),
+        [byte, rest @ ..] => Ok((Some(*byte), rest)),
     }
 }
 
-/// What a backslash and this byte stand for.
+/// The delimiter that a backslash and this byte denote, or `None` for the empty string.
 fn escape(byte: u8) -> Result<Option<u8>, DelimFault>
     ensures { result ≡ escape byte }
 {

@@ -1,6 +1,6 @@
-//! Why a string of `tr` is refused.
+//! The faults of the strings of `tr`, which `ptopts` passes on and `ptrun` reports.
 
-/// Which of the two strings of `tr`.
+/// One of the two strings of `tr`.
 #[derive(Debug, Clone, Copy, PartialEq, Eq)]
 pub enum SetString {
     /// The first operand, `string1`.
@@ -9,42 +9,41 @@ pub enum SetString {
     Second = 2,
 }
 
-/// Why a string of `tr` stands for no array of bytes (POSIX.1-2017, XCU, tr, "EXTENDED
-/// DESCRIPTION"). That a string is refused, where the standard leaves its meaning open, is this
-/// project's own choice, and so is which fault counts first: the leftmost, and `ClassPlace` last.
+/// Why a string of `tr` does not denote an array of bytes (POSIX.1-2017, XCU, `tr`, "EXTENDED DESCRIPTION"). Of several
+/// faults the leftmost is reported, and `ClassPlace` only if there is no other. POSIX leaves this order unspecified,
+/// and for most kinds also whether the string is rejected.
 #[derive(Debug, Clone, Copy, PartialEq, Eq)]
 pub enum SetFaultKind {
-    /// The string is empty. This project's own choice.
+    /// The string is empty.
     Empty = 1,
-    /// An octal escape is above 255. This project's own choice.
+    /// An octal escape is above 255.
     Octal = 2,
-    /// A backslash ends the string. This project's own choice.
+    /// A backslash ends the string.
     Escape = 3,
-    /// The first end of a range is above its second. This project's own choice.
+    /// The lower bound of a range is above its upper bound.
     Descending = 4,
     /// `[:name:]` names no class of characters.
     UnknownClass = 5,
-    /// A class stands in a `string2` that translates, and is not `[:lower:]` or `[:upper:]` with the other one at the
-    /// same place of `string1`. That a complemented `string1` has no class there is this project's own choice.
+    /// In a `string2` that translates, a class that is not `[:lower:]` or `[:upper:]` with the other one at the same
+    /// offset of `string1`. A complemented `string1` has no classes.
     ClassPlace = 6,
-    /// `[=c=]` stands in a `string2` that translates.
+    /// `[=c=]` in a `string2` that translates.
     EquivPlace = 7,
-    /// `[c*n]` stands in `string1`.
+    /// `[c*n]` in `string1`.
     RepeatPlace = 8,
-    /// The count of `[c*n]` has a digit 8 or 9 after a leading zero, or is above 65535. This
-    /// project's own choice.
+    /// The count of `[c*n]` has a digit 8 or 9 after a leading zero, or is above 65535.
     RepeatSize = 9,
-    /// A second `[c*]` or `[c*0]` stands in `string2`. This project's own choice.
+    /// A second `[c*]` or `[c*0]` in `string2`.
     SecondFill = 10,
-    /// Memory ran out. Strings are read without any memory, so this is never answered.
+    /// An allocation failed. Reading a string allocates nothing, so this is never returned.
     Memory = 11,
 }
 
-/// Which string of `tr` is refused, and why.
+/// A fault of a string of `tr`.
 #[derive(Debug, Clone, Copy, PartialEq, Eq)]
 pub struct SetFault {
-    /// The string that is refused.
+    /// The string at fault.
     pub string: SetString,
-    /// Why it is refused.
+    /// The kind of the fault.
     pub kind: SetFaultKind,
 }

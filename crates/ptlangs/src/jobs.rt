@@ -1,4 +1,5 @@
-//! What the options of each tool ask for, with the defaults: one type of job for each tool.
+//! The options of the five line tools as plain values, with their defaults. `ptopts` makes a job from a command line;
+//! `ptflow` and `ptmerge` run it.
 ghost use Rattle.std.specs.Prelude.{◌≡◌, IfOk};
 ghost use Rattle.ptlangs.specs.Jobs.{paste_job, default_paste, join_job, default_join};
 
@@ -7,38 +8,38 @@ use crate::outlist::OutList;
 use crate::ranges::Ranges;
 use std::alloc::{AllocError, Allocator, Global};
 
-/// What `cut` is to do.
+/// The options of `cut`.
 #[derive(Drop)]
 pub struct CutJob<A: Allocator = Global> {
-    /// Whether fields are selected (`-f`), and not bytes or characters.
+    /// Select fields (`-f`) instead of bytes or characters.
     pub fields: bool,
     /// The numbers of the selected bytes or fields, counted from 1.
     pub list: Ranges<A>,
-    /// The byte between fields (`-d`). The default is a tab.
+    /// The delimiter between fields (`-d`). The default is a tab.
     pub delim: u8,
-    /// Whether a line without the delimiter is dropped (`-s`), and not passed on.
+    /// Drop lines without the delimiter (`-s`) instead of passing them through.
     pub only: bool,
-    /// Whether lines end with byte 0 (`-z`), and not with newline. This project's own option.
+    /// Lines end with NUL (`-z`) instead of newline. POSIX does not have this option.
     pub zero: bool,
 }
 
-/// What `paste` is to do.
+/// The options of `paste`.
 #[derive(Drop)]
 pub struct PasteJob<A: Allocator = Global> {
-    /// Whether the lines of one file at a time are put in a row (`-s`), and not one line of each.
+    /// Join the lines of one file at a time (`-s`), instead of one line of each file.
     pub serial: bool,
-    /// The delimiters between the columns (`-d`). The default is a tab.
+    /// The delimiters between columns (`-d`). The default is a tab.
     pub delims: Delims<A>,
-    /// Whether lines end with byte 0 (`-z`), and not with newline. This project's own option.
+    /// Lines end with NUL (`-z`) instead of newline. POSIX does not have this option.
     pub zero: bool,
 }
 
 impl<A: Allocator> PasteJob<A> {
-    /// The job without options: lines side by side, with a tab between them.
+    /// The job of `paste` without options: one line of each file, joined by tabs.
     ///
     /// # Errors
     ///
-    /// A request for memory was refused.
+    /// An allocation failed.
     pub fn new(alloc: A) -> Result<PasteJob<A>, AllocError>
         ensures { IfOk result (λ job. paste_job job ≡ default_paste) }
     {
@@ -50,29 +51,29 @@ impl<A: Allocator> PasteJob<A> {
     }
 }
 
-/// Which lines `uniq` writes.
+/// The lines that `uniq` writes.
 #[derive(Clone, Copy, Debug, PartialEq, Eq)]
 pub enum Show {
-    /// One line of each run of equal ones.
+    /// One line for each run of equal lines.
     All,
-    /// The same, with the length of the run before it (`-c`).
+    /// One line for each run, after the length of the run (`-c`).
     Counts,
-    /// Only those of runs of two lines or more (`-d`).
+    /// One line for each run of two lines or more (`-d`).
     Repeated,
-    /// Only lines that are not repeated: those of runs of one line (`-u`).
+    /// The lines that are not repeated (`-u`).
     Single,
 }
 
-/// What `uniq` is to do.
+/// The options of `uniq`.
 #[derive(Clone, Copy, Debug, PartialEq, Eq)]
 pub struct UniqJob {
-    /// Which lines are written.
+    /// The lines that are written.
     pub show: Show,
-    /// How many fields at the start of each line are ignored when lines are compared (`-f`). The default is 0.
+    /// The number of fields at the start of a line that are ignored in comparisons (`-f`). The default is 0.
     pub fields: u64,
-    /// How many bytes after these fields are ignored too (`-s`). The default is 0.
+    /// The number of bytes after these fields that are ignored too (`-s`). The default is 0.
     pub chars: u64,
-    /// Whether lines end with byte 0 (`-z`), and not with newline. This project's own option.
+    /// Lines end with NUL (`-z`) instead of newline. POSIX does not have this option.
     pub zero: bool,
 }
 
@@ -92,14 +93,14 @@ impl Default for UniqJob {
     }
 }
 
-/// What `comm` is to do.
+/// The options of `comm`.
 #[derive(Clone, Copy, Debug, PartialEq, Eq)]
 pub struct CommJob {
-    /// For each of the three columns, whether it is left out (`-1`, `-2`, `-3`). By default none is.
+    /// For each of the three columns, whether it is suppressed (`-1`, `-2`, `-3`). By default none is.
     pub hide: [bool; 3],
-    /// Whether lines end with byte 0 (`-z`), and not with newline. This project's own option.
+    /// Lines end with NUL (`-z`) instead of newline. POSIX does not have this option.
     pub zero: bool,
-    /// Whether the lines are in descending order (`-r`), and not in ascending order. This project's own option.
+    /// The lines are in descending order (`-r`) instead of ascending order. POSIX does not have this option.
     pub descending: bool,
 }
 
@@ -118,31 +119,29 @@ impl Default for CommJob {
     }
 }
 
-/// What `join` is to do.
+/// The options of `join`.
 #[derive(Drop)]
 pub struct JoinJob<A: Allocator = Global> {
-    /// Whether the pairs of lines with equal join fields are written. By default they are; `-v`
-    /// leaves them out.
+    /// Write the pairs of lines with equal join fields. This is the default; `-v` turns it off.
     pub pairs: bool,
-    /// For each of the two files, whether its lines that pair with none are written (`-a`, `-v`).
-    /// By default they are not.
+    /// For each of the two files, whether its unpairable lines are written (`-a`, `-v`). By default they are not.
     pub unpaired: [bool; 2],
-    /// What is written in place of an empty field that the output list names (`-e`). The default is nothing.
+    /// The text for an empty field that the output list names (`-e`). The default is the empty string.
     pub empty: Vec<u8, A>,
-    /// Which fields are written (`-o`), or `None` for the join field and then the others.
+    /// The fields that are written (`-o`); `None` for the join field and then the other fields of each line.
     pub list: Option<OutList<A>>,
-    /// The byte between fields (`-t`), or `None` for blanks between them, and a space in the output.
+    /// The field separator (`-t`); `None` for runs of blanks in the input and one space in the output.
     pub sep: Option<u8>,
     /// The number of the join field in each of the two files (`-1`, `-2`). The default is 1.
     pub field: [u64; 2],
-    /// Whether lines end with byte 0 (`-z`), and not with newline. This project's own option.
+    /// Lines end with NUL (`-z`) instead of newline. POSIX does not have this option.
     pub zero: bool,
-    /// Whether the join fields are in descending order (`-r`), and not in ascending order. This project's own option.
+    /// The join fields are in descending order (`-r`) instead of ascending order. POSIX does not have this option.
     pub descending: bool,
 }
 
 impl<A: Allocator> JoinJob<A> {
-    /// The job without options: the pairs of lines with equal first fields.
+    /// The job of `join` without options: the pairs of lines with equal first fields.
     pub fn new(alloc: A) -> JoinJob<A>
         ensures { join_job result ≡ default_join }
     {

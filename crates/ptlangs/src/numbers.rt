@@ -1,17 +1,16 @@
-//! Decimal numbers, and the elements of a list.
+//! Decimal numbers, and lists of elements between separators. The lists of `cut` and `join` and the numeric options of
+//! `ptopts` use these.
 ghost use Rattle.std.specs.Prelude.{◌≡◌, ◌∷◌, [], ◌<◌, length, MatchOption};
-ghost use Rattle.ptlangs.specs.Numbers.{is_number, number, is_separator, elements};
+ghost use Rattle.ptlangs.specs.Numbers.{is_number, number, is_list_separator, elements};
 
-/// Whether the text is a decimal number: one digit or more, and nothing else. Leading zeros are
-/// allowed (this project's own choice).
+/// Whether the text is a decimal number: one digit or more, and nothing else. Leading zeros are allowed.
 pub fn is_decimal(text: &[u8]) -> bool
     ensures { result ≡ is_number text.now }
 {
     !text.is_empty() && text.iter().all(|byte| byte.is_ascii_digit())
 }
 
-/// The number that the text is in decimal, or `None` if it is no decimal number or is above
-/// `u64::MAX`.
+/// The value of a decimal number, or `None` if the text is not a decimal number or its value is above `u64::MAX`.
 pub fn decimal(text: &[u8]) -> Option<u64>
     ensures { result ≡ number text.now }
 {
@@ -28,23 +27,23 @@ pub fn decimal(text: &[u8]) -> Option<u64>
     Some(value)
 }
 
-/// The first element of a list, and what follows the comma, space or tab that ends it: `None` if the element ends with
-/// the list.
+/// The first element of a list, and the text after the separator that ends it, or `None` if the element is the last
+/// one.
 pub(crate) fn first_element(text: &[u8]) -> (&[u8], Option<&[u8]>)
     ensures first { MatchOption result.1
         (elements text.now ≡ result.0.now ∷ [])
-        (λ behind. elements text.now ≡ result.0.now ∷ elements behind.now) }
-    ensures shorter { MatchOption result.1 (result.0.now ≡ text.now) (λ behind. length behind.now < length text.now) }
+        (λ rest. elements text.now ≡ result.0.now ∷ elements rest.now) }
+    ensures shorter { MatchOption result.1 (result.0.now ≡ text.now) (λ rest. length rest.now < length text.now) }
 {
-    match text.iter().position(|byte| is_separator(*byte)) {
+    match text.iter().position(|byte| is_list_separator(*byte)) {
         None => (text, None),
         Some(end) => (&text[..end], Some(&text[end + 1..])),
     }
 }
 
 /// Whether the byte separates elements: a comma, a space or a tab.
-fn is_separator(byte: u8) -> bool
-    ensures { result ≡ is_separator byte }
+fn is_list_separator(byte: u8) -> bool
+    ensures { result ≡ is_list_separator byte }
 {
     matches!(byte, b',' | b' ' | b'\t')
 }

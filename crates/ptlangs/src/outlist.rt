@@ -1,8 +1,8 @@
-//! The output list of `join`: which fields of a pair of lines are written.
+//! The output list of `join` (option `-o`), as `ptopts` reads it and `ptmerge` uses it.
 ghost use Rattle.std.specs.Prelude.{◌≡◌, None, MatchResult};
 ghost use Rattle.std.specs.Result.{result_err};
-ghost use Rattle.ptlangs.specs.Answers.{Judges};
-ghost use Rattle.ptlangs.specs.OutLists.{AcceptsTheGrammar, fault_of, field_of, element, out_list, field_at};
+ghost use Rattle.ptlangs.specs.Results.{ValidatedParsePost};
+ghost use Rattle.ptlangs.specs.OutLists.{OutListMatchesGrammar, out_list_fault, field_of, element_field, out_list, field_at};
 
 use crate::numbers::{decimal, first_element, is_decimal};
 use std::alloc::{AllocFailed, Allocator, Global};
@@ -15,27 +15,27 @@ pub enum File {
     Second = 2,
 }
 
-/// What one element of an output list names.
+/// The field that one element of an output list names.
 #[derive(Clone, Copy, Debug, PartialEq, Eq)]
 pub enum OutField {
     /// The join field.
     Join,
-    /// The field of a file with this number, counted from 1.
+    /// The field of `File` with this number, counted from 1.
     Field(File, u64),
 }
 
-/// Why a list was refused. The first faulty element, from left to right, decides.
+/// Why a list is rejected: the fault of its first faulty element, from left to right.
 #[derive(Clone, Copy, Debug, PartialEq, Eq)]
 pub enum OutFault {
-    /// An element is empty. So is the only element of an empty list.
+    /// An element is empty. An empty list has one element, which is empty.
     Empty = 1,
-    /// An element is none of `0`, `1.n` and `2.n`.
+    /// An element has none of the forms `0`, `1.n` and `2.n`.
     Malformed = 2,
-    /// The number of a field is zero; fields count from 1.
+    /// The number of a field is zero; fields are counted from 1.
     Zero = 3,
     /// The number of a field is above `u64::MAX`.
     TooLarge = 4,
-    /// A request for memory was refused.
+    /// An allocation failed.
     Memory = 5,
 }
 
@@ -50,7 +50,7 @@ impl<T: Drop> From<AllocFailed<T>> for OutFault {
     }
 }
 
-/// The fields of an output list, in its order.
+/// The fields of an output list, in order.
 #[derive(Drop)]
 pub struct OutList<A: Allocator = Global> {
     kept: Vec<OutField, A>,
@@ -66,43 +66,43 @@ impl<A: Allocator> Model for OutList<A> {
 }
 
 impl<A: Allocator> OutList<A> {
-    /// Reads a list: elements `0`, the join field, and `1.n` and `2.n`, a field of the first and of the second file,
-    /// between single commas, spaces and tabs (POSIX.1-2017, XCU, `join`, option `-o`; that separators may be mixed is
-    /// this project's own choice).
+    /// Parses a list: the elements `0` (the join field), `1.n` and `2.n` (field `n` of the first and of the second
+    /// file), with a single comma, space or tab between each two (POSIX.1-2017, XCU, `join`, option `-o`). POSIX leaves
+    /// a mixture of separators unspecified.
     ///
     /// # Errors
     ///
-    /// The fault of the first faulty element. `Memory` is answered only for a list without a fault, since the whole
-    /// list is checked before memory is asked for.
+    /// The fault of the first faulty element. `Memory` is returned only for a list without a fault, because the whole
+    /// list is checked before anything is allocated.
     pub fn read(alloc: A, text: &[u8]) -> Result<OutList<A>, OutFault>
-        ensures { Judges (λ l. l) fault_of result (out_list text.now) }
+        ensures { ValidatedParsePost (λ l. l) out_list_fault result (out_list text.now) }
     {
         check(text)?;
         let mut kept = Vec::new(alloc);
         let mut left = text;
         loop {
-            let (element, behind) = first_element(left);
+            let (element, rest) = first_element(left);
             kept.push(read_element(element)?)?;
-            let Some(behind) = behind else {
+            let Some(rest) = rest else {
                 return Ok(OutList { kept });
             };
-            left = behind;
+            left = rest;
         }
     }
 
-    /// The element at a place, counted from 0, as two numbers: (0, 0) for the join field, and otherwise the file, 1 or
-    /// 2, and the field, counted from 1. `None` if the list has no element at that place.
-    pub fn at(&self, place: usize) -> Option<(u8, u64)>
-        ensures { result ≡ field_at self.now place }
+    /// The field with this index in the list, counted from 0, as a pair: (0, 0) for the join field, otherwise the file,
+    /// 1 or 2, and the number of the field, counted from 1. `None` past the end of the list.
+    pub fn at(&self, index: usize) -> Option<(u8, u64)>
+        ensures { result ≡ field_at self.now index }
     {
-        match self.kept.get(place)? {
+        match self.kept.get(index)? {
             OutField::Join => Some((0, 0)),
             OutField::Field(File::First, number) => Some((1, *number)),
             OutField::Field(File::Second, number) => Some((2, *number)),
         }
     }
 
-    /// The fields, in the order of the list.
+    /// The fields in the order of the list.
     pub fn fields(&self) -> &[OutField]
         ensures { result.now ≡ self.now }
     {
@@ -110,32 +110,32 @@ impl<A: Allocator> OutList<A> {
     }
 }
 
-/// Does nothing at run time. Its contract says that the lists which [`OutList::read`] accepts are those of the grammar,
-/// and mean what the grammar says.
+/// Does nothing at run time. Its contract states that [`OutList::read`] accepts exactly the lists of the grammar in
+/// `specs/OutLists.antt`, and returns the fields that the grammar gives.
 pub fn accepts_the_grammar()
-    ensures { AcceptsTheGrammar }
+    ensures { OutListMatchesGrammar }
 {}
 
-/// Finds the fault of a list, if it has one, and takes no memory.
+/// Returns the first fault of a list, if there is one. Nothing is allocated.
 fn check(text: &[u8]) -> Result<(), OutFault>
     ensures { MatchResult result
         (λ _. result_err (out_list text.now) ≡ None)
-        (λ e. result_err (out_list text.now) ≡ fault_of e) }
+        (λ e. result_err (out_list text.now) ≡ out_list_fault e) }
 {
     let mut left = text;
     loop {
-        let (element, behind) = first_element(left);
+        let (element, rest) = first_element(left);
         read_element(element)?;
-        let Some(behind) = behind else {
+        let Some(rest) = rest else {
             return Ok(());
         };
-        left = behind;
+        left = rest;
     }
 }
 
 /// The field that one element names.
 fn read_element(text: &[u8]) -> Result<OutField, OutFault>
-    ensures { result ≡ element text.now }
+    ensures { result ≡ element_field text.now }
 {
     match text {
         [] => Err(OutFault::Empty),
@@ -146,7 +146,7 @@ fn read_element(text: &[u8]) -> Result<OutField, OutFault>
     }
 }
 
-/// The field of a file with this number.
+/// The field of `file` with this number.
 fn read_field(file: File, number: &[u8]) -> Result<OutField, OutFault>
     ensures { result ≡ field_of file number.now }
 {

@@ -1,9 +1,9 @@
-//! The list of `cut`: which bytes, characters or fields of a line are selected.
+//! The list of `cut` (options `-b`, `-c` and `-f`), as `ptopts` reads it and `ptflow` uses it.
 ghost use Rattle.std.specs.Prelude.{◌≡◌, ◌≤◌, ◌<◌, None, IfOk, IsTrue, MatchResult};
 ghost use Rattle.std.specs.Result.{result_err};
-ghost use Rattle.ptlangs.specs.Answers.{Gives, Judges};
-ghost use Rattle.ptlangs.specs.CutLists.{AcceptsTheGrammar, fault_of, is_end, value_or, ends, checked, element, cut_list, is_selected, selection, AreApart, AreInOrder};
-ghost use Rattle.ptlangs.specs.Numbers.{greatest};
+ghost use Rattle.ptlangs.specs.Results.{ParsePost, ValidatedParsePost};
+ghost use Rattle.ptlangs.specs.CutLists.{CutListMatchesGrammar, cut_list_fault, is_bound, value_or, interval_of_bounds, checked_interval, element_interval, cut_list, is_selected, selection, AreSeparated, AreSortedFrom};
+ghost use Rattle.ptlangs.specs.Numbers.{max_u64};
 
 use crate::numbers::{decimal, first_element, is_decimal};
 use std::alloc::{AllocError, AllocFailed, Allocator, Global};
@@ -16,20 +16,20 @@ pub struct Interval {
     pub last: u64,
 }
 
-/// Why a list was refused. The first faulty element, from left to right, decides.
+/// Why a list is rejected: the fault of its first faulty element, from left to right.
 #[derive(Clone, Copy, Debug, PartialEq, Eq)]
 pub enum ListFault {
-    /// An element is empty. So is the only element of an empty list.
+    /// An element is empty. An empty list has one element, which is empty.
     Empty = 1,
-    /// A number is zero; numbers count from 1.
+    /// A number is zero; numbers are counted from 1.
     Zero = 2,
     /// The first number of an element is above the second.
     Descending = 3,
     /// A number is above `u64::MAX`.
     TooLarge = 4,
-    /// An element is none of `n`, `n-m`, `-m` and `n-`.
+    /// An element has none of the forms `n`, `n-m`, `-m` and `n-`.
     Malformed = 5,
-    /// A request for memory was refused.
+    /// An allocation failed.
     Memory = 6,
 }
 
@@ -55,7 +55,7 @@ impl<T: Drop> From<AllocFailed<T>> for ListFault {
     }
 }
 
-/// The numbers that a list selects.
+/// The set of numbers that a list selects.
 #[derive(Drop)]
 pub struct Ranges<A: Allocator = Global> {
     kept: Vec<Interval, A>,
@@ -64,26 +64,26 @@ pub struct Ranges<A: Allocator = Global> {
 impl<A: Allocator> Model for Ranges<A> {
     ghost use Rattle.std.specs.Prelude.{List};
     ghost use Rattle.ptlangs.specs.declared.ranges.Interval.{Interval};
-    ghost use Rattle.ptlangs.specs.CutLists.{AreApart};
+    ghost use Rattle.ptlangs.specs.CutLists.{AreSeparated};
 
     ghost Value = { List Interval };
 
     ghost view = { λ r. r.kept.items };
 
-    ghost invariant = { λ r. AreApart 0 r.kept.items };
+    ghost invariant = { λ r. AreSeparated 0 r.kept.items };
 }
 
 impl<A: Allocator + Copy> Ranges<A> {
-    /// Reads a list: elements `n`, `n-m`, `-m` and `n-`, between single commas, spaces and tabs, in any order
-    /// (POSIX.1-2017, XCU, `cut`, options `-b`, `-c` and `-f`; that separators may be mixed is this project's own
-    /// choice).
+    /// Parses a list: the elements `n`, `n-m`, `-m` and `n-`, in any order, with a single comma, space or tab between
+    /// each two (POSIX.1-2017, XCU, `cut`, options `-b`, `-c` and `-f`). POSIX leaves a mixture of separators
+    /// unspecified.
     ///
     /// # Errors
     ///
-    /// The fault of the first faulty element. `Memory` is answered only for a list without a fault, since the whole
-    /// list is checked before memory is asked for.
+    /// The fault of the first faulty element. `Memory` is returned only for a list without a fault, because the whole
+    /// list is checked before anything is allocated.
     pub fn read(alloc: A, text: &[u8]) -> Result<Ranges<A>, ListFault>
-        ensures { Judges is_selected fault_of result (selection text.now) }
+        ensures { ValidatedParsePost is_selected cut_list_fault result (selection text.now) }
     {
         check(text)?;
         let mut listed = read_elements(alloc, text)?;
@@ -101,77 +101,77 @@ impl<A: Allocator> Ranges<A> {
         self.kept.iter().any(|interval| interval.first <= number && number <= interval.last)
     }
 
-    /// The selected numbers as intervals in ascending order, so that a line can be walked once.
-    /// No two of them overlap or touch.
+    /// The selected numbers as ascending intervals, so that a line can be read from left to right in one pass. No two
+    /// intervals overlap or are adjacent.
     pub fn intervals(&self) -> &[Interval]
         ensures kept { result.now ≡ self.now }
-        ensures apart { AreApart 0 result.now }
+        ensures separated { AreSeparated 0 result.now }
     {
         self.kept.as_slice()
     }
 }
 
-/// Does nothing at run time. Its contract says that the lists which [`Ranges::read`] accepts are those of the grammar,
-/// and mean what the grammar says.
+/// Does nothing at run time. Its contract states that [`Ranges::read`] accepts exactly the lists of the grammar in
+/// `specs/CutLists.antt`, and returns the set that the grammar gives.
 pub fn accepts_the_grammar()
-    ensures { AcceptsTheGrammar }
+    ensures { CutListMatchesGrammar }
 {}
 
-/// Finds the fault of a list, if it has one, and takes no memory.
+/// Returns the first fault of a list, if there is one. Nothing is allocated.
 fn check(text: &[u8]) -> Result<(), ListFault>
     ensures { MatchResult result
         (λ _. result_err (cut_list text.now) ≡ None)
-        (λ e. result_err (cut_list text.now) ≡ fault_of e) }
+        (λ e. result_err (cut_list text.now) ≡ cut_list_fault e) }
 {
     let mut left = text;
     loop {
-        let (element, behind) = first_element(left);
+        let (element, rest) = first_element(left);
         read_element(element)?;
-        let Some(behind) = behind else {
+        let Some(rest) = rest else {
             return Ok(());
         };
-        left = behind;
+        left = rest;
     }
 }
 
-/// The intervals of the list's elements, in their order.
+/// The intervals of the elements, in order.
 fn read_elements<A: Allocator>(alloc: A, text: &[u8]) -> Result<Vec<Interval, A>, ListFault>
-    ensures { Gives (λ v. v.items) fault_of result (cut_list text.now) }
+    ensures { ParsePost (λ v. v.items) cut_list_fault result (cut_list text.now) }
 {
     let mut listed = Vec::new(alloc);
     let mut left = text;
     loop {
-        let (element, behind) = first_element(left);
+        let (element, rest) = first_element(left);
         listed.push(read_element(element)?)?;
-        let Some(behind) = behind else {
+        let Some(rest) = rest else {
             return Ok(listed);
         };
-        left = behind;
+        left = rest;
     }
 }
 
 /// The interval of one element.
 fn read_element(text: &[u8]) -> Result<Interval, ListFault>
-    ensures { result ≡ element text.now }
+    ensures { result ≡ element_interval text.now }
 {
     if text.is_empty() {
         return Err(ListFault::Empty);
     }
     match text.iter().position(|byte| *byte == b'-') {
-        None => read_ends(text, text),
-        Some(dash) => read_ends(&text[..dash], &text[dash + 1..]),
+        None => read_bounds(text, text),
+        Some(dash) => read_bounds(&text[..dash], &text[dash + 1..]),
     }
 }
 
-/// The interval from the first number to the last.
-fn read_ends(first: &[u8], last: &[u8]) -> Result<Interval, ListFault>
-    ensures { result ≡ checked (ends first.now last.now) }
+/// The interval from the bound `first` to the bound `last`.
+fn read_bounds(first: &[u8], last: &[u8]) -> Result<Interval, ListFault>
+    ensures { result ≡ checked_interval (interval_of_bounds first.now last.now) }
 {
-    if !is_end(first) || !is_end(last) || (first.is_empty() && last.is_empty()) {
+    if !is_bound(first) || !is_bound(last) || (first.is_empty() && last.is_empty()) {
         return Err(ListFault::Malformed);
     }
-    let first = read_end(first, 1)?;
-    let last = read_end(last, u64::MAX)?;
+    let first = read_bound(first, 1)?;
+    let last = read_bound(last, u64::MAX)?;
     if first == 0 || last == 0 {
         return Err(ListFault::Zero);
     }
@@ -181,19 +181,19 @@ fn read_ends(first: &[u8], last: &[u8]) -> Result<Interval, ListFault>
     Ok(Interval { first, last })
 }
 
-/// Whether the text may come before or after a dash: a number, or nothing.
-fn is_end(text: &[u8]) -> bool
-    ensures { result ≡ is_end text.now }
+/// Whether the text is a bound of an element: a number, or nothing.
+fn is_bound(text: &[u8]) -> bool
+    ensures { result ≡ is_bound text.now }
 {
     text.is_empty() || is_decimal(text)
 }
 
-/// The number before or after a dash, or if there is none, the one that is meant.
-fn read_end(text: &[u8], default: u64) -> Result<u64, ListFault>
-    requires { IsTrue (is_end text.now) }
+/// The value of a bound, or `default` if it is empty.
+fn read_bound(text: &[u8], default: u64) -> Result<u64, ListFault>
+    requires { IsTrue (is_bound text.now) }
     ensures { MatchResult result
-        (λ n. (n ≡ value_or default text.now) × (n ≤ greatest))
-        (λ e. (e ≡ ListFault.TooLarge) × (greatest < value_or default text.now)) }
+        (λ n. (n ≡ value_or default text.now) × (n ≤ max_u64))
+        (λ e. (e ≡ ListFault.TooLarge) × (max_u64 < value_or default text.now)) }
 {
     if text.is_empty() {
         return Ok(default);
@@ -201,11 +201,10 @@ fn read_end(text: &[u8], default: u64) -> Result<u64, ListFault>
     decimal(text).ok_or(ListFault::TooLarge)
 }
 
-/// The same numbers in intervals that neither overlap nor touch, from intervals in the order of
-/// their first numbers.
+/// Merges intervals that overlap or are adjacent. The intervals are given in the order of their first numbers.
 fn merge<A: Allocator>(alloc: A, sorted: &[Interval]) -> Result<Vec<Interval, A>, AllocError>
-    requires { AreInOrder 1 sorted.now }
-    ensures apart { IfOk result (λ v. AreApart 0 v.items) }
+    requires { AreSortedFrom 1 sorted.now }
+    ensures separated { IfOk result (λ v. AreSeparated 0 v.items) }
     ensures same { IfOk result (λ v. is_selected v.items ≡ is_selected sorted.now) }
 {
     let mut kept = Vec::new(alloc);

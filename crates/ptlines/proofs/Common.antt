@@ -1,4 +1,4 @@
--- Names of other crates and of this one's definitions that many of its proofs take from here.
+-- Names from other crates and from this one that many proofs here use.
 pub use Rattle.std.proofs.Common.{Bool, Err, Fits, IfOk, List, None, Ok, OnErr, OnOk, Option, Result, Some, [], ap, append_assoc, arith, cond, drop, eqb, false, get_or, inl, inr, length}
 pub use Rattle.std.proofs.Common.{length-append, length-drop, length-take, map, max, min, not, refl, rules, set, subst, suc, sym, take, take-append-drop, true, w8, zero, ℕ, ⊎_elim, ◌%◌}
 pub use Rattle.std.proofs.Common.{◌*◌, ◌++◌, ◌+◌, ◌-◌}
@@ -15,13 +15,13 @@ pub use Rattle.std.specs.List.{onto_first, prefix_len}
 pub use Rattle.std.specs.Prelude.{bit_or, slice_range, swap}
 pub use Rattle.std.specs.Simd.Lanes.{Each1, chunk, mask_l, put_chunk}
 pub use Rattle.memchr.specs.Find.{IsFirst, IsFirstByte, NoneBefore, Nowhere, Passes, is_byte}
-pub use Rattle.ptlines.specs.Fills.{Fills, GivesEnd, GivesLine, GivesPiece, Grows, Stops}
-pub use Rattle.ptlines.specs.Inputs.{Begins, Came, Given}
-pub use Rattle.ptlines.specs.Outputs.{Breaks, Extends, Output, Pushes, Wrote, with_passed, with_sent, with_staged}
-pub use Rattle.ptlines.specs.Readers.{Goes, HasReadCause, IsDone, IsSound, Reader, Reads, Refills, budget, reader_of, unread}
-pub use Rattle.ptlines.specs.Sinks.{SinkState, Takes, Took, waits}
-pub use Rattle.ptlines.specs.Slots.{AreShort, Slots, line, total, with_denied, with_line}
-pub use Rattle.ptlines.specs.Sources.{Gives, Pulls, SourceState}
-pub use Rattle.ptlines.specs.Text.{AreLines, AreLinesOf, EndedLinesAreLines, EndsWithByte, IsLine, LinesAreUnique, ended_lines, lines, onto_line, text}
+pub use Rattle.ptlines.specs.ReadLine.{FillPost, PieceLine, FillLine, PiecePartial, IsAppended, PieceErr}
+pub use Rattle.ptlines.specs.Received.{IsPrefix, HasReceived, Received}
+pub use Rattle.ptlines.specs.Outputs.{OutputErr, IsKnownPrefix, Output, PushPost, PushEffect, with_direct_write, with_written_out, with_buffered}
+pub use Rattle.ptlines.specs.Readers.{AdvanceOk, HasReadCause, IsDone, IsSound, Reader, ReaderAdvance, RefillPost, budget, reader_of, remaining_bytes}
+pub use Rattle.ptlines.specs.Sinks.{SinkState, PutOk, WriteOutOk, unflushed_after}
+pub use Rattle.ptlines.specs.Slots.{LengthsAreBounded, Slots, line, total_bytes, with_denied, with_line}
+pub use Rattle.ptlines.specs.Sources.{PullOk, PullPost, SourceState}
+pub use Rattle.ptlines.specs.Text.{AreLines, AreLinesOf, CompleteLinesAreLines, EndsWithByte, IsLine, LinesAreUnique, complete_lines, lines, onto_first_if_any, unlines}
 pub use Rattle.ptlines.specs.declared.store.LineFault.{LineFault}
 pub use Rattle.ptlines.specs.declared.store.LineFault.TheVariants.{Memory, Read}

@@ -1,11 +1,12 @@
--- A text that is cut into parts.
+-- The lines of a text that is cut into two parts.
 use Rattle.std.specs.Prelude.{◌≡◌, ◌⊎◌, ℕ, List, [], ◌++◌}
 use Rattle.ptlines.specs.Text.{lines, EndsWithByte}
 
--- a text is whole: it is empty, or ends with the byte that ends a line
-abbrev pub IsWhole : ℕ → List ℕ → Type 0
-IsWhole end bytes = (bytes ≡ []) ⊎ EndsWithByte end bytes
+-- the text is empty or ends with the terminator, so it has no incomplete last line
+abbrev pub HasOnlyCompleteLines : ℕ → List ℕ → Type 0
+HasOnlyCompleteLines terminator bytes = (bytes ≡ []) ⊎ EndsWithByte terminator bytes
 
--- where the first part is whole, its lines and those of the second part are the lines of both put together
+-- Theorem: if the first part has only complete lines, the lines of the whole text are those of the first part followed
+-- by those of the second.
 abbrev pub LinesOfParts : Type 0
-LinesOfParts = (end : ℕ) (a b : List ℕ) → IsWhole end a → lines end (a ++ b) ≡ lines end a ++ lines end b
+LinesOfParts = (terminator : ℕ) (a b : List ℕ) → HasOnlyCompleteLines terminator a → lines terminator (a ++ b) ≡ lines terminator a ++ lines terminator b

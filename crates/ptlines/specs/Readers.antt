@@ -1,99 +1,108 @@
--- A reader over a source: what it holds, what is left, and what its calls do to that.
-use Rattle.std.specs.Prelude.{◌≡◌, ℕ, ◌+◌, ◌-◌, ◌^◌, ◌<◌, ◌≤◌, ◌⊎◌, Bool, true, false, List, [], Option, None, Some, Result, Ok, Err, length}
+-- The model of `LineReader`: a source with a block of buffered input.
+use Rattle.std.specs.Prelude.{◌≡◌, ℕ, ◌+◌, ◌-◌, ◌^◌, ◌<◌, ◌≤◌, ◌⊎◌, Bool, true, false, List, [], Option, None, Some, Result, Ok, Err, length, slice_index_or}
 use Rattle.std.specs.Io.KnownBytes.{prepend_known, IsAtEnd}
 use Rattle.ptlines.specs.Sources.{SourceState}
 use Rattle.ptlines.specs.Text.{IsLine}
 use Rattle.ptlines.specs.declared.store.LineFault.{LineFault}
 use Rattle.ptlines.specs.declared.store.LineFault.TheVariants.{Read}
 
--- what is held in the block, what the source has left, whether it has ended or failed, how many bytes it gave,
--- the fault that was answered, whether the file could not be opened, and the byte that ends a line
+-- the bytes buffered in the block, the bytes that the source has left (`None` if unknown), whether the end of input was
+-- reached, whether a read has failed, how many bytes were pulled from the source, the fault that was reported, whether
+-- the file could not be opened, and the byte that ends a line
 pub record Reader : Type 0 where
-  pub held : List ℕ
+  pub buffered : List ℕ
   pub left : Option (List ℕ)
-  pub ended : Bool
+  pub eof : Bool
   pub failed : Bool
   pub pulled : ℕ
   pub fault : Option LineFault
   pub refused : Bool
-  pub ending : ℕ
+  pub terminator : ℕ
 
--- a reader by its source and its fields
+-- a reader with this source and these fields
 abbrev pub reader_of : SourceState → List ℕ → ℕ → Option LineFault → Bool → ℕ → Reader
-reader_of source held pulled fault refused ending = record {
-  held = held;
+reader_of source buffered pulled fault refused terminator = record {
+  buffered = buffered;
   left = source.left;
-  ended = source.ended;
+  eof = source.eof;
   failed = source.failed;
   pulled = pulled;
   fault = fault;
   refused = refused;
-  ending = ending;
+  terminator = terminator;
 }
 
--- a reader of which nothing was read; its lines end with newline
+-- a reader before its first read; lines end with newline
 abbrev pub new_reader : SourceState → Bool → Reader
 new_reader source refused = reader_of source [] 0 None refused 10
 
--- the bytes that the reader has not given, if those of its source are known
-abbrev pub unread : Reader → Option (List ℕ)
-unread r = prepend_known r.held r.left
+-- the bytes not yet consumed: the buffered ones, followed by those that the source has left
+abbrev pub remaining_bytes : Reader → Option (List ℕ)
+remaining_bytes r = prepend_known r.buffered r.left
 
--- what is true of each reader
+-- the invariant of every reader
 pub record IsSound (r : Reader) : Type 0 where
-  pub held : length r.held ≤ 8192
-  pub count : length r.held ≤ r.pulled
-  pub end : r.ended ≡ true → IsAtEnd r.left
+  pub buffered : length r.buffered ≤ 8192
+  pub count : length r.buffered ≤ r.pulled
+  pub end : r.eof ≡ true → IsAtEnd r.left
   pub long : r.fault ≡ None → r.pulled < 2 ^ 63
-  -- a source that has failed is known by the fault that was answered
+  -- a failed read is always reported as a fault
   pub unfailed : r.refused ≡ false → r.fault ≡ None → r.failed ≡ false
 
--- these bytes were given, and nothing else happened
-pub record Reads (old new : Reader) (bytes : List ℕ) : Type 0 where
-  pub moved : unread old ≡ prepend_known bytes (unread new)
-  pub count : new.pulled + length old.held ≡ old.pulled + length bytes + length new.held
+-- the reader has moved on: exactly these bytes were consumed, and the block may have been refilled
+pub record ReaderAdvance (old new : Reader) (bytes : List ℕ) : Type 0 where
+  pub moved : remaining_bytes old ≡ prepend_known bytes (remaining_bytes new)
+  pub count : new.pulled + length old.buffered ≡ old.pulled + length bytes + length new.buffered
   pub refused : new.refused ≡ old.refused
-  pub ending : new.ending ≡ old.ending
-  -- a source that has said its end is not read again
-  pub still : old.ended ≡ true → (new.pulled ≡ old.pulled) × (new.ended ≡ true)
-  -- and has nothing left
-  pub end : (old.ended ≡ true → IsAtEnd old.left) → new.ended ≡ true → IsAtEnd new.left
+  pub terminator : new.terminator ≡ old.terminator
+  -- after the end of input the source is not read again
+  pub still : old.eof ≡ true → (new.pulled ≡ old.pulled) × (new.eof ≡ true)
+  -- and it has no bytes left
+  pub end : (old.eof ≡ true → IsAtEnd old.left) → new.eof ≡ true → IsAtEnd new.left
 
--- the source has said its end, and nothing is unread
+-- the end of input was reached, and all bytes were consumed
 pub record IsDone (r : Reader) : Type 0 where
-  pub ended : r.ended ≡ true
-  pub held : r.held ≡ []
+  pub eof : r.eof ≡ true
+  pub buffered : r.buffered ≡ []
   pub left : IsAtEnd r.left
 
--- A read failed, and nothing is held; or 2^63 bytes or more came from one reader.
+-- The reason for a `Read` fault: a read failed and nothing is buffered, or the source has given 2^63 bytes or more.
 abbrev pub HasReadCause : Reader → Reader → Type 0
-HasReadCause old new = ((new.failed ≡ true) × (new.held ≡ []) × (new.ended ≡ false)) ⊎ ((2 ^ 63 ≤ new.pulled) × (new.failed ≡ old.failed))
+HasReadCause old new = ((new.failed ≡ true) × (new.buffered ≡ []) × (new.eof ≡ false)) ⊎ ((2 ^ 63 ≤ new.pulled) × (new.failed ≡ old.failed))
 
--- bytes of a line were given, and a fault was answered for the first time
-pub record Faults (old new : Reader) (bytes : List ℕ) (fault : LineFault) : Type 0 where
-  pub reads : Reads old new bytes
-  pub whole : IsLine old.ending bytes
+-- the reader has consumed these bytes, a part of one line, and then reported a fault for the first time
+pub record AdvanceErr (old new : Reader) (bytes : List ℕ) (fault : LineFault) : Type 0 where
+  pub reads : ReaderAdvance old new bytes
+  pub whole : IsLine old.terminator bytes
   pub is : new.fault ≡ Some fault
 
--- bytes were given, and no fault was answered
-pub record Goes (old new : Reader) (bytes : List ℕ) : Type 0 where
-  pub reads : Reads old new bytes
+-- the reader has consumed these bytes, and reported no fault
+pub record AdvanceOk (old new : Reader) (bytes : List ℕ) : Type 0 where
+  pub reads : ReaderAdvance old new bytes
   pub fault : new.fault ≡ None
   pub failed : new.failed ≡ old.failed
   pub short : old.pulled < 2 ^ 63 → new.pulled < 2 ^ 63
 
--- how many bytes the reader may give yet, before too many came
+-- how many bytes can still be consumed before the limit of 2^63 is reached; it decreases with each line
 abbrev pub budget : Reader → ℕ
-budget r = 2 ^ 63 + length r.held - r.pulled
+budget r = 2 ^ 63 + length r.buffered - r.pulled
 
--- A read is needed: nothing is held, no fault was answered, and the source has not said its end.
-pub record NeedsRead (r : Reader) : Type 0 where
-  pub empty : r.held ≡ []
+-- The condition of `refill`: nothing is buffered, no fault was reported, and the end of input was not reached.
+pub record RefillPre (r : Reader) : Type 0 where
+  pub empty : r.buffered ≡ []
   pub clean : r.fault ≡ None
-  pub going : r.ended ≡ false
+  pub going : r.eof ≡ false
 
--- the block was filled where it was empty: true is that it holds bytes, false that the source said its end
-abbrev pub Refills : Reader → Reader → Result Bool LineFault → Type 0
-Refills old new (Ok true) = Goes old new [] × (0 < length new.held)
-Refills old new (Ok false) = Goes old new [] × IsDone new
-Refills old new (Err fault) = Faults old new [] Read × HasReadCause old new × (fault ≡ Read)
+-- the effect of `refill`: `true` if bytes are buffered now, `false` at the end of input
+abbrev pub RefillPost : Reader → Reader → Result Bool LineFault → Type 0
+RefillPost old new (Ok true) = AdvanceOk old new [] × (0 < length new.buffered)
+RefillPost old new (Ok false) = AdvanceOk old new [] × IsDone new
+RefillPost old new (Err fault) = AdvanceErr old new [] Read × HasReadCause old new × (fault ≡ Read)
+
+-- The value of an index without a reader.
+abbrev pub no_reader : Reader
+no_reader = record { buffered = []; left = None; eof = false; failed = false; pulled = 0; fault = None; refused = true; terminator = 10 }
+
+-- The reader at an index.
+abbrev pub reader_at : List Reader → ℕ → Reader
+reader_at readers index = slice_index_or readers index no_reader

@@ -1,37 +1,38 @@
-//! Lines of a source, a counted store of lines, and a block of output before a sink.
+//! Reading lines, a counted store for lines, and buffered output. The tools of `ptflow` and `ptmerge` use it for all
+//! input and output.
 #![tactic(auto)]
 
-ghost use Rattle.ptlines.specs.Text.{LinesAreUnique, EndedLinesAreLines};
+ghost use Rattle.ptlines.specs.Text.{LinesAreUnique, CompleteLinesAreLines};
 
-mod comparing;
-mod near;
+mod cmp;
+mod copy;
+mod find;
 mod out;
 mod parts;
 mod reader;
-mod search;
 mod sink;
 mod slot;
 mod source;
-mod std_ends;
+mod std_io;
 mod store;
 
-pub use comparing::compare;
-pub use near::copy_near;
-pub use out::{Out, WriteFault, send};
+pub use cmp::compare;
+pub use copy::copy_short;
+pub use find::{find_byte, find_in_chunk};
+pub use out::{Out, WriteFault, write_out};
 pub use parts::parts_of_lines;
 pub use reader::LineReader;
-pub use search::{find_in, find_near};
 pub use sink::{Failed, Sink};
 pub use source::Source;
-pub use std_ends::{FromRead, FromWrite};
+pub use std_io::{FromRead, FromWrite};
 pub use store::{LineFault, Store};
 
 /// A text can be split into lines in one way only: its lines, as the contracts define them, are the one list of pieces
-/// without the byte that ends a line which, put together with it, are the text. And the lines that are known to be
-/// whole before the end of the input was reached are those up to the last such byte.
+/// without the terminator which, put together with their terminators, are the text. The lines that are known to be
+/// complete before the end of the input was reached are those up to the last terminator.
 ///
-/// The call does nothing at run time. It is there for its contract, which states these two theorems.
+/// The function does nothing at run time. It exists for its contract, which states these two theorems.
 pub fn lines_are_unique()
     ensures unique { LinesAreUnique }
-    ensures ended { EndedLinesAreLines }
+    ensures eof { CompleteLinesAreLines }
 {}

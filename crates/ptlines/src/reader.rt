@@ -1,48 +1,49 @@
-//! A reader that gives the lines of a source, or its bytes, each once.
+//! `LineReader`, which reads an input line by line or block by block. All tools read through it.
 
 ghost use Rattle.std.specs.Prelude.{◌≡◌, ◌<◌, ◌≤◌, ℕ, true, false, None, [], IfSome, IfOk, OnOk, OnErr, length, take, drop, if◌then◌else◌};
 ghost use Rattle.memchr.specs.Find.{IsFirstByte, is_byte};
-ghost use Rattle.ptlines.specs.Outputs.{MaySend, Pushes};
+ghost use Rattle.ptlines.specs.Outputs.{IsSameOrWrittenOut, PushPost};
 ghost use Rattle.std.specs.Borrow.{sem};
 ghost use Rattle.std.specs.Io.KnownBytes.{IsAtEnd};
 ghost use Rattle.std.specs.Io.BufRead.{Rests};
-ghost use Rattle.ptlines.specs.Origins.{origin_state, is_refused};
-ghost use Rattle.ptlines.specs.Sources.{IsFresh, Pulls, refused_state};
-ghost use Rattle.ptlines.specs.Readers.{NeedsRead, Refills, IsSound, new_reader};
-ghost use Rattle.ptlines.specs.Fills.{MayFill, MayGive, Moves, Steps, GivesLine, Fills, Blocks};
+ghost use Rattle.ptlines.specs.InputSource.{input_state};
+ghost use Rattle.ptlines.specs.InputSource.{is_unopened_source};
+ghost use Rattle.ptlines.specs.Sources.{IsFresh, PullPost, unopened_state};
+ghost use Rattle.ptlines.specs.Readers.{RefillPre, RefillPost, IsSound, new_reader};
+ghost use Rattle.ptlines.specs.ReadLine.{FillPre, MoveToSlotPre, MoveToSlotPost, PiecePost, FillLine, FillPost, BlockPost};
 ghost use Rattle.ptlines.specs.contracts.reader.LineReader.{the_row};
 
+use crate::find::{Padded64, ShortLine, find_byte, find_in_64};
 use crate::out::{Out, WriteFault};
-use crate::search::{Front, NearLine, find_in_64, find_near};
 use crate::sink::{Failed, Sink};
-use crate::source::{Origin, Source};
+use crate::source::{InputSource, Source};
 use crate::store::{LineFault, Store};
 use std::alloc::Allocator;
 use std::marker::Model;
 
-// What one look at the block gave: a piece of a line, the end of a line, or nothing at the end of the source.
-enum Step {
-    More,
+// The result of one scan of the block: a part of a line, the rest of a line, or the end of input.
+enum Piece {
+    Partial,
     Line,
-    End,
+    Eof,
 }
 
-/// Gives the lines of a source ([`fill`](LineReader::fill)), or its bytes ([`block`](LineReader::block) and
+/// Reads an input line by line ([`fill`](LineReader::fill)) or block by block ([`block`](LineReader::block) and
 /// [`consume`](LineReader::consume)), through a block of 8,192 bytes. A line ends with newline, or with byte 0 after
-/// [`set_ending`](LineReader::set_ending). A last piece without that byte is a line too, unless it is empty. No call
-/// reads more than one block ahead: at most 8,192 bytes were read and not given.
+/// [`set_ending`](LineReader::set_ending). A last piece without that byte (an incomplete line) is a line too, unless it
+/// is empty. No call reads more than one block ahead: at most 8,192 bytes were read and not consumed.
 #[derive(Drop)]
 pub struct LineReader<S: Source, R: Source> {
-    origin: Origin<S, R>,
-    // The bytes from `end` on are no part of the input. There are 64 more than a block has, so that vectors of up to
-    // 64 bytes can be loaded at any place of the block.
+    input: InputSource<S, R>,
+    // Only `block[start..end]` is input. The 64 bytes after the first 8,192 allow a vector of up to 64 bytes to be
+    // loaded from any index of the block.
     block: [u8; 8256],
     start: usize,
     end: usize,
     pulled: u64,
-    ended: bool,
+    eof: bool,
     fault: Option<LineFault>,
-    ending: u8,
+    terminator: u8,
 }
 
 impl<S: Source, R: Source> Model for LineReader<S, R> {
@@ -51,110 +52,112 @@ impl<S: Source, R: Source> Model for LineReader<S, R> {
 
     ghost Value = { Reader };
 
-    ghost use Rattle.ptlines.specs.Origins.{origin_state, is_refused};
+    ghost use Rattle.ptlines.specs.InputSource.{input_state};
+    ghost use Rattle.ptlines.specs.InputSource.{is_unopened_source};
 
-    ghost view = { λ r. reader_of (origin_state S.state R.state r.origin) (slice_range r.block r.start r.end)
-        r.pulled r.fault (is_refused r.origin) r.ending };
+    ghost view = { λ r. reader_of (input_state S.state R.state r.input) (slice_range r.block r.start r.end)
+        r.pulled r.fault (is_unopened_source r.input) r.terminator };
 
     ghost invariant = { λ r. (r.start ≤ r.end) × (r.end ≤ 8192)
-        × (r.ended ≡ (origin_state S.state R.state r.origin).ended)
-        × IsSound (reader_of (origin_state S.state R.state r.origin) (slice_range r.block r.start r.end)
-        r.pulled r.fault (is_refused r.origin) r.ending) };
+        × (r.eof ≡ (input_state S.state R.state r.input).eof)
+        × IsSound (reader_of (input_state S.state R.state r.input) (slice_range r.block r.start r.end)
+        r.pulled r.fault (is_unopened_source r.input) r.terminator) };
 }
 
 // Reads into the first 8,192 bytes of a block, and not into the 64 after them. A file that could not be opened fails.
-fn pull_front<S: Source, R: Source>(
-    origin: &mut Origin<S, R>,
+fn read_block<S: Source, R: Source>(
+    input: &mut InputSource<S, R>,
     block: &mut [u8; 8256],
 ) -> Result<usize, Failed>
-    ensures pulled { Pulls (origin_state S.state R.state origin.old) (origin_state S.state R.state origin.new)
+    ensures pulled { PullPost (input_state S.state R.state input.old) (input_state S.state R.state input.new)
         (take 8192 block.new) result }
-    ensures refused { is_refused origin.new ≡ is_refused origin.old }
+    ensures refused { is_unopened_source input.new ≡ is_unopened_source input.old }
     ensures few { IfOk result (λ count. count ≤ 8192) }
 {
     let front = &mut block[..8192];
-    match origin {
-        Origin::Standard(source) => source.pull(front),
-        Origin::File(source) => source.pull(front),
-        Origin::Refused => Err(Failed),
+    match input {
+        InputSource::Standard(source) => source.pull(front),
+        InputSource::File(source) => source.pull(front),
+        InputSource::Unopened => Err(Failed),
     }
 }
 
 impl<S: Source, R: Source> LineReader<S, R> {
-    fn over(origin: Origin<S, R>) -> Self
-        requires { is_refused origin ≡ false → IsFresh (origin_state S.state R.state origin) }
-        ensures { result ≡ new_reader (origin_state S.state R.state origin) (is_refused origin) }
+    fn from_input(input: InputSource<S, R>) -> Self
+        requires { is_unopened_source input ≡ false → IsFresh (input_state S.state R.state input) }
+        ensures { result ≡ new_reader (input_state S.state R.state input) (is_unopened_source input) }
     {
         LineReader {
-            origin,
+            input,
             block: [0; 8256],
             start: 0,
             end: 0,
             pulled: 0,
-            ended: false,
+            eof: false,
             fault: None,
-            ending: b'\n',
+            terminator: b'\n',
         }
     }
 
-    /// A reader of standard input. The source must be new: it has neither ended nor failed.
+    /// Creates a reader of standard input. The source must be new: it has neither reached its end nor failed.
     pub fn standard(source: S) -> Self
         requires { IsFresh (S.state source) }
         ensures { result ≡ new_reader (S.state source) false }
     {
-        Self::over(Origin::Standard(source))
+        Self::from_input(InputSource::Standard(source))
     }
 
-    /// A reader of a file. The source must be new: it has neither ended nor failed.
+    /// Creates a reader of a file. The source must be new: it has neither reached its end nor failed.
     pub fn file(source: R) -> Self
         requires { IsFresh (R.state source) }
         ensures { result ≡ new_reader (R.state source) false }
     {
-        Self::over(Origin::File(source))
+        Self::from_input(InputSource::File(source))
     }
 
-    /// The reader of a file that could not be opened. It has no source: a call that reads answers `Read`.
+    /// Creates the reader of a file that could not be opened. It has no source: a call that reads reports `Read`.
     pub fn refused() -> Self
-        ensures { result ≡ new_reader refused_state true }
+        ensures { result ≡ new_reader unopened_state true }
     {
-        Self::over(Origin::Refused)
+        Self::from_input(InputSource::Unopened)
     }
 
-    /// Whether the file could not be opened.
+    /// Returns whether the file could not be opened.
     pub fn is_refused(&self) -> bool
         ensures refused { result ≡ self.now.refused }
         ensures sound { IsSound self.now }
     {
-        matches!(&self.origin, Origin::Refused)
+        matches!(&self.input, InputSource::Unopened)
     }
 
-    /// From now on lines end with byte 0 if `zero` is true, and otherwise with newline.
-    // (The clause `is_sound` follows from the other two. It is there for callers who set many readers in turn.)
+    /// Sets the terminator for all further lines: byte 0 if `zero` is true, otherwise newline.
+    // The clause `is_sound` follows from the other two. Callers that set many readers in a loop use it.
     pub fn set_ending(&mut self, zero: bool)
-        ensures set { self.new ≡ record self.old { ending = if zero then 0 else 10 } }
+        ensures set { self.new ≡ record self.old { terminator = if zero then 0 else 10 } }
         ensures was_sound { IsSound self.old }
         ensures is_sound { IsSound self.new }
     {
-        self.ending = if zero { 0 } else { b'\n' };
+        self.terminator = if zero { 0 } else { b'\n' };
     }
 
-    /// The byte that ends a line.
-    pub fn ending(&self) -> u8
-        ensures { result ≡ self.now.ending }
+    /// Returns the terminator, the byte that ends a line.
+    pub fn terminator(&self) -> u8
+        ensures { result ≡ self.now.terminator }
     {
-        self.ending
+        self.terminator
     }
 
-    /// The bytes that were read and not yet given. Nothing is read, so an empty slice does not mean the end.
+    /// Returns the bytes that were read and not yet consumed. Nothing is read, so an empty slice does not mean the end
+    /// of input.
     #[inline(always)]
-    pub fn held(&self) -> &[u8]
-        ensures held { result.now ≡ self.now.held }
+    pub fn buffered(&self) -> &[u8]
+        ensures buffered { result.now ≡ self.now.buffered }
         ensures sound { IsSound self.now }
     {
         &self.block[self.start..self.end]
     }
 
-    // The fault that an earlier call has answered, if one did.
+    // Returns the fault that an earlier call has reported, if any.
     #[inline(always)]
     fn fault(&self) -> Option<LineFault>
         ensures fault { result ≡ self.now.fault }
@@ -163,37 +166,38 @@ impl<S: Source, R: Source> LineReader<S, R> {
         self.fault
     }
 
-    /// Whether a read has found the end of the input. Nothing is read, so false does not mean that more will come.
+    /// Returns whether a read has found the end of input. Nothing is read, so false does not mean that more bytes
+    /// follow.
     #[inline(always)]
-    pub fn has_ended(&self) -> bool
-        ensures ended { result ≡ self.now.ended }
-        ensures end { self.now.ended ≡ true → IsAtEnd self.now.left }
+    pub fn at_eof(&self) -> bool
+        ensures eof { result ≡ self.now.eof }
+        ensures end { self.now.eof ≡ true → IsAtEnd self.now.left }
     {
-        self.ended
+        self.eof
     }
 
-    /// Gives the first `count` of the bytes that [`held`](LineReader::held) shows: they are not shown again.
+    /// Consumes the first `count` of the bytes that [`buffered`](LineReader::buffered) returns.
     pub fn consume(&mut self, count: usize)
-        requires { count ≤ length self.old.held }
-        ensures consumed { self.new ≡ record self.old { held = drop count self.old.held } }
+        requires { count ≤ length self.old.buffered }
+        ensures consumed { self.new ≡ record self.old { buffered = drop count self.old.buffered } }
         ensures is_sound { IsSound self.new }
     {
         self.start += count;
     }
 
-    // Fills the block, which is empty, by one read. False: the source has ended.
+    // Fills the block, which is empty, by one read. Returns false at the end of input.
     fn refill(&mut self) -> Result<bool, LineFault>
-        requires { NeedsRead self.old }
-        ensures refills { Refills self.old self.new result }
+        requires { RefillPre self.old }
+        ensures refills { RefillPost self.old self.new result }
         ensures sound { IsSound self.new }
     {
         // A source that fails may still have written to the block.
         self.start = 0;
         self.end = 0;
-        match pull_front(&mut self.origin, &mut self.block) {
+        match read_block(&mut self.input, &mut self.block) {
             Ok(count) => {
                 if count == 0 {
-                    self.ended = true;
+                    self.eof = true;
                     return Ok(false);
                 }
                 self.end = count;
@@ -211,32 +215,32 @@ impl<S: Source, R: Source> LineReader<S, R> {
         }
     }
 
-    // Reads if nothing is held. False: nothing is held, and the source has ended.
+    // Makes sure that bytes are buffered, by a read if there are none. Returns false at the end of input.
     #[inline(always)]
     fn has_more(&mut self) -> Result<bool, LineFault>
         requires { self.old.fault ≡ None }
-        ensures refills { Refills self.old self.new result }
+        ensures refills { RefillPost self.old self.new result }
         ensures sound { IsSound self.new }
     {
-        if !self.held().is_empty() {
+        if !self.buffered().is_empty() {
             return Ok(true);
         }
-        if self.has_ended() {
+        if self.at_eof() {
             return Ok(false);
         }
         self.refill()
     }
 
-    // Gives the first `count` bytes of the block to a slot.
+    // Moves the first `count` bytes of the block to a slot.
     #[inline(always)]
-    fn give<A: Allocator + Copy>(
+    fn move_to_slot<A: Allocator + Copy>(
         &mut self,
         store: &mut Store<A>,
         slot: usize,
         count: usize,
     ) -> Result<(), LineFault>
-        requires { MayGive self.old store.old slot count }
-        ensures moves { Moves self.old self.new store.old store.new slot count result }
+        requires { MoveToSlotPre self.old store.old slot count }
+        ensures moves { MoveToSlotPost self.old self.new store.old store.new slot count result }
         ensures slots { length store.new.lines ≡ length store.old.lines }
         ensures sound { IsSound self.new }
     {
@@ -254,96 +258,96 @@ impl<S: Source, R: Source> LineReader<S, R> {
         }
     }
 
-    // Gives the next piece of a line to a slot: the held bytes up to the first end of a line, which is passed.
+    // Appends the next piece of a line to a slot: the buffered bytes up to the first terminator, which is consumed.
     #[inline(always)]
-    fn step<A: Allocator + Copy>(
+    fn fill_piece<A: Allocator + Copy>(
         &mut self,
         store: &mut Store<A>,
         slot: usize,
-    ) -> Result<Step, LineFault>
-        requires { MayFill self.old store.old slot }
-        ensures steps { Steps self.old self.new store.old store.new slot result }
+    ) -> Result<Piece, LineFault>
+        requires { FillPre self.old store.old slot }
+        ensures piece_post { PiecePost self.old self.new store.old store.new slot result }
         ensures slots { length store.new.lines ≡ length store.old.lines }
         ensures sound { IsSound self.new }
     {
         if !self.has_more()? {
-            return Ok(Step::End);
+            return Ok(Piece::Eof);
         }
-        match find_near(self.ending(), self.held()) {
+        match find_byte(self.terminator(), self.buffered()) {
             Some(at) => {
-                self.give(store, slot, at)?;
+                self.move_to_slot(store, slot, at)?;
                 self.consume(1);
-                Ok(Step::Line)
+                Ok(Piece::Line)
             }
             None => {
-                let count = self.held().len();
-                self.give(store, slot, count)?;
-                Ok(Step::More)
+                let count = self.buffered().len();
+                self.move_to_slot(store, slot, count)?;
+                Ok(Piece::Partial)
             }
         }
     }
 
-    // Puts the next line into a slot, if its end is one of the next 64 bytes. False: it is not, and nothing was
-    // done.
+    // Copies the next line to a slot at once if its terminator is among the next 64 bytes. Otherwise returns false, and
+    // nothing was done.
     #[inline(always)]
-    fn fill_near<A: Allocator + Copy>(&mut self, store: &mut Store<A>, slot: usize) -> bool
-        requires { MayFill self.old store.old slot }
-        ensures line { result ≡ true → GivesLine self.old self.new store.old store.new slot }
+    fn fill_short<A: Allocator + Copy>(&mut self, store: &mut Store<A>, slot: usize) -> bool
+        requires { FillPre self.old store.old slot }
+        ensures line { result ≡ true → FillLine self.old self.new store.old store.new slot }
         ensures none { result ≡ false → (self.new ≡ self.old) × (store.new ≡ store.old) }
         ensures slots { length store.new.lines ≡ length store.old.lines }
         ensures sound { IsSound self.new }
     {
-        let front = Front {
+        let front = Padded64 {
             bytes: &self.block[self.start..],
         };
-        let Some(size) = find_in_64(self.ending, front) else {
+        let Some(size) = find_in_64(self.terminator, front) else {
             return false;
         };
         let at = self.start + size;
         if at >= self.end {
             return false;
         }
-        store.put_near(slot, NearLine { front, size });
+        store.set_short_line(slot, ShortLine { front, size });
         self.start = at + 1;
         true
     }
 
-    // Puts the next line into a slot, in pieces, whether its end is near or far. It does what `fill` does.
+    // Copies the next line to a slot piece by piece, wherever its terminator is. It has the contract of `fill`.
     #[inline(never)]
-    fn fill_far<A: Allocator + Copy>(
+    fn fill_slow<A: Allocator + Copy>(
         &mut self,
         store: &mut Store<A>,
         slot: usize,
     ) -> Result<bool, LineFault>
-        requires { MayFill self.old store.old slot }
-        ensures fills { Fills self.old self.new store.old store.new slot result }
+        requires { FillPre self.old store.old slot }
+        ensures fills { FillPost self.old self.new store.old store.new slot result }
         ensures slots { length store.new.lines ≡ length store.old.lines }
         ensures sound { IsSound self.new }
     {
         store.clear(slot);
         'pieces: loop {
-            match self.step(store, slot)? {
-                Step::More => {}
-                Step::Line => return Ok(true),
-                Step::End => return Ok(!store.line(slot).is_empty()),
+            match self.fill_piece(store, slot)? {
+                Piece::Partial => {}
+                Piece::Line => return Ok(true),
+                Piece::Eof => return Ok(!store.line(slot).is_empty()),
             }
         }
     }
 
-    /// Puts the next line into a slot of the store, without the byte that ends it. False means that there is no further
-    /// line; the slot is then empty. As many reads are made as the line needs: up to the byte that ends it, or the end.
+    /// Copies the next line, without its terminator, to a slot of the store. Returns false if there is no further line;
+    /// the slot is then empty. It reads as often as the line needs: up to its terminator or the end of input.
     /// # Errors
-    /// `Read` where a read failed, or where 2^63 bytes or more came of the source; `Memory` where the slot could not
-    /// grow ([`denied`](Store::denied) is then true). In both cases the slot has a prefix of the line, and all later
-    /// calls answer the same fault and do nothing.
-    // (The clause `slots` follows from the others. It is there since callers need it at every exit.)
+    /// `Read` if a read failed, or if 2^63 bytes or more came from the source; `Memory` if the slot could not grow
+    /// ([`denied`](Store::denied) is then true). In both cases the slot has a prefix of the line, and all later calls
+    /// report the same fault and do nothing.
+    // The clause `slots` follows from the others. Callers need it at every exit.
     pub fn fill<A: Allocator + Copy>(
         &mut self,
         store: &mut Store<A>,
         slot: usize,
     ) -> Result<bool, LineFault>
         requires { slot < length store.old.lines }
-        ensures fills { self.old.fault ≡ None → Fills self.old self.new store.old store.new slot result }
+        ensures fills { self.old.fault ≡ None → FillPost self.old self.new store.old store.new slot result }
         ensures slots { length store.new.lines ≡ length store.old.lines }
         ensures stays { IfSome self.old.fault
             (λ fault. (result ≡ Err fault) × (self.new ≡ self.old) × (store.new ≡ store.old)) }
@@ -353,70 +357,72 @@ impl<S: Source, R: Source> LineReader<S, R> {
         if let Some(fault) = self.fault() {
             return Err(fault);
         }
-        if self.fill_near(store, slot) {
+        if self.fill_short(store, slot) {
             return Ok(true);
         }
-        self.fill_far(store, slot)
+        self.fill_slow(store, slot)
     }
 
-    // Whether the block holds a whole line.
-    fn holds_line(&self) -> bool
-        ensures { result ≡ false → IsFirstByte (is_byte self.now.ending) self.now.held None }
+    // Returns whether a complete line is buffered.
+    fn has_buffered_line(&self) -> bool
+        ensures { result ≡ false → IsFirstByte (is_byte self.now.terminator) self.now.buffered None }
     {
-        find_near(self.ending(), self.held()).is_some()
+        find_byte(self.terminator(), self.buffered()).is_some()
     }
 
-    /// Sends the staged output if [`fill`](LineReader::fill) may have to wait for the next line: no whole line is held,
-    /// the end has not been reached, and the last read did not fill the block, or there was none yet. So no terminal or
-    /// pipe is waited for while output is held back. Where reads fill the block, as those of files do, nothing is sent.
+    /// Writes the buffered output to its sink if [`fill`](LineReader::fill) may block for the next line: no complete
+    /// line is buffered here, the end of input was not reached, and the last read did not fill the block, or there was
+    /// none yet. So the program never waits for a terminal or a pipe while it holds back output. If reads fill the
+    /// block, as those of files do, nothing is written.
     ///
-    /// Output may still wait in two cases: if a read fills the block and no more input comes for long, and if `fill`
-    /// has begun a line whose end takes long to come. The contract says that the staged output is sent or nothing is
-    /// done; when it is sent is tested and not proved, as a reader's model does not have the size of the last read.
+    /// Output may still be held back in two cases: if a read fills the block and no more input arrives for long, and if
+    /// `fill` has begun a line whose terminator arrives late. The contract states that the output is written or nothing
+    /// is done; when it is written is tested and not proved, as the model of a reader does not have the size of the
+    /// last read.
     /// # Errors
-    /// `Write` where a write failed.
+    /// `Write` if a write failed.
     #[inline(always)]
-    pub fn send_before_wait<W: Sink>(&self, out: &mut Out<W>) -> Result<(), WriteFault>
-        requires { out.old.faulted ≡ false }
-        ensures pushed { Pushes out.old out.new [] result }
-        ensures sent { OnOk result (MaySend out.old out.new) }
-        ensures ended { self.now.ended ≡ true → out.new ≡ out.old }
+    pub fn write_out_before_blocking<W: Sink>(&self, out: &mut Out<W>) -> Result<(), WriteFault>
+        requires { out.old.write_failed ≡ false }
+        ensures pushed { PushPost out.old out.new [] result }
+        ensures written_out { OnOk result (IsSameOrWrittenOut out.old out.new) }
+        ensures eof { self.now.eof ≡ true → out.new ≡ out.old }
         ensures sound { IsSound self.now }
     {
-        if self.end == 8192 || self.has_ended() {
+        if self.end == 8192 || self.at_eof() {
             return Ok(());
         }
-        self.send_unless_line(out)
+        self.write_out_unless_line(out)
     }
 
-    // Sends what is staged, unless the block holds a whole line.
+    // Writes the buffered output, unless a complete line is buffered in the reader.
     #[inline(never)]
-    fn send_unless_line<W: Sink>(&self, out: &mut Out<W>) -> Result<(), WriteFault>
-        requires { out.old.faulted ≡ false }
-        ensures pushed { Pushes out.old out.new [] result }
-        ensures sent { OnOk result (MaySend out.old out.new) }
+    fn write_out_unless_line<W: Sink>(&self, out: &mut Out<W>) -> Result<(), WriteFault>
+        requires { out.old.write_failed ≡ false }
+        ensures pushed { PushPost out.old out.new [] result }
+        ensures written_out { OnOk result (IsSameOrWrittenOut out.old out.new) }
     {
-        if self.holds_line() {
+        if self.has_buffered_line() {
             return Ok(());
         }
-        out.send()
+        out.write_out()
     }
 
-    /// The bytes that were read and not yet given; if there are none, one read is made first. An empty slice means the
-    /// end. To give them, call [`consume`](LineReader::consume).
+    /// Returns the bytes that were read and not yet consumed; if there are none, one read is made first. An empty slice
+    /// means the end of input. To move past them, call [`consume`](LineReader::consume).
     /// # Errors
-    /// `Read` where the read failed, or where 2^63 bytes or more came of the source. All later calls answer the same
-    /// fault and read nothing.
+    /// `Read` if the read failed, or if 2^63 bytes or more came from the source. All later calls report the same fault
+    /// and read nothing.
     pub fn block(&mut self) -> Result<&[u8], LineFault>
         ensures* after { sem 𝓛 (Rests (the_row S.row R.row S.Source R.Source) self.entry
-            (λ new. Blocks self.old new result)) }
+            (λ new. BlockPost self.old new result)) }
     {
         if let Some(fault) = self.fault() {
             return Err(fault);
         }
-        if self.held().is_empty() && !self.has_ended() {
+        if self.buffered().is_empty() && !self.at_eof() {
             self.refill()?;
         }
-        Ok(self.held())
+        Ok(self.buffered())
     }
 }

@@ -1,31 +1,31 @@
-//! What bytes are written to.
+//! The trait `Sink` for everything that bytes are written to.
 
 ghost use Rattle.std.specs.Prelude.{◌≡◌, false, length, ◌<◌};
-ghost use Rattle.ptlines.specs.Sinks.{SinkState, Puts, Flushes};
+ghost use Rattle.ptlines.specs.Sinks.{SinkState, PutPost, FlushPost};
 
 /// A read, a write or a flush failed.
 #[derive(Clone, Copy, Debug, PartialEq, Eq)]
 pub struct Failed;
 
-/// What bytes are written to, such as a file or a pipe. A sink that has failed is not called again.
+/// A sink for bytes, such as a file or a pipe. It must not be called again after a call has failed.
 pub trait Sink: Drop {
-    /// What contracts know of a sink: the bytes that it has taken (of a real file they are unknown), whether it has
-    /// failed, and whether bytes that it has taken wait for a flush.
+    /// The model of a sink in contracts: the bytes that it has accepted (unknown for a real file), whether a call has
+    /// failed, and whether some accepted bytes were not flushed yet.
     ghost state: { Self → SinkState };
 
-    /// Takes the first of these bytes, of which there must be at least one, and answers how many it took. 0 is a
-    /// failure.
+    /// Writes the first of these bytes, of which there must be at least one, and returns how many were accepted. 0
+    /// counts as a failure.
     /// # Errors
-    /// `Failed` where the write failed. Nothing was taken then.
+    /// `Failed` if the write failed. No byte was accepted then.
     fn put(&mut self, bytes: &[u8]) -> Result<usize, Failed>
         requires some { 0 < length bytes.now }
         requires unfailed { (state self.old).failed ≡ false }
-        ensures { Puts (state self.old) (state self.new) bytes.now result };
+        ensures { PutPost (state self.old) (state self.new) bytes.now result };
 
-    /// Sends on all bytes that were taken, so that none of them wait any more.
+    /// Flushes all accepted bytes.
     /// # Errors
-    /// `Failed` where the flush failed. Bytes may wait as before.
+    /// `Failed` if the flush failed. The same bytes may be unflushed as before.
     fn flush(&mut self) -> Result<(), Failed>
         requires { (state self.old).failed ≡ false }
-        ensures { Flushes (state self.old) (state self.new) result };
+        ensures { FlushPost (state self.old) (state self.new) result };
 }

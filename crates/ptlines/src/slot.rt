@@ -1,14 +1,14 @@
-//! A line, and a buffer that is longer than it.
+//! One slot of a `Store`: a line in a buffer that is at least 64 bytes longer.
 
 ghost use Rattle.std.specs.Prelude.{◌≡◌, ◌<◌, ◌≤◌, ◌+◌, ◌^◌, [], ◌++◌, length, take, IfOk, OnOk, OnErr};
 
-use crate::search::NearLine;
+use crate::find::ShortLine;
 use std::alloc::{AllocError, Allocator};
 use std::marker::Model;
 use std::simd::prelude::*;
 
-// The first `size` bytes of the buffer are the line. At least 64 more follow, whatever they are, so that a line of
-// fewer than 64 bytes is put into the slot by one store of 16 or of 64 bytes.
+// The first `size` bytes of the buffer are the line. At least 64 bytes follow, with any values, so that a line of fewer
+// than 64 bytes can be stored as one vector of 16 or 64 bytes.
 #[derive(Drop)]
 pub(crate) struct Slot<A: Allocator + Copy> {
     buffer: Vec<u8, A>,
@@ -26,7 +26,7 @@ impl<A: Allocator + Copy> Model for Slot<A> {
 }
 
 impl<A: Allocator + Copy> Slot<A> {
-    // An empty slot.
+    // Creates an empty slot.
     pub(crate) fn new(alloc: A) -> Result<Self, AllocError>
         ensures { IfOk result (λ s. s ≡ []) }
     {
@@ -35,7 +35,7 @@ impl<A: Allocator + Copy> Slot<A> {
         Ok(Slot { buffer, size: 0 })
     }
 
-    // The bytes of the line.
+    // Returns the bytes of the line.
     #[inline(always)]
     pub(crate) fn line(&self) -> &[u8]
         ensures line { result.now ≡ self.now }
@@ -43,7 +43,7 @@ impl<A: Allocator + Copy> Slot<A> {
         &self.buffer[..self.size]
     }
 
-    // How many bytes the line has.
+    // Returns the length of the line.
     #[inline(always)]
     pub(crate) fn size(&self) -> usize
         ensures size { result ≡ length self.now }
@@ -60,9 +60,9 @@ impl<A: Allocator + Copy> Slot<A> {
         self.size = 0;
     }
 
-    // Makes this the line, by one store of a whole vector. Fewer than 16 bytes take a shorter one.
+    // Replaces the line, by a store of one vector: of 16 bytes if the line has fewer than 16, otherwise of 64.
     #[inline(always)]
-    pub(crate) fn put_near(&mut self, near: NearLine)
+    pub(crate) fn set_short_line(&mut self, near: ShortLine)
         ensures { self.new ≡ take near.entry.size near.entry.front.bytes.now }
     {
         let (bytes, size) = (near.front.bytes, near.size);
@@ -74,7 +74,7 @@ impl<A: Allocator + Copy> Slot<A> {
         self.size = size;
     }
 
-    // Appends bytes to the line. Where memory is refused nothing changes.
+    // Appends bytes to the line. If memory cannot be allocated, nothing changes.
     pub(crate) fn append(&mut self, bytes: &[u8]) -> Result<(), AllocError>
         ensures ok { OnOk result (self.new ≡ self.old ++ bytes.now) }
         ensures err { OnErr result (self.new ≡ self.old) }
@@ -83,7 +83,7 @@ impl<A: Allocator + Copy> Slot<A> {
         let from = self.size;
         let to = from + bytes.len();
         if to + 64 > self.buffer.len() {
-            // The buffer grows by as much as the line does, and what it grows by needs no meaning.
+            // The buffer grows by the length of `bytes`. The values of the new bytes do not matter.
             self.buffer.extend_from_slice(bytes)?;
         }
         self.buffer[from..to].copy_from_slice(bytes);

@@ -1,28 +1,29 @@
-//! Numbered slots for lines, whose bytes are counted.
+//! `Store`: numbered slots, each of which holds a line. A store counts the bytes of all its lines. The tools keep all
+//! lines that they need in it.
 
 ghost use Rattle.std.specs.Prelude.{◌≡◌, ℕ, ◌<◌, ◌≤◌, ◌≢◌, true, false, [], ◌∷◌, ◌++◌, length, take, ◌+◌, replicate, swap, slice_set, slice_index_or, IfOk, OnOk, OnErr};
-ghost use Rattle.ptlines.specs.Slots.{AreSlots, AreTwoSlots, AreShort, line, total, with_line, with_added, with_denied};
+ghost use Rattle.ptlines.specs.Slots.{SwapPre, CopyPre, LengthsAreBounded, line, total_bytes, with_line, with_new_slot, with_denied};
 
-use crate::search::NearLine;
+use crate::find::ShortLine;
 use crate::slot::Slot;
 use std::alloc::{AllocError, Allocator, Global};
 use std::marker::Model;
 
-/// Why a reader gave no line or block. It is final: the reader answers it from then on.
+/// Why a reader returned no line or block. The fault is final: every later call of the reader reports it again.
 #[derive(Clone, Copy, Debug, PartialEq, Eq)]
 pub enum LineFault {
-    /// A read failed, or 2^63 bytes or more came of one source.
+    /// A read failed, or 2^63 bytes or more came from one source.
     Read = 1,
-    /// A request for memory was refused.
+    /// Memory could not be allocated.
     Memory = 2,
 }
 
-/// Numbered slots, from 0, each of which holds the bytes of one line. It counts the bytes of all lines, and keeps the
-/// most that they ever were. What the slots and their buffers take beside that is not counted.
+/// Numbered slots, from 0, for one line each. The store counts the bytes of all lines and tracks the high-water mark.
+/// Padding and bookkeeping are not counted.
 #[derive(Drop)]
 pub struct Store<A: Allocator + Copy = Global> {
     slots: Vec<Slot<A>, A>,
-    held: u128,
+    byte_count: u128,
     peak: u128,
     denied: bool,
     alloc: A,
@@ -30,26 +31,26 @@ pub struct Store<A: Allocator + Copy = Global> {
 
 impl<A: Allocator + Copy> Model for Store<A> {
     ghost use Rattle.std.specs.Prelude.{◌≡◌, ◌≤◌};
-    ghost use Rattle.ptlines.specs.Slots.{Slots, total, AreShort};
+    ghost use Rattle.ptlines.specs.Slots.{Slots, total_bytes, LengthsAreBounded};
 
     ghost Value = { Slots };
 
     ghost view = { λ s. record { lines = s.slots.items; peak = s.peak; denied = s.denied } };
 
-    ghost invariant = { λ s. (s.held ≡ total s.slots.items) × (s.held ≤ s.peak) × AreShort s.slots.items };
+    ghost invariant = { λ s. (s.byte_count ≡ total_bytes s.slots.items) × (s.byte_count ≤ s.peak) × LengthsAreBounded s.slots.items };
 }
 
-// Appends the line of one slot to that of another.
-fn append_from<A: Allocator + Copy>(
+// Appends the line of the slot `from` to that of the slot `to`.
+fn append_slot<A: Allocator + Copy>(
     slots: &mut [Slot<A>],
     from: usize,
     to: usize,
 ) -> Result<(), AllocError>
-    requires { AreTwoSlots (length slots.old) from to }
+    requires { CopyPre (length slots.old) from to }
     ensures ok { OnOk result (slots.new
         ≡ slice_set slots.old to (slice_index_or slots.old to [] ++ slice_index_or slots.old from [])) }
     ensures err { OnErr result (slots.new ≡ slots.old) }
-    ensures short { AreShort slots.old → AreShort slots.new }
+    ensures short { LengthsAreBounded slots.old → LengthsAreBounded slots.new }
 {
     if from < to {
         let (front, back) = slots.split_at_mut(to);
@@ -71,22 +72,22 @@ fn push_empty<A: Allocator + Copy>(slots: &mut Vec<Slot<A>, A>, alloc: A) -> Res
 }
 
 impl<A: Allocator + Copy> Store<A> {
-    /// A store without slots. It takes no memory.
+    /// Creates a store without slots. It allocates nothing.
     pub fn empty(alloc: A) -> Self
         ensures { result ≡ record { lines = []; peak = 0; denied = false } }
     {
         Store {
             slots: Vec::new(alloc),
-            held: 0,
+            byte_count: 0,
             peak: 0,
             denied: false,
             alloc,
         }
     }
 
-    /// A store with this number of empty slots.
+    /// Creates a store of `slots` empty slots.
     /// # Errors
-    /// `Memory` where a request for memory was refused.
+    /// `Memory` if memory could not be allocated.
     pub fn new(alloc: A, slots: usize) -> Result<Self, LineFault>
         ensures made { IfOk result (λ s. s ≡ record { lines = replicate slots []; peak = 0; denied = false }) }
         ensures memory { OnErr result (result ≡ Err LineFault.Memory) }
@@ -98,12 +99,12 @@ impl<A: Allocator + Copy> Store<A> {
         Ok(made)
     }
 
-    /// Adds an empty slot, and answers its number.
+    /// Adds an empty slot, and returns its number.
     /// # Errors
-    /// `Memory` where a request for memory was refused. [`denied`](Store::denied) is then true; nothing else changes.
+    /// `Memory` if memory could not be allocated. [`denied`](Store::denied) is then true; nothing else changes.
     pub fn add(&mut self) -> Result<usize, LineFault>
         ensures added { IfOk result (λ slot. slot ≡ length self.old.lines) }
-        ensures ok { OnOk result (self.new ≡ with_added self.old) }
+        ensures ok { OnOk result (self.new ≡ with_new_slot self.old) }
         ensures err { OnErr result (self.new ≡ with_denied self.old) }
         ensures memory { OnErr result (result ≡ Err LineFault.Memory) }
     {
@@ -117,14 +118,14 @@ impl<A: Allocator + Copy> Store<A> {
         }
     }
 
-    /// How many slots there are.
+    /// Returns the number of slots.
     pub fn slots(&self) -> usize
         ensures { result ≡ length self.now.lines }
     {
         self.slots.len()
     }
 
-    /// The bytes in a slot.
+    /// Returns the bytes in a slot.
     pub fn line(&self, slot: usize) -> &[u8]
         requires { slot < length self.now.lines }
         ensures { result.now ≡ line self.now slot }
@@ -140,26 +141,26 @@ impl<A: Allocator + Copy> Store<A> {
     {
         let count = self.slots[slot].size();
         self.slots[slot].clear();
-        self.held -= count as u128;
+        self.byte_count -= count as u128;
     }
 
-    // Makes a slot hold a line of fewer than 64 bytes.
+    // Sets a slot to a line of fewer than 64 bytes.
     #[inline(always)]
-    pub(crate) fn put_near(&mut self, slot: usize, near: NearLine)
+    pub(crate) fn set_short_line(&mut self, slot: usize, near: ShortLine)
         requires { slot < length self.old.lines }
         ensures { self.new ≡ with_line self.old slot (take near.entry.size near.entry.front.bytes.now) }
     {
         let size = near.size;
         let was = self.slots[slot].size();
-        self.slots[slot].put_near(near);
-        self.held = self.held - was as u128 + size as u128;
-        // It is written only where it grew, since this is done for each line.
-        if self.held > self.peak {
-            self.peak = self.held;
+        self.slots[slot].set_short_line(near);
+        self.byte_count = self.byte_count - was as u128 + size as u128;
+        // The peak is written only if it has grown, since this is done for every line.
+        if self.byte_count > self.peak {
+            self.peak = self.byte_count;
         }
     }
 
-    // Appends bytes to those of a slot. Where memory is refused the store is denied, and nothing else changes.
+    // Appends bytes to those of a slot. If memory cannot be allocated, the store is denied, and nothing else changes.
     pub(crate) fn append(&mut self, slot: usize, bytes: &[u8]) -> Result<(), LineFault>
         requires { slot < length self.old.lines }
         ensures ok { OnOk result (self.new ≡ with_line self.old slot (line self.old slot ++ bytes.now)) }
@@ -168,8 +169,8 @@ impl<A: Allocator + Copy> Store<A> {
     {
         match self.slots[slot].append(bytes) {
             Ok(()) => {
-                self.held += bytes.len() as u128;
-                self.peak = self.peak.max(self.held);
+                self.byte_count += bytes.len() as u128;
+                self.peak = self.peak.max(self.byte_count);
                 Ok(())
             }
             Err(_) => {
@@ -179,21 +180,21 @@ impl<A: Allocator + Copy> Store<A> {
         }
     }
 
-    /// Makes the slot `to` hold the bytes of another slot, `from`.
+    /// Sets the slot `to` to the bytes of another slot, `from`.
     /// # Errors
-    /// `Memory` where a request for memory was refused. [`denied`](Store::denied) is then true, and `to` is empty;
-    /// nothing else changes.
+    /// `Memory` if memory could not be allocated. [`denied`](Store::denied) is then true, and `to` is empty; nothing
+    /// else changes.
     pub fn copy(&mut self, from: usize, to: usize) -> Result<(), LineFault>
-        requires { AreTwoSlots (length self.old.lines) from to }
+        requires { CopyPre (length self.old.lines) from to }
         ensures ok { OnOk result (self.new ≡ with_line self.old to (line self.old from)) }
         ensures err { OnErr result (self.new ≡ with_denied (with_line self.old to [])) }
         ensures memory { OnErr result (result ≡ Err LineFault.Memory) }
     {
         self.clear(to);
-        match append_from(&mut self.slots, from, to) {
+        match append_slot(&mut self.slots, from, to) {
             Ok(()) => {
-                self.held += self.slots[from].size() as u128;
-                self.peak = self.peak.max(self.held);
+                self.byte_count += self.slots[from].size() as u128;
+                self.peak = self.peak.max(self.byte_count);
                 Ok(())
             }
             Err(_) => {
@@ -205,29 +206,29 @@ impl<A: Allocator + Copy> Store<A> {
 
     /// Exchanges the lines of two slots.
     pub fn swap(&mut self, a: usize, b: usize)
-        requires { AreSlots (length self.old.lines) a b }
+        requires { SwapPre (length self.old.lines) a b }
         ensures { self.new ≡ record self.old { lines = swap self.old.lines a b } }
     {
         self.slots.swap(a, b);
     }
 
-    /// How many bytes the lines of all slots have together. It is never more than [`peak`](Store::peak).
-    // (Callers need the clause `below` for that: they cannot see the private fields that it follows from.)
+    /// Returns the number of bytes in all slots. It is never greater than [`peak`](Store::peak).
+    // Callers need the clause `below` for that, since they cannot see the private fields that it follows from.
     pub fn now(&self) -> u128
-        ensures now { result ≡ total self.now.lines }
+        ensures now { result ≡ total_bytes self.now.lines }
         ensures below { result ≤ self.now.peak }
     {
-        self.held
+        self.byte_count
     }
 
-    /// The most bytes that the lines of all slots ever had together.
+    /// Returns the most bytes that all slots ever held together.
     pub fn peak(&self) -> u128
         ensures { result ≡ self.now.peak }
     {
         self.peak
     }
 
-    /// Whether a request of this store for memory was ever refused.
+    /// Returns whether this store ever failed to allocate memory.
     pub fn denied(&self) -> bool
         ensures { result ≡ self.now.denied }
     {

@@ -1,2 +1,2 @@
-mod KeepingUpRows
-mod PartsRows
+mod LagExamples
+mod PartsExamples

@@ -1,23 +1,24 @@
-//! Tests of lines, of their readers and outputs, of the store, and of the sources and sinks of the tests.
+//! Tests of `ptlines` (lines, readers, outputs, the store and the byte kernels) and of the sources and sinks of
+//! `ptfakes`.
 #![tactic(auto)]
 
 #[cfg(test)]
-mod comparing;
+mod asserts;
 #[cfg(test)]
-mod faking;
+mod fake_cases;
 #[cfg(test)]
-mod giving;
+mod kernel_cases;
 #[cfg(test)]
-mod kernels;
+mod out_cases;
 #[cfg(test)]
-mod lining;
+mod push_line_cases;
 #[cfg(test)]
-mod reading;
+mod reader_cases;
 #[cfg(test)]
-mod stepping;
+mod reader_steps;
 #[cfg(test)]
-mod storing;
+mod reader_texts;
 #[cfg(test)]
-mod through_std;
+mod std_io_cases;
 #[cfg(test)]
-mod writing;
+mod store_cases;

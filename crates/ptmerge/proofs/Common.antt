@@ -1,4 +1,4 @@
--- Names of other crates and of this one's definitions that many of its proofs take from here.
+-- Names of other crates and of this crate's definitions that many of its proofs import from here.
 pub use Rattle.std.proofs.Common.{Bool, Err, IsErrAnd, List, None, Ok, Option, Result, Some, [], ap, append_assoc, arith, bit_and, bit_or, cond, drop, eqb, false, get_or, inl, inr, length, ◌++◌, ◌+◌}
 pub use Rattle.std.proofs.Common.{length-append, length-drop, ltb, map, max, min, not, option_copied, refl, replicate, rules, set, subst, suc, sym, take, true, zero, ℕ, ⊎_elim, ◌%◌, ◌&&◌, ◌*◌}
 pub use Rattle.std.proofs.Common.{◌-◌, ◌<◌, ◌==◌, ◌^◌, ◌||◌, ◌∙◌, ◌∷◌, ◌≡◌, ◌≢◌, ◌≤◌, ◌⊎◌}
@@ -19,44 +19,46 @@ pub use Rattle.std.specs.Prelude.{IfSome, MatchOption, bytes_eq, filter, flat_ma
 pub use Rattle.std.specs.declared.cmp.Ordering.{Ordering}
 pub use Rattle.std.specs.declared.cmp.Ordering.TheVariants.{Equal, Greater, Less}
 pub use Rattle.memchr.specs.Find.{IsFirstByte, Nowhere, Passes}
-pub use Rattle.ptlangs.proofs.Elements.{split_around, split_whole}
-pub use Rattle.ptlangs.specs.Jobs.{Comm, Join, comm_job, ending, join_job}
-pub use Rattle.ptlines.proofs.Coming.{came_of, came_set, cause_set, given_of}
-pub use Rattle.ptlines.proofs.Counted.{total_set}
-pub use Rattle.ptlines.proofs.Filling.{goes_trans, line_of, reads_trans}
-pub use Rattle.ptlines.proofs.Masks.{first_behind, first_marked, nowhere_marked}
+pub use Rattle.ptlangs.proofs.ListElements.{split_around, split_whole}
+pub use Rattle.ptlangs.specs.Jobs.{Comm, Join, comm_job, terminator, join_job}
+pub use Rattle.ptlines.proofs.Received.{has_received, has_received_set, cause_set, received_with}
+pub use Rattle.ptlines.proofs.SlotTotals.{total_bytes_set}
+pub use Rattle.ptlines.proofs.ReadLine.{advance_ok_trans, line_of_with_line, advance_trans}
+pub use Rattle.ptlines.proofs.MatchMasks.{first_after, first_at_lowest_bit, none_if_zero_mask}
 pub use Rattle.ptlines.proofs.PartLaws.{the_lines_of_parts}
-pub use Rattle.ptlines.proofs.Pushed.{wrote_nothing, wrote_past, wrote_trans}
-pub use Rattle.ptlines.proofs.Sending.{keeps_more}
-pub use Rattle.ptlines.proofs.TextLaws.{AreLines_push, ended_first, ended_none, ended_of_text, lines_last, lines_of_text, text-append, text_push, the_lines}
-pub use Rattle.ptlines.specs.Fills.{GivesLine}
-pub use Rattle.ptlines.specs.Inputs.{Agrees, Begins, Given, whole_lines}
-pub use Rattle.ptlines.specs.KeepingUp.{Before, WorksOff}
-pub use Rattle.ptlines.specs.Outputs.{Output, Pushes, Wrote}
-pub use Rattle.ptlines.specs.Readers.{Goes, IsDone, IsSound, Reader, Reads, budget, unread}
-pub use Rattle.ptlines.specs.Slots.{Slots, line, total, with_added, with_denied, with_line}
-pub use Rattle.ptlines.specs.Text.{AreLines, IsLine, ended_lines, lines, longest, text}
-pub use Rattle.ptmerge.specs.Comm.{comm_by, comm_tool, entries, entries_in, tab_unless}
-pub use Rattle.ptmerge.specs.Groups.{AddsLeast, Gathered, Gathers, IsGroup, IsGroupCleared, IsGrown, IsKept, IsRefused, Joins, JoinsAt, NotGathered, end_slot, first_slot, group, is_head}
-pub use Rattle.ptmerge.specs.Join.{alone1, alone2, alone_entry, between, entry, fields, filled, greatest_of, has_bytes, is_blank, join_by, join_entries, join_key, join_tool, largest_group, most_lines}
-pub use Rattle.ptmerge.specs.Join.{named, nth_field, others, pairs_of, written}
-pub use Rattle.ptmerge.specs.JoinFields.{EndsFirst, IsAsWritten, IsEven, IsFieldIn, IsPiece, UnevenAt, ends_field, entry_with, fields_left, is_tidy, is_uneven, led}
-pub use Rattle.ptmerge.specs.Keyed.{Fall, Lines, Tool, by_keys, decided, decided_entries, disorder, disorder_of, distinct, entries_of, fall, insert_key, is_below, is_decided, is_past, is_settled}
-pub use Rattle.ptmerge.specs.Keyed.{keys, lines_of, merged, merged_entries, ordered, ordered_part, settled, up_to, with_key}
-pub use Rattle.ptmerge.specs.LinePasses.{CanGoOn, HasPassed, IsUnwritten, PassesLine, StandsAt}
-pub use Rattle.ptmerge.specs.Merges.{Agree, CanBegin, Ends, IsMerge, IsReady, IsUnread, IsWhole, Names, State, ended_by, seen}
+pub use Rattle.ptlines.proofs.Push.{push_nothing, push_past_failure, push_trans}
+pub use Rattle.ptlines.proofs.Lag.{bounded_lag_after}
+pub use Rattle.ptlines.proofs.TextLaws.{AreLines_push, complete_lines_cons, complete_lines_none, complete_lines_of_unlines, lines_of_last, lines_of_unlines, unlines-append, unlines_push, the_lines}
+pub use Rattle.ptlines.specs.ReadLine.{FillLine}
+pub use Rattle.ptlines.specs.Received.{IsConsistent, IsPrefix, Received, known_lines}
+pub use Rattle.ptlines.specs.Lag.{LaggedInput, ProcessLag}
+pub use Rattle.ptlines.specs.Outputs.{Output, PushPost, PushEffect}
+pub use Rattle.ptlines.specs.Readers.{AdvanceOk, IsDone, IsSound, Reader, ReaderAdvance, budget, remaining_bytes}
+pub use Rattle.ptlines.specs.Slots.{Slots, line, total_bytes, with_new_slot, with_denied, with_line}
+pub use Rattle.ptlines.specs.Text.{AreLines, IsLine, complete_lines, lines, max_length, unlines}
+pub use Rattle.ptmerge.specs.Comm.{comm_with, comm_tool, entries, column_entries, tab_if_shown}
+pub use Rattle.ptmerge.specs.JoinGroup.{AddedAtLeast, ReadGroupLineOkPost, ReadGroupLinePost, IsGroup, ClearGroupPost, EnsureSlotPost, CopyToGroupPost, CopyToGroupErrPost, JoinStepPre, JoinLinePre, ReadGroupLineErrPost, group_end_slot, group_first_slot, group, is_head}
+pub use Rattle.ptmerge.specs.Join.{unpaired_entries1, unpaired_entries2, unpaired_entry, output_separator, entry, join_fields, or_filler, max_over_keys, is_nonempty, join_with, join_entries, join_key, join_tool, max_group_bytes, max_group_lines}
+pub use Rattle.ptlines.specs.Text.{is_blank}
+pub use Rattle.ptmerge.specs.Join.{field_named, nth_field, other_fields, pair_entries, output_fields}
+pub use Rattle.ptmerge.specs.JoinFields.{IsFirstPieceEnd, IsCanonical, HasSingleSpaces, IsFieldIn, IsPiece, MisplacedBlankAt, is_separator, entry_with_list, remaining_fields, is_single_spaced, is_misplaced_blank, with_prefix}
+pub use Rattle.ptmerge.specs.MergeSpec.{FirstDisorder, Lines, MergeTool, entries_by_key, decided_output, decided_entries, disorder, earlier_disorder, distinct_keys, entries_of_key, first_disorder, insert_key, is_below, is_decided, is_past, lines_decide_disorder}
+pub use Rattle.ptmerge.specs.MergeSpec.{keys, lines_of, merge_output, merged_entries, sorted_prefixes, sorted_prefix, disorder_is_decided, is_up_to, lines_with_key}
+pub use Rattle.ptmerge.specs.WriteAndAdvance.{IsReadyToContinue, AdvanceOkPost, WriteFaultPost, WriteThenNextPost, AdvancePre}
+pub use Rattle.ptmerge.specs.MergeCall.{AreConsistent, MergeRunPre, MergeEndPost, MergePost, MergePre, IsMergeUnread, IsExactMerge, IsDisorderAt, MergeState, with_terminator, merge_state}
 pub use Rattle.ptmerge.specs.Orders.{Cmp, Key, byte_cmp, line_cmp}
-pub use Rattle.ptmerge.specs.Parts.{CommByKey, IsByKey, IsOfParts, JoinByKey, PartsOfComm, PartsOfJoin, dealt, written_lines}
-pub use Rattle.ptmerge.specs.Places.{CannotRead, Comes, HasSlots, fresh, same_at, slot_of, stand_at}
-pub use Rattle.ptmerge.specs.Pushes.{MayPush}
-pub use Rattle.ptmerge.specs.Sides.{both, other, put}
-pub use Rattle.ptmerge.specs.Spans.{IsNoted, IsSpan}
-pub use Rattle.ptmerge.specs.Steps.{AreEqual, CannotStart, FirstCame, GoesBefore, Inputs, IsAlone, IsDecided, IsLent, IsNamed, IsPlaced, IsUnslotted, Starts, inputs, last_key}
-pub use Rattle.ptmerge.specs.Stores.{Adds, HasFour, IsCleared}
+pub use Rattle.ptmerge.specs.Parts.{CommByKey, IsSplittableByKey, IsConcatOfParts, JoinByKey, CommOfParts, JoinOfParts, text_of_part, output_lines}
+pub use Rattle.ptmerge.specs.Cursor.{NextErrPost, NextOkPost, HasSlots, initial_cursor, same_key_at, base_slot, status_at}
+pub use Rattle.ptmerge.specs.Write.{WriteBytesPost}
+pub use Rattle.ptmerge.specs.Sides.{both, other, with_side}
+pub use Rattle.ptmerge.specs.KeySpan.{IsValidCursor, IsKeySpan}
+pub use Rattle.ptmerge.specs.MergeSteps.{HaveEqualKeys, StartErrPost, StartFirstPost, PrecedesInput, MergeInputs, HasOnlyLeastKey, IsDisorderDecided, IsReaderOf, IsReportable, AreValidCursors, StartSlotFaultPost, StartOkPost, merge_inputs, previous_key}
+pub use Rattle.ptmerge.specs.MergeSlots.{EnsureFourSlotsPost, ClearFourSlotsPost}
+pub use Rattle.ptlines.specs.Slots.{AddedSlots}
 pub use Rattle.ptmerge.specs.declared.faults.MergeFault.{MergeFault}
 pub use Rattle.ptmerge.specs.declared.faults.MergeFault.TheVariants.{Memory, Read, Write}
-pub use Rattle.ptmerge.specs.declared.merging.sorted.Sorted.{Sorted}
-pub use Rattle.ptmerge.specs.declared.merging.sorted.Stand.{Stand}
-pub use Rattle.ptmerge.specs.declared.merging.sorted.Stand.TheVariants.{Disorder, Ended, Head}
-pub use Rattle.ptmerge.specs.declared.order.Side.{Side}
-pub use Rattle.ptmerge.specs.declared.order.Side.TheVariants.{First, Second}
+pub use Rattle.ptmerge.specs.declared.merging.cursor.Sorted.{Sorted}
+pub use Rattle.ptmerge.specs.declared.merging.cursor.CursorStatus.{CursorStatus}
+pub use Rattle.ptmerge.specs.declared.merging.cursor.CursorStatus.TheVariants.{Disorder, Ended, Head}
+pub use Rattle.ptmerge.specs.declared.key_order.Side.{Side}
+pub use Rattle.ptmerge.specs.declared.key_order.Side.TheVariants.{First, Second}

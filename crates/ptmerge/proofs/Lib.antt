@@ -1,5 +1,5 @@
 pub mod Common
-pub mod OfComm
-pub mod OfParts
-pub mod OfJoin
-pub mod OfMerges
+pub mod CommLemmas
+pub mod Parts
+pub mod JoinLemmas
+pub mod MergeLemmas

@@ -1,125 +1,125 @@
--- What `join` writes.
+-- The output of `join`, as an instance of a merge of two inputs by join fields.
 use Rattle.std.specs.Prelude.{ℕ, ◌-◌, ◌+◌, ◌*◌, ◌==◌, ◌||◌, List, [], ◌∷◌, ◌++◌, length, map, filter, max, Option, Some, None, Bool, true, false, if◌then◌else◌, slice_index_or, remove}
 use Rattle.std.specs.List.{flat_map, slice_split, join_with_byte}
 use Rattle.std.specs.Str.{byte}
-use Rattle.ptlines.specs.Slots.{total}
-use Rattle.ptlines.specs.Text.{longest}
+use Rattle.ptlines.specs.Slots.{total_bytes}
+use Rattle.ptlines.specs.Text.{max_length, is_blank}
 use Rattle.ptlangs.specs.Jobs.{Join}
 use Rattle.ptlangs.specs.declared.outlist.File.TheVariants as files
 use Rattle.ptlangs.specs.declared.outlist.OutField.{OutField}
 use Rattle.ptlangs.specs.declared.outlist.OutField.TheVariants as items
-use Rattle.ptmerge.specs.declared.order.Side.{Side}
-use Rattle.ptmerge.specs.declared.order.Side.TheVariants.{First, Second}
-use Rattle.ptmerge.specs.Keyed.{Lines, Tool, with_key}
+use Rattle.ptmerge.specs.declared.key_order.Side.{Side}
+use Rattle.ptmerge.specs.declared.key_order.Side.TheVariants.{First, Second}
+use Rattle.ptmerge.specs.MergeSpec.{Lines, MergeTool, lines_with_key}
 use Rattle.ptmerge.specs.Orders.{Cmp, Key, line_cmp}
 use Rattle.ptmerge.specs.Sides.{both}
 
 -- ---- fields
 
-abbrev pub is_blank : ℕ → Bool
-is_blank b = (b == byte " ") || (b == byte "\t")
+-- The list is not empty.
+abbrev pub is_nonempty : List ℕ → Bool
+is_nonempty [] = false
+is_nonempty (x ∷ xs) = true
 
-abbrev pub has_bytes : List ℕ → Bool
-has_bytes [] = false
-has_bytes (x ∷ xs) = true
+-- The fields of a line: with a separator, the strings between separators; without, the longest strings without blanks.
+abbrev pub join_fields : Option ℕ → List ℕ → Lines
+join_fields (Some c) line = slice_split (λ b. b == c) line
+join_fields None line = filter is_nonempty (slice_split is_blank line)
 
--- the fields of a line: what stands between the separators, or the longest strings without blanks
-abbrev pub fields : Option ℕ → List ℕ → Lines
-fields (Some c) line = slice_split (λ b. b == c) line
-fields None line = filter has_bytes (slice_split is_blank line)
-
--- the field with this number, counted from 1, or nothing where it is not there
+-- The field with this number, counted from 1, or no bytes if there is none.
 abbrev pub nth_field : ℕ → Lines → List ℕ
 nth_field n fs = slice_index_or fs (n - 1) []
 
--- the other fields
-abbrev pub others : ℕ → Lines → Lines
-others n fs = remove fs (n - 1)
+-- All fields except the one with this number.
+abbrev pub other_fields : ℕ → Lines → Lines
+other_fields n fs = remove fs (n - 1)
 
--- the field of each file's lines with the file's number, where these separate fields
+-- The key of a line by a field number for each file: its field with this number.
 abbrev pub field_keys : Option ℕ → ℕ → ℕ → Side → Key
-field_keys separator n1 n2 side line = nth_field (both n1 n2 side) (fields separator line)
+field_keys separator n1 n2 side line = nth_field (both n1 n2 side) (join_fields separator line)
 
--- the join field of each file's lines
+-- The join field of a line.
 abbrev pub join_key : Join → Side → Key
 join_key job = field_keys job.separator job.field1 job.field2
 
--- ---- what is written of a pair of lines, or of one
+-- ---- output lines
 
--- what is written between two fields
-abbrev pub between : Option ℕ → ℕ
-between (Some c) = c
-between None = byte " "
+-- The byte between two fields of the output.
+abbrev pub output_separator : Option ℕ → ℕ
+output_separator (Some c) = c
+output_separator None = byte " "
 
--- an empty field is replaced
-abbrev pub filled : List ℕ → List ℕ → List ℕ
-filled empty field = if has_bytes field then field else empty
+-- A field, or the string of `-e` if the field is empty.
+abbrev pub or_filler : List ℕ → List ℕ → List ℕ
+or_filler empty field = if is_nonempty field then field else empty
 
--- what an element of the output list names, of the join field k and the fields of the two lines
-abbrev pub named : OutField → List ℕ → Lines → Lines → List ℕ
-named items.Join k fs1 fs2 = k
-named (items.Field files.First n) k fs1 fs2 = nth_field n fs1
-named (items.Field files.Second n) k fs1 fs2 = nth_field n fs2
+-- The field that an item of the output list names, of the join field `k` and the fields of the two lines.
+abbrev pub field_named : OutField → List ℕ → Lines → Lines → List ℕ
+field_named items.Join k fs1 fs2 = k
+field_named (items.Field files.First n) k fs1 fs2 = nth_field n fs1
+field_named (items.Field files.Second n) k fs1 fs2 = nth_field n fs2
 
--- the fields that are written: the join field and the others of each line, or those of the output list
-abbrev pub written : Join → List ℕ → Lines → Lines → Option (List OutField) → Lines
-written job k fs1 fs2 None = k ∷ others job.field1 fs1 ++ others job.field2 fs2
-written job k fs1 fs2 (Some items) = map (λ i. filled job.empty (named i k fs1 fs2)) items
+-- The fields of an output line, by the output list of `-o` or else the join field and the other fields of both lines.
+abbrev pub output_fields : Join → List ℕ → Lines → Lines → Option (List OutField) → Lines
+output_fields job k fs1 fs2 None = k ∷ other_fields job.field1 fs1 ++ other_fields job.field2 fs2
+output_fields job k fs1 fs2 (Some items) = map (λ i. or_filler job.empty (field_named i k fs1 fs2)) items
 
+-- An output line, without its terminator, of the join field `k` and the fields of the two lines.
 abbrev pub entry : Join → List ℕ → Lines → Lines → List ℕ
-entry job k fs1 fs2 = join_with_byte (between job.separator) (written job k fs1 fs2 job.list)
+entry job k fs1 fs2 = join_with_byte (output_separator job.separator) (output_fields job k fs1 fs2 job.list)
 
--- one entry for each pair of lines, by the first file's line first
-abbrev pub pairs_of : Join → List ℕ → Lines → Lines → Lines
-pairs_of job k g1 g2 =
+-- An output line for each pair of lines, ordered by the first file's line and then by the second one's.
+abbrev pub pair_entries : Join → List ℕ → Lines → Lines → Lines
+pair_entries job k g1 g2 =
     if job.pairs
-    then flat_map (λ a. map (λ b. entry job k (fields job.separator a) (fields job.separator b)) g2) g1
+    then flat_map (λ a. map (λ b. entry job k (join_fields job.separator a) (join_fields job.separator b)) g2) g1
     else []
 
--- the entries of lines that pair with none
-abbrev pub alone1 : Join → List ℕ → Lines → Lines
-alone1 job k g = if job.unpaired1 then map (λ a. entry job k (fields job.separator a) []) g else []
+-- The output lines of unpaired lines of the first file, if the options ask for them.
+abbrev pub unpaired_entries1 : Join → List ℕ → Lines → Lines
+unpaired_entries1 job k g = if job.unpaired1 then map (λ a. entry job k (join_fields job.separator a) []) g else []
 
-abbrev pub alone2 : Join → List ℕ → Lines → Lines
-alone2 job k g = if job.unpaired2 then map (λ b. entry job k [] (fields job.separator b)) g else []
+-- The output lines of unpaired lines of the second file, if the options ask for them.
+abbrev pub unpaired_entries2 : Join → List ℕ → Lines → Lines
+unpaired_entries2 job k g = if job.unpaired2 then map (λ b. entry job k [] (join_fields job.separator b)) g else []
 
--- the entry of a line of one file that pairs with none
-abbrev pub alone_entry : Join → Side → List ℕ → Lines
-alone_entry job First line = alone1 job (join_key job First line) (line ∷ [])
-alone_entry job Second line = alone2 job (join_key job Second line) (line ∷ [])
+-- The output of one unpaired line of a file.
+abbrev pub unpaired_entry : Join → Side → List ℕ → Lines
+unpaired_entry job First line = unpaired_entries1 job (join_key job First line) (line ∷ [])
+unpaired_entry job Second line = unpaired_entries2 job (join_key job Second line) (line ∷ [])
 
--- the entries of the lines of one key in the two files
+-- The output lines for the lines `g1` and `g2` with the key `k` in the two files.
 abbrev pub join_entries : Join → List ℕ → Lines → Lines → Lines
-join_entries job k [] g2 = alone2 job k g2
-join_entries job k (a ∷ g1) [] = alone1 job k (a ∷ g1)
-join_entries job k (a ∷ g1) (b ∷ g2) = pairs_of job k (a ∷ g1) (b ∷ g2)
+join_entries job k [] g2 = unpaired_entries2 job k g2
+join_entries job k (a ∷ g1) [] = unpaired_entries1 job k (a ∷ g1)
+join_entries job k (a ∷ g1) (b ∷ g2) = pair_entries job k (a ∷ g1) (b ∷ g2)
 
 -- ---- the tool
 
--- the greatest measure of lines of one key
-abbrev pub greatest_of : (Lines → ℕ) → Key → Lines → Lines → ℕ
-greatest_of measure key ls [] = 0
-greatest_of measure key ls (x ∷ xs) = max (measure (with_key key ls (key x))) (greatest_of measure key ls xs)
+-- The maximum of a measure over the groups of lines with one key.
+abbrev pub max_over_keys : (Lines → ℕ) → Key → Lines → Lines → ℕ
+max_over_keys measure key ls [] = 0
+max_over_keys measure key ls (x ∷ xs) = max (measure (lines_with_key key ls (key x))) (max_over_keys measure key ls xs)
 
--- the most bytes that lines of one key have
-abbrev pub largest_group : Key → Lines → ℕ
-largest_group key ls = greatest_of total key ls ls
+-- The most bytes that the lines of one key have.
+abbrev pub max_group_bytes : Key → Lines → ℕ
+max_group_bytes key ls = max_over_keys total_bytes key ls ls
 
--- the most lines of one key
-abbrev pub most_lines : Key → Lines → ℕ
-most_lines key ls = greatest_of length key ls ls
+-- The most lines that have one key.
+abbrev pub max_group_lines : Key → Lines → ℕ
+max_group_lines key ls = max_over_keys length key ls ls
 
--- `join` in an order of keys; it keeps two lines of each input, and the second one's lines of one key
-abbrev pub join_by : Join → Cmp → (Side → Key) → Tool
-join_by job cmp key = record {
-  end = job.end;
+-- `join` in an order `cmp` of keys. It stores at most two lines of each input, and the second input's lines of one key.
+abbrev pub join_with : Join → Cmp → (Side → Key) → MergeTool
+join_with job cmp key = record {
+  terminator = job.terminator;
   cmp = cmp;
   key = key;
   entries = join_entries job;
-  size = λ ls. 2 * longest (ls First) + 2 * longest (ls Second) + largest_group (key Second) (ls Second);
-  slots = λ ls. 4 + most_lines (key Second) (ls Second);
+  size = λ ls. 2 * max_length (ls First) + 2 * max_length (ls Second) + max_group_bytes (key Second) (ls Second);
+  slots = λ ls. 4 + max_group_lines (key Second) (ls Second);
 }
 
--- `join`: the keys are the join fields
-abbrev pub join_tool : Join → Tool
-join_tool job = join_by job (line_cmp job.descending) (join_key job)
+-- `join`: the keys are the join fields, in byte order or its reverse.
+abbrev pub join_tool : Join → MergeTool
+join_tool job = join_with job (line_cmp job.descending) (join_key job)

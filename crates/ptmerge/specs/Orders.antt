@@ -1,17 +1,17 @@
--- Keys of lines, and how they are compared.
+-- Keys of lines, and the orders in which they are compared.
 use Rattle.std.specs.Prelude.{ℕ, List, Bool, if◌then◌else◌}
 use Rattle.std.specs.Ordering.{flip_args}
-pub use Rattle.ptlines.specs.Orders.{Cmp, byte_cmp}
-use Rattle.ptmerge.specs.declared.order.Side.{Side}
+pub use Rattle.ptlines.specs.ByteOrder.{Cmp, byte_cmp}
+use Rattle.ptmerge.specs.declared.key_order.Side.{Side}
 
--- the key of a line
+-- The key of a line.
 abbrev pub Key : Type 0
 Key = List ℕ → List ℕ
 
--- byte order or its reverse
+-- Byte order or its reverse.
 abbrev pub line_cmp : Bool → Cmp
 line_cmp descending = if descending then flip_args byte_cmp else byte_cmp
 
--- each line is its own key
+-- Each line is its own key.
 abbrev pub whole_line : Side → Key
 whole_line side line = line

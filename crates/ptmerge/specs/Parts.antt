@@ -1,62 +1,66 @@
--- Two inputs that are cut into parts, or dealt out by their keys, and what is written of the parts.
+-- The laws by which two inputs may be split into parts: at the same key, or by a function of the key.
 use Rattle.std.specs.Prelude.{◌≡◌, ℕ, ◌<◌, ◌==◌, List, ◌++◌, None, filter}
 use Rattle.std.specs.List.{AllByRecursion, flat_map, range_with_len}
 use Rattle.std.specs.List.Sorted.{IsPermutation}
 use Rattle.std.specs.declared.cmp.Ordering.TheVariants.{Less}
-use Rattle.ptlines.specs.Parts.{IsWhole}
-use Rattle.ptlines.specs.Text.{text, lines}
+use Rattle.ptlines.specs.Parts.{HasOnlyCompleteLines}
+use Rattle.ptlines.specs.Text.{unlines, lines}
 use Rattle.ptlangs.specs.Jobs.{Comm, Join}
-use Rattle.ptmerge.specs.declared.order.Side.{Side}
+use Rattle.ptmerge.specs.declared.key_order.Side.{Side}
 use Rattle.ptmerge.specs.Comm.{comm_tool}
 use Rattle.ptmerge.specs.Join.{join_tool}
-use Rattle.ptmerge.specs.Keyed.{Lines, Tool, disorder, keys, lines_of, merged}
+use Rattle.ptmerge.specs.MergeSpec.{Lines, MergeTool, disorder, keys, lines_of, merge_output}
 use Rattle.ptmerge.specs.Orders.{Cmp}
 
--- the keys of each of two texts never fall
-abbrev pub AreInOrder : Tool → (Side → List ℕ) → Type 0
-AreInOrder tool inputs = disorder tool (lines_of tool inputs) ≡ None
+-- Both texts are sorted.
+abbrev pub AreInputsSorted : MergeTool → (Side → List ℕ) → Type 0
+AreInputsSorted tool inputs = disorder tool (lines_of tool inputs) ≡ None
 
--- ---- cut at the same keys
+-- ---- parts split at the same key
 
--- each of some keys is below each of others
-abbrev pub AllBelow : Cmp → Lines → Lines → Type 0
-AllBelow cmp ks ls = AllByRecursion (λ k. AllByRecursion (λ l. cmp k l ≡ Less) ls) ks
+-- Each key of the first list is less than each key of the second.
+abbrev pub AllKeysBelow : Cmp → Lines → Lines → Type 0
+AllKeysBelow cmp ks ls = AllByRecursion (λ k. AllByRecursion (λ l. cmp k l ≡ Less) ls) ks
 
--- Two inputs are cut at the same keys: the first part of each is whole, these are in order,
--- and each of their keys is below each key of the two second parts.
-pub record AreCutByKey (tool : Tool) (first second : Side → List ℕ) : Type 0 where
-  pub whole : (side : Side) → IsWhole tool.end (first side)
-  pub in_order : AreInOrder tool first
-  pub below : AllBelow tool.cmp (keys tool (lines_of tool first)) (keys tool (lines_of tool second))
+-- Two inputs, each split into a first and a second part at the same key: the first parts consist of complete lines and
+-- are sorted, and each of their keys is less than each key of the second parts.
+pub record AreSplitByKey (tool : MergeTool) (first second : Side → List ℕ) : Type 0 where
+  pub whole : (side : Side) → HasOnlyCompleteLines tool.terminator (first side)
+  pub in_order : AreInputsSorted tool first
+  pub below : AllKeysBelow tool.cmp (keys tool (lines_of tool first)) (keys tool (lines_of tool second))
 
--- what is written of two inputs is what is written of their first parts, and then what is written of the second ones
-abbrev pub IsOfParts : Tool → Type 0
-IsOfParts tool = (first second : Side → List ℕ) → AreCutByKey tool first second → merged tool (λ side. first side ++ second side) ≡ merged tool first ++ merged tool second
+-- The output for two inputs is the output for their first parts followed by the output for their second parts.
+abbrev pub IsConcatOfParts : MergeTool → Type 0
+IsConcatOfParts tool = (first second : Side → List ℕ) → AreSplitByKey tool first second → merge_output tool (λ side. first side ++ second side) ≡ merge_output tool first ++ merge_output tool second
 
-abbrev pub PartsOfComm : Type 0
-PartsOfComm = (job : Comm) → IsOfParts (comm_tool job)
+-- The law for `comm`.
+abbrev pub CommOfParts : Type 0
+CommOfParts = (job : Comm) → IsConcatOfParts (comm_tool job)
 
-abbrev pub PartsOfJoin : Type 0
-PartsOfJoin = (job : Join) → IsOfParts (join_tool job)
+-- The law for `join`.
+abbrev pub JoinOfParts : Type 0
+JoinOfParts = (job : Join) → IsConcatOfParts (join_tool job)
 
--- ---- dealt out by their keys
+-- ---- parts distributed by key
 
--- of each text the lines whose keys go to a part
-abbrev pub dealt : Tool → (List ℕ → ℕ) → (Side → List ℕ) → ℕ → Side → List ℕ
-dealt tool part_of inputs i side = text tool.end (filter (λ line. part_of (tool.key side line) == i) (lines_of tool inputs side))
+-- The lines of each text whose keys belong to the part `i`.
+abbrev pub text_of_part : MergeTool → (List ℕ → ℕ) → (Side → List ℕ) → ℕ → Side → List ℕ
+text_of_part tool part_of inputs i side = unlines tool.terminator (filter (λ line. part_of (tool.key side line) == i) (lines_of tool inputs side))
 
--- the lines that are written of two texts
-abbrev pub written_lines : Tool → (Side → List ℕ) → Lines
-written_lines tool inputs = lines tool.end (merged tool inputs)
+-- The output for two texts, as lines.
+abbrev pub output_lines : MergeTool → (Side → List ℕ) → Lines
+output_lines tool inputs = lines tool.terminator (merge_output tool inputs)
 
--- Where the lines of two inputs in order are dealt out over some parts by their keys, the lines that are written of the
--- parts are those that are written of the inputs, in some order.
-abbrev pub IsByKey : Tool → Type 0
-IsByKey tool = (inputs : Side → List ℕ) (part_of : List ℕ → ℕ) (parts : ℕ) → AreInOrder tool inputs → ((key : List ℕ) → part_of key < parts)
-    → IsPermutation (written_lines tool inputs) (flat_map (λ i. written_lines tool (dealt tool part_of inputs i)) (range_with_len 0 parts))
+-- If the lines of two sorted inputs are distributed over parts by a function of their keys, the output lines for the
+-- parts together are the output lines for the inputs, in some order.
+abbrev pub IsSplittableByKey : MergeTool → Type 0
+IsSplittableByKey tool = (inputs : Side → List ℕ) (part_of : List ℕ → ℕ) (parts : ℕ) → AreInputsSorted tool inputs → ((key : List ℕ) → part_of key < parts)
+    → IsPermutation (output_lines tool inputs) (flat_map (λ i. output_lines tool (text_of_part tool part_of inputs i)) (range_with_len 0 parts))
 
+-- The law for `comm`.
 abbrev pub CommByKey : Type 0
-CommByKey = (job : Comm) → IsByKey (comm_tool job)
+CommByKey = (job : Comm) → IsSplittableByKey (comm_tool job)
 
+-- The law for `join`.
 abbrev pub JoinByKey : Type 0
-JoinByKey = (job : Join) → IsByKey (join_tool job)
+JoinByKey = (job : Join) → IsSplittableByKey (join_tool job)

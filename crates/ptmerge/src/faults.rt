@@ -1,18 +1,19 @@
-//! Why a tool over two inputs stopped.
+//! The faults of a merge of two inputs, which `comm` and `join` return.
 
-use crate::order::Side;
+use crate::key_order::Side;
 use ptlines::WriteFault;
 
-/// Why a tool over two inputs stopped. Nothing that was pushed before has to be taken back.
+/// The reason why a merge of two inputs stopped. Everything written before it is a prefix of the correct output.
 #[derive(Clone, Copy, Debug, PartialEq, Eq)]
 pub enum MergeFault {
-    /// 1: a read of this input failed, or 2^63 bytes or more came of it.
+    /// 1: a read of this input failed, or the input has 2^63 bytes or more.
     Read(Side),
-    /// 2: a write failed.
+    /// 2: a write to the output failed.
     Write,
-    /// 3: the store was refused memory (`Store::denied`).
+    /// 3: the store could not allocate memory (`Store::denied`).
     Memory,
-    /// 4: this input is out of order at the line of this number, counted from 1. All that was decided is pushed.
+    /// 4: this input is out of order at this line, counted from 1. All output that does not depend on later lines is
+    /// written.
     Disorder(Side, u64),
 }
 

@@ -1,20 +1,19 @@
-//! Two inputs in order, taken together by their keys: `comm` and `join`.
+//! The engines of `comm` and `join`: a merge of two sorted inputs by the keys of their lines.
 //!
-//! - `merging` has the merge, which goes through both inputs and says whose key comes next; `order` says how keys are
-//!   compared.
-//! - `tools` has a room for each tool: its engine, which stands on the merge, and what only this tool needs.
-//! - `parts` says how both tools may be run on parts of their inputs.
+//! - `merging` is the merge itself, which reads both inputs and selects the least key; `key_order` compares keys.
+//! - `tools` has a module for each tool, with its engine and its private functions.
+//! - `laws` states how both tools may be run on parts of their inputs.
 #![tactic(auto)]
 
 mod faults;
+mod key_order;
+mod laws;
 mod merging;
-mod order;
-mod parts;
 mod tools;
 
 pub use faults::MergeFault;
+pub use key_order::{Descending, KeyOrder, Side, Span, WholeLine};
+pub use laws::{comm_by_key, join_by_key, parts_of_comm, parts_of_join};
 pub use merging::{Merge, Step};
-pub use order::{Descending, KeyOrder, Side, Span, WholeLine};
-pub use parts::{comm_by_key, join_by_key, parts_of_comm, parts_of_join};
 pub use tools::comm::comm;
 pub use tools::join::join;

@@ -1,46 +1,47 @@
-//! A merge of two inputs: which line comes next, by the keys of both. `comm` and `join` stand on it.
+//! The merge of two inputs, on which `comm` and `join` are built: it selects the current line with the least key.
 //!
-//! `sorted` is one of the inputs, which has to be in order; `slots` are those of the store that both need.
+//! `cursor` is one input of the merge, with its order check; `slots` manages the store slots that both inputs use.
 
 ghost use Rattle.std.specs.Prelude.{◌≡◌, None, false, [], OnOk, IfOk, IfErr};
-ghost use Rattle.ptlines.specs.Outputs.{Wrote};
+ghost use Rattle.ptlines.specs.Outputs.{PushEffect};
 ghost use Rattle.ptlines.specs.Slots.{line};
-ghost use Rattle.ptmerge.specs.LinePasses.{Passes, StandsAt};
-ghost use Rattle.ptmerge.specs.Places.{Advances};
+ghost use Rattle.ptmerge.specs.WriteAndAdvance.{WriteThenAdvancePost, AdvancePre};
+ghost use Rattle.ptmerge.specs.Cursor.{NextPost};
 ghost use Rattle.ptmerge.specs.Sides.{both, other};
-ghost use Rattle.ptmerge.specs.Steps.{inputs, IsPlaced, IsLent, IsNext, Starts, CannotStart};
+ghost use Rattle.ptmerge.specs.MergeSteps.{merge_inputs, AreValidCursors, IsReaderOf, StepPost, StartOkPost, StartErrPost};
 
-pub(crate) mod slots;
-pub(crate) mod sorted;
+pub(crate) mod cursor;
+pub(crate) mod four_slots;
 
 use crate::faults::MergeFault;
-use crate::merging::slots::need_four;
-use crate::merging::sorted::{Sorted, Stand};
-use crate::order::{KeyOrder, Side};
+use crate::key_order::{KeyOrder, Side};
+use crate::merging::cursor::{CursorStatus, Sorted};
+use crate::merging::four_slots::ensure_four_slots;
 use ptlines::{LineReader, Out, Sink, Source, Store};
 use std::alloc::Allocator;
 
-/// Which of the two current lines has the least key, or both, or why none comes next.
+/// The input whose current line has the least key, or the reason why no line is next.
 #[derive(Clone, Copy, Debug, PartialEq, Eq)]
 pub enum Step {
-    /// That of the first input alone.
+    /// The first input's current line has the least key.
     First,
-    /// That of the second input alone.
+    /// The second input's current line has the least key.
     Second,
-    /// Those of both inputs, whose keys are equal.
+    /// The current lines of both inputs have the least key.
     Both,
-    /// There are no more lines.
+    /// Both inputs are at their end.
     End,
-    /// This input is out of order at the line of this number, counted from 1, and no current line has a key that is
-    /// at most its last one in order. Of two inputs that are out of order it is the one with the lesser last key, or
-    /// else the first.
+    /// This input is out of order at this line, counted from 1, and no current line has a key up to the last key that
+    /// it has in order. If both inputs are out of order, the one whose last key is less is reported, or the first one
+    /// if their last keys are equal.
     Stop(Side, u64),
 }
 
-/// Two inputs in order, taken together by their keys. The current line of each is in the store, in one of the
-/// slots 0 to 3: from `start` on these slots are left as they are, and each input is lent its own reader. After a fault
-/// no call is made any more. `placed` and `lent` are what the next calls require of a caller; they follow from how the
-/// inputs moved, and are clauses so that no caller has to derive them.
+/// A merge of two sorted inputs. The current line of each input is in one of the slots 0 to 3 of the store. After
+/// `start`, the caller must leave these slots unchanged, pass each input's own reader to the calls for this input, and
+/// make no call after a fault.
+/// The clauses `valid_cursors` and `own_reader` are the conditions of the next calls. They follow from the other
+/// clauses, and are stated so that no caller has to derive them.
 #[derive(Drop)]
 pub struct Merge<K: KeyOrder> {
     order: K,
@@ -49,12 +50,12 @@ pub struct Merge<K: KeyOrder> {
 }
 
 impl<K: KeyOrder> Merge<K> {
-    ghost use Rattle.ptmerge.specs.declared.merging.sorted.Stand.TheVariants as stands;
+    ghost use Rattle.ptmerge.specs.declared.merging.cursor.CursorStatus.TheVariants as status_is;
 
-    /// Adds the slots that are missing of the first four, and reads the first line of each input. All other slots are
-    /// as they were.
+    /// Reads the first line of each input. Adds the slots 0 to 3 to the store if they are missing; all other slots stay
+    /// unchanged.
     /// # Errors
-    /// `Read` where a read failed; `Memory` where a growth of the store was refused, and the store is then denied.
+    /// `Read` if a read failed; `Memory` if the store could not grow, and `Store::denied` is then true.
     pub fn start<A: Allocator + Copy, S: Source, R: Source>(
         order: K,
         first: &mut LineReader<S, R>,
@@ -63,19 +64,19 @@ impl<K: KeyOrder> Merge<K> {
     ) -> Result<Self, MergeFault>
         requires first { first.old.fault ≡ None }
         requires second { second.old.fault ≡ None }
-        ensures starts { let was = inputs first.old second.old store.old in
-            let is = inputs first.new second.new store.new in
-            IfOk result (λ m. Starts (K.key_of order) (K.order order) (both m.first m.second) was is) }
-        ensures breaks { let was = inputs first.old second.old store.old in
-            let is = inputs first.new second.new store.new in
-            IfErr result (λ fault. CannotStart (K.key_of order) (K.order order) was is fault) }
-        ensures placed { IfOk result (λ m. IsPlaced (K.key_of m.order) m.first m.second store.new) }
-        ensures lent { IfOk result (λ m. IsLent m.first first.new × IsLent m.second second.new) }
+        ensures starts { let was = merge_inputs first.old second.old store.old in
+            let is = merge_inputs first.new second.new store.new in
+            IfOk result (λ m. StartOkPost (K.key_of order) (K.order order) (both m.first m.second) was is) }
+        ensures fails { let was = merge_inputs first.old second.old store.old in
+            let is = merge_inputs first.new second.new store.new in
+            IfErr result (λ fault. StartErrPost (K.key_of order) (K.order order) was is fault) }
+        ensures valid_cursors { IfOk result (λ m. AreValidCursors (K.key_of m.order) m.first m.second store.new) }
+        ensures own_reader { IfOk result (λ m. IsReaderOf m.first first.new × IsReaderOf m.second second.new) }
         ensures order { IfOk result (λ m. m.order ≡ order) }
     {
         let mut one = Sorted::unread(Side::First, first);
         let mut two = Sorted::unread(Side::Second, second);
-        match need_four(store) {
+        match ensure_four_slots(store) {
             Ok(()) => {}
             Err(_) => return Err(MergeFault::Memory),
         }
@@ -88,16 +89,18 @@ impl<K: KeyOrder> Merge<K> {
         })
     }
 
-    /// Which of the two current lines comes next, or both.
+    /// Returns the input with the least current key, both inputs if their keys are equal, or the reason why no line is
+    /// next.
     #[inline(always)]
     pub fn step<A: Allocator + Copy>(&self, store: &Store<A>) -> Step
-        requires { IsPlaced (K.key_of self.now.order) self.now.first self.now.second store.now }
-        ensures { let place = both self.now.first self.now.second in
-            IsNext (K.order self.now.order) (K.key_of self.now.order) place store.now result }
+        requires { AreValidCursors (K.key_of self.now.order) self.now.first self.now.second store.now }
+        ensures { let cursor = both self.now.first self.now.second in
+            StepPost (K.order self.now.order) (K.key_of self.now.order) cursor store.now result }
     {
-        // The number of a line out of order is how many came, and is taken from there.
-        match (self.first.stand, self.second.stand) {
-            (Stand::Head, Stand::Head) => {
+        // `Disorder` carries the line's number, but the number is also the count of lines read, and is taken from
+        // there.
+        match (self.first.status, self.second.status) {
+            (CursorStatus::Head, CursorStatus::Head) => {
                 let a = self.key(Side::First, store);
                 let b = self.key(Side::Second, store);
                 match self.order.cmp(a, b) {
@@ -106,32 +109,38 @@ impl<K: KeyOrder> Merge<K> {
                     std::cmp::Ordering::Greater => Step::Second,
                 }
             }
-            (Stand::Head, Stand::Ended) => Step::First,
-            (Stand::Head, Stand::Disorder(_)) => {
+            (CursorStatus::Head, CursorStatus::Ended) => Step::First,
+            (CursorStatus::Head, CursorStatus::Disorder(_)) => {
                 let a = self.key(Side::First, store);
-                let last = self.last_key(Side::Second, store);
+                let last = self.previous_key(Side::Second, store);
                 if self.order.cmp(a, last).is_gt() {
                     Step::Stop(Side::Second, self.second.number)
                 } else {
                     Step::First
                 }
             }
-            (Stand::Ended, Stand::Head) => Step::Second,
-            (Stand::Ended, Stand::Ended) => Step::End,
-            (Stand::Ended, Stand::Disorder(_)) => Step::Stop(Side::Second, self.second.number),
-            (Stand::Disorder(_), Stand::Head) => {
+            (CursorStatus::Ended, CursorStatus::Head) => Step::Second,
+            (CursorStatus::Ended, CursorStatus::Ended) => Step::End,
+            (CursorStatus::Ended, CursorStatus::Disorder(_)) => Step::Stop(
+                Side::Second,
+                self.second.number,
+            ),
+            (CursorStatus::Disorder(_), CursorStatus::Head) => {
                 let b = self.key(Side::Second, store);
-                let last = self.last_key(Side::First, store);
+                let last = self.previous_key(Side::First, store);
                 if self.order.cmp(b, last).is_gt() {
                     Step::Stop(Side::First, self.first.number)
                 } else {
                     Step::Second
                 }
             }
-            (Stand::Disorder(_), Stand::Ended) => Step::Stop(Side::First, self.first.number),
-            (Stand::Disorder(_), Stand::Disorder(_)) => {
-                let a = self.last_key(Side::First, store);
-                let b = self.last_key(Side::Second, store);
+            (CursorStatus::Disorder(_), CursorStatus::Ended) => Step::Stop(
+                Side::First,
+                self.first.number,
+            ),
+            (CursorStatus::Disorder(_), CursorStatus::Disorder(_)) => {
+                let a = self.previous_key(Side::First, store);
+                let b = self.previous_key(Side::Second, store);
                 if self.order.cmp(a, b).is_gt() {
                     Step::Stop(Side::Second, self.second.number)
                 } else {
@@ -141,22 +150,22 @@ impl<K: KeyOrder> Merge<K> {
         }
     }
 
-    /// The current line of an input.
+    /// Returns the current line of an input.
     #[inline(always)]
     pub fn head<'a, A: Allocator + Copy>(&self, side: Side, store: &'a Store<A>) -> &'a [u8]
-        requires placed { IsPlaced (K.key_of self.now.order) self.now.first self.now.second store.now }
-        requires stands { (both self.now.first self.now.second side).stand ≡ stands.Head }
-        ensures { result.now ≡ line store.now (both self.now.first self.now.second side).standing }
+        requires valid_cursors { AreValidCursors (K.key_of self.now.order) self.now.first self.now.second store.now }
+        requires status_is { (both self.now.first self.now.second side).status ≡ status_is.Head }
+        ensures { result.now ≡ line store.now (both self.now.first self.now.second side).current_slot }
     {
         match side {
-            Side::First => store.line(self.first.standing),
-            Side::Second => store.line(self.second.standing),
+            Side::First => store.line(self.first.current_slot),
+            Side::Second => store.line(self.second.current_slot),
         }
     }
 
-    /// Goes from the current line of an input to its next one. `reader` has to be that of this input.
+    /// Reads the next line of an input, which becomes its current line. `reader` must be the reader of this input.
     /// # Errors
-    /// `Read` where a read failed; `Memory` where a growth of the store was refused, and the store is then denied.
+    /// `Read` if a read failed; `Memory` if the store could not grow, and `Store::denied` is then true.
     #[inline(always)]
     pub fn advance<A: Allocator + Copy, S: Source, R: Source>(
         &mut self,
@@ -164,18 +173,18 @@ impl<K: KeyOrder> Merge<K> {
         reader: &mut LineReader<S, R>,
         store: &mut Store<A>,
     ) -> Result<(), MergeFault>
-        requires placed { IsPlaced (K.key_of self.old.order) self.old.first self.old.second store.old }
-        requires stands { (both self.old.first self.old.second side).stand ≡ stands.Head }
-        requires lent { IsLent (both self.old.first self.old.second side) reader.old }
+        requires valid_cursors { AreValidCursors (K.key_of self.old.order) self.old.first self.old.second store.old }
+        requires status_is { (both self.old.first self.old.second side).status ≡ status_is.Head }
+        requires own_reader { IsReaderOf (both self.old.first self.old.second side) reader.old }
         ensures moves { let was = both self.old.first self.old.second side in
             let is = both self.new.first self.new.second side in
             let key = K.key_of self.old.order side in
-            Advances key (K.order self.old.order) side was is reader.old reader.new store.old store.new result }
+            NextPost key (K.order self.old.order) side was is reader.old reader.new store.old store.new result }
         ensures others { let was = both self.old.first self.old.second (other side) in
             both self.new.first self.new.second (other side) ≡ was }
         ensures order { self.new.order ≡ self.old.order }
-        ensures placed { OnOk result (IsPlaced (K.key_of self.new.order) self.new.first self.new.second store.new) }
-        ensures lent { OnOk result (IsLent (both self.new.first self.new.second side) reader.new) }
+        ensures valid_cursors { OnOk result (AreValidCursors (K.key_of self.new.order) self.new.first self.new.second store.new) }
+        ensures own_reader { OnOk result (IsReaderOf (both self.new.first self.new.second side) reader.new) }
     {
         match side {
             Side::First => self.first.next(&self.order, side, reader, store),
@@ -183,54 +192,54 @@ impl<K: KeyOrder> Merge<K> {
         }
     }
 
-    // The key of the line at which an input stands.
+    // Returns the key of an input's current line.
     #[inline(always)]
     pub(crate) fn key<'a, A: Allocator + Copy>(&self, side: Side, store: &'a Store<A>) -> &'a [u8]
-        requires placed { IsPlaced (K.key_of self.now.order) self.now.first self.now.second store.now }
-        requires stands { (both self.now.first self.now.second side).stand ≡ stands.Head }
-        ensures { let place = both self.now.first self.now.second side in
-            result.now ≡ K.key_of self.now.order side (line store.now place.standing) }
+        requires valid_cursors { AreValidCursors (K.key_of self.now.order) self.now.first self.now.second store.now }
+        requires status_is { (both self.now.first self.now.second side).status ≡ status_is.Head }
+        ensures { let cursor = both self.now.first self.now.second side in
+            result.now ≡ K.key_of self.now.order side (line store.now cursor.current_slot) }
     {
         match side {
             Side::First => {
-                let line = store.line(self.first.standing);
+                let line = store.line(self.first.current_slot);
                 self.order.key(side, self.first.key, line)
             }
             Side::Second => {
-                let line = store.line(self.second.standing);
+                let line = store.line(self.second.current_slot);
                 self.order.key(side, self.second.key, line)
             }
         }
     }
 
-    // The key of the line before the one at which an input stands, which is looked for anew.
+    // Returns the key of an input's previous line. Its span is not stored, so the key is searched for again.
     #[inline(always)]
-    fn last_key<'a, A: Allocator + Copy>(&self, side: Side, store: &'a Store<A>) -> &'a [u8]
-        requires { IsPlaced (K.key_of self.now.order) self.now.first self.now.second store.now }
-        ensures { let place = both self.now.first self.now.second side in
-            result.now ≡ K.key_of self.now.order side (line store.now place.previous) }
+    fn previous_key<'a, A: Allocator + Copy>(&self, side: Side, store: &'a Store<A>) -> &'a [u8]
+        requires { AreValidCursors (K.key_of self.now.order) self.now.first self.now.second store.now }
+        ensures { let cursor = both self.now.first self.now.second side in
+            result.now ≡ K.key_of self.now.order side (line store.now cursor.previous_slot) }
     {
         let line = match side {
-            Side::First => store.line(self.first.previous),
-            Side::Second => store.line(self.second.previous),
+            Side::First => store.line(self.first.previous_slot),
+            Side::Second => store.line(self.second.previous_slot),
         };
         self.order.key(side, self.order.span(side, line), line)
     }
 
-    // The slot of the line before the one at which an input stands.
+    // Returns the slot of an input's previous line.
     #[inline(always)]
-    pub(crate) fn slot_before(&self, side: Side) -> usize
-        ensures { result ≡ (both self.now.first self.now.second side).previous }
+    pub(crate) fn previous_slot_of(&self, side: Side) -> usize
+        ensures { result ≡ (both self.now.first self.now.second side).previous_slot }
     {
         match side {
-            Side::First => self.first.previous,
-            Side::Second => self.second.previous,
+            Side::First => self.first.previous_slot,
+            Side::Second => self.second.previous_slot,
         }
     }
 
-    // Whether an input stands at a line with the key of the line before.
+    // Checks whether an input is at a line with the same key as its previous line.
     #[inline(always)]
-    pub(crate) fn repeats(&self, side: Side) -> bool
+    pub(crate) fn has_same_key(&self, side: Side) -> bool
         ensures { result ≡ (both self.now.first self.now.second side).same }
     {
         match side {
@@ -239,26 +248,26 @@ impl<K: KeyOrder> Merge<K> {
         }
     }
 
-    // Goes to the next line of an input that stands at one, by its own reader. What is staged is sent first, if that
-    // line may have to be waited for.
+    // Writes out the buffered output if the next line may not be available without blocking, and then advances the
+    // input.
     #[inline(always)]
-    pub(crate) fn go_on<A: Allocator + Copy, S: Source, R: Source, W: Sink>(
+    pub(crate) fn write_out_and_advance<A: Allocator + Copy, S: Source, R: Source, W: Sink>(
         &mut self,
         side: Side,
         reader: &mut LineReader<S, R>,
         store: &mut Store<A>,
         out: &mut Out<W>,
     ) -> Result<(), MergeFault>
-        requires stands { let key = K.key_of self.old.order in
-            StandsAt key side self.old.first self.old.second reader.old store.old }
-        requires clean { out.old.faulted ≡ false }
-        ensures sent { Wrote out.old out.new [] }
-        ensures passes { let key = K.key_of self.old.order in
-            Passes key (K.order self.old.order) side self.old.first self.old.second self.new.first self.new.second
+        requires status_is { let key = K.key_of self.old.order in
+            AdvancePre key side self.old.first self.old.second reader.old store.old }
+        requires clean { out.old.write_failed ≡ false }
+        ensures written_out { PushEffect out.old out.new [] }
+        ensures advances { let key = K.key_of self.old.order in
+            WriteThenAdvancePost key (K.order self.old.order) side self.old.first self.old.second self.new.first self.new.second
             reader.old reader.new store.old store.new out.new result }
         ensures order { self.new.order ≡ self.old.order }
     {
-        reader.send_before_wait(out)?;
+        reader.write_out_before_blocking(out)?;
         self.advance(side, reader, store)
     }
 }

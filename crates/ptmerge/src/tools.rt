@@ -1,3 +1,3 @@
-//! The tools, a room each. A room's first file has the engine, which the crate makes public.
+//! The two tools, a module each, whose public function is the engine that the crate exports.
 pub(crate) mod comm;
 pub(crate) mod join;

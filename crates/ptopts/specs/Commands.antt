@@ -1,4 +1,4 @@
--- What the words of a command mean: a command, or the first fault.
+-- The command that the words of a command line specify, or the first fault.
 use Rattle.std.specs.Prelude.{ℕ, ◌||◌, ◌+◌, List, [], ◌∷◌, Bool, false, not, Option, Some, None, Result, Ok, Err, if◌then◌else◌, option_and_then, slice_get}
 use Rattle.std.specs.Prelude.{unwrap_or, option_map, codes, bytes_eq, filter, take}
 use Rattle.std.specs.List.{list_any}
@@ -18,141 +18,150 @@ use Rattle.ptopts.specs.declared.tool.Tool.{Tool}
 use Rattle.ptopts.specs.declared.tool.Tool.TheVariants.{Cut, Paste, Uniq, Comm, Join, Tr}
 use Rattle.ptopts.specs.declared.inputs.Input.{Input}
 use Rattle.ptopts.specs.declared.inputs.Input.TheVariants.{Standard, File}
-use Rattle.ptopts.specs.Words.{GivenOption, tool_named, Reading, reading, options, has, value_of, values_of}
-use Rattle.ptopts.specs.Faults.{Fault, NoTool, first_of, end_given, list_given, reading_fault, combination_fault, values_fault, operands_fault, strings_fault, plan_given, is_standard}
+use Rattle.ptopts.specs.Args.{ParsedOption, tool_of_name, ParsedArgs, parsed_args, options, has_option, value_of, values_of}
+use Rattle.ptopts.specs.Faults.{Fault, NoTool, first_some, terminator_of_options, cut_list_value, parse_fault, constraints_fault, values_fault, operands_fault, strings_fault, plan_of_operands, is_standard}
 
--- what a tool is to do
+-- the options of a tool
 pub data Job : Type 0 where
   RunCut : jobs.Cut → Job
   RunPaste : jobs.Paste → Job
   RunUniq : jobs.Uniq → Job
   RunComm : jobs.Comm → Job
   RunJoin : jobs.Join → Job
-  -- what is done to each byte
+  -- for each byte, what happens to it
   RunTr : Tables → Job
 
--- a job, and what it reads and writes
+-- the options of a tool, with its inputs and its output
 pub record Command : Type 0 where
   pub job : Job
-  -- the inputs: standard input, or the file at this place among the names
+  -- the inputs in operand order: standard input, or the file with this index in `names`
   pub order : List Input
+  -- the names of the input files
   pub names : List (List ℕ)
-  -- a file in place of standard output
+  -- the output file, if the output is not standard output
   pub output : Option (List ℕ)
 
--- ---- the jobs that options say
+-- ---- the options of each tool
 
--- the set that a list says
-abbrev pub set_of : List ℕ → ℕ → Bool
-set_of text = result_unwrap_or (selection text) (λ n. false)
+-- the set of numbers that a list of `cut` selects
+abbrev pub selected_set : List ℕ → ℕ → Bool
+selected_set text = result_unwrap_or (selection text) (λ n. false)
 
--- the one byte of a letter's value
-abbrev pub byte_given : ℕ → List GivenOption → Option ℕ
-byte_given letter os = option_and_then (λ value. slice_get value 0) (value_of letter os)
+-- the single byte that is the value of an option
+abbrev pub byte_value : ℕ → List ParsedOption → Option ℕ
+byte_value letter os = option_and_then (λ value. slice_get value 0) (value_of letter os)
 
--- the number that is a letter's value
-abbrev pub number_given : ℕ → List GivenOption → Option ℕ
-number_given letter os = option_and_then number (value_of letter os)
+-- the number that is the value of an option
+abbrev pub number_value : ℕ → List ParsedOption → Option ℕ
+number_value letter os = option_and_then number (value_of letter os)
 
-abbrev pub cut_job : List GivenOption → jobs.Cut
-cut_job os = record {
-  fields = has (byte "f") os;
-  selected = unwrap_or (option_map set_of (list_given os)) (λ n. false);
-  delimiter = unwrap_or (byte_given (byte "d") os) 9;
-  only = has (byte "s") os;
-  end = end_given os;
+-- the options of `cut`
+abbrev pub cut_from_options : List ParsedOption → jobs.Cut
+cut_from_options os = record {
+  fields = has_option (byte "f") os;
+  selected = unwrap_or (option_map selected_set (cut_list_value os)) (λ n. false);
+  delimiter = unwrap_or (byte_value (byte "d") os) 9;
+  only = has_option (byte "s") os;
+  terminator = terminator_of_options os;
 }
 
--- the delimiters that a list says
+-- the delimiters of a list of `paste`
 abbrev pub delimiters_of : List ℕ → List (Option ℕ)
 delimiters_of text = result_unwrap_or (delim_list text) []
 
-abbrev pub paste_job : List GivenOption → jobs.Paste
-paste_job os = record {
-  serial = has (byte "s") os;
+-- the options of `paste`
+abbrev pub paste_from_options : List ParsedOption → jobs.Paste
+paste_from_options os = record {
+  serial = has_option (byte "s") os;
   delimiters = unwrap_or (option_map delimiters_of (value_of (byte "d") os)) (Some 9 ∷ []);
-  end = end_given os;
+  terminator = terminator_of_options os;
 }
 
-abbrev pub show : List GivenOption → Show
+-- the lines that `uniq` writes
+abbrev pub show : List ParsedOption → Show
 show os =
-    if has (byte "c") os then Counts
-    else (if has (byte "d") os then Repeated
-    else (if has (byte "u") os then Single else All))
+    if has_option (byte "c") os then Counts
+    else (if has_option (byte "d") os then Repeated
+    else (if has_option (byte "u") os then Single else All))
 
-abbrev pub uniq_job : List GivenOption → jobs.Uniq
-uniq_job os = record {
+-- the options of `uniq`
+abbrev pub uniq_from_options : List ParsedOption → jobs.Uniq
+uniq_from_options os = record {
   show = show os;
-  fields = unwrap_or (number_given (byte "f") os) 0;
-  chars = unwrap_or (number_given (byte "s") os) 0;
-  end = end_given os;
+  fields = unwrap_or (number_value (byte "f") os) 0;
+  chars = unwrap_or (number_value (byte "s") os) 0;
+  terminator = terminator_of_options os;
 }
 
-abbrev pub comm_job : List GivenOption → jobs.Comm
-comm_job os = record {
-  hide1 = has (byte "1") os;
-  hide2 = has (byte "2") os;
-  hide3 = has (byte "3") os;
-  end = end_given os;
-  descending = has (byte "r") os;
+-- the options of `comm`
+abbrev pub comm_from_options : List ParsedOption → jobs.Comm
+comm_from_options os = record {
+  hide1 = has_option (byte "1") os;
+  hide2 = has_option (byte "2") os;
+  hide3 = has_option (byte "3") os;
+  terminator = terminator_of_options os;
+  descending = has_option (byte "r") os;
 }
 
--- some value of the letter names this file
-abbrev pub names_file : List ℕ → ℕ → List GivenOption → Bool
+-- a value of this option names the file
+abbrev pub names_file : List ℕ → ℕ → List ParsedOption → Bool
 names_file file letter os = list_any (bytes_eq file) (values_of letter os)
 
--- the unpairable lines of this file are asked for
-abbrev pub asks_unpaired : List ℕ → List GivenOption → Bool
-asks_unpaired file os = names_file file (byte "a") os || names_file file (byte "v") os
+-- `-a` or `-v` selects the unpairable lines of the file
+abbrev pub selects_unpaired : List ℕ → List ParsedOption → Bool
+selects_unpaired file os = names_file file (byte "a") os || names_file file (byte "v") os
 
--- the fields that a list says
+-- the fields of an output list of `join`
 abbrev pub fields_of : List ℕ → List OutField
 fields_of text = result_unwrap_or (out_list text) []
 
-abbrev pub join_job : List GivenOption → jobs.Join
-join_job os = record {
-  pairs = not (has (byte "v") os);
-  unpaired1 = asks_unpaired (codes "1") os;
-  unpaired2 = asks_unpaired (codes "2") os;
+-- the options of `join`
+abbrev pub join_from_options : List ParsedOption → jobs.Join
+join_from_options os = record {
+  pairs = not (has_option (byte "v") os);
+  unpaired1 = selects_unpaired (codes "1") os;
+  unpaired2 = selects_unpaired (codes "2") os;
   empty = unwrap_or (value_of (byte "e") os) [];
   list = option_map fields_of (value_of (byte "o") os);
-  separator = byte_given (byte "t") os;
-  field1 = unwrap_or (number_given (byte "1") os) 1;
-  field2 = unwrap_or (number_given (byte "2") os) 1;
-  end = end_given os;
-  descending = has (byte "r") os;
+  separator = byte_value (byte "t") os;
+  field1 = unwrap_or (number_value (byte "1") os) 1;
+  field2 = unwrap_or (number_value (byte "2") os) 1;
+  terminator = terminator_of_options os;
+  descending = has_option (byte "r") os;
 }
 
--- the plan by which each byte stays
-abbrev pub plan_of_nothing : Plan
-plan_of_nothing = record { deleted = []; from = []; to = []; squeezed = [] }
+-- the plan that changes nothing
+abbrev pub identity_plan : Plan
+identity_plan = record { deleted = []; from = []; to = []; squeezed = [] }
 
-abbrev pub char_tables : List GivenOption → List (List ℕ) → Tables
-char_tables os operands = tables (result_unwrap_or (plan_given os operands) plan_of_nothing)
+-- the tables of the plan of `tr`
+abbrev pub char_tables : List ParsedOption → List (List ℕ) → Tables
+char_tables os operands = tables (result_unwrap_or (plan_of_operands os operands) identity_plan)
 
-abbrev pub job : Tool → List GivenOption → List (List ℕ) → Job
-job Cut os operands = RunCut (cut_job os)
-job Paste os operands = RunPaste (paste_job os)
-job Uniq os operands = RunUniq (uniq_job os)
-job Comm os operands = RunComm (comm_job os)
-job Join os operands = RunJoin (join_job os)
+-- the options of a tool
+abbrev pub job : Tool → List ParsedOption → List (List ℕ) → Job
+job Cut os operands = RunCut (cut_from_options os)
+job Paste os operands = RunPaste (paste_from_options os)
+job Uniq os operands = RunUniq (uniq_from_options os)
+job Comm os operands = RunComm (comm_from_options os)
+job Join os operands = RunJoin (join_from_options os)
 job Tr os operands = RunTr (char_tables os operands)
 
 -- ---- inputs and output
 
--- standard input where no operand is given
-abbrev pub or_standard : List (List ℕ) → List (List ℕ)
-or_standard [] = codes "-" ∷ []
-or_standard (word ∷ words) = word ∷ words
+-- standard input if there is no operand
+abbrev pub or_stdin : List (List ℕ) → List (List ℕ)
+or_stdin [] = codes "-" ∷ []
+or_stdin (word ∷ words) = word ∷ words
 
--- the operands that a tool reads
-abbrev pub inputs : Tool → List (List ℕ) → List (List ℕ)
-inputs Cut operands = or_standard operands
-inputs Uniq operands = take 1 (or_standard operands)
-inputs Tr operands = codes "-" ∷ []
-inputs _ operands = operands
+-- the operands that are inputs of the tool
+abbrev pub input_operands : Tool → List (List ℕ) → List (List ℕ)
+input_operands Cut operands = or_stdin operands
+input_operands Uniq operands = take 1 (or_stdin operands)
+input_operands Tr operands = codes "-" ∷ []
+input_operands _ operands = operands
 
--- the output of uniq, if it is a file
+-- the output file of `uniq`; `None` for standard output
 abbrev pub output : Tool → List (List ℕ) → Option (List ℕ)
 output Uniq (input ∷ written ∷ more) = if is_standard written then None else Some written
 output _ operands = None
@@ -161,15 +170,15 @@ output _ operands = None
 abbrev pub file_names : List (List ℕ) → List (List ℕ)
 file_names operands = filter (λ operand. not (is_standard operand)) operands
 
--- each operand as standard input, or as its number among those that name files, counted on from this one
+-- each operand as an input; files are numbered from `n`
 abbrev pub order_from : ℕ → List (List ℕ) → List Input
 order_from n [] = []
 order_from n (operand ∷ operands) =
     if is_standard operand then Standard ∷ order_from n operands else File n ∷ order_from (n + 1) operands
 
--- a job over these operands
-abbrev pub over : Job → List (List ℕ) → Option (List ℕ) → Command
-over job operands output = record {
+-- the command of a job with these operands and this output
+abbrev pub command_over : Job → List (List ℕ) → Option (List ℕ) → Command
+command_over job operands output = record {
   job = job;
   order = order_from 0 operands;
   names = file_names operands;
@@ -178,34 +187,37 @@ over job operands output = record {
 
 -- ---- commands
 
--- the command of words without a fault
-abbrev pub command : Tool → List GivenOption → List (List ℕ) → Command
-command tool os operands = over (job tool os operands) (inputs tool operands) (output tool operands)
+-- the command of options and operands that have no fault
+abbrev pub command : Tool → List ParsedOption → List (List ℕ) → Command
+command tool os operands = command_over (job tool os operands) (input_operands tool operands) (output tool operands)
 
-abbrev pub unless : {A E : Type 0} → Option E → A → Result A E
-unless None x = Ok x
-unless (Some e) x = Err e
+-- the value, or the fault if there is one
+abbrev pub ok_unless : {A E : Type 0} → Option E → A → Result A E
+ok_unless None x = Ok x
+ok_unless (Some e) x = Err e
 
--- the command of options that go together, or the first fault of their values, of the operands and of strings
-abbrev pub judged : Tool → List GivenOption → List (List ℕ) → Result Command Fault
-judged tool os operands = unless
-    (first_of (values_fault tool os ∷ operands_fault tool os operands ∷ strings_fault tool os operands ∷ []))
+-- the command of options that meet the constraints of the tool, or the first fault of the values, the operands and the
+-- strings
+abbrev pub checked_command : Tool → List ParsedOption → List (List ℕ) → Result Command Fault
+checked_command tool os operands = ok_unless
+    (first_some (values_fault tool os ∷ operands_fault tool os operands ∷ strings_fault tool os operands ∷ []))
     (command tool os operands)
 
--- the faults in their order: those of the reading, of combinations, of values, of operands, of strings
-abbrev pub first_fault : Tool → Reading → Option Fault
+-- the first fault: first that of parsing, then of the constraints, the values, the operands, and last the strings
+abbrev pub first_fault : Tool → ParsedArgs → Option Fault
 first_fault tool r =
     let os = options r in
-    first_of (
-    reading_fault tool [] r.events ∷ combination_fault tool os ∷ values_fault tool os
+    first_some (
+    parse_fault tool [] r.tokens ∷ constraints_fault tool os ∷ values_fault tool os
     ∷ operands_fault tool os r.operands ∷ strings_fault tool os r.operands ∷ [])
 
-abbrev pub meaning_for : Option Tool → List (List ℕ) → Result Command Fault
-meaning_for None words = Err NoTool
-meaning_for (Some tool) words =
-    let r = reading tool words in unless (first_fault tool r) (command tool (options r) r.operands)
+-- the command of the words after the name of a tool
+abbrev pub command_of_tool : Option Tool → List (List ℕ) → Result Command Fault
+command_of_tool None words = Err NoTool
+command_of_tool (Some tool) words =
+    let r = parsed_args tool words in ok_unless (first_fault tool r) (command tool (options r) r.operands)
 
--- what the words mean
-abbrev pub meaning : List (List ℕ) → Result Command Fault
-meaning [] = Err NoTool
-meaning (name ∷ words) = meaning_for (tool_named name) words
+-- the command of the words, the name of the tool first, or the first fault
+abbrev pub command_of_args : List (List ℕ) → Result Command Fault
+command_of_args [] = Err NoTool
+command_of_args (name ∷ words) = command_of_tool (tool_of_name name) words

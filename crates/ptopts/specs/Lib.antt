@@ -1,7 +1,7 @@
 pub mod Syntax
-pub mod Words
+pub mod Args
 pub mod Faults
 pub mod Commands
-pub mod Meant
-pub mod Laws
-pub mod Steps
+pub mod View
+pub mod Theorems
+pub mod ParseSteps

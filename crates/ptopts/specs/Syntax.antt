@@ -1,78 +1,81 @@
--- What each tool takes, one row a tool (POSIX.1-2017, XCU, the synopsis of each utility). Of this project's own are -z,
--- and -r of comm and join, which combinations are refused and in what order, that -v may be given again, and the bound
--- of 512 operands.
+-- The options and operands of each tool (POSIX.1-2017, XCU, the synopsis of each utility). POSIX does not have `-z`,
+-- and `-r` of `comm` and `join`. POSIX leaves unspecified which options conflict beyond the synopsis and which conflict
+-- is reported first, that `-v` may be repeated, and the limit of 512 operands.
 use Prim.Native.String.{String}
 use Rattle.std.specs.Prelude.{ℕ, List, [], ◌∷◌, Bool, true, false, codes, slice_index}
 use Rattle.ptopts.specs.declared.tool.Tool.{Tool}
 use Rattle.ptopts.specs.declared.tool.Tool.TheVariants.{Cut, Paste, Uniq, Comm, Join, Tr}
-use Rattle.ptopts.specs.declared.tool.Combination.{Combination}
-use Rattle.ptopts.specs.declared.tool.Combination.TheVariants.{Apart, OneOf}
+use Rattle.ptopts.specs.declared.tool.Constraint.{Constraint}
+use Rattle.ptopts.specs.declared.tool.Constraint.TheVariants.{Conflict, Required}
 use Rattle.ptopts.specs.declared.tool.Syntax as code
 
+-- the options and operands that a tool accepts
 pub record Syntax : Type 0 where
-  -- the letters that stand alone
+  -- the options without a value
   pub flags : List ℕ
-  -- the letters with a value
-  pub valued : List ℕ
-  -- those of them that may be given again
+  -- the options with a value
+  pub value_letters : List ℕ
+  -- those of them that may be repeated
   pub repeatable : List ℕ
-  -- the letters that exclude one another, or of which one is needed, in the order in which this is judged
-  pub combinations : List Combination
-  -- the fewest and the most operands
-  pub least : ℕ
-  pub most : ℕ
-  -- standard input is one of the operands at most
-  pub once : Bool
+  -- conflicts and required options, in the order in which they are checked
+  pub constraints : List Constraint
+  -- the least and the greatest number of operands
+  pub min_operands : ℕ
+  pub max_operands : ℕ
+  -- at most one of the operands is standard input
+  pub stdin_once : Bool
 
--- two letters that do not go together
-abbrev pub apart : String → Combination
-apart letters = Apart (slice_index (codes letters) 0) (slice_index (codes letters) 1)
+-- two options that conflict
+abbrev pub conflict : String → Constraint
+conflict letters = Conflict (slice_index (codes letters) 0) (slice_index (codes letters) 1)
 
--- three letters of which one is needed
-abbrev pub one_of : String → Combination
-one_of letters = OneOf (slice_index (codes letters) 0) (slice_index (codes letters) 1) (slice_index (codes letters) 2)
+-- three options, one of which is required
+abbrev pub one_required : String → Constraint
+one_required letters = Required (slice_index (codes letters) 0) (slice_index (codes letters) 1) (slice_index (codes letters) 2)
 
--- flags, letters with a value, those that may be given again, combinations, and operands
-abbrev pub row : String → String → String → List Combination → ℕ → ℕ → Bool → Syntax
-row flags valued repeatable combinations least most once = record {
+-- the syntax of a tool, from its options as text
+abbrev pub tool_syntax : String → String → String → List Constraint → ℕ → ℕ → Bool → Syntax
+tool_syntax flags value_letters repeatable constraints min_operands max_operands stdin_once = record {
   flags = codes flags;
-  valued = codes valued;
+  value_letters = codes value_letters;
   repeatable = codes repeatable;
-  combinations = combinations;
-  least = least;
-  most = most;
-  once = once;
+  constraints = constraints;
+  min_operands = min_operands;
+  max_operands = max_operands;
+  stdin_once = stdin_once;
 }
 
--- the tools by their names
+-- the tools by name
 abbrev pub tools : List (List ℕ × Tool)
 tools = (codes "cut", Cut) ∷ (codes "paste", Paste) ∷ (codes "join", Join) ∷ (codes "comm", Comm) ∷ (codes "uniq", Uniq) ∷ (codes "tr", Tr) ∷ []
 
-abbrev pub combinations : Tool → List Combination
-combinations Cut =
-    apart "bc" ∷ apart "bf" ∷ apart "cf" ∷ one_of "bcf"
-    ∷ apart "cn" ∷ apart "fn" ∷ apart "bd" ∷ apart "cd" ∷ apart "bs" ∷ apart "cs" ∷ []
-combinations Uniq = apart "cd" ∷ apart "cu" ∷ apart "du" ∷ []
-combinations Join = apart "av" ∷ []
-combinations Tr = apart "cC" ∷ []
-combinations _ = []
+-- the constraints of a tool
+abbrev pub constraints : Tool → List Constraint
+constraints Cut =
+    conflict "bc" ∷ conflict "bf" ∷ conflict "cf" ∷ one_required "bcf"
+    ∷ conflict "cn" ∷ conflict "fn" ∷ conflict "bd" ∷ conflict "cd" ∷ conflict "bs" ∷ conflict "cs" ∷ []
+constraints Uniq = conflict "cd" ∷ conflict "cu" ∷ conflict "du" ∷ []
+constraints Join = conflict "av" ∷ []
+constraints Tr = conflict "cC" ∷ []
+constraints _ = []
 
+-- the syntax of a tool
 abbrev pub syntax : Tool → Syntax
-syntax Cut = row "nsz" "bcfd" "" (combinations Cut) 0 512 false
-syntax Paste = row "sz" "d" "" (combinations Paste) 1 512 false
-syntax Uniq = row "cduz" "fs" "" (combinations Uniq) 0 2 false
-syntax Comm = row "123rz" "" "" (combinations Comm) 2 2 true
-syntax Join = row "rz" "aveot12" "av" (combinations Join) 2 2 true
-syntax Tr = row "cCds" "" "" (combinations Tr) 1 2 false
+syntax Cut = tool_syntax "nsz" "bcfd" "" (constraints Cut) 0 512 false
+syntax Paste = tool_syntax "sz" "d" "" (constraints Paste) 1 512 false
+syntax Uniq = tool_syntax "cduz" "fs" "" (constraints Uniq) 0 2 false
+syntax Comm = tool_syntax "123rz" "" "" (constraints Comm) 2 2 true
+syntax Join = tool_syntax "rz" "aveot12" "av" (constraints Join) 2 2 true
+syntax Tr = tool_syntax "cCds" "" "" (constraints Tr) 1 2 false
 
--- a row of the code
-abbrev pub row_seen : code.Syntax → Syntax
-row_seen row = record {
-  flags = row.flags.now;
-  valued = row.valued.now;
-  repeatable = row.repeatable.now;
-  combinations = row.combinations.now;
-  least = row.least;
-  most = row.most;
-  once = row.once;
+-- the view of a syntax of the code
+abbrev pub syntax_view : code.Syntax → Syntax
+syntax_view tool_syntax = record {
+  flags = tool_syntax.flags.now;
+  value_letters = tool_syntax.value_letters.now;
+  repeatable = tool_syntax.repeatable.now;
+  constraints = tool_syntax.constraints.now;
+  min_operands = tool_syntax.min_operands;
+  max_operands = tool_syntax.max_operands;
+  stdin_once = tool_syntax.stdin_once;
 }

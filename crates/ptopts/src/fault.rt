@@ -1,36 +1,36 @@
-//! What can be wrong with the words of a command.
+//! The faults of a command line, which `ptrun` reports as messages.
 
 ghost use Rattle.std.specs.Prelude.{◌≡◌};
 
 use ptlangs::SetFault;
 use std::alloc::{AllocError, AllocFailed};
 
-/// Why words are no command. Which fault is the first is this project's own choice. Each has a number, which its
-/// comment gives, since a variant with a payload cannot have a discriminant.
+/// Why the words are not a command. POSIX leaves unspecified which fault is reported first. The number of each fault is
+/// in its comment, because a variant with a payload cannot have a discriminant.
 #[derive(Clone, Copy, Debug, PartialEq, Eq)]
 pub enum UseFault<'a> {
-    /// Fault 1. The first word names no tool, or there is none.
+    /// Fault 1. The first word names no tool, or there is no word.
     Tool,
-    /// Fault 2. A character of this word is no letter of the tool.
+    /// Fault 2. A letter of this word is not an option of the tool.
     Unknown(&'a str),
-    /// Fault 3. The letter takes a value, and the words end.
+    /// Fault 3. The value of the last option is missing.
     NeedsValue(u8),
-    /// Fault 4. The letter with a value may be given once.
+    /// Fault 4. An option with a value is present twice.
     Twice(u8),
-    /// Fault 5. The two letters exclude one another.
+    /// Fault 5. The two options conflict.
     Together(u8, u8),
-    /// Fault 6. The letter does not take this value.
+    /// Fault 6. The value of the option is invalid.
     Value(u8, &'a str),
     /// Fault 7. The number of operands is wrong.
     Operands,
     /// Fault 8. Both operands are standard input.
     StandardTwice,
-    /// Fault 9. `cut` has no list.
+    /// Fault 9. `cut` has none of its lists.
     NeedsList,
-    /// Fault 10 for the first string of `tr`, fault 11 for the second: which of them is refused, and why. The kind
-    /// is never `SetFaultKind::Memory`.
+    /// Fault 10 for the first string of `tr`, fault 11 for the second: the string at fault, and the kind of the fault,
+    /// which is never `SetFaultKind::Memory`.
     String(SetFault),
-    /// Fault 12. A request for memory was refused.
+    /// Fault 12. An allocation failed.
     Memory,
 }
 

@@ -1,19 +1,19 @@
-//! Theorems on how words spell options, operands and commands.
+//! Theorems on the grammar of command lines, each as the contract of a public function.
 
-ghost use Rattle.ptopts.specs.Laws.{ReadAsSpelled, SpelledOneWay, SpelledUnlessFaulty, MeantAsSpelled};
+ghost use Rattle.ptopts.specs.Theorems.{ParseMatchesGrammar, GrammarIsUnambiguous, FaultlessIsSpelled, CommandsMatchGrammar};
 
-/// Does nothing at run time. Its contract says that the grammar of the words (POSIX.1-2017, XBD 12.2) and their reading
-/// from left to right agree. By the grammar, words spell the options and operands that are read from them, and no
-/// others; and if their reading has no fault, they do spell what is read.
+/// Does nothing at run time. Its contract states that the grammar of words (POSIX.1-2017, XBD 12.2) and their parse
+/// from left to right agree. The grammar gives words the options and operands of their parse, and no others; and if the
+/// parse has no fault, the grammar accepts the words.
 pub fn words_have_one_reading()
-    ensures as_spelled { ReadAsSpelled }
-    ensures one_way { SpelledOneWay }
-    ensures unless_faulty { SpelledUnlessFaulty }
+    ensures matches_grammar { ParseMatchesGrammar }
+    ensures unambiguous { GrammarIsUnambiguous }
+    ensures faultless { FaultlessIsSpelled }
 {}
 
-/// Does nothing at run time. Its contract says that words mean a command if and only if they spell a tool's name, and
-/// options and operands that the tool allows, of which it is the command. So `Command::read` accepts nothing that the
-/// grammar does not spell.
+/// Does nothing at run time. Its contract states that words specify a command if and only if they are the name of a
+/// tool, and options and operands that the grammar gives and the tool allows. So `Command::read` accepts nothing that
+/// the grammar does not.
 pub fn commands_are_spelled()
-    ensures { MeantAsSpelled }
+    ensures { CommandsMatchGrammar }
 {}

@@ -1,10 +1,10 @@
-//! The inputs of a command, in the order of its operands.
+//! The inputs of a command in the order of its operands, which `ptext` opens and `ptrun` reads.
 
 ghost use Rattle.std.specs.Prelude.{IfOk, [], ◌∷◌, codes, option_map};
-ghost use Rattle.ptopts.specs.Meant.{words_seen};
-ghost use Rattle.ptopts.specs.Steps.{AreInputs};
+ghost use Rattle.ptopts.specs.View.{words_view};
+ghost use Rattle.ptopts.specs.ParseSteps.{AreInputs};
 
-use crate::operands::is_standard;
+use crate::operand_checks::is_standard;
 use std::alloc::{AllocError, Allocator, Global};
 
 /// One input.
@@ -12,29 +12,29 @@ use std::alloc::{AllocError, Allocator, Global};
 pub enum Input {
     /// Standard input.
     Standard,
-    /// The file at this place among the names.
+    /// The file with this index in the names.
     File(usize),
 }
 
-/// The inputs of a command, and `uniq`'s output.
+/// The inputs of a command, and the output of `uniq`.
 #[derive(Drop)]
 pub struct Inputs<'a, A: Allocator = Global> {
-    /// The inputs in operand order. Where standard input is meant without an operand, it is the one.
+    /// The inputs in operand order; standard input alone if there is no operand and the tool reads standard input then.
     pub order: Vec<Input, A>,
-    /// The names of the files, one for each such operand, in order.
+    /// The names of the input files: one for each operand that names a file, in order.
     pub names: Vec<&'a str, A>,
-    /// The name of `uniq`'s output, if it is a file.
+    /// The name of the output file of `uniq`; `None` for standard output.
     pub output: Option<&'a str>,
 }
 
 impl<'a, A: Allocator + Copy> Inputs<'a, A> {
-    /// The inputs that these operands name, and an output.
+    /// The inputs of these operands, with this output.
     pub(crate) fn of(
         alloc: A,
         operands: &[&'a str],
         output: Option<&'a str>,
     ) -> Result<Inputs<'a, A>, AllocError>
-        ensures { IfOk result (AreInputs (words_seen operands.now) (option_map (λ w. w.now) output.entry)) }
+        ensures { IfOk result (AreInputs (words_view operands.now) (option_map (λ w. w.now) output.entry)) }
     {
         let mut order = Vec::new(alloc);
         let mut names = Vec::new(alloc);

@@ -1,13 +1,14 @@
-//! The words of a command: the tool that they name, its options, and its operands.
+//! The command line: the tool that it names, its options and its operands. `ptext` parses its arguments with it, and
+//! `ptrun` runs the command.
 #![tactic(auto)]
 
-mod combinations;
 mod command;
+mod constraints;
 mod fault;
 mod grammar;
 mod inputs;
-mod operands;
-mod reading;
+mod operand_checks;
+mod parsing;
 mod tool;
 mod values;
 

@@ -1,10 +1,10 @@
-//! The tools, and what each of them takes.
+//! The tools, and the options and operands that each accepts. All other modules of this crate use it.
 
 ghost use Rattle.std.specs.Prelude.{◌≡◌, Bool};
-ghost use Rattle.ptopts.specs.Syntax.{syntax, row_seen};
-ghost use Rattle.ptopts.specs.Words.{tool_named, is_flag, takes_value, has_letter};
+ghost use Rattle.ptopts.specs.Syntax.{syntax, syntax_view};
+ghost use Rattle.ptopts.specs.Args.{tool_of_name, is_flag, takes_value, has_letter};
 
-/// The names of the tools, as a sentence lists them.
+/// The names of the tools, as part of a sentence.
 pub const TOOLS: &str = "cut, paste, join, comm, uniq or tr";
 
 /// One of the tools.
@@ -18,116 +18,116 @@ pub(crate) enum Tool {
     Tr,
 }
 
-/// What is asked of letters together.
+/// A constraint between options.
 #[derive(Clone, Copy)]
-pub(crate) enum Combination {
-    /// These two exclude one another.
-    Apart(u8, u8),
-    /// One of these has to be given.
-    OneOf(u8, u8, u8),
+pub(crate) enum Constraint {
+    /// The two options conflict.
+    Conflict(u8, u8),
+    /// One of the three options is required.
+    Required(u8, u8, u8),
 }
 
-/// What a tool takes.
+/// The options and operands that a tool accepts.
 #[derive(Clone, Copy)]
 pub(crate) struct Syntax {
-    /// The letters that stand alone.
+    /// The options without a value.
     pub flags: &'static [u8],
-    /// The letters that take a value.
-    pub valued: &'static [u8],
-    /// Those of them that may be given with several values.
+    /// The options with a value.
+    pub value_letters: &'static [u8],
+    /// Those of them that may be repeated.
     pub repeatable: &'static [u8],
-    /// What is asked of letters together, in the order in which it is judged.
-    pub combinations: &'static [Combination],
-    /// The fewest operands.
-    pub least: usize,
-    /// The most operands.
-    pub most: usize,
-    /// Whether standard input is one of the operands at most.
-    pub once: bool,
+    /// The constraints between options, in the order in which they are checked.
+    pub constraints: &'static [Constraint],
+    /// The least number of operands.
+    pub min_operands: usize,
+    /// The greatest number of operands.
+    pub max_operands: usize,
+    /// At most one of the operands is standard input.
+    pub stdin_once: bool,
 }
 
-/// The most operands that a command may have. This project's own choice.
-const MOST: usize = 512;
+/// The greatest number of operands of a command line.
+const OPERAND_LIMIT: usize = 512;
 
 const CUT: Syntax = Syntax {
     flags: b"nsz",
-    valued: b"bcfd",
+    value_letters: b"bcfd",
     repeatable: b"",
-    combinations: &[
-        Combination::Apart(b'b', b'c'),
-        Combination::Apart(b'b', b'f'),
-        Combination::Apart(b'c', b'f'),
-        Combination::OneOf(b'b', b'c', b'f'),
-        Combination::Apart(b'c', b'n'),
-        Combination::Apart(b'f', b'n'),
-        Combination::Apart(b'b', b'd'),
-        Combination::Apart(b'c', b'd'),
-        Combination::Apart(b'b', b's'),
-        Combination::Apart(b'c', b's'),
+    constraints: &[
+        Constraint::Conflict(b'b', b'c'),
+        Constraint::Conflict(b'b', b'f'),
+        Constraint::Conflict(b'c', b'f'),
+        Constraint::Required(b'b', b'c', b'f'),
+        Constraint::Conflict(b'c', b'n'),
+        Constraint::Conflict(b'f', b'n'),
+        Constraint::Conflict(b'b', b'd'),
+        Constraint::Conflict(b'c', b'd'),
+        Constraint::Conflict(b'b', b's'),
+        Constraint::Conflict(b'c', b's'),
     ],
-    least: 0,
-    most: MOST,
-    once: false,
+    min_operands: 0,
+    max_operands: OPERAND_LIMIT,
+    stdin_once: false,
 };
 
 const PASTE: Syntax = Syntax {
     flags: b"sz",
-    valued: b"d",
+    value_letters: b"d",
     repeatable: b"",
-    combinations: &[],
-    least: 1,
-    most: MOST,
-    once: false,
+    constraints: &[],
+    min_operands: 1,
+    max_operands: OPERAND_LIMIT,
+    stdin_once: false,
 };
 
 const UNIQ: Syntax = Syntax {
     flags: b"cduz",
-    valued: b"fs",
+    value_letters: b"fs",
     repeatable: b"",
-    combinations: &[
-        Combination::Apart(b'c', b'd'),
-        Combination::Apart(b'c', b'u'),
-        Combination::Apart(b'd', b'u'),
+    constraints: &[
+        Constraint::Conflict(b'c', b'd'),
+        Constraint::Conflict(b'c', b'u'),
+        Constraint::Conflict(b'd', b'u'),
     ],
-    least: 0,
-    most: 2,
-    once: false,
+    min_operands: 0,
+    max_operands: 2,
+    stdin_once: false,
 };
 
 const COMM: Syntax = Syntax {
     flags: b"123rz",
-    valued: b"",
+    value_letters: b"",
     repeatable: b"",
-    combinations: &[],
-    least: 2,
-    most: 2,
-    once: true,
+    constraints: &[],
+    min_operands: 2,
+    max_operands: 2,
+    stdin_once: true,
 };
 
 const JOIN: Syntax = Syntax {
     flags: b"rz",
-    valued: b"aveot12",
+    value_letters: b"aveot12",
     repeatable: b"av",
-    combinations: &[Combination::Apart(b'a', b'v')],
-    least: 2,
-    most: 2,
-    once: true,
+    constraints: &[Constraint::Conflict(b'a', b'v')],
+    min_operands: 2,
+    max_operands: 2,
+    stdin_once: true,
 };
 
 const TR: Syntax = Syntax {
     flags: b"cCds",
-    valued: b"",
+    value_letters: b"",
     repeatable: b"",
-    combinations: &[Combination::Apart(b'c', b'C')],
-    least: 1,
-    most: 2,
-    once: false,
+    constraints: &[Constraint::Conflict(b'c', b'C')],
+    min_operands: 1,
+    max_operands: 2,
+    stdin_once: false,
 };
 
 impl Tool {
-    /// The tool of this name, if there is one.
-    pub(crate) fn named(name: &str) -> Option<Tool>
-        ensures { result ≡ tool_named name.now }
+    /// The tool with this name, or `None`.
+    pub(crate) fn from_name(name: &str) -> Option<Tool>
+        ensures { result ≡ tool_of_name name.now }
     {
         match name {
             "cut" => Some(Tool::Cut),
@@ -140,9 +140,9 @@ impl Tool {
         }
     }
 
-    /// What the tool takes.
+    /// The syntax of the tool.
     pub(crate) fn syntax(self) -> Syntax
-        ensures { row_seen result ≡ syntax self }
+        ensures { syntax_view result ≡ syntax self }
     {
         match self {
             Tool::Cut => CUT,
@@ -154,21 +154,21 @@ impl Tool {
         }
     }
 
-    /// Whether the letter stands alone.
+    /// Whether the letter is an option without a value.
     pub(crate) fn has_flag(self, letter: u8) -> bool
         ensures { result ≡ is_flag self letter }
     {
         self.syntax().flags.contains(&letter)
     }
 
-    /// Whether the letter takes a value.
+    /// Whether the letter is an option with a value.
     pub(crate) fn takes_value(self, letter: u8) -> bool
         ensures { result ≡ takes_value self letter }
     {
-        self.syntax().valued.contains(&letter)
+        self.syntax().value_letters.contains(&letter)
     }
 
-    /// Whether the letter may be given with several values.
+    /// Whether the option may be repeated.
     pub(crate) fn may_repeat(self, letter: u8) -> bool
         ensures { result ≡ has_letter letter (syntax self).repeatable }
     {

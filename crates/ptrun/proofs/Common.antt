@@ -1,4 +1,4 @@
--- Names of other crates and of this one's definitions that many of its proofs take from here.
+-- Names of other crates and of this crate's specs that many of its proofs import from here.
 pub use borrow.Author.Rules.{scaled_Fits}
 pub use Rattle.std.proofs.Common.{Bool, Err, List, None, Ok, Option, Result, Some, [], ap, append_assoc, arith, cond, drop, false, get_or, inl, inr, length, length-append, length-drop, length-set}
 pub use Rattle.std.proofs.Common.{map, max, refl, set, subst, suc, sym, take, take-append-drop, true, zero, ℕ, ⊎_elim, ◌&&◌, ◌++◌, ◌+◌, ◌-◌, ◌<◌, ◌==◌, ◌^◌, ◌||◌, ◌∙◌, ◌∷◌, ◌≡◌, ◌≢◌, ◌≤◌, ◌⊎◌}
@@ -15,38 +15,41 @@ pub use Rattle.std.specs.Borrow.{Bor}
 pub use Rattle.std.specs.Io.KnownBytes.{IsAtEnd, append_known, prepend_known}
 pub use Rattle.std.specs.List.{list_any, sum}
 pub use Rattle.std.specs.Prelude.{All, encode_utf8, flat_map, is_none, nat_le, not, option_map, slice_get}
-pub use Rattle.ptflow.specs.Passes.{Ends, Finished, IsPass}
-pub use Rattle.ptflow.specs.PastePasses.{IsPastePass, IsReadable, ReadAll, RowsEnd, put_at}
-pub use Rattle.ptflow.specs.Tools.{Tool}
+pub use Rattle.ptflow.specs.Passes.{PassOutcome, PassDone, PassPost}
+pub use Rattle.ptflow.specs.PasteCall.{PastePost, IsReadable, IsReadToEnd, PasteOutcome, update_at}
+pub use Rattle.ptflow.specs.ToolSpec.{ToolSpec}
 pub use Rattle.ptflow.specs.declared.faults.FlowFault.{FlowFault}
 pub use Rattle.ptflow.specs.declared.faults.FlowFault.TheVariants.{Memory, Read, Write}
 pub use Rattle.ptlangs.specs.Jobs.{Paste, paste_job}
-pub use Rattle.ptlines.proofs.Known.{append_known-append, append_known-nil, prepend_known-append, waits-append}
-pub use Rattle.ptlines.proofs.Pushed.{wrote_nothing, wrote_trans}
-pub use Rattle.ptlines.specs.Inputs.{Agrees, Begins, Came, Given, nothing_left, whole_lines}
-pub use Rattle.ptlines.specs.KeepingUp.{Before, KeepsUp, SendsOn}
-pub use Rattle.ptlines.specs.Outputs.{Extends, Output, Wrote}
+pub use Rattle.ptlines.proofs.KnownBytes.{append_known-append, append_known-nil, prepend_known-append, unflushed_after-append}
+pub use Rattle.ptlines.proofs.Push.{push_nothing, push_trans}
+pub use Rattle.ptlines.specs.Received.{IsConsistent, IsPrefix, HasReceived, Received, empty_input, known_lines}
+pub use Rattle.ptlines.specs.Lag.{LaggedInput, BoundedLag, BufferLag}
+pub use Rattle.ptlines.specs.Outputs.{IsKnownPrefix, Output, PushEffect}
 pub use Rattle.ptlines.specs.Readers.{HasReadCause, IsDone, IsSound, Reader}
-pub use Rattle.ptlines.specs.Sinks.{SinkState, TakesPart, Took, waits}
-pub use Rattle.ptlines.specs.Slots.{Slots, total}
-pub use Rattle.ptmerge.specs.Keyed.{decided, disorder, lines_of}
-pub use Rattle.ptmerge.specs.declared.order.Side.TheVariants.{First, Second}
-pub use Rattle.ptopts.specs.Commands.{Command, Job, RunComm, RunCut, RunJoin, RunPaste, RunTr, RunUniq, file_names, inputs, meaning, order_from}
+pub use Rattle.ptlines.specs.Sinks.{SinkState, WriteOutErr, WriteOutOk, unflushed_after}
+pub use Rattle.ptlines.specs.Slots.{Slots, total_bytes}
+pub use Rattle.ptmerge.specs.MergeSpec.{decided_output, disorder, lines_of}
+pub use Rattle.ptmerge.specs.declared.key_order.Side.TheVariants.{First, Second}
+pub use Rattle.ptopts.specs.Commands.{Command, Job, RunComm, RunCut, RunJoin, RunPaste, RunTr, RunUniq, file_names, input_operands, command_of_args, order_from}
 pub use Rattle.ptopts.specs.Faults.{Fault, is_standard}
-pub use Rattle.ptopts.specs.Meant.{IsMeant, meant, seen, words_seen}
+pub use Rattle.ptopts.specs.View.{CommandPost, fault_view, command_view, words_view}
 pub use Rattle.ptopts.specs.declared.inputs.Input.{Input}
 pub use Rattle.ptopts.specs.declared.inputs.Input.TheVariants.{File, Standard}
-pub use Rattle.ptrun.specs.Asked.{asked, asked_as, command_meaning, is_denied, job_meaning, meaning_in, saying, tool_word}
-pub use Rattle.ptrun.specs.Engines.{AgreeAt, AreGiven, AreReady, AreSound, Checks, Finishes, IsJointPass, JointReadBroke, IsStart, IsWithin, JointEnds, NoneFailed, Went, WentTo, blame, done_of}
-pub use Rattle.ptrun.specs.Engines.{last_words, status_after, told_at}
-pub use Rattle.ptrun.specs.KeepingUp.{AnyEarlier, Earlier, EarlierAs, KeptUp, LastEarlier, PassedOn}
-pub use Rattle.ptrun.specs.Meanings.{Meaning, messages, named, unopened}
-pub use Rattle.ptrun.specs.Messages.{name_of, not_opened, said_of, status_of}
-pub use Rattle.ptrun.specs.Operands.{decided_of, each_bound, each_decided, each_out, largest, one_by_one, place, places, up_to_open}
-pub use Rattle.ptrun.specs.Runs.{Cause, EndsAs, Headline, IsExact, IsRun, Outcome, Sinks, outcome, sinks}
-pub use Rattle.ptrun.specs.Sayings.{Says, Tells, line_of, texts}
-pub use Rattle.ptrun.specs.Together.{JointTool, disorder_status, disorder_text, given_in, lacks, of_one, of_operands, of_rows, of_two, operand, text_in, together}
-pub use Rattle.ptrun.specs.Worlds.{Allows, AllowsAt, AreFresh, CameAt, HasFailed, IsFresh, IsNew, IsReceived, IsTooLong, Received, TellsAt, World, at, found, founds, is_in, is_unopened, no_reader}
-pub use Rattle.ptrun.specs.Worlds.{opened, reader_at, shut, sources}
-pub use Rattle.ptrun.specs.declared.engine.Done.{Done}
-pub use Rattle.ptrun.specs.declared.engine.Done.TheVariants.{Disorder, Unopened, Whole}
+pub use Rattle.ptrun.specs.SpecOfArgs.{spec_of_args, spec_of_parsed, command_spec, is_memory_fault, job_spec, spec_of_result, message_only, tool_name}
+pub use Rattle.ptrun.specs.Driver.{AreConsistentAt, InputsPre, JointPre, BothAreSound, ReportUnopenedPost, FinishPost, JointPost, JointReadFailed, RunInputsPre, HasIndexBelow, JointEnd, NoReadFailed, RunInputsPost, RunInputsEnd, fault_at, completion_of}
+pub use Rattle.ptrun.specs.Driver.{result_message, result_status, merge_completion}
+pub use Rattle.ptrun.specs.Lag.{LagOfAny, HasBoundedLag, BoundedLagAs, IsWrittenUpToBlock, LagOfLast, IsPushedUpToBlock}
+pub use Rattle.ptrun.specs.CommandSpec.{CommandSpec, messages, operand_messages, unopened_messages}
+pub use Rattle.ptrun.specs.Messages.{name_of, unopened_message, usage_message, usage_status}
+pub use Rattle.ptrun.specs.Operands.{decided_in_order, sequential_bound, sequential_decided, sequential_output, maximum, sequential_spec, position, positions, up_to_unended}
+pub use Rattle.ptrun.specs.Runs.{HasCause, RunEnd, IsExactUnlessFailed, IsExact, IsRun, Outcome, Sinks, outcome, sinks}
+pub use Rattle.ptrun.specs.MessageWrites.{SayPost, HasSaid, line_of, texts}
+pub use Rattle.ptrun.specs.Joint.{JointTool, disorder_status, disorder_text, received_in, has_unopened, one_input_tool, by_side, paste_rows_tool, two_input_tool, operand, bytes_of, joint_spec}
+pub use Rattle.ptrun.specs.Files.{IsConsistentAt, AreNewInputs, HasReceivedAt, HasReadFailed, IsNewOrUnopened, IsNew, HaveReceived, IsTooLong, ReceivedInputs, HasBytesAt, InputBytes, at, input_of_operand, inputs_of_operands, is_in, is_unopened}
+pub use Rattle.ptrun.specs.Files.{AreInputsConsistent}
+pub use Rattle.ptlines.specs.Readers.{no_reader}
+pub use Rattle.ptrun.specs.Files.{opened_values, is_reader_unopened, opened_inputs}
+pub use Rattle.ptlines.specs.Readers.{reader_at}
+pub use Rattle.ptrun.specs.declared.driver.Completion.{Completion}
+pub use Rattle.ptrun.specs.declared.driver.Completion.TheVariants.{Disorder, Unopened, AllWritten}

@@ -1,4 +1,4 @@
--- The messages. Each ends with newline.
+-- The texts of the messages. Each ends with newline.
 use Rattle.std.specs.Prelude.{ℕ, ◌-◌, ◌==◌, List, [], ◌∷◌, ◌++◌, map, Option, Some, None, codes, decimal, encode_utf8, if◌then◌else◌, slice_index_or}
 use Rattle.ptlangs.specs.declared.faults.SetFault.{SetFault}
 use Rattle.ptlangs.specs.declared.faults.SetString.{SetString}
@@ -9,13 +9,14 @@ use Rattle.ptflow.specs.declared.faults.FlowFault.{FlowFault}
 use Rattle.ptflow.specs.declared.faults.FlowFault.TheVariants.{Read, Write, Memory}
 use Rattle.ptopts.specs.Faults.{Fault, NoTool, Unknown, NeedsValue, Twice, Together, Value, Operands, StandardTwice, NeedsList, InString}
 use Rattle.ptopts.specs.Syntax.{tools}
-use Rattle.ptrun.specs.Sayings.{line_of}
+use Rattle.ptrun.specs.MessageWrites.{line_of}
 
+-- The name of a string operand in the synopsis of `tr`.
 abbrev pub string_word : SetString → List ℕ
 string_word string.First = codes "string1"
 string_word string.Second = codes "string2"
 
--- why a string was refused, in one word; want of memory is never why
+-- The reason why a string operand of `tr` is invalid, in one word. A lack of memory has a message of its own.
 abbrev pub kind_word : SetFaultKind → List ℕ
 kind_word kind.Empty = codes "empty"
 kind_word kind.Octal = codes "octal"
@@ -29,58 +30,64 @@ kind_word kind.RepeatSize = codes "size"
 kind_word kind.SecondFill = codes "fill"
 kind_word kind.Memory = codes "memory"
 
-abbrev pub string_refusal : SetFault → List ℕ
-string_refusal fault = line_of (codes "tr: wrong " ∷ string_word fault.string ∷ codes ": " ∷ kind_word fault.kind ∷ [])
+-- The message about an invalid string operand of `tr`.
+abbrev pub string_fault_text : SetFault → List ℕ
+string_fault_text fault = line_of (codes "tr: wrong " ∷ string_word fault.string ∷ codes ": " ∷ kind_word fault.kind ∷ [])
 
--- a name and those after it, as a sentence lists them
-abbrev pub listed : List ℕ → List (List ℕ) → List ℕ
-listed name [] = name
-listed name (next ∷ []) = name ++ codes " or " ++ next
-listed name (next ∷ after ∷ more) = name ++ codes ", " ++ listed next (after ∷ more)
+-- A list as in a sentence, `a, b or c`, that begins with `name`.
+abbrev pub or_list_from : List ℕ → List (List ℕ) → List ℕ
+or_list_from name [] = name
+or_list_from name (next ∷ []) = name ++ codes " or " ++ next
+or_list_from name (next ∷ after ∷ more) = name ++ codes ", " ++ or_list_from next (after ∷ more)
 
-abbrev pub names_listed : List (List ℕ) → List ℕ
-names_listed [] = []
-names_listed (name ∷ names) = listed name names
+-- The names as in a sentence, `a, b or c`.
+abbrev pub or_list : List (List ℕ) → List ℕ
+or_list [] = []
+or_list (name ∷ names) = or_list_from name names
 
--- why the words of a tool were refused
-abbrev pub refusal : List ℕ → Fault → List ℕ
-refusal tool NoTool = line_of (codes "ptext: first word: " ∷ names_listed (map (λ t. t.0) tools) ∷ [])
-refusal tool (Unknown word) = line_of (tool ∷ codes ": unknown option in " ∷ word ∷ [])
-refusal tool (NeedsValue l) = line_of (tool ∷ codes ": option -" ∷ encode_utf8 l ∷ codes " needs a value" ∷ [])
-refusal tool (Twice l) = line_of (tool ∷ codes ": option -" ∷ encode_utf8 l ∷ codes " is given twice" ∷ [])
-refusal tool (Together a b) = line_of (tool ∷ codes ": options -" ∷ encode_utf8 a ∷ codes " and -" ∷ encode_utf8 b ∷ codes " do not go together" ∷ [])
-refusal tool (Value l value) = line_of (tool ∷ codes ": wrong value for option -" ∷ encode_utf8 l ∷ codes ": " ∷ value ∷ [])
-refusal tool Operands = line_of (tool ∷ codes ": wrong number of operands" ∷ [])
-refusal tool StandardTwice = line_of (tool ∷ codes ": standard input is named twice" ∷ [])
-refusal tool NeedsList = line_of (codes "cut: one of -b, -c and -f is needed" ∷ [])
-refusal tool (InString fault) = string_refusal fault
+-- The message about a usage fault in the arguments of `tool`.
+abbrev pub usage_text : List ℕ → Fault → List ℕ
+usage_text tool NoTool = line_of (codes "ptext: first word: " ∷ or_list (map (λ t. t.0) tools) ∷ [])
+usage_text tool (Unknown word) = line_of (tool ∷ codes ": unknown option in " ∷ word ∷ [])
+usage_text tool (NeedsValue l) = line_of (tool ∷ codes ": option -" ∷ encode_utf8 l ∷ codes " needs a value" ∷ [])
+usage_text tool (Twice l) = line_of (tool ∷ codes ": option -" ∷ encode_utf8 l ∷ codes " is given twice" ∷ [])
+usage_text tool (Together a b) = line_of (tool ∷ codes ": options -" ∷ encode_utf8 a ∷ codes " and -" ∷ encode_utf8 b ∷ codes " do not go together" ∷ [])
+usage_text tool (Value l value) = line_of (tool ∷ codes ": wrong value for option -" ∷ encode_utf8 l ∷ codes ": " ∷ value ∷ [])
+usage_text tool Operands = line_of (tool ∷ codes ": wrong number of operands" ∷ [])
+usage_text tool StandardTwice = line_of (tool ∷ codes ": standard input is named twice" ∷ [])
+usage_text tool NeedsList = line_of (codes "cut: one of -b, -c and -f is needed" ∷ [])
+usage_text tool (InString fault) = string_fault_text fault
 
-abbrev pub out_of_memory : List ℕ → List ℕ
-out_of_memory tool = line_of (tool ∷ codes ": out of memory" ∷ [])
+-- The message about a lack of memory.
+abbrev pub memory_message : List ℕ → List ℕ
+memory_message tool = line_of (tool ∷ codes ": out of memory" ∷ [])
 
--- what is said of refused words, and of want of memory in reading them
-abbrev pub said_of : List ℕ → Option Fault → List ℕ
-said_of tool None = out_of_memory tool
-said_of tool (Some fault) = refusal tool fault
+-- The message about arguments that are no command: that about the usage fault, or that about a lack of memory while
+-- they were parsed (`None`).
+abbrev pub usage_message : List ℕ → Option Fault → List ℕ
+usage_message tool None = memory_message tool
+usage_message tool (Some fault) = usage_text tool fault
 
-abbrev pub status_of : Option Fault → ℕ
-status_of None = 1
-status_of (Some fault) = 2
+-- The exit status that goes with it.
+abbrev pub usage_status : Option Fault → ℕ
+usage_status None = 1
+usage_status (Some fault) = 2
 
--- the name of the input at a place
+-- The name of the input at a position: `standard input` at 0, and that of the file elsewhere.
 abbrev pub name_of : List (List ℕ) → ℕ → List ℕ
-name_of names place = if place == 0 then codes "standard input" else slice_index_or names (place - 1) []
+name_of names position = if position == 0 then codes "standard input" else slice_index_or names (position - 1) []
 
-abbrev pub not_opened : List ℕ → List ℕ → List ℕ
-not_opened tool name = line_of (tool ∷ codes ": " ∷ name ∷ codes ": cannot be opened" ∷ [])
+-- The message about a file that could not be opened.
+abbrev pub unopened_message : List ℕ → List ℕ → List ℕ
+unopened_message tool name = line_of (tool ∷ codes ": " ∷ name ∷ codes ": cannot be opened" ∷ [])
 
--- lines are counted from 1
-abbrev pub out_of_order : List ℕ → List (List ℕ) → ℕ → ℕ → List ℕ
-out_of_order tool names place line =
-    line_of (tool ∷ codes ": " ∷ name_of names place ∷ codes ": line " ∷ decimal line ∷ codes " is out of order" ∷ [])
+-- The message about a line out of order, by the position of its input and its number, counted from 1.
+abbrev pub disorder_message : List ℕ → List (List ℕ) → ℕ → ℕ → List ℕ
+disorder_message tool names position line =
+    line_of (tool ∷ codes ": " ∷ name_of names position ∷ codes ": line " ∷ decimal line ∷ codes " is out of order" ∷ [])
 
--- the one message of a failure
-abbrev pub failure : List ℕ → List (List ℕ) → FlowFault → List ℕ
-failure tool names (Read place) = line_of (tool ∷ codes ": " ∷ name_of names place ∷ codes ": read failed" ∷ [])
-failure tool names Write = line_of (tool ∷ codes ": output: write failed" ∷ [])
-failure tool names Memory = out_of_memory tool
+-- The message about a failed call. A failed read names the input at its position.
+abbrev pub fault_message : List ℕ → List (List ℕ) → FlowFault → List ℕ
+fault_message tool names (Read position) = line_of (tool ∷ codes ": " ∷ name_of names position ∷ codes ": read failed" ∷ [])
+fault_message tool names Write = line_of (tool ∷ codes ": output: write failed" ∷ [])
+fault_message tool names Memory = memory_message tool

@@ -1,56 +1,63 @@
--- A tool that goes over its inputs one by one; those that could not be opened are named and passed over.
+-- Tools that read their operands one after another: `cut`, `paste -s` and `tr`. A file that could not be opened is
+-- reported and skipped.
 use Rattle.std.specs.Prelude.{Some, ℕ, ◌+◌, true, false, List, [], ◌∷◌, map, flat_map, max, take, if◌then◌else◌}
 use Rattle.std.specs.List.{list_any}
-use Rattle.ptlines.specs.Inputs.{Given, nothing_left}
+use Rattle.ptlines.specs.Received.{Received, empty_input}
 use Rattle.ptopts.specs.declared.inputs.Input.{Input}
 use Rattle.ptopts.specs.declared.inputs.Input.TheVariants.{Standard, File}
-use Rattle.ptflow.specs.Tools.{Tool}
-use Rattle.ptrun.specs.Worlds.{World, Received, is_unopened, sources}
-use Rattle.ptrun.specs.Meanings.{Meaning}
+use Rattle.ptflow.specs.ToolSpec.{ToolSpec}
+use Rattle.ptrun.specs.Files.{InputBytes, ReceivedInputs, is_unopened, opened_inputs}
+use Rattle.ptrun.specs.CommandSpec.{CommandSpec}
 
--- the inputs up to and with the first whose end was not said
-abbrev pub up_to_open : List Given → List Given
-up_to_open [] = []
-up_to_open (g ∷ gs) = g ∷ (if g.ended then up_to_open gs else [])
+-- The inputs up to and including the first whose end was not reached.
+abbrev pub up_to_unended : List Received → List Received
+up_to_unended [] = []
+up_to_unended (g ∷ gs) = g ∷ (if g.eof then up_to_unended gs else [])
 
-abbrev pub largest : List ℕ → ℕ
-largest [] = 0
-largest (n ∷ ns) = max n (largest ns)
+-- The maximum, and 0 of no numbers.
+abbrev pub maximum : List ℕ → ℕ
+maximum [] = 0
+maximum (n ∷ ns) = max n (maximum ns)
 
-abbrev pub each_out : Tool → World → List ℕ → List ℕ
-each_out t w places = flat_map t.text (sources [] w places)
+-- The output over operands at these positions: that of each input in turn.
+abbrev pub sequential_output : ToolSpec → InputBytes → List ℕ → List ℕ
+sequential_output t w positions = flat_map t.text (opened_inputs [] w positions)
 
-abbrev pub each_bound : Tool → World → List ℕ → ℕ
-each_bound t w places = largest (map t.size (sources [] w places))
+-- The most bytes of lines held over operands at these positions: the maximum over the inputs.
+abbrev pub sequential_bound : ToolSpec → InputBytes → List ℕ → ℕ
+sequential_bound t w positions = maximum (map t.size (opened_inputs [] w positions))
 
--- what is decided where this came of the operands
-abbrev pub decided_of : Tool → List Given → List ℕ
-decided_of t came = flat_map t.decided (up_to_open came)
+-- The output that is decided by what was received from the operands in order: nothing is decided after the first input
+-- whose end was not reached.
+abbrev pub decided_in_order : ToolSpec → List Received → List ℕ
+decided_in_order t came = flat_map t.decided (up_to_unended came)
 
-abbrev pub each_decided : Tool → Received → List ℕ → List ℕ
-each_decided t r places = decided_of t (sources nothing_left r places)
+-- The output that is decided by what was received, with operands at these positions.
+abbrev pub sequential_decided : ToolSpec → ReceivedInputs → List ℕ → List ℕ
+sequential_decided t r positions = decided_in_order t (opened_inputs empty_input r positions)
 
--- the tool of this word over these places, where the files have these names
-abbrev pub one_by_one : List ℕ → Tool → List (List ℕ) → List ℕ → Meaning
-one_by_one word t names places = record {
-  out = λ w. each_out t w places;
-  status = λ w. if list_any (is_unopened w) places then 1 else 0;
-  bound = λ w. each_bound t w places;
-  decided = λ r. each_decided t r places;
-  in_turn = Some t;
-  closing = λ w. [];
-  quiet = λ is_shut. false;
-  takes = true;
-  places = places;
-  begun = λ n. take (n + 1) places;
+-- The specification of the tool named `word` with operands at these positions and files of these names.
+abbrev pub sequential_spec : List ℕ → ToolSpec → List (List ℕ) → List ℕ → CommandSpec
+sequential_spec word t names positions = record {
+  out = λ w. sequential_output t w positions;
+  status = λ w. if list_any (is_unopened w) positions then 1 else 0;
+  memory_bound = λ w. sequential_bound t w positions;
+  decided = λ r. sequential_decided t r positions;
+  sequential = Some t;
+  final_message = λ w. [];
+  reads_nothing = λ is_unopened_at. false;
+  accepts = true;
+  positions = positions;
+  may_touch = λ n. take (n + 1) positions;
   tool = word;
   names = names;
 }
 
--- the place of an input
-abbrev pub place : Input → ℕ
-place Standard = 0
-place (File index) = index + 1
+-- The position of an input: 0 for standard input, and `index` + 1 for a file.
+abbrev pub position : Input → ℕ
+position Standard = 0
+position (File index) = index + 1
 
-abbrev pub places : List Input → List ℕ
-places order = map place order
+-- The positions of the operands, in order.
+abbrev pub positions : List Input → List ℕ
+positions order = map position order

@@ -1,101 +1,102 @@
-//! A tool over its operands, one after another.
+//! Runs a tool over its operands one after another. Also the names and positions of operands, which `joint_driver`,
+//! `all_operands` and `two_inputs` use too.
 
 ghost use Rattle.std.specs.Prelude.{◌≡◌, ◌<◌, ◌+◌, ◌≤◌, false, length, All};
-ghost use Rattle.ptlines.specs.Slots.{total};
-ghost use Rattle.ptopts.specs.Meant.{words_seen};
-ghost use Rattle.ptrun.specs.Engines.{AreGiven, Ran, Went, blame};
-ghost use Rattle.ptrun.specs.Worlds.{IsFresh};
-ghost use Rattle.ptrun.specs.Messages.{name_of, not_opened};
-ghost use Rattle.ptrun.specs.Operands.{place, places, one_by_one};
-ghost use Rattle.ptrun.specs.Runs.{AreUnused, sinks, outcome};
-ghost use Rattle.ptrun.specs.Sayings.{Tells};
+ghost use Rattle.ptlines.specs.Slots.{total_bytes};
+ghost use Rattle.ptopts.specs.View.{words_view};
+ghost use Rattle.ptrun.specs.Driver.{InputsPre, RunWithStorePost, RunInputsPost, fault_at};
+ghost use Rattle.ptrun.specs.Files.{IsNewOrUnopened};
+ghost use Rattle.ptrun.specs.Messages.{name_of, unopened_message};
+ghost use Rattle.ptrun.specs.Operands.{position, positions, sequential_spec};
+ghost use Rattle.ptrun.specs.Runs.{RunPre, sinks, outcome};
+ghost use Rattle.ptrun.specs.MessageWrites.{HasSaid};
 
-use crate::engine::{Done, Engine, run_engine};
+use crate::driver::{Completion, Driver, run_driver};
+use crate::messages::Messages;
 use crate::report::Report;
-use crate::tools::OneByOne;
-use crate::voice::Voice;
+use crate::tools::PerOperand;
 use ptflow::FlowFault;
 use ptlines::{LineReader, Out, Sink, Source, Store};
 use ptopts::{Input, Inputs};
 use std::alloc::Allocator;
 
-/// A tool that goes over its operands in turn.
+/// A tool that reads its operands one after another.
 #[derive(Drop)]
-pub(crate) struct InTurn<'a, A: Allocator + Copy, T: OneByOne<A>> {
+pub(crate) struct Sequential<'a, A: Allocator + Copy, T: PerOperand<A>> {
     pub(crate) tool: T,
     pub(crate) operands: Inputs<'a, A>,
 }
 
-impl<'a, A: Allocator + Copy, T: OneByOne<A>> Engine<A> for InTurn<'a, A, T> {
-    ghost use Rattle.ptopts.specs.Meant.{words_seen};
-    ghost use Rattle.ptrun.specs.Operands.{places, one_by_one};
+impl<'a, A: Allocator + Copy, T: PerOperand<A>> Driver<A> for Sequential<'a, A, T> {
+    ghost use Rattle.ptopts.specs.View.{words_view};
+    ghost use Rattle.ptrun.specs.Operands.{positions, sequential_spec};
 
-    ghost meaning = { λ e. one_by_one (T.word e.tool) (T.tool e.tool)
-        (words_seen e.operands.names.items) (places e.operands.order.items) };
+    ghost spec = { λ e. sequential_spec (T.word e.tool) (T.tool e.tool)
+        (words_view e.operands.names.items) (positions e.operands.order.items) };
 
     fn tool(&self) -> &str {
         self.tool.name()
     }
 
-    fn name_at(&self, place: usize) -> &str {
-        name_at(&self.operands.names, place)
+    fn name_at(&self, position: usize) -> &str {
+        name_at(&self.operands.names, position)
     }
 
-    // An input that could not be opened is named when its turn comes.
-    fn lacks_inputs<S: Source, R: Source, E: Sink>(
+    // Always false: a file that could not be opened is reported when its turn comes, and the others are processed.
+    fn report_unopened<S: Source, R: Source, E: Sink>(
         &self,
         _inputs: &[LineReader<S, R>],
-        _voice: &mut Voice<E>,
+        _messages: &mut Messages<E>,
     ) -> bool {
         false
     }
 
-    fn go<S: Source, R: Source, W: Sink, E: Sink>(
+    fn run_inputs<S: Source, R: Source, W: Sink, E: Sink>(
         &self,
         inputs: &mut [LineReader<S, R>],
         store: &mut Store<A>,
         out: &mut Out<W>,
-        voice: &mut Voice<E>,
-    ) -> Result<Done, FlowFault> {
+        messages: &mut Messages<E>,
+    ) -> Result<Completion, FlowFault> {
         let Inputs {
             order,
             names,
             output: _,
         } = &self.operands;
-        go_over_each(&self.tool, order, names, inputs, store, out, voice)
+        run_on_each(&self.tool, order, names, inputs, store, out, messages)
     }
 }
 
-/// Runs a tool over its operands in turn.
-pub(crate) fn run_in_turn<A, T, S, R, W, E>(
+/// Runs a tool over its operands one after another.
+pub(crate) fn run_sequential<A, T, S, R, W, E>(
     store: &mut Store<A>,
     tool: T,
     operands: Inputs<'_, A>,
     inputs: &mut [LineReader<S, R>],
     out: W,
-    voice: Voice<E>,
+    messages: Messages<E>,
 ) -> Report<W, E>
 where
     A: Allocator + Copy,
-    T: OneByOne<A>,
+    T: PerOperand<A>,
     S: Source,
     R: Source,
     W: Sink,
     E: Sink,
-    requires given { AreGiven (one_by_one (T.word tool) (T.tool tool)
-        (words_seen operands.names.items) (places operands.order.items)) inputs.old }
-    requires unused { AreUnused store.old (sinks (W.state out) voice) }
-    ensures { Ran (one_by_one (T.word tool) (T.tool tool)
-        (words_seen operands.entry.names.items) (places operands.entry.order.items))
-        inputs.old inputs.new (sinks (W.state out) voice) (outcome W.state E.state result) store.old store.new }
+    requires given { InputsPre (sequential_spec (T.word tool) (T.tool tool)
+        (words_view operands.names.items) (positions operands.order.items)) inputs.old }
+    requires unused { RunPre store.old (sinks (W.state out) messages) }
+    ensures { RunWithStorePost (sequential_spec (T.word tool) (T.tool tool)
+        (words_view operands.entry.names.items) (positions operands.entry.order.items))
+        inputs.old inputs.new (sinks (W.state out) messages) (outcome W.state E.state result) store.old store.new }
 {
-    run_engine(store, &InTurn { tool, operands }, inputs, out, voice)
+    run_driver(store, &Sequential { tool, operands }, inputs, out, messages)
 }
 
-// Where the reader of an input is.
-pub(crate) fn place_of(input: Input) -> usize
-    requires { place input < usize.MAX }
-    ensures { result ≡ place input }
+// The position of the reader of `input`: 0 for standard input, followed by the files in order.
+pub(crate) fn position_of(input: Input) -> usize
+    requires { position input < usize.MAX }
+    ensures { result ≡ position input }
 {
     match input {
         Input::Standard => 0,
@@ -103,66 +104,66 @@ pub(crate) fn place_of(input: Input) -> usize
     }
 }
 
-// The name of the input at a place.
-pub(crate) fn name_at<'a>(names: &[&'a str], place: usize) -> &'a str
-    requires { place ≤ length names.now }
-    ensures { result.now ≡ name_of (words_seen names.now) place }
+// The name of the input at `position`, for messages.
+pub(crate) fn name_at<'a>(names: &[&'a str], position: usize) -> &'a str
+    requires { position ≤ length names.now }
+    ensures { result.now ≡ name_of (words_view names.now) position }
 {
-    if place == 0 {
+    if position == 0 {
         "standard input"
     } else {
-        names[place - 1]
+        names[position - 1]
     }
 }
 
-// Says that the input of this name could not be opened.
-pub(crate) fn say_unopened<'a, E: Sink>(tool: &'a str, name: &'a str, voice: &mut Voice<E>)
-    ensures { Tells voice.old voice.new (not_opened tool.now name.now) }
+// Reports that the file `name` could not be opened.
+pub(crate) fn say_unopened<'a, E: Sink>(tool: &'a str, name: &'a str, messages: &mut Messages<E>)
+    ensures { HasSaid messages.old messages.new (unopened_message tool.now name.now) }
 {
-    voice.say(&[tool, ": ", name, ": cannot be opened"]);
+    messages.say(&[tool, ": ", name, ": cannot be opened"]);
 }
 
-// The failure of a call that had one reader, the one at this place.
-pub(crate) fn at_operand(fault: FlowFault, place: usize) -> FlowFault
-    ensures { result ≡ blame place fault }
+// The failure of a call over one reader, with the reader's `position` among the inputs.
+pub(crate) fn fault_at_operand(fault: FlowFault, position: usize) -> FlowFault
+    ensures { result ≡ fault_at position fault }
 {
     match fault {
-        FlowFault::Read(_) => FlowFault::Read(place),
+        FlowFault::Read(_) => FlowFault::Read(position),
         FlowFault::Write => FlowFault::Write,
         FlowFault::Memory => FlowFault::Memory,
     }
 }
 
-// Goes over each operand in turn.
-fn go_over_each<A: Allocator + Copy, T: OneByOne<A>, S: Source, R: Source, W: Sink, E: Sink>(
+// Runs the tool over each operand in turn, and reports those that could not be opened.
+fn run_on_each<A: Allocator + Copy, T: PerOperand<A>, S: Source, R: Source, W: Sink, E: Sink>(
     tool: &T,
     order: &[Input],
     names: &[&str],
     inputs: &mut [LineReader<S, R>],
     store: &mut Store<A>,
     out: &mut Out<W>,
-    voice: &mut Voice<E>,
-) -> Result<Done, FlowFault>
-    requires fresh { All IsFresh inputs.old }
+    messages: &mut Messages<E>,
+) -> Result<Completion, FlowFault>
+    requires fresh { All IsNewOrUnopened inputs.old }
     requires count { length inputs.old ≡ length names.now + 1 }
-    requires fits { All (λ o. place o < length inputs.old) order.now }
-    requires writable { out.old.faulted ≡ false }
-    requires roomy { store.old.denied ≡ false }
-    requires empty { total store.old.lines ≡ 0 }
-    ensures { Went (one_by_one (T.word tool.now) (T.tool tool.now) (words_seen names.now) (places order.now))
-        inputs.old inputs.new out.old out.new voice.old voice.new store.old store.new result }
+    requires in_range { All (λ o. position o < length inputs.old) order.now }
+    requires writable { out.old.write_failed ≡ false }
+    requires not_denied { store.old.denied ≡ false }
+    requires empty { total_bytes store.old.lines ≡ 0 }
+    ensures { RunInputsPost (sequential_spec (T.word tool.now) (T.tool tool.now) (words_view names.now) (positions order.now))
+        inputs.old inputs.new out.old out.new messages.old messages.new store.old store.new result }
 {
-    let mut done = Done::Whole;
+    let mut done = Completion::AllWritten;
     for input in order {
-        let place = place_of(*input);
-        let reader = &mut inputs[place];
+        let position = position_of(*input);
+        let reader = &mut inputs[position];
         if reader.is_refused() {
-            say_unopened(tool.name(), name_at(names, place), voice);
-            done = Done::Unopened;
+            say_unopened(tool.name(), name_at(names, position), messages);
+            done = Completion::Unopened;
         } else {
-            match tool.go_over(reader, store, out) {
+            match tool.run_on(reader, store, out) {
                 Ok(()) => {}
-                Err(fault) => return Err(at_operand(fault, place)),
+                Err(fault) => return Err(fault_at_operand(fault, position)),
             }
         }
     }

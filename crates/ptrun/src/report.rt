@@ -1,61 +1,65 @@
-//! What a run leaves.
+//! The result of a run. Built by `driver` and `running`.
 
 ghost use Rattle.std.specs.Prelude.{◌≡◌, false, []};
 ghost use Rattle.ptrun.specs.Runs.{outcome};
 
-use crate::voice::Voice;
+use crate::messages::Messages;
 use ptlines::{Out, Sink, Store};
 use std::alloc::Allocator;
 
-/// What a run did.
+/// The result of a run, with its two sinks.
 #[derive(Drop)]
 pub struct Report<W, E> {
-    /// 0; 1 for a file that could not be opened, a line out of order, a failed read or write, or refused memory;
-    /// 2 for refused words.
+    /// The exit status: 0; 1 if a file could not be opened, a line is out of order, a read or write failed, or memory
+    /// ran out; 2 for a usage error. POSIX.1-2017 (XCU, EXIT STATUS of each utility) requires 0 or more than 0.
     pub status: u8,
-    /// The most bytes of lines that were kept at any moment.
+    /// The most bytes of lines that were held at any moment, without their terminators.
     pub peak: u128,
-    /// Whether the run's store was refused memory.
+    /// Whether a growth of the run's store failed.
     pub denied: bool,
-    /// The output's sink.
+    /// The sink of the output.
     pub out: W,
-    /// The messages' sink.
+    /// The sink of the messages.
     pub messages: E,
 }
 
-// What is reported of a run that had this store. Nothing is staged any more, unless a write failed: it would be lost.
+// The report of a run with this store. Nothing is buffered any more, unless a write failed; such bytes are lost.
 pub(crate) fn report_of<A: Allocator + Copy, W: Sink, E: Sink>(
     store: &Store<A>,
     status: u8,
     out: Out<W>,
-    voice: Voice<E>,
+    messages: Messages<E>,
 ) -> Report<W, E>
-    requires sent { out.faulted ≡ false → out.staged ≡ [] }
+    requires written_out { out.write_failed ≡ false → out.buffered ≡ [] }
     ensures store { (result.peak ≡ store.now.peak) × (result.denied ≡ store.now.denied) }
     ensures status { result.status ≡ status }
-    ensures out { ((W.state result.out).taken ≡ out.taken) × ((W.state result.out).failed ≡ out.faulted)
-        × ((W.state result.out).pending ≡ out.pending) }
-    ensures messages { E.state result.messages ≡ voice }
+    ensures out { ((W.state result.out).accepted ≡ out.accepted) × ((W.state result.out).failed ≡ out.write_failed)
+        × ((W.state result.out).unflushed ≡ out.unflushed) }
+    ensures messages { E.state result.messages ≡ messages }
 {
     Report {
         status,
         peak: store.peak(),
         denied: store.denied(),
         out: out.into_sink(),
-        messages: voice.into_sink(),
+        messages: messages.into_sink(),
     }
 }
 
-// What is reported where nothing was read or written.
-pub(crate) fn quiet_report<W: Sink, E: Sink>(status: u8, out: W, voice: Voice<E>) -> Report<W, E>
+// The report of a run that read and wrote nothing.
+pub(crate) fn report_unread<W: Sink, E: Sink>(
+    status: u8,
+    out: W,
+    messages: Messages<E>,
+) -> Report<W, E>
     ensures { outcome W.state E.state result
-        ≡ record { out = W.state out; messages = voice; status = status; peak = 0; denied = false } }
+        ≡ record { out = W.state out; messages = messages; status = status; peak = 0; denied = false } }
 {
     Report {
         status,
         peak: 0,
         denied: false,
         out,
-        messages: voice.into_sink(),
+        messages: messages.into_sink(),
     }
 }

@@ -1,19 +1,20 @@
-//! How each tool takes its inputs, and the tools that take one input after another.
+//! Chooses how each tool reads its operands, and implements those that read one after another: `cut`, `paste -s` and
+//! `tr`. Used by `running`.
 
 ghost use Rattle.std.specs.Prelude.{◌≡◌, ℕ, List, None, true, false};
-ghost use Rattle.ptflow.specs.Passes.{IsPass};
-ghost use Rattle.ptflow.specs.Tools.{Tool};
-ghost use Rattle.ptlines.specs.Slots.{total};
-ghost use Rattle.ptopts.specs.Meant.{seen};
-ghost use Rattle.ptrun.specs.Asked.{command_meaning};
-ghost use Rattle.ptrun.specs.Engines.{AreGiven, Ran};
-ghost use Rattle.ptrun.specs.Runs.{AreUnused, sinks, outcome};
+ghost use Rattle.ptflow.specs.Passes.{PassPost};
+ghost use Rattle.ptflow.specs.ToolSpec.{ToolSpec};
+ghost use Rattle.ptlines.specs.Slots.{total_bytes};
+ghost use Rattle.ptopts.specs.View.{command_view};
+ghost use Rattle.ptrun.specs.SpecOfArgs.{command_spec};
+ghost use Rattle.ptrun.specs.Driver.{InputsPre, RunWithStorePost};
+ghost use Rattle.ptrun.specs.Runs.{RunPre, sinks, outcome};
 
-use crate::operands::run_in_turn;
-use crate::paired::OfTwo;
+use crate::joint_driver::run_joint;
+use crate::messages::Messages;
+use crate::operands::run_sequential;
 use crate::report::Report;
-use crate::together::run_together;
-use crate::voice::Voice;
+use crate::two_inputs::TwoInputsTool;
 use ptflow::{FlowFault, cut, paste_serial, tr};
 use ptlangs::CharPlan;
 use ptlangs::jobs::{CutJob, PasteJob};
@@ -21,52 +22,68 @@ use ptlines::{LineReader, Out, Sink, Source, Store};
 use ptopts::Command;
 use std::alloc::Allocator;
 
-/// Runs a command that was read.
+/// Runs a parsed command.
 pub(crate) fn run_command<A: Allocator + Copy, S: Source, R: Source, W: Sink, E: Sink>(
     store: &mut Store<A>,
     command: Command<'_, A>,
     inputs: &mut [LineReader<S, R>],
     out: W,
-    voice: Voice<E>,
+    messages: Messages<E>,
 ) -> Report<W, E>
-    requires given { AreGiven (command_meaning (seen command)) inputs.old }
-    requires unused { AreUnused store.old (sinks (W.state out) voice) }
-    ensures { Ran (command_meaning (seen command.entry)) inputs.old inputs.new (sinks (W.state out) voice)
+    requires given { InputsPre (command_spec (command_view command)) inputs.old }
+    requires unused { RunPre store.old (sinks (W.state out) messages) }
+    ensures { RunWithStorePost (command_spec (command_view command.entry)) inputs.old inputs.new (sinks (W.state out) messages)
         (outcome W.state E.state result) store.old store.new }
 {
     match command {
-        Command::Cut(tool, operands) => run_in_turn(store, tool, operands, inputs, out, voice),
-        Command::Tr(tool, operands) => run_in_turn(store, tool, operands, inputs, out, voice),
+        Command::Cut(tool, operands) => run_sequential(
+            store, tool, operands, inputs, out, messages,
+        ),
+        Command::Tr(tool, operands) => run_sequential(store, tool, operands, inputs, out, messages),
         Command::Paste(tool, operands) => {
             if tool.serial {
-                run_in_turn(store, tool, operands, inputs, out, voice)
+                run_sequential(store, tool, operands, inputs, out, messages)
             } else {
-                run_together(store, tool, operands, inputs, out, voice)
+                run_joint(store, tool, operands, inputs, out, messages)
             }
         }
-        Command::Uniq(tool, operands) => run_together(store, tool, operands, inputs, out, voice),
+        Command::Uniq(tool, operands) => run_joint(store, tool, operands, inputs, out, messages),
         Command::Comm(tool, operands) => {
-            run_together(store, OfTwo { tool }, operands, inputs, out, voice)
+            run_joint(
+                store,
+                TwoInputsTool { tool },
+                operands,
+                inputs,
+                out,
+                messages,
+            )
         }
         Command::Join(tool, operands) => {
-            run_together(store, OfTwo { tool }, operands, inputs, out, voice)
+            run_joint(
+                store,
+                TwoInputsTool { tool },
+                operands,
+                inputs,
+                out,
+                messages,
+            )
         }
     }
 }
 
-/// What a tool does with each of its inputs.
-pub(crate) trait OneByOne<A: Allocator + Copy>: Drop {
-    /// What the definitions say that it is to do.
-    ghost tool: { Self → Tool };
+/// A tool that reads its inputs one after another.
+pub(crate) trait PerOperand<A: Allocator + Copy>: Drop {
+    /// The specification of the tool.
+    ghost tool: { Self → ToolSpec };
 
-    /// The word that names it.
+    /// The name of the tool.
     ghost word: { Self → List ℕ };
 
     fn name(&self) -> &str
         ensures { result.now ≡ word self.now };
 
-    /// Goes over one input.
-    fn go_over<S: Source, R: Source, W: Sink>(
+    /// Runs the tool over one input.
+    fn run_on<S: Source, R: Source, W: Sink>(
         &self,
         reader: &mut LineReader<S, R>,
         store: &mut Store<A>,
@@ -74,16 +91,16 @@ pub(crate) trait OneByOne<A: Allocator + Copy>: Drop {
     ) -> Result<(), FlowFault>
         requires opened { reader.old.refused ≡ false }
         requires readable { reader.old.fault ≡ None }
-        requires roomy { store.old.denied ≡ false }
-        requires empty { total store.old.lines ≡ 0 }
-        ensures { IsPass (tool self.now) reader.old reader.new out.old out.new store.old store.new result };
+        requires not_denied { store.old.denied ≡ false }
+        requires empty { total_bytes store.old.lines ≡ 0 }
+        ensures { PassPost (tool self.now) reader.old reader.new out.old out.new store.old store.new result };
 
-    /// Once the end of an input was reached, all of its output is decided.
+    /// Once the end of an input is reached, all its output is decided.
     ghost all_decided: { (s : Self) (bytes : List ℕ) →
-        (tool s).decided (record { bytes = bytes; ended = true }) ≡ (tool s).text bytes };
+        (tool s).decided (record { bytes = bytes; eof = true }) ≡ (tool s).text bytes };
 }
 
-impl<A: Allocator + Copy> OneByOne<A> for CutJob<A> {
+impl<A: Allocator + Copy> PerOperand<A> for CutJob<A> {
     ghost use Rattle.std.specs.Prelude.{refl, codes};
     ghost use Rattle.ptlangs.specs.Jobs.{cut_job};
     ghost use Rattle.ptflow.specs.Cuts.{cut_tool};
@@ -98,7 +115,7 @@ impl<A: Allocator + Copy> OneByOne<A> for CutJob<A> {
         "cut"
     }
 
-    fn go_over<S: Source, R: Source, W: Sink>(
+    fn run_on<S: Source, R: Source, W: Sink>(
         &self,
         reader: &mut LineReader<S, R>,
         store: &mut Store<A>,
@@ -108,12 +125,12 @@ impl<A: Allocator + Copy> OneByOne<A> for CutJob<A> {
     }
 }
 
-impl<A: Allocator + Copy> OneByOne<A> for PasteJob<A> {
+impl<A: Allocator + Copy> PerOperand<A> for PasteJob<A> {
     ghost use Rattle.std.specs.Prelude.{refl, codes};
     ghost use Rattle.ptlangs.specs.Jobs.{paste_job};
-    ghost use Rattle.ptflow.specs.Pastes.{serial_tool};
+    ghost use Rattle.ptflow.specs.PasteText.{paste_serial_tool};
 
-    ghost tool = { λ job. serial_tool (paste_job job) };
+    ghost tool = { λ job. paste_serial_tool (paste_job job) };
 
     ghost word = { λ job. codes "paste" };
 
@@ -123,7 +140,7 @@ impl<A: Allocator + Copy> OneByOne<A> for PasteJob<A> {
         "paste"
     }
 
-    fn go_over<S: Source, R: Source, W: Sink>(
+    fn run_on<S: Source, R: Source, W: Sink>(
         &self,
         reader: &mut LineReader<S, R>,
         store: &mut Store<A>,
@@ -133,9 +150,9 @@ impl<A: Allocator + Copy> OneByOne<A> for PasteJob<A> {
     }
 }
 
-impl<A: Allocator + Copy> OneByOne<A> for CharPlan {
+impl<A: Allocator + Copy> PerOperand<A> for CharPlan {
     ghost use Rattle.std.specs.Prelude.{refl, codes};
-    ghost use Rattle.ptflow.specs.Translations.{tr_tool};
+    ghost use Rattle.ptflow.specs.TrOutput.{tr_tool};
 
     ghost tool = { tr_tool };
 
@@ -147,8 +164,8 @@ impl<A: Allocator + Copy> OneByOne<A> for CharPlan {
         "tr"
     }
 
-    // No line is kept.
-    fn go_over<S: Source, R: Source, W: Sink>(
+    // `tr` holds no lines, so the store is not used.
+    fn run_on<S: Source, R: Source, W: Sink>(
         &self,
         reader: &mut LineReader<S, R>,
         _store: &mut Store<A>,

@@ -1,7 +1,7 @@
-pub mod CommRunRows
-mod JoinRunRows
-mod KeepingUpRows
-mod PasteRunRows
-mod RefusalRows
-mod RunRows
-mod TrRunRows
+pub mod CommRunExamples
+mod JoinRunExamples
+mod LagExamples
+mod PasteRunExamples
+mod UsageExamples
+mod RunExamples
+mod TrRunExamples

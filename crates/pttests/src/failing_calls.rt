@@ -1,12 +1,12 @@
-//! Each read, each write and the flush of a run fail in turn, of `tr -cs` and of `join` with a list.
+//! Each read, each write and the flush of a run fail in turn, for `tr -cs` and for `join` with `-o`.
 
-use crate::commands::Input::{Failing, Text};
-use crate::commands::{
-    Case, Growing, Limits, PLAIN, Row, Run, Unwritten, expect, expect_growths_refused, expect_rows,
-    expect_unwritten, run_over,
+use crate::asserts::{assert_for, assert_same_for};
+use crate::harness::Input::{Failing, Text};
+use crate::harness::{
+    Case, CaseExample, DEFAULT, Example, GrowthFailures, Limits, WriteFailures, expect,
+    expect_examples, expect_growth_failures, expect_write_failures, run_over,
 };
-use crate::comparing::{holds_of, same_of};
-use ptfakes::Kept;
+use ptfakes::VecSink;
 use ptrun::Report;
 use std::alloc::Global;
 use std::process::Abort;
@@ -24,24 +24,24 @@ const G: &[u8] = b"a x\na y\nb z\n";
 
 const ALL: &str = "a 1 x\na 1 y\na 2 x\na 2 y\nb - z\n";
 
-const OF_WORDS: Case = Case {
+const TR_CASE: Case = Case {
     words: WORDS,
     standard: Text(TEXT),
     size: 4,
-    ..PLAIN
+    ..DEFAULT
 };
 
-const OF_A_LIST: Case = Case {
+const JOIN_CASE: Case = Case {
     words: LISTED,
     files: &[Text(F), Text(G)],
-    ..PLAIN
+    ..DEFAULT
 };
 
-const TR_UNWRITTEN: &str = "tr: output: write failed\n";
+const TR_WRITE_FAILED: &str = "tr: output: write failed\n";
 
-const JOIN_UNWRITTEN: &str = "join: output: write failed\n";
+const JOIN_WRITE_FAILED: &str = "join: output: write failed\n";
 
-// Over a sink that takes one byte a call each of its puts fails in turn, and then the flush.
+// The sink takes one byte per call. Each of its writes fails in turn, and then the flush.
 fn each_call_fails(
     rt: &impl Abort,
     alloc: Global,
@@ -64,133 +64,143 @@ fn each_call_fails(
     Ok(())
 }
 
-// Commands, what they write, and what is said where it cannot be written.
-const WRITING: &[Run] = &[
-    (OF_WORDS, "one\ntwo\n", TR_UNWRITTEN),
-    (OF_A_LIST, ALL, JOIN_UNWRITTEN),
+// Commands, their output, and the message if it cannot be written.
+const WRITE_CASES: &[CaseExample] = &[
+    (TR_CASE, "one\ntwo\n", TR_WRITE_FAILED),
+    (JOIN_CASE, ALL, JOIN_WRITE_FAILED),
 ];
 
 // No byte is taken.
-const UNTAKEN: &[Unwritten] = &[
-    (OF_WORDS, TR_UNWRITTEN, &[(0, usize::MAX, u64::MAX, "")]),
-    (OF_A_LIST, JOIN_UNWRITTEN, &[(0, usize::MAX, u64::MAX, "")]),
+const NO_BYTE_WRITTEN: &[WriteFailures] = &[
+    (TR_CASE, TR_WRITE_FAILED, &[(0, usize::MAX, u64::MAX, "")]),
+    (
+        JOIN_CASE,
+        JOIN_WRITE_FAILED,
+        &[(0, usize::MAX, u64::MAX, "")],
+    ),
 ];
 
 #[test]
 fn each_write_fails(rt: HostRuntime) -> Result<(), Fail> {
-    for (case, all, message) in WRITING {
+    for (case, all, message) in WRITE_CASES {
         each_call_fails(&rt, rt.alloc(), case, all.as_bytes(), message)?;
     }
-    expect_unwritten(&rt, rt.alloc(), UNTAKEN)
+    expect_write_failures(&rt, rt.alloc(), NO_BYTE_WRITTEN)
 }
 
-const UNREAD: &str = "tr: standard input: read failed\n";
+const READ_FAILED: &str = "tr: standard input: read failed\n";
 
-const F_FAILED: &str = "join: f: read failed\n";
+const F_READ_FAILED: &str = "join: f: read failed\n";
 
-const G_FAILED: &str = "join: g: read failed\n";
+const G_READ_FAILED: &str = "join: g: read failed\n";
 
-const NEVER: u64 = u64::MAX;
+const NO_FAILURE: u64 = u64::MAX;
 
 const PAIRS: &str = "a 1 x\na 1 y\na 2 x\na 2 y\n";
 
-// In reads of four bytes: those of the text give `one,`, ` two`, and `.` with a newline, and each of a file gives a
-// line. Three reads of g are in a table of their own.
-const READS: &[Row] = &[
-    (WORDS, Failing(TEXT, 0), &[], "", UNREAD),
-    (WORDS, Failing(TEXT, 1), &[], "one\n", UNREAD),
-    (WORDS, Failing(TEXT, 2), &[], "one\ntwo", UNREAD),
-    (WORDS, Failing(TEXT, 3), &[], "one\ntwo\n", UNREAD),
+// With reads of four bytes: those of the text return `one,`, ` two`, and `.` with a newline, and each of a file returns
+// one line. Three reads of g are in a table of their own.
+const READS: &[Example] = &[
+    (WORDS, Failing(TEXT, 0), &[], "", READ_FAILED),
+    (WORDS, Failing(TEXT, 1), &[], "one\n", READ_FAILED),
+    (WORDS, Failing(TEXT, 2), &[], "one\ntwo", READ_FAILED),
+    (WORDS, Failing(TEXT, 3), &[], "one\ntwo\n", READ_FAILED),
     (
         LISTED,
         Text(b""),
-        &[Failing(F, 0), Failing(G, NEVER)],
+        &[Failing(F, 0), Failing(G, NO_FAILURE)],
         "",
-        F_FAILED,
+        F_READ_FAILED,
     ),
     (
         LISTED,
         Text(b""),
-        &[Failing(F, 1), Failing(G, NEVER)],
+        &[Failing(F, 1), Failing(G, NO_FAILURE)],
         "a 1 x\na 1 y\n",
-        F_FAILED,
+        F_READ_FAILED,
     ),
     (
         LISTED,
         Text(b""),
-        &[Failing(F, 2), Failing(G, NEVER)],
+        &[Failing(F, 2), Failing(G, NO_FAILURE)],
         PAIRS,
-        F_FAILED,
+        F_READ_FAILED,
     ),
     (
         LISTED,
         Text(b""),
-        &[Failing(F, 3), Failing(G, NEVER)],
+        &[Failing(F, 3), Failing(G, NO_FAILURE)],
         ALL,
-        F_FAILED,
+        F_READ_FAILED,
     ),
     (
         LISTED,
         Text(b""),
-        &[Failing(F, NEVER), Failing(G, 0)],
+        &[Failing(F, NO_FAILURE), Failing(G, 0)],
         "",
-        G_FAILED,
+        G_READ_FAILED,
     ),
     (
         LISTED,
         Text(b""),
-        &[Failing(F, NEVER), Failing(G, 1)],
+        &[Failing(F, NO_FAILURE), Failing(G, 1)],
         "",
-        G_FAILED,
+        G_READ_FAILED,
     ),
     (
         LISTED,
         Text(b""),
-        &[Failing(F, NEVER), Failing(G, 2)],
+        &[Failing(F, NO_FAILURE), Failing(G, 2)],
         "",
-        G_FAILED,
+        G_READ_FAILED,
     ),
 ];
 
-// A command, two outputs of which it may write either, and what is said.
-type Either = (Case<'static>, &'static str, &'static str, &'static str);
+// A command, two outputs, either of which it may write, and the message.
+type TwoOutputs = (Case<'static>, &'static str, &'static str, &'static str);
 
-// After three reads of g `b - z` is not decided, since g stands at b, but would be true. So the definition lets it be
-// written or not.
-const UNDECIDED: &[Either] = &[(
+// After three reads of g, the line `b - z` is not decided, since g is at the key b; but it would be correct. So the
+// specification allows both outputs.
+const UNDECIDED: &[TwoOutputs] = &[(
     Case {
-        files: &[Failing(F, NEVER), Failing(G, 3)],
+        files: &[Failing(F, NO_FAILURE), Failing(G, 3)],
         size: 4,
-        ..OF_A_LIST
+        ..JOIN_CASE
     },
     "a 1 x\na 1 y\na 2 x\na 2 y\n",
     "a 1 x\na 1 y\na 2 x\na 2 y\nb - z\n",
-    G_FAILED,
+    G_READ_FAILED,
 )];
 
-// One of the two was written, and this was said.
+// One of the two was written, and this is the message.
 fn assert_either(
     rt: &impl Abort,
     words: &[&str],
-    report: &Report<Kept, Kept>,
+    report: &Report<VecSink, VecSink>,
     (one, other): (&str, &str),
     message: &str,
 ) {
     let out = report.out.bytes();
-    holds_of(rt, &words, out == one.as_bytes() || out == other.as_bytes());
-    same_of(rt, &words, &report.messages.bytes(), &message.as_bytes());
-    same_of(rt, &words, &report.status, &1);
+    assert_for(rt, &words, out == one.as_bytes() || out == other.as_bytes());
+    assert_same_for(rt, &words, &report.messages.bytes(), &message.as_bytes());
+    assert_same_for(rt, &words, &report.status, &1);
 }
 
-// The reading of words of `tr` asks for memory, and no run of it does.
-const GROWING: &[Growing] = &[(OF_WORDS, "one\ntwo\n", "", "tr: out of memory\n", true)];
+// Parsing the arguments of `tr` needs memory, and its run needs none.
+const GROWTH_FAILURES: &[GrowthFailures] = &[(
+    TR_CASE,
+    "one\ntwo\n",
+    "",
+    "tr: out of memory\n",
+    true,
+)];
 
 #[test]
 fn each_read_and_each_growth_fails(rt: HostRuntime) -> Result<(), Fail> {
-    expect_rows(&rt, rt.alloc(), &[4], READS)?;
+    expect_examples(&rt, rt.alloc(), &[4], READS)?;
     for (case, one, other, message) in UNDECIDED {
         let report = run_over(&rt, rt.alloc(), rt.alloc(), case)?;
         assert_either(&rt, case.words, &report, (one, other), message);
     }
-    expect_growths_refused(&rt, rt.alloc(), GROWING)
+    expect_growth_failures(&rt, rt.alloc(), GROWTH_FAILURES)
 }

@@ -1,33 +1,33 @@
-//! Tests of whole runs.
+//! Tests of whole runs, over sources and sinks of `ptfakes`.
 #![tactic(auto)]
 
 #[cfg(test)]
-mod characters;
+mod asserts;
 #[cfg(test)]
-mod columns;
+mod comm;
 #[cfg(test)]
-mod commands;
+mod constant_memory;
 #[cfg(test)]
-mod common_lines;
+mod cut_bytes;
 #[cfg(test)]
-mod comparing;
-#[cfg(test)]
-mod cuts;
+mod cut_fields;
 #[cfg(test)]
 mod failing_calls;
 #[cfg(test)]
-mod faltering;
+mod harness;
 #[cfg(test)]
-mod fields;
+mod join;
 #[cfg(test)]
-mod joined_lines;
+mod paste;
 #[cfg(test)]
-mod peaks;
+mod peak_memory;
 #[cfg(test)]
-mod refusals;
+mod reads_after_failure;
 #[cfg(test)]
-mod repeats;
+mod std_failures;
 #[cfg(test)]
-mod steady_memory;
+mod tr;
 #[cfg(test)]
-mod unread;
+mod uniq;
+#[cfg(test)]
+mod usage_errors;

@@ -1,7 +1,7 @@
-mod CutListRows
-mod DelimListRows
-mod MeantRows
-mod OutListRows
-mod RefusedRows
-mod TrClassRows
-mod TrRows
+mod CutListExamples
+mod DelimListExamples
+mod CommandExamples
+mod OutListExamples
+mod FaultExamples
+mod TrClassExamples
+mod TrExamples

@@ -1,21 +1,21 @@
-//! What each tool does without options.
+//! The default jobs of the tools.
 
-use crate::comparing::same;
-use ptfakes::Refusing;
+use crate::asserts::assert_same;
+use ptfakes::FailingAlloc;
 use ptlangs::jobs::{CommJob, JoinJob, PasteJob, Show, UniqJob};
 use std::process::Abort;
 use std::test::Fail;
 
-fn pastes(rt: &impl Abort, job: &PasteJob) {
-    same(rt, &(job.serial, job.zero), &(false, false));
-    same(rt, &job.delims.at(1), &Some(b'\t'));
+fn check_paste_default(rt: &impl Abort, job: &PasteJob) {
+    assert_same(rt, &(job.serial, job.zero), &(false, false));
+    assert_same(rt, &job.delims.at(1), &Some(b'\t'));
 }
 
-fn joins_pairs(rt: &impl Abort, job: &JoinJob) {
-    same(rt, &(job.pairs, job.sep), &(true, None));
-    same(rt, &(job.unpaired, job.field), &([false, false], [1, 1]));
-    same(rt, &(job.empty.len(), job.list.is_none()), &(0, true));
-    same(rt, &(job.zero, job.descending), &(false, false));
+fn check_join_default(rt: &impl Abort, job: &JoinJob) {
+    assert_same(rt, &(job.pairs, job.sep), &(true, None));
+    assert_same(rt, &(job.unpaired, job.field), &([false, false], [1, 1]));
+    assert_same(rt, &(job.empty.len(), job.list.is_none()), &(0, true));
+    assert_same(rt, &(job.zero, job.descending), &(false, false));
 }
 
 const UNIQ: UniqJob = UniqJob {
@@ -32,13 +32,13 @@ const COMM: CommJob = CommJob {
 };
 
 #[test]
-fn what_tools_do_by_default(rt: HostRuntime) -> Result<(), Fail> {
-    same(&rt, &UniqJob::default(), &UNIQ);
-    same(&rt, &CommJob::default(), &COMM);
-    joins_pairs(&rt, &JoinJob::new(rt.alloc()));
-    pastes(&rt, &PasteJob::new(rt.alloc())?);
-    // That of `paste` has a list, whose growth is refused.
-    let alloc = Refusing::after(rt.alloc(), 0);
+fn default_jobs(rt: HostRuntime) -> Result<(), Fail> {
+    assert_same(&rt, &UniqJob::default(), &UNIQ);
+    assert_same(&rt, &CommJob::default(), &COMM);
+    check_join_default(&rt, &JoinJob::new(rt.alloc()));
+    check_paste_default(&rt, &PasteJob::new(rt.alloc())?);
+    // The job of `paste` has a list, whose allocation fails.
+    let alloc = FailingAlloc::after(rt.alloc(), 0);
     assert!(rt; PasteJob::new(&alloc).is_err());
     Ok(())
 }

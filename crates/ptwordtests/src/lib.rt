@@ -1,21 +1,21 @@
-//! Tests of the words of commands, and of what stands in them.
+//! Tests of `ptlangs` and `ptopts`: lists, the strings of `tr`, and whole command lines.
 #![tactic(auto)]
 
 #[cfg(test)]
-mod comparing;
+mod asserts;
+#[cfg(test)]
+mod expected;
+#[cfg(test)]
+mod failed_growths;
 #[cfg(test)]
 mod jobs;
 #[cfg(test)]
+mod join_words;
+#[cfg(test)]
 mod lists;
-#[cfg(test)]
-mod meant;
-#[cfg(test)]
-mod refusals;
 #[cfg(test)]
 mod strings;
 #[cfg(test)]
+mod tr_words;
+#[cfg(test)]
 mod words;
-#[cfg(test)]
-mod words_of_join;
-#[cfg(test)]
-mod words_of_tr;

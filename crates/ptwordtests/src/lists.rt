@@ -1,7 +1,7 @@
-//! Numbers, and the lists of `cut`, `paste` and `join`: what they keep, which are refused, and refused growths.
+//! Numbers, and the lists of `cut`, `paste` and `join`: accepted lists, faults, and allocation failures.
 
-use crate::comparing::{same, same_of};
-use ptfakes::Refusing;
+use crate::asserts::{assert_same, assert_same_for};
+use ptfakes::FailingAlloc;
 use ptlangs::delims::{DelimFault, Delims};
 use ptlangs::numbers::{decimal, is_decimal};
 use ptlangs::outlist::{File, OutFault, OutField, OutList};
@@ -25,14 +25,14 @@ const DECIMALS: &[(&[u8], Option<u64>)] = &[
     (b"1a", None),
 ];
 
-// Whether these are decimal numbers, also where they are too large.
+// Texts, and whether they are decimal numbers, including those that are too large.
 const ARE_DECIMAL: &[(&[u8], bool)] = &[
     (b"18446744073709551616", true),
     (b"", false),
     (b"1-", false),
 ];
 
-// A list of `cut`, the intervals that it keeps, and whether some numbers are in them.
+// A list of `cut`, its merged intervals, and whether it selects some numbers.
 type Selection = (&'static [u8], &'static [Interval], &'static [(u64, bool)]);
 
 const NUMBERS: &[(u64, bool)] = &[
@@ -104,21 +104,21 @@ const SELECTIONS: &[Selection] = &[
     ),
 ];
 
-fn selects(rt: &impl Abort, ranges: &Ranges, (list, kept, numbers): &Selection) {
-    same_of(rt, list, &ranges.intervals(), kept);
+fn check_selected(rt: &impl Abort, ranges: &Ranges, (list, kept, numbers): &Selection) {
+    assert_same_for(rt, list, &ranges.intervals(), kept);
     for (number, selected) in *numbers {
-        same_of(rt, number, &ranges.contains(*number), selected);
+        assert_same_for(rt, number, &ranges.contains(*number), selected);
     }
 }
 
-// A list of `join`, the fields that it keeps, and what stands at some places.
+// A list of `join`, its fields, and the fields at some indexes.
 type Outputs = (
     &'static [u8],
     &'static [OutField],
     &'static [(usize, Option<(u8, u64)>)],
 );
 
-const PLACES: &[(usize, Option<(u8, u64)>)] = &[
+const FIELD_INDEXES: &[(usize, Option<(u8, u64)>)] = &[
     (0, Some((0, 0))),
     (1, Some((1, 2))),
     (2, Some((2, 3))),
@@ -134,7 +134,7 @@ const OUTPUTS: &[Outputs] = &[
             OutField::Field(File::First, 2),
             OutField::Field(File::Second, 3),
         ],
-        PLACES,
+        FIELD_INDEXES,
     ),
     (
         b"0,1.2,2.2",
@@ -158,14 +158,14 @@ const OUTPUTS: &[Outputs] = &[
     (b"0 0", &[OutField::Join, OutField::Join], &[]),
 ];
 
-fn has_fields(rt: &impl Abort, read: &OutList, (list, fields, places): &Outputs) {
-    same_of(rt, list, &read.fields(), fields);
-    for (place, field) in *places {
-        same_of(rt, place, &read.at(*place), field);
+fn check_fields(rt: &impl Abort, read: &OutList, (list, fields, indexes): &Outputs) {
+    assert_same_for(rt, list, &read.fields(), fields);
+    for (index, field) in *indexes {
+        assert_same_for(rt, index, &read.at(*index), field);
     }
 }
 
-// A list of `paste`, its delimiters, and the one at the greatest column of all.
+// A list of `paste`, its delimiters, and the delimiter of the greatest column.
 type Columns = (&'static [u8], &'static [Option<u8>], Option<u8>);
 
 const COLUMNS: &[Columns] = &[
@@ -182,18 +182,18 @@ const COLUMNS: &[Columns] = &[
     (b"\xff\n\0", &[Some(0xff), Some(b'\n'), Some(0)], Some(0xff)),
 ];
 
-// The delimiters are these, again and again.
-fn has_delims(rt: &impl Abort, read: &Delims, delims: &[Option<u8>], last: Option<u8>) {
-    same(rt, &read.as_slice(), &delims);
-    same(
+// The list has these delimiters, and reuses them in order.
+fn check_delims(rt: &impl Abort, read: &Delims, delims: &[Option<u8>], last: Option<u8>) {
+    assert_same(rt, &read.as_slice(), &delims);
+    assert_same(
         rt,
         &(read.count(), read.at(u64::MAX)),
         &(delims.len(), last),
     );
     for (column, delim) in delims.iter().enumerate() {
         for turn in [0usize, 1, 7] {
-            let place = column.saturating_add(delims.len().saturating_mul(turn));
-            same_of(rt, &place, &read.at(place as u64), delim);
+            let index = column.saturating_add(delims.len().saturating_mul(turn));
+            assert_same_for(rt, &index, &read.at(index as u64), delim);
         }
     }
 }
@@ -201,21 +201,21 @@ fn has_delims(rt: &impl Abort, read: &Delims, delims: &[Option<u8>], last: Optio
 #[test]
 fn numbers_and_lists_are_read(rt: HostRuntime) -> Result<(), Fail> {
     for (text, number) in DECIMALS {
-        same(&rt, &decimal(text), number);
+        assert_same(&rt, &decimal(text), number);
     }
     for (text, wanted) in ARE_DECIMAL {
-        same(&rt, &is_decimal(text), wanted);
+        assert_same(&rt, &is_decimal(text), wanted);
     }
     for row in SELECTIONS {
-        selects(&rt, &Ranges::read(rt.alloc(), row.0)?, row);
+        check_selected(&rt, &Ranges::read(rt.alloc(), row.0)?, row);
     }
     for row in OUTPUTS {
-        has_fields(&rt, &OutList::read(rt.alloc(), row.0)?, row);
+        check_fields(&rt, &OutList::read(rt.alloc(), row.0)?, row);
     }
     for (list, delims, last) in COLUMNS {
-        has_delims(&rt, &Delims::read(rt.alloc(), list)?, delims, *last);
+        check_delims(&rt, &Delims::read(rt.alloc(), list)?, delims, *last);
     }
-    has_delims(&rt, &Delims::tab(rt.alloc())?, &[Some(b'\t')], Some(b'\t'));
+    check_delims(&rt, &Delims::tab(rt.alloc())?, &[Some(b'\t')], Some(b'\t'));
     Ok(())
 }
 
@@ -274,40 +274,40 @@ const NO_DELIMS: &[(&[u8], DelimFault)] = &[
 
 #[test]
 fn refuses_by_the_first_faulty_element(rt: HostRuntime) {
-    // The first growth would be refused: no list with a fault asks for one.
-    let alloc = Refusing::after(rt.alloc(), 0);
+    // A list with a fault allocates nothing, so the allocator still has its first failure to come.
+    let alloc = FailingAlloc::after(rt.alloc(), 0);
     for (list, fault) in NO_SELECTIONS {
-        same_of(&rt, list, &Ranges::read(&alloc, list).err(), &Some(*fault));
+        assert_same_for(&rt, list, &Ranges::read(&alloc, list).err(), &Some(*fault));
     }
     for (list, fault) in NO_OUTPUTS {
-        same_of(&rt, list, &OutList::read(&alloc, list).err(), &Some(*fault));
+        assert_same_for(&rt, list, &OutList::read(&alloc, list).err(), &Some(*fault));
     }
     for (list, fault) in NO_DELIMS {
-        same_of(&rt, list, &Delims::read(&alloc, list).err(), &Some(*fault));
+        assert_same_for(&rt, list, &Delims::read(&alloc, list).err(), &Some(*fault));
     }
-    // So it is still to come, and is that of the tab.
+    // The failure comes now, with the allocation of the tab.
     assert!(rt; Delims::tab(&alloc).is_err());
 }
 
-// The last element of a list whose growth may be refused.
-fn last_range(alloc: &Refusing<Global>) -> Result<bool, ListFault> {
+// The last element of a list whose allocation may fail.
+fn last_range(alloc: &FailingAlloc<Global>) -> Result<bool, ListFault> {
     Ok(Ranges::read(alloc, b"1,3,5,7,9,11")?.contains(11))
 }
 
-fn last_field(alloc: &Refusing<Global>) -> Result<Option<(u8, u64)>, OutFault> {
+fn last_field(alloc: &FailingAlloc<Global>) -> Result<Option<(u8, u64)>, OutFault> {
     Ok(OutList::read(alloc, b"0,1.1,1.2,1.3,2.1,2.2")?.at(5))
 }
 
-fn last_delim(alloc: &Refusing<Global>) -> Result<Option<u8>, DelimFault> {
+fn last_delim(alloc: &FailingAlloc<Global>) -> Result<Option<u8>, DelimFault> {
     Ok(Delims::read(alloc, b"abcdefghi")?.at(8))
 }
 
-// Four growths, two and three.
+// The three lists allocate four, two and three times.
 #[test]
 fn each_growth_refused_in_turn(rt: HostRuntime) {
     for passed in 0..8u64 {
-        let read = last_range(&Refusing::after(rt.alloc(), passed));
-        same_of(
+        let read = last_range(&FailingAlloc::after(rt.alloc(), passed));
+        assert_same_for(
             &rt,
             &passed,
             &read,
@@ -317,19 +317,19 @@ fn each_growth_refused_in_turn(rt: HostRuntime) {
                 Ok(true)
             },
         );
-        let read = last_field(&Refusing::after(rt.alloc(), passed));
+        let read = last_field(&FailingAlloc::after(rt.alloc(), passed));
         let wanted = if passed < 2 {
             Err(OutFault::Memory)
         } else {
             Ok(Some((2, 2)))
         };
-        same_of(&rt, &passed, &read, &wanted);
-        let read = last_delim(&Refusing::after(rt.alloc(), passed));
+        assert_same_for(&rt, &passed, &read, &wanted);
+        let read = last_delim(&FailingAlloc::after(rt.alloc(), passed));
         let wanted = if passed < 3 {
             Err(DelimFault::Memory)
         } else {
             Ok(Some(b'i'))
         };
-        same_of(&rt, &passed, &read, &wanted);
+        assert_same_for(&rt, &passed, &read, &wanted);
     }
 }

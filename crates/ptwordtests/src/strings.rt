@@ -1,15 +1,14 @@
-//! Worked strings of `tr`.
+//! Examples of the strings of `tr`.
 
-use crate::comparing::{holds_of, same_of};
+use crate::asserts::{assert_for, assert_same_for};
 use ptlangs::{
-    CharPlan, Form, SetFault, SetFaultKind, SetString, parts_are_of_the_grammar,
-    tables_hold_the_plan,
+    CharPlan, Form, SetFault, SetFaultKind, SetString, elements_match_grammar, tables_match_plan,
 };
 use std::process::Abort;
 use std::test::Fail;
 
-/// A form, a complement or not, the strings, some bytes and what `tr` writes of them.
-struct Row(
+/// A form, whether the first string is complemented, the strings, some input, and the output of `tr`.
+struct Example(
     Form,
     bool,
     &'static str,
@@ -18,9 +17,9 @@ struct Row(
     &'static str,
 );
 
-const ROWS: &[Row] = &[
-    Row(Form::Translate, false, "a-c", Some("x-y"), "abcd", "xyyd"),
-    Row(
+const ROWS: &[Example] = &[
+    Example(Form::Translate, false, "a-c", Some("x-y"), "abcd", "xyyd"),
+    Example(
         Form::TranslateSqueeze,
         true,
         "[:alpha:]",
@@ -28,7 +27,7 @@ const ROWS: &[Row] = &[
         "one, two.\n",
         "one\ntwo\n",
     ),
-    Row(
+    Example(
         Form::DeleteSqueeze,
         false,
         "0-9",
@@ -36,7 +35,7 @@ const ROWS: &[Row] = &[
         "a1ab2bb",
         "ab",
     ),
-    Row(
+    Example(
         Form::Translate,
         false,
         "[:lower:]",
@@ -44,7 +43,7 @@ const ROWS: &[Row] = &[
         "ab1z\n",
         "AB1Z\n",
     ),
-    Row(
+    Example(
         Form::Translate,
         false,
         "\\055a-b",
@@ -52,13 +51,13 @@ const ROWS: &[Row] = &[
         "-ab",
         "xyy",
     ),
-    Row(Form::Delete, true, "0-9", None, "a1b2\n", "12"),
-    Row(Form::Delete, false, "a-c", None, "abcabd\n", "d\n"),
-    Row(Form::Translate, false, "a-c-e", Some("1-5"), "a-e", "145"),
-    Row(Form::Translate, false, "aab", Some("xyz"), "ab", "yz"),
-    Row(Form::Translate, false, "\\0012", Some("ab"), "2", "b"),
-    Row(Form::TranslateSqueeze, false, "ab", Some("x"), "abba", "x"),
-    Row(
+    Example(Form::Delete, true, "0-9", None, "a1b2\n", "12"),
+    Example(Form::Delete, false, "a-c", None, "abcabd\n", "d\n"),
+    Example(Form::Translate, false, "a-c-e", Some("1-5"), "a-e", "145"),
+    Example(Form::Translate, false, "aab", Some("xyz"), "ab", "yz"),
+    Example(Form::Translate, false, "\\0012", Some("ab"), "2", "b"),
+    Example(Form::TranslateSqueeze, false, "ab", Some("x"), "abba", "x"),
+    Example(
         Form::TranslateSqueeze,
         true,
         "a",
@@ -66,8 +65,8 @@ const ROWS: &[Row] = &[
         "abba\n",
         "axax",
     ),
-    Row(Form::Squeeze, false, "a", None, "aabaa", "aba"),
-    Row(
+    Example(Form::Squeeze, false, "a", None, "aabaa", "aba"),
+    Example(
         Form::Translate,
         false,
         "[a-c]",
@@ -75,7 +74,7 @@ const ROWS: &[Row] = &[
         "[ab]",
         "<12>",
     ),
-    Row(
+    Example(
         Form::Translate,
         false,
         "0-9",
@@ -83,7 +82,7 @@ const ROWS: &[Row] = &[
         "0459",
         "xxyy",
     ),
-    Row(
+    Example(
         Form::Translate,
         false,
         "[:lower:]1",
@@ -91,7 +90,7 @@ const ROWS: &[Row] = &[
         "a1",
         "AZ",
     ),
-    Row(
+    Example(
         Form::DeleteSqueeze,
         false,
         "[:digit:]",
@@ -99,8 +98,8 @@ const ROWS: &[Row] = &[
         "1  2\n\n",
         " \n",
     ),
-    Row(Form::Delete, false, "[=a=]b", None, "abc", "c"),
-    Row(
+    Example(Form::Delete, false, "[=a=]b", None, "abc", "c"),
+    Example(
         Form::Translate,
         true,
         "\\000-\\377",
@@ -108,7 +107,7 @@ const ROWS: &[Row] = &[
         "ab",
         "ab",
     ),
-    Row(
+    Example(
         Form::Translate,
         false,
         "a-zA-Z",
@@ -116,12 +115,12 @@ const ROWS: &[Row] = &[
         "Hello",
         "Uryyb",
     ),
-    Row(Form::Delete, false, "--/", None, "+,-./0", "+,0"),
-    Row(Form::Delete, false, "[==]", None, "[a=]b", "ab"),
-    Row(Form::Delete, false, "[::]", None, "[a:]b", "ab"),
-    Row(Form::Delete, false, "\\08", None, "\089", "9"),
-    Row(Form::Translate, false, "abc", Some("[a*x]"), "abc", "[a*"),
-    Row(
+    Example(Form::Delete, false, "--/", None, "+,-./0", "+,0"),
+    Example(Form::Delete, false, "[==]", None, "[a=]b", "ab"),
+    Example(Form::Delete, false, "[::]", None, "[a:]b", "ab"),
+    Example(Form::Delete, false, "\\08", None, "\089", "9"),
+    Example(Form::Translate, false, "abc", Some("[a*x]"), "abc", "[a*"),
+    Example(
         Form::Translate,
         false,
         "abcde",
@@ -129,8 +128,8 @@ const ROWS: &[Row] = &[
         "abcde",
         "1xxx2",
     ),
-    Row(Form::Translate, false, "ab", Some("12[x*]3"), "ab", "12"),
-    Row(
+    Example(Form::Translate, false, "ab", Some("12[x*]3"), "ab", "12"),
+    Example(
         Form::Translate,
         false,
         "123[:lower:]",
@@ -138,10 +137,10 @@ const ROWS: &[Row] = &[
         "12a",
         "xxA",
     ),
-    Row(Form::Squeeze, true, "[:alpha:]", None, "11  aa", "1 aa"),
+    Example(Form::Squeeze, true, "[:alpha:]", None, "11  aa", "1 aa"),
 ];
 
-/// A form, a complement or not, the strings, and which of them is refused and why.
+/// A form, whether the first string is complemented, the strings, and the fault.
 struct Refusal(
     Form,
     bool,
@@ -306,7 +305,7 @@ const REFUSALS: &[Refusal] = &[
     ),
 ];
 
-/// The plan of these strings, where the form has as many.
+/// Reads the plan of the strings, of which the form uses one or both.
 fn read(
     form: Form,
     complement: bool,
@@ -320,7 +319,7 @@ fn read(
     Some(CharPlan::read(form, complement, s1.as_bytes(), s2))
 }
 
-// Whether this is what `tr` writes of some bytes.
+// Whether `tr` writes this output for this input.
 fn is_written(plan: &CharPlan, input: &[u8], output: &[u8]) -> bool {
     let mut last = None;
     let mut is_so = true;
@@ -338,13 +337,13 @@ fn is_written(plan: &CharPlan, input: &[u8], output: &[u8]) -> bool {
 }
 
 #[test]
-fn strings_are_meant_or_refused(rt: HostRuntime) -> Result<(), Fail> {
-    for Row(form, complement, s1, s2, input, output) in ROWS {
+fn strings_are_parsed_or_rejected(rt: HostRuntime) -> Result<(), Fail> {
+    for Example(form, complement, s1, s2, input, output) in ROWS {
         let Some(Ok(plan)) = read(*form, *complement, s1, *s2) else {
             return Err(Fail::from("a string is refused"));
         };
         let is_so = is_written(&plan, input.as_bytes(), output.as_bytes());
-        holds_of(&rt, &(*s1, *s2), is_so);
+        assert_for(&rt, &(*s1, *s2), is_so);
     }
     for Refusal(form, complement, s1, s2, string, kind) in REFUSALS {
         let plan = read(*form, *complement, s1, *s2).ok_or("the count of strings")?;
@@ -352,12 +351,12 @@ fn strings_are_meant_or_refused(rt: HostRuntime) -> Result<(), Fail> {
             string: *string,
             kind: *kind,
         };
-        same_of(&rt, &(*s1, *s2), &plan.err(), &Some(fault));
+        assert_same_for(&rt, &(*s1, *s2), &plan.err(), &Some(fault));
     }
     Ok(())
 }
 
-// Each class, and whether it contains this byte.
+// Each class, and whether it contains the byte.
 fn classes_of(byte: u8) -> [(&'static str, bool); 12] {
     [
         ("[:alnum:]", byte.is_ascii_alphanumeric()),
@@ -381,7 +380,7 @@ fn classes_are_of_ascii(rt: HostRuntime) {
         for (class, contains) in classes_of(byte) {
             let plan = CharPlan::read(Form::Delete, false, class.as_bytes(), None);
             let is_so = plan.is_ok_and(|plan| plan.deletes(byte) == contains);
-            holds_of(&rt, &(class, byte), is_so);
+            assert_for(&rt, &(class, byte), is_so);
         }
     }
 }
@@ -389,7 +388,7 @@ fn classes_are_of_ascii(rt: HostRuntime) {
 // The first byte, the last byte and the shift of a stretch.
 type Stretch = (u8, u8, u8);
 
-// Two strings, and the stretches of their plan in turn; none where there are too many.
+// Two strings, and the stretches of their plan; `None` if there are more than four.
 const STRETCHES: &[(&str, &str, Option<&[Stretch]>)] = &[
     ("a-z", "A-Z", Some(&[(97, 122, 224)])),
     (
@@ -406,13 +405,13 @@ const STRETCHES: &[(&str, &str, Option<&[Stretch]>)] = &[
     ("acegi", "12345", None),
 ];
 
-// A plan has these stretches and no more.
-fn has_stretches(rt: &impl Abort, s1: &str, plan: &CharPlan, wanted: Option<&[Stretch]>) {
+// The plan has exactly these stretches.
+fn check_stretches(rt: &impl Abort, s1: &str, plan: &CharPlan, wanted: Option<&[Stretch]>) {
     let shifts = plan.shifts();
-    holds_of(rt, &s1, shifts.is_some() == wanted.is_some());
+    assert_for(rt, &s1, shifts.is_some() == wanted.is_some());
     if let (Some(shifts), Some(wanted)) = (shifts, wanted) {
-        for place in 0..5 {
-            same_of(rt, &s1, &shifts.stretch(place), &wanted.get(place).copied());
+        for index in 0..5 {
+            assert_same_for(rt, &s1, &shifts.stretch(index), &wanted.get(index).copied());
         }
     }
 }
@@ -421,13 +420,13 @@ fn has_stretches(rt: &impl Abort, s1: &str, plan: &CharPlan, wanted: Option<&[St
 fn plans_lend_stretches_and_tables(rt: HostRuntime) -> Result<(), Fail> {
     for (s1, s2, wanted) in STRETCHES {
         let plan = CharPlan::read(Form::Translate, false, s1.as_bytes(), Some(s2.as_bytes()))?;
-        has_stretches(&rt, s1, &plan, *wanted);
+        check_stretches(&rt, s1, &plan, *wanted);
     }
     let plan = CharPlan::read(Form::TranslateSqueeze, false, b"ab", Some(b"x"))?;
     assert!(rt; plan.images()[97] == 120 && plan.images()[120] == 120);
     assert!(rt; plan.squeezed()[120] && !plan.squeezed()[97]);
     assert!(rt; !plan.deleted()[97]);
-    parts_are_of_the_grammar();
-    tables_hold_the_plan();
+    elements_match_grammar();
+    tables_match_plan();
     Ok(())
 }

@@ -1,9 +1,9 @@
-//! The words of each tool and what they mean; those of `join` and `tr` have files of their own.
+//! Examples of command lines of each tool; those of `join` and `tr` are in modules of their own.
 
-use crate::comparing::{holds_of, same};
-use crate::meant::{Files, Job, Meant, Row, expect_meant};
-use crate::words_of_join::JOINS;
-use crate::words_of_tr::TRS;
+use crate::asserts::{assert_for, assert_same};
+use crate::expected::{Example, Expected, Files, Job, expect_command};
+use crate::join_words::JOINS;
+use crate::tr_words::TRS;
 use ptlangs::jobs::{CommJob, CutJob, PasteJob, Show, UniqJob};
 use ptlangs::ranges::Interval;
 use ptlangs::{SetFault, SetFaultKind, SetString};
@@ -12,10 +12,10 @@ use std::alloc::Global;
 use std::process::Abort;
 use std::test::Fail;
 
-/// Words, and the fault that is found in them.
+/// A command line, and its fault.
 type Refused<'a> = (&'a [&'a str], UseFault<'a>);
 
-/// One row for each fault; all others are proved in ptopts, and the built program is run on them.
+/// One example for each fault. All others are proved from the definitions, and the built program is run on them.
 const REFUSED: &[Refused] = &[
     (&[], UseFault::Tool),
     (&["cut", "-sé"], UseFault::Unknown("-sé")),
@@ -58,7 +58,7 @@ const REFUSED: &[Refused] = &[
     ),
 ];
 
-/// The job of `cut` that words mean.
+/// The expected job of `cut`.
 pub struct Cut {
     fields: bool,
     list: &'static [Interval],
@@ -66,81 +66,81 @@ pub struct Cut {
     only: bool,
 }
 
-/// Whether lines end with byte 0, and whether they stand in descending order.
-const ENDS_AND_ORDERS: &[Row] = &[
+/// The line terminator and the order of lines.
+const ENDS_AND_ORDERS: &[Example] = &[
     (
         &["cut", "-b1"],
-        Meant::Lines {
+        Expected::Lines {
             zero: false,
             descending: false,
         },
     ),
     (
         &["cut", "-zzb1"],
-        Meant::Lines {
+        Expected::Lines {
             zero: true,
             descending: false,
         },
     ),
     (
         &["cut", "-d", "\n", "-f", "2", "-z"],
-        Meant::Lines {
+        Expected::Lines {
             zero: true,
             descending: false,
         },
     ),
     (
         &["paste", "-sz", "f"],
-        Meant::Lines {
+        Expected::Lines {
             zero: true,
             descending: false,
         },
     ),
     (
         &["uniq", "-zc"],
-        Meant::Lines {
+        Expected::Lines {
             zero: true,
             descending: false,
         },
     ),
     (
         &["comm", "f", "g"],
-        Meant::Lines {
+        Expected::Lines {
             zero: false,
             descending: false,
         },
     ),
     (
         &["comm", "-z1", "f", "g"],
-        Meant::Lines {
+        Expected::Lines {
             zero: true,
             descending: false,
         },
     ),
     (
         &["comm", "-r", "f", "g"],
-        Meant::Lines {
+        Expected::Lines {
             zero: false,
             descending: true,
         },
     ),
     (
         &["join", "-t", "\n", "-z", "f", "g"],
-        Meant::Lines {
+        Expected::Lines {
             zero: true,
             descending: false,
         },
     ),
     (
         &["join", "-rz", "f", "g"],
-        Meant::Lines {
+        Expected::Lines {
             zero: true,
             descending: true,
         },
     ),
     (
         &["join", "-r", "-t", ",", "-a", "1", "f", "g"],
-        Meant::Lines {
+        Expected::Lines {
             zero: false,
             descending: true,
         },
@@ -152,10 +152,10 @@ const FROM_SECOND: &[Interval] = &[Interval {
     last: u64::MAX,
 }];
 
-const CUTS: &[Row] = &[
+const CUTS: &[Example] = &[
     (
         &["cut", "-b", "2-"],
-        Meant::Of(
+        Expected::Of(
             Files {
                 order: &[Input::Standard],
                 names: &[],
@@ -171,7 +171,7 @@ const CUTS: &[Row] = &[
     ),
     (
         &["cut", "-nb", "2-"],
-        Meant::Of(
+        Expected::Of(
             Files {
                 order: &[Input::Standard],
                 names: &[],
@@ -187,7 +187,7 @@ const CUTS: &[Row] = &[
     ),
     (
         &["cut", "-c2-", "--", "-s", "f"],
-        Meant::Of(
+        Expected::Of(
             Files {
                 order: &[Input::File(0), Input::File(1)],
                 names: &["-s", "f"],
@@ -203,7 +203,7 @@ const CUTS: &[Row] = &[
     ),
     (
         &["cut", "-ssd,", "-f", "2-", "f", "-", "f", "-d:"],
-        Meant::Of(
+        Expected::Of(
             Files {
                 order: &[
                     Input::File(0),
@@ -224,7 +224,7 @@ const CUTS: &[Row] = &[
     ),
     (
         &["cut", "-sf2-", "-d", "-", "-"],
-        Meant::Of(
+        Expected::Of(
             Files {
                 order: &[Input::Standard],
                 names: &[],
@@ -240,48 +240,48 @@ const CUTS: &[Row] = &[
     ),
 ];
 
-/// Ends the test unless a job is this one of `cut`.
-pub fn is_cut(rt: &impl Abort, job: &CutJob, row: &Cut) {
-    same(rt, &job.list.intervals(), &row.list);
-    same(
+/// Fails the test unless the job of `cut` is this one.
+pub fn check_cut(rt: &impl Abort, job: &CutJob, row: &Cut) {
+    assert_same(rt, &job.list.intervals(), &row.list);
+    assert_same(
         rt,
         &(job.fields, job.delim, job.only),
         &(row.fields, row.delim, row.only),
     );
 }
 
-/// Whether these words are refused by this fault.
-fn is_refused(rt: &impl Abort, alloc: Global, words: &[&str], fault: UseFault) {
-    same(rt, &Command::read(alloc, words).err(), &Some(fault));
+/// Fails the test unless the words have this fault.
+fn expect_fault(rt: &impl Abort, alloc: Global, words: &[&str], fault: UseFault) {
+    assert_same(rt, &Command::read(alloc, words).err(), &Some(fault));
 }
 
-// At most 512 operands, of `cut` and of `paste`, of which one is enough for `paste`. A wrong value comes before too
-// many operands.
+// `cut` and `paste` accept at most 512 operands, and `paste` needs one. A wrong value is reported before too many
+// operands.
 fn counts_operands(rt: &impl Abort, alloc: Global) -> Result<(), Fail> {
     let mut words = ["-"; 515];
     words[0] = "cut";
     words[1] = "-b1";
-    is_refused(rt, alloc, &words, UseFault::Operands);
-    expect_meant(rt, alloc, &words[..514], &Meant::Inputs(512))?;
+    expect_fault(rt, alloc, &words, UseFault::Operands);
+    expect_command(rt, alloc, &words[..514], &Expected::Inputs(512))?;
     words[1] = "-b0";
-    is_refused(rt, alloc, &words, UseFault::Value(b'b', "0"));
+    expect_fault(rt, alloc, &words, UseFault::Value(b'b', "0"));
     words[0] = "paste";
     words[1] = "-";
-    is_refused(rt, alloc, &words[..514], UseFault::Operands);
-    expect_meant(rt, alloc, &words[..513], &Meant::Inputs(512))?;
-    expect_meant(rt, alloc, &words[..2], &Meant::Inputs(1))
+    expect_fault(rt, alloc, &words[..514], UseFault::Operands);
+    expect_command(rt, alloc, &words[..513], &Expected::Inputs(512))?;
+    expect_command(rt, alloc, &words[..2], &Expected::Inputs(1))
 }
 
-/// The job of `paste` that words mean.
+/// The expected job of `paste`.
 pub struct Paste {
     serial: bool,
     delims: &'static [Option<u8>],
 }
 
-const PASTES: &[Row] = &[
+const PASTES: &[Example] = &[
     (
         &["paste", "-d", "\\0,", "-s", "f", "-", "-s"],
-        Meant::Of(
+        Expected::Of(
             Files {
                 order: &[Input::File(0), Input::Standard, Input::File(1)],
                 names: &["f", "-s"],
@@ -295,7 +295,7 @@ const PASTES: &[Row] = &[
     ),
     (
         &["paste", "f"],
-        Meant::Of(
+        Expected::Of(
             Files {
                 order: &[Input::File(0)],
                 names: &["f"],
@@ -309,17 +309,17 @@ const PASTES: &[Row] = &[
     ),
 ];
 
-/// Ends the test unless a job is this one of `paste`.
-pub fn is_paste(rt: &impl Abort, job: &PasteJob, row: &Paste) {
-    same(rt, &job.serial, &row.serial);
+/// Fails the test unless the job of `paste` is this one.
+pub fn check_paste(rt: &impl Abort, job: &PasteJob, row: &Paste) {
+    assert_same(rt, &job.serial, &row.serial);
     let delims = [job.delims.at(0), job.delims.at(1), job.delims.at(2)];
-    holds_of(rt, &row.delims, delims.as_slice() == row.delims);
+    assert_for(rt, &row.delims, delims.as_slice() == row.delims);
 }
 
-const UNIQS: &[Row] = &[
+const UNIQS: &[Example] = &[
     (
         &["uniq"],
-        Meant::Of(
+        Expected::Of(
             Files {
                 order: &[Input::Standard],
                 names: &[],
@@ -335,7 +335,7 @@ const UNIQS: &[Row] = &[
     ),
     (
         &["uniq", "-cc", "f"],
-        Meant::Of(
+        Expected::Of(
             Files {
                 order: &[Input::File(0)],
                 names: &["f"],
@@ -351,7 +351,7 @@ const UNIQS: &[Row] = &[
     ),
     (
         &["uniq", "-df1", "-s", "007", "-", "-"],
-        Meant::Of(
+        Expected::Of(
             Files {
                 order: &[Input::Standard],
                 names: &[],
@@ -367,7 +367,7 @@ const UNIQS: &[Row] = &[
     ),
     (
         &["uniq", "-us", "18446744073709551615", "f", "f"],
-        Meant::Of(
+        Expected::Of(
             Files {
                 order: &[Input::File(0)],
                 names: &["f"],
@@ -383,7 +383,7 @@ const UNIQS: &[Row] = &[
     ),
     (
         &["uniq", "-f0", "--", "-", "-c"],
-        Meant::Of(
+        Expected::Of(
             Files {
                 order: &[Input::Standard],
                 names: &[],
@@ -399,10 +399,10 @@ const UNIQS: &[Row] = &[
     ),
 ];
 
-const COMMS: &[Row] = &[
+const COMMS: &[Example] = &[
     (
         &["comm", "f", "-"],
-        Meant::Of(
+        Expected::Of(
             OF_COMM,
             Job::Comm(CommJob {
                 hide: [false; 3],
@@ -413,7 +413,7 @@ const COMMS: &[Row] = &[
     ),
     (
         &["comm", "-1", "f", "-"],
-        Meant::Of(
+        Expected::Of(
             OF_COMM,
             Job::Comm(CommJob {
                 hide: [true, false, false],
@@ -424,7 +424,7 @@ const COMMS: &[Row] = &[
     ),
     (
         &["comm", "-32", "-3", "f", "-"],
-        Meant::Of(
+        Expected::Of(
             OF_COMM,
             Job::Comm(CommJob {
                 hide: [false, true, true],
@@ -442,13 +442,13 @@ const OF_COMM: Files = Files {
 };
 
 #[test]
-fn what_words_mean(rt: HostRuntime) -> Result<(), Fail> {
+fn words_are_parsed(rt: HostRuntime) -> Result<(), Fail> {
     for (words, fault) in REFUSED {
-        is_refused(&rt, rt.alloc(), words, *fault);
+        expect_fault(&rt, rt.alloc(), words, *fault);
     }
     for rows in [CUTS, PASTES, UNIQS, COMMS, JOINS, TRS, ENDS_AND_ORDERS] {
-        for (words, meant) in rows {
-            expect_meant(&rt, rt.alloc(), words, meant)?;
+        for (words, expected) in rows {
+            expect_command(&rt, rt.alloc(), words, expected)?;
         }
     }
     counts_operands(&rt, rt.alloc())

@@ -1,15 +1,15 @@
-//! `cut`. It goes by bytes or by fields, and each way has a file.
+//! `cut`: the engine, which selects bytes or fields of each line.
 //!
-//! `bytes` stands on the loop over blocks, and cuts each short line by one shuffle (`picking`); `fields` goes line by
-//! line.
+//! `bytes` (`-b`, `-c`) works block by block, and cuts lines of at most 16 bytes with one byte shuffle (`shuffle`).
+//! `fields` (`-f`) works line by line.
 
 ghost use Rattle.ptlangs.specs.Jobs.{cut_job};
 ghost use Rattle.ptflow.specs.Cuts.{cut_tool};
-ghost use Rattle.ptflow.specs.Passes.{IsReady, IsPass};
+ghost use Rattle.ptflow.specs.Passes.{PassPre, PassPost};
 
 mod bytes;
 mod fields;
-mod picking;
+mod shuffle;
 
 use crate::faults::FlowFault;
 use crate::tools::cut::bytes::cut_by_bytes;
@@ -18,25 +18,26 @@ use ptlangs::jobs::CutJob;
 use ptlines::{LineReader, Out, Sink, Source, Store};
 use std::alloc::Allocator;
 
-/// Writes the selected parts of each line of a reader, and after each line the byte that ends it (XCU, `cut`), which
-/// is byte 0 with `-z` (this project's own choice). A byte is a character, and `-n` changes nothing. Fields are written
-/// one after another with the delimiter between them; a line without the delimiter is written whole, or not at all
-/// with `-s`. A line of which no field is selected is written as an empty line (this project's own choice).
+/// Writes the selected parts of each line of a reader, and after each line the terminator (POSIX.1-2017, XCU, `cut`),
+/// which is newline, or byte 0 with `-z`. A byte is a character, and `-n` changes nothing. Selected fields are written
+/// in the order of the line, with the delimiter between them. A line without the delimiter is written unchanged, or
+/// dropped with `-s`. A line with no selected field is written as an empty line. POSIX leaves `-z` and such lines
+/// unspecified.
 ///
-/// For bytes nothing is kept, and the store stays as it was. For fields the first slot, which is added if the store has
-/// none, holds a line at a time. What the input so far decides is pushed before 16,384 more bytes are read. Only
-/// tested: it is pushed before the next read. On an output that has faulted nothing is read.
+/// For bytes nothing is kept, and the store is unchanged. For fields the first slot, which is added if the store has
+/// none, holds one line at a time. Output that the input read so far decides is pushed before 16,384 more bytes are
+/// read. Tests check, but no clause states, that it is pushed before the next read. If the output has failed before,
+/// nothing is read.
 /// # Errors
-/// `Read` or `Write` where a read or a write failed; `Memory` where a growth of the store was refused, and the store
-/// is then denied.
+/// `Read` or `Write` if a read or a write failed; `Memory` if the store could not grow, and then the store is denied.
 pub fn cut<A: Allocator + Copy, S: Source, R: Source, W: Sink>(
     job: &CutJob<A>,
     reader: &mut LineReader<S, R>,
     store: &mut Store<A>,
     out: &mut Out<W>,
 ) -> Result<(), FlowFault>
-    requires { IsReady reader.old store.old }
-    ensures { IsPass (cut_tool (cut_job job.now)) reader.old reader.new out.old out.new store.old store.new result }
+    requires { PassPre reader.old store.old }
+    ensures { PassPost (cut_tool (cut_job job.now)) reader.old reader.new out.old out.new store.old store.new result }
 {
     if out.has_failed() {
         return Err(FlowFault::Write);

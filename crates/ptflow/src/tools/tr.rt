@@ -1,43 +1,43 @@
-//! `tr`: a tool over blocks. A block goes through at most three passes: bytes are deleted, translated, squeezed.
+//! `tr`: the engine, a tool over blocks. A block goes through at most three passes: deletion, translation, squeezing.
 //!
-//! `mapping` chooses how bytes are translated; the kernels do all three.
+//! `map_kind` chooses how bytes are translated; the code in `simd` does all three.
 
 ghost use Rattle.std.specs.Prelude.{◌≡◌, ◌≢◌, ◌≤◌, length, map, filter, not, Err};
 ghost use Rattle.ptlangs.specs.TrTables.{deletes, image, squeezes};
-ghost use Rattle.ptflow.specs.Passes.{IsReady, IsBarePass, no_slots};
-ghost use Rattle.ptflow.specs.Translations.{tr_tool};
-ghost use Rattle.ptflow.specs.Workings.Tr.Mappings.{IsMapping};
-ghost use Rattle.ptflow.specs.Workings.Tr.TrRests.{IsSetIfAny, IsSetIfAny-prop, squeeze_from};
+ghost use Rattle.ptflow.specs.Passes.{PassPre, StorelessPost, no_store};
+ghost use Rattle.ptflow.specs.TrOutput.{tr_tool};
+ghost use Rattle.ptflow.specs.Private.Tr.MapKinds.{IsMapKind};
+ghost use Rattle.ptflow.specs.Private.Tr.TrFrom.{IsOptionalSet, IsOptionalSet-prop, squeeze_from};
 
-mod mapping;
+mod map_kind;
 
-use crate::blocks::{BlockTool, over_blocks};
+use crate::block_loop::{BlockFilter, run_blocks};
 use crate::faults::FlowFault;
-use crate::kernels::keeping::keep_others;
-use crate::kernels::packing::Shuffles;
-use crate::kernels::sets::{ByteSet, FlagSet};
-use crate::kernels::squeezing::squeeze_block;
-use crate::tools::tr::mapping::Mapping;
+use crate::simd::byte_set::{ByteSet, FlagSet};
+use crate::simd::compress::CompressTable;
+use crate::simd::filter::filter_out;
+use crate::simd::squeeze::squeeze_block;
+use crate::tools::tr::map_kind::MapKind;
 use ptlangs::CharPlan;
 use ptlines::{LineReader, Out, Sink, Source, WriteFault};
 
-/// The plan, and what its passes need: the bytes that go, how images are made, the bytes whose repeats go, and how
-/// bytes that stay are put side by side. A pass that would change nothing is left out.
+/// A plan, with the tables of its passes: the deleted set, the byte map, the squeezed set, and the table for
+/// compression. A pass that would change nothing is left out.
 #[derive(Drop)]
 struct Translation<'a> {
     plan: &'a CharPlan,
     deleting: Option<ByteSet>,
-    mapping: Mapping,
+    map_kind: MapKind,
     squeezing: Option<ByteSet>,
-    shuffles: Shuffles,
-    ghost is_deleting: { IsSetIfAny deleting plan.now.deleted } by { IsSetIfAny-prop deleting plan.now.deleted },
-    ghost is_mapping: { IsMapping mapping plan.now },
-    ghost is_squeezing: { IsSetIfAny squeezing plan.now.squeezed } by { IsSetIfAny-prop squeezing plan.now.squeezed },
+    compress_table: CompressTable,
+    ghost is_deleting: { IsOptionalSet deleting plan.now.deleted } by { IsOptionalSet-prop deleting plan.now.deleted },
+    ghost is_map_kind: { IsMapKind map_kind plan.now },
+    ghost is_squeezing: { IsOptionalSet squeezing plan.now.squeezed } by { IsOptionalSet-prop squeezing plan.now.squeezed },
 }
 
-// The set of the bytes whose flag is true, if there are any.
-fn set_of(flags: &[bool; 256]) -> Option<ByteSet>
-    ensures { IsSetIfAny result flags.now }
+// The set of the bytes whose flag is set, or `None` if it is empty.
+fn optional_set(flags: &[bool; 256]) -> Option<ByteSet>
+    ensures { IsOptionalSet result flags.now }
 {
     if flags.contains(&true) {
         Some(ByteSet::of(flags))
@@ -52,14 +52,14 @@ impl<'a> Translation<'a> {
     {
         Translation {
             plan,
-            deleting: set_of(plan.deleted()),
-            mapping: Mapping::of(plan),
-            squeezing: set_of(plan.squeezed()),
-            shuffles: Shuffles::new(),
+            deleting: optional_set(plan.deleted()),
+            map_kind: MapKind::of(plan),
+            squeezing: optional_set(plan.squeezed()),
+            compress_table: CompressTable::new(),
         }
     }
 
-    // The bytes that are not deleted, which `into` has room for.
+    // The bytes of `block` that are not deleted, in `into`.
     fn kept<'b>(&self, block: &'b [u8], into: &'b mut [u8; 8224]) -> &'b [u8]
         requires { length block.now ≤ 8192 }
         ensures kept { result.now ≡ filter (λ b. not (deletes self.now.plan.now b)) block.now }
@@ -67,28 +67,28 @@ impl<'a> Translation<'a> {
     {
         match self.deleting {
             Some(set) => {
-                let gone = FlagSet {
+                let removed = FlagSet {
                     set,
                     flags: self.plan.deleted(),
                 };
-                let count = keep_others(gone, &self.shuffles, block, into);
+                let count = filter_out(removed, &self.compress_table, block, into);
                 &into[..count]
             }
             None => block,
         }
     }
 
-    // The images of bytes, which `into` has room for.
+    // The images of `bytes`, in `into`.
     fn mapped<'b>(&self, bytes: &'b [u8], into: &'b mut [u8; 8224]) -> &'b [u8]
         requires { length bytes.now ≤ 8192 }
         ensures { result.now ≡ map (image self.now.plan.now) bytes.now }
     {
-        if let Mapping::Same = self.mapping {
+        if let MapKind::Identity = self.map_kind {
             return bytes;
         }
         let images = &mut into[..bytes.len()];
         let table = self.plan.images();
-        let mut at = self.mapping.move_front(bytes, images);
+        let mut at = self.map_kind.map_prefix(bytes, images);
         while at < bytes.len() {
             images[at] = table[usize::from(bytes[at])];
             at += 1;
@@ -96,7 +96,7 @@ impl<'a> Translation<'a> {
         images
     }
 
-    // The bytes that stay where `last` comes before them, if anything does; `into` has room for them.
+    // The bytes that are left after squeezing, in `into`. `last` is the byte before `bytes`, if there is one.
     fn squeezed<'b>(&self, last: Option<u8>, bytes: &'b [u8], into: &'b mut [u8; 8224]) -> &'b [u8]
         requires { length bytes.now ≤ 8192 }
         ensures { result.now ≡ squeeze_from (squeezes self.now.plan.now) last bytes.now }
@@ -107,7 +107,7 @@ impl<'a> Translation<'a> {
                     set,
                     flags: self.plan.squeezed(),
                 };
-                let count = squeeze_block(by, &self.shuffles, last, bytes, into);
+                let count = squeeze_block(by, &self.compress_table, last, bytes, into);
                 &into[..count]
             }
             None => bytes,
@@ -115,7 +115,7 @@ impl<'a> Translation<'a> {
     }
 }
 
-/// What is done to each byte, the byte that was written last, if any was, and room for what each pass makes of a block.
+/// A translation, the last byte of its output so far, and a buffer for the output of each pass.
 #[derive(Drop)]
 struct Translator<'a> {
     by: Translation<'a>,
@@ -125,17 +125,17 @@ struct Translator<'a> {
     squeezed: [u8; 8224],
 }
 
-impl<'a> BlockTool for Translator<'a> {
+impl<'a> BlockFilter for Translator<'a> {
     ghost use Rattle.std.specs.Prelude.{◌≡◌};
-    ghost use Rattle.ptflow.specs.Workings.Tr.TrRests.{tr_rest};
+    ghost use Rattle.ptflow.specs.Private.Tr.TrFrom.{tr_from};
 
-    ghost rest = { λ t. tr_rest t.by.plan.now t.last };
+    ghost rest = { λ t. tr_from t.by.plan.now t.last };
 
     ghost counted = { λ t. 0 };
 
-    ghost Holds = { λ s t. t.by.plan.now ≡ s.by.plan.now };
+    ghost IsUnchanged = { λ s t. t.by.plan.now ≡ s.by.plan.now };
 
-    fn push_block<W: Sink>(&mut self, block: &[u8], out: &mut Out<W>) -> Result<(), WriteFault> {
+    fn process_block<W: Sink>(&mut self, block: &[u8], out: &mut Out<W>) -> Result<(), WriteFault> {
         let kept = self.by.kept(block, &mut self.kept);
         let mapped = self.by.mapped(kept, &mut self.mapped);
         let written = self.by.squeezed(self.last, mapped, &mut self.squeezed);
@@ -144,26 +144,27 @@ impl<'a> BlockTool for Translator<'a> {
         Ok(())
     }
 
-    // Nothing is left to write.
-    fn push_end<W: Sink>(&self, out: &mut Out<W>) -> Result<(), WriteFault> {
+    // There is no output after the last block.
+    fn finish<W: Sink>(&self, out: &mut Out<W>) -> Result<(), WriteFault> {
         out.push(b"")
     }
 }
 
-/// Writes each byte of a reader as the plan says (XCU, `tr`): the bytes that are not deleted, each replaced by its
-/// image, and of each run of one byte whose repeats are squeezed only the first. A byte is a character.
+/// Writes the bytes of a reader as the plan states (POSIX.1-2017, XCU, `tr`): deleted bytes are left out, each other
+/// byte is replaced by its image, and of a run of one byte that is squeezed only the first is written. A byte is a
+/// character.
 ///
-/// No memory is taken. What the input so far decides is pushed before 16,384 more bytes are read. Only tested: it is
-/// pushed before the next read. On an output that has faulted nothing is read.
+/// Takes no memory. Output that the input read so far decides is pushed before 16,384 more bytes are read. Tests check,
+/// but no clause states, that it is pushed before the next read. If the output has failed before, nothing is read.
 /// # Errors
-/// `Read` or `Write` where a read or a write failed.
+/// `Read` or `Write` if a read or a write failed.
 pub fn tr<S: Source, R: Source, W: Sink>(
     plan: &CharPlan,
     reader: &mut LineReader<S, R>,
     out: &mut Out<W>,
 ) -> Result<(), FlowFault>
-    requires { IsReady reader.old no_slots }
-    ensures pass { IsBarePass (tr_tool plan.now) reader.old reader.new out.old out.new result }
+    requires { PassPre reader.old no_store }
+    ensures pass { StorelessPost (tr_tool plan.now) reader.old reader.new out.old out.new result }
     ensures no_memory { result ≢ Err FlowFault.Memory }
 {
     if out.has_failed() {
@@ -176,5 +177,5 @@ pub fn tr<S: Source, R: Source, W: Sink>(
         mapped: [0; 8224],
         squeezed: [0; 8224],
     };
-    over_blocks(&mut tool, reader, out)
+    run_blocks(&mut tool, reader, out)
 }

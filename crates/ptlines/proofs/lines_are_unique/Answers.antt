@@ -1,5 +1,5 @@
-use Rattle.ptlines.proofs.TextLaws.{the_lines, the_ended_lines}
+use Rattle.ptlines.proofs.TextLaws.{the_lines, the_complete_lines}
 use Rattle.ptlines.proofs.lines_are_unique.Goals as goal
 
 pub returns : goal.returns
-returns c = record { unique = the_lines; ended = the_ended_lines }
+returns c = record { unique = the_lines; eof = the_complete_lines }

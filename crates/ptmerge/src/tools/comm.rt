@@ -1,30 +1,30 @@
-//! `comm`. It stands on the merge: each step is a line of one input alone, or one that both have.
+//! The engine of `comm`: each step of the merge writes one line, of one input or of both.
 
 ghost use Rattle.std.specs.Prelude.{◌≡◌, ◌<◌, ◌++◌, ℕ, List, true, false, length};
 ghost use Rattle.ptlangs.specs.Jobs.{comm_job};
-ghost use Rattle.ptlines.specs.Outputs.{Wrote};
+ghost use Rattle.ptlines.specs.Outputs.{PushEffect};
 ghost use Rattle.ptlines.specs.Slots.{line};
-ghost use Rattle.ptlines.specs.Text.{text};
-ghost use Rattle.ptmerge.specs.Comm.{comm_by, comm_tool, tab_unless, entries_in};
-ghost use Rattle.ptmerge.specs.Merges.{CanBegin, IsMerge, IsReady, IsUnread, Untouched, ended_by, seen};
-ghost use Rattle.ptmerge.specs.LinePasses.{Passes, StandsAt};
-ghost use Rattle.ptmerge.specs.Pushes.{MayPush};
+ghost use Rattle.ptlines.specs.Text.{unlines};
+ghost use Rattle.ptmerge.specs.Comm.{comm_with, comm_tool, tab_if_shown, column_entries};
+ghost use Rattle.ptmerge.specs.MergeCall.{MergeRunPre, MergePost, MergePre, IsMergeUnread, IsMergeUntouched, with_terminator, merge_state};
+ghost use Rattle.ptmerge.specs.WriteAndAdvance.{WriteThenAdvancePost, AdvancePre};
+ghost use Rattle.ptmerge.specs.Write.{WriteBytesPost};
 ghost use Rattle.ptmerge.specs.Sides.{both};
-ghost use Rattle.ptmerge.specs.Stores.{Adds};
-ghost use Rattle.ptmerge.specs.declared.order.Side.{Side as Of};
+ghost use Rattle.ptlines.specs.Slots.{AddedSlots};
+ghost use Rattle.ptmerge.specs.declared.key_order.Side.{Side as SideType};
 
 use crate::faults::MergeFault;
-use crate::merging::slots::clear_four;
+use crate::key_order::Side::{First, Second};
+use crate::key_order::{Descending, KeyOrder, Side, WholeLine};
+use crate::merging::four_slots::clear_four_slots;
 use crate::merging::{Merge, Step};
-use crate::order::Side::{First, Second};
-use crate::order::{Descending, KeyOrder, Side, WholeLine};
 use ptlangs::jobs::CommJob;
 use ptlines::{LineReader, Out, Sink, Source, Store, WriteFault};
 use std::alloc::Allocator;
 
-// A tab for each of two columns that is shown.
-fn lead(hide1: bool, hide2: bool) -> &'static [u8]
-    ensures { result.now ≡ tab_unless hide1 ++ tab_unless hide2 }
+// Returns a tab for each of the first two columns that is shown.
+fn tabs(hide1: bool, hide2: bool) -> &'static [u8]
+    ensures { result.now ≡ tab_if_shown hide1 ++ tab_if_shown hide2 }
 {
     match (hide1, hide2) {
         (true, true) => b"",
@@ -33,52 +33,52 @@ fn lead(hide1: bool, hide2: bool) -> &'static [u8]
     }
 }
 
-// Pushes a line of a column after what comes before it, unless the column is left out.
+// Writes `line` after the tabs of its column, unless the column is hidden.
 #[inline(always)]
-#[tactic(auto, using(crate::proofs::OfMerges::Pushes::may_push))]
-fn push_entry<W: Sink>(
+#[tactic(auto, using(crate::proofs::MergeLemmas::Write::push_is_write))]
+fn write_entry<W: Sink>(
     hidden: bool,
-    lead: &[u8],
+    tabs: &[u8],
     line: &[u8],
-    ending: u8,
+    terminator: u8,
     out: &mut Out<W>,
 ) -> Result<(), WriteFault>
-    ensures { MayPush out.old out.new (text ending (entries_in hidden lead.now 1 line.now)) result }
+    ensures { WriteBytesPost out.old out.new (unlines terminator (column_entries hidden tabs.now 1 line.now)) result }
 {
     if hidden {
         return Ok(());
     }
-    out.push_line(lead, line, &[ending])
+    out.push_line(tabs, line, &[terminator])
 }
 
-// Pushes the entry of the line at which an input stands, and goes to its next line.
+// Writes the current line of an input in its column, and advances the input.
 #[inline(always)]
-fn pass<K: KeyOrder, A: Allocator + Copy, S: Source, R: Source, W: Sink>(
+fn write_head<K: KeyOrder, A: Allocator + Copy, S: Source, R: Source, W: Sink>(
     merge: &mut Merge<K>,
     side: Side,
     hidden: bool,
-    lead: &[u8],
-    ending: u8,
+    tabs: &[u8],
+    terminator: u8,
     reader: &mut LineReader<S, R>,
     store: &mut Store<A>,
     out: &mut Out<W>,
 ) -> Result<(), MergeFault>
-    requires stands { let key = K.key_of merge.old.order in
-        StandsAt key side merge.old.first merge.old.second reader.old store.old }
-    requires clean { out.old.faulted ≡ false }
-    ensures wrote { let standing = line store.old (both merge.old.first merge.old.second side).standing in
-        Wrote out.old out.new (text ending (entries_in hidden lead.now 1 standing)) }
-    ensures passes { let key = K.key_of merge.old.order in
-        Passes key (K.order merge.old.order) side merge.old.first merge.old.second merge.new.first merge.new.second
+    requires status_is { let key = K.key_of merge.old.order in
+        AdvancePre key side merge.old.first merge.old.second reader.old store.old }
+    requires clean { out.old.write_failed ≡ false }
+    ensures wrote { let current = line store.old (both merge.old.first merge.old.second side).current_slot in
+        PushEffect out.old out.new (unlines terminator (column_entries hidden tabs.now 1 current)) }
+    ensures advances { let key = K.key_of merge.old.order in
+        WriteThenAdvancePost key (K.order merge.old.order) side merge.old.first merge.old.second merge.new.first merge.new.second
         reader.old reader.new store.old store.new out.new result }
     ensures order { merge.new.order ≡ merge.old.order }
 {
-    push_entry(hidden, lead, merge.head(side, store), ending, out)?;
-    merge.go_on(side, reader, store, out)
+    write_entry(hidden, tabs, merge.head(side, store), terminator, out)?;
+    merge.write_out_and_advance(side, reader, store, out)
 }
 
-// `comm` in an order whose keys are the lines, over readers whose ending is set.
-fn comm_in_order<K: KeyOrder, A: Allocator + Copy, S: Source, R: Source, W: Sink>(
+// Runs `comm` in an order of whole lines. The terminator of both readers is already set.
+fn comm_with_order<K: KeyOrder, A: Allocator + Copy, S: Source, R: Source, W: Sink>(
     order: K,
     job: &CommJob,
     first: &mut LineReader<S, R>,
@@ -86,53 +86,60 @@ fn comm_in_order<K: KeyOrder, A: Allocator + Copy, S: Source, R: Source, W: Sink
     store: &mut Store<A>,
     out: &mut Out<W>,
 ) -> Result<(), MergeFault>
-    requires whole { (side : Of) (line : List ℕ) → K.key_of order side line ≡ line }
-    requires begins { CanBegin (comm_job job.now).end first.old second.old out.old store.old }
-    ensures merged { let tool = comm_by (comm_job job.now) (K.order order) (K.key_of order) in
-        let was = seen first.old second.old out.old store.old in
-        IsMerge tool was (seen first.new second.new out.new store.new) result }
-    ensures refused { let was = seen first.old second.old out.old store.old in
-        length store.new.lines < 4 → IsUnread was (seen first.new second.new out.new store.new) }
-    ensures slots { Adds store.old store.new 4 }
+    requires whole_line_keys { (side : SideType) (line : List ℕ) → K.key_of order side line ≡ line }
+    requires begins { MergeRunPre (comm_job job.now).terminator first.old second.old out.old store.old }
+    ensures merged { let tool = comm_with (comm_job job.now) (K.order order) (K.key_of order) in
+        let was = merge_state first.old second.old out.old store.old in
+        MergePost tool was (merge_state first.new second.new out.new store.new) result }
+    ensures unread_without_slots { let was = merge_state first.old second.old out.old store.old in
+        length store.new.lines < 4 → IsMergeUnread was (merge_state first.new second.new out.new store.new) }
+    ensures slots { AddedSlots store.old store.new 4 }
 {
-    let ending = first.ending();
+    let terminator = first.terminator();
     let [hide1, hide2, hide3] = job.hide;
-    let lead2 = lead(hide1, true);
-    let lead3 = lead(hide1, hide2);
+    let tabs2 = tabs(hide1, true);
+    let tabs3 = tabs(hide1, hide2);
     let mut merge = Merge::start(order, first, second, store)?;
     'steps: loop {
         match merge.step(store) {
-            Step::First => pass(&mut merge, First, hide1, b"", ending, first, store, out)?,
-            Step::Second => pass(&mut merge, Second, hide2, lead2, ending, second, store, out)?,
+            Step::First => write_head(
+                &mut merge, First, hide1, b"", terminator, first, store, out,
+            )?,
+            Step::Second => write_head(
+                &mut merge, Second, hide2, tabs2, terminator, second, store, out,
+            )?,
             Step::Both => {
-                pass(&mut merge, First, hide3, lead3, ending, first, store, out)?;
-                merge.go_on(Second, second, store, out)?;
+                write_head(
+                    &mut merge, First, hide3, tabs3, terminator, first, store, out,
+                )?;
+                merge.write_out_and_advance(Second, second, store, out)?;
             }
             Step::End => {
-                clear_four(store);
+                clear_four_slots(store);
                 return Ok(());
             }
             Step::Stop(side, number) => {
-                clear_four(store);
+                clear_four_slots(store);
                 return Err(MergeFault::Disorder(side, number));
             }
         }
     }
 }
 
-/// Writes the lines of two inputs in order, each after the tabs of its column: those of the first input alone, those
-/// of the second alone, and those of both (XCU, `comm`). A line that both have is written as often as the one that has
-/// it fewer times, and then as often as the other one has it more (this project's own choice). With `-r` the order is
-/// the reverse of byte order, and with `-z` lines end with byte 0 (its own options).
+/// Writes the lines of two sorted inputs in three columns: lines only in the first input, lines only in the second, and
+/// lines in both (POSIX.1-2017, XCU, `comm`). A line that one input has more often than the other is written as common
+/// as often as both have it, and then in the column of the input that has it more often; POSIX leaves this unspecified.
+/// As extensions, `-r` reverses the byte order, and with `-z` lines end with byte 0.
 ///
-/// The slots 0 to 3 of the store are used. Those that are missing are added, and after `Ok` and `Disorder` all four are
-/// empty. Where one of them is lacking in the end, since it was refused, nothing was read or pushed. On an output that
-/// has failed nothing is done. Neither input is read more than two blocks ahead of what is pushed, or after a disorder,
-/// whatever came of the other. Only tested: what was pushed is sent before a read that may have to wait.
+/// The slots 0 to 3 of the store are used, and added if they are missing. After `Ok` and `Disorder` they are empty. If
+/// one of them could not be added, nothing is read or written. If the output has failed before, the call does nothing.
+/// Reading is never more than two blocks of either input ahead of the output, or past a disorder, regardless of the
+/// content of the other input. Tests check, but no clause states, that buffered output is written out before a read
+/// that may block.
 /// # Errors
-/// `Read`, with the input, or `Write` where a read or a write failed; `Memory` where a growth of the store was refused,
-/// and the store is then denied; `Disorder`, with the input and the line, where an input is out of order: then all
-/// entries up to the last line before it are pushed (this project's own choice).
+/// `Read`, with the input, if a read failed; `Write` if a write failed; `Memory` if the store could not grow, and
+/// `Store::denied` is then true; `Disorder`, with the input and the line, if an input is not sorted: all lines up to
+/// the last one in order are then written (POSIX leaves this unspecified).
 pub fn comm<A: Allocator + Copy, S: Source, R: Source, W: Sink>(
     job: &CommJob,
     first: &mut LineReader<S, R>,
@@ -140,15 +147,15 @@ pub fn comm<A: Allocator + Copy, S: Source, R: Source, W: Sink>(
     store: &mut Store<A>,
     out: &mut Out<W>,
 ) -> Result<(), MergeFault>
-    requires { IsReady first.old second.old store.old }
-    ensures merged { let was = seen first.old second.old out.old store.old in
-        IsMerge (comm_tool (comm_job job.now)) was (seen first.new second.new out.new store.new) result }
-    ensures slots { out.old.faulted ≡ false → Adds store.old store.new 4 }
-    ensures refused { let was = ended_by (comm_job job.now).end (seen first.old second.old out.old store.old) in
-        out.old.faulted ≡ false → length store.new.lines < 4 →
-        IsUnread was (seen first.new second.new out.new store.new) }
-    ensures halted { let was = seen first.old second.old out.old store.old in
-        out.old.faulted ≡ true → Untouched was (seen first.new second.new out.new store.new) result }
+    requires { MergePre first.old second.old store.old }
+    ensures merged { let was = merge_state first.old second.old out.old store.old in
+        MergePost (comm_tool (comm_job job.now)) was (merge_state first.new second.new out.new store.new) result }
+    ensures slots { out.old.write_failed ≡ false → AddedSlots store.old store.new 4 }
+    ensures unread_without_slots { let was = with_terminator (comm_job job.now).terminator (merge_state first.old second.old out.old store.old) in
+        out.old.write_failed ≡ false → length store.new.lines < 4 →
+        IsMergeUnread was (merge_state first.new second.new out.new store.new) }
+    ensures unchanged_if_failed { let was = merge_state first.old second.old out.old store.old in
+        out.old.write_failed ≡ true → IsMergeUntouched was (merge_state first.new second.new out.new store.new) result }
 {
     if out.has_failed() {
         return Err(MergeFault::Write);
@@ -156,7 +163,7 @@ pub fn comm<A: Allocator + Copy, S: Source, R: Source, W: Sink>(
     first.set_ending(job.zero);
     second.set_ending(job.zero);
     if job.descending {
-        return comm_in_order(Descending { of: WholeLine }, job, first, second, store, out);
+        return comm_with_order(Descending { of: WholeLine }, job, first, second, store, out);
     }
-    comm_in_order(WholeLine, job, first, second, store, out)
+    comm_with_order(WholeLine, job, first, second, store, out)
 }

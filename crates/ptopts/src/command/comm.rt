@@ -1,23 +1,24 @@
-//! The command of `comm`.
+//! Makes the command of `comm`, which is its job and its inputs, from parsed options and operands. `command` calls
+//! `comm_command`.
 
 ghost use Rattle.std.specs.Prelude.{◌≡◌};
 ghost use Rattle.ptlangs.specs.Jobs as jobs;
 ghost use Rattle.ptopts.specs.declared.tool.Tool.TheVariants.{Comm};
 ghost use Rattle.ptopts.specs.Commands as commands;
-ghost use Rattle.ptopts.specs.Commands.{judged};
-ghost use Rattle.ptopts.specs.Meant.{words_seen, IsMeant};
-ghost use Rattle.ptopts.specs.Steps.{options_seen};
+ghost use Rattle.ptopts.specs.Commands.{checked_command};
+ghost use Rattle.ptopts.specs.View.{words_view, CommandPost};
+ghost use Rattle.ptopts.specs.ParseSteps.{options_view};
 
 use crate::command::{Command, read_inputs};
 use crate::fault::UseFault;
-use crate::reading::{GivenOption, has_letter};
+use crate::parsing::{ParsedOption, has_letter};
 use crate::tool::Tool;
 use ptlangs::jobs::CommJob;
 use std::alloc::Allocator;
 
 /// The job of `comm`.
-fn comm_job(options: &[GivenOption]) -> CommJob
-    ensures { jobs.comm_job result ≡ commands.comm_job (options_seen options.now) }
+fn comm_job(options: &[ParsedOption]) -> CommJob
+    ensures { jobs.comm_job result ≡ commands.comm_from_options (options_view options.now) }
 {
     CommJob {
         hide: [
@@ -33,10 +34,10 @@ fn comm_job(options: &[GivenOption]) -> CommJob
 /// The command of `comm`.
 pub(crate) fn comm_command<'a, A: Allocator + Copy>(
     alloc: A,
-    options: &[GivenOption<'a>],
+    options: &[ParsedOption<'a>],
     operands: &[&'a str],
 ) -> Result<Command<'a, A>, UseFault<'a>>
-    ensures { IsMeant result (judged Comm (options_seen options.now) (words_seen operands.now)) }
+    ensures { CommandPost result (checked_command Comm (options_view options.now) (words_view operands.now)) }
 {
     let job = comm_job(options);
     let inputs = read_inputs(alloc, Tool::Comm, options, operands)?;

@@ -1,34 +1,35 @@
-//! The command of `join`.
+//! Makes the command of `join`, which is its job and its inputs, from parsed options and operands. `command` calls
+//! `join_command`.
 
 ghost use Rattle.std.specs.Prelude.{◌≡◌, None, IfOk, slice_index_or, false, unwrap_or, codes, option_map, []};
 ghost use Rattle.std.specs.Str.{byte};
 ghost use Rattle.ptlangs.specs.Jobs as jobs;
 ghost use Rattle.ptopts.specs.declared.tool.Tool.TheVariants.{Join};
-ghost use Rattle.ptopts.specs.Words.{value_of};
+ghost use Rattle.ptopts.specs.Args.{value_of};
 ghost use Rattle.ptopts.specs.Faults.{value_fault, each_value_fault, values_fault};
 ghost use Rattle.ptopts.specs.Faults.{is_file_number, is_field_number, is_output_list};
 ghost use Rattle.ptopts.specs.Commands as commands;
-ghost use Rattle.ptopts.specs.Commands.{names_file, number_given, fields_of, judged};
-ghost use Rattle.ptopts.specs.Meant.{words_seen, IsMeant};
-ghost use Rattle.ptopts.specs.Steps.{Finds, FindsBeforeMemory, FindsUnlessRefused, options_seen};
+ghost use Rattle.ptopts.specs.Commands.{names_file, number_value, fields_of, checked_command};
+ghost use Rattle.ptopts.specs.View.{words_view, CommandPost};
+ghost use Rattle.ptopts.specs.ParseSteps.{CheckPost, CheckThenMemoryPost, CheckOrMemoryPost, options_view};
 
 use crate::command::{Command, read_inputs};
 use crate::fault::UseFault;
-use crate::reading::{GivenOption, has_letter};
+use crate::parsing::{ParsedOption, has_letter};
 use crate::tool::Tool;
-use crate::values::{delimiter, list_refused, value};
+use crate::values::{delimiter, list_fault, value};
 use ptlangs::jobs::JoinJob;
 use ptlangs::numbers;
 use ptlangs::outlist::{OutFault, OutList};
 use std::alloc::{AllocError, Allocator};
 
-/// For each of the two files, whether some value of the letter names it.
-fn files_named<'a>(options: &[GivenOption<'a>], letter: u8) -> Result<[bool; 2], UseFault<'a>>
-    ensures fault { Finds result (each_value_fault (options_seen options.now) (letter, is_file_number)) }
+/// For each of the two files, whether a value of this option names it.
+fn selected_files<'a>(options: &[ParsedOption<'a>], letter: u8) -> Result<[bool; 2], UseFault<'a>>
+    ensures fault { CheckPost result (each_value_fault (options_view options.now) (letter, is_file_number)) }
     ensures first { IfOk result
-        (λ named. slice_index_or named 0 false ≡ names_file (codes "1") letter (options_seen options.now)) }
+        (λ named. slice_index_or named 0 false ≡ names_file (codes "1") letter (options_view options.now)) }
     ensures second { IfOk result
-        (λ named. slice_index_or named 1 false ≡ names_file (codes "2") letter (options_seen options.now)) }
+        (λ named. slice_index_or named 1 false ≡ names_file (codes "2") letter (options_view options.now)) }
 {
     let mut first = false;
     let mut second = false;
@@ -47,9 +48,9 @@ fn files_named<'a>(options: &[GivenOption<'a>], letter: u8) -> Result<[bool; 2],
 }
 
 /// The number of a join field, counted from 1. The default is 1.
-fn field_number<'a>(options: &[GivenOption<'a>], letter: u8) -> Result<u64, UseFault<'a>>
-    ensures fault { Finds result (value_fault (options_seen options.now) (letter, is_field_number)) }
-    ensures number { IfOk result (λ n. n ≡ unwrap_or (number_given letter (options_seen options.now)) 1) }
+fn field_number<'a>(options: &[ParsedOption<'a>], letter: u8) -> Result<u64, UseFault<'a>>
+    ensures fault { CheckPost result (value_fault (options_view options.now) (letter, is_field_number)) }
+    ensures number { IfOk result (λ n. n ≡ unwrap_or (number_value letter (options_view options.now)) 1) }
 {
     let Some(text) = value(options, letter) else {
         return Ok(1);
@@ -60,29 +61,29 @@ fn field_number<'a>(options: &[GivenOption<'a>], letter: u8) -> Result<u64, UseF
     }
 }
 
-/// The output list, if one is given.
+/// The output list, if there is one.
 fn output_list<'a, A: Allocator + Copy>(
     alloc: A,
-    options: &[GivenOption<'a>],
+    options: &[ParsedOption<'a>],
 ) -> Result<Option<OutList<A>>, UseFault<'a>>
-    ensures fault { FindsBeforeMemory result (value_fault (options_seen options.now) (byte "o", is_output_list)) }
-    ensures list { IfOk result (λ l. l ≡ option_map fields_of (value_of (byte "o") (options_seen options.now))) }
+    ensures fault { CheckThenMemoryPost result (value_fault (options_view options.now) (byte "o", is_output_list)) }
+    ensures list { IfOk result (λ l. l ≡ option_map fields_of (value_of (byte "o") (options_view options.now))) }
 {
     let Some(text) = value(options, b'o') else {
         return Ok(None);
     };
     match OutList::read(alloc, text.as_bytes()) {
         Ok(list) => Ok(Some(list)),
-        Err(fault) => Err(list_refused(b'o', text, fault == OutFault::Memory)),
+        Err(fault) => Err(list_fault(b'o', text, fault == OutFault::Memory)),
     }
 }
 
-/// What stands for an empty field. The default is nothing.
+/// The text for empty fields. The default is the empty string.
 fn empty_field<A: Allocator + Copy>(
     alloc: A,
-    options: &[GivenOption],
+    options: &[ParsedOption],
 ) -> Result<Vec<u8, A>, AllocError>
-    ensures { IfOk result (λ v. v.items ≡ unwrap_or (value_of (byte "e") (options_seen options.now)) []) }
+    ensures { IfOk result (λ v. v.items ≡ unwrap_or (value_of (byte "e") (options_view options.now)) []) }
 {
     match value(options, b'e') {
         None => Ok(Vec::new(alloc)),
@@ -93,15 +94,15 @@ fn empty_field<A: Allocator + Copy>(
 /// The job of `join`.
 fn join_job<'a, A: Allocator + Copy>(
     alloc: A,
-    options: &[GivenOption<'a>],
+    options: &[ParsedOption<'a>],
 ) -> Result<JoinJob<A>, UseFault<'a>>
-    ensures fault { FindsUnlessRefused result (values_fault Join (options_seen options.now)) }
+    ensures fault { CheckOrMemoryPost result (values_fault Join (options_view options.now)) }
     ensures memory { result ≡ Err UseFault.Memory
-        → value_fault (options_seen options.now) (byte "o", is_output_list) ≡ None }
-    ensures job { IfOk result (λ j. jobs.join_job j ≡ commands.join_job (options_seen options.now)) }
+        → value_fault (options_view options.now) (byte "o", is_output_list) ≡ None }
+    ensures job { IfOk result (λ j. jobs.join_job j ≡ commands.join_from_options (options_view options.now)) }
 {
-    let [also1, also2] = files_named(options, b'a')?;
-    let [only1, only2] = files_named(options, b'v')?;
+    let [also1, also2] = selected_files(options, b'a')?;
+    let [only1, only2] = selected_files(options, b'v')?;
     let list = output_list(alloc, options)?;
     let sep = delimiter(options, b't')?;
     let field1 = field_number(options, b'1')?;
@@ -121,10 +122,10 @@ fn join_job<'a, A: Allocator + Copy>(
 /// The command of `join`.
 pub(crate) fn join_command<'a, A: Allocator + Copy>(
     alloc: A,
-    options: &[GivenOption<'a>],
+    options: &[ParsedOption<'a>],
     operands: &[&'a str],
 ) -> Result<Command<'a, A>, UseFault<'a>>
-    ensures { IsMeant result (judged Join (options_seen options.now) (words_seen operands.now)) }
+    ensures { CommandPost result (checked_command Join (options_view options.now) (words_view operands.now)) }
 {
     let job = join_job(alloc, options)?;
     let inputs = read_inputs(alloc, Tool::Join, options, operands)?;

@@ -1,24 +1,24 @@
-//! The command of `tr`.
+//! Makes the command of `tr`, which is its job and its inputs, from parsed options and operands. `command` calls
+//! `tr_command`.
 
 ghost use Rattle.std.specs.Prelude.{◌≡◌, IfOk, None, slice_get, option_copied};
 ghost use Rattle.ptopts.specs.declared.tool.Tool.TheVariants.{Tr};
 ghost use Rattle.ptopts.specs.Faults as faults;
-ghost use Rattle.ptopts.specs.Faults.{form_given, operands_fault, strings_fault};
-ghost use Rattle.ptopts.specs.Commands.{char_tables, judged};
-ghost use Rattle.ptopts.specs.Meant.{words_seen, IsMeant};
-ghost use Rattle.ptopts.specs.Steps.{Finds, options_seen};
+ghost use Rattle.ptopts.specs.Faults.{form_of_options, operands_fault, strings_fault};
+ghost use Rattle.ptopts.specs.Commands.{char_tables, checked_command};
+ghost use Rattle.ptopts.specs.View.{words_view, CommandPost};
+ghost use Rattle.ptopts.specs.ParseSteps.{CheckPost, options_view};
 
 use crate::command::{Command, read_inputs};
 use crate::fault::UseFault;
-use crate::reading::{GivenOption, has_letter};
+use crate::parsing::{ParsedOption, has_letter};
 use crate::tool::Tool;
 use ptlangs::{CharPlan, Form};
 use std::alloc::Allocator;
 
-/// What `tr` is asked to do, by its options and the number of its strings (POSIX.1-2017, XCU, `tr`, the
-/// synopsis).
-fn form(options: &[GivenOption], strings: &[&str]) -> Form
-    ensures { result ≡ form_given (options_seen options.now) (words_seen strings.now) }
+/// The form of `tr`, from its options and the number of its strings (POSIX.1-2017, XCU, `tr`, the synopsis).
+fn form(options: &[ParsedOption], strings: &[&str]) -> Form
+    ensures { result ≡ form_of_options (options_view options.now) (words_view strings.now) }
 {
     match (has_letter(options, b'd'), has_letter(options, b's')) {
         (false, false) => Form::Translate,
@@ -29,16 +29,16 @@ fn form(options: &[GivenOption], strings: &[&str]) -> Form
     }
 }
 
-/// Whether the first string stands for the bytes that are not in it.
-fn is_complemented(options: &[GivenOption]) -> bool
-    ensures { result ≡ faults.is_complemented (options_seen options.now) }
+/// Whether the first string is complemented.
+fn is_complemented(options: &[ParsedOption]) -> bool
+    ensures { result ≡ faults.is_complemented (options_view options.now) }
 {
     has_letter(options, b'c') || has_letter(options, b'C')
 }
 
 /// The second string, if there is one.
 fn second<'a>(strings: &[&'a str]) -> Option<&'a [u8]>
-    ensures { option_copied result ≡ slice_get (words_seen strings.now) 1 }
+    ensures { option_copied result ≡ slice_get (words_view strings.now) 1 }
 {
     match strings {
         [_, second, ..] => Some(second.as_bytes()),
@@ -46,11 +46,14 @@ fn second<'a>(strings: &[&'a str]) -> Option<&'a [u8]>
     }
 }
 
-/// What `tr` does to each byte.
-fn char_plan<'a>(options: &[GivenOption<'a>], strings: &[&'a str]) -> Result<CharPlan, UseFault<'a>>
-    requires { operands_fault Tr (options_seen options.now) (words_seen strings.now) ≡ None }
-    ensures fault { Finds result (strings_fault Tr (options_seen options.now) (words_seen strings.now)) }
-    ensures plan { IfOk result (λ p. p ≡ char_tables (options_seen options.now) (words_seen strings.now)) }
+/// The plan for each byte.
+fn char_plan<'a>(
+    options: &[ParsedOption<'a>],
+    strings: &[&'a str],
+) -> Result<CharPlan, UseFault<'a>>
+    requires { operands_fault Tr (options_view options.now) (words_view strings.now) ≡ None }
+    ensures fault { CheckPost result (strings_fault Tr (options_view options.now) (words_view strings.now)) }
+    ensures plan { IfOk result (λ p. p ≡ char_tables (options_view options.now) (words_view strings.now)) }
 {
     let plan = CharPlan::read(
         form(options, strings),
@@ -64,10 +67,10 @@ fn char_plan<'a>(options: &[GivenOption<'a>], strings: &[&'a str]) -> Result<Cha
 /// The command of `tr`.
 pub(crate) fn tr_command<'a, A: Allocator + Copy>(
     alloc: A,
-    options: &[GivenOption<'a>],
+    options: &[ParsedOption<'a>],
     operands: &[&'a str],
 ) -> Result<Command<'a, A>, UseFault<'a>>
-    ensures { IsMeant result (judged Tr (options_seen options.now) (words_seen operands.now)) }
+    ensures { CommandPost result (checked_command Tr (options_view options.now) (words_view operands.now)) }
 {
     let inputs = read_inputs(alloc, Tool::Tr, options, operands)?;
     Ok(Command::Tr(char_plan(options, operands)?, inputs))

@@ -1,35 +1,37 @@
-//! `paste -s`.
+//! `paste -s`: the engine that writes all lines of one input in one row, block by block; and copying of fields and
+//! delimiters, which `paste` uses too.
 
 ghost use Rattle.std.specs.Prelude.{◌≡◌, ◌<◌, ◌≤◌, ◌+◌, ◌^◌, ◌++◌, ◌∷◌, [], true, false, OnOk, OnErr, IfOk, IfSome, length, take};
-ghost use Rattle.ptlines.specs.Outputs.{Wrote, Pushes};
+ghost use Rattle.ptlines.specs.Outputs.{PushEffect, PushPost};
 ghost use Rattle.ptlangs.specs.Jobs.{paste_job};
-ghost use Rattle.ptflow.specs.Passes.{IsReady, IsPass};
-ghost use Rattle.ptflow.specs.Pastes.{delimiter, serial_tool};
-ghost use Rattle.ptflow.specs.Workings.Passes.Blocks.{HasRoom};
-ghost use Rattle.ptflow.specs.Workings.Paste.SerialRests.{begun, lead, Puts, PutsBlock, IsAlways};
+ghost use Rattle.ptflow.specs.Passes.{PassPre, PassPost};
+ghost use Rattle.ptflow.specs.PasteText.{delimiter, paste_serial_tool};
+ghost use Rattle.ptflow.specs.Private.Passes.BlockLoop.{HasRoom};
+ghost use Rattle.ptflow.specs.Private.Paste.SerialRest.{next_position, leading_delimiter, CopyCellsPost, CopyBlockPost, IsOnlyDelimiter};
 
-use crate::blocks::{BlockTool, over_blocks};
+use crate::block_loop::{BlockFilter, run_blocks};
 use crate::faults::FlowFault;
-use crate::kernels::replacing::{EndsTo, replace_ends, replace_in_turn};
+use crate::simd::replace::{ReplaceTerminator, replace_cyclic, replace_terminators};
 use ptlangs::delims::Delims;
 use ptlangs::jobs::PasteJob;
-use ptlines::{LineReader, Out, Sink, Source, Store, WriteFault, copy_near, find_near};
+use ptlines::{LineReader, Out, Sink, Source, Store, WriteFault, copy_short, find_byte};
 use std::alloc::Allocator;
 
-/// A cell of a row: its number, and whether it has ended, so that a delimiter comes before what follows.
+/// A position in a row: the number of the column, and whether its line is complete, so that a delimiter precedes the
+/// next byte.
 #[derive(Clone, Copy)]
-pub(crate) struct Cell {
+pub(crate) struct ColumnPos {
     pub number: u64,
-    pub ended: bool,
+    pub complete: bool,
 }
 
-// Pushes what follows the cell of this number.
-fn push_delimiter<A: Allocator, W: Sink>(
+// Writes the delimiter after column `number`.
+fn write_delimiter<A: Allocator, W: Sink>(
     delims: &Delims<A>,
     number: u64,
     out: &mut Out<W>,
 ) -> Result<(), WriteFault>
-    ensures { Pushes out.old out.new (delimiter delims.now number) result }
+    ensures { PushPost out.old out.new (delimiter delims.now number) result }
 {
     match delims.at(number) {
         Some(byte) => out.push(&[byte]),
@@ -37,43 +39,43 @@ fn push_delimiter<A: Allocator, W: Sink>(
     }
 }
 
-// Goes to the cell to which the next byte belongs.
-pub(crate) fn begin_cell<A: Allocator, W: Sink>(
+// Moves to the column of the next byte: writes the delimiter if the line of the current column is complete.
+pub(crate) fn start_cell<A: Allocator, W: Sink>(
     delims: &Delims<A>,
-    cell: Cell,
+    cell: ColumnPos,
     out: &mut Out<W>,
-) -> Result<Cell, WriteFault>
+) -> Result<ColumnPos, WriteFault>
     requires short { cell.number < 2 ^ 63 }
-    ensures begun { IfOk result (λ after. after ≡ begun cell) }
-    ensures wrote { Wrote out.old out.new (lead delims.now cell) }
-    ensures clean { OnOk result (out.new.faulted ≡ false) }
-    ensures fault { OnErr result (out.new.faulted ≡ true) }
+    ensures next_position { IfOk result (λ after. after ≡ next_position cell) }
+    ensures wrote { PushEffect out.old out.new (leading_delimiter delims.now cell) }
+    ensures clean { OnOk result (out.new.write_failed ≡ false) }
+    ensures fault { OnErr result (out.new.write_failed ≡ true) }
 {
-    if !cell.ended {
+    if !cell.complete {
         out.push(b"")?;
         return Ok(cell);
     }
-    push_delimiter(delims, cell.number, out)?;
-    Ok(Cell {
+    write_delimiter(delims, cell.number, out)?;
+    Ok(ColumnPos {
         number: cell.number + 1,
-        ended: false,
+        complete: false,
     })
 }
 
-// What is written for a block, and room for what a copy changes after it.
-pub(crate) type Written = [u8; 8208];
+// The output of one block, and 16 bytes more that a copy may overwrite.
+pub(crate) type OutBuf = [u8; 8208];
 
-// Puts what follows the cell of this number, and says where that ends.
+// Copies the delimiter after column `number` to `at`. Returns the offset after it.
 #[inline(always)]
-fn put_delimiter<A: Allocator>(
+fn copy_delimiter<A: Allocator>(
     delims: &Delims<A>,
     number: u64,
-    into: &mut Written,
+    into: &mut OutBuf,
     at: usize,
 ) -> usize
     requires room { at < 8192 }
-    ensures put { take result into.new ≡ take at into.old ++ delimiter delims.now number }
-    ensures near { result ≤ at + 1 }
+    ensures copied { take result into.new ≡ take at into.old ++ delimiter delims.now number }
+    ensures size_bound { result ≤ at + 1 }
 {
     match delims.at(number) {
         Some(byte) => {
@@ -84,9 +86,9 @@ fn put_delimiter<A: Allocator>(
     }
 }
 
-// The delimiter that follows every cell, if the list has no other.
-fn always_of<A: Allocator>(delims: &Delims<A>) -> Option<u8>
-    ensures { IfSome result (λ delim. IsAlways delims.now delim) }
+// The delimiter of a list that has only one element; `None` if it has more, or if the element is empty.
+fn only_delimiter<A: Allocator>(delims: &Delims<A>) -> Option<u8>
+    ensures { IfSome result (λ delim. IsOnlyDelimiter delims.now delim) }
 {
     if delims.count() == 1 {
         return delims.at(0);
@@ -94,154 +96,161 @@ fn always_of<A: Allocator>(delims: &Delims<A>) -> Option<u8>
     None
 }
 
-// Copies bytes that come in the cell of this number, and in place of each end of a line the delimiter after its cell.
-// The answer is where that ends, and the number of the cell in which more comes.
-fn put_pieces<A: Allocator>(
+// Copies bytes that begin in column `number`, with each terminator replaced by the delimiter after its column. Returns
+// the offset after the copy, and the column of the byte that follows.
+fn copy_cells_slow<A: Allocator>(
     delims: &Delims<A>,
-    ending: u8,
+    terminator: u8,
     number: u64,
     bytes: &[u8],
-    into: &mut Written,
+    into: &mut OutBuf,
 ) -> (usize, u64)
     requires { HasRoom number 0 (length bytes.now) }
-    ensures puts { Puts ending delims.now number bytes.now result.1 [] (take result.0 into.new) }
-    ensures near { result.0 ≤ length bytes.now }
+    ensures copied_as { CopyCellsPost terminator delims.now number bytes.now result.1 [] (take result.0 into.new) }
+    ensures size_bound { result.0 ≤ length bytes.now }
     ensures bound { result.1 ≤ number + length bytes.now }
 {
     let mut number = number;
     let mut rest = bytes;
     let mut at = 0;
-    'pieces: while let Some(count) = find_near(ending, rest) {
-        copy_near(rest, 0, count, into, at);
-        at = put_delimiter(delims, number, into, at + count);
+    'pieces: while let Some(count) = find_byte(terminator, rest) {
+        copy_short(rest, 0, count, into, at);
+        at = copy_delimiter(delims, number, into, at + count);
         number += 1;
         rest = &rest[count + 1..];
     }
-    copy_near(rest, 0, rest.len(), into, at);
+    copy_short(rest, 0, rest.len(), into, at);
     (at + rest.len(), number)
 }
 
-// The same, many bytes at a time where every delimiter is a byte, so that what is written is as long as what came.
+// Like `copy_cells_slow`, but many bytes at a time if no delimiter is empty, so that the output is as long as the
+// input.
 #[inline(always)]
-fn put_cells<A: Allocator>(
+fn copy_cells<A: Allocator>(
     delims: &Delims<A>,
-    ending: u8,
+    terminator: u8,
     number: u64,
     bytes: &[u8],
-    into: &mut Written,
+    into: &mut OutBuf,
 ) -> (usize, u64)
     requires { HasRoom number 0 (length bytes.now) }
-    ensures puts { Puts ending delims.now number bytes.now result.1 [] (take result.0 into.new) }
-    ensures near { result.0 ≤ length bytes.now }
+    ensures copied_as { CopyCellsPost terminator delims.now number bytes.now result.1 [] (take result.0 into.new) }
+    ensures size_bound { result.0 ≤ length bytes.now }
     ensures bound { result.1 ≤ number + length bytes.now }
 {
     let count = bytes.len();
     let list = delims.as_slice();
-    if let Some(delim) = always_of(delims) {
-        replace_ends(EndsTo { ending, delim }, bytes, &mut into[..count]);
+    if let Some(delim) = only_delimiter(delims) {
+        replace_terminators(
+            ReplaceTerminator { terminator, delim },
+            bytes,
+            &mut into[..count],
+        );
         return (count, number);
     }
     if list.contains(&None) {
-        return put_pieces(delims, ending, number, bytes, into);
+        return copy_cells_slow(delims, terminator, number, bytes, into);
     }
-    let number = replace_in_turn(list, ending, number, bytes, &mut into[..count]);
+    let number = replace_cyclic(list, terminator, number, bytes, &mut into[..count]);
     (count, number)
 }
 
-// Copies what is written for a block that comes in the cell of this number: these bytes, and then its last one. No
-// delimiter is written after the last cell before more comes. The answer is where that ends, and the cell in which the
-// next block comes.
-fn put_block<A: Allocator>(
+// Copies a block that begins in column `number`, given as `bytes` and a last byte. If the block ends with a terminator,
+// the delimiter for it is not written yet, as the line may be the last one. Returns the offset after the copy, and the
+// position at which the next block begins.
+fn copy_block<A: Allocator>(
     delims: &Delims<A>,
-    ending: u8,
+    terminator: u8,
     number: u64,
     bytes: &[u8],
     last: u8,
-    into: &mut Written,
-) -> (usize, Cell)
+    into: &mut OutBuf,
+) -> (usize, ColumnPos)
     requires { HasRoom number 0 (length bytes.now) }
-    ensures puts { PutsBlock ending delims.now number (bytes.now ++ last ∷ []) result.1 (take result.0 into.new) }
-    ensures near { result.0 ≤ length bytes.now + 1 }
+    ensures copied_as { CopyBlockPost terminator delims.now number (bytes.now ++ last ∷ []) result.1 (take result.0 into.new) }
+    ensures size_bound { result.0 ≤ length bytes.now + 1 }
     ensures bound { result.1.number ≤ number + length bytes.now }
 {
-    let (at, number) = put_cells(delims, ending, number, bytes, into);
-    if last == ending {
+    let (at, number) = copy_cells(delims, terminator, number, bytes, into);
+    if last == terminator {
         return (
             at,
-            Cell {
+            ColumnPos {
                 number,
-                ended: true,
+                complete: true,
             },
         );
     }
     into[at] = last;
     (
         at + 1,
-        Cell {
+        ColumnPos {
             number,
-            ended: false,
+            complete: false,
         },
     )
 }
 
-/// The delimiters, the byte that ends a line, the cell in which the next byte comes, and room for what is written for
-/// a block.
+/// The filter for `run_blocks`: the delimiters, the terminator, the position of the next byte, and a buffer for the
+/// output of a block.
 #[derive(Drop)]
 struct SerialPaste<'a, A: Allocator> {
     delims: &'a Delims<A>,
-    ending: u8,
-    cell: Cell,
-    written: Written,
+    terminator: u8,
+    cell: ColumnPos,
+    buffer: OutBuf,
 }
 
-impl<'a, A: Allocator> BlockTool for SerialPaste<'a, A> {
+impl<'a, A: Allocator> BlockFilter for SerialPaste<'a, A> {
     ghost use Rattle.std.specs.Prelude.{◌≡◌};
-    ghost use Rattle.ptflow.specs.Workings.Paste.SerialRests.{serial_rest};
+    ghost use Rattle.ptflow.specs.Private.Paste.SerialRest.{serial_rest};
 
-    ghost rest = { λ t. serial_rest t.ending t.delims.now t.cell };
+    ghost rest = { λ t. serial_rest t.terminator t.delims.now t.cell };
 
     ghost counted = { λ t. t.cell.number };
 
-    ghost Holds = { λ s t. (t.delims.now ≡ s.delims.now) × (t.ending ≡ s.ending) };
+    ghost IsUnchanged = { λ s t. (t.delims.now ≡ s.delims.now) × (t.terminator ≡ s.terminator) };
 
-    fn push_block<W: Sink>(&mut self, block: &[u8], out: &mut Out<W>) -> Result<(), WriteFault> {
-        let begun = begin_cell(self.delims, self.cell, out)?;
+    fn process_block<W: Sink>(&mut self, block: &[u8], out: &mut Out<W>) -> Result<(), WriteFault> {
+        let next_position = start_cell(self.delims, self.cell, out)?;
         let count = block.len() - 1;
-        let (end, after) = put_block(
+        let (end, after) = copy_block(
             self.delims,
-            self.ending,
-            begun.number,
+            self.terminator,
+            next_position.number,
             &block[..count],
             block[count],
-            &mut self.written,
+            &mut self.buffer,
         );
-        out.push(&self.written[..end])?;
+        out.push(&self.buffer[..end])?;
         self.cell = after;
         Ok(())
     }
 
-    // Ends the row.
-    fn push_end<W: Sink>(&self, out: &mut Out<W>) -> Result<(), WriteFault> {
-        out.push(&[self.ending])
+    // Writes the terminator of the row.
+    fn finish<W: Sink>(&self, out: &mut Out<W>) -> Result<(), WriteFault> {
+        out.push(&[self.terminator])
     }
 }
 
-/// Writes the lines of a reader in one row, with the delimiters of the list between them, the first after the first
-/// line (XCU, `paste`, option `-s`). The row ends with newline, or with byte 0 with `-z` (this project's own choice). A
-/// reader without lines is an empty row (this project's own choice).
+/// Writes all lines of an input in one row, with the delimiters of the list between them (POSIX.1-2017, XCU, `paste`,
+/// option `-s`). The row ends with newline, or with byte 0 with `-z`, an extension of POSIX. An input without lines
+/// gives an empty row.
 ///
-/// No line is kept, and the store stays as it was. What the input so far decides is pushed before 16,384 more bytes are
-/// read. Only tested: it is pushed before the next read. On an output that has faulted nothing is read.
+/// The store is not used. The output that is determined by the input so far is written before 16,384 more bytes are
+/// read. Not proved but tested: it is written before the next read. If the output has failed before the call, nothing
+/// is read.
 /// # Errors
-/// `Read` or `Write` where a read or a write failed.
+/// - `Read` with index 0 if a read failed.
+/// - `Write` if a write failed.
 pub fn paste_serial<A: Allocator + Copy, S: Source, R: Source, W: Sink>(
     job: &PasteJob<A>,
     reader: &mut LineReader<S, R>,
     _store: &mut Store<A>,
     out: &mut Out<W>,
 ) -> Result<(), FlowFault>
-    requires { IsReady reader.old _store.old }
-    ensures { IsPass (serial_tool (paste_job job.now)) reader.old reader.new out.old out.new
+    requires { PassPre reader.old _store.old }
+    ensures { PassPost (paste_serial_tool (paste_job job.now)) reader.old reader.new out.old out.new
         _store.old _store.new result }
 {
     if out.has_failed() {
@@ -250,12 +259,12 @@ pub fn paste_serial<A: Allocator + Copy, S: Source, R: Source, W: Sink>(
     reader.set_ending(job.zero);
     let mut tool = SerialPaste {
         delims: &job.delims,
-        ending: reader.ending(),
-        cell: Cell {
+        terminator: reader.terminator(),
+        cell: ColumnPos {
             number: 0,
-            ended: false,
+            complete: false,
         },
-        written: [0; 8208],
+        buffer: [0; 8208],
     };
-    over_blocks(&mut tool, reader, out)
+    run_blocks(&mut tool, reader, out)
 }

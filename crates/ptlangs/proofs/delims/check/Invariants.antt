@@ -1,9 +1,9 @@
--- What was read has no fault, so the first fault is that of the rest.
+-- The delimiters so far have no fault; so the first fault is that of the rest.
 use Rattle.ptlangs.proofs.Common.{◌≡◌, length, result_err, delim_list}
 use Rattle.ptlangs.proofs.delims.check.Given as goal
 
-abbrev pub invariant-loop-behind : goal.invariant-loop-behind
-invariant-loop-behind l = result_err (delim_list l.text) ≡ result_err (delim_list l.left)
+abbrev pub invariant-loop-rest : goal.invariant-loop-rest
+invariant-loop-rest l = result_err (delim_list l.text) ≡ result_err (delim_list l.left)
 
-abbrev pub decreases-loop-behind : goal.decreases-loop-behind
-decreases-loop-behind l = length l.left
+abbrev pub decreases-loop-rest : goal.decreases-loop-rest
+decreases-loop-rest l = length l.left

@@ -1,5 +1,7 @@
+-- A checked multiplication or addition fails only if the number is too large, which further digits do not change.
+-- Otherwise the loop ends with the value of all digits.
 use Rattle.ptlangs.proofs.Common.{◌≡◌, ◌-◌, ◌∙◌, sym, get_or, arith, digit_value, nat_tests}
-use Rattle.ptlangs.proofs.Elements.{too_large_at, is_its_value, is_empty_by_length, digit_is}
+use Rattle.ptlangs.proofs.ListElements.{too_large_at, is_its_value, is_empty_by_length, digit_is}
 use Rattle.ptlangs.proofs.numbers.decimal.Goals as goal
 
 pub returns-in_err-checked_mul : goal.returns-in_err-checked_mul

@@ -1,5 +1,5 @@
 use Rattle.ptlangs.proofs.Common.{rules, tests, ◌≡◌, ◌∙◌, sym, false, is_ascii_digit, YieldsList-from_slice, all_from_yields_List, is_empty}
-use Rattle.ptlangs.proofs.Elements.{is_empty_by_length}
+use Rattle.ptlangs.proofs.ListElements.{is_empty_by_length}
 use Rattle.ptlangs.proofs.numbers.is_decimal.Goals as goal
 
 pub returns-then-not-is_empty : goal.returns-then-not-is_empty

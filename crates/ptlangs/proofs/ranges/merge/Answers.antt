@@ -1,5 +1,7 @@
+-- The next interval extends the current one if they overlap or are adjacent; otherwise the current one is complete, and
+-- there is a gap before the next. Both keep the selected set.
 use Rattle.ptlangs.proofs.Common.{refl, drop_more, drop_all}
-use Rattle.ptlangs.proofs.CutGrammar.{starts, absorbs, begins, next_positive}
+use Rattle.ptlangs.proofs.CutGrammar.{starts, absorbs, starts_next, next_positive}
 use Rattle.ptlangs.proofs.ranges.merge.Goals as goal
 use Rattle.ptlangs.proofs.ranges.merge.Goals.{then-next-current, else-next-current+in_ok-push}
 
@@ -14,11 +16,11 @@ loop-next-preserved g c =
     let before = rw (drop_more c.in-Some.others.now c.loop-next.next-index (record { first = 0; last = 0 }) c.loop-next-test.true) at c.loop-next.invariant in
     elim c.if-next-current.branch [
       | then-next-current w ↦ rw (w.kept-is, w.current-is) (absorbs _ _ _ _ _ _ refl w.max.ensures w.if-next-current.true before)
-      | else-next-current+in_ok-push w ↦ rw (w.kept-is, w.current-is, w.in_ok-push.ensures.items) (begins _ _ _ _ _ w.if-next-current.false before)
+      | else-next-current+in_ok-push w ↦ rw (w.kept-is, w.current-is, w.in_ok-push.ensures.items) (starts_next _ _ _ _ _ w.if-next-current.false before)
     ]
 
-pub returns-clause-apart : goal.returns-clause-apart
-returns-clause-apart g c = rw c.in_ok-push-2.ensures.items c.loop-next.invariant.apart
+pub returns-clause-separated : goal.returns-clause-separated
+returns-clause-separated g c = rw c.in_ok-push-2.ensures.items c.loop-next.invariant.separated
 
 pub returns-clause-same : goal.returns-clause-same
 returns-clause-same g c =

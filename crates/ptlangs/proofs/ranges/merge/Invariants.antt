@@ -1,4 +1,4 @@
--- What was kept and the interval at hand are what the sorted elements so far choose; the others are still to come.
+-- The merged intervals, the current one and the remaining ones select the same numbers as all sorted intervals.
 use Rattle.std.proofs.Common.{drop}
 use Rattle.ptlangs.proofs.CutGrammar.{Merges}
 use Rattle.ptlangs.proofs.ranges.merge.Given as goal

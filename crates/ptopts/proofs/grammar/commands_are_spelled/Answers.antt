@@ -1,4 +1,4 @@
-use Rattle.ptopts.proofs.Accepted.{meant_as_spelled}
+use Rattle.ptopts.proofs.CommandGrammar.{meant_as_spelled}
 use Rattle.ptopts.proofs.grammar.commands_are_spelled.Goals as goal
 
 pub returns : goal.returns

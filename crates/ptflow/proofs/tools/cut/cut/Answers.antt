@@ -1,9 +1,11 @@
+-- On an output that has failed nothing is done. Setting the terminator does not change the input, so the contract of
+-- each way carries over.
 use Rattle.ptflow.proofs.Common.{cond, sym, ◌∙◌, cut_job, cut_tool}
-use Rattle.ptflow.proofs.OfPasses.PassLemmas.{pass_halted, pass_set, bare_set}
+use Rattle.ptflow.proofs.Passes.Exits.{pass_unchanged, pass_set, storeless_set}
 use Rattle.ptflow.proofs.tools.cut.cut.Goals as goal
 
 pub returns-then-has_failed : goal.returns-then-has_failed
-returns-then-has_failed g c = pass_halted (cut_tool (cut_job c.args.job.now)) _ c.args.out.now _ c.requires (sym c.has_failed.ensures ∙ c.if-has_failed.true)
+returns-then-has_failed g c = pass_unchanged (cut_tool (cut_job c.args.job.now)) _ c.args.out.now _ c.requires (sym c.has_failed.ensures ∙ c.if-has_failed.true)
 
 pub returns-then-job : goal.returns-then-job
 returns-then-job g c =
@@ -12,5 +14,5 @@ returns-then-job g c =
 
 pub returns : goal.returns
 returns g c =
-    bare_set (cut_tool (cut_job c.args.job.now)) (cond c.args.job.now.zero 0 10) _ _ c.cut_by_bytes.new.reader c.args.out.now c.cut_by_bytes.new.out
+    storeless_set (cut_tool (cut_job c.args.job.now)) (cond c.args.job.now.zero 0 10) _ _ c.cut_by_bytes.new.reader c.args.out.now c.cut_by_bytes.new.out
     _ c.set_ending.ensures.set c.cut_by_bytes.result (sym c.has_failed.ensures ∙ c.if-has_failed.false) c.requires c.cut_by_bytes.ensures

@@ -1,24 +1,26 @@
-use Rattle.ptflow.proofs.Common.{◌++◌, None, refl, sym, ◌∙◌, ap, no_slots, tr_tool, tr_rest}
-use Rattle.ptflow.proofs.OfPasses.PassLemmas.{pass_halted, never_memory}
-use Rattle.ptflow.proofs.OfTr.TrRests.{rest_decided}
+-- `tr` is a block tool: without a last byte the output for the rest is that for a text, and all output is decided at
+-- once. The store is never used, so `Memory` is never returned.
+use Rattle.ptflow.proofs.Common.{◌++◌, None, refl, sym, ◌∙◌, ap, no_store, tr_tool, tr_from}
+use Rattle.ptflow.proofs.Passes.Exits.{pass_unchanged, never_memory}
+use Rattle.ptflow.proofs.TrLemmas.TrFrom.{rest_decided}
 use Rattle.ptflow.proofs.tools.tr.tr.Goals as goal
 
 pub returns-then-has_failed-clause-pass : goal.returns-then-has_failed-clause-pass
-returns-then-has_failed-clause-pass g c = λ store ready. pass_halted (tr_tool c.args.plan.now) _ c.args.out.now _ ready (cc)
+returns-then-has_failed-clause-pass g c = λ store ready. pass_unchanged (tr_tool c.args.plan.now) _ c.args.out.now _ ready (cc)
 
 pub returns-clause-pass : goal.returns-clause-pass
 returns-clause-pass g c =
     let t = c.args.plan.now in
     λ store ready.
-    c.over_blocks.ensures (tr_tool t)
+    c.run_blocks.ensures (tr_tool t)
     (record {
-      text = λ bytes. ap (λ p. tr_rest p None bytes) c.new.ensures;
+      text = λ bytes. ap (λ p. tr_from p None bytes) c.new.ensures;
       decided = λ given pushed now holds on. rest_decided t given pushed now.last
-          (λ rest. sym (ap (λ p. tr_rest p None (given ++ rest)) c.new.ensures) ∙ on rest ∙ ap (λ p. pushed ++ tr_rest p now.last rest) (holds ∙ c.new.ensures));
+          (λ rest. sym (ap (λ p. tr_from p None (given ++ rest)) c.new.ensures) ∙ on rest ∙ ap (λ p. pushed ++ tr_from p now.last rest) (holds ∙ c.new.ensures));
       holds = refl;
       slots = refl;
     })
     store ready
 
 pub returns-clause-no_memory : goal.returns-clause-no_memory
-returns-clause-no_memory g c = never_memory refl (returns-clause-pass g c no_slots c.requires)
+returns-clause-no_memory g c = never_memory refl (returns-clause-pass g c no_store c.requires)

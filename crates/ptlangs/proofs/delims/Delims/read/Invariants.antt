@@ -1,10 +1,10 @@
--- What was kept stands in front of what the rest of the list says; so a fault of the rest is that of the whole.
+-- The delimiters so far come before those of the rest; so a fault of the rest is the fault of the list.
 use Rattle.ptlangs.proofs.Common.{◌≡◌, length, delim_list}
-use Rattle.ptlangs.proofs.Elements.{behind}
+use Rattle.ptlangs.proofs.ListElements.{append_ok}
 use Rattle.ptlangs.proofs.delims.Delims.read.Given as goal
 
 abbrev pub invariant-loop-kept : goal.invariant-loop-kept
-invariant-loop-kept g l = delim_list l.text ≡ behind l.kept.items (delim_list l.left)
+invariant-loop-kept g l = delim_list l.text ≡ append_ok l.kept.items (delim_list l.left)
 
 abbrev pub decreases-loop-kept : goal.decreases-loop-kept
 decreases-loop-kept g l = length l.left

@@ -1,11 +1,11 @@
--- What was kept stands in front of what the other elements say; so a fault of theirs is that of the whole list.
-use Rattle.ptlangs.proofs.Common.{◌≡◌, length, elements, each, out_list}
-use Rattle.ptlangs.specs.OutLists.{element}
-use Rattle.ptlangs.proofs.Elements.{behind}
+-- The fields so far come before those of the remaining elements; so a fault of these is the fault of the list.
+use Rattle.ptlangs.proofs.Common.{◌≡◌, length, elements, traverse, out_list}
+use Rattle.ptlangs.specs.OutLists.{element_field}
+use Rattle.ptlangs.proofs.ListElements.{append_ok}
 use Rattle.ptlangs.proofs.outlist.OutList.read.Given as goal
 
 abbrev pub invariant-loop-kept : goal.invariant-loop-kept
-invariant-loop-kept g l = out_list l.text ≡ behind l.kept.items (each element (elements l.left))
+invariant-loop-kept g l = out_list l.text ≡ append_ok l.kept.items (traverse element_field (elements l.left))
 
 abbrev pub decreases-loop-kept : goal.decreases-loop-kept
 decreases-loop-kept g l = length l.left

@@ -1,38 +1,39 @@
+-- Each exit is one of the results of a read: the end of input, the limit of 2^63 bytes, bytes, or a failed read.
 use Rattle.std.proofs.Common.{◌<◌, ◌≤◌, ◌∙◌, sym, arith}
-use Rattle.ptlines.proofs.Refilled.{refill_more, refill_long, refill_end, refill_failed, filled_sound}
+use Rattle.ptlines.proofs.Refill.{refill_more, refill_long, refill_end, refill_failed, filled_sound}
 use Rattle.ptlines.proofs.reader.LineReader.refill.Goals as goal
 
 pub returns-then-count-eq0-clause-refills : goal.returns-then-count-eq0-clause-refills
 returns-then-count-eq0-clause-refills g c =
-    refill_end c.args.self.now _ _ c.pull_front.new.block _ c.self.inside.pulled c.in-Ok.count _ _ c.self.inside.fault c.self.inside.ending c.self.view_is
+    refill_end c.args.self.now _ _ c.read_block.new.block _ c.self.inside.pulled c.in-Ok.count _ _ c.self.inside.fault c.self.inside.terminator c.self.view_is
     c.requires.empty c.in-Ok.ensures.refused c.requires.clean c.requires.going
     c.in-Ok.ensures.pulled c.if-count-eq0.true
 
 pub returns-then-self-clause-refills : goal.returns-then-self-clause-refills
 returns-then-self-clause-refills g c =
     let small : c.in-Ok.count ≤ 8192 = c.in-Ok.ensures.few in
-    refill_long c.args.self.now _ _ c.pull_front.new.block _ c.self.inside.pulled c.in-Ok.count _ _ c.self.inside.fault c.self.inside.ending c.self.view_is
+    refill_long c.args.self.now _ _ c.read_block.new.block _ c.self.inside.pulled c.in-Ok.count _ _ c.self.inside.fault c.self.inside.terminator c.self.view_is
     c.requires.empty c.in-Ok.ensures.refused c.requires.clean c.requires.going
     c.in-Ok.ensures.pulled small (omega arith)
 
 pub returns-else-self-clause-refills : goal.returns-else-self-clause-refills
 returns-else-self-clause-refills g c =
     let small : c.in-Ok.count ≤ 8192 = c.in-Ok.ensures.few in
-    refill_more c.args.self.now _ _ c.pull_front.new.block _ c.self.inside.pulled c.in-Ok.count _ _ c.self.inside.fault c.self.inside.ending c.self.view_is
+    refill_more c.args.self.now _ _ c.read_block.new.block _ c.self.inside.pulled c.in-Ok.count _ _ c.self.inside.fault c.self.inside.terminator c.self.view_is
     c.requires.empty c.in-Ok.ensures.refused c.requires.clean c.requires.going
     c.in-Ok.ensures.pulled small (omega arith) (omega arith)
 
 pub returns-in-Err-clause-refills : goal.returns-in-Err-clause-refills
 returns-in-Err-clause-refills g c =
-    refill_failed c.args.self.now _ _ c.pull_front.new.block _ c.self.inside.pulled 0 _ _ c.self.inside.fault c.self.inside.ending c.self.view_is
-    c.requires.empty c.in-Err.ensures.refused c.requires.clean c.requires.going c.pull_front.new.block c.in-Err.ensures.pulled
+    refill_failed c.args.self.now _ _ c.read_block.new.block _ c.self.inside.pulled 0 _ _ c.self.inside.fault c.self.inside.terminator c.self.view_is
+    c.requires.empty c.in-Err.ensures.refused c.requires.clean c.requires.going c.read_block.new.block c.in-Err.ensures.pulled
 
--- what is held now is sound, and so is the reader
+-- the invariant holds after the block was filled
 pub invariant_of-self-then-self : goal.invariant_of-self-then-self
 invariant_of-self-then-self g c =
     let small : c.in-Ok.count ≤ 8192 = c.in-Ok.ensures.few in
     let some : 0 < c.in-Ok.count = omega (arith, c.if-count-eq0.false) in
-    let sound = filled_sound c.args.self.now _ _ c.pull_front.new.block _ c.self.inside.pulled c.in-Ok.count _ _ c.self.inside.fault c.self.inside.ending c.self.view_is
+    let sound = filled_sound c.args.self.now _ _ c.read_block.new.block _ c.self.inside.pulled c.in-Ok.count _ _ c.self.inside.fault c.self.inside.terminator c.self.view_is
     c.requires.empty c.in-Ok.ensures.refused c.requires.clean c.requires.going _ c.in-Ok.ensures.pulled small some (grind arith) (grind arith) in
     (omega arith, small, c.self.invariant.2 ∙ sym (c.in-Ok.ensures.pulled.more some), sound)
 
@@ -43,7 +44,7 @@ pub invariant_of-self-else-self : goal.invariant_of-self-else-self
 invariant_of-self-else-self g c =
     let small : c.in-Ok.count ≤ 8192 = c.in-Ok.ensures.few in
     let some : 0 < c.in-Ok.count = omega (arith, c.if-count-eq0.false) in
-    let sound = filled_sound c.args.self.now _ _ c.pull_front.new.block _ c.self.inside.pulled c.in-Ok.count _ _ c.self.inside.fault c.self.inside.ending c.self.view_is
+    let sound = filled_sound c.args.self.now _ _ c.read_block.new.block _ c.self.inside.pulled c.in-Ok.count _ _ c.self.inside.fault c.self.inside.terminator c.self.view_is
     c.requires.empty c.in-Ok.ensures.refused c.requires.clean c.requires.going _ c.in-Ok.ensures.pulled small some (λ _. c.if-self.false)
     (λ there clean. c.in-Ok.ensures.pulled.failed ∙ c.self.invariant.3.unfailed (sym c.in-Ok.ensures.refused ∙ there) clean) in
     (omega arith, small, c.self.invariant.2 ∙ sym (c.in-Ok.ensures.pulled.more some), sound)

@@ -1,34 +1,36 @@
+-- The line of one slot grows by the appended bytes, and so does the total. If memory could not be allocated, the line
+-- is as before.
 use Rattle.ptlines.proofs.Common.{List, ℕ, length, ◌++◌, ◌∙◌, ap, arith, length-append}
-use Rattle.ptlines.proofs.Counted.{counted_set, fits, in_slots, had_line, refused_line, written}
+use Rattle.ptlines.proofs.SlotTotals.{total_after_set, total_fits, slot_in_range, line_before, denied_line, store_after_set}
 use Rattle.ptlines.proofs.store.Store.append.Goals as goal
 
 pub overflow_add-self : goal.overflow_add-self
 overflow_add-self g c =
     let s = c.self.inside.slots in
-    omega (arith, fits s.items (length c.args.bytes.now) c.self.invariant.2 (omega (arith, s.ok, s.small)) (omega arith), c.self.invariant.0)
+    omega (arith, total_fits s.items (length c.args.bytes.now) c.self.invariant.2 (omega (arith, s.ok, s.small)) (omega arith), c.self.invariant.0)
 
 pub invariant_of-self : goal.invariant_of-self
 invariant_of-self g c =
     let s = c.self.inside in
     let had = c.index_mut.result.now in
-    let low = in_slots c.self.view_is c.requires in
-    counted_set s.slots.items c.args.slot s.held had low c.index_mut.ensures.value c.self.invariant.0 c.append.new.self c.self.invariant.2 c.append.ensures.short
+    let low = slot_in_range c.self.view_is c.requires in
+    total_after_set s.slots.items c.args.slot s.byte_count had low c.index_mut.ensures.value c.self.invariant.0 c.append.new.self c.self.invariant.2 c.append.ensures.short
     (omega (arith, ap length c.in-Ok.ensures.ok, length-append had c.args.bytes.now)) (omega (arith, c.max-self-inside.ensures))
 
 pub invariant_of-self-in-Err : goal.invariant_of-self-in-Err
 invariant_of-self-in-Err g c =
     let s = c.self.inside in
-    let low = in_slots c.self.view_is c.requires in
-    counted_set s.slots.items c.args.slot s.held c.index_mut.result.now low c.index_mut.ensures.value c.self.invariant.0 c.append.new.self c.self.invariant.2
+    let low = slot_in_range c.self.view_is c.requires in
+    total_after_set s.slots.items c.args.slot s.byte_count c.index_mut.result.now low c.index_mut.ensures.value c.self.invariant.0 c.append.new.self c.self.invariant.2
     c.append.ensures.short (omega (arith, ap length c.in-Err.ensures.err)) c.self.invariant.1
 
 pub index_mut-requires : goal.index_mut-requires
-index_mut-requires g c = omega (arith, in_slots c.self.view_is c.requires, c.self.inside.slots.ok)
+index_mut-requires g c = omega (arith, slot_in_range c.self.view_is c.requires, c.self.inside.slots.ok)
 
 pub returns-in-Ok-clause-ok : goal.returns-in-Ok-clause-ok
 returns-in-Ok-clause-ok g c =
-    let had = had_line c.args.slot c.self.view_is (in_slots c.self.view_is c.requires) c.index_mut.ensures.value in
-    written c.args.slot c.self.view_is (c.in-Ok.ensures.ok ∙ ap (λ (l : List ℕ). l ++ c.args.bytes.now) had) (invariant_of-self g c).0 c.max-self-inside.ensures
+    let had = line_before c.args.slot c.self.view_is (slot_in_range c.self.view_is c.requires) c.index_mut.ensures.value in
+    store_after_set c.args.slot c.self.view_is (c.in-Ok.ensures.ok ∙ ap (λ (l : List ℕ). l ++ c.args.bytes.now) had) (invariant_of-self g c).0 c.max-self-inside.ensures
 
 pub returns-in-Err-clause-err : goal.returns-in-Err-clause-err
-returns-in-Err-clause-err g c = refused_line c.args.slot c.self.view_is c.index_mut.ensures.value c.in-Err.ensures.err
+returns-in-Err-clause-err g c = denied_line c.args.slot c.self.view_is c.index_mut.ensures.value c.in-Err.ensures.err

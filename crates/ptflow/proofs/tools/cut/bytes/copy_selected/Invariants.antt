@@ -1,8 +1,9 @@
--- The selected bytes up to here were copied, and the intervals that are left choose among those behind (`Choosing`).
+-- The selected bytes so far were copied, and the intervals that are left select among the bytes after them
+-- (`CopyInvariant`).
 use Rattle.std.proofs.Common.{take, drop}
-use Rattle.ptflow.proofs.OfBytes.Chosen.{Choosing}
+use Rattle.ptflow.proofs.Vectors.Select.{CopyInvariant}
 use Rattle.ptflow.proofs.tools.cut.bytes.copy_selected.Given as goal
 
 abbrev pub invariant-loop-interval : goal.invariant-loop-interval
 invariant-loop-interval l =
-    Choosing l.by.selected.now l.interval-index l.before (take l.count (take l.end l.bytes)) (drop l.count (take l.end l.bytes)) (take l.fn.at l.fn.into) (take l.at l.into) l.fn.at l.at
+    CopyInvariant l.by.selected.now l.interval-index l.line_offset (take l.count (take l.end l.bytes)) (drop l.count (take l.end l.bytes)) (take l.fn.at l.fn.into) (take l.at l.into) l.fn.at l.at

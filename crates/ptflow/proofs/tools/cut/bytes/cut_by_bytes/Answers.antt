@@ -1,20 +1,22 @@
-use Rattle.ptflow.proofs.Common.{◌≡◌, ◌++◌, refl, sym, ◌∙◌, ap, cond, ending, cut_job, cut_tool, rest_by}
-use Rattle.ptflow.proofs.OfCut.ByteRests.{rest_is_cut, rest_is_decided}
+-- `cut` by bytes is a block tool: at line offset 0 the output for the rest is that for a text, and the pushed bytes
+-- include the output that is decided.
+use Rattle.ptflow.proofs.Common.{◌≡◌, ◌++◌, refl, sym, ◌∙◌, ap, cond, terminator, cut_job, cut_tool, cut_list_from}
+use Rattle.ptflow.proofs.CutLemmas.CutBytes.{rest_is_cut, rest_is_decided}
 use Rattle.ptflow.proofs.tools.cut.bytes.cut_by_bytes.Goals as goal
 use Rattle.ptflow.proofs.tools.cut.bytes.cut_by_bytes.Goals.{then-job, else-job}
 
 pub returns : goal.returns
 returns g c =
     let job = cut_job c.args.job.now in
-    let end : c.if-job.ending ≡ job.end = elim c.if-job.branch [ then-job w ↦ w.ending-is ∙ sym (ap ending w.if-job.true) | else-job w ↦ w.ending-is ∙ sym (ap ending w.if-job.false) ] in
+    let end : c.if-job.terminator ≡ job.terminator = elim c.if-job.branch [ then-job w ↦ w.terminator-is ∙ sym (ap terminator w.if-job.true) | else-job w ↦ w.terminator-is ∙ sym (ap terminator w.if-job.false) ] in
     let list = c.intervals.ensures.kept in
     λ store ready.
-    c.over_blocks.ensures (cut_tool job)
+    c.run_blocks.ensures (cut_tool job)
     (record {
-      text = λ bytes. (λ i. rest_by (end i) (list i) 0 bytes) ∙ rest_is_cut job c.requires.by_bytes bytes;
+      text = λ bytes. (λ i. cut_list_from (end i) (list i) 0 bytes) ∙ rest_is_cut job c.requires.by_bytes bytes;
       decided = λ given pushed now holds on.
-          rest_is_decided job c.requires.by_bytes given pushed now.before
-          (λ rest. (λ i. rest_by (sym end i) (sym list i) 0 (given ++ rest)) ∙ on rest ∙ (λ i. pushed ++ rest_by ((holds.1 ∙ end) i) ((holds.0 ∙ list) i) now.before rest));
+          rest_is_decided job c.requires.by_bytes given pushed now.line_offset
+          (λ rest. (λ i. cut_list_from (sym end i) (sym list i) 0 (given ++ rest)) ∙ on rest ∙ (λ i. pushed ++ cut_list_from ((holds.1 ∙ end) i) ((holds.0 ∙ list) i) now.line_offset rest));
       holds = (refl, refl);
       slots = ap (λ b. cond b 1 0) c.requires.by_bytes;
     })

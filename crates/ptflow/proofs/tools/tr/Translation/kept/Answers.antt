@@ -1,5 +1,5 @@
 use Rattle.ptflow.proofs.Common.{sym, deletes}
-use Rattle.ptflow.proofs.OfTr.TrRests.{filter_all}
+use Rattle.ptflow.proofs.TrLemmas.TrFrom.{filter_all}
 use Rattle.ptflow.proofs.tools.tr.Translation.kept.Goals as goal
 
 pub returns-in-None-clause-kept : goal.returns-in-None-clause-kept

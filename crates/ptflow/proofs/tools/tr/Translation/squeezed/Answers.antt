@@ -1,5 +1,5 @@
 use Rattle.ptflow.proofs.Common.{false, sym, ap, ◌∙◌, slice_index_or, squeezes, squeeze_from}
-use Rattle.ptflow.proofs.OfTr.TrRests.{from_all}
+use Rattle.ptflow.proofs.TrLemmas.TrFrom.{from_all}
 use Rattle.ptflow.proofs.tools.tr.Translation.squeezed.Goals as goal
 
 pub returns-in-Some : goal.returns-in-Some

@@ -1,6 +1,6 @@
--- What is left are the fields behind those that were passed.
-use Rattle.ptmerge.proofs.Common.{◌≡◌, drop, Some, fields_left}
+-- The rest of the line has the fields after the skipped ones.
+use Rattle.ptmerge.proofs.Common.{◌≡◌, drop, Some, remaining_fields}
 use Rattle.ptmerge.proofs.tools.join.fields.nth_piece.Given as goal
 
 abbrev pub invariant-loop-passed : goal.invariant-loop-passed
-invariant-loop-passed l = drop l._passed (fields_left (Some l.separator) (Some l.line)) ≡ fields_left (Some l.separator) (Some l.left)
+invariant-loop-passed l = drop l._passed (remaining_fields (Some l.separator) (Some l.line)) ≡ remaining_fields (Some l.separator) (Some l.left)

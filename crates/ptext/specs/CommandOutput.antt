@@ -1,0 +1,33 @@
+-- The output of a command: standard output, the output file of `uniq`, or none.
+use Rattle.std.specs.Prelude.{ℕ, List, Bool, false, Option, None, Result, Ok, Err, is_none, if◌then◌else◌}
+use Rattle.std.specs.List.{list_any}
+use Rattle.ptlines.specs.Readers.{Reader}
+use Rattle.ptlines.specs.Sinks.{SinkState}
+use Rattle.ptopts.specs.Commands.{Command}
+use Rattle.ptopts.specs.Faults.{Fault}
+use Rattle.ptopts.specs.View.{command_view}
+use Rattle.ptopts.specs.declared.command.Command as code
+use Rattle.ptopts.specs.declared.fault.UseFault.{UseFault}
+use Rattle.ptext.specs.declared.output.Output.{Output}
+use Rattle.ptext.specs.declared.output.Output.TheVariants.{Standard, File, Closed}
+
+-- the state of the sink that a command writes to; no bytes are known of one that must not be written to
+abbrev pub output_state : {W F : Type 0} → (W → SinkState) → (F → SinkState) → Output W F → SinkState
+output_state of_standard of_file (Standard out) = of_standard out.now
+output_state of_standard of_file (File file) = of_file file
+output_state of_standard of_file (Closed failed) = record { accepted = None; failed = failed; unflushed = false }
+
+-- the name of the output file of a command, if all its inputs could be opened
+abbrev pub output_file : {A : Type 0} → Result (code.Command A) UseFault → List Reader → Option (List ℕ)
+output_file (Ok command) inputs = if list_any (λ r. r.refused) inputs then None else (command_view command).output
+output_file (Err fault) inputs = None
+
+-- the words mean a command that writes to standard output, as the parser returns it
+abbrev pub has_standard_output : {A : Type 0} → Result (code.Command A) UseFault → Bool
+has_standard_output (Ok command) = is_none (command_view command).output
+has_standard_output (Err fault) = false
+
+-- the words mean a command that writes to standard output, as the specification says
+abbrev pub means_standard_output : Result Command Fault → Bool
+means_standard_output (Ok command) = is_none command.output
+means_standard_output (Err fault) = false

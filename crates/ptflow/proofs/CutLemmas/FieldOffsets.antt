@@ -1,0 +1,87 @@
+-- The fields of a line, and where they start. Each delimiter ends one field, so the rest of the fields, after the first
+-- n, starts after the n-th delimiter.
+use Rattle.ptflow.proofs.Common.{◌≡◌, ℕ, ◌+◌, ◌<◌, ◌==◌, ◌-◌, ◌≤◌, Bool, true, false, cond, Option, None, Some, MatchOption, ◌⊎◌, inl, inr, List, [], ◌∷◌, ◌++◌, length, take, drop, get_or, slice_set}
+use Rattle.ptflow.proofs.Common.{refl, sym, ap, arith, length-drop, IfSome, onto_first, join_with_byte, take-add, append-nil, drop-drop, drop_more, take-take, take_more_set, length-take-le}
+use Rattle.ptflow.proofs.Common.{flat_map-append, length-slice_split, byte_eq, fields, prefixed_fields, IsFieldStart, zero, suc}
+use lib.Seq.{take-nil}
+
+module _ (d : ℕ) where
+  -- the fields before a delimiter, and those after it
+  pub fields-append : (xs ys : List ℕ) → fields d (xs ++ d ∷ ys) ≡ fields d xs ++ fields d ys
+  fields-append [] ys = rw (byte_eq d) refl
+  fields-append (x ∷ xs) ys = by_test (x == d) (fields d xs) (omega (arith, length-slice_split (λ b. b == d) xs)) (fields-append xs ys)
+    where
+      by_test : (t : Bool) (fs : List (List ℕ)) → 0 < length fs → fields d (xs ++ d ∷ ys) ≡ fs ++ fields d ys
+          → cond t ([] ∷ fields d (xs ++ d ∷ ys)) (onto_first x (fields d (xs ++ d ∷ ys))) ≡ cond t ([] ∷ fs) (onto_first x fs) ++ fields d ys
+      by_test true fs some more = ap (◌∷◌ []) more
+      by_test false [] some more = absurd (omega arith)
+      by_test false (f ∷ fs) some more = ap (onto_first x) more
+
+  pub prefixed_fields-append : (fs gs : List (List ℕ)) → prefixed_fields d (fs ++ gs) ≡ prefixed_fields d fs ++ prefixed_fields d gs
+  prefixed_fields-append fs gs = flat_map-append (◌∷◌ d) fs gs
+
+  -- with one more delimiter before it, a line is its fields with a delimiter before each
+  pub prefixed_of_fields : (xs : List ℕ) → prefixed_fields d (fields d xs) ≡ d ∷ xs
+  prefixed_of_fields [] = refl
+  prefixed_of_fields (x ∷ xs) = grind (arith, prefixed_of_fields xs)
+
+  -- fields joined by the delimiter are the fields with a delimiter before each but the first
+  pub join_prefixed : (fs : List (List ℕ)) → join_with_byte d fs ≡ drop 1 (prefixed_fields d fs)
+  join_prefixed [] = refl
+  join_prefixed (f ∷ []) = sym (append-nil f)
+  join_prefixed (f ∷ g ∷ fs) = cc (join_prefixed (g ∷ fs))
+
+  -- ---- where a field starts
+
+  pub starts_first : (line : List ℕ) → IsFieldStart d 0 line 0
+  starts_first line = record { fits = omega arith; count = omega arith; front = refl; behind = refl; later = refl }
+
+  -- the start of a field that is counted from the start of another
+  module _ {m n a p : ℕ} {line : List ℕ} (s : IsFieldStart d m line a) (t : IsFieldStart d n (drop a line) p) where
+    pub starts_more : IsFieldStart d (m + n) line (a + p)
+    starts_more = record {
+      fits = omega (arith, length-drop a line);
+      count = omega arith;
+      front =
+          cc (take-add a p (d ∷ line), prefixed_fields-append (take m (fields d line)) (take n (drop m (fields d line))), take-add m n (fields d line));
+      behind = cc (drop-drop p a (d ∷ line), drop-drop p a line);
+      later = cc (drop-drop n m (fields d line), drop-drop p a line);
+    }
+
+  -- few fields are left after a start
+  pub few_left : {m n a : ℕ} {line : List ℕ} → IsFieldStart d m line a → length (fields d (drop a line)) ≤ n → length (fields d line) ≤ m + n
+  few_left {m} {line} s few = omega (arith, ap length s.later, length-drop m (fields d line))
+
+  -- no field is skipped
+  pub starts_at_zero : {line : List ℕ} {at : ℕ} → IsFieldStart d 0 line at → at ≡ 0
+  starts_at_zero {line} {at} s = omega (arith, ap length s.front, length-take-le at (d ∷ line) (omega (arith, s.fits)))
+
+  -- the index is still the start of the line, or after its first delimiter
+  pub start_kept : (few : Type 0) (line : List ℕ) (o : Option ℕ) (from first count : ℕ) → (from ≤ first → from ≡ 0) → ((count ≡ 0) ⊎ (first < from)) → MatchOption o few (IsFieldStart d count line)
+      → IfSome o (λ passed. from + passed ≤ first → from + passed ≡ 0)
+  start_kept few line None from first count start how found = tt
+  start_kept few line (Some passed) from first count start (inl none) found = λ le.
+      let zero : passed ≡ 0 = starts_at_zero (rw none at found) in
+      omega (arith, start (omega (arith, zero, le)))
+  start_kept few line (Some passed) from first count start (inr past) found = λ le. absurd (omega arith)
+
+-- the rest of a line from an index on
+pub rest_of : (from to : ℕ) (bytes : List ℕ) → drop from (take to bytes) ≡ take (to - from) (drop from bytes)
+rest_of zero to bytes = let whole : to - 0 ≡ to = omega arith in cc
+rest_of (suc n) zero bytes = let none : 0 - suc n ≡ 0 = omega arith in cc
+rest_of (suc n) (suc to) [] = sym (take-nil (suc to - suc n))
+rest_of (suc n) (suc to) (b ∷ bytes) = let less : suc to - suc n ≡ to - n = omega arith in cc (rest_of n to bytes)
+
+-- a slice of a line
+pub slice_of : (from size : ℕ) {to : ℕ} (bytes : List ℕ) → from + size ≤ to → take size (drop from (take to bytes)) ≡ take size (drop from bytes)
+slice_of from size {to} bytes le = cc (rest_of from to bytes, take-take size (to - from) (drop from bytes) (omega arith))
+
+-- a line and the byte after it
+pub line_with_end : (to : ℕ) (bytes : List ℕ) → drop to (take (to + 1) bytes) ≡ take 1 (drop to bytes)
+line_with_end to bytes =
+    let one : to + 1 - to ≡ 1 = omega arith in
+    cc (rest_of to (to + 1) bytes)
+
+-- one byte is appended
+pub put_byte : (room bytes : List ℕ) (end : ℕ) {to : ℕ} → end < length room → to < length bytes → take (end + 1) (slice_set room end (get_or bytes to 0)) ≡ take end room ++ take 1 (drop to bytes)
+put_byte room bytes end {to} in_room within = cc (take_more_set room end (get_or bytes to 0) in_room, drop_more bytes to 0 within)

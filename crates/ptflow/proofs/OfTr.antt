@@ -1,3 +1,0 @@
--- `tr`.
-pub mod SqueezeLemmas
-pub mod TrRests

@@ -1,0 +1,3 @@
+-- Facts about `tr`.
+pub mod Squeeze
+pub mod TrFrom

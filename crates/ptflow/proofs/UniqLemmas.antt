@@ -1,0 +1,6 @@
+-- Facts about `uniq`.
+pub mod BlockRuns
+pub mod FirstLine
+pub mod RunsFrom
+pub mod Parts
+pub mod Keys

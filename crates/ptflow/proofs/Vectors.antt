@@ -1,0 +1,6 @@
+-- Facts about the vector code in `simd`.
+pub mod ByteSets
+pub mod Select
+pub mod Compress
+pub mod Lanes
+pub mod FindNth

@@ -1,0 +1,321 @@
+-- The n-th item of a list that passes a test, by the bits of a mask of which the lowest n are cleared; a field starts
+-- after the n-th delimiter. Then the terminators in 64 bytes, which are processed in order by clearing the lowest bit.
+use Rattle.ptflow.proofs.Common.{◌≡◌, ⊎_elim, ℕ, zero, suc, ◌+◌, ◌-◌, ◌*◌, ◌/◌, ◌%◌, ◌^◌, ◌<◌, ◌≤◌, min, Bool, true, false, cond, not, Option, Some, List, [], ◌∷◌, ◌++◌, length, map, take, drop}
+use Rattle.ptflow.proofs.Common.{get_or, refl, sym, ◌∙◌, ap, subst, arith, get_or-take, take-append-drop, length-drop, count_ones, count_by, prefix_len, mask_l, chunk, take-add, eqb-true, take-take}
+use Rattle.ptflow.proofs.Common.{take_all, drop_more, take_at, drop_at, length-take-le, length-slice_split, get_or-le-sum_by, sum_by-cons, sum_by-append, sum_by-take-le, count_by-le-length}
+use Rattle.ptflow.proofs.Common.{trailing_mask_l, ones-mask_l, get_or-chunk, length-chunk, IsFirstByte, NoneBefore, Passes, is_byte, IsLine, line_before_terminator, byte_ne, IsNth, HasTerminators, fields}
+use Rattle.ptflow.proofs.Common.{IsFieldStart, put_chunk, take_more_put_chunk, length-put_chunk, length-set, unwrap_or, delim_at, with_cycle, slice_set, count_by_more_yes, cases_lt, length-map}
+use Rattle.std.proofs.lemmas.List.{get_or-drop}
+use Rattle.ptflow.proofs.Vectors.Lanes.{map-id}
+use lib.Bits.{bit_and, and_step, and_self, and_zero_l}
+use lib.Count.{count_trailing_zeros}
+use Rattle.ptflow.proofs.CutLemmas.FieldOffsets.{fields-append, prefixed_of_fields, starts_more, few_left}
+use Rattle.ptflow.proofs.PasteLemmas.Cycle.{first_replaced, replaced_next, all_replaced, set_in_chunk}
+
+-- ---- bits of a mask
+
+abbrev pub clear_first : List Bool → List Bool
+clear_first [] = []
+clear_first (true ∷ bits) = false ∷ bits
+clear_first (false ∷ bits) = false ∷ clear_first bits
+
+-- the first n set bits are cleared
+abbrev pub without : ℕ → List Bool → List Bool
+without zero bits = bits
+without (suc n) bits = clear_first (without n bits)
+
+without_set : (n : ℕ) (bits : List Bool) → without (suc n) (true ∷ bits) ≡ false ∷ without n bits
+without_set zero bits = refl
+without_set (suc n) bits = ap clear_first (without_set n bits)
+
+without_clear : (n : ℕ) (bits : List Bool) → without n (false ∷ bits) ≡ false ∷ without n bits
+without_clear zero bits = refl
+without_clear (suc n) bits = ap clear_first (without_clear n bits)
+
+length-clear_first : (bits : List Bool) → length (clear_first bits) ≡ length bits
+length-clear_first [] = refl
+length-clear_first (true ∷ bits) = refl
+length-clear_first (false ∷ bits) = ap suc (length-clear_first bits)
+
+length-without : (n : ℕ) (bits : List Bool) → length (without n bits) ≡ length bits
+length-without zero bits = refl
+length-without (suc n) bits = length-clear_first (without n bits) ∙ length-without n bits
+
+and_less : (bits : List Bool) → bit_and (mask_l bits) (mask_l bits - 1) ≡ mask_l (clear_first bits)
+and_less [] = and_zero_l 0
+and_less (true ∷ bits) =
+    let m = mask_l bits in
+    let x = 1 + 2 * m in
+    let half : x / 2 ≡ m = omega arith in
+    let less : (x - 1) / 2 ≡ m = omega arith in
+    let low : min (x % 2) ((x - 1) % 2) ≡ 0 = omega arith in
+    let both : bit_and (x / 2) ((x - 1) / 2) ≡ m = cc (and_self m) in
+    omega (arith, and_step x (x - 1))
+and_less (false ∷ bits) =
+    let m = mask_l bits in
+    let x = 0 + 2 * m in
+    let half : x / 2 ≡ m = omega arith in
+    let less : (x - 1) / 2 ≡ m - 1 = omega arith in
+    let low : min (x % 2) ((x - 1) % 2) ≡ 0 = omega arith in
+    let both : bit_and (x / 2) ((x - 1) / 2) ≡ mask_l (clear_first bits) = cc (and_less bits) in
+    omega (arith, and_step x (x - 1))
+
+-- the lowest set bit is cleared
+pub cleared : (n : ℕ) {x : ℕ} (bits : List Bool) → x < 2 ^ 64 → x ≡ mask_l (without n bits) → bit_and x ((x + (2 ^ 64 - 1)) % 2 ^ 64) ≡ mask_l (without (suc n) bits)
+cleared n bits small is = grind (arith, and_less (without n bits))
+
+some_set : (bits : List Bool) → prefix_len not bits < length bits → 0 < mask_l bits
+some_set [] lt = absurd (omega arith)
+some_set (true ∷ bits) lt = omega arith
+some_set (false ∷ bits) lt = let some = some_set bits (omega arith) in omega arith
+
+lowest_set : (bits : List Bool) → length bits ≤ 64 → prefix_len not bits < length bits → count_trailing_zeros 64 (mask_l bits) ≡ prefix_len not bits
+lowest_set bits few some =
+    cc (map-id bits, trailing_mask_l (λ b. b) 64 bits few (rw (map-id bits) (some_set bits some)))
+
+-- ---- the item that passes after n others
+
+module _ {X : Type 0} (p : X → Bool) (d : X) where
+  one_more : (x : X) (xs : List X) {t : Bool} {r : ℕ} (s n m : ℕ) → p x ≡ t → r ≡ suc s → n ≡ cond t 1 0 + m → IsNth p d m xs s → IsNth p d n (x ∷ xs) r
+  one_more x xs s n m e next count h =
+      rw next (omega (arith, h.0), h.1, cc (sum_by-cons (λ b. cond (p b) 1 0) x (take s xs)))
+
+  behind : (xs : List X) (n : ℕ) → n < count_by p xs → IsNth p d n xs (prefix_len not (without n (map p xs)))
+  behind [] n lt = absurd (omega arith)
+  behind (x ∷ xs) n lt = by_test (λ m less. behind xs m less) (p x) refl n (omega (arith, sum_by-cons (λ b. cond (p b) 1 0) x xs))
+    where
+      by_test : ((m : ℕ) → m < count_by p xs → IsNth p d m xs (prefix_len not (without m (map p xs)))) → (t : Bool) → p x ≡ t → (n : ℕ) → n < cond t 1 0 + count_by p xs
+          → IsNth p d n (x ∷ xs) (prefix_len not (without n (t ∷ map p xs)))
+      by_test more true e zero lt = (omega arith, e, refl)
+      by_test more true e (suc m) lt =
+          let next : prefix_len not (without (suc m) (true ∷ map p xs)) ≡ suc (prefix_len not (without m (map p xs))) = ap (prefix_len not) (without_set m (map p xs)) ∙ omega arith in
+          one_more x xs (prefix_len not (without m (map p xs))) (suc m) m e next (omega arith) (more m (omega arith))
+      by_test more false e n lt =
+          let next : prefix_len not (without n (false ∷ map p xs)) ≡ suc (prefix_len not (without n (map p xs))) = ap (prefix_len not) (without_clear n (map p xs)) ∙ omega arith in
+          one_more x xs (prefix_len not (without n (map p xs))) n n e next (omega arith) (more n (omega arith))
+
+-- the lowest set bit, after n bits were cleared
+pub after_set : (p : ℕ → Bool) (xs : List ℕ) (n : ℕ) {rest : ℕ} → length xs ≤ 64 → n < count_by p xs → rest ≡ mask_l (without n (map p xs)) → IsNth p 0 n xs (count_trailing_zeros 64 rest)
+after_set p xs n few lt is =
+    let bits = map p xs in
+    let here = behind p 0 xs n lt in
+    let long : length (without n bits) ≡ length xs = length-without n bits ∙ length-map xs p in
+    subst (IsNth p 0 n xs) (sym (cc (is, lowest_set (without n bits) (omega (arith, long)) (omega (arith, long, here.0))))) here
+
+-- ---- in a chunk of some bytes
+
+module _ (p : ℕ → Bool) (bytes : List ℕ) where
+  pub count_up_to : (i j : ℕ) → i ≤ j → count_by p (take i bytes) ≤ count_by p (take j bytes)
+  count_up_to i j le = omega (arith, sum_by-take-le (λ b. cond (p b) 1 0) (take j bytes) i, ap (count_by p) (take-take i j bytes le))
+
+  pub count_chunk : (at : ℕ) → count_by p (take (at + 64) bytes) ≡ count_by p (take at bytes) + count_by p (chunk at 64 bytes)
+  count_chunk at = cc (take-add at 64 bytes, sum_by-append (λ b. cond (p b) 1 0) (take at bytes) (chunk at 64 bytes))
+
+  module _ (size at m k : ℕ) (room : at + size ≤ length bytes) (h : IsNth p 0 m (chunk at size bytes) k) where
+    pub near : k < size
+    near = omega (arith, length-chunk at size bytes room)
+
+    pub count_in_prefix : count_by p (take (at + k) bytes) ≡ count_by p (take at bytes) + m
+    count_in_prefix =
+        cc (take-add at k bytes, sum_by-append (λ b. cond (p b) 1 0) (take at bytes) (take k (drop at bytes)), take-take k size (drop at bytes) (omega (arith, near)))
+
+    pub nth_in_prefix : {to : ℕ} → at + k < to → to ≤ length bytes → IsNth p 0 (count_by p (take at bytes) + m) (take to bytes) (at + k)
+    nth_in_prefix {to} lt le = (
+      omega (arith, length-take-le to bytes le),
+      cc (get_or-take to bytes (at + k) 0 lt, get_or-chunk at size bytes k 0 near),
+      cc (take-take (at + k) to bytes (omega arith), count_in_prefix),
+    )
+
+  -- no item before the first one passes
+  pub first_is : (at : ℕ) → IsNth p 0 0 bytes at → NoneBefore (Passes p bytes) 0 (length bytes) at × Passes p bytes at
+  first_is at h = (
+    record {
+      low = omega arith;
+      high = h.0;
+      before = λ k low near passes.
+          let here : p (get_or (take at bytes) k 0) ≡ true = cc (get_or-take at bytes k 0 near) in
+          let one : cond {A = ℕ} (p (get_or (take at bytes) k 0)) 1 0 ≡ 1 = cc (here) in
+          omega (arith, one, get_or-le-sum_by (λ b. cond (p b) 1 0) (take at bytes) k 0 (omega (arith, near, h.0, length-take-le at bytes (omega (arith, h.0)))));
+    },
+    h.1,
+  )
+
+  pub some_counted : (xs : List ℕ) → 0 < mask_l (map p xs) → 0 < count_by p xs
+  some_counted [] lt = absurd (omega arith)
+  some_counted (x ∷ xs) lt = grind (arith, some_counted xs, sum_by-cons (λ b. cond (p b) 1 0) x xs)
+
+  -- the first index that the mask of the first bytes gives
+  module _ {size marked : ℕ} (k : ℕ) (few : size ≤ 64) (room : size ≤ length bytes) (is : marked ≡ mask_l (map p (chunk 0 size bytes))) (some : marked ≡ 0 → ⊥)
+      (found : (test : ℕ → Bool) (xs : List ℕ) → length xs ≤ 64 → marked ≡ mask_l (map test xs) → 0 < count_by test xs → IsNth test 0 0 xs k) where
+    in_front : IsNth p 0 0 (chunk 0 size bytes) k
+    in_front =
+        let v = chunk 0 size bytes in
+        found p v (omega (arith, length-chunk 0 size bytes (omega arith))) is (some_counted v (rw (← is) (omega arith)))
+
+    pub first_in_prefix : (to : ℕ) → k < to → to ≤ length bytes → IsNth p 0 0 (take to bytes) k
+    first_in_prefix to lt le =
+        let same : 0 + k ≡ k = omega arith in
+        rw (← same) (nth_in_prefix size 0 0 k (omega arith) in_front (omega arith) le)
+
+    pub none_in_prefix : {to : ℕ} → to ≤ k → count_by p (take to bytes) ≤ 0
+    none_in_prefix {to} le = omega (arith, count_in_prefix size 0 0 k (omega arith) in_front, count_up_to to (0 + k) (omega arith))
+
+    pub first_of_all : NoneBefore (Passes p bytes) 0 (length bytes) k × Passes p bytes k
+    first_of_all =
+        first_is k (rw (take_all (length bytes) bytes (omega arith)) at (first_in_prefix (length bytes) (omega (arith, room, near size 0 0 k (omega arith) in_front)) (omega arith)))
+
+-- ---- fields
+
+module _ (d : ℕ) (line : List ℕ) where
+  pub few_fields : {n : ℕ} → count_by (is_byte d) line < n → length (fields d line) ≤ n
+  few_fields lt = omega (arith, length-slice_split (is_byte d) line)
+
+  starts_behind : (n at : ℕ) → IsNth (is_byte d) 0 n line at → IsFieldStart d (n + 1) line (at + 1)
+  starts_behind n at h =
+      let xs = take at line in
+      let ys = drop (at + 1) line in
+      let one : at + 1 ≡ suc at = omega arith in
+      let long : length xs ≡ at = length-take-le at line (omega arith) in
+      let here : drop at line ≡ d ∷ ys = cc (drop_more line at 0 h.0, eqb-true (get_or line at 0) d h.1) in
+      let number : length (fields d xs) ≡ n + 1 = omega (arith, length-slice_split (is_byte d) xs, h.2) in
+      let split : fields d line ≡ fields d xs ++ fields d ys = cc (take-append-drop at line, fields-append d xs ys) in
+      record {
+        fits = omega (arith, h.0);
+        count = omega (arith, count_by-le-length (is_byte d) xs, h.2);
+        front = cc (prefixed_of_fields d xs, take_at (fields d xs) (fields d ys) (n + 1) number);
+        behind = cc;
+        later = cc (drop_at (fields d xs) (fields d ys) (n + 1) number);
+      }
+
+  pub none_counted : (bytes : List ℕ) → IsLine d bytes → count_by (is_byte d) bytes ≡ 0
+  none_counted [] free = refl
+  none_counted (b ∷ bytes) free = cc (sum_by-cons (λ x. cond (is_byte d x) 1 0) b bytes, byte_ne d b free.0, none_counted bytes free.1)
+
+  pub starts_after_first : (at : ℕ) → IsFirstByte (is_byte d) line (Some at) → IsFieldStart d 1 line (at + 1)
+  starts_after_first at first = starts_behind 0 at (first.0.high, first.1, none_counted (take at line) (line_before_terminator d line at first))
+
+  pub starts_after_nth : {n : ℕ} (at : ℕ) → 0 < n → IsNth (is_byte d) 0 (n - 1) line at → IsFieldStart d n line (at + 1)
+  starts_after_nth {n} at some h =
+      let whole : n - 1 + 1 ≡ n = omega arith in
+      rw whole at (starts_behind (n - 1) at h)
+
+  -- after the first delimiter
+  module _ (first n : ℕ) (here : IsFirstByte (is_byte d) line (Some first)) (some : 0 < n) where
+    pub few_after_first : length (fields d (drop (first + 1) line)) ≤ n - 1 → length (fields d line) ≤ n
+    few_after_first few = omega (arith, few_left d (starts_after_first first here) few)
+
+    pub starts_past_first : {passed : ℕ} → IsFieldStart d (n - 1) (drop (first + 1) line) passed → IsFieldStart d n line (first + 1 + passed)
+    starts_past_first s =
+        let whole : 1 + (n - 1) ≡ n = omega arith in
+        rw whole at (starts_more d (starts_after_first first here) s)
+
+-- the next item that passes, if no item between an earlier index and this one passes
+module _ (p : ℕ → Bool) (bytes : List ℕ) (start end : ℕ) (fits : end < length bytes) (is : p (get_or bytes end 0) ≡ true) (same : count_by p (take end bytes) ≡ count_by p (take start bytes)) where
+  pub one_after : count_by p (take (end + 1) bytes) ≡ count_by p (take end bytes) + 1
+  one_after = count_by_more_yes p bytes end 0 fits is
+
+  pub in_order : start ≤ end
+  in_order = ⊎_elim (λ less. absurd (omega (arith, less, same, one_after, count_up_to p bytes (end + 1) start (omega (arith, less))))) (λ le. le) (cases_lt end start)
+
+  pub next_is : NoneBefore (Passes p (drop start bytes)) 0 (length (drop start bytes)) (end - start) × Passes p (drop start bytes) (end - start)
+  next_is =
+      let whole : start + (end - start) ≡ end = omega (arith, in_order) in
+      first_is p (drop start bytes) (end - start) (
+        omega (arith, length-drop start bytes, fits, in_order),
+        cc (get_or-drop start bytes (end - start) 0, is),
+        omega (
+          arith,
+          same,
+          ap (λ n. count_by p (take n bytes)) whole,
+          ap (count_by p) (take-add start (end - start) bytes),
+          sum_by-append
+              (λ b. cond (p b) 1 0) (take start bytes) (take (end - start) (drop start bytes)),
+        ),
+      )
+
+-- the next terminator among 64 bytes, after n of them, where the line starts at `start`
+pub record NextTerminator (d : ℕ) (block : List ℕ) (from n bit start : ℕ) : Type 0 where
+  pub near : bit < 64
+  pub order : start ≤ from + bit
+  pub first : IsFirstByte (is_byte d) (drop start block) (Some (from + bit - start))
+  pub counted : count_by (is_byte d) (take (from + bit + 1) block) ≡ count_by (is_byte d) (take from block) + (n + 1)
+
+module _ {d : ℕ} {block : List ℕ} {from all marked : ℕ} (n start : ℕ) (h : HasTerminators d block from all) (some : n < count_ones all)
+    (bits : marked ≡ mask_l (without n (map (is_byte d) (chunk from 64 block)))) (ends : count_by (is_byte d) (take start block) ≡ count_by (is_byte d) (take from block) + n) where
+  pub next_terminator : NextTerminator d block from n (count_trailing_zeros 64 marked) start
+  next_terminator =
+      let p = is_byte d in
+      let v = chunk from 64 block in
+      let bit = count_trailing_zeros 64 marked in
+      let room : from + 64 ≤ length block = omega arith in
+      let stands : IsNth p 0 n v bit = after_set p v n (omega (arith, length-chunk from 64 block room)) (omega (arith, ap count_ones h.is, ones-mask_l p v)) bits in
+      let close : bit < 64 = near p block 64 from n bit room stands in
+      let fits : from + bit < length block = omega (arith, close, room) in
+      let is : p (get_or block (from + bit) 0) ≡ true = cc (get_or-chunk from 64 block bit 0 close, stands.1) in
+      let as_many : count_by p (take (from + bit) block) ≡ count_by p (take start block) = count_in_prefix p block 64 from n bit room stands ∙ sym ends in
+      record {
+        near = close;
+        order = in_order p block start _ fits is as_many;
+        first = next_is p block start _ fits is as_many;
+        counted = omega (arith, one_after p block start _ fits is as_many, as_many, ends);
+      }
+
+-- ---- the terminators of a chunk, replaced one after another
+
+-- n terminators of the 64 bytes at an index were replaced, and the mask has the others
+pub record ReplaceInvariant (end : ℕ) (delims : List (Option ℕ)) (first at : ℕ) (from was : List ℕ) (n marked : ℕ) (to : List ℕ) : Type 0 where
+  pub room : at + 64 ≤ length from
+  pub same : length was ≡ length from
+  pub bits : marked ≡ mask_l (without n (map (is_byte end) (chunk at 64 from)))
+  pub long : length to ≡ length from
+  pub replaced : take (at + 64) to ≡ take at was ++ first_replaced end delims n first (chunk at 64 from)
+
+pub replace_starts : (end : ℕ) (delims : List (Option ℕ)) (first at : ℕ) (from was : List ℕ) {marked : ℕ} → at + 64 ≤ length from → length was ≡ length from
+    → marked ≡ mask_l (map (is_byte end) (chunk at 64 from)) → ReplaceInvariant end delims first at from was 0 marked (put_chunk at was (chunk at 64 from))
+replace_starts end delims first at from was room same is =
+    let ends = chunk at 64 from in
+    let long : length ends ≡ 64 = length-chunk at 64 from room in
+    record {
+      room = room;
+      same = same;
+      bits = is;
+      long = cc (length-put_chunk at was ends);
+      replaced = take_more_put_chunk at was ends (at + 64) (omega arith) (omega arith);
+    }
+
+module _ {end : ℕ} {delims : List (Option ℕ)} {first at : ℕ} {from was : List ℕ} {n marked : ℕ} {to : List ℕ} (r : ReplaceInvariant end delims first at from was n marked to)
+    {all : ℕ} (is : all ≡ mask_l (map (is_byte end) (chunk at 64 from))) where
+  abbrev ends : List ℕ
+  ends = chunk at 64 from
+
+  ends_counted : count_ones all ≡ count_by (is_byte end) ends
+  ends_counted = ap count_ones is ∙ ones-mask_l (is_byte end) ends
+
+  module _ (some : n < count_ones all) where
+    abbrev bit_at : ℕ
+    bit_at = count_trailing_zeros 64 marked
+
+    bit_at_index : IsNth (is_byte end) 0 n ends bit_at
+    bit_at_index = after_set (is_byte end) ends n (omega (arith, length-chunk at 64 from r.room)) (omega (arith, ends_counted)) r.bits
+
+    pub end_within : at + bit_at < length to
+    end_within = omega (arith, bit_at_index.0, length-chunk at 64 from r.room, r.room, r.long)
+
+    -- the lowest one is replaced by its delimiter
+    pub replace_next : {rest put : ℕ} {to' : List ℕ} → marked < 2 ^ 64 → put ≡ unwrap_or (delim_at delims (first + n)) end → rest ≡ bit_and marked ((marked + (2 ^ 64 - 1)) % 2 ^ 64)
+        → to' ≡ slice_set to (at + bit_at) put → ReplaceInvariant end delims first at from was (n + 1) rest to'
+    replace_next {rest} {put} {to'} small put_is rest_is to_is =
+        let next : suc n ≡ n + 1 = omega arith in
+        let front : length (take at was) ≡ at = length-take-le at was (omega (arith, r.room, r.same)) in
+        let near : bit_at < 64 = omega (arith, bit_at_index.0, length-chunk at 64 from r.room) in
+        record {
+          room = r.room;
+          same = r.same;
+          bits = cc (cleared n (map (is_byte end) ends) small r.bits);
+          long = cc (length-set to (at + bit_at) put, r.long);
+          replaced =
+              cc (set_in_chunk to (take at was) (first_replaced end delims n first ends) at 64 bit_at put r.replaced front near, replaced_next end delims n first ends bit_at bit_at_index);
+        }
+
+  pub replace_end : n ≡ count_ones all → (n ≡ count_by (is_byte end) ends) × (take (at + 64) to ≡ take at was ++ with_cycle end delims first ends)
+  replace_end over = (over ∙ ends_counted, cc (all_replaced end delims first ends n (over ∙ ends_counted), r.replaced))

@@ -1,6 +1,0 @@
-use Rattle.ptflow.proofs.Common.{sym}
-use Rattle.ptflow.proofs.OfBytes.LaneLemmas.{map-id, added_lanes}
-use Rattle.ptflow.proofs.kernels.halves.TwoRowsMover.moved.Goals as goal
-
-pub returns : goal.returns
-returns c = added_lanes _ _ _ (added_lanes _ _ _ (sym (map-id c.args.v)) c.additions.ensures) c.additions-2.ensures

@@ -1,7 +1,0 @@
-use Rattle.ptflow.proofs.Common.{eqb, arith, w8, bitmask_splat, length-chunk, chunk}
-use Rattle.ptflow.proofs.kernels.places.marks.Goals as goal
-
-pub returns : goal.returns
-returns c =
-    let v = chunk c.args.at 64 c.args.bytes.now in
-    bitmask_splat w8 eqb v 64 c.args.byte (length-chunk c.args.at 64 c.args.bytes.now c.requires) (omega arith)

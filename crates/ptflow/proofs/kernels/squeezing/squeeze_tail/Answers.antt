@@ -1,9 +1,0 @@
-use Rattle.ptflow.proofs.Common.{◌≤◌, ◌+◌, length, arith, holds}
-use Rattle.ptflow.proofs.OfTr.SqueezeLemmas.{squeezing_piece, stays_piece}
-use Rattle.ptflow.proofs.kernels.squeezing.squeeze_tail.Goals as goal
-
-pub loop-at-preserved : goal.loop-at-preserved
-loop-at-preserved c =
-    let room : c.loop-at.at + 16 ≤ length c.args.block.bytes.now = omega (arith, c.loop-at.invariant.within) in
-    squeezing_piece _ c.loop-at.invariant 16 (omega arith) room c.squeeze_lanes-count.ensures.end
-    (cc (stays_piece (holds c.args.by.set) c.args.block.bytes.now c.loop-at.at c.loop-at.invariant.behind room))

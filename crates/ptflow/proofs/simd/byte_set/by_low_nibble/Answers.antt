@@ -1,0 +1,9 @@
+use Rattle.std.proofs.Common.{◌%◌}
+use Rattle.ptflow.proofs.Vectors.ByteSets.{nibbles_ok, looked_up, low_small, low_nibbles}
+use Rattle.ptflow.proofs.simd.byte_set.by_low_nibble.Goals as goal
+
+pub swizzle : goal.swizzle
+swizzle c = nibbles_ok (λ b. b % 16) low_small c.args.v (low_nibbles c.args.v c.fits-v.0) c.fits-v.0 c.fits-v.1
+
+pub returns : goal.returns
+returns c = looked_up (λ b. b % 16) low_small c.args.table c.args.v (low_nibbles c.args.v c.fits-v.0) c.fits-v.0 c.fits-v.1

@@ -1,0 +1,10 @@
+use Rattle.ptflow.proofs.Common.{[], refl, mask_l}
+use Rattle.ptflow.proofs.Vectors.Compress.{mask_below}
+use Rattle.ptflow.proofs.simd.compress.CompressTable.new.Goals as goal
+
+pub invariant_of-result : goal.invariant_of-result
+invariant_of-result c = record {
+  is_table = λ flags long.
+      let made = c.from_fn.ensures.items.at (mask_l flags) [] (mask_below flags long) in
+      made.2.met flags long refl;
+}

@@ -1,0 +1,10 @@
+-- The matches that were skipped and those still to be skipped add up to `before`.
+use Rattle.ptflow.proofs.Common.{◌≡◌, ◌≤◌, ◌+◌, ◌-◌, length, take, count_by, is_byte}
+use Rattle.ptflow.proofs.simd.find_nth.nth_by_64.Given as goal
+
+abbrev pub invariant-loop-at : goal.invariant-loop-at
+invariant-loop-at l =
+    (l.at ≤ length l.bytes) × (l.left + count_by (is_byte l.byte) (take l.at l.bytes) ≡ l.before)
+
+abbrev pub decreases-loop-at : goal.decreases-loop-at
+decreases-loop-at l = length l.bytes - l.at

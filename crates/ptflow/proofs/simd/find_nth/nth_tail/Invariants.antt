@@ -1,0 +1,7 @@
+-- The matches that were skipped and those still to be skipped add up to `before`.
+use Rattle.ptflow.proofs.Common.{◌≡◌, ◌+◌, take, count_by, is_byte}
+use Rattle.ptflow.proofs.simd.find_nth.nth_tail.Given as goal
+
+abbrev pub invariant-loop-at : goal.invariant-loop-at
+invariant-loop-at l =
+    l.left + count_by (is_byte l.byte) (take l.at l.bytes) ≡ l.before + count_by (is_byte l.byte) (take l.from l.bytes)

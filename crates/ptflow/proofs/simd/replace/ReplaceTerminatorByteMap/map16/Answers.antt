@@ -1,0 +1,11 @@
+use Rattle.ptflow.proofs.Common.{sym, eqb, splat_is_map}
+use Rattle.ptflow.proofs.Vectors.Lanes.{sel_maps, mask_right, map-id}
+use Rattle.ptflow.proofs.simd.replace.ReplaceTerminatorByteMap.map16.Goals as goal
+
+pub returns : goal.returns
+returns c =
+    let v = c.args.v in
+    let by = c.args.self in
+    sel_maps (λ b. eqb b by.terminator) (λ _. by.delim) (λ b. b) v (mask_right eqb v by.terminator c.fits-v.0)
+    (splat_is_map v 16 by.delim c.fits-v.0)
+    (sym (map-id v))

@@ -1,0 +1,16 @@
+-- Each iteration stores the images of two vectors after those of the bytes before.
+use Rattle.std.proofs.Common.{◌+◌, ◌∙◌, arith}
+use Rattle.ptflow.proofs.Vectors.Lanes.{mapped_more}
+use Rattle.ptflow.proofs.simd.shift.map_chunks.Goals as goal
+
+pub loop-at-preserved : goal.loop-at-preserved
+loop-at-preserved g c =
+    let at = c.loop-at.at in
+    let from = c.args.from.now in
+    let map_byte = g.M.ByteMap.map_byte c.args.by in (
+      omega arith,
+      c.map_at-in-loop-at.ensures.long ∙ c.map_at.ensures.long ∙ c.loop-at.invariant.1,
+      mapped_more map_byte (at + 16) (at + 32) 16 from _ _ (omega arith)
+          (mapped_more map_byte at (at + 16) 16 from _ _ (omega arith) c.loop-at.invariant.2 c.map_at.ensures.stored)
+          c.map_at-in-loop-at.ensures.stored,
+    )

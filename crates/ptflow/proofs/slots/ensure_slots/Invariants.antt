@@ -1,0 +1,16 @@
+-- Slots are added one by one while there are too few, and each is empty. So the total is unchanged, and no slot too
+-- many is added.
+use Rattle.ptflow.proofs.Common.{◌≡◌, ◌≤◌, ◌-◌, false, length, max, total_bytes}
+use Rattle.ptflow.proofs.slots.ensure_slots.Given as goal
+
+abbrev pub invariant-loop-store : goal.invariant-loop-store
+invariant-loop-store g l = record {
+  allowed : l.store.denied ≡ false;
+  same_total : total_bytes l.store.lines ≡ total_bytes l.fn.store.lines;
+  same_peak : l.store.peak ≡ l.fn.store.peak;
+  least : length l.fn.store.lines ≤ length l.store.lines;
+  most : length l.store.lines ≤ max (length l.fn.store.lines) l.count;
+}
+
+abbrev pub decreases-loop-store : goal.decreases-loop-store
+decreases-loop-store g l = l.count - length l.store.lines

@@ -1,0 +1,47 @@
+-- Each iteration copies the output of the first lines of the rest to the buffer, which is pushed at the end.
+use Rattle.ptflow.proofs.Common.{ℕ, List, ◌+◌, ◌≤◌, length, drop, ◌++◌, take, ◌∙◌, ap, arith, length-drop, take_rest, complete_lines, line_if_not_found, complete_lines_none, cut_job, cut_lines}
+use Rattle.ptflow.proofs.Passes.StepOutput.{on_err}
+use Rattle.ptflow.proofs.Passes.Lines.{taken_more, taken_all}
+use Rattle.ptflow.proofs.tools.cut.fields.FieldCutLineFilter.process_lines.Goals as goal
+
+less_left : (start size : ℕ) (rest : List ℕ) {end all : ℕ} → size ≤ length rest → end ≤ start + size → start + length rest ≤ all → end + length (drop size rest) ≤ all
+less_left start size rest fits near space = omega (arith, length-drop size rest)
+
+pub lines-preserved : goal.lines-preserved
+lines-preserved g c =
+    let l = c.lines in
+    let put = rw c.args.self.now.ends at c.copy_lines-size.ensures.put in
+    rw take_rest (record {
+      taken = taken_more _ c.copy_lines-size.result.0 put.taken l.invariant.taken;
+      on = λ more. l.invariant.on more ∙ put.on more;
+      space = less_left _ _ l.rest.now put.fits c.copy_lines-size.ensures.end.1 l.invariant.space;
+      long = c.copy_lines-size.ensures.long ∙ l.invariant.long;
+    })
+
+pub returns-in_err-push-clause-halts : goal.returns-in_err-push-clause-halts
+returns-in_err-push-clause-halts g c =
+    let l = c.lines in
+    on_err c.from_residual.result
+    (record {
+      passed = take l.end l.room;
+      wrote = c.push.ensures.pushed.wrote;
+      fault = c.in_err-push.ensures.pushed.fault;
+      is_prefix = λ more. (cut_lines (cut_job c.args.self.now.job.now) (complete_lines (cut_job c.args.self.now.job.now).terminator l.rest.now ++ more), l.invariant.on more);
+    })
+
+pub returns-clause-continues : goal.returns-clause-continues
+returns-clause-continues g c =
+    let l = c.lines in
+    let job = cut_job c.args.self.now.job.now in
+    let none = complete_lines_none _ l.rest.now (line_if_not_found _ l.rest.now (rw c.args.self.now.ends at c.in_default.ensures)) in record {
+      passed = take l.end l.room;
+      wrote = c.in_ok-push.ensures.pushed.wrote;
+      clean = λ was_clean. c.in_ok-push.ensures.pushed.clean;
+      on = λ more. l.invariant.on more ∙ ap (λ ls. take l.end l.room ++ cut_lines job (ls ++ more)) none;
+      count = omega arith;
+      some = λ h. omega arith;
+    }
+
+pub returns-clause-passed : goal.returns-clause-passed
+returns-clause-passed g c =
+    (omega arith, taken_all _ (line_if_not_found _ c.lines.rest.now (rw c.args.self.now.ends at c.in_default.ensures)) c.lines.invariant.taken)

@@ -1,0 +1,16 @@
+-- The buffer has the output of the lines so far, for every continuation, and is not longer than they are.
+use Rattle.ptflow.proofs.Common.{◌≡◌, ◌+◌, ◌≤◌, ◌++◌, ℕ, List, length, take, complete_lines, cut_job, cut_lines}
+use Rattle.ptflow.proofs.Passes.Lines.{TakenLines}
+use Rattle.ptflow.proofs.tools.cut.fields.FieldCutLineFilter.process_lines.Given as goal
+
+abbrev pub invariant-lines : goal.invariant-lines
+invariant-lines g l = record {
+  taken : TakenLines (cut_job l.self.job.now).terminator l.block l.rest;
+  on : (more : List (List ℕ)) → cut_lines (cut_job l.self.job.now) (complete_lines (cut_job l.self.job.now).terminator l.block ++ more)
+      ≡ take l.end l.room ++ cut_lines (cut_job l.self.job.now) (complete_lines (cut_job l.self.job.now).terminator l.rest ++ more);
+  space : l.end + length l.rest ≤ length l.block;
+  long : length l.room ≡ 8208;
+}
+
+abbrev pub decreases-lines : goal.decreases-lines
+decreases-lines g l = length l.rest

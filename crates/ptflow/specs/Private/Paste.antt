@@ -1,0 +1,6 @@
+-- Definitions for the contracts of the private functions and types of `paste`.
+pub mod SharedInput
+pub mod FillRow
+pub mod SerialRest
+pub mod TakenLines
+pub mod BufferedRows

@@ -1,0 +1,32 @@
+-- The output of `tr` for the rest of a text, which depends on the last byte of the output so far.
+use Rattle.std.specs.Prelude.{◌≡◌, ◌<◌, ◌≤◌, ℕ, List, Bool, false, Option, None, Some, length, slice_index_or}
+use Rattle.std.proofs.Props.{props}
+use Rattle.ptlangs.specs.TrTables.{Tables, squeezes}
+use Rattle.ptflow.specs.declared.simd.byte_set.ByteSet.{ByteSet}
+use Rattle.ptflow.specs.TrOutput.{squeeze_after, squeeze, translation}
+use Rattle.ptflow.specs.Private.Vectors.ByteSets.{IsSetOf}
+
+-- the bytes that are kept, where `last` is the byte before them, if there is one
+abbrev pub squeeze_from : (ℕ → Bool) → Option ℕ → List ℕ → List ℕ
+squeeze_from squeezed None bytes = squeeze squeezed bytes
+squeeze_from squeezed (Some last) bytes = squeeze_after squeezed last bytes
+
+-- index `at` is in the bytes and not the first one, and `count`, the number of bytes kept before it, is at most `at`
+pub record SqueezePre (bytes : List ℕ) (at count : ℕ) : Type 0 where
+  pub not_first : 0 < at
+  pub within : at ≤ length bytes
+  pub counted : count ≤ at
+
+-- the output for the rest of a text, where `last` is the last byte of the output so far, if there is one
+abbrev pub tr_from : Tables → Option ℕ → List ℕ → List ℕ
+tr_from tables last rest = squeeze_from (squeezes tables) last (translation tables rest)
+
+-- the set of the bytes whose flag is set, or nothing if no flag is
+abbrev pub IsOptionalSet : Option ByteSet → List Bool → Type 0
+IsOptionalSet None flags = (b : ℕ) → slice_index_or flags b false ≡ false
+IsOptionalSet (Some set) flags = IsSetOf set flags
+
+-- two proofs of `IsOptionalSet` are equal, as a ghost field requires
+pub IsOptionalSet-prop : (set : Option ByteSet) (flags : List Bool) → IsProp (IsOptionalSet set flags)
+IsOptionalSet-prop None flags = Prim.hlevel props
+IsOptionalSet-prop (Some set) flags = Prim.hlevel props

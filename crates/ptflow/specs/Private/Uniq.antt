@@ -1,0 +1,5 @@
+-- Definitions for the contracts of the private functions and types of `uniq`.
+pub mod BlockRuns
+pub mod FirstLine
+pub mod RunsFrom
+pub mod Blanks

@@ -1,0 +1,29 @@
+-- Compression: the items whose flag is set are moved together.
+use Rattle.std.specs.Prelude.{◌≡◌, ◌<◌, ◌≤◌, ◌+◌, ℕ, List, [], ◌∷◌, Bool, All, length, take, slice_index_or, if◌then◌else◌}
+use Rattle.std.specs.List.{range_with_len}
+use Rattle.std.specs.Simd.Lanes.{mask_l}
+
+-- the items whose flag is set, in order
+abbrev pub select_by : {X : Type 0} → List Bool → List X → List X
+select_by [] xs = []
+select_by (flag ∷ flags) [] = []
+select_by (flag ∷ flags) (x ∷ xs) = if flag then x ∷ select_by flags xs else select_by flags xs
+
+-- the indices of the flags that are set
+abbrev pub true_indices : List Bool → List ℕ
+true_indices flags = select_by flags (range_with_len 0 (length flags))
+
+-- A row begins with the indices of the flags that are set, and goes on with any indices of lanes.
+pub record IsCompressRow (flags : List Bool) (row : List ℕ) : Type 0 where
+  pub indices : take (length (true_indices flags)) row ≡ true_indices flags
+  pub long : length row ≡ 16
+  pub lanes : All (λ index. index < 16) row
+
+-- a chunk of 64 bytes begins at index `at`, and `count`, the number of bytes kept before it, is at most `at`
+pub record ChunkPre (bytes : List ℕ) (at count : ℕ) : Type 0 where
+  pub lanes : at + 64 ≤ length bytes
+  pub few : count ≤ at
+
+-- the table has the row of each mask of eight flags
+abbrev pub IsCompressTable : List (List ℕ) → Type 0
+IsCompressTable rows = (flags : List Bool) → length flags ≡ 8 → IsCompressRow flags (slice_index_or rows (mask_l flags) [])

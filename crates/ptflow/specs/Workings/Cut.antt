@@ -1,4 +1,0 @@
--- `cut`.
-pub mod CutRests
-pub mod FieldPlaces
-pub mod Picks

@@ -1,3 +1,0 @@
--- `tr`.
-pub mod Mappings
-pub mod TrRests

@@ -1,5 +1,0 @@
--- `uniq`.
-pub mod BlockRuns
-pub mod OpenLines
-pub mod OpenRuns
-pub mod UniqWords

@@ -1,0 +1,47 @@
+//! Theorems on inputs that are cut into parts: when the output for the whole is the outputs for the parts, one after
+//! another. Callers that work in parallel rely on them; the functions do nothing.
+ghost use Rattle.ptflow.specs.Parts.{CutOfParts, TrOfAnyParts, TrOfParts, TrAfterByte, TrMeetsTwice, UniqOfParts, UniqByKey, PasteOfParts};
+
+/// `cut` can be run on parts of a file, by bytes and by fields, if each part but the last ends with the line
+/// terminator: the output for the file is the outputs for the parts, in order.
+/// This function does nothing at run time. Its contract states the theorem.
+pub fn parts_of_cut()
+    ensures { CutOfParts }
+{}
+
+/// `tr` can be run on parts of a file, cut anywhere, if it squeezes nothing. With `-s` the output for a part must not
+/// end with a squeezed byte with which the output for the next part begins: it would be written twice.
+/// A file can be cut after any byte that is not deleted and whose image is not squeezed, which in most commands is the
+/// case for a newline. If a squeezed byte is at both sides of a cut, drop one of the two.
+/// This function does nothing at run time. Its contract states the theorem.
+pub fn parts_of_tr()
+    ensures any { TrOfAnyParts }
+    ensures apart { TrOfParts }
+    ensures after_byte { TrAfterByte }
+    ensures meeting { TrMeetsTwice }
+{}
+
+/// `uniq` can be run on parts of a file, with each of its options, if each part but the last ends with the line
+/// terminator, and its last line has a different key than the first line of the next part, so that no run of lines
+/// spans two parts.
+/// This function does nothing at run time. Its contract states the theorem.
+pub fn parts_of_uniq()
+    ensures { UniqOfParts }
+{}
+
+/// If lines with equal keys are adjacent, as in a sorted file, the lines can be distributed by their keys, each part in
+/// the order of the file: the output of `uniq` for the lines with some keys is its output for the runs with these keys.
+/// So the parts together have the output for the file, and each of them has its share in order.
+/// This function does nothing at run time. Its contract states the theorem.
+pub fn uniq_by_key()
+    ensures { UniqByKey }
+{}
+
+/// `paste` without `-s` can be run on parts of its files if all are cut after the same row. If a file is named by `n`
+/// operands, its first part has `n` lines per row and ends with the line terminator; or the file ends earlier, and its
+/// second part is empty.
+/// There is no such theorem for `-s`, which joins a whole file into one row.
+/// This function does nothing at run time. Its contract states the theorem.
+pub fn parts_of_paste()
+    ensures { PasteOfParts }
+{}

@@ -1,0 +1,85 @@
+//! Sets of bytes that test 16 bytes at once. `filter`, `squeeze` and `tr` use them.
+
+ghost use Rattle.std.specs.Prelude.{◌≡◌, ◌/◌, ◌%◌, map, slice_index};
+ghost use Rattle.ptflow.specs.Private.Vectors.ByteSets.{IsSetOf};
+
+use std::simd::Mask;
+use std::simd::prelude::*;
+
+// The bit of each high nibble.
+const BITS: [u8; 16] = [1, 2, 4, 8, 16, 32, 64, 128, 1, 2, 4, 8, 16, 32, 64, 128];
+
+// The entries of a table of 16, indexed by the low nibbles of the bytes.
+#[inline(always)]
+pub(crate) fn by_low_nibble(table: u8x16, v: u8x16) -> u8x16
+    ensures { result ≡ map (λ b. slice_index table (b % 16)) v }
+{
+    table.swizzle_dyn(v & u8x16::splat(15))
+}
+
+// The entries of a table of 16, indexed by the high nibbles of the bytes.
+#[inline(always)]
+pub(crate) fn by_high_nibble(table: u8x16, v: u8x16) -> u8x16
+    ensures { result ≡ map (λ b. slice_index table (b / 16)) v }
+{
+    table.swizzle_dyn(v >> u8x16::splat(4))
+}
+
+// A set of bytes as two bit tables: `low` for the bytes below 128, and `high` for the others. The low nibble of a byte
+// selects the entry, and the high nibble the bit, which is set if the byte is in the set.
+#[derive(Clone, Copy)]
+pub(crate) struct ByteSet {
+    pub low: u8x16,
+    pub high: u8x16,
+}
+
+/// A set together with the 256 flags that it was made of.
+#[derive(Clone, Copy)]
+pub(crate) struct FlagSet<'a> {
+    pub set: ByteSet,
+    pub flags: &'a [bool; 256],
+    ghost same: { IsSetOf set flags.now },
+}
+
+impl FlagSet<'_> {
+    ghost use Rattle.ptflow.specs.Private.Vectors.ByteSets.{set_has};
+
+    // Checks whether a byte is in the set.
+    #[inline(always)]
+    pub(crate) fn contains(self, byte: u8) -> bool
+        ensures { result ≡ set_has self.entry.set byte }
+    {
+        self.flags[usize::from(byte)]
+    }
+}
+
+impl ByteSet {
+    ghost use Rattle.ptflow.specs.Private.Vectors.ByteSets.{IsSetOf, set_has, mask_of};
+
+    // The set of the bytes whose flag is set.
+    pub(crate) fn of(flags: &[bool; 256]) -> ByteSet
+        ensures { IsSetOf result flags.now }
+    {
+        let mut low = [0; 16];
+        let mut high = [0; 16];
+        for byte in 0..128 {
+            low[byte % 16] |= u8::from(flags[byte]) << (byte / 16);
+            high[byte % 16] |= u8::from(flags[128 + byte]) << (byte / 16);
+        }
+        ByteSet {
+            low: u8x16::from_array(low),
+            high: u8x16::from_array(high),
+        }
+    }
+
+    // The lane mask of the bytes that are in the set.
+    #[inline(always)]
+    pub(crate) fn test(self, v: u8x16) -> Mask<i8, 16>
+        ensures { result ≡ mask_of (set_has self) v }
+    {
+        let is_low = v.simd_lt(u8x16::splat(128));
+        let row = is_low.select(by_low_nibble(self.low, v), by_low_nibble(self.high, v));
+        let bit = by_high_nibble(u8x16::from_array(BITS), v);
+        (row & bit).simd_eq(bit)
+    }
+}

@@ -1,0 +1,104 @@
+//! Appends the selected bytes of a vector of 16 bytes to an output buffer (`compress16`), or a chunk of 64 bytes of
+//! which all are selected (`copy_chunk`). `filter` and `squeeze` use both, on a `Block`. The rows of the
+//! `CompressTable`, which `tr` makes, are byte shuffles that move the selected bytes of eight to the front.
+
+ghost use Rattle.std.specs.Prelude.{◌≡◌, ◌≤◌, ◌+◌, ◌++◌, ℕ, List, Bool, length, take};
+ghost use Rattle.std.specs.Simd.Lanes.{mask_l, chunk};
+ghost use Rattle.ptflow.specs.Private.Vectors.Compress.{ChunkPre, IsCompressTable, IsCompressRow, select_by};
+
+use std::array;
+use std::simd::prelude::*;
+
+/// A block of at most 8,192 bytes. A buffer of 8,224 bytes has room for the selected ones, even if a whole vector is
+/// stored after the last of them.
+#[derive(Clone, Copy)]
+pub(crate) struct Block<'a> {
+    pub bytes: &'a [u8],
+    ghost small: { length bytes.now ≤ 8192 },
+}
+
+// For each mask of eight flags, the indices of those that are set, in order.
+#[derive(Clone, Copy)]
+pub(crate) struct CompressTable {
+    rows: [[u8; 16]; 256],
+    ghost is_table: { IsCompressTable rows },
+}
+
+// The indices of the set bits of a mask.
+fn compress_row(mask: usize) -> [u8; 16]
+    ensures { (flags : List Bool) → length flags ≡ 8 → mask ≡ mask_l flags → IsCompressRow flags result }
+{
+    let mut row = [0; 16];
+    let mut count = 0;
+    for index in 0..8u8 {
+        row[count] = index;
+        count += mask >> index & 1;
+    }
+    row
+}
+
+impl CompressTable {
+    // The table with the rows of all 256 masks.
+    pub fn new() -> CompressTable {
+        CompressTable {
+            rows: array::from_fn(compress_row),
+        }
+    }
+}
+
+// Appends the 64 bytes at index `at` to the first `count` bytes of `into`.
+#[inline(always)]
+pub(crate) fn copy_chunk(block: Block, at: usize, into: &mut [u8; 8224], count: usize)
+    requires { ChunkPre block.bytes.now at count }
+    ensures { take (count + 64) into.new ≡ take count into.old ++ chunk at 64 block.entry.bytes.now }
+{
+    let from = block.bytes;
+    let into: &mut [u8] = into;
+    u8x64::from_slice(&from[at..]).copy_to_slice(&mut into[count..]);
+}
+
+// Appends to the first `at` bytes of `into` the bytes of those of the first eight lanes of `v` whose bit in `keep` is
+// set. Returns the new count.
+#[inline(always)]
+fn compress8(
+    compress_table: &CompressTable,
+    v: u8x16,
+    keep: u8,
+    into: &mut [u8; 8224],
+    at: usize,
+) -> usize
+    requires { at ≤ 8208 }
+    ensures packed { (flags : List Bool) → length flags ≡ 8 → keep ≡ mask_l flags
+        → take result into.new ≡ take at into.old ++ select_by flags v }
+    ensures end { (at ≤ result) × (result ≤ at + 8) }
+{
+    let into: &mut [u8] = into;
+    let indices = u8x16::from_array(compress_table.rows[usize::from(keep)]);
+    v.swizzle_dyn(indices).copy_to_slice(&mut into[at..]);
+    at + keep.count_ones() as usize
+}
+
+// Appends to the first `at` bytes of `into` the bytes of those lanes of `v` whose bit in `keep` is set. Returns the new
+// count. The bytes of `into` after these may change.
+#[inline(always)]
+pub(crate) fn compress16(
+    compress_table: &CompressTable,
+    v: u8x16,
+    keep: u64,
+    into: &mut [u8; 8224],
+    at: usize,
+) -> usize
+    requires { at ≤ 8200 }
+    ensures packed { (flags : List Bool) → length flags ≡ 16 → keep ≡ mask_l flags
+        → take result into.new ≡ take at into.old ++ select_by flags v }
+    ensures end { (at ≤ result) × (result ≤ at + 16) }
+{
+    let half = compress8(compress_table, v, (keep & 255) as u8, into, at);
+    compress8(
+        compress_table,
+        v.rotate_elements_left::<8>(),
+        (keep >> 8 & 255) as u8,
+        into,
+        half,
+    )
+}

@@ -1,0 +1,162 @@
+//! Maps bytes, 16 at a time: by ranges with a shift each, or by any other `ByteMap`. `tr` and `paste -s` use it.
+
+ghost use Rattle.std.specs.Prelude.{◌≡◌, ◌<◌, ◌≤◌, ◌+◌, ◌++◌, ℕ, length, map, take};
+ghost use Rattle.ptlangs.specs.TrShifts.{image_of_shifts};
+ghost use Rattle.ptflow.specs.Private.Vectors.Shift.{IsMappedTo};
+
+use ptlangs::Shifts;
+use std::simd::prelude::*;
+
+/// A map of bytes that is applied to 16 bytes at once.
+pub(crate) trait ByteMap: Copy {
+    ghost map_byte: { Self → ℕ → ℕ };
+
+    /// The images of 16 bytes.
+    fn map16(self, v: u8x16) -> u8x16
+        ensures { result ≡ map (map_byte self) v };
+}
+
+// Stores the images of 16 bytes at index `at`.
+#[inline(always)]
+fn map_at<M: ByteMap>(by: M, v: u8x16, to: &mut [u8], at: usize)
+    requires { at + 16 ≤ length to.old }
+    ensures long { length to.new ≡ length to.old }
+    ensures stored { take (at + 16) to.new ≡ take at to.old ++ map (M.map_byte by) v }
+{
+    by.map16(v).copy_to_slice(&mut to[at..]);
+}
+
+/// Maps all but the last bytes, 32 at a time. Returns how many were mapped.
+#[inline(always)]
+pub(crate) fn map_chunks<M: ByteMap>(by: M, from: &[u8], to: &mut [u8]) -> usize
+    requires { length to.old ≡ length from.now }
+    ensures { IsMappedTo result (M.map_byte by) from.now to.new }
+{
+    let mut at = 0;
+    while from.len() - at >= 32 {
+        map_at(by, u8x16::from_slice(&from[at..]), to, at);
+        map_at(by, u8x16::from_slice(&from[at + 16..]), to, at + 16);
+        at += 32;
+    }
+    at
+}
+
+/// A range of bytes and its shift: the first byte, the distance of the last one from it, and the value to add.
+#[derive(Clone, Copy)]
+struct ShiftRange {
+    first: u8,
+    width: u8,
+    by: u8,
+}
+
+impl ShiftRange {
+    ghost use Rattle.ptflow.specs.Private.Vectors.Shift.{range_delta, stretch_delta};
+
+    // The range from a first to a last byte with a shift. Without a range, no byte is changed.
+    fn of(range: Option<(u8, u8, u8)>) -> ShiftRange
+        ensures { (b : ℕ) → b < 256 → range_delta result b ≡ stretch_delta range b }
+    {
+        match range {
+            Some((first, last, by)) if first <= last => ShiftRange {
+                first,
+                width: last - first,
+                by,
+            },
+            _ => ShiftRange {
+                first: 0,
+                width: 0,
+                by: 0,
+            },
+        }
+    }
+
+    // The values that are added to the bytes of a vector.
+    #[inline(always)]
+    fn deltas16(self, v: u8x16) -> u8x16
+        ensures { result ≡ map (range_delta self) v }
+    {
+        let offset = v - u8x16::splat(self.first);
+        offset
+            .simd_le(u8x16::splat(self.width))
+            .select(u8x16::splat(self.by), u8x16::splat(0))
+    }
+}
+
+impl ByteMap for ShiftRange {
+    ghost use Rattle.ptflow.specs.Private.Vectors.Shift.{shift_by_range};
+
+    ghost map_byte = { shift_by_range };
+
+    #[inline(always)]
+    fn map16(self, v: u8x16) -> u8x16 {
+        v + self.deltas16(v)
+    }
+}
+
+/// The map that adds the shifts of two ranges.
+#[derive(Clone, Copy)]
+struct TwoShifts {
+    a: ShiftRange,
+    b: ShiftRange,
+}
+
+impl ByteMap for TwoShifts {
+    ghost use Rattle.ptflow.specs.Private.Vectors.Shift.{shift_by_two};
+
+    ghost map_byte = { shift_by_two };
+
+    #[inline(always)]
+    fn map16(self, v: u8x16) -> u8x16 {
+        v + self.a.deltas16(v) + self.b.deltas16(v)
+    }
+}
+
+/// The map that adds the shifts of four ranges.
+#[derive(Clone, Copy)]
+struct FourShifts {
+    a: ShiftRange,
+    b: ShiftRange,
+    c: ShiftRange,
+    d: ShiftRange,
+}
+
+impl ByteMap for FourShifts {
+    ghost use Rattle.ptflow.specs.Private.Vectors.Shift.{shift_by_four};
+
+    ghost map_byte = { shift_by_four };
+
+    #[inline(always)]
+    fn map16(self, v: u8x16) -> u8x16 {
+        v + self.a.deltas16(v) + self.b.deltas16(v) + self.c.deltas16(v) + self.d.deltas16(v)
+    }
+}
+
+// Maps all but the last bytes by the shifts, 32 at a time. Returns how many were mapped.
+fn translate_chunks(shifts: &Shifts, from: &[u8], to: &mut [u8]) -> usize
+    requires { length to.old ≡ length from.now }
+    ensures { IsMappedTo result (image_of_shifts shifts.now) from.now to.new }
+{
+    let a = ShiftRange::of(shifts.stretch(0));
+    let b = ShiftRange::of(shifts.stretch(1));
+    if shifts.stretch(1).is_none() {
+        return map_chunks(a, from, to);
+    }
+    if shifts.stretch(2).is_none() {
+        return map_chunks(TwoShifts { a, b }, from, to);
+    }
+    let c = ShiftRange::of(shifts.stretch(2));
+    let d = ShiftRange::of(shifts.stretch(3));
+    map_chunks(FourShifts { a, b, c, d }, from, to)
+}
+
+/// Stores the images of the bytes of `from` by the shifts in `to`. Both slices have the same length.
+pub fn translate(shifts: &Shifts, from: &[u8], to: &mut [u8])
+    requires { length to.old ≡ length from.now }
+    ensures { to.new ≡ map (image_of_shifts shifts.now) from.now }
+{
+    let mut at = translate_chunks(shifts, from, to);
+    while at < from.len() {
+        to[at] = shifts.image(from[at]);
+        at += 1;
+    }
+}

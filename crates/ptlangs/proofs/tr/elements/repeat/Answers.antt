@@ -1,0 +1,7 @@
+use Rattle.ptlangs.proofs.Common.{drop, is_ascii_digit, chars}
+use Rattle.ptlangs.proofs.TrPlainRuns.{AllPass-run}
+use Rattle.ptlangs.proofs.tr.elements.repeat.Goals as goal
+
+pub read_count-requires : goal.read_count-requires
+read_count-requires c =
+    AllPass-run is_ascii_digit _ (chars (drop c.in_ok-digits.digits c.args.text.now)) c.after_digits-end.ensures.run

@@ -1,0 +1,6 @@
+-- The byte plus the numbers that the stretches so far add to it, modulo 256.
+use Rattle.ptlangs.proofs.Common.{◌≡◌, ◌+◌, ◌%◌, take, sum_by, shift_at}
+use Rattle.ptlangs.proofs.tr.shifts.Shifts.image.Given as goal
+
+abbrev pub invariant-loop-stretch : goal.invariant-loop-stretch
+invariant-loop-stretch l = l.image ≡ (l.byte + sum_by (λ s. shift_at s l.byte) (take l.stretch-index l.stretch-items)) % 256

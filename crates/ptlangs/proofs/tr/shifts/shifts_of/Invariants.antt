@@ -1,0 +1,9 @@
+-- The loop goes from the end of the table to its start. The stretches are those of the bytes from the index on.
+use Rattle.ptlangs.proofs.Common.{◌≡◌, ◌≤◌, drop, stretches_from}
+use Rattle.ptlangs.proofs.tr.shifts.shifts_of.Given as goal
+
+abbrev pub invariant-loop-index : goal.invariant-loop-index
+invariant-loop-index l = (l.index ≤ 256) × (l.shifts ≡ stretches_from l.index (drop l.index l.fn.images))
+
+abbrev pub decreases-loop-index : goal.decreases-loop-index
+decreases-loop-index l = l.index

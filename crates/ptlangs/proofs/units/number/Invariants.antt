@@ -1,6 +1,0 @@
--- The value is that of the digits so far, and is within the limit.
-use Rattle.ptlangs.proofs.Common.{◌≡◌, ◌≤◌, take, digits_value}
-use Rattle.ptlangs.proofs.units.number.Given as goal
-
-abbrev pub invariant-loop-digit : goal.invariant-loop-digit
-invariant-loop-digit l = (l.value ≡ digits_value l.base (take l.digit-index l.digits)) × (l.value ≤ l.limit)

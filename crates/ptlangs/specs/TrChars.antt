@@ -1,0 +1,96 @@
+-- The characters of a string of `tr`: plain bytes and escapes (POSIX.1-2017, XCU, `tr`, "EXTENDED DESCRIPTION").
+use Rattle.std.specs.Prelude.{◌≡◌, ◌≢◌, ◌↔◌, ◌≤◌, ◌<◌, ℕ, zero, suc, ◌==◌, List, [], ◌∷◌, ◌++◌, Bool, true, false, if◌then◌else◌, nat_le, take, take_while, length, Result, Ok, Err}
+use Rattle.std.specs.List.{find}
+use Rattle.std.specs.Option.{option_map_or}
+use Rattle.std.specs.Int.{is_in_range}
+use Rattle.std.specs.Str.Parse.{digits_value}
+use Rattle.std.specs.Str.{byte}
+use Rattle.ptlangs.specs.declared.tr.chars.SetChar.{SetChar}
+use Rattle.ptlangs.specs.declared.tr.chars.SetChar.TheVariants.{Plain, Escaped, Invalid}
+use Rattle.ptlangs.specs.declared.faults.SetFaultKind.{SetFaultKind}
+use Rattle.ptlangs.specs.declared.faults.SetFaultKind.TheVariants.{Octal, Escape}
+
+-- the byte that a character denotes, or the fault of its escape
+abbrev pub byte_of : SetChar → Result ℕ SetFaultKind
+byte_of (Plain b) = Ok b
+byte_of (Escaped b) = Ok b
+byte_of (Invalid k) = Err k
+
+-- the byte is an octal digit
+abbrev pub is_octal_digit : ℕ → Bool
+is_octal_digit b = is_in_range (byte "0") (byte "7") b
+
+-- the letters of the escapes that denote a control character, each with that character
+abbrev pub letter_escapes : List (ℕ × ℕ)
+letter_escapes =
+    (byte "a", 7) ∷ (byte "b", 8) ∷ (byte "f", 12) ∷ (byte "n", 10) ∷ (byte "r", 13) ∷ (byte "t", 9) ∷ (byte "v", 11) ∷ []
+
+-- the byte that a backslash before `c` denotes: `c` itself, unless `c` is one of `letter_escapes`
+abbrev pub byte_of_escape : ℕ → ℕ
+byte_of_escape c = option_map_or (λ (p : ℕ × ℕ). p.1) (find (λ (p : ℕ × ℕ). p.0 == c) letter_escapes) c
+
+-- the octal digits of an escape, all that there are up to three, before the rest
+
+-- the bytes start with an octal digit
+abbrev pub starts_octal : List ℕ → Bool
+starts_octal [] = false
+starts_octal (b ∷ bs) = is_octal_digit b
+
+-- the octal digits of an escape, at most three and as many as there are, before the rest
+pub data IsOctalRun : List ℕ → List ℕ → Type 0 where
+  OneDigit : (a : ℕ) (rest : List ℕ) → is_octal_digit a ≡ true → starts_octal rest ≡ false → IsOctalRun (a ∷ []) rest
+  TwoDigits : (a b : ℕ) (rest : List ℕ) → is_octal_digit a ≡ true → is_octal_digit b ≡ true → starts_octal rest ≡ false
+      → IsOctalRun (a ∷ b ∷ []) rest
+  ThreeDigits : (a b c : ℕ) (rest : List ℕ) → is_octal_digit a ≡ true → is_octal_digit b ≡ true → is_octal_digit c ≡ true
+      → IsOctalRun (a ∷ b ∷ c ∷ []) rest
+
+-- the bytes start with the character, and the rest comes after it
+pub data SpellsChar : List ℕ → SetChar → List ℕ → Type 0 where
+  APlainByte : (b : ℕ) (rest : List ℕ) → b ≢ byte "\\" → SpellsChar (b ∷ rest) (Plain b) rest
+  AnOctal : (digits rest : List ℕ) → IsOctalRun digits rest → digits_value 8 digits ≤ 255
+      → SpellsChar (byte "\\" ∷ digits ++ rest) (Escaped (digits_value 8 digits)) rest
+  ALargeOctal : (digits rest : List ℕ) → IsOctalRun digits rest → 255 < digits_value 8 digits
+      → SpellsChar (byte "\\" ∷ digits ++ rest) (Invalid Octal) rest
+  AnEscape : (b : ℕ) (rest : List ℕ) → is_octal_digit b ≡ false
+      → SpellsChar (byte "\\" ∷ b ∷ rest) (Escaped (byte_of_escape b)) rest
+  ALoneBackslash : SpellsChar (byte "\\" ∷ []) (Invalid Escape) []
+
+-- the bytes are these characters, one after another
+pub data SpellsChars : List ℕ → List SetChar → Type 0 where
+  NoChar : SpellsChars [] []
+  AChar : (bs rest : List ℕ) (u : SetChar) (us : List SetChar) → SpellsChar bs u rest → SpellsChars rest us
+      → SpellsChars bs (u ∷ us)
+
+-- ---- functions that compute the grammar
+
+-- the octal digits after a backslash: at most three
+abbrev pub octal_run : List ℕ → List ℕ
+octal_run bs = take_while is_octal_digit (take 3 bs)
+
+-- the character of an octal escape; a value above 255 is a fault
+abbrev pub octal : ℕ → SetChar
+octal value = if nat_le value 255 then Escaped value else Invalid Octal
+
+-- the character of a backslash before these bytes, and the number of these bytes that it takes
+abbrev pub after_backslash : List ℕ → SetChar × ℕ
+after_backslash [] = (Invalid Escape, 0)
+after_backslash (c ∷ bs) =
+    if is_octal_digit c then (octal (digits_value 8 (octal_run (c ∷ bs))), length (octal_run (c ∷ bs))) else (Escaped (byte_of_escape c), 1)
+
+-- the character that starts with byte `b`, and the number of the bytes after `b` that it takes
+abbrev pub char_at : ℕ → List ℕ → SetChar × ℕ
+char_at b bs = if b == byte "\\" then after_backslash bs else (Plain b, 0)
+
+-- the characters of the bytes after the first `skip` bytes
+abbrev pub chars_after : List ℕ → ℕ → List SetChar
+chars_after [] skip = []
+chars_after (b ∷ bs) zero = (char_at b bs).0 ∷ chars_after bs (char_at b bs).1
+chars_after (b ∷ bs) (suc skip) = chars_after bs skip
+
+-- the characters of the bytes
+abbrev pub chars : List ℕ → List SetChar
+chars bs = chars_after bs 0
+
+-- `chars` gives the characters of the grammar, and only those
+abbrev pub CharsMatchGrammar : Type 0
+CharsMatchGrammar = (bs : List ℕ) (us : List SetChar) → SpellsChars bs us ↔ (chars bs ≡ us)

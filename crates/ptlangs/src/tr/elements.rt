@@ -1,0 +1,250 @@
+//! Reads one element of a string of `tr` at a given index: a single character, a range, or one of the bracketed forms
+//! `[x*n]`, `[:class:]` and `[=x=]` (POSIX.1-2017, XCU, `tr`, "EXTENDED DESCRIPTION"). `segments` reads a whole string
+//! by calls of `element_at`. A function that reads text at an index returns the index after that text.
+ghost use Rattle.std.specs.Prelude.{◌≡◌, ◌≢◌, ◌+◌, ◌<◌, ◌≤◌, ◌∷◌, [], ℕ, List, Some, length, drop, option_map, IfSome, IfOk, slice_range};
+ghost use Rattle.std.specs.List.{take_while, list_all, AllPass};
+ghost use Rattle.std.specs.Result.{result_map_both};
+ghost use Rattle.std.specs.Char.{is_ascii_digit, is_ascii_lowercase};
+ghost use Rattle.ptlangs.specs.declared.faults.SetFaultKind.{SetFaultKind};
+ghost use Rattle.ptlangs.specs.TrChars.{is_octal_digit, chars, CharsMatchGrammar};
+ghost use Rattle.ptlangs.specs.TrElements.{after_plain, after_two, after_run, plain_run, repeat_at, class_at, equivalence_at, bracketed_inside, bracketed_at, first_set_element, single_or_range, repeat_count, ElementsMatchGrammar};
+ghost use Rattle.ptlangs.specs.TrPlan.{FirstFaultIsReported};
+ghost use Rattle.ptlangs.specs.TrParsing.{element_and_rest, ok_map, chars_from};
+
+use crate::faults::SetFaultKind;
+use crate::tr::chars::{SetChar, is_octal, next_char, number};
+use crate::tr::classes::CharClass;
+
+/// An element of a string.
+#[derive(Clone, Copy)]
+pub(crate) enum SetElement {
+    /// One byte.
+    Single(u8),
+    /// The bytes from the first to the second, which is not below the first.
+    Range(u8, u8),
+    /// `[:class:]`: the class, or `None` for an unknown name.
+    Class(Option<CharClass>),
+    /// `[=c=]`.
+    Equivalence(u8),
+    /// `[x*n]`: the byte and the count, or `None` for an invalid count. A count of 0 is a fill.
+    Repeat(u8, Option<u16>),
+}
+
+/// The index after `byte`, if the text has it at `at`.
+#[tactic(auto, using(crate::proofs::TrPlainRuns::after_plain_steps))]
+fn after_byte(text: &[u8], at: usize, byte: u8) -> Option<usize>
+    requires plain { byte ≢ 92 }
+    requires within { at ≤ length text.now }
+    ensures reads { option_map (chars_from text.now) result ≡ after_plain byte (chars_from text.now at) }
+    ensures next { IfSome result (λ i. i ≡ at + 1) }
+    ensures within { IfSome result (λ i. i ≤ length text.now) }
+{
+    if at < text.len() && text[at] == byte {
+        Some(at + 1)
+    } else {
+        None
+    }
+}
+
+/// The index after `first` and `second`, if the text has both at `at`.
+fn after_bytes(text: &[u8], at: usize, first: u8, second: u8) -> Option<usize>
+    requires plain { first ≢ 92 }
+    requires plain_second { second ≢ 92 }
+    requires within { at ≤ length text.now }
+    ensures reads { option_map (chars_from text.now) result
+        ≡ after_two first second (chars_from text.now at) }
+    ensures onward { IfSome result (λ i. at < i) }
+    ensures within { IfSome result (λ i. i ≤ length text.now) }
+{
+    let next = after_byte(text, at, first)?;
+    after_byte(text, next, second)
+}
+
+/// The number of digits at the start.
+fn digits_len(bytes: &[u8]) -> usize
+    ensures { result ≡ length (take_while is_ascii_digit bytes.now) }
+{
+    bytes.iter().take_while(|b| (**b).is_ascii_digit()).count()
+}
+
+/// The number of lower-case letters at the start.
+fn letters_len(bytes: &[u8]) -> usize
+    ensures { result ≡ length (take_while is_ascii_lowercase bytes.now) }
+{
+    bytes
+        .iter()
+        .take_while(|b| (**b).is_ascii_lowercase())
+        .count()
+}
+
+/// The index after the digits at `at`.
+fn after_digits(text: &[u8], at: usize) -> usize
+    requires { at ≤ length text.now }
+    ensures run { slice_range text.now at result
+        ≡ plain_run is_ascii_digit (chars_from text.now at) }
+    ensures reads { chars_from text.now result
+        ≡ after_run is_ascii_digit (chars_from text.now at) }
+    ensures onward { at ≤ result }
+    ensures within { result ≤ length text.now }
+{
+    at + digits_len(&text[at..])
+}
+
+/// The index after the lower-case letters at `at`.
+fn after_letters(text: &[u8], at: usize) -> usize
+    requires { at ≤ length text.now }
+    ensures run { slice_range text.now at result
+        ≡ plain_run is_ascii_lowercase (chars_from text.now at) }
+    ensures reads { chars_from text.now result
+        ≡ after_run is_ascii_lowercase (chars_from text.now at) }
+    ensures onward { at ≤ result }
+    ensures within { result ≤ length text.now }
+{
+    at + letters_len(&text[at..])
+}
+
+/// Whether all of these are octal digits.
+fn are_octal(digits: &[u8]) -> bool
+    ensures { result ≡ list_all is_octal_digit digits.now }
+{
+    digits.iter().all(|d| is_octal(*d))
+}
+
+/// The count of a repeat from its digits: octal after a leading zero, else decimal.
+fn read_count(digits: &[u8]) -> Option<u16>
+    requires { AllPass is_ascii_digit digits.now }
+    ensures { result ≡ repeat_count digits.now }
+{
+    if digits.is_empty() {
+        return Some(0);
+    }
+    if digits[0] != b'0' {
+        return Some(number(digits, 10, 65535)? as u16);
+    }
+    if !are_octal(digits) {
+        return None;
+    }
+    Some(number(digits, 8, 65535)? as u16)
+}
+
+/// `[x*n]` from the index after its opening bracket.
+fn repeat(text: &[u8], at: usize) -> Option<(SetElement, usize)>
+    requires { at ≤ length text.now }
+    ensures reads { option_map (element_and_rest text.now) result ≡ repeat_at (chars_from text.now at) }
+    ensures onward { IfSome result (λ r. at < r.1) }
+    ensures within { IfSome result (λ r. r.1 ≤ length text.now) }
+{
+    if at == text.len() {
+        return None;
+    }
+    let (next_char, star) = next_char(text, at);
+    let byte = next_char.byte().ok()?;
+    let digits = after_byte(text, star, b'*')?;
+    let end = after_digits(text, digits);
+    let next = after_byte(text, end, b']')?;
+    Some((
+        SetElement::Repeat(byte, read_count(&text[digits..end])),
+        next,
+    ))
+}
+
+/// `[:class:]` from the index after its opening bracket.
+fn class(text: &[u8], at: usize) -> Option<(SetElement, usize)>
+    requires { at ≤ length text.now }
+    ensures reads { option_map (element_and_rest text.now) result ≡ class_at (chars_from text.now at) }
+    ensures onward { IfSome result (λ r. at < r.1) }
+    ensures within { IfSome result (λ r. r.1 ≤ length text.now) }
+{
+    let name = after_byte(text, at, b':')?;
+    let end = after_letters(text, name);
+    if end == name {
+        return None;
+    }
+    let next = after_bytes(text, end, b':', b']')?;
+    Some((
+        SetElement::Class(CharClass::from_name(&text[name..end])),
+        next,
+    ))
+}
+
+/// `[=x=]` from the index after its opening bracket.
+fn equivalence(text: &[u8], at: usize) -> Option<(SetElement, usize)>
+    requires { at ≤ length text.now }
+    ensures reads { option_map (element_and_rest text.now) result
+        ≡ equivalence_at (chars_from text.now at) }
+    ensures onward { IfSome result (λ r. at < r.1) }
+    ensures within { IfSome result (λ r. r.1 ≤ length text.now) }
+{
+    let start = after_byte(text, at, b'=')?;
+    if start == text.len() {
+        return None;
+    }
+    let (next_char, end) = next_char(text, start);
+    let byte = next_char.byte().ok()?;
+    let next = after_bytes(text, end, b'=', b']')?;
+    Some((SetElement::Equivalence(byte), next))
+}
+
+/// A bracketed form at `at`, and the index after it.
+fn bracketed(text: &[u8], at: usize) -> Option<(SetElement, usize)>
+    requires { at ≤ length text.now }
+    ensures reads { option_map (element_and_rest text.now) result ≡ bracketed_at (chars_from text.now at) }
+    ensures onward { IfSome result (λ r. at < r.1) }
+    ensures within { IfSome result (λ r. r.1 ≤ length text.now) }
+{
+    let inside = after_byte(text, at, b'[')?;
+    if let Some(found) = repeat(text, inside) {
+        return Some(found);
+    }
+    if let Some(found) = class(text, inside) {
+        return Some(found);
+    }
+    equivalence(text, inside)
+}
+
+/// The element at `at`, and the index after it.
+///
+/// # Errors
+///
+/// The fault of the character or the range at `at`.
+pub(crate) fn element_at(text: &[u8], at: usize) -> Result<(SetElement, usize), SetFaultKind>
+    requires { at < length text.now }
+    ensures reads { ok_map (element_and_rest text.now) result ≡ first_set_element (chars_from text.now at) }
+    ensures onward { IfOk result (λ r. at < r.1) }
+    ensures within { IfOk result (λ r. r.1 ≤ length text.now) }
+{
+    if let Some(found) = bracketed(text, at) {
+        return Ok(found);
+    }
+    let (next_char, next) = next_char(text, at);
+    let first = next_char.byte()?;
+    match after_byte(text, next, b'-') {
+        Some(upper) if upper < text.len() => range(text, first, upper),
+        _ => Ok((SetElement::Single(first), next)),
+    }
+}
+
+/// The range from `first` to the character at `at`, and the index after it.
+fn range(text: &[u8], first: u8, at: usize) -> Result<(SetElement, usize), SetFaultKind>
+    requires { at < length text.now }
+    ensures reads { ok_map (element_and_rest text.now) result
+        ≡ single_or_range first [] (Some (chars_from text.now at)) }
+    ensures onward { IfOk result (λ r. at < r.1) }
+    ensures within { IfOk result (λ r. r.1 ≤ length text.now) }
+{
+    let (next_char, next) = next_char(text, at);
+    let last = next_char.byte()?;
+    if last < first {
+        return Err(SetFaultKind::Descending);
+    }
+    Ok((SetElement::Range(first, last), next))
+}
+
+/// Does nothing at run time. Its contract states that the characters and elements that are read are those of the
+/// grammar of POSIX.1-2017 (XCU, `tr`), as `specs/TrChars.antt` and `specs/TrElements.antt` give it case by case, and
+/// that a string is rejected with the fault of its first faulty element.
+pub fn elements_match_grammar()
+    ensures chars { CharsMatchGrammar }
+    ensures elements { ElementsMatchGrammar }
+    ensures faults { FirstFaultIsReported }
+{}

@@ -1,0 +1,313 @@
+//! The plan of `tr`: for each byte, what happens to it (POSIX.1-2017, XCU, `tr`). `ptopts` makes a plan from the
+//! strings of a command line; `ptflow` applies it to the input.
+ghost use Rattle.std.specs.Prelude.{◌≡◌, ◌^◌, ◌<◌, [], ℕ, List, Ok, IfOk, IfSome, MatchOption, length, false, true, is_some, option_copied};
+ghost use Rattle.std.specs.Result.{result_map_both};
+ghost use Rattle.ptlangs.specs.declared.faults.SetFault.{SetFault};
+ghost use Rattle.ptlangs.specs.declared.faults.SetFaultKind.{SetFaultKind};
+ghost use Rattle.ptlangs.specs.declared.tr.segments.Segment.{Segment};
+ghost use Rattle.ptlangs.specs.TrPlan.{array, sequence, first_array, segments_of, plan, plan_of, second_plan, has_valid_classes as pairs, NoMemoryFault, class_offsets, second_role, string_segments, takes_second};
+ghost use Rattle.ptlangs.specs.TrTables.{tables, deletes, image, squeezes, TablesMatchPlan};
+ghost use Rattle.ptlangs.specs.TrShifts.{stretches, HasImagesOf};
+ghost use Rattle.ptlangs.specs.TrParsing.{String2HasSegments, ok_map, last_positions, second_array};
+
+use crate::faults::{SetFault, SetFaultKind, SetString};
+use crate::tr::images::{identity, images};
+use crate::tr::last_index::{LastIndex, no_bytes};
+use crate::tr::segments::SetRole;
+use crate::tr::shifts::{Shifts, shifts_of};
+use crate::tr::string2::String2;
+use std::marker::Model;
+
+/// The form of a command line of `tr`, given by its flags and the number of its strings.
+#[derive(Debug, Clone, Copy, PartialEq, Eq)]
+pub enum Form {
+    /// Two strings without `-d` and `-s`.
+    Translate,
+    /// Two strings with `-s`.
+    TranslateSqueeze,
+    /// One string with `-s`.
+    Squeeze,
+    /// One string with `-d`.
+    Delete,
+    /// Two strings with `-d` and `-s`.
+    DeleteSqueeze,
+}
+
+impl Form {
+    /// Whether the form has a second string.
+    pub fn takes_second(self) -> bool
+        ensures { result ≡ takes_second self }
+    {
+        match self {
+            Form::Translate | Form::TranslateSqueeze | Form::DeleteSqueeze => true,
+            Form::Squeeze | Form::Delete => false,
+        }
+    }
+
+    /// The role of the second string.
+    fn second_role(self) -> SetRole
+        ensures { result ≡ second_role self }
+    {
+        match self {
+            Form::DeleteSqueeze => SetRole::Squeezed,
+            _ => SetRole::Images,
+        }
+    }
+
+    /// Whether all classes of the second string are allowed. If the string is only squeezed, every class is. If it
+    /// translates, a class needs its other case at the same offset of the first string; a complement has no classes.
+    fn has_valid_classes(
+        self,
+        complement: bool,
+        s1: &[u8],
+        second: &String2,
+    ) -> Result<bool, SetFaultKind>
+        requires { second.now.fill < 2 ^ 100 }
+        ensures { (firsts ps : List Segment) → string_segments SetRole.First s1.now ≡ Ok firsts
+            → String2HasSegments second.now ps
+            → result ≡ Ok (pairs self complement
+            (class_offsets 0 0 firsts)
+            (class_offsets second.now.fill 0 ps)) }
+    {
+        match self {
+            Form::DeleteSqueeze => Ok(true),
+            _ if complement => second.are_paired(&[]),
+            _ => second.are_paired(s1),
+        }
+    }
+}
+
+/// Reads the array of the first string.
+fn read_first(complement: bool, s1: &[u8]) -> Result<LastIndex, SetFaultKind>
+    ensures positions { result
+        ≡ ok_map (λ (ps : List Segment). last_positions (first_array complement ps))
+        (string_segments SetRole.First s1.now) }
+    ensures bound { IfOk result (λ p. p.length < 2 ^ 90) }
+{
+    if s1.is_empty() {
+        return Err(SetFaultKind::Empty);
+    }
+    let first = LastIndex::read(SetRole::First, s1, 0)?;
+    Ok(if complement {
+        first.complement()
+    } else {
+        first
+    })
+}
+
+/// For each byte: whether it is deleted, its image, and whether its repeats are squeezed. Reading a plan from its
+/// strings allocates nothing.
+#[derive(Debug, Clone, Copy, PartialEq, Eq)]
+pub struct CharPlan {
+    deleted: [bool; 256],
+    images: [u8; 256],
+    squeezed: [bool; 256],
+}
+
+impl Model for CharPlan {
+    ghost use Rattle.ptlangs.specs.TrTables.{Tables};
+
+    ghost Value = { Tables };
+
+    ghost view = { λ p. record { deleted = p.deleted; images = p.images; squeezed = p.squeezed } };
+
+    ghost inverse = { λ t.
+        record { deleted = t.deleted; images = t.images; squeezed = t.squeezed } };
+}
+
+impl CharPlan {
+    /// Reads the plan of the strings: of `s1`, and of `s2` if the form has two strings. With `complement` the array of
+    /// `s1` is that of all other bytes, ascending by value.
+    ///
+    /// The strings are read as POSIX.1-2017 defines them (XCU, `tr`, "EXTENDED DESCRIPTION"), in the POSIX locale over
+    /// ASCII: one byte is one character, and order is by value. In cases that POSIX leaves unspecified:
+    ///
+    /// - A second array that is shorter than the first is padded with its last byte. If it is longer, the rest is not
+    ///   used to translate.
+    /// - If the first array contains a byte twice, its last index counts.
+    /// - Squeezing uses the whole second array.
+    /// - `[c*]` fills up to the length of the first array in every form.
+    /// - A class is not recognized as the upper bound of a range.
+    /// - A class does not pair with a complement.
+    ///
+    /// # Errors
+    ///
+    /// The leftmost fault of `s1`, else that of `s2`, else a class of `s2` without its other case at the same offset of
+    /// `s1`. `SetFaultKind::Memory` is never returned.
+    pub fn read(
+        form: Form,
+        complement: bool,
+        s1: &[u8],
+        s2: Option<&[u8]>,
+    ) -> Result<CharPlan, SetFault>
+        requires { takes_second form ≡ is_some s2 }
+        ensures { result
+            ≡ ok_map tables (plan form complement s1.now (option_copied s2.entry)) }
+    {
+        let first = match read_first(complement, s1) {
+            Ok(first) => first,
+            Err(kind) => {
+                return Err(SetFault {
+                    string: SetString::First,
+                    kind,
+                });
+            }
+        };
+        let Some(s2) = s2 else {
+            return Ok(CharPlan::of_one(form, &first));
+        };
+        match CharPlan::of_two(form, complement, s1, &first, s2) {
+            Ok(plan) => Ok(plan),
+            Err(kind) => Err(SetFault {
+                string: SetString::Second,
+                kind,
+            }),
+        }
+    }
+
+    /// The plan of one string, from its array.
+    fn of_one(form: Form, first: &LastIndex) -> CharPlan
+        requires { takes_second form ≡ false }
+        ensures { (bytes : List ℕ) → first.now ≡ last_positions bytes
+            → result ≡ tables (plan_of form bytes []) }
+    {
+        match form {
+            Form::Delete => CharPlan {
+                deleted: first.membership(),
+                images: identity(),
+                squeezed: no_bytes(),
+            },
+            _ => CharPlan {
+                deleted: no_bytes(),
+                images: identity(),
+                squeezed: first.membership(),
+            },
+        }
+    }
+
+    /// The plan of two strings, from the array of the first.
+    fn of_two(
+        form: Form,
+        complement: bool,
+        s1: &[u8],
+        first: &LastIndex,
+        s2: &[u8],
+    ) -> Result<CharPlan, SetFaultKind>
+        requires form { takes_second form ≡ true }
+        requires bound { first.now.length < 2 ^ 90 }
+        ensures { (firsts : List Segment) → string_segments SetRole.First s1.now ≡ Ok firsts
+            → first.now ≡ last_positions (first_array complement firsts)
+            → result ≡ ok_map tables (second_plan form complement firsts s2.now) }
+    {
+        if s2.is_empty() {
+            return Err(SetFaultKind::Empty);
+        }
+        let role = form.second_role();
+        let unfilled = LastIndex::read(role, s2, 0)?;
+        let second = String2 {
+            role,
+            text: s2,
+            fill: first.len().saturating_sub(unfilled.len()),
+        };
+        if !form.has_valid_classes(complement, s1, &second)? {
+            return Err(SetFaultKind::ClassPlace);
+        }
+        let positions = LastIndex::read(role, s2, second.fill)?;
+        CharPlan::of_arrays(form, first, &second, &positions)
+    }
+
+    /// The plan of two strings, from both arrays.
+    fn of_arrays(
+        form: Form,
+        first: &LastIndex,
+        second: &String2,
+        positions: &LastIndex,
+    ) -> Result<CharPlan, SetFaultKind>
+        requires { takes_second form ≡ true }
+        ensures { (bytes : List ℕ) (ps : List Segment) → first.now ≡ last_positions bytes
+            → String2HasSegments second.now ps → positions.now ≡ last_positions (second_array second.now ps)
+            → result ≡ Ok (tables (plan_of form bytes (second_array second.now ps))) }
+    {
+        match form {
+            Form::DeleteSqueeze => Ok(CharPlan {
+                deleted: first.membership(),
+                images: identity(),
+                squeezed: positions.membership(),
+            }),
+            Form::TranslateSqueeze => Ok(CharPlan {
+                deleted: no_bytes(),
+                images: images(first, second, positions.len())?,
+                squeezed: positions.membership(),
+            }),
+            _ => Ok(CharPlan {
+                deleted: no_bytes(),
+                images: images(first, second, positions.len())?,
+                squeezed: no_bytes(),
+            }),
+        }
+    }
+
+    /// Whether `byte` is deleted.
+    pub fn deletes(&self, byte: u8) -> bool
+        ensures { result ≡ deletes self.now byte }
+    {
+        self.deleted[usize::from(byte)]
+    }
+
+    /// The image of `byte`, if it is not deleted.
+    pub fn image(&self, byte: u8) -> u8
+        ensures { result ≡ image self.now byte }
+    {
+        self.images[usize::from(byte)]
+    }
+
+    /// Whether repeats of `byte` are squeezed to one, after deletion and translation.
+    pub fn squeezes(&self, byte: u8) -> bool
+        ensures { result ≡ squeezes self.now byte }
+    {
+        self.squeezed[usize::from(byte)]
+    }
+
+    /// For each byte, whether it is deleted.
+    pub fn deleted(&self) -> &[bool; 256]
+        ensures { result.now ≡ self.now.deleted }
+    {
+        &self.deleted
+    }
+
+    /// The plan as at most four stretches of adjacent bytes, each with one number that is added to its bytes. A byte
+    /// that is its own image is in none. `None` if there are more than four. Nothing is allocated. (The clause `moves`
+    /// follows from `found`. It is for callers that need the image of each byte, but not how stretches are formed.)
+    pub fn shifts(&self) -> Option<Shifts>
+        ensures found { MatchOption result (4 < length (stretches self.now)) (λ s. s ≡ stretches self.now) }
+        ensures moves { IfSome result (λ s. HasImagesOf s self.now) }
+    {
+        shifts_of(self.images())
+    }
+
+    /// For each byte, its image.
+    pub fn images(&self) -> &[u8; 256]
+        ensures { result.now ≡ self.now.images }
+    {
+        &self.images
+    }
+
+    /// For each byte, whether its repeats are squeezed.
+    pub fn squeezed(&self) -> &[bool; 256]
+        ensures { result.now ≡ self.now.squeezed }
+    {
+        &self.squeezed
+    }
+}
+
+/// Does nothing at run time. Its contract states that the tables of a plan agree with the two arrays for every byte, as
+/// `specs/TrPlan.antt` defines it.
+pub fn tables_match_plan()
+    ensures { TablesMatchPlan }
+{}
+
+/// Does nothing at run time. Its contract states that reading the strings never fails for lack of memory, so that
+/// [`CharPlan::read`] never returns `SetFaultKind::Memory`.
+pub fn strings_need_no_memory()
+    ensures { NoMemoryFault }
+{}

@@ -1,0 +1,30 @@
+-- Facts about the length of the longest line: it is the maximum over parts, and no prefix of a line is longer.
+use Rattle.ptlines.proofs.Common.{◌≡◌, ℕ, ◌+◌, ◌≤◌, List, [], ◌∷◌, ◌++◌, length, max, refl, arith, onto_first}
+use Rattle.ptlines.proofs.TextLaws.{byte_ne}
+use Rattle.ptlines.specs.Text.{lines, IsLine, max_length}
+
+pub max_length-append : (xs ys : List (List ℕ)) → max_length (xs ++ ys) ≡ max (max_length xs) (max_length ys)
+max_length-append [] ys = omega arith
+max_length-append (x ∷ xs) ys = omega (arith, max_length-append xs ys)
+
+first_length : List (List ℕ) → ℕ
+first_length [] = 0
+first_length (line ∷ ls) = length line
+
+first_onto : (b : ℕ) (ls : List (List ℕ)) → first_length (onto_first b ls) ≡ first_length ls + 1
+unfolding first_length
+first_onto b [] = refl
+first_onto b (line ∷ ls) = omega arith
+
+first_le_max_length : (ls : List (List ℕ)) → first_length ls ≤ max_length ls
+unfolding first_length
+first_le_max_length [] = omega arith
+first_le_max_length (line ∷ ls) = omega arith
+
+first_piece : (end : ℕ) (piece rest : List ℕ) → IsLine end piece → length piece ≤ first_length (lines end (piece ++ rest))
+first_piece end [] rest free = omega arith
+first_piece end (b ∷ piece) rest free = rw (byte_ne end b free.0) (omega (arith, first_onto b (lines end (piece ++ rest)), first_piece end piece rest free.1))
+
+-- a prefix of a line is no longer than the longest line
+pub piece_le_max_length : (end : ℕ) (piece rest : List ℕ) → IsLine end piece → length piece ≤ max_length (lines end (piece ++ rest))
+piece_le_max_length end piece rest free = omega (arith, first_piece end piece rest free, first_le_max_length (lines end (piece ++ rest)))

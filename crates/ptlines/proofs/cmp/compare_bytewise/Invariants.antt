@@ -1,0 +1,6 @@
+-- The first `at` bytes of both slices are equal, so a later byte decides.
+use Rattle.std.proofs.Common.{◌≡◌, take}
+use Rattle.ptlines.proofs.cmp.compare_bytewise.Given as goal
+
+abbrev pub invariant-loop-at : goal.invariant-loop-at
+invariant-loop-at l = take l.at l.a ≡ take l.at l.b

@@ -1,9 +1,0 @@
--- Up to here both are the same bytes, so what decides comes later.
-use Rattle.std.proofs.Common.{◌≡◌, ◌-◌, ◌≤◌, take}
-use Rattle.ptlines.proofs.comparing.compare_on.Given as goal
-
-abbrev pub invariant-loop-at : goal.invariant-loop-at
-invariant-loop-at l = (l.at ≤ l.least) × (take l.at l.a ≡ take l.at l.b)
-
-abbrev pub decreases-loop-at : goal.decreases-loop-at
-decreases-loop-at l = l.least - l.at

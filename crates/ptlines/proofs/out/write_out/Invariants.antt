@@ -1,0 +1,9 @@
+-- The sink has accepted exactly the bytes before `rest`.
+use Rattle.ptlines.proofs.Common.{◌≡◌, ℕ, List, ◌++◌, length, WriteOutOk}
+use Rattle.ptlines.proofs.out.write_out.Given as goal
+
+abbrev pub invariant-loop-rest : goal.invariant-loop-rest
+invariant-loop-rest g l = (done : List ℕ) × (l.bytes ≡ done ++ l.rest) × WriteOutOk (g.W.Sink.state l.initial.sink) (g.W.Sink.state l.sink) done
+
+abbrev pub decreases-loop-rest : goal.decreases-loop-rest
+decreases-loop-rest g l = length l.rest

@@ -1,0 +1,12 @@
+-- The slot holds the bytes consumed so far, which are a prefix of one line. Each turn consumes bytes of the source, of
+-- which there are fewer than 2^63.
+use Rattle.std.proofs.Common.{◌+◌, ◌-◌, ◌^◌, length}
+use Rattle.ptlines.proofs.ReadLine.{LineSoFar}
+use Rattle.ptlines.specs.ReadLine.{FillPre}
+use Rattle.ptlines.proofs.reader.LineReader.fill_slow.Given as goal
+
+abbrev pub invariant-pieces : goal.invariant-pieces
+invariant-pieces g l = LineSoFar l.fn.self l.self l.fn.store l.store l.slot × FillPre l.self l.store l.slot
+
+abbrev pub decreases-pieces : goal.decreases-pieces
+decreases-pieces g l = 2 ^ 63 + length l.self.buffered - l.self.pulled

@@ -1,9 +1,0 @@
--- The byte is at no place that was looked at.
-use Rattle.ptlines.proofs.Common.{◌-◌, ◌≤◌, length, Nowhere, Passes, is_byte}
-use Rattle.ptlines.proofs.search.find_far.Given as goal
-
-abbrev pub invariant-loop-at : goal.invariant-loop-at
-invariant-loop-at l = (l.at ≤ length l.bytes) × Nowhere (Passes (is_byte l.byte) l.bytes) 0 l.at
-
-abbrev pub decreases-loop-at : goal.decreases-loop-at
-decreases-loop-at l = length l.bytes - l.at

@@ -1,0 +1,236 @@
+//! Tests of a reader over texts of known lengths: lines and blocks in chunks, a line that grows, and a very long line.
+
+use crate::asserts::{holds_of, same, same_of};
+use crate::reader_steps::{Input, Reader, SIZES, current, ends, next, reader_of, shows};
+use ptfakes::texts::{is_line, line_lengths, text_of};
+use ptfakes::{FailingAlloc, RepeatedByte};
+use ptlines::{LineFault, LineReader, Store};
+use std::alloc::{AllocError, Global};
+use std::cell::Cell;
+use std::process::Abort;
+use std::test::Fail;
+
+const LENGTHS: &[&[usize]] = &[
+    &[],
+    &[0],
+    &[1],
+    &[8191],
+    &[8192],
+    &[8193],
+    &[20000],
+    &[0, 0, 0],
+    &[0, 1, 8191, 8192, 8193, 20000],
+    &[20000, 8193, 8192, 8191, 1, 0],
+];
+
+// The number of reads of a text in chunks of this size: one for each chunk, and one for the end of input.
+fn pulls_of(text: &[u8], size: usize) -> u64 {
+    (text.len().div_ceil(size.clamp(1, 8192)) as u64).saturating_add(1)
+}
+
+// Reads the lines of a text in chunks of this size, and then twice the end of input.
+fn reads(
+    rt: &impl Abort,
+    store: &mut Store,
+    (text, size): (&[u8], usize),
+    zero: bool,
+    lengths: &[usize],
+) {
+    let pulls = Cell::new(0);
+    let mut reader = reader_of(&Input::Standard, text, (size, u64::MAX), &pulls);
+    if zero {
+        reader.set_ending(true);
+    }
+    for length in lengths {
+        let of = (*length, size);
+        same_of(rt, &of, &next(rt, &mut reader, store), &Ok(true));
+        holds_of(rt, &of, is_line(current(rt, store), *length));
+    }
+    for _ in 0..2 {
+        ends(rt, &("lengths", size), &mut reader, store);
+        same_of(rt, &size, &pulls.get(), &pulls_of(text, size));
+    }
+}
+
+// Reads a text of these lengths, whose last line has a terminator or not.
+fn reads_text(
+    rt: &impl Abort,
+    alloc: Global,
+    lengths: &[usize],
+    (zero, terminated): (bool, bool),
+) -> Result<(), Fail> {
+    let text = text_of(alloc, lengths, if zero { 0 } else { b'\n' }, terminated)?;
+    for size in SIZES {
+        let mut store = Store::new(alloc, 1)?;
+        let lengths = line_lengths(lengths, terminated);
+        reads(rt, &mut store, (&text, *size), zero, lengths);
+    }
+    Ok(())
+}
+
+// One line of a million bytes.
+fn has_long(
+    rt: &impl Abort,
+    reader: &mut LineReader<RepeatedByte, RepeatedByte>,
+    store: &mut Store,
+) {
+    same(rt, &next(rt, reader, store), &Ok(true));
+    same(rt, &current(rt, store).len(), &1_000_000);
+    assert!(rt; current(rt, store).iter().all(|byte| *byte == b'a'));
+    ends(rt, &("long", 0), reader, store);
+    same(rt, &(store.peak(), store.now()), &(1_000_000, 0));
+}
+
+#[test]
+fn lines_in_pieces_and_a_very_long_one(rt: HostRuntime) -> Result<(), Fail> {
+    for lengths in LENGTHS {
+        for kind in [(false, true), (false, false), (true, true), (true, false)] {
+            reads_text(&rt, rt.alloc(), lengths, kind)?;
+        }
+    }
+    let mut store = Store::new(rt.alloc(), 1)?;
+    let mut reader = LineReader::file(RepeatedByte::new(b'a', 1_000_000, usize::MAX, u64::MAX));
+    has_long(&rt, &mut reader, &mut store);
+    Ok(())
+}
+
+// Consumes the next bytes, at most `step`, which must be the next ones of the text, and returns how many.
+fn passes(
+    rt: &impl Abort,
+    reader: &mut Reader<'_>,
+    step: usize,
+    left: &[u8],
+) -> Result<usize, LineFault> {
+    let block = reader.block()?;
+    let count = block.len().min(step);
+    assert!(rt; block.len() <= 8192 && left.starts_with(&block[..count]));
+    reader.consume(count);
+    Ok(count)
+}
+
+// Consumes a text block by block, at most `step` bytes at a time.
+fn pass_all(
+    rt: &impl Abort,
+    reader: &mut Reader<'_>,
+    step: usize,
+    text: &[u8],
+) -> Result<(), LineFault> {
+    let mut left = text;
+    for _ in 0..100_000 {
+        let count = passes(rt, reader, step, left)?;
+        if count == 0 {
+            break;
+        }
+        assert!(rt; count <= left.len());
+        left = &left[count..];
+    }
+    assert!(rt; left.is_empty());
+    Ok(())
+}
+
+// Expects a text in chunks to be returned whole by `block`, with one read for each chunk.
+fn shows_all(rt: &impl Abort, text: &[u8], size: usize, step: usize) {
+    let pulls = Cell::new(0);
+    let mut reader = reader_of(&Input::Standard, text, (size, u64::MAX), &pulls);
+    let passed = pass_all(rt, &mut reader, step, text);
+    let of = (text.len(), size);
+    same_of(rt, &of, &(passed, shows(&mut reader)), &(Ok(()), Ok(0)));
+    same_of(rt, &of, &pulls.get(), &pulls_of(text, size));
+}
+
+// A line of this length without a terminator.
+fn shows_line(rt: &impl Abort, alloc: Global, length: usize) -> Result<(), AllocError> {
+    let text = text_of(alloc, &[length], b'\n', false)?;
+    holds_of(rt, &length, is_line(&text, length));
+    for size in SIZES {
+        for step in [1, 5, usize::MAX] {
+            shows_all(rt, &text, *size, step);
+        }
+    }
+    Ok(())
+}
+
+#[test]
+fn blocks_in_pieces(rt: HostRuntime) -> Result<(), Fail> {
+    for length in [0, 1, 8191, 8192, 8193, 20000] {
+        shows_line(&rt, rt.alloc(), length)?;
+    }
+    Ok(())
+}
+
+// Reads a line of 20,000 bytes, or a prefix of it if a request for memory fails; then nothing more is read. Returns
+// whether a request failed.
+fn reads_while_it_grows(
+    rt: &impl Abort,
+    alloc: &FailingAlloc<Global>,
+    reader: &mut Reader<'_>,
+    pulls: &Cell<u64>,
+) -> Result<bool, LineFault> {
+    let mut store = Store::new(alloc, 1)?;
+    let filled = next(rt, reader, &mut store);
+    let count = current(rt, &store).len();
+    assert!(rt; is_line(current(rt, &store), count));
+    let is_denied = store.denied();
+    same(
+        rt,
+        &filled,
+        &if is_denied {
+            Err(LineFault::Memory)
+        } else {
+            Ok(true)
+        },
+    );
+    same(rt, &(count < 20000), &is_denied);
+    if is_denied {
+        let pulled = pulls.get();
+        for _ in 0..2 {
+            let fault = LineFault::Memory;
+            same(rt, &next(rt, reader, &mut store), &Err(fault));
+            same(rt, &shows(reader), &Err(fault));
+        }
+        same(
+            rt,
+            &(current(rt, &store).len(), pulls.get()),
+            &(count, pulled),
+        );
+    }
+    Ok(is_denied)
+}
+
+// Reads such a line after which the request number `ok_calls` fails, and returns whether one failed.
+fn fails_after(
+    rt: &impl Abort,
+    alloc: Global,
+    text: &[u8],
+    ok_calls: u64,
+) -> Result<bool, LineFault> {
+    let refusing = FailingAlloc::after(alloc, ok_calls);
+    let pulls = Cell::new(0);
+    let mut reader = reader_of(&Input::Standard, text, (usize::MAX, u64::MAX), &pulls);
+    let denied = reads_while_it_grows(rt, &refusing, &mut reader, &pulls);
+    same(rt, &refusing.refused(), &(denied != Ok(false)));
+    denied
+}
+
+// Lets each of the first requests fail in turn while a line is read, and returns how often the line was cut short.
+fn count_failures(rt: &impl Abort, alloc: Global, text: &[u8]) -> u32 {
+    let mut refused = 0u32;
+    for ok_calls in 0..30 {
+        let denied = fails_after(rt, alloc, text, ok_calls);
+        // The first two requests are for the slot and its buffer.
+        let is_first = denied == Err(LineFault::Memory);
+        same_of(rt, &ok_calls, &is_first, &(ok_calls < 2));
+        if denied == Ok(true) {
+            refused = refused.saturating_add(1);
+        }
+    }
+    refused
+}
+
+#[test]
+fn each_request_fails(rt: HostRuntime) -> Result<(), Fail> {
+    let text = text_of(rt.alloc(), &[20000], b'\n', true)?;
+    let refused = count_failures(&rt, rt.alloc(), &text);
+    holds_of(&rt, &refused, refused > 1 && refused < 29);
+    Ok(())
+}

@@ -1,0 +1,6 @@
+pub mod PartialWrite
+pub mod Fields
+pub mod GroupSlots
+pub mod GroupInvariant
+pub mod GroupIteration
+pub mod Iteration

@@ -1,0 +1,386 @@
+-- The group of one key: its lines are read, paired and then closed. Output during a group is a prefix of the output for
+-- all inputs, since lesser keys are complete and the pairs of the group are written in their final order. Once both
+-- inputs are past the key, the group is complete, and counts as processed.
+use Rattle.ptmerge.proofs.Common.{◌≡◌, ⊎_elim, inl, inr, ℕ, ◌+◌, ◌*◌, ◌≤◌, ◌<◌, ◌&&◌, Bool, true, false, List, [], ◌∷◌, ◌++◌, Some, Err, length, max, refl, sym, ◌∙◌, ap, subst, arith}
+use Rattle.ptmerge.proofs.Common.{append_assoc, bytes_eq, bytes_decides, is_gt, false≢true, append-nil, Output, PushEffect, Reader, ReaderAdvance, IsSound, Slots, line, total_bytes, with_line, unlines, IsLine, max_length}
+use Rattle.ptmerge.proofs.Common.{push_trans, unlines-append, MergeFault, Read, Memory, Side, First, Second, Sorted, CursorStatus, Head, Ended, Disorder, is_head, max_group_bytes, max_group_lines, Lines, MergeTool}
+use Rattle.ptmerge.proofs.Common.{entries_by_key, entries_of_key, lines_with_key, MergeState, MergePost, NextErrPost, NextOkPost, HasSlots, with_side, other, PrecedesInput, disorder, merged_entries, sorted_prefixes, is_up_to, MergeEndPost, IsExactMerge, Cmp, Key}
+use Rattle.ptmerge.proofs.Common.{Write}
+use Rattle.ptmerge.proofs.MergeLemmas.Step.{slots_on, SidesInvariant, IsAbove, IsLineByLine, current_key_is_above, next_at, own_slots, passed_at, sides_invariant_continues, slots_apart, StoreInvariant}
+use Rattle.ptmerge.proofs.MergeLemmas.Invariant.{Bound, AtLeast, MayFollow, IsUnder, MergeInvariant, InputSplit, MayCome, all_keys, splits_step, all_wanted, written_is_wanted}
+use Rattle.ptmerge.proofs.JoinLemmas.GroupSlots.{AllSlots, GroupStore, group_store_line, group_store_next, low_slot, put_more}
+use Rattle.ptmerge.proofs.MergeLemmas.Orders.{EachKey, EachKey-append, EachKey-weaker, at_most-same, front_first, front_is, others_of, lines_with_key-above, IsKeyOrder, AtMost, least_or_above, self_at_most}
+use Rattle.ptmerge.proofs.MergeLemmas.Orders.{at_most_trans}
+use Rattle.ptmerge.proofs.MergeLemmas.Slots.{put_both, put_each, put_other, put_same, side_case, has_lines_total, line_other}
+use Rattle.ptmerge.proofs.MergeLemmas.Exits.{SideAfterNext, IsAtCurrentLine, MatchesStatus, next_same_key, side_invariant_kept, IsFailedRead, Fits, ReadFacts, read_facts_after_line, read_facts_at_line, exit_facts, input_split_of}
+use Rattle.ptmerge.proofs.MergeLemmas.LinesRead.{Continues}
+use Rattle.ptmerge.specs.declared.faults.MergeFault.TheVariants as faults
+
+-- ---- a fault within a group
+
+-- After a fault within a group, the output of all lesser keys is complete, and the output of the group's key is a
+-- prefix.
+
+-- a key up to k is at most all keys that may follow, if k is
+pub under_lower : {cmp : Cmp} (o : IsKeyOrder cmp) (b : Bound) (x k : List ℕ) → AtMost cmp x k → IsUnder cmp b k → IsUnder cmp b x
+under_lower o b x k h u = grind (arith, at_most_trans)
+
+-- a property of k holds for the keys of all lines of its group
+pub all_own_keys : (P : List ℕ → Type 0) (key : Key) (k : List ℕ) (g : Lines) → P k → EachKey (λ x. x ≡ k) key g → EachKey P key g
+all_own_keys P key k g h = EachKey-weaker (λ x. x ≡ k) P (λ x same. subst P (sym same) h) key g
+
+-- the lines `p` are processed, the lines `g` are the group of the key `k`, and `d` bounds the lines that may follow
+pub record OutputInGroup (tool : MergeTool) (was mid : Output) (p g : Side → Lines) (d : Side → Bound) (k : List ℕ) : Type 0 where
+  pub merge_invariant : MergeInvariant tool (λ side. AtLeast k) p was mid
+  pub clean : mid.write_failed ≡ false
+  pub own : (side : Side) → EachKey (λ x. x ≡ k) (tool.key side) (g side)
+  pub beyond : (side : Side) (r : Lines) → MayFollow tool.cmp (tool.key side) (d side) r → EachKey (AtMost tool.cmp k) (tool.key side) r
+  pub under : (side : Side) → IsUnder tool.cmp (d side) k
+
+-- the entries `extra` are a prefix of the group's output, for all lines that may follow
+pub record OutputStartsWith (tool : MergeTool) (g : Side → Lines) (d : Side → Bound) (k : List ℕ) (extra : Lines) : Type 0 where
+  pub rest : (w : List ℕ → Bool) (r : Side → Lines) → MayCome tool d r → w k ≡ true → (rest : Lines) × (entries_by_key tool w (λ side. g side ++ r side) ≡ extra ++ rest)
+
+module _ {tool : MergeTool} (o : IsKeyOrder tool.cmp) (old new : MergeState) {now : Side → Reader} {piece : Side → List ℕ} {mid : Output} {ls p g : Side → Lines} {d : Side → Bound} {k : List ℕ}
+    {extra : Lines} (m : OutputInGroup tool old.out mid p g d k) (starts : OutputStartsWith tool g d k extra) (wrote : PushEffect mid new.out (unlines tool.terminator extra))
+    (gone : (side : Side) → ReadFacts tool.terminator tool.cmp (tool.key side) (old.reader side) (now side) (new.reader side) (piece side) (ls side) (p side ++ g side) (d side)) where
+  open tool use {cmp, terminator, key}
+
+  abbrev front : Lines
+  front = entries_by_key tool all_keys p
+
+  rest_not_less : (side : Side) (r : Lines) → MayFollow cmp (key side) (d side) r → EachKey (AtMost cmp k) (key side) (g side ++ r)
+  rest_not_less side r c = at_most-same tool o (key side) k (g side) r (m.own side) (m.beyond side r c)
+
+  -- two lists that continue the lines read so far: their sorted prefixes and their disorder
+  module _ (all : Side → Lines) (more : (side : Side) → Continues (now side) (ls side) (all side)) where
+    seen : InputSplit tool d (λ side. p side ++ g side) all
+    seen = input_split_of tool o old new now piece ls (λ side. p side ++ g side) d gone all more
+
+    parts : (w : List ℕ → Bool) → entries_by_key tool w (sorted_prefixes tool all) ≡ entries_by_key tool w p ++ entries_by_key tool w (λ side. g side ++ seen.r side)
+    parts w = (λ i. entries_by_key tool w (λ side. (seen.parts side ∙ append_assoc (p side) (g side) (seen.r side)) i))
+        ∙ m.merge_invariant.splits.split w (λ side. g side ++ seen.r side) (λ side. rest_not_less side (seen.r side) (seen.may_follow side))
+
+    wanted : (x : List ℕ) → AtMost cmp x k → is_up_to cmp (disorder tool all) x ≡ true
+    wanted x h = written_is_wanted _ o (d First) (d Second) _ _ x
+        (seen.may_disorder First) (seen.may_disorder Second) (under_lower o (d First) x k h (m.under First)) (under_lower o (d Second) x k h (m.under Second))
+
+    all_is : (rest : Lines) × (merged_entries tool all ≡ (front ++ extra) ++ rest)
+    all_is =
+        let w = is_up_to cmp (disorder tool all) in
+        let s = starts.rest w seen.r seen.may_follow (wanted k (self_at_most cmp o k)) in
+        let at_current_line = all_wanted tool w p (λ side. EachKey-weaker (λ x. AtMost cmp x k) (λ x. w x ≡ true) wanted (key side) (p side) (m.merge_invariant.under First side)) in
+        (s.0, parts w ∙ (λ i. at_current_line i ++ s.1 i) ∙ sym (append_assoc front extra s.0))
+
+  -- the keys of the processed lines and of the group
+  passed_keys : (of side : Side) → EachKey (λ x. AtMost cmp x k) (key side) (p side ++ g side)
+  passed_keys of side = EachKey-append (λ x. AtMost cmp x k) (key side) (p side) (g side) (m.merge_invariant.under of side)
+      (all_own_keys (λ x. AtMost cmp x k) (key side) k (g side) (self_at_most cmp o k) (m.own side))
+
+  pub group_exit : {fault : MergeFault} → MergeEndPost old new (Err fault) → ((side : Side) → (new.reader side).failed ≡ true → IsFailedRead cmp (key side) (new.reader side) (ls side) (p side ++ g side))
+      → ((input : Side → List ℕ) (pushed : List ℕ) → IsExactMerge tool input pushed (Err fault)) → Fits tool old.store now ls piece new.store → MergePost tool old new (Err fault)
+  group_exit ends failed is_whole fits = exit_facts tool o old new now piece ls (λ side. p side ++ g side) d gone p g (λ side. AtLeast k) (λ side. refl) passed_keys
+      (λ of side. EachKey-weaker (λ x. AtMost cmp x k) (IsUnder cmp (d of)) (λ x h. under_lower o (d of) x k h (m.under of)) (key side) (p side ++ g side) (passed_keys of side))
+      rest_not_less m.clean m.merge_invariant.wrote wrote _ (sym (unlines-append terminator front extra)) ends all_is failed (λ input a. is_whole input (unlines terminator (front ++ extra))) fits
+
+-- ---- tools that write pairs
+
+-- a tool whose output for a key of both inputs is a list of pairs
+pub record IsPairTool (tool : MergeTool) (pairs : List ℕ → Lines → Lines → Lines) : Type 0 where
+  pub alone : IsLineByLine tool
+  pub none : (k : List ℕ) (g : Lines) → pairs k [] g ≡ []
+  pub more : (k : List ℕ) (f g c : Lines) → pairs k (f ++ g) c ≡ pairs k f c ++ pairs k g c
+  pub whole : (k a b : List ℕ) (f g : Lines) → tool.entries k (a ∷ f) (b ∷ g) ≡ pairs k (a ∷ f) (b ∷ g)
+  pub size : (ls : Side → Lines) → tool.size ls ≡ (2 * max_length (ls First) + 2 * max_length (ls Second)) + max_group_bytes (tool.key Second) (ls Second)
+  pub slots : (ls : Side → Lines) → tool.slots ls ≡ 4 + max_group_lines (tool.key Second) (ls Second)
+
+-- a call of such a tool, with its initial state
+pub record JoinCall : Type 0 where
+  pub tool : MergeTool
+  pub open tool use *
+  pub o : IsKeyOrder cmp
+  pub pairs : List ℕ → Lines → Lines → Lines
+  pub laws : IsPairTool tool pairs
+  pub old : MergeState
+  pub unfailed : (side : Side) → (old.reader side).failed ≡ false
+
+-- the current line of an input
+abbrev pub head_of : MergeState → (Side → Sorted) → Side → List ℕ
+head_of now cursor s = line now.store (cursor s).current_slot
+
+-- the state after an input advanced, with this output and store
+abbrev pub state_after_read : MergeState → Side → Reader → Output → Slots → MergeState
+state_after_read now s reader out store = record { reader = with_side s reader now.reader; out = out; store = store }
+
+-- the lines read from an input, those of them that are processed, and a piece of a further line
+abbrev pub ReadFactsOf : JoinCall → MergeState → Side → Reader → List ℕ → Lines → Lines → Bound → Type 0
+ReadFactsOf call now side new piece ls p b = ReadFacts call.terminator call.cmp (call.key side) (call.old.reader side) (now.reader side) new piece ls p b
+
+-- no read has failed, so the case of a failed read is void
+pub not_failed : (call : JoinCall) (side : Side) {b : Bool} {X : Type 0} → b ≡ (call.old.reader side).failed → b ≡ true → X
+not_failed call side same fail = absurd (false≢true (sym (same ∙ call.unfailed side) ∙ fail))
+
+-- ---- the bytes in the store
+
+-- the measure of `join` for inputs that begin with these lines
+pub size_of : (call : JoinCall) {store : Slots} {ls : Side → Lines} {g : Lines} (h : GroupStore (call.key Second) call.old.store store ls g) (all : Side → Lines)
+    → ((side : Side) → max_length (ls side) ≤ max_length (all side)) → (more : Lines) × (all Second ≡ ls Second ++ more)
+    → (store.peak ≤ max call.old.store.peak (call.size all)) × (length store.lines ≤ max (length call.old.store.lines) (call.slots all)) × (total_bytes store.lines ≤ call.size all)
+size_of call {store} {ls} {g} h all up more =
+    let bounds = h.bounds (all Second) more.0 more.1 in
+    omega (arith, bounds, call.laws.size all, call.laws.slots all, up First, up Second, (has_lines_total store.lines (λ side. max_length (ls side)) (total_bytes g) h.lines).1)
+
+module _ (call : JoinCall) {store : Slots} {ls : Side → Lines} {g : Lines} (h : GroupStore (call.key Second) call.old.store store ls g) {now : Side → Reader} where
+  -- a piece of a further line stays within the measure
+  pub peak_line : (s : Side) (cursor : Sorted) → HasSlots s cursor → (piece : List ℕ) → Fits call.tool call.old.store now ls (with_side s piece (λ t. [])) (with_line store cursor.previous_slot piece)
+  peak_line s cursor slots piece all w =
+      let k : GroupStore (call.key Second) call.old.store (with_line store cursor.previous_slot piece) all g = group_store_line s cursor slots piece h (λ side. omega (arith, (w side).1))
+      (omega (arith, (w s).1, ap length (put_same s piece (λ t. [])))) ((w Second).0.more, (w Second).0.is) refl in
+      let size = size_of call k all (λ side. omega arith) ([], sym (append-nil (all Second))) in
+      (size.0, size.1)
+
+  -- a store with no more bytes and no more slots stays within the measure
+  pub fits_kept : (after : Slots) → after.peak ≤ max store.peak (total_bytes store.lines) → length after.lines ≡ length store.lines → Fits call.tool call.old.store now ls (λ side. []) after
+  fits_kept after peak same all w = omega (arith, peak, same, size_of call h all (λ side. omega (arith, (w side).1)) ((w Second).0.more, (w Second).0.is))
+
+pub store_between_groups : (call : JoinCall) {reader : Side → Reader} {cursor : Side → Sorted} {store : Slots} {ls : Side → Lines} → GroupStore (call.key Second) call.old.store store ls [] → AllSlots cursor
+    → StoreInvariant call.tool call.old.store reader cursor store ls
+store_between_groups call {cursor = cursor} h slots =
+    record { lines = h.lines; denied = h.denied; fits = fits_kept call h; line = λ s. peak_line call h s (cursor s) (slots s) }
+
+-- the invariant of both inputs depends only on the first four slots
+pub same_cursors : (tool : MergeTool) {old now : Side → Reader} {cursor : Side → Sorted} {before after : Slots} {ls p : Side → Lines} {b : Side → Bound} → SidesInvariant tool old now cursor before ls p b
+    → AllSlots cursor → ((i : ℕ) → i < 4 → line after i ≡ line before i) → SidesInvariant tool old now cursor after ls p b
+same_cursors tool {old} {now} {cursor} {before} {after} {ls} {p} {b} sides slots same side =
+    let low = low_slot side (cursor side) (slots side) in
+    side_invariant_kept (sides side) (same (cursor side).current_slot low.0) (same (cursor side).previous_slot low.1)
+
+-- ---- the output of a group
+
+module _ (call : JoinCall) {was mid : Output} {p g : Side → Lines} {d : Side → Bound} {k : List ℕ} (m : OutputInGroup call.tool was mid p g d k) where
+  open call use {cmp, entries, key, laws, o, pairs, tool}
+
+  -- the pairs of a group come first, for all lines of its key that the first input still has
+  starts_pairs : (f c s : Lines) → 0 < length s → (rest : Lines) × (entries k (f ++ c) s ≡ pairs k f s ++ rest)
+  starts_pairs [] c s some = (entries k c s, rw (laws.none k s) refl)
+  starts_pairs (a ∷ f) c [] some = absurd (omega (arith, some))
+  starts_pairs (a ∷ f) c (b ∷ s) some = (pairs k c (b ∷ s), laws.whole k a b (f ++ c) s ∙ laws.more k (a ∷ f) c (b ∷ s))
+
+  pub starts_none : OutputStartsWith tool g d k []
+  starts_none = record { rest = λ w r c wanted. (entries_by_key tool w (λ side. g side ++ r side), refl) }
+
+  pub starts : 0 < length (g Second) → IsAbove cmp (key Second) k (d Second) → OutputStartsWith tool g d k (pairs k (g First) (g Second))
+  starts some above = record {
+    rest = λ w r c wanted.
+        let none : lines_with_key (key Second) (r Second) k ≡ [] = lines_with_key-above tool o (key Second) k (r Second) (above (r Second) (c Second)) in
+        let s = starts_pairs (g First) (lines_with_key (key First) (r First) k) (g Second) some in (
+          s.0 ++ entries_by_key tool w (others_of tool o k r),
+          front_is tool o w k g r m.own (λ side. m.beyond side (r side) (c side)) (laws.alone.none k)
+              ∙ (rw (wanted, none, append-nil (g Second), s.1) (append_assoc (pairs k (g First) (g Second)) s.0 (entries_by_key tool w (others_of tool o k r)))),
+        );
+  }
+
+  own_entries : (f s : Lines) → 0 < length f → 0 < length s → entries k f s ≡ pairs k f s
+  own_entries (a ∷ f) (b ∷ s) some1 some2 = laws.whole k a b f s
+  own_entries f s some1 some2 = absurd (omega (arith, some1, some2))
+
+  -- a group is complete if only greater keys follow
+  pub closes : {is : Output} → ((side : Side) → 0 < length (g side)) → ((side : Side) → IsAbove cmp (key side) k (d side))
+      → PushEffect mid is (unlines call.terminator (pairs k (g First) (g Second))) → MergeInvariant tool d (λ side. p side ++ g side) was is
+  closes {is} some above wrote =
+      record {
+        splits = splits_step tool (λ side. AtLeast k) d p g m.merge_invariant.splits (λ side r c. at_most-same tool o (key side) k (g side) r (m.own side) (m.beyond side r c)) splits_off;
+        under = λ of side. EachKey-append (IsUnder cmp (d of)) (key side) (p side) (g side)
+            (EachKey-weaker (λ x. AtMost cmp x k) (IsUnder cmp (d of)) (λ x h. under_lower o (d of) x k h (m.under of)) (key side) (p side) (m.merge_invariant.under First side))
+            (all_own_keys (IsUnder cmp (d of)) (key side) k (g side) (m.under of) (m.own side));
+        wrote = rw (all, unlines-append call.terminator (entries_by_key tool all_keys p) (pairs k (g First) (g Second))) (push_trans _ _ _ _ _ m.clean m.merge_invariant.wrote wrote);
+      }
+    where
+      -- the output of the group alone
+      alone_is : entries_by_key tool all_keys g ≡ entries k (g First) (g Second)
+      alone_is = simp append-nil at (front_is tool o all_keys k g (λ side. []) m.own (λ side. tt) (laws.alone.none k))
+
+      splits_off : (w : List ℕ → Bool) (r : Side → Lines) → MayCome tool d r → entries_by_key tool w (λ side. g side ++ r side) ≡ entries_by_key tool w g ++ entries_by_key tool w r
+      splits_off w r c =
+          let none = λ (side : Side). lines_with_key-above tool o (key side) k (r side) (above side (r side) (c side)) in
+          let nothing : entries_of_key tool r k ≡ [] = (λ i. entries k (none First i) (none Second i)) ∙ laws.alone.none k in
+          front_first tool o w k g r m.own (λ side. m.beyond side (r side) (c side)) (laws.alone.none k) (simp (none First, none Second, nothing, append-nil))
+
+      all : entries_by_key tool all_keys (λ side. p side ++ g side) ≡ entries_by_key tool all_keys p ++ pairs k (g First) (g Second)
+      all =
+          m.merge_invariant.splits.split all_keys g (λ side. all_own_keys (AtMost cmp k) (key side) k (g side) (self_at_most cmp o k) (m.own side))
+          ∙ ap (λ l. entries_by_key tool all_keys p ++ l) (alone_is ∙ own_entries (g First) (g Second) (some First) (some Second))
+
+-- ---- the lines of a group
+
+has_key : (s : CursorStatus) (a b : List ℕ) → (is_head s && bytes_eq a b) ≡ true → (s ≡ Head) × (b ≡ a)
+has_key s a b h = grind (arith, bytes_decides a b)
+
+-- the group with the current line of the input `s` added
+abbrev pub with_added_line : MergeState → (Side → Sorted) → Side → (Side → Lines) → Side → Lines
+with_added_line now cursor s g = with_side s (g s ++ head_of now cursor s ∷ []) g
+
+-- the invariant during a group `g` of the key `k`: its output so far is written, and its copied lines end before slot
+-- `end`
+pub record GroupState (call : JoinCall) (now : MergeState) (cursor : Side → Sorted) (end : ℕ) (k : List ℕ) (g : Side → Lines) (kept : Lines) : Type 0 where
+  pub ls : Side → Lines
+  pub p : Side → Lines
+  pub d : Side → Bound
+  pub mid : Output
+  pub sides : SidesInvariant call.tool call.old.reader now.reader cursor now.store ls (λ side. p side ++ g side) d
+  pub within : OutputInGroup call.tool call.old.out mid p g d k
+  pub keeps : GroupStore (call.key Second) call.old.store now.store ls kept
+  pub wrote : PushEffect mid now.out (unlines call.terminator (call.pairs k (g First) (g Second)))
+  pub at : end ≡ 4 + length kept
+
+module _ {call : JoinCall} {now : MergeState} {cursor : Side → Sorted} {end : ℕ} {k : List ℕ} {g : Side → Lines} {kept : Lines} (q : GroupState call now cursor end k g kept) where
+  open call use {cmp, key, o, old, tool}
+
+  -- an input is past a key if its current line does not have it
+  pub is_past : (s : Side) → ((cursor s).status ≡ Head → ¬ (key s (head_of now cursor s) ≡ k)) → IsAbove cmp (key s) k (q.d s)
+  is_past s other = (current_key_is_above cmp o (key s) k (cursor s).status (cursor s) now.store (now.reader s) (q.ls s) (q.p s ++ g s) (q.d s) (by (cursor s).status (q.sides s).status_is other) (q.sides s).status_is).0
+    where
+      by : (t : CursorStatus) → MatchesStatus cmp (key s) t (cursor s) now.store (now.reader s) (q.ls s) (q.p s ++ g s) (q.d s) → (t ≡ Head → ¬ (key s (head_of now cursor s) ≡ k))
+          → PrecedesInput cmp k t (key s (head_of now cursor s)) (key s (line now.store (cursor s).previous_slot))
+      by Head st other = ap is_gt (⊎_elim (λ same. absurd (other refl same.1)) (λ h. h.1) (least_or_above cmp o k (key s (head_of now cursor s)) (subst (λ b. IsUnder cmp b k) st.2 (q.within.under s))))
+      by Ended st other = tt
+      by (Disorder n) st other = subst (λ b. IsUnder cmp b k) st (q.within.under s)
+
+  pub none_failed : (side : Side) → (now.reader side).failed ≡ (old.reader side).failed
+  none_failed side = (q.sides side).lines_read.advance_ok.failed
+
+  pub group_read_facts : (side : Side) → ReadFactsOf call now side (now.reader side) [] (q.ls side) (q.p side ++ g side) (q.d side)
+  group_read_facts side = read_facts_at_line (q.sides side)
+
+  -- the group after other lines were stored for it
+  pub group_kept : AllSlots cursor → {after : Slots} → ((i : ℕ) → i < 4 → line after i ≡ line now.store i) → {lines : Lines}
+      → GroupStore (key Second) old.store after q.ls lines → {to : ℕ} → to ≡ 4 + length lines → GroupState call (record now { store = after }) cursor to k g lines
+  group_kept slots same keeps at = record
+      { ls = q.ls; p = q.p; d = q.d; mid = q.mid; sides = same_cursors tool q.sides slots same; within = q.within; keeps = keeps; wrote = q.wrote; at = at }
+
+  -- the input `s` is at a further line of the group
+  pub record IsAtGroupLine (s : Side) : Type 0 where
+    pub slots : AllSlots cursor
+    pub head : (cursor s).status ≡ Head
+    pub is : key s (head_of now cursor s) ≡ k
+
+module _ {call : JoinCall} {now : MergeState} {cursor : Side → Sorted} {end : ℕ} {k : List ℕ} {g : Side → Lines} {kept : Lines} {q : GroupState call now cursor end k g kept} {s : Side} (l : IsAtGroupLine q s) where
+  open call use {cmp, key, o, old, pairs, tool}
+
+  abbrev x : List ℕ
+  x = head_of now cursor s
+
+  at_head : IsAtCurrentLine cmp (key s) (cursor s) now.store (q.ls s) (q.p s ++ g s) (q.d s)
+  at_head = passed_at tool o _ _ _ _ _ _ _ q.sides l.slots q.keeps.four s l.head
+
+  -- all lines read, including the current one
+  pub with_head : q.ls s ≡ q.p s ++ (g s ++ head_of now cursor s ∷ [])
+  with_head = at_head.all ∙ append_assoc (q.p s) (g s) (x ∷ [])
+
+  pub own_more : (side : Side) → EachKey (λ z. z ≡ k) (key side) (with_added_line now cursor s g side)
+  own_more = put_each (λ side (l : Lines). EachKey (λ z. z ≡ k) (key side) l) s (g s ++ x ∷ []) g (EachKey-append (λ z. z ≡ k) (key s) (g s) (x ∷ []) (q.within.own s) (l.is, tt)) q.within.own
+
+  pub within_more : OutputInGroup tool old.out q.mid q.p (with_added_line now cursor s g) q.d k
+  within_more = record { merge_invariant = q.within.merge_invariant; clean = q.within.clean; own = own_more; beyond = q.within.beyond; under = q.within.under }
+
+  fails_in : (new : Reader) → new.buffered ≡ [] → new.eof ≡ false → IsFailedRead cmp (key s) new (q.ls s) (q.p s ++ with_added_line now cursor s g s)
+  fails_in new buffered eof = record
+      { buffered = buffered; eof = eof; all = with_head ∙ sym (ap (λ (l : Lines). q.p s ++ l) (put_same s (g s ++ x ∷ []) g)); last = Some (key s x); sorted_up_to = rw put_same (rw with_head at at_head.sorted_up_to) }
+
+  pub passing : (new : Reader) (piece : List ℕ) → ReaderAdvance (now.reader s) new piece → IsLine (now.reader s).terminator piece → IsSound new
+      → (side : Side) → ReadFactsOf call now side (with_side s new now.reader side) (with_side s piece (λ t. []) side) (q.ls side) (q.p side ++ with_added_line now cursor s g side) (q.d side)
+  passing new piece reads free sound = side_case (λ side. ReadFactsOf call now side (with_side s new now.reader side) (with_side s piece (λ t. []) side) (q.ls side) (q.p side ++ with_added_line now cursor s g side) (q.d side)) s
+      (simp put_same (subst (λ (l : Lines). ReadFactsOf call now s new piece (q.ls s) l (q.d s)) with_head
+      (rw at_head.bound (read_facts_after_line o (q.sides s).lines_read reads free sound at_head.sorted_up_to)))) (simp put_other (group_read_facts q (other s)))
+
+  -- reading the next line failed, after a prefix of the group's output was written
+  module _ {out : Output} (clean : out.write_failed ≡ false) {extra : Lines} (begins : OutputStartsWith tool (with_added_line now cursor s g) q.d k extra)
+      (wrote : PushEffect q.mid out (unlines call.terminator extra)) (new : Reader) where
+    pub group_breaks : {after : Slots} (fault : MergeFault) → NextErrPost s (cursor s) (now.reader s) new now.store after fault → MergePost tool old (state_after_read now s new out after) (Err fault)
+    group_breaks {after} (Read file) moves =
+        let e = moves.0 in
+        rw moves.1 (group_exit o _ _ within_more begins wrote (passing new e.piece e.faults.reads e.faults.whole moves.2) (record {
+          cause = rw (put_same s new now.reader) (⊎_elim (λ h. inl h) (λ h. inr (h.0, h.1 ∙ none_failed q s)) e.cause);
+          others = rw (put_other s new now.reader) (none_failed q (other s));
+          clean = clean;
+          denied = rw e.stored q.keeps.denied;
+        }) (put_each (λ side (r : Reader). r.failed ≡ true → IsFailedRead cmp (key side) r (q.ls side) (q.p side ++ with_added_line now cursor s g side)) s new now.reader
+        (λ fail. ⊎_elim (λ h. fails_in new h.1 h.2) (λ h. not_failed call s (h.1 ∙ none_failed q s) fail) e.cause) (λ side. not_failed call side (none_failed q side)))
+        (λ input pushed. tt) (rw e.stored (peak_line call q.keeps s (cursor s) (l.slots s) e.piece)))
+    group_breaks Write moves = absurd moves
+    group_breaks {after} Memory moves =
+        let e = moves.0 in
+        let failed = put_each (λ side (r : Reader). r.failed ≡ (old.reader side).failed) s new now.reader (e.failed ∙ none_failed q s) (none_failed q) in
+        group_exit o _ _ within_more begins wrote (passing new e.piece e.faults.reads e.faults.whole moves.1)
+        (record { denied = ap (λ (t : Slots). t.denied) e.stored; failed = failed; clean = clean }) (λ side. not_failed call side (failed side))
+        (λ input pushed. tt) (rw e.stored (peak_line call q.keeps s (cursor s) (l.slots s) e.piece))
+    group_breaks (faults.Disorder file number) moves = absurd moves
+
+  -- the input advances
+  module _ {reader : Reader} {next : Sorted} {after : Slots} (comes : NextOkPost (key s) cmp (cursor s) next (now.reader s) reader now.store after) where
+    gone_to : SideAfterNext call.terminator cmp (key s) (old.reader s) reader next (cursor s).previous_slot now.store after (q.ls s) (Some (key s (head_of now cursor s)))
+    gone_to = next_at tool o _ _ _ _ _ _ _ q.sides l.slots q.keeps.four s l.head reader next after comes
+
+    pub next_slots : AllSlots (with_side s next cursor)
+    next_slots = put_each HasSlots s next cursor (slots_on s (l.slots s) comes) l.slots
+
+    -- the lines of the other input, and the previous line, keep their slots
+    pub others_stay : (line after (cursor (other s)).current_slot ≡ line now.store (cursor (other s)).current_slot) × (line after (cursor (other s)).previous_slot ≡ line now.store (cursor (other s)).previous_slot)
+    others_stay =
+        let n = gone_to in
+        let apart = slots_apart s (cursor s) (cursor (other s)) (l.slots s) (l.slots (other s)) in (
+          rw n.stored (line_other now.store (cursor s).previous_slot (cursor (other s)).current_slot n.bytes apart.0),
+          rw n.stored (line_other now.store (cursor s).previous_slot (cursor (other s)).previous_slot n.bytes apart.1),
+        )
+
+    pub last_stays : line after next.previous_slot ≡ head_of now cursor s
+    last_stays =
+        let n = gone_to in
+        let at : next.previous_slot ≡ (cursor s).current_slot = ⊎_elim (λ e. ap (λ (p : Sorted). p.previous_slot) e.cursor) (λ e. ap (λ (p : Sorted). p.previous_slot) e.cursor) comes in
+        rw (at, n.stored) (line_other now.store (cursor s).previous_slot (cursor s).current_slot n.bytes (λ e. (own_slots s (cursor s) (l.slots s)).0 (sym e)))
+
+    says : next.same ≡ (is_head next.status && bytes_eq k (key s (line after next.current_slot)))
+    says =
+        next_same_key cmp o (key s) (cursor s) next (now.reader s) reader now.store after at_head.some (omega (arith, q.keeps.four, (low_slot s (cursor s) (l.slots s)).1)) comes
+        ∙ ap (λ (z : List ℕ). is_head next.status && bytes_eq z (key s (line after next.current_slot))) l.is
+
+    -- whether the next line has the key of the group, too
+    pub continues_key : next.same ≡ true → (next.status ≡ Head) × (key s (line after next.current_slot) ≡ k)
+    continues_key same = has_key next.status k (key s (line after next.current_slot)) (sym says ∙ same)
+
+    pub leaves_key : next.same ≡ false → next.status ≡ Head → ¬ (key s (line after next.current_slot) ≡ k)
+    leaves_key same head is = false≢true (sym same ∙ says ∙ (rw (head, is, (bytes_decides k k).1 refl) refl))
+
+    -- the previous line belongs to the group
+    pub record AdvancedGroup (new : Output) : Type 0 where
+      pub group : GroupState call (state_after_read now s reader new after) (with_side s next cursor) end k (with_added_line now cursor s g) kept
+      pub bound : group.d (other s) ≡ q.d (other s)
+      pub more : (l : Lines) × (group.ls Second ≡ q.ls Second ++ l)
+
+    pub advanced_group : {new : Output} → PushEffect q.mid new (unlines call.terminator (pairs k (with_added_line now cursor s g First) (with_added_line now cursor s g Second))) → AdvancedGroup new
+    advanced_group wrote =
+        let n = gone_to in
+        record {
+          group = record {
+            ls = with_side s n.now_ls q.ls;
+            p = q.p;
+            d = with_side s n.bound q.d;
+            mid = q.mid;
+            sides = subst (λ (f : Side → Lines). SidesInvariant tool old.reader (with_side s reader now.reader) (with_side s next cursor) after (with_side s n.now_ls q.ls) f (with_side s n.bound q.d))
+                (λ i side. put_both (λ side (l m : Lines). l ≡ q.p side ++ m) s (q.ls s) (λ side. q.p side ++ g side) (g s ++ x ∷ []) g with_head refl side i)
+                (sides_invariant_continues tool o _ _ _ _ _ _ _ q.sides l.slots q.keeps.four s l.head reader next after n);
+            within = record {
+              merge_invariant = q.within.merge_invariant;
+              clean = q.within.clean;
+              own = own_more;
+              beyond = put_each (λ side (b : Bound). (r : Lines) → MayFollow cmp (key side) b r → EachKey (AtMost cmp k) (key side) r) s n.bound q.d
+                  (λ r c. subst (λ (z : List ℕ). EachKey (AtMost cmp z) (key s) r) l.is (n.may_follow r c)) q.within.beyond;
+              under = put_each (λ side (b : Bound). IsUnder cmp b k) s n.bound q.d (n.under k (rw l.is (self_at_most cmp o k))) q.within.under;
+            };
+            keeps = group_store_next s (cursor s) (l.slots s) q.keeps n;
+            wrote = wrote;
+            at = q.at;
+          };
+          bound = put_other s n.bound q.d;
+          more = put_more s q.ls n.now_ls n.more n.continues_key;
+        }

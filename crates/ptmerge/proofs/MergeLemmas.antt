@@ -1,0 +1,9 @@
+pub mod LinesRead
+pub mod Orders
+pub mod Invariant
+pub mod Write
+pub mod Slots
+pub mod Start
+pub mod Exits
+pub mod Step
+pub mod Lag

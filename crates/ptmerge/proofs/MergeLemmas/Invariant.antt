@@ -1,0 +1,419 @@
+-- The invariant of a merge. Lines are processed in the order of their keys: no line that may still follow has a lesser
+-- key than a processed line. So the output for the processed lines is a prefix of the output for all inputs that begin
+-- with the lines read so far.
+use Rattle.ptmerge.proofs.Common.{nat_tests, ◌≡◌, ℕ, ◌+◌, List, [], ◌∷◌, ◌++◌, Bool, true, false, cond, Option, Some, None, length, refl, ◌∙◌, map, append_assoc, arith, nat_lt, unwrap_or}
+use Rattle.ptmerge.proofs.Common.{if◌then◌else◌, last_or, is_gt, length_push, Lines, sorted_prefix, first_disorder, FirstDisorder, Cmp, Key, ◌&&◌, not, ap, sym, append-nil, flat_map-append, filter, flat_map, Less, Equal}
+use Rattle.ptmerge.proofs.Common.{Greater, match_ordering, Side, First, Second, MergeTool, insert_key, distinct_keys, keys, entries_of_key, entries_by_key, earlier_disorder, is_up_to, ◌⊎◌, inl, inr, subst, is_lt, Output}
+use Rattle.ptmerge.proofs.Common.{PushEffect, unlines, push_trans, push_nothing, unlines-append, disorder, is_below, is_decided, is_past, merged_entries, lines_with_key, IsDisorderAt, with_side}
+use Rattle.ptmerge.proofs.MergeLemmas.Orders.{IsKeyOrder, AtMost, at_most_trans, self_at_most, EachKey, EachKey-weaker, Above, at_most_is_le, above_trans, less_flips, Each, Each-weaker, Each-insert}
+use Rattle.ptmerge.proofs.MergeLemmas.Orders.{Each-distinct, Each-append, Each-all, EachKey-append, front_first, greater_flips}
+use Rattle.ptmerge.specs.MergeSpec.{MergeDisorder}
+use Rattle.ptmerge.proofs.MergeLemmas.Slots.{put_each}
+
+abbrev pub is_disordered : Cmp → Option (List ℕ) → List ℕ → Bool
+is_disordered cmp None k = false
+is_disordered cmp (Some l) k = is_gt (cmp l k)
+
+-- the sorted prefix of the lines after a key, and the first disorder among them
+abbrev pub sorted_after : Cmp → Key → Option (List ℕ) → Lines → Lines
+sorted_after cmp key last [] = []
+sorted_after cmp key last (x ∷ w) = cond (is_disordered cmp last (key x)) [] (x ∷ sorted_after cmp key (Some (key x)) w)
+
+abbrev pub disorder_at : Option (List ℕ) → ℕ → FirstDisorder
+disorder_at last n = record { last_key = unwrap_or last []; line = n + 1 }
+
+abbrev pub disorder_after : Cmp → Key → Option (List ℕ) → ℕ → Lines → Option FirstDisorder
+disorder_after cmp key last n [] = None
+disorder_after cmp key last n (x ∷ w) = cond (is_disordered cmp last (key x)) (Some (disorder_at last n)) (disorder_after cmp key (Some (key x)) (n + 1) w)
+
+pub sorted_prefix_is : (cmp : Cmp) (key : Key) (ls : Lines) → sorted_prefix cmp key ls ≡ sorted_after cmp key None ls
+sorted_prefix_is cmp key [] = refl
+sorted_prefix_is cmp key (x ∷ []) = refl
+sorted_prefix_is cmp key (x ∷ y ∷ more) = let ih = sorted_prefix_is cmp key (y ∷ more) in grind (arith, ih)
+
+-- the first disorder, by the length of the sorted prefix
+abbrev by_length : Cmp → Key → Option (List ℕ) → ℕ → Lines → Lines → Option FirstDisorder
+by_length cmp key last n part ls = if nat_lt (length part) (length ls) then Some (record { last_key = unwrap_or (last_or last (map key part)) []; line = (n + length part) + 1 }) else None
+
+by_length_is : (cmp : Cmp) (key : Key) (last : Option (List ℕ)) (n : ℕ) (ls : Lines) → by_length cmp key last n (sorted_after cmp key last ls) ls ≡ disorder_after cmp key last n ls
+by_length_is cmp key last n [] = refl
+by_length_is cmp key last n (x ∷ w) = let ih = by_length_is cmp key (Some (key x)) (n + 1) w in grind (arith, nat_tests, ih)
+
+pub first_disorder_is : (cmp : Cmp) (key : Key) (ls : Lines) → first_disorder cmp key ls ≡ disorder_after cmp key None 0 ls
+first_disorder_is cmp key ls = grind (arith, sorted_prefix_is cmp key ls, by_length_is cmp key None 0 ls)
+
+-- lines in order, up to a last key
+pub record IsSortedUpTo (cmp : Cmp) (key : Key) (q : Lines) (last : Option (List ℕ)) : Type 0 where
+  pub ordered : (w : Lines) → sorted_prefix cmp key (q ++ w) ≡ q ++ sorted_after cmp key last w
+  pub may_disorder : (w : Lines) → first_disorder cmp key (q ++ w) ≡ disorder_after cmp key last (length q) w
+
+pub sorted_up_to_none : {cmp : Cmp} {key : Key} → IsSortedUpTo cmp key [] None
+sorted_up_to_none {cmp} {key} = record { ordered = sorted_prefix_is cmp key; may_disorder = first_disorder_is cmp key }
+
+pub sorted_up_to_more : {cmp : Cmp} {key : Key} {q : Lines} {last : Option (List ℕ)} (x : List ℕ) → IsSortedUpTo cmp key q last → is_disordered cmp last (key x) ≡ false → IsSortedUpTo cmp key (q ++ x ∷ []) (Some (key x))
+sorted_up_to_more {cmp} {key} {q} x b no_disorder = record {
+  ordered = λ w. rw (append_assoc q (x ∷ []) w, b.ordered (x ∷ w), no_disorder, append_assoc q (x ∷ []) (sorted_after cmp key (Some (key x)) w));
+  may_disorder = λ w. rw (append_assoc q (x ∷ []) w, b.may_disorder (x ∷ w), no_disorder, length_push q x);
+}
+
+-- the disorder, if there is one, comes after a key that is at least k
+abbrev pub IsDisorderFrom : Cmp → List ℕ → Option FirstDisorder → Type 0
+IsDisorderFrom cmp k None = Unit {0}
+IsDisorderFrom cmp k (Some d) = AtMost cmp k d.last_key
+
+pub after_from : (cmp : Cmp) (o : IsKeyOrder cmp) (key : Key) (k : List ℕ) (n : ℕ) (w : Lines) → EachKey (AtMost cmp k) key (sorted_after cmp key (Some k) w)
+    × IsDisorderFrom cmp k (disorder_after cmp key (Some k) n w)
+after_from cmp o key k n [] = (tt, tt)
+after_from cmp o key k n (x ∷ w) =
+    let ih = after_from cmp o key (key x) (n + 1) w in
+    let weaker : is_gt (cmp k (key x)) ≡ false → EachKey (AtMost cmp k) key (sorted_after cmp key (Some (key x)) w) =
+    λ h. EachKey-weaker _ _ (λ y a. at_most_trans cmp o k (key x) y h a) _ _ ih.0 in
+    grind (arith, ih, weaker, at_most_trans, self_at_most cmp o k)
+
+-- The lines that may follow in an input: any lines; lines with keys of at least k; none, since the input is out of
+-- order; none, since it has ended.
+pub data Bound : Type 0 where
+  NoBound : Bound
+  AtLeast : List ℕ → Bound
+  AfterDisorder : FirstDisorder → Bound
+  NothingMore : Bound
+
+-- the lines `r` may follow
+abbrev pub MayFollow : Cmp → Key → Bound → Lines → Type 0
+MayFollow cmp key NoBound r = Unit {0}
+MayFollow cmp key (AtLeast k) r = EachKey (AtMost cmp k) key r
+MayFollow cmp key (AfterDisorder d) r = r ≡ []
+MayFollow cmp key NothingMore r = r ≡ []
+
+-- the disorder may occur
+abbrev pub MayDisorder : Cmp → Bound → Option FirstDisorder → Type 0
+MayDisorder cmp NoBound f = Unit {0}
+MayDisorder cmp (AtLeast k) f = IsDisorderFrom cmp k f
+MayDisorder cmp (AfterDisorder d) f = f ≡ Some d
+MayDisorder cmp NothingMore f = f ≡ None
+
+-- the key of a processed line is at most all keys that may follow
+abbrev pub IsUnder : Cmp → Bound → List ℕ → Type 0
+IsUnder cmp NoBound k = ⊥
+IsUnder cmp (AtLeast l) k = AtMost cmp k l
+IsUnder cmp (AfterDisorder d) k = AtMost cmp k d.last_key
+IsUnder cmp NothingMore k = Unit {0}
+
+-- nothing follows after the end of the input
+abbrev pub IsContinuation : Bound → Lines → Type 0
+IsContinuation NothingMore w = w ≡ []
+IsContinuation b w = Unit {0}
+
+pub may_follow_none : (cmp : Cmp) (key : Key) (b : Bound) → MayFollow cmp key b []
+may_follow_none cmp key b = grind arith
+
+-- The lines `ls` are read, and `p` of them are processed: the sorted prefix of every list that continues `ls` is `p`,
+-- followed by lines that the bound allows.
+pub record IsProcessedPrefix (cmp : Cmp) (key : Key) (ls p : Lines) (b : Bound) : Type 0 where
+  pub future : (w : Lines) → IsContinuation b w → (r : Lines) × (sorted_prefix cmp key (ls ++ w) ≡ p ++ r) × MayFollow cmp key b r × MayDisorder cmp b (first_disorder cmp key (ls ++ w))
+
+-- all lines read are processed
+pub processed_to_line : {cmp : Cmp} (o : IsKeyOrder cmp) {key : Key} {ls : Lines} {k : List ℕ} → IsSortedUpTo cmp key ls (Some k) → IsProcessedPrefix cmp key ls ls (AtLeast k)
+processed_to_line {cmp} o {key} {ls} {k} g = record {
+  future = λ w _.
+      let a = after_from cmp o key k (length ls) w in (sorted_after cmp key (Some k) w, g.ordered w, a.0, rw (g.may_disorder w) a.1);
+}
+
+pub processed_all : {cmp : Cmp} {key : Key} {ls : Lines} {last : Option (List ℕ)} → IsSortedUpTo cmp key ls last → IsProcessedPrefix cmp key ls ls NothingMore
+processed_all g = record { future = λ w none. rw none ([], g.ordered [], refl, g.may_disorder []) }
+
+-- the current line is not yet processed
+pub processed_before_line : {cmp : Cmp} (o : IsKeyOrder cmp) {key : Key} {p : Lines} {x : List ℕ} → IsSortedUpTo cmp key (p ++ x ∷ []) (Some (key x)) → IsProcessedPrefix cmp key (p ++ x ∷ []) p (AtLeast (key x))
+processed_before_line {cmp} o {key} {p} {x} g = record {
+  future = λ w _.
+      let a = after_from cmp o key (key x) (length (p ++ x ∷ [])) w in (
+        x ∷ sorted_after cmp key (Some (key x)) w,
+        g.ordered w ∙ append_assoc p (x ∷ []) (sorted_after cmp key (Some (key x)) w),
+        (self_at_most cmp o (key x), a.0),
+        rw (g.may_disorder w) a.1,
+      );
+}
+
+-- the current line is out of order
+pub processed_to_disorder : {cmp : Cmp} {key : Key} {p : Lines} {k : List ℕ} (x : List ℕ) → IsSortedUpTo cmp key p (Some k) → is_gt (cmp k (key x)) ≡ true
+    → IsProcessedPrefix cmp key (p ++ x ∷ []) p (AfterDisorder (record { last_key = k; line = length p + 1 }))
+processed_to_disorder {p = p} x g fell = record { future = λ w _. ([], rw (append_assoc p (x ∷ []) w, g.ordered (x ∷ w), fell), refl, rw (append_assoc p (x ∷ []) w, g.may_disorder (x ∷ w), fell)) }
+
+-- ---- the output
+
+abbrev pub all_keys : List ℕ → Bool
+all_keys k = true
+
+filter_all : (w : List ℕ → Bool) (ks : Lines) → Each (λ k. w k ≡ true) ks → filter w ks ≡ ks
+filter_all w [] e = refl
+filter_all w (k ∷ ks) e = rw e.0 (ap (λ l. k ∷ l) (filter_all w ks e.1))
+
+filter_none : (w : List ℕ → Bool) (ks : Lines) → Each (λ k. w k ≡ false) ks → filter w ks ≡ []
+filter_none w [] e = refl
+filter_none w (k ∷ ks) e = rw e.0 (filter_none w ks e.1)
+
+-- keys in order, without repetition
+abbrev pub Ascends : Cmp → Lines → Type 0
+Ascends cmp [] = Unit {0}
+Ascends cmp (k ∷ ks) = Each (Above cmp k) ks × Ascends cmp ks
+
+-- a test that holds for all keys below a key for which it holds
+abbrev pub IsDownwardClosed : Cmp → (List ℕ → Bool) → Type 0
+IsDownwardClosed cmp w = (a b : List ℕ) → cmp b a ≡ Greater → w b ≡ true → w a ≡ true
+
+module _ (cmp : Cmp) (o : IsKeyOrder cmp) where
+  ascends_insert : (k : List ℕ) (ks : Lines) → Ascends cmp ks → Ascends cmp (insert_key cmp k ks)
+  ascends_insert k [] a = (tt, tt)
+  ascends_insert k (x ∷ ks) a = elim (cmp k x) as (λ r. cmp k x ≡ r → Ascends cmp (match_ordering r (k ∷ x ∷ ks) (x ∷ ks) (x ∷ insert_key cmp k ks))) [
+    | Less ↦ λ e. ((less_flips cmp o k x e, Each-weaker _ _ (λ y h. above_trans cmp o k x y (ap is_gt e) h) _ a.0), a)
+    | Equal ↦ λ e. a
+    | Greater ↦ λ e. (Each-insert cmp (Above cmp x) k ks e a.0, ascends_insert k ks a.1)
+  ] refl
+
+  pub ascends_distinct : (ks : Lines) → Ascends cmp (distinct_keys cmp ks)
+  ascends_distinct [] = tt
+  ascends_distinct (k ∷ ks) = ascends_insert k (distinct_keys cmp ks) (ascends_distinct ks)
+
+  -- the keys that pass the test come first
+  downward_first : (w p : List ℕ → Bool) → IsDownwardClosed cmp p → (ks : Lines) → Ascends cmp ks → filter w ks ≡ filter (λ k. w k && p k) ks ++ filter (λ k. w k && not (p k)) ks
+  downward_first w p down [] a = refl
+  downward_first w p down (k ∷ ks) a =
+      let ih = downward_first w p down ks a.1 in
+      let none : p k ≡ false → filter (λ y. w y && p y) ks ≡ [] = λ h. filter_none _ ks (Each-weaker _ _ (not_above h) _ a.0) in
+      grind (arith, ih, none)
+    where
+      not_above : p k ≡ false → (y : List ℕ) → cmp y k ≡ Greater → (w y && p y) ≡ false
+      not_above h y g = grind (arith, down k y g)
+
+  -- the disorder comes after a key that is at least k
+  pub under_fall : (b : Bound) (k : List ℕ) (f : Option FirstDisorder) → IsUnder cmp b k → MayDisorder cmp b f → IsDisorderFrom cmp k f
+  under_fall b k f u h = grind (arith, at_most_trans)
+
+  pub up_to_from : (k : List ℕ) (f1 f2 : Option FirstDisorder) → IsDisorderFrom cmp k f1 → IsDisorderFrom cmp k f2 → is_up_to cmp (earlier_disorder cmp f1 f2) k ≡ true
+  up_to_from k f1 f2 h1 h2 = grind (arith, at_most_is_le)
+
+  pub written_is_wanted : (b1 b2 : Bound) (f1 f2 : Option FirstDisorder) (k : List ℕ) → MayDisorder cmp b1 f1 → MayDisorder cmp b2 f2 → IsUnder cmp b1 k → IsUnder cmp b2 k → is_up_to cmp (earlier_disorder cmp f1 f2) k ≡ true
+  written_is_wanted b1 b2 f1 f2 k h1 h2 u1 u2 = up_to_from k f1 f2 (under_fall b1 k f1 u1 h1) (under_fall b2 k f2 u2 h2)
+
+module _ (tool : MergeTool) where
+  pub all_wanted : (w : List ℕ → Bool) (p : Side → Lines) → ((side : Side) → EachKey (λ k. w k ≡ true) (tool.key side) (p side)) → entries_by_key tool w p ≡ entries_by_key tool all_keys p
+  all_wanted w p e =
+      let ks = distinct_keys tool.cmp (keys tool p) in
+      let pass = filter_all w ks (Each-distinct _ _ _ (Each-append _ _ _ (e First) (e Second))) in
+      ap (flat_map (entries_of_key tool p)) (pass ∙ sym (filter_all all_keys ks (Each-all _ (λ k. refl) ks)))
+
+  pub none_wanted : (w : List ℕ → Bool) (r : Side → Lines) → ((side : Side) → EachKey (λ k. w k ≡ false) (tool.key side) (r side)) → entries_by_key tool w r ≡ []
+  none_wanted w r e = ap (flat_map (entries_of_key tool r)) (filter_none w (distinct_keys tool.cmp (keys tool r)) (Each-distinct _ _ _ (Each-append _ _ _ (e First) (e Second))))
+
+  -- the entries of the keys that pass the test come first
+  pub downward_splits : IsKeyOrder tool.cmp → (w p : List ℕ → Bool) → IsDownwardClosed tool.cmp p → (ls : Side → Lines)
+      → entries_by_key tool w ls ≡ entries_by_key tool (λ k. w k && p k) ls ++ entries_by_key tool (λ k. w k && not (p k)) ls
+  downward_splits o w p down ls =
+      let ks = distinct_keys tool.cmp (keys tool ls) in
+      ap (flat_map (entries_of_key tool ls)) (downward_first tool.cmp o w p down ks (ascends_distinct tool.cmp o (keys tool ls)))
+      ∙ flat_map-append (entries_of_key tool ls) (filter (λ k. w k && p k) ks) (filter (λ k. w k && not (p k)) ks)
+
+  pub downward_is_prefix : IsKeyOrder tool.cmp → (w : List ℕ → Bool) → IsDownwardClosed tool.cmp w → (p : Side → Lines) → (rest : Lines) × (entries_by_key tool all_keys p ≡ entries_by_key tool w p ++ rest)
+  downward_is_prefix o w down p = (entries_by_key tool (λ k. not (w k)) p, downward_splits o all_keys w down p)
+
+  -- the lines that may follow in both inputs
+  abbrev pub MayCome : (Side → Bound) → (Side → Lines) → Type 0
+  MayCome b r = (side : Side) → MayFollow tool.cmp (tool.key side) (b side) (r side)
+
+  -- For all lines that may follow, and for every choice of keys, the entries of the processed lines come first.
+  pub record Splits (b : Side → Bound) (p : Side → Lines) : Type 0 where
+    pub split : (w : List ℕ → Bool) (r : Side → Lines) → ((side : Side) → MayFollow tool.cmp (tool.key side) (b side) (r side))
+        → entries_by_key tool w (λ side. p side ++ r side) ≡ entries_by_key tool w p ++ entries_by_key tool w r
+
+  -- lines are processed whose entries precede those of all lines that may follow
+  pub splits_step : (b d : Side → Bound) (p f : Side → Lines) → Splits b p
+      → ((side : Side) (r : Lines) → MayFollow tool.cmp (tool.key side) (d side) r → MayFollow tool.cmp (tool.key side) (b side) (f side ++ r))
+      → ((w : List ℕ → Bool) (r : Side → Lines) → MayCome d r → entries_by_key tool w (λ side. f side ++ r side) ≡ entries_by_key tool w f ++ entries_by_key tool w r) → Splits d (λ side. p side ++ f side)
+  splits_step b d p f s u front = record {
+    split = λ w r c.
+        let none = λ (side : Side). rw append-nil at (u side [] (may_follow_none tool.cmp (tool.key side) (d side))) in
+        (λ i. entries_by_key tool w (λ side. append_assoc (p side) (f side) (r side) i)) ∙ s.split w (λ side. f side ++ r side) (λ side. u side (r side) (c side))
+        ∙ ap (λ l. entries_by_key tool w p ++ l) (front w r c) ∙ sym (append_assoc (entries_by_key tool w p) (entries_by_key tool w f) (entries_by_key tool w r)) ∙ ap (λ l. l ++ entries_by_key tool w r) (sym (s.split w f none));
+  }
+
+-- ---- the bytes written
+
+-- the output is the output for the processed lines, which comes first for all lines that may follow
+pub record MergeInvariant (tool : MergeTool) (b : Side → Bound) (p : Side → Lines) (was is : Output) : Type 0 where
+  pub splits : Splits tool b p
+  pub under : (of side : Side) → EachKey (IsUnder tool.cmp (b of)) (tool.key side) (p side)
+  pub wrote : PushEffect was is (unlines tool.terminator (entries_by_key tool all_keys p))
+
+-- before anything is read
+pub merge_invariant_starts : (tool : MergeTool) (was : Output) → MergeInvariant tool (λ side. NoBound) (λ side. []) was was
+merge_invariant_starts tool was = record { splits = record { split = λ w r c. refl }; under = λ of side. tt; wrote = push_nothing was }
+
+-- The output by the last time at which no write had failed: entries of all processed lines except perhaps the last
+-- ones, which precede all that may follow.
+pub record LagInvariant (tool : MergeTool) (b : Side → Bound) (p : Side → Lines) (was is : Output) : Type 0 where
+  pub mid : Output
+  pub front : Side → Lines
+  pub tail : Side → Lines
+  pub clean : mid.write_failed ≡ false
+  pub wrote : PushEffect was mid (unlines tool.terminator (entries_by_key tool all_keys front))
+  pub bytes : List ℕ
+  pub more : PushEffect mid is bytes
+  pub all : unlines tool.terminator (entries_by_key tool all_keys front) ++ bytes ≡ unlines tool.terminator (entries_by_key tool all_keys p)
+  pub split : (side : Side) → p side ≡ front side ++ tail side
+  pub may_follow : (side : Side) (r : Lines) → MayFollow tool.cmp (tool.key side) (b side) r → MayFollow tool.cmp (tool.key side) (b side) (tail side ++ r)
+
+-- everything was written by then, and nothing after it
+pub lag_invariant_starts : (tool : MergeTool) (b : Side → Bound) (p : Side → Lines) (was mid is : Output) → mid.write_failed ≡ false
+    → PushEffect was mid (unlines tool.terminator (entries_by_key tool all_keys p)) → PushEffect mid is [] → LagInvariant tool b p was is
+lag_invariant_starts tool b p was mid is clean wrote more = record {
+  mid = mid;
+  front = p;
+  tail = λ side. [];
+  clean = clean;
+  wrote = wrote;
+  bytes = [];
+  more = more;
+  all = append-nil (unlines tool.terminator (entries_by_key tool all_keys p));
+  split = λ side. sym (append-nil (p side));
+  may_follow = λ side r c. c;
+}
+
+-- the lines `f` of one key, processed by one input, precede all lines that may follow in it
+pub record IsLeastKeyRun (cmp : Cmp) (key : Key) (b : Bound) (k : List ℕ) (f : Lines) : Type 0 where
+  pub own : EachKey (λ y. y ≡ k) key f
+  pub may_follow : (r : Lines) → MayFollow cmp key b r → MayFollow cmp key b (f ++ r)
+  pub bound_after : (r : Lines) → MayFollow cmp key b r → EachKey (AtMost cmp k) key r
+  pub under : IsUnder cmp b k
+
+-- the current line, or no line
+pub line_is_least_run : {cmp : Cmp} (o : IsKeyOrder cmp) {key : Key} {b : Bound} {k x : List ℕ} → b ≡ AtLeast (key x) → key x ≡ k → IsLeastKeyRun cmp key b k (x ∷ [])
+line_is_least_run {cmp} o {key} {x = x} is same = rw (is, ← same) (record { own = (refl, tt); may_follow = λ r c. (self_at_most cmp o (key x), c); bound_after = λ r c. c; under = self_at_most cmp o (key x) })
+
+-- such lines are processed
+pub write_least_run : {tool : MergeTool} (o : IsKeyOrder tool.cmp) (k : List ℕ) (q f : Side → Lines) {b : Side → Bound} {p : Side → Lines} {was is new : Output}
+    → ((side : Side) → IsLeastKeyRun tool.cmp (tool.key side) (b side) k (f side)) → ((side : Side) → q side ≡ p side ++ f side) → tool.entries k [] [] ≡ []
+    → ((r : Side → Lines) → ((side : Side) → MayFollow tool.cmp (tool.key side) (b side) (r side))
+    → tool.entries k (f First ++ lines_with_key (tool.key First) (r First) k) (f Second ++ lines_with_key (tool.key Second) (r Second) k) ≡ tool.entries k (f First) (f Second) ++ entries_of_key tool r k)
+    → is.write_failed ≡ false → MergeInvariant tool b p was is → PushEffect is new (unlines tool.terminator (entries_by_key tool all_keys f)) → MergeInvariant tool b q was new × LagInvariant tool b q was new
+write_least_run {tool} o k q f {b} {p} {was} {is} {new} front all none law clean m wrote =
+    let nothing = λ (side : Side). rw append-nil at ((front side).may_follow [] (may_follow_none tool.cmp (tool.key side) (b side))) in
+    let texts = ap (unlines tool.terminator) (m.splits.split all_keys f nothing) ∙ unlines-append tool.terminator (entries_by_key tool all_keys p) (entries_by_key tool all_keys f) in
+    subst (λ (l : Side → Lines). MergeInvariant tool b l was new × LagInvariant tool b l was new) (λ i side. sym (all side) i) (
+      record {
+        splits = splits_step tool b b p f m.splits (λ side. (front side).may_follow)
+            (λ w r c. front_first tool o w k f r (λ side. (front side).own) (λ side. (front side).bound_after (r side) (c side)) none (law r c));
+        under = λ of side. EachKey-append (IsUnder tool.cmp (b of)) (tool.key side) _ _ (m.under of side)
+            (EachKey-weaker (λ y. y ≡ k) (IsUnder tool.cmp (b of)) (λ y e. rw e (front of).under) _ _ (front side).own);
+        wrote = rw texts (push_trans _ _ _ _ _ clean m.wrote wrote);
+      },
+      record {
+        mid = is;
+        front = p;
+        tail = f;
+        clean = clean;
+        wrote = m.wrote;
+        bytes = unlines tool.terminator (entries_by_key tool all_keys f);
+        more = wrote;
+        all = sym texts;
+        split = λ side. refl;
+        may_follow = λ side. (front side).may_follow;
+      },
+    )
+
+-- an input advanced
+pub bound_changes : {tool : MergeTool} {b : Side → Bound} {p : Side → Lines} {was is : Output} (s : Side) (d : Bound) → MergeInvariant tool b p was is
+    → ((r : Lines) → MayFollow tool.cmp (tool.key s) d r → MayFollow tool.cmp (tool.key s) (b s) r) → ((k : List ℕ) → IsUnder tool.cmp (b s) k → IsUnder tool.cmp d k) → MergeInvariant tool (with_side s d b) p was is
+bound_changes {tool} {b} {p} s d m may_follow under = record {
+  splits = record {
+    split = λ w r c.
+        m.splits.split w r (λ side. put_each (λ t e. MayFollow tool.cmp (tool.key t) e (r t) → MayFollow tool.cmp (tool.key t) (b t) (r t)) s d b (may_follow (r s)) (λ t h. h) side (c side));
+  };
+  under = λ of side. put_each (λ t e. EachKey (IsUnder tool.cmp e) (tool.key side) (p side)) s d b (EachKey-weaker _ _ under _ _ (m.under s side)) (λ t. m.under t side) of;
+  wrote = m.wrote;
+}
+
+-- the merge is at its end: the disorder is the reported one, and no line that may follow changes the output
+abbrev pub IsExactStop : MergeTool → (Side → Bound) → Side → ℕ → Type 0
+IsExactStop tool b side number = (ls r : Side → Lines) → ((s : Side) → MayFollow tool.cmp (tool.key s) (b s) (r s)) → ((s : Side) → MayDisorder tool.cmp (b s) (first_disorder tool.cmp (tool.key s) (ls s)))
+    → (entries_by_key tool (is_up_to tool.cmp (disorder tool ls)) r ≡ []) × IsDisorderAt (disorder tool ls) side number
+
+-- ---- the decided output
+
+pub is_continuation : (b : Bound) (w : Lines) → (b ≡ NothingMore → w ≡ []) → IsContinuation b w
+is_continuation b w h = grind arith
+
+pub both_under : (key : Key) (P Q R : List ℕ → Type 0) → ((k : List ℕ) → P k → Q k → R k) → (xs : Lines) → EachKey P key xs → EachKey Q key xs → EachKey R key xs
+both_under key P Q R f [] p q = tt
+both_under key P Q R f (x ∷ xs) p q = (f (key x) p.0 q.0, both_under key P Q R f xs p.1 q.1)
+
+-- a property of each key holds for the last key
+pub last_has : (key : Key) (P : List ℕ → Type 0) (last : Option (List ℕ)) (xs : Lines) (x : List ℕ) → last_or last (map key xs) ≡ Some x → ((y : List ℕ) → last ≡ Some y → P y) → EachKey P key xs → P x
+last_has key P last [] x e f h = f x e
+last_has key P last (y ∷ xs) x e f h = last_has key P (Some (key y)) xs x e (λ z same. (let is : key y ≡ z = cc in subst P is h.0)) h.1
+
+module _ (cmp : Cmp) (o : IsKeyOrder cmp) where
+  pub not_below : (k x : List ℕ) → AtMost cmp x k → is_lt (cmp k x) ≡ false
+  not_below k x h = grind (arith, less_flips cmp o k x)
+
+  -- no line that may follow is below the key of a processed line
+  coming_under : (key : Key) (b : Bound) (x : List ℕ) (r : Lines) → IsUnder cmp b x → MayFollow cmp key b r → EachKey (AtMost cmp x) key r
+  coming_under key NoBound x r u c = absurd u
+  coming_under key (AtLeast l) x r u c = EachKey-weaker _ _ (λ k h. at_most_trans cmp o x l k u h) _ _ c
+  coming_under key (AfterDisorder d) x r u c = rw c tt
+  coming_under key NothingMore x r u c = rw c tt
+
+  -- no line that may follow in one input is below the last processed key of the other
+  pub past_none : (key other_key : Key) (b : Bound) (p r : Lines) → EachKey (IsUnder cmp b) key p → MayFollow cmp other_key b r
+      → EachKey (λ k. is_below cmp k (last_or None (map key p)) ≡ false) other_key r
+  past_none key other_key b p r u c = elim (last_or None (map key p)) as (λ l. last_or None (map key p) ≡ l → EachKey (λ k. is_below cmp k l ≡ false) other_key r) [
+    | None ↦ λ e. Each-all (λ k. false ≡ false) (λ k. refl) (map other_key r)
+    | Some x ↦ λ e. (
+        let ux = last_has key (IsUnder cmp b) None p x e (λ y bad. cc) u in
+        EachKey-weaker _ _ (λ k h. not_below k x h) _ _ (coming_under other_key b x r ux c)
+        )
+  ] refl
+
+  -- the tests of `is_decided` hold for all keys below a key for which they hold
+  downward_lt : (l a b : List ℕ) → cmp b a ≡ Greater → is_lt (cmp b l) ≡ true → is_lt (cmp a l) ≡ true
+  downward_lt l a b g h = grind (arith, greater_flips, less_flips, above_trans)
+
+  downward_up_to : (d : Option MergeDisorder) → IsDownwardClosed cmp (is_up_to cmp d)
+  downward_up_to None a b g h = refl
+  downward_up_to (Some d) a b g h = grind (arith, at_most_trans cmp o a b d.first_disorder.last_key, greater_flips cmp o b a g)
+
+  downward_past : (key : Key) (eof : Bool) (ls : Lines) → IsDownwardClosed cmp (is_past cmp key eof ls)
+  downward_past key eof ls a b g h = grind (arith, downward_lt)
+
+all_three : (x y z u v w : Bool) → (x ≡ true → u ≡ true) → (y ≡ true → v ≡ true) → (z ≡ true → w ≡ true) → (x && y && z) ≡ true → (u && v && w) ≡ true
+all_three x y z u v w f g h e = grind arith
+
+and_false : (x y z : Bool) → (y ≡ false) ⊎ (z ≡ false) → (x && y && z) ≡ false
+and_false x y z e = grind arith
+
+module _ (tool : MergeTool) (o : IsKeyOrder tool.cmp) (eof : Side → Bool) (ls : Side → Lines) where
+  pub downward_decided : IsDownwardClosed tool.cmp (is_decided tool eof ls)
+  downward_decided a b g h =
+      all_three _ _ _ _ _ _ (downward_up_to tool.cmp o (disorder tool ls) a b g) (downward_past tool.cmp o (tool.key First) (eof First) (ls First) a b g)
+      (downward_past tool.cmp o (tool.key Second) (eof Second) (ls Second) a b g) h
+
+  -- no key is decided unless it is past in this input
+  pub not_decided : (side : Side) (k : List ℕ) → is_past tool.cmp (tool.key side) (eof side) (ls side) k ≡ false → is_decided tool eof ls k ≡ false
+  not_decided First k e = and_false _ _ _ (inl e)
+  not_decided Second k e = and_false (is_up_to tool.cmp (disorder tool ls) k) (is_past tool.cmp (tool.key First) (eof First) (ls First) k) _ (inr e)
+
+-- two lists that continue the lines read so far
+pub record InputSplit (tool : MergeTool) (b : Side → Bound) (p ls : Side → Lines) : Type 0 where
+  pub r : Side → Lines
+  pub parts : (side : Side) → sorted_prefix tool.cmp (tool.key side) (ls side) ≡ p side ++ r side
+  pub may_follow : (side : Side) → MayFollow tool.cmp (tool.key side) (b side) (r side)
+  pub may_disorder : (side : Side) → MayDisorder tool.cmp (b side) (first_disorder tool.cmp (tool.key side) (ls side))
+
+-- the entries of the processed lines come first, for all such lists
+pub input_split : {tool : MergeTool} (o : IsKeyOrder tool.cmp) {b : Side → Bound} {p ls : Side → Lines} {was is : Output} → MergeInvariant tool b p was is → (s : InputSplit tool b p ls)
+    → merged_entries tool ls ≡ entries_by_key tool all_keys p ++ entries_by_key tool (is_up_to tool.cmp (disorder tool ls)) s.r
+input_split {tool} o {b} {p} {ls} m s =
+    let w = is_up_to tool.cmp (disorder tool ls) in
+    let first = all_wanted tool w p (λ side. both_under (tool.key side) (IsUnder tool.cmp (b First)) (IsUnder tool.cmp (b Second)) (λ k. w k ≡ true)
+    (λ k u1 u2. written_is_wanted tool.cmp o (b First) (b Second) (first_disorder tool.cmp (tool.key First) (ls First)) (first_disorder tool.cmp (tool.key Second) (ls Second)) k
+    (s.may_disorder First) (s.may_disorder Second) u1 u2) (p side) (m.under First side) (m.under Second side)) in
+    (λ i. entries_by_key tool w (λ side. s.parts side i)) ∙ m.splits.split w s.r s.may_follow ∙ ap (λ l. l ++ entries_by_key tool w s.r) first

@@ -1,0 +1,114 @@
+-- Lines in the slots of a store. A slot changes only if its own input reads, so two lines of each input, none longer
+-- than its longest line, bound the bytes stored.
+use Rattle.ptmerge.proofs.Common.{◌≡◌, ◌≢◌, inl, inr, ℕ, zero, suc, ◌+◌, ◌*◌, ◌≤◌, false, List, [], ◌∷◌, ◌++◌, length, max, refl, sym, ◌∙◌, arith, get_or, set, length-set, get_or-set_other}
+use Rattle.ptmerge.proofs.Common.{sum_by-cons, Slots, line, total_bytes, with_new_slot, with_line, Side, First, Second, Sorted, HasSlots, EnsureFourSlotsPost, ClearFourSlotsPost, Bool, both, with_side, other}
+
+-- two functions of the side, each changed at the same side
+pub put_both : {X Y : Type 0} (P : Side → X → Y → Type 0) (s : Side) (x : X) (f : Side → X) (y : Y) (g : Side → Y) → P s x y → P (other s) (f (other s)) (g (other s))
+    → (side : Side) → P side (with_side s x f side) (with_side s y g side)
+put_both P First x f y g p q First = p
+put_both P First x f y g p q Second = q
+put_both P Second x f y g p q First = q
+put_both P Second x f y g p q Second = p
+
+module _ {X : Type 0} (P : Side → X → Type 0) where
+  pub both_each : (x y : X) → P First x → P Second y → (side : Side) → P side (both x y side)
+  both_each x y p q = elim [ First ↦ p | Second ↦ q ]
+
+  -- one function of the side, changed at one side
+  pub put_each : (s : Side) (x : X) (f : Side → X) → P s x → ((side : Side) → P side (f side)) → (side : Side) → P side (with_side s x f side)
+  put_each s x f p q = put_both {Y = Unit {0}} (λ side z u. P side z) s x f tt (λ side. tt) p (q (other s))
+
+pub put_same : {X : Type 0} (s : Side) (x : X) (f : Side → X) → with_side s x f s ≡ x
+put_same s x f = grind arith
+
+pub put_other : {X : Type 0} (s : Side) (x : X) (f : Side → X) → with_side s x f (other s) ≡ f (other s)
+put_other s x f = grind arith
+
+-- a property of one side and of the other
+pub side_case : (Q : Side → Type 0) (s : Side) → Q s → Q (other s) → (side : Side) → Q side
+side_case Q s p q = put_both {X = Unit {0}} {Y = Unit {0}} (λ side x y. Q side) s tt (λ side. tt) tt (λ side. tt) p q
+
+-- ---- the slots
+
+pub line_other : (s : Slots) (a b : ℕ) (bytes : List ℕ) → a ≢ b → line (with_line s a bytes) b ≡ line s b
+line_other s a b bytes n = get_or-set_other s.lines a b bytes [] (λ e. n (sym e))
+
+added_same : (xs : List (List ℕ)) (i : ℕ) → get_or (xs ++ [] ∷ []) i [] ≡ get_or xs i []
+added_same [] i = grind arith
+added_same (x ∷ xs) zero = refl
+added_same (x ∷ xs) (suc i) = added_same xs i
+
+pub line_added : (s : Slots) (slot : ℕ) → line (with_new_slot s) slot ≡ line s slot
+line_added s slot = added_same s.lines slot
+
+-- Two lines of each input, of at most `m` bytes each, and `more` bytes in the other slots.
+abbrev pub HasLines : (Side → ℕ) → ℕ → List (List ℕ) → Type 0
+HasLines m more (a ∷ b ∷ c ∷ d ∷ rest) = (length a ≤ m First) × (length b ≤ m First) × (length c ≤ m Second) × (length d ≤ m Second) × (total_bytes rest ≡ more)
+HasLines m more few = ⊥
+
+four_total : (a b c d : List ℕ) (rest : List (List ℕ)) → total_bytes (a ∷ b ∷ c ∷ d ∷ rest) ≡ ((length a + length b) + length c) + length d + total_bytes rest
+four_total a b c d rest = omega (arith, sum_by-cons length a (b ∷ c ∷ d ∷ rest), sum_by-cons length b (c ∷ d ∷ rest), sum_by-cons length c (d ∷ rest), sum_by-cons length d rest)
+
+pub has_lines_none : (xs : List (List ℕ)) → 4 ≤ length xs → total_bytes xs ≡ 0 → HasLines (λ side. 0) 0 xs
+has_lines_none (a ∷ b ∷ c ∷ d ∷ rest) four none = omega (arith, four_total a b c d rest)
+has_lines_none few four none = absurd (omega arith)
+
+pub has_lines_total : (xs : List (List ℕ)) (m : Side → ℕ) (more : ℕ) → HasLines m more xs
+    → (4 ≤ length xs) × (total_bytes xs ≤ 2 * m First + 2 * m Second + more) × (total_bytes xs ≡ ((length (get_or xs 0 []) + length (get_or xs 1 [])) + length (get_or xs 2 [])) + length (get_or xs 3 []) + more)
+has_lines_total (a ∷ b ∷ c ∷ d ∷ rest) m more h = omega (arith, four_total a b c d rest)
+has_lines_total few m more h = absurd h
+
+-- the next line of an input replaces its previous line
+pub set_line : (s : Side) (cursor : Sorted) (xs : List (List ℕ)) (m k : Side → ℕ) (more : ℕ) (x : List ℕ) → HasSlots s cursor → HasLines m more xs
+    → ((side : Side) → m side ≤ k side) → length x ≤ k s → HasLines k more (set xs cursor.previous_slot x)
+set_line s cursor (a ∷ b ∷ c ∷ d ∷ rest) m k more x slots h up l = by s slots l
+  where
+    first : (length a ≤ k First) × (length b ≤ k First)
+    first = omega (arith, h, up First)
+
+    second : (length c ≤ k Second) × (length d ≤ k Second)
+    second = omega (arith, h, up Second)
+
+    by : (t : Side) → HasSlots t cursor → length x ≤ k t → HasLines k more (set (a ∷ b ∷ c ∷ d ∷ rest) cursor.previous_slot x)
+    by First (inl e) l = rw e.1 (first.0, l, second.0, second.1, h.4)
+    by First (inr e) l = rw e.1 (l, first.1, second.0, second.1, h.4)
+    by Second (inl e) l = rw e.1 (first.0, first.1, second.0, l, h.4)
+    by Second (inr e) l = rw e.1 (first.0, first.1, l, second.1, h.4)
+set_line s cursor few m k more x slots h up l = absurd h
+
+-- The invariant of the store of a merge: two lines of each input, of at most `m` bytes each.
+pub record StoreOfLines (before store : Slots) (m : Side → ℕ) : Type 0 where
+  pub lines : HasLines m 0 store.lines
+  pub peak : store.peak ≤ max before.peak (2 * m First + 2 * m Second)
+  pub slots : length store.lines ≡ max (length before.lines) 4
+  pub denied : store.denied ≡ false
+
+pub store_of_no_lines : {before store : Slots} → EnsureFourSlotsPost before store → before.denied ≡ false → total_bytes before.lines ≡ 0 → StoreOfLines before store (λ side. 0)
+store_of_no_lines {store = store} four allowed empty = record
+    { lines = has_lines_none store.lines (omega (arith, four.slots)) (four.total_bytes ∙ empty); peak = omega (arith, four.peak); slots = four.slots; denied = four.denied ∙ allowed }
+
+pub store_with_line : {before store after : Slots} (s : Side) (cursor : Sorted) {m : Side → ℕ} (k : Side → ℕ) (x : List ℕ) → HasSlots s cursor → StoreOfLines before store m
+    → ((side : Side) → m side ≤ k side) → length x ≤ k s → after ≡ with_line store cursor.previous_slot x → StoreOfLines before after k
+store_with_line {store = store} s cursor {m} k x slots kept up fits is =
+    let inside = set_line s cursor store.lines m k 0 x slots kept.lines up fits in
+    rw is (record {
+      lines = inside;
+      peak = omega (arith, kept.peak, up First, up Second, (has_lines_total (set store.lines cursor.previous_slot x) k 0 inside).1);
+      slots = length-set store.lines cursor.previous_slot x ∙ kept.slots;
+      denied = kept.denied;
+    })
+
+-- the first four slots were emptied
+cleared : (lines : List (List ℕ)) (peak : ℕ) (denied : Bool) → 4 ≤ length lines
+    → let s : Slots = record { lines = lines; peak = peak; denied = denied } in ClearFourSlotsPost s (with_line (with_line (with_line (with_line s 0 []) 1 []) 2 []) 3 [])
+cleared (a ∷ b ∷ c ∷ d ∷ rest) peak denied four = record {
+  slots = refl;
+  emptied = omega (arith, four_total a b c d rest, four_total [] [] [] [] rest);
+  peak = omega (arith, four_total a b c d rest, four_total [] b c d rest, four_total [] [] c d rest, four_total [] [] [] d rest, four_total [] [] [] [] rest);
+  denied = refl;
+}
+cleared few peak denied four = absurd (omega arith)
+
+pub four_cleared : (s a b c d : Slots) → 4 ≤ length s.lines → a ≡ with_line s 0 [] → b ≡ with_line a 1 [] → c ≡ with_line b 2 [] → d ≡ with_line c 3 [] → ClearFourSlotsPost s d
+four_cleared s a b c d four is0 is1 is2 is3 = rw (is3, is2, is1, is0) (cleared s.lines s.peak s.denied four)

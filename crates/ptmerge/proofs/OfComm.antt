@@ -1,2 +1,0 @@
--- `comm`.
-pub mod Turns

@@ -1,0 +1,5 @@
+use Rattle.ptmerge.proofs.Parts.ByKey.{join_of_keys}
+use Rattle.ptmerge.proofs.laws.join_by_key.Goals as goal
+
+pub returns : goal.returns
+returns c = join_of_keys

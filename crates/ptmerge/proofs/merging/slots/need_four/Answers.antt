@@ -1,8 +1,0 @@
-use Rattle.ptmerge.proofs.Common.{refl, arith, err_from_is_err_and}
-use Rattle.ptmerge.proofs.merging.slots.need_four.Goals as goal
-
-pub returns-in_err-add-clause-err : goal.returns-in_err-add-clause-err
-returns-in_err-add-clause-err g c =
-    let i = c.loop-store.invariant in
-    let x = err_from_is_err_and c.from_residual.result c.from_residual.ensures.1 in
-    rw (x.1, c.in_err-add.ensures.err) (record { least = i.least; most = omega (arith, c.slots.ensures, c.loop-store-test.true); same = i.same; total = i.total; peak = i.peak; denied = refl })

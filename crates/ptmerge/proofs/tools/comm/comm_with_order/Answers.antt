@@ -1,0 +1,104 @@
+-- Each iteration preserves the invariant by one lemma of `Iteration`, and each exit has the postconditions by another.
+use Rattle.ptmerge.proofs.Common.{◌≡◌, Result, Err, IsErrAnd, arith, refl, ◌∙◌, err_from_is_err_and, comm_job, MergeFault, comm_with, merge_state}
+use Rattle.ptmerge.proofs.MergeLemmas.Step.{IsOpenMerge, open_merge, err_is}
+use Rattle.ptmerge.proofs.CommLemmas.Iteration.{alone_decreases, alone_continues, alone_fails, eof, disordered, exit_as, pair_decreases, pair_continues, pair_fails, second_advance_pre, second_fails, advance_pre, start_fails, starts}
+use Rattle.ptmerge.proofs.CommLemmas.Iteration.{iteration_as}
+use Rattle.ptmerge.proofs.tools.comm.comm_with_order.Goals.{After-start}
+use Rattle.ptmerge.specs.declared.key_order.Side.TheVariants as sides
+use Rattle.ptmerge.proofs.tools.comm.comm_with_order.Given as given
+use Rattle.ptmerge.proofs.tools.comm.comm_with_order.Goals as goal
+
+opened : (g : given.Over) (c : After-start g) → IsOpenMerge (comm_with (comm_job c.args.job.now) (g.K.KeyOrder.order c.args.order) (g.K.KeyOrder.key_of c.args.order))
+    (merge_state c.args.first.now c.args.second.now c.args.out.now c.args.store.now)
+opened g c = open_merge (record { total = g.met.K.KeyOrder.total c.args.order; exact = g.met.K.KeyOrder.exact c.args.order }) (λ ls. (omega arith, omega arith)) c.requires.begins
+
+-- the fault of a call is returned
+is_told : {r : Result (Unit {0}) MergeFault} {fault : MergeFault} → IsErrAnd r (λ y. y ≡ fault) → r ≡ Err fault
+is_told {r} h = err_is (err_from_is_err_and r h)
+
+pub returns-in_err-merge : goal.returns-in_err-merge
+returns-in_err-merge g c = start_fails (comm_job c.args.job.now) (opened g (goal.at.returns-in_err-merge g c).After-start) (is_told c.from_residual.ensures.1) c.in_err-merge.ensures.fails
+
+pub steps-init : goal.steps-init
+steps-init g c =
+    let p = c.in_ok-merge.ensures in
+    let iteration = starts (comm_job c.args.job.now) (opened g (goal.at.steps-init g c).After-start) c.requires.whole_line_keys p.starts (rw p.order at p.valid_cursors) p.own_reader in
+    record { iteration = iteration_as g.K.KeyOrder.order g.K.KeyOrder.key_of p.order iteration; order = p.order }
+
+pub write_head-requires-clause-status_is : goal.write_head-requires-clause-status_is
+write_head-requires-clause-status_is g c = advance_pre c.steps.invariant.iteration sides.First c.in-First.ensures.status_is
+
+pub write_head-requires-in-Second-clause-status_is : goal.write_head-requires-in-Second-clause-status_is
+write_head-requires-in-Second-clause-status_is g c = advance_pre c.steps.invariant.iteration sides.Second c.in-Second.ensures.status_is
+
+pub write_head-requires-in-Both-clause-status_is : goal.write_head-requires-in-Both-clause-status_is
+write_head-requires-in-Both-clause-status_is g c = advance_pre c.steps.invariant.iteration sides.First c.in-Both.ensures.first
+
+pub write_out_and_advance-requires-clause-status_is : goal.write_out_and_advance-requires-clause-status_is
+write_out_and_advance-requires-clause-status_is g c = rw c.write_head-in-Both.ensures.order (second_advance_pre c.steps.invariant.iteration c.in-Both.ensures c.in_ok-write_head-in-Both.ensures.advances)
+
+pub steps-preserved-in-Continue-branch-2 : goal.steps-preserved-in-Continue-branch-2
+steps-preserved-in-Continue-branch-2 g c =
+    let p = c.write_head.ensures in
+    let iteration = alone_continues c.steps.invariant.iteration c.in-First.ensures (c.terminator-terminator.ensures ∙ c.requires.begins.terminator.0) refl p.wrote c.in_ok-write_head-in-First.ensures.advances in
+    record { iteration = iteration_as g.K.KeyOrder.order g.K.KeyOrder.key_of p.order iteration; order = p.order ∙ c.steps.invariant.order }
+
+pub steps-preserved-in-Continue-branch-3 : goal.steps-preserved-in-Continue-branch-3
+steps-preserved-in-Continue-branch-3 g c =
+    let i = c.steps.invariant in
+    let p = c.write_head-in-Second.ensures in
+    let iteration = alone_continues i.iteration c.in-Second.ensures (c.terminator-terminator.ensures ∙ c.requires.begins.terminator.0) c.tabs-tabs2.ensures p.wrote c.in_ok-write_head-in-Second.ensures.advances in
+    record { iteration = iteration_as g.K.KeyOrder.order g.K.KeyOrder.key_of p.order iteration; order = p.order ∙ i.order }
+
+pub steps-preserved : goal.steps-preserved
+steps-preserved g c =
+    let i = c.steps.invariant in
+    let p = c.write_head-in-Both.ensures in
+    let q = c.write_out_and_advance.ensures in
+    let continues = rw p.order at c.in_ok-write_out_and_advance-in-Both.ensures.advances in
+    let iteration = pair_continues i.iteration c.in-Both.ensures (c.terminator-terminator.ensures ∙ c.requires.begins.terminator.0) c.tabs-tabs3.ensures p.wrote c.in_ok-write_head-in-Both.ensures.advances q.written_out continues in
+    record { iteration = iteration_as g.K.KeyOrder.order g.K.KeyOrder.key_of (q.order ∙ p.order) iteration; order = q.order ∙ p.order ∙ i.order }
+
+pub steps-smaller-in-Continue-branch-2 : goal.steps-smaller-in-Continue-branch-2
+steps-smaller-in-Continue-branch-2 g c = alone_decreases c.steps.invariant.iteration c.in-First.ensures c.in_ok-write_head-in-First.ensures.advances
+
+pub steps-smaller-in-Continue-branch-3 : goal.steps-smaller-in-Continue-branch-3
+steps-smaller-in-Continue-branch-3 g c = alone_decreases c.steps.invariant.iteration c.in-Second.ensures c.in_ok-write_head-in-Second.ensures.advances
+
+pub steps-smaller : goal.steps-smaller
+steps-smaller g c = pair_decreases c.steps.invariant.iteration c.in-Both.ensures c.in_ok-write_head-in-Both.ensures.advances (rw c.write_head-in-Both.ensures.order at c.in_ok-write_out_and_advance-in-Both.ensures.advances)
+
+pub returns-in_err-write_head-in-First : goal.returns-in_err-write_head-in-First
+returns-in_err-write_head-in-First g c =
+    exit_as g.K.KeyOrder.order g.K.KeyOrder.key_of (comm_job c.args.job.now) c.steps.invariant.order
+    (alone_fails c.steps.invariant.iteration c.in-First.ensures (c.terminator-terminator.ensures ∙ c.requires.begins.terminator.0) refl c.write_head.ensures.wrote
+    (is_told c.from_residual-in_err-write_head-in-First.ensures.1) c.in_err-write_head-in-First.ensures.advances)
+
+pub returns-in_err-write_head-in-Second : goal.returns-in_err-write_head-in-Second
+returns-in_err-write_head-in-Second g c =
+    exit_as g.K.KeyOrder.order g.K.KeyOrder.key_of (comm_job c.args.job.now) c.steps.invariant.order
+    (alone_fails c.steps.invariant.iteration c.in-Second.ensures (c.terminator-terminator.ensures ∙ c.requires.begins.terminator.0) c.tabs-tabs2.ensures c.write_head-in-Second.ensures.wrote
+    (is_told c.from_residual-in_err-write_head-in-Second.ensures.1) c.in_err-write_head-in-Second.ensures.advances)
+
+pub returns-in_err-write_head-in-Both : goal.returns-in_err-write_head-in-Both
+returns-in_err-write_head-in-Both g c =
+    exit_as g.K.KeyOrder.order g.K.KeyOrder.key_of (comm_job c.args.job.now) c.steps.invariant.order
+    (pair_fails c.steps.invariant.iteration c.in-Both.ensures (c.terminator-terminator.ensures ∙ c.requires.begins.terminator.0) c.tabs-tabs3.ensures c.write_head-in-Both.ensures.wrote
+    (is_told c.from_residual-in_err-write_head-in-Both.ensures.1) c.in_err-write_head-in-Both.ensures.advances)
+
+pub returns-in_err-write_out_and_advance-in-Both : goal.returns-in_err-write_out_and_advance-in-Both
+returns-in_err-write_out_and_advance-in-Both g c =
+    let i = c.steps.invariant in
+    exit_as g.K.KeyOrder.order g.K.KeyOrder.key_of (comm_job c.args.job.now) i.order
+    (second_fails i.iteration c.in-Both.ensures (c.terminator-terminator.ensures ∙ c.requires.begins.terminator.0) c.tabs-tabs3.ensures c.write_head-in-Both.ensures.wrote
+    c.in_ok-write_head-in-Both.ensures.advances c.write_out_and_advance.ensures.written_out (is_told c.from_residual-in_err-write_out_and_advance-in-Both.ensures.1) c.in_err-write_out_and_advance-in-Both.ensures.advances)
+
+pub returns-in-End : goal.returns-in-End
+returns-in-End g c =
+    exit_as g.K.KeyOrder.order g.K.KeyOrder.key_of (comm_job c.args.job.now) c.steps.invariant.order
+    (eof c.steps.invariant.iteration c.clear_four_slots.ensures c.in-End.ensures)
+
+pub returns-in-Stop : goal.returns-in-Stop
+returns-in-Stop g c =
+    exit_as g.K.KeyOrder.order g.K.KeyOrder.key_of (comm_job c.args.job.now) c.steps.invariant.order
+    (disordered c.steps.invariant.iteration c.clear_four_slots-in-Stop.ensures c.in-Stop.ensures)

@@ -1,0 +1,16 @@
+-- The output is that of the processed lines, which comes first for all lines that may follow. Each iteration processes
+-- a line.
+use Rattle.ptmerge.proofs.Common.{◌≡◌, comm_job, merge_state, both}
+use Rattle.ptmerge.proofs.CommLemmas.Iteration.{IterationInvariant}
+use Rattle.ptmerge.proofs.MergeLemmas.Step.{reads_ahead}
+use Rattle.ptmerge.proofs.tools.comm.comm_with_order.Given as goal
+
+abbrev pub invariant-steps : goal.invariant-steps
+invariant-steps g l = record {
+  iteration : IterationInvariant (comm_job l.job) (g.K.KeyOrder.order l.merge.order) (g.K.KeyOrder.key_of l.merge.order)
+      (merge_state l.fn.first l.fn.second l.fn.out l.fn.store) (merge_state l.first l.second l.out l.store) l.merge.first l.merge.second;
+  order : l.merge.order ≡ l.fn.order;
+}
+
+abbrev pub decreases-steps : goal.decreases-steps
+decreases-steps g l = reads_ahead (both l.first l.second) l.merge.first l.merge.second

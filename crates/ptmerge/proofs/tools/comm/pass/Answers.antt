@@ -1,5 +1,0 @@
-use Rattle.ptmerge.proofs.OfMerges.Turning.{wrote_and_sent}
-use Rattle.ptmerge.proofs.tools.comm.pass.Goals as goal
-
-pub returns-clause-wrote : goal.returns-clause-wrote
-returns-clause-wrote g c = wrote_and_sent _ _ _ _ (c.in_ok-push_entry.ensures.clean c.requires.clean) (rw c.head.ensures at c.push_entry.ensures.wrote) c.go_on.ensures.sent

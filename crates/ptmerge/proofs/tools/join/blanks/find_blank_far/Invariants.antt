@@ -1,9 +1,0 @@
--- No blank is at a place that was looked at.
-use Rattle.ptmerge.proofs.Common.{◌-◌, ◌≤◌, length, Nowhere, Passes, is_blank}
-use Rattle.ptmerge.proofs.tools.join.blanks.find_blank_far.Given as goal
-
-abbrev pub invariant-loop-at : goal.invariant-loop-at
-invariant-loop-at l = (l.at ≤ length l.bytes) × Nowhere (Passes is_blank l.bytes) 0 l.at
-
-abbrev pub decreases-loop-at : goal.decreases-loop-at
-decreases-loop-at l = length l.bytes - l.at

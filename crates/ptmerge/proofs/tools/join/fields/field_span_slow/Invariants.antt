@@ -1,0 +1,10 @@
+-- The rest of the line has the fields after the skipped ones, and is a suffix of the line.
+use Rattle.ptmerge.proofs.Common.{◌≡◌, drop, Some, option_copied, remaining_fields}
+use Rattle.ptmerge.proofs.JoinLemmas.Fields.{IsRemainderOf}
+use Rattle.ptmerge.proofs.tools.join.fields.field_span_slow.Given as goal
+
+abbrev pub invariant-loop-passed : goal.invariant-loop-passed
+invariant-loop-passed l = record {
+  passed : drop l._passed (remaining_fields l.separator (Some l.line)) ≡ remaining_fields l.separator (option_copied l.left);
+  ends : IsRemainderOf (Some l.line) (option_copied l.left);
+}

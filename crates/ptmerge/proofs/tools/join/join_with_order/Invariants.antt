@@ -1,0 +1,17 @@
+-- Between groups, the output is that of the processed lines. While a group is read or its pairs are written, the
+-- entries of its key so far are written too, and the rest of them come next, for all lines that may follow. Each
+-- iteration processes a line, or moves on to the next phase of the group.
+use Rattle.ptmerge.proofs.Common.{◌≡◌, ◌+◌, ◌*◌, join_job, merge_state, both}
+use Rattle.ptmerge.proofs.JoinLemmas.Iteration.{IterationInvariant, rank}
+use Rattle.ptmerge.proofs.MergeLemmas.Step.{reads_ahead}
+use Rattle.ptmerge.proofs.tools.join.join_with_order.Given as goal
+
+abbrev pub invariant-steps : goal.invariant-steps
+invariant-steps g l = record {
+  iteration : IterationInvariant (join_job l.job) (g.K.KeyOrder.order l.merge.order) (g.K.KeyOrder.key_of l.merge.order)
+      (merge_state l.fn.first l.fn.second l.fn.out l.fn.store) l.phase (merge_state l.first l.second l.out l.store) l.merge.first l.merge.second l.end;
+  order : l.merge.order ≡ l.fn.order;
+}
+
+abbrev pub decreases-steps : goal.decreases-steps
+decreases-steps g l = 3 * reads_ahead (both l.first l.second) l.merge.first l.merge.second + rank l.phase

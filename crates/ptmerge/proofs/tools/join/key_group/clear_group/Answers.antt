@@ -1,0 +1,11 @@
+use Rattle.std.proofs.Common.{arith}
+use Rattle.ptmerge.proofs.JoinLemmas.GroupSlots.{clears_more}
+use Rattle.ptmerge.proofs.tools.join.key_group.clear_group.Goals as goal
+
+pub loop-slot-preserved : goal.loop-slot-preserved
+loop-slot-preserved g c =
+    let i = c.loop-slot.invariant in
+    record {
+      cleared = clears_more c.args.store.now c.loop-slot.store c.clear.new.self c.loop-slot.slot i.from (omega (arith, c.requires.1, c.loop-slot-test.true)) i.cleared c.clear.ensures;
+      from = omega (arith, i.from);
+    }

@@ -1,0 +1,19 @@
+-- Copying a line changes only slots from 4 on, so the cursors stay valid.
+use Rattle.std.proofs.Common.{arith}
+use Rattle.ptmerge.proofs.MergeLemmas.Step.{kept_line, kept_least, valid_cursors_kept}
+use Rattle.ptmerge.proofs.tools.join.key_group.read_group_line.Goals as goal
+
+pub returns-in-Ok-clause-continues : goal.returns-in-Ok-clause-continues
+returns-in-Ok-clause-continues g c =
+    let m = c.write_out_and_advance.new.self in
+    let before = c.write_out_and_advance.new.store in
+    let after = c.copy_to_group.new.store in
+    let kept = c.in-Ok.ensures.ok in
+    let continues = c.in_ok-write_out_and_advance.ensures.advances.continues in
+    record {
+      clean = continues.clean;
+      others = continues.others;
+      valid_cursors = valid_cursors_kept (g.K.KeyOrder.key_of c.args.merge.now.order) m.first m.second before after continues.valid_cursors (kept_least before after c.previous_slot_of.result c.args.end kept)
+          (λ slot low. kept_line before after c.previous_slot_of.result c.args.end slot (omega (arith, low, c.requires.group)) kept);
+      own_reader = continues.own_reader;
+    }

@@ -1,0 +1,13 @@
+-- The items so far were written, with separators between them; the others are still to be written.
+use Rattle.ptmerge.proofs.Common.{option_copied, map, length, join_job, output_separator, entry_with_list, with_prefix, Some}
+use Rattle.ptmerge.proofs.JoinLemmas.PartialWrite.{PartialWrite}
+use Rattle.ptmerge.proofs.JoinLemmas.Fields.{output_item}
+use Rattle.ptmerge.proofs.tools.join.output.write_listed_fields.Given as goal
+
+abbrev pub invariant-items : goal.invariant-items
+invariant-items g l =
+    PartialWrite l.fn.out l.out (entry_with_list (join_job l.entry.job.now) (Some l.items) l.entry.key.now (option_copied l.entry.one) (option_copied l.entry.two))
+    (with_prefix (output_separator (join_job l.entry.job.now).separator) (map (output_item (join_job l.entry.job.now) l.entry.key.now (option_copied l.entry.one) (option_copied l.entry.two)) l.rest))
+
+abbrev pub decreases-items : goal.decreases-items
+decreases-items g l = length l.rest

@@ -1,0 +1,30 @@
+-- Each iteration writes the output line of one line of the group. A write that fails leaves a prefix of the pairs.
+use Rattle.ptmerge.proofs.Common.{◌++◌, [], ◌∷◌, List, ℕ, ap, arith, sym, map, join_job, group}
+use Rattle.ptmerge.proofs.JoinLemmas.PartialWrite.{partial_starts, each_done, each_fails, each_more}
+use Rattle.ptmerge.proofs.JoinLemmas.GroupSlots.{pair_of, pairs_text, group_from, group_end}
+use Rattle.ptmerge.proofs.tools.join.write_pair_entries.Goals as goal
+
+pub loop-slot-init : goal.loop-slot-init
+loop-slot-init g c = record {
+  amid = partial_starts (pairs_text (join_job c.args.job.now) c.args.terminator c.args.line.now c.args.key.now (group c.args.store.now c.args.from c.args.end) c.if-not-job.false);
+  from = omega arith;
+}
+
+pub returns-in_err-write_pair : goal.returns-in_err-write_pair
+returns-in_err-write_pair g c =
+    each_fails (λ (l : List ℕ). l ++ c.args.terminator ∷ []) (ap (map (pair_of (join_job c.args.job.now) c.args.key.now c.args.line.now))
+    (group_from c.args.store.now c.args.end c.loop-slot.slot c.requires.group.within c.loop-slot-test.true)) c.loop-slot.invariant.amid
+    (rw (sym c.line.ensures) c.write_pair.ensures.wrote) c.in_err-write_pair.ensures.fault _ c.from_residual.ensures.1
+
+pub loop-slot-preserved : goal.loop-slot-preserved
+loop-slot-preserved g c = record {
+  amid = each_more (λ (l : List ℕ). l ++ c.args.terminator ∷ []) (ap (map (pair_of (join_job c.args.job.now) c.args.key.now c.args.line.now))
+      (group_from c.args.store.now c.args.end c.loop-slot.slot c.requires.group.within c.loop-slot-test.true)) c.loop-slot.invariant.amid
+      (rw (sym c.line.ensures) c.write_pair.ensures.wrote) c.in_ok-write_pair.ensures.clean;
+  from = omega (arith, c.loop-slot.invariant.from);
+}
+
+pub returns : goal.returns
+returns g c =
+    each_done (λ (l : List ℕ). l ++ c.args.terminator ∷ []) (ap (map (pair_of (join_job c.args.job.now) c.args.key.now c.args.line.now))
+    (group_end c.args.store.now c.args.end c.loop-slot.slot (omega (arith, c.loop-slot-test.false)))) c.loop-slot.invariant.amid

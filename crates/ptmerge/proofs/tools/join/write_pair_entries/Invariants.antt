@@ -1,0 +1,12 @@
+-- The pairs with the group's lines so far were written; those with the others are still to be written.
+use Rattle.ptmerge.proofs.Common.{◌≤◌, [], ◌∷◌, map, join_job, unlines, group, pair_entries}
+use Rattle.ptmerge.proofs.JoinLemmas.PartialWrite.{PartialWrite}
+use Rattle.ptmerge.proofs.JoinLemmas.GroupSlots.{pair_of}
+use Rattle.ptmerge.proofs.tools.join.write_pair_entries.Given as goal
+
+abbrev pub invariant-loop-slot : goal.invariant-loop-slot
+invariant-loop-slot g l = record {
+  amid : PartialWrite l.fn.out l.out (unlines l.terminator (pair_entries (join_job l.job) l.key (l.line ∷ []) (group l.store l.from l.end)))
+      (unlines l.terminator (map (pair_of (join_job l.job) l.key l.line) (group l.store l.slot l.end)));
+  from : l.from ≤ l.slot;
+}

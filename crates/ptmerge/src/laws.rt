@@ -1,0 +1,42 @@
+//! Two laws for `comm` and for `join`, so that a caller can run them on parts of the inputs, one after another or in
+//! parallel.
+
+ghost use Rattle.ptmerge.specs.Parts.{CommOfParts, JoinOfParts, CommByKey, JoinByKey};
+
+/// States that the output of `comm` is the output for a first part of each file followed by the output for the rest of
+/// each file, if both files are split at the same key: each first part is empty or ends with a line terminator, the
+/// first parts are in order, and each of their lines is less than each line of the rest. The law covers both orders and
+/// all choices of columns. Splitting the rest again gives any number of parts, of which only the last may be out of
+/// order.
+/// The call does nothing at run time; its contract states the law.
+#[tactic(auto, using(crate::proofs::Parts::Concatenation::comm_of_parts))]
+pub fn parts_of_comm()
+    ensures { CommOfParts }
+{}
+
+/// States that the output of `join` is the output for a first part of each file followed by the output for the rest of
+/// each file, if both files are split at the same key: each first part is empty or ends with a line terminator, the
+/// first parts are in order, and each of their join fields is less than each join field of the rest. The law covers
+/// both orders and all options. Splitting the rest again gives any number of parts, of which only the last may be out
+/// of order.
+/// The call does nothing at run time; its contract states the law.
+#[tactic(auto, using(crate::proofs::Parts::Concatenation::join_of_parts))]
+pub fn parts_of_join()
+    ensures { JoinOfParts }
+{}
+
+/// States that two sorted files may be distributed over parts: if equal lines go to the same part and each part keeps
+/// the order of its lines, the outputs of `comm` for the parts together have the lines of the output for the files, in
+/// some order.
+/// The call does nothing at run time; its contract states the law.
+pub fn comm_by_key()
+    ensures { CommByKey }
+{}
+
+/// States that two sorted files may be distributed over parts: if lines with equal join fields go to the same part and
+/// each part keeps the order of its lines, the outputs of `join` for the parts together have the lines of the output
+/// for the files, in some order. The law covers all options, including `-a` and `-v`.
+/// The call does nothing at run time; its contract states the law.
+pub fn join_by_key()
+    ensures { JoinByKey }
+{}

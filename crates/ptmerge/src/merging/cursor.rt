@@ -1,0 +1,113 @@
+//! One input of a merge: its current and previous line, and the check that its keys are in order.
+
+ghost use Rattle.std.specs.Prelude.{◌≡◌, length, if◌then◌else◌, OnOk};
+ghost use Rattle.ptlines.specs.Readers.{IsSound};
+ghost use Rattle.ptmerge.specs.Cursor.{NextPost, initial_cursor};
+ghost use Rattle.ptmerge.specs.KeySpan.{IsValidCursor};
+ghost use Rattle.ptmerge.specs.MergeSteps.{NextPre};
+
+use crate::faults::MergeFault;
+use crate::key_order::{KeyOrder, Side, Span};
+use ptlines::{LineFault, LineReader, Source, Store};
+use std::alloc::Allocator;
+
+/// The state of an input: at a line, at its end, or at the line with this number, whose key is less than the previous
+/// key.
+#[derive(Clone, Copy)]
+pub enum CursorStatus {
+    Head,
+    Ended,
+    Disorder(u64),
+}
+
+// An input of a merge, with its order check. `current_slot` and `previous_slot` are the slots of its current and
+// previous line, `number` is the count of lines read, `same` is true if the current line has the key of the previous
+// one, and `key` is the span of the key in the current line. The reader is passed to each call that reads.
+#[derive(Clone, Copy, Drop)]
+pub struct Sorted {
+    pub current_slot: usize,
+    pub previous_slot: usize,
+    pub number: u64,
+    pub status: CursorStatus,
+    pub same: bool,
+    pub key: Span,
+}
+
+// Returns the status at a line, counted from 1, that is not the first.
+#[inline(always)]
+fn status_at(number: u64, is_disordered: bool) -> CursorStatus
+    ensures { result ≡ if is_disordered then CursorStatus.Disorder number else CursorStatus.Head }
+{
+    if is_disordered {
+        CursorStatus::Disorder(number)
+    } else {
+        CursorStatus::Head
+    }
+}
+
+impl Sorted {
+    // Returns the state of an input before its first line. `reader` is used only for its invariant.
+    pub fn unread<S: Source, R: Source>(side: Side, reader: &LineReader<S, R>) -> Sorted
+        ensures cursor { result ≡ initial_cursor side }
+        ensures sound { IsSound reader.now }
+    {
+        let _refused = reader.is_refused();
+        let previous_slot = match side {
+            Side::First => 0,
+            Side::Second => 2,
+        };
+        Sorted {
+            current_slot: previous_slot + 1,
+            previous_slot,
+            number: 0,
+            status: CursorStatus::Ended,
+            same: false,
+            key: Span { start: 0, end: 0 },
+        }
+    }
+
+    // Reads the next line, compares its key with the previous key, and makes it the current line.
+    #[inline(always)]
+    pub fn next<K: KeyOrder, A: Allocator + Copy, S: Source, R: Source>(
+        &mut self,
+        order: &K,
+        side: Side,
+        reader: &mut LineReader<S, R>,
+        store: &mut Store<A>,
+    ) -> Result<(), MergeFault>
+        requires { NextPre (K.key_of order.now side) self.old reader.old store.old }
+        ensures moves { let key = K.key_of order.now side in
+            NextPost key (K.order order.now) side self.old self.new reader.old reader.new store.old store.new result }
+        ensures slots { length store.new.lines ≡ length store.old.lines }
+        ensures cursor_valid { OnOk result (IsValidCursor (K.key_of order.now side) self.new store.new) }
+    {
+        let slot = self.current_slot;
+        self.current_slot = self.previous_slot;
+        self.previous_slot = slot;
+        match reader.fill(store, self.current_slot) {
+            Ok(true) => {}
+            Ok(false) => {
+                self.status = CursorStatus::Ended;
+                self.same = false;
+                return Ok(());
+            }
+            Err(LineFault::Read) => return Err(MergeFault::Read(side)),
+            Err(LineFault::Memory) => return Err(MergeFault::Memory),
+        }
+        let last_span = self.key;
+        self.key = order.span(side, store.line(self.current_slot));
+        let number = self.number;
+        self.number += 1;
+        if number == 0 {
+            self.status = CursorStatus::Head;
+            self.same = false;
+            return Ok(());
+        }
+        let last = order.key(side, last_span, store.line(self.previous_slot));
+        let head = order.key(side, self.key, store.line(self.current_slot));
+        let ordering = order.cmp(last, head);
+        self.status = status_at(self.number, ordering.is_gt());
+        self.same = ordering.is_eq();
+        Ok(())
+    }
+}

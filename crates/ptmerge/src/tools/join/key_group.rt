@@ -1,0 +1,100 @@
+//! The group: the second input's lines of one key. If there are several, `join` copies them to slots 4 and up; a single
+//! one stays in the slot into which it was read.
+ghost use Rattle.std.specs.Prelude.{◌≡◌, ◌≤◌, ◌<◌, ◌+◌, ◌-◌, [], false, length, IfOk, OnOk, OnErr};
+ghost use Rattle.ptlines.specs.Outputs.{PushEffect};
+ghost use Rattle.ptlines.specs.Slots.{with_denied};
+ghost use Rattle.ptmerge.specs.declared.key_order.Side.TheVariants as sides;
+ghost use Rattle.ptmerge.specs.JoinGroup.{ReadGroupLinePost, ClearGroupPost, EnsureSlotPost, CopyToGroupPost, CopyToGroupErrPost, group_end_slot, group_first_slot};
+ghost use Rattle.ptmerge.specs.WriteAndAdvance.{IsReadyToContinue, AdvancePre};
+
+use crate::faults::MergeFault;
+use crate::key_order::{KeyOrder, Side};
+use crate::merging::Merge;
+use ptlines::{LineFault, LineReader, Out, Sink, Source, Store};
+use std::alloc::Allocator;
+
+// Adds the slot `slot` if it is missing. All slots below it must exist.
+fn ensure_slot<A: Allocator + Copy>(store: &mut Store<A>, slot: usize) -> Result<(), LineFault>
+    requires { slot ≤ length store.old.lines }
+    ensures ok { OnOk result (EnsureSlotPost store.old store.new slot) }
+    ensures err { OnErr result (store.new ≡ with_denied store.old) }
+{
+    if store.slots() == slot {
+        store.add()?;
+    }
+    Ok(())
+}
+
+// Copies a line to the slot `to`, which is added if it is missing, and returns `to + 1`.
+#[tactic(auto, using(crate::proofs::JoinLemmas::GroupSlots::failed_copy))]
+fn copy_to_group<A: Allocator + Copy>(
+    store: &mut Store<A>,
+    from: usize,
+    to: usize,
+) -> Result<usize, LineFault>
+    requires { (from < to) × (to ≤ length store.old.lines) }
+    ensures next { IfOk result (λ end. end ≡ to + 1) }
+    ensures ok { OnOk result (CopyToGroupPost store.old store.new from to) }
+    ensures err { OnErr result (CopyToGroupErrPost store.old store.new to) }
+{
+    ensure_slot(store, to)?;
+    store.copy(from, to)?;
+    Ok(store.slots().min(to + 1))
+}
+
+// Advances the second input, and copies its previous line to the group's slots, unless that line is the only one of its
+// key. Returns the slot after the copied lines. Not inlined, so that the merge stays in memory and is not moved between
+// registers in each iteration.
+#[inline(never)]
+pub(crate) fn read_group_line<K: KeyOrder, A: Allocator + Copy, S: Source, R: Source, W: Sink>(
+    merge: &mut Merge<K>,
+    end: usize,
+    reader: &mut LineReader<S, R>,
+    store: &mut Store<A>,
+    out: &mut Out<W>,
+) -> Result<usize, MergeFault>
+    requires status_is { let key = K.key_of merge.old.order in
+        AdvancePre key sides.Second merge.old.first merge.old.second reader.old store.old }
+    requires group { (4 ≤ end) × (end ≤ length store.old.lines) }
+    requires clean { out.old.write_failed ≡ false }
+    ensures written_out { PushEffect out.old out.new [] }
+    ensures reads_line { let key = K.key_of merge.old.order sides.Second in
+        ReadGroupLinePost key (K.order merge.old.order)
+        merge.old.second merge.new.second reader.old reader.new store.old store.new out.new end result }
+    ensures continues { OnOk result (IsReadyToContinue (K.key_of merge.old.order) sides.Second merge.old.first merge.old.second
+        merge.new.first merge.new.second reader.new store.new out.new) }
+    ensures order { merge.new.order ≡ merge.old.order }
+{
+    merge.write_out_and_advance(Side::Second, reader, store, out)?;
+    if end == 4 && !merge.has_same_key(Side::Second) {
+        return Ok(end);
+    }
+    match copy_to_group(store, merge.previous_slot_of(Side::Second), end) {
+        Ok(next) => Ok(next),
+        Err(_) => Err(MergeFault::Memory),
+    }
+}
+
+// Returns the first slot of the group and the slot after its last one. The copied lines, if any, end before slot `end`.
+#[inline(always)]
+pub(crate) fn group_slots<K: KeyOrder>(merge: &Merge<K>, end: usize) -> (usize, usize)
+    requires { merge.now.second.previous_slot < 4 }
+    ensures { (result.0 ≡ group_first_slot merge.now.second end) × (result.1 ≡ group_end_slot merge.now.second end) }
+{
+    if end == 4 {
+        let only = merge.previous_slot_of(Side::Second);
+        return (only, only + 1);
+    }
+    (4, end)
+}
+
+// Empties the slots of the group.
+#[tactic(auto, using(crate::proofs::JoinLemmas::GroupSlots::clears_none))]
+pub(crate) fn clear_group<A: Allocator + Copy>(store: &mut Store<A>, end: usize)
+    requires { (4 ≤ end) × (end ≤ length store.old.lines) }
+    ensures { ClearGroupPost store.old store.new end }
+{
+    for slot in 4..end {
+        store.clear(slot);
+    }
+}

@@ -1,0 +1,10 @@
+-- The options so far have no fault, and name these files; the result depends on them and on the remaining options.
+use Rattle.ptopts.proofs.Common.{◌≡◌, ◌||◌, drop, codes, each_value_fault, is_file_number, names_file, options_view}
+use Rattle.ptopts.proofs.command.join.selected_files.Given as goal
+
+abbrev pub invariant-loop-option : goal.invariant-loop-option
+invariant-loop-option l = record {
+  faults : each_value_fault (options_view l.options) (l.letter, is_file_number) ≡ each_value_fault (options_view (drop l.option-index l.options)) (l.letter, is_file_number);
+  named1 : names_file (codes "1") l.letter (options_view l.options) ≡ (l.first || names_file (codes "1") l.letter (options_view (drop l.option-index l.options)));
+  named2 : names_file (codes "2") l.letter (options_view l.options) ≡ (l.second || names_file (codes "2") l.letter (options_view (drop l.option-index l.options)));
+}

@@ -1,0 +1,10 @@
+use Rattle.ptopts.proofs.Common.{rules, ◌==◌, ◌∙◌, tests, YieldsList-from_slice, any_from_yields_List}
+use Rattle.ptopts.specs.declared.parsing.ParsedOption.{ParsedOption}
+use Rattle.ptopts.proofs.OptionViews.{has_option-view}
+use Rattle.ptopts.proofs.parsing.has_letter.Goals as goal
+
+pub returns : goal.returns
+returns c =
+    let all = c.args.options.now in
+    any_from_yields_List (λ (o : ParsedOption). o.letter == c.args.letter) _ _ c.any.result c.any.ensures.ran (YieldsList-from_slice all cc) (λ x b q k. search (rules, tests))
+    ∙ has_option-view c.args.letter all

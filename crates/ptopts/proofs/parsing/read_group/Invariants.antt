@@ -1,0 +1,8 @@
+-- The letters so far are options of the word; the other tokens of the word are those of the remaining letters.
+use Rattle.ptopts.proofs.Common.{drop, option_map, options_view}
+use Rattle.ptopts.proofs.GroupInvariant.{GroupRead}
+use Rattle.ptopts.proofs.parsing.read_group.Given as goal
+
+abbrev pub invariant-loop-index : goal.invariant-loop-index
+invariant-loop-index g l =
+    GroupRead l.tool l.word (option_map (λ w. w.now) l.next) (options_view l.fn.options.items) (options_view l.options.items) (drop l.index l.word)

@@ -1,0 +1,10 @@
+-- The options so far and the parse of the remaining words are the parse of all words.
+use Rattle.ptopts.proofs.Common.{length, words_view, options_view}
+use Rattle.ptopts.proofs.ArgsInvariant.{ArgsRead}
+use Rattle.ptopts.proofs.parsing.read_words.Given as goal
+
+abbrev pub invariant-loop-word : goal.invariant-loop-word
+invariant-loop-word g l = ArgsRead l.tool (words_view l.words) (options_view l.options.items) (words_view l.rest)
+
+abbrev pub decreases-loop-word : goal.decreases-loop-word
+decreases-loop-word g l = length l.rest

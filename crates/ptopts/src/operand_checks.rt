@@ -1,0 +1,71 @@
+//! Checks the operands of a tool: that their number is valid, and that `comm` or `join` does not have standard input
+//! twice. `command` calls `check_operands`; `command` and `inputs` call `is_standard`, which tells whether an operand
+//! means standard input.
+
+ghost use Rattle.std.specs.Prelude.{◌≡◌};
+ghost use Rattle.std.specs.List.{list_all};
+ghost use Rattle.ptopts.specs.Faults as faults;
+ghost use Rattle.ptopts.specs.Faults.{operands_fault};
+ghost use Rattle.ptopts.specs.View.{words_view};
+ghost use Rattle.ptopts.specs.ParseSteps.{CheckPost, options_view};
+
+use crate::fault::UseFault;
+use crate::parsing::{ParsedOption, has_letter};
+use crate::tool::Tool;
+
+/// Checks the operands of the tool.
+///
+/// # Errors
+///
+/// `Operands` if their number is wrong, `StandardTwice` if both are standard input.
+pub(crate) fn check_operands<'a>(
+    tool: Tool,
+    options: &[ParsedOption<'a>],
+    operands: &[&'a str],
+) -> Result<(), UseFault<'a>>
+    ensures { CheckPost result (operands_fault tool (options_view options.now) (words_view operands.now)) }
+{
+    if !has_valid_count(tool, options, operands.len()) {
+        return Err(UseFault::Operands);
+    }
+    if tool.syntax().stdin_once && all_standard(operands) {
+        return Err(UseFault::StandardTwice);
+    }
+    Ok(())
+}
+
+/// Whether the tool accepts this number of operands.
+fn has_valid_count(tool: Tool, options: &[ParsedOption], count: usize) -> bool
+    ensures { result ≡ faults.has_valid_count tool (options_view options.now) count }
+{
+    let syntax = tool.syntax();
+    syntax.min_operands <= count && count <= syntax.max_operands && fits_form(tool, options, count)
+}
+
+/// Whether `tr` accepts this number of strings with these options; true for the other tools.
+fn fits_form(tool: Tool, options: &[ParsedOption], count: usize) -> bool
+    ensures { result ≡ faults.fits_form tool (options_view options.now) count }
+{
+    if tool != Tool::Tr {
+        return true;
+    }
+    match (has_letter(options, b'd'), has_letter(options, b's')) {
+        (true, false) => count == 1,
+        (false, true) => true,
+        _ => count == 2,
+    }
+}
+
+/// Whether the operand means standard input.
+pub(crate) fn is_standard(operand: &str) -> bool
+    ensures { result ≡ faults.is_standard operand.now }
+{
+    operand == "-"
+}
+
+/// Whether each operand means standard input.
+fn all_standard(operands: &[&str]) -> bool
+    ensures { result ≡ list_all faults.is_standard (words_view operands.now) }
+{
+    operands.iter().all(|operand| is_standard(operand))
+}

@@ -1,0 +1,303 @@
+-- Runs that have ended: a run that reads nothing, and a run whose inputs were processed, are runs as specified
+-- (`IsRun`). The main theorem is that the result of such a run is exact unless a call failed. Then the specification
+-- that arguments denote, and the main theorem for arguments.
+--
+-- The output of a tool reaches the sink unless a write fails, and the last message follows the tool's own messages. The
+-- main theorem holds because the bytes that the readers have are consistent with the bytes received, and because each
+-- cause of a failure contradicts a premise.
+use Rattle.ptrun.proofs.Common.{cases_Bool, ◌≡◌, ⊎_elim, ℕ, Bool, true, false, cond, List, [], ◌++◌, Option, Some, None, Result, Ok, Err, length, map, refl, sym, ◌∙◌, ap, arith, append_assoc}
+use Rattle.ptrun.proofs.Common.{length-append, All, append_known, prepend_known, IsAtEnd, append-nil, append_cancel_left, nil_from_length, false≢true, take-length, Reader, Output, PushEffect, Slots}
+use Rattle.ptrun.proofs.Common.{SinkState, append_known-nil, push_trans, Received, IsConsistent, IsPrefix, FlowFault, Read, Write, Memory, Completion, InputBytes, ReceivedInputs, at, IsConsistentAt, AreInputsConsistent, reader_at, is_reader_unopened}
+use Rattle.ptrun.proofs.Common.{is_unopened, HasReceivedAt, IsNewOrUnopened, HasReadFailed, IsTooLong, HasBytesAt, HasSaid, CommandSpec, operand_messages, messages, unopened_messages, Sinks, sinks, Outcome, HasCause, RunEnd, IsRun, IsExact, IsExactUnlessFailed}
+use Rattle.ptrun.proofs.Common.{ReportUnopenedPost, RunInputsEnd, RunInputsPost, FinishPost, result_message, result_status, HasIndexBelow, IsPushedUpToBlock, IsWrittenUpToBlock, message_only, ◌+◌, ◌<◌, ◌==◌, is_none, not, nat_le, length-map, All-map, nat_tests}
+use Rattle.ptrun.proofs.Common.{eqb_tells, Input, Standard, File, Fault, Command, Job, RunCut, RunPaste, RunUniq, RunComm, RunJoin, RunTr, command_of_args, input_operands, fault_view, command_view, CommandPost, usage_message, usage_status}
+use Rattle.ptrun.proofs.Common.{position, positions, InputsPre, two_input_tool, job_spec, command_spec, spec_of_result, tool_name, spec_of_args, spec_of_parsed, is_memory_fault, AreNewInputs}
+use Rattle.ptlangs.specs.Results.{IsFault}
+use Rattle.ptopts.specs.declared.fault.UseFault.{UseFault}
+use Rattle.ptmerge.specs.Comm.{comm_tool}
+use Rattle.ptmerge.specs.Join.{join_tool}
+use Rattle.ptmerge.specs.MergeSpec.{MergeTool as TwoInputs}
+use Rattle.ptopts.specs.Theorems.{SpellsCommand, Spelled}
+use Rattle.ptopts.proofs.CommandGrammar.{meant_as_spelled}
+use Rattle.ptopts.proofs.InputCounts.{AreTwo}
+use Rattle.ptopts.proofs.EachTool.{AreInputsOf, are_inputs}
+use Rattle.ptopts.specs.declared.command.Command as code
+use Rattle.ptrun.proofs.OneInput.{kept_up, earlier_map, nothing_decided, nothing_read, never_long, received_at, received_of, unopened_agrees, unopened_received}
+use Rattle.ptrun.proofs.MessageWrites.{said_trans}
+use Rattle.ptrun.proofs.OperandInputs.{some_same, fresh_all, unopened_same, positions_within}
+
+-- ---- the bytes that reached the sink
+
+pub record Reached (was new : Output) (pushed : List ℕ) : Type 0 where
+  pub front : List ℕ
+  pub rest : List ℕ
+  pub split : pushed ≡ front ++ rest
+  pub accepted : new.accepted ≡ append_known was.accepted front
+  pub whole : new.write_failed ≡ false → new.buffered ≡ [] → rest ≡ []
+  pub unknown : was.accepted ≡ None → rest ≡ []
+
+pub reached_of : (was new : Output) (pushed : List ℕ) → was.buffered ≡ [] → PushEffect was new pushed → Reached was new pushed
+reached_of was new pushed empty w = by_known was.accepted refl
+  where
+    by_known : (known : Option (List ℕ)) → was.accepted ≡ known → Reached was new pushed
+    by_known None is = record {
+      front = pushed;
+      rest = [];
+      split = sym (append-nil pushed);
+      accepted = rw (w.kept.is, is) refl;
+      whole = λ _ _. refl;
+      unknown = λ _. refl;
+    }
+    by_known (Some t) is = record {
+      front = w.kept.front;
+      rest = new.buffered ++ w.beginning.front;
+      split = split;
+      accepted = w.kept.is;
+      whole = λ clean none.
+          let same = ap length (some_same (rw (w.kept.is, is, empty) at (w.whole clean))) in
+          nil_from_length (new.buffered ++ w.beginning.front) (grind (arith, ap length none, same, ap length split, length-append));
+      unknown = λ none. cc;
+    }
+      where
+        split : pushed ≡ w.kept.front ++ (new.buffered ++ w.beginning.front)
+        split = append_cancel_left t pushed (w.kept.front ++ (new.buffered ++ w.beginning.front))
+            (some_same (rw (w.kept.is, is, empty, append-nil t) at w.beginning.is) ∙ append_assoc (t ++ w.kept.front) new.buffered w.beginning.front
+            ∙ append_assoc t w.kept.front (new.buffered ++ w.beginning.front))
+
+-- ---- the bytes of the readers are consistent with the bytes received
+
+bytes_consistent_at : (old new : Reader) (o : Option Received) (v : Option (List ℕ)) → IsNewOrUnopened old → HasReceivedAt old new o → HasBytesAt old v → IsConsistentAt o v
+bytes_consistent_at old new None None fresh k bytes = tt
+bytes_consistent_at old new None (Some b) fresh k bytes = absurd (false≢true (sym bytes.0 ∙ k.0))
+bytes_consistent_at old new (Some g) None fresh k bytes = absurd (false≢true (sym k.0 ∙ bytes))
+bytes_consistent_at old new (Some g) (Some b) fresh k bytes = by_left new.left (sym bytes.1 ∙ k.1.moved) (k.1.end (λ eof. absurd (false≢true (sym (fresh k.0).eof ∙ eof))))
+  where
+    by_left : (left : Option (List ℕ)) → Some b ≡ prepend_known g.bytes left → (new.eof ≡ true → IsAtEnd left) → IsConsistent g b
+    by_left None is end = cc
+    by_left (Some rest) is end = record { rest = rest; is = cc; whole = λ eof. end (sym k.1.eof ∙ eof) }
+
+not_too_long : (o : Option Received) (v : Option (List ℕ)) (old : Reader) → IsConsistentAt o v → HasBytesAt old v → IsTooLong o → ⊥
+not_too_long None v old a bytes long = long
+not_too_long (Some g) None old a bytes long = a
+not_too_long (Some g) (Some b) old a bytes long = omega (arith, long, bytes.2, ap length a.is, length-append g.bytes a.rest)
+
+-- ---- no call failed
+
+pub exact_of_run : (m : CommandSpec) (old new : List Reader) (before : Sinks) (o : Outcome) → All IsNewOrUnopened old → IsRun m old new before o → IsExactUnlessFailed m old new before o
+exact_of_run m old new before o fresh k w bytes none fine not_denied = by_fault k.fault k.ends
+  where
+    agrees : AreInputsConsistent k.received w
+    agrees q = bytes_consistent_at (reader_at old q) (reader_at new q) (at k.received q) (at w q) (fresh_all old fresh q) (k.came q) (bytes q)
+
+    unfailed : (n : ℕ) (fault : FlowFault) → HasCause m k.received old new o.out.failed o.denied n fault → ⊥
+    unfailed n (Read p) c = ⊎_elim (λ failed. none p failed) (λ long. not_too_long (at k.received p) (at w p) (reader_at old p) (agrees p) (bytes p) long) c.2
+    unfailed n Write c = false≢true (sym fine ∙ c)
+    unfailed n Memory c = false≢true (sym not_denied ∙ c.0)
+
+    by_fault : (fault : Option FlowFault) → RunEnd m k.received old new k.written k.message o k.operands_done fault → IsExact m w before o
+    by_fault None e = record {
+      out = k.output ∙ ap (λ (l : List ℕ). append_known before.out.accepted l) (e.0.out w agrees);
+      messages = λ all_said. k.has_said.accepted ∙ ap (λ (l : List ℕ). append_known before.messages.accepted l)
+          (sym (append-nil k.has_said.front) ∙ ap (λ (l : List ℕ). k.has_said.front ++ l) (sym (k.has_said.whole all_said)) ∙ sym k.has_said.split ∙ (e.1 w agrees).0);
+      status_is = (e.1 w agrees).1;
+      bounded = k.bounded w agrees;
+    }
+    by_fault (Some fault) e = absurd (unfailed k.operands_done fault e.cause)
+
+-- ---- a run that reads nothing
+
+none_failed : (old : List Reader) (q : ℕ) → HasReadFailed old old q → ⊥
+none_failed old q failed = false≢true (sym failed.1 ∙ failed.2)
+
+-- There is nothing to read, the output is unchanged, and `text` is the only message.
+unread : (m : CommandSpec) {old : List Reader} {out messages_old messages_new : SinkState} {text : List ℕ} (status : ℕ) → m.sequential ≡ None
+    → ((r : ReceivedInputs) → ((q : ℕ) → is_reader_unopened old q ≡ is_unopened r q) → m.decided r ≡ []) → All IsNewOrUnopened old → out.failed ≡ false → HasSaid messages_old messages_new text
+    → ((w : InputBytes) → AreInputsConsistent (map received_of old) w → (m.out w ≡ []) × (text ≡ messages m w) × (status ≡ m.status w))
+    → IsRun m old old (sinks out messages_old) (record { out = out; messages = messages_new; status = status; peak = 0; denied = false })
+unread m {old} {out} {messages_old} {messages_new} {text} status at_once undecided fresh fine has_said says = let came = nothing_read old (fresh_all old fresh) in record {
+  received = map received_of old;
+  came = came;
+  written = [];
+  output = sym (append_known-nil out.accepted);
+  flushed = λ settled _. settled;
+  message = text;
+  has_said = has_said;
+  operands_done = length m.positions;
+  fault = None;
+  ends = (
+    record {
+      all = refl;
+      out = λ w agrees. sym (says w agrees).0;
+      no_write_failed = fine;
+      not_denied = refl;
+      read = λ q. ⊎_elim (λ failed. none_failed old q failed) (λ long. never_long (reader_at old q) (rw (received_at old q) at long));
+    },
+    λ w agrees. ((says w agrees).1, (says w agrees).2),
+  );
+  untouched = λ q other. refl;
+  is_prefix = λ w agrees. record { rest = m.out w; is = refl };
+  names_failed_read = λ q failed clean. absurd (none_failed old q failed);
+  decided_is_written = λ q failed clean. absurd (none_failed old q failed);
+  bounded_lag = rw at_once
+      (nothing_decided m.positions m.decided (map received_of old) out.failed
+      (λ r same. undecided r (λ q. unopened_received (reader_at old q) (reader_at old q) (at (map received_of old) q) (came q) ∙ sym (same q))));
+  bounded = λ w agrees. omega arith;
+}
+
+-- nothing is read or written, and `text` is the only message
+pub message_only_run : {text : List ℕ} {is : ℕ} {old : List Reader} {out messages_old messages_new : SinkState} {status : ℕ} → All IsNewOrUnopened old → out.failed ≡ false → HasSaid messages_old messages_new text → status ≡ is
+    → IsRun (message_only text is) old old (sinks out messages_old) (record { out = out; messages = messages_new; status = status; peak = 0; denied = false })
+message_only_run {text} {is} {status = status} fresh fine has_said status_is = unread (message_only text is) status refl (λ r same. refl) fresh fine has_said (λ w agrees. (refl, refl, status_is))
+
+-- A file that the tool cannot run without could not be opened, and every such file was reported.
+pub any_unopened : {m : CommandSpec} {old : List Reader} {out messages_old messages_new : SinkState} {has_unopened : Bool} → All IsNewOrUnopened old → out.failed ≡ false → ReportUnopenedPost m old messages_old messages_new has_unopened → has_unopened ≡ true
+    → IsRun m old old (sinks out messages_old) (record { out = out; messages = messages_new; status = 1; peak = 0; denied = false })
+any_unopened {m} {old} fresh fine k has_unopened =
+    unread m 1 (k.at_once has_unopened) (k.undecided has_unopened) fresh fine (rw has_unopened at k.has_said)
+    (λ w agrees.
+    let same = unopened_agrees old old (map received_of old) w (nothing_read old (fresh_all old fresh)) agrees in
+    let nothing = k.nothing has_unopened w same in (
+      nothing.0,
+      rw (nothing.1, take-length m.positions, append-nil (unopened_messages m.tool m.names (is_unopened w) m.positions)) (unopened_same m.tool m.names (is_reader_unopened old) (is_unopened w) m.positions same),
+      sym nothing.2,
+    ))
+
+-- ---- the end of a run
+
+abbrev fault_of : Result Completion FlowFault → Option FlowFault
+fault_of (Ok done) = None
+fault_of (Err fault) = Some fault
+
+-- an input that a result names has an index below the number of readers
+pub index_below : {m : CommandSpec} {old new : List Reader} {was is is' : Output} {messages_old messages_new : SinkState} {before store : Slots} {run_result final_result : Result Completion FlowFault}
+    → RunInputsPost m old new was is messages_old messages_new before store run_result → FinishPost is is' run_result final_result → HasIndexBelow (length old) final_result
+index_below {is' = is'} k f = ⊎_elim (λ write_failed. rw (f.broken write_failed) tt) (λ clean. rw (f.clean clean).0 k.position) (cases_Bool is'.write_failed)
+
+module _ {m : CommandSpec} {old new : List Reader} {was is is' : Output} {messages_first messages_old messages_new : SinkState} {before store : Slots} {run_result final_result : Result Completion FlowFault} (out : SinkState) (o : Outcome)
+    (nothing_said : HasSaid messages_first messages_old []) (k : RunInputsPost m old new was is messages_old messages_new before store run_result) (f : FinishPost is is' run_result final_result)
+    (says : HasSaid messages_new o.messages (result_message m.tool m.names final_result)) (status_is : o.status ≡ result_status final_result)
+    (made : was ≡ record { accepted = out.accepted; buffered = []; write_failed = false; unflushed = out.unflushed }) (last_accepted : o.out.accepted ≡ is'.accepted)
+    (last_failed : o.out.failed ≡ is'.write_failed) (last_unflushed : o.out.unflushed ≡ is'.unflushed)
+    (low : before.peak ≡ 0) (peak_is : o.peak ≡ store.peak) (denied_is : o.denied ≡ store.denied) where
+  wrote : PushEffect was is' k.pushed
+  wrote = ⊎_elim (λ write_failed. rw (f.wrote.stays write_failed) k.wrote) (λ clean. rw (append-nil k.pushed) at (push_trans was is is' k.pushed [] clean k.wrote f.wrote)) (cases_Bool is.write_failed)
+
+  reached : Reached was is' k.pushed
+  reached = reached_of was is' k.pushed (ap (λ (o : Output). o.buffered) made) wrote
+
+  begins : (w : InputBytes) → AreInputsConsistent k.received w → IsPrefix reached.front (m.out w)
+  begins w agrees = let b = k.is_prefix w agrees in record {
+    rest = reached.rest ++ b.rest;
+    is = b.is ∙ ap (λ (l : List ℕ). l ++ b.rest) reached.split ∙ append_assoc reached.front reached.rest b.rest;
+  }
+
+  all_front : is'.write_failed ≡ false → reached.front ≡ k.pushed
+  all_front clean = sym (reached.split ∙ ap (λ (l : List ℕ). reached.front ++ l) (reached.whole clean (f.clean clean).1) ∙ append-nil reached.front)
+
+  abbrev last : List ℕ
+  last = result_message m.tool m.names final_result
+
+  ends_as : (r : Result Completion FlowFault) → final_result ≡ r → RunInputsEnd m k.received old new k.pushed is'.write_failed store.denied k.operands_done r
+      → RunEnd m k.received old new reached.front (k.message ++ last) o k.operands_done (fault_of r)
+  ends_as (Ok done) same e = (
+    record { all = e.0.all; out = λ w agrees. all_front e.0.no_write_failed ∙ e.0.out w agrees; no_write_failed = last_failed ∙ e.0.no_write_failed; not_denied = denied_is ∙ e.0.not_denied; read = e.0.read },
+    λ w agrees. (
+      (λ i. (k.names w agrees ∙ ap (λ (n : ℕ). operand_messages m w n) e.0.all) i ++ (ap (result_message m.tool m.names) same ∙ (e.1 w agrees).0) i),
+      status_is ∙ ap result_status same ∙ (e.1 w agrees).1,
+    ),
+  )
+  ends_as (Err fault) same e = record {
+    within = k.within;
+    messages = λ w agrees i. k.names w agrees i ++ result_message m.tool m.names (same i);
+    cause = rw (last_failed, denied_is) e;
+    status_is = status_is ∙ ap result_status same;
+  }
+
+  pub run_of : IsRun m old new (sinks out messages_first) o
+  run_of = record {
+    received = k.received;
+    came = k.came;
+    written = reached.front;
+    output = last_accepted ∙ reached.accepted ∙ ap (λ (t : Option (List ℕ)). append_known t reached.front) (ap (λ (o : Output). o.accepted) made);
+    flushed = λ _ fine. last_unflushed ∙ f.flushed (sym last_failed ∙ fine);
+    message = k.message ++ last;
+    has_said = said_trans nothing_said (said_trans k.has_said says);
+    operands_done = k.operands_done;
+    fault = fault_of final_result;
+    ends = ends_as final_result refl (⊎_elim (λ write_failed. rw (f.broken write_failed) write_failed)
+        (λ (clean : is'.write_failed ≡ false). rw (clean, (f.clean clean).0) (rw (f.clean clean).2 at k.ends)) (cases_Bool is'.write_failed));
+    untouched = k.untouched;
+    is_prefix = begins;
+    names_failed_read = λ position failed fine. let clean = sym last_failed ∙ fine in ap fault_of ((f.clean clean).0 ∙ k.names_failed_read position failed (f.clean clean).2);
+    decided_is_written = λ position failed fine. let clean = sym last_failed ∙ fine in let b = k.decided_is_written position failed (f.clean clean).2 in record { rest = b.rest; is = all_front clean ∙ b.is };
+    bounded_lag = earlier_map m k.received k.operands_done (λ decided. IsPushedUpToBlock decided was is k.pushed) (λ decided. IsWrittenUpToBlock decided reached.front o.out.failed) kept k.bounded_lag;
+    bounded = λ w agrees. omega (arith, k.peak w agrees, low, peak_is);
+  }
+    where
+      kept : (bytes : List ℕ) → IsPushedUpToBlock bytes was is k.pushed → IsWrittenUpToBlock bytes reached.front o.out.failed
+      kept bytes up =
+          kept_up bytes was is is' k.pushed reached.front reached.rest up (ap (λ (o : Output). o.buffered) made) reached.split reached.accepted f.wrote.kept reached.unknown o.out.failed
+          (λ fine. let clean = sym last_failed ∙ fine in reached.whole clean (f.clean clean).1)
+
+-- ---- the specification of arguments
+
+-- the specification of arguments that are a command
+pub spec_of_ok : {A : Type 0} (command : Result (code.Command A) UseFault) (words : List (List ℕ)) (c : code.Command A) → command ≡ Ok c
+    → CommandPost command (command_of_args words) → spec_of_parsed command words ≡ command_spec (command_view c)
+spec_of_ok command words c is m = rw is (ap (spec_of_result (tool_name words)) (rw is at m))
+
+spec_of_fault_in : (words : List (List ℕ)) (f : Option Fault) → IsFault f (command_of_args words)
+    → cond (is_none f) (message_only (usage_message (tool_name words) None) 1) (spec_of_args words) ≡ message_only (usage_message (tool_name words) f) (usage_status f)
+spec_of_fault_in words None m = refl
+spec_of_fault_in words (Some f) m = ap (spec_of_result (tool_name words)) m
+
+-- the specification of arguments that are no command
+pub spec_of_fault : {A : Type 0} (command : Result (code.Command A) UseFault) (words : List (List ℕ)) (fault : UseFault) → command ≡ Err fault → CommandPost command (command_of_args words)
+    → spec_of_parsed command words ≡ message_only (usage_message (tool_name words) (fault_view fault)) (usage_status (fault_view fault))
+spec_of_fault command words fault is m = rw is (spec_of_fault_in words (fault_view fault) (rw is at m))
+
+position_differs : (a b : Input) → (a ≡ b → ⊥) → (position a == position b) ≡ false
+position_differs Standard Standard differ = absurd (differ refl)
+position_differs Standard (File j) differ = grind (arith, nat_tests)
+position_differs (File i) Standard differ = grind (arith, nat_tests)
+position_differs (File i) (File j) differ = ⊎_elim (λ k. absurd (differ (let same : i ≡ j = omega (arith, k.1) in ap (λ (n : ℕ). File n) same))) (λ k. k.0) (eqb_tells (i + 1) (j + 1))
+
+-- a tool that merges two inputs accepts two different ones, since their positions differ
+two_positions : (t : TwoInputs) (order : List Input) → AreTwo order → (two_input_tool t).accepts (positions order) ≡ true
+two_positions t order two = rw (two.are) (ap not (position_differs two.first two.second two.differ))
+
+-- a specification has these names and positions, and its tool accepts the operands
+record IsSpecOver (m : CommandSpec) (names : List (List ℕ)) (positions : List ℕ) : Type 0 where
+  named : m.names ≡ names
+  positioned : m.positions ≡ positions
+  accepts_operands : m.accepts ≡ true
+
+is_spec_over : (job : Job) (order : List Input) (names : List (List ℕ)) → AreInputsOf job order → IsSpecOver (job_spec job names (positions order)) names (positions order)
+is_spec_over (RunCut u) order names accepts_operands = record { named = refl; positioned = refl; accepts_operands = refl }
+is_spec_over (RunPaste u) order names few = ⊎_elim (λ (is : u.serial ≡ true). rw is (record { named = refl; positioned = refl; accepts_operands = refl }))
+    (λ (is : u.serial ≡ false). rw is (record { named = refl; positioned = refl; accepts_operands = ap (λ (n : ℕ). nat_le n 512) (length-map order position) ∙ few })) (cases_Bool u.serial)
+is_spec_over (RunUniq u) order names one = record { named = refl; positioned = refl; accepts_operands = ap (λ (n : ℕ). n == 1) (length-map order position ∙ one) }
+is_spec_over (RunComm u) order names two = record { named = refl; positioned = refl; accepts_operands = two_positions (comm_tool u) order two }
+is_spec_over (RunJoin u) order names two = record { named = refl; positioned = refl; accepts_operands = two_positions (join_tool u) order two }
+is_spec_over (RunTr u) order names accepts_operands = record { named = refl; positioned = refl; accepts_operands = refl }
+
+inputs_pre_of_spelled : (words : List (List ℕ)) (c : Command) (readers : List Reader) → SpellsCommand words c → AreNewInputs (length c.names) readers → InputsPre (command_spec c) readers
+inputs_pre_of_spelled words c readers (Spelled name rest tool os operands named s allowed) fresh =
+    let is = is_spec_over c.job c.order c.names (are_inputs tool os operands allowed.inputs) in record {
+      fresh = fresh.1;
+      in_range = rw is.positioned (All-map (λ (p : ℕ). p < length readers) position c.order
+          (λ k d within. omega (arith, positions_within 0 (input_operands tool operands) k d within, fresh.0)));
+      named = fresh.0 ∙ ap (λ (l : List (List ℕ)). length l + 1) (sym is.named);
+      accepts_operands = is.accepts_operands;
+    }
+
+-- each operand of a command has a reader, and the tool accepts these operands
+pub inputs_pre_of_parsed : {A : Type 0} (command : Result (code.Command A) UseFault) (words : List (List ℕ)) (c : code.Command A) (readers : List Reader) → command ≡ Ok c
+    → CommandPost command (command_of_args words) → AreNewInputs (length (command_view c).names) readers → InputsPre (command_spec (command_view c)) readers
+inputs_pre_of_parsed command words c readers is m fresh = inputs_pre_of_spelled words (command_view c) readers ((meant_as_spelled words (command_view c)).1 (rw is at m)) fresh
+
+-- the main theorem for arguments, if parsing did not run out of memory
+pub exact_for_args : {A : Type 0} (command : Result (code.Command A) UseFault) (words : List (List ℕ)) (old new : List Reader) (before : Sinks) (o : Outcome)
+    → All IsNewOrUnopened old → IsRun (spec_of_parsed command words) old new before o
+    → is_memory_fault command ≡ false → IsExactUnlessFailed (spec_of_args words) old new before o
+exact_for_args command words old new before o fresh run not_denied = rw not_denied at (exact_of_run (spec_of_parsed command words) old new before o fresh run)

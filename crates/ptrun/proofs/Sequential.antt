@@ -1,0 +1,401 @@
+-- Tools that read their operands one after another. After each operand, the output is that of the operands so far; an
+-- operand whose input was read by an earlier one receives nothing more. An operand that fails leaves a prefix of the
+-- output, with all that was decided by then.
+use Rattle.ptrun.proofs.Common.{take-append-add, cases_eq, cases_Bool, ◌≡◌, ◌≢◌, ◌⊎◌, ⊎_elim, inl, inr, ℕ, ◌<◌, ◌≤◌, Bool, true, false, cond, List, [], ◌∷◌, ◌++◌, Option, Some, None, Result, Ok, Err}
+use Rattle.ptrun.proofs.Common.{◌+◌, length, take, map, set, max, refl, sym, ◌∙◌, ap, subst, arith, append_assoc, length-append, length-set, flat_map, option_map, list_any, append-nil, take_all}
+use Rattle.ptrun.proofs.Common.{map-append, get_or-set_same, get_or-set_other, length-map, take-append_seam, take-length, flat_map-append, false≢true, Reader, IsSound, HasReadCause, Output, PushEffect}
+use Rattle.ptrun.proofs.Common.{Slots, total_bytes, SinkState, push_trans, push_nothing, Received, empty_input, IsConsistent, IsPrefix, HasReceived, PassDone, PassOutcome, PassPost, ToolSpec, FlowFault, Read, Write, Memory, InputBytes}
+use Rattle.ptrun.proofs.Common.{ReceivedInputs, at, is_unopened, IsConsistentAt, AreInputsConsistent, is_in, input_of_operand, inputs_of_operands, opened_values, opened_inputs, reader_at, no_reader, is_reader_unopened, HasReceivedAt, HaveReceived, IsNewOrUnopened, HasReadFailed, IsTooLong}
+use Rattle.ptrun.proofs.Common.{HasSaid, unopened_messages, unopened_message, name_of, BoundedLag, IsPushedUpToBlock, decided_in_order, up_to_unended, sequential_output, sequential_bound, sequential_decided, sequential_spec, Completion, AllWritten, Unopened, HasCause, fault_at}
+use Rattle.ptrun.proofs.Common.{result_message, result_status, HasIndexBelow, RunInputsPost, get_or, get_or_default, All}
+use Rattle.ptrun.proofs.OneInput.{all_earlier, last_earlier, sends_now, sends_after, IsAtEof, none_received, completion_with, received_of, received_at, nothing_read, never_long, not_long, opened_receives}
+use Rattle.ptrun.proofs.OneInput.{still_unopened, receives_trans, ended_gives_nothing, unopened_agrees, none_of, consistent_bytes, consistent_before, consistent_whole, least_consistent, ended_at, nth_here}
+use Rattle.ptrun.proofs.MessageWrites.{said_nothing}
+use Rattle.ptrun.proofs.OperandInputs.{some_same, is_in-other, not_more, by_position, opened_inputs_some, opened_inputs_none, unopened_same, any_same, any_now, any_before, said_more, maximum-append, IsEndedAt, least_bytes}
+use Rattle.ptrun.proofs.OperandInputs.{decided_inputs, DecidesAll, fresh_all}
+
+-- the state once these operands are done
+pub record OperandsDone (word : List ℕ) (t : ToolSpec) (names : List (List ℕ)) (old now : List Reader) (was is : Output) (messages_old messages_new : SinkState) (before store : Slots)
+    (done : List ℕ) (so_far : Completion) : Type 0 where
+  pub inputs_read : ReceivedInputs
+  pub same_length : length now ≡ length old
+  pub long : length inputs_read ≡ length old
+  pub came : HaveReceived old now inputs_read
+  pub at_eof : (q : ℕ) → is_in done q ≡ true → is_reader_unopened old q ≡ false → IsAtEof (reader_at now q)
+  pub unread : (q : ℕ) → is_in done q ≡ false → (reader_at now q ≡ reader_at old q) × (at inputs_read q ≡ received_of (reader_at old q))
+  pub pushed : List ℕ
+  pub wrote : PushEffect was is pushed
+  pub out : (w : InputBytes) → AreInputsConsistent inputs_read w → pushed ≡ sequential_output t w done
+  pub has_said : HasSaid messages_old messages_new (unopened_messages word names (is_reader_unopened old) done)
+  pub so_far_is : so_far ≡ completion_with (list_any (is_reader_unopened old) done)
+  pub clean : is.write_failed ≡ false
+  pub not_denied : store.denied ≡ false
+  pub empty : total_bytes store.lines ≡ 0
+  pub peak : (w : InputBytes) → AreInputsConsistent inputs_read w → store.peak ≤ max before.peak (sequential_bound t w done)
+
+-- such a state, along equalities of its parts
+pub done_as : {word : List ℕ} {t : ToolSpec} {names : List (List ℕ)} {old now now' : List Reader} {was is is' : Output} {messages_old messages_new messages_new' : SinkState} {before store store' : Slots}
+    {done done' : List ℕ} {so_far so_far' : Completion} → now' ≡ now → store' ≡ store → is' ≡ is → messages_new' ≡ messages_new → so_far' ≡ so_far → done' ≡ done
+    → OperandsDone word t names old now was is messages_old messages_new before store done so_far → OperandsDone word t names old now' was is' messages_old messages_new' before store' done' so_far'
+done_as inputs kept out messages far positions k = rw (inputs, kept, out, messages, far, positions) k
+
+module _ {word : List ℕ} {t : ToolSpec} {names : List (List ℕ)} {old : List Reader} {was : Output} {messages_old : SinkState} {before : Slots} (fresh : All IsNewOrUnopened old) where
+  pub done_nothing : was.write_failed ≡ false → before.denied ≡ false → total_bytes before.lines ≡ 0 → OperandsDone word t names old old was was messages_old messages_old before before [] AllWritten
+  done_nothing clean not_denied empty = record {
+    inputs_read = map received_of old;
+    same_length = refl;
+    long = length-map old received_of;
+    came = nothing_read old (fresh_all old fresh);
+    at_eof = λ q seen. absurd (false≢true seen);
+    unread = λ q unseen. (refl, received_at old q);
+    pushed = [];
+    wrote = push_nothing was;
+    out = λ w agrees. refl;
+    has_said = said_nothing messages_old;
+    so_far_is = refl;
+    clean = clean;
+    not_denied = not_denied;
+    empty = empty;
+    peak = λ w agrees. omega arith;
+  }
+
+  module _ {now : List Reader} {is : Output} {messages_new : SinkState} {store : Slots} {done : List ℕ} {so_far : Completion} (k : OperandsDone word t names old now was is messages_old messages_new before store done so_far) where
+    was_unopened : (q : ℕ) → is_reader_unopened old q ≡ (reader_at now q).refused
+    was_unopened q = sym (still_unopened (reader_at old q) (reader_at now q) (at k.inputs_read q) (k.came q))
+
+    not_failed_now : (q : ℕ) → is_reader_unopened old q ≡ false → (reader_at old q).failed ≡ false → (reader_at now q).failed ≡ false
+    not_failed_now q opened not_failed_before = ⊎_elim (λ seen. (k.at_eof q seen opened).failed) (λ unseen. ap (λ (r : Reader). r.failed) (k.unread q unseen).0 ∙ not_failed_before) (cases_Bool (is_in done q))
+
+    ended_now : (q : ℕ) → is_in done q ≡ true → IsEndedAt (at k.inputs_read q)
+    ended_now q seen = ended_at (reader_at old q) (reader_at now q) (at k.inputs_read q) (k.came q) (k.at_eof q seen)
+
+    can_read_now : (q : ℕ) → is_reader_unopened old q ≡ false → ((reader_at now q).buffered ≡ []) × ((reader_at now q).fault ≡ None)
+    can_read_now q opened = ⊎_elim (λ seen. let s = k.at_eof q seen opened in (s.done.buffered, s.fault))
+        (λ unseen. let new = fresh_all old fresh q opened in rw (k.unread q unseen).0 (new.buffered, new.fault)) (cases_Bool (is_in done q))
+
+    -- ---- all operands are done
+
+    pub done_all : DecidesAll t → RunInputsPost (sequential_spec word t names done) old now was is messages_old messages_new before store (Ok so_far)
+    done_all law = record {
+      received = k.inputs_read;
+      came = k.came;
+      pushed = k.pushed;
+      wrote = k.wrote;
+      operands_done = length done;
+      within = omega arith;
+      message = unopened_messages word names (is_reader_unopened old) done;
+      has_said = k.has_said;
+      names = λ w agrees. rw (take-length done) (unopened_same word names (is_reader_unopened old) (is_unopened w) done (unopened_agrees old now k.inputs_read w k.came agrees));
+      ends = (
+        record {
+          all = refl;
+          out = k.out;
+          no_write_failed = k.clean;
+          not_denied = k.not_denied;
+          read = λ q. ⊎_elim (none q) (short q);
+        },
+        λ w agrees. let same = any_same (is_reader_unopened old) (is_unopened w) done (unopened_agrees old now k.inputs_read w k.came agrees) in
+            let end = ends_with (list_any (is_unopened w) done) in rw (k.so_far_is, same) (end.0, end.1),
+      );
+      position = rw k.so_far_is (ends_with (list_any (is_reader_unopened old) done)).2;
+      untouched = λ q other. (k.unread q (rw all_taken at other)).0;
+      is_prefix = λ w agrees. record { rest = []; is = sym (k.out w agrees) ∙ sym (append-nil k.pushed) };
+      names_failed_read = λ q failed clean. absurd (none q failed);
+      decided_is_written = λ q failed clean. absurd (none q failed);
+      bounded_lag = rw all_taken
+          (all_earlier t (opened_inputs empty_input k.inputs_read done) (λ decided. IsPushedUpToBlock decided was is k.pushed)
+          (record { begins = processing; buffering = sends_now was is k.pushed (sequential_decided t k.inputs_read done) k.wrote k.clean processing }));
+      peak = k.peak;
+    }
+      where
+        all_taken : take (length done + 1) done ≡ done
+        all_taken = take_all (length done + 1) done (omega arith)
+
+        none : (q : ℕ) → HasReadFailed old now q → ⊥
+        none q failed = false≢true (sym (not_failed_now q failed.0 failed.1) ∙ failed.2)
+
+        short : (q : ℕ) → IsTooLong (at k.inputs_read q) → ⊥
+        short q long = ⊎_elim (λ seen. not_long (reader_at old q) (reader_at now q) (at k.inputs_read q) (fresh_all old fresh q) (k.came q) (λ opened. (k.at_eof q seen opened).short) long)
+            (λ unseen. never_long (reader_at old q) (rw (k.unread q unseen).1 at long)) (cases_Bool (is_in done q))
+
+        ends_with : (b : Bool) → (result_message word names (Ok (completion_with b)) ≡ []) × (result_status (Ok (completion_with b)) ≡ cond b 1 0) × HasIndexBelow (length old) (Ok (completion_with b))
+        ends_with true = (refl, refl, tt)
+        ends_with false = (refl, refl, tt)
+
+        -- all output that they decided was pushed
+        processing : IsPrefix (sequential_decided t k.inputs_read done) k.pushed
+        processing =
+            let all = decided_inputs t law k.inputs_read [] done [] ended_now ∙ append-nil (sequential_output t (least_bytes k.inputs_read) done) ∙ sym (k.out (least_bytes k.inputs_read) (least_consistent k.inputs_read)) in
+            let none = append-nil (opened_inputs empty_input k.inputs_read done) in
+            record { rest = []; is = sym all ∙ ap (λ (l : List Received). flat_map t.decided (up_to_unended l)) none ∙ sym (append-nil (sequential_decided t k.inputs_read done)) }
+
+    -- ---- the next operand
+
+    module _ {p : ℕ} (within : p < length old) (d : Reader) where
+      here : get_or now p d ≡ reader_at now p
+      here = get_or_default now p d no_reader (omega (arith, within, k.same_length))
+
+      -- an opened reader has no fault
+      pub ready_here : (get_or now p d).refused ≡ false → (get_or now p d).fault ≡ None
+      ready_here opened = rw here (can_read_now p (was_unopened p ∙ ap (λ (r : Reader). r.refused) (sym here) ∙ opened)).1
+
+      -- the next operand could not be opened
+      pub done_unopened : {messages_new' : SinkState} → (get_or now p d).refused ≡ true → HasSaid messages_new messages_new' (unopened_message word (name_of names p))
+          → OperandsDone word t names old now was is messages_old messages_new' before store (done ++ p ∷ []) Unopened
+      done_unopened refused says = record {
+        inputs_read = k.inputs_read;
+        same_length = k.same_length;
+        long = k.long;
+        came = k.came;
+        at_eof = λ q seen opened. ⊎_elim (λ same. absurd (false≢true (sym opened ∙ ap (is_reader_unopened old) (sym same) ∙ old_unopened)))
+            (λ other. k.at_eof q (sym (is_in-other done p q other) ∙ seen) opened) (cases_eq p q);
+        unread = λ q unseen. k.unread q (not_more done p q unseen).1;
+        pushed = k.pushed;
+        wrote = k.wrote;
+        out = λ w agrees. rw (nothing w agrees) (k.out w agrees);
+        has_said = said_more word names (is_reader_unopened old) done p k.has_said (rw old_unopened says);
+        so_far_is = sym (ap completion_with (any_now (is_reader_unopened old) done p old_unopened));
+        clean = k.clean;
+        not_denied = k.not_denied;
+        empty = k.empty;
+        peak = λ w agrees. rw (nothing w agrees) (k.peak w agrees);
+      }
+        where
+          old_unopened : (reader_at old p).refused ≡ true
+          old_unopened = was_unopened p ∙ ap (λ (r : Reader). r.refused) (sym here) ∙ refused
+
+          nothing : (w : InputBytes) → AreInputsConsistent k.inputs_read w → opened_inputs [] w (done ++ p ∷ []) ≡ opened_inputs [] w done
+          nothing w agrees =
+              let none = none_of (at w p) (sym (unopened_agrees old now k.inputs_read w k.came agrees p) ∙ old_unopened) in
+              opened_inputs_none [] w done p (rw none refl)
+
+    -- ---- an operand that was opened
+
+    module _ {is' : Output} {store' : Slots} {p : ℕ} {new : Reader} {result : Result (Unit {0}) FlowFault} (within : p < length old) (d : Reader) (open_here : (get_or now p d).refused ≡ false)
+        (sound : IsSound (get_or now p d)) (pass : PassPost t (get_or now p d) new is is' store store' result) where
+      e : PassPost t (reader_at now p) new is is' store store' result
+      e = rw (here within d) at pass
+
+      not_failed_before : (reader_at now p).failed ≡ false
+      not_failed_before = rw (here within d) at (sound.unfailed open_here (ready_here within d open_here))
+
+      old_open : is_reader_unopened old p ≡ false
+      old_open = was_unopened p ∙ rw (here within d) at open_here
+
+      -- what its input had received before
+      abbrev y : (g : Received) × (at k.inputs_read p ≡ Some g) × HasReceived (reader_at old p) (reader_at now p) g
+      y = opened_receives (reader_at old p) (reader_at now p) (at k.inputs_read p) old_open (k.came p)
+
+      buffered : (reader_at now p).buffered ≡ []
+      buffered = (can_read_now p old_open).0
+
+      abbrev given_now : Received → Received
+      given_now g = record { bytes = g.bytes ++ e.given.bytes; eof = e.given.eof }
+
+      abbrev inputs_read' : ReceivedInputs
+      inputs_read' = set k.inputs_read p (Some (given_now y.0))
+
+      abbrev pub now' : List Reader
+      now' = set now p new
+
+      reader_here : reader_at now' p ≡ new
+      reader_here = get_or-set_same now p new _ (omega (arith, within, k.same_length))
+
+      reader_other : (q : ℕ) → p ≢ q → reader_at now' q ≡ reader_at now q
+      reader_other q differs = get_or-set_other now p q new no_reader (λ is_p. differs (sym is_p))
+
+      read_here : at inputs_read' p ≡ Some (given_now y.0)
+      read_here = get_or-set_same k.inputs_read p (Some (given_now y.0)) None (omega (arith, within, k.long))
+
+      read_other : (q : ℕ) → p ≢ q → at inputs_read' q ≡ at k.inputs_read q
+      read_other q differs = get_or-set_other k.inputs_read p q (Some (given_now y.0)) None (λ is_p. differs (sym is_p))
+
+      receives_here : HasReceived (reader_at old p) new (given_now y.0)
+      receives_here = receives_trans (reader_at old p) (reader_at now p) new y.0 e.given y.2 e.came buffered
+
+      received' : HaveReceived old now' inputs_read'
+      received' = by_position (λ q. HasReceivedAt (reader_at old q) (reader_at now' q) (at inputs_read' q)) p (rw (reader_here, read_here) (old_open, receives_here))
+          (λ q other. rw (reader_other q other, read_other q other) (k.came q))
+
+      still : y.0.eof ≡ true → (e.given.bytes ≡ []) × (e.given.eof ≡ true)
+      still eof = ended_gives_nothing (reader_at now p) new e.given e.came buffered (sym y.2.eof ∙ eof)
+
+      -- its input was read to its end before and gives nothing now, or it was not read before
+      turn : ((is_in done p ≡ true) × (e.given ≡ empty_input) × IsAtEof (reader_at now p)) ⊎ ((is_in done p ≡ false) × (y.0 ≡ none_received))
+      turn = ⊎_elim
+          (λ seen.
+          let s = k.at_eof p seen old_open in
+          let none = still (y.2.eof ∙ s.done.eof) in
+          inl (seen, (λ i. record { bytes = none.0 i; eof = none.1 i }), s))
+          (λ unseen. inr (unseen, some_same (sym y.1 ∙ (k.unread p unseen).1 ∙ ap (λ (b : Bool). cond b None (Some none_received)) old_open))) (cases_Bool (is_in done p))
+
+      unseen : HasReadCause (reader_at now p) new → is_in done p ≡ false
+      unseen cause = ⊎_elim
+          (λ s. absurd (⊎_elim (λ f. false≢true (sym (e.came.eof ∙ f.2) ∙ ap (λ (g : Received). g.eof) s.1)) (λ l. omega (arith, s.2.short, (e.came.still s.2.done.eof).0, l.0)) cause))
+          (λ u. u.0) turn
+
+      consistent_here : (b : List ℕ) → IsConsistent (given_now y.0) b → IsConsistent e.given (cond (is_in done p) [] b)
+      consistent_here b a = ⊎_elim
+          (λ s. rw (s.1, s.0) (record { rest = []; is = refl; whole = λ _. refl }))
+          (λ u. rw u.0 (rw u.1 at a)) turn
+
+      -- the bytes are consistent with what was received before
+      back : (w : InputBytes) → AreInputsConsistent inputs_read' w → AreInputsConsistent k.inputs_read w
+      back w agrees =
+          let here = consistent_bytes (at inputs_read' p) (at w p) (given_now y.0) read_here (agrees p) in
+          by_position (λ q. IsConsistentAt (at k.inputs_read q) (at w q)) p (rw (y.1, here.1) (consistent_before y.0 e.given here.0 still here.2))
+          (λ q differs. rw (read_other q differs) at (agrees q))
+
+      -- the bytes that are left for the operand, consistent with what this call received
+      abbrev OperandFinds : InputBytes → Type 0
+      OperandFinds w = (bytes : List ℕ) × (input_of_operand [] w done p ≡ Some bytes) × IsConsistent e.given bytes
+
+      operand_finds : (w : InputBytes) → AreInputsConsistent inputs_read' w → OperandFinds w
+      operand_finds w agrees =
+          let here = consistent_bytes (at inputs_read' p) (at w p) (given_now y.0) read_here (agrees p) in
+          (cond (is_in done p) [] here.0, ap (λ (v : Option (List ℕ)). option_map (λ (b : List ℕ). cond (is_in done p) [] b) v) here.1, consistent_here here.0 here.2)
+
+      -- the inputs of the operands after it
+      abbrev later : InputBytes → List ℕ → List (List ℕ)
+      later w more = opened_values (inputs_of_operands [] w (done ++ p ∷ []) more)
+
+      out_here : (w : InputBytes) (more : List ℕ) (f : OperandFinds w) → sequential_output t w (done ++ p ∷ more) ≡ sequential_output t w done ++ (t.text f.0 ++ flat_map t.text (later w more))
+      out_here w more f = ap (λ (l : List (List ℕ)). flat_map t.text l) (opened_inputs_some [] w done p more f.0 f.1) ∙ flat_map-append t.text (opened_inputs [] w done) (f.0 ∷ later w more)
+
+      peak_here : (w : InputBytes) (more : List ℕ) → AreInputsConsistent inputs_read' w → store'.peak ≤ max before.peak (sequential_bound t w (done ++ p ∷ more))
+      peak_here w more agrees =
+          let f = operand_finds w agrees in
+          rw (opened_inputs_some [] w done p more f.0 f.1, map-append t.size (opened_inputs [] w done) (f.0 ∷ later w more))
+          (omega (arith, maximum-append (map t.size (opened_inputs [] w done)) (map t.size (f.0 ∷ later w more)), e.peak f.0 f.2, k.peak w (back w agrees)))
+
+      -- it was read to its end
+      pub done_operand : result ≡ Ok tt → OperandsDone word t names old now' was is' messages_old messages_new before store' (done ++ p ∷ []) so_far
+      done_operand ok = record {
+        inputs_read = inputs_read';
+        same_length = length-set now p new ∙ k.same_length;
+        long = length-set k.inputs_read p (Some (given_now y.0)) ∙ k.long;
+        came = received';
+        at_eof = λ q seen opened. ⊎_elim (λ same. subst (λ (n : ℕ). IsAtEof (reader_at now' n)) same (rw reader_here at_eof))
+            (λ other. rw (reader_other q other) (k.at_eof q (sym (is_in-other done p q other) ∙ seen) opened)) (cases_eq p q);
+        unread = λ q unseen. let other = not_more done p q unseen in let was = k.unread q other.1 in (reader_other q other.0 ∙ was.0, read_other q other.0 ∙ was.1);
+        pushed = k.pushed ++ e.pushed;
+        wrote = push_trans was is is' k.pushed e.pushed k.clean k.wrote e.wrote;
+        out = λ w agrees. let f = operand_finds w agrees in
+            (λ i. k.out w (back w agrees) i ++ (e.is_exact ok ∙ ap t.text (sym (consistent_whole e.given f.0 (e.came.eof ∙ end.done.eof) f.2)) ∙ sym (append-nil (t.text f.0))) i)
+            ∙ sym (out_here w [] f);
+        has_said = said_more word names (is_reader_unopened old) done p k.has_said (rw old_open (said_nothing messages_new));
+        so_far_is = k.so_far_is ∙ sym (ap completion_with (any_before (is_reader_unopened old) done p old_open));
+        clean = end.clean;
+        not_denied = end.denied;
+        empty = end.empty;
+        peak = λ w agrees. peak_here w [] agrees;
+      }
+        where
+          end : PassDone (reader_at now p) new is' store'
+          end = rw ok at e.ends
+
+          at_eof : IsAtEof new
+          at_eof = record { done = end.done; fault = end.fault; failed = end.failed ∙ not_failed_before; short = end.short }
+
+      -- ---- it failed
+
+      cause_of : (more : List ℕ) (fault : FlowFault) → PassOutcome (reader_at now p) new is' store' (Err fault)
+          → HasCause (sequential_spec word t names (done ++ p ∷ more)) inputs_read' old now' is'.write_failed store'.denied (length done) (fault_at p fault)
+      cause_of more (Read position) r = (
+        nth_here done more p,
+        rw (take-append_seam done (p ∷ more)) (unseen r.cause),
+        ⊎_elim (λ f. inl (old_open, ap (λ (r : Reader). r.failed) (sym (k.unread p (unseen r.cause)).0) ∙ not_failed_before, ap (λ (n : Reader). n.failed) reader_here ∙ f.0))
+            (λ l. inr (rw read_here (let first = fresh_all old fresh p old_open in omega (arith, l.0, receives_here.count, ap length first.buffered, first.pulled)))) r.cause,
+        r.clean,
+        r.denied,
+      )
+      cause_of more Write r = r.write_failed
+      cause_of more Memory r = (r.denied, r.clean)
+
+      failing : (fault : FlowFault) → PassOutcome (reader_at now p) new is' store' (Err fault) → new.failed ≡ true → (new.eof ≡ false) × (fault_at p fault ≡ Read p)
+      failing (Read position) r failed = ⊎_elim (λ f. (f.2, refl)) (λ l. absurd (false≢true (sym (l.1 ∙ not_failed_before) ∙ failed))) r.cause
+      failing Write r failed = absurd (false≢true (sym (r.failed ∙ not_failed_before) ∙ failed))
+      failing Memory r failed = absurd (false≢true (sym (r.failed ∙ not_failed_before) ∙ failed))
+
+      ended_before : (q : ℕ) → is_in done q ≡ true → IsEndedAt (at inputs_read' q)
+      ended_before = by_position (λ q. is_in done q ≡ true → IsEndedAt (at inputs_read' q)) p
+          (λ seen. rw read_here (⊎_elim (λ s. ap (λ (g : Received). g.eof) s.1) (λ u. absurd (false≢true (sym u.0 ∙ seen))) turn))
+          (λ q differs seen. rw (read_other q differs) (ended_now q seen))
+
+      module _ (law : DecidesAll t) where
+        -- the operands that are done decided all their output
+        decided_all : (came : List Received) → flat_map t.decided (up_to_unended (opened_inputs empty_input inputs_read' done ++ came)) ≡ k.pushed ++ flat_map t.decided (up_to_unended came)
+        decided_all came = decided_inputs t law inputs_read' [] done came ended_before
+            ∙ (λ i. sym (k.out (least_bytes inputs_read') (back (least_bytes inputs_read') (least_consistent inputs_read'))) i ++ flat_map t.decided (up_to_unended came))
+
+        -- the output of this operand that was decided two blocks earlier
+        one_keeps : BoundedLag {I = Unit {0}} (λ came. t.decided (came tt)) (λ u. e.given) is is' e.pushed
+        one_keeps = e.bounded_lag k.clean
+
+        abbrev earlier : Received
+        earlier = (one_keeps.processing.before tt).earlier
+
+        input_given : input_of_operand empty_input inputs_read' done p ≡ Some (e.given)
+        input_given = ap (λ (o : Option Received). option_map (λ (g : Received). cond (is_in done p) empty_input g) o) read_here
+            ∙ ⊎_elim (λ s. (λ i. Some (cond (s.0 i) empty_input (given_now y.0))) ∙ ap (λ (g : Received). Some g) (sym s.1)) (λ u i. Some (cond (u.0 i) empty_input (given_now (u.1 i)))) turn
+
+        -- if its end was not reached, nothing after it is decided
+        decided_open : (g : Received) (after : List Received) → (after ≡ []) ⊎ (g.eof ≡ false) → flat_map t.decided (up_to_unended (g ∷ after)) ≡ t.decided g
+        decided_open g after last = ap (λ (l : List Received). t.decided g ++ flat_map t.decided l) (none_after g.eof last) ∙ append-nil (t.decided g)
+          where
+            none_after : (b : Bool) → (after ≡ []) ⊎ (b ≡ false) → cond b (up_to_unended after) [] ≡ []
+            none_after true last = ⊎_elim (λ none. ap up_to_unended none) (λ going. absurd (false≢true (sym going))) last
+            none_after false last = refl
+
+        -- a prefix of what this operand pushed, after all that was pushed before it
+        begins_after : (bytes : List ℕ) {all : List ℕ} → all ≡ k.pushed ++ bytes → IsPrefix bytes e.pushed → IsPrefix all (k.pushed ++ e.pushed)
+        begins_after bytes is b = record { rest = b.rest; is = (λ i. k.pushed ++ b.is i) ∙ sym (append_assoc k.pushed bytes b.rest) ∙ ap (λ (l : List ℕ). l ++ b.rest) (sym is) }
+
+        decided_here : decided_in_order t (opened_inputs empty_input inputs_read' done ++ earlier ∷ []) ≡ k.pushed ++ t.decided earlier
+        decided_here = decided_all (earlier ∷ []) ∙ ap (λ (l : List ℕ). k.pushed ++ l) (decided_open earlier [] (inl refl))
+
+        pub done_stopped : (more : List ℕ) (fault : FlowFault) → result ≡ Err fault → RunInputsPost (sequential_spec word t names (done ++ p ∷ more)) old now' was is' messages_old messages_new before store' (Err (fault_at p fault))
+        done_stopped more fault is_err = record {
+          received = inputs_read';
+          came = received';
+          pushed = k.pushed ++ e.pushed;
+          wrote = push_trans was is is' k.pushed e.pushed k.clean k.wrote e.wrote;
+          operands_done = length done;
+          within = omega (arith, length-append done (p ∷ more));
+          message = unopened_messages word names (is_reader_unopened old) done;
+          has_said = k.has_said;
+          names = λ w agrees. rw (take-append_seam done (p ∷ more)) (unopened_same word names (is_reader_unopened old) (is_unopened w) done (unopened_agrees old now' inputs_read' w received' agrees));
+          ends = cause_of more fault end;
+          position = index_within fault;
+          untouched = λ q other. let n = not_more done p q (rw (take-append-add done (p ∷ more) 1) at other) in reader_other q n.0 ∙ (k.unread q n.1).0;
+          is_prefix = λ w agrees. let f = operand_finds w agrees in let b = e.is_prefix f.0 f.2 in let rest = flat_map t.text (later w more) in record {
+            rest = b.rest ++ rest;
+            is = out_here w more f ∙ (λ i. sym (k.out w (back w agrees)) i ++ (b.is i ++ rest)) ∙ ap (λ (l : List ℕ). k.pushed ++ l) (append_assoc e.pushed b.rest rest)
+                ∙ sym (append_assoc k.pushed e.pushed (b.rest ++ rest));
+          };
+          decided_is_written = λ q failed clean. let here = fails_here q failed in let after = opened_values (inputs_of_operands empty_input inputs_read' (done ++ p ∷ []) more) in
+              begins_after (t.decided e.given) (ap (λ (l : List Received). flat_map t.decided (up_to_unended l)) (opened_inputs_some empty_input inputs_read' done p more e.given input_given)
+              ∙ decided_all (e.given ∷ after) ∙ ap (λ (l : List ℕ). k.pushed ++ l) (decided_open e.given after (inr (e.came.eof ∙ (failing fault end here).0)))) (e.decided_is_written here clean);
+          bounded_lag = rw (take-append-add done (p ∷ more) 1, opened_inputs_some empty_input inputs_read' done p [] e.given input_given)
+              (last_earlier t (opened_inputs empty_input inputs_read' done) e.given (one_keeps.processing.before tt) (λ bytes. IsPushedUpToBlock bytes was is' (k.pushed ++ e.pushed)) (record {
+                begins = begins_after (t.decided earlier) decided_here one_keeps.processing.begins;
+                buffering = rw decided_here (sends_after was is is' k.pushed (t.decided earlier) k.wrote k.clean one_keeps.buffering);
+              }));
+          names_failed_read = λ q failed clean. ap (λ (f : FlowFault). Err f) ((failing fault end (fails_here q failed)).1 ∙ ap (λ (n : ℕ). Read n) (position_of q failed));
+          peak = λ w agrees. peak_here w more agrees;
+        }
+          where
+            end : PassOutcome (reader_at now p) new is' store' (Err fault)
+            end = rw is_err at e.ends
+
+            position_of : (q : ℕ) → HasReadFailed old now' q → p ≡ q
+            position_of q failed = ⊎_elim (λ same. same)
+                (λ other. absurd (false≢true (sym (not_failed_now q failed.0 failed.1) ∙ ap (λ (r : Reader). r.failed) (sym (reader_other q other)) ∙ failed.2))) (cases_eq p q)
+
+            fails_here : (q : ℕ) → HasReadFailed old now' q → new.failed ≡ true
+            fails_here q failed = ap (λ (r : Reader). r.failed) (sym reader_here) ∙ ap (λ (n : ℕ). (reader_at now' n).failed) (position_of q failed) ∙ failed.2
+
+            index_within : (f : FlowFault) → HasIndexBelow (length old) (Err (fault_at p f))
+            index_within (Read position) = within
+            index_within Write = tt
+            index_within Memory = tt

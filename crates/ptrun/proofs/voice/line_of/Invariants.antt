@@ -1,7 +1,0 @@
--- The line has the parts so far.
-use Rattle.std.proofs.Common.{◌≡◌}
-use Rattle.ptrun.proofs.Sayings.{joined}
-use Rattle.ptrun.proofs.voice.line_of.Given as goal
-
-abbrev pub invariant-loop-part : goal.invariant-loop-part
-invariant-loop-part l = l.line.items ≡ joined l.parts l.part-index

@@ -1,0 +1,41 @@
+-- The requirements on one command, in terms of the bytes of its inputs. The inputs have positions: 0 is standard input,
+-- and `i` + 1 the `i`-th file.
+use Rattle.std.specs.Prelude.{ℕ, Option, List, [], ◌++◌, Bool, flat_map, length, take, if◌then◌else◌}
+use Rattle.ptflow.specs.ToolSpec.{ToolSpec}
+use Rattle.ptrun.specs.Files.{InputBytes, ReceivedInputs, is_unopened}
+use Rattle.ptrun.specs.Messages.{unopened_message, name_of}
+
+-- The specification of a command.
+pub record CommandSpec : Type 0 where
+  -- the output, the exit status, and the most bytes of lines that are held at any moment
+  pub out : InputBytes → List ℕ
+  pub status : InputBytes → ℕ
+  pub memory_bound : InputBytes → ℕ
+  -- the output that is decided by what was received, regardless of the bytes that follow
+  pub decided : ReceivedInputs → List ℕ
+  -- the tool, if it reads its operands one after another, and `None` if it reads them together
+  pub sequential : Option ToolSpec
+  -- the message after those about unopened files: that about a line out of order, or empty
+  pub final_message : InputBytes → List ℕ
+  -- whether the tool reads and writes nothing, given which of the inputs could not be opened
+  pub reads_nothing : (ℕ → Bool) → Bool
+  -- whether the tool accepts operands at these positions
+  pub accepts : Bool
+  -- the positions of the operands in order, and those that may have been read once `n` operands are done
+  pub positions : List ℕ
+  pub may_touch : ℕ → List ℕ
+  -- the name of the tool, and the names of the files
+  pub tool : List ℕ
+  pub names : List (List ℕ)
+
+-- A message for each position that passes the test, in order: its file could not be opened.
+abbrev pub unopened_messages : List ℕ → List (List ℕ) → (ℕ → Bool) → List ℕ → List ℕ
+unopened_messages tool names test positions = flat_map (λ p. if test p then unopened_message tool (name_of names p) else []) positions
+
+-- The messages about the first `n` operands: one for each that could not be opened.
+abbrev pub operand_messages : CommandSpec → InputBytes → ℕ → List ℕ
+operand_messages m w n = unopened_messages m.tool m.names (is_unopened w) (take n m.positions)
+
+-- All messages of a run in which no call fails.
+abbrev pub messages : CommandSpec → InputBytes → List ℕ
+messages m w = operand_messages m w (length m.positions) ++ m.final_message w

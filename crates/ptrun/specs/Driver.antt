@@ -1,0 +1,209 @@
+-- The contracts between a tool and the driver that runs it: the conditions before and after each of the driver's steps.
+use Rattle.std.specs.Prelude.{◌≡◌, ◌≢◌, ℕ, ◌+◌, ◌<◌, ◌≤◌, ◌^◌, Bool, true, false, List, [], All, Option, Some, None, Result, Ok, Err, length, max, if◌then◌else◌}
+use Rattle.std.specs.List.{list_any}
+use Rattle.ptlines.specs.Readers.{Reader, IsSound, HasReadCause}
+use Rattle.ptlines.specs.Outputs.{Output, PushEffect}
+use Rattle.ptlines.specs.Slots.{Slots, total_bytes}
+use Rattle.ptlines.specs.Sinks.{SinkState}
+use Rattle.ptlines.specs.Received.{Received, IsPrefix, IsConsistent, HasReceived}
+use Rattle.ptlines.specs.Lag.{LaggedInput}
+use Rattle.ptflow.specs.PasteCall.{update_at}
+use Rattle.ptflow.specs.declared.faults.FlowFault.{FlowFault}
+use Rattle.ptflow.specs.declared.faults.FlowFault.TheVariants.{Read, Write, Memory}
+use Rattle.ptmerge.specs.declared.faults.MergeFault.{MergeFault}
+use Rattle.ptmerge.specs.declared.faults.MergeFault.TheVariants as faults
+use Rattle.ptmerge.specs.declared.key_order.Side.{Side}
+use Rattle.ptrun.specs.declared.driver.Completion.{Completion}
+use Rattle.ptrun.specs.declared.driver.Completion.TheVariants.{AllWritten, Unopened, Disorder}
+use Rattle.ptrun.specs.Files.{InputBytes, ReceivedInputs, is_in, is_unopened, is_reader_unopened, HaveReceived, IsNewOrUnopened, HasReadFailed}
+use Rattle.ptrun.specs.Files.{AreInputsConsistent}
+use Rattle.ptlines.specs.Readers.{reader_at}
+use Rattle.ptrun.specs.CommandSpec.{CommandSpec, operand_messages, unopened_messages}
+use Rattle.ptrun.specs.Lag.{IsPushedUpToBlock, HasBoundedLag}
+use Rattle.ptrun.specs.Joint.{JointTool}
+use Rattle.ptrun.specs.MessageWrites.{HasSaid}
+use Rattle.ptrun.specs.Messages.{fault_message, disorder_message}
+use Rattle.ptrun.specs.Runs.{IsComplete, HasCause, Sinks, Outcome, IsRun, HasWrittenNothing}
+
+-- The precondition on the inputs: none was read yet, each operand has a reader, each file has a name, and the tool
+-- accepts these operands.
+pub record InputsPre (m : CommandSpec) (inputs : List Reader) : Type 0 where
+  pub fresh : All IsNewOrUnopened inputs
+  pub in_range : All (λ p. p < length inputs) m.positions
+  pub named : length inputs ≡ length m.names + 1
+  pub accepts_operands : m.accepts ≡ true
+
+-- The postcondition of reporting unopened files before anything is read. `any_unopened` holds if the tool cannot run
+-- without one of them: then all of them were reported, and there is nothing else to read, write or say.
+pub record ReportUnopenedPost (m : CommandSpec) (inputs : List Reader) (messages_old messages_new : SinkState) (any_unopened : Bool) : Type 0 where
+  pub is : any_unopened ≡ m.reads_nothing (is_reader_unopened inputs)
+  pub has_said : HasSaid messages_old messages_new (if any_unopened then unopened_messages m.tool m.names (is_reader_unopened inputs) m.positions else [])
+  pub nothing : any_unopened ≡ true → (w : InputBytes) → ((position : ℕ) → is_reader_unopened inputs position ≡ is_unopened w position)
+      → (m.out w ≡ []) × (m.final_message w ≡ []) × (m.status w ≡ 1)
+  pub at_once : any_unopened ≡ true → m.sequential ≡ None
+  pub undecided : any_unopened ≡ true → (r : ReceivedInputs) → ((position : ℕ) → is_reader_unopened inputs position ≡ is_unopened r position) → m.decided r ≡ []
+
+-- The precondition of processing the inputs: all files that the tool cannot run without were opened, no write and no
+-- growth failed, and the store is empty.
+pub record RunInputsPre (m : CommandSpec) (inputs : List Reader) (out : Output) (store : Slots) : Type 0 where
+  pub given : InputsPre m inputs
+  pub complete : m.reads_nothing (is_reader_unopened inputs) ≡ false
+  pub writable : out.write_failed ≡ false
+  pub not_denied : store.denied ≡ false
+  pub empty : total_bytes store.lines ≡ 0
+
+-- ---- the end of a run
+
+-- The last message of a run after this result. It is empty unless a call failed or a line is out of order.
+abbrev pub result_message : List ℕ → List (List ℕ) → Result Completion FlowFault → List ℕ
+result_message tool names (Ok AllWritten) = []
+result_message tool names (Ok Unopened) = []
+result_message tool names (Ok (Disorder position line)) = disorder_message tool names position line
+result_message tool names (Err fault) = fault_message tool names fault
+
+-- The exit status after this result.
+abbrev pub result_status : Result Completion FlowFault → ℕ
+result_status (Ok AllWritten) = 0
+result_status _ = 1
+
+-- The input that the result names, if any, is one of `count` inputs.
+abbrev pub HasIndexBelow : ℕ → Result Completion FlowFault → Type 0
+HasIndexBelow count (Ok (Disorder position line)) = position < count
+HasIndexBelow count (Err (Read position)) = position < count
+HasIndexBelow count _ = Unit {0}
+
+-- The postcondition of finishing the output: what was buffered is sent, and all is flushed. If a write failed, that is
+-- the result, in place of any other.
+pub record FinishPost (old new : Output) (run_result final_result : Result Completion FlowFault) : Type 0 where
+  pub wrote : PushEffect old new []
+  pub clean : new.write_failed ≡ false → (final_result ≡ run_result) × (new.buffered ≡ []) × (old.write_failed ≡ false)
+  pub flushed : new.write_failed ≡ false → new.unflushed ≡ false
+  pub broken : new.write_failed ≡ true → final_result ≡ Err Write
+
+-- ---- processing the inputs
+
+-- The failure of a call over one reader, as that of the input at position `p`.
+abbrev pub fault_at : ℕ → FlowFault → FlowFault
+fault_at p (Read position) = Read p
+fault_at p Write = Write
+fault_at p Memory = Memory
+
+-- The invariants of two readers, before a call and after it.
+pub record BothAreSound (first second first' second' : Reader) : Type 0 where
+  pub first_was : IsSound first
+  pub second_was : IsSound second
+  pub first_is : IsSound first'
+  pub second_is : IsSound second'
+
+-- The result of a merge as that of a run, with the position of each side.
+abbrev pub merge_completion : (Side → ℕ) → Result (Unit {0}) MergeFault → Result Completion FlowFault
+merge_completion position (Ok u) = Ok AllWritten
+merge_completion position (Err (faults.Read side)) = Err (Read (position side))
+merge_completion position (Err faults.Write) = Err Write
+merge_completion position (Err faults.Memory) = Err Memory
+merge_completion position (Err (faults.Disorder side line)) = Ok (Disorder (position side) line)
+
+-- How processing ended after `n` operands: with the whole output, or with a failure and its cause.
+abbrev pub RunInputsEnd : CommandSpec → ReceivedInputs → List Reader → List Reader → List ℕ → Bool → Bool → ℕ
+    → Result Completion FlowFault → Type 0
+RunInputsEnd m r old new pushed failed denied n (Ok done) =
+    IsComplete m r old new pushed failed denied n
+    × ((w : InputBytes) → AreInputsConsistent r w → (result_message m.tool m.names (Ok done) ≡ m.final_message w) × (result_status (Ok done) ≡ m.status w))
+RunInputsEnd m r old new pushed failed denied n (Err fault) = HasCause m r old new failed denied n fault
+
+-- The postcondition of processing the inputs: that of a run, except that the last message is still to be said and that
+-- some output may still be buffered.
+pub record RunInputsPost (m : CommandSpec) (old new : List Reader) (was is : Output) (messages_old messages_new : SinkState)
+    (before store : Slots) (result : Result Completion FlowFault) : Type 0 where
+  pub received : ReceivedInputs
+  pub came : HaveReceived old new received
+  pub pushed : List ℕ
+  pub wrote : PushEffect was is pushed
+  pub operands_done : ℕ
+  pub within : operands_done ≤ length m.positions
+  pub message : List ℕ
+  pub has_said : HasSaid messages_old messages_new message
+  pub names : (w : InputBytes) → AreInputsConsistent received w → message ≡ operand_messages m w operands_done
+  pub ends : RunInputsEnd m received old new pushed is.write_failed store.denied operands_done result
+  pub position : HasIndexBelow (length old) result
+  pub untouched : (position : ℕ) → is_in (m.may_touch operands_done) position ≡ false → reader_at new position ≡ reader_at old position
+  pub is_prefix : (w : InputBytes) → AreInputsConsistent received w → IsPrefix pushed (m.out w)
+  pub names_failed_read : (position : ℕ) → HasReadFailed old new position → is.write_failed ≡ false → result ≡ Err (Read position)
+  pub decided_is_written : (position : ℕ) → HasReadFailed old new position → is.write_failed ≡ false → IsPrefix (m.decided received) pushed
+  pub bounded_lag : HasBoundedLag m received operands_done (λ decided. IsPushedUpToBlock decided was is pushed)
+  pub peak : (w : InputBytes) → AreInputsConsistent received w → store.peak ≤ max before.peak (m.memory_bound w)
+
+-- The postcondition of a run with a lent store: the peak and the failed growth that it reports are the store's own, and
+-- if it reads nothing, then inputs, store and output are unchanged.
+pub record RunWithStorePost (m : CommandSpec) (old new : List Reader) (handed : Sinks) (o : Outcome) (lent left : Slots) : Type 0 where
+  pub run : IsRun m old new handed o
+  pub reads_nothing : m.reads_nothing (is_reader_unopened old) ≡ true → (new ≡ old) × (left ≡ lent) × HasWrittenNothing handed.out o
+  pub store : (o.peak ≡ left.peak) × (o.denied ≡ left.denied)
+
+-- ---- tools that read all their inputs together
+
+-- The precondition of such a tool: it accepts these operands, each of them was opened and none was read yet.
+pub record JointPre (t : JointTool) (positions : List ℕ) (inputs : List Reader) (out : Output) (store : Slots) : Type 0 where
+  pub accepts_operands : t.accepts positions ≡ true
+  pub fresh : All IsNewOrUnopened inputs
+  pub in_range : All (λ p. p < length inputs) positions
+  pub opened : list_any (is_reader_unopened inputs) positions ≡ false
+  pub writable : out.write_failed ≡ false
+  pub not_denied : store.denied ≡ false
+  pub empty : total_bytes store.lines ≡ 0
+
+-- The completion of such a tool: `found` is the position of an input and the number of its line that is out of order.
+abbrev pub completion_of : Option (ℕ × ℕ) → Completion
+completion_of None = AllWritten
+completion_of (Some found) = Disorder found.0 found.1
+
+-- The texts at these positions are consistent with what was received from them.
+abbrev pub AreConsistentAt : List ℕ → (ℕ → Received) → (ℕ → List ℕ) → Type 0
+AreConsistentAt positions given texts = (q : ℕ) → is_in positions q ≡ true → IsConsistent (given q) (texts q)
+
+-- No read of an input at these positions failed.
+abbrev pub NoReadFailed : List ℕ → List Reader → List Reader → Type 0
+NoReadFailed positions old new = (q : ℕ) → is_in positions q ≡ true → (reader_at new q).failed ≡ (reader_at old q).failed
+
+-- All input was read and all output was pushed, up to a line out of order if there is one.
+pub record JointComplete (t : JointTool) (positions : List ℕ) (given : ℕ → Received) (old new : List Reader) (pushed : List ℕ) (failed denied : Bool) (done : Completion) : Type 0 where
+  pub out : (texts : ℕ → List ℕ) → AreConsistentAt positions given texts → pushed ≡ t.text positions texts
+  pub is_done : (texts : ℕ → List ℕ) → AreConsistentAt positions given texts → done ≡ completion_of (t.disorder positions texts)
+  pub position : HasIndexBelow (length old) (Ok done)
+  pub unfailed : NoReadFailed positions old new
+  pub short : (q : ℕ) → is_in positions q ≡ true → (reader_at new q).pulled < 2 ^ 63
+  pub no_write_failed : failed ≡ false
+  pub not_denied : denied ≡ false
+
+-- A read of the input at position `p` failed, or it has 2^63 bytes or more; no other call failed.
+pub record JointReadFailed (positions : List ℕ) (old new : List Reader) (failed denied : Bool) (p : ℕ) : Type 0 where
+  pub named : is_in positions p ≡ true
+  pub not_failed_before : (reader_at old p).failed ≡ false
+  pub cause : HasReadCause (reader_at old p) (reader_at new p)
+  pub others : (q : ℕ) → is_in positions q ≡ true → p ≢ q → (reader_at new q).failed ≡ (reader_at old q).failed
+  pub no_write_failed : failed ≡ false
+  pub not_denied : denied ≡ false
+
+-- How such a tool ended, by its result. The failure that it reports is one that happened.
+abbrev pub JointEnd : JointTool → List ℕ → (ℕ → Received) → List Reader → List Reader → List ℕ → Bool → Bool → Result Completion FlowFault → Type 0
+JointEnd t positions given old new pushed failed denied (Ok done) = JointComplete t positions given old new pushed failed denied done
+JointEnd t positions given old new pushed failed denied (Err (Read p)) = JointReadFailed positions old new failed denied p
+JointEnd t positions given old new pushed failed denied (Err Write) = failed ≡ true
+JointEnd t positions given old new pushed failed denied (Err Memory) = (denied ≡ true) × (failed ≡ false) × NoReadFailed positions old new
+
+-- The postcondition of such a tool. `given` is what was received from each input, by position, and `texts` are bytes
+-- that are consistent with it. The inputs at other positions are unchanged.
+pub record JointPost (t : JointTool) (positions : List ℕ) (old new : List Reader) (was is : Output) (before store : Slots) (result : Result Completion FlowFault) : Type 0 where
+  pub given : ℕ → Received
+  pub came : (q : ℕ) → is_in positions q ≡ true → HasReceived (reader_at old q) (reader_at new q) (given q)
+  pub untouched : (q : ℕ) → is_in positions q ≡ false → reader_at new q ≡ reader_at old q
+  pub pushed : List ℕ
+  pub wrote : PushEffect was is pushed
+  pub ends : JointEnd t positions given old new pushed is.write_failed store.denied result
+  pub is_prefix : (texts : ℕ → List ℕ) → AreConsistentAt positions given texts → IsPrefix pushed (t.text positions texts)
+  pub decided_is_written : (q : ℕ) → is_in positions q ≡ true → (reader_at new q).failed ≡ true → is.write_failed ≡ false
+      → IsPrefix (t.decided positions given) pushed
+  pub bounded_lag : (q : ℕ) → is_in positions q ≡ true
+      → (cut : LaggedInput (given q)) × IsPushedUpToBlock (t.decided positions (update_at q cut.earlier given)) was is pushed
+  pub same : (f g : ℕ → Received) → ((q : ℕ) → is_in positions q ≡ true → f q ≡ g q) → t.decided positions f ≡ t.decided positions g
+  pub peak : (texts : ℕ → List ℕ) → AreConsistentAt positions given texts → store.peak ≤ max before.peak (t.size positions texts)

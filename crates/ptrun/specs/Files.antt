@@ -1,0 +1,110 @@
+-- The inputs of a command by position, and what was received from them. Position 0 is standard input, and `i` + 1 is
+-- the `i`-th file.
+use Rattle.std.specs.Prelude.{◌≡◌, ℕ, ◌+◌, ◌==◌, ◌<◌, ◌≤◌, ◌^◌, List, [], ◌∷◌, ◌++◌, Bool, true, false, Option, Some, None, if◌then◌else◌, slice_index_or}
+use Rattle.std.specs.Prelude.{option_map, filter_map, is_none, length, ⊤, All}
+use Rattle.std.specs.List.{list_any}
+use Rattle.ptlines.specs.Readers.{Reader, remaining_bytes, reader_at}
+use Rattle.ptlines.specs.Received.{Received, HasReceived}
+use Rattle.ptlines.specs.Received as one
+
+-- The bytes of each input by position, and `None` for a file that could not be opened.
+abbrev pub InputBytes : Type 0
+InputBytes = List (Option (List ℕ))
+
+-- The received part of each input by position, and `None` for a file that could not be opened.
+abbrev pub ReceivedInputs : Type 0
+ReceivedInputs = List (Option Received)
+
+-- The entry at a position, and `None` after the last.
+abbrev pub at : {X : Type 0} → List (Option X) → ℕ → Option X
+at xs position = slice_index_or xs position None
+
+-- The input at a position could not be opened.
+abbrev pub is_unopened : {X : Type 0} → List (Option X) → ℕ → Bool
+is_unopened xs position = is_none (at xs position)
+
+-- The bytes of one input are consistent with what was received from it; a file that could not be opened has neither.
+abbrev pub IsConsistentAt : Option Received → Option (List ℕ) → Type 0
+IsConsistentAt None None = ⊤
+IsConsistentAt None (Some bytes) = ⊥
+IsConsistentAt (Some g) None = ⊥
+IsConsistentAt (Some g) (Some bytes) = one.IsConsistent g bytes
+
+-- The bytes of all inputs are consistent with what was received: the same files could not be opened, and what was
+-- received from each other input is a prefix of its bytes, and all of them if its end was reached.
+abbrev pub AreInputsConsistent : ReceivedInputs → InputBytes → Type 0
+AreInputsConsistent r w = (position : ℕ) → IsConsistentAt (at r position) (at w position)
+
+-- ---- operands, as positions
+
+-- A position is one of these.
+abbrev pub is_in : List ℕ → ℕ → Bool
+is_in positions position = list_any (λ p. p == position) positions
+
+-- The input of an operand: that at its position, or `rest` if an operand before it has read that input.
+abbrev pub input_of_operand : {X : Type 0} → X → List (Option X) → List ℕ → ℕ → Option X
+input_of_operand rest xs before position = option_map (λ x. if is_in before position then rest else x) (at xs position)
+
+-- The inputs of operands in order; `before` are the positions of the operands before them.
+abbrev pub inputs_of_operands : {X : Type 0} → X → List (Option X) → List ℕ → List ℕ → List (Option X)
+inputs_of_operands rest xs before [] = []
+inputs_of_operands rest xs before (p ∷ ps) = input_of_operand rest xs before p ∷ inputs_of_operands rest xs (before ++ p ∷ []) ps
+
+-- The inputs among these that were opened.
+abbrev pub opened_values : {X : Type 0} → List (Option X) → List X
+opened_values os = filter_map (λ o. o) os
+
+-- The inputs of the operands that were opened, in order. Of an input that was read by an earlier operand only `rest` is
+-- left.
+abbrev pub opened_inputs : {X : Type 0} → X → List (Option X) → List ℕ → List X
+opened_inputs rest xs positions = opened_values (inputs_of_operands rest xs [] positions)
+
+-- ---- readers
+
+-- The reader at a position is that of a file that could not be opened.
+abbrev pub is_reader_unopened : List Reader → ℕ → Bool
+is_reader_unopened readers position = (reader_at readers position).refused
+
+-- This part was received from one reader. The reader of a file that could not be opened is unchanged.
+abbrev pub HasReceivedAt : Reader → Reader → Option Received → Type 0
+HasReceivedAt old new None = (old.refused ≡ true) × (new ≡ old)
+HasReceivedAt old new (Some g) = (old.refused ≡ false) × HasReceived old new g
+
+-- These parts were received from all readers, by position.
+abbrev pub HaveReceived : List Reader → List Reader → ReceivedInputs → Type 0
+HaveReceived old new r = (position : ℕ) → HasReceivedAt (reader_at old position) (reader_at new position) (at r position)
+
+-- Nothing was read from it yet, and it has no fault.
+pub record IsNew (r : Reader) : Type 0 where
+  pub buffered : r.buffered ≡ []
+  pub eof : r.eof ≡ false
+  pub pulled : r.pulled ≡ 0
+  pub fault : r.fault ≡ None
+
+-- Opened and not yet read, or not opened.
+abbrev pub IsNewOrUnopened : Reader → Type 0
+IsNewOrUnopened r = r.refused ≡ false → IsNew r
+
+-- The readers of standard input and of `files` files, none of which was read yet.
+abbrev pub AreNewInputs : ℕ → List Reader → Type 0
+AreNewInputs files readers = (length readers ≡ files + 1) × All IsNewOrUnopened readers
+
+-- A read of the input at a position failed.
+abbrev pub HasReadFailed : List Reader → List Reader → ℕ → Type 0
+HasReadFailed old new position =
+    ((reader_at old position).refused ≡ false) × ((reader_at old position).failed ≡ false)
+    × ((reader_at new position).failed ≡ true)
+
+-- 2^63 bytes or more were received from it.
+abbrev pub IsTooLong : Option Received → Type 0
+IsTooLong None = ⊥
+IsTooLong (Some g) = 2 ^ 63 ≤ length g.bytes
+
+-- The reader has these bytes to give, fewer than 2^63; or its file could not be opened.
+abbrev pub HasBytesAt : Reader → Option (List ℕ) → Type 0
+HasBytesAt r None = r.refused ≡ true
+HasBytesAt r (Some bytes) = (r.refused ≡ false) × (remaining_bytes r ≡ Some bytes) × (length bytes < 2 ^ 63)
+
+-- The readers have these bytes to give.
+abbrev pub HasBytes : List Reader → InputBytes → Type 0
+HasBytes readers w = (position : ℕ) → HasBytesAt (reader_at readers position) (at w position)

@@ -1,0 +1,111 @@
+-- Tools that read all their operands together: `paste`, `uniq`, `comm` and `join`. If an operand could not be opened,
+-- every such file is reported and nothing else is done.
+use Rattle.std.specs.Prelude.{ℕ, ◌==◌, ◌&&◌, Bool, List, [], Option, Some, None, length, nat_le, unwrap_or, slice_index_or, option_map, not, if◌then◌else◌}
+use Rattle.std.specs.List.{list_any}
+use Rattle.ptlines.specs.Received.{Received, empty_input}
+use Rattle.ptlangs.specs.Jobs.{Paste}
+use Rattle.ptflow.specs.ToolSpec.{ToolSpec}
+use Rattle.ptflow.specs.PasteText.{paste, paste_decided, paste_size}
+use Rattle.ptmerge.specs.declared.key_order.Side.{Side}
+use Rattle.ptmerge.specs.declared.key_order.Side.TheVariants.{First, Second}
+use Rattle.ptmerge.specs.MergeSpec.{merge_output, lines_of}
+use Rattle.ptmerge.specs.MergeSpec as keyed
+use Rattle.ptrun.specs.Files.{InputBytes, ReceivedInputs, at, is_unopened}
+use Rattle.ptrun.specs.CommandSpec.{CommandSpec}
+use Rattle.ptrun.specs.Messages.{disorder_message}
+
+-- A tool that reads its inputs together. The operands are given as positions, and the inputs as functions of the
+-- position.
+pub record JointTool : Type 0 where
+  -- the output
+  pub text : List ℕ → (ℕ → List ℕ) → List ℕ
+  -- the output that is decided by what was received from each input
+  pub decided : List ℕ → (ℕ → Received) → List ℕ
+  -- the most bytes of lines that are held at any moment
+  pub size : List ℕ → (ℕ → List ℕ) → ℕ
+  -- the position of an input that is out of order, and the number of the line, counted from 1
+  pub disorder : List ℕ → (ℕ → List ℕ) → Option (ℕ × ℕ)
+  -- whether the tool accepts these operands
+  pub accepts : List ℕ → Bool
+
+-- The position of the only operand.
+abbrev pub only_operand : List ℕ → ℕ
+only_operand positions = slice_index_or positions 0 0
+
+-- A tool with one input.
+abbrev pub one_input_tool : ToolSpec → JointTool
+one_input_tool t = record {
+  text = λ positions texts. t.text (texts (only_operand positions));
+  decided = λ positions given. t.decided (given (only_operand positions));
+  size = λ positions texts. t.size (texts (only_operand positions));
+  disorder = λ positions texts. None;
+  accepts = λ positions. length positions == 1;
+}
+
+-- `paste` without `-s`, over at most 512 operands.
+abbrev pub paste_rows_tool : Paste → JointTool
+paste_rows_tool job = record {
+  text = paste job;
+  decided = paste_decided job;
+  size = paste_size job;
+  disorder = λ positions texts. None;
+  accepts = λ positions. nat_le (length positions) 512;
+}
+
+-- The position of the first or of the second operand.
+abbrev pub operand : List ℕ → Side → ℕ
+operand positions First = slice_index_or positions 0 0
+operand positions Second = slice_index_or positions 1 0
+
+-- A function of positions, as one of the two sides.
+abbrev pub by_side : {X : Type 0} → List ℕ → (ℕ → X) → Side → X
+by_side positions f side = f (operand positions side)
+
+-- A tool with two inputs, which must be different ones.
+abbrev pub two_input_tool : keyed.MergeTool → JointTool
+two_input_tool t = record {
+  text = λ positions texts. merge_output t (by_side positions texts);
+  decided = λ positions given. keyed.decided_output t (by_side positions given);
+  size = λ positions texts. t.size (lines_of t (by_side positions texts));
+  disorder = λ positions texts. option_map (λ d. (operand positions d.file, d.first_disorder.line)) (keyed.disorder t (lines_of t (by_side positions texts)));
+  accepts = λ positions. (length positions == 2) && not (operand positions First == operand positions Second);
+}
+
+-- The bytes of the input at a position.
+abbrev pub bytes_of : InputBytes → ℕ → List ℕ
+bytes_of w position = unwrap_or (at w position) []
+
+-- The received part of the input at a position.
+abbrev pub received_in : ReceivedInputs → ℕ → Received
+received_in r position = unwrap_or (at r position) empty_input
+
+-- The message about a line out of order, if there is one.
+abbrev pub disorder_text : List ℕ → List (List ℕ) → Option (ℕ × ℕ) → List ℕ
+disorder_text word names None = []
+disorder_text word names (Some found) = disorder_message word names found.0 found.1
+
+-- The exit status: 1 if a line is out of order.
+abbrev pub disorder_status : Option (ℕ × ℕ) → ℕ
+disorder_status None = 0
+disorder_status (Some found) = 1
+
+-- An operand could not be opened.
+abbrev pub has_unopened : {X : Type 0} → List ℕ → List (Option X) → Bool
+has_unopened positions xs = list_any (is_unopened xs) positions
+
+-- The specification of the tool named `word` with operands at these positions and files of these names.
+abbrev pub joint_spec : List ℕ → JointTool → List (List ℕ) → List ℕ → CommandSpec
+joint_spec word t names positions = record {
+  out = λ w. if has_unopened positions w then [] else t.text positions (bytes_of w);
+  status = λ w. if has_unopened positions w then 1 else disorder_status (t.disorder positions (bytes_of w));
+  memory_bound = λ w. if has_unopened positions w then 0 else t.size positions (bytes_of w);
+  decided = λ r. if has_unopened positions r then [] else t.decided positions (received_in r);
+  sequential = None;
+  final_message = λ w. if has_unopened positions w then [] else disorder_text word names (t.disorder positions (bytes_of w));
+  reads_nothing = λ is_unopened_at. list_any is_unopened_at positions;
+  accepts = t.accepts positions;
+  positions = positions;
+  may_touch = λ n. positions;
+  tool = word;
+  names = names;
+}

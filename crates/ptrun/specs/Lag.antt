@@ -1,0 +1,50 @@
+-- A bound on the lag of the output: however a run ends, the output that was decided two blocks of input ago is written,
+-- except for at most one block after a failed write.
+use Rattle.std.specs.Prelude.{◌≡◌, ◌≤◌, ℕ, ◌+◌, Bool, true, false, List, [], ◌∷◌, ◌++◌, Option, Some, None, length, take, set}
+use Rattle.ptlines.specs.Received.{Received, IsPrefix, empty_input}
+use Rattle.ptlines.specs.Lag.{LaggedInput, BufferLag}
+use Rattle.ptlines.specs.Outputs.{Output}
+use Rattle.ptflow.specs.ToolSpec.{ToolSpec}
+use Rattle.ptrun.specs.Files.{ReceivedInputs, at, is_in, opened_inputs}
+use Rattle.ptrun.specs.CommandSpec.{CommandSpec}
+use Rattle.ptrun.specs.Operands.{decided_in_order}
+
+-- `bytes` were pushed, and all of them except at most one block (8,192 bytes) have reached the sink.
+pub record IsPushedUpToBlock (bytes : List ℕ) (was is : Output) (pushed : List ℕ) : Type 0 where
+  pub begins : IsPrefix bytes pushed
+  pub buffering : BufferLag was is bytes
+
+-- `bytes` were written: all of them, or after a failed write all except at most one block (8,192 bytes).
+pub record IsWrittenUpToBlock (bytes written : List ℕ) (failed : Bool) : Type 0 where
+  pub front : List ℕ
+  pub lost : List ℕ
+  pub split : bytes ≡ front ++ lost
+  pub begins : IsPrefix front written
+  pub few : length lost ≤ 8192
+  pub none : failed ≡ false → lost ≡ []
+
+-- The received parts of the first `n` operands and of the next one, in order.
+abbrev pub received_so_far : ReceivedInputs → List ℕ → ℕ → List Received
+received_so_far r positions n = opened_inputs empty_input r (take (n + 1) positions)
+
+-- `P` holds of the output that was decided when at most two blocks fewer of the last input were received. The inputs
+-- before it count whole.
+abbrev pub LagOfLast : ToolSpec → List Received → (List ℕ → Type 0) → Type 0
+LagOfLast t came P = (done : List Received) (last : Received) → came ≡ done ++ last ∷ []
+    → (before : LaggedInput last) × P (decided_in_order t (done ++ before.earlier ∷ []))
+
+-- `P` holds of the output that was decided when at most two blocks fewer of the input at any one of these positions
+-- were received, regardless of what was received from the others.
+abbrev pub LagOfAny : List ℕ → (ReceivedInputs → List ℕ) → ReceivedInputs → (List ℕ → Type 0) → Type 0
+LagOfAny positions decided r P = (position : ℕ) (came : Received) → is_in positions position ≡ true → at r position ≡ Some came
+    → (before : LaggedInput came) × P (decided (set r position (Some before.earlier)))
+
+-- One of the two: the former for a tool that reads its operands one after another, the latter for one that reads them
+-- together.
+abbrev pub BoundedLagAs : CommandSpec → ReceivedInputs → ℕ → (List ℕ → Type 0) → Option ToolSpec → Type 0
+BoundedLagAs m r n P (Some t) = LagOfLast t (received_so_far r m.positions n) P
+BoundedLagAs m r n P None = LagOfAny m.positions m.decided r P
+
+-- `P` holds of the output that the command had decided at most two blocks of input earlier; `n` operands are done.
+abbrev pub HasBoundedLag : CommandSpec → ReceivedInputs → ℕ → (List ℕ → Type 0) → Type 0
+HasBoundedLag m r n P = BoundedLagAs m r n P m.sequential

@@ -1,0 +1,82 @@
+-- From the arguments of a command to its specification.
+use Rattle.std.specs.Prelude.{ℕ, List, [], Bool, true, false, Some, None, Result, Ok, Err, codes, length, slice_index_or, is_none, if◌then◌else◌}
+use Rattle.ptlangs.specs.Jobs.{Paste}
+use Rattle.ptflow.specs.Cuts.{cut_tool}
+use Rattle.ptflow.specs.PasteText.{paste_serial_tool}
+use Rattle.ptflow.specs.TrOutput.{tr_tool}
+use Rattle.ptflow.specs.Uniqs.{uniq_tool}
+use Rattle.ptmerge.specs.Comm.{comm_tool}
+use Rattle.ptmerge.specs.Join.{join_tool}
+use Rattle.ptopts.specs.Faults.{Fault}
+use Rattle.ptopts.specs.Commands.{Command, Job, RunCut, RunPaste, RunUniq, RunComm, RunJoin, RunTr, command_of_args}
+use Rattle.ptopts.specs.View.{fault_view, command_view}
+use Rattle.ptopts.specs.declared.fault.UseFault.{UseFault}
+use Rattle.ptopts.specs.declared.command.Command as code
+use Rattle.ptrun.specs.CommandSpec.{CommandSpec}
+use Rattle.ptrun.specs.Messages.{usage_message}
+use Rattle.ptrun.specs.Operands.{positions, sequential_spec}
+use Rattle.ptrun.specs.Joint.{one_input_tool, paste_rows_tool, two_input_tool, joint_spec}
+
+-- Nothing is read, nothing is written to the output, and `text` is the only message.
+abbrev pub message_only : List ℕ → ℕ → CommandSpec
+message_only text status = record {
+  out = λ w. [];
+  status = λ w. status;
+  memory_bound = λ w. 0;
+  decided = λ r. [];
+  sequential = None;
+  final_message = λ w. text;
+  reads_nothing = λ is_unopened_at. true;
+  accepts = true;
+  positions = [];
+  may_touch = λ n. [];
+  tool = [];
+  names = [];
+}
+
+-- `paste -s` reads its operands one after another, and `paste` reads them together.
+abbrev pub paste_spec : Paste → List (List ℕ) → List ℕ → CommandSpec
+paste_spec job names positions =
+    if job.serial then sequential_spec (codes "paste") (paste_serial_tool job) names positions
+    else joint_spec (codes "paste") (paste_rows_tool job) names positions
+
+-- The specification of a job with operands at these positions and files of these names.
+abbrev pub job_spec : Job → List (List ℕ) → List ℕ → CommandSpec
+job_spec (RunCut job) names positions = sequential_spec (codes "cut") (cut_tool job) names positions
+job_spec (RunPaste job) names positions = paste_spec job names positions
+job_spec (RunUniq job) names positions = joint_spec (codes "uniq") (one_input_tool (uniq_tool job)) names positions
+job_spec (RunComm job) names positions = joint_spec (codes "comm") (two_input_tool (comm_tool job)) names positions
+job_spec (RunJoin job) names positions = joint_spec (codes "join") (two_input_tool (join_tool job)) names positions
+job_spec (RunTr tables) names positions = sequential_spec (codes "tr") (tr_tool tables) names positions
+
+-- The specification of a parsed command.
+abbrev pub command_spec : Command → CommandSpec
+command_spec c = job_spec c.job c.names (positions c.order)
+
+-- The name of the tool: the first argument, or empty if there is none.
+abbrev pub tool_name : List (List ℕ) → List ℕ
+tool_name words = slice_index_or words 0 []
+
+-- The specification for a result of parsing: that of the command, or the message about the usage fault with status 2.
+abbrev pub spec_of_result : List ℕ → Result Command Fault → CommandSpec
+spec_of_result tool (Ok command) = command_spec command
+spec_of_result tool (Err fault) = message_only (usage_message tool (Some fault)) 2
+
+-- The specification of the command that these arguments are.
+abbrev pub spec_of_args : List (List ℕ) → CommandSpec
+spec_of_args words = spec_of_result (tool_name words) (command_of_args words)
+
+-- Parsing ran out of memory.
+abbrev pub is_memory_fault : {A : Type 0} → Result (code.Command A) UseFault → Bool
+is_memory_fault (Ok command) = false
+is_memory_fault (Err fault) = is_none (fault_view fault)
+
+-- The specification for the arguments and the result that parsing returned: that of the arguments, unless parsing ran
+-- out of memory. This is then the only message, with status 1.
+abbrev pub spec_of_parsed : {A : Type 0} → Result (code.Command A) UseFault → List (List ℕ) → CommandSpec
+spec_of_parsed command words = if is_memory_fault command then message_only (usage_message (tool_name words) None) 1 else spec_of_args words
+
+-- The number of input files that a command names, and 0 if the arguments are no command.
+abbrev pub file_count : {A : Type 0} → Result (code.Command A) UseFault → ℕ
+file_count (Ok command) = length (command_view command).names
+file_count (Err fault) = 0
