@@ -86,7 +86,7 @@ fn cells_of(order: &[Input]) -> ArrayVec<usize, 512>
     cells
 }
 
-impl<A: Allocator + Copy> AllOperands<A> for PasteJob<A> {
+impl<A: Allocator + Copy, B: Allocator + Copy> AllOperands<A> for PasteJob<B> {
     ghost use Rattle.std.specs.Prelude.{codes};
     ghost use Rattle.ptlangs.specs.Jobs.{paste_job};
     ghost use Rattle.ptrun.specs.Joint.{paste_rows_tool};

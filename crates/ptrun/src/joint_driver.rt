@@ -24,12 +24,13 @@ use std::alloc::Allocator;
 /// A tool that reads all its operands together: if one could not be opened, every such file is reported and nothing
 /// else is done.
 #[derive(Drop)]
-pub(crate) struct Joint<'a, A: Allocator + Copy, T: AllOperands<A>> {
+pub(crate) struct Joint<'a, B: Allocator + Copy, T> {
     pub(crate) tool: T,
-    pub(crate) operands: Inputs<'a, A>,
+    pub(crate) operands: Inputs<'a, B>,
 }
 
-impl<'a, A: Allocator + Copy, T: AllOperands<A>> Driver<A> for Joint<'a, A, T> {
+impl<'a, A: Allocator + Copy, B: Allocator + Copy, T: AllOperands<A>> Driver<A>
+    for Joint<'a, B, T> {
     ghost use Rattle.ptopts.specs.View.{words_view};
     ghost use Rattle.ptrun.specs.Operands.{positions};
     ghost use Rattle.ptrun.specs.Joint.{joint_spec};
@@ -70,16 +71,17 @@ impl<'a, A: Allocator + Copy, T: AllOperands<A>> Driver<A> for Joint<'a, A, T> {
 }
 
 /// Runs a tool over all its operands together.
-pub(crate) fn run_joint<A, T, S, R, W, E>(
+pub(crate) fn run_joint<A, B, T, S, R, W, E>(
     store: &mut Store<A>,
     tool: T,
-    operands: Inputs<'_, A>,
+    operands: Inputs<'_, B>,
     inputs: &mut [LineReader<S, R>],
     out: W,
     messages: Messages<E>,
 ) -> Report<W, E>
 where
     A: Allocator + Copy,
+    B: Allocator + Copy,
     T: AllOperands<A>,
     S: Source,
     R: Source,

@@ -22,12 +22,13 @@ use std::alloc::Allocator;
 
 /// A tool that reads its operands one after another.
 #[derive(Drop)]
-pub(crate) struct Sequential<'a, A: Allocator + Copy, T: PerOperand<A>> {
+pub(crate) struct Sequential<'a, B: Allocator + Copy, T> {
     pub(crate) tool: T,
-    pub(crate) operands: Inputs<'a, A>,
+    pub(crate) operands: Inputs<'a, B>,
 }
 
-impl<'a, A: Allocator + Copy, T: PerOperand<A>> Driver<A> for Sequential<'a, A, T> {
+impl<'a, A: Allocator + Copy, B: Allocator + Copy, T: PerOperand<A>> Driver<A>
+    for Sequential<'a, B, T> {
     ghost use Rattle.ptopts.specs.View.{words_view};
     ghost use Rattle.ptrun.specs.Operands.{positions, sequential_spec};
 
@@ -68,16 +69,17 @@ impl<'a, A: Allocator + Copy, T: PerOperand<A>> Driver<A> for Sequential<'a, A, 
 }
 
 /// Runs a tool over its operands one after another.
-pub(crate) fn run_sequential<A, T, S, R, W, E>(
+pub(crate) fn run_sequential<A, B, T, S, R, W, E>(
     store: &mut Store<A>,
     tool: T,
-    operands: Inputs<'_, A>,
+    operands: Inputs<'_, B>,
     inputs: &mut [LineReader<S, R>],
     out: W,
     messages: Messages<E>,
 ) -> Report<W, E>
 where
     A: Allocator + Copy,
+    B: Allocator + Copy,
     T: PerOperand<A>,
     S: Source,
     R: Source,

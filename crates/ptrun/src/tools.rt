@@ -23,9 +23,16 @@ use ptopts::Command;
 use std::alloc::Allocator;
 
 /// Runs a parsed command.
-pub(crate) fn run_command<A: Allocator + Copy, S: Source, R: Source, W: Sink, E: Sink>(
+pub(crate) fn run_command<
+    A: Allocator + Copy,
+    B: Allocator + Copy,
+    S: Source,
+    R: Source,
+    W: Sink,
+    E: Sink,
+>(
     store: &mut Store<A>,
-    command: Command<'_, A>,
+    command: Command<'_, B>,
     inputs: &mut [LineReader<S, R>],
     out: W,
     messages: Messages<E>,
@@ -100,7 +107,7 @@ pub(crate) trait PerOperand<A: Allocator + Copy>: Drop {
         (tool s).decided (record { bytes = bytes; eof = true }) ≡ (tool s).text bytes };
 }
 
-impl<A: Allocator + Copy> PerOperand<A> for CutJob<A> {
+impl<A: Allocator + Copy, B: Allocator + Copy> PerOperand<A> for CutJob<B> {
     ghost use Rattle.std.specs.Prelude.{refl, codes};
     ghost use Rattle.ptlangs.specs.Jobs.{cut_job};
     ghost use Rattle.ptflow.specs.Cuts.{cut_tool};
@@ -125,7 +132,7 @@ impl<A: Allocator + Copy> PerOperand<A> for CutJob<A> {
     }
 }
 
-impl<A: Allocator + Copy> PerOperand<A> for PasteJob<A> {
+impl<A: Allocator + Copy, B: Allocator + Copy> PerOperand<A> for PasteJob<B> {
     ghost use Rattle.std.specs.Prelude.{refl, codes};
     ghost use Rattle.ptlangs.specs.Jobs.{paste_job};
     ghost use Rattle.ptflow.specs.PasteText.{paste_serial_tool};

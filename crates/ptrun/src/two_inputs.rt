@@ -68,7 +68,7 @@ impl<A: Allocator + Copy> TwoInputs<A> for CommJob {
     }
 }
 
-impl<A: Allocator + Copy> TwoInputs<A> for JoinJob<A> {
+impl<A: Allocator + Copy, B: Allocator + Copy> TwoInputs<A> for JoinJob<B> {
     ghost use Rattle.std.specs.Prelude.{codes};
     ghost use Rattle.ptlangs.specs.Jobs.{join_job};
     ghost use Rattle.ptmerge.specs.Join.{join_tool};

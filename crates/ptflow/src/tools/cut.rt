@@ -30,8 +30,8 @@ use std::alloc::Allocator;
 /// nothing is read.
 /// # Errors
 /// `Read` or `Write` if a read or a write failed; `Memory` if the store could not grow, and then the store is denied.
-pub fn cut<A: Allocator + Copy, S: Source, R: Source, W: Sink>(
-    job: &CutJob<A>,
+pub fn cut<A: Allocator + Copy, B: Allocator + Copy, S: Source, R: Source, W: Sink>(
+    job: &CutJob<B>,
     reader: &mut LineReader<S, R>,
     store: &mut Store<A>,
     out: &mut Out<W>,

@@ -64,8 +64,8 @@ fn fill_row<A: Allocator + Copy, S: Source, R: Source, W: Sink>(
 }
 
 // Writes a row of `cells.len()` columns, whose lines are in the first slots of the store.
-fn write_row<A: Allocator + Copy, W: Sink>(
-    delims: &Delims<A>,
+fn write_row<A: Allocator + Copy, B: Allocator, W: Sink>(
+    delims: &Delims<B>,
     terminator: u8,
     cells: &[usize],
     store: &Store<A>,
@@ -109,8 +109,8 @@ fn write_row<A: Allocator + Copy, W: Sink>(
 /// - `Write` if a write failed.
 /// - `Memory` if a growth of the store failed; the store is then marked as denied. If a slot could not be added,
 ///   nothing was read or written.
-pub fn paste<A: Allocator + Copy, S: Source, R: Source, W: Sink>(
-    job: &PasteJob<A>,
+pub fn paste<A: Allocator + Copy, B: Allocator + Copy, S: Source, R: Source, W: Sink>(
+    job: &PasteJob<B>,
     cells: &[usize],
     readers: &mut [LineReader<S, R>],
     store: &mut Store<A>,

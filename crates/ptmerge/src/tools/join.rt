@@ -35,8 +35,8 @@ use std::alloc::Allocator;
 
 // Writes the output line of an unpaired line, if the options ask for it.
 #[inline(always)]
-fn write_unpaired_entry<A: Allocator, W: Sink>(
-    job: &JoinJob<A>,
+fn write_unpaired_entry<B: Allocator, W: Sink>(
+    job: &JoinJob<B>,
     side: Side,
     key: &[u8],
     line: &[u8],
@@ -64,8 +64,8 @@ fn write_unpaired_entry<A: Allocator, W: Sink>(
 
 // Writes the output line of `line` with each line of the group, which is in the slots from `from` to before `end`.
 #[inline(always)]
-fn write_pair_entries<A: Allocator + Copy, W: Sink>(
-    job: &JoinJob<A>,
+fn write_pair_entries<A: Allocator + Copy, B: Allocator + Copy, W: Sink>(
+    job: &JoinJob<B>,
     key: &[u8],
     line: &[u8],
     from: usize,
@@ -90,9 +90,16 @@ fn write_pair_entries<A: Allocator + Copy, W: Sink>(
 
 // Writes the output line of an input's current line, which is unpaired, and advances the input.
 #[inline(always)]
-fn write_unpaired<K: KeyOrder, A: Allocator + Copy, S: Source, R: Source, W: Sink>(
+fn write_unpaired<
+    K: KeyOrder,
+    A: Allocator + Copy,
+    B: Allocator + Copy,
+    S: Source,
+    R: Source,
+    W: Sink,
+>(
     merge: &mut Merge<K>,
-    job: &JoinJob<A>,
+    job: &JoinJob<B>,
     side: Side,
     terminator: u8,
     reader: &mut LineReader<S, R>,
@@ -115,9 +122,16 @@ fn write_unpaired<K: KeyOrder, A: Allocator + Copy, S: Source, R: Source, W: Sin
 }
 
 // Writes the output lines of the first input's current line with each line of the group, and advances the first input.
-fn write_pairs<K: KeyOrder, A: Allocator + Copy, S: Source, R: Source, W: Sink>(
+fn write_pairs<
+    K: KeyOrder,
+    A: Allocator + Copy,
+    B: Allocator + Copy,
+    S: Source,
+    R: Source,
+    W: Sink,
+>(
     merge: &mut Merge<K>,
-    job: &JoinJob<A>,
+    job: &JoinJob<B>,
     end: usize,
     terminator: u8,
     reader: &mut LineReader<S, R>,
@@ -153,9 +167,16 @@ enum JoinPhase {
 }
 
 // Runs `join` in an order of join fields. The terminator of both readers is already set.
-fn join_with_order<K: KeyOrder, A: Allocator + Copy, S: Source, R: Source, W: Sink>(
+fn join_with_order<
+    K: KeyOrder,
+    A: Allocator + Copy,
+    B: Allocator + Copy,
+    S: Source,
+    R: Source,
+    W: Sink,
+>(
     order: K,
-    job: &JoinJob<A>,
+    job: &JoinJob<B>,
     first: &mut LineReader<S, R>,
     second: &mut LineReader<S, R>,
     store: &mut Store<A>,
@@ -231,8 +252,8 @@ fn join_with_order<K: KeyOrder, A: Allocator + Copy, S: Source, R: Source, W: Si
 /// `Read`, with the input, if a read failed; `Write` if a write failed; `Memory` if the store could not grow, and
 /// `Store::denied` is then true; `Disorder`, with the input and the line, if an input is not sorted: all output lines
 /// up to the last key in order are then written (POSIX leaves this unspecified).
-pub fn join<A: Allocator + Copy, S: Source, R: Source, W: Sink>(
-    job: &JoinJob<A>,
+pub fn join<A: Allocator + Copy, B: Allocator + Copy, S: Source, R: Source, W: Sink>(
+    job: &JoinJob<B>,
     first: &mut LineReader<S, R>,
     second: &mut LineReader<S, R>,
     store: &mut Store<A>,

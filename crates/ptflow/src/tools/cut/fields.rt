@@ -306,8 +306,14 @@ impl<'a, A: Allocator + Copy> LineFilter for FieldCut<'a, A> {
 }
 
 // Writes the selected fields of each line of a reader, and after each line the terminator.
-pub(crate) fn cut_by_fields<A: Allocator + Copy, S: Source, R: Source, W: Sink>(
-    job: &CutJob<A>,
+pub(crate) fn cut_by_fields<
+    A: Allocator + Copy,
+    B: Allocator + Copy,
+    S: Source,
+    R: Source,
+    W: Sink,
+>(
+    job: &CutJob<B>,
     reader: &mut LineReader<S, R>,
     store: &mut Store<A>,
     out: &mut Out<W>,

@@ -243,8 +243,8 @@ impl<'a, A: Allocator> BlockFilter for SerialPaste<'a, A> {
 /// # Errors
 /// - `Read` with index 0 if a read failed.
 /// - `Write` if a write failed.
-pub fn paste_serial<A: Allocator + Copy, S: Source, R: Source, W: Sink>(
-    job: &PasteJob<A>,
+pub fn paste_serial<A: Allocator + Copy, B: Allocator + Copy, S: Source, R: Source, W: Sink>(
+    job: &PasteJob<B>,
     reader: &mut LineReader<S, R>,
     _store: &mut Store<A>,
     out: &mut Out<W>,
