@@ -11,10 +11,10 @@ def listed():
         return re.search(r'^pub const TOOLS: &str = "(.*)";$', it.read(), re.M)[1]
 
 
-def letters_of(part):
-    """For each tool, the letters of one part of what it takes: `flags` or `valued`."""
+def letters_of(field):
+    """For each tool, the letters of one field of its `Syntax`: `flags` or `value_letters`."""
     with open(SOURCE, encoding="utf-8") as it:
-        rows = re.findall(rf'^const (\w+): Syntax = Syntax \{{.*?\n    {part}: b"(\w*)",', it.read(), re.M | re.S)
+        rows = re.findall(rf'^const (\w+): Syntax = Syntax \{{.*?\n    {field}: b"(\w*)",', it.read(), re.M | re.S)
     return {name.lower(): found for name, found in rows}
 
 

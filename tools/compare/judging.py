@@ -1,0 +1,114 @@
+"""Judges each difference of an implementation from the definitions."""
+import re
+from typing import NamedTuple
+
+from model import answer_of
+from points import closed, open_points
+from rules import HIGH_BYTES, RULES
+from running import run_side
+from shrinking import BUDGET, shrunk, size_of
+
+BUDGET_OF_HANGING, EXAMPLES = 8, 3
+
+
+class Verdict(NamedTuple):
+    """The kind (`equal`, `choice`, `extension`, `undefined`, `wrong` or `unjudged`), the title of the point or the
+    rule, and the case that shows it."""
+
+    kind: str
+    title: str
+    case: object = None
+
+
+def without_leading_blanks(case, out):
+    """The output of uniq -c with one space after each count, and none before it."""
+    if case.tool != "uniq" or not case.has("c"):
+        return out
+    lines = out.split(case.end())
+    return case.end().join(re.sub(rb"\A[ \t]*(\d+)[ \t]", rb"\1 ", it) for it in lines)
+
+
+def is_same(case, wanted, got):
+    """Whether two answers are the same but for the messages, and the blanks around the counts of uniq."""
+    outs = [without_leading_blanks(case, it.out) for it in (wanted, got)]
+    return outs[0] == outs[1] and (wanted.status == 0) == (got.status == 0)
+
+
+def without_high_bytes(case):
+    """The case with an x for each character above 127, in its words and its inputs."""
+    inputs = {name: re.sub(rb"[\x80-\xff]", b"x", text) for name, text in case.inputs.items()}
+    options = [(letter, value and re.sub(r"[^\0-\x7f]", "x", value)) for letter, value in case.options]
+    operands = [re.sub(r"[^\0-\x7f]", "x", it) for it in case.operands]
+    return case._replace(options=options, operands=operands, inputs=inputs)
+
+
+def rule_of(case, wanted, got):
+    """The rule of POSIX that an answer to a decided case breaks, or None.
+
+    If a case depends on the spelling of its options, the result is None, since no rule is about spelling."""
+    if case.spelling:
+        return None
+    return next((it for it in RULES if case.tool in it.tools.split() and it.is_broken(case, wanted, got)), None)
+
+
+class Judge:
+    """Judges the answers of one implementation. It keeps the smallest example for each rule."""
+
+    def __init__(self, side, room):
+        self.side, self.room = side, room
+        self.found = {}
+
+    def answers(self, case):
+        return answer_of(case), run_side(self.side, case, self.room)
+
+    def differs(self, case):
+        """Whether the implementation differs on a case that the definitions accept."""
+        if answer_of(case).status == 2 or not self.side.has(case):
+            return False
+        wanted, got = self.answers(case)
+        return not is_same(case, wanted, got)
+
+    def keep(self, title, case):
+        """Keeps an example of a wrong answer, if it is the smallest."""
+        count, smallest = self.found.get((case.tool, title), (0, None))
+        if smallest is None or size_of(case) < size_of(smallest):
+            smallest = case
+        self.found[case.tool, title] = (count + 1, smallest)
+
+    def wants_example(self, case, title):
+        """Whether fewer than `EXAMPLES` cases of the rule were made smaller."""
+        return self.found.get((case.tool, title), (0, None))[0] < EXAMPLES
+
+    def judge(self, case):
+        """The verdict on one case, or None if the implementation does not run it."""
+        if answer_of(case).status == 2 or not self.side.has(case):
+            return None
+        wanted, got = self.answers(case)
+        if is_same(case, wanted, got):
+            return Verdict("equal", "") if wanted.out == got.out else Verdict("choice", "blanks before a count")
+        points = open_points(case)
+        if not points:
+            return self.judge_decided(case, wanted, got)
+        other = closed(case)
+        if other and self.differs(other):
+            return self.judge_decided(other, *self.answers(other))
+        return Verdict(points[0].kind, points[0].title, case)
+
+    def judge_decided(self, case, wanted, got):
+        """The verdict on a case that POSIX decides. The first cases of a rule are made smaller, for its example."""
+        spelled_out = case._replace(spelling=0, piece=4096)
+        if case != spelled_out and self.differs(spelled_out):
+            return self.judge_decided(spelled_out, *self.answers(spelled_out))
+        rule = rule_of(case, wanted, got)
+        if rule and rule.title == HIGH_BYTES:
+            plain = without_high_bytes(case)
+            if not open_points(plain) and self.differs(plain):
+                return self.judge_decided(plain, *self.answers(plain))
+        if rule and not self.wants_example(case, rule.title):
+            return Verdict("wrong", rule.title, case)
+        case = shrunk(case, self.differs, open_points, BUDGET_OF_HANGING if got.status < 0 else BUDGET)
+        rule = rule_of(case, *self.answers(case))
+        if not rule:
+            return Verdict("unjudged", "", case)
+        self.keep(rule.title, case)
+        return Verdict("wrong", rule.title, case)
