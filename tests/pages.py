@@ -1,16 +1,17 @@
 #!/usr/bin/env python3
-"""Runs the examples of the README, the pages and the docs where they stand, lints the pages, and asks whether the
-options of the pages and of the completion are those of the program, whether its messages stand in the pages, whether
-these name the version, whether the uses that docs/COMPARISON.md calls refused are refused, and whether the docs name
-definitions, tests, modules and paths that there are.
+"""Runs the examples of the README, the pages and the docs, and lints the pages. Checks that the options of the pages and
+of the completion are those of the program, that the pages contain its messages and its version, that the commands of
+docs/REPLACING.md for GNU's options do the same as these, and that the definitions, tests, modules and paths that the
+docs name exist.
 
   python3 tests/pages.py PROGRAM
 
-An example is a line `$ COMMAND` in a block, and the lines below it are what it says: output and messages, as a terminal
-shows them. The commands of one file run in their order and in one folder, in which `ptext` is PROGRAM. A line
-`gnu$ COMMAND` is an example of GNU's tools, and `busybox$ COMMAND` one of busybox's: these are left out where the
-system has another version than docs/COMPARISON.md speaks of. So are, with a line that says so, the lint where there is
-no mandoc, and the completion where there is no bash.
+An example is a line `$ COMMAND` in a block. The lines below it are its output and messages, as a terminal shows them.
+The commands of one file run in their order and in one folder, in which `ptext` is PROGRAM. A line `bash$ COMMAND` needs
+bash. A line `gnu$ COMMAND` is an example of GNU's tools, and `busybox$ COMMAND` one of busybox's; `toybox$`, `uutils$`
+and `9base$` are of three others. If the system has another version than docs/COMPARISON.md and docs/OTHERS.md compare
+with, their examples are left out. So are, each with a message, the lint if there is no mandoc, and the completion and
+the examples of bash if there is no bash.
 """
 import glob
 import os
@@ -28,12 +29,18 @@ sys.path.insert(0, f"{TOP}/tools")
 from names import NAMES as TOOLS
 
 DOCS = ["README.md", "CONTRIBUTING.md", "CHANGELOG.md", "bench/README.md"]
-PAGES = [*glob.glob("man/*.1", root_dir=TOP), *glob.glob("docs/*.md", root_dir=TOP)]
+PAGES = [*glob.glob("man/*.[17]", root_dir=TOP), *glob.glob("docs/*.md", root_dir=TOP)]
 FILES = [*[it for it in DOCS if os.path.exists(f"{TOP}/{it}")], *sorted(PAGES)]
-VERSIONS = {"gnu": (["cut", "--version"], "(GNU coreutils) 9.1\n"), "busybox": (["busybox"], "BusyBox v1.35.")}
-PROMPT = re.compile(r"(gnu|busybox|)\$ (.*)")
+VERSIONS = {
+    "gnu": (["cut", "--version"], "(GNU coreutils) 9.1\n"),
+    "busybox": (["busybox"], "BusyBox v1.35."),
+    "toybox": (["toybox", "--version"], "toybox 0.8.9"),
+    "uutils": (["/usr/lib/cargo/bin/coreutils/cut", "--version"], "0.0.17\n"),
+    "9base": (["dpkg-query", "-W", "-f", "${Version}", "9base"], "1:6-13"),
+}
+PROMPT = re.compile(rf"({'|'.join(VERSIONS)}|bash|)\$ (.*)")
 NAMING = [f"docs/{it}.md" for it in ("proofs", "definitions", "PROVED", "DECISIONS")]
-SIGNS = {r"\e": "\\", r"\(aq": "'", r"\(ga": "`", r"\(ha": "^", r"\(ti": "~", r"\-": "-", r"\&": ""}
+SIGNS = {r"\e": "\\", r"\(aq": "'", r"\(dq": '"', r"\(ga": "`", r"\(ha": "^", r"\(ti": "~", r"\-": "-", r"\&": ""}
 
 COMPLETED = [
     ("ptext ", TOOLS),
@@ -49,6 +56,13 @@ COMPLETED = [
     ("ptext uniq -- -", []),
 ]
 
+# The files f and g of the rows of docs/REPLACING.md: sorted by lines, by both fields, and if case is ignored.
+SAMPLES = {"f": "A:1 p\na:1 p\na:1 p\nb:2 q\nb:2 q\nd:4 s\n", "g": "a:1 p\nb:2 q\nc:3 r\nd:4 s\n"}
+
+
+def is_page(file):
+    return file.endswith((".1", ".7"))
+
 
 def blocks_of_page(text):
     for block in re.findall(r"^\.Bd -literal.*?\n(.*?)^\.Ed$", text, re.M | re.S):
@@ -61,10 +75,10 @@ def blocks_of_text(text):
 
 
 def examples_of(file):
-    """The examples of a file: whose tools, the command, and what it says."""
+    """The examples of a file: the prompt, the command, and its output and messages."""
     with open(f"{TOP}/{file}", encoding="utf-8") as it:
         text = it.read()
-    for block in (blocks_of_page if file.endswith(".1") else blocks_of_text)(text):
+    for block in (blocks_of_page if is_page(file) else blocks_of_text)(text):
         found = None
         for line in block.splitlines(keepends=True):
             prompt = PROMPT.match(line)
@@ -79,6 +93,9 @@ def examples_of(file):
 
 
 def has(side):
+    """Whether the examples of this prompt can be run."""
+    if side == "bash":
+        return bool(shutil.which("bash"))
     words, version = VERSIONS[side]
     if not shutil.which(words[0]):
         return False
@@ -97,7 +114,8 @@ def run_all(file, program, known):
             if side and not known[side]:
                 continue
             pipes = {"stdin": subprocess.DEVNULL, "stdout": subprocess.PIPE, "stderr": subprocess.STDOUT}
-            did = subprocess.run(["sh", "-c", command], cwd=f"{room}/here", env=surroundings, check=False, **pipes)
+            shell = "bash" if side == "bash" else "sh"
+            did = subprocess.run([shell, "-c", command], cwd=f"{room}/here", env=surroundings, check=False, **pipes)
             said = did.stdout.decode(errors="replace")
             if said == wanted:
                 good += 1
@@ -107,32 +125,43 @@ def run_all(file, program, known):
     return good, bad
 
 
-# What the lint says that is meant so: the pages name each other before they are installed, and their version in the
+# Findings of the lint that are intended: the pages name each other before they are installed, and their version in the
 # footer.
 MEANT = re.compile(
     r"STYLE: (referenced manual not found|operating system explicitly specified)|^mandoc: outdated mandoc.db"
 )
 
 
+def macros_in_headings():
+    """The headings of pages with a word of plain text that mdoc takes for a macro, as `In`."""
+    found = []
+    for file in [it for it in FILES if is_page(it)]:
+        with open(f"{TOP}/{file}", encoding="utf-8") as it:
+            lines = re.findall(r"^\.S[hs] [^\"\n]*\b[A-Z][a-z]\b.*$", it.read(), re.M)
+        found += [f"{file}: quote this heading, since it contains the name of a macro: {line}\n" for line in lines]
+    return "".join(found)
+
+
 def lint():
-    """What mandoc has against the pages; nothing where there is no mandoc."""
+    """The findings of mandoc in the pages, or nothing if there is no mandoc."""
     if not shutil.which("mandoc"):
         print("left out: the lint of the pages (there is no mandoc)")
         return ""
-    pages = sorted(glob.glob(f"{TOP}/man/*.1"))
+    pages = sorted(glob.glob(f"{TOP}/man/*.[17]"))
     words = ["mandoc", "-Tlint", "-Wstyle", *pages]
-    said = subprocess.run(words, stdout=subprocess.PIPE, stderr=subprocess.STDOUT, text=True, check=False).stdout
-    return "".join(it for it in said.splitlines(keepends=True) if not MEANT.search(it))
+    # (In one stream a line of the one kind could begin within a line of the other.)
+    did = subprocess.run(words, capture_output=True, text=True, check=False)
+    return "".join(it for it in (did.stdout + did.stderr).splitlines(keepends=True) if not MEANT.search(it))
 
 
 def other_versions():
-    """The pages, the list of changes and the README, where they name another version than the file VERSION."""
+    """The pages, the list of changes and the README that do not name the version of the file VERSION."""
     with open(f"{TOP}/VERSION", encoding="ascii") as it:
         version = it.read().strip()
     found = []
     named = [("CHANGELOG.md", f"## {version}\n")]
     named += [("README.md", it) for it in (f"ptext_{version}-1_amd64.deb", f"ptext-{version}-linux")]
-    for file, wanted in [*((it, f".Os ptext {version}\n") for it in FILES if it.endswith(".1")), *named]:
+    for file, wanted in [*((it, f".Os ptext {version}\n") for it in FILES if is_page(it)), *named]:
         with open(f"{TOP}/{file}", encoding="utf-8") as it:
             found += [] if wanted in it.read() else [f"{file} does not name version {version}\n"]
     return "".join(found)
@@ -153,14 +182,14 @@ def letters_of_page(tool):
 
 
 def completed(words):
-    """What bash completes after these words."""
+    """The completions of bash after these words."""
     text = f'. "{TOP}/completion/ptext"; COMP_WORDS=("$@"); COMP_CWORD=$(($# - 1)); _ptext; echo "${{COMPREPLY[@]}}"'
     did = subprocess.run(["bash", "-c", text, "bash", *words], cwd=TOP, capture_output=True, text=True, check=False)
     return did.stdout.split()
 
 
 def wrong_options(program):
-    """Where the options of a page or of the completion are not those of the program."""
+    """The differences of the pages and of the completion from the options of the program."""
     found = []
     if not shutil.which("bash"):
         print("left out: the completion (there is no bash)")
@@ -177,7 +206,7 @@ def wrong_options(program):
 
 
 def form_of(item):
-    """A message of a page as a pattern: what stands for something else is any text."""
+    """A message of a page as a pattern, in which each placeholder matches any text."""
     text, space = "", ""
     words = iter(item.split())
     for word in words:
@@ -205,23 +234,64 @@ def lacking_messages():
     return "".join(f"not in the pages: {it}\n" for it in lacking)
 
 
-def taken_uses(program):
-    """Uses of GNU's tools that docs/COMPARISON.md calls refused, and that are not refused with status 2."""
-    with open(f"{TOP}/docs/COMPARISON.md", encoding="utf-8") as it:
-        table = it.read().partition("## What to write instead\n")[2].partition("\n## ")[0]
-    uses = [use for row in re.findall(r"^\| (.*?) \| ", table, re.M) for use in re.findall(r"`([^`]+)`", row)]
-    found = [] if uses else ["docs/COMPARISON.md has no refused uses\n"]
+def rows_of_options():
+    """The rows of docs/REPLACING.md for each tool: the command of GNU's tool, the one here (or ""), and the remark."""
+    with open(f"{TOP}/docs/REPLACING.md", encoding="utf-8") as it:
+        text = it.read()
+    rows = {}
+    for tool in TOOLS:
+        table = text.partition(f"\n### {tool}\n")[2].partition("\n#")[0]
+        found = re.findall(r"^\| `(.*?)` \| (?:`(.*?)`)? ?(.*) \|$", table, re.M)
+        rows[tool] = [(one.replace("\\|", "|"), two.replace("\\|", "|"), note) for one, two, note in found]
+    return rows
+
+
+def wrong_rows(program, with_gnu):
+    """The rows of docs/REPLACING.md whose first command is not refused with status 2, or whose second one does not the
+    same as GNU's tools do by the first (but for blanks before a count, and case if the row says so); and the commands
+    that the page of the tool or ptext-replacing(7) lacks. Also the long options of GNU's tools that have no row."""
+    found = []
     with tempfile.TemporaryDirectory() as room:
-        for name in "fg":
-            with open(f"{room}/{name}", "w", encoding="ascii") as it:
-                it.write("a\n")
-        # `tool` stands for any of them.
-        each = [it.replace("tool", tool, 1) for it in uses if it.startswith("tool ") for tool in TOOLS]
-        for use in each + [it for it in uses if not it.startswith("tool ")]:
-            words = ["sh", "-c", f'"$0" {use}', program]
-            did = subprocess.run(words, cwd=room, stdin=subprocess.DEVNULL, capture_output=True, check=False)
-            refused = did.returncode == 2 and did.stderr and not did.stdout
-            found += [] if refused else [f"docs/COMPARISON.md: not refused: {use}\n"]
+        os.mkdir(f"{room}/bin")
+        os.symlink(program, f"{room}/bin/ptext")
+        surroundings = {**os.environ, "PATH": f"{room}/bin:{os.environ['PATH']}", "LC_ALL": "C"}
+
+        def run(command, count=1):
+            """The results of the command, which is run `count` times in one folder."""
+            with tempfile.TemporaryDirectory(dir=room) as folder:
+                for name, text in SAMPLES.items():
+                    with open(f"{folder}/{name}", "w", encoding="ascii") as it:
+                        it.write(text)
+                how = {"cwd": folder, "env": surroundings, "stdin": subprocess.DEVNULL, "capture_output": True}
+                return [subprocess.run(["sh", "-c", command], check=False, **how) for _ in range(count)]
+
+        if list(examples_of("docs/REPLACING.md")) != list(examples_of("man/ptext-replacing.7")):
+            found.append("the examples of docs/REPLACING.md are not those of man/ptext-replacing.7\n")
+        for tool, rows in rows_of_options().items():
+            found += [] if len(rows) > 5 else [f"docs/REPLACING.md has no rows for {tool}\n"]
+            pages = []
+            for page in (f"ptext-{tool}.1", "ptext-replacing.7"):
+                with open(f"{TOP}/man/{page}", encoding="utf-8") as it:
+                    pages.append((page, re.sub(r"\\(?:\(..|.)", lambda it: SIGNS.get(it[0], it[0]), it.read())))
+            if with_gnu:
+                text = subprocess.run([tool, "--help"], capture_output=True, text=True, check=False).stdout
+                options = set(re.findall(r"^ .*?(--[a-z0-9-]+)", text, re.M)) - {"--help", "--version"}
+                lacks = [it for it in sorted(options) if not any(it in theirs for theirs, _, _ in rows)]
+                found += [f"docs/REPLACING.md has no row for {tool} {it}\n" for it in lacks]
+            for theirs, ours, note in rows:
+                did = run(f"ptext {theirs}")[0]
+                if did.returncode != 2 or not did.stderr or did.stdout:
+                    found.append(f"docs/REPLACING.md: not refused: {theirs}\n")
+                for page, text in pages:
+                    lacks = [it for it in (theirs, ours) if it and it not in text]
+                    found += [f"man/{page} lacks a command of docs/REPLACING.md: {it}\n" for it in lacks]
+                if ours:
+                    # (Twice, since the first run leaves files.)
+                    runs = run(ours, 2) + (run(theirs) if with_gnu else [])
+                    outs = [re.sub(rb"^ +", b"", it.stdout, flags=re.M) for it in runs]
+                    outs = [it.lower() for it in outs] if "lower case" in note else outs
+                    if any(it.returncode or it.stderr for it in runs[:2]) or len(set(outs)) != 1:
+                        found.append(f"docs/REPLACING.md: not the same as {theirs}: {ours}\n")
     return "".join(found)
 
 
@@ -239,14 +309,14 @@ def lacking_names():
     found = set(re.findall(r"`([A-Z]\w+)\.(\w+)`", text)) - {("File", "name")}
     begin = r"^(abbrev )?(pub )?(unfoldable )?(pub )?(record |data )?"
     lacking = [f"{one}.{two}" for one, two in found if not holds(f"*/specs/**/{one}.antt", rf"{begin}{two}\b")]
-    rows = set(re.findall(r"`(\w+Rows)`", text)) - {"FileRows"}
+    rows = set(re.findall(r"`(\w+Examples)`", text)) - {"FileExamples"}
     lacking += [it for it in rows if not glob.glob(f"{TOP}/crates/pt*tests/proofs/**/{it}.antt", recursive=True)]
     tests = set(re.findall(r"`(pt\w+)::(\w+)::(\w+)`", text))
     lacking += ["::".join(it) for it in tests if not holds(f"{it[0]}/src/{it[1]}.rt", rf"^fn {it[2]}\b")]
-    # The name of a case stands after the test that has it.
+    # The name of a case comes after the test that has it.
     for crate, module, case in re.findall(r'`(pt\w+)::(\w+)::\w+`, "([^"]*)"', text):
         lacking += [] if holds(f"{crate}/src/{module}.rt", f'"{re.escape(case)}"') else [f"{crate}::{module}: {case}"]
-    # Titles stand after program.sh, up to the end of a cell or a sentence.
+    # Titles come after program.sh, up to the end of a cell or a sentence.
     for titles in re.findall(r'program\.sh, ("[^|.;`]*")', text):
         lacking += [it for it in re.findall(r'"([^"]*)"', titles) if f'same "{it}"' not in cases]
     return "".join(f"docs/POSIX.md names what is not there: {it}\n" for it in sorted(lacking))
@@ -268,7 +338,7 @@ def lacking_paths():
             # (What checks keep is there only after a check.)
             is_there = path.endswith("/out") or any(glob.glob(it) for it in ends)
             found += [] if is_there else [f"{file} names a path that is not there: {path}\n"]
-        # Those in some crate, but for the ones that stand for many, as `src/NAME.rt` does.
+        # Paths in any crate, except patterns such as `src/NAME.rt`.
         for path in re.findall(r"`((?:src|specs|proofs|must-fail)/[\w/.-]+)`", text):
             ends = [f"{TOP}/crates/*/{path}{it}" for it in ("", ".rt", ".antt")]
             is_one = not re.search(r"\b(NAME|PATH|A/B)\b", path)
@@ -282,14 +352,14 @@ def lacking_paths():
 def main():
     if len(sys.argv) != 2:
         return __doc__
-    known = {side: has(side) for side in VERSIONS}
+    known = {side: has(side) for side in [*VERSIONS, "bash"]}
     for side in [it for it in known if not known[it]]:
-        print(f"left out: the examples of {side} (the system has no such version)")
+        print(f"left out: the examples of {side} (the system does not have it, or has another version)")
     program = os.path.abspath(sys.argv[1])
     counts = [run_all(file, program, known) for file in FILES]
     good, bad = (sum(it) for it in zip(*counts))
-    found = lint() + other_versions() + wrong_options(program) + lacking_messages() + taken_uses(program)
-    found += lacking_names() + lacking_paths()
+    found = lint() + macros_in_headings() + other_versions() + wrong_options(program) + lacking_messages()
+    found += wrong_rows(program, known["gnu"]) + lacking_names() + lacking_paths()
     print(f"{found}{good} of {good + bad} examples as wanted")
     return 1 if bad or found else 0
 
