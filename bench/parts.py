@@ -1,15 +1,17 @@
 #!/usr/bin/env python3
-"""Wall time of each tool over parts of its input, on all processors by GNU parallel, beside one process over the whole.
+"""Wall time and processor time of each tool over its whole input in one process, and over parts of it by GNU parallel.
 
   bench/parts.py PTEXT [MEGABYTES]
 
-Each input has 512 MB unless told otherwise; it was written just before, so that it is read from memory. The best of
-three runs counts, and the output is thrown away. `cut`, `tr` and `uniq` have their file cut by `parallel` as it goes,
-into one part for each processor. The files of `paste`, `comm` and `join` are cut beforehand; that time stands apart.
-docs/PARALLEL.md says where an input may be cut.
+Each input has MEGABYTES, 512 by default. It was written just before, so that it is read from memory. The best of three
+runs counts, and the output is thrown away. For `cut`, `tr` and `uniq`, `parallel` cuts the file into one part for each
+processor. The files of `paste`, `comm` and `join` are cut beforehand, which has a column of its own. Wall time depends
+on other work on the machine, so its load at the start is printed; processor time (in brackets: user and system, of all
+processes) hardly does. docs/PARALLEL.md says where an input may be cut.
 """
 
 import os
+import resource
 import subprocess
 import sys
 import tempfile
@@ -17,8 +19,8 @@ import time
 
 TOP = os.path.dirname(os.path.dirname(os.path.realpath(__file__)))
 RUNS = 3
-PIPED = "parallel --pipepart -k --block -1 -a"
-LISTED = "parallel -k {} ::: $(ls {} | sed -n 's/^1[.]//p')"
+PIPED = "parallel --pipepart -k --halt now,fail=1 --block -1 -a"
+LISTED = "ls {1} | sed -n 's/^1[.]//p' | parallel -k --halt now,fail=1 {0}"
 
 # A tool: how its files are cut beforehand, what is run over the whole, and what over the parts.
 CASES = [
@@ -59,11 +61,20 @@ def log_line(number):
     return f"2026-11-22T10:{number // 60 % 60:02}:{number % 60:02}Z host{number % 17} GET /items/{number % 9973} 200\n"
 
 
+def processor_seconds():
+    used = resource.getrusage(resource.RUSAGE_CHILDREN)
+    return used.ru_utime + used.ru_stime
+
+
 def seconds(command):
-    """Wall time of a command of the shell."""
-    before = time.monotonic()
+    """Wall time and processor time of a command of the shell."""
+    before = time.monotonic(), processor_seconds()
     subprocess.run(["sh", "-c", command], stdin=subprocess.DEVNULL, stdout=subprocess.DEVNULL, check=True)
-    return time.monotonic() - before
+    return time.monotonic() - before[0], processor_seconds() - before[1]
+
+
+def shown(times):
+    return f"{times[0]:.2f} s ({times[1]:.2f} s)"
 
 
 def main():
@@ -80,6 +91,7 @@ def main():
         write_lines("log", size, log_line)
         write_lines("left", size, lambda number: f"{number * 2:010} first__________ second_________\n")
         write_lines("right", size, lambda number: f"{number * 3:010} first__________ second_________\n")
+        print(f"load at the start: {os.getloadavg()[0]:.1f} of {cores} processors")
         print(f"| tool | one process | {cores} processors | cut beforehand |\n|---|---|---|---|")
         for tool, cutting, whole, parts in CASES:
             cut = (
@@ -87,9 +99,9 @@ def main():
                 if not cutting
                 else cutting.replace("CORES", str(cores)).replace("CUT", f"{TOP}/tools/cut_at_keys.sh")
             )
-            taken = f"{seconds(cut):.2f} s" if cut else ""
+            taken = shown(seconds(cut)) if cut else ""
             one, many = (min(seconds(command) for _ in range(RUNS)) for command in (whole, parts))
-            print(f"| `{tool}` | {one:.2f} s | {many:.2f} s | {taken} |", flush=True)
+            print(f"| `{tool}` | {shown(one)} | {shown(many)} | {taken} |", flush=True)
 
 
 if __name__ == "__main__":
