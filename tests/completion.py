@@ -11,6 +11,7 @@ import re
 import select
 import shutil
 import signal
+import subprocess
 import sys
 import tempfile
 import time
@@ -21,8 +22,9 @@ sys.path.insert(0, f"{TOP}/tools")
 
 from names import NAMES, letters_of
 
-FLAGS, VALUED = letters_of("flags"), letters_of("valued")
-# How each shell is started, and what is typed first. (@ stands for the folder of the completions.)
+FLAGS, VALUED = letters_of("flags"), letters_of("value_letters")
+# How each shell is started, and what is typed first. (@ stands for the folder of the completions, % for that of the
+# test.)
 SHELLS = {
     "bash": (
         ["bash", "--norc", "--noprofile", "-i"],
@@ -31,29 +33,51 @@ SHELLS = {
     "zsh": (["zsh", "-f", "-i"], "fpath=(@ $fpath); autoload -U compinit; compinit -u -D; unsetopt beep; LISTMAX=999"),
     "fish": (["fish", "--no-config", "-i"], "source @/ptext.fish"),
 }
-# What is typed before one tab, and what stands on the line after it.
-COMPLETED = [
-    ("ptext uni", "ptext uniq"),
-    ("ptext cut -f 1 lo", "ptext cut -f 1 lonely"),
-    ("ptext tr -d '[:dig", "ptext tr -d '[:digit:]"),
-    ("ptext tr -d 'a-f[:dig", "ptext tr -d 'a-f[:digit:]"),
-    ("ptext tr '[:lower:]' '[:up", "ptext tr '[:lower:]' '[:upper:]"),
-]
+# What is typed besides, before the tools are completed by their own names.
+SYSTEMS = "/usr/share/bash-completion/bash_completion"
+BY_NAME = {"bash": f"; . {SYSTEMS}; . @/ptext-tools", "zsh": "", "fish": "; for it in %/*.fish; source $it; end"}
 CLASSES = "alnum alpha blank cntrl digit graph lower print punct space upper xdigit".split()
-# What is typed before two tabs, and the words that are offered.
-OFFERED = [
-    ("ptext ", NAMES),
-    *((f"ptext {tool} -", [f"-{it}" for it in FLAGS[tool] + VALUED[tool]]) for tool in NAMES),
-    ("ptext cut -sf 1 -", ["-d", "-z"]),
-    ("ptext join -a ", ["1", "2"]),
-    ("ptext tr -d '[:", CLASSES),
+
+
+class Row:
+    """A text to type; and the line after one tab, or the words that two tabs offer, or do not."""
+
+    def __init__(self, typed, wanted, is_offered=True):
+        self.typed, self.wanted, self.is_offered = typed, wanted, is_offered
+
+
+ROWS = [
+    Row("ptext uni", "ptext uniq"),
+    Row("ptext cut -f 1 lo", "ptext cut -f 1 lonely"),
+    Row("ptext tr -d '[:dig", "ptext tr -d '[:digit:]"),
+    Row("ptext tr -d 'a-f[:dig", "ptext tr -d 'a-f[:digit:]"),
+    Row("ptext tr '[:lower:]' '[:up", "ptext tr '[:lower:]' '[:upper:]"),
+    Row("ptext tr a b < lo", "ptext tr a b < lonely"),
+    Row("ptext tr a b >lo", "ptext tr a b >lonely"),
+    Row("ptext tr a b 2> lo", "ptext tr a b 2> lonely"),
+    Row("ptext cut -f 1 $PTEXT_T", "ptext cut -f 1 $PTEXT_TESTED"),
+    Row("ptext cut -f 1 $PTEXT_TESTED/lo", "lonely"),
+    Row("ptext ", NAMES),
+    *(Row(f"ptext {tool} -", [f"-{it}" for it in FLAGS[tool] + VALUED[tool]]) for tool in NAMES),
+    Row("ptext cut -sf 1 -", ["-d", "-z"]),
+    Row("ptext join -a ", ["1", "2"]),
+    Row("ptext tr -d '[:", CLASSES),
+    # No option is offered after an operand.
+    Row("ptext uniq lonely -", ["-c", "-d", "-f", "-s", "-u", "-z"], False),
+    Row("ptext cut -f 1 lonely -", ["-b", "-c", "-d", "-n", "-s", "-z"], False),
+    Row("ptext comm -- -", ["-1", "-2", "-3", "-r", "-z"], False),
 ]
-# What is typed before two tabs where an operand stands already, and the words that are not offered there.
-NOT_OFFERED = [
-    ("ptext uniq lonely -", ["-c", "-d", "-f", "-s", "-u", "-z"]),
-    ("ptext cut -f 1 lonely -", ["-b", "-c", "-d", "-n", "-s", "-z"]),
-    ("ptext comm -- -", ["-1", "-2", "-3", "-r", "-z"]),
+# The tools by their own names, if the first in PATH is ptext's.
+ROWS_BY_NAME = [
+    *(Row(f"{tool} -", [f"-{it}" for it in FLAGS[tool] + VALUED[tool]]) for tool in NAMES),
+    Row("cut --", ["--bytes", "--complement", "--help", "--version"], False),
+    Row("uniq lo", "uniq lonely"),
+    Row("tr -d '[:dig", "tr -d '[:digit:]"),
+    Row("tr a b < lo", "tr a b < lonely"),
+    Row("join -a ", ["1", "2"]),
 ]
+# The tools by their own names, if the first in PATH is the system's.
+ROWS_OF_THE_SYSTEM = [Row("cut --compl", "cut --complement"), Row("comm lo", "comm lonely")]
 ESCAPES = re.compile(
     rb"\x1b\[[0-?]*[ -/]*[@-~]|\x1b\][^\x07\x1b]*(?:\x07|\x1b\\)|\x1b[()=>#][A-Z0-9]?|[\r\x07\x08\x0e\x0f]|\x1b."
 )
@@ -62,12 +86,17 @@ ESCAPES = re.compile(
 class Terminal:
     """A shell at a terminal of its own."""
 
-    def __init__(self, words, room):
+    def __init__(self, shell, room, first, path):
         self.child, self.end = pty.fork()
+        words, line = SHELLS[shell]
         if not self.child:
             os.chdir(room)
-            kept = {"PATH": f"{room}/bin:{os.environ['PATH']}", "HOME": room, "LC_ALL": "C.UTF-8", "TERM": "xterm"}
-            os.execvpe(words[0], words, {**kept, "PS1": "% ", "COLUMNS": "200", "LINES": "60", "fish_greeting": ""})
+            kept = {"PATH": f"{path}:{os.environ['PATH']}", "HOME": room, "LC_ALL": "C.UTF-8", "TERM": "xterm"}
+            kept |= {"PS1": "% ", "COLUMNS": "200", "LINES": "60", "fish_greeting": "", "PTEXT_TESTED": room}
+            os.execvpe(words[0], words, kept)
+        self.type("\n", 0.5)
+        self.type((line + first).replace("@", f"{TOP}/completion").replace("%", room) + "\n", 0.8)
+        self.type("PS1='% '\n" if shell != "fish" else "\n", 0.3)
 
     def type(self, text, quiet=0.4, most=8.0):
         """Types this, and answers what comes until nothing has come for a while."""
@@ -106,54 +135,78 @@ def offers(text, typed, words):
     return {it for it in words if re.search(rf"(?<![\w-]){re.escape(it)}(?![\w-])", rest)}
 
 
-def wrong_of(shell, room):
-    """What a shell does not complete as wanted. As terminals are slow at times, each is tried again."""
-    words, first = SHELLS[shell]
+def said_of(at, row, quiet):
+    """What a terminal has after a row is typed, and whether that is as wanted."""
+    if isinstance(row.wanted, str):
+        said = shown(at.type(row.typed + "\t", quiet))
+        if row.wanted not in said.replace("\n", ""):
+            # The line is drawn anew, whole.
+            said += shown(at.type("\x0c", 0.5))
+        return said, row.wanted in said.replace("\n", "")
+    came = b"".join(at.type(it, quiet) for it in (row.typed, "\t", "\t"))
+    said = shown(came)
+    found = (offers(said, row.typed, row.wanted), offers(shown(came, b" "), row.typed, row.wanted))
+    # What was typed is on the terminal, so nothing is not offered for want of time.
+    return said, set(row.wanted) in found if row.is_offered else row.typed in said and not any(found)
+
+
+def wrong_of(shell, room, rows, first="", path=""):
+    """The rows that a shell does not complete as wanted. One shell has all rows. As terminals are slow at times, a row
+    that goes wrong is tried again in a shell of its own."""
     found = []
-    rows = [*((*it, True) for it in COMPLETED + OFFERED), *((*it, False) for it in NOT_OFFERED)]
-    for typed, wanted, offered in rows:
+    shared = Terminal(shell, room, first, path or f"{room}/bin")
+    for row in rows:
+        said, is_good = said_of(shared, row, 0.3)
+        shared.type("\x03", 0.2)
         for attempt in (1, 2, 4):
-            at = Terminal(words, room)
-            at.type("\n", 0.5 * attempt)
-            at.type(first.replace("@", f"{TOP}/completion") + "\n", 0.5 * attempt)
-            at.type("PS1='% '\n" if shell != "fish" else "\n", 0.3 * attempt)
-            if isinstance(wanted, str):
-                said = shown(at.type(typed + "\t", 0.5 * attempt))
-                if wanted not in said.replace("\n", ""):
-                    # The line is drawn anew, whole.
-                    said += shown(at.type("\x0c", 0.5))
-                good = wanted in said.replace("\n", "")
-            else:
-                came = b"".join(at.type(it, 0.5 * attempt) for it in (typed, "\t", "\t"))
-                said = shown(came)
-                found_there = (offers(said, typed, wanted), offers(shown(came, b" "), typed, wanted))
-                # What was typed is on the terminal, so nothing is not offered for want of time.
-                good = set(wanted) in found_there if offered else typed in said and not any(found_there)
-            at.close()
-            if good:
-                break
-        if not good:
-            asked = wanted if offered else f"none of {wanted}"
-            found.append(f"{shell}: `{typed}` and a tab: wanted {asked}, the terminal has {said!r}\n")
+            if not is_good:
+                at = Terminal(shell, room, first, path or f"{room}/bin")
+                at.type("\n", 0.5 * attempt)
+                said, is_good = said_of(at, row, 0.5 * attempt)
+                at.close()
+        if not is_good:
+            wanted = row.wanted if row.is_offered else f"none of {row.wanted}"
+            found.append(f"{shell}: `{row.typed}` and a tab: wanted {wanted}, the terminal has {said!r}\n")
+    shared.close()
     return found
+
+
+def all_wrong_of(shell, room):
+    """What a shell does not complete as wanted in any of the three surroundings, and how many rows there were."""
+    found, count = wrong_of(shell, room, ROWS), len(ROWS)
+    if shell == "bash" and not os.path.exists(SYSTEMS):
+        print("left out: the tools by their own names in bash (there is no bash-completion)")
+        return found, count
+    found += wrong_of(shell, room, ROWS_BY_NAME, BY_NAME[shell], f"{room}/ptext/bin")
+    count += len(ROWS_BY_NAME)
+    said = subprocess.run(["cut", "--help"], check=False, capture_output=True, text=True).stdout
+    if "--complement" in said:
+        found += wrong_of(shell, room, ROWS_OF_THE_SYSTEM, BY_NAME[shell])
+        count += len(ROWS_OF_THE_SYSTEM)
+    return found, count
 
 
 def main():
     wrong, count = [], 0
     with tempfile.TemporaryDirectory(ignore_cleanup_errors=True) as room:
-        os.mkdir(f"{room}/bin")
+        for folder in ("bin", "ptext/bin"):
+            os.makedirs(f"{room}/{folder}")
         with open(f"{room}/lonely", "w", encoding="ascii"):
             pass
+        for name in NAMES:
+            with open(f"{room}/ptext/bin/{name}", "w", encoding="ascii") as it:
+                it.write("#!/bin/sh\n")
+            os.chmod(f"{room}/ptext/bin/{name}", 0o755)
+            shutil.copy(f"{TOP}/completion/ptext-tools.fish", f"{room}/{name}.fish")
         for shell in SHELLS:
             if not shutil.which(shell):
                 print(f"left out: completion in {shell} (there is no {shell})")
                 continue
             try:
-                found = wrong_of(shell, room)
+                found, of = all_wrong_of(shell, room)
             except OSError as why:
                 print(f"left out: completion in {shell} (no terminal: {why})")
                 continue
-            of = len(COMPLETED) + len(OFFERED) + len(NOT_OFFERED)
             print("".join(found), end="")
             print(f"{shell}: {of - len(found)} of {of} words are completed as wanted", flush=True)
             wrong, count = wrong + found, count + of

@@ -1,6 +1,7 @@
 #!/bin/sh
 # Tests the installation: into an empty folder, the program and each tool by its name, the page and the completion of
-# each, and that nothing is left behind; and the same below another root, and beside what was there before.
+# each, and that nothing is left behind; and that also below another root, into folders of other names, and beside files
+# that were there before.
 # usage: tests/install.sh (the program is built)
 set -u
 top=$(cd "$(dirname "$0")/.." && pwd)
@@ -27,7 +28,7 @@ install() {
 
 # fails WORDS..: what an installation says that has to fail, without what make adds
 fails() {
-    make -s -C "$top" "$@" >"$room/said" 2>&1 && echo "it did not fail"
+    make -s -C "${tree:-$top}" "$@" >"$room/said" 2>&1 && echo "it did not fail"
     grep -v '^make' "$room/said"
 }
 
@@ -48,10 +49,22 @@ for words in 'cut -c 1' 'paste -s -' 'uniq -c' 'tr a-b x' 'comm - none' 'join - 
 done
 is "a value with blanks" "a b" "$(printf 'a b\n' | "$bin/cut" -d 'x' -f '1 2')"
 is "cut by name" "a" "$(printf 'ab\n' | PATH=$bin:$PATH cut -c 1)"
-for page in ptext ptext-comm ptext-cut ptext-join ptext-paste ptext-tr ptext-uniq; do
-    is "page $page" yes "$([ -s "$room/empty/share/man/man1/$page.1" ] && echo yes)"
+for page in ptext.1 ptext-comm.1 ptext-cut.1 ptext-join.1 ptext-paste.1 ptext-tr.1 ptext-uniq.1 ptext-replacing.7; do
+    is "page $page" yes "$([ -s "$room/empty/share/man/man${page##*.}/$page" ] && echo yes)"
 done
-for file in bash-completion/completions/ptext zsh/site-functions/_ptext fish/vendor_completions.d/ptext.fish; do
+printf 'a 1\nb 2\n' >"$room/sorted"
+mkdir "$room/parts"
+"$room/empty/share/ptext/cut_at_keys.sh" 2 1 "$room/parts" "$room/sorted"
+is "cut_at_keys.sh" "1.000 1.001 keys" "$(ls "$room/parts" | tr '\n' ' ' | sed 's/ $//')"
+for tool in cut paste join comm uniq tr; do
+    is "$tool.1 beside the tools" same "$(cmp -s "$room/empty/libexec/ptext/man/man1/$tool.1" \
+        "$room/empty/share/man/man1/ptext-$tool.1" && echo same)"
+    if manpath --version 2>/dev/null | grep -q ^manpath; then
+        is "man $tool" "$room/empty/libexec/ptext/man/man1/$tool.1" "$(PATH=$bin:$PATH man -w "$tool")"
+    fi
+done
+for file in bash-completion/completions/ptext zsh/site-functions/_ptext fish/vendor_completions.d/ptext.fish \
+    bash-completion/completions/ptext-tools zsh/site-functions/_ptext_tools fish/vendor_completions.d/cut.fish; do
     is "completion $file" yes "$([ -s "$room/empty/share/$file" ] && echo yes)"
 done
 if command -v strip >/dev/null && command -v readelf >/dev/null; then
@@ -85,10 +98,12 @@ rmdir "$top/build/rooted"
 # Each says what it did, in one line.
 mkdir "$room/said.here"
 is "what install says" \
-    "installed in $room/said.here: bin/ptext, 7 pages in share/man/man1, completion for bash, zsh and fish" \
+    "installed in $room/said.here: bin/ptext, 8 pages in share/man, completion for bash, zsh and fish, share/ptext/cut_at_keys.sh" \
     "$(make -s -C "$top" install PREFIX="$room/said.here" DESTDIR=)"
-is "what install-tools says" "installed in $room/said.here/libexec/ptext/bin: cut, paste, join, comm, uniq, tr" \
-    "$(make -s -C "$top" install-tools PREFIX="$room/said.here" DESTDIR= | tail -n 1)"
+is "what install-tools says" \
+    "to complete them in bash, ~/.bash_completion needs: . $room/said.here/share/bash-completion/completions/ptext-tools
+installed in $room/said.here/libexec/ptext/bin: cut, paste, join, comm, uniq, tr" \
+    "$(make -s -C "$top" install-tools PREFIX="$room/said.here" DESTDIR= | tail -n 2)"
 is "what uninstall says" "what was installed in $room/said.here is removed" \
     "$(make -s -C "$top" uninstall PREFIX="$room/said.here" DESTDIR=)"
 is "and a second time" "nothing is noted as installed in $room/said.here" \
@@ -100,6 +115,50 @@ install install prefix="$room/small" DESTDIR=
 is "prefix in small letters" yes "$([ -x "$room/small/bin/ptext" ] && echo yes)"
 install uninstall prefix="$room/small" DESTDIR=
 is "and away again" "" "$(ls -A "$room/small")"
+
+# A blank in the prefix: the line for bash can be used as it is.
+is "a prefix with a blank" "to complete them in bash, ~/.bash_completion needs: \
+. '$room/a b/share/bash-completion/completions/ptext-tools'" \
+    "$(make -s -C "$top" install-tools PREFIX="$room/a b" DESTDIR= | sed -n '/bash_completion/p')"
+is "a tool there" b "$(echo ab | "$room/a b/libexec/ptext/bin/cut" -c 2)"
+install uninstall PREFIX="$room/a b" DESTDIR=
+is "nothing is left of it" "" "$(ls -Ad "$room/a b" 2>/dev/null)"
+
+# The folders and the command that other projects let one choose too.
+mkdir "$room/parts.of"
+set -- prefix=/usr bindir=/usr/progs libexecdir=/usr/lib datadir=/opt/data mandir=/usr/man DESTDIR="$room/parts.of"
+is "what install says of other folders" "installed in $room/parts.of/usr: progs/ptext, 8 pages in man, completion for \
+bash, zsh and fish, $room/parts.of/opt/data/ptext/cut_at_keys.sh" \
+    "$(make -s -C "$top" install "$@" INSTALL_PROGRAM='install -m 511')"
+install install-tools "$@" INSTALL_PROGRAM='install -m 511'
+is "the mode of INSTALL_PROGRAM" 511 "$(stat -c %a "$room/parts.of/usr/progs/ptext")"
+is "its program, with its symbols" same "$(cmp -s "$top/build/ptext" "$room/parts.of/usr/progs/ptext" && echo same)"
+is "a tool in another libexec" 'exec /usr/progs/ptext uniq "$@"' "$(tail -n 1 "$room/parts.of/usr/lib/ptext/bin/uniq")"
+is "the folders" "opt opt/data usr usr/lib usr/man usr/progs " \
+    "$(cd "$room/parts.of" && find . -mindepth 1 -maxdepth 2 | sed 's|^[.]/||' | sort | tr '\n' ' ')"
+install uninstall "$@"
+is "nothing is left of other folders" "" "$(ls -A "$room/parts.of")"
+is "a command that fails" "cannot install: $room/parts.of/usr/bin/ptext: false failed. Nothing was installed." \
+    "$(fails install prefix=/usr DESTDIR="$room/parts.of" INSTALL_PROGRAM=false)"
+is "an empty folder" "mandir is empty. Nothing was done." \
+    "$(fails install prefix=/usr DESTDIR="$room/parts.of" mandir=)"
+is "nothing is left of both" "" "$(ls -A "$room/parts.of")"
+set --
+
+# As root, an installation proves nothing: it says what to do first.
+if [ "$(id -u)" = 0 ]; then
+    mkdir "$room/copy" "$room/unbuilt"
+    tar -C "$top" -cf - --exclude='crates/*/out' Makefile HANDLES crates.txt crates tools | tar -xf - -C "$room/copy"
+    for state in missing older; do
+        is "root, where the program is $state" "build/ptext is not there, or older than its source. Run 'make' first, \
+best not as root: it proves the program, which takes some 15 minutes. Nothing was installed." \
+            "$(unset PTEXT_AS_BUILT; tree=$room/copy && fails install PREFIX="$room/unbuilt" DESTDIR=)"
+        mkdir -p "$room/copy/build"
+        cp "$top/build/ptext" "$room/copy/build"
+        touch -d 2001-01-01 "$room/copy/build/ptext"
+    done
+    is "nothing is installed then" "" "$(ls -A "$room/unbuilt")"
+fi
 
 # Others can enter what is made under a strict umask.
 mkdir "$room/strict"

@@ -1,8 +1,9 @@
 #!/bin/sh
-# Tests what `make dist` and `make deb` make: twice the same bytes; archives that hold what they should; and a Debian
-# package that installs, runs and goes away again, below a folder of its own, where there is dpkg. It shows what lintian
-# says of the package where there is lintian.
-# usage: tests/packages.sh (the program is built)
+# Tests `make dist` and `make deb`: twice the same bytes; archives with all their parts, which are refused if something
+# is not committed; an installation from the archive, by the commands that it names; and, if there are dpkg and
+# debhelper, Debian packages that install, run and are removed again, below a folder of their own. If there is lintian,
+# its report on the packages is shown. Nothing is proved.
+# usage: tests/packages.sh (the program is built; WITHOUT_PACKAGES=yes leaves out the Debian packages)
 set -u
 top=$(cd "$(dirname "$0")/.." && pwd)
 version=$(cat "$top/VERSION")
@@ -19,72 +20,236 @@ is() {
     printf 'FAILED: %s\nwanted: %s\nfound: %s\n' "$1" "$2" "$3"
 }
 
-python3 "$top/tools/dist.py" archives "$room/one" >"$room/said"
-(umask 077 && cd / && python3 "$top/tools/dist.py" archives "$room/two" >"$room/said")
+# same NAME FILE FILE: that two files have the same bytes
+same() {
+    is "$1" same "$(cmp -s "$2" "$3" && echo same)"
+}
+
+# refused FOLDER WORDS..: what a make that has to fail says in a folder, without what make itself adds
+refused() {
+    folder=$1
+    shift
+    make -s -C "$folder" "$@" >"$room/said" 2>&1 && echo "it did not fail"
+    grep -v '^make' "$room/said"
+}
+
+dist() {
+    python3 "$top/tools/dist.py" archives "$1" --changed
+}
+
+dist "$room/one" >"$room/said"
+(umask 077 && cd / && dist "$room/two" >"$room/said")
 for file in "ptext-$version.tar.gz" "ptext-$version-linux-x86_64.tar.gz" SHA256SUMS; do
-    is "$file, made twice" same "$(cmp -s "$room/one/$file" "$room/two/$file" && echo same)"
+    same "$file, made twice" "$room/one/$file" "$room/two/$file"
 done
-is "what is said" \
-    "made $room/two/ptext-$version.tar.gz, ptext-$version-linux-x86_64.tar.gz and SHA256SUMS" "$(cat "$room/said")"
 is "checksums" "" "$(cd "$room/one" && sha256sum --quiet -c SHA256SUMS 2>&1)"
+is "nothing else is made" "SHA256SUMS ptext-$version-linux-x86_64.tar.gz ptext-$version.tar.gz " \
+    "$(ls -A "$room/one" | LC_ALL=C sort | tr '\n' ' ')"
 
 mkdir "$room/source" "$room/program"
 tar -xzf "$room/one/ptext-$version.tar.gz" -C "$room/source" --strip-components=1
 tar -xzf "$room/one/ptext-$version-linux-x86_64.tar.gz" -C "$room/program" --strip-components=1
-is "the source has its parts" yes "$(cd "$room/source" && [ -s Makefile ] && [ -s crates.txt ] && [ -s crates/ptext/src/main.rt ] && echo yes)"
-is "the source has nothing that was built" "" "$(cd "$room/source" && find . -name '*.rlib' -o -name build)"
-is "the program of the archive" acd "$(echo abcd | "$room/program/bin/ptext" cut -c 3-,1)"
-is "its parts" "CHANGELOG.md CONTRIBUTING.md LICENSE-APACHE LICENSE-MIT NOTICES README.md bench bin docs share" \
-    "$(ls "$room/program" | sort | tr '\n' ' ' | sed 's/ $//')"
+commit=$(cat "$room/program/COMMIT")
+is "what is said" \
+    "made $room/two/ptext-$version.tar.gz, ptext-$version-linux-x86_64.tar.gz and SHA256SUMS, of commit $commit" \
+    "$(cat "$room/said")"
+if [ -e "$top/.git" ] && command -v git >/dev/null; then
+    is "the commit" "$(git -c safe.directory="$top" -C "$top" rev-parse HEAD)" "${commit% changed}"
+fi
+is "the source has its parts" yes \
+    "$(cd "$room/source" && [ -s Makefile ] && [ -s crates.txt ] && [ -s crates/ptext/src/main.rt ] && echo yes)"
+is "the source has nothing that was built" "" \
+    "$(cd "$room/source" && find . -name '*.rlib' -o -name build -o -name .git)"
+for folder in source program; do
+    is "checksums of each file of the $folder" "" "$(cd "$room/$folder" && sha256sum --quiet -c SHA256SUMS 2>&1)"
+    is "each file of the $folder has one" "$(cd "$room/$folder" && find . -type f ! -name SHA256SUMS | wc -l)" \
+        "$(wc -l <"$room/$folder/SHA256SUMS")"
+done
+is "its parts" "CHANGELOG.md COMMIT CONTRIBUTING.md INSTALL.md LICENSE-APACHE LICENSE-MIT NOTICES README.md SHA256SUMS \
+bench bin docs libexec share " "$(ls "$room/program" | LC_ALL=C sort | tr '\n' ' ')"
 for page in $(grep -o '\(docs\|bench\)/[A-Za-z]*[.][a-z]*' "$room/program/README.md" | sort -u); do
     is "$page, which its README names" yes "$([ -s "$room/program/$page" ] && echo yes)"
 done
-# An archive of the unpacked source is the same archive.
-mkdir "$room/source/build" && cp "$top/build/ptext" "$room/source/build"
-python3 "$room/source/tools/dist.py" archives "$room/three" >"$room/said"
-is "an archive of the archive" same "$(cmp -s "$room/one/ptext-$version.tar.gz" \
-    "$room/three/ptext-$version.tar.gz" && echo same)"
+for library in memchr arrayvec itoa core std std_alloc std_io; do
+    is "NOTICES names $library" yes "$(grep -q "rattle/$library/" "$room/program/NOTICES" && echo yes)"
+done
+# Each library that a crate uses is named too, and the license in NOTICES is that of the library in the toolchain.
+words() {
+    tr -s '[:space:].' ' '
+}
+terms=$(sed -n '/^ Permission/,/^$/p' "$room/program/NOTICES" | words)
+kit=$(dirname "$(dirname "$(readlink -f "$(command -v rt || echo /opt/rattle/bin/rt)")")")
+for library in $(sed -n 's/^pt[a-z]*: *//p' "$top/crates.txt" | tr ' ' '\n' | grep -v '^pt' | sort -u); do
+    is "NOTICES names $library" yes "$(grep -q "rattle/$library/" "$room/program/NOTICES" && echo yes)"
+    for file in LICENSE-MIT LICENSE; do
+        [ -f "$kit/rattle/$library/$file" ] || continue
+        is "the license of $library" "$terms" " $(sed -n '/^Permission/,$p' "$kit/rattle/$library/$file" | words)"
+        break
+    done
+done
 
-if command -v dpkg-deb >/dev/null; then
-    deb=ptext_$version-1_amd64.deb
-    python3 "$top/tools/dist.py" deb "$room/one" >"$room/said"
-    (umask 077 && cd / && python3 "$top/tools/dist.py" deb "$room/two" >"$room/said")
-    is "$deb, made twice" same "$(cmp -s "$room/one/$deb" "$room/two/$deb" && echo same)"
-    is "its version" "$version-1" "$(dpkg-deb -f "$room/one/$deb" Version)"
+# The commands of INSTALL.md.
+lines() {
+    sed -n 's/^    //p' "$room/program/INSTALL.md" | grep "$1"
+}
+mkdir "$room/home"
+(cd "$room/program" && export HOME="$room/home" && eval "$(lines '^mkdir\|^cp')")
+local=$room/home/.local
+is "the program of the archive" acd "$(echo abcd | "$local/bin/ptext" cut -c 3-,1)"
+is "a tool of the archive by its own name" '1 a' "$(echo a | PATH=$local/libexec/ptext/bin:$PATH uniq -c)"
+ln -s "$local/libexec/ptext/bin/cut" "$room/home/cut"
+is "and through a link" b "$(echo ab | "$room/home/cut" -c 2)"
+is "all tools of the archive" "comm cut join paste tr uniq " "$(ls "$local/libexec/ptext/bin" | tr '\n' ' ')"
+case $commit in
+    unknown*) made= ;;
+    *' changed') made=", commit $(expr "$commit" : '\(............\)'), changed" ;;
+    *) made=", commit $(expr "$commit" : '\(............\)')" ;;
+esac
+for page in share/man/man1/ptext.1 libexec/ptext/man/man1/cut.1; do
+    is "the commit in $page" ".Os ptext $version$made" "$(grep '^[.]Os' "$local/$page")"
+done
+is "the script of the archive" yes "$([ -x "$local/share/ptext/cut_at_keys.sh" ] && echo yes)"
+is "the page of section 7" yes "$([ -s "$local/share/man/man7/ptext-replacing.7" ] && echo yes)"
+is "the file that bash reads" yes "$([ -s "$local/$(lines '^[.] ' | sed 's/.*[.]local.//')" ] && echo yes)"
+(export HOME="$room/home" && eval "$(lines '^cd ')")
+is "nothing is left of the archive" "" "$(find "$local" ! -type d; find "$local" -name 'ptext*')"
+
+# An archive of the unpacked source is the same archive, also after dpkg-buildpackage was called there; one of a source
+# that is changed is refused.
+mkdir "$room/source/build" && cp "$top/build/ptext" "$room/source/build"
+mkdir "$room/source/debian/tmp" && ln -s nothing "$room/source/debian/tmp/link" && : >"$room/source/debian/files"
+again() {
+    python3 "$room/source/tools/dist.py" archives "$room/three" "$@" 2>&1
+}
+again >"$room/said"
+same "an archive of the archive" "$room/one/ptext-$version.tar.gz" "$room/three/ptext-$version.tar.gz"
+rm -r "$room/three" "$room/source/debian/tmp" "$room/source/debian/files"
+echo >>"$room/source/README.md"
+: >"$room/source/docs/new.md"
+uncommitted() {
+    echo "$1. $2(\`make dist CHANGED=yes\` makes the archives all the same, and they say so.) No archive was made."
+}
+is "one of a changed archive" \
+    "$(uncommitted 'not as in the archive of the source: README.md, docs/new.md' '')" "$(again)"
+commit_said() {
+    tar -xzOf "$room/three/ptext-$version-linux-x86_64.tar.gz" "ptext-$version-linux-x86_64/$1"
+}
+again --changed >"$room/said"
+is "the commit of a changed archive" "${commit% changed} changed" "$(commit_said COMMIT)"
+made=${made:+${made%, changed}, changed}
+is "and in a page" ".Os ptext $version$made" "$(commit_said share/man/man1/ptext.1 | grep '^[.]Os')"
+rm -r "$room/three"
+make -s -C "$room/source" PTEXT_AS_BUILT=yes install PREFIX="$room/four" DESTDIR= >"$room/said" 2>&1
+is "and in an installed page" ".Os ptext $version$made" "$(grep '^[.]Os' "$room/four/share/man/man1/ptext.1")"
+is "nothing is left of it" "" "$(ls -d "$room/three" 2>&1 | grep -v 'No such')"
+# If a file is in the way, or if there is no room, nothing is made.
+: >"$room/three"
+is "a file in the way" "cannot write $room/three: File exists. Nothing was made." "$(dist "$room/three" 2>&1)"
+rm "$room/three"
+is "no room" "cannot write $room/three: File too large. Nothing was made." \
+    "$(ulimit -f 8 && dist "$room/three" 2>&1 | sed "s|write /[^:]*:|write $room/three:|; s|^strip: .*||; /^\$/d")"
+is "nothing is left of them" "" "$(ls -Ad "$room"/.ptext-* "$room/three" 2>/dev/null)"
+
+if command -v git >/dev/null; then
+    (cd "$room/source" && git init -q && git add -A && git -c user.name=a -c user.email=a@b.c commit -qm one) \
+        >"$room/said" 2>&1
+    again >"$room/said"
+    is "the commit of a checkout" "$(git -C "$room/source" rev-parse HEAD)" \
+        "$(tar -xzOf "$room/three/ptext-$version.tar.gz" "ptext-$version/COMMIT")"
+    rm -r "$room/three"
+    touch "$room/source/build/ptext"
+    echo >>"$room/source/docs/new.md"
+    : >"$room/source/docs/newer.md"
+    is "what is not committed" "$(uncommitted 'not committed: docs/new.md, docs/newer.md' 'Commit first. ')" \
+        "$(refused "$room/source" dist)"
+    is "nothing is left of it" ptext "$(ls -A "$room/source/build")"
+else
+    echo "left out: archives of a checkout (there is no git)"
+    mkdir "$room/source/.git"
+fi
+# Without git, without the tools of the packages, and without the toolchain: one line, and nothing is left behind.
+mkdir "$room/few"
+for program in make sh python3 id find strip; do
+    found=$(command -v $program)
+    [ $program = python3 ] && found=$(python3 -c 'import sys; print(sys.executable)')
+    [ -n "$found" ] && ln -s "$found" "$room/few/$program"
+done
+few() {
+    (unset PTEXT_AS_BUILT; PATH=$room/few && export PATH && make -s -C "$room/source" "$1" 2>&1) | grep -v '^make'
+}
+is "no git" "cannot tell which commit this is: it is no checkout with git, and no unpacked archive of the source. \
+(\`make dist CHANGED=yes\` makes the archives all the same.) No archive was made." "$(few dist)"
+is "no dpkg-buildpackage" "there is no dpkg-buildpackage, which the Debian package dpkg-dev has. No package was made." \
+    "$(few deb)"
+is "nothing is left of both" ptext "$(ls -A "$room/source/build")"
+rm -r "$room/source/build"
+for target in dist deb; do
+    is "no toolchain for $target" 1 "$(few $target | grep -c '^there is no rt in PATH: ')"
+    is "and nothing else is said" 1 "$(few $target | wc -l)"
+done
+is "nothing is left of them" "" "$(ls -Ad "$room/source/build" 2>/dev/null)"
+
+if [ "${WITHOUT_PACKAGES:-}" ]; then
+    echo "left out: the Debian packages (WITHOUT_PACKAGES)"
+elif command -v dpkg-buildpackage >/dev/null && command -v dh >/dev/null; then
+    DEB_BUILD_OPTIONS=nocheck
+    export DEB_BUILD_OPTIONS
+    python3 "$top/tools/dist.py" deb "$room/one" >"$room/said.one" 2>&1 &
+    mkdir "$room/a b"
+    (umask 077 && cd / && TMPDIR="$room/a b" python3 "$top/tools/dist.py" deb "$room/two") >"$room/said" 2>&1
+    wait $! || { cat "$room/said.one"; bad=$((bad + 1)); }
+    deb=ptext_$version-1_amd64.deb tools=ptext-tools_$version-1_all.deb
+    list=ptext_$version-1_amd64
+    is "what it says" "made in $room/two: $tools, $list.buildinfo, $list.changes, $deb" "$(cat "$room/said")"
+    for file in "$deb" "$tools"; do
+        same "$file, made twice" "$room/one/$file" "$room/two/$file"
+        is "its version" "$version-1" "$(dpkg-deb -f "$room/one/$file" Version)"
+    done
     if command -v dpkg >/dev/null && [ "$(id -u)" = 0 ]; then
         # Into a folder with a list of packages of its own; --force-depends, as that list has no C library.
         mkdir -p "$room/root/var/lib/dpkg/updates" "$room/root/var/lib/dpkg/info"
         : >"$room/root/var/lib/dpkg/status"
         # (Images of small systems leave pages out; here all is installed.)
-        dpkg --root="$room/root" --path-include='/*' --log=/dev/null --force-depends --force-script-chrootless \
-            -i "$room/one/$deb" >"$room/said" 2>&1 \
-            || { cat "$room/said"; bad=$((bad + 1)); }
-        is "the program of the package" acd "$(echo abcd | "$room/root/usr/bin/ptext" cut -c 3-,1)"
-        is "its tools by name" 'exec /usr/bin/ptext uniq "$@"' "$(tail -n 1 "$room/root/usr/libexec/ptext/bin/uniq")"
-        about=$room/root/usr/share/doc/ptext
-        for page in README.md $(grep -o '\(docs\|bench\)/[A-Za-z]*[.][a-z]*' "$about/README.md" | sort -u); do
+        into() {
+            dpkg --root="$room/root" --path-include='/*' --log=/dev/null --force-depends --force-script-chrootless \
+                "$@" >"$room/said" 2>&1 || { cat "$room/said"; bad=$((bad + 1)); }
+        }
+        into -i "$room/one/$deb" "$room/one/$tools"
+        usr=$room/root/usr
+        is "the program of the package" acd "$(echo abcd | "$usr/bin/ptext" cut -c 3-,1)"
+        if command -v readelf >/dev/null; then
+            is "it is stripped" "" "$(readelf -S "$usr/bin/ptext" | grep -F .symtab)"
+        fi
+        is "its tools by name" 'exec /usr/bin/ptext uniq "$@"' "$(tail -n 1 "$usr/libexec/ptext/bin/uniq")"
+        for name in cut paste join comm uniq tr; do
+            same "the page of $name" "$usr/libexec/ptext/man/man1/$name.1.gz" "$usr/share/man/man1/ptext-$name.1.gz"
+            is "$name in fish" yes "$([ -s "$usr/share/fish/vendor_completions.d/$name.fish" ] && echo yes)"
+        done
+        about=$usr/share/doc/ptext
+        for page in README.md NOTICES $(grep -o '\(docs\|bench\)/[A-Za-z]*[.][a-z]*' "$about/README.md" | sort -u); do
             is "$page, to read in the package" yes "$([ -s "$about/$page" ] && echo yes)"
         done
-        for library in $(sed -n 's/^---- //p' "$about/NOTICES"); do
-            is "its copyright names $library" 1 "$(grep '^Comment:' "$about/copyright" | grep -cw "$library")"
-        done
-        is "its pages" 7 "$(ls "$room/root/usr/share/man/man1" | grep -c '^ptext.*\.1\.gz$')"
-        dpkg --root="$room/root" --log=/dev/null --force-script-chrootless -P ptext >"$room/said" 2>&1 ||
-            { cat "$room/said"; bad=$((bad + 1)); }
-        is "nothing is left of the package" "" "$(find "$room/root" -name '*ptext*')"
+        same "its copyright" "$about/copyright" "$top/debian/copyright"
+        is "its pages" 7 "$(ls "$usr/share/man/man1" | grep -c '^ptext.*\.1\.gz$')"
+        is "its page of section 7" ptext-replacing.7.gz "$(ls "$usr/share/man/man7")"
+        is "its script" yes "$([ -x "$usr/share/ptext/cut_at_keys.sh" ] && echo yes)"
+        is "completion in bash" "ptext ptext-tools " "$(ls "$usr/share/bash-completion/completions" | tr '\n' ' ')"
+        is "completion in zsh" "_ptext _ptext_tools " "$(ls "$usr/share/zsh/vendor-completions" | tr '\n' ' ')"
+        into -P ptext-tools ptext
+        is "nothing is left of the packages" "" "$(find "$room/root" -name '*ptext*')"
     else
-        echo "left out: the installation of the package (it takes dpkg, and root)"
+        echo "left out: the installation of the packages (it takes dpkg, and root)"
     fi
     if command -v lintian >/dev/null; then
-        # (It is no upload to Debian, and so closes no report there.)
-        # Another version of lintian may find more, so this is shown and not counted.
-        lintian --fail-on none "$room/one/$deb" 2>/dev/null | grep '^[EW]:' | grep -v initial-upload-closes-no-bugs
+        # (debian/*.lintian-overrides have its other findings, with the reasons. Another version of lintian may find
+        # more, so this is shown and not counted.)
+        lintian --fail-on none -I "$room/one/$list.changes" 2>/dev/null | grep '^[EWI]:'
     else
-        echo "left out: what lintian says of the package (there is no lintian)"
+        echo "left out: what lintian says of the packages (there is no lintian)"
     fi
 else
-    echo "left out: the Debian package (there is no dpkg-deb)"
+    echo "left out: the Debian packages (there is no dpkg-buildpackage, or no debhelper)"
 fi
 
-[ "$bad" = 0 ] && echo "archives and package: made twice, looked into, installed and taken away"
+[ "$bad" = 0 ] && echo "archives and packages: made twice, looked into, installed and taken away"
 [ "$bad" = 0 ]

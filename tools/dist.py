@@ -1,9 +1,17 @@
 #!/usr/bin/env python3
-"""Makes what is handed on: archives, and a Debian package. Made twice of the same files, they have the same bytes.
+"""Makes what is handed on: archives and Debian packages. Made twice of the same files, they have the same bytes. (The
+list of the packages has not: it names the time and the environment.)
 
-  python3 tools/dist.py archives FOLDER     ptext-VERSION.tar.gz, the source; ptext-VERSION-linux-x86_64.tar.gz, the
-                                            stripped program with its pages, docs and completion; SHA256SUMS of both
-  python3 tools/dist.py deb FOLDER          ptext_VERSION-1_amd64.deb, with the same, and each tool under its own name
+  python3 tools/dist.py archives FOLDER [--changed]   ptext-VERSION.tar.gz, the source;
+                                                      ptext-VERSION-linux-x86_64.tar.gz, the stripped program with its
+                                                      pages, docs and completion, and the tools by their own names;
+                                                      SHA256SUMS of both
+  python3 tools/dist.py deb FOLDER                    two packages by dpkg-buildpackage, and its list of them, which has
+                                                      their checksums
+
+An archive contains COMMIT, which names the commit that the source is of, and SHA256SUMS of its files. If the source has
+changed since that commit, no archive is made; with --changed they are made, and COMMIT and the pages say that it has.
+Packages are made in both cases, and their pages say it.
 """
 import gzip
 import hashlib
@@ -11,6 +19,7 @@ import io
 import os
 import re
 import shutil
+import signal
 import subprocess
 import sys
 import tarfile
@@ -18,39 +27,90 @@ import tempfile
 
 sys.dont_write_bytecode = True
 
-from build import PROGRAM, below
-from check import uses_of
-from install import TOP, bytes_of, files, script, stripped
-from names import LISTED, NAMES
+from install import TOP, bytes_of, files, files_of_tools, git, lines_of, source_id
 
 VERSION = bytes_of(f"{TOP}/VERSION").decode().strip()
-LICENSES = ["LICENSE-MIT", "LICENSE-APACHE"]
 # The time that every file bears, if SOURCE_DATE_EPOCH names no other: that of this version.
 TIME = int(os.environ.get("SOURCE_DATE_EPOCH", "1795348800"))
+# The files that an archive has besides those that were given to it.
+ADDED = ("COMMIT", "SHA256SUMS")
+# What dpkg-buildpackage makes in the folder debian, if it is called in this one.
+OF_BUILD = re.compile(r"\.debhelper|debhelper-build-stamp|files|tmp|ptext|ptext-tools|.*\.(substvars|debhelper\.log)")
+# The folders of an installation, below that into which the archive of the program is unpacked.
+BELOW = {"bindir": "bin", "libexecdir": "libexec", "datadir": "share", "mandir": "share/man"}
+# How the archive of the program is installed, used and removed. (tests/packages.sh runs these commands.)
+INSTALL = """# ptext, the archive of the program
+
+For one user, in the folder with this file:
+
+    mkdir -p ~/.local
+    cp -r bin libexec share ~/.local
+
+`~/.local/bin` has to be in `PATH`. For all users, put `/usr/local` in place of `~/.local`, as root.
+
+To use the tools by their own names (`cut` in place of `ptext cut`), read `man ptext-replacing`, and put
+`~/.local/libexec/ptext/bin` first in `PATH`. Then `man cut` shows the page of this `cut`, and zsh and fish complete its
+options. bash does so with this line in `~/.bash_completion`:
+
+    . ~/.local/share/bash-completion/completions/ptext-tools
+
+To remove it all:
+
+    cd ~/.local && xargs rm < share/ptext/files && rmdir {folders}
+
+The program contains code of others: NOTICES has the licenses. SHA256SUMS has the checksums of all these files
+(`sha256sum -c SHA256SUMS`), and COMMIT names the commit of the source.
+"""
+
+
+def script(_, name):
+    """Runs a tool by its own name, from wherever the archive was unpacked, and through a link too."""
+    return (
+        '#!/bin/sh\nat=$0\n[ -L "$at" ] && at=$(readlink -f "$at")\n'
+        f'exec "${{at%/*}}/../../../bin/ptext" {name} "$@"\n'
+    ).encode()
 
 
 def source_files():
-    """The files of the repository: those that git knows, or, outside a checkout, all but what was built."""
-    if os.path.exists(f"{TOP}/.git") and shutil.which("git"):
-        words = ["git", "-c", f"safe.directory={TOP}", "ls-files", "-z"]
-        said = subprocess.run(words, cwd=TOP, check=False, capture_output=True)
-        if not said.returncode:
-            return sorted(it for it in said.stdout.decode().split("\0") if it and os.path.isfile(f"{TOP}/{it}"))
+    """The files of the source: those that git knows, or, outside a checkout, all but what was built."""
+    known = git("ls-files", "-z")
+    if known is not None:
+        return sorted(it for it in known.split("\0") if os.path.isfile(f"{TOP}/{it}") and it not in ADDED)
     found = []
     for at, folders, names in os.walk(TOP):
         inside = os.path.relpath(at, TOP)
         is_crate = os.path.dirname(inside) == "crates"
+        if inside == "debian":
+            folders[:], names = ([it for it in some if not OF_BUILD.fullmatch(it)] for some in (folders, names))
         folders[:] = [
             it
             for it in folders
             if not (it == "out" and is_crate or it in ("build", ".git") and inside == "." or it == "__pycache__")
         ]
-        found += [os.path.normpath(f"{inside}/{it}") for it in names]
-    return sorted(found)
+        # (In a second worktree .git is a file.)
+        found += [os.path.normpath(f"{inside}/{it}") for it in names if it != ".git"]
+    return sorted(it for it in found if it not in ADDED)
 
 
-def archive(path, front, members):
+def sums_of(members):
+    return "".join(f"{hashlib.sha256(text).hexdigest()}  {name}\n" for name, _, text in sorted(members))
+
+
+def changes(members):
+    """The files that are not those of the commit. None if that cannot be known."""
+    said = git("status", "--porcelain", "-z", "--no-renames", "--untracked-files=all")
+    if said is not None:
+        return [it[3:] for it in said.split("\0") if it]
+    if os.path.exists(f"{TOP}/.git") or not os.path.exists(f"{TOP}/SHA256SUMS"):
+        return None
+    wanted, found = set(lines_of(f"{TOP}/SHA256SUMS")), set(sums_of(members).splitlines())
+    return sorted({it.partition("  ")[2] for it in wanted ^ found} - set(ADDED))
+
+
+def archive(path, front, members, commit):
     """An archive of members, each a name, a mode and bytes, below the folder `front`."""
+    members = [*members, ("COMMIT", 0o644, f"{commit}\n".encode())]
+    members.append(("SHA256SUMS", 0o644, sums_of(members).encode()))
     with open(path, "wb") as raw, gzip.GzipFile("", "wb", 9, raw, mtime=0) as packed:
         with tarfile.open(mode="w", fileobj=packed, format=tarfile.USTAR_FORMAT) as it:
             for name, mode, text in sorted(members):
@@ -60,160 +120,132 @@ def archive(path, front, members):
                 it.addfile(about, io.BytesIO(text))
 
 
-def mode_of(path):
-    return 0o755 if os.access(path, os.X_OK) else 0o644
+def source_members():
+    def mode_of(path):
+        return 0o755 if os.access(path, os.X_OK) else 0o644
+
+    return [(it, mode_of(f"{TOP}/{it}"), bytes_of(f"{TOP}/{it}")) for it in source_files()]
 
 
-def texts():
-    """What there is to read: the README, and what it names and shows."""
-    docs = [f"docs/{it}" for it in os.listdir(f"{TOP}/docs") if it.endswith(".md")]
-    read = ["README.md", "CHANGELOG.md", "CONTRIBUTING.md", "bench/README.md", "bench/speed.svg", *docs]
-    return [(it, 0o644, bytes_of(f"{TOP}/{it}")) for it in read]
+def program_members(commit):
+    """The program as `make install install-tools` installs it, the docs that its README names, and how to remove it."""
+    installed = [*files(BELOW, commit), *files_of_tools(BELOW, script, commit)]
+    listed = "".join(f"{it}\n" for it in sorted([*(name for name, _, _ in installed), "share/ptext/files"]))
+    docs = [f"docs/{it}" for it in os.listdir(f"{TOP}/docs") if it.endswith((".md", ".svg"))]
+    read = ["README.md", "CHANGELOG.md", "CONTRIBUTING.md", "LICENSE-MIT", "LICENSE-APACHE", *docs]
+    read += ["bench/README.md", "bench/speed.svg"]
+    own = ["libexec/ptext/bin", "libexec/ptext/man/man1", "libexec/ptext/man", "libexec/ptext", "share/ptext"]
+    return [
+        *installed,
+        ("share/ptext/files", 0o644, listed.encode()),
+        ("INSTALL.md", 0o644, INSTALL.replace("{folders}", " ".join(own)).encode()),
+        ("NOTICES", 0o644, bytes_of(f"{TOP}/debian/copyright")),
+        *((it, 0o644, bytes_of(f"{TOP}/{it}")) for it in read),
+    ]
 
 
-def libraries_within():
-    """The toolchain's libraries whose code is in the program."""
-    uses = uses_of(bytes_of(f"{TOP}/crates.txt").decode())
-    return sorted({it for crate in below(PROGRAM, uses) | {PROGRAM} for it in uses[crate]} - set(uses))
+def put_all(room, folder):
+    """Moves all files of a room to a folder, made if it is not there."""
+    is_new = not os.path.isdir(folder)
+    os.makedirs(folder, exist_ok=True)
+    try:
+        # On the same disk first, so that a full disk leaves nothing.
+        with tempfile.TemporaryDirectory(prefix=".ptext-", dir=folder) as beside:
+            for name in os.listdir(room):
+                shutil.copy(f"{room}/{name}", f"{beside}/{name}")
+                os.chmod(f"{beside}/{name}", 0o644)
+            for name in sorted(os.listdir(beside)):
+                os.replace(f"{beside}/{name}", f"{folder}/{name}")
+    except (OSError, KeyboardInterrupt):
+        if is_new:
+            shutil.rmtree(folder, ignore_errors=True)
+        raise
 
 
-def notices():
-    """The licenses of the libraries within, as the toolchain has them."""
-    libraries = libraries_within()
-    bin_folder = os.path.dirname(os.path.realpath(shutil.which("rt") or "/opt/rattle/bin/rt"))
-    text = f"ptext contains code of {', '.join(libraries)}, under these licenses.\n"
-    for library in libraries:
-        known = [f"{bin_folder}/../rattle/{library}/{name}" for name in ("LICENSE-MIT", "LICENSE")]
-        text += f"\n---- {library}\n\n{bytes_of(next(filter(os.path.isfile, known))).decode()}"
-    return ("NOTICES", 0o644, text.encode())
+def listed(names):
+    return ", ".join(names[:3]) + (f" and {len(names) - 3} more" if len(names) > 3 else "")
 
 
-def archives(folder):
-    named = f"ptext-{VERSION}"
-    archive(
-        f"{folder}/{named}.tar.gz",
-        named,
-        [(it, mode_of(f"{TOP}/{it}"), bytes_of(f"{TOP}/{it}")) for it in source_files()],
-    )
-    built = f"{named}-linux-x86_64"
-    licenses = [(it, 0o644, bytes_of(f"{TOP}/{it}")) for it in LICENSES]
-    archive(f"{folder}/{built}.tar.gz", built, [*files("", False), *texts(), *licenses, notices()])
-    sums = [f"{hashlib.sha256(bytes_of(f'{folder}/{it}.tar.gz')).hexdigest()}  {it}.tar.gz\n" for it in (named, built)]
-    with open(f"{folder}/SHA256SUMS", "w", encoding="ascii") as it:
-        it.write("".join(sums))
-    print(f"made {folder}/{named}.tar.gz, {built}.tar.gz and SHA256SUMS")
-
-
-def packed(text):
-    return gzip.compress(text, 9, mtime=0)
-
-
-def needed_libc(program):
-    """The least version of the C library that has all that the program asks of it."""
-    found = re.findall(rb"GLIBC_([0-9]+)\.([0-9]+)", program)
-    return ".".join(map(str, max((int(one), int(two)) for one, two in found)))
-
-
-COPYRIGHT = """Format: https://www.debian.org/doc/packaging-manuals/copyright-format/1.0/
-Upstream-Name: ptext
-Comment: The program contains code of {libraries}.
- Their licenses and authors are in the file NOTICES beside this one.
-
-Files: *
-Copyright: 2026 the ptext authors
-License: Expat or Apache-2.0
-
-License: Expat
-{mit}
-License: Apache-2.0
- On Debian systems the full text is in /usr/share/common-licenses/Apache-2.0.
-"""
-
-# (There is no Homepage: this project has no address of its own.)
-CONTROL = """Package: ptext
-Version: {version}-1
-Section: utils
-Priority: optional
-Architecture: amd64
-Maintainer: The ptext authors <ptext@ptext.invalid>
-Installed-Size: {size}
-Depends: libc6 (>= {libc})
-Description: {tools} in one proved program
- The six POSIX tools for lines and fields as one program, whose first word
- names the tool. What it writes, what it says and how it ends is proved, for
- every command line in UTF-8 and every input. If a read, a write or a request
- for memory fails, what was written is a correct prefix of the output.
- .
- /usr/libexec/ptext/bin has each tool by its own name.
-"""
-
-CHANGES = """ptext ({version}-1) unstable; urgency=low
-
-  * See changelog.gz for what this version has.
-
- -- The ptext authors <ptext@ptext.invalid>  {date}
-"""
-
-
-def indented(text):
-    return "".join(f" {line}\n" if line.strip() else " .\n" for line in text.splitlines())
-
-
-def package_files():
-    """The files of the package below /, each a name, a mode and bytes."""
-    found = []
-    for name, mode, text in files("/usr", False):
-        name = name.replace("share/zsh/site-functions", "share/zsh/vendor-completions")
-        page = name.startswith("share/man/")
-        found.append((f"usr/{name}.gz" if page else f"usr/{name}", mode, packed(text) if page else text))
-    found += [(f"usr/libexec/ptext/bin/{name}", 0o755, script("/usr", name)) for name in NAMES]
-    about, date = "usr/share/doc/ptext", subprocess.run(
-        ["date", "-u", "-R", "-d", f"@{TIME}"], check=True, capture_output=True
-    )
-    found.append((f"{about}/changelog.gz", 0o644, packed(bytes_of(f"{TOP}/CHANGELOG.md"))))
-    found += [(f"{about}/{name}", mode, text) for name, mode, text in [*texts(), notices()] if name != "CHANGELOG.md"]
-    changes = CHANGES.format(version=VERSION, date=date.stdout.decode().strip())
-    found.append((f"{about}/changelog.Debian.gz", 0o644, packed(changes.encode())))
-    mit = bytes_of(f"{TOP}/LICENSE-MIT").decode().partition("\n\n")[2].partition("\n\n")[2]
-    said = COPYRIGHT.format(mit=indented(mit), libraries=", ".join(libraries_within()))
-    found.append((f"{about}/copyright", 0o644, said.encode()))
-    return found
+def archives(folder, is_changed):
+    source = source_members()
+    changed, commit = changes(source), source_id() or "unknown"
+    if changed is None and not is_changed:
+        return (
+            "cannot tell which commit this is: it is no checkout with git, and no unpacked archive of the source. "
+            "(`make dist CHANGED=yes` makes the archives all the same.) No archive was made."
+        )
+    if changed and not is_changed:
+        is_checkout = os.path.exists(f"{TOP}/.git")
+        return (
+            f"not {'committed' if is_checkout else 'as in the archive of the source'}: {listed(changed)}. "
+            f"{'Commit first. ' if is_checkout else ''}(`make dist CHANGED=yes` makes the archives all the same, and "
+            "they say so.) No archive was made."
+        )
+    if changed and not commit.endswith(" changed"):
+        commit += " changed"
+    named, built = f"ptext-{VERSION}", f"ptext-{VERSION}-linux-x86_64"
+    with tempfile.TemporaryDirectory() as room:
+        archive(f"{room}/{named}.tar.gz", named, source, commit)
+        archive(f"{room}/{built}.tar.gz", built, program_members(commit), commit)
+        sums = sums_of([(f"{it}.tar.gz", 0, bytes_of(f"{room}/{it}.tar.gz")) for it in (named, built)])
+        with open(f"{room}/SHA256SUMS", "w", encoding="ascii") as it:
+            it.write(sums)
+        put_all(room, folder)
+    print(f"made {folder}/{named}.tar.gz, {built}.tar.gz and SHA256SUMS, of commit {commit}")
+    return 0
 
 
 def deb(folder):
-    if not shutil.which("dpkg-deb"):
-        return "there is no dpkg-deb"
+    for program, package in (("dpkg-buildpackage", "dpkg-dev"), ("dh", "debhelper")):
+        if not shutil.which(program):
+            return f"there is no {program}, which the Debian package {package} has. No package was made."
+    if "nocheck" not in os.environ.get("DEB_BUILD_OPTIONS", ""):
+        print("the program is tested too, which takes minutes; DEB_BUILD_OPTIONS=nocheck tests nothing", flush=True)
+    members = source_members()
     with tempfile.TemporaryDirectory() as room:
-        given = package_files()
-        size = sum(len(text) // 1024 + 1 for _, _, text in given)
-        tools, libc = LISTED.replace(" or ", " and "), needed_libc(stripped(f"{TOP}/build/ptext"))
-        control = CONTROL.format(tools=tools, version=VERSION, size=size, libc=libc)
-        sums = "".join(f"{hashlib.md5(text).hexdigest()}  {name}\n" for name, _, text in sorted(given))
-        given += [("DEBIAN/control", 0o644, control.encode()), ("DEBIAN/md5sums", 0o644, sums.encode())]
+        top = f"{room}/ptext-{VERSION}"
+        commit = source_id() or "unknown"
+        if changes(members) and not commit.endswith(" changed"):
+            commit += " changed"
         os.umask(0o022)
-        os.chmod(room, 0o755)
-        for name, mode, text in given:
-            os.makedirs(os.path.dirname(f"{room}/{name}"), exist_ok=True)
-            with open(f"{room}/{name}", "wb") as it:
+        for name, mode, text in [*members, ("COMMIT", 0o644, f"{commit}\n".encode())]:
+            os.makedirs(os.path.dirname(f"{top}/{name}"), exist_ok=True)
+            with open(f"{top}/{name}", "wb") as it:
                 it.write(text)
-            os.chmod(f"{room}/{name}", mode)
-        for at, _, names in os.walk(room):
-            for it in [at, *(f"{at}/{name}" for name in names)]:
-                os.utime(it, (TIME, TIME))
-        path = f"{folder}/ptext_{VERSION}-1_amd64.deb"
-        surroundings = {**os.environ, "SOURCE_DATE_EPOCH": str(TIME)}
-        words = ["dpkg-deb", "--root-owner-group", "-Zxz", "--build", room, path]
-        status = subprocess.run(words, env=surroundings, stdout=subprocess.DEVNULL, check=False).returncode
-        print(f"could not make {path}" if status else f"made {path}")
-        return status
+            os.chmod(f"{top}/{name}", mode)
+            os.utime(f"{top}/{name}", (TIME, TIME))
+        # It is newer than its source here, so that nothing is proved again.
+        os.mkdir(f"{top}/build")
+        shutil.copyfile(f"{TOP}/build/ptext", f"{top}/build/ptext")
+        os.chmod(f"{top}/build/ptext", 0o755)
+        words = ["dpkg-buildpackage", "-us", "-uc", "-b"]
+        # (These would be handed to the make of the package.)
+        kept = {it: value for it, value in os.environ.items() if it not in ("MAKEFLAGS", "MFLAGS", "MAKELEVEL")}
+        did = subprocess.run(words, cwd=top, env=kept, check=False, stdout=subprocess.PIPE, stderr=subprocess.STDOUT)
+        if did.returncode:
+            sys.stderr.buffer.write(did.stdout)
+            return "dpkg-buildpackage failed. No package was made."
+        shutil.rmtree(top)
+        made = sorted(os.listdir(room))
+        put_all(room, folder)
+    print(f"made in {folder}: {', '.join(made)}")
+    return 0
 
 
 def main():
-    does = {"archives": archives, "deb": deb}
-    if len(sys.argv) != 3 or sys.argv[1] not in does:
+    words = [it for it in sys.argv[1:] if it != "--changed"]
+    if len(words) != 2 or words[0] not in ("archives", "deb"):
         return __doc__
-    os.makedirs(sys.argv[2], exist_ok=True)
-    return does[sys.argv[1]](sys.argv[2])
+    if not os.path.isfile(f"{TOP}/build/ptext"):
+        return "there is no build/ptext: run make first. Nothing was made."
+    # What is ended leaves nothing behind, as what is stopped by Ctrl-C.
+    signal.signal(signal.SIGTERM, signal.default_int_handler)
+    try:
+        return deb(words[1]) if words[0] == "deb" else archives(words[1], "--changed" in sys.argv)
+    except OSError as why:
+        return f"cannot write {why.filename or words[1]}: {why.strerror}. Nothing was made."
+    except KeyboardInterrupt:
+        return "stopped: nothing was made."
 
 
 if __name__ == "__main__":

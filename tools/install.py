@@ -1,14 +1,19 @@
 #!/usr/bin/env python3
-"""Installs the built program, its pages and its completion, and takes away exactly what was installed.
+"""Installs the built program, its pages, its completion and cut_at_keys.sh, and removes exactly what was installed.
 
-  python3 tools/install.py install PREFIX [DESTDIR]     the program, the pages, the completion
-  python3 tools/install.py tools PREFIX [DESTDIR]       libexec/ptext/bin: a script for each tool
-  python3 tools/install.py uninstall PREFIX [DESTDIR]   all of it, and the folders that were made for it
+  python3 tools/install.py install PREFIX [DESTDIR] [NAME=VALUE..]     the program, its pages, completion and script
+  python3 tools/install.py tools PREFIX [DESTDIR] [NAME=VALUE..]       each tool by its own name, page and completion
+  python3 tools/install.py uninstall PREFIX [DESTDIR] [NAME=VALUE..]   all of it, and the folders that were made for it
 
-Each file and each folder that was made is noted in share/ptext/installed. DESTDIR stands in front of every path that is
-written to, and in no file. Where something cannot be written, all is as it was before.
+The names are those of other projects: bindir (PREFIX/bin), libexecdir (PREFIX/libexec), datadir (PREFIX/share), mandir
+(datadir/man) and INSTALL_PROGRAM, the command that puts the program in its place (without one, it is stripped).
+
+Each file and each folder that was made is noted in datadir/ptext/installed. Every path that is written to begins with
+DESTDIR, but no file contains it. If something cannot be written, the earlier state is restored.
 """
 import contextlib
+import functools
+import hashlib
 import os
 import shlex
 import shutil
@@ -22,13 +27,20 @@ sys.dont_write_bytecode = True
 from names import NAMES
 
 TOP = os.path.dirname(os.path.dirname(os.path.realpath(__file__)))
-NOTED = "share/ptext/installed"
-# Each file that is installed, its mode, and where it comes from. (The program is stripped.)
-COMPLETION = [
-    ("share/bash-completion/completions/ptext", 0o644, "completion/ptext"),
-    ("share/zsh/site-functions/_ptext", 0o644, "completion/_ptext"),
-    ("share/fish/vendor_completions.d/ptext.fish", 0o644, "completion/ptext.fish"),
+# Each file below datadir, its mode, and its source.
+OTHERS = [
+    ("ptext/cut_at_keys.sh", 0o755, "tools/cut_at_keys.sh"),
+    ("bash-completion/completions/ptext", 0o644, "completion/ptext"),
+    ("zsh/site-functions/_ptext", 0o644, "completion/_ptext"),
+    ("fish/vendor_completions.d/ptext.fish", 0o644, "completion/ptext.fish"),
 ]
+# Those of the tools by their own names. (fish looks for the completion of a command in a file of its name.)
+OTHERS_OF_TOOLS = [
+    ("bash-completion/completions/ptext-tools", 0o644, "completion/ptext-tools"),
+    ("zsh/site-functions/_ptext_tools", 0o644, "completion/_ptext_tools"),
+    *((f"fish/vendor_completions.d/{name}.fish", 0o644, "completion/ptext-tools.fish") for name in NAMES),
+]
+VARIABLES = ("bindir", "libexecdir", "datadir", "mandir", "INSTALL_PROGRAM")
 
 
 def bytes_of(file):
@@ -41,7 +53,7 @@ def lines_of(file):
 
 
 def stripped(program):
-    """The program without its symbols; as it is where there is no strip."""
+    """The program without its symbols, or as it is if there is no strip."""
     if not shutil.which("strip"):
         return bytes_of(program)
     with tempfile.TemporaryDirectory() as room:
@@ -49,21 +61,72 @@ def stripped(program):
         return bytes_of(program if did.returncode else f"{room}/program")
 
 
-def script(prefix, name):
+def git(*words):
+    """The output of git over this folder, or None if there is no git, or if this is no checkout."""
+    if not os.path.exists(f"{TOP}/.git") or not shutil.which("git"):
+        return None
+    # (Root may read a checkout of somebody else, and leaves its index alone.)
+    words = ["git", "--no-optional-locks", "-c", f"safe.directory={TOP}", *words]
+    said = subprocess.run(words, cwd=TOP, check=False, capture_output=True, text=True)
+    return None if said.returncode else said.stdout
+
+
+def has_other_sums():
+    """Whether a file of an unpacked archive is not as SHA256SUMS has it. (Packages are made without SHA256SUMS.)"""
+    sums = dict(reversed(it.split("  ", 1)) for it in lines_of(f"{TOP}/SHA256SUMS"))
+    return any(
+        not os.path.isfile(f"{TOP}/{name}") or hashlib.sha256(bytes_of(f"{TOP}/{name}")).hexdigest() != wanted
+        for name, wanted in sums.items()
+    )
+
+
+@functools.cache
+def source_id():
+    """The commit of the source: that of the checkout, or, in an archive of the source, that in its file COMMIT.
+    "changed" follows if the source has changed since. Empty if the commit is not known."""
+    head = git("rev-parse", "HEAD")
+    if head is not None:
+        return head.strip() + (" changed" if git("status", "--porcelain") else "")
+    commit = "".join(lines_of(f"{TOP}/COMMIT"))
+    return commit + (" changed" if commit and not commit.endswith(" changed") and has_other_sums() else "")
+
+
+def page(name, commit=None):
+    """A manual page, whose last line names the commit (that of the source, or this one), if it is known, beside the
+    version."""
+    commit, _, is_changed = (source_id() if commit is None else commit).partition(" ")
+    commit = "" if commit == "unknown" else commit
+    made = f", commit {commit[:12]}{', changed' if is_changed else ''}" if commit else ""
+    lines = bytes_of(f"{TOP}/man/{name}").decode().splitlines(keepends=True)
+    return "".join(f"{it.rstrip()}{made}\n" if it.startswith(".Os ") else it for it in lines).encode()
+
+
+def script(bindir, name):
     """Runs a tool by its own name."""
-    return f'#!/bin/sh\nexec {shlex.quote(f"{prefix}/bin/ptext")} {name} "$@"\n'.encode()
+    return f'#!/bin/sh\nexec {shlex.quote(f"{bindir}/ptext")} {name} "$@"\n'.encode()
+
+
+def folders(prefix, given):
+    """The folders of an installation: those that are given, and the usual ones below the prefix."""
+    found = {"bindir": f"{prefix}/bin", "libexecdir": f"{prefix}/libexec", "datadir": f"{prefix}/share", **given}
+    return {"mandir": f"{found['datadir']}/man", **found}
 
 
 class Place:
-    """A prefix below DESTDIR, and what was noted as installed there: each path below the prefix, or above it as ../"""
+    """A prefix below DESTDIR, its folders, and the notes of an earlier installation: each path below the prefix, or
+    above it as ../"""
 
-    def __init__(self, prefix, destdir):
-        self.prefix = os.path.abspath(prefix)
-        self.root = os.path.abspath(destdir) + self.prefix if destdir else self.prefix
-        self.noted = lines_of(f"{self.root}/{NOTED}")
-        # what to do to have all as it was before, the last first
+    def __init__(self, prefix, destdir, given):
+        self.destdir = os.path.abspath(destdir) if destdir else ""
+        self.root = self.destdir + os.path.abspath(prefix)
+        self.install_program = given.get("INSTALL_PROGRAM", "")
+        given = {name: value for name, value in given.items() if name != "INSTALL_PROGRAM"}
+        self.folders = {it: os.path.abspath(value) for it, value in folders(prefix, given).items()}
+        self.notes = f"{self.destdir}{self.folders['datadir']}/ptext/installed"
+        self.noted = lines_of(self.notes)
+        # the steps that restore the earlier state, the last one first
         self.undoing = []
-        # what stood there before, under the names that it has until all went well
+        # the earlier files, under their temporary names
         self.kept = []
 
     def note(self, path):
@@ -81,7 +144,7 @@ class Place:
             self.note(folder)
 
     def unused_beside(self, path):
-        """An empty file of a name that nothing beside the path has. It goes where the installation does not go well."""
+        """A new empty file in the folder of the path. It is removed if the installation fails."""
         try:
             descriptor, name = tempfile.mkstemp(prefix=".ptext-", dir=os.path.dirname(path))
         except OSError as why:
@@ -90,9 +153,9 @@ class Place:
         self.undoing.append(lambda: os.path.lexists(name) and os.remove(name))
         return name
 
-    def put(self, name, mode, text):
-        """Puts a file in place once it is written whole; the one that stood there is kept until all went well."""
-        path = f"{self.root}/{name}"
+    def put(self, path, mode, text):
+        """Writes a file under a temporary name, then renames it. The earlier file is kept until all went well."""
+        path = self.destdir + path
         self.make_folder(os.path.dirname(path))
         if os.path.isdir(path) and not os.path.islink(path):
             raise IsADirectoryError(0, "there is a folder of that name", path)
@@ -104,6 +167,10 @@ class Place:
             # (A write that fails, as on a full disk, does not name the file itself.)
             raise OSError(why.errno, why.strerror, path if why.filename is None else why.filename) from why
         os.chmod(new, mode)
+        if self.install_program and path == f"{self.destdir}{self.folders['bindir']}/ptext":
+            did = subprocess.run([*shlex.split(self.install_program), f"{TOP}/build/ptext", new], check=False)
+            if did.returncode:
+                raise OSError(0, f"{self.install_program} failed", path)
         if os.path.lexists(path):
             old = self.unused_beside(path)
             os.replace(path, old)
@@ -114,9 +181,9 @@ class Place:
         self.note(path)
 
     def keep_notes(self):
-        self.make_folder(os.path.dirname(f"{self.root}/{NOTED}"))
-        self.note(f"{self.root}/{NOTED}")
-        self.put(NOTED, 0o644, "".join(f"{it}\n" for it in self.noted).encode())
+        self.make_folder(os.path.dirname(self.notes))
+        self.note(self.notes)
+        self.put(self.notes[len(self.destdir) :], 0o644, "".join(f"{it}\n" for it in self.noted).encode())
 
     def undo(self):
         for step in reversed(self.undoing):
@@ -124,24 +191,36 @@ class Place:
                 step()
 
     def settle(self):
-        """All went well: what stood there before goes."""
+        """Removes the earlier files, after all went well."""
         for old in self.kept:
             os.remove(old)
 
 
-def files(prefix, with_tools):
-    """What is installed: its name below the prefix, its mode, and its bytes."""
-    if with_tools:
-        return [(f"libexec/ptext/bin/{name}", 0o755, script(prefix, name)) for name in NAMES]
-    pages = [(f"share/man/man1/{page}", 0o644, f"man/{page}") for page in sorted(os.listdir(f"{TOP}/man"))]
-    program = ("bin/ptext", 0o755, stripped(f"{TOP}/build/ptext"))
-    return [program, *((name, mode, bytes_of(f"{TOP}/{source}")) for name, mode, source in [*pages, *COMPLETION])]
+def files(where, commit=None):
+    """The files to install into these folders: the path, the mode, and the bytes."""
+    pages = sorted(os.listdir(f"{TOP}/man"))
+    return [
+        (f"{where['bindir']}/ptext", 0o755, stripped(f"{TOP}/build/ptext")),
+        *((f"{where['mandir']}/man{name[-1]}/{name}", 0o644, page(name, commit)) for name in pages),
+        *((f"{where['datadir']}/{name}", mode, bytes_of(f"{TOP}/{source}")) for name, mode, source in OTHERS),
+    ]
 
 
-def install(place, with_tools=False):
+def files_of_tools(where, script_of=script, commit=None):
+    """The files with which each tool has its own name: a folder for PATH, and beside it one in which `man` then finds
+    the pages first."""
+    beside = f"{where['libexecdir']}/ptext"
+    return [
+        *((f"{beside}/bin/{name}", 0o755, script_of(where["bindir"], name)) for name in NAMES),
+        *((f"{beside}/man/man1/{name}.1", 0o644, page(f"ptext-{name}.1", commit)) for name in NAMES),
+        *((f"{where['datadir']}/{name}", mode, bytes_of(f"{TOP}/{source}")) for name, mode, source in OTHERS_OF_TOOLS),
+    ]
+
+
+def put_all(place, files_in):
+    """Puts all files in their places, or none. Returns a message if it failed."""
     try:
-        given = files(place.prefix, with_tools)
-        for name, mode, text in given:
+        for name, mode, text in files_in(place.folders):
             place.put(name, mode, text)
         place.keep_notes()
     except OSError as why:
@@ -151,18 +230,34 @@ def install(place, with_tools=False):
         place.undo()
         return "stopped: nothing was installed."
     place.settle()
-    if with_tools:
-        print(f"installed in {place.root}/libexec/ptext/bin: {', '.join(NAMES)}")
-    else:
-        pages = sum("/man1/" in name for name, _, _ in given)
-        print(
-            f"installed in {place.root}: bin/ptext, {pages} pages in share/man/man1, completion for bash, zsh and fish"
-        )
+    return ""
+
+
+def beside(place, name):
+    """One of the folders as a message has it: below the root, without the root."""
+    path = place.destdir + place.folders[name]
+    return os.path.relpath(path, place.root) if path.startswith(f"{place.root}/") else path
+
+
+def install(place):
+    why = put_all(place, files)
+    if why:
+        return why
+    print(
+        f"installed in {place.root}: {beside(place, 'bindir')}/ptext, {len(os.listdir(f'{TOP}/man'))} pages in "
+        f"{beside(place, 'mandir')}, completion for bash, zsh and fish, {beside(place, 'datadir')}/ptext/cut_at_keys.sh"
+    )
     return 0
 
 
 def install_tools(place):
-    return install(place, True)
+    why = put_all(place, files_of_tools)
+    if why:
+        return why
+    file = shlex.quote(f"{place.folders['datadir']}/{OTHERS_OF_TOOLS[0][0]}")
+    print(f"to complete them in bash, ~/.bash_completion needs: . {file}")
+    print(f"installed in {place.destdir}{place.folders['libexecdir']}/ptext/bin: {', '.join(NAMES)}")
+    return 0
 
 
 def uninstall(place):
@@ -172,31 +267,35 @@ def uninstall(place):
         print(f"nothing is noted as installed in {place.root}")
         return 0
     # The notes go last, so that what is left is known.
-    notes = os.path.normpath(f"{place.root}/{NOTED}")
     try:
-        for path in sorted(paths, key=lambda it: it == notes):
+        for path in sorted(paths, key=lambda it: it == place.notes):
             if os.path.isfile(path) or os.path.islink(path):
                 os.remove(path)
         for path in sorted(paths, key=len, reverse=True):
             if os.path.isdir(path) and not os.listdir(path):
                 os.rmdir(path)
     except OSError as why:
-        return f"cannot uninstall: {why.filename}: {why.strerror}. What is left is noted in {notes}."
+        return f"cannot uninstall: {why.filename}: {why.strerror}. What is left is noted in {place.notes}."
     print(f"what was installed in {place.root} is removed")
     return 0
 
 
 def main():
     does = {"install": install, "tools": install_tools, "uninstall": uninstall}
-    if len(sys.argv) not in (3, 4) or sys.argv[1] not in does:
+    words = [it for it in sys.argv[1:] if it.partition("=")[0] not in VARIABLES or "=" not in it]
+    given = dict(it.split("=", 1) for it in sys.argv[1:] if it not in words)
+    if len(words) not in (2, 3) or words[0] not in does:
         return __doc__
-    if not sys.argv[2]:
-        return "PREFIX is empty. Nothing was done."
-    if sys.argv[2].startswith("~"):
-        return "PREFIX begins with ~, which the shell did not expand: write $HOME. Nothing was done."
+    for name, value in [("PREFIX", words[1]), *given.items()]:
+        if not value and name != "INSTALL_PROGRAM":
+            return f"{name} is empty. Nothing was done."
+        if value.startswith("~"):
+            return f"{name} begins with ~, which the shell did not expand: write $HOME. Nothing was done."
+    if words[0] == "install" and not os.path.isfile(f"{TOP}/build/ptext"):
+        return "there is no build/ptext: run make first. Nothing was installed."
     # An installation that is ended leaves all as it was, as one that is stopped by Ctrl-C.
     signal.signal(signal.SIGTERM, signal.default_int_handler)
-    return does[sys.argv[1]](Place(sys.argv[2], (sys.argv[3:] or [""])[0]))
+    return does[words[0]](Place(words[1], (words[2:] or [""])[0], given))
 
 
 if __name__ == "__main__":
