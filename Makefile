@@ -1,58 +1,105 @@
-# make                      proves everything below the program, builds it, and leaves build/ptext
+# make                      proves the program and its libraries, and builds build/ptext
+# make try WORDS='cut -c 1' compiles the program and runs it on standard input, in half a minute: nothing is proved
 # make check                what to run while working: proves what changed since SINCE, what stands on it, its tests,
 #                           and the wrong bodies of the changed crates (SINCE=COMMIT; origin/main where it is known,
 #                           else HEAD~1)
 # make test                 the gate: every proof, the wrong bodies, all tests; then the program that the gate built,
 #                           its pages, its installation and its packages
+# make check-program        all tests of a built program (PROGRAM=build/ptext): nothing is proved, and no toolchain needed
+# make static               build/ptext-static: the program as one file that needs no shared libraries
 # make bench                ratios to the system's tools by the length of a line: table, data and chart in bench/; and
 #                           the tools over parts of their input, on all processors
-# make compare N=5000       random words and inputs, against the system's tools (docs/COMPARISON.md)
+# make compare N=5000       random words and inputs, against the definitions and the system's tools; AGAINST=busybox,
+#                           toybox, uutils, 9base, all, or a path, compares with others (docs/OTHERS.md)
 # make install PREFIX=..    installs the program, its pages and completion into PREFIX (/usr/local), below DESTDIR
 # make install-tools        adds PREFIX/libexec/ptext/bin with each tool by its own name, a folder to put into PATH
 # make uninstall PREFIX=..  takes away exactly what these two installed
-# make dist                 build/dist: an archive of the source, one of the program, and their checksums
-# make deb                  build/dist: a Debian package
+# make dist                 build/dist: an archive of the source, one of the program, and their checksums. All has to be
+#                           committed; with CHANGED=yes the archives are made all the same, and say so
+# make deb                  build/dist: the Debian packages ptext and ptext-tools, by dpkg-buildpackage and debhelper. It
+#                           tests the program first (with DEB_BUILD_OPTIONS=nocheck it does not)
 # make clean                removes all that was built, and what checks kept
 
-# (prefix, as other projects write it, is the same.)
+# (prefix, as other projects write it, is the same. So are the names of the folders.)
 prefix ?= /usr/local
 PREFIX ?= $(prefix)
+bindir = $(PREFIX)/bin
+libexecdir = $(PREFIX)/libexec
+datadir = $(PREFIX)/share
+mandir = $(datadir)/man
+# The command that puts the program in its place, as `install`. Without one it is stripped, if there is strip.
+INSTALL_PROGRAM =
+INSTALL_TO = "$(PREFIX)" "$(DESTDIR)" bindir="$(bindir)" libexecdir="$(libexecdir)" datadir="$(datadir)" \
+    mandir="$(mandir)" INSTALL_PROGRAM="$(INSTALL_PROGRAM)"
 N ?= 1000
+PROGRAM ?= build/ptext
+WITH_RT = command -v rt >/dev/null || { echo 'there is no rt in PATH: it is part of the toolchain, of which the README \
+    says what can be had without it (if it is unpacked: export PATH=/opt/rattle/bin:$$PATH)' >&2; exit 1; }
+AGAINST ?= system
 
-.PHONY: all check test bench compare install install-tools uninstall dist deb clean
+.PHONY: all try check check-program test static bench compare install is-built install-tools uninstall dist deb clean
 
 all: build/ptext
+	@echo '$$ echo abcd | build/ptext cut -c 3-,1' && echo abcd | build/ptext cut -c 3-,1
+	@echo 'next: make check-program (all its tests, nothing is proved), or make install PREFIX=$$HOME/.local'
 
+# (The tests of a built program take build/ptext as it is.)
+ifndef PTEXT_AS_BUILT
 build/ptext: HANDLES crates.txt $(shell find crates -name out -prune -o -path '*/must-fail' -prune -o -type f -print)
 	python3 tools/build.py
+endif
 
 check:
 	python3 tools/check.py $(SINCE)
 
+# The program gets standard input and no file but by its absolute name. The last lines that the toolchain adds to its
+# messages are left out.
+try:
+	@$(if $(WORDS),:,echo "which words? make try WORDS='cut -c 3-,1'" >&2; exit 1)
+	@$(WITH_RT)
+	@mkdir -p build && echo 'compiling the program, which takes about half a minute; nothing is proved' >&2
+	@cd crates/ptext && rt try -- $(WORDS) 2>../../build/try.log; status=$$?; \
+	    grep -v '^checked: ended\|^run=ended' ../../build/try.log >&2; exit $$status
+
 test:
+	@$(WITH_RT)
 	sh tests/all.sh
+
+check-program:
+	@test -x $(PROGRAM) || { echo "there is no $(PROGRAM): run 'make' first, or give PROGRAM=PATH" >&2; exit 1; }
+	sh tests/built.sh $(PROGRAM)
+
+static: build/ptext-static
+
+build/ptext-static: build/ptext
+	python3 tools/static.py
 
 bench: build/ptext
 	python3 bench/run.py build/ptext
 	python3 bench/parts.py build/ptext
 
 compare: build/ptext
-	python3 tools/compare.py build/ptext $(N)
+	python3 tools/compare build/ptext $(N) --against "$(AGAINST)"
 
-install: build/ptext
-	@python3 tools/install.py install "$(PREFIX)" "$(DESTDIR)"
+# As root no proof begins on the way: the program has to be there, and newer than its source.
+install: $(if $(filter 0,$(shell id -u)),is-built,build/ptext)
+	@python3 tools/install.py install $(INSTALL_TO)
+
+is-built:
+	@$(MAKE) -s -q build/ptext || { echo "build/ptext is not there, or older than its source. Run 'make' first, best not \
+	as root: it proves the program, which takes some 15 minutes. Nothing was installed." >&2; exit 1; }
 
 install-tools: install
-	@python3 tools/install.py tools "$(PREFIX)" "$(DESTDIR)"
+	@python3 tools/install.py tools $(INSTALL_TO)
 
 uninstall:
-	@python3 tools/install.py uninstall "$(PREFIX)" "$(DESTDIR)"
+	@python3 tools/install.py uninstall $(INSTALL_TO)
 
 dist: build/ptext
-	python3 tools/dist.py archives build/dist
+	@python3 tools/dist.py archives build/dist $(if $(CHANGED),--changed)
 
 deb: build/ptext
-	python3 tools/dist.py deb build/dist
+	@python3 tools/dist.py deb build/dist
 
 clean:
 	rm -rf build crates/*/out

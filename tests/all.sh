@@ -1,5 +1,5 @@
 #!/bin/sh
-# The gate, and then the tests of the program that it built, so that all is proved once. Its last line is the gate's.
+# The gate, and then the tests of the program that it built, so that all is proved once. The last line is the gate's.
 # usage: tests/all.sh
 set -eu
 cd "$(dirname "$0")/.."
@@ -10,19 +10,18 @@ case $last in
     *' passed, 0 failed') ;;
     *) exit 1 ;;
 esac
-# The gate passes over a wrong body that cannot be applied, compiled or read. Here it fails.
+# The gate passes a wrong body that cannot be applied, compiled or read. Here it fails.
 if grep 'BAD EDIT' build/gate.log >&2; then
     exit 1
 fi
-# The gate built the program from what it had just proved. It is put in place at once, as it may be running.
-cp crates/ptext/out/ptext build/ptext.new
-mv build/ptext.new build/ptext
-sh tests/program.sh build/ptext
-sh tests/memory.sh build/ptext
-sh tests/install.sh
-sh tests/packages.sh
-sh tests/parallel.sh build/ptext
-python3 tests/waiting.py build/ptext
-python3 tests/pages.py build/ptext
-python3 tests/completion.py
+# The gate built the program from what it had just proved. It appears in build/ whole, since an earlier one may be
+# running. An earlier object file, from which `make static` links, may be of other sources.
+rm -f build/ptext.o
+for file in ptext.o ptext; do
+    if [ -e "crates/ptext/out/$file" ]; then
+        cp "crates/ptext/out/$file" "build/$file.new"
+        mv "build/$file.new" "build/$file"
+    fi
+done
+sh tests/built.sh build/ptext
 echo "$last"

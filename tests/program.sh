@@ -404,5 +404,18 @@ same "a column of one line of 64 MB" 0
 status=$(cat ended)
 same "one line of 64 MB in series" 0
 
+# One line of 150,000,000 bytes through each tool that keeps lines.
+rm -f long
+head -c 150000000 /dev/zero | tr '\0' x >line
+{
+    cat line
+    echo
+} >want.out
+: >want.messages
+for words in 'cut -f 1' 'uniq' 'paste -' 'comm - empty' 'join -t , -a 1 - empty'; do
+    run line $words
+    same "one line of 150 MB: $words" 0
+done
+
 echo "$((count - bad)) of $count runs of the program as wanted"
 [ "$bad" = 0 ]

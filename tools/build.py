@@ -1,17 +1,20 @@
 #!/usr/bin/env python3
-"""Proves the program and the libraries that it stands on, and leaves it as build/ptext.
+"""Proves the program and the libraries that it uses, builds it, and puts it into build/ as ptext.
 
   python3 tools/build.py
 
-The gate itself (`rt ci`) does this, over a copy of these crates that has no wrong bodies. The gate of some kits keeps
-what it proved, beside the toolchain, under checksums of all that it read. Then what was proved once on this machine is
-not proved again, whether by `make`, by `make test` or in another clone.
+The gate itself (`rt ci`) does this, on a copy of these crates without their wrong bodies. The gate of some kits keeps
+what it proved, beside the toolchain, under checksums of all that it read. Then nothing that was proved once on this
+machine is proved again, whether by `make`, by `make test` or in another clone.
 
-One run of the gate gives each crate one processor while others are to be proved beside it. So where the gate keeps what
-it proved, crates of which none stands on another have a run each at first, all at the same time, and each run uses two.
-Where that is more than there are, the crate with the most text has two, and each of the others one. A last run has the
-rest, and builds the program. Where the gate keeps nothing, one run does all.
+One run of the gate gives each crate one processor while other crates wait to be proved. If the gate keeps what it
+proved, crates that do not depend on each other are therefore proved first, each in a run of its own, all at the same
+time, and each run uses two processors. If there are too few for that, the largest crate has two, and each of the others
+one. The last run proves the rest and builds the program. If the gate keeps nothing, one run does all.
+
+If the last run proved the crate of the program, its object file is put into build/ too: tools/static.py links it.
 """
+import contextlib
 import os
 import re
 import shutil
@@ -22,12 +25,18 @@ import tempfile
 import time
 from concurrent.futures import ThreadPoolExecutor, as_completed
 
+sys.dont_write_bytecode = True
+
 from check import TOP, uses_of
 
 PROGRAM = "ptext"
-# What the gate says once it has proved a crate. (None of these has tests.)
+NO_RT = (
+    "there is no rt in PATH: it is part of the toolchain, of which the README says what can be had without it "
+    "(if it is unpacked: export PATH=/opt/rattle/bin:$PATH)"
+)
+# The message of the gate after a crate is proved. (None of these crates has tests.)
 PROVED = re.compile(r"rt: (\w+) (proved|is kept)\b")
-# What else it says that a person wants to see at once: that it waits, and that nothing can be kept.
+# Other messages that are shown at once: the gate waits, or nothing can be kept.
 TOLD = re.compile(r"rt: (note: .*(kept|disk)|.*waiting for)")
 
 
@@ -36,19 +45,19 @@ def say(text):
 
 
 def below(crate, uses):
-    """The crates that a crate stands on, all of them."""
+    """All crates of the repository that a crate uses, directly or not."""
     found = {it for it in uses[crate] if it in uses}
     return found.union(*(below(it, uses) for it in found)) if found else found
 
 
 def left_out(folder, names):
-    """What of a crate's folder has no part in the program."""
+    """The names in a crate's folder that are no part of the program."""
     return {"out", "must-fail"} & set(names) if os.path.dirname(folder) == f"{TOP}/crates" else set()
 
 
 def bring(crates, uses, room):
-    """Makes a repository of these crates alone."""
-    # (The gate takes a folder with this one in it for the top of a repository.)
+    """Makes a repository that has these crates only."""
+    # (By this folder the gate finds the top of a repository.)
     os.makedirs(f"{room}/.git")
     for crate in crates:
         shutil.copytree(f"{TOP}/crates/{crate}", f"{room}/crates/{crate}", symlinks=True, ignore=left_out)
@@ -58,9 +67,9 @@ def bring(crates, uses, room):
 
 
 def keeps():
-    """Whether the gate keeps here what it proves, for its next run."""
+    """Whether the gate keeps what it proves for its next run on this machine."""
     rt = os.path.realpath(shutil.which("rt"))
-    # A kit whose gate keeps nothing has no need of the option that takes nothing from there.
+    # Only a gate that keeps what it proved has the option to prove it anew.
     with open(rt, encoding="utf-8", errors="replace") as it:
         if "--anew" not in it.read():
             return False
@@ -72,13 +81,13 @@ def keeps():
 
 
 def size(folder):
-    """How many bytes the files of a folder have."""
+    """The size of all files of a folder, in bytes."""
     return sum(os.path.getsize(f"{at}/{name}") for at, _, names in os.walk(folder) for name in names)
 
 
 def side_by_side(crates, uses, room):
-    """The crates that have a run each at first: lists of those of which none stands on another, lowest first. Each list
-    begins with the crate that has the most text."""
+    """The crates that are proved first, each in a run of its own: lists of crates that do not depend on each other,
+    lowest first. Each list begins with its largest crate."""
     height = {}
     for crate in crates:
         height[crate] = 1 + max((height[it] for it in uses[crate] if it in height), default=0)
@@ -88,7 +97,7 @@ def side_by_side(crates, uses, room):
 
 
 class Progress:
-    """Says how far the runs of the gate are, as they go."""
+    """Reports the progress of the runs of the gate."""
 
     def __init__(self, count):
         self.began, self.count, self.proved = time.monotonic(), count, []
@@ -107,9 +116,8 @@ class Progress:
 
 
 def begun(names, room, is_narrow):
-    """A run of the gate over these crates, or over all if none is named. A narrow one uses one processor."""
-    # What it leaves among the temporary files, if it is ended, goes with the room. (It takes no names where CI is set,
-    # since then it is no gate.)
+    """Starts a run of the gate on these crates, or on all if none is named. A narrow run uses one processor."""
+    # The temporary files of a run that is stopped are removed with the room. (If CI is set, the gate takes no names.)
     words = {it: os.environ[it] for it in os.environ if it != "CI"} | {"TMPDIR": os.path.dirname(room)}
     streams = {"stdin": subprocess.DEVNULL, "stdout": subprocess.PIPE, "stderr": subprocess.STDOUT}
     words |= {"RT_JOBS": "1"} if is_narrow else {}
@@ -117,7 +125,7 @@ def begun(names, room, is_narrow):
 
 
 def followed(child, progress):
-    """Follows a run to its end. Answers what it said if it failed."""
+    """Follows a run to its end. Returns its messages if it failed."""
     said = []
     for line in child.stdout:
         said.append(line)
@@ -127,7 +135,8 @@ def followed(child, progress):
 
 
 def failure(runs, room, progress):
-    """Runs the gate over each of these lists of crates, all at the same time. Answers what the first to fail said."""
+    """Runs the gate on each of these lists of crates, all at the same time. Returns the messages of the first run that
+    failed."""
     is_crowded = 2 * len(runs) > len(os.sched_getaffinity(0))
     children = [begun(names, room, is_crowded and names is not runs[0]) for names in runs]
     with ThreadPoolExecutor(len(runs)) as pool:
@@ -135,44 +144,72 @@ def failure(runs, room, progress):
             ends = [pool.submit(followed, it, progress) for it in children]
             return next((it.result() for it in as_completed(ends) if it.result()), "")
         finally:
-            # Where one failed, or the build was ended, the others end too, before the room is removed.
+            # If one run failed or the build was stopped, the other runs end before the room is removed.
             for it in children:
                 it.terminate()
 
 
-def main():
-    if not shutil.which("rt"):
-        return "there is no rt in PATH: it comes with the kit that the README names (export PATH=/opt/rattle/bin:$PATH)"
-    # A build that is ended removes its room too.
-    signal.signal(signal.SIGTERM, lambda *_: sys.exit(1))
+def crates_of_program():
+    """The crates of the program, lowest first, and the libraries that each crate of the repository uses."""
     with open(f"{TOP}/crates.txt", encoding="utf-8") as it:
         uses = uses_of(it.read())
-    crates = [it for it in uses if it == PROGRAM or it in below(PROGRAM, uses)]
+    return [it for it in uses if it == PROGRAM or it in below(PROGRAM, uses)], uses
+
+
+def proved_in(room, crates, uses, progress):
+    """Proves these crates in the room and builds the program there. Returns the messages of a run that failed."""
+    bring(crates, uses, room)
+    first = [[[it] for it in together] for together in side_by_side(crates, uses, room)] if keeps() else []
+    for runs in [*first, [[]]]:
+        why = failure(runs, room, progress)
+        if why:
+            return why.replace(room, TOP)
+    return ""
+
+
+def put(source, name):
+    """Copies a file into build/. It appears there whole, since an earlier one may be running."""
+    os.makedirs(f"{TOP}/build", exist_ok=True)
+    new = f"{TOP}/build/{name}.{os.getpid()}"
+    shutil.copy(source, new)
+    os.replace(new, f"{TOP}/build/{name}")
+
+
+def put_results(room):
+    """Puts the program into build/, and its object file if the gate left one."""
+    made = f"{room}/crates/{PROGRAM}/out/{PROGRAM}"
+    if os.path.exists(f"{made}.o"):
+        put(f"{made}.o", f"{PROGRAM}.o")
+    else:
+        # (An earlier one may be of other sources.)
+        with contextlib.suppress(FileNotFoundError):
+            os.remove(f"{TOP}/build/{PROGRAM}.o")
+    put(made, PROGRAM)
+
+
+def main():
+    if not shutil.which("rt"):
+        return NO_RT
+    # If the build is terminated, its room is removed too.
+    signal.signal(signal.SIGTERM, lambda *_: sys.exit(1))
+    crates, uses = crates_of_program()
     progress = Progress(len(crates))
     say(
-        f"proving {len(crates)} crates and building the program. From nothing that takes 12 to 18 minutes on four "
+        f"proving {len(crates)} crates and building the program. From nothing this takes 12 to 18 minutes on four "
         "processors; the first crate alone takes 2 to 3 minutes"
-        + ("; what was proved on this machine is not proved again." if keeps() else ".")
+        + ("; nothing that was proved on this machine is proved again." if keeps() else ".")
     )
     with tempfile.TemporaryDirectory(prefix="ptext-") as place:
         room = f"{place}/room"
-        bring(crates, uses, room)
-        first = [[[it] for it in together] for together in side_by_side(crates, uses, room)] if keeps() else []
-        for runs in [*first, [[]]]:
-            why = failure(runs, room, progress)
-            if why:
-                return why.replace(room, TOP)
-        os.makedirs(f"{TOP}/build", exist_ok=True)
-        # Put in place at once, since the one that stands there may be running.
-        new = f"{TOP}/build/{PROGRAM}.{os.getpid()}"
-        shutil.copy(f"{room}/crates/{PROGRAM}/out/{PROGRAM}", new)
-        os.replace(new, f"{TOP}/build/{PROGRAM}")
+        why = proved_in(room, crates, uses, progress)
+        if why:
+            return why
+        put_results(room)
     say(f"built build/{PROGRAM}, {progress.seconds():.0f} s in all")
     return 0
 
 
 if __name__ == "__main__":
-    sys.dont_write_bytecode = True
     try:
         sys.exit(main())
     except KeyboardInterrupt:

@@ -71,9 +71,11 @@ def ran(what, words, folder):
 
 
 def main():
-    since = commit(sys.argv[1:])
     if not shutil.which("rt"):
         return "there is no rt in PATH: it comes with the kit that the README names (export PATH=/opt/rattle/bin:$PATH)"
+    if not shutil.which("git"):
+        return "there is no git in PATH, which knows what changed: run make test, which proves all"
+    since = commit(sys.argv[1:])
     if subprocess.run(
         ["git", "rev-parse", "-q", "--verify", f"{since}^{{commit}}"], cwd=TOP, capture_output=True
     ).returncode:
