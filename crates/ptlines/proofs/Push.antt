@@ -29,6 +29,7 @@ push_nothing o = record {
   whole = λ _. sym (append_known-nil (output_bytes o));
   stays = λ _. refl;
   buffered = omega arith;
+  flushes = refl;
 }
 
 -- after a failed write nothing more is written
@@ -39,6 +40,7 @@ push_past_failure a b xs ys fault w = record {
   whole = λ clean. absurd (false≢true (sym clean ∙ fault));
   stays = w.stays;
   buffered = w.buffered;
+  flushes = w.flushes;
 }
 
 pub push_after_failure : (o : Output) (bytes : List ℕ) → o.write_failed ≡ true → PushEffect o o bytes
@@ -54,6 +56,7 @@ push_trans a b c xs ys clean p q =
       whole = λ still. q.whole still ∙ joined;
       stays = λ fault. absurd (false≢true (sym clean ∙ ap (λ (o : Output). o.write_failed) (p.stays fault) ∙ fault));
       buffered = omega (arith, p.buffered, q.buffered);
+      flushes = q.flushes ∙ p.flushes;
     }
 
 -- the bytes fit into the block
@@ -64,6 +67,7 @@ push_buffered old new bytes clean room is = subst (λ o. PushEffect old o bytes)
   whole = λ _. sym (append_known-append old.accepted old.buffered bytes);
   stays = λ fault. absurd (false≢true (sym clean ∙ fault));
   buffered = omega (arith, room, length-append old.buffered bytes);
+  flushes = refl;
 })
 
 -- the block was written to the sink
@@ -74,6 +78,7 @@ push_written_out old new clean is = subst (λ o. PushEffect old o []) (sym is) (
   whole = λ _. refl;
   stays = λ fault. absurd (false≢true (sym clean ∙ fault));
   buffered = omega arith;
+  flushes = refl;
 })
 
 -- the bytes were written directly to the sink, with an empty block
@@ -88,6 +93,7 @@ push_direct old new bytes clean empty is =
       whole = λ _. text_new;
       stays = λ fault. absurd (false≢true (sym clean ∙ fault));
       buffered = omega arith;
+      flushes = refl;
     })
 
 -- a write failed while the block, and then some of the bytes, were written
@@ -106,6 +112,7 @@ push_broken old new written_out bytes more clean is b =
       whole = λ still. absurd (false≢true (sym still ∙ b.write_failed));
       stays = λ fault. absurd (false≢true (sym clean ∙ fault));
       buffered = omega (arith, ap length b.buffered);
+      flushes = b.flushes;
     }
 
 -- the result of a direct write with an empty block
@@ -114,7 +121,7 @@ pub push_large : (old new : Output) (bytes : List ℕ) (r : Result (Unit {0}) Wr
 push_large old new bytes (Ok u) clean empty ok err = push_direct old new bytes clean empty ok
 push_large old new bytes (Err e) clean empty ok err = push_broken old new bytes bytes [] clean (ap (λ s. s ++ bytes) empty ∙ sym (append-nil bytes)) err
 
--- the sink was flushed
+-- the sink was flushed; except for the count of flushes that is a push of nothing
 push_flush_ok : (old : Output) → old.write_failed ≡ false → PushEffect old (record old { unflushed = false }) []
 push_flush_ok old clean = record {
   kept = known_prefix_refl old.accepted;
@@ -122,6 +129,7 @@ push_flush_ok old clean = record {
   whole = λ _. sym (append_known-nil (output_bytes old));
   stays = λ fault. absurd (false≢true (sym clean ∙ fault));
   buffered = omega arith;
+  flushes = refl;
 }
 
 pub push_flush : (old new : Output) (r : Result (Unit {0}) WriteFault) → old.write_failed ≡ false → old.buffered ≡ []

@@ -10,7 +10,7 @@ pub struct Failed;
 /// A sink for bytes, such as a file or a pipe. It must not be called again after a call has failed.
 pub trait Sink: Drop {
     /// The model of a sink in contracts: the bytes that it has accepted (unknown for a real file), whether a call has
-    /// failed, and whether some accepted bytes were not flushed yet.
+    /// failed, whether some accepted bytes were not flushed yet, and how many flushes succeeded.
     ghost state: { Self → SinkState };
 
     /// Writes the first of these bytes, of which there must be at least one, and returns how many were accepted. 0

@@ -1,6 +1,6 @@
 //! One slot of a `Store`: a line in a buffer that is at least 64 bytes longer.
 
-ghost use Rattle.std.specs.Prelude.{◌≡◌, ◌<◌, ◌≤◌, ◌+◌, ◌^◌, [], ◌++◌, length, take, IfOk, OnOk, OnErr};
+ghost use Rattle.std.specs.Prelude.{◌≡◌, ◌<◌, ◌≤◌, ◌+◌, ◌*◌, ◌^◌, [], ◌++◌, length, max, take, IfOk, OnOk, OnErr};
 
 use crate::find::ShortLine;
 use std::alloc::{AllocError, Allocator};
@@ -16,11 +16,12 @@ pub(crate) struct Slot<A: Allocator + Copy> {
 }
 
 impl<A: Allocator + Copy> Model for Slot<A> {
-    ghost use Rattle.std.specs.Prelude.{◌≤◌, ◌+◌, ℕ, List, take, vec_len};
+    ghost use Rattle.std.specs.Prelude.{◌≤◌, ◌+◌, take, vec_len};
+    ghost use Rattle.ptlines.specs.Slots.{SlotBuffer};
 
-    ghost Value = { List ℕ };
+    ghost Value = { SlotBuffer };
 
-    ghost view = { λ s. take s.size s.buffer.items };
+    ghost view = { λ s. record { line = take s.size s.buffer.items; buffer_size = vec_len s.buffer } };
 
     ghost invariant = { λ s. (s.size + 64 ≤ vec_len s.buffer) × (128 ≤ vec_len s.buffer) };
 }
@@ -28,7 +29,7 @@ impl<A: Allocator + Copy> Model for Slot<A> {
 impl<A: Allocator + Copy> Slot<A> {
     // Creates an empty slot.
     pub(crate) fn new(alloc: A) -> Result<Self, AllocError>
-        ensures { IfOk result (λ s. s ≡ []) }
+        ensures { IfOk result (λ s. s ≡ record { line = []; buffer_size = 128 }) }
     {
         let mut buffer = Vec::new(alloc);
         buffer.resize(128, 0)?;
@@ -38,7 +39,7 @@ impl<A: Allocator + Copy> Slot<A> {
     // Returns the bytes of the line.
     #[inline(always)]
     pub(crate) fn line(&self) -> &[u8]
-        ensures line { result.now ≡ self.now }
+        ensures line { result.now ≡ self.now.line }
     {
         &self.buffer[..self.size]
     }
@@ -46,7 +47,7 @@ impl<A: Allocator + Copy> Slot<A> {
     // Returns the length of the line.
     #[inline(always)]
     pub(crate) fn size(&self) -> usize
-        ensures size { result ≡ length self.now }
+        ensures size { result ≡ length self.now.line }
         ensures short { result ≤ 2 ^ 63 }
     {
         self.size
@@ -55,7 +56,7 @@ impl<A: Allocator + Copy> Slot<A> {
     // Makes the line empty.
     #[inline(always)]
     pub(crate) fn clear(&mut self)
-        ensures { self.new ≡ [] }
+        ensures { self.new ≡ record self.old { line = [] } }
     {
         self.size = 0;
     }
@@ -63,7 +64,7 @@ impl<A: Allocator + Copy> Slot<A> {
     // Replaces the line, by a store of one vector: of 16 bytes if the line has fewer than 16, otherwise of 64.
     #[inline(always)]
     pub(crate) fn set_short_line(&mut self, near: ShortLine)
-        ensures { self.new ≡ take near.entry.size near.entry.front.bytes.now }
+        ensures { self.new ≡ record self.old { line = take near.entry.size near.entry.front.bytes.now } }
     {
         let (bytes, size) = (near.front.bytes, near.size);
         if size < 16 {
@@ -74,11 +75,12 @@ impl<A: Allocator + Copy> Slot<A> {
         self.size = size;
     }
 
-    // Appends bytes to the line. If memory cannot be allocated, nothing changes.
+    // Appends bytes to the line. The buffer grows only if it has to. If memory cannot be allocated, nothing changes.
     pub(crate) fn append(&mut self, bytes: &[u8]) -> Result<(), AllocError>
-        ensures ok { OnOk result (self.new ≡ self.old ++ bytes.now) }
+        ensures ok { OnOk result (self.new.line ≡ self.old.line ++ bytes.now) }
         ensures err { OnErr result (self.new ≡ self.old) }
-        ensures short { length self.new ≤ 2 ^ 63 }
+        ensures short { length self.new.line ≤ 2 ^ 63 }
+        ensures buffer { self.new.buffer_size ≤ max self.old.buffer_size (2 * length self.new.line + 64) }
     {
         let from = self.size;
         let to = from + bytes.len();

@@ -66,14 +66,15 @@ impl<R: Read + Drop> Source for FromRead<R> {
     }
 }
 
-/// A writer of the standard library as a sink. It records whether a call has failed, and whether bytes were written and
-/// not flushed yet. The contract of the trait says nothing of the bytes that are written; the clauses `bytes` of `put`
+/// A writer of the standard library as a sink. It records whether a call has failed, whether bytes were written and not
+/// flushed yet, and how many flushes succeeded. The contract of the trait says nothing of the bytes that are written; the clauses `bytes` of `put`
 /// and `flush` pass on what the contract of the standard library says of them.
 #[derive(Drop)]
 pub struct FromWrite<W: Write> {
     writer: W,
     failed: bool,
     unflushed: bool,
+    flushes: u64,
 }
 
 impl<W: Write> Model for FromWrite<W> {
@@ -81,18 +82,24 @@ impl<W: Write> Model for FromWrite<W> {
 
     ghost Value = { SinkState };
 
-    ghost view = { λ s. record { accepted = W.contents s.writer; failed = s.failed; unflushed = s.unflushed } };
+    ghost view = { λ s. record {
+      accepted = W.contents s.writer;
+      failed = s.failed;
+      unflushed = s.unflushed;
+      flushes = s.flushes;
+    } };
 }
 
 impl<W: Write> FromWrite<W> {
-    /// Creates a sink that has not failed and has no unflushed bytes.
+    /// Creates a sink that has not failed and was not flushed, and has no unflushed bytes.
     pub fn new(writer: W) -> Self
-        ensures { result ≡ record { accepted = W.contents writer; failed = false; unflushed = false } }
+        ensures { result ≡ record { accepted = W.contents writer; failed = false; unflushed = false; flushes = 0 } }
     {
         FromWrite {
             writer,
             failed: false,
             unflushed: false,
+            flushes: 0,
         }
     }
 }
@@ -134,6 +141,7 @@ impl<W: Write + Drop> Sink for FromWrite<W> {
         match self.writer.flush() {
             Ok(()) => {
                 self.unflushed = false;
+                self.flushes = self.flushes.saturating_add(1);
                 Ok(())
             }
             Err(_) => {

@@ -2,7 +2,7 @@
 //! lines that they need in it.
 
 ghost use Rattle.std.specs.Prelude.{◌≡◌, ℕ, ◌<◌, ◌≤◌, ◌≢◌, true, false, [], ◌∷◌, ◌++◌, length, take, ◌+◌, replicate, swap, slice_set, slice_index_or, IfOk, OnOk, OnErr};
-ghost use Rattle.ptlines.specs.Slots.{SwapPre, CopyPre, LengthsAreBounded, line, total_bytes, with_line, with_new_slot, with_denied};
+ghost use Rattle.ptlines.specs.Slots.{SwapPre, CopyPre, LengthsAreBounded, AreBuffersBounded, slot_lines, line, total_bytes, with_line, with_new_slot, with_denied};
 
 use crate::find::ShortLine;
 use crate::slot::Slot;
@@ -19,7 +19,7 @@ pub enum LineFault {
 }
 
 /// Numbered slots, from 0, for one line each. The store counts the bytes of all lines and tracks the high-water mark.
-/// Padding and bookkeeping are not counted.
+/// Padding and bookkeeping are not counted. The buffer of a slot is never longer than twice that mark and 128 bytes.
 #[derive(Drop)]
 pub struct Store<A: Allocator + Copy = Global> {
     slots: Vec<Slot<A>, A>,
@@ -31,13 +31,14 @@ pub struct Store<A: Allocator + Copy = Global> {
 
 impl<A: Allocator + Copy> Model for Store<A> {
     ghost use Rattle.std.specs.Prelude.{◌≡◌, ◌≤◌};
-    ghost use Rattle.ptlines.specs.Slots.{Slots, total_bytes, LengthsAreBounded};
+    ghost use Rattle.ptlines.specs.Slots.{Slots, slot_lines, total_bytes, LengthsAreBounded, AreBuffersBounded};
 
     ghost Value = { Slots };
 
-    ghost view = { λ s. record { lines = s.slots.items; peak = s.peak; denied = s.denied } };
+    ghost view = { λ s. record { lines = slot_lines s.slots.items; peak = s.peak; denied = s.denied } };
 
-    ghost invariant = { λ s. (s.byte_count ≡ total_bytes s.slots.items) × (s.byte_count ≤ s.peak) × LengthsAreBounded s.slots.items };
+    ghost invariant = { λ s. (s.byte_count ≡ total_bytes (slot_lines s.slots.items)) × (s.byte_count ≤ s.peak)
+        × LengthsAreBounded (slot_lines s.slots.items) × AreBuffersBounded s.peak s.slots.items };
 }
 
 // Appends the line of the slot `from` to that of the slot `to`.
@@ -47,10 +48,12 @@ fn append_slot<A: Allocator + Copy>(
     to: usize,
 ) -> Result<(), AllocError>
     requires { CopyPre (length slots.old) from to }
-    ensures ok { OnOk result (slots.new
-        ≡ slice_set slots.old to (slice_index_or slots.old to [] ++ slice_index_or slots.old from [])) }
+    ensures ok { OnOk result (slot_lines slots.new ≡ slice_set (slot_lines slots.old) to
+        (slice_index_or (slot_lines slots.old) to [] ++ slice_index_or (slot_lines slots.old) from [])) }
     ensures err { OnErr result (slots.new ≡ slots.old) }
-    ensures short { LengthsAreBounded slots.old → LengthsAreBounded slots.new }
+    ensures short { LengthsAreBounded (slot_lines slots.old) → LengthsAreBounded (slot_lines slots.new) }
+    ensures buffers { (peak : ℕ) → total_bytes (slot_lines slots.new) ≤ peak → AreBuffersBounded peak slots.old
+        → AreBuffersBounded peak slots.new }
 {
     if from < to {
         let (front, back) = slots.split_at_mut(to);
@@ -63,7 +66,7 @@ fn append_slot<A: Allocator + Copy>(
 
 // Adds an empty slot.
 fn push_empty<A: Allocator + Copy>(slots: &mut Vec<Slot<A>, A>, alloc: A) -> Result<(), AllocError>
-    ensures ok { OnOk result (slots.new.items ≡ slots.old.items ++ [] ∷ []) }
+    ensures ok { OnOk result (slots.new.items ≡ slots.old.items ++ record { line = []; buffer_size = 128 } ∷ []) }
     ensures err { OnErr result (slots.new.items ≡ slots.old.items) }
 {
     let empty = Slot::new(alloc)?;

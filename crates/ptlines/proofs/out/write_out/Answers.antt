@@ -10,7 +10,8 @@ took_more old mid new done rest n p q some =
     let failed : new.failed ≡ old.failed = q.same some ∙ ap (λ (s : SinkState). s.failed) p in
     let unflushed : new.unflushed ≡ unflushed_after old.unflushed (done ++ take n rest) =
     q.unflushed ∙ ap (λ (s : SinkState). unflushed_after s.unflushed (take n rest)) p ∙ unflushed_after-append old.unflushed done (take n rest) in
-    λ i. record { accepted = accepted i; failed = failed i; unflushed = unflushed i }
+    let flushes : new.flushes ≡ old.flushes = q.flushes ∙ ap (λ (s : SinkState). s.flushes) p in
+    λ i. record { accepted = accepted i; failed = failed i; unflushed = unflushed i; flushes = flushes i }
 
 split_more : (bytes done rest : List ℕ) (n : ℕ) → bytes ≡ done ++ rest → bytes ≡ done ++ take n rest ++ drop n rest
 split_more bytes done rest n is = is ∙ ap (λ (s : List ℕ). done ++ s) (sym (take-append-drop n rest)) ∙ sym (append_assoc done (take n rest) (drop n rest))

@@ -16,9 +16,9 @@ returns g c =
     ∙ copied_vector_prefix size n was bytes few (omega (arith, lanes, c.self.invariant.1, len)) (omega (arith, lanes, c.args.near.front.long)) in
     elim c.if-size-lt16.branch [
       | then-size-lt16 w ↦
-          ap (λ s. take size s.buffer.items) w.self-inside-is
-          ∙ stored 16 w.deref_mut.result.now w.deref_mut.ensures.len (omega (arith, w.if-size-lt16.true)) (omega arith)
+          (λ i. record { line = take size (w.self-inside-is i).buffer.items; buffer_size = (w.self-inside-is i).buffer.len })
+          ∙ (λ i. record { line = stored 16 w.deref_mut.result.now w.deref_mut.ensures.len (omega (arith, w.if-size-lt16.true)) (omega arith) i; buffer_size = (c.self.view_is i).buffer_size })
       | else-size-lt16 w ↦
-          ap (λ s. take size s.buffer.items) w.self-inside-is
-          ∙ stored 64 w.deref_mut-else-size-lt16.result.now w.deref_mut-else-size-lt16.ensures.len (omega (arith, c.args.near.near)) (omega arith)
+          (λ i. record { line = take size (w.self-inside-is i).buffer.items; buffer_size = (w.self-inside-is i).buffer.len })
+          ∙ (λ i. record { line = stored 64 w.deref_mut-else-size-lt16.result.now w.deref_mut-else-size-lt16.ensures.len (omega (arith, c.args.near.near)) (omega arith) i; buffer_size = (c.self.view_is i).buffer_size })
     ]

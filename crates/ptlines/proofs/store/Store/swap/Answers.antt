@@ -1,21 +1,23 @@
 -- Exchanging two slots permutes the lines, so the total is the same.
-use Rattle.ptlines.proofs.Common.{sym, ◌∙◌, arith}
-use Rattle.ptlines.proofs.SlotTotals.{total_bytes_swap, bounded_swap, slot_in_range}
+use Rattle.ptlines.proofs.Common.{◌∙◌, ap, arith, Slots, swap}
+use Rattle.ptlines.specs.Slots.{slot_lines}
+use Rattle.ptlines.proofs.SlotTotals.{counted_after_swap, slot_lines-swap, slot_in_range}
 use Rattle.ptlines.proofs.store.Store.swap.Goals as goal
 
 pub invariant_of-self : goal.invariant_of-self
 invariant_of-self g c =
-    let lines = c.self.inside.slots.items in
-    let a_in = slot_in_range c.self.view_is c.requires.a_in in
-    let b_in = slot_in_range c.self.view_is c.requires.b_in in
-    rw c.swap.ensures.items (
-      c.self.invariant.0 ∙ sym (total_bytes_swap lines c.args.a c.args.b a_in b_in),
-      c.self.invariant.1,
-      bounded_swap lines c.args.a c.args.b a_in b_in c.self.invariant.2,
-    )
+    let s = c.self.inside in
+    rw c.swap.ensures.items (counted_after_swap s.slots.items c.args.a c.args.b (slot_in_range s.slots.items c.args.a c.self.view_is c.requires.a_in) (slot_in_range s.slots.items c.args.b c.self.view_is c.requires.b_in)
+    c.self.invariant.0 c.self.invariant.1 c.self.invariant.2 c.self.invariant.3)
+
+pub returns : goal.returns
+returns g c =
+    let s = c.self.inside in
+    let lines = ap slot_lines c.swap.ensures.items ∙ slot_lines-swap s.slots.items c.args.a c.args.b (slot_in_range s.slots.items c.args.a c.self.view_is c.requires.a_in) (slot_in_range s.slots.items c.args.b c.self.view_is c.requires.b_in) in
+    (λ i. record { lines = lines i; peak = s.peak; denied = s.denied }) ∙ ap (λ (t : Slots). record t { lines = swap t.lines c.args.a c.args.b }) c.self.view_is
 
 pub swap-requires-clause-i_in_bounds : goal.swap-requires-clause-i_in_bounds
-swap-requires-clause-i_in_bounds g c = omega (arith, slot_in_range c.self.view_is c.requires.a_in, c.self.inside.slots.ok)
+swap-requires-clause-i_in_bounds g c = omega (arith, slot_in_range c.self.inside.slots.items c.args.a c.self.view_is c.requires.a_in, c.self.inside.slots.ok)
 
 pub swap-requires-clause-j_in_bounds : goal.swap-requires-clause-j_in_bounds
-swap-requires-clause-j_in_bounds g c = omega (arith, slot_in_range c.self.view_is c.requires.b_in, c.self.inside.slots.ok)
+swap-requires-clause-j_in_bounds g c = omega (arith, slot_in_range c.self.inside.slots.items c.args.b c.self.view_is c.requires.b_in, c.self.inside.slots.ok)
