@@ -1,11 +1,12 @@
 -- The model of the sinks of the tests, which know the bytes that they have accepted.
 use Rattle.std.specs.Prelude.{◌≡◌, ℕ, ◌-◌, ◌==◌, ◌<◌, ◌≤◌, ◌||◌, Bool, true, false, List, [], ◌++◌, Some, Result, Ok, Err, length, take, min}
-use Rattle.ptlines.specs.Sinks.{SinkState, unflushed_after}
+use Rattle.ptlines.specs.Sinks.{SinkState, unflushed_after, flushes_after}
 use Rattle.ptlines.specs.declared.sink.Failed.{Failed}
 use Rattle.ptfakes.specs.Calls.{count_after}
 
 -- the accepted bytes, the most bytes that one call and all calls accept, how many calls succeed before every later one
--- fails, the number of calls, how many of them were flushes, whether one has failed, and whether bytes are unflushed
+-- fails, the number of calls, how many of them were flushes that succeeded, whether one has failed, and whether bytes are
+-- unflushed
 pub record FakeSink : Type 0 where
   pub accepted : List ℕ
   pub size : ℕ
@@ -31,7 +32,7 @@ new_fake_sink size room ok_calls = record {
 
 -- the state of such a sink as a `Sink`
 abbrev pub sink_state : FakeSink → SinkState
-sink_state k = record { accepted = Some k.accepted; failed = k.failed; unflushed = k.unflushed }
+sink_state k = record { accepted = Some k.accepted; failed = k.failed; unflushed = k.unflushed; flushes = k.flushes }
 
 -- A write returned `Ok n`: the first `n` bytes were accepted, limited by the size of a call and the room. None is a
 -- failure.
@@ -52,5 +53,5 @@ FakePutPost old new bytes (Err e) = new ≡ record old { calls = count_after old
 
 -- the effect of one flush
 abbrev pub FakeFlushPost : FakeSink → FakeSink → Result (Unit {0}) Failed → Type 0
-FakeFlushPost old new (Ok u) = (old.calls < old.ok_calls) × (new ≡ record old { calls = count_after old.calls; flushes = count_after old.flushes; unflushed = false })
-FakeFlushPost old new (Err e) = (old.ok_calls ≤ old.calls) × (new ≡ record old { calls = count_after old.calls; flushes = count_after old.flushes; failed = true })
+FakeFlushPost old new (Ok u) = (old.calls < old.ok_calls) × (new ≡ record old { calls = count_after old.calls; flushes = flushes_after old.flushes; unflushed = false })
+FakeFlushPost old new (Err e) = (old.ok_calls ≤ old.calls) × (new ≡ record old { calls = count_after old.calls; failed = true })

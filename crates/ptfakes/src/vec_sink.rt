@@ -77,7 +77,7 @@ impl<A: Allocator> VecSink<A> {
         self.calls.made
     }
 
-    /// Returns the number of calls of `flush`.
+    /// Returns the number of calls of `flush` that succeeded.
     pub fn flushes(&self) -> u64
         ensures { result ≡ self.now.flushes }
     {
@@ -116,11 +116,11 @@ impl<A: Allocator + Drop> Sink for VecSink<A> {
         ensures flushed { FlushPost (sink_state self.old) (sink_state self.new) result }
         ensures kept { FakeFlushPost self.old self.new result }
     {
-        self.flushes = self.flushes.saturating_add(1);
         if !self.calls.next_succeeds() {
             self.failed = true;
             return Err(Failed);
         }
+        self.flushes = self.flushes.saturating_add(1);
         self.unflushed = false;
         Ok(())
     }
