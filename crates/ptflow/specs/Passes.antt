@@ -90,6 +90,10 @@ pub record PassPost (tool : ToolSpec) (old new : Reader) (was is : Output) (befo
   pub refused : was.write_failed ≡ false → length store.lines < tool.slots → PassUnread tool.end old new was is
   -- a tool without slots leaves the store unchanged
   pub keeps_store : tool.slots ≡ 0 → store ≡ before
+  -- a reader that was read to its end stays so
+  pub stays_done : IsDone old → IsDone new
+  -- memory is requested for slots, or for a line that is left
+  pub line_left : result ≡ Err Memory → tool.slots ≤ length store.lines → IsDone new → ⊥
   -- on an output that has failed, nothing is done
   pub unchanged_if_failed : was.write_failed ≡ true → PassUnchanged old new was is before store result
 

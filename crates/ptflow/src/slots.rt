@@ -1,6 +1,6 @@
 //! The slots of a store that an engine needs. The line loop and `paste` use this file.
 
-ghost use Rattle.std.specs.Prelude.{◌≡◌, true, false, Err, OnOk, OnErr};
+ghost use Rattle.std.specs.Prelude.{◌≡◌, ◌<◌, true, false, length, Err, OnOk, OnErr};
 ghost use Rattle.ptlines.specs.Slots.{total_bytes};
 ghost use Rattle.ptlines.specs.Slots.{AddedSlots};
 
@@ -18,6 +18,7 @@ pub(crate) fn ensure_slots<A: Allocator + Copy>(
     ensures allowed { OnOk result (store.new.denied ≡ false) }
     ensures err { OnErr result (result ≡ Err FlowFault.Memory) }
     ensures denied { OnErr result (store.new.denied ≡ true) }
+    ensures few { OnErr result (length store.new.lines < count) }
     ensures same_total { total_bytes store.new.lines ≡ total_bytes store.old.lines }
     ensures same_peak { store.new.peak ≡ store.old.peak }
 {

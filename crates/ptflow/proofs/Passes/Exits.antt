@@ -2,10 +2,10 @@
 -- allocation failed, or the input ended. Between two steps (`PassState`) the pushed bytes, followed by the output for
 -- the rest, are the output for every continuation of the input. So the output is exact at the end of the input, it is a
 -- prefix of the output for each consistent input, and decided output is written.
-use Rattle.ptflow.proofs.Common.{◌≡◌, ⊎_elim, inl, inr, ℕ, ◌≤◌, ◌<◌, ◌^◌, true, false, List, [], ◌++◌, length, None, Result, Ok, Err, max, refl, sym, ◌∙◌, arith, append_assoc, common_steps}
+use Rattle.ptflow.proofs.Common.{◌≡◌, ⊎_elim, inl, inr, ℕ, ◌≤◌, ◌<◌, ◌^◌, true, false, List, [], ◌++◌, length, None, Result, Ok, Err, max, refl, sym, ◌∙◌, ap, arith, append_assoc, common_steps}
 use Rattle.ptflow.proofs.Common.{append-nil, false≢true, Reader, ReaderAdvance, AdvanceOk, IsDone, IsSound, HasReadCause, Received, IsPrefix, IsConsistent, Output, PushEffect, Slots, total_bytes, received_with, has_received, has_received_set}
 use Rattle.ptflow.proofs.Common.{advance_trans, push_nothing, push_trans, ToolSpec, PassPre, PassOutcome, AddedSlots, PassPost, StorelessPost, ProcessLag, BoundedLag, bounded_lag_now, bounded_lag_after, FlowFault, Read, Write, Memory}
-use Rattle.ptflow.proofs.Passes.Readers.{advance_none, never_failed}
+use Rattle.ptflow.proofs.Passes.Readers.{advance_none, never_failed, stays_at_eof}
 
 -- these bytes were read, and these pushed
 pub record Progress (old reader : Reader) (was is : Output) (given pushed : List ℕ) : Type 0 where
@@ -73,6 +73,8 @@ pass_unchanged tool old was before ready fault = record {
   slots = λ clean. absurd (false≢true (cc (clean)));
   refused = λ clean few. absurd (false≢true (cc (clean)));
   keeps_store = λ none. refl;
+  stays_done = λ done. done;
+  line_left = λ memory. cc;
   unchanged_if_failed = λ h. record { write_fault = refl; same_reader = refl; same_output = refl; same_store = refl };
 }
 
@@ -101,6 +103,8 @@ module _ (tool : ToolSpec) (end : ℕ) (old : Reader) {set : Reader} (new : Read
         slots = p.slots;
         refused = λ fine few. record { same_reader = (p.refused fine few).same_reader; same_output = (p.refused fine few).same_output };
         keeps_store = p.keeps_store;
+        stays_done = λ done. p.stays_done (record { eof = done.eof; buffered = done.buffered; left = done.left });
+        line_left = p.line_left;
         unchanged_if_failed = λ fault. absurd (false≢true (cc (clean)));
       }
 
@@ -113,7 +117,7 @@ storeless_set tool end old set new was is store same result clean ready bare =
 
 -- a slot could not be allocated
 module _ (tool : ToolSpec) {old : Reader} (was : Output) {before store : Slots} (ready : PassPre old before) (sound : IsSound old) (clean : was.write_failed ≡ false)
-    (adds : AddedSlots before store tool.slots) (same : store.peak ≡ before.peak) (denied : store.denied ≡ true) where
+    (adds : AddedSlots before store tool.slots) (few : length store.lines < tool.slots) (same : store.peak ≡ before.peak) (denied : store.denied ≡ true) where
   received_before : (decided : IsPrefix (tool.decided (record { bytes = []; eof = false })) []) → LaggedOutput tool (received_with [] old) []
   received_before decided = record {
     before = λ u. record {
@@ -139,8 +143,10 @@ module _ (tool : ToolSpec) {old : Reader} (was : Output) {before store : Slots} 
     is_exact = λ ok. cc;
     peak = λ input a. omega arith;
     slots = λ fine. adds;
-    refused = λ fine few. record { same_reader = λ i. record old { terminator = ends i }; same_output = refl };
+    refused = λ fine less. record { same_reader = λ i. record old { terminator = ends i }; same_output = refl };
     keeps_store = λ none. absurd (omega (arith, none));
+    stays_done = λ done. done;
+    line_left = λ memory enough. absurd (omega (arith, few, enough));
     unchanged_if_failed = λ fault. absurd (false≢true (cc (clean)));
   }
 
@@ -176,10 +182,10 @@ module _ {X : Type 0} {rest_from : X → List ℕ → List ℕ} {start : X} {too
   pass : {is' : Output} {pushed : List ℕ} {result : Result (Unit {0}) FlowFault} → PushEffect was is' pushed → bounded_lag is' pushed → PassOutcome old new is' store result
       → ((input : List ℕ) → IsConsistent (received_with (m.given ++ piece) new) input → IsPrefix pushed (tool.text input))
       → (new.failed ≡ true → is'.write_failed ≡ false → IsPrefix (tool.decided (received_with (m.given ++ piece) new)) pushed)
-      → (result ≡ Ok tt → pushed ≡ tool.text ((m.given ++ piece) ++ new.buffered)) → PassPost tool old new was is' before store result
-  pass {pushed} wrote keeps ends is_prefix decided_is_written whole = record {
+      → (result ≡ Ok tt → pushed ≡ tool.text ((m.given ++ piece) ++ new.buffered)) → (result ≡ Err Memory → IsDone new → ⊥) → PassPost tool old new was is' before store result
+  pass {pushed} wrote keeps ends is_prefix decided_is_written whole left = record {
     given = received_with (m.given ++ piece) new;
-    came = has_received _ _ _ (advance_trans _ _ _ _ _ m.reached.advance_ok.reads reads);
+    came = has_received _ _ _ advanced;
     pushed = pushed;
     wrote = wrote;
     ends = ends;
@@ -191,8 +197,13 @@ module _ {X : Type 0} {rest_from : X → List ℕ → List ℕ} {start : X} {too
     slots = λ clean. stored.adds;
     refused = λ clean few. absurd (omega arith);
     keeps_store = stored.keeps_store;
+    stays_done = λ done. stays_at_eof _ _ _ done advanced;
+    line_left = λ memory enough. left memory;
     unchanged_if_failed = λ fault. absurd (false≢true (cc (m.reached.wrote.stays fault)));
   }
+    where
+      advanced : ReaderAdvance old new (m.given ++ piece)
+      advanced = advance_trans _ _ _ _ _ m.reached.advance_ok.reads reads
 
   begins : (input : List ℕ) → IsConsistent (received_with (m.given ++ piece) new) input → IsPrefix m.pushed (tool.text input)
   begins input a = record { rest = rest_from now (piece ++ (new.buffered ++ a.rest)); is = text_of a }
@@ -203,13 +214,14 @@ module _ {X : Type 0} {rest_from : X → List ℕ → List ℕ} {start : X} {too
   pass_read cause not_denied decided =
       pass m.reached.wrote still
       (record { cause = ⊎_elim inl (λ c. inr (c.0, same_failed c.1)) cause; clean = m.reached.clean; denied = not_denied; only = refl })
-      begins (λ failed fine. ⊎_elim (λ c. decided c.1 c.2) (λ c. absurd (false≢true (cc (continued c.1)))) cause) (λ ok. cc)
+      begins (λ failed fine. ⊎_elim (λ c. decided c.1 c.2) (λ c. absurd (false≢true (cc (continued c.1)))) cause) (λ ok. cc) (λ memory. cc)
 
   -- the store could not grow
-  pub pass_memory : new.failed ≡ reader.failed → store.denied ≡ true → PassPost tool old new was is before store (Err Memory)
-  pass_memory same denied =
+  pub pass_memory : new.failed ≡ reader.failed → store.denied ≡ true → 0 < length new.buffered → PassPost tool old new was is before store (Err Memory)
+  pass_memory same denied left =
       pass m.reached.wrote still (record { denied = denied; failed = same_failed same; clean = m.reached.clean })
       begins (λ failed fine. absurd (false≢true (cc (continued same)))) (λ ok. cc)
+      (λ memory done. omega (arith, left, ap length done.buffered))
 
   -- a write failed while these bytes were pushed
   pub pass_write : {is' : Output} {bytes : List ℕ} → PushEffect is is' bytes → is'.write_failed ≡ true → new.failed ≡ reader.failed → store.denied ≡ false
@@ -221,7 +233,7 @@ module _ {X : Type 0} {rest_from : X → List ℕ → List ℕ} {start : X} {too
         rest = b.rest;
         is = cc (text_of a, append_assoc m.pushed bytes b.rest);
       })
-      (λ failed fine. absurd (false≢true (cc))) (λ ok. cc)
+      (λ failed fine. absurd (false≢true (cc))) (λ ok. cc) (λ memory. cc)
 
   -- the end of the input was reached
   module _ {is' : Output} (wrote : PushEffect is is' (rest_from now [])) (done : IsDone new) (none : piece ≡ []) (same : new.failed ≡ reader.failed) (not_denied : store.denied ≡ false) where
@@ -236,6 +248,7 @@ module _ {X : Type 0} {rest_from : X → List ℕ → List ℕ} {start : X} {too
         (λ input a. record { rest = []; is = all_of input a ∙ sym (append-nil (m.pushed ++ rest_from now [])) })
         (λ failed good. absurd (false≢true (cc (continued same))))
         (λ ok. sym (all_of ((m.given ++ piece) ++ new.buffered) (record { rest = []; is = sym (append-nil ((m.given ++ piece) ++ new.buffered)); whole = λ eof. refl })))
+        (λ memory. cc)
       where
         all_of : (input : List ℕ) → IsConsistent (received_with (m.given ++ piece) new) input → tool.text input ≡ m.pushed ++ rest_from now []
         all_of input a = cc (text_of a, nothing_left a.rest a.whole)

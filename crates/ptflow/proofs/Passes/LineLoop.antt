@@ -75,11 +75,11 @@ module _ {S X E : Type 0} {tool : ToolSpec} {state : S → Slots → X} {rest_fr
     }
 
     -- a slot could not be allocated
-    pub run_unslotted : {store : Slots} → old.terminator ≡ end → PassPre old before → IsSound old → was.write_failed ≡ false → AddedSlots before store width → store.peak ≡ before.peak → store.denied ≡ true
-        → PassPost tool old old was was before store (Err Memory)
-    run_unslotted {store} ends ready sound clean adds same denied =
+    pub run_unslotted : {store : Slots} → old.terminator ≡ end → PassPre old before → IsSound old → was.write_failed ≡ false → AddedSlots before store width → length store.lines < width
+        → store.peak ≡ before.peak → store.denied ≡ true → PassPost tool old old was was before store (Err Memory)
+    run_unslotted {store} ends ready sound clean adds few same denied =
         let nothing : Received = record { bytes = []; eof = false } in
-        pass_unslotted tool was ready sound clean (rw t.slots adds) same denied (omega arith) (cc)
+        pass_unslotted tool was ready sound clean (rw t.slots adds) (rw t.slots few) same denied (omega arith) (cc)
         (rw none_written at (t.decided store nothing [] (state start store) (λ more. refl)))
 
     module _ {now : X} {reader : Reader} {is : Output} {store : Slots} (r : Run old reader was is before store now) where
@@ -201,16 +201,16 @@ module _ {S X E : Type 0} {tool : ToolSpec} {state : S → Slots → X} {rest_fr
           run_broken told = run_read (keeps_last piece told)
 
           -- and then the store could not grow
-          pub run_memory : {after : Slots} → after ≡ with_denied (with_line store (width - 1) piece) → new.failed ≡ reader.failed → PassPost tool old new was is before after (Err Memory)
+          pub run_memory : {after : Slots} → after ≡ with_denied (with_line store (width - 1) piece) → new.failed ≡ reader.failed → 0 < length new.buffered → PassPost tool old new was is before after (Err Memory)
           unfolding midway
-          run_memory {after} told same =
+          run_memory {after} told same left =
               let k = keeps_last piece refl in
               let denied : after.denied ≡ true = cc in
               let size : length after.lines ≡ length (with_line store (width - 1) piece).lines = cc in
               pass_memory (t.tool_text r.first) midway ready sound reads
               (stored after (max (max_length r.ls) (length piece)) (received_with (r.given ++ piece) new) (omega (arith, k.peak, ap (λ s. s.peak) told))
               (record { least = omega (arith, k.adds.least); most = omega (arith, k.adds.most); all = λ allowed. absurd (false≢true (cc)) })
-              (omega (arith, k.adds.all k.denied)) short_piece) (works_piece reads free is_sound) same denied
+              (omega (arith, k.adds.all k.denied)) short_piece) (works_piece reads free is_sound) same denied left
 
         -- reading a block failed
         pub run_no_block : {new : Reader} → ReaderAdvance reader new [] → IsSound new → HasReadCause reader new → PassPost tool old new was is before store (Err (Read 0))

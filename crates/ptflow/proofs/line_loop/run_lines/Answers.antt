@@ -42,7 +42,7 @@ returns-in_err-ensure_slots g c =
     let adds = rw c.slots-slots.ensures at c.ensure_slots.ensures.adds in
     rw (x.1, x.2, c.in_err-ensure_slots.ensures.err)
     (run_unslotted c.requires.tool c.requires.begins.ends c.requires.begins.ready c.requires.begins.sound c.requires.begins.clean adds
-    c.ensure_slots.ensures.same_peak c.in_err-ensure_slots.ensures.denied)
+    (rw c.slots-slots.ensures at c.in_err-ensure_slots.ensures.few) c.ensure_slots.ensures.same_peak c.in_err-ensure_slots.ensures.denied)
 
 pub reading-init : goal.reading-init
 reading-init g c =
@@ -102,7 +102,7 @@ returns-in-Err-Memory g c =
     let r = written_out g (goal.at.returns-in-Err-Memory g c).In_ok-write_out_before_blocking in
     let e = rw (c.in-Err-Memory.field-0-is, c.slots-slots.ensures) at (c.in-Err-Memory.ensures.fills r.reached.advance_ok.fault) in
     let free = subst (λ b. IsLine b e.piece) (r.reached.advance_ok.reads.terminator ∙ r.terminator) e.faults.whole in
-    run_memory c.requires.tool r c.requires.begins.ready c.fill.ensures.was_sound e.faults.reads free c.fill.ensures.is_sound e.stored e.failed
+    run_memory c.requires.tool r c.requires.begins.ready c.fill.ensures.was_sound e.faults.reads free c.fill.ensures.is_sound e.stored e.failed e.left
 
 pub returns-in_err-write_out_before_blocking-2 : goal.returns-in_err-write_out_before_blocking-2
 returns-in_err-write_out_before_blocking-2 g c =
