@@ -12,7 +12,7 @@ pub enum Output<'a, W: Sink, F: Sink> {
     Standard(&'a mut W),
     /// The output file that the command names.
     File(F),
-    /// No output is expected: a write fails, and whether one has failed is recorded.
+    /// No output is expected: a write or a flush fails, and whether one has failed is recorded.
     Closed(bool),
 }
 
@@ -36,7 +36,10 @@ impl<'a, W: Sink, F: Sink> Sink for Output<'a, W, F> {
         match self {
             Output::Standard(out) => out.flush(),
             Output::File(file) => file.flush(),
-            Output::Closed(_) => Ok(()),
+            Output::Closed(failed) => {
+                *failed = true;
+                Err(Failed)
+            }
         }
     }
 }

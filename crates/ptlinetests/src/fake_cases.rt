@@ -120,7 +120,7 @@ fn keeps(rt: &impl Abort, alloc: &FailingAlloc<Global>, list: &mut Vec<u8, &Fail
 fn sinks_with_limits_and_failed_requests(rt: HostRuntime) {
     let alloc = FailingAlloc::after(rt.alloc(), u64::MAX);
     let mut limited = VecSink::limited(&alloc, 3, 5, 4);
-    answers(&rt, &mut limited, LIMITED, (b"abcde", 2));
+    answers(&rt, &mut limited, LIMITED, (b"abcde", 1));
     let alloc = FailingAlloc::after(rt.alloc(), 0);
     let mut without = VecSink::new(&alloc);
     answers(&rt, &mut without, WITHOUT_MEMORY, (b"a", 0));

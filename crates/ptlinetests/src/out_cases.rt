@@ -70,7 +70,7 @@ fn writes_all(
 // The limits of a sink: bytes per call, bytes in all, and calls that succeed.
 type Limits = (usize, usize, u64);
 
-// After a case: whether all calls succeeded, the sink's calls, its flushes, and how many bytes it has.
+// After a case: whether all calls succeeded, the sink's calls, its flushes that succeeded, and how many bytes it has.
 type Left = (bool, u64, u64, usize);
 
 // Pushes a text to an output with a limited sink, which must have a prefix of the text afterwards.

@@ -11,6 +11,7 @@ say_post_part {old} {piece = piece} done more split took p = record {
   split = split ∙ ap (λ (l : List ℕ). (done ++ l) ++ more) p.split ∙ ap (λ (l : List ℕ). l ++ more) (sym (append_assoc done p.front p.rest)) ∙ append_assoc (done ++ p.front) p.rest more;
   accepted = p.accepted ∙ ap (λ (s : SinkState). append_known s.accepted p.front) took ∙ append_known-append old.accepted done p.front;
   unflushed = p.unflushed ∙ ap (λ (s : SinkState). unflushed_after s.unflushed p.front) took ∙ unflushed_after-append old.unflushed done p.front;
+  flushes = p.flushes ∙ ap (λ (s : SinkState). s.flushes) took;
   whole = λ all. absurd (false≢true all);
   broken = λ _. (omega (arith, p.some, length-append p.rest more), p.failed);
 }
@@ -23,12 +24,13 @@ say_post_all {text = text} clean took = record {
   split = sym (append-nil text);
   accepted = ap (λ (s : SinkState). s.accepted) took;
   unflushed = ap (λ (s : SinkState). s.unflushed) took;
+  flushes = ap (λ (s : SinkState). s.flushes) took;
   whole = λ _. (refl, ap (λ (s : SinkState). s.failed) took ∙ clean);
   broken = λ no. absurd (false≢true (sym no));
 }
 
 pub said_nothing : (s : SinkState) → HasSaid s s []
-said_nothing s = record { front = []; rest = []; split = refl; accepted = sym (append_known-nil s.accepted); unflushed = refl; whole = λ _. refl; stays = λ _. refl }
+said_nothing s = record { front = []; rest = []; split = refl; accepted = sym (append_known-nil s.accepted); unflushed = refl; flushes = refl; whole = λ _. refl; stays = λ _. refl }
 
 pub said_trans : {a b c : SinkState} {xs ys : List ℕ} → HasSaid a b xs → HasSaid b c ys → HasSaid a c (xs ++ ys)
 said_trans {a} {b} {c} {xs} {ys} p q = by_failed b.failed refl
@@ -40,6 +42,7 @@ said_trans {a} {b} {c} {xs} {ys} p q = by_failed b.failed refl
       split = ap (λ (l : List ℕ). l ++ ys) p.split ∙ append_assoc p.front p.rest ys;
       accepted = p.accepted;
       unflushed = p.unflushed;
+      flushes = p.flushes;
       whole = λ fine. absurd (false≢true (sym fine ∙ is));
       stays = p.stays;
     })
@@ -51,6 +54,7 @@ said_trans {a} {b} {c} {xs} {ys} p q = by_failed b.failed refl
           split = ap (λ (l : List ℕ). p.front ++ l) q.split ∙ sym (append_assoc p.front q.front q.rest);
           accepted = q.accepted ∙ ap (λ (t : Option (List ℕ)). append_known t q.front) p.accepted ∙ append_known-append a.accepted p.front q.front;
           unflushed = q.unflushed ∙ ap (λ (b : Bool). unflushed_after b q.front) p.unflushed ∙ unflushed_after-append a.unflushed p.front q.front;
+          flushes = q.flushes ∙ p.flushes;
           whole = q.whole;
           stays = λ failed. absurd (false≢true (sym is ∙ ap (λ (s : SinkState). s.failed) (p.stays failed) ∙ failed));
         })
@@ -81,4 +85,4 @@ line_split parts i within =
     )
 
 pub took_trans : (a b c : SinkState) (xs ys : List ℕ) → WriteOutOk a b xs → WriteOutOk b c ys → WriteOutOk a c (xs ++ ys)
-took_trans a b c xs ys p q = rw (q, p) (λ i. record { accepted = append_known-append a.accepted xs ys i; failed = a.failed; unflushed = unflushed_after-append a.unflushed xs ys i })
+took_trans a b c xs ys p q = rw (q, p) (λ i. record { accepted = append_known-append a.accepted xs ys i; failed = a.failed; unflushed = unflushed_after-append a.unflushed xs ys i; flushes = a.flushes })

@@ -5,13 +5,15 @@
 -- The output of a tool reaches the sink unless a write fails, and the last message follows the tool's own messages. The
 -- main theorem holds because the bytes that the readers have are consistent with the bytes received, and because each
 -- cause of a failure contradicts a premise.
-use Rattle.ptrun.proofs.Common.{cases_Bool, ◌≡◌, ⊎_elim, ℕ, Bool, true, false, cond, List, [], ◌++◌, Option, Some, None, Result, Ok, Err, length, map, refl, sym, ◌∙◌, ap, arith, append_assoc}
+use Rattle.ptrun.proofs.Common.{cases_Bool, ◌≡◌, ⊎_elim, ℕ, Bool, true, false, cond, List, [], ◌++◌, Option, Some, None, Result, Ok, Err, length, map, refl, sym, ◌∙◌, ap, arith, append_assoc, subst}
 use Rattle.ptrun.proofs.Common.{length-append, All, append_known, prepend_known, IsAtEnd, append-nil, append_cancel_left, nil_from_length, false≢true, take-length, Reader, Output, PushEffect, Slots}
 use Rattle.ptrun.proofs.Common.{SinkState, append_known-nil, push_trans, Received, IsConsistent, IsPrefix, FlowFault, Read, Write, Memory, Completion, InputBytes, ReceivedInputs, at, IsConsistentAt, AreInputsConsistent, reader_at, is_reader_unopened}
 use Rattle.ptrun.proofs.Common.{is_unopened, HasReceivedAt, IsNewOrUnopened, HasReadFailed, IsTooLong, HasBytesAt, HasSaid, CommandSpec, operand_messages, messages, unopened_messages, Sinks, sinks, Outcome, HasCause, RunEnd, IsRun, IsExact, IsExactUnlessFailed}
 use Rattle.ptrun.proofs.Common.{ReportUnopenedPost, RunInputsEnd, RunInputsPost, FinishPost, result_message, result_status, HasIndexBelow, IsPushedUpToBlock, IsWrittenUpToBlock, message_only, ◌+◌, ◌<◌, ◌==◌, is_none, not, nat_le, length-map, All-map, nat_tests}
 use Rattle.ptrun.proofs.Common.{eqb_tells, Input, Standard, File, Fault, Command, Job, RunCut, RunPaste, RunUniq, RunComm, RunJoin, RunTr, command_of_args, input_operands, fault_view, command_view, CommandPost, usage_message, usage_status}
 use Rattle.ptrun.proofs.Common.{position, positions, InputsPre, two_input_tool, job_spec, command_spec, spec_of_result, tool_name, spec_of_args, spec_of_parsed, is_memory_fault, AreNewInputs}
+use Rattle.std.specs.Prelude.{if◌then◌else◌}
+use Rattle.ptlines.specs.Sinks.{flushes_after}
 use Rattle.ptlangs.specs.Results.{IsFault}
 use Rattle.ptopts.specs.declared.fault.UseFault.{UseFault}
 use Rattle.ptmerge.specs.Comm.{comm_tool}
@@ -110,16 +112,17 @@ none_failed : (old : List Reader) (q : ℕ) → HasReadFailed old old q → ⊥
 none_failed old q failed = false≢true (sym failed.1 ∙ failed.2)
 
 -- There is nothing to read, the output is unchanged, and `text` is the only message.
-unread : (m : CommandSpec) {old : List Reader} {out messages_old messages_new : SinkState} {text : List ℕ} (status : ℕ) → m.sequential ≡ None
+unread : (m : CommandSpec) {old : List Reader} {out messages_old messages_new : SinkState} {text : List ℕ} (status : ℕ) → m.sequential ≡ None → m.reads_nothing (is_reader_unopened old) ≡ true
     → ((r : ReceivedInputs) → ((q : ℕ) → is_reader_unopened old q ≡ is_unopened r q) → m.decided r ≡ []) → All IsNewOrUnopened old → out.failed ≡ false → HasSaid messages_old messages_new text
     → ((w : InputBytes) → AreInputsConsistent (map received_of old) w → (m.out w ≡ []) × (text ≡ messages m w) × (status ≡ m.status w))
     → IsRun m old old (sinks out messages_old) (record { out = out; messages = messages_new; status = status; peak = 0; denied = false })
-unread m {old} {out} {messages_old} {messages_new} {text} status at_once undecided fresh fine has_said says = let came = nothing_read old (fresh_all old fresh) in record {
+unread m {old} {out} {messages_old} {messages_new} {text} status at_once nothing undecided fresh fine has_said says = let came = nothing_read old (fresh_all old fresh) in record {
   received = map received_of old;
   came = came;
   written = [];
   output = sym (append_known-nil out.accepted);
   flushed = λ settled _. settled;
+  flushes = λ reads. absurd (false≢true (sym reads ∙ nothing));
   message = text;
   has_said = has_said;
   operands_done = length m.positions;
@@ -147,13 +150,13 @@ unread m {old} {out} {messages_old} {messages_new} {text} status at_once undecid
 -- nothing is read or written, and `text` is the only message
 pub message_only_run : {text : List ℕ} {is : ℕ} {old : List Reader} {out messages_old messages_new : SinkState} {status : ℕ} → All IsNewOrUnopened old → out.failed ≡ false → HasSaid messages_old messages_new text → status ≡ is
     → IsRun (message_only text is) old old (sinks out messages_old) (record { out = out; messages = messages_new; status = status; peak = 0; denied = false })
-message_only_run {text} {is} {status = status} fresh fine has_said status_is = unread (message_only text is) status refl (λ r same. refl) fresh fine has_said (λ w agrees. (refl, refl, status_is))
+message_only_run {text} {is} {status = status} fresh fine has_said status_is = unread (message_only text is) status refl refl (λ r same. refl) fresh fine has_said (λ w agrees. (refl, refl, status_is))
 
 -- A file that the tool cannot run without could not be opened, and every such file was reported.
 pub any_unopened : {m : CommandSpec} {old : List Reader} {out messages_old messages_new : SinkState} {has_unopened : Bool} → All IsNewOrUnopened old → out.failed ≡ false → ReportUnopenedPost m old messages_old messages_new has_unopened → has_unopened ≡ true
     → IsRun m old old (sinks out messages_old) (record { out = out; messages = messages_new; status = 1; peak = 0; denied = false })
 any_unopened {m} {old} fresh fine k has_unopened =
-    unread m 1 (k.at_once has_unopened) (k.undecided has_unopened) fresh fine (rw has_unopened at k.has_said)
+    unread m 1 (k.at_once has_unopened) (sym k.is ∙ has_unopened) (k.undecided has_unopened) fresh fine (rw has_unopened at k.has_said)
     (λ w agrees.
     let same = unopened_agrees old old (map received_of old) w (nothing_read old (fresh_all old fresh)) agrees in
     let nothing = k.nothing has_unopened w same in (
@@ -176,14 +179,27 @@ index_below {is' = is'} k f = ⊎_elim (λ write_failed. rw (f.broken write_fail
 module _ {m : CommandSpec} {old new : List Reader} {was is is' : Output} {messages_first messages_old messages_new : SinkState} {before store : Slots} {run_result final_result : Result Completion FlowFault} (out : SinkState) (o : Outcome)
     (nothing_said : HasSaid messages_first messages_old []) (k : RunInputsPost m old new was is messages_old messages_new before store run_result) (f : FinishPost is is' run_result final_result)
     (says : HasSaid messages_new o.messages (result_message m.tool m.names final_result)) (status_is : o.status ≡ result_status final_result)
-    (made : was ≡ record { accepted = out.accepted; buffered = []; write_failed = false; unflushed = out.unflushed }) (last_accepted : o.out.accepted ≡ is'.accepted)
-    (last_failed : o.out.failed ≡ is'.write_failed) (last_unflushed : o.out.unflushed ≡ is'.unflushed)
+    (made : was ≡ record { accepted = out.accepted; buffered = []; write_failed = false; unflushed = out.unflushed; flushes = out.flushes }) (last_accepted : o.out.accepted ≡ is'.accepted)
+    (last_failed : o.out.failed ≡ is'.write_failed) (last_unflushed : o.out.unflushed ≡ is'.unflushed) (last_flushes : o.out.flushes ≡ is'.flushes)
     (low : before.peak ≡ 0) (peak_is : o.peak ≡ store.peak) (denied_is : o.denied ≡ store.denied) where
-  wrote : PushEffect was is' k.pushed
-  wrote = ⊎_elim (λ write_failed. rw (f.wrote.stays write_failed) k.wrote) (λ clean. rw (append-nil k.pushed) at (push_trans was is is' k.pushed [] clean k.wrote f.wrote)) (cases_Bool is.write_failed)
+  -- the last output, except for the count of flushes
+  abbrev sent : Output
+  sent = record is' { flushes = is.flushes }
 
-  reached : Reached was is' k.pushed
-  reached = reached_of was is' k.pushed (ap (λ (o : Output). o.buffered) made) wrote
+  wrote : PushEffect was sent k.pushed
+  wrote = ⊎_elim (λ write_failed. subst (λ (b : Output). PushEffect was b k.pushed) (sym (f.wrote.stays write_failed)) k.wrote)
+      (λ clean. rw (append-nil k.pushed) at (push_trans was is sent k.pushed [] clean k.wrote f.wrote)) (cases_Bool is.write_failed)
+
+  reached : Reached was sent k.pushed
+  reached = reached_of was sent k.pushed (ap (λ (o : Output). o.buffered) made) wrote
+
+  -- until the output was finished nothing was flushed
+  flushes_before : is.flushes ≡ out.flushes
+  flushes_before = k.wrote.flushes ∙ ap (λ (o : Output). o.flushes) made
+
+  flushed_once : o.out.flushes ≡ (if o.out.failed then out.flushes else flushes_after out.flushes)
+  flushed_once = ⊎_elim (λ failed. rw failed (last_flushes ∙ f.unfinished (sym last_failed ∙ failed) ∙ flushes_before))
+      (λ fine. rw fine (last_flushes ∙ f.flushes (sym last_failed ∙ fine) ∙ ap flushes_after flushes_before)) (cases_Bool o.out.failed)
 
   begins : (w : InputBytes) → AreInputsConsistent k.received w → IsPrefix reached.front (m.out w)
   begins w agrees = let b = k.is_prefix w agrees in record {
@@ -220,6 +236,7 @@ module _ {m : CommandSpec} {old new : List Reader} {was is is' : Output} {messag
     written = reached.front;
     output = last_accepted ∙ reached.accepted ∙ ap (λ (t : Option (List ℕ)). append_known t reached.front) (ap (λ (o : Output). o.accepted) made);
     flushed = λ _ fine. last_unflushed ∙ f.flushed (sym last_failed ∙ fine);
+    flushes = λ _. flushed_once;
     message = k.message ++ last;
     has_said = said_trans nothing_said (said_trans k.has_said says);
     operands_done = k.operands_done;

@@ -4,7 +4,7 @@ use Rattle.std.specs.List.{list_any}
 use Rattle.ptlines.specs.Readers.{Reader, IsSound, HasReadCause}
 use Rattle.ptlines.specs.Outputs.{Output, PushEffect}
 use Rattle.ptlines.specs.Slots.{Slots, total_bytes}
-use Rattle.ptlines.specs.Sinks.{SinkState}
+use Rattle.ptlines.specs.Sinks.{SinkState, flushes_after}
 use Rattle.ptlines.specs.Received.{Received, IsPrefix, IsConsistent, HasReceived}
 use Rattle.ptlines.specs.Lag.{LaggedInput}
 use Rattle.ptflow.specs.PasteCall.{update_at}
@@ -72,12 +72,14 @@ HasIndexBelow count (Ok (Disorder position line)) = position < count
 HasIndexBelow count (Err (Read position)) = position < count
 HasIndexBelow count _ = Unit {0}
 
--- The postcondition of finishing the output: what was buffered is sent, and all is flushed. If a write failed, that is
--- the result, in place of any other.
+-- The postcondition of finishing the output: what was buffered is sent, and the sink is flushed once. If a write failed,
+-- that is the result, in place of any other, and nothing was flushed.
 pub record FinishPost (old new : Output) (run_result final_result : Result Completion FlowFault) : Type 0 where
-  pub wrote : PushEffect old new []
+  pub wrote : PushEffect old (record new { flushes = old.flushes }) []
   pub clean : new.write_failed ≡ false → (final_result ≡ run_result) × (new.buffered ≡ []) × (old.write_failed ≡ false)
   pub flushed : new.write_failed ≡ false → new.unflushed ≡ false
+  pub flushes : new.write_failed ≡ false → new.flushes ≡ flushes_after old.flushes
+  pub unfinished : new.write_failed ≡ true → new.flushes ≡ old.flushes
   pub broken : new.write_failed ≡ true → final_result ≡ Err Write
 
 -- ---- processing the inputs

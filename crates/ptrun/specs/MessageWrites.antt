@@ -20,6 +20,7 @@ pub record SayPost (old new : SinkState) (text : List ℕ) (all : Bool) : Type 0
   pub split : text ≡ front ++ rest
   pub accepted : new.accepted ≡ append_known old.accepted front
   pub unflushed : new.unflushed ≡ unflushed_after old.unflushed front
+  pub flushes : new.flushes ≡ old.flushes
   pub whole : all ≡ true → (rest ≡ []) × (new.failed ≡ false)
   pub broken : all ≡ false → (0 < length rest) × (new.failed ≡ true)
 
@@ -31,5 +32,6 @@ pub record HasSaid (old new : SinkState) (text : List ℕ) : Type 0 where
   pub split : text ≡ front ++ rest
   pub accepted : new.accepted ≡ append_known old.accepted front
   pub unflushed : new.unflushed ≡ unflushed_after old.unflushed front
+  pub flushes : new.flushes ≡ old.flushes
   pub whole : new.failed ≡ false → rest ≡ []
   pub stays : old.failed ≡ true → new ≡ old

@@ -1,14 +1,14 @@
 -- The contract of a whole run: its output, messages, exit status and memory, by its inputs and the calls that failed.
-use Rattle.std.specs.Prelude.{◌≡◌, ℕ, ◌≤◌, Bool, true, false, List, ◌++◌, Option, Some, None, length, take, slice_get, ◌⊎◌}
+use Rattle.std.specs.Prelude.{◌≡◌, ℕ, ◌≤◌, Bool, true, false, List, ◌++◌, Option, Some, None, length, take, slice_get, ◌⊎◌, if◌then◌else◌}
 use Rattle.std.specs.Io.KnownBytes.{append_known}
 use Rattle.ptlines.specs.Readers.{Reader}
-use Rattle.ptlines.specs.Sinks.{SinkState}
+use Rattle.ptlines.specs.Sinks.{SinkState, flushes_after}
 use Rattle.ptlines.specs.Slots.{Slots, total_bytes}
 use Rattle.ptlines.specs.Received.{IsPrefix}
 use Rattle.ptflow.specs.declared.faults.FlowFault.{FlowFault}
 use Rattle.ptflow.specs.declared.faults.FlowFault.TheVariants.{Read, Write, Memory}
 use Rattle.ptrun.specs.declared.report.Report.{Report}
-use Rattle.ptrun.specs.Files.{InputBytes, ReceivedInputs, at, is_in, HaveReceived, HasReadFailed, IsTooLong, HasBytes}
+use Rattle.ptrun.specs.Files.{InputBytes, ReceivedInputs, at, is_in, is_reader_unopened, HaveReceived, HasReadFailed, IsTooLong, HasBytes}
 use Rattle.ptrun.specs.Files.{AreInputsConsistent}
 use Rattle.ptlines.specs.Readers.{reader_at}
 use Rattle.ptrun.specs.CommandSpec.{CommandSpec, operand_messages, messages}
@@ -98,6 +98,9 @@ pub record IsRun (m : CommandSpec) (old new : List Reader) (before : Sinks) (o :
   pub written : List ℕ
   pub output : o.out.accepted ≡ append_known before.out.accepted written
   pub flushed : before.out.unflushed ≡ false → o.out.failed ≡ false → o.out.unflushed ≡ false
+  -- unless nothing was to be read, the output was flushed exactly once, or never if a write or the flush failed
+  pub flushes : m.reads_nothing (is_reader_unopened old) ≡ false
+      → o.out.flushes ≡ (if o.out.failed then before.out.flushes else flushes_after before.out.flushes)
   pub message : List ℕ
   pub has_said : HasSaid before.messages o.messages message
   -- the number of operands that are done, and the failure after them, if any

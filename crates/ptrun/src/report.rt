@@ -35,6 +35,7 @@ pub(crate) fn report_of<A: Allocator + Copy, W: Sink, E: Sink>(
     ensures status { result.status ≡ status }
     ensures out { ((W.state result.out).accepted ≡ out.accepted) × ((W.state result.out).failed ≡ out.write_failed)
         × ((W.state result.out).unflushed ≡ out.unflushed) }
+    ensures flushes { (W.state result.out).flushes ≡ out.flushes }
     ensures messages { E.state result.messages ≡ messages }
 {
     Report {

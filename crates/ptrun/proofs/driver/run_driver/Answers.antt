@@ -21,7 +21,7 @@ returns g c =
       run = run_of (g.W.Sink.state c.args.out) (outcome (g.W.Sink.state) (g.E.Sink.state) c.report_of.result)
           (rw c.if-report_unopened.false at c.report_unopened.ensures.has_said) c.run_inputs-run_result.ensures c.finish-final_result.ensures
           (rw r.messages c.say_final_message-status.ensures.message) (r.status ∙ c.say_final_message-status.ensures.status)
-          c.new-out.ensures r.out.0 r.out.1 r.out.2 c.requires.unused.store.never r.store.0 r.store.1;
+          c.new-out.ensures r.out.0 r.out.1 r.out.2 r.flushes c.requires.unused.store.never r.store.0 r.store.1;
       reads_nothing = λ reads_none. absurd (false≢true (sym c.if-report_unopened.false ∙ c.report_unopened.ensures.is ∙ reads_none));
       store = r.store;
     }
