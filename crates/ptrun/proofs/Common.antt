@@ -4,7 +4,7 @@ pub use Rattle.std.proofs.Common.{Bool, Err, List, None, Ok, Option, Result, Som
 pub use Rattle.std.proofs.Common.{map, max, refl, set, subst, suc, sym, take, take-append-drop, true, zero, ℕ, ⊎_elim, ◌&&◌, ◌++◌, ◌+◌, ◌-◌, ◌<◌, ◌==◌, ◌^◌, ◌||◌, ◌∙◌, ◌∷◌, ◌≡◌, ◌≢◌, ◌≤◌, ◌⊎◌}
 pub use Rattle.std.proofs.Math.Bool.{or-false}
 pub use Rattle.std.proofs.Math.Seq.{take-append-add, take-append_seam, take-length}
-pub use Rattle.std.proofs.lemmas.Bool.{cases_Bool, cases_eq, eqb-true, false≢true, leb-true, or_left, or_right}
+pub use Rattle.std.proofs.lemmas.Bool.{cases_Bool, cases_eq, cases_lt, eqb-true, false≢true, leb-true, or_left, or_right}
 pub use Rattle.std.proofs.lemmas.Bool.Decides.{eqb_tells, nat_tests}
 pub use Rattle.std.proofs.lemmas.List.{append-nil, append_cancel_left, get_or-append_right, get_or-map, get_or-set_other, get_or-set_same, get_or_append_left, get_or_default, length-map}
 pub use Rattle.std.proofs.lemmas.List.{length-take-le, map-append, nil_from_length, set-append_left, set-append_right, set-get_or, take_all, take_more}
@@ -40,14 +40,14 @@ pub use Rattle.ptrun.specs.SpecOfArgs.{spec_of_args, spec_of_parsed, command_spe
 pub use Rattle.ptrun.specs.Driver.{AreConsistentAt, InputsPre, JointPre, BothAreSound, ReportUnopenedPost, FinishPost, JointPost, JointReadFailed, RunInputsPre, HasIndexBelow, JointEnd, NoReadFailed, RunInputsPost, RunInputsEnd, fault_at, completion_of}
 pub use Rattle.ptrun.specs.Driver.{result_message, result_status, merge_completion}
 pub use Rattle.ptrun.specs.Lag.{LagOfAny, HasBoundedLag, BoundedLagAs, IsWrittenUpToBlock, LagOfLast, IsPushedUpToBlock}
-pub use Rattle.ptrun.specs.CommandSpec.{CommandSpec, messages, operand_messages, unopened_messages}
+pub use Rattle.ptrun.specs.CommandSpec.{CommandSpec, messages, operand_messages, unopened_messages, ended_operands}
 pub use Rattle.ptrun.specs.Messages.{name_of, unopened_message, usage_message, usage_status}
-pub use Rattle.ptrun.specs.Operands.{decided_in_order, sequential_bound, sequential_decided, sequential_output, maximum, sequential_spec, position, positions, up_to_unended}
-pub use Rattle.ptrun.specs.Runs.{HasCause, RunEnd, IsExactUnlessFailed, IsExact, IsRun, Outcome, Sinks, outcome, sinks}
+pub use Rattle.ptrun.specs.Operands.{decided_in_order, sequential_bound, sequential_slots, sequential_decided, sequential_output, maximum, sequential_spec, position, positions, up_to_unended}
+pub use Rattle.ptrun.specs.Runs.{HasCause, RunEnd, IsExactUnlessFailed, IsExact, IsRun, IsRunInStore, Outcome, Sinks, outcome, sinks}
 pub use Rattle.ptrun.specs.MessageWrites.{SayPost, HasSaid, line_of, texts}
 pub use Rattle.ptrun.specs.Joint.{JointTool, disorder_status, disorder_text, received_in, has_unopened, one_input_tool, by_side, paste_rows_tool, two_input_tool, operand, bytes_of, joint_spec}
 pub use Rattle.ptrun.specs.Files.{IsConsistentAt, AreNewInputs, HasReceivedAt, HasReadFailed, IsNewOrUnopened, IsNew, HaveReceived, IsTooLong, ReceivedInputs, HasBytesAt, InputBytes, at, input_of_operand, inputs_of_operands, is_in, is_unopened}
-pub use Rattle.ptrun.specs.Files.{AreInputsConsistent}
+pub use Rattle.ptrun.specs.Files.{AreInputsConsistent, AreReadToEnd, IsOneUnended}
 pub use Rattle.ptlines.specs.Readers.{no_reader}
 pub use Rattle.ptrun.specs.Files.{opened_values, is_reader_unopened, opened_inputs}
 pub use Rattle.ptlines.specs.Readers.{reader_at}

@@ -3,7 +3,7 @@
 -- If an operand could not be opened, nothing but messages is required. Otherwise what such a tool ensures at the
 -- positions of its operands is what processing the inputs has to ensure. A tool with one input ensures this by its only
 -- pass, and `paste` by its pass over the columns.
-use Rattle.ptrun.proofs.Common.{or_left, or_right, sum, get_or_default, no_reader, length-map, cases_eq, cases_Bool, ◌≡◌, ◌⊎◌, ⊎_elim, inl, inr, ℕ, zero, suc, ◌+◌, ◌<◌, ◌≤◌, ◌^◌, ◌||◌, ◌==◌, Bool}
+use Rattle.ptrun.proofs.Common.{AreReadToEnd, ended_operands, IsDone, Unopened, Disorder, cases_lt, or_left, or_right, sum, get_or_default, no_reader, length-map, cases_eq, cases_Bool, ◌≡◌, ◌⊎◌, ⊎_elim, inl, inr, ℕ, zero, suc, ◌+◌, ◌<◌, ◌≤◌, ◌^◌, ◌||◌, ◌==◌, Bool}
 use Rattle.ptrun.proofs.Common.{true, false, cond, List, [], ◌∷◌, ◌++◌, Option, Some, None, Result, Ok, Err, length, take, drop, get_or, set, refl, sym, ◌∙◌, ap, subst, arith, take-append-drop}
 use Rattle.ptrun.proofs.Common.{slice_get, list_any, get_or-set_same, get_or-set_other, All-nil, All-cons, list_any-append, false≢true, eqb-true, eqb_tells, Reader, IsSound, Output, Slots, SinkState}
 use Rattle.ptrun.proofs.Common.{Received, IsPrefix, HasReceived, LaggedInput, PassOutcome, PassPost, update_at, ToolSpec, FlowFault, Read, Write, Memory, Input, Completion, AllWritten, InputBytes, ReceivedInputs, at, is_unopened, AreInputsConsistent, is_in}
@@ -145,6 +145,17 @@ module _ (word : List ℕ) {t : JointTool} (names : List (List ℕ)) {positions 
     ends : RunInputsEnd (joint_spec word t names positions) received old new k.pushed is.write_failed store.denied operands_done r
     position : HasIndexBelow (length old) r
     names_failed_read : (q : ℕ) → HasReadFailed old new q → is.write_failed ≡ false → r ≡ Err (Read q)
+    ended : AreReadToEnd new (ended_operands (joint_spec word t names positions) operands_done (result_status r))
+
+  -- nothing is stated if the exit status is not 0
+  none_ended : AreReadToEnd new []
+  none_ended q named = absurd (false≢true named)
+
+  ended_if_written : (done : Completion) → (done ≡ AllWritten → (q : ℕ) → is_in positions q ≡ true → IsDone (reader_at new q))
+      → AreReadToEnd new (ended_operands (joint_spec word t names positions) (length positions) (result_status (Ok done)))
+  ended_if_written AllWritten ended = λ q named opened. ended refl q named
+  ended_if_written Unopened ended = none_ended
+  ended_if_written (Disorder p line) ended = none_ended
 
   terminator : (r : Result Completion FlowFault) → JointEnd t positions k.given old new k.pushed is.write_failed store.denied r → Ending r
   terminator (Ok done) e = record {
@@ -162,6 +173,7 @@ module _ (word : List ℕ) {t : JointTool} (names : List (List ℕ)) {positions 
     );
     position = e.position;
     names_failed_read = λ q failed clean. absurd (none_failed e.unfailed q failed);
+    ended = ended_if_written done e.ended;
   }
   terminator (Err (Read p)) e =
       let f = first_at positions p e.named in
@@ -175,9 +187,10 @@ module _ (word : List ℕ) {t : JointTool} (names : List (List ℕ)) {positions 
         position = each_listed (λ q. q < length old) positions start.given.in_range p e.named;
         names_failed_read = λ q failed clean. ⊎_elim (λ same. ap (λ (n : ℕ). Err (Read n)) same)
             (λ other. absurd (false≢true (sym failed.1 ∙ sym (e.others q (failed_is_in q failed) other) ∙ failed.2))) (cases_eq p q);
+        ended = none_ended;
       }
-  terminator (Err Write) e = record { operands_done = 0; within = omega arith; ends = e; position = tt; names_failed_read = λ q failed clean. absurd (false≢true (sym clean ∙ e)) }
-  terminator (Err Memory) e = record { operands_done = 0; within = omega arith; ends = (e.0, e.1); position = tt; names_failed_read = λ q failed clean. absurd (none_failed e.2 q failed) }
+  terminator (Err Write) e = record { operands_done = 0; within = omega arith; ends = e; position = tt; names_failed_read = λ q failed clean. absurd (false≢true (sym clean ∙ e)); ended = none_ended }
+  terminator (Err Memory) e = record { operands_done = 0; within = omega arith; ends = (e.0, e.1); position = tt; names_failed_read = λ q failed clean. absurd (none_failed e.2 q failed); ended = none_ended }
 
   pub joint_post : RunInputsPost (joint_spec word t names positions) old new was is messages_old messages_old before store result
   joint_post = let e = terminator result k.ends in record {
@@ -194,12 +207,15 @@ module _ (word : List ℕ) {t : JointTool} (names : List (List ℕ)) {positions 
     ends = e.ends;
     position = e.position;
     untouched = k.untouched;
+    ended = e.ended;
+    left = λ memory grows. let l = k.left memory grows in (l.0, l.1, (k.came l.0 l.1).refused ∙ open_at l.0 l.1, l.2);
     is_prefix = λ w agrees. rw (complete w agrees) (k.is_prefix (bytes_of w) (agree w agrees));
     names_failed_read = e.names_failed_read;
     decided_is_written = λ q failed clean. rw (decided_is received k.given (λ q. refl) given_listed) (k.decided_is_written q (failed_is_in q failed) failed.2 clean);
     bounded_lag = λ q g named there. let up = k.bounded_lag q named in let e = up.0.earlier in rw (some_same (sym there ∙ at_listed q named))
         (up.0, rw (decided_is (set received q (Some e)) (update_at q e k.given) (opened_set received q g e there) (put_is q g e there)) up.1);
     peak = λ w agrees. rw (complete w agrees) (k.peak (bytes_of w) (agree w agrees));
+    slots = λ w agrees. rw (complete w agrees) (k.slots (bytes_of w) (agree w agrees));
   }
 
 -- ---- a tool with one input
@@ -209,7 +225,7 @@ one_completion p (Ok u) = Ok AllWritten
 one_completion p (Err fault) = Err (fault_at p fault)
 
 module _ (t : ToolSpec) (old : List Reader) (was is : Output) (before store : Slots) (p : ℕ) (new : Reader) (result : Result (Unit {0}) FlowFault)
-    (clean : was.write_failed ≡ false) (within : p < length old) (not_failed_before : (reader_at old p).failed ≡ false) (e : PassPost t (reader_at old p) new was is before store result) where
+    (clean : was.write_failed ≡ false) (within : p < length old) (unread : (reader_at old p).eof ≡ false) (not_failed_before : (reader_at old p).failed ≡ false) (e : PassPost t (reader_at old p) new was is before store result) where
   abbrev all : List Reader
   all = set old p new
 
@@ -227,6 +243,7 @@ module _ (t : ToolSpec) (old : List Reader) (was is : Output) (before store : Sl
   only_operand_end (Ok u) f whole = record {
     out = λ texts agrees. whole refl ∙ ap t.text (sym (consistent_whole e.given (texts p) (e.came.eof ∙ f.done.eof) (agrees p named)));
     is_done = λ texts agrees. refl;
+    ended = λ written. each (λ q. IsDone (reader_at all q)) (rw here f.done);
     position = tt;
     unfailed = each (λ q. (reader_at all q).failed ≡ (reader_at old q).failed) (rw here f.failed);
     short = each (λ q. (reader_at all q).pulled < 2 ^ 63) (rw here f.short);
@@ -244,6 +261,18 @@ module _ (t : ToolSpec) (old : List Reader) (was is : Output) (before store : Sl
   only_operand_end (Err Write) f whole = f.write_failed
   only_operand_end (Err Memory) f whole = (f.denied, f.clean, each (λ q. (reader_at all q).failed ≡ (reader_at old q).failed) (rw here f.failed))
 
+  memory_of : (r : Result (Unit {0}) FlowFault) → one_completion p r ≡ Err Memory → r ≡ Err Memory
+  memory_of (Ok u) same = cc
+  memory_of (Err (Read position)) same = cc
+  memory_of (Err Write) same = cc
+  memory_of (Err Memory) same = refl
+
+  -- the input is unread, or a line of it is left
+  input_left : result ≡ Err Memory → IsDone new → ⊥
+  input_left memory ended = ⊎_elim
+      (λ few. false≢true (sym unread ∙ ap (λ (r : Reader). r.eof) (sym (e.refused clean few).same_reader) ∙ ended.eof))
+      (λ enough. e.line_left memory enough ended) (cases_lt (length store.lines) t.slots)
+
   one_input_post : JointPost (one_input_tool t) (p ∷ []) old all was is before store (one_completion p result)
   one_input_post = record {
     given = λ q. e.given;
@@ -259,6 +288,8 @@ module _ (t : ToolSpec) (old : List Reader) (was is : Output) (before store : Sl
         (passed_on t.decided (λ h. t.decided (update_at p h (λ q. e.given) p)) (λ h. ap t.decided (sym (put_here p h (λ q. e.given)))) (e.bounded_lag clean));
     same = λ f g same. ap t.decided (same p named);
     peak = λ texts agrees. e.peak (texts p) (agrees p named);
+    slots = λ texts agrees. (e.slots clean).most;
+    left = λ memory grows. (p, named, rw here (input_left (memory_of result memory)));
   }
 
 -- the position of the only operand
@@ -282,8 +313,9 @@ module _ {j : JointTool} (order : List Input) {old : List Reader} {was : Output}
         → PassPost t (get_or old p e) new was is before store result → JointPost (one_input_tool t) (positions order) old (set old p new) was is before store (one_completion p result)
     only_operand_post e {t} {is} {store} {new} {result} sound pass =
         let here = get_or_default old p e no_reader only_operand_within in
-        let not_failed_before = sound.unfailed (only_operand_opened e) (rw here (fresh_all old ready.fresh p (rw here at (only_operand_opened e))).fault) in
-        rw (only_operand_of order d one positioned) (one_input_post t old was is before store p new result ready.writable only_operand_within (rw here at not_failed_before) (rw here at pass))
+        let new_here = fresh_all old ready.fresh p (rw here at (only_operand_opened e)) in
+        let not_failed_before = sound.unfailed (only_operand_opened e) (rw here new_here.fault) in
+        rw (only_operand_of order d one positioned) (one_input_post t old was is before store p new result ready.writable only_operand_within new_here.eof (rw here at not_failed_before) (rw here at pass))
 
 -- ---- `paste`: facts about columns, as facts about operands
 
@@ -365,6 +397,7 @@ module _ (job : Paste) {positions : List ℕ} {old : List Reader} {was : Output}
       out = λ texts agrees. whole refl ∙ paste_same job positions (λ q. (k.given q).bytes) texts
           (λ q named. sym (consistent_whole (k.given q) (texts q) ((k.came q).eof ∙ (read q named).done.eof) (agrees q named)));
       is_done = λ texts agrees. refl;
+      ended = λ written q named. (read q named).done;
       position = tt;
       unfailed = λ q named. e.failed q;
       short = λ q named. (read q named).short;
@@ -399,4 +432,6 @@ module _ (job : Paste) {positions : List ℕ} {old : List Reader} {was : Output}
           (k.bounded_lag q (is_in_used positions q named) ready.writable);
       same = decided_same job positions;
       peak = λ texts agrees. subst (λ (n : ℕ). store.peak ≤ max before.peak n) (size_same job positions (with_received texts) texts (with_received_is texts)) (k.peak (with_received texts) (consistent_at texts agrees));
+      slots = λ texts agrees. (k.slots ready.writable).most;
+      left = λ memory grows. absurd (false≢true grows);
     }

@@ -5,10 +5,10 @@
 -- The output of a tool reaches the sink unless a write fails, and the last message follows the tool's own messages. The
 -- main theorem holds because the bytes that the readers have are consistent with the bytes received, and because each
 -- cause of a failure contradicts a premise.
-use Rattle.ptrun.proofs.Common.{cases_Bool, ◌≡◌, ⊎_elim, ℕ, Bool, true, false, cond, List, [], ◌++◌, Option, Some, None, Result, Ok, Err, length, map, refl, sym, ◌∙◌, ap, arith, append_assoc, subst}
+use Rattle.ptrun.proofs.Common.{AreReadToEnd, ended_operands, cases_Bool, ◌≡◌, ⊎_elim, ℕ, Bool, true, false, cond, List, [], ◌++◌, Option, Some, None, Result, Ok, Err, length, map, refl, sym, ◌∙◌, ap, arith, append_assoc, subst}
 use Rattle.ptrun.proofs.Common.{length-append, All, append_known, prepend_known, IsAtEnd, append-nil, append_cancel_left, nil_from_length, false≢true, take-length, Reader, Output, PushEffect, Slots}
 use Rattle.ptrun.proofs.Common.{SinkState, append_known-nil, push_trans, Received, IsConsistent, IsPrefix, FlowFault, Read, Write, Memory, Completion, InputBytes, ReceivedInputs, at, IsConsistentAt, AreInputsConsistent, reader_at, is_reader_unopened}
-use Rattle.ptrun.proofs.Common.{is_unopened, HasReceivedAt, IsNewOrUnopened, HasReadFailed, IsTooLong, HasBytesAt, HasSaid, CommandSpec, operand_messages, messages, unopened_messages, Sinks, sinks, Outcome, HasCause, RunEnd, IsRun, IsExact, IsExactUnlessFailed}
+use Rattle.ptrun.proofs.Common.{is_unopened, HasReceivedAt, IsNewOrUnopened, HasReadFailed, IsTooLong, HasBytesAt, HasSaid, CommandSpec, operand_messages, messages, unopened_messages, Sinks, sinks, Outcome, HasCause, RunEnd, IsRun, IsRunInStore, IsExact, IsExactUnlessFailed}
 use Rattle.ptrun.proofs.Common.{ReportUnopenedPost, RunInputsEnd, RunInputsPost, FinishPost, result_message, result_status, HasIndexBelow, IsPushedUpToBlock, IsWrittenUpToBlock, message_only, ◌+◌, ◌<◌, ◌==◌, is_none, not, nat_le, length-map, All-map, nat_tests}
 use Rattle.ptrun.proofs.Common.{eqb_tells, Input, Standard, File, Fault, Command, Job, RunCut, RunPaste, RunUniq, RunComm, RunJoin, RunTr, command_of_args, input_operands, fault_view, command_view, CommandPost, usage_message, usage_status}
 use Rattle.ptrun.proofs.Common.{position, positions, InputsPre, two_input_tool, job_spec, command_spec, spec_of_result, tool_name, spec_of_args, spec_of_parsed, is_memory_fault, AreNewInputs}
@@ -115,8 +115,9 @@ none_failed old q failed = false≢true (sym failed.1 ∙ failed.2)
 unread : (m : CommandSpec) {old : List Reader} {out messages_old messages_new : SinkState} {text : List ℕ} (status : ℕ) → m.sequential ≡ None → m.reads_nothing (is_reader_unopened old) ≡ true
     → ((r : ReceivedInputs) → ((q : ℕ) → is_reader_unopened old q ≡ is_unopened r q) → m.decided r ≡ []) → All IsNewOrUnopened old → out.failed ≡ false → HasSaid messages_old messages_new text
     → ((w : InputBytes) → AreInputsConsistent (map received_of old) w → (m.out w ≡ []) × (text ≡ messages m w) × (status ≡ m.status w))
+    → AreReadToEnd old (ended_operands m (length m.positions) status)
     → IsRun m old old (sinks out messages_old) (record { out = out; messages = messages_new; status = status; peak = 0; denied = false })
-unread m {old} {out} {messages_old} {messages_new} {text} status at_once nothing undecided fresh fine has_said says = let came = nothing_read old (fresh_all old fresh) in record {
+unread m {old} {out} {messages_old} {messages_new} {text} status at_once nothing undecided fresh fine has_said says ended = let came = nothing_read old (fresh_all old fresh) in record {
   received = map received_of old;
   came = came;
   written = [];
@@ -138,6 +139,8 @@ unread m {old} {out} {messages_old} {messages_new} {text} status at_once nothing
     λ w agrees. ((says w agrees).1, (says w agrees).2),
   );
   untouched = λ q other. refl;
+  ended = ended;
+  left = λ memory. cc;
   is_prefix = λ w agrees. record { rest = m.out w; is = refl };
   names_failed_read = λ q failed clean. absurd (none_failed old q failed);
   decided_is_written = λ q failed clean. absurd (none_failed old q failed);
@@ -150,7 +153,12 @@ unread m {old} {out} {messages_old} {messages_new} {text} status at_once nothing
 -- nothing is read or written, and `text` is the only message
 pub message_only_run : {text : List ℕ} {is : ℕ} {old : List Reader} {out messages_old messages_new : SinkState} {status : ℕ} → All IsNewOrUnopened old → out.failed ≡ false → HasSaid messages_old messages_new text → status ≡ is
     → IsRun (message_only text is) old old (sinks out messages_old) (record { out = out; messages = messages_new; status = status; peak = 0; denied = false })
-message_only_run {text} {is} {status = status} fresh fine has_said status_is = unread (message_only text is) status refl refl (λ r same. refl) fresh fine has_said (λ w agrees. (refl, refl, status_is))
+message_only_run {text} {is} {old = old} {status = status} fresh fine has_said status_is = unread (message_only text is) status refl refl (λ r same. refl) fresh fine has_said (λ w agrees. (refl, refl, status_is))
+    (no_operand (status == 0))
+  where
+    no_operand : (b : Bool) → AreReadToEnd old (cond b [] [])
+    no_operand true q named = absurd (false≢true named)
+    no_operand false q named = absurd (false≢true named)
 
 -- A file that the tool cannot run without could not be opened, and every such file was reported.
 pub any_unopened : {m : CommandSpec} {old : List Reader} {out messages_old messages_new : SinkState} {has_unopened : Bool} → All IsNewOrUnopened old → out.failed ≡ false → ReportUnopenedPost m old messages_old messages_new has_unopened → has_unopened ≡ true
@@ -164,12 +172,19 @@ any_unopened {m} {old} fresh fine k has_unopened =
       rw (nothing.1, take-length m.positions, append-nil (unopened_messages m.tool m.names (is_unopened w) m.positions)) (unopened_same m.tool m.names (is_reader_unopened old) (is_unopened w) m.positions same),
       sym nothing.2,
     ))
+    (rw (k.at_once has_unopened) (λ q named. absurd (false≢true named)))
 
 -- ---- the end of a run
 
 abbrev fault_of : Result Completion FlowFault → Option FlowFault
 fault_of (Ok done) = None
 fault_of (Err fault) = Some fault
+
+-- operands that were read to their end stay so if a write fails after that
+ended_after_all : (m : CommandSpec) (readers : List Reader) (n : ℕ) (r : Result Completion FlowFault)
+    → AreReadToEnd readers (ended_operands m n (result_status r)) → AreReadToEnd readers (ended_operands m n 1)
+ended_after_all m readers n r ended = ⊎_elim (λ together. rw together (λ q named. absurd (false≢true named)))
+    (λ in_turn. rw in_turn (rw in_turn at ended)) (cases_Bool (is_none m.sequential))
 
 -- an input that a result names has an index below the number of readers
 pub index_below : {m : CommandSpec} {old new : List Reader} {was is is' : Output} {messages_old messages_new : SinkState} {before store : Slots} {run_result final_result : Result Completion FlowFault}
@@ -229,7 +244,14 @@ module _ {m : CommandSpec} {old new : List Reader} {was is is' : Output} {messag
     status_is = status_is ∙ ap result_status same;
   }
 
-  pub run_of : IsRun m old new (sinks out messages_first) o
+  not_memory : final_result ≡ Err Write → fault_of final_result ≡ Some Memory → ⊥
+  not_memory write memory = let same : Some Write ≡ Some Memory = sym (ap fault_of write) ∙ memory in cc
+
+  err_of : (r : Result Completion FlowFault) → fault_of r ≡ Some Memory → r ≡ Err Memory
+  err_of (Ok done) same = cc
+  err_of (Err fault) same = ap (λ (f : FlowFault). Err f) (some_same same)
+
+  run_of : IsRun m old new (sinks out messages_first) o
   run_of = record {
     received = k.received;
     came = k.came;
@@ -244,6 +266,10 @@ module _ {m : CommandSpec} {old new : List Reader} {was is is' : Output} {messag
     ends = ends_as final_result refl (⊎_elim (λ write_failed. rw (f.broken write_failed) write_failed)
         (λ (clean : is'.write_failed ≡ false). rw (clean, (f.clean clean).0) (rw (f.clean clean).2 at k.ends)) (cases_Bool is'.write_failed));
     untouched = k.untouched;
+    ended = rw status_is (⊎_elim (λ write_failed. rw (f.broken write_failed) (ended_after_all m new k.operands_done run_result k.ended))
+        (λ clean. rw (f.clean clean).0 k.ended) (cases_Bool is'.write_failed));
+    left = λ memory. ⊎_elim (λ write_failed. absurd (not_memory (f.broken write_failed) memory))
+        (λ clean. k.left (sym (f.clean clean).0 ∙ err_of final_result memory)) (cases_Bool is'.write_failed);
     is_prefix = begins;
     names_failed_read = λ position failed fine. let clean = sym last_failed ∙ fine in ap fault_of ((f.clean clean).0 ∙ k.names_failed_read position failed (f.clean clean).2);
     decided_is_written = λ position failed fine. let clean = sym last_failed ∙ fine in let b = k.decided_is_written position failed (f.clean clean).2 in record { rest = b.rest; is = all_front clean ∙ b.is };
@@ -255,6 +281,10 @@ module _ {m : CommandSpec} {old new : List Reader} {was is is' : Output} {messag
       kept bytes up =
           kept_up bytes was is is' k.pushed reached.front reached.rest up (ap (λ (o : Output). o.buffered) made) reached.split reached.accepted f.wrote.kept reached.unknown o.out.failed
           (λ fine. let clean = sym last_failed ∙ fine in reached.whole clean (f.clean clean).1)
+
+  pub run_in_store : IsRunInStore m old new (sinks out messages_first) o before store
+  unfolding run_of
+  run_in_store = record { run = run_of; slots = k.slots }
 
 -- ---- the specification of arguments
 

@@ -1,7 +1,7 @@
 -- Tools that read their operands one after another. After each operand, the output is that of the operands so far; an
 -- operand whose input was read by an earlier one receives nothing more. An operand that fails leaves a prefix of the
 -- output, with all that was decided by then.
-use Rattle.ptrun.proofs.Common.{take-append-add, cases_eq, cases_Bool, ◌≡◌, ◌≢◌, ◌⊎◌, ⊎_elim, inl, inr, ℕ, ◌<◌, ◌≤◌, Bool, true, false, cond, List, [], ◌∷◌, ◌++◌, Option, Some, None, Result, Ok, Err}
+use Rattle.ptrun.proofs.Common.{IsDone, cases_lt, sequential_slots, take-append-add, cases_eq, cases_Bool, ◌≡◌, ◌≢◌, ◌⊎◌, ⊎_elim, inl, inr, ℕ, ◌<◌, ◌≤◌, Bool, true, false, cond, List, [], ◌∷◌, ◌++◌, Option, Some, None, Result, Ok, Err}
 use Rattle.ptrun.proofs.Common.{◌+◌, length, take, map, set, max, refl, sym, ◌∙◌, ap, subst, arith, append_assoc, length-append, length-set, flat_map, option_map, list_any, append-nil, take_all}
 use Rattle.ptrun.proofs.Common.{map-append, get_or-set_same, get_or-set_other, length-map, take-append_seam, take-length, flat_map-append, false≢true, Reader, IsSound, HasReadCause, Output, PushEffect}
 use Rattle.ptrun.proofs.Common.{Slots, total_bytes, SinkState, push_trans, push_nothing, Received, empty_input, IsConsistent, IsPrefix, HasReceived, PassDone, PassOutcome, PassPost, ToolSpec, FlowFault, Read, Write, Memory, InputBytes}
@@ -11,7 +11,7 @@ use Rattle.ptrun.proofs.Common.{result_message, result_status, HasIndexBelow, Ru
 use Rattle.ptrun.proofs.OneInput.{all_earlier, last_earlier, sends_now, sends_after, IsAtEof, none_received, completion_with, received_of, received_at, nothing_read, never_long, not_long, opened_receives}
 use Rattle.ptrun.proofs.OneInput.{still_unopened, receives_trans, ended_gives_nothing, unopened_agrees, none_of, consistent_bytes, consistent_before, consistent_whole, least_consistent, ended_at, nth_here}
 use Rattle.ptrun.proofs.MessageWrites.{said_nothing}
-use Rattle.ptrun.proofs.OperandInputs.{some_same, is_in-other, not_more, by_position, opened_inputs_some, opened_inputs_none, unopened_same, any_same, any_now, any_before, said_more, maximum-append, IsEndedAt, least_bytes}
+use Rattle.ptrun.proofs.OperandInputs.{some_same, is_in-same, is_in-other, not_more, by_position, opened_inputs_some, opened_inputs_none, unopened_same, any_same, any_now, any_before, said_more, maximum-append, IsEndedAt, least_bytes}
 use Rattle.ptrun.proofs.OperandInputs.{decided_inputs, DecidesAll, fresh_all}
 
 -- the state once these operands are done
@@ -32,6 +32,9 @@ pub record OperandsDone (word : List ℕ) (t : ToolSpec) (names : List (List ℕ
   pub not_denied : store.denied ≡ false
   pub empty : total_bytes store.lines ≡ 0
   pub peak : (w : InputBytes) → AreInputsConsistent inputs_read w → store.peak ≤ max before.peak (sequential_bound t w done)
+  pub slots : (w : InputBytes) → AreInputsConsistent inputs_read w
+      → length store.lines ≤ max (length before.lines) (sequential_slots t w done)
+  pub room : (q : ℕ) → is_in done q ≡ true → is_reader_unopened old q ≡ false → t.slots ≤ length store.lines
 
 -- such a state, along equalities of its parts
 pub done_as : {word : List ℕ} {t : ToolSpec} {names : List (List ℕ)} {old now now' : List Reader} {was is is' : Output} {messages_old messages_new messages_new' : SinkState} {before store store' : Slots}
@@ -57,6 +60,8 @@ module _ {word : List ℕ} {t : ToolSpec} {names : List (List ℕ)} {old : List 
     not_denied = not_denied;
     empty = empty;
     peak = λ w agrees. omega arith;
+    slots = λ w agrees. omega arith;
+    room = λ q seen. absurd (false≢true seen);
   }
 
   module _ {now : List Reader} {is : Output} {messages_new : SinkState} {store : Slots} {done : List ℕ} {so_far : Completion} (k : OperandsDone word t names old now was is messages_old messages_new before store done so_far) where
@@ -99,6 +104,8 @@ module _ {word : List ℕ} {t : ToolSpec} {names : List (List ℕ)} {old : List 
       );
       position = rw k.so_far_is (ends_with (list_any (is_reader_unopened old) done)).2;
       untouched = λ q other. (k.unread q (rw all_taken at other)).0;
+      ended = λ q named opened. (k.at_eof q (rw (take-length done) at named) (was_unopened q ∙ opened)).done;
+      left = λ memory. cc;
       is_prefix = λ w agrees. record { rest = []; is = sym (k.out w agrees) ∙ sym (append-nil k.pushed) };
       names_failed_read = λ q failed clean. absurd (none q failed);
       decided_is_written = λ q failed clean. absurd (none q failed);
@@ -106,6 +113,7 @@ module _ {word : List ℕ} {t : ToolSpec} {names : List (List ℕ)} {old : List 
           (all_earlier t (opened_inputs empty_input k.inputs_read done) (λ decided. IsPushedUpToBlock decided was is k.pushed)
           (record { begins = processing; buffering = sends_now was is k.pushed (sequential_decided t k.inputs_read done) k.wrote k.clean processing }));
       peak = k.peak;
+      slots = k.slots;
     }
       where
         all_taken : take (length done + 1) done ≡ done
@@ -159,6 +167,9 @@ module _ {word : List ℕ} {t : ToolSpec} {names : List (List ℕ)} {old : List 
         not_denied = k.not_denied;
         empty = k.empty;
         peak = λ w agrees. rw (nothing w agrees) (k.peak w agrees);
+        slots = λ w agrees. rw (nothing w agrees) (k.slots w agrees);
+        room = λ q seen opened. ⊎_elim (λ same. absurd (false≢true (sym opened ∙ ap (is_reader_unopened old) (sym same) ∙ old_unopened)))
+            (λ other. k.room q (sym (is_in-other done p q other) ∙ seen) opened) (cases_eq p q);
       }
         where
           old_unopened : (reader_at old p).refused ≡ true
@@ -268,6 +279,19 @@ module _ {word : List ℕ} {t : ToolSpec} {names : List (List ℕ)} {old : List 
           rw (opened_inputs_some [] w done p more f.0 f.1, map-append t.size (opened_inputs [] w done) (f.0 ∷ later w more))
           (omega (arith, maximum-append (map t.size (opened_inputs [] w done)) (map t.size (f.0 ∷ later w more)), e.peak f.0 f.2, k.peak w (back w agrees)))
 
+      slots_here : (w : InputBytes) (more : List ℕ) → AreInputsConsistent inputs_read' w
+          → length store'.lines ≤ max (length before.lines) (sequential_slots t w (done ++ p ∷ more))
+      slots_here w more agrees =
+          let f = operand_finds w agrees in
+          let slots_of : List ℕ → ℕ = λ input. t.slots in
+          rw (opened_inputs_some [] w done p more f.0 f.1, map-append slots_of (opened_inputs [] w done) (f.0 ∷ later w more))
+          (omega (
+            arith,
+            maximum-append (map slots_of (opened_inputs [] w done)) (map slots_of (f.0 ∷ later w more)),
+            (e.slots k.clean).most,
+            k.slots w (back w agrees),
+          ))
+
       -- it was read to its end
       pub done_operand : result ≡ Ok tt → OperandsDone word t names old now' was is' messages_old messages_new before store' (done ++ p ∷ []) so_far
       done_operand ok = record {
@@ -289,6 +313,8 @@ module _ {word : List ℕ} {t : ToolSpec} {names : List (List ℕ)} {old : List 
         not_denied = end.denied;
         empty = end.empty;
         peak = λ w agrees. peak_here w [] agrees;
+        slots = λ w agrees. slots_here w [] agrees;
+        room = λ q seen opened. omega (arith, (e.slots k.clean).all end.denied);
       }
         where
           end : PassDone (reader_at now p) new is' store'
@@ -311,6 +337,28 @@ module _ {word : List ℕ} {t : ToolSpec} {names : List (List ℕ)} {old : List 
       )
       cause_of more Write r = r.write_failed
       cause_of more Memory r = (r.denied, r.clean)
+
+      -- an operand before it with the same input has read that to its end
+      ended_still : (q : ℕ) → is_in done q ≡ true → (reader_at now' q).refused ≡ false → IsDone (reader_at now' q)
+      ended_still = by_position (λ q. is_in done q ≡ true → (reader_at now' q).refused ≡ false → IsDone (reader_at now' q)) p
+          (λ seen opened. rw reader_here (e.stays_done (k.at_eof p seen old_open).done))
+          (λ q differs seen. rw (reader_other q differs) (λ opened. (k.at_eof q seen (was_unopened q ∙ opened)).done))
+
+      memory_is : (fault : FlowFault) → fault_at p fault ≡ Memory → fault ≡ Memory
+      memory_is (Read position) is = cc
+      memory_is Write is = is
+      memory_is Memory is = refl
+
+      -- If no slot was missing, a line is left. A slot was missing only if no operand was read before: then its input is
+      -- unread.
+      input_left : result ≡ Err Memory → IsDone new → ⊥
+      input_left memory ended = ⊎_elim
+          (λ few.
+          let unread = (e.refused k.clean few).same_reader in
+          ⊎_elim (λ seen. omega (arith, few, k.room p seen old_open, (e.slots k.clean).least))
+          (λ unseen. false≢true (sym (fresh_all old fresh p old_open).eof ∙ ap (λ (r : Reader). r.eof) (sym (k.unread p unseen).0)
+          ∙ ap (λ (r : Reader). r.eof) (sym unread) ∙ ended.eof)) (cases_Bool (is_in done p)))
+          (λ enough. e.line_left memory enough ended) (cases_lt (length store'.lines) t.slots)
 
       failing : (fault : FlowFault) → PassOutcome (reader_at now p) new is' store' (Err fault) → new.failed ≡ true → (new.eof ≡ false) × (fault_at p fault ≡ Read p)
       failing (Read position) r failed = ⊎_elim (λ f. (f.2, refl)) (λ l. absurd (false≢true (sym (l.1 ∙ not_failed_before) ∙ failed))) r.cause
@@ -368,6 +416,13 @@ module _ {word : List ℕ} {t : ToolSpec} {names : List (List ℕ)} {old : List 
           ends = cause_of more fault end;
           position = index_within fault;
           untouched = λ q other. let n = not_more done p q (rw (take-append-add done (p ∷ more) 1) at other) in reader_other q n.0 ∙ (k.unread q n.1).0;
+          ended = λ q named. ended_still q (rw (take-append_seam done (p ∷ more)) at named);
+          left = λ memory grows. let same : fault_at p fault ≡ Memory = cc in (
+            p,
+            rw (take-append-add done (p ∷ more) 1) (is_in-same done p),
+            rw reader_here (e.came.refused ∙ sym (was_unopened p) ∙ old_open),
+            rw reader_here (input_left (is_err ∙ ap (λ (f : FlowFault). Err f) (memory_is fault same))),
+          );
           is_prefix = λ w agrees. let f = operand_finds w agrees in let b = e.is_prefix f.0 f.2 in let rest = flat_map t.text (later w more) in record {
             rest = b.rest ++ rest;
             is = out_here w more f ∙ (λ i. sym (k.out w (back w agrees)) i ++ (b.is i ++ rest)) ∙ ap (λ (l : List ℕ). k.pushed ++ l) (append_assoc e.pushed b.rest rest)
@@ -383,6 +438,7 @@ module _ {word : List ℕ} {t : ToolSpec} {names : List (List ℕ)} {old : List 
               }));
           names_failed_read = λ q failed clean. ap (λ (f : FlowFault). Err f) ((failing fault end (fails_here q failed)).1 ∙ ap (λ (n : ℕ). Read n) (position_of q failed));
           peak = λ w agrees. peak_here w more agrees;
+          slots = λ w agrees. slots_here w more agrees;
         }
           where
             end : PassOutcome (reader_at now p) new is' store' (Err fault)

@@ -1,6 +1,6 @@
 -- Tools with two inputs. What the merge ensures about its two readers is what the tool has to ensure about the list
 -- from which both were lent; no other reader changes.
-use Rattle.ptrun.proofs.Common.{subst, JointReadFailed, HasReadCause, positions, length-append, length-map, ◌≡◌, ◌≢◌, ℕ, ◌<◌, ◌^◌, ◌||◌, ◌&&◌, ◌==◌, Bool, true, false, List, [], ◌∷◌, Option, Some, None}
+use Rattle.ptrun.proofs.Common.{IsDone, subst, JointReadFailed, HasReadCause, positions, length-append, length-map, ◌≡◌, ◌≢◌, ℕ, ◌<◌, ◌^◌, ◌||◌, ◌&&◌, ◌==◌, Bool, true, false, List, [], ◌∷◌, Option, Some, None}
 use Rattle.ptrun.proofs.Common.{Result, Ok, Err, length, get_or, refl, sym, ◌∙◌, ap, arith, option_map, not, All-nil, All-cons, false≢true, nat_tests, Reader, Output, Slots, Received, IsPrefix, HasReceived}
 use Rattle.ptrun.proofs.Common.{LaggedInput, update_at, First, Second, disorder, lines_of, decided_output, Input, Disorder, is_in, reader_at, is_reader_unopened, IsNew, IsPushedUpToBlock, position, two_input_tool, operand, by_side, JointPre}
 use Rattle.ptrun.proofs.Common.{BothAreSound, merge_completion, completion_of, AreConsistentAt, NoReadFailed, JointEnd, JointPost, ◌-◌, ◌++◌, set, length-set, set-append_left, set-append_right, get_or_append_left}
@@ -120,6 +120,7 @@ module _ (t : keyed.MergeTool) {old : List Reader} {was : Output} {before : Slot
     ends (Ok u) k is_exact = record {
       out = λ texts agrees. (is_exact texts agrees).0;
       is_done = λ texts agrees. ap (λ d. completion_of (option_map (λ d. (operand two d.file, d.first_disorder.line)) d)) (sym (is_exact texts agrees).1);
+      ended = λ written. each (λ k. IsDone (reader_at new k)) (k.done First) (k.done Second);
       position = tt;
       unfailed = none_failed k.failed;
       short = each (λ k. (reader_at new k).pulled < 2 ^ 63) (k.short First) (k.short Second);
@@ -133,6 +134,7 @@ module _ (t : keyed.MergeTool) {old : List Reader} {was : Output} {before : Slot
     ends (Err (faults.Disorder side line)) k is_exact = record {
       out = λ texts agrees. (is_exact texts agrees).0;
       is_done = λ texts agrees. is_named (disorder t (lines_of t (by_side two texts))) side line (is_exact texts agrees).1;
+      ended = λ written. cc;
       position = within_at side;
       unfailed = none_failed k.failed;
       short = each (λ k. (reader_at new k).pulled < 2 ^ 63) (sound.first_is.long (k.fault First)) (sound.second_is.long (k.fault Second));
@@ -155,6 +157,8 @@ module _ (t : keyed.MergeTool) {old : List Reader} {was : Output} {before : Slot
       bounded_lag = each (λ k. (cut : LaggedInput (given k)) × IsPushedUpToBlock (decided_output t (by_side two (update_at k cut.earlier given))) was is e.pushed) (keeps First) (keeps Second);
       same = λ f g same. ap (decided_output t) (λ i side. rw (side_of_operand p q side) at (same (both p q side) (named side)) i);
       peak = λ texts agrees. e.peak (by_side two texts) (agree texts agrees);
+      slots = λ texts agrees. e.slots (by_side two texts) (agree texts agrees);
+      left = λ memory grows. absurd (false≢true grows);
     }
       where
         keeps : (side : Side) → (cut : LaggedInput (given (both p q side))) × IsPushedUpToBlock (decided_output t (by_side two (update_at (both p q side) cut.earlier given))) was is e.pushed

@@ -1,6 +1,6 @@
 -- The requirements on one command, in terms of the bytes of its inputs. The inputs have positions: 0 is standard input,
 -- and `i` + 1 the `i`-th file.
-use Rattle.std.specs.Prelude.{ℕ, Option, List, [], ◌++◌, Bool, flat_map, length, take, if◌then◌else◌}
+use Rattle.std.specs.Prelude.{ℕ, ◌==◌, Option, List, [], ◌++◌, Bool, flat_map, is_none, length, take, if◌then◌else◌}
 use Rattle.ptflow.specs.ToolSpec.{ToolSpec}
 use Rattle.ptrun.specs.Files.{InputBytes, ReceivedInputs, is_unopened}
 use Rattle.ptrun.specs.Messages.{unopened_message, name_of}
@@ -11,6 +11,10 @@ pub record CommandSpec : Type 0 where
   pub out : InputBytes → List ℕ
   pub status : InputBytes → ℕ
   pub memory_bound : InputBytes → ℕ
+  -- the most slots that the store needs for these lines
+  pub slot_bound : InputBytes → ℕ
+  -- whether the tool requests memory only for input that it has not read yet
+  pub grows_for_input : Bool
   -- the output that is decided by what was received, regardless of the bytes that follow
   pub decided : ReceivedInputs → List ℕ
   -- the tool, if it reads its operands one after another, and `None` if it reads them together
@@ -39,3 +43,9 @@ operand_messages m w n = unopened_messages m.tool m.names (is_unopened w) (take 
 -- All messages of a run in which no call fails.
 abbrev pub messages : CommandSpec → InputBytes → List ℕ
 messages m w = operand_messages m w (length m.positions) ++ m.final_message w
+
+-- The operands that were read to their end once `n` of them are done, given the exit status: those `n`, if the tool reads
+-- its operands one after another. If it reads them together, all of them after status 0.
+abbrev pub ended_operands : CommandSpec → ℕ → ℕ → List ℕ
+ended_operands m n status =
+    if is_none m.sequential then (if status == 0 then m.positions else []) else take n m.positions

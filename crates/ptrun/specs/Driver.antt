@@ -1,7 +1,7 @@
 -- The contracts between a tool and the driver that runs it: the conditions before and after each of the driver's steps.
 use Rattle.std.specs.Prelude.{◌≡◌, ◌≢◌, ℕ, ◌+◌, ◌<◌, ◌≤◌, ◌^◌, Bool, true, false, List, [], All, Option, Some, None, Result, Ok, Err, length, max, if◌then◌else◌}
 use Rattle.std.specs.List.{list_any}
-use Rattle.ptlines.specs.Readers.{Reader, IsSound, HasReadCause}
+use Rattle.ptlines.specs.Readers.{Reader, IsDone, IsSound, HasReadCause}
 use Rattle.ptlines.specs.Outputs.{Output, PushEffect}
 use Rattle.ptlines.specs.Slots.{Slots, total_bytes}
 use Rattle.ptlines.specs.Sinks.{SinkState, flushes_after}
@@ -16,14 +16,14 @@ use Rattle.ptmerge.specs.declared.key_order.Side.{Side}
 use Rattle.ptrun.specs.declared.driver.Completion.{Completion}
 use Rattle.ptrun.specs.declared.driver.Completion.TheVariants.{AllWritten, Unopened, Disorder}
 use Rattle.ptrun.specs.Files.{InputBytes, ReceivedInputs, is_in, is_unopened, is_reader_unopened, HaveReceived, IsNewOrUnopened, HasReadFailed}
-use Rattle.ptrun.specs.Files.{AreInputsConsistent}
+use Rattle.ptrun.specs.Files.{AreInputsConsistent, AreReadToEnd, IsOneUnended}
 use Rattle.ptlines.specs.Readers.{reader_at}
-use Rattle.ptrun.specs.CommandSpec.{CommandSpec, operand_messages, unopened_messages}
+use Rattle.ptrun.specs.CommandSpec.{CommandSpec, operand_messages, unopened_messages, ended_operands}
 use Rattle.ptrun.specs.Lag.{IsPushedUpToBlock, HasBoundedLag}
 use Rattle.ptrun.specs.Joint.{JointTool}
 use Rattle.ptrun.specs.MessageWrites.{HasSaid}
 use Rattle.ptrun.specs.Messages.{fault_message, disorder_message}
-use Rattle.ptrun.specs.Runs.{IsComplete, HasCause, Sinks, Outcome, IsRun, HasWrittenNothing}
+use Rattle.ptrun.specs.Runs.{IsComplete, HasCause, Sinks, Outcome, IsRunInStore, IsUnchangedIfUnread, IsStoreUnchangedIfUnread}
 
 -- The precondition on the inputs: none was read yet, each operand has a reader, each file has a name, and the tool
 -- accepts these operands.
@@ -129,17 +129,21 @@ pub record RunInputsPost (m : CommandSpec) (old new : List Reader) (was is : Out
   pub ends : RunInputsEnd m received old new pushed is.write_failed store.denied operands_done result
   pub position : HasIndexBelow (length old) result
   pub untouched : (position : ℕ) → is_in (m.may_touch operands_done) position ≡ false → reader_at new position ≡ reader_at old position
+  pub ended : AreReadToEnd new (ended_operands m operands_done (result_status result))
+  pub left : result ≡ Err Memory → m.grows_for_input ≡ true → IsOneUnended new (m.may_touch operands_done)
   pub is_prefix : (w : InputBytes) → AreInputsConsistent received w → IsPrefix pushed (m.out w)
   pub names_failed_read : (position : ℕ) → HasReadFailed old new position → is.write_failed ≡ false → result ≡ Err (Read position)
   pub decided_is_written : (position : ℕ) → HasReadFailed old new position → is.write_failed ≡ false → IsPrefix (m.decided received) pushed
   pub bounded_lag : HasBoundedLag m received operands_done (λ decided. IsPushedUpToBlock decided was is pushed)
   pub peak : (w : InputBytes) → AreInputsConsistent received w → store.peak ≤ max before.peak (m.memory_bound w)
+  pub slots : (w : InputBytes) → AreInputsConsistent received w
+      → length store.lines ≤ max (length before.lines) (m.slot_bound w)
 
 -- The postcondition of a run with a lent store: the peak and the failed growth that it reports are the store's own, and
 -- if it reads nothing, then inputs, store and output are unchanged.
 pub record RunWithStorePost (m : CommandSpec) (old new : List Reader) (handed : Sinks) (o : Outcome) (lent left : Slots) : Type 0 where
-  pub run : IsRun m old new handed o
-  pub reads_nothing : m.reads_nothing (is_reader_unopened old) ≡ true → (new ≡ old) × (left ≡ lent) × HasWrittenNothing handed.out o
+  pub run : IsRunInStore m old new handed o lent left
+  pub reads_nothing : IsUnchangedIfUnread m old new handed.out o × IsStoreUnchangedIfUnread m old lent left
   pub store : (o.peak ≡ left.peak) × (o.denied ≡ left.denied)
 
 -- ---- tools that read all their inputs together
@@ -171,6 +175,7 @@ NoReadFailed positions old new = (q : ℕ) → is_in positions q ≡ true → (r
 pub record JointComplete (t : JointTool) (positions : List ℕ) (given : ℕ → Received) (old new : List Reader) (pushed : List ℕ) (failed denied : Bool) (done : Completion) : Type 0 where
   pub out : (texts : ℕ → List ℕ) → AreConsistentAt positions given texts → pushed ≡ t.text positions texts
   pub is_done : (texts : ℕ → List ℕ) → AreConsistentAt positions given texts → done ≡ completion_of (t.disorder positions texts)
+  pub ended : done ≡ AllWritten → (q : ℕ) → is_in positions q ≡ true → IsDone (reader_at new q)
   pub position : HasIndexBelow (length old) (Ok done)
   pub unfailed : NoReadFailed positions old new
   pub short : (q : ℕ) → is_in positions q ≡ true → (reader_at new q).pulled < 2 ^ 63
@@ -209,3 +214,7 @@ pub record JointPost (t : JointTool) (positions : List ℕ) (old new : List Read
       → (cut : LaggedInput (given q)) × IsPushedUpToBlock (t.decided positions (update_at q cut.earlier given)) was is pushed
   pub same : (f g : ℕ → Received) → ((q : ℕ) → is_in positions q ≡ true → f q ≡ g q) → t.decided positions f ≡ t.decided positions g
   pub peak : (texts : ℕ → List ℕ) → AreConsistentAt positions given texts → store.peak ≤ max before.peak (t.size positions texts)
+  pub slots : (texts : ℕ → List ℕ) → AreConsistentAt positions given texts
+      → length store.lines ≤ max (length before.lines) (t.slots positions texts)
+  pub left : result ≡ Err Memory → t.grows_for_input ≡ true
+      → (q : ℕ) × (is_in positions q ≡ true) × (IsDone (reader_at new q) → ⊥)

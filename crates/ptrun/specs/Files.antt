@@ -3,7 +3,7 @@
 use Rattle.std.specs.Prelude.{◌≡◌, ℕ, ◌+◌, ◌==◌, ◌<◌, ◌≤◌, ◌^◌, List, [], ◌∷◌, ◌++◌, Bool, true, false, Option, Some, None, if◌then◌else◌, slice_index_or}
 use Rattle.std.specs.Prelude.{option_map, filter_map, is_none, length, ⊤, All}
 use Rattle.std.specs.List.{list_any}
-use Rattle.ptlines.specs.Readers.{Reader, remaining_bytes, reader_at}
+use Rattle.ptlines.specs.Readers.{Reader, IsDone, remaining_bytes, reader_at}
 use Rattle.ptlines.specs.Received.{Received, HasReceived}
 use Rattle.ptlines.specs.Received as one
 
@@ -88,6 +88,17 @@ IsNewOrUnopened r = r.refused ≡ false → IsNew r
 -- The readers of standard input and of `files` files, none of which was read yet.
 abbrev pub AreNewInputs : ℕ → List Reader → Type 0
 AreNewInputs files readers = (length readers ≡ files + 1) × All IsNewOrUnopened readers
+
+-- Of the inputs at these positions, those that were opened were read to their end, and nothing of them is buffered.
+abbrev pub AreReadToEnd : List Reader → List ℕ → Type 0
+AreReadToEnd readers positions = (position : ℕ) → is_in positions position ≡ true
+    → (reader_at readers position).refused ≡ false → IsDone (reader_at readers position)
+
+-- One of the inputs at these positions was opened, and not read to its end.
+abbrev pub IsOneUnended : List Reader → List ℕ → Type 0
+IsOneUnended readers positions =
+    (position : ℕ) × (is_in positions position ≡ true) × ((reader_at readers position).refused ≡ false)
+    × (IsDone (reader_at readers position) → ⊥)
 
 -- A read of the input at a position failed.
 abbrev pub HasReadFailed : List Reader → List Reader → ℕ → Type 0

@@ -1,6 +1,6 @@
 -- Tools that read all their operands together: `paste`, `uniq`, `comm` and `join`. If an operand could not be opened,
 -- every such file is reported and nothing else is done.
-use Rattle.std.specs.Prelude.{ℕ, ◌==◌, ◌&&◌, Bool, List, [], Option, Some, None, length, nat_le, unwrap_or, slice_index_or, option_map, not, if◌then◌else◌}
+use Rattle.std.specs.Prelude.{ℕ, ◌==◌, ◌&&◌, Bool, true, false, List, [], Option, Some, None, length, nat_le, unwrap_or, slice_index_or, option_map, not, if◌then◌else◌}
 use Rattle.std.specs.List.{list_any}
 use Rattle.ptlines.specs.Received.{Received, empty_input}
 use Rattle.ptlangs.specs.Jobs.{Paste}
@@ -23,6 +23,10 @@ pub record JointTool : Type 0 where
   pub decided : List ℕ → (ℕ → Received) → List ℕ
   -- the most bytes of lines that are held at any moment
   pub size : List ℕ → (ℕ → List ℕ) → ℕ
+  -- the most slots that the store needs for them
+  pub slots : List ℕ → (ℕ → List ℕ) → ℕ
+  -- whether it requests memory only for input that it has not read yet
+  pub grows_for_input : Bool
   -- the position of an input that is out of order, and the number of the line, counted from 1
   pub disorder : List ℕ → (ℕ → List ℕ) → Option (ℕ × ℕ)
   -- whether the tool accepts these operands
@@ -38,6 +42,8 @@ one_input_tool t = record {
   text = λ positions texts. t.text (texts (only_operand positions));
   decided = λ positions given. t.decided (given (only_operand positions));
   size = λ positions texts. t.size (texts (only_operand positions));
+  slots = λ positions texts. t.slots;
+  grows_for_input = true;
   disorder = λ positions texts. None;
   accepts = λ positions. length positions == 1;
 }
@@ -48,6 +54,8 @@ paste_rows_tool job = record {
   text = paste job;
   decided = paste_decided job;
   size = paste_size job;
+  slots = λ positions texts. length positions;
+  grows_for_input = false;
   disorder = λ positions texts. None;
   accepts = λ positions. nat_le (length positions) 512;
 }
@@ -67,6 +75,8 @@ two_input_tool t = record {
   text = λ positions texts. merge_output t (by_side positions texts);
   decided = λ positions given. keyed.decided_output t (by_side positions given);
   size = λ positions texts. t.size (lines_of t (by_side positions texts));
+  slots = λ positions texts. t.slots (lines_of t (by_side positions texts));
+  grows_for_input = false;
   disorder = λ positions texts. option_map (λ d. (operand positions d.file, d.first_disorder.line)) (keyed.disorder t (lines_of t (by_side positions texts)));
   accepts = λ positions. (length positions == 2) && not (operand positions First == operand positions Second);
 }
@@ -99,6 +109,8 @@ joint_spec word t names positions = record {
   out = λ w. if has_unopened positions w then [] else t.text positions (bytes_of w);
   status = λ w. if has_unopened positions w then 1 else disorder_status (t.disorder positions (bytes_of w));
   memory_bound = λ w. if has_unopened positions w then 0 else t.size positions (bytes_of w);
+  slot_bound = λ w. if has_unopened positions w then 0 else t.slots positions (bytes_of w);
+  grows_for_input = t.grows_for_input;
   decided = λ r. if has_unopened positions r then [] else t.decided positions (received_in r);
   sequential = None;
   final_message = λ w. if has_unopened positions w then [] else disorder_text word names (t.disorder positions (bytes_of w));

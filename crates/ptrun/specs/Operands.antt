@@ -27,6 +27,10 @@ sequential_output t w positions = flat_map t.text (opened_inputs [] w positions)
 abbrev pub sequential_bound : ToolSpec → InputBytes → List ℕ → ℕ
 sequential_bound t w positions = maximum (map t.size (opened_inputs [] w positions))
 
+-- The most slots over operands at these positions: the tool's, or none if no operand was opened.
+abbrev pub sequential_slots : ToolSpec → InputBytes → List ℕ → ℕ
+sequential_slots t w positions = maximum (map (λ input. t.slots) (opened_inputs [] w positions))
+
 -- The output that is decided by what was received from the operands in order: nothing is decided after the first input
 -- whose end was not reached.
 abbrev pub decided_in_order : ToolSpec → List Received → List ℕ
@@ -42,6 +46,8 @@ sequential_spec word t names positions = record {
   out = λ w. sequential_output t w positions;
   status = λ w. if list_any (is_unopened w) positions then 1 else 0;
   memory_bound = λ w. sequential_bound t w positions;
+  slot_bound = λ w. sequential_slots t w positions;
+  grows_for_input = true;
   decided = λ r. sequential_decided t r positions;
   sequential = Some t;
   final_message = λ w. [];

@@ -1,5 +1,5 @@
 -- The contract of a whole run: its output, messages, exit status and memory, by its inputs and the calls that failed.
-use Rattle.std.specs.Prelude.{◌≡◌, ℕ, ◌≤◌, Bool, true, false, List, ◌++◌, Option, Some, None, length, take, slice_get, ◌⊎◌, if◌then◌else◌}
+use Rattle.std.specs.Prelude.{◌≡◌, ℕ, ◌≤◌, Bool, true, false, List, ◌++◌, Option, Some, None, length, max, take, slice_get, ◌⊎◌, if◌then◌else◌}
 use Rattle.std.specs.Io.KnownBytes.{append_known}
 use Rattle.ptlines.specs.Readers.{Reader}
 use Rattle.ptlines.specs.Sinks.{SinkState, flushes_after}
@@ -8,10 +8,10 @@ use Rattle.ptlines.specs.Received.{IsPrefix}
 use Rattle.ptflow.specs.declared.faults.FlowFault.{FlowFault}
 use Rattle.ptflow.specs.declared.faults.FlowFault.TheVariants.{Read, Write, Memory}
 use Rattle.ptrun.specs.declared.report.Report.{Report}
-use Rattle.ptrun.specs.Files.{InputBytes, ReceivedInputs, at, is_in, is_reader_unopened, HaveReceived, HasReadFailed, IsTooLong, HasBytes}
-use Rattle.ptrun.specs.Files.{AreInputsConsistent}
+use Rattle.ptrun.specs.Files.{InputBytes, ReceivedInputs, at, is_in, HaveReceived, HasReadFailed, IsTooLong, HasBytes}
+use Rattle.ptrun.specs.Files.{AreInputsConsistent, AreReadToEnd, IsOneUnended, is_reader_unopened}
 use Rattle.ptlines.specs.Readers.{reader_at}
-use Rattle.ptrun.specs.CommandSpec.{CommandSpec, operand_messages, messages}
+use Rattle.ptrun.specs.CommandSpec.{CommandSpec, operand_messages, messages, ended_operands}
 use Rattle.ptrun.specs.Lag.{IsWrittenUpToBlock, HasBoundedLag}
 use Rattle.ptrun.specs.MessageWrites.{HasSaid}
 use Rattle.ptrun.specs.Messages.{fault_message}
@@ -109,6 +109,10 @@ pub record IsRun (m : CommandSpec) (old new : List Reader) (before : Sinks) (o :
   pub ends : RunEnd m received old new written message o operands_done fault
   -- the inputs that were not begun are unchanged
   pub untouched : (position : ℕ) → is_in (m.may_touch operands_done) position ≡ false → reader_at new position ≡ reader_at old position
+  -- operands that are done were read to their end
+  pub ended : AreReadToEnd new (ended_operands m operands_done o.status)
+  -- if memory ran out, input was left
+  pub left : fault ≡ Some Memory → m.grows_for_input ≡ true → IsOneUnended new (m.may_touch operands_done)
   -- the output is a prefix of the command's output, regardless of the bytes that follow in the inputs
   pub is_prefix : (w : InputBytes) → AreInputsConsistent received w → IsPrefix written (m.out w)
   -- a failed read is reported, and all output that was decided by then is written, unless a write failed
@@ -118,6 +122,13 @@ pub record IsRun (m : CommandSpec) (old new : List Reader) (before : Sinks) (o :
   -- after a failed write
   pub bounded_lag : HasBoundedLag m received operands_done (λ decided. IsWrittenUpToBlock decided written o.out.failed)
   pub bounded : (w : InputBytes) → AreInputsConsistent received w → o.peak ≤ m.memory_bound w
+
+-- The postcondition of a run with a lent store: besides, the store has no more slots than the command needs for its
+-- inputs, or than it had before.
+pub record IsRunInStore (m : CommandSpec) (old new : List Reader) (before : Sinks) (o : Outcome) (lent left : Slots) : Type 0 where
+  pub run : IsRun m old new before o
+  pub slots : (w : InputBytes) → AreInputsConsistent run.received w
+      → length left.lines ≤ max (length lent.lines) (m.slot_bound w)
 
 -- The run did what the command requires over inputs of these bytes.
 pub record IsExact (m : CommandSpec) (w : InputBytes) (before : Sinks) (o : Outcome) : Type 0 where
@@ -136,3 +147,12 @@ IsExactUnlessFailed m old new before o =
 -- Nothing was written or flushed, and no memory was used.
 abbrev pub HasWrittenNothing : SinkState → Outcome → Type 0
 HasWrittenNothing out o = (o.out ≡ out) × (o.peak ≡ 0) × (o.denied ≡ false)
+
+-- If the command is to read nothing, the inputs are unchanged, and nothing was written.
+abbrev pub IsUnchangedIfUnread : CommandSpec → List Reader → List Reader → SinkState → Outcome → Type 0
+IsUnchangedIfUnread m old new out o =
+    m.reads_nothing (is_reader_unopened old) ≡ true → (new ≡ old) × HasWrittenNothing out o
+
+-- If the command is to read nothing, the store is unchanged.
+abbrev pub IsStoreUnchangedIfUnread : CommandSpec → List Reader → Slots → Slots → Type 0
+IsStoreUnchangedIfUnread m old lent left = m.reads_nothing (is_reader_unopened old) ≡ true → left ≡ lent

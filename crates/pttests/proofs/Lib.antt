@@ -4,4 +4,5 @@ mod LagExamples
 mod PasteRunExamples
 mod UsageExamples
 mod RunExamples
+mod RunEndExamples
 mod TrRunExamples

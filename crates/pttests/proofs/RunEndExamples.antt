@@ -1,0 +1,73 @@
+-- How far a run went, for three commands. Each lemma holds for every run that meets `IsRun`. So it refuses a body that
+-- goes on after a failure, one that does not read its input, and one that runs out of memory when nothing is left to
+-- read.
+use Rattle.std.specs.List.{list_any}
+use Rattle.std.proofs.Common.{◌≡◌, ℕ, zero, suc, ◌+◌, ◌==◌, ◌∙◌, Bool, true, false, List, [], ◌∷◌, Option, Some, None, refl, sym, ap, arith, codes, map, take}
+use Rattle.std.proofs.lemmas.Bool.{false≢true}
+use Rattle.ptlines.specs.Readers.{Reader, IsDone, reader_at}
+use Rattle.ptflow.specs.declared.faults.FlowFault.{FlowFault}
+use Rattle.ptflow.specs.declared.faults.FlowFault.TheVariants.{Memory}
+use Rattle.ptfakes.proofs.SplitWords.{words}
+use Rattle.ptrun.specs.CommandSpec.{CommandSpec}
+use Rattle.ptrun.specs.Files.{InputBytes, AreReadToEnd, IsOneUnended}
+use Rattle.ptrun.specs.Runs.{IsRun, RunEnd, Sinks, Outcome}
+use Rattle.ptrun.specs.SpecOfArgs.{spec_of_args}
+
+module _ {old new : List Reader} {before : Sinks} {o : Outcome} where
+  -- The end of `f` was not reached, for example because a write failed. Then no operand is done: no message is about
+  -- `f` or `g`, except that about the failure.
+  stops_at_f : (k : IsRun (spec_of_args (words "cut -c 1 f g")) old new before o) → (reader_at new 1).refused ≡ false
+      → (reader_at new 1).eof ≡ false → k.operands_done ≡ 0
+  stops_at_f k opened going = by_count k.operands_done k.ended
+    where
+      by_count : (n : ℕ) → AreReadToEnd new (take n (1 ∷ 2 ∷ [])) → n ≡ 0
+      by_count zero ended = refl
+      by_count (suc n) ended = absurd (false≢true (sym going ∙ (ended 1 refl opened).eof))
+
+  -- and `g` is unchanged
+  leaves_g : (k : IsRun (spec_of_args (words "cut -c 1 f g")) old new before o) → (reader_at new 1).refused ≡ false
+      → (reader_at new 1).eof ≡ false → reader_at new 2 ≡ reader_at old 2
+  leaves_g k opened going = by_count k.operands_done (stops_at_f k opened going) k.untouched
+    where
+      by_count : (n : ℕ) → n ≡ 0 → ((p : ℕ) → list_any (λ q. q == p) (take (n + 1) (1 ∷ 2 ∷ [])) ≡ false → reader_at new p ≡ reader_at old p)
+          → reader_at new 2 ≡ reader_at old 2
+      by_count zero none untouched = untouched 2 refl
+      by_count (suc n) none untouched = absurd (omega (arith, none))
+
+  -- Its input is read to its end, if the status is 0, also if nothing of it is written.
+  reads_its_input : (k : IsRun (spec_of_args (words "tr -d a")) old new before o) → o.status ≡ 0
+      → (reader_at new 0).refused ≡ false → IsDone (reader_at new 0)
+  reads_its_input k well opened = by_fault k.fault k.ends
+    where
+      by_fault : (fault : Option FlowFault)
+          → RunEnd (spec_of_args (words "tr -d a")) k.received old new k.written k.message o k.operands_done fault
+          → IsDone (reader_at new 0)
+      by_fault None ends = (rw ends.0.all at k.ended) 0 refl opened
+      by_fault (Some fault) ends = absurd (omega (arith, ends.status_is, well))
+
+  -- Memory does not run out once standard input has ended.
+  needs_no_memory_at_the_end : (k : IsRun (spec_of_args (words "cut -f 1")) old new before o) → IsDone (reader_at new 0)
+      → k.fault ≡ Some Memory → ⊥
+  needs_no_memory_at_the_end k ended memory = by_count k.operands_done (k.left memory refl)
+    where
+      by_count : (n : ℕ) → IsOneUnended new (take (n + 1) (0 ∷ [])) → ⊥
+      by_count zero (zero, named, opened, unended) = unended ended
+      by_count zero (suc p, named, opened, unended) = false≢true named
+      by_count (suc n) (zero, named, opened, unended) = unended ended
+      by_count (suc n) (suc p, named, opened, unended) = false≢true named
+
+-- The slots that commands need: none for `tr`, for `cut` by bytes, and if no operand was opened.
+slot_bounds : map (λ (example : List (List ℕ) × InputBytes). (spec_of_args example.0).slot_bound example.1)
+    ((words "tr a b", Some (codes "a\n") ∷ [])
+    ∷ (words "cut -b 1", Some (codes "a\n") ∷ [])
+    ∷ (words "cut -f 1 f g", Some [] ∷ None ∷ Some (codes "a\n") ∷ [])
+    ∷ (words "cut -f 1 f", Some [] ∷ None ∷ [])
+    ∷ (words "paste -s", Some (codes "a\n") ∷ [])
+    ∷ (words "paste - f -", Some (codes "a\n") ∷ Some [] ∷ [])
+    ∷ (words "uniq", Some (codes "a\n") ∷ [])
+    ∷ (words "comm f g", Some [] ∷ Some [] ∷ Some (codes "a\na\n") ∷ [])
+    ∷ (words "join f g", Some [] ∷ Some [] ∷ Some (codes "a\na\nb\n") ∷ [])
+    ∷ (words "join f g", Some [] ∷ Some [] ∷ None ∷ [])
+    ∷ [])
+    ≡ 0 ∷ 0 ∷ 1 ∷ 0 ∷ 0 ∷ 3 ∷ 2 ∷ 4 ∷ 6 ∷ 0 ∷ []
+slot_bounds = refl
