@@ -53,8 +53,8 @@ module _ {old new : List Reader} {before : Sinks} {o : Outcome} where
       → k.fault ≡ Some Memory → ⊥
   needs_no_memory_at_the_end k ended memory =
       let left = k.left memory refl in
-      let named = rw (take_all {A = ℕ} (k.operands_done + 1) (0 ∷ []) (omega arith)) at left.1 in
-      by_position left.0 (is_zero left.0 named) left.3
+      by_position left.0 (is_zero left.0 (rw (take_all {A = ℕ} (k.operands_done + 1) (0 ∷ []) (omega arith)) at left.1))
+      left.3
     where
       is_zero : (p : ℕ) → ((0 == p) || false) ≡ true → p ≡ 0
       is_zero p named = ⊎_elim (λ same. sym same.1)
