@@ -2,14 +2,16 @@
 -- goes on after a failure, one that does not read its input, and one that runs out of memory when nothing is left to
 -- read.
 use Rattle.std.specs.List.{list_any}
-use Rattle.std.proofs.Common.{◌≡◌, ℕ, zero, suc, ◌+◌, ◌==◌, ◌∙◌, Bool, true, false, List, [], ◌∷◌, Option, Some, None, refl, sym, ap, arith, codes, map, take}
+use Rattle.std.proofs.Common.{◌≡◌, ℕ, zero, suc, ◌+◌, ◌==◌, ◌∙◌, ◌||◌, ⊎_elim, Bool, true, false, List, [], ◌∷◌, Option}
+use Rattle.std.proofs.Common.{Some, None, refl, sym, ap, arith, codes, map, take}
 use Rattle.std.proofs.lemmas.Bool.{false≢true}
+use Rattle.std.proofs.lemmas.Bool.Decides.{eqb_tells}
+use Rattle.std.proofs.lemmas.List.{take_all}
 use Rattle.ptlines.specs.Readers.{Reader, IsDone, reader_at}
 use Rattle.ptflow.specs.declared.faults.FlowFault.{FlowFault}
 use Rattle.ptflow.specs.declared.faults.FlowFault.TheVariants.{Memory}
 use Rattle.ptfakes.proofs.SplitWords.{words}
-use Rattle.ptrun.specs.CommandSpec.{CommandSpec}
-use Rattle.ptrun.specs.Files.{InputBytes, AreReadToEnd, IsOneUnended}
+use Rattle.ptrun.specs.Files.{InputBytes, AreReadToEnd}
 use Rattle.ptrun.specs.Runs.{IsRun, RunEnd, Sinks, Outcome}
 use Rattle.ptrun.specs.SpecOfArgs.{spec_of_args}
 
@@ -29,7 +31,8 @@ module _ {old new : List Reader} {before : Sinks} {o : Outcome} where
       → (reader_at new 1).eof ≡ false → reader_at new 2 ≡ reader_at old 2
   leaves_g k opened going = by_count k.operands_done (stops_at_f k opened going) k.untouched
     where
-      by_count : (n : ℕ) → n ≡ 0 → ((p : ℕ) → list_any (λ q. q == p) (take (n + 1) (1 ∷ 2 ∷ [])) ≡ false → reader_at new p ≡ reader_at old p)
+      by_count : (n : ℕ) → n ≡ 0
+          → ((p : ℕ) → list_any (λ q. q == p) (take (n + 1) (1 ∷ 2 ∷ [])) ≡ false → reader_at new p ≡ reader_at old p)
           → reader_at new 2 ≡ reader_at old 2
       by_count zero none untouched = untouched 2 refl
       by_count (suc n) none untouched = absurd (omega (arith, none))
@@ -48,13 +51,17 @@ module _ {old new : List Reader} {before : Sinks} {o : Outcome} where
   -- Memory does not run out once standard input has ended.
   needs_no_memory_at_the_end : (k : IsRun (spec_of_args (words "cut -f 1")) old new before o) → IsDone (reader_at new 0)
       → k.fault ≡ Some Memory → ⊥
-  needs_no_memory_at_the_end k ended memory = by_count k.operands_done (k.left memory refl)
+  needs_no_memory_at_the_end k ended memory =
+      let left = k.left memory refl in
+      by_position left.0 (is_zero left.0 (rw (take_all {A = ℕ} (k.operands_done + 1) (0 ∷ []) (omega arith)) at left.1))
+      left.3
     where
-      by_count : (n : ℕ) → IsOneUnended new (take (n + 1) (0 ∷ [])) → ⊥
-      by_count zero (zero, named, opened, unended) = unended ended
-      by_count zero (suc p, named, opened, unended) = false≢true named
-      by_count (suc n) (zero, named, opened, unended) = unended ended
-      by_count (suc n) (suc p, named, opened, unended) = false≢true named
+      is_zero : (p : ℕ) → ((0 == p) || false) ≡ true → p ≡ 0
+      is_zero p named = ⊎_elim (λ same. sym same.1)
+          (λ other. absurd (false≢true (sym (ap (λ (b : Bool). b || false) other.0) ∙ named))) (eqb_tells 0 p)
+
+      by_position : (p : ℕ) → p ≡ 0 → (IsDone (reader_at new p) → ⊥) → ⊥
+      by_position p is unended = unended (rw is ended)
 
 -- The slots that commands need: none for `tr`, for `cut` by bytes, and if no operand was opened.
 slot_bounds : map (λ (example : List (List ℕ) × InputBytes). (spec_of_args example.0).slot_bound example.1)
