@@ -48,7 +48,7 @@ TEXT = [
     ["tr", "-cs", "[:alpha:]", "[\\n*]"],
 ]
 SHORT = [["cut", "-c", "2-4"], ["cut", "-f2"], UPPER]
-# Each byte becomes seven times itself: neither few stretches nor few rows of bytes.
+# Each byte becomes seven times itself: neither few stretches nor a part of the table.
 SEVENFOLD = ["\\000-\\377", "".join(f"\\{byte * 7 % 256:03o}" for byte in range(256))]
 BINARY = [
     ["tr", "\\000-\\177", "\\200-\\377"],

@@ -89,6 +89,9 @@ fn check_line(
     Ok(())
 }
 
+// Lengths around those at which a piece of a line ends, and with them the last shuffle.
+const PIECES: &[usize] = &[111, 112, 127, 128, 129, 144, 145];
+
 // For each case: whether its lines are longer than a block; the number of commas in 256 bytes (none, few, many, or
 // all); the lengths of the lines; the size of the pieces.
 const LINES: &[(bool, u32, &[usize], usize)] = &[
@@ -100,6 +103,7 @@ const LINES: &[(bool, u32, &[usize], usize)] = &[
     (false, 60, SHORT, 40),
     (false, 256, SHORT, usize::MAX),
     (false, 256, SHORT, 40),
+    (false, 4, PIECES, usize::MAX),
     (true, 60, LONG, usize::MAX),
 ];
 
@@ -134,6 +138,7 @@ const CUTS: &[Cut] = &[
         b"1-2,4-5,7-8,10-11,15-16,31-32,34,63-65",
         false,
     ),
+    (false, false, b"2,4,16-17,112,127-130,140-", false),
     (true, false, b"1", false),
     (true, true, b"1", false),
     (true, false, b"2", false),

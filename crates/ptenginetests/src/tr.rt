@@ -256,8 +256,8 @@ const SIX_BYTES: &[u8] = b"\\1\\21\\41\\61\\101\\121";
 
 const SIX_IMAGES: &[u8] = b"\\2\\23\\44\\65\\106\\127";
 
-// Plans of one, two and four shifted ranges, ranges across byte 128, two and four nibble tables, one image for a set,
-// and all of these at once. If the flag is set, blocks are checked as well.
+// Plans of one, two and four shifted ranges, ranges across byte 128, a quarter and a half of a table, one image for a
+// set, the other half of a table, and all of it. If the flag is set, blocks are checked as well.
 const TRANSLATED: &[(bool, &[u8], &[u8], bool)] = &[
     (false, b"a-z", b"A-Z", true),
     (false, b"a-z\\377", b"A-Z\\1", true),
@@ -270,6 +270,8 @@ const TRANSLATED: &[(bool, &[u8], &[u8], bool)] = &[
     (true, b"[:alpha:]", b"[\\n*]", true),
     (false, b"\\177\\200acegikmo", b"[x*]", false),
     (false, SIX_BYTES, SIX_IMAGES, true),
+    (false, b"\\200\\221\\243\\300\\377", b"abcde", false),
+    (false, b"\\1\\101\\200\\210\\300\\377", b"abcdef", true),
 ];
 
 // Sets of bytes, each used with its complement: some bytes, bytes around 128, one byte, and all bytes.

@@ -18,7 +18,7 @@ pub use Rattle.std.proofs.lemmas.List.FromFn.{get_or-enumerate_from, get_or-map-
 pub use Rattle.std.proofs.lemmas.List.FromFn.{take-map-range_with_len}
 pub use Rattle.std.proofs.lemmas.List.Splits.{length-slice_split}
 pub use Rattle.std.proofs.lemmas.List.Sums.{count_by-le-length, count_by_more_no, count_by_more_yes, get_or-le-sum_by, sum_by-append, sum_by-cons, sum_by-set, sum_by-take-le}
-pub use Rattle.std.proofs.lemmas.Nat.{and_mask, mod-mul-add, ones-le, pow_pos}
+pub use Rattle.std.proofs.lemmas.Nat.{and_mask, mod-mul-add, ones-le, pow_below, pow_pos}
 pub use Rattle.std.proofs.lemmas.Result.{err_from_is_err_and}
 pub use Rattle.std.proofs.lemmas.Simd.{Each1-from_get_or, SwzOk, SwzOk-from_below, bit_mask_l, bitmask_splat, chunk-drop, chunk-fits, get_or-chunk, length-chunk, length-put_chunk, length-swz_l}
 pub use Rattle.std.proofs.lemmas.Simd.{length-zip2, map-map, mask_l-lt, mask_l-mod, ones-mask_l, ones-mask_l_cons, pick_l-range_with_len, splat_is_map, swz_l, take_more_put_chunk, tops_compared}
@@ -65,10 +65,10 @@ pub use Rattle.ptflow.specs.TrOutput.{squeeze, squeeze_after, is_not_repeat, tr,
 pub use Rattle.ptflow.specs.Uniqs.{Run, after_fields, init, ends_word, output_of, is_same, key, cons_run, runs, output_of_run, uniq_tool, word_ends}
 pub use Rattle.ptlines.specs.Text.{is_blank}
 pub use Rattle.ptflow.specs.Private.Vectors.ByteSets.{IsSetOf, IsFilteredTo, set_has, table_has, mask_of}
-pub use Rattle.ptflow.specs.Private.Vectors.Shift.{IsMappedTo, shift_by_four, shift_by_range, shift_by_two, stretch_delta}
+pub use Rattle.ptflow.specs.Private.Vectors.Shift.{IsMappedTo, range_delta, shift_by_ranges, stretch_delta}
 pub use Rattle.ptflow.specs.Private.Vectors.FindNth.{IsNth}
 pub use Rattle.ptflow.specs.Private.Vectors.Compress.{IsCompressTable, IsCompressRow, select_by, true_indices}
-pub use Rattle.ptflow.specs.Private.Vectors.Nibbles.{map_by_tables, map_by_two}
+pub use Rattle.ptflow.specs.Private.Vectors.Tables.{entry_of, image_in, image_by_window, IsSameOutside}
 pub use Rattle.ptflow.specs.Private.Cut.CutFrom.{ExtendsCut, CutChunkPost, HasTerminators, IsCutPart, IsSameLine, CopyLinesPost, cut_piece, cut_fields_from, cut_bytes_from, cut_list_from, cut_lines_from}
 pub use Rattle.ptflow.specs.Private.Cut.FieldOffsets.{IsFieldStart, fields, prefixed_fields}
 pub use Rattle.ptflow.specs.Private.Passes.StepOutput.{OutputPart, OutputFailed}

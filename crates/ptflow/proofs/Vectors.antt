@@ -3,4 +3,5 @@ pub mod ByteSets
 pub mod Select
 pub mod Compress
 pub mod Lanes
+pub mod Tables
 pub mod FindNth

@@ -1,6 +1,6 @@
 -- The precondition and the postcondition of the engine of `paste` without `-s`. The parameter `cells` has, for each
 -- column, the index of the reader of that column.
-use Rattle.std.specs.Prelude.{◌≡◌, ◌≢◌, ◌≤◌, ◌<◌, ◌^◌, ◌==◌, ℕ, true, false, List, [], None, Result, Ok, Err, All, length, max, if◌then◌else◌}
+use Rattle.std.specs.Prelude.{◌≡◌, ◌≢◌, ◌≤◌, ◌<◌, ◌^◌, ◌==◌, ℕ, true, false, List, None, Result, Ok, Err, All, length, max, if◌then◌else◌}
 use Rattle.ptlines.specs.Readers.{Reader, IsDone, HasReadCause, reader_at}
 use Rattle.ptlines.specs.Received.{Received, IsPrefix, IsConsistent, HasReceived}
 use Rattle.ptlines.specs.Lag.{BoundedLag}

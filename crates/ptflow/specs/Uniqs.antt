@@ -1,5 +1,5 @@
 -- The output of `uniq` (POSIX.1-2017, XCU, `uniq`).
-use Rattle.std.specs.Prelude.{ℕ, zero, suc, ◌+◌, ◌*◌, ◌==◌, ◌&&◌, ◌||◌, List, [], ◌∷◌, ◌++◌, Bool, not, if◌then◌else◌, drop, slice_get, bytes_eq, decimal, nat_lt}
+use Rattle.std.specs.Prelude.{ℕ, zero, suc, ◌+◌, ◌*◌, ◌==◌, ◌&&◌, List, [], ◌∷◌, ◌++◌, Bool, not, if◌then◌else◌, drop, slice_get, bytes_eq, decimal, nat_lt}
 use Rattle.std.specs.List.{flat_map}
 use Rattle.std.specs.Option.{option_map_or}
 use Rattle.ptlines.specs.Text.{unlines, lines, max_line_length, is_blank}

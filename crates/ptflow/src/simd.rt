@@ -1,8 +1,8 @@
 //! Vector code of the tools, on 16 or 64 bytes at a time. Nothing here uses a reader, an output or a tool.
 //!
 //! - `find_nth` finds bytes: match masks of 64 bytes, the n-th index of a byte, the end of a line.
-//! - `byte_set` tests 16 bytes for membership in a set; `nibbles` maps bytes by tables that are indexed by nibbles.
-//! - `shift` maps 16 bytes at a time by any `ByteMap`.
+//! - `byte_set` tests 16 bytes for membership in a set.
+//! - `shift` maps 16 bytes at a time by any `ByteMap`; `table` is the one for a table of 256 images.
 //! - `replace` replaces line terminators by delimiters in turn; `cycle` is faster, for at most 64 delimiters.
 //! - `compress` moves the selected bytes of a vector to the front; `filter` and `squeeze` choose which bytes these are.
 pub(crate) mod byte_set;
@@ -10,7 +10,7 @@ pub(crate) mod compress;
 pub(crate) mod cycle;
 pub(crate) mod filter;
 pub(crate) mod find_nth;
-pub(crate) mod nibbles;
 pub(crate) mod replace;
 pub(crate) mod shift;
 pub(crate) mod squeeze;
+pub(crate) mod table;

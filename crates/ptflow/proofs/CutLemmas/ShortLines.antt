@@ -1,5 +1,5 @@
--- The shuffle for short lines. Its row has the selected indices in order, so a shuffle moves the selected bytes of a
--- line to the front; the counts are how many of them a line of each length has.
+-- The shuffles of `cut`. A row has the selected indices in order, so a shuffle moves the selected bytes of 16 bytes to
+-- the front; the counts are how many of them a piece of each length has. A line is cut piece by piece.
 use Rattle.ptflow.proofs.Common.{◌≡◌, ℕ, zero, suc, ◌+◌, ◌-◌, ◌<◌, ◌≤◌, Bool, true, false, cond, List, [], ◌∷◌, ◌++◌, map, length, take, drop, set, min, ⊎_elim, ◌&&◌, get_or, length-append}
 use Rattle.ptflow.proofs.Common.{append_assoc, refl, sym, ◌∙◌, ap, arith, w8, All, nat_le, cases_order, false≢true, range_with_len, list_all, nat_tests, take-add, pick_l, Each1, Each1-from_get_or}
 use Rattle.ptflow.proofs.Common.{swz_l, pick_l-range_with_len, take_more, take_at, drop_at, take-map, take-take, take-append-le, take_all, take_more_set, length-take-le, append-nil, All-set}
@@ -7,12 +7,13 @@ use Rattle.ptflow.proofs.Common.{length-range_with_len, select_from, is_selected
 use Rattle.std.proofs.Common.{get_or-set_same, get_or-set_other, length-set}
 use Rattle.ptflow.proofs.Vectors.Select.{above, select_none}
 use mir.Val.{bool_byte}
-use Rattle.ptflow.specs.Private.Cut.ShortLines.{selected_indices, IsShortLineShuffle}
-use Rattle.ptflow.specs.declared.tools.cut.shuffle.ShortLineShuffle.{ShortLineShuffle}
-use Rattle.ptflow.proofs.Vectors.Compress.{shuffle_result}
+use Rattle.ptflow.proofs.Common.{put_chunk, length-drop, length-swz_l}
+use Rattle.ptflow.specs.Private.Cut.ShortLines.{selected_indices, selected_after, IsPieceShuffle}
+use Rattle.ptflow.specs.declared.tools.cut.shuffle.PieceShuffle.{PieceShuffle}
+use Rattle.ptflow.proofs.Vectors.Compress.{selected_stored, shuffle_result}
 use Rattle.ptflow.proofs.Vectors.Lanes.{stored_more}
 
-last_low : (r : Interval) {index : ℕ} → nat_le r.last 16 ≡ true → 16 < index → r.last < index
+last_low : (r : Interval) {limit index : ℕ} → nat_le r.last limit ≡ true → limit < index → r.last < index
 last_low r low later = grind (arith, nat_tests)
 
 length-take-le' : {X : Type 0} (n : ℕ) (xs : List X) → length (take n xs) ≤ n
@@ -84,76 +85,92 @@ module _ (selected : ℕ → Bool) where
       whole : count + one ≡ length (selected_indices selected (index + 1))
       whole = omega (arith, told, ap length (one_index index), length-append (selected_indices selected index) (cond (selected (index + 1)) (index ∷ []) []), (bit (selected (index + 1))).1)
 
-  pub shuffle_done : {count : ℕ} (max_len : ℕ) {row counts : List ℕ} → PickBegun 16 count row counts → ((index : ℕ) → 16 < index → index ≤ max_len → selected index ≡ false)
-      → IsShortLineShuffle selected (record { row = row; counts = counts; max_len = max_len })
-  shuffle_done max_len {counts} begun past = record {
-    indices = cc;
-    long = begun.long;
-    lanes = begun.lanes;
-    counts = begun.counted;
-    max_len = past;
-  }
+  pub shuffle_done : {count : ℕ} {row counts : List ℕ} → PickBegun 16 count row counts → IsPieceShuffle selected (record { row = row; counts = counts })
+  shuffle_done begun = record { indices = cc; long = begun.long; lanes = begun.lanes; counts = begun.counted }
 
-  -- ---- a line of which only the first 16 bytes can be selected
-
-  pub few_enough : {X : Type 0} {max_len count : ℕ} (xs : List X) → ((index : ℕ) → 16 < index → index ≤ max_len → selected index ≡ false) → count ≤ max_len → count ≤ length xs
-      → select_from selected 1 (take (min count 16) xs) ≡ select_from selected 1 (take count xs)
-  few_enough {count} xs past upto within = ⊎_elim (λ e. near (omega arith)) (⊎_elim (λ low. near (omega arith)) far) (cases_order count 16)
-    where
-      near : count ≤ 16 → select_from selected 1 (take (min count 16) xs) ≡ select_from selected 1 (take count xs)
-      near low = let least : min count 16 ≡ count = omega arith in cc
-
-      far : 16 < count → select_from selected 1 (take (min count 16) xs) ≡ select_from selected 1 (take count xs)
-      far high =
-          let least : min count 16 ≡ 16 = omega arith in
-          let whole : 16 + (count - 16) ≡ count = omega arith in
-          let others = take (count - 16) (drop 16 xs) in
-          let front : length (take 16 xs) ≡ 16 = length-take-le 16 xs (omega arith) in
-          let long : length others ≤ count - 16 = length-take-le' (count - 16) (drop 16 xs) in
-          let none : select_from selected (1 + length (take 16 xs)) others ≡ [] =
-          select_none selected (1 + length (take 16 xs)) others (λ k low upper. past k (omega arith) (omega (arith, long, whole))) in
-          cc (append-nil (select_from selected 1 (take 16 xs)), select_append 1 (take 16 xs) others, take-add 16 (count - 16) xs, whole)
+  -- no byte of a line after its first `start` bytes is selected
+  pub none_later : {X : Type 0} {max_len start count : ℕ} (xs : List X) → ((index : ℕ) → start < index → index ≤ max_len → selected index ≡ false)
+      → start ≤ count → count ≤ max_len → count ≤ length xs → select_from selected 1 (take start xs) ≡ select_from selected 1 (take count xs)
+  none_later {start} {count} xs past later upto within =
+      let whole : start + (count - start) ≡ count = omega arith in
+      let others = take (count - start) (drop start xs) in
+      let front : length (take start xs) ≡ start = length-take-le start xs (omega arith) in
+      let long : length others ≤ count - start = length-take-le' (count - start) (drop start xs) in
+      let none : select_from selected (1 + length (take start xs)) others ≡ [] =
+      select_none selected (1 + length (take start xs)) others (λ k low upper. past k (omega (arith, front)) (omega (arith, long, whole, front))) in
+      cc (append-nil (select_from selected 1 (take start xs)), select_append 1 (take start xs) others, take-add start (count - start) xs, whole)
 
   -- ---- the bytes of a line that the row moves to the front
 
-  module _ {shuffle : ShortLineShuffle} (is : IsShortLineShuffle selected shuffle) where
-    prefix_indices : {count : ℕ} → count ≤ 16 → take (length (selected_indices selected count)) shuffle.row ≡ selected_indices selected count
+  module _ {piece : PieceShuffle} (is : IsPieceShuffle selected piece) where
+    prefix_indices : {count : ℕ} → count ≤ 16 → take (length (selected_indices selected count)) piece.row ≡ selected_indices selected count
     prefix_indices {count} short =
         let all : count + (16 - count) ≡ 16 = omega arith in
         let parts = ap (selected_indices selected) (sym all) ∙ picked_parts count (16 - count) in
         let later = select_from selected (1 + count) (range_with_len count (16 - count)) in
         let few : length (selected_indices selected count) ≤ length (selected_indices selected 16) = omega (arith, ap length parts, length-append (selected_indices selected count) later) in
         cc (
-          take-take (length (selected_indices selected count)) (length (selected_indices selected 16)) shuffle.row few,
+          take-take (length (selected_indices selected count)) (length (selected_indices selected 16)) piece.row few,
           take-append-le (length (selected_indices selected count)) (selected_indices selected count) later (omega arith),
           take_all (length (selected_indices selected count)) (selected_indices selected count) (omega arith),
         )
 
-    pub pick_line : {count : ℕ} (v : List ℕ) → count ≤ 16 → length v ≡ 16 → take (get_or shuffle.counts count 0) (swz_l w8 16 v 0 shuffle.row) ≡ select_from selected 1 (take count v)
+    pub pick_line : {count : ℕ} (v : List ℕ) → count ≤ 16 → length v ≡ 16 → take (get_or piece.counts count 0) (swz_l w8 16 v 0 piece.row) ≡ select_from selected 1 (take count v)
     pick_line {count} v short long =
         let indices = selected_indices selected count in
         let n = length indices in
-        ap (λ k. take k (swz_l w8 16 v 0 shuffle.row)) (is.counts count short)
-        ∙ ap (take n) (shuffle_result v 0 shuffle.row (omega (arith, is.long)) (Each1-from_get_or (λ index. index < 16) shuffle.row 0 (λ i low. is.lanes i 0 low)))
-        ∙ take-map (λ k. get_or v k 0) n shuffle.row ∙ ap (pick_l 0 v) (prefix_indices short)
+        ap (λ k. take k (swz_l w8 16 v 0 piece.row)) (is.counts count short)
+        ∙ ap (take n) (shuffle_result v 0 piece.row (omega (arith, is.long)) (Each1-from_get_or (λ index. index < 16) piece.row 0 (λ i low. is.lanes i 0 low)))
+        ∙ take-map (λ k. get_or v k 0) n piece.row ∙ ap (pick_l 0 v) (prefix_indices short)
         ∙ map_select (λ k. get_or v k 0) 1 (range_with_len 0 count)
         ∙ ap (select_from selected 1) (pick_l-range_with_len 0 v 0 count (omega (arith, short, long)))
 
-    pub shuffle_few : (count : ℕ) → count ≤ 16 → get_or shuffle.counts count 0 ≤ count
+    pub shuffle_few : (count : ℕ) → count ≤ 16 → get_or piece.counts count 0 ≤ count
     shuffle_few count short = omega (arith, is.counts count short, few_indices count)
 
-    pub shuffle_lanes : Each1 (λ index. index < 16) shuffle.row
-    shuffle_lanes = Each1-from_get_or (λ index. index < 16) shuffle.row 0 (λ i low. is.lanes i 0 low)
+    pub shuffle_lanes : Each1 (λ index. index < 16) piece.row
+    shuffle_lanes = Each1-from_get_or (λ index. index < 16) piece.row 0 (λ i low. is.lanes i 0 low)
 
--- positions after the first 16, if no interval includes them
-pub none_after : (rs : List Interval) {index : ℕ} → list_all (λ r. nat_le r.last 16) rs ≡ true → 16 < index → is_selected rs index ≡ false
+-- positions after a limit, if no interval includes them
+pub none_after : (rs : List Interval) {limit index : ℕ} → list_all (λ r. nat_le r.last limit) rs ≡ true → limit < index → is_selected rs index ≡ false
 none_after [] all later = refl
-none_after (r ∷ rs) {index} all later = by_test (nat_le r.last 16) refl all (λ more. none_after rs more later)
+none_after (r ∷ rs) {limit} {index} all later = by_test (nat_le r.last limit) refl all (λ more. none_after rs more later)
   where
-    by_test : (t : Bool) → nat_le r.last 16 ≡ t → (t && list_all (λ x. nat_le x.last 16) rs) ≡ true
-        → (list_all (λ x. nat_le x.last 16) rs ≡ true → is_selected rs index ≡ false) → is_selected (r ∷ rs) index ≡ false
+    by_test : (t : Bool) → nat_le r.last limit ≡ t → (t && list_all (λ x. nat_le x.last limit) rs) ≡ true
+        → (list_all (λ x. nat_le x.last limit) rs ≡ true → is_selected rs index ≡ false) → is_selected (r ∷ rs) index ≡ false
     by_test true low more next = rw (above r _ (last_low r low later)) (next more)
     by_test false low more next = absurd (false≢true more)
+
+-- ---- a line, piece by piece
+
+-- positions that are counted from a later byte on
+select_later : (selected : ℕ → Bool) (start n : ℕ) (xs : List ℕ) → select_from (selected_after selected start) n xs ≡ select_from selected (start + n) xs
+select_later selected start n [] = refl
+select_later selected start n (x ∷ xs) =
+    let next : start + (n + 1) ≡ start + n + 1 = omega arith in
+    cc (select_later selected start (n + 1) xs, next)
+
+-- the selected bytes of the next piece are stored after those of the bytes before
+pub piece_copied : (selected : ℕ → Bool) (start m at : ℕ) (bytes was into : List ℕ) {piece : PieceShuffle} {size : ℕ} → IsPieceShuffle (selected_after selected start) piece
+    → size ≡ get_or piece.counts m 0 → m ≤ 16 → start + 16 ≤ length bytes → at + 16 ≤ length into → take at into ≡ was ++ select_from selected 1 (take start bytes)
+    → take (at + size) (put_chunk at into (swz_l w8 16 (take 16 (drop start bytes)) 0 piece.row)) ≡ was ++ select_from selected 1 (take (start + m) bytes)
+piece_copied selected start m at bytes was into {piece} {size} is counted short within room before =
+    let v = take 16 (drop start bytes) in
+    let long : length v ≡ 16 = length-take-le 16 (drop start bytes) (omega (arith, length-drop start bytes)) in
+    let few = shuffle_few (selected_after selected start) is m short in
+    let front : length (take start bytes) ≡ start = length-take-le start bytes (omega arith) in
+    let first : start + 1 ≡ 1 + length (take start bytes) = omega (arith, front) in
+    cc (
+      counted,
+      selected_stored at (get_or piece.counts m 0) into (swz_l w8 16 v 0 piece.row) (length-swz_l w8 16 v 0 piece.row ∙ is.long) (omega (arith, few)) room,
+      pick_line (selected_after selected start) is v short long,
+      take-take m 16 (drop start bytes) short,
+      select_later selected start 1 (take m (drop start bytes)),
+      first,
+      take-add start m bytes,
+      select_append selected 1 (take start bytes) (take m (drop start bytes)),
+      append_assoc was (select_from selected 1 (take start bytes)) (select_from selected (1 + length (take start bytes)) (take m (drop start bytes))),
+    )
 
 -- the selected bytes of a complete line, and the terminator
 pub line_copied : (list : List Interval) {before count : ℕ} (end : ℕ) (bytes was into : List ℕ) → before ≡ 0 → count < length bytes → end < length into

@@ -2,10 +2,11 @@
 -- 64 bytes with no bit set. Each of them is a `map` over the lanes, so facts about one byte carry over.
 use Rattle.ptflow.proofs.Common.{◌≡◌, ℕ, ◌+◌, ◌<◌, ◌≤◌, ◌%◌, Bool, false, List, [], ◌∷◌, ◌++◌, Option, map, take, drop, length, get_or, replicate, cond, refl, sym, ◌∙◌, ap, arith, w8, Fits, sum_by}
 use Rattle.ptflow.proofs.Common.{zero, suc, slice_get, option_map, sel_l, zip2, top, Each1, take-add, false≢true, map-append, tops_compared, zip2_splat, zip2_of_maps, splat_is_map, chunk-fits}
-use Rattle.ptflow.proofs.Common.{Each1-from_get_or, shift_at, image_of_shifts, IsMappedTo, stretch_delta, ◌^◌, ◌||◌, not, pos, negsuc, bit_or, append_assoc, filter, cast_unsigned, mask_l, chunk, mask_l-mod}
+use Rattle.ptflow.proofs.Common.{Each1-from_get_or, shift_at, IsMappedTo, stretch_delta, ◌^◌, ◌||◌, not, pos, negsuc, bit_or, append_assoc, filter, cast_unsigned, mask_l, chunk, mask_l-mod}
 use Rattle.ptflow.proofs.Common.{length-zip2, drop-drop, filter-append, mask_of, true, set, ℤ, from_bool, bit_not, take_more_set, take-set, take_more, append-nil, length-map, IsFilteredTo, map-map}
-use Rattle.ptflow.proofs.Common.{length-set, take_all}
+use Rattle.ptflow.proofs.Common.{length-set, take_all, add-one, sum_by-append, sum_by-cons, range_delta, shift_by_ranges}
 use Rattle.std.specs.Prelude.{is_some}
+use Rattle.ptflow.specs.declared.simd.shift.ShiftRange.{ShiftRange}
 pub use Rattle.std.proofs.lemmas.List.{map-id}
 use Rattle.ptlangs.specs.declared.tr.shifts.Stretch.{Stretch}
 
@@ -51,48 +52,51 @@ bytes_fit v fit = Each1-from_get_or (Fits w8) v 0 (λ k _. fit k)
 pub mapped_same : (f g : ℕ → ℕ) (at : ℕ) (from to : List ℕ) → ((b : ℕ) → b < 256 → f b ≡ g b) → ((k : ℕ) → Fits w8 (get_or from k 0)) → IsMappedTo at f from to → IsMappedTo at g from to
 mapped_same f g at from to same fit moved = (moved.0, moved.1, moved.2 ∙ bytes_same f g same (take at from) (chunk-fits w8 0 at from fit))
 
--- ---- at most four ranges
+-- ---- ranges that are shifted
 
 -- the range at an index, if there is one
 abbrev pub stretch_at : List Stretch → ℕ → Option (ℕ × ℕ × ℕ)
 stretch_at ss k = option_map (λ s. (s.first, s.last, s.by)) (slice_get ss k)
 
-abbrev adds_at : List Stretch → ℕ → ℕ → ℕ
-adds_at ss k b = stretch_delta (stretch_at ss k) b
+stretch_taken : (ss : List Stretch) (i b : ℕ) → sum_by (λ s. shift_at s b) (take (suc i) ss) ≡ sum_by (λ s. shift_at s b) (take i ss) + stretch_delta (stretch_at ss i) b
+stretch_taken [] zero b = omega arith
+stretch_taken [] (suc i) b = omega arith
+stretch_taken (s ∷ ss) zero b = omega arith
+stretch_taken (s ∷ ss) (suc i) b =
+    let shifts = λ (taken : List Stretch). sum_by (λ s. shift_at s b) taken in
+    let more : shifts (take (suc (suc i)) (s ∷ ss)) ≡ shift_at s b + shifts (take (suc i) ss) = sum_by-cons (λ s. shift_at s b) s (take (suc i) ss) in
+    let fewer : shifts (take (suc i) (s ∷ ss)) ≡ shift_at s b + shifts (take i ss) = sum_by-cons (λ s. shift_at s b) s (take i ss) in
+    omega (arith, more, fewer, stretch_taken ss i b)
 
-sum_is : (ss : List Stretch) (b : ℕ) → length ss ≤ 4 → adds_at ss 0 b + (adds_at ss 1 b + (adds_at ss 2 b + adds_at ss 3 b)) ≡ sum_by (λ s. shift_at s b) ss
-sum_is [] b few = omega arith
-sum_is (s ∷ []) b few = omega arith
-sum_is (s ∷ t ∷ []) b few = omega arith
-sum_is (s ∷ t ∷ u ∷ []) b few = omega arith
-sum_is (s ∷ t ∷ u ∷ v ∷ []) b few = omega arith
-sum_is (s ∷ t ∷ u ∷ v ∷ w ∷ more) b few = absurd (omega arith)
+-- one range more adds what its stretch adds
+pub one_stretch_more : (ranges : List ShiftRange) (ss : List Stretch) (i : ℕ) (range : ShiftRange) (b : ℕ) → i < length ranges
+    → sum_by (λ r. range_delta r b) (take i ranges) ≡ sum_by (λ s. shift_at s b) (take i ss) → range_delta range b ≡ stretch_delta (stretch_at ss i) b
+    → sum_by (λ r. range_delta r b) (take (i + 1) (set ranges i range)) ≡ sum_by (λ s. shift_at s b) (take (i + 1) ss)
+one_stretch_more ranges ss i range b room before is =
+    let set_sum : sum_by (λ r. range_delta r b) (take (i + 1) (set ranges i range)) ≡ sum_by (λ r. range_delta r b) (take i ranges) + (range_delta range b + 0) =
+    cc (take_more_set ranges i range room, sum_by-append (λ r. range_delta r b) (take i ranges) (range ∷ []), sum_by-cons (λ r. range_delta r b) range []) in
+    let taken : sum_by (λ s. shift_at s b) (take (i + 1) ss) ≡ sum_by (λ s. shift_at s b) (take i ss) + stretch_delta (stretch_at ss i) b = rw (add-one i) (stretch_taken ss i b) in
+    omega (arith, set_sum, taken, before, is)
 
-none_from : (n k : ℕ) (ss : List Stretch) (b : ℕ) → n ≤ k → is_some (stretch_at ss n) ≡ false → adds_at ss k b ≡ 0
-none_from n k [] b le is = refl
-none_from zero k (s ∷ ss) b le is = absurd (false≢true (sym is))
-none_from (suc n) zero (s ∷ ss) b le is = absurd (omega arith)
-none_from (suc n) (suc k) (s ∷ ss) b le is = none_from n k ss b (omega arith) is
+-- all stretches are among the first n
+pub all_stretches : (n : ℕ) (ss : List Stretch) → is_some (stretch_at ss n) ≡ false → length ss ≤ n
+all_stretches n [] none = omega arith
+all_stretches zero (s ∷ ss) none = absurd (false≢true (sym none))
+all_stretches (suc n) (s ∷ ss) none = let rest = all_stretches n ss none in omega (arith, rest)
 
-module _ (ss : List Stretch) (few : length ss ≤ 4) (b : ℕ) where
-  to_shifted : (n : ℕ) → n ≡ b + (adds_at ss 0 b + (adds_at ss 1 b + (adds_at ss 2 b + adds_at ss 3 b))) → n % 256 ≡ image_of_shifts ss b
-  to_shifted n is = ap (λ k. k % 256) (cc (sum_is ss b few))
-
-  pub map_one : {x : ℕ} → x ≡ adds_at ss 0 b → is_some (stretch_at ss 1) ≡ false → (b + x) % 256 ≡ image_of_shifts ss b
-  map_one {x} ex is =
-      let none = λ (k : ℕ) (le : 1 ≤ k). none_from 1 k ss b le is in
-      to_shifted (b + x) (omega (arith, none 1 (omega arith), none 2 (omega arith), none 3 (omega arith)))
-
-  pub map_two : {x y : ℕ} → x ≡ adds_at ss 0 b → y ≡ adds_at ss 1 b → is_some (stretch_at ss 2) ≡ false → ((b + x) % 256 + y) % 256 ≡ image_of_shifts ss b
-  map_two {x} {y} ex ey is =
-      let none = λ (k : ℕ) (le : 2 ≤ k). none_from 2 k ss b le is in
-      let flat : ((b + x) % 256 + y) % 256 ≡ (b + (x + y)) % 256 = omega arith in
-      flat ∙ to_shifted (b + (x + y)) (omega (arith, none 2 (omega arith), none 3 (omega arith)))
-
-  pub map_four : {x y z w : ℕ} → x ≡ adds_at ss 0 b → y ≡ adds_at ss 1 b → z ≡ adds_at ss 2 b → w ≡ adds_at ss 3 b → ((((b + x) % 256 + y) % 256 + z) % 256 + w) % 256 ≡ image_of_shifts ss b
-  map_four {x} {y} {z} {w} ex ey ez ew =
-      let flat : ((((b + x) % 256 + y) % 256 + z) % 256 + w) % 256 ≡ (b + (x + (y + (z + w)))) % 256 = omega arith in
-      flat ∙ to_shifted (b + (x + (y + (z + w)))) (omega arith)
+-- the shift of one range more is added to each lane
+pub one_range_more : (ranges : List ShiftRange) (i : ℕ) (default : ShiftRange) (v : List ℕ) {images deltas : List ℕ} → i < length ranges
+    → images ≡ map (shift_by_ranges (take i ranges)) v → deltas ≡ map (range_delta (get_or ranges i default)) v
+    → zip2 (λ a b. (a + b) % 256) images deltas ≡ map (shift_by_ranges (take (i + 1) ranges)) v
+one_range_more ranges i default v room before is =
+    added_lanes (shift_by_ranges (take i ranges)) (range_delta (get_or ranges i default)) v before is ∙ (λ k. map (λ b. more b k) v)
+  where
+    more : (b : ℕ) → (shift_by_ranges (take i ranges) b + range_delta (get_or ranges i default) b) % 256 ≡ shift_by_ranges (take (i + 1) ranges) b
+    more b =
+        let last = get_or ranges i default in
+        let sums : sum_by (λ r. range_delta r b) (take (i + 1) ranges) ≡ sum_by (λ r. range_delta r b) (take i ranges) + (range_delta last b + 0) =
+        cc (take_more ranges i default room, sum_by-append (λ r. range_delta r b) (take i ranges) (last ∷ []), sum_by-cons (λ r. range_delta r b) last []) in
+        omega (arith, sums)
 
 -- ---- masks of lanes
 

@@ -3,4 +3,4 @@ pub mod ByteSets
 pub mod Shift
 pub mod FindNth
 pub mod Compress
-pub mod Nibbles
+pub mod Tables

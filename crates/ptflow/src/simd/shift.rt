@@ -82,52 +82,40 @@ impl ShiftRange {
     }
 }
 
-impl ByteMap for ShiftRange {
-    ghost use Rattle.ptflow.specs.Private.Vectors.Shift.{shift_by_range};
+/// The map that adds the shifts of `N` ranges.
+#[derive(Clone, Copy)]
+struct ShiftRanges<const N: usize> {
+    ranges: [ShiftRange; N],
+}
 
-    ghost map_byte = { shift_by_range };
+impl<const N: usize> ShiftRanges<N> {
+    ghost use Rattle.ptflow.specs.Private.Vectors.Shift.{shift_by_ranges};
 
-    #[inline(always)]
-    fn map16(self, v: u8x16) -> u8x16 {
-        v + self.deltas16(v)
+    // The ranges of the stretches, of which there are at most `N`.
+    fn of(shifts: &Shifts) -> ShiftRanges<N>
+        requires { length shifts.now ≤ N }
+        ensures { (b : ℕ) → b < 256 → shift_by_ranges result.ranges b ≡ image_of_shifts shifts.now b }
+    {
+        let mut ranges = [ShiftRange::of(None); N];
+        for index in 0..N {
+            ranges[index] = ShiftRange::of(shifts.stretch(index));
+        }
+        ShiftRanges { ranges }
     }
 }
 
-/// The map that adds the shifts of two ranges.
-#[derive(Clone, Copy)]
-struct TwoShifts {
-    a: ShiftRange,
-    b: ShiftRange,
-}
+impl<const N: usize> ByteMap for ShiftRanges<N> {
+    ghost use Rattle.ptflow.specs.Private.Vectors.Shift.{shift_by_ranges};
 
-impl ByteMap for TwoShifts {
-    ghost use Rattle.ptflow.specs.Private.Vectors.Shift.{shift_by_two};
-
-    ghost map_byte = { shift_by_two };
+    ghost map_byte = { λ by. shift_by_ranges by.ranges };
 
     #[inline(always)]
     fn map16(self, v: u8x16) -> u8x16 {
-        v + self.a.deltas16(v) + self.b.deltas16(v)
-    }
-}
-
-/// The map that adds the shifts of four ranges.
-#[derive(Clone, Copy)]
-struct FourShifts {
-    a: ShiftRange,
-    b: ShiftRange,
-    c: ShiftRange,
-    d: ShiftRange,
-}
-
-impl ByteMap for FourShifts {
-    ghost use Rattle.ptflow.specs.Private.Vectors.Shift.{shift_by_four};
-
-    ghost map_byte = { shift_by_four };
-
-    #[inline(always)]
-    fn map16(self, v: u8x16) -> u8x16 {
-        v + self.a.deltas16(v) + self.b.deltas16(v) + self.c.deltas16(v) + self.d.deltas16(v)
+        let mut images = v;
+        for index in 0..N {
+            images += self.ranges[index].deltas16(v);
+        }
+        images
     }
 }
 
@@ -136,17 +124,13 @@ fn translate_chunks(shifts: &Shifts, from: &[u8], to: &mut [u8]) -> usize
     requires { length to.old ≡ length from.now }
     ensures { IsMappedTo result (image_of_shifts shifts.now) from.now to.new }
 {
-    let a = ShiftRange::of(shifts.stretch(0));
-    let b = ShiftRange::of(shifts.stretch(1));
     if shifts.stretch(1).is_none() {
-        return map_chunks(a, from, to);
+        return map_chunks(ShiftRanges::<1>::of(shifts), from, to);
     }
     if shifts.stretch(2).is_none() {
-        return map_chunks(TwoShifts { a, b }, from, to);
+        return map_chunks(ShiftRanges::<2>::of(shifts), from, to);
     }
-    let c = ShiftRange::of(shifts.stretch(2));
-    let d = ShiftRange::of(shifts.stretch(3));
-    map_chunks(FourShifts { a, b, c, d }, from, to)
+    map_chunks(ShiftRanges::<4>::of(shifts), from, to)
 }
 
 /// Stores the images of the bytes of `from` by the shifts in `to`. Both slices have the same length.

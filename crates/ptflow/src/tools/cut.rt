@@ -1,6 +1,6 @@
 //! `cut`: the engine, which selects bytes or fields of each line.
 //!
-//! `bytes` (`-b`, `-c`) works block by block, and cuts lines of at most 16 bytes with one byte shuffle (`shuffle`).
+//! `bytes` (`-b`, `-c`) works block by block, and cuts most lines with one byte shuffle for each 16 bytes (`shuffle`).
 //! `fields` (`-f`) works line by line.
 
 ghost use Rattle.ptlangs.specs.Jobs.{cut_job};

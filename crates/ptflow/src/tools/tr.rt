@@ -88,7 +88,7 @@ impl<'a> Translation<'a> {
         }
         let images = &mut into[..bytes.len()];
         let table = self.plan.images();
-        let mut at = self.map_kind.map_prefix(bytes, images);
+        let mut at = self.map_kind.map_prefix(table, bytes, images);
         while at < bytes.len() {
             images[at] = table[usize::from(bytes[at])];
             at += 1;

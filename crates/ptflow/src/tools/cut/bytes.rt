@@ -7,12 +7,13 @@ ghost use Rattle.ptflow.specs.Cuts.{cut_tool};
 ghost use Rattle.ptflow.specs.Passes.{StorelessPost};
 ghost use Rattle.ptflow.specs.Private.Cut.CutFrom.{cut_list_from, cut_piece, IsCutPart, ExtendsCut, HasTerminators, IsCursorAt, CutChunkPost};
 ghost use Rattle.ptflow.specs.Private.Passes.BlockLoop.{HasRoom, RunBlocksPre};
-ghost use Rattle.ptflow.specs.Private.Cut.ShortLines.{IsShortLineShuffle, AreSeparated-prop};
+ghost use Rattle.ptflow.specs.Private.Cut.ShortLines.{AreLineShuffles, AreSeparated-prop};
+ghost use Rattle.ptflow.specs.Cuts.{select_from};
 
 use crate::block_loop::{BlockFilter, run_blocks};
 use crate::faults::FlowFault;
 use crate::simd::find_nth::match_mask;
-use crate::tools::cut::shuffle::ShortLineShuffle;
+use crate::tools::cut::shuffle::LineShuffles;
 use ptlangs::jobs::CutJob;
 use ptlangs::ranges::Interval;
 use ptlines::{LineReader, Out, Sink, Source, WriteFault, copy_short, find_byte};
@@ -23,13 +24,13 @@ use std::simd::prelude::*;
 // it.
 type OutBuf = [u8; 8208];
 
-/// The selected intervals, and the shuffle that selects them in a short line.
+/// The selected intervals, and the shuffles that select them in a line that is not long.
 #[derive(Clone, Copy)]
 pub(crate) struct Selection<'a> {
     selected: &'a [Interval],
-    shuffle: ShortLineShuffle,
+    shuffles: LineShuffles,
     ghost apart: { AreSeparated 0 selected.now } by { AreSeparated-prop 0 selected.now },
-    ghost is_shuffle: { IsShortLineShuffle (is_selected selected.now) shuffle },
+    ghost are_shuffles: { AreLineShuffles (is_selected selected.now) shuffles },
 }
 
 // Copies the selected bytes among the first `count` of a piece of a line, and then the bytes up to `end`: the
@@ -68,6 +69,33 @@ fn copy_selected(
     at + (end - count)
 }
 
+// Copies the selected bytes of a line, which is the first `count` bytes, by one shuffle for each 16 of them. Returns the
+// index after the copied bytes.
+#[inline(always)]
+fn copy_pieces(by: &Selection, bytes: &[u8], count: usize, into: &mut OutBuf, at: usize) -> usize
+    requires few { count ≤ by.now.shuffles.max_len }
+    requires within { count + 16 ≤ length bytes.now }
+    requires room { HasRoom 0 at (count + 1) }
+    ensures copied { take result into.new
+        ≡ take at into.old ++ select_from (is_selected by.now.selected.now) 1 (take count bytes.now) }
+    ensures near { result ≤ at + count }
+{
+    let mut at = at;
+    for index in 0..by.shuffles.count {
+        let start = 16 * index;
+        let row = by.shuffles.pieces[index].row;
+        let lanes = u8x16::from_slice(&bytes[start..]).swizzle_dyn(row);
+        let room: &mut [u8] = into;
+        lanes.copy_to_slice(&mut room[at..]);
+        let rest = (count - start).min(16);
+        at += usize::from(by.shuffles.pieces[index].counts[rest]);
+        if rest < 16 {
+            return at;
+        }
+    }
+    at
+}
+
 // Copies the selected bytes of the end of a line, which is the first `count` bytes, and the terminator. The piece
 // begins at byte `line_offset` of the line. Returns the index after the copied bytes. The caller guarantees 16 readable
 // bytes after the line, so no other bound is checked for a short line.
@@ -86,13 +114,10 @@ fn copy_line(
         ≡ take at into.old ++ cut_piece by.now.selected.now line_offset count (take (count + 1) bytes.now) }
     ensures near { result ≤ at + count + 1 }
 {
-    if line_offset > 0 || count > by.shuffle.max_len {
+    if line_offset > 0 || count > by.shuffles.max_len {
         return copy_selected(by, line_offset, bytes, count, count + 1, into, at);
     }
-    let lanes = u8x16::from_slice(bytes).swizzle_dyn(by.shuffle.row);
-    let room: &mut [u8] = into;
-    lanes.copy_to_slice(&mut room[at..]);
-    let end = at + usize::from(by.shuffle.counts[count.min(16)]);
+    let end = copy_pieces(by, bytes, count, into, at);
     into[end] = bytes[count];
     end + 1
 }
@@ -283,7 +308,7 @@ pub(crate) fn cut_by_bytes<A: Allocator + Copy, S: Source, R: Source, W: Sink>(
     let mut tool = ByteCut {
         by: Selection {
             selected: job.list.intervals(),
-            shuffle: ShortLineShuffle::of(&job.list),
+            shuffles: LineShuffles::of(&job.list),
         },
         terminator,
         line_offset: 0,

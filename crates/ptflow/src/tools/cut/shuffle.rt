@@ -1,54 +1,86 @@
-//! Cuts lines of at most 16 bytes with a single byte shuffle. `bytes` uses it.
+//! Cuts lines by byte shuffles, one for each 16 bytes. `bytes` uses it.
 
-ghost use Rattle.std.specs.Prelude.{◌≡◌, ◌<◌, ◌≤◌, ℕ, false, nat_le};
+ghost use Rattle.std.specs.Prelude.{◌≡◌, ◌<◌, ◌≤◌, ◌^◌, ℕ, false, nat_le};
 ghost use Rattle.std.specs.List.{list_all};
 ghost use Rattle.ptlangs.specs.CutLists.{is_selected};
-ghost use Rattle.ptflow.specs.Private.Cut.ShortLines.{IsShortLineShuffle};
+ghost use Rattle.ptflow.specs.Private.Cut.ShortLines.{AreLineShuffles, IsPieceShuffle, selected_after};
 
 use ptlangs::ranges::{Interval, Ranges};
 use std::alloc::Allocator;
 use std::simd::prelude::*;
 
-// The selected indices below 16, how many of them are in a line of each length up to 16, and the maximum length of a
-// line of which nothing else is selected.
+// The selected indices among 16 bytes of a line, and how many of these are in a piece of each length up to 16.
 #[derive(Clone, Copy)]
-pub(crate) struct ShortLineShuffle {
+pub(crate) struct PieceShuffle {
     pub row: u8x16,
     pub counts: [u8; 17],
+}
+
+// The shuffles for the first bytes of a line, 16 bytes each. `count` is how many of them are used, and `max_len` the
+// maximum length of a line of which nothing after their bytes is selected.
+#[derive(Clone, Copy)]
+pub(crate) struct LineShuffles {
+    pub pieces: [PieceShuffle; 8],
+    pub count: usize,
     pub max_len: usize,
 }
 
-// Checks that no byte after the first 16 is selected.
-fn fits_16(selected: &[Interval]) -> bool
-    ensures { result ≡ list_all (λ interval. nat_le interval.last 16) selected.now }
+// Checks that no byte after the first `limit` is selected.
+fn fits(selected: &[Interval], limit: u64) -> bool
+    ensures { result ≡ list_all (λ interval. nat_le interval.last limit) selected.now }
 {
-    selected.iter().all(|interval| interval.last <= 16)
+    selected.iter().all(|interval| interval.last <= limit)
 }
 
-// The maximum length of a line of which nothing after the first 16 bytes is selected.
-fn max_line_len(selected: &[Interval]) -> usize
-    ensures { (index : ℕ) → 16 < index → index ≤ result → is_selected selected.now index ≡ false }
+// The maximum length of a line of which nothing after the first `limit` bytes is selected.
+fn max_line_len(selected: &[Interval], limit: usize) -> usize
+    ensures { (index : ℕ) → limit < index → index ≤ result → is_selected selected.now index ≡ false }
 {
-    if fits_16(selected) { usize::MAX } else { 16 }
+    if fits(selected, limit as u64) {
+        usize::MAX
+    } else {
+        limit
+    }
 }
 
-impl ShortLineShuffle {
-    // The shuffle for a list.
-    pub(crate) fn of<A: Allocator>(list: &Ranges<A>) -> ShortLineShuffle
-        ensures { IsShortLineShuffle (is_selected list.now) result }
+impl PieceShuffle {
+    // The shuffle for the 16 bytes of a line after the first `start`.
+    fn of<A: Allocator>(list: &Ranges<A>, start: usize) -> PieceShuffle
+        requires { start < 2 ^ 32 }
+        ensures { IsPieceShuffle (selected_after (is_selected list.now) start) result }
     {
         let mut row = [0; 16];
         let mut counts = [0; 17];
         let mut count = 0;
         for index in 0..16u8 {
+            let position = start + usize::from(index) + 1;
             row[count] = index;
-            count += usize::from(list.contains(u64::from(index) + 1));
+            count += usize::from(list.contains(position as u64));
             counts[usize::from(index) + 1] = count as u8;
         }
-        ShortLineShuffle {
+        PieceShuffle {
             row: u8x16::from_array(row),
             counts,
-            max_len: max_line_len(list.intervals()),
+        }
+    }
+}
+
+impl LineShuffles {
+    // The shuffles for a list. If there are at most two ranges, only the first 16 bytes of a line are cut so, since
+    // copying the ranges is as fast.
+    pub(crate) fn of<A: Allocator>(list: &Ranges<A>) -> LineShuffles
+        ensures { AreLineShuffles (is_selected list.now) result }
+    {
+        let mut pieces = [PieceShuffle::of(list, 0); 8];
+        for index in 1..8 {
+            pieces[index] = PieceShuffle::of(list, 16 * index);
+        }
+        let selected = list.intervals();
+        let count = if selected.len() > 2 { 8 } else { 1 };
+        LineShuffles {
+            pieces,
+            count,
+            max_len: max_line_len(selected, 16 * count),
         }
     }
 }

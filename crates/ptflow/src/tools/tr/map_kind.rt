@@ -1,13 +1,12 @@
 //! The ways to compute the images of bytes for `tr`, with vectors if the plan allows it.
 
 ghost use Rattle.std.specs.Prelude.{◌≡◌, ◌<◌, ℕ, IfSome, length, slice_index};
-ghost use Rattle.ptlangs.specs.TrTables.{Tables};
 ghost use Rattle.ptflow.specs.Private.Vectors.Shift.{IsMappedTo};
 ghost use Rattle.ptflow.specs.Private.Tr.MapKinds.{IsMapKind, set_to_byte, image_of_kind};
 
 use crate::simd::byte_set::ByteSet;
-use crate::simd::nibbles::NibbleTables;
 use crate::simd::shift::{ByteMap, map_chunks, translate};
+use crate::simd::table::{TableMap, Window, moved_span};
 use ptlangs::{CharPlan, Shifts};
 use std::simd::prelude::*;
 
@@ -27,42 +26,21 @@ impl ByteMap for MapSetToByte {
     }
 }
 
-// The flags of the bytes that differ from their image.
-fn changed_bytes(images: &[u8; 256]) -> [bool; 256] {
-    let mut changes = [false; 256];
-    for byte in 0..256 {
-        changes[byte] = images[byte] != byte as u8;
-    }
-    changes
-}
-
-// The image of the first byte that differs from its image.
-fn first_changed_image(changes: &[bool; 256], images: &[u8; 256]) -> u8 {
-    for byte in 0..256 {
-        if changes[byte] {
-            return images[byte];
-        }
-    }
-    0
-}
-
 impl MapSetToByte {
-    // The map with these images, or `None` if the bytes that change do not all have the same image. Every byte is
-    // checked.
-    fn of(images: &[u8; 256]) -> Option<MapSetToByte>
+    // The map with these images, if every byte that changes becomes `byte`.
+    fn of(images: &[u8; 256], byte: u8) -> Option<MapSetToByte>
         ensures { IfSome result (λ set_map. (b : ℕ) → b < 256 → set_to_byte set_map b ≡ slice_index images.now b) }
     {
-        let changes = changed_bytes(images);
-        let constant = first_changed_image(&changes, images);
-        for byte in 0..256 {
-            let image = if changes[byte] { constant } else { byte as u8 };
-            if image != images[byte] {
+        let mut flags = [false; 256];
+        for from in 0..256 {
+            flags[from] = images[from] == byte;
+            if !flags[from] && images[from] != from as u8 {
                 return None;
             }
         }
         Some(MapSetToByte {
-            set: ByteSet::of(&changes),
-            byte: constant,
+            set: ByteSet::of(&flags),
+            byte,
         })
     }
 }
@@ -76,10 +54,8 @@ pub(crate) enum MapKind {
     Shifts(Shifts),
     /// By a set of bytes that all have the same image.
     SetToByte(MapSetToByte),
-    /// By tables that are indexed by nibbles.
-    NibbleTables(NibbleTables),
-    /// Byte by byte, with the plan's table.
-    Table,
+    /// By the plan's table, in a window that contains all bytes that change.
+    Table(Window),
 }
 
 impl MapKind {
@@ -98,32 +74,35 @@ impl MapKind {
     fn of_images(plan: &CharPlan) -> MapKind
         ensures { IsMapKind result plan.now }
     {
-        if let Some(set_map) = MapSetToByte::of(plan.images()) {
-            return MapKind::SetToByte(set_map);
-        }
-        match NibbleTables::of(plan.images()) {
-            Some(rows) => MapKind::NibbleTables(rows),
-            None => MapKind::Table,
+        let images = plan.images();
+        let (first, last) = moved_span(images);
+        match MapSetToByte::of(images, images[usize::from(first)]) {
+            Some(set_map) => MapKind::SetToByte(set_map),
+            None => MapKind::Table(Window::of(first, last)),
         }
     }
 
     /// Stores the images of the first bytes of `from` in `to`, all that can be mapped with vectors. Returns how many
-    /// they are. Both slices have the same length.
-    pub(crate) fn map_prefix(&self, from: &[u8], to: &mut [u8]) -> usize
+    /// they are. `images` is the plan's table. Both slices have the same length.
+    pub(crate) fn map_prefix(&self, images: &[u8; 256], from: &[u8], to: &mut [u8]) -> usize
         requires { length to.old ≡ length from.now }
-        ensures { (plan : Tables) → IsMappedTo result (image_of_kind self.now plan) from.now to.new }
+        ensures { IsMappedTo result (image_of_kind self.now images.now) from.now to.new }
     {
         match self {
-            MapKind::Identity | MapKind::Table => 0,
+            MapKind::Identity => 0,
             MapKind::Shifts(shifts) => {
                 translate(shifts, from, to);
                 from.len()
             }
             MapKind::SetToByte(set_map) => map_chunks(*set_map, from, to),
-            MapKind::NibbleTables(rows) => match rows.two() {
-                Some(two) => map_chunks(two, from, to),
-                None => map_chunks(*rows, from, to),
-            },
+            MapKind::Table(window) => map_chunks(
+                TableMap {
+                    images,
+                    window: *window,
+                },
+                from,
+                to,
+            ),
         }
     }
 }

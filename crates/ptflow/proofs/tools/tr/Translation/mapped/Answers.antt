@@ -13,4 +13,5 @@ returns-in-Identity c =
 pub loop-at-init : goal.loop-at-init
 loop-at-init c =
     let by = c.args.self.now in
-    mapped_same (image_of_kind by.map_kind by.plan.now) (image by.plan.now) _ c.args.bytes.now _ by.is_map_kind c.type_inv.bytes (c.map_prefix-at.ensures by.plan.now)
+    mapped_same (image_of_kind by.map_kind by.plan.now.images) (image by.plan.now) _ c.args.bytes.now _ by.is_map_kind c.type_inv.bytes
+    (rw c.images-table.ensures at c.map_prefix-at.ensures)

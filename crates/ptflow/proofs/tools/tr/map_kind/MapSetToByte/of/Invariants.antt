@@ -1,6 +1,9 @@
 -- The map has the image of each byte that was checked.
-use Rattle.ptflow.proofs.Common.{◌≡◌, ◌<◌, ℕ, false, get_or, if◌then◌else◌}
+use Rattle.ptflow.proofs.Common.{◌≡◌, ◌<◌, ℕ, false, get_or, if◌then◌else◌, length}
 use Rattle.ptflow.proofs.tools.tr.map_kind.MapSetToByte.of.Given as goal
 
-abbrev pub invariant-loop-byte : goal.invariant-loop-byte
-invariant-loop-byte l = (b : ℕ) → b < l.byte → (if get_or l.changes b false then l.constant else b) ≡ get_or l.images b 0
+abbrev pub invariant-loop-from : goal.invariant-loop-from
+invariant-loop-from l = record {
+  long : length l.flags ≡ 256;
+  checked : (b : ℕ) → b < l.from → (if get_or l.flags b false then l.byte else b) ≡ get_or l.images b 0;
+}

@@ -1,6 +1,0 @@
-use Rattle.ptflow.proofs.Common.{sym}
-use Rattle.ptflow.proofs.Vectors.Lanes.{map-id, added_lanes}
-use Rattle.ptflow.proofs.simd.nibbles.TwoNibbleTablesByteMap.map16.Goals as goal
-
-pub returns : goal.returns
-returns c = added_lanes _ _ _ (added_lanes _ _ _ (sym (map-id c.args.v)) c.deltas16.ensures) c.deltas16-2.ensures

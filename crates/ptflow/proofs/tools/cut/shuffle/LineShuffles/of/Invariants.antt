@@ -1,0 +1,10 @@
+-- Each piece so far has its shuffle.
+use Rattle.ptflow.proofs.Common.{◌≡◌, ◌<◌, ◌*◌, ℕ, length, is_selected}
+use Rattle.ptflow.specs.Private.Cut.ShortLines.{IsPieceShuffle, piece_at, selected_after}
+use Rattle.ptflow.proofs.tools.cut.shuffle.LineShuffles.of.Given as goal
+
+abbrev pub invariant-loop-index : goal.invariant-loop-index
+invariant-loop-index g l = record {
+  long : length l.pieces ≡ 8;
+  pieces : (k : ℕ) → k < l.index → IsPieceShuffle (selected_after (is_selected l.list) (16 * k)) (piece_at l.pieces k);
+}

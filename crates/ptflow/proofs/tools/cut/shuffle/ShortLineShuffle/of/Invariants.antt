@@ -1,7 +1,0 @@
--- The row begins with the selected indices so far, and the counts are the number of selected ones before each index.
-use Rattle.ptlangs.specs.CutLists.{is_selected}
-use Rattle.ptflow.proofs.CutLemmas.ShortLines.{PickBegun}
-use Rattle.ptflow.proofs.tools.cut.shuffle.ShortLineShuffle.of.Given as goal
-
-abbrev pub invariant-loop-index : goal.invariant-loop-index
-invariant-loop-index g l = PickBegun (is_selected l.list) l.index l.count l.row l.counts
