@@ -74,10 +74,11 @@ pub use Rattle.ptflow.specs.Private.Cut.FieldOffsets.{IsFieldStart, fields, pref
 pub use Rattle.ptflow.specs.Private.Passes.StepOutput.{OutputPart, OutputFailed}
 pub use Rattle.ptflow.specs.Private.Passes.LineLoop.{SlotsCleared, IsLineFilter, IsSwapped, LinesFailed, LinesWritten, IsLinesLength}
 pub use Rattle.ptflow.specs.Private.Paste.SharedInput.{IsWholeRows, IsRowCycle, IsSharedCycle}
-pub use Rattle.ptflow.specs.Private.Paste.FillRow.{SetTerminatorsPost, CellsFilled, FillRowPost, SlotsBound, NotRead, RowFailed, RowFilled, CellsTaken, is_write_fault}
+pub use Rattle.ptflow.specs.Private.Paste.FillRow.{SetTerminatorsPost, FillCellPost, FillRowPost, SlotsBound, SlotsKept, NotRead, RowAmid, RowFailed, RowFilled, ClearSlotsPost, is_write_fault}
+pub use Rattle.ptflow.specs.Private.Paste.RowCells.{CellsFilled, CellsTaken, after_cell, cells_text}
 pub use Rattle.ptflow.specs.Private.Paste.SerialRest.{IsOnlyDelimiter, IsReplacedTo, CopyCellsPost, CopyBlockPost, next_position, leading_delimiter, row_from, row_rest, serial_rest, with_delimiter, with_cycle}
 pub use Rattle.ptflow.specs.Private.Paste.TakenLines.{AreReceivedLines, LinesTaken}
-pub use Rattle.ptflow.specs.Private.Paste.BufferedRows.{AreReadable, AreConsumed, AreFirstRows, BufferedRowsTaken, HaveBuffered, BufferedRowsTakenTo, WriteRowsPost, RowsWritten, CopyPairRowPost, CopyRowPost, CopyRowsPost, position_before}
+pub use Rattle.ptflow.specs.Private.Paste.BufferedRows.{AreReadable, BufferedRowsPre, AreConsumed, AreFirstRows, RowsTaken, CopyCellPost, LineCopied, EofCopied, CopyColumnsPost, CopyRowsPost, RowsWritten}
 pub use Rattle.ptflow.specs.Private.Tr.TrFrom.{squeeze_from, tr_from}
 pub use Rattle.ptflow.specs.Private.Uniq.BlockRuns.{CountRepeatsPost, IsSpan, RunsFailed, RunsWritten, IsPending, span_of}
 pub use Rattle.ptflow.specs.Private.Uniq.FirstLine.{first_line, current_run_of}

@@ -1,7 +1,7 @@
 -- The slots of the columns of a row hold all bytes of the store, so the total is at most the sum of the columns'
 -- bounds; setting one slot within its bound keeps this.
-use Rattle.ptflow.proofs.Common.{◌≡◌, ℕ, suc, ◌+◌, ◌<◌, ◌≤◌, false, List, [], ◌∷◌, length, take, drop, set, get_or, refl, sym, ◌∙◌, ap, arith, ⊎_elim, take-append-drop, sum_by, cases_eq, length-set}
-use Rattle.ptflow.proofs.Common.{drop-set-lt, get_or-set_same, get_or-set_other, sum_by-cons, sum_by-append, get_or-le-sum_by, Slots, total_bytes, with_line, AddedSlots, SlotsBound}
+use Rattle.ptflow.proofs.Common.{◌≡◌, ℕ, zero, suc, ◌+◌, ◌<◌, ◌≤◌, false, List, [], ◌∷◌, ◌++◌, length, length-append, get_or_append_left, get_or_push, max_length, take, drop, set, get_or, refl, sym, ◌∙◌, ap, arith, ⊎_elim, take-append-drop, sum_by, cases_eq, length-set}
+use Rattle.ptflow.proofs.Common.{drop-set-lt, get_or-set_same, get_or-set_other, sum_by-cons, sum_by-append, get_or-le-sum_by, Slots, total_bytes, with_line, AddedSlots, SlotsBound, SlotsKept, CellsTaken, Reader, uses_of}
 
 module _ (top : ℕ → ℕ) where
   front_total : (cells : List ℕ) (ls : List (List ℕ)) → ((c : ℕ) → c < length cells → length (get_or ls c []) ≤ top (get_or cells c 0)) → total_bytes (take (length cells) ls) ≤ sum_by top cells
@@ -56,3 +56,39 @@ slots_bound_line {cells} {top} {before} {store} k column bytes within fits = rec
 
     others : total_bytes (drop (length cells) lines) ≡ 0
     others = ap total_bytes (drop-set-lt (length cells) store.lines column bytes within) ∙ k.others
+
+-- ---- the slots of a row that is being filled
+
+line_le_max_length : (ls : List (List ℕ)) (j : ℕ) → length (get_or ls j []) ≤ max_length ls
+line_le_max_length [] j = omega arith
+line_le_max_length (line ∷ ls) zero = omega arith
+line_le_max_length (line ∷ ls) (suc j) = omega (arith, line_le_max_length ls j)
+
+pub slots_kept_start : {cells : List ℕ} {fields : List (List ℕ)} {store : Slots} → SlotsKept cells fields store store
+slots_kept_start = record { same = refl; kept = λ first top k high. k }
+
+module _ {cells : List ℕ} {fields : List (List ℕ)} {before store : Slots} (s : SlotsKept cells fields before store) where
+  -- More fields that are in no slot.
+  pub slots_kept_more : (more : List (List ℕ)) → SlotsKept cells (fields ++ more) before store
+  slots_kept_more more = record {
+    same = s.same;
+    kept = λ first top k high. s.kept first top k (λ c low. omega (arith, high c (omega (arith, low, length-append fields more)), ap length (get_or_append_left fields more [] c low)));
+  }
+
+  -- One more field, which is in the slot of its column.
+  pub slots_kept_line : {n : ℕ} (field : List ℕ) → length fields ≡ n → n < length cells → SlotsKept cells (fields ++ field ∷ []) before (with_line store n field)
+  slots_kept_line {n} field width low =
+      let m = slots_kept_more (field ∷ []) in
+      record {
+        same = length-set store.lines n field ∙ s.same;
+        kept = λ first top k high. slots_bound_line (m.kept first top k high) n field low
+            (omega (arith, high n (omega (arith, width, length-append fields (field ∷ []))), ap length (get_or_push fields field [] n (omega (arith, width)))));
+      }
+
+  -- The bound on the slots, by the lines that the readers gave.
+  pub slots_kept_by_lines : {n : ℕ} {old new : List Reader} {input_lines : ℕ → List (List ℕ)} → CellsTaken cells n old new fields input_lines → (first : Slots) (top : ℕ → ℕ) → SlotsBound cells top first before
+      → ((input : ℕ) → max_length (input_lines input) ≤ top input) → SlotsBound cells top first store
+  slots_kept_by_lines {input_lines = input_lines} t first top k high = s.kept first top k (λ c low.
+      let input = get_or cells c 0 in
+      let j = uses_of (take c cells) input in
+      omega (arith, high input, line_le_max_length (input_lines input) j, ap length (t.fields_taken c (omega (arith, low, t.width)))))

@@ -1,11 +1,9 @@
--- Filling a row column by column: each step changes one reader and one slot, so the lines and slots of the columns
--- before it stay as they are.
+-- Filling a row column by column: each step changes one reader, so the lines of the columns before it stay as they are.
 use Rattle.ptflow.proofs.Common.{◌≡◌, ◌≢◌, ⊎_elim, ℕ, ◌+◌, ◌<◌, ◌≤◌, ◌==◌, ◌||◌, Bool, true, false, cond, List, [], ◌∷◌, ◌++◌, None, Ok, length, take, get_or, set, refl, sym, ◌∙◌, ap, subst, arith}
-use Rattle.ptflow.proofs.Common.{length-append, sum_by, cases_eq, cases_lt, eq-eqb, ne_eqb, append-nil, take-take, length-set, get_or-set_same, get_or-set_other, get_or_past, get_or_append_left}
+use Rattle.ptflow.proofs.Common.{length-append, sum_by, cases_eq, cases_lt, eq-eqb, ne_eqb, append-nil, take-take, length-set, get_or-set_same, get_or-set_other, get_or_past, get_or_push, get_or_append_left}
 use Rattle.ptflow.proofs.Common.{get_or_at, get_or_default, sum_by-set, max_length, Reader, AdvanceOk, IsDone, IsSound, budget, Slots, with_line, FillLine, FillPost, no_reader, reader_at, uses_of, SetTerminatorsPost}
-use Rattle.ptflow.proofs.Common.{RowFilled, CellsTaken, CellsFilled, RowFailed, LinesTaken}
+use Rattle.ptflow.proofs.Common.{CellsTaken, CellsFilled, RowFailed, SlotsKept, LinesTaken}
 use Rattle.std.specs.Prelude.{slice_index_or}
-use Rattle.ptflow.proofs.PasteLemmas.CellSlots.{slots_bound_line}
 use Rattle.ptflow.proofs.PasteLemmas.Grid.{uses_here, uses_other, uses_before}
 use Rattle.ptflow.proofs.Passes.Lines.{max_length-append}
 use Rattle.ptflow.proofs.PasteLemmas.LinesTaken.{nothing_taken, taken_more, taken_line, taken_eof, taken_at_most, none_at_eof}
@@ -75,11 +73,10 @@ module _ (input : ℕ) (ls : List (List ℕ)) (input_lines : ℕ → List (List 
 abbrev cell_of : List ℕ → (ℕ → List (List ℕ)) → ℕ → List ℕ
 cell_of cells input_lines c = slice_index_or (input_lines (get_or cells c 0)) (uses_of (take c cells) (get_or cells c 0)) []
 
-module _ {cells : List ℕ} {n : ℕ} {old now : List Reader} {before store : Slots} {input_lines : ℕ → List (List ℕ)} (t : CellsTaken cells n old now before store input_lines)
-    (low : n < length cells) (within : get_or cells n 0 < length now) (room : n < length store.lines) {r : Reader} {ls : List (List ℕ)} {bytes : List ℕ} {after : Slots}
+module _ {cells : List ℕ} {n : ℕ} {old now : List Reader} {fields : List (List ℕ)} {input_lines : ℕ → List (List ℕ)} (t : CellsTaken cells n old now fields input_lines)
+    (low : n < length cells) (within : get_or cells n 0 < length now) {r : Reader} {ls : List (List ℕ)} {field : List ℕ}
     (lines_taken : LinesTaken (reader_at old (get_or cells n 0)).terminator (reader_at now (get_or cells n 0)) r 1 ls)
-    (there : bytes ≡ slice_index_or (input_lines (get_or cells n 0) ++ ls) (uses_of (take n cells) (get_or cells n 0)) []) (fits : length bytes ≤ max_length ls)
-    (stored : after ≡ with_line store n bytes) where
+    (there : field ≡ slice_index_or (input_lines (get_or cells n 0) ++ ls) (uses_of (take n cells) (get_or cells n 0)) []) where
   abbrev input : ℕ
   input = get_or cells n 0
 
@@ -112,40 +109,32 @@ module _ {cells : List ℕ} {n : ℕ} {old now : List Reader} {before store : Sl
       j : ℕ
       j = uses_of (take c cells) p
 
-  cells_taken_more : CellsTaken cells (n + 1) old (set now input r) before after (lines_at input ls input_lines)
+  cells_taken_more : CellsTaken cells (n + 1) old (set now input r) (fields ++ field ∷ []) (lines_at input ls input_lines)
   cells_taken_more = record {
     lines_taken = lines_taken_next;
-    slots = λ c less. ⊎_elim
-        (λ same. rw same (rw stored (get_or-set_same store.lines n bytes [] room ∙ there
-        ∙ ap (λ (l : List (List ℕ)). slice_index_or l (uses_of (take n cells) input) []) (sym (lines_at_here input ls input_lines input refl)))))
-        (λ differ. rw stored (get_or-set_other store.lines n c bytes [] differ ∙ t.slots c (omega (arith, less, differ)) ∙ sym (earlier_cell c (omega (arith, less, differ)))))
+    width = omega (arith, t.width, length-append fields (field ∷ []));
+    fields_taken = λ c less. ⊎_elim
+        (λ same. rw same (get_or_push fields field [] n (omega (arith, t.width)) ∙ there
+        ∙ ap (λ (l : List (List ℕ)). slice_index_or l (uses_of (take n cells) input) []) (sym (lines_at_here input ls input_lines input refl))))
+        (λ differ. get_or_append_left fields (field ∷ []) [] c (omega (arith, less, differ, t.width))
+        ∙ t.fields_taken c (omega (arith, less, differ)) ∙ sym (earlier_cell c (omega (arith, less, differ))))
         (cases_eq c n);
     count = length-set now input r ∙ t.count;
-    same = ap (λ (s : Slots). length s.lines) stored ∙ length-set store.lines n bytes ∙ t.same;
-    kept = λ first top k high. rw stored (slots_bound_line (t.kept first top k (λ q. omega (arith, high q, lines_at_longest input ls input_lines q))) n bytes low
-        (omega (arith, fits, high input, ap max_length (lines_at_here input ls input_lines input refl), max_length-append (input_lines input) ls)));
   }
 
--- After the last column the row is filled.
-pub all_cells_filled : {cells : List ℕ} {n : ℕ} {old new : List Reader} {before store : Slots} {any_line : Bool} → CellsFilled cells n old new before store any_line → length cells ≤ n → n ≤ length cells
-    → RowFilled cells old new before store any_line
-all_cells_filled {cells} {n} {old} {new} {before} {store} {any_line} f past within =
-    let all : n ≡ length cells = omega arith in
-    subst (λ (k : ℕ). CellsFilled cells k old new before store any_line) all f
-
-pub fill_starts : {cells : List ℕ} {old : List Reader} {before : Slots} → CellsFilled cells 0 old old before before false
+pub fill_starts : {cells : List ℕ} {old : List Reader} → CellsFilled cells 0 old old [] false
 fill_starts = record {
   input_lines = λ input. [];
-  consumed = record { lines_taken = λ input. nothing_taken refl; slots = λ c low. absurd (omega arith); count = refl; same = refl; kept = λ first top k high. k };
+  consumed = record { lines_taken = λ input. nothing_taken refl; width = refl; fields_taken = λ c low. absurd (omega arith); count = refl };
   some = λ any_line. cc;
   none = λ h input. refl;
   least = omega arith;
   less = λ any_line. cc;
 }
 
-module _ {cells : List ℕ} {n : ℕ} {old now : List Reader} {before store : Slots} {any_line : Bool} (f : CellsFilled cells n old now before store any_line)
+module _ {cells : List ℕ} {n : ℕ} {old now : List Reader} {fields : List (List ℕ)} {any_line : Bool} (f : CellsFilled cells n old now fields any_line)
     (low : n < length cells) (within : get_or cells n 0 < length now) where
-  module _ (room : n < length store.lines) {b : Reader} (is_read : b ≡ reader_at now (get_or cells n 0)) (clean : b.fault ≡ None) {r : Reader} (sound : IsSound r) where
+  module _ {b : Reader} (is_read : b ≡ reader_at now (get_or cells n 0)) (clean : b.fault ≡ None) {r : Reader} (sound : IsSound r) where
     abbrev p : ℕ
     p = get_or cells n 0
 
@@ -156,7 +145,7 @@ module _ {cells : List ℕ} {n : ℕ} {old now : List Reader} {before store : Sl
     all_budgets = omega (arith, ap budget is_read, sum_by-set budget now p r no_reader within)
 
     -- The column gets a line.
-    pub fill_line : {after : Slots} (e : FillLine b r store after n) → CellsFilled cells (n + 1) old (set now p r) before after true
+    fill_line : {before after : Slots} {slot : ℕ} (e : FillLine b r before after slot) → CellsFilled cells (n + 1) old (set now p r) (fields ++ e.line ∷ []) true
     fill_line e =
         let lines_taken : LinesTaken (reader_at old p).terminator (reader_at now p) r 1 (e.line ∷ []) = subst
         (λ (x : Reader). LinesTaken (reader_at old p).terminator x r 1 (e.line ∷ [])) is_read (taken_line e same_end clean sound) in
@@ -165,7 +154,7 @@ module _ {cells : List ℕ} {n : ℕ} {old now : List Reader} {before store : Sl
         let less : sum_by budget (set now p r) < sum_by budget old = omega (arith, f.least, e.less, all_budgets) in
         record {
           input_lines = lines_at p (e.line ∷ []) f.input_lines;
-          consumed = cells_taken_more f.consumed low within room lines_taken (sym (get_or_at (f.input_lines p) e.line [] [] (uses_of (take n cells) p) all)) (omega arith) e.stored;
+          consumed = cells_taken_more f.consumed low within lines_taken (sym (get_or_at (f.input_lines p) e.line [] [] (uses_of (take n cells) p) all));
           some = λ h. (n, omega arith, omega (arith, all, ap length (lines_at_here p (e.line ∷ []) f.input_lines p refl), length-append (f.input_lines p) (e.line ∷ [])));
           none = λ h. cc;
           least = omega (arith, less);
@@ -173,32 +162,35 @@ module _ {cells : List ℕ} {n : ℕ} {old now : List Reader} {before store : Sl
         }
 
     -- The reader is at the end of its input.
-    pub fill_eof : {after : Slots} → AdvanceOk b r [] → IsDone r → after ≡ with_line store n [] → CellsFilled cells (n + 1) old (set now p r) before after any_line
-    fill_eof advance_ok done stored = record {
+    fill_eof : AdvanceOk b r [] → IsDone r → CellsFilled cells (n + 1) old (set now p r) (fields ++ [] ∷ []) any_line
+    fill_eof advance_ok done = record {
       input_lines = lines_at p [] f.input_lines;
-      consumed = cells_taken_more f.consumed low within room (subst (λ (x : Reader). LinesTaken (reader_at old p).terminator x r 1 []) is_read (taken_eof {b = b} advance_ok done clean sound))
-          (sym (ap (λ (l : List (List ℕ)). slice_index_or l (uses_of (take n cells) p) []) (append-nil (f.input_lines p)) ∙ get_or_past (f.input_lines p) (uses_of (take n cells) p) [] (taken_at_most (f.consumed.lines_taken p))))
-          (omega arith) stored;
+      consumed = cells_taken_more f.consumed low within (subst (λ (x : Reader). LinesTaken (reader_at old p).terminator x r 1 []) is_read (taken_eof {b = b} advance_ok done clean sound))
+          (sym (ap (λ (l : List (List ℕ)). slice_index_or l (uses_of (take n cells) p) []) (append-nil (f.input_lines p)) ∙ get_or_past (f.input_lines p) (uses_of (take n cells) p) [] (taken_at_most (f.consumed.lines_taken p))));
       some = λ h. let s = f.some h in (s.0, omega (arith, s.1), ap length (lines_at_none p [] f.input_lines (get_or cells s.0 0) refl) ∙ s.2);
       none = λ h q. lines_at_none p [] f.input_lines q refl ∙ f.none h q;
       least = omega (arith, f.least, advance_ok.reads.count, all_budgets);
       less = λ h. omega (arith, f.less h, advance_ok.reads.count, all_budgets);
     }
 
-    pub fill_next : {after : Slots} (has : Bool) → FillPost b r store after n (Ok has) → CellsFilled cells (n + 1) old (set now p r) before after (any_line || has)
-    fill_next true e = rw or-true (fill_line e)
-    fill_next false e = rw or-false (fill_eof e.0 e.1 e.2)
+    -- The column is filled, and its slot has the field.
+    pub fill_next : (before after : Slots) (slot : ℕ) (has : Bool) → FillPost b r before after slot (Ok has)
+        → (field : List ℕ) × (after ≡ with_line before slot field) × CellsFilled cells (n + 1) old (set now p r) (fields ++ field ∷ []) (any_line || has)
+    fill_next before after slot true e = (e.line, e.stored, rw or-true (fill_line e))
+    fill_next before after slot false e = ([], e.2, rw or-false (fill_eof e.0 e.1))
 
   -- The step for this column failed.
-  abbrev pub fill_failed : {CellFailed : Reader → Reader → Slots → Slots → ℕ → Type 0} (after : Slots) {b : Reader} (r : Reader) → b ≡ reader_at now (get_or cells n 0) → CellFailed b r store after n
-      → (length b.buffered ≤ 8192 → length r.buffered ≤ 8192) → RowFailed CellFailed cells old (set now (get_or cells n 0) r) before after
-  fill_failed {CellFailed} after {b} r is_read failure few = record {
+  abbrev pub fill_failed : {CellFailed : Reader → Reader → Slots → Slots → ℕ → Type 0} {before store : Slots} (after : Slots) {b : Reader} (r : Reader) → SlotsKept cells fields before store
+      → b ≡ reader_at now (get_or cells n 0) → CellFailed b r store after n → (length b.buffered ≤ 8192 → length r.buffered ≤ 8192) → RowFailed CellFailed cells old (set now (get_or cells n 0) r) before after
+  fill_failed {CellFailed} {store = store} after {b} r slots is_read failure few = record {
     column = n;
     within = low;
+    fields = fields;
     input_lines = f.input_lines;
     mid = now;
     buffered = store;
     consumed = f.consumed;
+    slots = slots;
     failure = rw (at_same now (get_or cells n 0) r within) (rw is_read at failure);
     others = λ q differ. at_other now (get_or cells n 0) q r differ;
     few = λ buffered. rw (at_same now (get_or cells n 0) r within)

@@ -4,9 +4,9 @@
 use Rattle.ptflow.proofs.Common.{◌≡◌, ⊎_elim, ℕ, ◌+◌, ◌*◌, ◌<◌, ◌≤◌, ◌^◌, Bool, true, false, List, [], ◌∷◌, ◌++◌, None, length, take, get_or, refl, sym, ◌∙◌, ap, subst, arith, append_assoc, All}
 use Rattle.ptflow.proofs.Common.{cases_lt, append-nil, All-get_or, unlines, lines, complete_lines, AreLines, max_length, max_line_length, Received, IsPrefix, IsConsistent, HasReceived, known_lines, Output, PushEffect, Reader, ReaderAdvance}
 use Rattle.ptflow.proofs.Common.{IsDone, Slots, total_bytes, received_with, has_received, has_received_of_set, push_nothing, push_trans, complete_lines_cons, Paste, AddedSlots, reader_at, IsReadable, PastePre, join_with_cycle, uses_of}
-use Rattle.ptflow.proofs.Common.{columns, rows, rows_text, paste, paste_decided, SetTerminatorsPost, SlotsBound, CellsTaken, RowFilled, AreReceivedLines, AreFirstRows, RowsWritten}
-use Rattle.ptflow.proofs.PasteLemmas.CellSlots.{slots_bound_start}
-use Rattle.ptflow.proofs.PasteLemmas.RowsTaken.{first_rows_trans, filled_row_is_first}
+use Rattle.ptflow.proofs.Common.{columns, rows, rows_text, paste, paste_decided, SetTerminatorsPost, SlotsBound, SlotsKept, CellsTaken, CellsFilled, AreReceivedLines, AreFirstRows, RowsTaken, cells_text, map}
+use Rattle.ptflow.proofs.PasteLemmas.CellSlots.{slots_bound_start, slots_kept_by_lines}
+use Rattle.ptflow.proofs.PasteLemmas.RowsTaken.{first_rows_trans, filled_row_is_first, filled_row_text}
 use Rattle.ptflow.proofs.PasteLemmas.Grid.{Column, last_use, rows_text-append}
 use Rattle.ptflow.proofs.Passes.Lines.{max_length-append}
 use Rattle.ptflow.proofs.Passes.LinesRead.{lines_on, received_longest}
@@ -186,11 +186,6 @@ module _ {job : Paste} {cells : List ℕ} {old set now : List Reader} {was is : 
   pub invariant_slots : length cells ≤ length store.lines
   invariant_slots = let k = s.kept (λ p. max_length (s.ls p)) (λ p. omega arith) in omega (arith, k.adds.all k.denied)
 
-  -- No row was taken, and nothing happened.
-  pub invariant_same : {new : List Reader} {is' : Output} → (new ≡ now) × (is' ≡ is) → PasteInvariant job cells old set new was is' first store
-  invariant_same {new} {is'} same =
-      rw (same.1, same.0) s
-
   -- Buffered output was written out.
   pub invariant_sent : {written_out : Output} → PushEffect is written_out [] → written_out.write_failed ≡ false → PasteInvariant job cells old set now was written_out first store
   invariant_sent {written_out} wrote clean = record {
@@ -218,34 +213,31 @@ module _ {job : Paste} {cells : List ℕ} {old set now : List Reader} {was is : 
   }
 
   -- Rows from the buffers.
-  module _ {new : List Reader} {is' : Output} (p : RowsWritten job.terminator job.delimiters cells now new is is') where
-    pub buffered_wrote : PushEffect is is' (rows_text job p.buffered.taken_rows)
-    buffered_wrote = rw p.buffered.is at p.wrote
+  module _ {end : ℕ} (same : end ≡ job.terminator) {new : List Reader} {written : List ℕ} (p : RowsTaken end job.delimiters cells now new written) where
+    pub rows_wrote : {is' : Output} → PushEffect is is' written → PushEffect is is' (rows_text job p.taken_rows)
+    rows_wrote {is'} wrote = subst (PushEffect is is') (p.is ∙ ap (λ (e : ℕ). unlines e (map (join_with_cycle job.delimiters 0) p.taken_rows)) same) wrote
 
-    pub buffered_kept : (top : ℕ → ℕ) → ((q : ℕ) → max_length (s.ls q ++ p.buffered.ls q) ≤ top q) → SlotsBound cells top first store
-    buffered_kept top high = s.kept top (λ q. omega (arith, high q, max_length-append (s.ls q) (p.buffered.ls q)))
+    pub rows_first : AreFirstRows job.terminator cells now new p.ls p.taken_rows
+    rows_first = rw same at p.first_rows
 
-  pub invariant_buffered : {end : ℕ} {new : List Reader} {is' : Output} → end ≡ job.terminator → RowsWritten end job.delimiters cells now new is is' × (is'.write_failed ≡ false)
-      → PasteInvariant job cells old set new was is' first store
-  invariant_buffered {end} {new} {is'} same pushed =
-      let p = rw same at pushed.0 in
-      invariant_after p.buffered.first_rows (buffered_kept p) (buffered_wrote p) pushed.1
+    pub rows_kept : (top : ℕ → ℕ) → ((q : ℕ) → max_length (s.ls q ++ p.ls q) ≤ top q) → SlotsBound cells top first store
+    rows_kept top high = s.kept top (λ q. omega (arith, high q, max_length-append (s.ls q) (p.ls q)))
 
-  -- A row from the slots.
-  module _ {new : List Reader} {after : Slots} where
-    pub row_kept : {n : ℕ} {input_lines : ℕ → Column} → CellsTaken cells n now new store after input_lines → (top : ℕ → ℕ) → ((p : ℕ) → max_length (s.ls p ++ input_lines p) ≤ top p) → SlotsBound cells top first after
+    pub invariant_rows : {is' : Output} → PushEffect is is' written → is'.write_failed ≡ false → PasteInvariant job cells old set new was is' first store
+    invariant_rows wrote clean = invariant_after rows_first rows_kept (rows_wrote wrote) clean
+
+  -- A row that was filled.
+  module _ {new : List Reader} {after : Slots} {fields : List (List ℕ)} (slots : SlotsKept cells fields store after) where
+    pub row_kept : {n : ℕ} {input_lines : ℕ → Column} → CellsTaken cells n now new fields input_lines → (top : ℕ → ℕ) → ((p : ℕ) → max_length (s.ls p ++ input_lines p) ≤ top p) → SlotsBound cells top first after
     row_kept {n} {input_lines} t top high =
-        t.kept first top (s.kept top (λ p. omega (arith, high p, max_length-append (s.ls p) (input_lines p)))) (λ p. omega (arith, high p, max_length-append (s.ls p) (input_lines p)))
+        slots_kept_by_lines slots t first top (s.kept top (λ p. omega (arith, high p, max_length-append (s.ls p) (input_lines p)))) (λ p. omega (arith, high p, max_length-append (s.ls p) (input_lines p)))
 
-    module _ (f : RowFilled cells now new store after true) where
-      pub row_gives : AreFirstRows job.terminator cells now new f.input_lines (take (length cells) after.lines ∷ [])
-      row_gives = filled_row_is_first now_end f (omega (arith, f.consumed.same, invariant_slots))
+    module _ (f : CellsFilled cells (length cells) now new fields true) where
+      pub row_gives : AreFirstRows job.terminator cells now new f.input_lines (fields ∷ [])
+      row_gives = filled_row_is_first now_end f
 
-      pub row_wrote : {is' : Output} {end : ℕ} → end ≡ job.terminator → PushEffect is is' (join_with_cycle job.delimiters 0 (take (length cells) after.lines) ++ end ∷ [])
-          → PushEffect is is' (rows_text job (take (length cells) after.lines ∷ []))
-      row_wrote {is'} same wrote =
-          let row = join_with_cycle job.delimiters 0 (take (length cells) after.lines) in
-          subst (λ (b : List ℕ). PushEffect is is' b) (ap (λ (e : ℕ). row ++ e ∷ []) same ∙ sym (append-nil (row ++ job.terminator ∷ []))) wrote
+      pub row_wrote : {is' : Output} (end : ℕ) → end ≡ job.terminator → PushEffect is is' (cells_text end job.delimiters (length cells) 0 fields) → PushEffect is is' (rows_text job (fields ∷ []))
+      row_wrote {is'} end same wrote = subst (PushEffect is is') (ap (λ (e : ℕ). cells_text e job.delimiters (length cells) 0 fields) same ∙ filled_row_text job.terminator job.delimiters f) wrote
 
-      pub invariant_more : {is' : Output} → PushEffect is is' (rows_text job (take (length cells) after.lines ∷ [])) → is'.write_failed ≡ false → PasteInvariant job cells old set new was is' first after
+      pub invariant_more : {is' : Output} → PushEffect is is' (rows_text job (fields ∷ [])) → is'.write_failed ≡ false → PasteInvariant job cells old set new was is' first after
       invariant_more = invariant_after row_gives (row_kept f.consumed)

@@ -1,10 +1,10 @@
 -- Rows that are the next rows of the inputs, and whose lines were taken from the readers. They compose: if rows are
 -- taken and then more, the concatenation is taken. One filled row is such a row, since each column takes one line.
 use Rattle.ptflow.proofs.Common.{◌≡◌, ⊎_elim, inl, inr, ℕ, ◌*◌, ◌<◌, ◌≤◌, true, List, [], ◌∷◌, ◌++◌, Option, length, take, map, false, refl, sym, ◌∙◌, ap, subst, arith, append_assoc, length-append}
-use Rattle.ptflow.proofs.Common.{cases_lt, append-nil, nil_from_length, take_all, length-take-le, length-map, Reader, Slots, reader_at, join_with_cycle, uses_of, columns, rows, CellsTaken, RowFilled, LinesTaken}
-use Rattle.ptflow.proofs.Common.{AreFirstRows, BufferedRowsTaken}
+use Rattle.ptflow.proofs.Common.{cases_lt, append-nil, nil_from_length, take_all, Reader, reader_at, join_with_cycle, uses_of, columns, rows, CellsTaken, CellsFilled, LinesTaken, cells_text}
+use Rattle.ptflow.proofs.Common.{AreFirstRows, RowsTaken, unlines}
 use Rattle.std.specs.Prelude.{slice_index_or}
-use Rattle.std.proofs.lemmas.List.{get_or-take}
+use Rattle.ptflow.proofs.PasteLemmas.RowCells.{row_text}
 use Rattle.ptflow.proofs.PasteLemmas.Grid.{Column, for_each_cell, for_each_cell_unique, uses_before, grid_step, rows_text-append}
 use Rattle.ptflow.proofs.Passes.Readers.{stays_at_eof}
 use Rattle.ptflow.proofs.PasteLemmas.LinesTaken.{nothing_taken, taken_more, taken_at_most, none_at_eof}
@@ -30,23 +30,21 @@ module _ {end : ℕ} {cells : List ℕ} where
     count = q.count ∙ p.count;
   }
 
-  module _ {old new : List Reader} {before after : Slots} (used_terminator : (p : ℕ) → 0 < uses_of cells p → (reader_at old p).terminator ≡ end) where
+  module _ {old new : List Reader} {fields : List (List ℕ)} (used_terminator : (p : ℕ) → 0 < uses_of cells p → (reader_at old p).terminator ≡ end) where
     -- The lines that the first columns of a row take from one reader.
-    pub lines_taken_by_cells : {n : ℕ} {input_lines : ℕ → Column} → CellsTaken cells n old new before after input_lines → (p : ℕ) → LinesTaken end (reader_at old p) (reader_at new p) (uses_of (take n cells) p) (input_lines p)
+    pub lines_taken_by_cells : {n : ℕ} {input_lines : ℕ → Column} → CellsTaken cells n old new fields input_lines → (p : ℕ) → LinesTaken end (reader_at old p) (reader_at new p) (uses_of (take n cells) p) (input_lines p)
     lines_taken_by_cells {n} t p = retarget_terminator (λ some. used_terminator p (omega (arith, some, uses_before cells n p))) (t.lines_taken p)
 
     -- The lines that all columns of a row take from one reader.
-    pub lines_taken_by_row : {input_lines : ℕ → Column} → CellsTaken cells (length cells) old new before after input_lines → (p : ℕ) → LinesTaken end (reader_at old p) (reader_at new p) (uses_of cells p) (input_lines p)
+    pub lines_taken_by_row : {input_lines : ℕ → Column} → CellsTaken cells (length cells) old new fields input_lines → (p : ℕ) → LinesTaken end (reader_at old p) (reader_at new p) (uses_of cells p) (input_lines p)
     lines_taken_by_row t p = rw (take_all (length cells) cells (omega arith)) at (lines_taken_by_cells t p)
 
     -- A filled row in which some column has a line is the next row.
-    pub filled_row_is_first : (r : RowFilled cells old new before after true) → length cells ≤ length after.lines
-        → AreFirstRows end cells old new r.input_lines (take (length cells) after.lines ∷ [])
-    filled_row_is_first r room =
+    pub filled_row_is_first : (r : CellsFilled cells (length cells) old new fields true) → AreFirstRows end cells old new r.input_lines (fields ∷ [])
+    filled_row_is_first r =
         let k = r.some refl in
-        let row_is : take (length cells) after.lines ≡ for_each_cell (λ c p. slice_index_or (r.input_lines p) (uses_of (take c cells) p) []) cells =
-        for_each_cell_unique (λ c p. slice_index_or (r.input_lines p) (uses_of (take c cells) p) []) cells (take (length cells) after.lines) [] (length-take-le (length cells) after.lines room)
-        (λ d within. get_or-take (length cells) after.lines d [] within ∙ r.consumed.slots d within) in
+        let row_is : fields ≡ for_each_cell (λ c p. slice_index_or (r.input_lines p) (uses_of (take c cells) p) []) cells =
+        for_each_cell_unique (λ c p. slice_index_or (r.input_lines p) (uses_of (take c cells) p) []) cells fields [] r.consumed.width r.consumed.fields_taken in
         record {
           lines_taken = λ p. let one : 1 * uses_of cells p ≡ uses_of cells p = omega arith in subst (λ (n : ℕ). LinesTaken end (reader_at old p) (reader_at new p) n (r.input_lines p)) (sym one) (lines_taken_by_row r.consumed p);
           on = λ more may.
@@ -55,36 +53,38 @@ module _ {end : ℕ} {cells : List ℕ} where
           count = r.consumed.count;
         }
 
--- ---- rows that are complete in the buffers
+  pub no_rows : {old : List Reader} → AreFirstRows end cells old old (λ p. []) []
+  no_rows = record { lines_taken = λ p. nothing_taken (omega arith); on = λ more may. refl; count = refl }
 
--- Empty slots, one for each column. They only serve to state which row the buffers hold.
-abbrev pub empty_slots : List ℕ → Slots
-empty_slots cells = record { lines = map (λ (cell : ℕ). []) cells; peak = 0; denied = false }
+-- ---- rows and their text
 
-pub length_empty_slots : (cells : List ℕ) → length (empty_slots cells).lines ≡ length cells
-length_empty_slots cells = length-map cells (λ (cell : ℕ). [])
+-- The text of a filled row.
+pub filled_row_text : (end : ℕ) (delims : List (Option ℕ)) {cells : List ℕ} {old new : List Reader} {fields : List (List ℕ)} → CellsFilled cells (length cells) old new fields true
+    → cells_text end delims (length cells) 0 fields ≡ unlines end (map (join_with_cycle delims 0) (fields ∷ []))
+filled_row_text end delims {cells} {fields = fields} f =
+    let k = f.some refl in
+    row_text end delims (length cells) 0 fields (omega (arith, f.consumed.width)) (omega (arith, f.consumed.width, k.1)) ∙ sym (append-nil (join_with_cycle delims 0 fields ++ end ∷ []))
 
 module _ {end : ℕ} {delims : List (Option ℕ)} {cells : List ℕ} where
-  -- Rows are taken from the buffers, and then more.
-  pub buffered_rows_trans : {a b c : List Reader} {xs ys : List ℕ} → BufferedRowsTaken end delims cells a b xs → BufferedRowsTaken end delims cells b c ys → BufferedRowsTaken end delims cells a c (xs ++ ys)
-  buffered_rows_trans p q = record {
+  pub rows_taken_none : {old : List Reader} → RowsTaken end delims cells old old []
+  rows_taken_none = record { ls = λ p. []; taken_rows = []; first_rows = no_rows; least = omega arith; is = refl }
+
+  -- Rows are taken, and then more.
+  pub rows_taken_trans : {a b c : List Reader} {xs ys : List ℕ} → RowsTaken end delims cells a b xs → RowsTaken end delims cells b c ys → RowsTaken end delims cells a c (xs ++ ys)
+  rows_taken_trans p q = record {
     ls = λ input. p.ls input ++ q.ls input;
     taken_rows = p.taken_rows ++ q.taken_rows;
     first_rows = first_rows_trans p.first_rows q.first_rows;
-    pulled = λ input. q.pulled input ∙ p.pulled input;
-    less = omega (arith, p.less, q.less);
+    least = omega (arith, p.least, q.least);
     is = (λ i. p.is i ++ q.is i) ∙ sym (rows_text-append end delims p.taken_rows q.taken_rows);
   }
 
-  -- One row, given by the slots that `fill_row` would have filled.
-  pub buffered_row : {old new : List Reader} → ((p : ℕ) → 0 < uses_of cells p → (reader_at old p).terminator ≡ end) → ((p : ℕ) → (reader_at new p).pulled ≡ (reader_at old p).pulled)
-      → {store : Slots} → RowFilled cells old new (empty_slots cells) store true → {written : List ℕ} → written ≡ join_with_cycle delims 0 (take (length cells) store.lines) ++ end ∷ []
-      → BufferedRowsTaken end delims cells old new written
-  buffered_row used_terminator still {store} r is = record {
-    ls = r.input_lines;
-    taken_rows = take (length cells) store.lines ∷ [];
-    first_rows = filled_row_is_first used_terminator r (omega (arith, r.consumed.same, length_empty_slots cells));
-    pulled = still;
-    less = r.less refl;
-    is = is ∙ sym (append-nil (join_with_cycle delims 0 (take (length cells) store.lines) ++ end ∷ []));
+  pub row_taken : {old new : List Reader} {fields : List (List ℕ)} → ((p : ℕ) → 0 < uses_of cells p → (reader_at old p).terminator ≡ end)
+      → CellsFilled cells (length cells) old new fields true → RowsTaken end delims cells old new (cells_text end delims (length cells) 0 fields)
+  row_taken {fields = fields} used_terminator f = record {
+    ls = f.input_lines;
+    taken_rows = fields ∷ [];
+    first_rows = filled_row_is_first used_terminator f;
+    least = f.least;
+    is = filled_row_text end delims f;
   }

@@ -4,15 +4,17 @@
 use Rattle.ptflow.proofs.Common.{◌≡◌, ◌≢◌, ℕ, zero, suc, ◌+◌, ◌-◌, ◌*◌, ◌%◌, ◌<◌, ◌≤◌, Bool, cond, List, [], ◌∷◌, ◌++◌, Option, None, Some, length, map, take, drop, set, get_or, refl, sym, ◌∙◌, ap}
 use Rattle.ptflow.proofs.Common.{subst, arith, append_assoc, length-append, length-drop, take-append-drop, ⊎_elim, inl, unwrap_or, option_to_list, count_by, cases_eq, cases_lt, eq-eqb, ne_eqb}
 use Rattle.ptflow.proofs.Common.{mod-mul-add, take_more, take_all, nil_from_length, length-take-le, length-set, get_or_append_left, get_or_push, take_at, All-get_or, All-take, All-drop}
-use Rattle.ptflow.proofs.Common.{All-from_recursion, recursion_from_All, sum_by-cons, sum_by-append, sum_by-set, is_byte, unlines, lines, IsLine, AreLines, EndsWithByte, Output, PushEffect, Reader, IsSound}
+use Rattle.ptflow.proofs.Common.{All-from_recursion, recursion_from_All, sum_by-cons, sum_by-append, sum_by-set, is_byte, unlines, lines, IsLine, AreLines, EndsWithByte, Output, PushEffect, push_nothing, Reader, IsSound}
 use Rattle.ptflow.proofs.Common.{budget, advance_ok_take, byte_eq, byte_ne, unlines-append, lines_are, the_lines, delim_at, no_reader, reader_at, update_at, delimiter, join_with_cycle, uses_of, columns, rows}
-use Rattle.ptflow.proofs.Common.{IsRowCycle, IsSharedCycle, IsWholeRows, with_cycle, LinesTaken, AreReadable, BufferedRowsTaken, RowsWritten}
+use Rattle.ptflow.proofs.Common.{IsRowCycle, IsSharedCycle, IsWholeRows, with_cycle, LinesTaken, AreReadable, RowsTaken, RowsWritten}
 use Rattle.std.proofs.Common.{All}
 use Rattle.std.specs.Prelude.{slice_index_or}
 use Rattle.ptflow.proofs.Vectors.FindNth.{none_counted}
 use Rattle.ptflow.proofs.PasteLemmas.Grid.{Column, for_each_cell_unique, top_of, grid_step, uses_here, uses_before_lt, last_use, update_here, update_there}
 use Rattle.ptflow.proofs.PasteLemmas.FillRow.{at_same, at_other, at_index}
 use Rattle.ptflow.proofs.PasteLemmas.LinesTaken.{nothing_taken}
+use Rattle.ptflow.proofs.PasteLemmas.RowsTaken.{rows_taken_none}
+use Rattle.ptflow.proofs.PasteLemmas.BufferedRows.{consumed_none, consumed_more}
 use Rattle.ptflow.proofs.PasteLemmas.Cycle.{cycle-append, length-cycle}
 
 -- ---- the cycle of one row
@@ -247,7 +249,7 @@ module _ {end : ℕ} {delims : List (Option ℕ)} {cells : List ℕ} {cycle : Li
       (λ differ. rw (at_other old input q now differ, update_there input rs.ls (λ q. []) q differ, uses_none cells input same q differ) (nothing_taken (omega arith)))
       (cases_eq q input)
 
-  rows_of_input : BufferedRowsTaken end delims cells old (set old input now) (with_cycle end cycle 0 (take count was.buffered))
+  rows_of_input : RowsTaken end delims cells old (set old input now) (with_cycle end cycle 0 (take count was.buffered))
   rows_of_input = record {
     taken_rows = rows_in (length cells) rs.count rs.ls;
     ls = lines_of_input input rs.ls;
@@ -256,8 +258,7 @@ module _ {end : ℕ} {delims : List (Option ℕ)} {cells : List ℕ} {cycle : Li
       on = λ more may. rows_on cells input same t.some rs.count rs.ls more rs.long;
       count = length-set old input now;
     };
-    pulled = λ q. ⊎_elim (λ is. rw is (rw (at_same old input now low) refl)) (λ differ. rw (at_other old input q now differ) refl) (cases_eq q input);
-    less = omega (arith, some, within, sound.long ready.0, length-drop count was.buffered, sum_by-set budget old input now no_reader low);
+    least = omega (arith, some, within, sound.long ready.0, length-drop count was.buffered, sum_by-set budget old input now no_reader low);
     is =
         let start : 0 ≡ 0 * length cells = omega arith in
         ap (with_cycle end cycle 0) rs.is ∙ ap (λ (m : ℕ). with_cycle end cycle m (unlines end rs.ls)) start
@@ -281,5 +282,10 @@ copied_rows {end} {delims} {cells} {cycle} t {old} within readable d sound {coun
       buffered = rw (copied, is_read, step, at_index old p e low)
           (rows_of_input t old low (readable p (omega (arith, uses_before_lt cells 0 t.some))) (subst IsSound is_read sound) some
           (omega (arith, few, ap (λ (x : Reader). length x.buffered) is_read)) (rw (is_read, t.is_cycle.count) at rs));
+      consumed = consumed_more count consumed_none low (at_index old p e low) step;
       wrote = wrote;
     }
+
+-- Nothing is in the buffer, or the columns share no reader.
+pub no_rows_written : {end : ℕ} {delims : List (Option ℕ)} {cells : List ℕ} {old : List Reader} {out : Output} → RowsWritten end delims cells old old out out
+no_rows_written {out = out} = record { written = []; buffered = rows_taken_none; consumed = consumed_none; wrote = push_nothing out }

@@ -3,4 +3,5 @@ pub mod SharedInput
 pub mod FillRow
 pub mod SerialRest
 pub mod TakenLines
+pub mod RowCells
 pub mod BufferedRows

@@ -1,12 +1,14 @@
 //! `paste`: the engine that merges corresponding lines of several inputs, row by row. The module `serial` has the
 //! engine of `paste -s`, which `ptrun` runs over one input after the other.
 
-ghost use Rattle.std.specs.Prelude.{◌≡◌, ◌<◌, ◌≤◌, length, take, false, [], ◌∷◌, ◌++◌, All};
+ghost use Rattle.std.specs.Prelude.{◌≡◌, ◌<◌, ◌≤◌, length, take, drop, false, None, [], ◌++◌, All};
 ghost use Rattle.ptlines.specs.Outputs.{PushPost, PushEffect};
+ghost use Rattle.ptlines.specs.Slots.{line};
 ghost use Rattle.ptlangs.specs.Jobs.{paste_job, terminator};
 ghost use Rattle.ptflow.specs.PasteCall.{PastePre, PastePost};
-ghost use Rattle.ptflow.specs.PasteText.{join_with_cycle};
-ghost use Rattle.ptflow.specs.Private.Paste.FillRow.{SetTerminatorsPost, FillRowPre, FillRowPost, is_write_fault};
+ghost use Rattle.ptflow.specs.Private.Paste.BufferedRows.{BufferedRowsPre};
+ghost use Rattle.ptflow.specs.Private.Paste.FillRow.{SetTerminatorsPost, FillCellPost, FillRowPost, ClearSlotsPost, is_write_fault};
+ghost use Rattle.ptflow.specs.Private.Paste.RowCells.{after_cell, cells_text};
 
 mod buffered_rows;
 pub(crate) mod serial;
@@ -14,9 +16,11 @@ mod shared_input;
 
 use crate::faults::FlowFault;
 use crate::slots::ensure_slots;
-use crate::tools::paste::serial::{ColumnPos, start_cell};
-use crate::tools::paste::shared_input::{shared_cycle, write_buffered_rows};
-use ptlangs::delims::Delims;
+use crate::tools::paste::buffered_rows::{
+    BegunRow, RowFormat, byte_after, copy_columns, copy_rows, copy_slot, move_to_front,
+};
+use crate::tools::paste::serial::OutBuf;
+use crate::tools::paste::shared_input::{shared_cycle, write_shared_rows};
 use ptlangs::jobs::PasteJob;
 use ptlines::{LineFault, LineReader, Out, Sink, Source, Store, WriteFault};
 use std::alloc::Allocator;
@@ -35,57 +39,122 @@ fn set_terminators<S: Source, R: Source>(
     }
 }
 
-// Reads the next line of each column into the column's slot, or clears the slot if the reader is at the end of its
-// input. Returns whether any column got a line. Before a read that may block, the buffered output is written out.
-fn fill_row<A: Allocator + Copy, S: Source, R: Source, W: Sink>(
-    cells: &[usize],
-    readers: &mut [LineReader<S, R>],
+// Reads the next line of a reader into the slot of a column, or clears the slot if the reader is at the end of its
+// input. Returns whether there was a line. Before a read that may block, the buffered output is written out.
+fn fill_cell<A: Allocator + Copy, S: Source, R: Source, W: Sink>(
+    input: usize,
+    column: usize,
+    reader: &mut LineReader<S, R>,
     store: &mut Store<A>,
     out: &mut Out<W>,
 ) -> Result<bool, FlowFault>
-    requires cells { FillRowPre cells.now readers.old store.old }
+    requires readable { reader.old.fault ≡ None }
+    requires slot { column < length store.old.lines }
     requires clean { out.old.write_failed ≡ false }
-    ensures fills { FillRowPost cells.now readers.old readers.new store.old store.new result }
+    ensures fills { FillCellPost input column reader.old reader.new store.old store.new result }
+    ensures slots { length store.new.lines ≡ length store.old.lines }
     ensures wrote { PushEffect out.old out.new [] }
     ensures write_failed { out.new.write_failed ≡ is_write_fault result }
 {
-    let mut any_line = false;
-    for (column, input) in cells.iter().enumerate() {
-        let reader = &mut readers[*input];
-        reader.write_out_before_blocking(out)?;
-        let has_line = match reader.fill(store, column) {
-            Ok(has_line) => has_line,
-            Err(LineFault::Read) => return Err(FlowFault::Read(*input)),
-            Err(LineFault::Memory) => return Err(FlowFault::Memory),
-        };
-        any_line |= has_line;
+    reader.write_out_before_blocking(out)?;
+    match reader.fill(store, column) {
+        Ok(has_line) => Ok(has_line),
+        Err(LineFault::Read) => Err(FlowFault::Read(input)),
+        Err(LineFault::Memory) => Err(FlowFault::Memory),
     }
-    Ok(any_line)
 }
 
-// Writes a row of `cells.len()` columns, whose lines are in the first slots of the store.
-fn write_row<A: Allocator + Copy, B: Allocator, W: Sink>(
-    delims: &Delims<B>,
-    terminator: u8,
-    cells: &[usize],
+// Finishes a begun row. A line that is not complete in the buffer of its reader is read into the slot of its column, and
+// copied from there. Once a line does not fit, it and those of all further columns stay in their slots.
+fn fill_row<A: Allocator + Copy, S: Source, R: Source, W: Sink>(
+    row: RowFormat,
+    begun: BegunRow,
+    readers: &mut [LineReader<S, R>],
+    into: &mut OutBuf,
+    store: &mut Store<A>,
+    out: &mut Out<W>,
+) -> Result<BegunRow, FlowFault>
+    requires readable { BufferedRowsPre row.terminator row.cells.now readers.old }
+    requires within { begun.count ≤ length row.cells.now }
+    requires slots { length row.cells.now ≤ length store.old.lines }
+    requires clean { out.old.write_failed ≡ false }
+    ensures fills { FillRowPost row.entry.terminator row.entry.delims.now row.entry.cells.now begun readers.old readers.new store.old store.new
+        into.old into.new result }
+    ensures wrote { PushEffect out.old out.new [] }
+    ensures write_failed { out.new.write_failed ≡ is_write_fault result }
+{
+    let mut begun = begun;
+    let mut column = begun.count;
+    'cells: while column < row.cells.len() {
+        let input = row.cells[column];
+        let has_line = fill_cell(input, column, &mut readers[input], store, out)?;
+        let filled = BegunRow {
+            count: begun.count,
+            end: begun.end,
+            any_line: begun.any_line | has_line,
+        };
+        match copy_slot(row, column, store.line(column), into, filled) {
+            Some(next) => begun = copy_columns(row, readers, into, next),
+            None => {
+                begun = filled;
+                column += 1;
+                continue;
+            }
+        }
+        column = begun.count;
+    }
+    Ok(begun)
+}
+
+// Writes the line in the slot of a column, and the byte after it.
+fn write_slot<A: Allocator + Copy, W: Sink>(
+    row: RowFormat,
+    column: usize,
     store: &Store<A>,
     out: &mut Out<W>,
 ) -> Result<(), WriteFault>
-    requires slots { length cells.now ≤ length store.now.lines }
-    requires clean { out.old.write_failed ≡ false }
-    ensures { PushPost out.old out.new (join_with_cycle delims.now 0 (take (length cells.now) store.now.lines) ++ terminator ∷ [])
-        result }
+    requires low { column < length row.cells.now }
+    requires slots { length row.cells.now ≤ length store.now.lines }
+    ensures { PushPost out.old out.new
+        (line store.now column ++ after_cell row.entry.terminator row.entry.delims.now (length row.entry.cells.now) column) result }
 {
-    let mut cell = ColumnPos {
-        number: 0,
-        complete: false,
-    };
-    for column in 0..cells.len() {
-        cell = start_cell(delims, cell, out)?;
-        out.push(store.line(column))?;
-        cell.complete = true;
+    let line = store.line(column);
+    match byte_after(row, column, column % row.delims.len()) {
+        Some(byte) => out.push_line(b"", line, &[byte]),
+        None => out.push_line(b"", line, b""),
     }
-    out.push(&[terminator])
+}
+
+// Writes a row, of which the first columns were copied, and the lines of the others are in their slots.
+fn write_row<A: Allocator + Copy, W: Sink>(
+    row: RowFormat,
+    begun: BegunRow,
+    into: &OutBuf,
+    store: &Store<A>,
+    out: &mut Out<W>,
+) -> Result<(), WriteFault>
+    requires within { begun.count ≤ length row.cells.now }
+    requires slots { length row.cells.now ≤ length store.now.lines }
+    requires clean { out.old.write_failed ≡ false }
+    ensures { PushPost out.old out.new (take begun.end into.now
+        ++ cells_text row.entry.terminator row.entry.delims.now (length row.entry.cells.now) begun.count
+            (drop begun.count (take (length row.entry.cells.now) store.now.lines))) result }
+{
+    out.push(&into[..begun.end])?;
+    for column in begun.count..row.cells.len() {
+        write_slot(row, column, store, out)?;
+    }
+    Ok(())
+}
+
+// Clears the slots of all columns.
+fn clear_slots<A: Allocator + Copy>(cells: &[usize], store: &mut Store<A>)
+    requires { length cells.now ≤ length store.old.lines }
+    ensures { ClearSlotsPost cells.now store.old store.new }
+{
+    for column in 0..cells.len() {
+        store.clear(column);
+    }
 }
 
 /// Merges corresponding lines of several inputs (POSIX.1-2017, XCU, `paste`, without option `-s`): row r has the next
@@ -95,10 +164,10 @@ fn write_row<A: Allocator + Copy, B: Allocator, W: Sink>(
 /// at the end of its input gives empty fields, and there are rows until all readers are. Rows end with newline, or with
 /// byte 0 with `-z`, an extension of POSIX.
 ///
-/// A row of at most 8,192 bytes is copied from the buffers of the readers, if all of its lines are complete there and
-/// there are at most 16 readers. If at most 64 columns all read one input, and no delimiter between them is empty, all
-/// complete rows in its buffer are written at once. Any other row is read line by line into the slots of the store, one
-/// for each column; missing slots are added before anything is read.
+/// Lines that are complete in the buffers of the readers are copied from there. Any other line is read into a slot of
+/// the store, one for each column, and copied from the slot if the first 8,192 bytes of its row have room for it.
+/// Missing slots are added before anything is read. If at most 64 columns all read one input, and no delimiter between
+/// them is empty, all complete rows in its buffer are written at once.
 ///
 /// A row is written before 16,384 more bytes of any of its inputs are read. Not proved but tested: it is written before
 /// anything more is read, nothing of it is written before all of its lines are known, and the buffered output is
@@ -127,22 +196,22 @@ pub fn paste<A: Allocator + Copy, B: Allocator + Copy, S: Source, R: Source, W: 
     ensure_slots(store, cells.len())?;
     let terminator = if job.zero { 0 } else { b'\n' };
     let cycle = shared_cycle(&job.delims, terminator, cells);
+    let row = RowFormat {
+        delims: job.delims.as_slice(),
+        terminator,
+        cells,
+    };
     let mut buffer = [0; 8208];
     'rows: loop {
-        if write_buffered_rows(
-            &cycle,
-            &job.delims,
-            terminator,
-            cells,
-            readers,
-            &mut buffer,
-            out,
-        )? {
-            continue;
-        }
-        if !fill_row(cells, readers, store, out)? {
+        write_shared_rows(&cycle, row, readers, &mut buffer, out)?;
+        let copied = copy_rows(row, readers, &mut buffer);
+        out.push(&buffer[..copied.end])?;
+        let begun = move_to_front(copied, &mut buffer);
+        let filled = fill_row(row, begun, readers, &mut buffer, store, out)?;
+        if !filled.any_line {
+            clear_slots(cells, store);
             return Ok(());
         }
-        write_row(&job.delims, terminator, cells, store, out)?;
+        write_row(row, filled, &buffer, store, out)?;
     }
 }

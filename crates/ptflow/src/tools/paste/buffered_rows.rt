@@ -1,73 +1,90 @@
-//! Rows of `paste` whose lines are all complete in the buffers of their readers, or missing because the input has
-//! ended: they are copied from there, without the store. Used by `paste`.
+//! Rows of `paste` from the buffers of the readers: each line that is complete there is copied to a buffer for output,
+//! without the store, and after it the byte that follows its column. Used by `paste`.
 
-ghost use Rattle.std.specs.Prelude.{◌≡◌, ◌≢◌, ◌<◌, ◌≤◌, ◌+◌, ◌++◌, length, take, slice_index_or, Some, IfNone, IfSome};
+ghost use Rattle.std.specs.Prelude.{◌≡◌, ◌<◌, ◌≤◌, ◌+◌, ◌%◌, ◌++◌, false, length, take, drop, option_to_list, IfNone, IfSome};
 ghost use Rattle.memchr.specs.Find.{IsFirstByte, is_byte};
-ghost use Rattle.ptlangs.specs.DelimLists.{delim_at};
-ghost use Rattle.ptflow.specs.Private.Paste.SerialRest.{leading_delimiter};
-ghost use Rattle.ptflow.specs.Private.Paste.BufferedRows.{position_before, BufferedRowsPre, HaveBuffered, AreConsumed, CopyPairRowPost, CopyRowPost, CopyRowsPost, WriteRowsPost};
+ghost use Rattle.ptlines.specs.Readers.{IsSound};
+ghost use Rattle.ptflow.specs.Private.Paste.RowCells.{after_cell};
+ghost use Rattle.ptflow.specs.Private.Paste.BufferedRows.{BufferedRowsPre, CopyCellPost, CopyColumnsPost, CopyRowsPost};
 
 use crate::tools::paste::serial::OutBuf;
-use ptlangs::delims::Delims;
-use ptlines::{LineReader, Out, Sink, Source, WriteFault, copy_short, find_byte, find_in_chunk};
-use std::alloc::Allocator;
+use ptlines::{LineReader, Source, copy_short, find_byte, find_in_chunk};
 use std::simd::prelude::*;
 
-// For each of at most 16 readers, by its index: the number of bytes that the copied rows use.
-type Consumed = [u16; 16];
-
-// The number of bytes of an `OutBuf` that are in use.
+// The columns of a row: the index of the reader of each, the list of delimiters, and the terminator of lines and rows.
 #[derive(Clone, Copy)]
-struct Filled {
-    end: usize,
+pub(crate) struct RowFormat<'a> {
+    pub delims: &'a [Option<u8>],
+    pub terminator: u8,
+    pub cells: &'a [usize],
+    ghost some: { 0 < length delims.now },
+}
+
+// A row of which the first `count` columns were copied, up to `end`, and whether any of its columns has a line so far.
+#[derive(Clone, Copy)]
+pub(crate) struct BegunRow {
+    pub count: usize,
+    pub end: usize,
+    pub any_line: bool,
     ghost size_bound: { end ≤ 8192 },
 }
 
-// The columns of a row and their readers, at most 16, with the delimiters between the columns and the terminator of the
-// row.
-#[derive(Drop)]
-struct BufferedRow<'a, A: Allocator, S: Source, R: Source> {
-    delims: &'a Delims<A>,
-    terminator: u8,
-    cells: &'a [usize],
-    readers: &'a [LineReader<S, R>],
-    ghost few: { length readers.now ≤ 16 },
-    ghost readable: { BufferedRowsPre terminator cells.now readers.now },
+// Rows that were copied up to `end`, and a begun row after them.
+#[derive(Clone, Copy)]
+pub(crate) struct CopiedRows {
+    pub end: usize,
+    pub begun: BegunRow,
+    ghost order: { end ≤ begun.end },
 }
 
-// The delimiter after a column. Needs no division if the list is long enough.
+// The byte after a column: the delimiter with this index in the list, or after the last column the terminator.
 #[inline(always)]
-fn delimiter_after<A: Allocator>(delims: &Delims<A>, column: usize) -> Option<u8>
-    ensures { result ≡ delim_at delims.now column }
+pub(crate) fn byte_after(row: RowFormat, column: usize, index: usize) -> Option<u8>
+    requires low { column < length row.cells.now }
+    requires index { index ≡ column % length row.delims.now }
+    ensures { option_to_list result ≡ after_cell row.entry.terminator row.entry.delims.now (length row.entry.cells.now) column }
 {
-    let list = delims.as_slice();
-    if column < list.len() {
-        return list[column];
+    if column + 1 == row.cells.len() {
+        return Some(row.terminator);
     }
-    delims.at(column as u64)
+    row.delims[index]
 }
 
-// Copies the delimiter before a column, if there is one. Returns the offset after it.
+// Copies the byte after a column to `at`. Returns the offset after it.
 #[inline(always)]
-fn copy_leading_delimiter<A: Allocator>(
-    delims: &Delims<A>,
+fn copy_byte_after(
+    row: RowFormat,
     column: usize,
+    index: usize,
     into: &mut OutBuf,
-    filled: Filled,
+    at: usize,
 ) -> usize
-    ensures copied { take result into.new ≡ take filled.end into.old ++ leading_delimiter delims.now (position_before column) }
-    ensures size_bound { (filled.end ≤ result) × (result ≤ filled.end + 1) }
+    requires low { column < length row.cells.now }
+    requires index { index ≡ column % length row.delims.now }
+    requires room { at < 8192 }
+    ensures copied { take result into.new
+        ≡ take at into.old ++ after_cell row.entry.terminator row.entry.delims.now (length row.entry.cells.now) column }
+    ensures size_bound { (at ≤ result) × (result ≤ 8192) }
 {
-    if column == 0 {
-        return filled.end;
-    }
-    match delimiter_after(delims, column - 1) {
+    match byte_after(row, column, index) {
         Some(byte) => {
-            into[filled.end] = byte;
-            filled.end + 1
+            into[at] = byte;
+            at + 1
         }
-        None => filled.end,
+        None => at,
     }
+}
+
+// The index of the next delimiter in a list of `count`.
+#[inline(always)]
+fn next_index(index: usize, count: usize) -> usize
+    requires { index < count }
+    ensures { result ≡ (index + 1) % count }
+{
+    if index + 1 == count {
+        return 0;
+    }
+    index + 1
 }
 
 // Copies the first `N` bytes to `at`.
@@ -136,198 +153,145 @@ fn copy_line(terminator: u8, bytes: &[u8], into: &mut OutBuf, at: usize) -> Opti
     copy_line_long(terminator, bytes, into, at)
 }
 
-// Copies the next row, and adds the bytes that it uses to `consumed`. A reader that is at the end of its input, and of
-// which all bytes are consumed, gives an empty field. Returns the new length of the copy; `None` if the row does not
-// fit, if a line is not complete in its buffer, or if all readers have ended.
+// Copies the next line of a reader to `at` and consumes it. A reader that is at the end of its input gives an empty
+// field. Returns the offset after the field, and whether it is a line; `None` if the line is not complete in the buffer
+// or does not fit, and then nothing is consumed.
 #[inline(always)]
-fn copy_row<A: Allocator, S: Source, R: Source>(
-    row: &BufferedRow<A, S, R>,
-    consumed: &mut Consumed,
-    into: &mut OutBuf,
-    filled: Filled,
-) -> Option<Filled>
-    requires { HaveBuffered row.now.readers.now consumed.old }
-    ensures progress { IfSome result (λ next. filled.end < next.end) }
-    ensures row { IfSome result
-        (λ next. CopyRowPost row.now.terminator row.now.delims.now row.now.cells.now row.now.readers.now consumed.old consumed.new
-        (take filled.end into.old) (take next.end into.new)) }
-    ensures prefix_kept { take filled.end into.new ≡ take filled.end into.old }
-{
-    let cells = row.cells;
-    let readers = row.readers;
-    let terminator = row.terminator;
-    let mut end = filled.end;
-    let mut any_line = false;
-    for (column, input) in cells.iter().enumerate() {
-        let from = copy_leading_delimiter(row.delims, column, into, Filled { end });
-        let reader = &readers[*input];
-        let begin = consumed[*input] as usize;
-        let rest = &reader.buffered()[begin..];
-        // (If an empty field does not fit, `copy_line` fails, and there is no row.)
-        if rest.is_empty() && reader.at_eof() && from < 8192 {
-            end = from;
-            continue;
-        }
-        let count = copy_line(terminator, rest, into, from)?;
-        end = from + count;
-        consumed[*input] = (begin + (count + 1)) as u16;
-        any_line = true;
-    }
-    if !any_line {
-        return None;
-    }
-    into[end] = terminator;
-    Some(Filled { end: end + 1 })
-}
-
-// Copies the next row of two columns, whose lines are at the start of `first` and `second`. Returns the lengths of the
-// lines and the new length of the copy; `None` if a line is not complete, or if the row does not fit.
-#[inline(always)]
-fn copy_pair_row<A: Allocator>(
-    delims: &Delims<A>,
+fn copy_cell<S: Source, R: Source>(
     terminator: u8,
-    first: &[u8],
-    second: &[u8],
+    reader: &mut LineReader<S, R>,
     into: &mut OutBuf,
-    filled: Filled,
-) -> Option<(usize, usize, Filled)>
-    ensures row { IfSome result (λ lengths. CopyPairRowPost terminator delims.now first.now second.now lengths.0 lengths.1
-        (take filled.end into.old) (take lengths.2.end into.new)) }
-    ensures progress { IfSome result (λ lengths. filled.end < lengths.2.end) }
-    ensures prefix_kept { IfNone result (take filled.end into.new ≡ take filled.end into.old) }
+    at: usize,
+) -> Option<(usize, bool)>
+    ensures cell { IfSome result (λ cell. CopyCellPost terminator reader.old reader.new (take at into.old) (take cell.0 into.new) cell.1) }
+    ensures size_bound { IfSome result (λ cell. (at ≤ cell.0) × (cell.0 < 8192)) }
+    ensures none { IfNone result (reader.new ≡ reader.old) }
+    ensures prefix_kept { take at into.new ≡ take at into.old }
+    ensures was_sound { IsSound reader.old }
 {
-    let count = copy_line(terminator, first, into, filled.end)?;
-    let after_first = filled.end + count;
-    let from = copy_leading_delimiter(delims, 1, into, Filled { end: after_first });
-    let other = copy_line(terminator, second, into, from)?;
-    into[from + other] = terminator;
-    let end = from + other + 1;
-    Some((count, other, Filled { end }))
+    let rest = reader.buffered();
+    if rest.is_empty() && reader.at_eof() && at < 8192 {
+        return Some((at, false));
+    }
+    let count = copy_line(terminator, rest, into, at)?;
+    reader.consume(count + 1);
+    Some((at + count, true))
 }
 
-// Copies complete rows while there are any and they fit. Returns the length of the copy, and how many bytes of each
-// reader it uses. Out of line so that the loop has all registers, and `row` by value so that its fields are not
-// reloaded in the loop.
-#[inline(never)]
-fn copy_rows<A: Allocator, S: Source, R: Source>(
-    row: BufferedRow<A, S, R>,
-    into: &mut OutBuf,
-) -> (Filled, Consumed)
-    ensures buffered { HaveBuffered row.entry.readers.now result.1 }
-    ensures rows { CopyRowsPost row.entry.terminator row.entry.delims.now row.entry.cells.now row.entry.readers.now result.1
-        (take result.0.end into.new) }
-{
-    let mut consumed: Consumed = [0; 16];
-    let mut filled = Filled { end: 0 };
-    'rows: loop {
-        let before = consumed;
-        match copy_row(&row, &mut consumed, into, filled) {
-            Some(next) => filled = next,
-            None => return (filled, before),
-        }
-    }
-}
-
-// Like `copy_rows`, for two columns with different readers: the numbers of bytes used stay in registers. Out of line
-// for the same reason.
-#[inline(never)]
-fn copy_pair_rows<A: Allocator, S: Source, R: Source>(
-    row: BufferedRow<A, S, R>,
-    into: &mut OutBuf,
-) -> (Filled, Consumed)
-    requires { (length row.cells.now ≡ 2) × (slice_index_or row.cells.now 0 0 ≢ slice_index_or row.cells.now 1 0) }
-    ensures buffered { HaveBuffered row.entry.readers.now result.1 }
-    ensures rows { CopyRowsPost row.entry.terminator row.entry.delims.now row.entry.cells.now row.entry.readers.now result.1
-        (take result.0.end into.new) }
-{
-    let cells = row.cells;
-    let readers = row.readers;
-    let delims = row.delims;
-    let terminator = row.terminator;
-    let first = readers[cells[0]].buffered();
-    let second = readers[cells[1]].buffered();
-    // An empty buffer may be at the end of its input, which only `copy_rows` handles.
-    if first.is_empty() || second.is_empty() {
-        return copy_rows(row, into);
-    }
-    let mut consumed_first = 0;
-    let mut consumed_second = 0;
-    let mut filled = Filled { end: 0 };
-    'rows: while let Some((count, other, next)) = copy_pair_row(
-        delims,
-        terminator,
-        &first[consumed_first..],
-        &second[consumed_second..],
-        into,
-        filled,
-    ) {
-        consumed_first += count + 1;
-        consumed_second += other + 1;
-        filled = next;
-    }
-    let mut consumed: Consumed = [0; 16];
-    consumed[cells[0]] = consumed_first as u16;
-    consumed[cells[1]] = consumed_second as u16;
-    (filled, consumed)
-}
-
-// Like `copy_rows`; uses `copy_pair_rows` if there are two columns with different readers.
+// Copies the next columns of a begun row, each with the byte after it, up to the end of the row or to the first column
+// whose line is not complete in the buffer or does not fit.
 #[inline(always)]
-fn copy_buffered_rows<A: Allocator, S: Source, R: Source>(
-    row: BufferedRow<A, S, R>,
-    into: &mut OutBuf,
-) -> (Filled, Consumed)
-    ensures buffered { HaveBuffered row.entry.readers.now result.1 }
-    ensures rows { CopyRowsPost row.entry.terminator row.entry.delims.now row.entry.cells.now row.entry.readers.now result.1
-        (take result.0.end into.new) }
-{
-    let cells = row.cells;
-    if cells.len() == 2 && cells[0] != cells[1] {
-        return copy_pair_rows(row, into);
-    }
-    copy_rows(row, into)
-}
-
-// Consumes the given number of bytes from each reader.
-#[inline(always)]
-fn advance_readers<S: Source, R: Source>(readers: &mut [LineReader<S, R>], consumed: &Consumed)
-    requires few { length readers.old ≤ 16 }
-    requires buffered { HaveBuffered readers.old consumed.now }
-    ensures { AreConsumed consumed.now readers.old readers.new }
-{
-    for input in 0..readers.len() {
-        readers[input].consume(consumed[input] as usize);
-    }
-}
-
-// Writes all next rows that are complete in the buffers and fit in one block. Returns false, and has no effect, if not
-// even one row is complete.
-#[inline(always)]
-pub(crate) fn write_rows_by_cell<A: Allocator, S: Source, R: Source, W: Sink>(
-    delims: &Delims<A>,
-    terminator: u8,
-    cells: &[usize],
+pub(crate) fn copy_columns<S: Source, R: Source>(
+    row: RowFormat,
     readers: &mut [LineReader<S, R>],
     into: &mut OutBuf,
-    out: &mut Out<W>,
-) -> Result<bool, WriteFault>
-    requires { BufferedRowsPre terminator cells.now readers.old }
-    ensures { WriteRowsPost terminator delims.now cells.now readers.old readers.new out.old out.new result }
+    begun: BegunRow,
+) -> BegunRow
+    requires readable { BufferedRowsPre row.terminator row.cells.now readers.old }
+    requires within { begun.count ≤ length row.cells.now }
+    ensures cells { CopyColumnsPost row.entry.terminator row.entry.delims.now row.entry.cells.now begun.count begun.any_line readers.old readers.new
+        result.count result.any_line (take begun.end into.old) (take result.end into.new) }
+    ensures within { (result.count ≤ length row.entry.cells.now) × (begun.end ≤ result.end) }
 {
-    if readers.len() > 16 {
-        return Ok(false);
-    }
-    let row = BufferedRow {
+    let RowFormat {
         delims,
         terminator,
         cells,
-        readers,
-    };
-    let (filled, consumed) = copy_buffered_rows(row, into);
-    if filled.end == 0 {
-        return Ok(false);
+    } = row;
+    let mut end = begun.end;
+    let mut any_line = begun.any_line;
+    let mut index = begun.count % delims.len();
+    for column in begun.count..cells.len() {
+        let input = cells[column];
+        match copy_cell(terminator, &mut readers[input], into, end) {
+            Some((at, has_line)) => {
+                any_line |= has_line;
+                end = copy_byte_after(row, column, index, into, at);
+            }
+            None => {
+                return BegunRow {
+                    count: column,
+                    end,
+                    any_line,
+                };
+            }
+        }
+        index = next_index(index, delims.len());
     }
-    advance_readers(readers, &consumed);
-    out.push(&into[..filled.end])?;
-    Ok(true)
+    BegunRow {
+        count: cells.len(),
+        end,
+        any_line,
+    }
+}
+
+// Copies rows while all of their lines are complete in the buffers and fit, and the first columns of the next row. Out
+// of line, so that the loop has all registers. If all readers have ended, the begun row has all columns and no line.
+#[inline(never)]
+pub(crate) fn copy_rows<S: Source, R: Source>(
+    row: RowFormat,
+    readers: &mut [LineReader<S, R>],
+    into: &mut OutBuf,
+) -> CopiedRows
+    requires { BufferedRowsPre row.terminator row.cells.now readers.old }
+    ensures rows { CopyRowsPost row.entry.terminator row.entry.delims.now row.entry.cells.now readers.old readers.new result.begun.count
+        result.begun.any_line (take result.end into.new) (drop result.end (take result.begun.end into.new)) }
+    ensures within { result.begun.count ≤ length row.entry.cells.now }
+{
+    let mut end = 0;
+    'rows: loop {
+        let start = BegunRow {
+            count: 0,
+            end,
+            any_line: false,
+        };
+        let begun = copy_columns(row, readers, into, start);
+        if begun.count < row.cells.len() || !begun.any_line {
+            return CopiedRows { end, begun };
+        }
+        end = begun.end;
+    }
+}
+
+// Moves the begun row to the start of the buffer.
+pub(crate) fn move_to_front(copied: CopiedRows, into: &mut OutBuf) -> BegunRow
+    ensures moved { take result.end into.new ≡ drop copied.end (take copied.begun.end into.old) }
+    ensures same { (result.count ≡ copied.begun.count) × (result.any_line ≡ copied.begun.any_line) }
+{
+    let begun = copied.begun;
+    into.copy_within(copied.end..begun.end, 0);
+    BegunRow {
+        count: begun.count,
+        end: begun.end - copied.end,
+        any_line: begun.any_line,
+    }
+}
+
+// Copies the line of a column, and the byte after it, to the end of a begun row. Returns `None` if an earlier column was
+// not copied, or if the line does not fit; then nothing is copied.
+pub(crate) fn copy_slot(
+    row: RowFormat,
+    column: usize,
+    line: &[u8],
+    into: &mut OutBuf,
+    begun: BegunRow,
+) -> Option<BegunRow>
+    requires { column < length row.cells.now }
+    ensures copied { IfSome result (λ next. take next.end into.new
+        ≡ take begun.end into.old ++ (line.now ++ after_cell row.entry.terminator row.entry.delims.now (length row.entry.cells.now) column)) }
+    ensures same { IfSome result
+        (λ next. (begun.count ≡ column) × (next.count ≡ column + 1) × (next.any_line ≡ begun.any_line)) }
+    ensures none { IfNone result (into.new ≡ into.old) }
+{
+    if begun.count != column || line.len() >= 8192 - begun.end {
+        return None;
+    }
+    copy_short(line, 0, line.len(), into, begun.end);
+    let end = begun.end + line.len();
+    let index = column % row.delims.len();
+    Some(BegunRow {
+        count: column + 1,
+        end: copy_byte_after(row, column, index, into, end),
+        any_line: begun.any_line,
+    })
 }

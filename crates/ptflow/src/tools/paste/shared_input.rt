@@ -1,17 +1,17 @@
 //! Rows of `paste` whose columns all read one input, as in `paste - - -`: a block of complete rows is copied, and its
 //! terminators are replaced by the delimiters in turn. Used by `paste`.
 
-ghost use Rattle.std.specs.Prelude.{◌≡◌, ◌<◌, ◌≤◌, ◌+◌, ◌-◌, IfSome, length, slice_index_or, take};
+ghost use Rattle.std.specs.Prelude.{◌≡◌, ◌<◌, ◌≤◌, ◌+◌, ◌-◌, IfSome, OnErr, OnOk, false, true, length, slice_index_or, take};
 ghost use Rattle.std.specs.List.{count_by};
 ghost use Rattle.memchr.specs.Find.{is_byte};
 ghost use Rattle.ptlines.specs.Readers.{IsSound};
 ghost use Rattle.ptflow.specs.Private.Paste.SharedInput.{IsSharedCycle, IsWholeRows, IsUnrolled};
 ghost use Rattle.ptflow.specs.Private.Paste.SerialRest.{with_cycle};
-ghost use Rattle.ptflow.specs.Private.Paste.BufferedRows.{BufferedRowsPre, WriteRowsPost};
+ghost use Rattle.ptflow.specs.Private.Paste.BufferedRows.{BufferedRowsPre, RowsWritten};
 
 use crate::simd::cycle::{CycleTables, UnrolledCycle, replace_unrolled, unroll};
 use crate::simd::find_nth::nth_index;
-use crate::tools::paste::buffered_rows::write_rows_by_cell;
+use crate::tools::paste::buffered_rows::RowFormat;
 use crate::tools::paste::serial::OutBuf;
 use arrayvec::ArrayVec;
 use memchr::memrchr;
@@ -120,31 +120,31 @@ fn copy_shared_rows<S: Source, R: Source>(
     rows_end(terminator, bytes, number % cycle.len() as u64)
 }
 
-// Writes the next rows from the buffers of the readers: all complete rows if the columns share one reader, else as
-// `write_rows_by_cell` does. Returns false, and has no effect, if not even one row is complete.
-pub(crate) fn write_buffered_rows<A: Allocator, S: Source, R: Source, W: Sink>(
+// Writes all complete rows in the buffer of the reader that all columns share. Without a cycle, since they do not share
+// one, it does nothing.
+pub(crate) fn write_shared_rows<S: Source, R: Source, W: Sink>(
     cycle: &Option<DelimiterCycle>,
-    delims: &Delims<A>,
-    terminator: u8,
-    cells: &[usize],
+    row: RowFormat,
     readers: &mut [LineReader<S, R>],
     into: &mut OutBuf,
     out: &mut Out<W>,
-) -> Result<bool, WriteFault>
-    requires is_cycle { IfSome cycle.now (λ t. IsSharedCycle delims.now cells.now t.list.items
-        × (t.terminator ≡ terminator)) }
-    requires readable { BufferedRowsPre terminator cells.now readers.old }
-    ensures { WriteRowsPost terminator delims.now cells.now readers.old readers.new out.old out.new result }
+) -> Result<(), WriteFault>
+    requires is_cycle { IfSome cycle.now (λ t. IsSharedCycle row.delims.now row.cells.now t.list.items
+        × (t.terminator ≡ row.terminator)) }
+    requires readable { BufferedRowsPre row.terminator row.cells.now readers.old }
+    requires clean { out.old.write_failed ≡ false }
+    ensures rows { RowsWritten row.entry.terminator row.entry.delims.now row.entry.cells.now readers.old readers.new out.old out.new }
+    ensures clean { OnOk result (out.new.write_failed ≡ false) }
+    ensures fault { OnErr result (out.new.write_failed ≡ true) }
 {
     let Some(cycle) = cycle else {
-        return write_rows_by_cell(delims, terminator, cells, readers, into, out);
+        return Ok(());
     };
-    let input = cells[0];
+    let input = row.cells[0];
     let count = copy_shared_rows(cycle, &readers[input], into);
     if count == 0 {
-        return Ok(false);
+        return Ok(());
     }
     readers[input].consume(count);
-    out.push(&into[..count])?;
-    Ok(true)
+    out.push(&into[..count])
 }

@@ -1,13 +1,12 @@
 -- The rows so far were pushed; the remaining rows are those of the lines still to come, for each continuation of the
 -- inputs.
-use Rattle.ptflow.proofs.Common.{◌≡◌, sum_by, budget, paste_job, terminator}
+use Rattle.ptflow.proofs.Common.{sum_by, budget, paste_job}
 use Rattle.ptflow.proofs.PasteLemmas.Invariant.{PasteInvariant}
 use Rattle.ptflow.proofs.tools.paste.paste.Given as goal
 
 abbrev pub invariant-rows : goal.invariant-rows
 invariant-rows g l = record {
   invariant_holds : PasteInvariant (paste_job l.job) l.cells l.fn.readers l.initial.readers l.readers l.fn.out l.out l.fn.store l.store;
-  ends : l.terminator ≡ terminator l.job.zero;
 }
 
 abbrev pub decreases-rows : goal.decreases-rows

@@ -1,53 +1,98 @@
--- Each step writes one more column. A failed write leaves a prefix of the row.
-use Rattle.ptflow.proofs.Common.{◌≡◌, ℕ, ◌+◌, ◌<◌, ◌≤◌, List, [], ◌∷◌, length, take, drop, get_or, ◌∙◌, ap, arith, length-take-le, drop_more, drop_all, row_from, ColumnPos, err_from_is_err_and}
-use Rattle.std.proofs.lemmas.List.{get_or-take}
-use Rattle.ptflow.proofs.Passes.StepOutput.{partly_starts}
+-- Each step writes the field of one more column. A failed write leaves a prefix of the row.
+use Rattle.ptflow.proofs.Common.{◌≡◌, ℕ, ◌+◌, ◌<◌, ◌≤◌, List, [], ◌∷◌, ◌++◌, Option, length, take, drop, get_or, sym, ◌∙◌, ap, subst, arith, length-take-le, length-drop, take_more, take-append-drop, take-take, drop_all, append-nil, append_assoc}
+use Rattle.ptflow.proofs.Common.{drop-append-le, err_from_is_err_and, Output, PushEffect, push_past_failure, push_trans, after_cell, cells_text}
+use Rattle.std.proofs.lemmas.List.{length-take}
 use Rattle.ptflow.proofs.Passes.Prefix.{push_failed}
-use Rattle.ptflow.proofs.PasteLemmas.SerialRest.{next_position_number}
-use Rattle.ptflow.proofs.PasteLemmas.WriteRow.{row_start, row_delimiter_failed, row_cell_failed, row_more, row_done}
+use Rattle.ptflow.proofs.PasteLemmas.RowCells.{cells_text-append, cells_text-push}
 use Rattle.ptflow.proofs.tools.paste.write_row.Goals as goal
 
--- The lines from one column on.
-from_column : (lines : List (List ℕ)) (count column : ℕ) → count ≤ length lines → column < count → drop column (take count lines) ≡ get_or lines column [] ∷ drop (column + 1) (take count lines)
-from_column lines count column fits low =
-    drop_more (take count lines) column [] (omega (arith, low, length-take-le count lines fits)) ∙ ap (λ (l : List ℕ). l ∷ drop (column + 1) (take count lines)) (get_or-take count lines column [] low)
+module _ (end : ℕ) (delims : List (Option ℕ)) (n first : ℕ) (lines : List (List ℕ)) where
+  -- The text of the fields in the slots before this column.
+  abbrev text_to : ℕ → List ℕ
+  text_to k = cells_text end delims n first (drop first (take k lines))
 
-pub loop-column-init : goal.loop-column-init
-loop-column-init g c = record {
-  amid = partly_starts (row_from c.args.terminator c.args.delims.now) row_start
-      (take (length c.args.cells.now) c.args.store.now.lines) c.args.out.now c.requires.clean;
-  bound = omega arith;
-}
+  text_start : text_to first ≡ []
+  text_start = ap (cells_text end delims n first) (drop_all first (take first lines) (omega (arith, length-take first lines)))
 
-pub returns-in_err-cell : goal.returns-in_err-cell
-returns-in_err-cell g c =
-    let a = rw (from_column c.args.store.now.lines (length c.args.cells.now) c.loop-column.column c.requires.slots c.loop-column-test.true) at c.loop-column.invariant.amid in
-    let e = err_from_is_err_and c.from_residual.result c.from_residual.ensures.1 in
-    push_failed e.1 (row_delimiter_failed c.args.terminator c.args.delims.now a c.start_cell.ensures.wrote c.in_err-cell.ensures.fault) c.in_err-cell.ensures.fault
+  text_more : (k : ℕ) → first ≤ k → k < length lines → text_to (k + 1) ≡ text_to k ++ (get_or lines k [] ++ after_cell end delims n k)
+  text_more k over low =
+      let front = take k lines in
+      let long : length front ≡ k = length-take-le k lines (omega (arith, low)) in
+      ap (cells_text end delims n first) (ap (drop first) (take_more lines k [] low) ∙ drop-append-le first front (get_or lines k [] ∷ []) (omega (arith, long, over)))
+      ∙ cells_text-push end delims n first (drop first front) (get_or lines k []) (omega (arith, over, long, length-drop first front))
+
+  -- The text of further fields.
+  text_rest : (k all : ℕ) → first ≤ k → k ≤ all → all ≤ length lines → (rest : List ℕ) × (text_to all ≡ text_to k ++ rest)
+  text_rest k all over under fits =
+      let front = take k lines in
+      let more = drop k (take all lines) in
+      let long : length front ≡ k = length-take-le k lines (omega (arith, under, fits)) in
+      let split : take all lines ≡ front ++ more = sym (take-append-drop k (take all lines)) ∙ ap (λ (l : List (List ℕ)). l ++ more) (take-take k all lines under) in (
+        cells_text end delims n (first + length (drop first front)) more,
+        ap (cells_text end delims n first) (ap (drop first) split ∙ drop-append-le first front more (omega (arith, long, over)))
+            ∙ cells_text-append end delims n first (drop first front) more,
+      )
+
+part_of_row : (front before piece rest : List ℕ) {next all : List ℕ} → next ≡ before ++ piece → all ≡ next ++ rest → ((front ++ before) ++ piece) ++ rest ≡ front ++ all
+part_of_row front before piece rest a b = rw (b, a) (simp append_assoc)
 
 pub returns-in_err-push : goal.returns-in_err-push
 returns-in_err-push g c =
-    let a = rw (from_column c.args.store.now.lines (length c.args.cells.now) c.loop-column.column c.requires.slots c.loop-column-test.true) at c.loop-column.invariant.amid in
-    let e = err_from_is_err_and c.from_residual-in_err-push.result c.from_residual-in_err-push.ensures.1 in
-    push_failed e.1 (row_cell_failed c.args.terminator c.args.delims.now a c.start_cell.ensures.wrote c.in_ok-cell.ensures.clean (rw c.line.ensures at c.push.ensures.pushed.wrote)
-    c.in_err-push.ensures.pushed.fault) c.in_err-push.ensures.pushed.fault
+    let e = err_from_is_err_and c.from_residual.result c.from_residual.ensures.1 in
+    let row = c.args.row in
+    let all = text_to row.terminator row.delims.now (length row.cells.now) c.args.begun.count c.args.store.now.lines (length row.cells.now) in
+    push_failed e.1 (push_past_failure c.args.out.now c.push.new.self (take c.args.begun.end c.args.into.now) all c.in_err-push.ensures.pushed.fault c.push.ensures.pushed.wrote) c.in_err-push.ensures.pushed.fault
+
+pub loop-column-init : goal.loop-column-init
+loop-column-init g c =
+    let row = c.args.row in
+    let front = take c.args.begun.end c.args.into.now in
+    let none = text_start row.terminator row.delims.now (length row.cells.now) c.args.begun.count c.args.store.now.lines in
+    record {
+      wrote = subst (PushEffect c.args.out.now c.push.new.self) (sym (ap (λ (l : List ℕ). front ++ l) none ∙ append-nil front)) c.push.ensures.pushed.wrote;
+      clean = c.in_ok-push.ensures.pushed.clean;
+      within = c.requires.within;
+    }
+
+pub returns-in_err-write_slot : goal.returns-in_err-write_slot
+returns-in_err-write_slot g c =
+    let e = err_from_is_err_and c.from_residual-in_err-write_slot.result c.from_residual-in_err-write_slot.ensures.1 in
+    let row = c.args.row in
+    let size = length row.cells.now in
+    let first = c.args.begun.count in
+    let lines = c.args.store.now.lines in
+    let k = c.loop-column.column in
+    let front = take c.args.begun.end c.args.into.now in
+    let before = text_to row.terminator row.delims.now size first lines k in
+    let piece = get_or lines k [] ++ after_cell row.terminator row.delims.now size k in
+    let over : first ≤ k = omega (arith, c.loop-column.auto.column) in
+    let more = text_more row.terminator row.delims.now size first lines k over (omega (arith, c.loop-column-test.true, c.requires.slots)) in
+    let rest = text_rest row.terminator row.delims.now size first lines (k + 1) size (omega (arith, over)) (omega (arith, c.loop-column-test.true)) c.requires.slots in
+    let wrote = push_trans c.args.out.now c.loop-column.out c.write_slot.new.out (front ++ before) piece c.loop-column.invariant.clean c.loop-column.invariant.wrote c.write_slot.ensures.wrote in
+    push_failed e.1
+    (subst (PushEffect c.args.out.now c.write_slot.new.out) (part_of_row front before piece rest.0 more rest.1)
+    (push_past_failure c.args.out.now c.write_slot.new.out ((front ++ before) ++ piece) rest.0 c.in_err-write_slot.ensures.fault wrote)) c.in_err-write_slot.ensures.fault
 
 pub loop-column-preserved : goal.loop-column-preserved
 loop-column-preserved g c =
-    let a = rw (from_column c.args.store.now.lines (length c.args.cells.now) c.loop-column.column c.requires.slots c.loop-column-test.true) at c.loop-column.invariant.amid in
-    let number : c.in_ok-cell.cell.number ≡ _ = ap (λ (x : ColumnPos). x.number) c.in_ok-cell.ensures.next_position in
+    let row = c.args.row in
+    let size = length row.cells.now in
+    let first = c.args.begun.count in
+    let lines = c.args.store.now.lines in
+    let k = c.loop-column.column in
+    let front = take c.args.begun.end c.args.into.now in
+    let before = text_to row.terminator row.delims.now size first lines k in
+    let piece = get_or lines k [] ++ after_cell row.terminator row.delims.now size k in
+    let over : first ≤ k = omega (arith, c.loop-column.auto.column) in
+    let more = text_more row.terminator row.delims.now size first lines k over (omega (arith, c.loop-column-test.true, c.requires.slots)) in
     record {
-      amid = rw number (row_more c.args.terminator c.args.delims.now a c.start_cell.ensures.wrote c.in_ok-cell.ensures.clean
-          (rw c.line.ensures at c.push.ensures.pushed.wrote) c.in_ok-push.ensures.pushed.clean);
-      bound = omega (arith, number, next_position_number c.loop-column.cell, c.loop-column.invariant.bound);
+      wrote = subst (PushEffect c.args.out.now c.write_slot.new.out) (append_assoc front before piece ∙ ap (λ (l : List ℕ). front ++ l) (sym more))
+          (push_trans c.args.out.now c.loop-column.out c.write_slot.new.out (front ++ before) piece c.loop-column.invariant.clean c.loop-column.invariant.wrote c.write_slot.ensures.wrote);
+      clean = c.in_ok-write_slot.ensures.clean;
+      within = omega (arith, c.loop-column-test.true);
     }
 
 pub returns : goal.returns
 returns g c =
-    let all = take (length c.args.cells.now) c.args.store.now.lines in
-    let none = drop_all c.loop-column.column all (omega (arith, c.loop-column-test.false, length-take-le (length c.args.cells.now) c.args.store.now.lines c.requires.slots)) in
-    record {
-      wrote = row_done c.args.terminator c.args.delims.now (rw none at c.loop-column.invariant.amid) c.push-2.ensures.pushed.wrote;
-      clean = c.push-2.ensures.pushed.clean;
-      fault = c.push-2.ensures.pushed.fault;
-    }
+    let all : c.loop-column.column ≡ length c.args.row.cells.now = omega (arith, c.loop-column-test.false, c.loop-column.invariant.within) in
+    record { wrote = rw all at c.loop-column.invariant.wrote; clean = c.loop-column.invariant.clean; fault = tt }

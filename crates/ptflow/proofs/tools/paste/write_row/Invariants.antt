@@ -1,11 +1,11 @@
--- The columns so far were written, each after its delimiter; the others are still to be written.
-use Rattle.ptflow.proofs.Common.{◌≤◌, length, take, drop, row_from}
-use Rattle.ptflow.proofs.Passes.StepOutput.{PartlyWritten}
-use Rattle.ptflow.proofs.PasteLemmas.WriteRow.{row_start}
+-- The copied text was pushed, and then the fields of the columns so far.
+use Rattle.ptflow.proofs.Common.{◌≡◌, ◌≤◌, ◌++◌, false, length, take, drop, PushEffect, cells_text}
 use Rattle.ptflow.proofs.tools.paste.write_row.Given as goal
 
 abbrev pub invariant-loop-column : goal.invariant-loop-column
 invariant-loop-column g l = record {
-  amid : PartlyWritten (row_from l.terminator l.delims) row_start l.cell (take (length l.cells) l.store.lines) (drop l.column (take (length l.cells) l.store.lines)) l.fn.out l.out;
-  bound : l.cell.number ≤ l.column;
+  wrote : PushEffect l.fn.out l.out (take l.fn.begun.end l.into
+      ++ cells_text l.row.terminator l.row.delims.now (length l.row.cells.now) l.fn.begun.count (drop l.fn.begun.count (take l.column l.store.lines)));
+  clean : l.out.write_failed ≡ false;
+  within : l.column ≤ length l.row.cells.now;
 }

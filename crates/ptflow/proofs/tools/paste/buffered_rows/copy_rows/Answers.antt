@@ -1,20 +1,35 @@
--- Each step copies one more row; the loop ends at the first row that cannot be copied, with the counts before it.
-use Rattle.std.proofs.Common.{arith}
-use Rattle.ptflow.proofs.PasteLemmas.BufferedRows.{rows_none, buffered_none, rows_more}
+-- Each step copies one more row. The loop ends at a row that is not complete.
+use Rattle.ptflow.proofs.Common.{◌≡◌, ◌<◌, ◌≤◌, Bool, true, false, not, [], length, refl, sym, arith}
+use Rattle.ptflow.proofs.PasteLemmas.FillRow.{fill_starts}
+use Rattle.ptflow.proofs.PasteLemmas.RowsTaken.{rows_taken_none}
+use Rattle.ptflow.proofs.PasteLemmas.BufferedRows.{consumed_none, consumed_trans, still_readable, rows_and_begun, rows_more}
 use Rattle.ptflow.proofs.tools.paste.buffered_rows.copy_rows.Goals as goal
 
-pub invariant_of-filled : goal.invariant_of-filled
-invariant_of-filled g c = record { size_bound = c.rows.invariant.size_bound }
+has_line : (any_line : Bool) → not any_line ≡ false → any_line ≡ true
+has_line true same = refl
+has_line false same = sym same
 
 pub rows-init : goal.rows-init
-rows-init g c = record { rows = rows_none; holds = buffered_none c.args.row.readers.now; size_bound = omega arith }
+rows-init g c = record { rows = rows_taken_none; consumed = consumed_none; size_bound = omega arith; buffer_size = c.told-into }
+
+pub copy_columns-begun-requires-clause-readable : goal.copy_columns-begun-requires-clause-readable
+copy_columns-begun-requires-clause-readable g c = still_readable c.args.row.terminator c.args.row.cells.now c.rows.invariant.consumed c.requires
+
+pub returns-then-begun-row-clause-rows : goal.returns-then-begun-row-clause-rows
+returns-then-begun-row-clause-rows g c =
+    rows_and_begun c.rows.into c.copy_columns-begun.new.into c.rows.invariant.rows c.rows.invariant.consumed c.copy_columns-begun.ensures.cells
+    c.copy_columns-begun.ensures.within.1 (omega (arith, c.rows.invariant.size_bound))
+
+pub rows-smaller : goal.rows-smaller
+rows-smaller g c = (c.copy_columns-begun.ensures.cells.filled c.rows.readers [] fill_starts).less (has_line _ c.if-not-begun.false)
 
 pub rows-preserved : goal.rows-preserved
-rows-preserved g c = record {
-  rows = rows_more c.rows.invariant.rows c.in-Some.ensures.row;
-  holds = c.in-Some.ensures.row.buffered;
-  size_bound = c.in-Some.next.size_bound;
-}
-
-pub returns-in-None-clause-rows : goal.returns-in-None-clause-rows
-returns-in-None-clause-rows g c = rw c.copy_row.ensures.prefix_kept c.rows.invariant.rows
+rows-preserved g c =
+    let p = c.copy_columns-begun.ensures.cells in
+    record {
+      rows = rows_more c.rows.invariant.rows (still_readable c.args.row.terminator c.args.row.cells.now c.rows.invariant.consumed c.requires) p
+          (omega (arith, c.if-begun-row.false, c.copy_columns-begun.ensures.within)) (has_line _ c.if-not-begun.false);
+      consumed = consumed_trans c.rows.invariant.consumed p.consumed;
+      size_bound = c.copy_columns-begun.result.size_bound;
+      buffer_size = omega (arith, c.copy_columns-begun.auto.into, c.rows.invariant.buffer_size);
+    }

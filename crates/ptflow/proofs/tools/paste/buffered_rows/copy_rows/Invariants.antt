@@ -1,13 +1,14 @@
--- The rows so far were copied, and the bytes that they consume are still in the buffers.
-use Rattle.ptflow.proofs.Common.{◌≤◌, ◌-◌, take, HaveBuffered, CopyRowsPost}
+-- Rows were copied up to `end`, and their lines were consumed. Each row takes a line.
+use Rattle.ptflow.proofs.Common.{◌≡◌, ◌≤◌, length, take, sum_by, budget, AreConsumed, RowsTaken}
 use Rattle.ptflow.proofs.tools.paste.buffered_rows.copy_rows.Given as goal
 
 abbrev pub invariant-rows : goal.invariant-rows
 invariant-rows g l = record {
-  rows : CopyRowsPost l.fn.row.terminator l.fn.row.delims.now l.fn.row.cells.now l.fn.row.readers.now l.consumed (take l.filled.0 l.into);
-  holds : HaveBuffered l.fn.row.readers.now l.consumed;
-  size_bound : l.filled.0 ≤ 8192;
+  rows : RowsTaken l.row.terminator l.row.delims.now l.row.cells.now l.fn.readers l.readers (take l.end l.into);
+  consumed : AreConsumed l.fn.readers l.readers;
+  size_bound : l.end ≤ 8192;
+  buffer_size : length l.into ≡ 8208;
 }
 
 abbrev pub decreases-rows : goal.decreases-rows
-decreases-rows g l = 8192 - l.filled.0
+decreases-rows g l = sum_by budget l.readers

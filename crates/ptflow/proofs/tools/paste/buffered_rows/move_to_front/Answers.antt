@@ -1,0 +1,17 @@
+use Rattle.ptflow.proofs.Common.{◌≡◌, ◌+◌, ◌-◌, ◌≤◌, ℕ, List, length, take, drop, sym, ◌∙◌, ap, arith, length-drop, drop-take}
+use lib.Seq.{paste}
+use Rattle.std.proofs.lemmas.List.Edits.{take-paste}
+use Rattle.ptflow.proofs.tools.paste.buffered_rows.move_to_front.Goals as goal
+
+moved : (at to : ℕ) (bytes : List ℕ) → at ≤ to → to ≤ length bytes → take (to - at) (paste bytes 0 (drop at bytes) (to - at)) ≡ drop at (take to bytes)
+moved at to bytes further fits =
+    let start : to - at ≡ 0 + (to - at) = omega arith in
+    let split : at + (to - at) ≡ to = omega (arith, further) in
+    ap (λ (k : ℕ). take k (paste bytes 0 (drop at bytes) (to - at))) start
+    ∙ take-paste bytes 0 (drop at bytes) (to - at) (omega arith) (omega (arith, length-drop at bytes))
+    ∙ sym (drop-take at (to - at) bytes) ∙ ap (λ (k : ℕ). drop at (take k bytes)) split
+
+pub returns-clause-moved : goal.returns-clause-moved
+returns-clause-moved c =
+    ap (take (c.args.copied.begun.end - c.args.copied.end)) c.copy_within.ensures.after
+    ∙ moved c.args.copied.end c.args.copied.begun.end c.args.into.now c.args.copied.order (omega (arith, c.args.copied.begun.size_bound, c.told-into))

@@ -1,0 +1,17 @@
+use Rattle.ptflow.proofs.Common.{◌≡◌, ◌<◌, ⊎_elim, ℕ, [], get_or-set_same, get_or-set_other, cases_eq, length-set, length, set, ◌∙◌, arith, line}
+use Rattle.ptflow.proofs.PasteLemmas.CellSlots.{slots_bound_line}
+use Rattle.ptflow.proofs.tools.paste.clear_slots.Goals as goal
+
+pub loop-column-preserved : goal.loop-column-preserved
+loop-column-preserved g c =
+    let lines = c.loop-column.store.lines in
+    let n = c.loop-column.column in
+    let inv = c.loop-column.invariant in
+    rw c.clear.ensures (record {
+      empty = λ k under. ⊎_elim
+          (λ same. rw same (get_or-set_same lines n [] [] (omega (arith, c.loop-column-test.true, c.requires, inv.same))))
+          (λ differ. get_or-set_other lines n k [] [] differ ∙ inv.empty k (omega (arith, under, differ)))
+          (cases_eq k n);
+      kept = λ first top before. slots_bound_line (inv.kept first top before) n [] c.loop-column-test.true (omega arith);
+      same = length-set lines n [] ∙ inv.same;
+    })
