@@ -9,14 +9,13 @@ use Rattle.ptopts.specs.View.{command_view}
 use Rattle.ptopts.specs.declared.command.Command as code
 use Rattle.ptopts.specs.declared.fault.UseFault.{UseFault}
 use Rattle.ptext.specs.declared.output.Output.{Output}
-use Rattle.ptext.specs.declared.output.Output.TheVariants.{Standard, File, Closed}
+use Rattle.ptext.specs.declared.output.Output.TheVariants.{File, Closed}
 
--- the state of the sink that a command writes to; no bytes are known of one that must not be written to, and each of its
--- calls fails
-abbrev pub output_state : {W F : Type 0} → (W → SinkState) → (F → SinkState) → Output W F → SinkState
-output_state of_standard of_file (Standard out) = of_standard out.now
-output_state of_standard of_file (File file) = of_file file
-output_state of_standard of_file (Closed failed) = record { accepted = None; failed = failed; unflushed = false; flushes = 0 }
+-- The state of the sink of a command that does not write to standard output. Of one that must not be written to, no
+-- bytes are known, and each of its calls fails.
+abbrev pub output_state : {F : Type 0} → (F → SinkState) → Output F → SinkState
+output_state of_file (File file) = of_file file
+output_state of_file (Closed failed) = record { accepted = None; failed = failed; unflushed = false; flushes = 0 }
 
 -- the name of the output file of a command, if all its inputs could be opened
 abbrev pub output_file : {A : Type 0} → Result (code.Command A) UseFault → List Reader → Option (List ℕ)

@@ -1,1 +1,2 @@
 pub mod CommandOutput
+pub mod Perform

@@ -1,13 +1,17 @@
 //! `perform`, which runs a command over real files, and the reports of runs that cannot start. `main` calls it.
 
-ghost use Rattle.std.specs.Prelude.{◌≡◌, ◌+◌, false, length, All, IfOk, Err, vec_len, option_map};
+ghost use Rattle.std.specs.Prelude.{◌≡◌, ◌+◌, false, [], ◌∷◌, codes, length, All, IfOk, Err, vec_len, option_map};
 ghost use Rattle.std.specs.List.{list_any};
-ghost use Rattle.ptlines.specs.Readers.{Reader};
+ghost use Rattle.ptlines.specs.Readers.{Reader, new_reader, reader_at};
 ghost use Rattle.ptext.specs.CommandOutput.{output_file, has_standard_output, means_standard_output};
+ghost use Rattle.ptext.specs.Perform.{PerformPost, RunInputsPost};
 ghost use Rattle.ptopts.specs.Commands.{command_of_args};
 ghost use Rattle.ptopts.specs.View.{words_view, CommandPost, HasToolName};
 ghost use Rattle.ptrun.specs.SpecOfArgs.{file_count};
 ghost use Rattle.ptrun.specs.Files.{AreNewInputs, IsNewOrUnopened};
+ghost use Rattle.ptrun.specs.MessageWrites.{HasSaid, line_of, texts};
+ghost use Rattle.ptrun.specs.Messages.{memory_message, unopened_message};
+ghost use Rattle.ptrun.specs.Runs.{outcome};
 
 use crate::output::Output;
 use ptlines::{FromRead, FromWrite, LineReader, Sink, Source};
@@ -36,6 +40,8 @@ pub fn perform<'a, R: Files, A: Allocator + Copy, S: Source, W: Sink, E: Sink>(
     requires writable { (W.state out).failed ≡ false }
     requires messages_writable { (E.state messages).failed ≡ false }
     ensures out_unchanged { means_standard_output (command_of_args (words_view words.now)) ≡ false → result.out ≡ out }
+    ensures performed { PerformPost (words_view words.now) (S.state standard) (W.state out) (E.state messages)
+        (result.out ≡ out) (outcome W.state E.state result) }
 {
     let command = Command::read(alloc, words);
     match inputs_of(rt, alloc, &command, standard) {
@@ -61,22 +67,21 @@ fn run_with_inputs<R: Files, A: Allocator + Copy, S: Source, W: Sink, E: Sink>(
     requires writable { (W.state out).failed ≡ false }
     requires messages_writable { (E.state messages).failed ≡ false }
     ensures out_unchanged { means_standard_output (command_of_args (words_view words.now)) ≡ false → result.out ≡ out }
+    ensures performed { RunInputsPost (words_view words.now) inputs.old inputs.new (W.state out) (E.state messages)
+        (result.out ≡ out) (outcome W.state E.state result) }
 {
     if writes_to_stdout(&command) {
-        let mut out = out;
-        let standard: Output<'_, W, FromWrite<R::File>> = Output::Standard(&mut out);
-        let report = without_output(run(alloc, command, words, inputs, standard, messages));
-        return with_output(report, out);
+        return run(alloc, command, words, inputs, out, messages);
     }
-    let output: Output<'_, W, FromWrite<R::File>> = match output_name(&command, inputs) {
+    let output = match output_name(&command, inputs) {
         Some(name) => match fs::create(rt, name) {
             Ok(file) => Output::File(FromWrite::new(file)),
             Err(_) => return report_output_unopened(name, out, messages),
         },
         None => Output::Closed(false),
     };
-    let report = without_output(run(alloc, command, words, inputs, output, messages));
-    with_output(report, out)
+    let report = run(alloc, command, words, inputs, output, messages);
+    replace_output(report, out)
 }
 
 // Returns the name of the file that the command writes to, if all its inputs could be opened.
@@ -117,30 +122,8 @@ fn writes_to_stdout<A: Allocator>(command: &Result<Command<'_, A>, UseFault<'_>>
     }
 }
 
-// Removes the output from a report.
-fn without_output<O: Drop, E>(report: Report<O, E>) -> Report<(), E>
-    ensures status { result.status ≡ report.status }
-    ensures memory { (result.peak ≡ report.peak) × (result.denied ≡ report.denied) }
-    ensures messages { result.messages ≡ report.messages }
-{
-    let Report {
-        status,
-        peak,
-        denied,
-        out: _,
-        messages,
-    } = report;
-    Report {
-        status,
-        peak,
-        denied,
-        out: (),
-        messages,
-    }
-}
-
-// Puts this output into a report.
-fn with_output<W, E>(report: Report<(), E>, out: W) -> Report<W, E>
+// Puts `out` in place of the output of a report.
+fn replace_output<O: Drop, W, E>(report: Report<O, E>, out: W) -> Report<W, E>
     ensures status { result.status ≡ report.status }
     ensures memory { (result.peak ≡ report.peak) × (result.denied ≡ report.denied) }
     ensures out { result.out ≡ out }
@@ -150,7 +133,7 @@ fn with_output<W, E>(report: Report<(), E>, out: W) -> Report<W, E>
         status,
         peak,
         denied,
-        out: (),
+        out: _,
         messages,
     } = report;
     Report {
@@ -173,6 +156,7 @@ fn inputs_of<R: Files, A: Allocator + Copy, S: Source>(
     requires unfailed { (S.state standard).failed ≡ false }
     ensures count { IfOk result (λ inputs. vec_len inputs ≡ file_count command.now + 1) }
     ensures fresh { IfOk result (λ inputs. All IsNewOrUnopened inputs.items) }
+    ensures standard { IfOk result (λ inputs. reader_at inputs.items 0 ≡ new_reader (S.state standard) false) }
 {
     match command {
         Ok(command) => open_inputs(rt, alloc, command.names(), standard),
@@ -191,6 +175,7 @@ fn open_inputs<R: Files, A: Allocator + Copy, S: Source>(
     requires unfailed { (S.state standard).failed ≡ false }
     ensures count { IfOk result (λ inputs. vec_len inputs ≡ length (words_view names.now) + 1) }
     ensures fresh { IfOk result (λ inputs. All IsNewOrUnopened inputs.items) }
+    ensures standard { IfOk result (λ inputs. reader_at inputs.items 0 ≡ new_reader (S.state standard) false) }
 {
     let mut inputs = Vec::new(alloc);
     inputs.push(LineReader::standard(standard))?;
@@ -208,7 +193,9 @@ fn open_inputs<R: Files, A: Allocator + Copy, S: Source>(
 fn report_not_run<W: Sink, E: Sink>(status: u8, parts: &[&str], out: W, messages: E) -> Report<W, E>
     requires { (E.state messages).failed ≡ false }
     ensures status { result.status ≡ status }
+    ensures memory { (result.peak ≡ 0) × (result.denied ≡ false) }
     ensures out { result.out ≡ out }
+    ensures has_said { HasSaid (E.state messages) (E.state result.messages) (line_of (texts parts.now)) }
 {
     let mut messages = messages;
     let _ = say(&mut messages, parts);
@@ -225,7 +212,9 @@ fn report_not_run<W: Sink, E: Sink>(status: u8, parts: &[&str], out: W, messages
 fn report_output_unopened<W: Sink, E: Sink>(name: &str, out: W, messages: E) -> Report<W, E>
     requires { (E.state messages).failed ≡ false }
     ensures status { result.status ≡ 1 }
+    ensures memory { (result.peak ≡ 0) × (result.denied ≡ false) }
     ensures out { result.out ≡ out }
+    ensures has_said { HasSaid (E.state messages) (E.state result.messages) (unopened_message (codes "uniq") name.now) }
 {
     report_not_run(1, &["uniq: ", name, ": cannot be opened"], out, messages)
 }
@@ -234,7 +223,9 @@ fn report_output_unopened<W: Sink, E: Sink>(name: &str, out: W, messages: E) -> 
 pub fn report_no_memory<W: Sink, E: Sink>(out: W, messages: E) -> Report<W, E>
     requires { (E.state messages).failed ≡ false }
     ensures status { result.status ≡ 1 }
+    ensures memory { (result.peak ≡ 0) × (result.denied ≡ false) }
     ensures out { result.out ≡ out }
+    ensures has_said { HasSaid (E.state messages) (E.state result.messages) (memory_message (codes "ptext")) }
 {
     report_not_run(1, &["ptext: out of memory"], out, messages)
 }
@@ -243,7 +234,10 @@ pub fn report_no_memory<W: Sink, E: Sink>(out: W, messages: E) -> Report<W, E>
 pub fn report_not_utf8<W: Sink, E: Sink>(out: W, messages: E) -> Report<W, E>
     requires { (E.state messages).failed ≡ false }
     ensures status { result.status ≡ 2 }
+    ensures memory { (result.peak ≡ 0) × (result.denied ≡ false) }
     ensures out { result.out ≡ out }
+    ensures has_said { HasSaid (E.state messages) (E.state result.messages)
+        (line_of (codes "ptext: a word is not UTF-8" ∷ [])) }
 {
     report_not_run(2, &["ptext: a word is not UTF-8"], out, messages)
 }

@@ -1,9 +1,11 @@
--- Each turn adds one new reader, opened or not, so in the end there is one more reader than names, and none was read.
-use Rattle.std.proofs.Common.{◌≡◌, ◌≤◌, ◌+◌, ℕ, List, [], length, arith, ap, sym, refl, ◌∙◌}
+-- Each turn adds one new reader, opened or not, so in the end there is one more reader than names, and none was read. The
+-- first one stays that of standard input.
+use Rattle.std.proofs.Common.{◌≡◌, ◌≤◌, ◌+◌, ℕ, List, [], ◌∷◌, length, arith, ap, sym, refl, ◌∙◌}
 use Rattle.std.specs.Borrow.{Bor}
-use Rattle.std.proofs.lemmas.List.{length-map}
+use Rattle.std.proofs.lemmas.List.{length-map, get_or_append_left}
 use Rattle.std.proofs.lemmas.List.Elements.{All-nil, All-push}
 use Rattle.std.proofs.lemmas.Bool.{false≢true}
+use Rattle.ptlines.specs.Readers.{no_reader}
 use Rattle.ptlines.specs.Sources.{SourceState}
 use Rattle.ptopts.specs.View.{words_view}
 use Rattle.ptrun.specs.Files.{IsNewOrUnopened}
@@ -20,6 +22,9 @@ loop-name-preserved g c = record {
         | in-Err w ↦ rw
             (w.reader-is, w.refused-reader.ensures) (λ opened. absurd (false≢true (sym opened)))
       ]));
+  standard = rw c.in_ok-push-2.ensures.items
+      (get_or_append_left c.loop-name.inputs.items (c.match-open.reader ∷ []) no_reader 0 (omega (arith, c.loop-name.invariant.count))
+      ∙ c.loop-name.invariant.standard);
 }
 
 pub loop-name-init : goal.loop-name-init
@@ -28,7 +33,11 @@ loop-name-init g c = record {
   fresh = rw (c.in_ok-push.ensures.items, c.new-inputs.ensures.items)
       (All-push IsNewOrUnopened [] c.standard.result (All-nil IsNewOrUnopened)
       (rw c.standard.ensures (λ opened. record { buffered = refl; eof = c.requires.not_eof; pulled = refl; fault = refl })));
+  standard = rw (c.in_ok-push.ensures.items, c.new-inputs.ensures.items) c.standard.ensures;
 }
+
+pub returns-clause-standard : goal.returns-clause-standard
+returns-clause-standard g c = c.loop-name.invariant.standard
 
 -- one reader for each name, and standard input
 count_of_readers : (names : List (Bor (List ℕ))) (count i : ℕ) → count ≡ i + 1 → i ≤ length names → length names ≤ i → count ≡ length (words_view names) + 1
