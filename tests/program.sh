@@ -404,6 +404,42 @@ same "a column of one line of 64 MB" 0
 status=$(cat ended)
 same "one line of 64 MB in series" 0
 
+# The files that are opened: in the order of the words, each operand once, all before anything is written; and the output
+# file of uniq, which is created after its input was opened, and by no other command. (By strace, if it can be used.)
+if strace -qq -o trace "$program" cut -c 1 <empty >out 2>messages; then
+    # opened WANT WORDS..: the names that are opened, each with ! if it can't be and > if it is created, and | once
+    # something was written
+    opened() {
+        wanted=$1
+        shift
+        strace -qq -e trace=open,openat,creat,write -o trace "$program" "$@" <abcd >out 2>messages
+        status=$?
+        awk -F'"' '
+            /^write/ { if (!written) print "|"; written = 1; next }
+            $2 !~ /^\// { print ($3 ~ /O_CREAT/ ? ">" : "") $2 ($3 ~ /= -1/ ? "!" : "") }
+        ' trace | tr '\n' ' ' >out
+        printf '%s' "$wanted" >want.out
+        cp messages want.messages
+        same "opened by $*" "$status"
+    }
+    printf 'a\n' >f
+    printf 'b\n' >g
+    opened 'f g f | ' cut -c 1 f g f
+    opened 'f none! g | ' cut -c 1 f none - g
+    opened 'f g | ' paste f - g
+    opened 'f none! g | ' paste f none g
+    opened 'f none! g | ' paste -s f none g
+    opened 'f | ' uniq f
+    opened 'f >made | ' uniq f made
+    opened '>made | ' uniq - made
+    opened 'none! | ' uniq none unmade
+    opened 'f >none/unmade! | ' uniq f none/unmade
+    opened 'f g | ' comm f g
+    opened 'none! f | ' join none f
+    opened '| ' tr a b
+    opened '| ' cut -q f
+fi
+
 # One line of 150,000,000 bytes through each tool that keeps lines.
 rm -f long
 head -c 150000000 /dev/zero | tr '\0' x >line
