@@ -58,25 +58,35 @@ mapped_same f g at from to same fit moved = (moved.0, moved.1, moved.2 ∙ bytes
 abbrev pub stretch_at : List Stretch → ℕ → Option (ℕ × ℕ × ℕ)
 stretch_at ss k = option_map (λ s. (s.first, s.last, s.by)) (slice_get ss k)
 
-stretch_taken : (ss : List Stretch) (i b : ℕ) → sum_by (λ s. shift_at s b) (take (suc i) ss) ≡ sum_by (λ s. shift_at s b) (take i ss) + stretch_delta (stretch_at ss i) b
+-- the values that all ranges, and all stretches, add to a byte
+abbrev pub range_sum : List ShiftRange → ℕ → ℕ
+range_sum ranges b = sum_by (λ r. range_delta r b) ranges
+
+abbrev pub stretch_sum : List Stretch → ℕ → ℕ
+stretch_sum ss b = sum_by (λ s. shift_at s b) ss
+
+stretch_taken : (ss : List Stretch) (i b : ℕ)
+    → stretch_sum (take (suc i) ss) b ≡ stretch_sum (take i ss) b + stretch_delta (stretch_at ss i) b
 stretch_taken [] zero b = omega arith
 stretch_taken [] (suc i) b = omega arith
 stretch_taken (s ∷ ss) zero b = omega arith
 stretch_taken (s ∷ ss) (suc i) b =
-    let shifts = λ (taken : List Stretch). sum_by (λ s. shift_at s b) taken in
-    let more : shifts (take (suc (suc i)) (s ∷ ss)) ≡ shift_at s b + shifts (take (suc i) ss) = sum_by-cons (λ s. shift_at s b) s (take (suc i) ss) in
-    let fewer : shifts (take (suc i) (s ∷ ss)) ≡ shift_at s b + shifts (take i ss) = sum_by-cons (λ s. shift_at s b) s (take i ss) in
+    let after = λ (n : ℕ). sum_by-cons (λ s. shift_at s b) s (take n ss) in
+    let more : stretch_sum (take (suc (suc i)) (s ∷ ss)) b ≡ shift_at s b + stretch_sum (take (suc i) ss) b = after (suc i) in
+    let fewer : stretch_sum (take (suc i) (s ∷ ss)) b ≡ shift_at s b + stretch_sum (take i ss) b = after i in
     omega (arith, more, fewer, stretch_taken ss i b)
+
+range_added : (ranges : List ShiftRange) (last : ShiftRange) (b : ℕ) → range_sum (ranges ++ last ∷ []) b ≡ range_sum ranges b + range_delta last b
+range_added ranges last b =
+    let alone : range_sum (last ∷ []) b ≡ range_delta last b = omega arith in
+    cc (sum_by-append (λ r. range_delta r b) ranges (last ∷ []), alone)
 
 -- one range more adds what its stretch adds
 pub one_stretch_more : (ranges : List ShiftRange) (ss : List Stretch) (i : ℕ) (range : ShiftRange) (b : ℕ) → i < length ranges
-    → sum_by (λ r. range_delta r b) (take i ranges) ≡ sum_by (λ s. shift_at s b) (take i ss) → range_delta range b ≡ stretch_delta (stretch_at ss i) b
-    → sum_by (λ r. range_delta r b) (take (i + 1) (set ranges i range)) ≡ sum_by (λ s. shift_at s b) (take (i + 1) ss)
+    → range_sum (take i ranges) b ≡ stretch_sum (take i ss) b → range_delta range b ≡ stretch_delta (stretch_at ss i) b
+    → range_sum (take (i + 1) (set ranges i range)) b ≡ stretch_sum (take (i + 1) ss) b
 one_stretch_more ranges ss i range b room before is =
-    let set_sum : sum_by (λ r. range_delta r b) (take (i + 1) (set ranges i range)) ≡ sum_by (λ r. range_delta r b) (take i ranges) + (range_delta range b + 0) =
-    cc (take_more_set ranges i range room, sum_by-append (λ r. range_delta r b) (take i ranges) (range ∷ []), sum_by-cons (λ r. range_delta r b) range []) in
-    let taken : sum_by (λ s. shift_at s b) (take (i + 1) ss) ≡ sum_by (λ s. shift_at s b) (take i ss) + stretch_delta (stretch_at ss i) b = rw (add-one i) (stretch_taken ss i b) in
-    omega (arith, set_sum, taken, before, is)
+    cc (take_more_set ranges i range room, range_added (take i ranges) range b, add-one i, stretch_taken ss i b)
 
 -- all stretches are among the first n
 pub all_stretches : (n : ℕ) (ss : List Stretch) → is_some (stretch_at ss n) ≡ false → length ss ≤ n
@@ -85,17 +95,20 @@ all_stretches zero (s ∷ ss) none = absurd (false≢true (sym none))
 all_stretches (suc n) (s ∷ ss) none = let rest = all_stretches n ss none in omega (arith, rest)
 
 -- the shift of one range more is added to each lane
-pub one_range_more : (ranges : List ShiftRange) (i : ℕ) (default : ShiftRange) (v : List ℕ) {images deltas : List ℕ} → i < length ranges
+pub one_range_more : (ranges : List ShiftRange) (i : ℕ) (default : ShiftRange) (v : List ℕ) {images deltas : List ℕ}
+    → i < length ranges
     → images ≡ map (shift_by_ranges (take i ranges)) v → deltas ≡ map (range_delta (get_or ranges i default)) v
     → zip2 (λ a b. (a + b) % 256) images deltas ≡ map (shift_by_ranges (take (i + 1) ranges)) v
 one_range_more ranges i default v room before is =
-    added_lanes (shift_by_ranges (take i ranges)) (range_delta (get_or ranges i default)) v before is ∙ (λ k. map (λ b. more b k) v)
+    added_lanes (shift_by_ranges (take i ranges)) (range_delta last) v before is ∙ (λ k. map (λ b. more b k) v)
   where
-    more : (b : ℕ) → (shift_by_ranges (take i ranges) b + range_delta (get_or ranges i default) b) % 256 ≡ shift_by_ranges (take (i + 1) ranges) b
+    last : ShiftRange
+    last = get_or ranges i default
+
+    more : (b : ℕ) → (shift_by_ranges (take i ranges) b + range_delta last b) % 256 ≡ shift_by_ranges (take (i + 1) ranges) b
     more b =
-        let last = get_or ranges i default in
-        let sums : sum_by (λ r. range_delta r b) (take (i + 1) ranges) ≡ sum_by (λ r. range_delta r b) (take i ranges) + (range_delta last b + 0) =
-        cc (take_more ranges i default room, sum_by-append (λ r. range_delta r b) (take i ranges) (last ∷ []), sum_by-cons (λ r. range_delta r b) last []) in
+        let sums : range_sum (take (i + 1) ranges) b ≡ range_sum (take i ranges) b + range_delta last b =
+        cc (take_more ranges i default room, range_added (take i ranges) last b) in
         omega (arith, sums)
 
 -- ---- masks of lanes

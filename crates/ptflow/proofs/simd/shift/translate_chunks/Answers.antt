@@ -6,7 +6,8 @@ use Rattle.ptflow.proofs.simd.shift.translate_chunks.Goals as goal
 
 pub returns-then-is_none : goal.returns-then-is_none
 returns-then-is_none c =
-    mapped_same (shift_by_ranges c.of.result.ranges) (image_of_shifts c.args.shifts.now) _ c.args.from.now _ c.of.ensures c.type_inv.from c.map_chunks.ensures
+    mapped_same (shift_by_ranges c.of.result.ranges) (image_of_shifts c.args.shifts.now) _ c.args.from.now _
+    c.of.ensures c.type_inv.from c.map_chunks.ensures
 
 pub of-requires-then-is_none-2 : goal.of-requires-then-is_none-2
 of-requires-then-is_none-2 c =
@@ -15,9 +16,11 @@ of-requires-then-is_none-2 c =
 
 pub returns-then-is_none-2 : goal.returns-then-is_none-2
 returns-then-is_none-2 c =
-    mapped_same (shift_by_ranges c.of-then-is_none-2.result.ranges) (image_of_shifts c.args.shifts.now) _ c.args.from.now _ c.of-then-is_none-2.ensures c.type_inv.from
-    c.map_chunks-then-is_none-2.ensures
+    let two = c.of-then-is_none-2 in
+    mapped_same (shift_by_ranges two.result.ranges) (image_of_shifts c.args.shifts.now) _ c.args.from.now _
+    two.ensures c.type_inv.from c.map_chunks-then-is_none-2.ensures
 
 pub returns : goal.returns
 returns c =
-    mapped_same (shift_by_ranges c.of-2.result.ranges) (image_of_shifts c.args.shifts.now) _ c.args.from.now _ c.of-2.ensures c.type_inv.from c.map_chunks-2.ensures
+    mapped_same (shift_by_ranges c.of-2.result.ranges) (image_of_shifts c.args.shifts.now) _ c.args.from.now _
+    c.of-2.ensures c.type_inv.from c.map_chunks-2.ensures

@@ -4,17 +4,18 @@ use Rattle.ptflow.proofs.simd.shift.ShiftRanges.of.Goals as goal
 
 pub loop-index-preserved : goal.loop-index-preserved
 loop-index-preserved g c =
-    let ranges = c.loop-index.ranges in
-    let ss = c.args.shifts.now in record {
-      long = simp length-set c.loop-index.invariant.long;
-      added = λ b byte. one_stretch_more ranges ss c.loop-index.index _ b (omega (arith, c.loop-index.invariant.long)) (c.loop-index.invariant.added b byte)
-          (c.of.ensures b byte ∙ ap (λ range. stretch_delta range b) c.stretch.ensures.found);
+    let loop = c.loop-index in record {
+      long = simp length-set loop.invariant.long;
+      added = λ b byte.
+          one_stretch_more loop.ranges c.args.shifts.now loop.index _ b (omega (arith, loop.invariant.long))
+          (loop.invariant.added b byte) (c.of.ensures b byte ∙ ap (λ range. stretch_delta range b) c.stretch.ensures.found);
     }
 
 pub returns : goal.returns
 returns g c = λ b byte.
-    let ranges = c.loop-index.ranges in
+    let loop = c.loop-index in
+    let ranges = loop.ranges in
     let ss = c.args.shifts.now in
-    let all : take c.loop-index.index ranges ≡ ranges = take_all c.loop-index.index ranges (omega (arith, c.loop-index.invariant.long)) in
-    let every : take c.loop-index.index ss ≡ ss = take_all c.loop-index.index ss (omega arith) in
-    ap (λ sum. (b + sum) % 256) (cc (all, every, c.loop-index.invariant.added b byte))
+    let all : take loop.index ranges ≡ ranges = take_all loop.index ranges (omega (arith, loop.invariant.long)) in
+    let every : take loop.index ss ≡ ss = take_all loop.index ss (omega arith) in
+    ap (λ sum. (b + sum) % 256) (cc (all, every, loop.invariant.added b byte))

@@ -11,8 +11,12 @@ returns c =
     let v = c.args.v in
     let images_in = λ (window : Window). map (image_by_window window table) v in
     elim c.match-self.branch [
-      | in-Quarter w ↦ w.result-is ∙ w.select_window.ensures table (rw w.from.ensures at w.look_up_64.ensures) ∙ ap images_in (sym w.in-Quarter.is)
-      | in-Half w ↦ w.result-is ∙ w.select_window-in-Half.ensures table (rw w.from-in-Half.ensures at w.look_up_128.ensures) ∙ ap images_in (sym w.in-Half.is)
+      | in-Quarter w ↦
+          w.result-is ∙ w.select_window.ensures table (rw w.from.ensures at w.look_up_64.ensures)
+          ∙ ap images_in (sym w.in-Quarter.is)
+      | in-Half w ↦
+          w.result-is ∙ w.select_window-in-Half.ensures table (rw w.from-in-Half.ensures at w.look_up_128.ensures)
+          ∙ ap images_in (sym w.in-Half.is)
       | in-Whole w ↦
           w.result-is ∙ w.select_half.ensures table 0 w.look_up_128-lower.ensures w.look_up_128-in-Whole.ensures
           ∙ bytes_same _ _ (whole_entry table) v c.fits-v.1 ∙ ap images_in (sym w.in-Whole.is)

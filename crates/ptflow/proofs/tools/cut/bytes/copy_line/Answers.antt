@@ -6,5 +6,6 @@ use Rattle.ptflow.proofs.tools.cut.bytes.copy_line.Goals as goal
 
 pub returns-clause-copied : goal.returns-clause-copied
 returns-clause-copied c =
-    line_copied c.args.by.now.selected.now c.copy_pieces-end.result c.args.bytes.now (take c.args.at c.args.into.now) c.copy_pieces-end.new.into
-    (omega arith) (omega arith) (omega arith) c.copy_pieces-end.ensures.copied
+    let end = c.copy_pieces-end in
+    line_copied c.args.by.now.selected.now end.result c.args.bytes.now (take c.args.at c.args.into.now) end.new.into
+    (omega arith) (omega arith) (omega arith) end.ensures.copied

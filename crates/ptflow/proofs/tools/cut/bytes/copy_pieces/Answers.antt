@@ -1,6 +1,7 @@
 -- The selected bytes of a piece are stored after those before. A piece that is not full is the last one; no byte after
 -- the last shuffle is selected.
-use Rattle.ptflow.proofs.Common.{◌≡◌, ◌≤◌, ◌+◌, ◌*◌, ◌++◌, refl, ◌∙◌, ap, arith, w8, swz_l, SwzOk-from_below, put_chunk, take, drop, select_from, is_selected}
+use Rattle.ptflow.proofs.Common.{◌≡◌, ◌≤◌, ◌+◌, ◌*◌, ◌++◌, refl, ◌∙◌, ap, arith, w8, SwzOk-from_below, take}
+use Rattle.ptflow.proofs.Common.{select_from, is_selected}
 use Rattle.ptflow.specs.Private.Cut.ShortLines.{piece_at}
 use Rattle.ptflow.proofs.CutLemmas.ShortLines.{none_later, piece_copied, shuffle_few, shuffle_lanes}
 use Rattle.ptflow.proofs.tools.cut.bytes.copy_pieces.Goals as goal
@@ -9,7 +10,8 @@ pub swizzle-lanes : goal.swizzle-lanes
 swizzle-lanes c =
     let shuffles = c.args.by.now.are_shuffles in
     let is = shuffles.pieces c.loop-index.index (omega (arith, shuffles.few, c.loop-index-test.true)) in
-    SwzOk-from_below w8 16 1 16 0 (piece_at c.args.by.now.shuffles.pieces c.loop-index.index).row refl (omega (arith, is.long)) (shuffle_lanes _ is)
+    let piece = piece_at c.args.by.now.shuffles.pieces c.loop-index.index in
+    SwzOk-from_below w8 16 1 16 0 piece.row refl (omega (arith, is.long)) (shuffle_lanes _ is)
 
 pub returns-then-rest-lt16-clause-copied : goal.returns-then-rest-lt16-clause-copied
 returns-then-rest-lt16-clause-copied c =
@@ -20,8 +22,11 @@ returns-then-rest-lt16-clause-copied c =
     let was = take c.args.at c.args.into.now in
     let selected = is_selected c.args.by.now.selected.now in
     let is = shuffles.pieces loop.index (omega (arith, shuffles.few, c.loop-index-test.true)) in
-    let all : start + c.min-rest.result ≡ c.args.count = omega (arith, c.min-rest.ensures, c.if-rest-lt16.true, loop.invariant.within) in
-    piece_copied selected start c.min-rest.result loop.at bytes was loop.into is c.from-at.ensures (omega (arith, c.min-rest.ensures)) (omega arith) (omega arith) loop.invariant.copied
+    let short : c.min-rest.result ≤ 16 = omega (arith, c.min-rest.ensures) in
+    let all : start + c.min-rest.result ≡ c.args.count =
+    omega (arith, c.min-rest.ensures, c.if-rest-lt16.true, loop.invariant.within) in
+    piece_copied selected start c.min-rest.result loop.at bytes was loop.into is c.from-at.ensures short
+    (omega arith) (omega arith) loop.invariant.copied
     ∙ ap (λ n. was ++ select_from selected 1 (take n bytes)) all
 
 pub returns-then-rest-lt16-clause-near : goal.returns-then-rest-lt16-clause-near
@@ -29,7 +34,8 @@ returns-then-rest-lt16-clause-near c =
     let shuffles = c.args.by.now.are_shuffles in
     let is = shuffles.pieces c.loop-index.index (omega (arith, shuffles.few, c.loop-index-test.true)) in
     let few = shuffle_few _ is c.min-rest.result (omega (arith, c.min-rest.ensures)) in
-    omega (arith, few, c.from-at.ensures, c.min-rest.ensures, c.loop-index.invariant.near, c.loop-index.invariant.within)
+    let before = c.loop-index.invariant in
+    omega (arith, few, c.from-at.ensures, c.min-rest.ensures, before.near, before.within)
 
 pub loop-index-preserved : goal.loop-index-preserved
 loop-index-preserved c =
@@ -40,11 +46,14 @@ loop-index-preserved c =
     let was = take c.args.at c.args.into.now in
     let selected = is_selected c.args.by.now.selected.now in
     let is = shuffles.pieces loop.index (omega (arith, shuffles.few, c.loop-index-test.true)) in
-    let few = shuffle_few _ is c.min-rest.result (omega (arith, c.min-rest.ensures)) in
-    let next : start + c.min-rest.result ≡ 16 * (loop.index + 1) = omega (arith, c.min-rest.ensures, c.if-rest-lt16.false) in record {
+    let short : c.min-rest.result ≤ 16 = omega (arith, c.min-rest.ensures) in
+    let few = shuffle_few _ is c.min-rest.result short in
+    let next : start + c.min-rest.result ≡ 16 * (loop.index + 1) =
+    omega (arith, c.min-rest.ensures, c.if-rest-lt16.false) in record {
       within = omega (arith, c.min-rest.ensures, c.if-rest-lt16.false, loop.invariant.within);
       near = omega (arith, few, c.from-at.ensures, c.min-rest.ensures, loop.invariant.near);
-      copied = piece_copied selected start c.min-rest.result loop.at bytes was loop.into is c.from-at.ensures (omega (arith, c.min-rest.ensures)) (omega arith) (omega arith) loop.invariant.copied
+      copied = piece_copied selected start c.min-rest.result loop.at bytes was loop.into is c.from-at.ensures short
+          (omega arith) (omega arith) loop.invariant.copied
           ∙ ap (λ n. was ++ select_from selected 1 (take n bytes)) next;
     }
 

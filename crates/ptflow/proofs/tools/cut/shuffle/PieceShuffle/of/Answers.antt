@@ -19,4 +19,5 @@ pub returns : goal.returns
 returns g c =
     let loop = c.loop-index in
     let selected = selected_after (is_selected c.args.list.now) c.args.start in
-    shuffle_done selected (subst (λ n. PickBegun selected n loop.count loop.row loop.counts) (omega (arith, c.loop-index-test.false, loop.auto)) loop.invariant)
+    let all : loop.index ≡ 16 = omega (arith, c.loop-index-test.false, loop.auto) in
+    shuffle_done selected (subst (λ n. PickBegun selected n loop.count loop.row loop.counts) all loop.invariant)
