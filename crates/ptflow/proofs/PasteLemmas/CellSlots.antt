@@ -67,28 +67,48 @@ line_le_max_length (line ∷ ls) (suc j) = omega (arith, line_le_max_length ls j
 pub slots_kept_start : {cells : List ℕ} {fields : List (List ℕ)} {store : Slots} → SlotsKept cells fields store store
 slots_kept_start = record { same = refl; kept = λ first top k high. k }
 
-module _ {cells : List ℕ} {fields : List (List ℕ)} {before store : Slots} (s : SlotsKept cells fields before store) where
-  -- More fields that are in no slot.
-  pub slots_kept_more : (more : List (List ℕ)) → SlotsKept cells (fields ++ more) before store
-  slots_kept_more more = record {
-    same = s.same;
-    kept = λ first top k high. s.kept first top k (λ c low. omega (arith, high c (omega (arith, low, length-append fields more)), ap length (get_or_append_left fields more [] c low)));
-  }
+module _ {cells : List ℕ} {fields : List (List ℕ)} {before store : Slots} (s : SlotsKept cells fields before store)
+  where
+    -- More fields that are in no slot.
+    pub slots_kept_more : (more : List (List ℕ)) → SlotsKept cells (fields ++ more) before store
+    slots_kept_more more = record {
+      same = s.same;
+      kept = λ first top k high. s.kept first top k (λ c low. omega (
+        arith,
+        high c (omega (arith, low, length-append fields more)),
+        ap length
+            (get_or_append_left fields more [] c low),
+      ));
+    }
 
-  -- One more field, which is in the slot of its column.
-  pub slots_kept_line : {n : ℕ} (field : List ℕ) → length fields ≡ n → n < length cells → SlotsKept cells (fields ++ field ∷ []) before (with_line store n field)
-  slots_kept_line {n} field width low =
-      let m = slots_kept_more (field ∷ []) in
-      record {
-        same = length-set store.lines n field ∙ s.same;
-        kept = λ first top k high. slots_bound_line (m.kept first top k high) n field low
-            (omega (arith, high n (omega (arith, width, length-append fields (field ∷ []))), ap length (get_or_push fields field [] n (omega (arith, width)))));
-      }
+    -- One more field, which is in the slot of its column.
+    pub slots_kept_line : {n : ℕ} (field : List ℕ) → length fields ≡ n → n < length cells
+        → SlotsKept cells (fields ++ field ∷ []) before (with_line store n field)
+    slots_kept_line {n} field width low =
+        let m = slots_kept_more (field ∷ []) in
+        record {
+          same = length-set store.lines n field ∙ s.same;
+          kept = λ first top k high. slots_bound_line (m.kept first top k high) n field low
+              (omega (
+                arith,
+                high n (omega (arith, width, length-append fields (field ∷ []))),
+                ap length
+                    (get_or_push fields field [] n (omega (arith, width))),
+              ));
+        }
 
-  -- The bound on the slots, by the lines that the readers gave.
-  pub slots_kept_by_lines : {n : ℕ} {old new : List Reader} {input_lines : ℕ → List (List ℕ)} → CellsTaken cells n old new fields input_lines → (first : Slots) (top : ℕ → ℕ) → SlotsBound cells top first before
-      → ((input : ℕ) → max_length (input_lines input) ≤ top input) → SlotsBound cells top first store
-  slots_kept_by_lines {input_lines = input_lines} t first top k high = s.kept first top k (λ c low.
-      let input = get_or cells c 0 in
-      let j = uses_of (take c cells) input in
-      omega (arith, high input, line_le_max_length (input_lines input) j, ap length (t.fields_taken c (omega (arith, low, t.width)))))
+    -- The bound on the slots, by the lines that the readers gave.
+    pub slots_kept_by_lines : {n : ℕ} {old new : List Reader} {input_lines : ℕ → List (List ℕ)}
+        → CellsTaken cells n old new fields input_lines → (first : Slots) (top : ℕ → ℕ)
+        → SlotsBound cells top first before
+        → ((input : ℕ) → max_length (input_lines input) ≤ top input) → SlotsBound cells top first store
+    slots_kept_by_lines {input_lines = input_lines} t first top k high = s.kept first top k (λ c low.
+        let input = get_or cells c 0 in
+        let j = uses_of (take c cells) input in
+        omega (
+          arith,
+          high input,
+          line_le_max_length (input_lines input) j,
+          ap length
+              (t.fields_taken c (omega (arith, low, t.width))),
+        ))

@@ -97,35 +97,50 @@ module _ {job : Paste} {cells : List ℕ} {old set now : List Reader} {was is : 
   begins_without_more r texts a = rw (append-nil (rows_text job s.taken_rows)) (begins_by job s.first_rows r texts a)
 
   -- Rows were taken, and the first columns of a row after them. A write of these rows failed.
-  module _ {mid : List Reader} (new : List Reader) {ls taken : ℕ → Column} {more : List (List (List ℕ))} (n : ℕ) (g : AreFirstRows job.terminator cells now mid ls more)
-      (b : (p : ℕ) → LinesTaken job.terminator (reader_at mid p) (reader_at new p) (uses_of (take n cells) p) (taken p)) where
-    abbrev all_taken : (p : ℕ) → LinesTaken job.terminator (reader_at now p) (reader_at new p) (length more * uses_of cells p + uses_of (take n cells) p) (ls p ++ taken p)
-    all_taken p = taken_more refl (g.lines_taken p) (b p)
+  module _ {mid : List Reader} (new : List Reader) {ls taken : ℕ → Column} {more : List (List (List ℕ))} (n : ℕ)
+      (g : AreFirstRows job.terminator cells now mid ls more)
+      (b : (p : ℕ) → LinesTaken job.terminator (reader_at mid p) (reader_at new p) (uses_of (take n cells) p) (taken p))
+    where
+      abbrev all_taken : (p : ℕ) → LinesTaken job.terminator (reader_at now p) (reader_at new p)
+          (length more * uses_of cells p + uses_of (take n cells) p) (ls p ++ taken p)
+      all_taken p = taken_more refl (g.lines_taken p) (b p)
 
-    abbrev read_on : ReadMore now new
-    read_on = record { extra = λ p. (all_taken p).bytes; reads = λ p. (all_taken p).reads }
+      abbrev read_on : ReadMore now new
+      read_on = record { extra = λ p. (all_taken p).bytes; reads = λ p. (all_taken p).reads }
 
-    paste_write : {is' : Output} → PushEffect is is' (rows_text job more) → is'.write_failed ≡ true
-        → {after : Slots} → ((top : ℕ → ℕ) → ((p : ℕ) → max_length (s.ls p ++ ls p) ≤ top p) → SlotsBound cells top first after)
-        → ((p : ℕ) → 0 < uses_of cells p → EarlierBy job s.first_rows read_on p) → PastePost job cells old new was is' first after (Err Write)
-    paste_write wrote fault kept cut =
-        let k = kept (λ p. max_length (s.ls p ++ ls p)) (λ p. omega arith) in
-        ends_by read_on wrote (Err Write) (record { write_failed = fault; failed = λ p. (all_taken p).failed ∙ now_failed s p; denied = k.denied })
-        (λ texts a. (
-          subst (λ (x : List ℕ). IsPrefix x (paste job cells texts)) (rows_text-append job.terminator job.delimiters s.taken_rows more)
-              (begins_by job (first_rows_trans s.first_rows g) (record { extra = λ p. (b p).bytes; reads = λ p. (b p).reads }) texts
-              (λ p. rw (append_assoc (s.first_rows.lines_taken p).bytes (g.lines_taken p).bytes (b p).bytes) (a p))),
-          (kept (λ p. max_line_length job.terminator (texts p)) (λ p. omega (
-            arith,
-            received_longest job.terminator (reader_at new p) ((s.first_rows.lines_taken p).bytes ++ (all_taken p).bytes) (s.ls p ++ (ls p ++ taken p))
-                (lines_trans (s.first_rows.lines_taken p).came (all_taken p).reads (all_taken p).came) (texts p) (a p),
-            max_length-append (s.ls p) (ls p ++ taken p),
-            max_length-append (ls p) (taken p),
-            max_length-append (s.ls p) (ls p),
-          ))).peak,
-        ))
-        (λ p some failed clean. cc) (λ ok. cc) (λ p some. lags_by job s.first_rows read_on p some (cut p some)) k.adds (omega (arith, k.adds.all k.denied))
-        (λ p none. (all_taken p).none (ap (λ (k : ℕ). length more * k + uses_of (take n cells) p) none ∙ omega (arith, none, uses_before cells n p)))
+      paste_write : {is' : Output} → PushEffect is is' (rows_text job more) → is'.write_failed ≡ true
+          → {after : Slots} → ((top : ℕ → ℕ) → ((p : ℕ) → max_length (s.ls p ++ ls p) ≤ top p)
+          → SlotsBound cells top first after)
+          → ((p : ℕ) → 0 < uses_of cells p → EarlierBy job s.first_rows read_on p)
+          → PastePost job cells old new was is' first after (Err Write)
+      paste_write wrote fault kept cut =
+          let k = kept (λ p. max_length (s.ls p ++ ls p)) (λ p. omega arith) in
+          ends_by read_on wrote (Err Write) (record {
+            write_failed = fault;
+            failed = λ p. (all_taken p).failed
+                ∙ now_failed s p;
+            denied = k.denied;
+          })
+          (λ texts a. (
+            subst (λ (x : List ℕ). IsPrefix x (paste job cells texts))
+                (rows_text-append job.terminator job.delimiters s.taken_rows more)
+                (begins_by job (first_rows_trans s.first_rows g)
+                (record { extra = λ p. (b p).bytes; reads = λ p. (b p).reads }) texts
+                (λ p. rw (append_assoc (s.first_rows.lines_taken p).bytes (g.lines_taken p).bytes (b p).bytes) (a p))),
+            (kept (λ p. max_line_length job.terminator (texts p)) (λ p. omega (
+              arith,
+              received_longest job.terminator (reader_at new p)
+                  ((s.first_rows.lines_taken p).bytes ++ (all_taken p).bytes) (s.ls p ++ (ls p ++ taken p))
+                  (lines_trans (s.first_rows.lines_taken p).came (all_taken p).reads (all_taken p).came) (texts p) (a p),
+              max_length-append (s.ls p) (ls p ++ taken p),
+              max_length-append (ls p) (taken p),
+              max_length-append (s.ls p) (ls p),
+            ))).peak,
+          ))
+          (λ p some failed clean. cc) (λ ok. cc) (λ p some. lags_by job s.first_rows read_on p some (cut p some)) k.adds
+          (omega (arith, k.adds.all k.denied))
+          (λ p none. (all_taken p).none (ap (λ (k : ℕ). length more * k + uses_of (take n cells) p) none
+          ∙ omega (arith, none, uses_before cells n p)))
 
   more_count : (p : ℕ) → (length s.taken_rows + 1) * uses_of cells p ≡ length s.taken_rows * uses_of cells p + uses_of cells p
   more_count p = omega arith
@@ -139,41 +154,54 @@ module _ {job : Paste} {cells : List ℕ} {old set now : List Reader} {was is : 
       (omega (arith, few, more_count p, length-append (s.ls p) ls, taken_at_most (s.first_rows.lines_taken p), taken_at_most t))
 
   -- An input without what was consumed of its buffer.
-  earlier_of_buffered : {mid : List Reader} (new : List Reader) {ls taken : ℕ → Column} {more : List (List (List ℕ))} (n : ℕ) (g : AreFirstRows job.terminator cells now mid ls more)
-      (b : (p : ℕ) → LinesTaken job.terminator (reader_at mid p) (reader_at new p) (uses_of (take n cells) p) (taken p)) → AreConsumed now new
+  earlier_of_buffered : {mid : List Reader} (new : List Reader) {ls taken : ℕ → Column} {more : List (List (List ℕ))}
+      (n : ℕ) (g : AreFirstRows job.terminator cells now mid ls more)
+      (b : (p : ℕ) → LinesTaken job.terminator (reader_at mid p) (reader_at new p) (uses_of (take n cells) p) (taken p))
+      → AreConsumed now new
       → (p : ℕ) → 0 < uses_of cells p → EarlierBy job s.first_rows (read_on new n g b) p
   earlier_of_buffered new n g b consumed p some =
-      earlier_before (s.first_rows.lines_taken p).came (all_taken new n g b p).reads (still_pulled consumed p) (now_buffered s p some) (omega (arith, some, more_count p, taken_at_most (s.first_rows.lines_taken p)))
+      earlier_before (s.first_rows.lines_taken p).came (all_taken new n g b p).reads (still_pulled consumed p)
+      (now_buffered s p some) (omega (arith, some, more_count p, taken_at_most (s.first_rows.lines_taken p)))
 
   -- The terminator of the readers after some rows.
-  rows_end : {end : ℕ} {mid : List Reader} {written : List ℕ} → end ≡ job.terminator → RowsTaken end job.delimiters cells now mid written → (p : ℕ) → 0 < uses_of cells p → (reader_at mid p).terminator ≡ job.terminator
+  rows_end : {end : ℕ} {mid : List Reader} {written : List ℕ} → end ≡ job.terminator
+      → RowsTaken end job.delimiters cells now mid written → (p : ℕ) → 0 < uses_of cells p
+      → (reader_at mid p).terminator ≡ job.terminator
   rows_end same r p some = (r.first_rows.lines_taken p).reads.terminator ∙ now_end s p some
 
   -- A write of rows that all columns read from one input failed.
-  pub paste_shared_write_failed : (end : ℕ) {new : List Reader} {is' : Output} → end ≡ job.terminator → RowsWritten end job.delimiters cells now new is is' → is'.write_failed ≡ true
+  pub paste_shared_write_failed : (end : ℕ) {new : List Reader} {is' : Output} → end ≡ job.terminator
+      → RowsWritten end job.delimiters cells now new is is' → is'.write_failed ≡ true
       → PastePost job cells old new was is' first store (Err Write)
   paste_shared_write_failed end {new} same p fault =
-      paste_write new 0 (rows_first s same p.buffered) (λ q. nothing_taken refl) (rows_wrote s same p.buffered p.wrote) fault (rows_kept s same p.buffered)
+      paste_write new 0 (rows_first s same p.buffered) (λ q. nothing_taken refl) (rows_wrote s same p.buffered p.wrote)
+      fault (rows_kept s same p.buffered)
       (earlier_of_buffered new 0 (rows_first s same p.buffered) (λ q. nothing_taken refl) p.consumed)
 
   -- A write of rows from the buffers failed, after the first columns of the next row were copied.
-  pub paste_rows_write_failed : (end : ℕ) {new : List Reader} {n : ℕ} {any_line : Bool} {copied begun : List ℕ} {is' : Output} → end ≡ job.terminator → CopyRowsPost end job.delimiters cells now new n any_line copied begun
+  pub paste_rows_write_failed : (end : ℕ) {new : List Reader} {n : ℕ} {any_line : Bool} {copied begun : List ℕ}
+      {is' : Output} → end ≡ job.terminator → CopyRowsPost end job.delimiters cells now new n any_line copied begun
       → PushEffect is is' copied → is'.write_failed ≡ true → PastePost job cells old new was is' first store (Err Write)
   paste_rows_write_failed end {new} {n} same p wrote fault =
       let g = rows_first s same p.rows in
       let b = lines_taken_by_cells (rows_end same p.rows) p.filled.consumed in
-      paste_write new n g b (rows_wrote s same p.rows wrote) fault (rows_kept s same p.rows) (earlier_of_buffered new n g b p.consumed)
+      paste_write new n g b (rows_wrote s same p.rows wrote) fault (rows_kept s same p.rows)
+      (earlier_of_buffered new n g b p.consumed)
 
   -- A write of a row that was filled failed.
-  pub paste_row_write_failed : {new : List Reader} {after : Slots} {fields : List (List ℕ)} (slots : SlotsKept cells fields store after) (f : CellsFilled cells (length cells) now new fields true) {is' : Output}
-      → PushEffect is is' (rows_text job (fields ∷ [])) → is'.write_failed ≡ true → PastePost job cells old new was is' first after (Err Write)
+  pub paste_row_write_failed : {new : List Reader} {after : Slots} {fields : List (List ℕ)}
+      (slots : SlotsKept cells fields store after) (f : CellsFilled cells (length cells) now new fields true)
+      {is' : Output}
+      → PushEffect is is' (rows_text job (fields ∷ [])) → is'.write_failed ≡ true
+      → PastePost job cells old new was is' first after (Err Write)
   paste_row_write_failed {new} slots f wrote fault =
       let g = row_gives s slots f in
       paste_write new 0 g (λ q. nothing_taken refl) wrote fault (row_kept s slots f.consumed)
       (λ p some. earlier_of_taken p some (all_taken new 0 g (λ q. nothing_taken refl) p) (omega arith))
 
   -- No column has a line.
-  module _ {new : List Reader} {after : Slots} {fields : List (List ℕ)} (slots : SlotsKept cells fields store after) (f : CellsFilled cells (length cells) now new fields false) where
+  module _ {new : List Reader} {after : Slots} {fields : List (List ℕ)} (slots : SlotsKept cells fields store after)
+      (f : CellsFilled cells (length cells) now new fields false) where
     lines_taken_by : (p : ℕ) → LinesTaken job.terminator (reader_at now p) (reader_at new p) (uses_of cells p) (f.input_lines p)
     lines_taken_by = lines_taken_by_row (now_end s) f.consumed
 
@@ -197,9 +225,11 @@ module _ {job : Paste} {cells : List ℕ} {old set now : List Reader} {was is : 
         ∙ ap (λ (l : List (List (List ℕ))). s.taken_rows ++ l) (grid_none cells (λ p. lines job.terminator (later job s.first_rows read_by texts a p))
         (λ p some i. lines job.terminator (nothing_by p i ++ ((done_by p some).buffered i ++ [])))) ∙ append-nil s.taken_rows))
 
-    pub paste_done : {is' : Output} {cleared : Slots} → ClearSlotsPost cells after cleared → PushEffect is is' [] → is'.write_failed ≡ false → PastePost job cells old new was is' first cleared (Ok tt)
+    pub paste_done : {is' : Output} {cleared : Slots} → ClearSlotsPost cells after cleared → PushEffect is is' []
+        → is'.write_failed ≡ false → PastePost job cells old new was is' first cleared (Ok tt)
     paste_done {cleared = cleared} e wrote clean =
-        let kept = λ (top : ℕ → ℕ) (high : (p : ℕ) → max_length (s.ls p ++ f.input_lines p) ≤ top p). e.kept first top (row_kept s slots f.consumed top high) in
+        let kept = λ (top : ℕ → ℕ) (high : (p : ℕ) → max_length (s.ls p ++ f.input_lines p) ≤ top p). e.kept first top
+        (row_kept s slots f.consumed top high) in
         let k = kept (λ p. max_length (s.ls p ++ f.input_lines p)) (λ p. omega arith) in
         ends_by read_by wrote (Ok tt)
         (record {
@@ -210,11 +240,18 @@ module _ {job : Paste} {cells : List ℕ} {old set now : List Reader} {was is : 
           failed = λ p. (lines_taken_by p).failed ∙ now_failed s p;
           clean = clean;
           denied = k.denied;
-          empty = omega (arith, cells_total cells (λ p. 0) cleared.lines (λ c low. omega (arith, ap length (e.empty c low))) k.others, sum_of_zeros cells);
+          empty = omega (
+            arith,
+            cells_total cells (λ p. 0) cleared.lines
+                (λ c low. omega (arith, ap length (e.empty c low))) k.others,
+            sum_of_zeros cells,
+          );
         })
         (λ texts a. (
           begins_without_more read_by texts a,
-          (kept (λ p. max_line_length job.terminator (texts p)) (λ p. received_longest job.terminator (reader_at new p) ((s.first_rows.lines_taken p).bytes ++ (lines_taken_by p).bytes) (s.ls p ++ f.input_lines p)
+          (kept (λ p. max_line_length job.terminator (texts p))
+              (λ p. received_longest job.terminator (reader_at new p)
+              ((s.first_rows.lines_taken p).bytes ++ (lines_taken_by p).bytes) (s.ls p ++ f.input_lines p)
               (lines_trans (s.first_rows.lines_taken p).came (lines_taken_by p).reads (lines_taken_by p).came) (texts p) (a p))).peak,
         ))
         (λ p some failed fine. cc ((lines_taken_by p).failed, now_failed s p, never_failed s.starts p some))
@@ -306,7 +343,11 @@ module _ {job : Paste} {cells : List ℕ} {old set now : List Reader} {was is : 
     paste_send_failed wrote fault same going =
         let buffered = row_kept s b.slots b.consumed (λ p. max_length (s.ls p ++ b.input_lines p)) (λ p. omega arith) in
         ends_by read_to wrote (Err Write) (record { write_failed = fault; failed = failed_to same; denied = buffered.denied })
-        (λ texts a. (begins_without_more read_to texts a, (row_kept s b.slots b.consumed (λ p. max_line_length job.terminator (texts p)) (λ p. omega (arith, long_to texts a p))).peak))
+        (λ texts a. (
+          begins_without_more read_to texts a,
+          (row_kept s b.slots b.consumed
+              (λ p. max_line_length job.terminator (texts p)) (λ p. omega (arith, long_to texts a p))).peak,
+        ))
         (λ p some failed clean. cc) (λ ok. cc) (lag_to (λ done. cc (done.eof))) buffered.adds (omega (arith, buffered.adds.all buffered.denied)) left_to
 
     -- A growth of a slot failed.
@@ -361,8 +402,10 @@ module _ {job : Paste} {cells : List ℕ} {old set now : List Reader} {was is : 
             cause
 
   -- A row could not be filled, for each fault.
-  pub paste_fill_failed : (end : ℕ) {new : List Reader} {after : Slots} (into : List ℕ) {is' : Output} (e : FlowFault) → RowFilled end job.delimiters cells now new store after into (Err e) → PushEffect is is' []
-      → (fault : is'.write_failed ≡ is_write_fault {X = Unit {0}} (Err e)) → PastePost job cells old new was is' first after (Err e)
+  pub paste_fill_failed : (end : ℕ) {new : List Reader} {after : Slots} (into : List ℕ) {is' : Output} (e : FlowFault)
+      → RowFilled end job.delimiters cells now new store after into (Err e) → PushEffect is is' []
+      → (fault : is'.write_failed ≡ is_write_fault {X = Unit {0}} (Err e))
+      → PastePost job cells old new was is' first after (Err e)
   paste_fill_failed end into (Read input) f wrote clean =
       let k = f.0.failure in
       rw f.1 (paste_read_failed f.0 k.piece k.faults.reads k.faults.whole wrote clean k.stored k.cause)

@@ -73,10 +73,12 @@ module _ (input : ℕ) (ls : List (List ℕ)) (input_lines : ℕ → List (List 
 abbrev cell_of : List ℕ → (ℕ → List (List ℕ)) → ℕ → List ℕ
 cell_of cells input_lines c = slice_index_or (input_lines (get_or cells c 0)) (uses_of (take c cells) (get_or cells c 0)) []
 
-module _ {cells : List ℕ} {n : ℕ} {old now : List Reader} {fields : List (List ℕ)} {input_lines : ℕ → List (List ℕ)} (t : CellsTaken cells n old now fields input_lines)
+module _ {cells : List ℕ} {n : ℕ} {old now : List Reader} {fields : List (List ℕ)} {input_lines : ℕ → List (List ℕ)}
+    (t : CellsTaken cells n old now fields input_lines)
     (low : n < length cells) (within : get_or cells n 0 < length now) {r : Reader} {ls : List (List ℕ)} {field : List ℕ}
     (lines_taken : LinesTaken (reader_at old (get_or cells n 0)).terminator (reader_at now (get_or cells n 0)) r 1 ls)
-    (there : field ≡ slice_index_or (input_lines (get_or cells n 0) ++ ls) (uses_of (take n cells) (get_or cells n 0)) []) where
+    (there : field ≡ slice_index_or (input_lines (get_or cells n 0) ++ ls) (uses_of (take n cells) (get_or cells n 0))
+    []) where
   abbrev input : ℕ
   input = get_or cells n 0
 
@@ -109,13 +111,15 @@ module _ {cells : List ℕ} {n : ℕ} {old now : List Reader} {fields : List (Li
       j : ℕ
       j = uses_of (take c cells) p
 
-  cells_taken_more : CellsTaken cells (n + 1) old (set now input r) (fields ++ field ∷ []) (lines_at input ls input_lines)
+  cells_taken_more : CellsTaken cells (n + 1) old (set now input r) (fields ++ field ∷ [])
+      (lines_at input ls input_lines)
   cells_taken_more = record {
     lines_taken = lines_taken_next;
     width = omega (arith, t.width, length-append fields (field ∷ []));
     fields_taken = λ c less. ⊎_elim
         (λ same. rw same (get_or_push fields field [] n (omega (arith, t.width)) ∙ there
-        ∙ ap (λ (l : List (List ℕ)). slice_index_or l (uses_of (take n cells) input) []) (sym (lines_at_here input ls input_lines input refl))))
+        ∙ ap (λ (l : List (List ℕ)). slice_index_or l (uses_of (take n cells) input) [])
+        (sym (lines_at_here input ls input_lines input refl))))
         (λ differ. get_or_append_left fields (field ∷ []) [] c (omega (arith, less, differ, t.width))
         ∙ t.fields_taken c (omega (arith, less, differ)) ∙ sym (earlier_cell c (omega (arith, less, differ))))
         (cases_eq c n);
@@ -125,16 +129,24 @@ module _ {cells : List ℕ} {n : ℕ} {old now : List Reader} {fields : List (Li
 pub fill_starts : {cells : List ℕ} {old : List Reader} → CellsFilled cells 0 old old [] false
 fill_starts = record {
   input_lines = λ input. [];
-  consumed = record { lines_taken = λ input. nothing_taken refl; width = refl; fields_taken = λ c low. absurd (omega arith); count = refl };
+  consumed = record {
+    lines_taken = λ input. nothing_taken refl;
+    width = refl;
+    fields_taken = λ c low. absurd
+        (omega arith);
+    count = refl;
+  };
   some = λ any_line. cc;
   none = λ h input. refl;
   least = omega arith;
   less = λ any_line. cc;
 }
 
-module _ {cells : List ℕ} {n : ℕ} {old now : List Reader} {fields : List (List ℕ)} {any_line : Bool} (f : CellsFilled cells n old now fields any_line)
+module _ {cells : List ℕ} {n : ℕ} {old now : List Reader} {fields : List (List ℕ)} {any_line : Bool}
+    (f : CellsFilled cells n old now fields any_line)
     (low : n < length cells) (within : get_or cells n 0 < length now) where
-  module _ {b : Reader} (is_read : b ≡ reader_at now (get_or cells n 0)) (clean : b.fault ≡ None) {r : Reader} (sound : IsSound r) where
+  module _ {b : Reader} (is_read : b ≡ reader_at now (get_or cells n 0)) (clean : b.fault ≡ None) {r : Reader}
+      (sound : IsSound r) where
     abbrev p : ℕ
     p = get_or cells n 0
 
@@ -145,7 +157,8 @@ module _ {cells : List ℕ} {n : ℕ} {old now : List Reader} {fields : List (Li
     all_budgets = omega (arith, ap budget is_read, sum_by-set budget now p r no_reader within)
 
     -- The column gets a line.
-    fill_line : {before after : Slots} {slot : ℕ} (e : FillLine b r before after slot) → CellsFilled cells (n + 1) old (set now p r) (fields ++ e.line ∷ []) true
+    fill_line : {before after : Slots} {slot : ℕ} (e : FillLine b r before after slot)
+        → CellsFilled cells (n + 1) old (set now p r) (fields ++ e.line ∷ []) true
     fill_line e =
         let lines_taken : LinesTaken (reader_at old p).terminator (reader_at now p) r 1 (e.line ∷ []) = subst
         (λ (x : Reader). LinesTaken (reader_at old p).terminator x r 1 (e.line ∷ [])) is_read (taken_line e same_end clean sound) in
@@ -154,7 +167,8 @@ module _ {cells : List ℕ} {n : ℕ} {old now : List Reader} {fields : List (Li
         let less : sum_by budget (set now p r) < sum_by budget old = omega (arith, f.least, e.less, all_budgets) in
         record {
           input_lines = lines_at p (e.line ∷ []) f.input_lines;
-          consumed = cells_taken_more f.consumed low within lines_taken (sym (get_or_at (f.input_lines p) e.line [] [] (uses_of (take n cells) p) all));
+          consumed = cells_taken_more f.consumed low within lines_taken
+              (sym (get_or_at (f.input_lines p) e.line [] [] (uses_of (take n cells) p) all));
           some = λ h. (n, omega arith, omega (arith, all, ap length (lines_at_here p (e.line ∷ []) f.input_lines p refl), length-append (f.input_lines p) (e.line ∷ [])));
           none = λ h. cc;
           least = omega (arith, less);
@@ -165,8 +179,12 @@ module _ {cells : List ℕ} {n : ℕ} {old now : List Reader} {fields : List (Li
     fill_eof : AdvanceOk b r [] → IsDone r → CellsFilled cells (n + 1) old (set now p r) (fields ++ [] ∷ []) any_line
     fill_eof advance_ok done = record {
       input_lines = lines_at p [] f.input_lines;
-      consumed = cells_taken_more f.consumed low within (subst (λ (x : Reader). LinesTaken (reader_at old p).terminator x r 1 []) is_read (taken_eof {b = b} advance_ok done clean sound))
-          (sym (ap (λ (l : List (List ℕ)). slice_index_or l (uses_of (take n cells) p) []) (append-nil (f.input_lines p)) ∙ get_or_past (f.input_lines p) (uses_of (take n cells) p) [] (taken_at_most (f.consumed.lines_taken p))));
+      consumed = cells_taken_more f.consumed low within (subst
+          (λ (x : Reader). LinesTaken (reader_at old p).terminator x r 1 []) is_read
+          (taken_eof {b = b} advance_ok done clean sound))
+          (sym (ap (λ (l : List (List ℕ)). slice_index_or l (uses_of (take n cells) p) [])
+          (append-nil (f.input_lines p)) ∙ get_or_past (f.input_lines p) (uses_of (take n cells) p) []
+          (taken_at_most (f.consumed.lines_taken p))));
       some = λ h. let s = f.some h in (s.0, omega (arith, s.1), ap length (lines_at_none p [] f.input_lines (get_or cells s.0 0) refl) ∙ s.2);
       none = λ h q. lines_at_none p [] f.input_lines q refl ∙ f.none h q;
       least = omega (arith, f.least, advance_ok.reads.count, all_budgets);
@@ -175,13 +193,17 @@ module _ {cells : List ℕ} {n : ℕ} {old now : List Reader} {fields : List (Li
 
     -- The column is filled, and its slot has the field.
     pub fill_next : (before after : Slots) (slot : ℕ) (has : Bool) → FillPost b r before after slot (Ok has)
-        → (field : List ℕ) × (after ≡ with_line before slot field) × CellsFilled cells (n + 1) old (set now p r) (fields ++ field ∷ []) (any_line || has)
+        → (field : List ℕ) × (after ≡ with_line before slot field) × CellsFilled cells (n + 1) old (set now p r)
+        (fields ++ field ∷ []) (any_line || has)
     fill_next before after slot true e = (e.line, e.stored, rw or-true (fill_line e))
     fill_next before after slot false e = ([], e.2, rw or-false (fill_eof e.0 e.1))
 
   -- The step for this column failed.
-  abbrev pub fill_failed : {CellFailed : Reader → Reader → Slots → Slots → ℕ → Type 0} {before store : Slots} (after : Slots) {b : Reader} (r : Reader) → SlotsKept cells fields before store
-      → b ≡ reader_at now (get_or cells n 0) → CellFailed b r store after n → (length b.buffered ≤ 8192 → length r.buffered ≤ 8192) → RowFailed CellFailed cells old (set now (get_or cells n 0) r) before after
+  abbrev pub fill_failed : {CellFailed : Reader → Reader → Slots → Slots → ℕ → Type 0} {before store : Slots}
+      (after : Slots) {b : Reader} (r : Reader) → SlotsKept cells fields before store
+      → b ≡ reader_at now (get_or cells n 0) → CellFailed b r store after n
+      → (length b.buffered ≤ 8192 → length r.buffered ≤ 8192)
+      → RowFailed CellFailed cells old (set now (get_or cells n 0) r) before after
   fill_failed {CellFailed} {store = store} after {b} r slots is_read failure few = record {
     column = n;
     within = low;

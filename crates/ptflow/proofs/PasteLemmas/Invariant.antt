@@ -213,9 +213,11 @@ module _ {job : Paste} {cells : List ℕ} {old set now : List Reader} {was is : 
   }
 
   -- Rows from the buffers.
-  module _ {end : ℕ} (same : end ≡ job.terminator) {new : List Reader} {written : List ℕ} (p : RowsTaken end job.delimiters cells now new written) where
+  module _ {end : ℕ} (same : end ≡ job.terminator) {new : List Reader} {written : List ℕ}
+      (p : RowsTaken end job.delimiters cells now new written) where
     pub rows_wrote : {is' : Output} → PushEffect is is' written → PushEffect is is' (rows_text job p.taken_rows)
-    rows_wrote {is'} wrote = subst (PushEffect is is') (p.is ∙ ap (λ (e : ℕ). unlines e (map (join_with_cycle job.delimiters 0) p.taken_rows)) same) wrote
+    rows_wrote {is'} wrote = subst (PushEffect is is') (p.is
+        ∙ ap (λ (e : ℕ). unlines e (map (join_with_cycle job.delimiters 0) p.taken_rows)) same) wrote
 
     pub rows_first : AreFirstRows job.terminator cells now new p.ls p.taken_rows
     rows_first = rw same at p.first_rows
@@ -223,21 +225,31 @@ module _ {job : Paste} {cells : List ℕ} {old set now : List Reader} {was is : 
     pub rows_kept : (top : ℕ → ℕ) → ((q : ℕ) → max_length (s.ls q ++ p.ls q) ≤ top q) → SlotsBound cells top first store
     rows_kept top high = s.kept top (λ q. omega (arith, high q, max_length-append (s.ls q) (p.ls q)))
 
-    pub invariant_rows : {is' : Output} → PushEffect is is' written → is'.write_failed ≡ false → PasteInvariant job cells old set new was is' first store
+    pub invariant_rows : {is' : Output} → PushEffect is is' written → is'.write_failed ≡ false
+        → PasteInvariant job cells old set new was is' first store
     invariant_rows wrote clean = invariant_after rows_first rows_kept (rows_wrote wrote) clean
 
   -- A row that was filled.
-  module _ {new : List Reader} {after : Slots} {fields : List (List ℕ)} (slots : SlotsKept cells fields store after) where
-    pub row_kept : {n : ℕ} {input_lines : ℕ → Column} → CellsTaken cells n now new fields input_lines → (top : ℕ → ℕ) → ((p : ℕ) → max_length (s.ls p ++ input_lines p) ≤ top p) → SlotsBound cells top first after
-    row_kept {n} {input_lines} t top high =
-        slots_kept_by_lines slots t first top (s.kept top (λ p. omega (arith, high p, max_length-append (s.ls p) (input_lines p)))) (λ p. omega (arith, high p, max_length-append (s.ls p) (input_lines p)))
+  module _ {new : List Reader} {after : Slots} {fields : List (List ℕ)} (slots : SlotsKept cells fields store after)
+    where
+      pub row_kept : {n : ℕ} {input_lines : ℕ → Column} → CellsTaken cells n now new fields input_lines → (top : ℕ → ℕ)
+          → ((p : ℕ) → max_length (s.ls p ++ input_lines p) ≤ top p) → SlotsBound cells top first after
+      row_kept {n} {input_lines} t top high =
+          slots_kept_by_lines slots t first top (s.kept top (λ p. omega
+          (arith, high p, max_length-append (s.ls p) (input_lines p))))
+          (λ p. omega (arith, high p, max_length-append (s.ls p) (input_lines p)))
 
-    module _ (f : CellsFilled cells (length cells) now new fields true) where
-      pub row_gives : AreFirstRows job.terminator cells now new f.input_lines (fields ∷ [])
-      row_gives = filled_row_is_first now_end f
+      module _ (f : CellsFilled cells (length cells) now new fields true) where
+        pub row_gives : AreFirstRows job.terminator cells now new f.input_lines (fields ∷ [])
+        row_gives = filled_row_is_first now_end f
 
-      pub row_wrote : {is' : Output} (end : ℕ) → end ≡ job.terminator → PushEffect is is' (cells_text end job.delimiters (length cells) 0 fields) → PushEffect is is' (rows_text job (fields ∷ []))
-      row_wrote {is'} end same wrote = subst (PushEffect is is') (ap (λ (e : ℕ). cells_text e job.delimiters (length cells) 0 fields) same ∙ filled_row_text job.terminator job.delimiters f) wrote
+        pub row_wrote : {is' : Output} (end : ℕ) → end ≡ job.terminator
+            → PushEffect is is' (cells_text end job.delimiters (length cells) 0 fields)
+            → PushEffect is is' (rows_text job (fields ∷ []))
+        row_wrote {is'} end same wrote = subst (PushEffect is is')
+            (ap (λ (e : ℕ). cells_text e job.delimiters (length cells) 0 fields) same
+            ∙ filled_row_text job.terminator job.delimiters f) wrote
 
-      pub invariant_more : {is' : Output} → PushEffect is is' (rows_text job (fields ∷ [])) → is'.write_failed ≡ false → PasteInvariant job cells old set new was is' first after
-      invariant_more = invariant_after row_gives (row_kept f.consumed)
+        pub invariant_more : {is' : Output} → PushEffect is is' (rows_text job (fields ∷ [])) → is'.write_failed ≡ false
+            → PasteInvariant job cells old set new was is' first after
+        invariant_more = invariant_after row_gives (row_kept f.consumed)

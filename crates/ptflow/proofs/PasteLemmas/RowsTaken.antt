@@ -30,21 +30,27 @@ module _ {end : ℕ} {cells : List ℕ} where
     count = q.count ∙ p.count;
   }
 
-  module _ {old new : List Reader} {fields : List (List ℕ)} (used_terminator : (p : ℕ) → 0 < uses_of cells p → (reader_at old p).terminator ≡ end) where
+  module _ {old new : List Reader} {fields : List (List ℕ)} (used_terminator : (p : ℕ) → 0 < uses_of cells p
+      → (reader_at old p).terminator ≡ end) where
     -- The lines that the first columns of a row take from one reader.
-    pub lines_taken_by_cells : {n : ℕ} {input_lines : ℕ → Column} → CellsTaken cells n old new fields input_lines → (p : ℕ) → LinesTaken end (reader_at old p) (reader_at new p) (uses_of (take n cells) p) (input_lines p)
+    pub lines_taken_by_cells : {n : ℕ} {input_lines : ℕ → Column} → CellsTaken cells n old new fields input_lines
+        → (p : ℕ) → LinesTaken end (reader_at old p) (reader_at new p) (uses_of (take n cells) p) (input_lines p)
     lines_taken_by_cells {n} t p = retarget_terminator (λ some. used_terminator p (omega (arith, some, uses_before cells n p))) (t.lines_taken p)
 
     -- The lines that all columns of a row take from one reader.
-    pub lines_taken_by_row : {input_lines : ℕ → Column} → CellsTaken cells (length cells) old new fields input_lines → (p : ℕ) → LinesTaken end (reader_at old p) (reader_at new p) (uses_of cells p) (input_lines p)
+    pub lines_taken_by_row : {input_lines : ℕ → Column} → CellsTaken cells (length cells) old new fields input_lines
+        → (p : ℕ) → LinesTaken end (reader_at old p) (reader_at new p) (uses_of cells p) (input_lines p)
     lines_taken_by_row t p = rw (take_all (length cells) cells (omega arith)) at (lines_taken_by_cells t p)
 
     -- A filled row in which some column has a line is the next row.
-    pub filled_row_is_first : (r : CellsFilled cells (length cells) old new fields true) → AreFirstRows end cells old new r.input_lines (fields ∷ [])
+    pub filled_row_is_first : (r : CellsFilled cells (length cells) old new fields true)
+        → AreFirstRows end cells old new r.input_lines (fields ∷ [])
     filled_row_is_first r =
         let k = r.some refl in
-        let row_is : fields ≡ for_each_cell (λ c p. slice_index_or (r.input_lines p) (uses_of (take c cells) p) []) cells =
-        for_each_cell_unique (λ c p. slice_index_or (r.input_lines p) (uses_of (take c cells) p) []) cells fields [] r.consumed.width r.consumed.fields_taken in
+        let row_is : fields ≡ for_each_cell (λ c p. slice_index_or (r.input_lines p) (uses_of (take c cells) p) [])
+        cells =
+        for_each_cell_unique (λ c p. slice_index_or (r.input_lines p) (uses_of (take c cells) p) []) cells fields []
+        r.consumed.width r.consumed.fields_taken in
         record {
           lines_taken = λ p. let one : 1 * uses_of cells p ≡ uses_of cells p = omega arith in subst (λ (n : ℕ). LinesTaken end (reader_at old p) (reader_at new p) n (r.input_lines p)) (sym one) (lines_taken_by_row r.consumed p);
           on = λ more may.
@@ -59,18 +65,21 @@ module _ {end : ℕ} {cells : List ℕ} where
 -- ---- rows and their text
 
 -- The text of a filled row.
-pub filled_row_text : (end : ℕ) (delims : List (Option ℕ)) {cells : List ℕ} {old new : List Reader} {fields : List (List ℕ)} → CellsFilled cells (length cells) old new fields true
+pub filled_row_text : (end : ℕ) (delims : List (Option ℕ)) {cells : List ℕ} {old new : List Reader}
+    {fields : List (List ℕ)} → CellsFilled cells (length cells) old new fields true
     → cells_text end delims (length cells) 0 fields ≡ unlines end (map (join_with_cycle delims 0) (fields ∷ []))
 filled_row_text end delims {cells} {fields = fields} f =
     let k = f.some refl in
-    row_text end delims (length cells) 0 fields (omega (arith, f.consumed.width)) (omega (arith, f.consumed.width, k.1)) ∙ sym (append-nil (join_with_cycle delims 0 fields ++ end ∷ []))
+    row_text end delims (length cells) 0 fields (omega (arith, f.consumed.width)) (omega (arith, f.consumed.width, k.1))
+    ∙ sym (append-nil (join_with_cycle delims 0 fields ++ end ∷ []))
 
 module _ {end : ℕ} {delims : List (Option ℕ)} {cells : List ℕ} where
   pub rows_taken_none : {old : List Reader} → RowsTaken end delims cells old old []
   rows_taken_none = record { ls = λ p. []; taken_rows = []; first_rows = no_rows; least = omega arith; is = refl }
 
   -- Rows are taken, and then more.
-  pub rows_taken_trans : {a b c : List Reader} {xs ys : List ℕ} → RowsTaken end delims cells a b xs → RowsTaken end delims cells b c ys → RowsTaken end delims cells a c (xs ++ ys)
+  pub rows_taken_trans : {a b c : List Reader} {xs ys : List ℕ} → RowsTaken end delims cells a b xs
+      → RowsTaken end delims cells b c ys → RowsTaken end delims cells a c (xs ++ ys)
   rows_taken_trans p q = record {
     ls = λ input. p.ls input ++ q.ls input;
     taken_rows = p.taken_rows ++ q.taken_rows;
@@ -79,8 +88,10 @@ module _ {end : ℕ} {delims : List (Option ℕ)} {cells : List ℕ} where
     is = (λ i. p.is i ++ q.is i) ∙ sym (rows_text-append end delims p.taken_rows q.taken_rows);
   }
 
-  pub row_taken : {old new : List Reader} {fields : List (List ℕ)} → ((p : ℕ) → 0 < uses_of cells p → (reader_at old p).terminator ≡ end)
-      → CellsFilled cells (length cells) old new fields true → RowsTaken end delims cells old new (cells_text end delims (length cells) 0 fields)
+  pub row_taken : {old new : List Reader} {fields : List (List ℕ)}
+      → ((p : ℕ) → 0 < uses_of cells p → (reader_at old p).terminator ≡ end)
+      → CellsFilled cells (length cells) old new fields true
+      → RowsTaken end delims cells old new (cells_text end delims (length cells) 0 fields)
   row_taken {fields = fields} used_terminator f = record {
     ls = f.input_lines;
     taken_rows = fields ∷ [];

@@ -258,7 +258,15 @@ module _ {end : ℕ} {delims : List (Option ℕ)} {cells : List ℕ} {cycle : Li
       on = λ more may. rows_on cells input same t.some rs.count rs.ls more rs.long;
       count = length-set old input now;
     };
-    least = omega (arith, some, within, sound.long ready.0, length-drop count was.buffered, sum_by-set budget old input now no_reader low);
+    least = omega (
+      arith,
+      some,
+      within,
+      sound.long ready.0,
+      length-drop count was.buffered,
+      sum_by-set budget old input
+          now no_reader low,
+    );
     is =
         let start : 0 ≡ 0 * length cells = omega arith in
         ap (with_cycle end cycle 0) rs.is ∙ ap (λ (m : ℕ). with_cycle end cycle m (unlines end rs.ls)) start
@@ -287,5 +295,12 @@ copied_rows {end} {delims} {cells} {cycle} t {old} within readable d sound {coun
     }
 
 -- Nothing is in the buffer, or the columns share no reader.
-pub no_rows_written : {end : ℕ} {delims : List (Option ℕ)} {cells : List ℕ} {old : List Reader} {out : Output} → RowsWritten end delims cells old old out out
-no_rows_written {out = out} = record { written = []; buffered = rows_taken_none; consumed = consumed_none; wrote = push_nothing out }
+pub no_rows_written : {end : ℕ} {delims : List (Option ℕ)} {cells : List ℕ} {old : List Reader} {out : Output}
+    → RowsWritten end delims cells old old out out
+no_rows_written {out = out} = record {
+  written = [];
+  buffered = rows_taken_none;
+  consumed = consumed_none;
+  wrote
+      = push_nothing out;
+}

@@ -138,7 +138,7 @@ fn write_row<A: Allocator + Copy, W: Sink>(
     requires clean { out.old.write_failed ≡ false }
     ensures { PushPost out.old out.new (take begun.end into.now
         ++ cells_text row.entry.terminator row.entry.delims.now (length row.entry.cells.now) begun.count
-            (drop begun.count (take (length row.entry.cells.now) store.now.lines))) result }
+        (drop begun.count (take (length row.entry.cells.now) store.now.lines))) result }
 {
     out.push(&into[..begun.end])?;
     for column in begun.count..row.cells.len() {

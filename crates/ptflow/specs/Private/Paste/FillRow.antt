@@ -18,7 +18,8 @@ pub record SetTerminatorPost (end named : ℕ) (old new : Reader) : Type 0 where
 
 -- The postcondition of `set_terminators`: all readers that columns use have the terminator `end`.
 abbrev pub SetTerminatorsPost : ℕ → List ℕ → List Reader → List Reader → Type 0
-SetTerminatorsPost end cells old new = (input : ℕ) → SetTerminatorPost end (uses_of cells input) (reader_at old input) (reader_at new input)
+SetTerminatorsPost end cells old new = (input : ℕ) → SetTerminatorPost end (uses_of cells input) (reader_at old input)
+    (reader_at new input)
 
 -- The slots of the columns hold everything that the store holds, and a column's slot holds at most `top input` bytes.
 pub record SlotsBound (cells : List ℕ) (top : ℕ → ℕ) (before store : Slots) : Type 0 where
@@ -32,11 +33,13 @@ pub record SlotsBound (cells : List ℕ) (top : ℕ → ℕ) (before store : Slo
 pub record SlotsKept (cells : List ℕ) (fields : List (List ℕ)) (before store : Slots) : Type 0 where
   pub same : length store.lines ≡ length before.lines
   pub kept : (first : Slots) (top : ℕ → ℕ) → SlotsBound cells top first before
-      → ((c : ℕ) → c < length fields → length (slice_index_or fields c []) ≤ top (slice_index_or cells c 0)) → SlotsBound cells top first store
+      → ((c : ℕ) → c < length fields → length (slice_index_or fields c []) ≤ top (slice_index_or cells c 0))
+      → SlotsBound cells top first store
 
 -- The first n columns of a row are filled: the first of them, up to `copied`, have their text in `text`, and the slots
 -- of the others hold their fields.
-pub record RowAmid (end : ℕ) (delims : List (Option ℕ)) (cells : List ℕ) (n copied : ℕ) (any_line : Bool) (old new : List Reader) (before store : Slots) (text : List ℕ) : Type 0 where
+pub record RowAmid (end : ℕ) (delims : List (Option ℕ)) (cells : List ℕ) (n copied : ℕ) (any_line : Bool)
+    (old new : List Reader) (before store : Slots) (text : List ℕ) : Type 0 where
   pub fields : List (List ℕ)
   pub filled : CellsFilled cells n old new fields any_line
   pub within : copied ≤ n
@@ -46,7 +49,8 @@ pub record RowAmid (end : ℕ) (delims : List (Option ℕ)) (cells : List ℕ) (
 
 -- Filling a row failed at `column`: the columns before it are filled, and `CellFailed` holds between the states of its
 -- reader and the store before and after the failed step.
-pub record RowFailed (CellFailed : Reader → Reader → Slots → Slots → ℕ → Type 0) (cells : List ℕ) (old new : List Reader) (before store : Slots) : Type 0 where
+pub record RowFailed (CellFailed : Reader → Reader → Slots → Slots → ℕ → Type 0) (cells : List ℕ)
+    (old new : List Reader) (before store : Slots) : Type 0 where
   pub column : ℕ
   pub within : column < length cells
   pub fields : List (List ℕ)
@@ -55,7 +59,8 @@ pub record RowFailed (CellFailed : Reader → Reader → Slots → Slots → ℕ
   pub buffered : Slots
   pub consumed : CellsTaken cells column old mid fields input_lines
   pub slots : SlotsKept cells fields before buffered
-  pub failure : CellFailed (reader_at mid (slice_index_or cells column 0)) (reader_at new (slice_index_or cells column 0))
+  pub failure : CellFailed (reader_at mid (slice_index_or cells column 0))
+      (reader_at new (slice_index_or cells column 0))
       buffered store column
   pub others : (input : ℕ) → input ≢ slice_index_or cells column 0 → reader_at new input ≡ reader_at mid input
   pub few : length (reader_at old (slice_index_or cells column 0)).buffered ≤ 8192
@@ -67,23 +72,30 @@ NotRead old new before after slot = (new ≡ old) × (after ≡ before) × (old.
 
 -- The postcondition of `fill_cell`, for each result.
 abbrev pub FillCellPost : ℕ → ℕ → Reader → Reader → Slots → Slots → Result Bool FlowFault → Type 0
-FillCellPost input column old new before after (Ok has_line) = FillPost old new before after column (Ok has_line) × IsSound new
-FillCellPost input column old new before after (Err (Read index)) = FillReadErr old new before after column × IsSound new × (index ≡ input)
+FillCellPost input column old new before after (Ok has_line) = FillPost old new before after column
+    (Ok has_line) × IsSound new
+FillCellPost input column old new before after (Err (Read index)) = FillReadErr old new before after column × IsSound
+    new × (index ≡ input)
 FillCellPost input column old new before after (Err Write) = NotRead old new before after column
 FillCellPost input column old new before after (Err Memory) = FillMemoryErr old new before after column × IsSound new
 
 -- The postcondition of `fill_row` for each result, if the first columns of the row were filled since the states `old` and
 -- `before`.
-abbrev pub RowFilled : ℕ → List (Option ℕ) → List ℕ → List Reader → List Reader → Slots → Slots → List ℕ → Result BegunRow FlowFault → Type 0
-RowFilled end delims cells old new before store into (Ok row) = RowAmid end delims cells (length cells) row.count row.any_line old new before store (take row.end into)
-RowFilled end delims cells old new before store into (Err (Read input)) = (b : RowFailed FillReadErr cells old new before store) × (input ≡ slice_index_or cells b.column 0)
+abbrev pub RowFilled : ℕ → List (Option ℕ) → List ℕ → List Reader → List Reader → Slots → Slots → List ℕ
+    → Result BegunRow FlowFault → Type 0
+RowFilled end delims cells old new before store into (Ok row) = RowAmid end delims cells (length cells) row.count
+    row.any_line old new before store (take row.end into)
+RowFilled end delims cells old new before store into (Err (Read input))
+    = (b : RowFailed FillReadErr cells old new before store) × (input ≡ slice_index_or cells b.column 0)
 RowFilled end delims cells old new before store into (Err Write) = RowFailed NotRead cells old new before store
 RowFilled end delims cells old new before store into (Err Memory) = RowFailed FillMemoryErr cells old new before store
 
 -- The postcondition of `fill_row`, regardless of how the first columns of the row had been filled.
-abbrev pub FillRowPost : ℕ → List (Option ℕ) → List ℕ → BegunRow → List Reader → List Reader → Slots → Slots → List ℕ → List ℕ → Result BegunRow FlowFault → Type 0
+abbrev pub FillRowPost : ℕ → List (Option ℕ) → List ℕ → BegunRow → List Reader → List Reader → Slots → Slots → List ℕ
+    → List ℕ → Result BegunRow FlowFault → Type 0
 FillRowPost end delims cells begun old new before store into after result =
-    (from : List Reader) (first : Slots) → RowAmid end delims cells begun.count begun.count begun.any_line from old first before (take begun.end into)
+    (from : List Reader) (first : Slots) → RowAmid end delims cells begun.count begun.count begun.any_line from old
+    first before (take begun.end into)
     → RowFilled end delims cells from new first store after result
 
 -- The slots of the first columns are empty, and all others are as before.

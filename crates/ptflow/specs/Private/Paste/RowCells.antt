@@ -16,9 +16,11 @@ cells_text end delims n c (x ∷ xs) = (x ++ after_cell end delims n c) ++ cells
 
 -- The first n columns of a row took their fields from the readers: `input_lines` has the lines by input, and `fields`
 -- by column. A column whose input has ended has an empty field.
-pub record CellsTaken (cells : List ℕ) (n : ℕ) (old new : List Reader) (fields : List (List ℕ)) (input_lines : ℕ → List (List ℕ)) : Type 0 where
+pub record CellsTaken (cells : List ℕ) (n : ℕ) (old new : List Reader) (fields : List (List ℕ))
+    (input_lines : ℕ → List (List ℕ)) : Type 0 where
   pub lines_taken : (input : ℕ)
-      → LinesTaken (reader_at old input).terminator (reader_at old input) (reader_at new input) (uses_of (take n cells) input)
+      → LinesTaken (reader_at old input).terminator (reader_at old input) (reader_at new input)
+      (uses_of (take n cells) input)
       (input_lines input)
   pub width : length fields ≡ n
   pub fields_taken : (c : ℕ) → c < n
@@ -28,7 +30,8 @@ pub record CellsTaken (cells : List ℕ) (n : ℕ) (old new : List Reader) (fiel
 
 -- The first n columns of a row took their fields, for some lines. `any_line` is true if one of them got a line, and
 -- false if all of their readers had ended.
-pub record CellsFilled (cells : List ℕ) (n : ℕ) (old new : List Reader) (fields : List (List ℕ)) (any_line : Bool) : Type 0 where
+pub record CellsFilled (cells : List ℕ) (n : ℕ) (old new : List Reader) (fields : List (List ℕ))
+    (any_line : Bool) : Type 0 where
   pub input_lines : ℕ → List (List ℕ)
   pub consumed : CellsTaken cells n old new fields input_lines
   pub some : any_line ≡ true → (c : ℕ) × (c < n)

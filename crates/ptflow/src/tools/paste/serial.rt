@@ -1,6 +1,5 @@
-//! `paste -s`: the engine that writes all lines of one input in one row, block by block; and copying of fields and
-//! delimiters, which `paste` uses too.
-
+//! `paste -s`: the engine that writes all lines of one input in one row, block by block. `ptrun` runs it over one input
+//! after the other.
 ghost use Rattle.std.specs.Prelude.{◌≡◌, ◌<◌, ◌≤◌, ◌+◌, ◌^◌, ◌++◌, ◌∷◌, [], true, false, OnOk, OnErr, IfOk, IfSome, length, take};
 ghost use Rattle.ptlines.specs.Outputs.{PushEffect, PushPost};
 ghost use Rattle.ptlangs.specs.Jobs.{paste_job};
@@ -40,7 +39,7 @@ fn write_delimiter<A: Allocator, W: Sink>(
 }
 
 // Moves to the column of the next byte: writes the delimiter if the line of the current column is complete.
-pub(crate) fn start_cell<A: Allocator, W: Sink>(
+fn start_cell<A: Allocator, W: Sink>(
     delims: &Delims<A>,
     cell: ColumnPos,
     out: &mut Out<W>,

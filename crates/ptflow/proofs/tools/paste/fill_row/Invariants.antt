@@ -6,8 +6,10 @@ use Rattle.ptflow.proofs.tools.paste.fill_row.Given as goal
 abbrev pub invariant-cells : goal.invariant-cells
 invariant-cells g l = record {
   amid : (from : List Reader) (first : Slots)
-      → RowAmid l.row.terminator l.row.delims.now l.row.cells.now l.fn.begun.count l.fn.begun.count l.fn.begun.any_line from l.fn.readers first l.fn.store (take l.fn.begun.end l.fn.into)
-      → RowAmid l.row.terminator l.row.delims.now l.row.cells.now l.column l.begun.count l.begun.any_line from l.readers first l.store (take l.begun.end l.into);
+      → RowAmid l.row.terminator l.row.delims.now l.row.cells.now l.fn.begun.count l.fn.begun.count l.fn.begun.any_line
+      from l.fn.readers first l.fn.store (take l.fn.begun.end l.fn.into)
+      → RowAmid l.row.terminator l.row.delims.now l.row.cells.now l.column l.begun.count l.begun.any_line from l.readers
+      first l.store (take l.begun.end l.into);
   readable : BufferedRowsPre l.row.terminator l.row.cells.now l.readers;
   slots : length l.row.cells.now ≤ length l.store.lines;
   within : (l.begun.count ≤ l.column) × (l.column ≤ length l.row.cells.now);

@@ -6,7 +6,8 @@ use Rattle.ptflow.proofs.tools.paste.paste.Given as goal
 
 abbrev pub invariant-rows : goal.invariant-rows
 invariant-rows g l = record {
-  invariant_holds : PasteInvariant (paste_job l.job) l.cells l.fn.readers l.initial.readers l.readers l.fn.out l.out l.fn.store l.store;
+  invariant_holds : PasteInvariant (paste_job l.job) l.cells l.fn.readers l.initial.readers l.readers l.fn.out l.out
+      l.fn.store l.store;
 }
 
 abbrev pub decreases-rows : goal.decreases-rows

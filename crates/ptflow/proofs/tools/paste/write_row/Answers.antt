@@ -12,44 +12,56 @@ module _ (end : ℕ) (delims : List (Option ℕ)) (n first : ℕ) (lines : List 
   text_to k = cells_text end delims n first (drop first (take k lines))
 
   text_start : text_to first ≡ []
-  text_start = ap (cells_text end delims n first) (drop_all first (take first lines) (omega (arith, length-take first lines)))
+  text_start = ap (cells_text end delims n first) (drop_all first (take first lines)
+      (omega (arith, length-take first lines)))
 
-  text_more : (k : ℕ) → first ≤ k → k < length lines → text_to (k + 1) ≡ text_to k ++ (get_or lines k [] ++ after_cell end delims n k)
+  text_more : (k : ℕ) → first ≤ k → k < length lines → text_to (k + 1) ≡ text_to k
+      ++ (get_or lines k [] ++ after_cell end delims n k)
   text_more k over low =
       let front = take k lines in
       let long : length front ≡ k = length-take-le k lines (omega (arith, low)) in
-      ap (cells_text end delims n first) (ap (drop first) (take_more lines k [] low) ∙ drop-append-le first front (get_or lines k [] ∷ []) (omega (arith, long, over)))
-      ∙ cells_text-push end delims n first (drop first front) (get_or lines k []) (omega (arith, over, long, length-drop first front))
+      ap (cells_text end delims n first) (ap (drop first) (take_more lines k [] low)
+      ∙ drop-append-le first front (get_or lines k [] ∷ []) (omega (arith, long, over)))
+      ∙ cells_text-push end delims n first (drop first front) (get_or lines k [])
+      (omega (arith, over, long, length-drop first front))
 
   -- The text of further fields.
-  text_rest : (k all : ℕ) → first ≤ k → k ≤ all → all ≤ length lines → (rest : List ℕ) × (text_to all ≡ text_to k ++ rest)
+  text_rest : (k all : ℕ) → first ≤ k → k ≤ all → all ≤ length lines
+      → (rest : List ℕ) × (text_to all ≡ text_to k ++ rest)
   text_rest k all over under fits =
       let front = take k lines in
       let more = drop k (take all lines) in
       let long : length front ≡ k = length-take-le k lines (omega (arith, under, fits)) in
-      let split : take all lines ≡ front ++ more = sym (take-append-drop k (take all lines)) ∙ ap (λ (l : List (List ℕ)). l ++ more) (take-take k all lines under) in (
+      let split : take all lines ≡ front ++ more = sym (take-append-drop k (take all lines))
+      ∙ ap (λ (l : List (List ℕ)). l ++ more) (take-take k all lines under) in (
         cells_text end delims n (first + length (drop first front)) more,
-        ap (cells_text end delims n first) (ap (drop first) split ∙ drop-append-le first front more (omega (arith, long, over)))
+        ap (cells_text end delims n first) (ap (drop first) split
+            ∙ drop-append-le first front more (omega (arith, long, over)))
             ∙ cells_text-append end delims n first (drop first front) more,
       )
 
-part_of_row : (front before piece rest : List ℕ) {next all : List ℕ} → next ≡ before ++ piece → all ≡ next ++ rest → ((front ++ before) ++ piece) ++ rest ≡ front ++ all
+part_of_row : (front before piece rest : List ℕ) {next all : List ℕ} → next ≡ before ++ piece → all ≡ next ++ rest
+    → ((front ++ before) ++ piece) ++ rest ≡ front ++ all
 part_of_row front before piece rest a b = rw (b, a) (simp append_assoc)
 
 pub returns-in_err-push : goal.returns-in_err-push
 returns-in_err-push g c =
     let e = err_from_is_err_and c.from_residual.result c.from_residual.ensures.1 in
     let row = c.args.row in
-    let all = text_to row.terminator row.delims.now (length row.cells.now) c.args.begun.count c.args.store.now.lines (length row.cells.now) in
-    push_failed e.1 (push_past_failure c.args.out.now c.push.new.self (take c.args.begun.end c.args.into.now) all c.in_err-push.ensures.pushed.fault c.push.ensures.pushed.wrote) c.in_err-push.ensures.pushed.fault
+    let all = text_to row.terminator row.delims.now (length row.cells.now) c.args.begun.count c.args.store.now.lines
+    (length row.cells.now) in
+    push_failed e.1 (push_past_failure c.args.out.now c.push.new.self (take c.args.begun.end c.args.into.now) all
+    c.in_err-push.ensures.pushed.fault c.push.ensures.pushed.wrote) c.in_err-push.ensures.pushed.fault
 
 pub loop-column-init : goal.loop-column-init
 loop-column-init g c =
     let row = c.args.row in
     let front = take c.args.begun.end c.args.into.now in
-    let none = text_start row.terminator row.delims.now (length row.cells.now) c.args.begun.count c.args.store.now.lines in
+    let none = text_start row.terminator row.delims.now (length row.cells.now) c.args.begun.count c.args.store.now.lines
+    in
     record {
-      wrote = subst (PushEffect c.args.out.now c.push.new.self) (sym (ap (λ (l : List ℕ). front ++ l) none ∙ append-nil front)) c.push.ensures.pushed.wrote;
+      wrote = subst (PushEffect c.args.out.now c.push.new.self)
+          (sym (ap (λ (l : List ℕ). front ++ l) none ∙ append-nil front)) c.push.ensures.pushed.wrote;
       clean = c.in_ok-push.ensures.pushed.clean;
       within = c.requires.within;
     }
@@ -66,12 +78,16 @@ returns-in_err-write_slot g c =
     let before = text_to row.terminator row.delims.now size first lines k in
     let piece = get_or lines k [] ++ after_cell row.terminator row.delims.now size k in
     let over : first ≤ k = omega (arith, c.loop-column.auto.column) in
-    let more = text_more row.terminator row.delims.now size first lines k over (omega (arith, c.loop-column-test.true, c.requires.slots)) in
-    let rest = text_rest row.terminator row.delims.now size first lines (k + 1) size (omega (arith, over)) (omega (arith, c.loop-column-test.true)) c.requires.slots in
-    let wrote = push_trans c.args.out.now c.loop-column.out c.write_slot.new.out (front ++ before) piece c.loop-column.invariant.clean c.loop-column.invariant.wrote c.write_slot.ensures.wrote in
+    let more = text_more row.terminator row.delims.now size first lines k over
+    (omega (arith, c.loop-column-test.true, c.requires.slots)) in
+    let rest = text_rest row.terminator row.delims.now size first lines (k + 1) size (omega (arith, over))
+    (omega (arith, c.loop-column-test.true)) c.requires.slots in
+    let wrote = push_trans c.args.out.now c.loop-column.out c.write_slot.new.out (front ++ before) piece
+    c.loop-column.invariant.clean c.loop-column.invariant.wrote c.write_slot.ensures.wrote in
     push_failed e.1
     (subst (PushEffect c.args.out.now c.write_slot.new.out) (part_of_row front before piece rest.0 more rest.1)
-    (push_past_failure c.args.out.now c.write_slot.new.out ((front ++ before) ++ piece) rest.0 c.in_err-write_slot.ensures.fault wrote)) c.in_err-write_slot.ensures.fault
+    (push_past_failure c.args.out.now c.write_slot.new.out ((front ++ before) ++ piece) rest.0
+    c.in_err-write_slot.ensures.fault wrote)) c.in_err-write_slot.ensures.fault
 
 pub loop-column-preserved : goal.loop-column-preserved
 loop-column-preserved g c =
@@ -84,15 +100,19 @@ loop-column-preserved g c =
     let before = text_to row.terminator row.delims.now size first lines k in
     let piece = get_or lines k [] ++ after_cell row.terminator row.delims.now size k in
     let over : first ≤ k = omega (arith, c.loop-column.auto.column) in
-    let more = text_more row.terminator row.delims.now size first lines k over (omega (arith, c.loop-column-test.true, c.requires.slots)) in
+    let more = text_more row.terminator row.delims.now size first lines k over
+    (omega (arith, c.loop-column-test.true, c.requires.slots)) in
     record {
-      wrote = subst (PushEffect c.args.out.now c.write_slot.new.out) (append_assoc front before piece ∙ ap (λ (l : List ℕ). front ++ l) (sym more))
-          (push_trans c.args.out.now c.loop-column.out c.write_slot.new.out (front ++ before) piece c.loop-column.invariant.clean c.loop-column.invariant.wrote c.write_slot.ensures.wrote);
+      wrote = subst (PushEffect c.args.out.now c.write_slot.new.out)
+          (append_assoc front before piece ∙ ap (λ (l : List ℕ). front ++ l) (sym more))
+          (push_trans c.args.out.now c.loop-column.out c.write_slot.new.out (front ++ before) piece
+          c.loop-column.invariant.clean c.loop-column.invariant.wrote c.write_slot.ensures.wrote);
       clean = c.in_ok-write_slot.ensures.clean;
       within = omega (arith, c.loop-column-test.true);
     }
 
 pub returns : goal.returns
 returns g c =
-    let all : c.loop-column.column ≡ length c.args.row.cells.now = omega (arith, c.loop-column-test.false, c.loop-column.invariant.within) in
+    let all : c.loop-column.column ≡ length c.args.row.cells.now = omega
+    (arith, c.loop-column-test.false, c.loop-column.invariant.within) in
     record { wrote = rw all at c.loop-column.invariant.wrote; clean = c.loop-column.invariant.clean; fault = tt }

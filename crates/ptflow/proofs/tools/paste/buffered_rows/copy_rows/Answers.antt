@@ -10,24 +10,34 @@ has_line true same = refl
 has_line false same = sym same
 
 pub rows-init : goal.rows-init
-rows-init g c = record { rows = rows_taken_none; consumed = consumed_none; size_bound = omega arith; buffer_size = c.told-into }
+rows-init g c = record {
+  rows = rows_taken_none;
+  consumed = consumed_none;
+  size_bound = omega arith;
+  buffer_size
+      = c.told-into;
+}
 
 pub copy_columns-begun-requires-clause-readable : goal.copy_columns-begun-requires-clause-readable
-copy_columns-begun-requires-clause-readable g c = still_readable c.args.row.terminator c.args.row.cells.now c.rows.invariant.consumed c.requires
+copy_columns-begun-requires-clause-readable g c = still_readable c.args.row.terminator c.args.row.cells.now
+    c.rows.invariant.consumed c.requires
 
 pub returns-then-begun-row-clause-rows : goal.returns-then-begun-row-clause-rows
 returns-then-begun-row-clause-rows g c =
-    rows_and_begun c.rows.into c.copy_columns-begun.new.into c.rows.invariant.rows c.rows.invariant.consumed c.copy_columns-begun.ensures.cells
+    rows_and_begun c.rows.into c.copy_columns-begun.new.into c.rows.invariant.rows c.rows.invariant.consumed
+    c.copy_columns-begun.ensures.cells
     c.copy_columns-begun.ensures.within.1 (omega (arith, c.rows.invariant.size_bound))
 
 pub rows-smaller : goal.rows-smaller
-rows-smaller g c = (c.copy_columns-begun.ensures.cells.filled c.rows.readers [] fill_starts).less (has_line _ c.if-not-begun.false)
+rows-smaller g c = (c.copy_columns-begun.ensures.cells.filled c.rows.readers [] fill_starts).less
+    (has_line _ c.if-not-begun.false)
 
 pub rows-preserved : goal.rows-preserved
 rows-preserved g c =
     let p = c.copy_columns-begun.ensures.cells in
     record {
-      rows = rows_more c.rows.invariant.rows (still_readable c.args.row.terminator c.args.row.cells.now c.rows.invariant.consumed c.requires) p
+      rows = rows_more c.rows.invariant.rows (still_readable c.args.row.terminator c.args.row.cells.now
+          c.rows.invariant.consumed c.requires) p
           (omega (arith, c.if-begun-row.false, c.copy_columns-begun.ensures.within)) (has_line _ c.if-not-begun.false);
       consumed = consumed_trans c.rows.invariant.consumed p.consumed;
       size_bound = c.copy_columns-begun.result.size_bound;

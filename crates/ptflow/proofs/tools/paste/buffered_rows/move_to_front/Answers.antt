@@ -3,7 +3,8 @@ use lib.Seq.{paste}
 use Rattle.std.proofs.lemmas.List.Edits.{take-paste}
 use Rattle.ptflow.proofs.tools.paste.buffered_rows.move_to_front.Goals as goal
 
-moved : (at to : ℕ) (bytes : List ℕ) → at ≤ to → to ≤ length bytes → take (to - at) (paste bytes 0 (drop at bytes) (to - at)) ≡ drop at (take to bytes)
+moved : (at to : ℕ) (bytes : List ℕ) → at ≤ to → to ≤ length bytes
+    → take (to - at) (paste bytes 0 (drop at bytes) (to - at)) ≡ drop at (take to bytes)
 moved at to bytes further fits =
     let start : to - at ≡ 0 + (to - at) = omega arith in
     let split : at + (to - at) ≡ to = omega (arith, further) in
@@ -14,4 +15,5 @@ moved at to bytes further fits =
 pub returns-clause-moved : goal.returns-clause-moved
 returns-clause-moved c =
     ap (take (c.args.copied.begun.end - c.args.copied.end)) c.copy_within.ensures.after
-    ∙ moved c.args.copied.end c.args.copied.begun.end c.args.into.now c.args.copied.order (omega (arith, c.args.copied.begun.size_bound, c.told-into))
+    ∙ moved c.args.copied.end c.args.copied.begun.end c.args.into.now c.args.copied.order
+    (omega (arith, c.args.copied.begun.size_bound, c.told-into))

@@ -8,7 +8,8 @@ use Rattle.ptflow.proofs.tools.paste.shared_input.write_shared_rows.Goals as goa
 use Rattle.ptflow.proofs.tools.paste.shared_input.write_shared_rows.Goals.{In-Some}
 
 low : (g : given.Over) (c : In-Some g) → get_or c.args.row.cells.now 0 0 < length c.args.readers.now
-low g c = All-get_or (λ (p : ℕ). p < length c.args.readers.now) c.args.row.cells.now 0 0 ((rw c.in-Some.is at c.requires.is_cycle).0).some c.requires.readable.0
+low g c = All-get_or (λ (p : ℕ). p < length c.args.readers.now) c.args.row.cells.now 0 0
+    ((rw c.in-Some.is at c.requires.is_cycle).0).some c.requires.readable.0
 
 pub returns-in_default-clause-rows : goal.returns-in_default-clause-rows
 returns-in_default-clause-rows g c = no_rows_written
@@ -21,7 +22,8 @@ returns-clause-rows g c =
     let copied = c.copy_shared_rows-count.ensures in
     let t = rw c.in-Some.is at c.requires.is_cycle in
     copied_rows t.0 c.requires.readable.0 c.requires.readable.1
-    c.index-readers-input.result copied.sound (omega (arith, c.if-count-eq0.false)) copied.within (rw t.1 at copied.rows)
+    c.index-readers-input.result copied.sound (omega (arith, c.if-count-eq0.false)) copied.within
+    (rw t.1 at copied.rows)
     c.index-readers-input-2.result c.consume.ensures.consumed (rw t.1 at copied.copied) c.push.ensures.pushed.wrote
 
 pub bounds-row-0 : goal.bounds-row-0
@@ -31,18 +33,21 @@ pub bounds-readers-input : goal.bounds-readers-input
 bounds-readers-input g c = low g (goal.at.bounds-readers-input g c).In-Some
 
 pub offset_bounds-readers-input : goal.offset_bounds-readers-input
-offset_bounds-readers-input g c = let there = low g (goal.at.offset_bounds-readers-input g c).In-Some in search (scaled_Fits, there)
+offset_bounds-readers-input g c = let there = low g (goal.at.offset_bounds-readers-input g c).In-Some in search
+    (scaled_Fits, there)
 
 pub bounds-readers-input-2 : goal.bounds-readers-input-2
 bounds-readers-input-2 g c = low g (goal.at.bounds-readers-input-2 g c).In-Some
 
 pub offset_bounds-readers-input-2 : goal.offset_bounds-readers-input-2
-offset_bounds-readers-input-2 g c = let there = low g (goal.at.offset_bounds-readers-input-2 g c).In-Some in search (scaled_Fits, there)
+offset_bounds-readers-input-2 g c = let there = low g (goal.at.offset_bounds-readers-input-2 g c).In-Some in search
+    (scaled_Fits, there)
 
 pub consume-requires : goal.consume-requires
 consume-requires g c =
     let there = low g (goal.at.consume-requires g c).In-Some in
     let readers = c.args.readers.now in
     let input = get_or c.args.row.cells.now 0 0 in
-    let same = at_index readers input c.index-readers-input.result there ∙ sym (at_index readers input c.index-readers-input-2.result there) in
+    let same = at_index readers input c.index-readers-input.result there
+    ∙ sym (at_index readers input c.index-readers-input-2.result there) in
     omega (arith, c.copy_shared_rows-count.ensures.within, ap length (ap (λ (r : Reader). r.buffered) same))
