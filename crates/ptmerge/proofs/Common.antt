@@ -41,7 +41,7 @@ pub use Rattle.ptmerge.specs.JoinGroup.{AddedAtLeast, ReadGroupLineOkPost, ReadG
 pub use Rattle.ptmerge.specs.Join.{unpaired_entries1, unpaired_entries2, unpaired_entry, output_separator, entry, join_fields, or_filler, max_over_keys, is_nonempty, join_with, join_entries, join_key, join_tool, max_group_bytes, max_group_lines}
 pub use Rattle.ptlines.specs.Text.{is_blank}
 pub use Rattle.ptmerge.specs.Join.{field_named, nth_field, other_fields, pair_entries, output_fields}
-pub use Rattle.ptmerge.specs.JoinFields.{IsFirstPieceEnd, IsCanonical, HasSingleSpaces, IsFieldIn, IsPiece, MisplacedBlankAt, is_separator, entry_with_list, remaining_fields, is_single_spaced, is_misplaced_blank, with_prefix}
+pub use Rattle.ptmerge.specs.JoinFields.{AreBlanks, IsFieldAt, IsFieldFound, IsFirstPieceEnd, IsCanonical, IsFieldIn, IsPiece, IsSplit, around, is_evenly_separated, is_separator, entry_with_list, remaining_fields, has_single_spaces, is_single_spaced, with_prefix}
 pub use Rattle.ptmerge.specs.MergeSpec.{FirstDisorder, Lines, MergeTool, entries_by_key, decided_output, decided_entries, disorder, earlier_disorder, distinct_keys, entries_of_key, first_disorder, insert_key, is_below, is_decided, is_past, lines_decide_disorder}
 pub use Rattle.ptmerge.specs.MergeSpec.{keys, lines_of, merge_output, merged_entries, sorted_prefixes, sorted_prefix, disorder_is_decided, is_up_to, lines_with_key}
 pub use Rattle.ptmerge.specs.WriteAndAdvance.{IsReadyToContinue, AdvanceOkPost, WriteFaultPost, WriteThenNextPost, AdvancePre}

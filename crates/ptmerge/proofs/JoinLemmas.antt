@@ -4,3 +4,4 @@ pub mod GroupSlots
 pub mod GroupInvariant
 pub mod GroupIteration
 pub mod Iteration
+pub mod Words

@@ -1,13 +1,15 @@
 -- The fields of a line as `join` reads them one by one: the rest of the line after a field, and lines that are written
 -- unchanged.
-use Rattle.std.specs.Prelude.{◌≡◌, ◌≤◌, ◌+◌, ◌++◌, ℕ, length, take, IfSome, MatchOption, ◌==◌, List, [], ◌∷◌, Option, Some, None, Bool, false, true, not, ◌||◌, ◌&&◌, ◌-◌, slice_index, if◌then◌else◌}
-use Rattle.std.specs.List.{flat_map, join_with_byte, slice_split}
-use Rattle.memchr.specs.Find.{Nowhere}
-use Rattle.ptlines.specs.Bounds.{HasChunk}
+use Rattle.std.specs.Prelude.{◌≡◌, ◌≤◌, ◌++◌, ℕ, length, map, take, drop, IfSome, MatchOption, ◌==◌, List, [], ◌∷◌, Option, Some, None, Bool, false, true, not, ◌||◌, ◌&&◌, ◌-◌, if◌then◌else◌, unwrap_or}
+use Rattle.std.specs.List.{flat_map, join_with_byte, slice_range, slice_split}
+use Rattle.std.specs.Simd.Lanes.{mask_l}
+use Rattle.memchr.specs.Find.{is_byte}
 use Rattle.ptlangs.specs.Jobs.{Join}
 use Rattle.ptlangs.specs.declared.outlist.OutField.{OutField}
 use Rattle.ptmerge.specs.MergeSpec.{Lines}
 use Rattle.ptmerge.specs.declared.key_order.Side.{Side}
+use Rattle.ptmerge.specs.declared.key_order.Span.{Span}
+use Rattle.ptmerge.specs.declared.tools.join.words.Blanks.{Blanks}
 use Rattle.ptmerge.specs.Join.{output_separator, join_fields, join_key, output_fields}
 use Rattle.ptlines.specs.Text.{is_blank}
 
@@ -46,37 +48,57 @@ abbrev pub is_single_spaced : Bool → List ℕ → Bool
 is_single_spaced blank [] = not blank
 is_single_spaced blank (b ∷ bytes) = if (b == 9) || (blank && (b == 32)) then false else is_single_spaced (b == 32) bytes
 
--- From the index `at` on there are `n` to 2 * `n` bytes, so that the first `n` and the last `n` of them cover all.
-abbrev pub HasOverlappingEnds : ℕ → ℕ → List ℕ → Type 0
-HasOverlappingEnds n at bytes = HasChunk n at bytes × (length bytes ≤ at + n + n)
+-- None of the bytes is a tab, or a space after a blank. `blank` is true if a blank precedes the bytes.
+abbrev pub has_single_spaces : Bool → List ℕ → Bool
+has_single_spaces blank [] = true
+has_single_spaces blank (b ∷ bytes) = if (b == 9) || (blank && (b == 32)) then false else has_single_spaces (b == 32) bytes
 
--- A blank that a line with single spaces cannot have: a tab, or a space after a space.
-abbrev pub is_misplaced_blank : ℕ → ℕ → Bool
-is_misplaced_blank before b = (b == 9) || ((before == 32) && (b == 32))
+-- The masks of the blanks and of the tabs among these bytes.
+pub record AreBlanks (bytes : List ℕ) (blanks : Blanks) : Type 0 where
+  pub any : blanks.any ≡ mask_l (map is_blank bytes)
+  pub tabs : blanks.tabs ≡ mask_l (map (is_byte 9) bytes)
 
--- The byte at the index `k` is such a blank, given the byte before it.
-abbrev pub MisplacedBlankAt : List ℕ → ℕ → Type 0
-MisplacedBlankAt bytes k = is_misplaced_blank (slice_index bytes (k - 1)) (slice_index bytes k) ≡ true
+-- The line is its fields with one output separator between each two.
+abbrev pub is_evenly_separated : Option ℕ → List ℕ → Bool
+is_evenly_separated (Some c) line = true
+is_evenly_separated None line = is_single_spaced true line
 
--- The result of a check that no byte from the index `from` to before `to` is a misplaced blank.
-pub record HasSingleSpaces (bytes : List ℕ) (from to : ℕ) (even : Bool) : Type 0 where
-  pub so : even ≡ true → Nowhere (MisplacedBlankAt bytes) from to
-  pub not_so : even ≡ false → ¬ Nowhere (MisplacedBlankAt bytes) from to
+-- The field with this number, counted from 1, is at this span of the line, and `more` are the fields after it.
+pub record IsFieldAt (separator : Option ℕ) (number : ℕ) (line : List ℕ) (span : Span) : Type 0 where
+  pub more : Lines
+  pub is : drop (number - 1) (join_fields separator line) ≡ slice_range line span.start span.end ∷ more
+  pub ordered : span.start ≤ span.end
+  pub within : span.end ≤ length line
+  pub after : is_evenly_separated separator line ≡ true → with_prefix (output_separator separator) more ≡ drop span.end line
+
+-- The field with this number is at the span, or it does not exist and there is no span.
+abbrev pub IsFieldFound : Option ℕ → ℕ → List ℕ → Option Span → Type 0
+IsFieldFound separator number line found = MatchOption found (drop (number - 1) (join_fields separator line) ≡ []) (IsFieldAt separator number line)
+
+-- The line without the span and the separator before it, if there is a span, each field after a separator.
+abbrev pub around : ℕ → List ℕ → Option Span → List ℕ
+around prefix line None = prefix ∷ line
+around prefix line (Some span) = if span.start == 0 then drop span.end line else prefix ∷ take (span.start - 1) line ++ drop span.end line
 
 -- `field` is part of `line`, and `remainder` is the rest of the line after it: the field is followed by one separator
 -- and the rest, or it ends the line and there is no rest.
-pub record IsPiece (line field : List ℕ) (remainder : Option (List ℕ)) : Type 0 where
+pub record IsPiece (separator : Option ℕ) (line field : List ℕ) (remainder : Option (List ℕ)) : Type 0 where
   pub front : List ℕ
   pub tail : List ℕ
   pub is : line ≡ front ++ (field ++ tail)
-  pub ends : MatchOption remainder (tail ≡ []) (λ left. (byte : ℕ) × (tail ≡ byte ∷ left))
+  pub ends : MatchOption remainder (tail ≡ []) (λ left. (byte : ℕ) × (tail ≡ byte ∷ left) × (is_separator separator byte ≡ true))
 
 -- Like `IsPiece`, for a field in the rest of a line.
-abbrev pub IsFieldIn : Option (List ℕ) → List ℕ → Option (List ℕ) → Type 0
-IsFieldIn left field remainder = MatchOption left ⊥ (λ bytes. IsPiece bytes field remainder)
+abbrev pub IsFieldIn : Option ℕ → Option (List ℕ) → List ℕ → Option (List ℕ) → Type 0
+IsFieldIn separator left field remainder = MatchOption left ⊥ (λ bytes. IsPiece separator bytes field remainder)
 
 -- The first separator or blank in `bytes` is at the index `end`, or there is none and `end` is their length.
 pub record IsFirstPieceEnd (separator : Option ℕ) (bytes : List ℕ) (end : ℕ) : Type 0 where
   pub remainder : Lines
   pub is : slice_split (is_separator separator) bytes ≡ take end bytes ∷ remainder
   pub within : end ≤ length bytes
+
+-- These are the separator and the line that is split, which is empty if there is no line.
+pub record IsSplit (separator : Option ℕ) (line : Option (List ℕ)) (by : Option ℕ) (bytes : List ℕ) : Type 0 where
+  pub separator_is : by ≡ separator
+  pub line_is : bytes ≡ unwrap_or line []

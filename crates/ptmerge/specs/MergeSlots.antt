@@ -1,5 +1,5 @@
 -- The slots of the store that a merge uses: 0 and 1 for the first input, 2 and 3 for the second.
-use Rattle.std.specs.Prelude.{◌≡◌, ◌≤◌, ◌+◌, ℕ, true, false, length, max}
+use Rattle.std.specs.Prelude.{◌≡◌, ◌≤◌, ◌+◌, ℕ, true, length, max}
 use Rattle.ptlines.specs.Slots.{Slots, line, total_bytes}
 
 -- The postcondition of `ensure_four_slots`: missing slots among the first four were added, and nothing else changed.

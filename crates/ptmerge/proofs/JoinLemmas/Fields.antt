@@ -1,18 +1,20 @@
--- Fields of a line of `join`: how they are found (`fields`), how they are written (`output`), and SIMD tests for blanks
--- (`words`). A line is split by repeatedly taking the bytes before the first separator, so a field starts at the index
--- at which the split finds it, and its span is the difference of two lengths. Writing the fields of a canonical line
--- with separators gives the line back, since joining undoes splitting. The SIMD tests hold since each bit of a mask is
--- the test of one byte.
+-- Fields of a line of `join`: how they are found (`fields`) and written (`output`). A line is split by repeatedly taking
+-- the bytes before the first separator, so a field starts at the index at which the split finds it, and its span is the
+-- difference of two lengths. Writing the fields of a canonical line gives the line back, since joining undoes splitting;
+-- so the fields after a field are the bytes after it.
 use Rattle.std.proofs.lemmas.Bool.{false_from_ne_true}
 use Rattle.ptmerge.proofs.Common.{nil_from_length, drop_more, length-drop, length-append, ◌≡◌, ℕ, suc, ◌+◌, ◌-◌, ◌≤◌, Bool, true, false, ltb, List, [], ◌∷◌, Option, None, Some, length, drop, get_or}
 use Rattle.ptmerge.proofs.Common.{refl, sym, ◌∙◌, ap, arith, zero, ◌<◌, ◌==◌, cond, ◌++◌, take, append_assoc, position, IfSome, MatchOption, filter, is_some, position_or_len, slice_split, nat_tests}
-use Rattle.ptmerge.proofs.Common.{drop-drop, get_or_past, take-append-drop, take_all, position_or_len_is, IsFirstByte, nth_field, is_nonempty, is_blank, Lines, false≢true, split_around, split_whole}
-use Rattle.ptmerge.proofs.Common.{IsFirstPieceEnd, IsFieldIn, IsPiece, is_separator, entry_with_list, remaining_fields, IsKeySpan, ◌||◌, ◌&&◌, map, remove, unwrap_or, onto_first, join_with_byte, eqb-true}
-use Rattle.ptmerge.proofs.Common.{append-nil, flat_map-append, Join, output_separator, entry, join_fields, or_filler, field_named, other_fields, output_fields, IsCanonical, is_single_spaced, with_prefix, ⊎_elim, ◌%◌, ◌^◌, eqb, not}
-use Rattle.ptmerge.proofs.Common.{replicate, bit_and, bit_or, or_cases, or_left, or_parts, or_right, length-map, Nowhere, HasSingleSpaces, MisplacedBlankAt, is_misplaced_blank, drop-append_seam}
+use Rattle.ptmerge.proofs.Common.{drop-drop, take-append-drop, take_all, position_or_len_is, IsFirstByte, nth_field, is_nonempty, is_blank, Lines, false≢true, split_around, split_whole}
+use Rattle.ptmerge.proofs.Common.{IsFirstPieceEnd, IsFieldIn, IsPiece, is_separator, entry_with_list, remaining_fields, IsKeySpan, IsFieldAt, IsFieldFound, is_evenly_separated, around, ◌||◌, ◌&&◌, map, remove, unwrap_or, onto_first, join_with_byte, eqb-true}
+use Rattle.ptmerge.proofs.Common.{append-nil, flat_map-append, Join, output_separator, entry, join_fields, or_filler, field_named, other_fields, output_fields, IsCanonical, is_single_spaced, with_prefix, ◌%◌, ◌^◌, eqb}
+use Rattle.ptmerge.proofs.Common.{replicate, bit_or, length-map, drop-append_seam, get_or-drop, take_at, nat_tests}
+use Rattle.std.proofs.lemmas.List.{length-take-le}
 use Rattle.std.proofs.lemmas.List.Quantifiers.{position-Some}
 use Rattle.ptlangs.specs.declared.outlist.OutField.{OutField}
-use Rattle.std.proofs.lemmas.Simd.{get_or-chunk, get_or-zip2, length-chunk, length-zip2, mask_l-mod}
+use Rattle.ptmerge.specs.declared.key_order.Span.{Span}
+use Rattle.std.proofs.lemmas.Simd.{length-chunk, mask_l-mod}
+use Rattle.std.specs.List.{slice_range}
 use Rattle.std.specs.Simd.Lanes.{chunk, mask_l, top, zip2}
 
 -- ---- the end of a field
@@ -31,8 +33,15 @@ first_is_position test bytes (Some at) first =
 
 -- ---- the field with a number
 
-pub nth_past : (n i : ℕ) (fs : Lines) → drop i fs ≡ [] → i ≤ n - 1 → nth_field n fs ≡ []
-nth_past n i fs none le = get_or_past fs (n - 1) [] (omega (arith, ap length none, length-drop i fs, le))
+-- no fields are left after more fields than there are
+pub none_past : (fs : Lines) (i n : ℕ) → drop i fs ≡ [] → i ≤ n → drop n fs ≡ []
+none_past fs i n none le =
+    let more : n ≡ i + (n - i) = omega (arith, le) in
+    ap (λ (k : ℕ). drop k fs) more ∙ sym (drop-drop (n - i) i fs) ∙ ap (drop (n - i)) none ∙ drop-none (n - i)
+  where
+    drop-none : (n : ℕ) → drop {A = List ℕ} n [] ≡ []
+    drop-none zero = refl
+    drop-none (suc n) = refl
 
 pub drop_next : (fs more : Lines) (f : List ℕ) (i : ℕ) → drop i fs ≡ f ∷ more → drop (i + 1) fs ≡ more
 drop_next fs more f i some = sym (drop-drop 1 i fs) ∙ ap (drop 1) some
@@ -49,29 +58,30 @@ abbrev pub IsRemainderOf : Option (List ℕ) → Option (List ℕ) → Type 0
 IsRemainderOf line left = IfSome left (λ b. MatchOption line ⊥ (λ l. (front : List ℕ) × (l ≡ front ++ b)))
 
 -- a field of the rest of a line is a field of the line
-pub field_in : (line left : Option (List ℕ)) (field : List ℕ) (remainder : Option (List ℕ)) → IsRemainderOf line left → IsFieldIn left field remainder → IsFieldIn line field remainder
-field_in line None field remainder e p = absurd p
-field_in None (Some b) field remainder e p = absurd e
-field_in (Some l) (Some b) field remainder e p = record { front = e.0 ++ p.front; tail = p.tail; is = rw (e.1, p.is) (simp append_assoc); ends = p.ends }
+pub field_in : (separator : Option ℕ) (line left : Option (List ℕ)) (field : List ℕ) (remainder : Option (List ℕ)) → IsRemainderOf line left → IsFieldIn separator left field remainder → IsFieldIn separator line field remainder
+field_in separator line None field remainder e p = absurd p
+field_in separator None (Some b) field remainder e p = absurd e
+field_in separator (Some l) (Some b) field remainder e p = record { front = e.0 ++ p.front; tail = p.tail; is = rw (e.1, p.is) (simp append_assoc); ends = p.ends }
 
 -- the rest after that field is a suffix of the line, too
-pub remaining_after : (line left : Option (List ℕ)) (field : List ℕ) (remainder : Option (List ℕ)) → IsRemainderOf line left → IsFieldIn left field remainder → IsRemainderOf line remainder
-remaining_after line left field None e p = tt
-remaining_after line None field (Some b) e p = absurd p
-remaining_after None (Some l) field (Some b) e p = absurd e
-remaining_after (Some line) (Some l) field (Some b) e p = (e.0 ++ (p.front ++ (field ++ (p.ends.0 ∷ []))), rw (e.1, p.is, p.ends.1) (simp append_assoc))
+pub remaining_after : (separator : Option ℕ) (line left : Option (List ℕ)) (field : List ℕ) (remainder : Option (List ℕ)) → IsRemainderOf line left → IsFieldIn separator left field remainder → IsRemainderOf line remainder
+remaining_after separator line left field None e p = tt
+remaining_after separator line None field (Some b) e p = absurd p
+remaining_after separator None (Some l) field (Some b) e p = absurd e
+remaining_after separator (Some line) (Some l) field (Some b) e p = (e.0 ++ (p.front ++ (field ++ (p.ends.0 ∷ []))), rw (e.1, p.is, p.ends.1) (simp append_assoc))
 
 -- ---- the first field
 
 -- the bytes before the first separator, and the rest after it
-pub piece_at : (p : ℕ → Bool) (bytes : List ℕ) (at : ℕ) → position p bytes ≡ Some at → IsPiece bytes (take at bytes) (Some (take (length bytes - (at + 1)) (drop (at + 1) bytes)))
-piece_at p bytes at is = record {
+pub piece_at : (separator : Option ℕ) (bytes : List ℕ) (at : ℕ) → position (is_separator separator) bytes ≡ Some at → IsPiece separator bytes (take at bytes) (Some (take (length bytes - (at + 1)) (drop (at + 1) bytes)))
+piece_at separator bytes at is = let found = position-Some (is_separator separator) bytes at 0 is in record {
   front = [];
   tail = drop at bytes;
   is = sym (take-append-drop at bytes);
   ends = (
     get_or bytes at 0,
-    drop_more bytes at 0 (position-Some p bytes at 0 is).0 ∙ ap (λ (l : List ℕ). get_or bytes at 0 ∷ l) (sym (take_all _ (drop (at + 1) bytes) (omega (arith, length-drop (at + 1) bytes)))),
+    drop_more bytes at 0 found.0 ∙ ap (λ (l : List ℕ). get_or bytes at 0 ∷ l) (sym (take_all _ (drop (at + 1) bytes) (omega (arith, length-drop (at + 1) bytes)))),
+    found.1,
   );
 }
 
@@ -254,16 +264,14 @@ module _ (job : Join) (key : List ℕ) (none : job.list ≡ None) where
   pub second_is : {line : List ℕ} → IsCanonical job.separator job.field2 line → nth_field job.field2 (of line) ≡ key → line ≡ entry job key [] (of line)
   second_is {line} w keyed = rw (entry_plain job key None (Some line) none, others_none prefix (job.field1 - 1)) (canonical_is w keyed)
 
--- ---- vector lanes
-
--- the lanes that equal a byte, as masks
-abbrev equal_lanes : List ℕ → ℕ → ℕ → List ℕ
-equal_lanes v n byte = zip2 (λ a b. cond (eqb a b) 255 0) v (replicate n byte)
-
 -- ---- blanks
 
 or_of_lanes : (p q : Bool) → top 7 (bit_or (cond p 255 0) (cond q 255 0)) ≡ (p || q)
 or_of_lanes p q = grind arith
+
+-- the lanes that equal a byte, as masks
+abbrev equal_lanes : List ℕ → ℕ → ℕ → List ℕ
+equal_lanes v n byte = zip2 (λ a b. cond (eqb a b) 255 0) v (replicate n byte)
 
 blank_lanes : (v : List ℕ) (n : ℕ) → length v ≡ n → map (top 7) (zip2 bit_or (equal_lanes v n 32) (equal_lanes v n 9)) ≡ map is_blank v
 blank_lanes [] n long = refl
@@ -277,121 +285,115 @@ blank_mask bytes at n within few =
     let long = length-chunk at n bytes within in
     ap (λ (ms : List Bool). mask_l ms % 2 ^ 64) (blank_lanes v n long) ∙ mask_l-mod (map is_blank v) 64 (omega (arith, length-map v is_blank, long, few))
 
--- ---- a tab, or a space after a space
-
-and_lane : (p q : Bool) → bit_and (cond p 255 0) (cond q 255 0) ≡ cond (p && q) 255 0
-and_lane p q = grind arith
-
-misplaced_lanes : (u v : List ℕ) (n : ℕ) → length u ≡ n → length v ≡ n → map (top 7) (zip2 bit_or (equal_lanes v n 9) (zip2 bit_and (equal_lanes u n 32) (equal_lanes v n 32))) ≡ zip2 is_misplaced_blank u v
-misplaced_lanes [] [] n lu lv = refl
-misplaced_lanes (a ∷ u) (b ∷ v) (suc n) lu lv =
-    let lane = ap (λ (x : ℕ). top 7 (bit_or (cond (eqb b 9) 255 0) x)) (and_lane (eqb a 32) (eqb b 32)) ∙ or_of_lanes (eqb b 9) (eqb a 32 && eqb b 32) in
-    λ i. lane i ∷ misplaced_lanes u v n (omega (arith, lu)) (omega (arith, lv)) i
-misplaced_lanes u v n lu lv = absurd (omega (arith, lu, lv))
-
-none_set : (ms : List Bool) → mask_l ms ≡ 0 → (k : ℕ) → get_or ms k false ≡ false
-none_set [] none k = get_or_past [] k false (omega arith)
-none_set (true ∷ ms) none k = absurd (omega (arith, none))
-none_set (false ∷ ms) none zero = refl
-none_set (false ∷ ms) none (suc k) = none_set ms (omega (arith, none)) k
-
-set_none : (ms : List Bool) → ((k : ℕ) → k < length ms → get_or ms k false ≡ false) → mask_l ms ≡ 0
-set_none [] none = refl
-set_none (true ∷ ms) none = absurd (false≢true (sym (none 0 (omega arith))))
-set_none (false ∷ ms) none = let rest = set_none ms (λ k low. none (suc k) (omega (arith, low))) in omega (arith, rest)
-
-module _ (bytes : List ℕ) (at n : ℕ) (remainder : 0 < at) (room : at + n ≤ length bytes) (few : n ≤ 64) where
-  abbrev front : List ℕ
-  front = chunk (at - 1) n bytes
-
-  abbrev here : List ℕ
-  here = chunk at n bytes
-
-  front_long : length front ≡ n
-  front_long = length-chunk (at - 1) n bytes (omega (arith, room, remainder))
-
-  here_long : length here ≡ n
-  here_long = length-chunk at n bytes room
-
-  lane_at : (k : ℕ) → k < n → get_or (zip2 is_misplaced_blank front here) k false ≡ is_misplaced_blank (get_or bytes ((at + k) - 1) 0) (get_or bytes (at + k) 0)
-  lane_at k low =
-      let before : (at - 1) + k ≡ (at + k) - 1 = omega (arith, remainder) in
-      get_or-zip2 is_misplaced_blank front here k 0 0 false (omega (arith, low, front_long)) (omega (arith, low, here_long))
-      ∙ (λ i. is_misplaced_blank (get_or-chunk (at - 1) n bytes k 0 low i) (get_or-chunk at n bytes k 0 low i)) ∙ ap (λ (i : ℕ). is_misplaced_blank (get_or bytes i 0) (get_or bytes (at + k) 0)) before
-
-  lanes_long : length (zip2 is_misplaced_blank front here) ≡ n
-  lanes_long = length-zip2 is_misplaced_blank front here (front_long ∙ sym here_long) ∙ front_long
-
-  spaces_by_mask : (m : ℕ) → m ≡ mask_l (zip2 is_misplaced_blank front here) → HasSingleSpaces bytes at (at + n) (eqb m 0)
-  spaces_by_mask m is = record {
-    so = λ zero_is k low high misplaced.
-        let cursor : at + (k - at) ≡ k = omega (arith, low) in
-        let none = none_set (zip2 is_misplaced_blank front here) (sym is ∙ eqb-true m 0 zero_is) (k - at) in
-        let err_is = lane_at (k - at) (omega (arith, low, high)) ∙ ap (λ (i : ℕ). is_misplaced_blank (get_or bytes (i - 1) 0) (get_or bytes i 0)) cursor in
-        false≢true (sym none ∙ err_is ∙ misplaced);
-    not_so = λ some nowhere.
-        let none = set_none (zip2 is_misplaced_blank front here) (λ k low. lane_at k (omega (arith, low, lanes_long))
-        ∙ false_from_ne_true (is_misplaced_blank (get_or bytes ((at + k) - 1) 0) (get_or bytes (at + k) 0)) (nowhere (at + k) (omega arith) (omega (arith, low, lanes_long)))) in
-        false≢true (sym some ∙ ap (λ (x : ℕ). eqb x 0) (is ∙ none));
-  }
-
-  pub single_spaces_mask : HasSingleSpaces bytes at (at + n) (eqb (mask_l (map (top 7) (zip2 bit_or (equal_lanes here n 9) (zip2 bit_and (equal_lanes front n 32) (equal_lanes here n 32)))) % 2 ^ 64) 0)
-  single_spaces_mask = spaces_by_mask _ (ap (λ (ms : List Bool). mask_l ms % 2 ^ 64) (misplaced_lanes front here n front_long here_long) ∙ mask_l-mod (zip2 is_misplaced_blank front here) 64 (omega (arith, lanes_long, few)))
-
--- ---- words with single spaces
-
-single_spaces_tail : (b x : ℕ) (xs : List ℕ) → Nowhere (MisplacedBlankAt (b ∷ x ∷ xs)) 1 (length (b ∷ x ∷ xs)) → Nowhere (MisplacedBlankAt (x ∷ xs)) 1 (length (x ∷ xs))
-single_spaces_tail b x xs none zero low high misplaced = absurd (omega (arith, low))
-single_spaces_tail b x xs none (suc k) low high misplaced = let e : suc (suc k) - 1 ≡ suc (suc k - 1) = omega arith in none (suc (suc k)) (omega arith) (omega (arith, high)) (rw e misplaced)
-
-single_spaced_rest : (b : ℕ) (xs : List ℕ) → Nowhere (MisplacedBlankAt (b ∷ xs)) 1 (length (b ∷ xs)) → (get_or (b ∷ xs) (length xs) 0 == 32) ≡ false → is_single_spaced (b == 32) xs ≡ true
-single_spaced_rest b [] none last = ap not last
-single_spaced_rest b (x ∷ xs) none last =
-    ap (λ (t : Bool). cond t false (is_single_spaced (x == 32) xs)) (false_from_ne_true (is_misplaced_blank b x) (none 1 (omega arith) (omega arith))) ∙ single_spaced_rest x xs (single_spaces_tail b x xs none) last
-
-rest_single_spaced : (b : ℕ) (xs : List ℕ) → is_single_spaced (b == 32) xs ≡ true → Nowhere (MisplacedBlankAt (b ∷ xs)) 1 (length (b ∷ xs)) × ((get_or (b ∷ xs) (length xs) 0 == 32) ≡ false)
-rest_single_spaced b [] is = (λ k low high misplaced. absurd (omega (arith, low, high)), elim (b == 32) as (λ t. not t ≡ true → t ≡ false) [ true ↦ λ h. sym h | false ↦ λ h. refl ] is)
-rest_single_spaced b (x ∷ xs) is =
-    let parts : (is_misplaced_blank b x ≡ false) × (is_single_spaced (x == 32) xs ≡ true) = elim (is_misplaced_blank b x) as (λ t. cond t false (is_single_spaced (x == 32) xs) ≡ true → (t ≡ false) × (is_single_spaced (x == 32) xs ≡ true))
-    [ true ↦ λ h. absurd (false≢true h) | false ↦ λ h. (refl, h) ] is in
-    let more = rest_single_spaced x xs parts.1 in
-    (at_each parts.0 more.0, more.1)
+-- a blank among single spaces is a space
+pub space_is : (blank : Bool) (b : ℕ) (v : List ℕ) → is_blank b ≡ true → is_single_spaced blank (b ∷ v) ≡ true → (b ≡ 32) × (is_single_spaced true v ≡ true)
+space_is blank b v here spaced = by (b == 9) (b == 32) refl blank here spaced
   where
-    at_each : is_misplaced_blank b x ≡ false → Nowhere (MisplacedBlankAt (x ∷ xs)) 1 (length (x ∷ xs)) → (k : ℕ) → 1 ≤ k → k < length (b ∷ x ∷ xs) → ¬ MisplacedBlankAt (b ∷ x ∷ xs) k
-    at_each here more zero low high misplaced = absurd (omega (arith, low))
-    at_each here more (suc zero) low high misplaced = false≢true (sym here ∙ misplaced)
-    at_each here more (suc (suc k)) low high misplaced = let e : suc (suc k) - 1 ≡ suc (suc k - 1) = omega arith in more (suc k) (omega arith) (omega (arith, high)) (rw e at misplaced)
+    by : (tab space : Bool) → (b == 32) ≡ space → (blank : Bool) → (space || tab) ≡ true → cond (tab || (blank && space)) false (is_single_spaced space v) ≡ true → (b ≡ 32) × (is_single_spaced true v ≡ true)
+    by true space e blank h s = absurd (false≢true s)
+    by false false e blank h s = absurd (false≢true h)
+    by false true e true h s = absurd (false≢true s)
+    by false true e false h s = (eqb-true b 32 e, s)
 
-first_word : (b : ℕ) (xs : List ℕ) → is_blank b ≡ false → is_single_spaced true (b ∷ xs) ≡ is_single_spaced (b == 32) xs
-first_word b xs word = let w = or_parts (b == 32) (b == 9) word in rw (w.1, w.0) refl
+spaced_suffix : (blank : Bool) (xs : List ℕ) (b : ℕ) (ys : List ℕ) → is_single_spaced blank (xs ++ b ∷ ys) ≡ true → is_blank b ≡ true → (b ≡ 32) × (is_single_spaced true ys ≡ true)
+spaced_suffix blank [] b ys s here = space_is blank b ys here s
+spaced_suffix blank (x ∷ xs) b ys s here = by (x == 9 || (blank && (x == 32))) s (spaced_suffix (x == 32) xs b ys)
+  where
+    by : (t : Bool) → cond t false (is_single_spaced (x == 32) (xs ++ b ∷ ys)) ≡ true
+        → (is_single_spaced (x == 32) (xs ++ b ∷ ys) ≡ true → is_blank b ≡ true → (b ≡ 32) × (is_single_spaced true ys ≡ true)) → (b ≡ 32) × (is_single_spaced true ys ≡ true)
+    by true s more = absurd (false≢true s)
+    by false s more = more s here
 
-pub blank_first : (bytes : List ℕ) → is_blank (get_or bytes 0 0) ≡ true → false ≡ is_single_spaced true bytes
-blank_first [] blank = absurd (false≢true blank)
-blank_first (b ∷ xs) blank =
-    let either : (b == 9 || b == 32) ≡ true = ⊎_elim (λ h. or_right (b == 9) (b == 32) h) (λ h. or_left (b == 9) (b == 32) h) (or_cases (b == 32) (b == 9) blank) in
-    rw either refl
+-- ---- the bytes before a field and after it
 
-pub single_spaced_is : (bytes : List ℕ) (even : Bool) → (length bytes == 0) ≡ false → is_blank (get_or bytes 0 0) ≡ false → ¬ (get_or bytes (length bytes - 1) 0 ≡ 32)
-    → HasSingleSpaces bytes 1 (length bytes) even → even ≡ is_single_spaced true bytes
-single_spaced_is [] even some word last e = absurd (false≢true (sym some))
-single_spaced_is (b ∷ xs) true some word last e =
-    let end : suc (length xs) - 1 ≡ length xs = omega arith in
-    sym (first_word b xs word ∙ single_spaced_rest b xs (e.so refl) (false_from_ne_true (get_or (b ∷ xs) (length xs) 0 == 32) (λ is. rw end at last (eqb-true (get_or (b ∷ xs) (length xs) 0) 32 is))))
-single_spaced_is (b ∷ xs) false some word last e = sym (first_word b xs word ∙ false_from_ne_true (is_single_spaced (b == 32) xs) (λ is. e.not_so refl (rest_single_spaced b xs is).0))
+-- one separator between each two fields
+pub even_prefixed : (separator : Option ℕ) (line : List ℕ) → is_evenly_separated separator line ≡ true → with_prefix (output_separator separator) (join_fields separator line) ≡ output_separator separator ∷ line
+even_prefixed (Some c) line even = prefixed_fields c line
+even_prefixed None line even = single_spaced_words true line even
 
-pub space_last : (bytes : List ℕ) → (length bytes == 0) ≡ false → is_blank (get_or bytes 0 0) ≡ false → get_or bytes (length bytes - 1) 0 ≡ 32 → false ≡ is_single_spaced true bytes
-space_last [] some word last = absurd (false≢true (sym some))
-space_last (b ∷ xs) some word last =
-    let end : suc (length xs) - 1 ≡ length xs = omega arith in
-    sym (first_word b xs word ∙ false_from_ne_true (is_single_spaced (b == 32) xs)
-    (λ is. false≢true (sym (rest_single_spaced b xs is).1 ∙ ap (λ (i : ℕ). get_or (b ∷ xs) i 0 == 32) (sym end) ∙ ap (λ (x : ℕ). x == 32) last)))
+-- the fields after a field are the bytes after it
+pub after_piece : (separator : Option ℕ) (line field : List ℕ) (remainder : Option (List ℕ)) (end : ℕ) → IsPiece separator line field remainder
+    → MatchOption remainder (end ≡ length line) (λ bytes. end + 1 + length bytes ≡ length line) → is_evenly_separated separator line ≡ true
+    → with_prefix (output_separator separator) (remaining_fields separator remainder) ≡ drop end line
+after_piece separator line field None end p e even = sym (nil_from_length (drop end line) (omega (arith, length-drop end line, e)))
+after_piece separator line field (Some bytes) end p e even = by separator even p.ends.2 ∙ sym tail
+  where
+    front : List ℕ
+    front = p.front ++ field
 
-pub empty_not_single_spaced : (bytes : List ℕ) → (length bytes == 0) ≡ true → false ≡ is_single_spaced true bytes
-empty_not_single_spaced bytes empty = rw (nil_from_length bytes (eqb-true (length bytes) 0 empty)) refl
+    split : line ≡ front ++ p.ends.0 ∷ bytes
+    split = p.is ∙ ap (λ (l : List ℕ). p.front ++ (field ++ l)) p.ends.1 ∙ sym (append_assoc p.front field (p.ends.0 ∷ bytes))
 
--- if a part contains a misplaced blank, the whole does
-pub part_misplaced : (bytes : List ℕ) (from to : ℕ) {at end : ℕ} {part all : Bool} → HasSingleSpaces bytes at end part → part ≡ false → all ≡ false → from ≤ at → end ≤ to → HasSingleSpaces bytes from to all
-part_misplaced bytes from to e misplaced is front back = record {
-  so = λ even. absurd (false≢true (sym is ∙ even));
-  not_so = λ same nowhere. e.not_so misplaced (λ k low high. nowhere k (omega (arith, front, low)) (omega (arith, back, high)));
-}
+    at_end : end ≡ length front
+    at_end = omega (arith, e, ap length split, length-append front (p.ends.0 ∷ bytes))
+
+    tail : drop end line ≡ p.ends.0 ∷ bytes
+    tail = (λ i. drop (at_end i) (split i)) ∙ drop-append_seam front (p.ends.0 ∷ bytes)
+
+    by : (separator : Option ℕ) → is_evenly_separated separator line ≡ true → is_separator separator p.ends.0 ≡ true
+        → with_prefix (output_separator separator) (join_fields separator bytes) ≡ p.ends.0 ∷ bytes
+    by (Some c) even test = prefixed_fields c bytes ∙ ap (λ (b : ℕ). b ∷ bytes) (sym (eqb-true p.ends.0 c test))
+    by None even test =
+        let rest = spaced_suffix true front p.ends.0 bytes (ap (is_single_spaced true) (sym split) ∙ even) test in
+        single_spaced_words true bytes rest.1 ∙ ap (λ (b : ℕ). b ∷ bytes) (sym rest.0)
+
+pub field_of : {separator : Option ℕ} {number : ℕ} {line : List ℕ} {span : Span} → IsFieldAt separator number line span
+    → slice_range line span.start span.end ≡ nth_field number (join_fields separator line)
+field_of {separator} {number} {line} f = ap (λ (l : Lines). get_or l 0 []) (sym f.is) ∙ get_or-drop (number - 1) (join_fields separator line) 0 [] ∙ ap (λ (n : ℕ). get_or (join_fields separator line) n []) (omega arith)
+
+remove_past : (fs : Lines) (i : ℕ) → drop i fs ≡ [] → remove fs i ≡ fs
+remove_past [] zero none = refl
+remove_past [] (suc i) none = refl
+remove_past (f ∷ fs) zero none = cc
+remove_past (f ∷ fs) (suc i) none = ap (λ (l : Lines). f ∷ l) (remove_past fs i none)
+
+remove_at : (fs : Lines) (i : ℕ) (f : List ℕ) (more : Lines) → drop i fs ≡ f ∷ more → remove fs i ≡ take i fs ++ more
+remove_at [] zero f more is = cc
+remove_at [] (suc i) f more is = cc
+remove_at (g ∷ fs) zero f more is = ap (drop 1) is
+remove_at (g ∷ fs) (suc i) f more is = ap (λ (l : Lines). g ∷ l) (remove_at fs i f more is)
+
+-- without a field: the bytes before it, except the separator, and those after it
+pub around_is : (separator : Option ℕ) (number : ℕ) (line : List ℕ) (found : Option Span) → IsFieldFound separator number line found → is_evenly_separated separator line ≡ true
+    → with_prefix (output_separator separator) (other_fields number (join_fields separator line)) ≡ around (output_separator separator) line found
+around_is separator number line None none even = ap (with_prefix (output_separator separator)) (remove_past (join_fields separator line) (number - 1) none) ∙ even_prefixed separator line even
+around_is separator number line (Some span) f even = whole ∙ by span.start long
+  where
+    c : ℕ
+    c = output_separator separator
+
+    fs : Lines
+    fs = join_fields separator line
+
+    word : List ℕ
+    word = slice_range line span.start span.end
+
+    rest : List ℕ
+    rest = drop span.end line
+
+    before : List ℕ
+    before = with_prefix c (take (number - 1) fs)
+
+    whole : with_prefix c (remove fs (number - 1)) ≡ before ++ rest
+    whole = ap (with_prefix c) (remove_at fs (number - 1) word f.more f.is) ∙ flat_map-append (λ g. c ∷ g) (take (number - 1) fs) f.more ∙ ap (λ (l : List ℕ). before ++ l) (f.after even)
+
+    with_word : with_prefix c (word ∷ f.more) ≡ c ∷ (word ++ rest)
+    with_word = ap (λ (l : List ℕ). c ∷ (word ++ l)) (f.after even)
+
+    line_is : before ++ (c ∷ (word ++ rest)) ≡ c ∷ line
+    line_is =
+        let together : with_prefix c (take (number - 1) fs ++ (word ∷ f.more)) ≡ before ++ with_prefix c (word ∷ f.more) = flat_map-append (λ g. c ∷ g) (take (number - 1) fs) (word ∷ f.more) in
+        let all : with_prefix c (take (number - 1) fs ++ (word ∷ f.more)) ≡ c ∷ line =
+        ap (λ (l : Lines). with_prefix c (take (number - 1) fs ++ l)) (sym f.is) ∙ ap (with_prefix c) (take-append-drop (number - 1) fs) ∙ even_prefixed separator line even in
+        ap (λ (l : List ℕ). before ++ l) (sym with_word) ∙ sym together ∙ all
+
+    long : length before ≡ span.start
+    long = omega (arith, ap length line_is, length-append before (c ∷ (word ++ rest)), length-append word rest, length-drop span.end line, length-take-le (span.end - span.start) (drop span.start line) (omega (arith, length-drop span.start line, f.within)), f.ordered, f.within)
+
+    by : (start : ℕ) → length before ≡ start → before ++ rest ≡ cond (start == 0) rest (c ∷ take (start - 1) line ++ rest)
+    by zero none = ap (λ (l : List ℕ). l ++ rest) (nil_from_length before none)
+    by (suc start) size =
+        let one : suc start - 1 ≡ start = omega arith in
+        let some : (suc start == 0) ≡ false = grind (arith, nat_tests) in
+        let front : before ≡ c ∷ take start line = sym (take_at before (c ∷ (word ++ rest)) (suc start) size) ∙ ap (take (suc start)) line_is in
+        rw (some, one) (ap (λ (l : List ℕ). l ++ rest) front)

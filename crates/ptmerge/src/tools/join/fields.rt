@@ -1,14 +1,14 @@
-//! Fields of a line of `join`, between separators (`-t`) or else between blanks. `output` uses the bytes of fields
-//! (`next_field`, `nth_field`), and `key_order` the span of the join field (`field_span`).
+//! Fields of a line of `join`, between separators (`-t`) or else between blanks. `output` finds fields in a `SplitLine`
+//! or one after another (`next_field`), and `key_order` finds the span of the join field (`field_span`).
 
-ghost use Rattle.std.specs.Prelude.{◌≡◌, ◌∷◌, [], None, Some, ◌<◌, length, position, option_copied, IfSome, MatchOption};
+ghost use Rattle.std.specs.Prelude.{◌≡◌, ◌∷◌, [], None, Some, ◌<◌, ◌+◌, true, length, position, option_copied, IfSome, MatchOption};
 ghost use Rattle.std.specs.List.{slice_split};
 ghost use Rattle.ptmerge.specs.Join.{nth_field};
-ghost use Rattle.ptmerge.specs.JoinFields.{IsFirstPieceEnd, IsFieldIn, IsPiece, is_separator, remaining_fields};
+ghost use Rattle.ptmerge.specs.JoinFields.{AreBlanks, IsFieldFound, IsFirstPieceEnd, IsFieldIn, IsPiece, is_evenly_separated, is_separator, remaining_fields};
 ghost use Rattle.ptmerge.specs.KeySpan.{IsKeySpan};
 
 use crate::key_order::Span;
-use crate::tools::join::words::find_blank;
+use crate::tools::join::words::{Blanks, blanks_of, find_blank, find_word, is_single_spaced};
 use ptlines::find_byte;
 
 // Returns the index of the first separator or blank in `bytes`.
@@ -33,7 +33,7 @@ fn first_piece(separator: Option<u8>, bytes: &[u8]) -> (&[u8], Option<&[u8]>)
         (λ remainder. slice_split (is_separator separator) bytes.now
         ≡ result.0.now ∷ slice_split (is_separator separator) remainder.now) }
     ensures shorter { MatchOption result.1 (result.0.now ≡ bytes.now) (λ remainder. length remainder.now < length bytes.now) }
-    ensures is_piece { IsPiece bytes.now result.0.now (option_copied result.1) }
+    ensures is_piece { IsPiece separator bytes.now result.0.now (option_copied result.1) }
 {
     match field_end(separator, bytes) {
         None => (bytes, None),
@@ -50,7 +50,7 @@ pub(crate) fn next_field<'a>(
         (remaining_fields separator (option_copied line.entry) ≡ [])
         (λ r. remaining_fields separator (option_copied line.entry)
         ≡ r.0.now ∷ remaining_fields separator (option_copied r.1)) }
-    ensures is_piece { IfSome result (λ r. IsFieldIn (option_copied line.entry) r.0.now (option_copied r.1)) }
+    ensures is_piece { IfSome result (λ r. IsFieldIn separator (option_copied line.entry) r.0.now (option_copied r.1)) }
 {
     let mut left = line;
     'pieces: while let Some(bytes) = left {
@@ -63,90 +63,13 @@ pub(crate) fn next_field<'a>(
     None
 }
 
-// Returns the first word of a line, or no bytes if there is none.
-#[inline(never)]
-fn first_word(line: &[u8]) -> &[u8]
-    ensures { result.now ≡ nth_field 1 (remaining_fields None (Some line.now)) }
-{
-    let (word, _) = first_piece(None, line);
-    if word.is_empty() {
-        return nth_field_slow(None, 1, Some(line));
-    }
-    word
-}
-
-// Returns the first field of a line, or no bytes if there is none. A function of its own, as the join field usually is
-// the first.
-#[inline(always)]
-fn first_field(separator: Option<u8>, line: &[u8]) -> &[u8]
-    ensures { result.now ≡ nth_field 1 (remaining_fields separator (Some line.now)) }
-{
-    match separator {
-        Some(byte) => {
-            let (piece, _) = first_piece(Some(byte), line);
-            piece
-        }
-        None => first_word(line),
-    }
-}
-
-// Returns the field with this number, counted from 1, of a line with separators, or no bytes if there is none.
-#[inline(never)]
-#[tactic(auto, using(crate::proofs::JoinLemmas::Fields::drop_next, crate::proofs::JoinLemmas::Fields::nth_past))]
-fn nth_piece(separator: u8, number: u64, line: &[u8]) -> &[u8]
-    ensures { result.now ≡ nth_field number (remaining_fields (Some separator) (Some line.now)) }
-{
-    let mut left = line;
-    for _passed in 0..number.saturating_sub(1) {
-        match first_piece(Some(separator), left) {
-            (_, Some(remainder)) => left = remainder,
-            (_, None) => return b"",
-        }
-    }
-    let (piece, _) = first_piece(Some(separator), left);
-    piece
-}
-
-// Returns the field with this number, counted from 1, or no bytes if there is none. This is the general case of
-// `nth_field`.
-#[inline(never)]
-#[tactic(auto, using(crate::proofs::JoinLemmas::Fields::drop_next))]
-fn nth_field_slow<'a>(separator: Option<u8>, number: u64, line: Option<&'a [u8]>) -> &'a [u8]
-    ensures { result.now ≡ nth_field number (remaining_fields separator (option_copied line.entry)) }
-{
-    let mut left = line;
-    for _passed in 0..number.saturating_sub(1) {
-        let Some((_, remainder)) = next_field(separator, left) else {
-            return b"";
-        };
-        left = remainder;
-    }
-    match next_field(separator, left) {
-        Some((field, _)) => field,
-        None => b"",
-    }
-}
-
-// Returns the field with this number, counted from 1, or no bytes if there is none.
-#[inline(always)]
-pub(crate) fn nth_field<'a>(separator: Option<u8>, number: u64, line: Option<&'a [u8]>) -> &'a [u8]
-    ensures { result.now ≡ nth_field number (remaining_fields separator (option_copied line.entry)) }
-{
-    match line {
-        Some(bytes) if number <= 1 => first_field(separator, bytes),
-        Some(bytes) => match separator {
-            Some(byte) => nth_piece(byte, number, bytes),
-            None => nth_field_slow(separator, number, line),
-        },
-        None => b"",
-    }
-}
-
 // Returns the span of `field` in `line`, of which `remainder` is the rest after this field.
 #[inline(always)]
-fn span_of_field(line: &[u8], field: &[u8], remainder: Option<&[u8]>) -> Span
-    requires { IsPiece line.now field.now (option_copied remainder) }
-    ensures { IsKeySpan line.now field.now result }
+fn span_of_field(separator: Option<u8>, line: &[u8], field: &[u8], remainder: Option<&[u8]>) -> Span
+    requires { IsPiece separator line.now field.now (option_copied remainder) }
+    ensures span { IsKeySpan line.now field.now result }
+    ensures end { MatchOption (option_copied remainder.entry) (result.end ≡ length line.now)
+        (λ bytes. result.end + 1 + length bytes ≡ length line.now) }
 {
     let end = match remainder {
         Some(bytes) => line.len() - bytes.len() - 1,
@@ -158,23 +81,101 @@ fn span_of_field(line: &[u8], field: &[u8], remainder: Option<&[u8]>) -> Span
     }
 }
 
-// Returns the span of the field with this number, or an empty span if there is none. This is the general case of
-// `field_span`.
-#[inline(never)]
-#[tactic(auto, using(crate::proofs::JoinLemmas::Fields::span_none))]
-fn field_span_slow(separator: Option<u8>, number: u64, line: &[u8]) -> Span
-    ensures { IsKeySpan line.now (nth_field number (remaining_fields separator (Some line.now))) result }
+// Returns the span of the field with this number, counted from 1, or `None` if there is none.
+#[inline(always)]
+fn find_by_pieces(separator: Option<u8>, number: u64, line: &[u8]) -> Option<Span>
+    ensures { IsFieldFound separator number line.now result }
 {
     let mut left = Some(line);
     for _passed in 0..number.saturating_sub(1) {
         let Some((_, remainder)) = next_field(separator, left) else {
-            return Span { start: 0, end: 0 };
+            return None;
         };
         left = remainder;
     }
     match next_field(separator, left) {
-        Some((field, remainder)) => span_of_field(line, field, remainder),
-        None => Span { start: 0, end: 0 },
+        Some((field, remainder)) => Some(span_of_field(separator, line, field, remainder)),
+        None => None,
+    }
+}
+
+// Like `find_by_pieces`, with a separator.
+#[inline(never)]
+fn find_piece(separator: u8, number: u64, line: &[u8]) -> Option<Span>
+    ensures { IsFieldFound (Some separator) number line.now result }
+{
+    find_by_pieces(Some(separator), number, line)
+}
+
+// Like `find_by_pieces`, for a long line without separators.
+#[inline(never)]
+fn find_word_long(number: u64, line: &[u8]) -> Option<Span>
+    ensures { IsFieldFound None number line.now result }
+{
+    find_by_pieces(None, number, line)
+}
+
+// Returns the blanks of a short line without separators. The result for others does not matter.
+#[inline(always)]
+fn blanks_if_short(separator: Option<u8>, line: &[u8]) -> Blanks
+    ensures { separator ≡ None → length line.now < 64 → AreBlanks line.now result }
+{
+    if separator.is_some() || line.len() >= 64 {
+        return Blanks { any: 0, tabs: 0 };
+    }
+    blanks_of(line)
+}
+
+// A line that is split into fields. If it is short and has no separators, its blanks are found only once.
+#[derive(Clone, Copy)]
+pub(crate) struct SplitLine<'a> {
+    pub(crate) separator: Option<u8>,
+    pub(crate) line: &'a [u8],
+    blanks: Blanks,
+    ghost masks: { separator ≡ None → length line.now < 64 → AreBlanks line.now blanks },
+}
+
+impl<'a> SplitLine<'a> {
+    #[inline(always)]
+    pub(crate) fn new(separator: Option<u8>, line: &'a [u8]) -> Self
+        ensures { (result.separator ≡ separator) × (result.line.now ≡ line.now) }
+    {
+        SplitLine {
+            separator,
+            line,
+            blanks: blanks_if_short(separator, line),
+        }
+    }
+
+    // Returns the span of the field with this number, counted from 1, or `None` if there is none.
+    #[inline(always)]
+    pub(crate) fn find(&self, number: u64) -> Option<Span>
+        ensures { IsFieldFound self.now.separator number self.now.line.now result }
+    {
+        match self.separator {
+            Some(byte) => find_piece(byte, number, self.line),
+            None if self.line.len() < 64 => find_word(number, self.line, self.blanks),
+            None => find_word_long(number, self.line),
+        }
+    }
+
+    // Returns the field with this number, counted from 1, or no bytes if there is none.
+    #[inline(always)]
+    pub(crate) fn nth(&self, number: u64) -> &'a [u8]
+        ensures { result.now ≡ nth_field number (remaining_fields self.now.separator (Some self.now.line.now)) }
+    {
+        match self.find(number) {
+            Some(span) => &self.line[span.start..span.end],
+            None => b"",
+        }
+    }
+
+    // Checks whether the line is its fields with one output separator between each two.
+    #[inline(always)]
+    pub(crate) fn is_single_spaced(&self) -> bool
+        ensures { result ≡ is_evenly_separated self.now.separator self.now.line.now }
+    {
+        self.separator.is_some() || is_single_spaced(self.line, self.blanks)
     }
 }
 
@@ -187,6 +188,18 @@ fn first_piece_end(separator: Option<u8>, bytes: &[u8]) -> usize
     match field_end(separator, bytes) {
         Some(end) => end,
         None => bytes.len(),
+    }
+}
+
+// Returns the span of the field with this number, or an empty span if there is none. This is the general case of
+// `field_span`.
+#[inline(never)]
+fn field_span_slow(separator: Option<u8>, number: u64, line: &[u8]) -> Span
+    ensures { IsKeySpan line.now (nth_field number (remaining_fields separator (Some line.now))) result }
+{
+    match SplitLine::new(separator, line).find(number) {
+        Some(span) => span,
+        None => Span { start: 0, end: 0 },
     }
 }
 

@@ -1,16 +1,16 @@
 //! Writes the output lines of `join`, for a pair of lines or for an unpaired line.
 
-ghost use Rattle.std.specs.Prelude.{◌≡◌, ◌++◌, ◌∷◌, [], None, Some, option_copied, true};
+ghost use Rattle.std.specs.Prelude.{◌≡◌, ◌≤◌, ◌++◌, IfSome, length, ◌∷◌, [], None, Some, option_copied, true};
 ghost use Rattle.std.proofs.Props.{props};
 ghost use Rattle.ptlines.specs.Outputs.{PushPost};
 ghost use Rattle.ptlangs.specs.Jobs.{join_job};
 ghost use Rattle.ptmerge.specs.Join.{join_fields, other_fields, output_separator, or_filler, field_named, entry, join_key};
-ghost use Rattle.ptmerge.specs.JoinFields.{IsCanonical, IsKeyOf, entry_with_list, remaining_fields, with_prefix};
+ghost use Rattle.ptmerge.specs.JoinFields.{IsCanonical, IsKeyOf, IsSplit, around, entry_with_list, remaining_fields, with_prefix};
 ghost use Rattle.ptmerge.specs.Write.{WriteBytesPost};
 ghost use Rattle.ptmerge.specs.declared.key_order.Side.TheVariants.{First, Second};
 
-use crate::tools::join::fields::{next_field, nth_field};
-use crate::tools::join::words::is_single_spaced;
+use crate::key_order::Span;
+use crate::tools::join::fields::{SplitLine, next_field};
 use ptlangs::jobs::JoinJob;
 use ptlangs::outlist::{File, OutField};
 use ptlines::{Out, Sink, WriteFault};
@@ -24,15 +24,12 @@ fn write_prefixed_field<W: Sink>(byte: u8, field: &[u8], out: &mut Out<W>) -> Re
     out.push_line(&[byte], field, b"")
 }
 
-// Writes all words of `bytes`, each with a space before it.
+// Writes the words in the rest of a line, each with a space before it.
 #[tactic(auto, using(crate::proofs::JoinLemmas::PartialWrite::partial_starts))]
-fn write_words<W: Sink>(bytes: &[u8], out: &mut Out<W>) -> Result<(), WriteFault>
-    ensures { WriteBytesPost out.old out.new (with_prefix 32 (remaining_fields None (Some bytes.now))) result }
+fn write_words<W: Sink>(line: Option<&[u8]>, out: &mut Out<W>) -> Result<(), WriteFault>
+    ensures { WriteBytesPost out.old out.new (with_prefix 32 (remaining_fields None (option_copied line.entry))) result }
 {
-    if is_single_spaced(bytes) {
-        return write_prefixed_field(b' ', bytes, out);
-    }
-    let mut left = Some(bytes);
+    let mut left = line;
     'words: while let Some((word, remainder)) = next_field(None, left) {
         write_prefixed_field(b' ', word, out)?;
         left = remainder;
@@ -40,24 +37,51 @@ fn write_words<W: Sink>(bytes: &[u8], out: &mut Out<W>) -> Result<(), WriteFault
     Ok(())
 }
 
-// Writes all fields of the rest of a line, each with the output separator before it.
-#[tactic(auto, using(crate::proofs::JoinLemmas::Fields::prefixed_fields, crate::proofs::MergeLemmas::Write::push_is_write))]
-fn write_remaining_fields<W: Sink>(
-    separator: Option<u8>,
-    line: Option<&[u8]>,
+// Writes all words of a line except the one with this number, each with a space before it.
+#[inline(never)]
+fn write_other_words<W: Sink>(number: u64, line: &[u8], out: &mut Out<W>) -> Result<(), WriteFault>
+    ensures { let words = remaining_fields None (Some line.now) in
+        WriteBytesPost out.old out.new (with_prefix 32 (other_fields number words)) result }
+{
+    let mut left = Some(line);
+    for _passed in 0..number.saturating_sub(1) {
+        let Some((word, remainder)) = next_field(None, left) else {
+            return Ok(());
+        };
+        write_prefixed_field(b' ', word, out)?;
+        left = remainder;
+    }
+    match next_field(None, left) {
+        None => Ok(()),
+        Some((_, remainder)) => write_words(remainder, out),
+    }
+}
+
+// Writes all fields of a line except the one at `span`, each with the output separator before it. The line has one such
+// separator between each two fields, so these are the bytes before the span and those after it.
+#[inline(always)]
+fn write_around<W: Sink>(
+    prefix: u8,
+    line: &[u8],
+    span: Option<Span>,
     out: &mut Out<W>,
 ) -> Result<(), WriteFault>
-    ensures { let join_fields = remaining_fields separator (option_copied line.entry) in
-        WriteBytesPost out.old out.new (with_prefix (output_separator separator) join_fields) result }
+    requires { IfSome span (λ s. (s.start ≤ s.end) × (s.end ≤ length line.now)) }
+    ensures { PushPost out.old out.new (around prefix line.now span) result }
 {
-    match (separator, line) {
-        (_, None) => Ok(()),
-        (Some(byte), Some(bytes)) => write_prefixed_field(byte, bytes, out),
-        (None, Some(bytes)) => write_words(bytes, out),
+    match span {
+        None => write_prefixed_field(prefix, line, out),
+        Some(span) => {
+            if span.start == 0 {
+                return out.push(&line[span.end..]);
+            }
+            out.push_line(&[prefix], &line[..span.start - 1], &line[span.end..])
+        }
     }
 }
 
 // Writes all fields of a line except the one with this number, each with the output separator before it.
+#[inline(always)]
 fn write_other_fields<W: Sink>(
     separator: Option<u8>,
     number: u64,
@@ -67,19 +91,14 @@ fn write_other_fields<W: Sink>(
     ensures { let join_fields = remaining_fields separator (option_copied line.entry) in
         WriteBytesPost out.old out.new (with_prefix (output_separator separator) (other_fields number join_fields)) result }
 {
-    let prefix = separator.unwrap_or(b' ');
-    let mut left = line;
-    for _passed in 0..number.saturating_sub(1) {
-        let Some((field, remainder)) = next_field(separator, left) else {
-            return Ok(());
-        };
-        write_prefixed_field(prefix, field, out)?;
-        left = remainder;
+    let Some(bytes) = line else {
+        return Ok(());
+    };
+    let split = SplitLine::new(separator, bytes);
+    if !split.is_single_spaced() {
+        return write_other_words(number, bytes, out);
     }
-    match next_field(separator, left) {
-        None => Ok(()),
-        Some((_, remainder)) => write_remaining_fields(separator, remainder, out),
-    }
+    write_around(separator.unwrap_or(b' '), bytes, split.find(number), out)
 }
 
 // The content of an output line: a line of each input, or of one of them, and their join field.
@@ -96,7 +115,14 @@ struct Entry<'a, A: Allocator> {
 // Returns the field that an item of the output list names: the join field, or a field of one of the lines. If that is
 // the join field too, it is not searched for again.
 #[inline(always)]
-fn item_field<'a, A: Allocator>(entry: &Entry<'a, A>, item: OutField) -> &'a [u8]
+fn item_field<'a, A: Allocator>(
+    entry: &Entry<'a, A>,
+    one: SplitLine<'a>,
+    two: SplitLine<'a>,
+    item: OutField,
+) -> &'a [u8]
+    requires one { IsSplit (join_job entry.now.job.now).separator (option_copied entry.now.one) one.separator one.line.now }
+    requires two { IsSplit (join_job entry.now.job.now).separator (option_copied entry.now.two) two.separator two.line.now }
     ensures { result.now ≡ field_named item entry.now.key.now
         (remaining_fields (join_job entry.now.job.now).separator (option_copied entry.now.one))
         (remaining_fields (join_job entry.now.job.now).separator (option_copied entry.now.two)) }
@@ -107,25 +133,32 @@ fn item_field<'a, A: Allocator>(entry: &Entry<'a, A>, item: OutField) -> &'a [u8
             if entry.one.is_some() && number == entry.job.field[0] {
                 return entry.key;
             }
-            nth_field(entry.job.sep, number, entry.one)
+            one.nth(number)
         }
         OutField::Field(File::Second, number) => {
             if entry.two.is_some() && number == entry.job.field[1] {
                 return entry.key;
             }
-            nth_field(entry.job.sep, number, entry.two)
+            two.nth(number)
         }
     }
 }
 
 // Returns the field that an item of the output list names, or the `-e` string if the field is empty or missing.
 #[inline(always)]
-fn item_or_filler<'a, A: Allocator>(entry: &Entry<'a, A>, item: OutField) -> &'a [u8]
+fn item_or_filler<'a, A: Allocator>(
+    entry: &Entry<'a, A>,
+    one: SplitLine<'a>,
+    two: SplitLine<'a>,
+    item: OutField,
+) -> &'a [u8]
+    requires one { IsSplit (join_job entry.now.job.now).separator (option_copied entry.now.one) one.separator one.line.now }
+    requires two { IsSplit (join_job entry.now.job.now).separator (option_copied entry.now.two) two.separator two.line.now }
     ensures { result.now ≡ or_filler (join_job entry.now.job.now).empty (field_named item entry.now.key.now
         (remaining_fields (join_job entry.now.job.now).separator (option_copied entry.now.one))
         (remaining_fields (join_job entry.now.job.now).separator (option_copied entry.now.two))) }
 {
-    let field = item_field(entry, item);
+    let field = item_field(entry, one, two, item);
     if field.is_empty() {
         return entry.job.empty.as_slice();
     }
@@ -146,11 +179,13 @@ fn write_listed_fields<A: Allocator, W: Sink>(
     let [first, others @ ..] = items else {
         return Ok(());
     };
-    out.push(item_or_filler(entry, *first))?;
+    let one = SplitLine::new(entry.job.sep, entry.one.unwrap_or(b""));
+    let two = SplitLine::new(entry.job.sep, entry.two.unwrap_or(b""));
+    out.push(item_or_filler(entry, one, two, *first))?;
     let prefix = entry.job.sep.unwrap_or(b' ');
     let mut rest = others;
     'items: while let [item, more @ ..] = rest {
-        write_prefixed_field(prefix, item_or_filler(entry, *item), out)?;
+        write_prefixed_field(prefix, item_or_filler(entry, one, two, *item), out)?;
         rest = more;
     }
     Ok(())
@@ -178,14 +213,10 @@ fn write_fields<A: Allocator, W: Sink>(
 
 // Checks whether a line equals the output of its own fields, with the field of this number first.
 #[inline(always)]
-#[tactic(auto, using(crate::proofs::JoinLemmas::Fields::prefixed_fields))]
 fn is_canonical(separator: Option<u8>, number: u64, line: &[u8]) -> bool
     ensures { result ≡ true → IsCanonical separator number line.now }
 {
-    match separator {
-        Some(_) => number <= 1,
-        None => number <= 1 && is_single_spaced(line),
-    }
+    number <= 1 && SplitLine::new(separator, line).is_single_spaced()
 }
 
 // Writes an output line field by field, and its terminator. Not inlined, so that the code for canonical lines stays

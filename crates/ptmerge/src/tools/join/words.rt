@@ -1,82 +1,101 @@
-//! SIMD search in a line of `join`: the first blank, and whether words are separated by single spaces.
-ghost use Rattle.std.specs.Prelude.{◌≡◌, ◌<◌, ◌≤◌, ◌+◌, length, true};
+//! Masks of the blanks of a line of `join`: bit i is set if and only if byte i is a blank. The words of a short line are
+//! found by one mask of the whole line, and those of a long line by a mask of each 64 bytes.
+ghost use Rattle.std.specs.Prelude.{◌≡◌, ◌≢◌, ◌≤◌, ◌<◌, ◌+◌, ◌==◌, ◌-◌, ◌^◌, ℕ, List, bit_or, None, true, length};
+ghost use Rattle.std.specs.Simd.Lanes.{chunk};
 ghost use Rattle.memchr.specs.Find.{IsFirst, IsFirstByte, Passes};
+ghost use Rattle.ptlines.specs.Bounds.{HasChunk, IsCoveredByEnds};
 ghost use Rattle.ptlines.specs.Text.{is_blank};
-ghost use Rattle.ptmerge.specs.JoinFields.{HasOverlappingEnds, HasSingleSpaces, is_single_spaced};
-ghost use Rattle.ptlines.specs.Bounds.{HasChunk};
+ghost use Rattle.ptmerge.specs.JoinFields.{AreBlanks, IsFieldFound, has_single_spaces, is_single_spaced};
 
+use crate::key_order::Span;
 use std::simd::prelude::*;
 
-fn is_blank(byte: u8) -> bool
-    ensures { result ≡ is_blank byte }
-{
-    byte == b' ' || byte == b'\t'
+// The blanks among at most 64 bytes: a mask of the spaces and tabs, and one of the tabs.
+#[derive(Clone, Copy)]
+pub(crate) struct Blanks {
+    pub(crate) any: u64,
+    pub(crate) tabs: u64,
 }
 
-// Returns the index of the first blank among the N bytes from `at` on, with one comparison of a vector.
+// Returns the blanks among the N bytes from `at` on.
+#[inline(always)]
+fn blanks_in<const N: usize>(bytes: &[u8], at: usize) -> Blanks
+    requires { HasChunk N at bytes.now }
+    ensures { AreBlanks (chunk at N bytes.now) result }
+{
+    let chunk = Simd::<u8, N>::from_slice(&bytes[at..]);
+    let tabs = chunk.simd_eq(Simd::splat(b'\t'));
+    Blanks {
+        any: (chunk.simd_eq(Simd::splat(b' ')) | tabs).to_bitmask(),
+        tabs: tabs.to_bitmask(),
+    }
+}
+
+// Returns the blanks among N to 2 * N bytes, from two vectors that may overlap.
+#[inline(always)]
+fn blanks_of_ends<const N: usize>(bytes: &[u8]) -> Blanks
+    requires few { N ≤ 32 }
+    requires ends { IsCoveredByEnds N bytes.now }
+    ensures { AreBlanks bytes.now result }
+{
+    let last = bytes.len() - N;
+    let front = blanks_in::<N>(bytes, 0);
+    let back = blanks_in::<N>(bytes, last);
+    Blanks {
+        any: front.any | back.any << last,
+        tabs: front.tabs | back.tabs << last,
+    }
+}
+
+// Returns the blanks among at most 64 bytes.
+#[inline(always)]
+pub(crate) fn blanks_of(bytes: &[u8]) -> Blanks
+    requires { length bytes.now ≤ 64 }
+    ensures { AreBlanks bytes.now result }
+{
+    match bytes.len() {
+        0 => Blanks { any: 0, tabs: 0 },
+        1 => blanks_of_ends::<1>(bytes),
+        2..=3 => blanks_of_ends::<2>(bytes),
+        4..=7 => blanks_of_ends::<4>(bytes),
+        8..=15 => blanks_of_ends::<8>(bytes),
+        16..=31 => blanks_of_ends::<16>(bytes),
+        _ => blanks_of_ends::<32>(bytes),
+    }
+}
+
+// Returns the index of the first blank among the N bytes from `at` on.
 #[inline(always)]
 fn find_blank_in<const N: usize>(bytes: &[u8], at: usize) -> Option<usize>
     requires { HasChunk N at bytes.now }
     ensures { IsFirst (Passes is_blank bytes.now) at (at + N) result }
 {
-    let chunk = Simd::<u8, N>::from_slice(&bytes[at..]);
-    let blank = chunk.simd_eq(Simd::splat(b' ')) | chunk.simd_eq(Simd::splat(b'\t'));
-    let mask = blank.to_bitmask();
+    let mask = blanks_in::<N>(bytes, at).any;
     if mask == 0 {
         return None;
     }
     Some(at + mask.trailing_zeros() as usize)
 }
 
-// Returns the index of the first blank of `bytes`, which has N to 2 * N bytes, from two vectors that may overlap.
-#[inline(always)]
-#[tactic(auto, using(ptlines::proofs::MatchMasks::first_after))]
-fn find_blank_overlapping<const N: usize>(bytes: &[u8]) -> Option<usize>
-    requires { HasOverlappingEnds N 0 bytes.now }
-    ensures { IsFirstByte is_blank bytes.now result }
-{
-    match find_blank_in::<N>(bytes, 0) {
-        Some(at) => Some(at),
-        None => find_blank_in::<N>(bytes, bytes.len() - N),
-    }
-}
-
-// Returns the index of the first blank of fewer than 16 bytes.
-#[inline(never)]
-fn find_blank_short(bytes: &[u8]) -> Option<usize>
-    requires { length bytes.now < 16 }
-    ensures { IsFirstByte is_blank bytes.now result }
-{
-    if bytes.len() >= 8 {
-        return find_blank_overlapping::<8>(bytes);
-    }
-    if bytes.len() >= 4 {
-        return find_blank_overlapping::<4>(bytes);
-    }
-    match bytes.len() {
-        0 => None,
-        1 => find_blank_overlapping::<1>(bytes),
-        _ => find_blank_overlapping::<2>(bytes),
-    }
-}
-
-// Returns the index of the first blank of 16 bytes or more. Not inlined, so that the common case of `find_blank` is
+// Returns the index of the first blank, 64 bytes at a time. Not inlined, so that the common case of `find_blank` is
 // small.
 #[inline(never)]
-#[tactic(auto, using(ptlines::proofs::MatchMasks::first_after))]
 fn find_blank_long(bytes: &[u8]) -> Option<usize>
-    requires { 16 ≤ length bytes.now }
     ensures { IsFirstByte is_blank bytes.now result }
 {
     let mut at = 0;
-    while bytes.len() - at >= 16 {
-        let near = find_blank_in::<16>(bytes, at);
+    while bytes.len() - at > 64 {
+        let near = find_blank_in::<64>(bytes, at);
         if near.is_some() {
             return near;
         }
-        at += 16;
+        at += 64;
     }
-    find_blank_in::<16>(bytes, bytes.len() - 16)
+    let mask = blanks_of(&bytes[at..]).any;
+    if mask == 0 {
+        return None;
+    }
+    Some(at + mask.trailing_zeros() as usize)
 }
 
 // Returns the index of the first blank, which usually is among the first 16 bytes.
@@ -84,96 +103,103 @@ fn find_blank_long(bytes: &[u8]) -> Option<usize>
 pub(crate) fn find_blank(bytes: &[u8]) -> Option<usize>
     ensures { IsFirstByte is_blank bytes.now result }
 {
-    if bytes.len() < 16 {
-        return find_blank_short(bytes);
-    }
-    match find_blank_in::<16>(bytes, 0) {
-        Some(at) => Some(at),
-        None => find_blank_long(bytes),
-    }
-}
-
-// Checks that none of the N bytes from `at` on is a tab, or a space after a space.
-#[inline(always)]
-fn has_single_spaces_in<const N: usize>(bytes: &[u8], at: usize) -> bool
-    requires { (0 < at) × HasChunk N at bytes.now }
-    ensures { HasSingleSpaces bytes.now at (at + N) result }
-{
-    let space = Simd::splat(b' ');
-    let before = Simd::<u8, N>::from_slice(&bytes[at - 1..]);
-    let chunk = Simd::<u8, N>::from_slice(&bytes[at..]);
-    let doubled = before.simd_eq(space) & chunk.simd_eq(space);
-    let misplaced = chunk.simd_eq(Simd::splat(b'\t')) | doubled;
-    misplaced.to_bitmask() == 0
-}
-
-// Checks all bytes after the first, N to 2 * N of them, by two vectors that may overlap, like `has_single_spaces_in`.
-#[inline(always)]
-#[tactic(auto, using(crate::proofs::JoinLemmas::Fields::part_misplaced))]
-fn has_single_spaces_overlapping<const N: usize>(bytes: &[u8]) -> bool
-    requires { HasOverlappingEnds N 1 bytes.now }
-    ensures { HasSingleSpaces bytes.now 1 (length bytes.now) result }
-{
-    has_single_spaces_in::<N>(bytes, 1) && has_single_spaces_in::<N>(bytes, bytes.len() - N)
-}
-
-// Checks all bytes after the first, like `has_single_spaces_in`, if there are fewer than 17 bytes.
-#[inline(always)]
-fn has_single_spaces_short(bytes: &[u8]) -> bool
-    requires { length bytes.now < 17 }
-    ensures { HasSingleSpaces bytes.now 1 (length bytes.now) result }
-{
-    if bytes.len() > 8 {
-        return has_single_spaces_overlapping::<8>(bytes);
-    }
-    if bytes.len() > 4 {
-        return has_single_spaces_overlapping::<4>(bytes);
-    }
-    match bytes.len() {
-        0 | 1 => true,
-        2 => has_single_spaces_overlapping::<1>(bytes),
-        _ => has_single_spaces_overlapping::<2>(bytes),
-    }
-}
-
-// Checks all bytes after the first, like `has_single_spaces_in`. Most lines are short, and need few comparisons to
-// classify.
-#[inline(always)]
-fn has_single_spaces(bytes: &[u8]) -> bool
-    ensures { HasSingleSpaces bytes.now 1 (length bytes.now) result }
-{
-    match bytes.len() {
-        0..=16 => has_single_spaces_short(bytes),
-        17..=32 => has_single_spaces_overlapping::<16>(bytes),
-        33..=64 => has_single_spaces_overlapping::<32>(bytes),
-        _ => has_single_spaces_long(bytes),
-    }
-}
-
-// Checks all bytes after the first, like `has_single_spaces_in`, if there are more than 64 bytes.
-#[inline(always)]
-#[tactic(auto, using(crate::proofs::JoinLemmas::Fields::part_misplaced))]
-fn has_single_spaces_long(bytes: &[u8]) -> bool
-    requires { 64 < length bytes.now }
-    ensures { HasSingleSpaces bytes.now 1 (length bytes.now) result }
-{
-    let mut at = 1;
-    while bytes.len() - at >= 64 {
-        if !has_single_spaces_in::<64>(bytes, at) {
-            return false;
+    if bytes.len() >= 16 {
+        let near = find_blank_in::<16>(bytes, 0);
+        if near.is_some() {
+            return near;
         }
-        at += 64;
     }
-    has_single_spaces_in::<64>(bytes, bytes.len() - 64)
+    find_blank_long(bytes)
 }
 
-// Checks whether `bytes` is a list of words with a single space between them, and without blanks at either end.
+// Checks that none of these blanks is a tab, or comes after a blank. `before` is 1 if a blank precedes the bytes.
+#[inline(always)]
+fn are_single_spaces(blanks: Blanks, before: u64) -> bool
+    requires { before ≤ 1 }
+    ensures { (bytes : List ℕ) → length bytes ≤ 64 → AreBlanks bytes blanks
+        → result ≡ has_single_spaces (before == 1) bytes }
+{
+    blanks.tabs | blanks.any & (blanks.any << 1 | before) == 0
+}
+
+// Checks whether fewer than 64 bytes, with these blanks, are words with a single space between them, and without a
+// blank at the end.
+#[inline(always)]
+fn ends_single_spaced(bytes: &[u8], blanks: Blanks, before: u64) -> bool
+    requires short { length bytes.now < 64 }
+    requires blanks { AreBlanks bytes.now blanks }
+    requires before { before ≤ 1 }
+    ensures { result ≡ is_single_spaced (before == 1) bytes.now }
+{
+    let with_end = Blanks {
+        any: blanks.any | 1 << bytes.len(),
+        tabs: blanks.tabs,
+    };
+    are_single_spaces(with_end, before)
+}
+
+// Checks a line of any length, like `is_single_spaced`.
 #[inline(never)]
-pub(crate) fn is_single_spaced(bytes: &[u8]) -> bool
+fn is_single_spaced_long(bytes: &[u8]) -> bool
     ensures { result ≡ is_single_spaced true bytes.now }
 {
-    if bytes.is_empty() || is_blank(bytes[0]) || bytes[bytes.len() - 1] == b' ' {
-        return false;
+    let mut before = 1;
+    let mut at = 0;
+    while bytes.len() - at >= 64 {
+        let blanks = blanks_in::<64>(bytes, at);
+        if !are_single_spaces(blanks, before) {
+            return false;
+        }
+        before = blanks.any >> 63;
+        at += 64;
     }
-    has_single_spaces(bytes)
+    let last = &bytes[at..];
+    ends_single_spaced(last, blanks_of(last), before)
+}
+
+// Checks whether a line, with these blanks if it is short, is words with a single space between them, and without
+// blanks at either end.
+#[inline(always)]
+pub(crate) fn is_single_spaced(line: &[u8], blanks: Blanks) -> bool
+    requires { length line.now < 64 → AreBlanks line.now blanks }
+    ensures { result ≡ is_single_spaced true line.now }
+{
+    if line.len() < 64 {
+        return ends_single_spaced(line, blanks, 1);
+    }
+    is_single_spaced_long(line)
+}
+
+// Returns the bit after the first run of set bits, with all bits above it. There is such a run, and it ends below the
+// highest bit.
+#[inline(always)]
+fn after_first_run(mask: u64) -> u64
+    requires { (mask ≢ 0) × (mask < 2 ^ 63) }
+    ensures { result ≡ bit_or mask (mask - 1) + 1 }
+{
+    (mask | mask - 1) + 1
+}
+
+// Returns the span of the word with this number, counted from 1, in a line of fewer than 64 bytes with these blanks, or
+// `None` if there is none.
+#[inline(always)]
+pub(crate) fn find_word(number: u64, line: &[u8], blanks: Blanks) -> Option<Span>
+    requires short { length line.now < 64 }
+    requires blanks { AreBlanks line.now blanks }
+    ensures { IsFieldFound None number line.now result }
+{
+    let mut words = (1 << line.len()) - 1 - blanks.any;
+    for _passed in 0..number.saturating_sub(1) {
+        if words == 0 {
+            return None;
+        }
+        words &= after_first_run(words);
+    }
+    if words == 0 {
+        return None;
+    }
+    Some(Span {
+        start: words.trailing_zeros() as usize,
+        end: after_first_run(words).trailing_zeros() as usize,
+    })
 }

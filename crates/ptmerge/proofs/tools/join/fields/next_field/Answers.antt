@@ -7,7 +7,7 @@ use Rattle.ptmerge.proofs.tools.join.fields.next_field.Goals as goal
 pub returns-then-is_some-clause-is_piece : goal.returns-then-is_some-clause-is_piece
 returns-then-is_some-clause-is_piece c =
     let ends = subst (λ o. IsRemainderOf (option_copied c.args.line) (option_copied o)) c.in-Some.is c.pieces.invariant.ends in
-    field_in (option_copied c.args.line) (Some c.in-Some.bytes.now) c.first_piece.result.0.now (option_copied c.first_piece.result.1) ends c.first_piece.ensures.is_piece
+    field_in c.args.separator (option_copied c.args.line) (Some c.in-Some.bytes.now) c.first_piece.result.0.now (option_copied c.first_piece.result.1) ends c.first_piece.ensures.is_piece
 
 pub pieces-preserved : goal.pieces-preserved
 pieces-preserved c =
@@ -23,5 +23,5 @@ pieces-preserved c =
     ] in
     record {
       same = word c.first_piece.ensures.first ∙ ap (λ o. remaining_fields c.args.separator (option_copied o)) (sym c.in-Some.is) ∙ c.pieces.invariant.same;
-      ends = remaining_after (option_copied c.args.line) (Some c.in-Some.bytes.now) field (option_copied c.first_piece.result.1) ends c.first_piece.ensures.is_piece;
+      ends = remaining_after c.args.separator (option_copied c.args.line) (Some c.in-Some.bytes.now) field (option_copied c.first_piece.result.1) ends c.first_piece.ensures.is_piece;
     }

@@ -1,22 +1,16 @@
--- A write that fails leaves a prefix of the fields; one that succeeds takes the first of the remaining fields.
-use Rattle.ptmerge.proofs.Common.{◌-◌, ◌∷◌, ℕ, List, ap, sym, arith, ◌∙◌, output_separator, with_prefix}
-use Rattle.ptmerge.proofs.JoinLemmas.PartialWrite.{partial_ends, each_fails, each_more}
-use Rattle.ptmerge.proofs.JoinLemmas.Fields.{others_more, others_rest, between_is}
+-- The fields before and after the join field are the bytes around it.
+use Rattle.ptmerge.proofs.Common.{◌∙◌, ap, sym, subst, option_copied, IsFieldFound, PushPost, around, is_evenly_separated, other_fields, output_separator, remaining_fields, with_prefix}
+use Rattle.ptmerge.proofs.JoinLemmas.Fields.{around_is, between_is}
+use Rattle.ptmerge.proofs.MergeLemmas.Write.{push_is_write}
 use Rattle.ptmerge.proofs.tools.join.output.write_other_fields.Goals as goal
 
-pub returns-in_err-write_prefixed_field : goal.returns-in_err-write_prefixed_field
-returns-in_err-write_prefixed_field g c =
-    each_fails (λ (l : List ℕ). output_separator c.args.separator ∷ l)
-    (others_more (c.args.number - 1) c.loop-passed._passed (omega (arith, c.loop-passed-test.true, c.saturating_sub-passed-end.ensures)) c.in-Some.ensures.first) c.loop-passed.invariant
-    (rw (c.unwrap_or-prefix.ensures ∙ sym (between_is c.args.separator)) at c.write_prefixed_field.ensures.wrote) c.in_err-write_prefixed_field.ensures.fault _ c.from_residual.ensures.1
-
-pub loop-passed-preserved : goal.loop-passed-preserved
-loop-passed-preserved g c =
-    each_more (λ (l : List ℕ). output_separator c.args.separator ∷ l)
-    (others_more (c.args.number - 1) c.loop-passed._passed (omega (arith, c.loop-passed-test.true, c.saturating_sub-passed-end.ensures)) c.in-Some.ensures.first) c.loop-passed.invariant
-    (rw (c.unwrap_or-prefix.ensures ∙ sym (between_is c.args.separator)) at c.write_prefixed_field.ensures.wrote) c.in_ok-write_prefixed_field.ensures.clean
-
-pub returns-in-Some-next_field : goal.returns-in-Some-next_field
-returns-in-Some-next_field g c =
-    partial_ends (ap (with_prefix (output_separator c.args.separator)) (others_rest ((c.args.number - 1) - c.loop-passed._passed)
-    (omega (arith, c.loop-passed-test.false, c.saturating_sub-passed-end.ensures)) c.in-Some-next_field.ensures.first)) c.loop-passed.invariant c.write_remaining_fields.ensures
+pub returns : goal.returns
+returns g c =
+    let separator = c.args.separator in
+    let bytes = c.in-Some.bytes.now in
+    let new = c.new-split.ensures in
+    let even = (λ i. is_evenly_separated (sym new.0 i) (sym new.1 i)) ∙ sym c.is_single_spaced.ensures ∙ c.if-not-is_single_spaced.false in
+    let found : IsFieldFound separator c.args.number bytes c.find.result = rw (new.0, new.1) at c.find.ensures in
+    let all = ap (λ line. with_prefix (output_separator separator) (other_fields c.args.number (remaining_fields separator (option_copied line)))) c.in-Some.is
+    ∙ around_is separator c.args.number bytes c.find.result found even ∙ ap (λ prefix. around prefix bytes c.find.result) (between_is separator ∙ sym c.unwrap_or.ensures) in
+    push_is_write (subst (λ written. PushPost c.args.out.now c.write_around.new.out written c.write_around.result) (sym all) c.write_around.ensures)

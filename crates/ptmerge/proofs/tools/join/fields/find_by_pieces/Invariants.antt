@@ -1,7 +1,7 @@
 -- The rest of the line has the fields after the skipped ones, and is a suffix of the line.
 use Rattle.ptmerge.proofs.Common.{◌≡◌, drop, Some, option_copied, remaining_fields}
 use Rattle.ptmerge.proofs.JoinLemmas.Fields.{IsRemainderOf}
-use Rattle.ptmerge.proofs.tools.join.fields.field_span_slow.Given as goal
+use Rattle.ptmerge.proofs.tools.join.fields.find_by_pieces.Given as goal
 
 abbrev pub invariant-loop-passed : goal.invariant-loop-passed
 invariant-loop-passed l = record {

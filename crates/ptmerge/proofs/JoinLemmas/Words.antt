@@ -1,0 +1,547 @@
+-- Words of a line by masks of its blanks. A mask is the number of a list of bits, so each fact is by induction on that
+-- list: two masks that overlap make one; no blank is misplaced if a mask is zero; and the first run of set bits is the
+-- first word, after which the words of the rest of the line follow.
+use Rattle.ptmerge.proofs.Common.{◌≡◌, ◌≢◌, ℕ, zero, suc, ◌+◌, ◌-◌, ◌*◌, ◌^◌, ◌%◌, ◌<◌, ◌≤◌, max, min, Bool, true, false, cond, not, ◌&&◌, ◌||◌, eqb, ◌==◌, List, [], ◌∷◌, ◌++◌, None}
+use Rattle.ptmerge.proofs.Common.{length, map, take, drop, replicate, filter, refl, sym, ◌∙◌, ap, subst, arith, bit_and, bit_or, take_all, length-map, length-drop, take-append-drop, false≢true, drop-drop, nat_tests}
+use Rattle.ptmerge.proofs.Common.{Lines, is_blank, is_nonempty, join_fields, is_single_spaced, has_single_spaces, slice_split, onto_first, with_prefix}
+use Rattle.std.proofs.lemmas.Simd.{mask_l-lt, trailing_mask_l}
+use Rattle.std.proofs.lemmas.List.{drop-map, map-id, take-map}
+use Rattle.std.specs.Simd.Lanes.{chunk, mask_l}
+use Rattle.std.specs.List.{prefix_len}
+use Rattle.memchr.specs.Find.{is_byte}
+use Rattle.std.proofs.Common.{◌/◌}
+use Rattle.ptmerge.proofs.Common.{IsFieldAt}
+use Rattle.ptmerge.proofs.JoinLemmas.Fields.{none_past, single_spaced_words, space_is}
+use Rattle.std.proofs.Math.Nat.{div-div-eq-div-mul, mod-eq_of_lt, mul-lt-mul_of_pos_right, mul_assoc, mul_comm, one-le-pow, two-pow-succ}
+use Rattle.std.proofs.Math.Pow.{pow-add, pow-lt, pow_mono}
+use lib.Bits.{and_step, or_step, or_zero_l, or_zero_r, and_zero_l, or_shifted_r, and_mod, and_le_l, and_self, or_self}
+use lib.Count.{count_trailing_zeros}
+
+-- ---- the lowest bits of two numbers
+
+abbrev bit : Bool → ℕ
+bit b = cond b 1 0
+
+halves : (b : Bool) (x : ℕ) → ((bit b + 2 * x) / 2 ≡ x) × ((bit b + 2 * x) % 2 ≡ bit b)
+halves true x = (omega arith, omega arith)
+halves false x = (omega arith, omega arith)
+
+or_bits : (b c : Bool) (x y : ℕ) → bit_or (bit b + 2 * x) (bit c + 2 * y) ≡ bit (b || c) + 2 * bit_or x y
+or_bits b c x y = or_step (bit b + 2 * x) (bit c + 2 * y) ∙ rw ((halves b x).0, (halves b x).1, (halves c y).0, (halves c y).1) (low b c)
+  where
+    low : (b c : Bool) → bit_or x y * 2 + max (bit b) (bit c) ≡ bit (b || c) + 2 * bit_or x y
+    low true true = omega arith
+    low true false = omega arith
+    low false true = omega arith
+    low false false = omega arith
+
+and_bits : (b c : Bool) (x y : ℕ) → bit_and (bit b + 2 * x) (bit c + 2 * y) ≡ bit (b && c) + 2 * bit_and x y
+and_bits b c x y = and_step (bit b + 2 * x) (bit c + 2 * y) ∙ rw ((halves b x).0, (halves b x).1, (halves c y).0, (halves c y).1) (low b c)
+  where
+    low : (b c : Bool) → bit_and x y * 2 + min (bit b) (bit c) ≡ bit (b && c) + 2 * bit_and x y
+    low true true = omega arith
+    low true false = omega arith
+    low false true = omega arith
+    low false false = omega arith
+
+or_same : (b : Bool) → (b || b) ≡ b
+or_same true = refl
+or_same false = refl
+
+or_false : (b : Bool) → (b || false) ≡ b
+or_false true = refl
+or_false false = refl
+
+-- ---- masks of the first and of the last bytes
+
+or_prefix : (n : ℕ) (bits : List Bool) → bit_or (mask_l (take n bits)) (mask_l bits) ≡ mask_l bits
+or_prefix zero bits = or_zero_l (mask_l bits)
+or_prefix (suc n) [] = or_zero_l 0
+or_prefix (suc n) (b ∷ bits) = or_bits b b (mask_l (take n bits)) (mask_l bits) ∙ rw (or_same b, or_prefix n bits) refl
+
+or_ends : (last n : ℕ) (bits : List Bool) → last ≤ n → bit_or (mask_l (take n bits)) (2 ^ last * mask_l (drop last bits)) ≡ mask_l bits
+or_ends zero n bits le = let one : 2 ^ 0 * mask_l bits ≡ mask_l bits = omega arith in ap (bit_or (mask_l (take n bits))) one ∙ or_prefix n bits
+or_ends (suc last) zero bits le = absurd (omega (arith, le))
+or_ends (suc last) (suc n) [] le = let none : 2 ^ suc last * 0 ≡ 0 = omega arith in ap (bit_or 0) none ∙ or_zero_l 0
+or_ends (suc last) (suc n) (b ∷ bits) le =
+    let double : 2 ^ suc last ≡ 2 * 2 ^ last = omega (arith, two-pow-succ last) in
+    let twice : 2 ^ suc last * mask_l (drop last bits) ≡ bit false + 2 * (2 ^ last * mask_l (drop last bits)) =
+    ap (λ (p : ℕ). p * mask_l (drop last bits)) double ∙ mul_assoc 2 (2 ^ last) (mask_l (drop last bits)) ∙ omega arith in
+    ap (bit_or (mask_l (b ∷ take n bits))) twice ∙ or_bits b false (mask_l (take n bits)) (2 ^ last * mask_l (drop last bits)) ∙ rw (or_false b, or_ends last n bits (omega (arith, le))) refl
+
+-- the mask of n to 2 n bytes, from those of the first n and of the last n
+pub ends_mask : (test : ℕ → Bool) (bytes : List ℕ) (n : ℕ) → n ≤ length bytes → length bytes ≤ n + n → n ≤ 32
+    → bit_or (mask_l (map test (chunk 0 n bytes))) (mask_l (map test (chunk (length bytes - n) n bytes)) * 2 ^ (length bytes - n) % 2 ^ 64) ≡ mask_l (map test bytes)
+ends_mask test bytes n first all few =
+    let last = length bytes - n in
+    let bits = map test bytes in
+    let size : length (drop last bits) ≡ n = omega (arith, length-drop last bits, length-map bytes test, first) in
+    let tail : map test (chunk last n bytes) ≡ drop last bits =
+    ap (map test) (take_all n (drop last bytes) (omega (arith, length-drop last bytes, first))) ∙ sym (drop-map test last bytes) in
+    let front : map test (chunk 0 n bytes) ≡ take n bits = sym (take-map test n bytes) in
+    let small : mask_l (drop last bits) * 2 ^ last < 2 ^ 64 = fits (mask_l (drop last bits)) n last (rw size at (mask_l-lt (drop last bits))) (omega (arith, all, first, few)) in
+    let whole : mask_l (drop last bits) * 2 ^ last % 2 ^ 64 ≡ 2 ^ last * mask_l (drop last bits) = omega (arith, small, mul_comm (mask_l (drop last bits)) (2 ^ last), mod-eq_of_lt small) in
+    (λ i. bit_or (mask_l (front i)) (mask_l (tail i) * 2 ^ last % 2 ^ 64)) ∙ ap (bit_or (mask_l (take n bits))) whole ∙ or_ends last n bits (omega (arith, all, first))
+  where
+    fits : (m n last : ℕ) → m < 2 ^ n → n + last ≤ 64 → m * 2 ^ last < 2 ^ 64
+    fits m n last low le = omega (arith, mul-lt-mul_of_pos_right {k = 2 ^ last} low (one-le-pow last 2 (omega arith)), pow-add 2 n last, pow_mono {j = 64} le)
+
+-- ---- single spaces
+
+zero_bits : (b : Bool) (x : ℕ) → eqb (bit b + 2 * x) 0 ≡ cond b false (eqb x 0)
+zero_bits true x = grind (arith, nat_tests)
+zero_bits false zero = grind (arith, nat_tests)
+zero_bits false (suc x) = grind (arith, nat_tests)
+
+no_misplaced : (blank : Bool) (bytes : List ℕ)
+    → eqb (bit_or (mask_l (map (is_byte 9) bytes)) (bit_and (mask_l (map is_blank bytes)) (bit blank + 2 * mask_l (map is_blank bytes)))) 0 ≡ has_single_spaces blank bytes
+no_misplaced blank [] = ap (λ (x : ℕ). eqb (bit_or 0 x) 0) (and_zero_l (bit blank + 2 * 0)) ∙ ap (λ (x : ℕ). eqb x 0) (or_zero_l 0)
+no_misplaced blank (b ∷ bytes) =
+    let m = mask_l (map is_blank bytes) in
+    let t = mask_l (map (is_byte 9) bytes) in
+    ap (λ (x : ℕ). eqb (bit_or (bit (b == 9) + 2 * t) x) 0) (and_bits (is_blank b) blank m (bit (is_blank b) + 2 * m))
+    ∙ ap (λ (x : ℕ). eqb x 0) (or_bits (b == 9) (is_blank b && blank) t (bit_and m (bit (is_blank b) + 2 * m)))
+    ∙ zero_bits (b == 9 || (is_blank b && blank)) (bit_or t (bit_and m (bit (is_blank b) + 2 * m)))
+    ∙ ap (λ (x : Bool). cond (b == 9 || (is_blank b && blank)) false x) (no_misplaced (is_blank b) bytes)
+    ∙ by (b == 9) (b == 32) blank
+  where
+    by : (tab space blank : Bool) → cond (tab || ((space || tab) && blank)) false (has_single_spaces (space || tab) bytes) ≡ cond (tab || (blank && space)) false (has_single_spaces space bytes)
+    by true space blank = refl
+    by false true true = refl
+    by false true false = refl
+    by false false true = refl
+    by false false false = refl
+
+pub single_spaces_is : (any before : ℕ) (bytes : List ℕ) → before ≤ 1 → length bytes ≤ 64 → any ≡ mask_l (map is_blank bytes)
+    → eqb (bit_or (mask_l (map (is_byte 9) bytes)) (bit_and any (bit_or (any * 2 % 2 ^ 64) before))) 0 ≡ has_single_spaces (before == 1) bytes
+single_spaces_is any before bytes low few is =
+    let size = length-map bytes is_blank in
+    let wide : 2 ^ length (map is_blank bytes) ≤ 2 ^ 64 = pow_mono {j = 64} (omega (arith, size, few)) in
+    let small : any < 2 ^ 64 = omega (arith, is, mask_l-lt (map is_blank bytes), wide) in
+    let one : bit (before == 1) ≡ before = of_bit before low in
+    let with_before : bit_or (any * 2 % 2 ^ 64) before ≡ (any * 2 + before) % 2 ^ 64 = or_even any before low in
+    let whole : bit_and any ((any * 2 + before) % 2 ^ 64) ≡ bit_and any (bit (before == 1) + 2 * any) =
+    let sum : any * 2 + before ≡ bit (before == 1) + 2 * any = omega (arith, one) in
+    ap (λ (x : ℕ). bit_and any (x % 2 ^ 64)) sum ∙ and_low any (bit (before == 1) + 2 * any) small in
+    ap (λ (x : ℕ). eqb (bit_or (mask_l (map (is_byte 9) bytes)) (bit_and any x)) 0) with_before
+    ∙ ap (λ (x : ℕ). eqb (bit_or (mask_l (map (is_byte 9) bytes)) x) 0) whole
+    ∙ ap (λ (x : ℕ). eqb (bit_or (mask_l (map (is_byte 9) bytes)) (bit_and x (bit (before == 1) + 2 * x))) 0) is
+    ∙ no_misplaced (before == 1) bytes
+  where
+    of_bit : (before : ℕ) → before ≤ 1 → bit (before == 1) ≡ before
+    of_bit zero low = refl
+    of_bit (suc zero) low = refl
+    of_bit (suc (suc n)) low = absurd (omega (arith, low))
+
+    or_even : (any before : ℕ) → before ≤ 1 → bit_or (any * 2 % 2 ^ 64) before ≡ (any * 2 + before) % 2 ^ 64
+    or_even any before low =
+        let half = any % 2 ^ 63 in
+        let even : any * 2 % 2 ^ 64 ≡ bit false + 2 * half = omega arith in
+        let one : bit (before == 1) + 2 * 0 ≡ before = omega (arith, of_bit before low) in
+        let sum : bit (before == 1) + 2 * half ≡ (any * 2 + before) % 2 ^ 64 = omega (arith, of_bit before low, low) in
+        (λ i. bit_or (even i) (sym one i)) ∙ or_bits false (before == 1) half 0 ∙ ap (λ (x : ℕ). bit (before == 1) + 2 * x) (or_zero_r half) ∙ sum
+
+    and_low : (x y : ℕ) → x < 2 ^ 64 → bit_and x (y % 2 ^ 64) ≡ bit_and x y
+    and_low x y low =
+        let same : x % 2 ^ 64 ≡ x = mod-eq_of_lt low in
+        ap (λ (z : ℕ). bit_and z (y % 2 ^ 64)) (sym same) ∙ sym (and_mod x y 64) ∙ mod-eq_of_lt (omega (arith, and_le_l x y, low))
+
+-- a line that ends after these bytes, as if a space followed it
+pub with_end : (bytes : List ℕ) (any tabs : ℕ) → length bytes < 64 → any ≡ mask_l (map is_blank bytes) → tabs ≡ mask_l (map (is_byte 9) bytes)
+    → (bit_or any (1 * 2 ^ length bytes % 2 ^ 64) ≡ mask_l (map is_blank (bytes ++ 32 ∷ []))) × (tabs ≡ mask_l (map (is_byte 9) (bytes ++ 32 ∷ [])))
+with_end bytes any tabs short any_is tabs_is =
+    let size = length-map bytes is_blank in
+    let low : any < 2 ^ length bytes = omega (arith, any_is, mask_l-lt (map is_blank bytes), ap (λ (n : ℕ). 2 ^ n) size) in
+    let wide : 2 ^ length bytes < 2 ^ 64 = pow-lt {j = 64} short in
+    let fits : 1 * 2 ^ length bytes % 2 ^ 64 ≡ 1 * 2 ^ length bytes = mod-eq_of_lt (omega (arith, wide)) in
+    (ap (bit_or any) fits ∙ or_shifted_r 1 (length bytes) any low ∙ omega (arith, end_blank bytes, any_is), tabs_is ∙ sym (end_tab bytes))
+  where
+    end_blank : (bytes : List ℕ) → mask_l (map is_blank (bytes ++ 32 ∷ [])) ≡ mask_l (map is_blank bytes) + 2 ^ length bytes
+    end_blank [] = refl
+    end_blank (b ∷ bytes) = omega (arith, end_blank bytes, two-pow-succ (length bytes))
+
+    end_tab : (bytes : List ℕ) → mask_l (map (is_byte 9) (bytes ++ 32 ∷ [])) ≡ mask_l (map (is_byte 9) bytes)
+    end_tab [] = refl
+    end_tab (b ∷ bytes) = omega (arith, end_tab bytes)
+
+pub spaced_to_end : (blank : Bool) (bytes : List ℕ) → has_single_spaces blank (bytes ++ 32 ∷ []) ≡ is_single_spaced blank bytes
+spaced_to_end true [] = refl
+spaced_to_end false [] = refl
+spaced_to_end blank (b ∷ bytes) = ap (λ (x : Bool). cond (b == 9 || (blank && (b == 32))) false x) (spaced_to_end (b == 32) bytes)
+
+-- ---- the next 64 bytes of a line
+
+abbrev pub last_blank : Bool → List ℕ → Bool
+last_blank blank [] = blank
+last_blank blank (b ∷ bytes) = last_blank (b == 32) bytes
+
+pub spaced_append : (blank : Bool) (v back : List ℕ) → is_single_spaced blank (v ++ back) ≡ cond (has_single_spaces blank v) (is_single_spaced (last_blank blank v) back) false
+spaced_append blank [] back = refl
+spaced_append blank (b ∷ v) back = by (b == 9 || (blank && (b == 32))) (spaced_append (b == 32) v back)
+  where
+    by : (t : Bool) → is_single_spaced (b == 32) (v ++ back) ≡ cond (has_single_spaces (b == 32) v) (is_single_spaced (last_blank (b == 32) v) back) false
+        → cond t false (is_single_spaced (b == 32) (v ++ back)) ≡ cond (cond t false (has_single_spaces (b == 32) v)) (is_single_spaced (last_blank (b == 32) v) back) false
+    by true e = refl
+    by false e = e
+
+-- the highest bit says whether the last byte is a blank
+pub top_bit : (n : ℕ) (blank : Bool) (v : List ℕ) → length v ≡ suc n → has_single_spaces blank v ≡ true → mask_l (map is_blank v) / 2 ^ n ≡ bit (last_blank blank v)
+top_bit n blank [] size spaced = absurd (omega (arith, size))
+top_bit zero blank (b ∷ []) size spaced = by (b == 9) (b == 32) blank spaced
+  where
+    by : (tab space blank : Bool) → cond (tab || (blank && space)) false true ≡ true → (bit (space || tab) + 2 * 0) / 2 ^ 0 ≡ bit space
+    by true space blank h = absurd (false≢true h)
+    by false true blank h = refl
+    by false false blank h = refl
+top_bit zero blank (b ∷ c ∷ v) size spaced = absurd (omega (arith, size))
+top_bit (suc n) blank (b ∷ v) size spaced =
+    let rest : has_single_spaces (b == 32) v ≡ true = by (b == 9 || (blank && (b == 32))) spaced in
+    let m = mask_l (map is_blank v) in
+    let twice : 2 ^ suc n ≡ 2 * 2 ^ n = omega (arith, two-pow-succ n) in
+    let half : (bit (is_blank b) + 2 * m) / 2 ^ suc n ≡ m / 2 ^ n =
+    ap (λ (p : ℕ). (bit (is_blank b) + 2 * m) / p) twice ∙ sym (div-div-eq-div-mul (bit (is_blank b) + 2 * m) 2 (2 ^ n)) ∙ ap (λ (x : ℕ). x / 2 ^ n) (halves (is_blank b) m).0 in
+    half ∙ top_bit n (b == 32) v (omega (arith, size)) rest
+  where
+    by : (t : Bool) → cond t false (has_single_spaces (b == 32) v) ≡ true → has_single_spaces (b == 32) v ≡ true
+    by true h = absurd (false≢true h)
+    by false h = h
+
+pub chunk_spaced : (blank : Bool) (bytes : List ℕ) (at : ℕ) → at + 64 ≤ length bytes
+    → is_single_spaced blank (drop at bytes) ≡ cond (has_single_spaces blank (chunk at 64 bytes)) (is_single_spaced (last_blank blank (chunk at 64 bytes)) (drop (at + 64) bytes)) false
+chunk_spaced blank bytes at room =
+    ap (is_single_spaced blank) (sym (take-append-drop 64 (drop at bytes)) ∙ ap (λ (l : List ℕ). chunk at 64 bytes ++ l) (drop-drop 64 at bytes)) ∙ spaced_append blank (chunk at 64 bytes) (drop (at + 64) bytes)
+
+pub bit_is : (b : Bool) → (bit b == 1) ≡ b
+bit_is true = refl
+bit_is false = refl
+
+pub bit_low : (b : Bool) → bit b ≤ 1
+bit_low true = omega arith
+bit_low false = omega arith
+
+-- ---- the words of a line
+
+abbrev pub is_word : ℕ → Bool
+is_word b = not (is_blank b)
+
+pub word_mask : (bytes : List ℕ) → mask_l (map is_word bytes) + mask_l (map is_blank bytes) + 1 ≡ 2 ^ length bytes
+word_mask [] = refl
+word_mask (b ∷ bytes) = by (is_blank b) (mask_l (map is_word bytes)) (mask_l (map is_blank bytes)) (word_mask bytes)
+  where
+    by : (t : Bool) (x y : ℕ) → x + y + 1 ≡ 2 ^ length bytes → bit (not t) + 2 * x + (bit t + 2 * y) + 1 ≡ 2 ^ suc (length bytes)
+    by true x y e = omega (arith, e, two-pow-succ (length bytes))
+    by false x y e = omega (arith, e, two-pow-succ (length bytes))
+
+-- ---- the first run of set bits
+
+-- one more
+abbrev after_ones : List Bool → List Bool
+after_ones [] = true ∷ []
+after_ones (true ∷ bits) = false ∷ after_ones bits
+after_ones (false ∷ bits) = true ∷ bits
+
+-- the bit after the first run, and all bits above it
+abbrev after_run : List Bool → List Bool
+after_run [] = true ∷ []
+after_run (true ∷ bits) = false ∷ after_ones bits
+after_run (false ∷ bits) = false ∷ after_run bits
+
+-- without the run that the bits begin with
+abbrev clear_ones : List Bool → List Bool
+clear_ones [] = []
+clear_ones (true ∷ bits) = false ∷ clear_ones bits
+clear_ones (false ∷ bits) = false ∷ bits
+
+-- without the first run
+abbrev clear_run : List Bool → List Bool
+clear_run [] = []
+clear_run (true ∷ bits) = false ∷ clear_ones bits
+clear_run (false ∷ bits) = false ∷ clear_run bits
+
+plus_one : (bits : List Bool) → mask_l bits + 1 ≡ mask_l (after_ones bits)
+plus_one [] = refl
+plus_one (true ∷ bits) = omega (arith, plus_one bits)
+plus_one (false ∷ bits) = omega arith
+
+or_less : (bits : List Bool) → 0 < mask_l bits → bit_or (mask_l bits) (mask_l bits - 1) + 1 ≡ mask_l (after_run bits)
+or_less [] some = absurd (omega (arith, some))
+or_less (true ∷ bits) some =
+    let m = mask_l bits in
+    let less : bit true + 2 * m - 1 ≡ bit false + 2 * m = omega arith in
+    let or_is : bit_or (bit true + 2 * m) (bit true + 2 * m - 1) ≡ bit true + 2 * m = ap (bit_or (bit true + 2 * m)) less ∙ or_bits true false m m ∙ ap (λ (x : ℕ). bit true + 2 * x) (or_self m) in
+    omega (arith, or_is, plus_one bits)
+or_less (false ∷ bits) some =
+    let m = mask_l bits in
+    let less : bit false + 2 * m - 1 ≡ bit true + 2 * (m - 1) = omega (arith, some) in
+    let or_is : bit_or (bit false + 2 * m) (bit false + 2 * m - 1) ≡ bit true + 2 * bit_or m (m - 1) = ap (bit_or (bit false + 2 * m)) less ∙ or_bits false true m (m - 1) in
+    omega (arith, or_is, or_less bits (omega (arith, some)))
+
+and_ones : (bits : List Bool) → bit_and (mask_l bits) (mask_l (after_ones bits)) ≡ mask_l (clear_ones bits)
+and_ones [] = and_zero_l 1
+and_ones (true ∷ bits) = and_bits true false (mask_l bits) (mask_l (after_ones bits)) ∙ ap (λ (x : ℕ). bit false + 2 * x) (and_ones bits)
+and_ones (false ∷ bits) = and_bits false true (mask_l bits) (mask_l bits) ∙ ap (λ (x : ℕ). bit false + 2 * x) (and_self (mask_l bits))
+
+and_run : (bits : List Bool) → bit_and (mask_l bits) (mask_l (after_run bits)) ≡ mask_l (clear_run bits)
+and_run [] = and_zero_l 1
+and_run (true ∷ bits) = and_bits true false (mask_l bits) (mask_l (after_ones bits)) ∙ ap (λ (x : ℕ). bit false + 2 * x) (and_ones bits)
+and_run (false ∷ bits) = and_bits false false (mask_l bits) (mask_l (after_run bits)) ∙ ap (λ (x : ℕ). bit false + 2 * x) (and_run bits)
+
+length-after_ones : (bits : List Bool) → length (after_ones bits) ≤ suc (length bits)
+length-after_ones [] = omega arith
+length-after_ones (true ∷ bits) = omega (arith, length-after_ones bits)
+length-after_ones (false ∷ bits) = omega arith
+
+length-after_run : (bits : List Bool) → length (after_run bits) ≤ suc (length bits)
+length-after_run [] = omega arith
+length-after_run (true ∷ bits) = omega (arith, length-after_ones bits)
+length-after_run (false ∷ bits) = omega (arith, length-after_run bits)
+
+some_after_ones : (bits : List Bool) → 0 < mask_l (after_ones bits)
+some_after_ones bits = omega (arith, plus_one bits)
+
+some_after_run : (bits : List Bool) → 0 < mask_l bits → 0 < mask_l (after_run bits)
+some_after_run bits some = omega (arith, or_less bits some)
+
+lowest : (bits : List Bool) → length bits ≤ 64 → 0 < mask_l bits → count_trailing_zeros 64 (mask_l bits) ≡ prefix_len not bits
+lowest bits few some = cc (map-id bits, trailing_mask_l (λ b. b) 64 bits few (rw (map-id bits) some))
+
+-- ---- a word is a run of bytes that are no blanks
+
+-- a bit for each byte of a word
+abbrev marks : List ℕ → List Bool
+marks v = map is_word v
+
+-- the span of the first word
+abbrev word_start : List ℕ → ℕ
+word_start v = prefix_len not (marks v)
+
+abbrev word_end : List ℕ → ℕ
+word_end v = prefix_len not (after_run (marks v))
+
+split_byte : (b : ℕ) (v : List ℕ) {t : Bool} → is_blank b ≡ t → slice_split is_blank (b ∷ v) ≡ cond t ([] ∷ slice_split is_blank v) (onto_first b (slice_split is_blank v))
+split_byte b v e = ap (λ (t : Bool). cond t ([] ∷ slice_split is_blank v) (onto_first b (slice_split is_blank v))) e
+
+-- the bytes continue a word for `size` bytes
+record InWord (v : List ℕ) (size : ℕ) (cleared : List Bool) : Type 0 where
+  pub high : size ≤ length v
+  pub more : Lines
+  pub split : slice_split is_blank v ≡ take size v ∷ more
+  pub words : filter is_nonempty more ≡ join_fields None (drop size v)
+  pub rest : cleared ≡ replicate size false ++ marks (drop size v)
+  pub next : is_single_spaced false v ≡ true → is_single_spaced false (drop size v) ≡ true
+  pub spaced : is_single_spaced false v ≡ true → with_prefix 32 (filter is_nonempty more) ≡ drop size v
+
+-- a byte of a word among single spaces
+letter_is : (blank : Bool) (b : ℕ) (v : List ℕ) → is_blank b ≡ false → is_single_spaced blank (b ∷ v) ≡ true → is_single_spaced false v ≡ true
+letter_is blank b v here spaced = by (b == 9) (b == 32) blank here spaced
+  where
+    by : (tab space blank : Bool) → (space || tab) ≡ false → cond (tab || (blank && space)) false (is_single_spaced space v) ≡ true → is_single_spaced false v ≡ true
+    by true true blank h s = absurd (false≢true (sym h))
+    by true false blank h s = absurd (false≢true (sym h))
+    by false true blank h s = absurd (false≢true (sym h))
+    by false false true h s = s
+    by false false false h s = s
+
+in_word : (v : List ℕ) → InWord v (prefix_len not (after_ones (marks v))) (clear_ones (marks v))
+in_word [] = record { high = omega arith; more = []; split = refl; words = refl; rest = refl; next = λ s. s; spaced = λ s. refl }
+in_word (b ∷ v) = by (in_word v) (is_blank b) refl
+  where
+    by : InWord v (prefix_len not (after_ones (marks v))) (clear_ones (marks v)) → (t : Bool) → is_blank b ≡ t → InWord (b ∷ v) (prefix_len not (after_ones (not t ∷ marks v))) (clear_ones (not t ∷ marks v))
+    by w true e =
+        let split = split_byte b v e in
+        record {
+          high = omega arith;
+          more = slice_split is_blank v;
+          split = split;
+          words = sym (ap (filter is_nonempty) split);
+          rest = ap (λ (t : Bool). not t ∷ marks v) (sym e);
+          next = λ s. s;
+          spaced = λ s. let space = space_is false b v e s in single_spaced_words true v space.1 ∙ ap (λ (x : ℕ). x ∷ v) (sym space.0);
+        }
+    by w false e =
+        let n = prefix_len not (after_ones (marks v)) in
+        let one : suc n ≡ 1 + n = omega arith in
+        subst (λ (k : ℕ). InWord (b ∷ v) k (false ∷ clear_ones (marks v))) one (record {
+          high = omega (arith, w.high);
+          more = w.more;
+          split = split_byte b v e ∙ ap (onto_first b) w.split;
+          words = w.words;
+          rest = ap (λ (l : List Bool). false ∷ l) w.rest;
+          next = λ s. w.next (letter_is false b v e s);
+          spaced = λ s. w.spaced (letter_is false b v e s);
+        })
+
+-- the first word of `v` is from `start` to before `end`
+pub record WordAt (v : List ℕ) (start end : ℕ) (cleared : List Bool) : Type 0 where
+  pub low : start ≤ end
+  pub high : end ≤ length v
+  pub is : join_fields None v ≡ take (end - start) (drop start v) ∷ join_fields None (drop end v)
+  pub rest : cleared ≡ replicate end false ++ marks (drop end v)
+  pub next : (blank : Bool) → is_single_spaced blank v ≡ true → is_single_spaced false (drop end v) ≡ true
+  pub spaced : (blank : Bool) → is_single_spaced blank v ≡ true → with_prefix 32 (join_fields None (drop end v)) ≡ drop end v
+
+word_at : (v : List ℕ) → 0 < mask_l (marks v) → WordAt v (word_start v) (word_end v) (clear_run (marks v))
+word_at [] some = absurd (omega (arith, some))
+word_at (b ∷ v) some = by (word_at v) (is_blank b) refl some
+  where
+    by : (0 < mask_l (marks v) → WordAt v (word_start v) (word_end v) (clear_run (marks v))) → (t : Bool) → is_blank b ≡ t → 0 < mask_l (not t ∷ marks v)
+        → WordAt (b ∷ v) (prefix_len not (not t ∷ marks v)) (prefix_len not (after_run (not t ∷ marks v))) (clear_run (not t ∷ marks v))
+    by more true e some =
+        let w = more (omega (arith, some)) in
+        let start = word_start v in
+        let end = word_end v in
+        let size : suc end - suc start ≡ end - start = omega arith in
+        let one : suc start ≡ 1 + start = omega arith in
+        let one_end : suc end ≡ 1 + end = omega arith in
+        subst (λ (k : ℕ). WordAt (b ∷ v) k (1 + end) (false ∷ clear_run (marks v))) one (subst (λ (k : ℕ). WordAt (b ∷ v) (suc start) k (false ∷ clear_run (marks v))) one_end (record {
+          low = omega (arith, w.low);
+          high = omega (arith, w.high);
+          is = ap (filter is_nonempty) (split_byte b v e) ∙ w.is ∙ ap (λ (n : ℕ). take n (drop start v) ∷ join_fields None (drop end v)) (sym size);
+          rest = ap (λ (l : List Bool). false ∷ l) w.rest;
+          next = λ blank s. w.next true (space_is blank b v e s).1;
+          spaced = λ blank s. w.spaced true (space_is blank b v e s).1;
+        }))
+    by more false e some =
+        let w = in_word v in
+        let n = prefix_len not (after_ones (marks v)) in
+        let size : suc n - 0 ≡ suc n = omega arith in
+        let one : suc n ≡ 1 + n = omega arith in
+        subst (λ (k : ℕ). WordAt (b ∷ v) 0 k (false ∷ clear_ones (marks v))) one (record {
+          low = omega arith;
+          high = omega (arith, w.high);
+          is = ap (filter is_nonempty) (split_byte b v e) ∙ ap (λ (l : Lines). filter is_nonempty (onto_first b l)) w.split
+              ∙ ap (λ (l : Lines). (b ∷ take n v) ∷ l) w.words ∙ ap (λ (m : ℕ). take m (b ∷ v) ∷ join_fields None (drop n v)) (sym size);
+          rest = ap (λ (l : List Bool). false ∷ l) w.rest;
+          next = λ blank s. w.next (letter_is blank b v e s);
+          spaced = λ blank s. ap (with_prefix 32) (sym w.words) ∙ w.spaced (letter_is blank b v e s);
+        })
+
+no_words : (v : List ℕ) → mask_l (marks v) ≡ 0 → join_fields None v ≡ []
+no_words [] none = refl
+no_words (b ∷ v) none = by (no_words v) (is_blank b) refl none
+  where
+    by : (mask_l (marks v) ≡ 0 → join_fields None v ≡ []) → (t : Bool) → is_blank b ≡ t → mask_l (not t ∷ marks v) ≡ 0 → join_fields None (b ∷ v) ≡ []
+    by more true e none = ap (filter is_nonempty) (split_byte b v e) ∙ more (omega (arith, none))
+    by more false e none = absurd (omega (arith, none))
+
+-- ---- after some bytes
+
+abbrev from : ℕ → List Bool → List Bool
+from n bits = replicate n false ++ bits
+
+from_prefix_len : (n : ℕ) (bits : List Bool) → prefix_len not (from n bits) ≡ n + prefix_len not bits
+from_prefix_len zero bits = omega arith
+from_prefix_len (suc n) bits = omega (arith, from_prefix_len n bits)
+
+from_after : (n : ℕ) (bits : List Bool) → after_run (from n bits) ≡ from n (after_run bits)
+from_after zero bits = refl
+from_after (suc n) bits = ap (λ (l : List Bool). false ∷ l) (from_after n bits)
+
+from_clear : (n : ℕ) (bits : List Bool) → clear_run (from n bits) ≡ from n (clear_run bits)
+from_clear zero bits = refl
+from_clear (suc n) bits = ap (λ (l : List Bool). false ∷ l) (from_clear n bits)
+
+from_from : (m n : ℕ) (bits : List Bool) → from m (from n bits) ≡ from (m + n) bits
+from_from zero n bits = ap (λ (k : ℕ). from k bits) (omega arith)
+from_from (suc m) n bits = let more : suc (m + n) ≡ suc m + n = omega arith in ap (λ (l : List Bool). false ∷ l) (from_from m n bits) ∙ ap (λ (k : ℕ). from k bits) more
+
+from_some : (n : ℕ) (bits : List Bool) → 0 < mask_l (from n bits) → 0 < mask_l bits
+from_some zero bits some = some
+from_some (suc n) bits some = from_some n bits (omega (arith, some))
+
+from_none : (n : ℕ) (bits : List Bool) → mask_l (from n bits) ≡ 0 → mask_l bits ≡ 0
+from_none zero bits none = none
+from_none (suc n) bits none = from_none n bits (omega (arith, none))
+
+from_length : (n : ℕ) (bits : List Bool) → length (from n bits) ≡ n + length bits
+from_length zero bits = omega arith
+from_length (suc n) bits = omega (arith, from_length n bits)
+
+-- `passed` words of the line have been passed, and `words` is the mask of those from the index `at` on
+pub record WordsLeft (line : List ℕ) (passed words : ℕ) : Type 0 where
+  pub at : ℕ
+  pub within : at ≤ length line
+  pub mask : words ≡ mask_l (from at (marks (drop at line)))
+  pub fields : drop passed (join_fields None line) ≡ join_fields None (drop at line)
+  pub spaced : is_single_spaced true line ≡ true → (blank : Bool) × (is_single_spaced blank (drop at line) ≡ true)
+
+pub words_start : (line : List ℕ) (any : ℕ) → length line < 64 → any ≡ mask_l (map is_blank line) → WordsLeft line 0 (1 * 2 ^ length line % 2 ^ 64 - 1 - any)
+words_start line any short is =
+    let wide : 2 ^ length line < 2 ^ 64 = pow-lt {j = 64} short in
+    let fits : 1 * 2 ^ length line % 2 ^ 64 ≡ 1 * 2 ^ length line = mod-eq_of_lt (omega (arith, wide)) in
+    record { at = 0; within = omega arith; mask = omega (arith, fits, is, word_mask line); fields = refl; spaced = λ s. (true, s) }
+
+pub any_fits : (line : List ℕ) (any : ℕ) → length line < 64 → any ≡ mask_l (map is_blank line) → any ≤ 1 * 2 ^ length line % 2 ^ 64 - 1
+any_fits line any short is =
+    let wide : 2 ^ length line < 2 ^ 64 = pow-lt {j = 64} short in
+    let fits : 1 * 2 ^ length line % 2 ^ 64 ≡ 1 * 2 ^ length line = mod-eq_of_lt (omega (arith, wide)) in
+    omega (arith, fits, is, word_mask line)
+
+module _ {line : List ℕ} {passed words : ℕ} (short : length line < 64) (left : WordsLeft line passed words) where
+  abbrev rest : List ℕ
+  rest = drop left.at line
+
+  abbrev bits : List Bool
+  bits = from left.at (marks rest)
+
+  bits_long : length bits ≡ length line
+  bits_long = omega (arith, from_length left.at (marks rest), length-map rest is_word, length-drop left.at line, left.within)
+
+  pub words_small : words < 2 ^ 63
+  words_small = let wide : 2 ^ length bits ≤ 2 ^ 63 = pow_mono {j = 63} (omega (arith, bits_long, short)) in omega (arith, left.mask, mask_l-lt bits, wide)
+
+  -- no words are left
+  pub none_left : (number : ℕ) → words ≡ 0 → passed ≤ number - 1 → drop (number - 1) (join_fields None line) ≡ []
+  none_left number none le = none_past (join_fields None line) passed (number - 1) (left.fields ∙ no_words rest (from_none left.at (marks rest) (sym left.mask ∙ none))) le
+
+  module _ (some : words ≢ 0) where
+    some_bits : 0 < mask_l bits
+    some_bits = omega (arith, left.mask, λ (none : mask_l bits ≡ 0). some (left.mask ∙ none))
+
+    first_word : WordAt rest (word_start rest) (word_end rest) (clear_run (marks rest))
+    first_word = word_at rest (from_some left.at (marks rest) some_bits)
+
+    abbrev after : ℕ
+    after = bit_or words (words - 1) + 1
+
+    after_is : after ≡ mask_l (after_run bits)
+    after_is = ap (λ (x : ℕ). bit_or x (x - 1) + 1) left.mask ∙ or_less bits some_bits
+
+    start_is : count_trailing_zeros 64 words ≡ left.at + word_start rest
+    start_is = ap (count_trailing_zeros 64) left.mask ∙ lowest bits (omega (arith, bits_long, short)) some_bits ∙ from_prefix_len left.at (marks rest)
+
+    end_is : count_trailing_zeros 64 after ≡ left.at + word_end rest
+    end_is = ap (count_trailing_zeros 64) after_is ∙ lowest (after_run bits) (omega (arith, length-after_run bits, bits_long, short)) (some_after_run bits some_bits)
+        ∙ ap (prefix_len not) (from_after left.at (marks rest)) ∙ from_prefix_len left.at (after_run (marks rest))
+
+    -- the first of them is passed
+    pub word_passed : WordsLeft line (passed + 1) (bit_and words after)
+    word_passed =
+        let w = first_word in
+        let end = word_end rest in
+        let there : drop end rest ≡ drop (left.at + end) line = drop-drop end left.at line ∙ ap (λ (n : ℕ). drop n line) (omega arith) in
+        record {
+          at = left.at + end;
+          within = omega (arith, w.high, length-drop left.at line, left.within);
+          mask = (λ i. bit_and (left.mask i) (after_is i)) ∙ and_run bits ∙ ap mask_l (from_clear left.at (marks rest) ∙ ap (from left.at) w.rest ∙ from_from left.at end (marks (drop end rest))
+              ∙ ap (λ (l : List ℕ). from (left.at + end) (marks l)) there);
+          fields = sym (drop-drop 1 passed (join_fields None line)) ∙ ap (drop 1) (left.fields ∙ w.is) ∙ ap (join_fields None) there;
+          spaced = λ s. (false, rw there at (w.next (left.spaced s).0 (left.spaced s).1));
+        }
+
+    -- the span of the first of them
+    pub word_found : (number : ℕ) → passed ≡ number - 1 → IsFieldAt None number line (record { start = count_trailing_zeros 64 words; end = count_trailing_zeros 64 after })
+    word_found number is =
+        let w = first_word in
+        let start = word_start rest in
+        let end = word_end rest in
+        let there : drop end rest ≡ drop (count_trailing_zeros 64 after) line = drop-drop end left.at line ∙ ap (λ (n : ℕ). drop n line) (omega (arith, end_is)) in
+        let here : drop start rest ≡ drop (count_trailing_zeros 64 words) line = drop-drop start left.at line ∙ ap (λ (n : ℕ). drop n line) (omega (arith, start_is)) in
+        let size : end - start ≡ count_trailing_zeros 64 after - count_trailing_zeros 64 words = omega (arith, start_is, end_is) in
+        record {
+          more = join_fields None (drop end rest);
+          is = ap (λ (n : ℕ). drop n (join_fields None line)) (sym is) ∙ left.fields ∙ w.is ∙ (λ i. take (size i) (here i) ∷ join_fields None (drop end rest));
+          ordered = omega (arith, start_is, end_is, w.low);
+          within = omega (arith, end_is, w.high, length-drop left.at line, left.within);
+          after = λ s. w.spaced (left.spaced s).0 (left.spaced s).1 ∙ there;
+        }

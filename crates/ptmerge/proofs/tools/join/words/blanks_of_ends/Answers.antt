@@ -1,0 +1,15 @@
+use Rattle.ptmerge.proofs.Common.{◌-◌, ◌*◌, ◌%◌, ◌^◌, length, bit_or, ◌∙◌, is_blank}
+use Rattle.memchr.specs.Find.{is_byte}
+use Rattle.ptmerge.proofs.JoinLemmas.Words.{ends_mask}
+use Rattle.ptmerge.proofs.tools.join.words.blanks_of_ends.Goals as goal
+
+pub returns : goal.returns
+returns g c =
+    let bytes = c.args.bytes.now in
+    let front = c.blanks_in-front.ensures in
+    let back = c.blanks_in-back.ensures in
+    let ends = c.requires.ends in
+    record {
+      any = (λ i. bit_or (front.any i) (back.any i * 2 ^ (length bytes - g.row.N) % 2 ^ 64)) ∙ ends_mask is_blank bytes g.row.N ends.first ends.all c.requires.few;
+      tabs = (λ i. bit_or (front.tabs i) (back.tabs i * 2 ^ (length bytes - g.row.N) % 2 ^ 64)) ∙ ends_mask (is_byte 9) bytes g.row.N ends.first ends.all c.requires.few;
+    }
