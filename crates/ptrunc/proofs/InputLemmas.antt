@@ -1,9 +1,9 @@
 -- The readers of inputs in memory have their bytes to give, and none was read yet.
-use Rattle.std.proofs.Common.{◌≡◌, ℕ, zero, suc, ◌+◌, ◌<◌, ◌^◌, List, [], ◌∷◌, ◌++◌, Option, Some, None, Result, Ok, Err, is_none, false, true, All, ap, sym, ◌∙◌, refl, arith, length, map, length-append}
+use Rattle.std.proofs.Common.{◌≡◌, ℕ, zero, suc, ◌+◌, List, [], ◌∷◌, ◌++◌, Option, Some, None, Result, Ok, Err, is_none, false, All, ap, sym, ◌∙◌, refl, arith, length, map, length-append}
 use Rattle.std.proofs.lemmas.Bool.{true≢false}
 use Rattle.std.proofs.lemmas.List.{length-map, map-append}
 use Rattle.std.proofs.lemmas.List.Elements.{All-nil, All-cons, All-push}
-use Rattle.ptlines.specs.Readers.{Reader, reader_at}
+use Rattle.ptlines.specs.Readers.{Reader}
 use Rattle.ptopts.specs.Commands.{Command}
 use Rattle.ptopts.specs.Faults.{Fault}
 use Rattle.ptopts.specs.View.{CommandPost, fault_view}

@@ -1,6 +1,6 @@
 -- A run that returns a sink to which it has added bytes has returned the sink of the same room: the state of a sink
 -- begins with the ghost name of its room. And what the room has is what the state says.
-use Rattle.std.proofs.Common.{◌≡◌, ℕ, ◌+◌, ◌<◌, ◌≤◌, List, [], ◌∷◌, ◌++◌, Option, Some, None, ap, sym, ◌∙◌, refl, arith, length, take, length-append, append_assoc, vec_len, ⊎_elim}
+use Rattle.std.proofs.Common.{◌≡◌, ℕ, ◌<◌, List, [], ◌∷◌, ◌++◌, Option, Some, None, ap, sym, ◌∙◌, arith, length, take, length-append, append_assoc, vec_len, ⊎_elim}
 use Rattle.std.proofs.lemmas.List.{length-take-le}
 use Rattle.std.proofs.Math.Seq.{take-append_seam}
 use Rattle.ptrunc.proofs.Below.{below_or_not}

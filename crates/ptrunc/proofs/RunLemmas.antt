@@ -1,11 +1,11 @@
 -- A run over memory fails only for want of memory: no reader has failed, and a room fails only if its rest cannot grow.
-use Rattle.std.proofs.Common.{◌≡◌, ℕ, ◌+◌, ◌<◌, ◌^◌, Bool, true, false, List, [], ◌∷◌, ◌++◌, Option, Some, None, All, cond, ap, sym, ◌∙◌, refl, arith, length, take, subst, vec_len, ⊎_elim}
+use Rattle.std.proofs.Common.{◌≡◌, ℕ, true, false, List, Option, Some, None, All, ap, sym, ◌∙◌, refl, length, subst, vec_len, ⊎_elim}
 use Rattle.std.proofs.lemmas.Bool.{true≢false, false≢true}
 use Rattle.std.proofs.lemmas.List.{get_or_past}
 use Rattle.ptrunc.proofs.Below.{below_or_not}
 use Rattle.std.specs.Io.KnownBytes.{prepend_known, IsAtEnd}
 use Rattle.ptlines.specs.Readers.{Reader, reader_at, no_reader}
-use Rattle.ptlines.specs.Received.{Received, IsConsistent, IsPrefix}
+use Rattle.ptlines.specs.Received.{Received, IsConsistent}
 use Rattle.ptrun.specs.CommandSpec.{CommandSpec, messages}
 use Rattle.ptrun.specs.Files.{InputBytes, AreInputsConsistent, HasBytes, HasBytesAt, HasReadFailed, HasReceivedAt, HaveReceived, IsConsistentAt, IsNewOrUnopened, ReceivedInputs, at}
 use Rattle.ptrun.specs.Runs.{IsRun, IsExact, outcome, sinks}
@@ -13,12 +13,11 @@ use Rattle.ptrunc.specs.Inputs.{HasNotFailed}
 use Rattle.ptrun.specs.declared.report.Report.{Report}
 use Rattle.ptrunc.proofs.RoomLemmas.{bytes_added, holds_of, prefix_of_room}
 use Rattle.ptrunc.specs.Results.{FilledPost, IsExactInMemory, IsRunInMemory, StatusPost, part_of}
-use Rattle.ptrunc.specs.Rooms.{IsNewFilling, filling_bytes, filling_state}
+use Rattle.ptrunc.specs.Rooms.{IsNewFilling, filling_state}
 use Rattle.ptrunc.specs.declared.memory.Filling.{Filling}
 use Rattle.ptrunc.specs.declared.memory.Room.{Room}
 use Rattle.ptrunc.specs.declared.running.Filled.{Filled}
 use Rattle.ptrunc.specs.declared.answer.Answer.{Answer}
-use Rattle.ptrunc.specs.declared.answer.Part.{Part}
 
 -- What was received is consistent with the bytes that the readers had to give.
 consistent_at : (old new : Reader) (g : Option Received) (v : Option (List ℕ)) → IsNewOrUnopened old

@@ -1,5 +1,5 @@
 -- The model of a room that is filled, as a sink.
-use Rattle.std.specs.Prelude.{◌≡◌, ℕ, Bool, false, List, [], ◌∷◌, ◌++◌, Some, take}
+use Rattle.std.specs.Prelude.{◌≡◌, ℕ, false, List, [], ◌∷◌, ◌++◌, Some, take}
 use Rattle.ptlines.specs.Sinks.{SinkState}
 use Rattle.ptrunc.specs.declared.memory.Filling.{Filling}
 

@@ -1,6 +1,6 @@
 -- Each turn adds the reader of the next file.
 use Rattle.ptrunc.proofs.InputLemmas.{readers_begin, reader_added}
-use Rattle.ptrunc.specs.Inputs.{file_view, files_view, first_files}
+use Rattle.ptrunc.specs.Inputs.{file_view, files_view}
 use Rattle.ptrunc.proofs.running.inputs_of.Goals as goal
 
 pub loop-index-init : goal.loop-index-init

@@ -1,12 +1,11 @@
 -- A reader is what its model shows of some fields, and the state of a source over memory never says that a read failed.
 -- That is known of each reader behind the slice, so the body, which does nothing, is walked only for this fact.
-use Rattle.std.proofs.Common.{◌≡◌, Bool, true, false, ℕ, ◌<◌, List, [], ◌∷◌, All, refl, sym, ap, ◌∙◌, get_or, length}
+use Rattle.std.proofs.Common.{◌≡◌, false, ℕ, ◌<◌, [], ◌∷◌, refl, sym, ap, ◌∙◌, get_or, length}
 use Rattle.std.proofs.lemmas.Bool.{true≢false}
 use Rattle.std.proofs.raw_atomic.Walks.{proved}
 use base.Fml.{ftrue, flft}
-use base.Logic.{id⊢, SProp}
 use mir.Syntax.{named}
-use mir.Val.{Val, vunit}
+use mir.Val.{vunit}
 use contract.Running.{tables}
 use denote.Builtin.{SliceRefOf}
 use denote.Exit.{yes}
@@ -16,17 +15,15 @@ use denote.RattleType.{RattleType}
 use denote.Signature.{plain, named_lft}
 use denote.Slice.{ShrSlice, shr_slice_vals, shr_slice_Tells}
 use denote.Steps.{nothing, peeks}
-use denote.Triple.Entry.{on_entry}
 use denote.Triple.Walked.{Stays, walk_of, says, stay_dropped, Goes-dropped, ends_at}
 use types.ByLocal.{alloc_all, pass_all, free_all, look_at, sets}
-use types.Kit.{‵, raw, ◌⊛◌, ◌$◌, ◌∵◌, !, qed, done, move, keep, drop, split, join, feq_i, suffices}
+use types.Kit.{‵, ◌⊛◌, ◌$◌, ◌∵◌, !, qed, done, move, keep, split, join, feq_i, suffices}
 use types.Run.{enter, of_opd, unit_lit, returns}
 use Rattle.ptlines.specs.InputSource.{input_state, is_unopened_source}
 use Rattle.ptlines.specs.Readers.{Reader}
 use Rattle.ptlines.specs.declared.source.InputSource.{InputSource}
 use Rattle.ptlines.specs.declared.source.InputSource.TheVariants.{Standard, File, Unopened}
 use Rattle.ptlines.specs.declared.reader.LineReader.TheView.{view, invariant}
-use Rattle.ptlines.specs.declared.reader.LineReader.TheInside as inside
 use Rattle.ptlines.specs.declared.reader.LineReader as reader
 use Rattle.ptlines.specs.contracts.reader.LineReader as row
 use Rattle.ptlines.specs.contracts.reader.LineReader.TheInside as fields

@@ -1,11 +1,7 @@
 -- Both rooms have what the run wrote, since no other sink begins with their ghost names. No read fails.
-use Rattle.std.proofs.Common.{◌≡◌, ℕ, List, false, sym, ap, ◌∙◌, cond, subst}
-use Rattle.ptopts.specs.View.{words_view}
-use Rattle.ptrun.specs.CommandSpec.{CommandSpec}
-use Rattle.ptrun.specs.Runs.{IsRun, IsExact, outcome, sinks}
-use Rattle.ptrun.specs.SpecOfArgs.{spec_of_args, message_only}
-use Rattle.ptrunc.proofs.RoomLemmas.{bytes_added, holds_of, prefix_of_room, same_room}
-use Rattle.ptrunc.proofs.RunLemmas.{consistent, filled_by, none_failed}
+use Rattle.std.proofs.Common.{ap, ◌∙◌}
+use Rattle.ptrunc.proofs.RoomLemmas.{same_room}
+use Rattle.ptrunc.proofs.RunLemmas.{filled_by}
 use Rattle.ptrunc.proofs.running.run_into.Goals as goal
 
 pub returns-clause-same_out : goal.returns-clause-same_out
