@@ -7,6 +7,9 @@
 #                           its pages, its installation and its packages
 # make check-program        all tests of a built program (PROGRAM=build/ptext): nothing is proved, and no toolchain needed
 # make static               build/ptext-static: the program as one file that needs no shared libraries
+# make lib                  build/libptext.so and build/libptext.a with ptext.h: the tools over bytes in memory, for C
+# make install-lib          installs them and the page ptext(3) into PREFIX
+# make python               build/dist: a wheel of the Python module, with the library in it (docs/LIBRARY.md)
 # make bench                ratios to the system's tools by the length of a line: table, data and chart in bench/; and
 #                           the tools over parts of their input, on all processors
 # make compare N=5000       random words and inputs, against the definitions and the system's tools; AGAINST=busybox,
@@ -25,6 +28,8 @@ prefix ?= /usr/local
 PREFIX ?= $(prefix)
 bindir = $(PREFIX)/bin
 libexecdir = $(PREFIX)/libexec
+libdir = $(PREFIX)/lib
+includedir = $(PREFIX)/include
 datadir = $(PREFIX)/share
 mandir = $(datadir)/man
 # The command that puts the program in its place, as `install`. Without one it is stripped, if there is strip.
@@ -37,7 +42,7 @@ WITH_RT = command -v rt >/dev/null || { echo 'there is no rt in PATH: it is part
     says what can be had without it (if it is unpacked: export PATH=/opt/rattle/bin:$$PATH)' >&2; exit 1; }
 AGAINST ?= system
 
-.PHONY: all try check check-program test static bench compare install is-built install-tools uninstall dist deb clean
+.PHONY: all try check check-program test static lib install-lib python bench compare install is-built install-tools uninstall dist deb clean
 
 all: build/ptext
 	@echo '$$ echo abcd | build/ptext cut -c 3-,1' && echo abcd | build/ptext cut -c 3-,1
@@ -73,6 +78,26 @@ static: build/ptext-static
 
 build/ptext-static: build/ptext
 	python3 tools/static.py
+
+lib: build/libptext.a
+
+build/libptext.a: HANDLES crates.txt lib/ptext.c lib/ptext.h tools/library.py \
+    $(shell find crates -name out -prune -o -path '*/must-fail' -prune -o -type f -print)
+	@$(WITH_RT)
+	python3 tools/library.py
+
+install-lib: build/libptext.a
+	install -d "$(DESTDIR)$(libdir)/pkgconfig" "$(DESTDIR)$(includedir)" "$(DESTDIR)$(mandir)/man3"
+	install -m 644 build/libptext.a "$(DESTDIR)$(libdir)"
+	cp -P build/libptext.so* "$(DESTDIR)$(libdir)"
+	install -m 644 lib/ptext.h "$(DESTDIR)$(includedir)"
+	install -m 644 man/ptext.3 "$(DESTDIR)$(mandir)/man3"
+	sed 's|^prefix=.*|prefix=$(PREFIX)|' build/ptext.pc >"$(DESTDIR)$(libdir)/pkgconfig/ptext.pc"
+
+python: build/libptext.a
+	cp build/libptext.so.$(shell cat VERSION) python/ptext/libptext.so
+	cd python && python3 setup.py -q bdist_wheel -d ../build/dist
+	rm -rf python/build python/*.egg-info
 
 bench: build/ptext
 	python3 bench/run.py build/ptext
