@@ -19,6 +19,8 @@
 # make uninstall PREFIX=..  takes away exactly what these two installed
 # make dist                 build/dist: an archive of the source, one of the program, and their checksums. All has to be
 #                           committed; with CHANGED=yes the archives are made all the same, and say so
+# make dist-static          build/dist: an archive of the program without shared libraries, with the license of the C
+#                           library, and the parts to link it with another one
 # make deb                  build/dist: the Debian packages ptext and ptext-tools, by dpkg-buildpackage and debhelper. It
 #                           tests the program first (with DEB_BUILD_OPTIONS=nocheck it does not)
 # make clean                removes all that was built, and what checks kept
@@ -42,7 +44,7 @@ WITH_RT = command -v rt >/dev/null || { echo 'there is no rt in PATH: it is part
     says what can be had without it (if it is unpacked: export PATH=/opt/rattle/bin:$$PATH)' >&2; exit 1; }
 AGAINST ?= system
 
-.PHONY: all try check check-program test static lib install-lib python bench compare install is-built install-tools uninstall dist deb clean
+.PHONY: all try check check-program test static lib install-lib python bench compare install is-built install-tools uninstall dist dist-static deb clean
 
 all: build/ptext
 	@echo '$$ echo abcd | build/ptext cut -c 3-,1' && echo abcd | build/ptext cut -c 3-,1
@@ -123,6 +125,9 @@ uninstall:
 
 dist: build/ptext
 	@python3 tools/dist.py archives build/dist $(if $(CHANGED),--changed)
+
+dist-static: build/ptext-static
+	@python3 tools/dist.py static build/dist
 
 deb: build/ptext
 	@python3 tools/dist.py deb build/dist
