@@ -96,10 +96,12 @@ install-lib: build/libptext.a
 	install -m 644 man/ptext.3 "$(DESTDIR)$(mandir)/man3"
 	sed 's|^prefix=.*|prefix=$(PREFIX)|' build/ptext.pc >"$(DESTDIR)$(libdir)/pkgconfig/ptext.pc"
 
+# (The modules of Debian's packages python3-setuptools and python3-wheel are those of its own Python.)
+PYTHON ?= /usr/bin/python3
 python: build/libptext.a
-	cp build/libptext.so.$(shell cat VERSION) python/ptext/libptext.so
-	cd python && python3 setup.py -q bdist_wheel -d ../build/dist
-	rm -rf python/build python/*.egg-info
+	rm -rf build/python && cp -r python build/python
+	cp build/libptext.so.$(shell cat VERSION) build/python/ptext/libptext.so
+	cd build/python && $(PYTHON) setup.py -q bdist_wheel -d ../dist
 
 bench: build/ptext
 	python3 bench/run.py build/ptext

@@ -1,4 +1,4 @@
-"""cut, paste, join, comm, uniq and tr over bytes in memory, by the proved library ptext.
+r"""cut, paste, join, comm, uniq and tr over bytes in memory, by the proved library ptext.
 
     >>> ptext.cut("-d", ":", "-f", "1", stdin="root:x:0\nbin:x:1\n")
     b'root\nbin\n'
