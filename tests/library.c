@@ -35,9 +35,9 @@ static void too_little_room(void) {
         expect(!memcmp(out, "abc\n", size) && out[size] == '.', "bytes with little room");
     }
     ptext_run(WORDS("cut\0-q"), NULL, 0, NULL, 0, NULL, 0, out, sizeof out, messages, 3, &answer);
-    expect(answer.status == PTEXT_ROOM && answer.messages.written == 3 && answer.messages.lacking == 20, "cut message");
+    expect(answer.status == PTEXT_ROOM && answer.messages.written == 3 && answer.messages.lacking == 23, "cut message");
     ptext_run(WORDS("cut\0-q"), NULL, 0, NULL, 0, NULL, 0, NULL, 0, NULL, 0, &answer);
-    expect(answer.status == PTEXT_ROOM && answer.messages.lacking == 23, "no room at all");
+    expect(answer.status == PTEXT_ROOM && answer.messages.lacking == 26, "no room at all");
 }
 
 static void bad_arguments(void) {

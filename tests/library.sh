@@ -18,4 +18,4 @@ for it in example shared; do
 done
 "$room/calls"
 cd python
-PTEXT_LIBRARY=$built/libptext.so PYTHONDONTWRITEBYTECODE=1 python3 -m unittest -q discover tests 2>&1 | tail -3
+PTEXT_LIBRARY=$built/libptext.so PYTHONDONTWRITEBYTECODE=1 python3 -m unittest discover -s tests

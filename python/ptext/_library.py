@@ -70,9 +70,13 @@ def _bytes_of(given: Input) -> bytes:
     return _bytes_of(given.read())
 
 
-def _words_of(words: Iterable[str]) -> bytes:
+def _listed(words: Iterable[str]) -> list[str]:
     if isinstance(words, (str, bytes)):
         raise TypeError("words are a list of texts, as ['cut', '-f', '1']")
+    return list(words)
+
+
+def _words_of(words: Iterable[str]) -> bytes:
     encoded = [os.fsencode(it) for it in words]
     if any(0 in it for it in encoded):
         raise ValueError("a word contains byte 0")
@@ -86,7 +90,7 @@ def _texts(buffer: ctypes.Array[ctypes.c_char], size: int) -> list[str]:
 def names(words: Iterable[str]) -> tuple[list[str], str | None]:
     """The names of the files that a command reads, in their order, and that of its output file, if it names one. Words
     that are no command name no file."""
-    given = _words_of(words)
+    given = _words_of(_listed(words))
     room = len(given)
     read, written, answer = ctypes.create_string_buffer(room + 1), ctypes.create_string_buffer(room + 1), _Answer()
     status = _NAMES(given, len(given), read, room, written, room, answer)
@@ -100,7 +104,7 @@ def run(words: Iterable[str], stdin: Input = b"", files: Mapping[str, Input] | N
     """Runs a command, the name of the tool first, and returns its output. A file that `files` lacks cannot be opened.
 
     Raises `Error` if the status is not 0, with the status, the messages and the output; and `MemoryError`."""
-    words = list(words)
+    words = _listed(words)
     status, out, messages = run_all(words, stdin, files)
     if status:
         raise Error(status, messages.decode(errors="replace").rstrip("\n"), out)
@@ -109,7 +113,7 @@ def run(words: Iterable[str], stdin: Input = b"", files: Mapping[str, Input] | N
 
 def run_all(words: Iterable[str], stdin: Input = b"", files: Mapping[str, Input] | None = None) -> tuple[int, bytes, bytes]:
     """The exit status of a command, its output and its messages."""
-    words = list(words)
+    words = _listed(words)
     given, text = _words_of(words), _bytes_of(stdin)
     contents = [files.get(it) for it in names(words)[0]] if files else []
     parts = [None if it is None else _bytes_of(it) for it in contents]

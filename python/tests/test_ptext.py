@@ -27,7 +27,7 @@ class Tools(unittest.TestCase):
         lines = b"a\n" * 100_000
         out = ptext.paste("-d", "\\0", "-", "-", stdin=lines)
         self.assertEqual(out, b"aa\n" * 50_000)
-        out = ptext.join("-j", "1", "a", "b", files={"a": b"k 0123456789\n" * 300, "b": b"k abcdefghij\n" * 300})
+        out = ptext.join("a", "b", files={"a": b"k 0123456789\n" * 300, "b": b"k abcdefghij\n" * 300})
         self.assertEqual(out, b"k 0123456789 abcdefghij\n" * 90_000)
 
     def test_names(self):
@@ -44,7 +44,7 @@ class Failures(unittest.TestCase):
 
     def test_words_that_are_no_command(self):
         error = self.refused(["cut", "-q"])
-        self.assertEqual((error.status, error.message), (2, "cut: unknown option -q"))
+        self.assertEqual((error.status, error.message), (2, "cut: unknown option in -q"))
         self.assertEqual(self.refused([]).status, 2)
         self.assertEqual(self.refused(["cut", "-f", "1", "\udcff"]).message, "ptext: a word is not UTF-8")
         self.assertRaises(ValueError, ptext.run, ["cut\0"])
