@@ -23,6 +23,7 @@ from static import ran
 
 CRATE = "ptrunc"
 HEAP = "c/liblibc_c.a"
+KEPT = f"{TOP}/build/{CRATE}-kept"
 # The first number of the version is that of the interface: programs link with libptext.so.0.
 CHECKED = ["ptext_run", "ptext_names"]
 PC = """prefix=/usr/local
@@ -55,15 +56,11 @@ def words_for(kit, room, crates, uses):
 
 def archive(kit, place, crates, uses):
     """Proves the crate and compiles it to an archive in the place. Returns the messages of a step that failed."""
-    words = words_for(kit, f"{place}/room", crates, uses)
-    checked, here = f"{place}/checked", f"{TOP}/crates/{CRATE}"
-    rattle = f"{kit}/bin/rattle"
-    return ran(
-        [rattle, "check", *words, "--logic-built", f"{kit}/logic_built", "--jobs", "2", "-o", checked], here
-    ) or ran(
-        [rattle, "build", *words, "--crate-checked", checked, "--toolchain", f"{kit}/toolchain", "-o", f"{place}/{CRATE}.a"],
-        here,
-    )
+    words = [*words_for(kit, f"{place}/room", crates, uses), "--logic-built", f"{kit}/logic_built", "--jobs", "2"]
+    # (What this run proves is kept for the next one. The gate proves the crate from nothing.)
+    words += ["--incremental", KEPT, "--toolchain", f"{kit}/toolchain", "-o", f"{place}/{CRATE}.a"]
+    os.makedirs(os.path.dirname(KEPT), exist_ok=True)
+    return ran([f"{kit}/bin/rattle", "build", *words], f"{TOP}/crates/{CRATE}")
 
 
 def linked(kit, place):
