@@ -7,6 +7,9 @@
 #                           its pages, its installation and its packages
 # make check-program        all tests of a built program (PROGRAM=build/ptext): nothing is proved, and no toolchain needed
 # make static               build/ptext-static: the program as one file that needs no shared libraries
+# make lib                  build/libptext.so and build/libptext.a with ptext.h: the tools over bytes in memory, for C
+# make install-lib          installs them and the page ptext(3) into PREFIX
+# make python               build/dist: a wheel of the Python module, with the library in it (docs/LIBRARY.md)
 # make bench                ratios to the system's tools by the length of a line: table, data and chart in bench/; and
 #                           the tools over parts of their input, on all processors
 # make compare N=5000       random words and inputs, against the definitions and the system's tools; AGAINST=busybox,
@@ -16,6 +19,8 @@
 # make uninstall PREFIX=..  takes away exactly what these two installed
 # make dist                 build/dist: an archive of the source, one of the program, and their checksums. All has to be
 #                           committed; with CHANGED=yes the archives are made all the same, and say so
+# make dist-static          build/dist: an archive of the program without shared libraries, with the license of the C
+#                           library, and the parts to link it with another one
 # make deb                  build/dist: the Debian packages ptext and ptext-tools, by dpkg-buildpackage and debhelper. It
 #                           tests the program first (with DEB_BUILD_OPTIONS=nocheck it does not)
 # make clean                removes all that was built, and what checks kept
@@ -25,6 +30,8 @@ prefix ?= /usr/local
 PREFIX ?= $(prefix)
 bindir = $(PREFIX)/bin
 libexecdir = $(PREFIX)/libexec
+libdir = $(PREFIX)/lib
+includedir = $(PREFIX)/include
 datadir = $(PREFIX)/share
 mandir = $(datadir)/man
 # The command that puts the program in its place, as `install`. Without one it is stripped, if there is strip.
@@ -37,7 +44,7 @@ WITH_RT = command -v rt >/dev/null || { echo 'there is no rt in PATH: it is part
     says what can be had without it (if it is unpacked: export PATH=/opt/rattle/bin:$$PATH)' >&2; exit 1; }
 AGAINST ?= system
 
-.PHONY: all try check check-program test static bench compare install is-built install-tools uninstall dist deb clean
+.PHONY: all try check check-program test static lib install-lib python bench compare install is-built install-tools uninstall dist dist-static deb clean
 
 all: build/ptext
 	@echo '$$ echo abcd | build/ptext cut -c 3-,1' && echo abcd | build/ptext cut -c 3-,1
@@ -74,6 +81,28 @@ static: build/ptext-static
 build/ptext-static: build/ptext
 	python3 tools/static.py
 
+lib: build/libptext.a
+
+build/libptext.a: HANDLES crates.txt lib/ptext.c lib/ptext.h tools/library.py \
+    $(shell find crates -name out -prune -o -path '*/must-fail' -prune -o -type f -print)
+	@$(WITH_RT)
+	python3 tools/library.py
+
+install-lib: build/libptext.a
+	install -d "$(DESTDIR)$(libdir)/pkgconfig" "$(DESTDIR)$(includedir)" "$(DESTDIR)$(mandir)/man3"
+	install -m 644 build/libptext.a "$(DESTDIR)$(libdir)"
+	cp -P build/libptext.so* "$(DESTDIR)$(libdir)"
+	install -m 644 lib/ptext.h "$(DESTDIR)$(includedir)"
+	install -m 644 man/ptext.3 "$(DESTDIR)$(mandir)/man3"
+	sed 's|^prefix=.*|prefix=$(PREFIX)|' build/ptext.pc >"$(DESTDIR)$(libdir)/pkgconfig/ptext.pc"
+
+# (The modules of Debian's packages python3-setuptools and python3-wheel are those of its own Python.)
+PYTHON ?= /usr/bin/python3
+python: build/libptext.a
+	rm -rf build/python && cp -r python build/python
+	cp build/libptext.so.$(shell cat VERSION) build/python/ptext/libptext.so
+	cd build/python && $(PYTHON) setup.py -q bdist_wheel -d ../dist
+
 bench: build/ptext
 	python3 bench/run.py build/ptext
 	python3 bench/parts.py build/ptext
@@ -98,6 +127,9 @@ uninstall:
 
 dist: build/ptext
 	@python3 tools/dist.py archives build/dist $(if $(CHANGED),--changed)
+
+dist-static: build/ptext-static
+	@python3 tools/dist.py static build/dist
 
 deb: build/ptext
 	@python3 tools/dist.py deb build/dist

@@ -20,6 +20,12 @@ sh tests/parallel.sh "$program"
 python3 tests/waiting.py "$program"
 python3 tests/pages.py "$program"
 python3 tests/completion.py
+if [ -e build/libptext.so ]; then
+    sh tests/library.sh build
+    python3 tools/same.py "$program" 500
+else
+    echo "left out: the library (make lib builds it)"
+fi
 if [ ! -x build/ptext-static ]; then
     echo "left out: the program without shared libraries (make static builds it)"
 elif [ -x build/ptext ] && [ -z "$(find build/ptext-static -newer build/ptext)" ]; then

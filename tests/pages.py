@@ -29,7 +29,7 @@ sys.path.insert(0, f"{TOP}/tools")
 from names import NAMES as TOOLS
 
 DOCS = ["README.md", "CONTRIBUTING.md", "CHANGELOG.md", "bench/README.md"]
-PAGES = [*glob.glob("man/*.[17]", root_dir=TOP), *glob.glob("docs/*.md", root_dir=TOP)]
+PAGES = [*glob.glob("man/*.[137]", root_dir=TOP), *glob.glob("docs/*.md", root_dir=TOP)]
 FILES = [*[it for it in DOCS if os.path.exists(f"{TOP}/{it}")], *sorted(PAGES)]
 VERSIONS = {
     "gnu": (["cut", "--version"], "(GNU coreutils) 9.1\n"),
@@ -61,7 +61,7 @@ SAMPLES = {"f": "A:1 p\na:1 p\na:1 p\nb:2 q\nb:2 q\nd:4 s\n", "g": "a:1 p\nb:2 q
 
 
 def is_page(file):
-    return file.endswith((".1", ".7"))
+    return file.endswith((".1", ".3", ".7"))
 
 
 def blocks_of_page(text):
@@ -147,7 +147,7 @@ def lint():
     if not shutil.which("mandoc"):
         print("left out: the lint of the pages (there is no mandoc)")
         return ""
-    pages = sorted(glob.glob(f"{TOP}/man/*.[17]"))
+    pages = sorted(glob.glob(f"{TOP}/man/*.[137]"))
     words = ["mandoc", "-Tlint", "-Wstyle", *pages]
     # (In one stream a line of the one kind could begin within a line of the other.)
     did = subprocess.run(words, capture_output=True, text=True, check=False)

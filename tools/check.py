@@ -28,7 +28,8 @@ def commit(words):
 def uses_of(text):
     """The libraries that each crate uses, by the lines of crates.txt, lowest first."""
     rows = [line.partition("#")[0].partition(":") for line in text.split("\n")]
-    left = {name.strip(): uses.split() for name, _, uses in rows if name.strip()}
+    # (A static library has `staticlib` after its name.)
+    left = {name.split()[0]: uses.split() for name, _, uses in rows if name.strip()}
     uses = {}
     while left:
         ready = next(name for name in left if not any(it in left for it in left[name]))

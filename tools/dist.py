@@ -6,6 +6,9 @@ list of the packages has not: it names the time and the environment.)
                                                       ptext-VERSION-linux-x86_64.tar.gz, the stripped program with its
                                                       pages, docs and completion, and the tools by their own names;
                                                       SHA256SUMS of both
+  python3 tools/dist.py static FOLDER                 ptext-VERSION-linux-x86_64-static.tar.gz: the program without shared
+                                                      libraries (make static), its pages, and what the license of the
+                                                      C library asks for, to link it anew
   python3 tools/dist.py deb FOLDER                    two packages by dpkg-buildpackage, and its list of them, which has
                                                       their checksums
 
@@ -28,6 +31,7 @@ import tempfile
 sys.dont_write_bytecode = True
 
 from install import TOP, bytes_of, files, files_of_tools, git, lines_of, source_id
+from static import ARCHIVES
 
 VERSION = bytes_of(f"{TOP}/VERSION").decode().strip()
 # The time that every file bears, if SOURCE_DATE_EPOCH names no other: that of this version.
@@ -61,6 +65,18 @@ To remove it all:
 The program contains code of others: NOTICES has the licenses. SHA256SUMS has the checksums of all these files
 (`sha256sum -c SHA256SUMS`), and COMMIT names the commit of the source.
 """
+
+
+# How whoever gets the static program links it with another C library, as the license of that library demands.
+RELINK = """# To link the program anew
+
+The program contains the GNU C library (LGPL-2.1 or later; its license is in NOTICES). To link it with another version of
+that library, in this folder:
+
+    gcc -static -s -o ../bin/ptext ptext.o {archives}
+"""
+# The license of the C library, where Debian keeps it.
+LGPL = "/usr/share/common-licenses/LGPL-2.1"
 
 
 def script(_, name):
@@ -195,6 +211,39 @@ def archives(folder, is_changed):
     return 0
 
 
+def static(folder):
+    """The archive of the static program."""
+    rt, needed = shutil.which("rt"), [f"{TOP}/build/ptext-static", f"{TOP}/build/ptext.o", LGPL]
+    lacking = [it for it in needed if not os.path.isfile(it)] + ([] if rt else ["rt (the toolchain) in PATH"])
+    if lacking:
+        return f"there is no {lacking[0]} (make static builds the program). No archive was made."
+    kit, commit = os.path.dirname(os.path.dirname(os.path.realpath(rt))), source_id() or "unknown"
+    named = f"ptext-{VERSION}-linux-x86_64-static"
+    installed = [it for it in files(BELOW, commit) if it[0] != "bin/ptext"]
+    links = [(f"relink/{os.path.basename(it)}", 0o644, bytes_of(f"{kit}/{it}")) for it in ARCHIVES]
+    notices = (
+        bytes_of(f"{TOP}/debian/copyright")
+        + b"\nFiles: bin/ptext\nCopyright: the contributors of the GNU C Library\nLicense: LGPL-2.1+\n"
+        + b"Comment: The program is linked with the static C library of Debian (libc6-dev).\n"
+        + b" relink/ has what is needed to link it with another. The license follows.\n\n"
+        + bytes_of(LGPL)
+    )
+    members = [
+        *installed,
+        ("bin/ptext", 0o755, bytes_of(f"{TOP}/build/ptext-static")),
+        ("relink/ptext.o", 0o644, bytes_of(f"{TOP}/build/ptext.o")),
+        *links,
+        ("relink/README", 0o644, RELINK.format(archives=" ".join(map(os.path.basename, ARCHIVES))).encode()),
+        ("NOTICES", 0o644, notices),
+        *((it, 0o644, bytes_of(f"{TOP}/{it}")) for it in ("LICENSE-MIT", "LICENSE-APACHE")),
+    ]
+    with tempfile.TemporaryDirectory() as room:
+        archive(f"{room}/{named}.tar.gz", named, members, commit)
+        put_all(room, folder)
+    print(f"made {folder}/{named}.tar.gz, of commit {commit}")
+    return 0
+
+
 def deb(folder):
     for program, package in (("dpkg-buildpackage", "dpkg-dev"), ("dh", "debhelper")):
         if not shutil.which(program):
@@ -234,14 +283,16 @@ def deb(folder):
 
 def main():
     words = [it for it in sys.argv[1:] if it != "--changed"]
-    if len(words) != 2 or words[0] not in ("archives", "deb"):
+    if len(words) != 2 or words[0] not in ("archives", "static", "deb"):
         return __doc__
     if not os.path.isfile(f"{TOP}/build/ptext"):
         return "there is no build/ptext: run make first. Nothing was made."
     # What is ended leaves nothing behind, as what is stopped by Ctrl-C.
     signal.signal(signal.SIGTERM, signal.default_int_handler)
     try:
-        return deb(words[1]) if words[0] == "deb" else archives(words[1], "--changed" in sys.argv)
+        if words[0] == "archives":
+            return archives(words[1], "--changed" in sys.argv)
+        return deb(words[1]) if words[0] == "deb" else static(words[1])
     except OSError as why:
         return f"cannot write {why.filename or words[1]}: {why.strerror}. Nothing was made."
     except KeyboardInterrupt:

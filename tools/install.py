@@ -196,9 +196,14 @@ class Place:
             os.remove(old)
 
 
+def pages_of_program():
+    """The manual pages, without that of the library, which `make install-lib` installs."""
+    return sorted(it for it in os.listdir(f"{TOP}/man") if not it.endswith(".3"))
+
+
 def files(where, commit=None):
     """The files to install into these folders: the path, the mode, and the bytes."""
-    pages = sorted(os.listdir(f"{TOP}/man"))
+    pages = pages_of_program()
     return [
         (f"{where['bindir']}/ptext", 0o755, stripped(f"{TOP}/build/ptext")),
         *((f"{where['mandir']}/man{name[-1]}/{name}", 0o644, page(name, commit)) for name in pages),
@@ -244,7 +249,7 @@ def install(place):
     if why:
         return why
     print(
-        f"installed in {place.root}: {beside(place, 'bindir')}/ptext, {len(os.listdir(f'{TOP}/man'))} pages in "
+        f"installed in {place.root}: {beside(place, 'bindir')}/ptext, {len(pages_of_program())} pages in "
         f"{beside(place, 'mandir')}, completion for bash, zsh and fish, {beside(place, 'datadir')}/ptext/cut_at_keys.sh"
     )
     return 0

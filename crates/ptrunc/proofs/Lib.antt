@@ -1,0 +1,4 @@
+pub mod Below
+pub mod RoomLemmas
+pub mod InputLemmas
+pub mod RunLemmas

@@ -1,0 +1,78 @@
+//! Whole runs over bytes in memory, for programs in C and in other languages. lib/ptext.c checks the pointers that it is
+//! given, and calls the two functions here; lib/ptext.h says what callers owe.
+#![tactic(auto)]
+
+mod answer;
+mod given;
+mod memory;
+mod naming;
+mod running;
+
+use answer::{Answer, refuse};
+use given::{are_ends, files_of, words_of};
+use naming::write_names;
+use running::{NO_MEMORY, run_in_memory};
+use std::alloc::Global;
+
+const NOT_UTF8: &str = "ptext: a word is not UTF-8\n";
+
+/// Runs a command over bytes in memory. Each word ends with byte 0. The files lie one after another in `files`, with
+/// these ends; `usize::MAX` is the end of a file that cannot be opened.
+#[unsafe(no_mangle)]
+pub extern "C" fn ptext_run_in_memory(
+    alloc: Global,
+    words: &[u8],
+    input: &[u8],
+    files: &[u8],
+    ends: &[usize],
+    out: &mut [u8],
+    messages: &mut [u8],
+    answer: &mut Answer,
+) {
+    *answer = run_given(alloc, words, input, (files, ends), out, messages);
+}
+
+// Runs a command whose words and files are split first.
+fn run_given(
+    alloc: Global,
+    words: &[u8],
+    input: &[u8],
+    given: (&[u8], &[usize]),
+    out: &mut [u8],
+    messages: &mut [u8],
+) -> Answer {
+    let (files, ends) = given;
+    let Ok(text) = str::from_utf8(words) else {
+        return refuse(2, NOT_UTF8, messages);
+    };
+    if !are_ends(ends, files.len()) {
+        return refuse(
+            5,
+            "ptext: the ends of the files are not in order\n",
+            messages,
+        );
+    }
+    match (words_of(alloc, text), files_of(alloc, files, ends)) {
+        (Ok(words), Ok(files)) => run_in_memory(alloc, &words, input, &files, out, messages),
+        _ => refuse(4, NO_MEMORY, messages),
+    }
+}
+
+/// Writes the names of the input files of a command to `names`, and that of its output file to `output`.
+#[unsafe(no_mangle)]
+pub extern "C" fn ptext_names_in_memory(
+    alloc: Global,
+    words: &[u8],
+    names: &mut [u8],
+    output: &mut [u8],
+    answer: &mut Answer,
+) {
+    let Ok(text) = str::from_utf8(words) else {
+        *answer = refuse(0, "", output);
+        return;
+    };
+    *answer = match words_of(alloc, text) {
+        Ok(words) => write_names(alloc, &words, names, output),
+        Err(_) => refuse(4, "", output),
+    };
+}
