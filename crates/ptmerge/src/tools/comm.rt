@@ -133,9 +133,9 @@ fn comm_with_order<K: KeyOrder, A: Allocator + Copy, S: Source, R: Source, W: Si
 ///
 /// The slots 0 to 3 of the store are used, and added if they are missing. After `Ok` and `Disorder` they are empty. If
 /// one of them could not be added, nothing is read or written. If the output has failed before, the call does nothing.
-/// Reading is never more than two blocks of either input ahead of the output, or past a disorder, regardless of the
-/// content of the other input. Tests check, but no clause states, that buffered output is written out before a read
-/// that may block.
+/// However the call ends, everything was pushed that was decided two blocks (16,384 bytes) of either input earlier,
+/// regardless of the content of the other input; and a disorder was not yet decided then. Tests check, but no clause
+/// states, that buffered output is written out before a read that may block.
 /// # Errors
 /// `Read`, with the input, if a read failed; `Write` if a write failed; `Memory` if the store could not grow, and
 /// `Store::denied` is then true; `Disorder`, with the input and the line, if an input is not sorted: all lines up to

@@ -242,12 +242,12 @@ fn join_with_order<
 ///
 /// The slots 0 to 3 of the store are used, and added if they are missing; after them at most one slot is added for each
 /// of the second input's lines of one key. After `Ok` and `Disorder` all slots are empty. If one of the first four
-/// could not be added, nothing is read or written. If the output has failed before, the call does nothing. Reading is
-/// never more than two blocks of either input ahead of the output, or past a disorder, regardless of the content of the
-/// other input. The pairs of a key are written once all lines of the second input with this key are read. A line that
-/// is the only one of its key takes no further slot: this is stated by the contract of the function that copies the
-/// lines of a key, not by this one. Tests check, but no clause states, that buffered output is written out before a
-/// read that may block.
+/// could not be added, nothing is read or written. If the output has failed before, the call does nothing. However the
+/// call ends, everything was pushed that was decided two blocks (16,384 bytes) of either input earlier, regardless of
+/// the content of the other input; and a disorder was not yet decided then. The pairs of a key are written once all
+/// lines of the second input with this key are read. A line that is the only one of its key takes no further slot: this
+/// is stated by the contract of the function that copies the lines of a key, not by this one. Tests check, but no
+/// clause states, that buffered output is written out before a read that may block.
 /// # Errors
 /// `Read`, with the input, if a read failed; `Write` if a write failed; `Memory` if the store could not grow, and
 /// `Store::denied` is then true; `Disorder`, with the input and the line, if an input is not sorted: all output lines
