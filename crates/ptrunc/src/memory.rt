@@ -81,6 +81,7 @@ pub struct Filling<'a, A: Allocator> {
     pub rest: Vec<u8, A>,
     pub failed: bool,
     pub unflushed: bool,
+    pub flushes: u64,
     ghost rest_is_after: { room.written < length room.bytes.now → rest.items ≡ [] },
 }
 
@@ -98,6 +99,7 @@ impl<'a, A: Allocator> Filling<'a, A> {
             rest: Vec::new(alloc),
             failed: false,
             unflushed: false,
+            flushes: 0,
         }
     }
 }
@@ -127,6 +129,7 @@ impl<A: Allocator + Drop> Sink for Filling<'_, A> {
 
     fn flush(&mut self) -> Result<(), Failed> {
         self.unflushed = false;
+        self.flushes = self.flushes.saturating_add(1);
         Ok(())
     }
 }

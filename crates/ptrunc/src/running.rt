@@ -217,6 +217,7 @@ fn into_room<'a, A: Allocator + Drop>(filling: Filling<'a, A>) -> Room<'a>
         rest: _,
         failed: _,
         unflushed: _,
+        flushes: _,
     } = filling;
     room
 }
