@@ -101,12 +101,13 @@ awk 'BEGIN { for (n = 0; n < 15000; n++)
 repeated piece >log
 tr '\n' '\0' <log >zeros
 awk 'BEGIN { for (n = 0; n < 40000; n++) for (k = n * 7919 % 50 + 1; k > 0; k--) print n % 3 ? k % 2 "\t" n " x" : n % 9 ? "." : " " }' >piece
-(repeated piece | head -c 24000000; echo .; yes equal | head -n 4000000; repeated piece | head -c 24000000) >words
+(repeated piece | head -c 24000000; echo .; yes equal | head -n 4000000; repeated piece | head -c 24000000; echo .) >words
 awk 'BEGIN { for (n = 0; n < 2100000; n++) printf "%08d aaaaaaaaaaaaaaaaaaaaa\n", n * 2 }' >left
 awk 'BEGIN { for (n = 0; n < 2100000; n++) printf "%08d aaaaaaaaaaaaaaaaaaaaa\n", int(n / 2) * 3 }' >right
 sort -k 2,2 -k 1.8,1.8 -k 1,1 left >shuffled
 (echo id,name; sed 's/ /,/' shuffled | head -n 100000) >table
 head -n 1000000 log >first
+gzip -1 <log >log.gz
 ln left second
 for file in log zeros words left right shuffled; do
     [ "$(wc -c <"$file")" -ge 64000000 ] || failed "$file is too small"
@@ -125,7 +126,9 @@ both "$each --block 20M --recend '\\0' -a zeros 'ptext cut -z -d \" \" -f 2' | c
     "ptext cut -z -d ' ' -f 2 zeros" 3M 20M
 both "$each --block 20M -a log 'ptext tr -cs \"[:alpha:]\" \"[\\n*]\"' | ptext tr -s '\\n'" \
     "ptext tr -cs '[:alpha:]' '[\\n*]' <log" 3M 20M
-filled="! grep -n -m 1 '^\$' words >&2 && $each --block 20M"
+both "gzip -dc log.gz | parallel --pipe -k --halt now,fail=1 --block 20M 'ptext cut -d \" \" -f 1,3' | cat" \
+    "ptext cut -d ' ' -f 1,3 log" 3M 20M
+filled="! { grep -n -m 1 '^\$' words || tail -c 1 words | grep .; } >&2 && parallel --pipepart -k"
 both "$filled --group-by '\$_' -a words \\" "ptext uniq -c words" 3M 20M
 both "$filled -a words \\" "ptext uniq -f 1 words" 3M 20M
 both "mkdir rows && split -a 4 -d -l 300000 first rows/1. && split -a 4 -d -l 300000 second rows/2. &&" \
@@ -133,9 +136,11 @@ both "mkdir rows && split -a 4 -d -l 300000 first rows/1. && split -a 4 -d -l 30
 both "mkdir lines && cut_at_keys.sh 5 0 lines left right &&" "ptext comm left right" one
 both "mkdir keys && cut_at_keys.sh 5 1 keys left right &&" "ptext join -a 1 -a 2 left right" one
 both "mkdir spaces && SEPARATOR=' ' cut_at_keys.sh 5 1 spaces left right &&" "ptext join -t ' ' left right" one
-rm -r rows lines keys spaces
+both "mkdir runs && cut_at_keys.sh 5 0 runs right &&" "ptext uniq -c right" one
+rm -r rows lines keys spaces runs
 
 # Cuts that do not meet the condition: the output is not that of the whole.
+(seq 500000; yes equal | head -n 500000; printf equal) >open
 while IFS= read -r command && IFS= read -r whole; do
     sh -c "$whole" >want </dev/null || failed "$whole"
     run "$command"
@@ -143,6 +148,8 @@ while IFS= read -r command && IFS= read -r whole; do
 done <<'ROWS'
 parallel --pipepart -k --block 3M -a words 'ptext uniq -c'
 ptext uniq -c words
+parallel --pipepart -k --block 3M --group-by '$_' -a open 'ptext uniq -c'
+ptext uniq -c open
 parallel --pipepart -k --block 3M -a log 'ptext tr -cs "[:alpha:]" "[\n*]"'
 ptext tr -cs "[:alpha:]" "[\n*]" <log
 parallel --pipepart -k --block 3M --recend '' -a log 'ptext cut -c 1'
@@ -158,12 +165,22 @@ for command in "$each --block 3M -a log 'ptext cut -c 1 >/dev/full'" "$each --bl
     [ "$status" != 0 ] || failed "status 0, though a part failed: $command"
 done
 
-# GNU parallel cuts runs of empty lines, so the recipes for uniq refuse them.
-(head -n 1000 first; yes '' | head -n 99) >file
-for line in "$filled --group-by '\$_' -a words \\" "$filled -a words \\"; do
-    run "$(block "$line" | sed 's/ words/ file/')"
-    [ "$status" = 1 ] && ! [ -s out ] && [ -s messages ] || failed "empty lines are not refused: $line"
+# GNU parallel cuts runs of empty lines, and a last line without its newline from its run, so the recipes for uniq
+# refuse them.
+(head -n 1000 first; yes '' | head -n 99) >empty
+for file in empty open; do
+    for line in "$filled --group-by '\$_' -a words \\" "$filled -a words \\"; do
+        run "$(block "$line" | sed "s/ words/ $file/g")"
+        [ "$status" = 1 ] && ! [ -s out ] && [ -s messages ] || failed "not refused: $line, over the file $file"
+    done
 done
+
+# A sorted file with empty lines is cut between runs by cut_at_keys.sh.
+(yes '' | head -n 99; head -n 1000 right) >sorted
+run "$(block "mkdir runs && cut_at_keys.sh 5 0 runs right &&" | sed 's/ right / sorted /')"
+ptext uniq -c sorted >want
+[ "$status" = 0 ] && cmp -s out want || failed "uniq -c of a sorted file with empty lines"
+rm -r runs
 
 # cut_at_keys.sh is refused, with a message and a status, what it would cut wrongly.
 refused() {

@@ -2,7 +2,7 @@
 """Compares the built program with the definitions and with other implementations, on random words and inputs, in the C
 locale.
 
-  python3 tools/compare PROGRAM [COUNT] [--against NAME] [--tool TOOL] [--seed NUMBER] [--only NUMBER]
+  python3 tools/compare PROGRAM [COUNT] [--against NAME] [--tool TOOL] [--without TOOL] [--seed NUMBER] [--only NUMBER]
   python3 tools/compare PROGRAM --corpus FOLDER
 
 The output, the messages and the status of the program have to be those of the definitions, which model.py computes.
@@ -128,6 +128,8 @@ def sides_of(given, program):
     """The program itself, and those of the requested implementations that are installed."""
     names = list(SIDES) if given.against == "all" else [given.against]
     sides = [side_of(it) for it in names]
+    if given.without:
+        sides = [it._replace(lacks={**it.lacks, given.without: None}) for it in sides]
     with open(f"{TOP}/VERSION", encoding="ascii") as it:
         version = it.read().strip()
     ours = Side("ptext", multi_call(program), [], {})._replace(fixed_version=version)
@@ -168,6 +170,7 @@ def main():
     words.add_argument("count", nargs="?", type=int, default=1000)
     words.add_argument("--against", default="system", metavar="NAME")
     words.add_argument("--tool", choices=list(FLAGS))
+    words.add_argument("--without", choices=list(FLAGS), help="a tool that only PROGRAM runs")
     words.add_argument("--seed", type=int, default=random.randrange(1 << 30))
     words.add_argument("--only", type=int, metavar="NUMBER", help="one case of a seed")
     words.add_argument("--brief", action="store_true", help="prints failures and the last line only")
