@@ -12,17 +12,23 @@ import subprocess
 import sys
 
 TOP = os.path.dirname(os.path.dirname(os.path.realpath(__file__)))
+NO_RT = (
+    "there is no rt in PATH: it is part of the toolchain, of which the README says what can be had without it "
+    "(if it is unpacked: export PATH=/opt/rattle/bin:$PATH)"
+)
 
 
 def git(*words):
-    return subprocess.run(["git", *words], cwd=TOP, check=True, capture_output=True, text=True).stdout
+    """The output of git over this folder, or None if it fails."""
+    # (Root may check a clone of somebody else.)
+    did = subprocess.run(["git", "-c", f"safe.directory={TOP}", *words], cwd=TOP, capture_output=True, text=True)
+    return None if did.returncode else did.stdout
 
 
 def commit(words):
     if words:
         return words[0]
-    known = subprocess.run(["git", "rev-parse", "-q", "--verify", "origin/main"], cwd=TOP, capture_output=True)
-    return "HEAD~1" if known.returncode else "origin/main"
+    return "HEAD~1" if git("rev-parse", "-q", "--verify", "origin/main") is None else "origin/main"
 
 
 def uses_of(text):
@@ -42,8 +48,7 @@ def changed_since(since, uses):
     parts = [file.split("/") for file in files if file.startswith("crates/")]
     text = {it[1] for it in parts if it[2] in ("src", "specs", "proofs")}
     edits = {it[1] for it in parts if it[2] == "must-fail" and os.path.isfile(f"{TOP}/{'/'.join(it)}")}
-    was = subprocess.run(["git", "show", f"{since}:crates.txt"], cwd=TOP, capture_output=True, text=True).stdout
-    before = uses_of(was)
+    before = uses_of(git("show", f"{since}:crates.txt") or "")
     return text | {it for it in uses if uses[it] != before.get(it)}, edits
 
 
@@ -72,13 +77,14 @@ def ran(what, words, folder):
 
 def main():
     if not shutil.which("rt"):
-        return "there is no rt in PATH: it comes with the kit that the README names (export PATH=/opt/rattle/bin:$PATH)"
+        return NO_RT
     if not shutil.which("git"):
         return "there is no git in PATH, which knows what changed: run make test, which proves all"
+    # (Without a .git, git would look at a repository around this folder.)
+    if not os.path.exists(f"{TOP}/.git"):
+        return "this folder is no clone, so git does not know what changed: run make test, which proves all"
     since = commit(sys.argv[1:])
-    if subprocess.run(
-        ["git", "rev-parse", "-q", "--verify", f"{since}^{{commit}}"], cwd=TOP, capture_output=True
-    ).returncode:
+    if git("rev-parse", "-q", "--verify", f"{since}^{{commit}}") is None:
         return f"git knows no commit {since} here: name one that it knows, make check SINCE=COMMIT"
     with open(f"{TOP}/crates.txt", encoding="utf-8") as it:
         uses = uses_of(it.read())
