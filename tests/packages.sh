@@ -102,11 +102,15 @@ is "and through a link" b "$(echo ab | "$room/home/cut" -c 2)"
 is "all tools of the archive" "comm cut join paste tr uniq " "$(ls "$local/libexec/ptext/bin" | tr '\n' ' ')"
 case $commit in
     unknown*) made= ;;
-    *' changed') made=", commit $(expr "$commit" : '\(............\)'), changed" ;;
-    *) made=", commit $(expr "$commit" : '\(............\)')" ;;
+    *' changed') made=+$(expr "$commit" : '\(........\)').changed ;;
+    *) made=+$(expr "$commit" : '\(........\)') ;;
 esac
 for page in share/man/man1/ptext.1 libexec/ptext/man/man1/cut.1; do
     is "the commit in $page" ".Os ptext $version$made" "$(grep '^[.]Os' "$local/$page")"
+    if manpath --version 2>/dev/null | grep -q ^manpath; then
+        is "the last line of $page, without the date" "ptext $version$made ptext $version$made" \
+            "$(MANWIDTH=80 man -l "$local/$page" | tail -n 1 | sed 's/  *[A-Z][a-z]* [0-9]*, 20[0-9]*  */ /')"
+    fi
 done
 is "the script of the archive" yes "$([ -x "$local/share/ptext/cut_at_keys.sh" ] && echo yes)"
 is "the page of section 7" yes "$([ -s "$local/share/man/man7/ptext-replacing.7" ] && echo yes)"
@@ -136,7 +140,7 @@ commit_said() {
 }
 again --changed >"$room/said"
 is "the commit of a changed archive" "${commit% changed} changed" "$(commit_said COMMIT)"
-made=${made:+${made%, changed}, changed}
+made=${made:+${made%.changed}.changed}
 is "and in a page" ".Os ptext $version$made" "$(commit_said share/man/man1/ptext.1 | grep '^[.]Os')"
 rm -r "$room/three"
 make -s -C "$room/source" PTEXT_AS_BUILT=yes install PREFIX="$room/four" DESTDIR= >"$room/said" 2>&1
