@@ -1,8 +1,8 @@
 #!/bin/sh
 # Tests `make dist` and `make deb`: twice the same bytes; archives with all their parts, which are refused if something
 # is not committed; an installation from the archive, by the commands that it names; and, if there are dpkg and
-# debhelper, Debian packages that install, run and are removed again, below a folder of their own. If there is lintian,
-# its report on the packages is shown. Nothing is proved.
+# debhelper, Debian packages that install, run and are removed again, below a folder of their own, and a source package.
+# If there is lintian, its report on the packages is shown. Nothing is proved.
 # usage: tests/packages.sh (the program is built; WITHOUT_PACKAGES=yes leaves out the Debian packages)
 set -u
 top=$(cd "$(dirname "$0")/.." && pwd)
@@ -244,10 +244,24 @@ elif command -v dpkg-buildpackage >/dev/null && command -v dh >/dev/null; then
     else
         echo "left out: the installation of the packages (it takes dpkg, and root)"
     fi
+    # The source package: the archive of the source, beside which a program was built and checks were made.
+    mkdir "$room/of.source"
+    tar -xzf "$room/one/ptext-$version.tar.gz" -C "$room/of.source"
+    cp "$room/one/ptext-$version.tar.gz" "$room/of.source/ptext_$version.orig.tar.gz"
+    tree=$room/of.source/ptext-$version
+    mkdir "$tree/build" "$tree/crates/ptrun/out"
+    cp "$top/build/ptext" "$tree/build"
+    cp "$top/build/ptext" "$tree/crates/ptrun/out/kept"
+    (cd "$tree" && dpkg-buildpackage -us -uc -S -d) >"$room/said" 2>&1 || { cat "$room/said"; bad=$((bad + 1)); }
+    is "a source package" "ptext_$version-1.dsc" "$(cd "$room/of.source" && ls ./*.dsc | sed 's|^\./||')"
+    is "nothing that was built is in it" "" \
+        "$(tar -tf "$room/of.source/ptext_$version-1.debian.tar.xz" | grep -v '/$' | grep 'patches\|build/\|out/')"
     if command -v lintian >/dev/null; then
-        # (debian/*.lintian-overrides have its other findings, with the reasons. Another version of lintian may find
-        # more, so this is shown and not counted.)
-        lintian --fail-on none -I "$room/one/$list.changes" 2>/dev/null | grep '^[EWI]:'
+        # (debian/*.lintian-overrides and debian/source/lintian-overrides have its other findings, with the reasons.
+        # Another version of lintian may find more, so this is shown and not counted.)
+        for changes in "$room/one/$list.changes" "$room/of.source/ptext_$version-1_source.changes"; do
+            lintian --fail-on none -I "$changes" 2>/dev/null | grep '^[EWI]:'
+        done
     else
         echo "left out: what lintian says of the packages (there is no lintian)"
     fi
