@@ -152,6 +152,8 @@ is "a file in the way" "cannot write $room/three: File exists. Nothing was made.
 rm "$room/three"
 is "no room" "cannot write $room/three: File too large. Nothing was made." \
     "$(ulimit -f 8 && dist "$room/three" 2>&1 | sed "s|write /[^:]*:|write $room/three:|; s|^strip: .*||; /^\$/d")"
+is "a time that is none" "SOURCE_DATE_EPOCH is no number of seconds: now. Nothing was made." \
+    "$(SOURCE_DATE_EPOCH=now && export SOURCE_DATE_EPOCH && dist "$room/three" 2>&1)"
 is "nothing is left of them" "" "$(ls -Ad "$room"/.ptext-* "$room/three" 2>/dev/null)"
 
 if command -v git >/dev/null; then

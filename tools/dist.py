@@ -30,8 +30,9 @@ sys.dont_write_bytecode = True
 from install import TOP, bytes_of, files, files_of_tools, git, lines_of, source_id
 
 VERSION = bytes_of(f"{TOP}/VERSION").decode().strip()
-# The time that every file bears, if SOURCE_DATE_EPOCH names no other: that of this version.
-TIME = int(os.environ.get("SOURCE_DATE_EPOCH", "1795348800"))
+# The time that every file bears, in seconds: that of this version, if SOURCE_DATE_EPOCH names no other.
+SECONDS = os.environ.get("SOURCE_DATE_EPOCH") or "1795348800"
+TIME = int(SECONDS) if SECONDS.isdecimal() else 0
 # The files that an archive has besides those that were given to it.
 ADDED = ("COMMIT", "SHA256SUMS")
 # What dpkg-buildpackage makes in the folder debian, if it is called in this one.
@@ -241,6 +242,8 @@ def main():
     words = [it for it in sys.argv[1:] if it != "--changed"]
     if len(words) != 2 or words[0] not in ("archives", "deb"):
         return __doc__
+    if not SECONDS.isdecimal():
+        return f"SOURCE_DATE_EPOCH is no number of seconds: {SECONDS}. Nothing was made."
     if not os.path.isfile(f"{TOP}/build/ptext"):
         return "there is no build/ptext: run make first. Nothing was made."
     # What is ended leaves nothing behind, as what is stopped by Ctrl-C.
