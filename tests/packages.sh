@@ -2,7 +2,8 @@
 # Tests `make dist` and `make deb`: twice the same bytes; archives with all their parts, which are refused if something
 # is not committed; an installation from the archive, by the commands that it names; and, if there are dpkg and
 # debhelper, Debian packages that install, run and are removed again, below a folder of their own, and a source package.
-# If there is lintian, its report on the packages is shown. Nothing is proved.
+# If there is lintian, its report on the packages is shown. In the unpacked source it also tests that `make check` says
+# why it cannot run. Nothing is proved.
 # usage: tests/packages.sh (the program is built; WITHOUT_PACKAGES=yes leaves out the Debian packages)
 set -u
 top=$(cd "$(dirname "$0")/.." && pwd)
@@ -189,11 +190,21 @@ is "no dpkg-buildpackage" "there is no dpkg-buildpackage, which the Debian packa
     "$(few deb)"
 is "nothing is left of both" ptext "$(ls -A "$room/source/build")"
 rm -r "$room/source/build"
-for target in dist deb; do
+for target in dist deb check; do
     is "no toolchain for $target" 1 "$(few $target | grep -c '^there is no rt in PATH: ')"
     is "and nothing else is said" 1 "$(few $target | wc -l)"
 done
 is "nothing is left of them" "" "$(ls -Ad "$room/source/build" 2>/dev/null)"
+# A check that cannot know what changed says why, before it calls rt.
+: >"$room/few/rt"
+chmod +x "$room/few/rt"
+is "no git for check" "there is no git in PATH, which knows what changed: run make test, which proves all" "$(few check)"
+if command -v git >/dev/null; then
+    ln -s "$(command -v git)" "$room/few/git"
+    rm -rf "$room/source/.git"
+    is "no clone for check" "this folder is no clone, so git does not know what changed: run make test, which proves all" \
+        "$(few check)"
+fi
 
 if [ "${WITHOUT_PACKAGES:-}" ]; then
     echo "left out: the Debian packages (WITHOUT_PACKAGES)"
