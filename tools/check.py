@@ -93,15 +93,19 @@ def main():
     for crate in uses:
         if crate in text or any(it in above for it in uses[crate]):
             above.add(crate)
-    print(f"since {since}: changed {' '.join(it for it in uses if it in text) or 'nothing'}", flush=True)
+    parts = []
     for crate in [it for it in uses if it in above]:
         folder = f"{TOP}/crates/{crate}"
-        if not ran(f"{crate}, the proof", ["rt", "check"], folder):
-            return 1
-        if has_tests(crate) and not ran(f"{crate}, the tests", ["rt", "test"], folder):
-            return 1
+        parts.append((f"{crate}, the proof", ["rt", "check"], folder))
+        if has_tests(crate):
+            parts.append((f"{crate}, the tests", ["rt", "test"], folder))
     for crate in [it for it in uses if it in text | edits and os.path.isdir(f"{TOP}/crates/{it}/must-fail")]:
-        if not ran(f"{crate}, the wrong bodies", ["rt", "must-fail", crate], TOP):
+        parts.append((f"{crate}, the wrong bodies", ["rt", "must-fail", crate], TOP))
+    print(f"since {since}: changed {' '.join(it for it in uses if it in text) or 'nothing'}")
+    if parts:
+        print(f"{len(parts)} parts, each of which may take minutes: {'; '.join(what for what, _, _ in parts)}", flush=True)
+    for part in parts:
+        if not ran(*part):
             return 1
     return 0
 
