@@ -19,6 +19,7 @@
 # make deb                  build/dist: the Debian packages ptext and ptext-tools, by dpkg-buildpackage and debhelper. It
 #                           tests the program first (with DEB_BUILD_OPTIONS=nocheck it does not)
 # make clean                removes all that was built, and what checks kept
+# make help                 prints these lines
 
 # (prefix, as other projects write it, is the same. So are the names of the folders.)
 prefix ?= /usr/local
@@ -37,7 +38,8 @@ WITH_RT = command -v rt >/dev/null || { echo 'there is no rt in PATH: it is part
     says what can be had without it (if it is unpacked: export PATH=/opt/rattle/bin:$$PATH)' >&2; exit 1; }
 AGAINST ?= system
 
-.PHONY: all try check check-program test static bench compare install is-built install-tools uninstall dist deb clean
+.PHONY: all try check check-program test static bench compare install is-built install-tools uninstall dist deb clean \
+    help
 
 all: build/ptext
 	@echo '$$ echo abcd | build/ptext cut -c 3-,1' && echo abcd | build/ptext cut -c 3-,1
@@ -104,3 +106,6 @@ deb: build/ptext
 
 clean:
 	rm -rf build crates/*/out
+
+help:
+	@sed -n '/^#/!q; s/^# //p' Makefile
