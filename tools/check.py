@@ -71,7 +71,10 @@ def ran(what, words, folder):
     took = after.ru_utime + after.ru_stime - before.ru_utime - before.ru_stime
     if did.returncode:
         print(did.stdout, end="")
-    print(f"{took:8.1f} s  {what}: {'FAILED' if did.returncode else 'ok'}", flush=True)
+    # (What is killed says nothing itself. rt then ends with 256 less the signal.)
+    signal = -did.returncode if did.returncode < 0 else 256 - did.returncode if did.returncode > 192 else 0
+    end = f"FAILED, ended by signal {signal}" if signal else "FAILED" if did.returncode else "ok"
+    print(f"{took:8.1f} s  {what}: {end}", flush=True)
     return not did.returncode
 
 
