@@ -54,12 +54,12 @@ endif
 check:
 	python3 tools/check.py $(SINCE)
 
-# The program gets standard input and no file but by its absolute name. The last lines that the toolchain adds to its
-# messages are left out.
+# The program runs in a folder of its own. The last lines that the toolchain adds to its messages are left out.
 try:
 	@$(if $(WORDS),:,echo "which words? make try WORDS='cut -c 3-,1'" >&2; exit 1)
 	@$(WITH_RT)
-	@mkdir -p build && echo 'compiling the program, which takes about half a minute; nothing is proved' >&2
+	@mkdir -p build && echo 'compiling the program, which takes about half a minute; nothing is proved (it finds' \
+	    'files by their absolute names only, and writes at most 1 MiB)' >&2
 	@cd crates/ptext && rt try -- $(WORDS) 2>../../build/try.log; status=$$?; \
 	    grep -v '^checked: ended\|^run=ended' ../../build/try.log >&2; exit $$status
 
