@@ -24,6 +24,7 @@
 # make deb                  build/dist: the Debian packages ptext and ptext-tools, by dpkg-buildpackage and debhelper. It
 #                           tests the program first (with DEB_BUILD_OPTIONS=nocheck it does not)
 # make clean                removes all that was built, and what checks kept
+# make help                 prints these lines
 
 # (prefix, as other projects write it, is the same. So are the names of the folders.)
 prefix ?= /usr/local
@@ -44,7 +45,8 @@ WITH_RT = command -v rt >/dev/null || { echo 'there is no rt in PATH: it is part
     says what can be had without it (if it is unpacked: export PATH=/opt/rattle/bin:$$PATH)' >&2; exit 1; }
 AGAINST ?= system
 
-.PHONY: all try check check-program test static lib install-lib python bench compare install is-built install-tools uninstall dist dist-static deb clean
+.PHONY: all try check check-program test static lib install-lib python bench compare install is-built install-tools \
+    uninstall dist dist-static deb clean help
 
 all: build/ptext
 	@echo '$$ echo abcd | build/ptext cut -c 3-,1' && echo abcd | build/ptext cut -c 3-,1
@@ -59,12 +61,12 @@ endif
 check:
 	python3 tools/check.py $(SINCE)
 
-# The program gets standard input and no file but by its absolute name. The last lines that the toolchain adds to its
-# messages are left out.
+# The program runs in a folder of its own. The last lines that the toolchain adds to its messages are left out.
 try:
 	@$(if $(WORDS),:,echo "which words? make try WORDS='cut -c 3-,1'" >&2; exit 1)
 	@$(WITH_RT)
-	@mkdir -p build && echo 'compiling the program, which takes about half a minute; nothing is proved' >&2
+	@mkdir -p build && echo 'compiling the program, which takes about half a minute; nothing is proved (it finds' \
+	    'files by their absolute names only, and writes at most 1 MiB)' >&2
 	@cd crates/ptext && rt try -- $(WORDS) 2>../../build/try.log; status=$$?; \
 	    grep -v '^checked: ended\|^run=ended' ../../build/try.log >&2; exit $$status
 
@@ -136,3 +138,6 @@ deb: build/ptext
 
 clean:
 	rm -rf build crates/*/out
+
+help:
+	@sed -n '/^#/!q; s/^# //p' Makefile

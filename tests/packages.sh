@@ -1,8 +1,9 @@
 #!/bin/sh
 # Tests `make dist` and `make deb`: twice the same bytes; archives with all their parts, which are refused if something
 # is not committed; an installation from the archive, by the commands that it names; and, if there are dpkg and
-# debhelper, Debian packages that install, run and are removed again, below a folder of their own. If there is lintian,
-# its report on the packages is shown. Nothing is proved.
+# debhelper, Debian packages that install, run and are removed again, below a folder of their own, and a source package.
+# If there is lintian, its report on the packages is shown. In the unpacked source it also tests that `make check` says
+# why it cannot run. Nothing is proved.
 # usage: tests/packages.sh (the program is built; WITHOUT_PACKAGES=yes leaves out the Debian packages)
 set -u
 top=$(cd "$(dirname "$0")/.." && pwd)
@@ -102,11 +103,15 @@ is "and through a link" b "$(echo ab | "$room/home/cut" -c 2)"
 is "all tools of the archive" "comm cut join paste tr uniq " "$(ls "$local/libexec/ptext/bin" | tr '\n' ' ')"
 case $commit in
     unknown*) made= ;;
-    *' changed') made=", commit $(expr "$commit" : '\(............\)'), changed" ;;
-    *) made=", commit $(expr "$commit" : '\(............\)')" ;;
+    *' changed') made=+$(expr "$commit" : '\(........\)').changed ;;
+    *) made=+$(expr "$commit" : '\(........\)') ;;
 esac
 for page in share/man/man1/ptext.1 libexec/ptext/man/man1/cut.1; do
     is "the commit in $page" ".Os ptext $version$made" "$(grep '^[.]Os' "$local/$page")"
+    if manpath --version 2>/dev/null | grep -q ^manpath; then
+        is "the last line of $page, without the date" "ptext $version$made ptext $version$made" \
+            "$(MANWIDTH=80 man -l "$local/$page" | tail -n 1 | sed 's/  *[A-Z][a-z]* [0-9]*, 20[0-9]*  */ /')"
+    fi
 done
 is "the script of the archive" yes "$([ -x "$local/share/ptext/cut_at_keys.sh" ] && echo yes)"
 is "the page of section 7" yes "$([ -s "$local/share/man/man7/ptext-replacing.7" ] && echo yes)"
@@ -136,7 +141,7 @@ commit_said() {
 }
 again --changed >"$room/said"
 is "the commit of a changed archive" "${commit% changed} changed" "$(commit_said COMMIT)"
-made=${made:+${made%, changed}, changed}
+made=${made:+${made%.changed}.changed}
 is "and in a page" ".Os ptext $version$made" "$(commit_said share/man/man1/ptext.1 | grep '^[.]Os')"
 rm -r "$room/three"
 make -s -C "$room/source" PTEXT_AS_BUILT=yes install PREFIX="$room/four" DESTDIR= >"$room/said" 2>&1
@@ -148,6 +153,8 @@ is "a file in the way" "cannot write $room/three: File exists. Nothing was made.
 rm "$room/three"
 is "no room" "cannot write $room/three: File too large. Nothing was made." \
     "$(ulimit -f 8 && dist "$room/three" 2>&1 | sed "s|write /[^:]*:|write $room/three:|; s|^strip: .*||; /^\$/d")"
+is "a time that is none" "SOURCE_DATE_EPOCH is no number of seconds: now. Nothing was made." \
+    "$(SOURCE_DATE_EPOCH=now && export SOURCE_DATE_EPOCH && dist "$room/three" 2>&1)"
 is "nothing is left of them" "" "$(ls -Ad "$room"/.ptext-* "$room/three" 2>/dev/null)"
 
 if command -v git >/dev/null; then
@@ -183,11 +190,21 @@ is "no dpkg-buildpackage" "there is no dpkg-buildpackage, which the Debian packa
     "$(few deb)"
 is "nothing is left of both" ptext "$(ls -A "$room/source/build")"
 rm -r "$room/source/build"
-for target in dist deb; do
+for target in dist deb check; do
     is "no toolchain for $target" 1 "$(few $target | grep -c '^there is no rt in PATH: ')"
     is "and nothing else is said" 1 "$(few $target | wc -l)"
 done
 is "nothing is left of them" "" "$(ls -Ad "$room/source/build" 2>/dev/null)"
+# A check that cannot know what changed says why, before it calls rt.
+: >"$room/few/rt"
+chmod +x "$room/few/rt"
+is "no git for check" "there is no git in PATH, which knows what changed: run make test, which proves all" "$(few check)"
+if command -v git >/dev/null; then
+    ln -s "$(command -v git)" "$room/few/git"
+    rm -rf "$room/source/.git"
+    is "no clone for check" "this folder is no clone, so git does not know what changed: run make test, which proves all" \
+        "$(few check)"
+fi
 
 if [ "${WITHOUT_PACKAGES:-}" ]; then
     echo "left out: the Debian packages (WITHOUT_PACKAGES)"
@@ -240,10 +257,24 @@ elif command -v dpkg-buildpackage >/dev/null && command -v dh >/dev/null; then
     else
         echo "left out: the installation of the packages (it takes dpkg, and root)"
     fi
+    # The source package: the archive of the source, beside which a program was built and checks were made.
+    mkdir "$room/of.source"
+    tar -xzf "$room/one/ptext-$version.tar.gz" -C "$room/of.source"
+    cp "$room/one/ptext-$version.tar.gz" "$room/of.source/ptext_$version.orig.tar.gz"
+    tree=$room/of.source/ptext-$version
+    mkdir "$tree/build" "$tree/crates/ptrun/out"
+    cp "$top/build/ptext" "$tree/build"
+    cp "$top/build/ptext" "$tree/crates/ptrun/out/kept"
+    (cd "$tree" && dpkg-buildpackage -us -uc -S -d) >"$room/said" 2>&1 || { cat "$room/said"; bad=$((bad + 1)); }
+    is "a source package" "ptext_$version-1.dsc" "$(cd "$room/of.source" && ls ./*.dsc | sed 's|^\./||')"
+    is "nothing that was built is in it" "" \
+        "$(tar -tf "$room/of.source/ptext_$version-1.debian.tar.xz" | grep -v '/$' | grep 'patches\|build/\|out/')"
     if command -v lintian >/dev/null; then
-        # (debian/*.lintian-overrides have its other findings, with the reasons. Another version of lintian may find
-        # more, so this is shown and not counted.)
-        lintian --fail-on none -I "$room/one/$list.changes" 2>/dev/null | grep '^[EWI]:'
+        # (debian/*.lintian-overrides and debian/source/lintian-overrides have its other findings, with the reasons.
+        # Another version of lintian may find more, so this is shown and not counted.)
+        for changes in "$room/one/$list.changes" "$room/of.source/ptext_$version-1_source.changes"; do
+            lintian --fail-on none -I "$changes" 2>/dev/null | grep '^[EWI]:'
+        done
     else
         echo "left out: what lintian says of the packages (there is no lintian)"
     fi

@@ -27,13 +27,9 @@ from concurrent.futures import ThreadPoolExecutor, as_completed
 
 sys.dont_write_bytecode = True
 
-from check import TOP, uses_of
+from check import NO_RT, TOP, uses_of
 
 PROGRAM = "ptext"
-NO_RT = (
-    "there is no rt in PATH: it is part of the toolchain, of which the README says what can be had without it "
-    "(if it is unpacked: export PATH=/opt/rattle/bin:$PATH)"
-)
 # The message of the gate after a crate is proved. (None of these crates has tests.)
 PROVED = re.compile(r"rt: (\w+) (proved|is kept)\b")
 # Other messages that are shown at once: the gate waits, or nothing can be kept.

@@ -12,17 +12,23 @@ import subprocess
 import sys
 
 TOP = os.path.dirname(os.path.dirname(os.path.realpath(__file__)))
+NO_RT = (
+    "there is no rt in PATH: it is part of the toolchain, of which the README says what can be had without it "
+    "(if it is unpacked: export PATH=/opt/rattle/bin:$PATH)"
+)
 
 
 def git(*words):
-    return subprocess.run(["git", *words], cwd=TOP, check=True, capture_output=True, text=True).stdout
+    """The output of git over this folder, or None if it fails."""
+    # (Root may check a clone of somebody else.)
+    did = subprocess.run(["git", "-c", f"safe.directory={TOP}", *words], cwd=TOP, capture_output=True, text=True)
+    return None if did.returncode else did.stdout
 
 
 def commit(words):
     if words:
         return words[0]
-    known = subprocess.run(["git", "rev-parse", "-q", "--verify", "origin/main"], cwd=TOP, capture_output=True)
-    return "HEAD~1" if known.returncode else "origin/main"
+    return "HEAD~1" if git("rev-parse", "-q", "--verify", "origin/main") is None else "origin/main"
 
 
 def uses_of(text):
@@ -43,8 +49,7 @@ def changed_since(since, uses):
     parts = [file.split("/") for file in files if file.startswith("crates/")]
     text = {it[1] for it in parts if it[2] in ("src", "specs", "proofs")}
     edits = {it[1] for it in parts if it[2] == "must-fail" and os.path.isfile(f"{TOP}/{'/'.join(it)}")}
-    was = subprocess.run(["git", "show", f"{since}:crates.txt"], cwd=TOP, capture_output=True, text=True).stdout
-    before = uses_of(was)
+    before = uses_of(git("show", f"{since}:crates.txt") or "")
     return text | {it for it in uses if uses[it] != before.get(it)}, edits
 
 
@@ -67,19 +72,23 @@ def ran(what, words, folder):
     took = after.ru_utime + after.ru_stime - before.ru_utime - before.ru_stime
     if did.returncode:
         print(did.stdout, end="")
-    print(f"{took:8.1f} s  {what}: {'FAILED' if did.returncode else 'ok'}", flush=True)
+    # (What is killed says nothing itself. rt then ends with 256 less the signal.)
+    signal = -did.returncode if did.returncode < 0 else 256 - did.returncode if did.returncode > 192 else 0
+    end = f"FAILED, ended by signal {signal}" if signal else "FAILED" if did.returncode else "ok"
+    print(f"{took:8.1f} s  {what}: {end}", flush=True)
     return not did.returncode
 
 
 def main():
     if not shutil.which("rt"):
-        return "there is no rt in PATH: it comes with the kit that the README names (export PATH=/opt/rattle/bin:$PATH)"
+        return NO_RT
     if not shutil.which("git"):
         return "there is no git in PATH, which knows what changed: run make test, which proves all"
+    # (Without a .git, git would look at a repository around this folder.)
+    if not os.path.exists(f"{TOP}/.git"):
+        return "this folder is no clone, so git does not know what changed: run make test, which proves all"
     since = commit(sys.argv[1:])
-    if subprocess.run(
-        ["git", "rev-parse", "-q", "--verify", f"{since}^{{commit}}"], cwd=TOP, capture_output=True
-    ).returncode:
+    if git("rev-parse", "-q", "--verify", f"{since}^{{commit}}") is None:
         return f"git knows no commit {since} here: name one that it knows, make check SINCE=COMMIT"
     with open(f"{TOP}/crates.txt", encoding="utf-8") as it:
         uses = uses_of(it.read())
@@ -88,15 +97,19 @@ def main():
     for crate in uses:
         if crate in text or any(it in above for it in uses[crate]):
             above.add(crate)
-    print(f"since {since}: changed {' '.join(it for it in uses if it in text) or 'nothing'}", flush=True)
+    parts = []
     for crate in [it for it in uses if it in above]:
         folder = f"{TOP}/crates/{crate}"
-        if not ran(f"{crate}, the proof", ["rt", "check"], folder):
-            return 1
-        if has_tests(crate) and not ran(f"{crate}, the tests", ["rt", "test"], folder):
-            return 1
+        parts.append((f"{crate}, the proof", ["rt", "check"], folder))
+        if has_tests(crate):
+            parts.append((f"{crate}, the tests", ["rt", "test"], folder))
     for crate in [it for it in uses if it in text | edits and os.path.isdir(f"{TOP}/crates/{it}/must-fail")]:
-        if not ran(f"{crate}, the wrong bodies", ["rt", "must-fail", crate], TOP):
+        parts.append((f"{crate}, the wrong bodies", ["rt", "must-fail", crate], TOP))
+    print(f"since {since}: changed {' '.join(it for it in uses if it in text) or 'nothing'}")
+    if parts:
+        print(f"{len(parts)} parts, each of which may take minutes: {'; '.join(what for what, _, _ in parts)}", flush=True)
+    for part in parts:
+        if not ran(*part):
             return 1
     return 0
 

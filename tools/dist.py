@@ -34,8 +34,9 @@ from install import TOP, bytes_of, files, files_of_tools, git, lines_of, source_
 from static import ARCHIVES
 
 VERSION = bytes_of(f"{TOP}/VERSION").decode().strip()
-# The time that every file bears, if SOURCE_DATE_EPOCH names no other: that of this version.
-TIME = int(os.environ.get("SOURCE_DATE_EPOCH", "1795348800"))
+# The time that every file bears, in seconds: that of this version, if SOURCE_DATE_EPOCH names no other.
+SECONDS = os.environ.get("SOURCE_DATE_EPOCH") or "1795348800"
+TIME = int(SECONDS) if SECONDS.isdecimal() else 0
 # The files that an archive has besides those that were given to it.
 ADDED = ("COMMIT", "SHA256SUMS")
 # What dpkg-buildpackage makes in the folder debian, if it is called in this one.
@@ -51,6 +52,11 @@ For one user, in the folder with this file:
     cp -r bin libexec share ~/.local
 
 `~/.local/bin` has to be in `PATH`. For all users, put `/usr/local` in place of `~/.local`, as root.
+
+fish then completes its words, bash does with the package `bash-completion`, and zsh with this line before `compinit` in
+`~/.zshrc`:
+
+    fpath=(~/.local/share/zsh/site-functions $fpath)
 
 To use the tools by their own names (`cut` in place of `ptext cut`), read `man ptext-replacing`, and put
 `~/.local/libexec/ptext/bin` first in `PATH`. Then `man cut` shows the page of this `cut`, and zsh and fish complete its
@@ -285,6 +291,8 @@ def main():
     words = [it for it in sys.argv[1:] if it != "--changed"]
     if len(words) != 2 or words[0] not in ("archives", "static", "deb"):
         return __doc__
+    if not SECONDS.isdecimal():
+        return f"SOURCE_DATE_EPOCH is no number of seconds: {SECONDS}. Nothing was made."
     if not os.path.isfile(f"{TOP}/build/ptext"):
         return "there is no build/ptext: run make first. Nothing was made."
     # What is ended leaves nothing behind, as what is stopped by Ctrl-C.

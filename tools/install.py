@@ -92,11 +92,12 @@ def source_id():
 
 
 def page(name, commit=None):
-    """A manual page, whose last line names the commit (that of the source, or this one), if it is known, beside the
-    version."""
+    """A manual page, whose last line has the commit (that of the source, or this one), if it is known, after the
+    version: as 0.1.0+d24ebc21, or 0.1.0+d24ebc21.changed."""
     commit, _, is_changed = (source_id() if commit is None else commit).partition(" ")
     commit = "" if commit == "unknown" else commit
-    made = f", commit {commit[:12]}{', changed' if is_changed else ''}" if commit else ""
+    # (One word and no longer: groff leaves out the words after a version, and has the date between two of these.)
+    made = f"+{commit[:8]}{'.changed' if is_changed else ''}" if commit else ""
     lines = bytes_of(f"{TOP}/man/{name}").decode().splitlines(keepends=True)
     return "".join(f"{it.rstrip()}{made}\n" if it.startswith(".Os ") else it for it in lines).encode()
 

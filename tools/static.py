@@ -17,8 +17,8 @@ import tempfile
 
 sys.dont_write_bytecode = True
 
-from build import NO_RT, PROGRAM, Progress, crates_of_program, keeps, proved_in, put, say
-from check import TOP
+from build import PROGRAM, Progress, crates_of_program, keeps, proved_in, put, say
+from check import NO_RT, TOP
 
 ARCHIVES = ["c/libos_c.a", "c/liblibc_c.a"]
 OBJECT = f"{TOP}/build/{PROGRAM}.o"
