@@ -33,7 +33,7 @@ SHELLS = {
     "zsh": (["zsh", "-f", "-i"], "fpath=(@ $fpath); autoload -U compinit; compinit -u -D; unsetopt beep; LISTMAX=999"),
     "fish": (["fish", "--no-config", "-i"], "source @/ptext.fish"),
 }
-# What is typed besides, before the tools are completed by their own names.
+# Typed besides, before the tools are completed by their own names.
 SYSTEMS = "/usr/share/bash-completion/bash_completion"
 BY_NAME = {"bash": f"; . {SYSTEMS}; . @/ptext-tools", "zsh": "", "fish": "; for it in %/*.fish; source $it; end"}
 CLASSES = "alnum alpha blank cntrl digit graph lower print punct space upper xdigit".split()
@@ -146,7 +146,7 @@ def said_of(at, row, quiet):
     came = b"".join(at.type(it, quiet) for it in (row.typed, "\t", "\t"))
     said = shown(came)
     found = (offers(said, row.typed, row.wanted), offers(shown(came, b" "), row.typed, row.wanted))
-    # What was typed is on the terminal, so nothing is not offered for want of time.
+    # The typed text is on the terminal, so nothing is left out for lack of time.
     return said, set(row.wanted) in found if row.is_offered else row.typed in said and not any(found)
 
 

@@ -287,7 +287,7 @@ want '' 'comm: f/none: cannot be opened\ncomm: none: cannot be opened\n'
 run empty comm f/none none
 same "two files that cannot be opened" 1
 
-# What the system's comm says of sorted numbers.
+# The system's comm gives the same of sorted numbers.
 seq 1 3 3000 | LC_ALL=C sort >threes
 seq 1 2 3000 | LC_ALL=C sort >twos
 for letters in -1 -2 -3 -12 -13 -23; do
@@ -316,7 +316,7 @@ want '' 'join: none: cannot be opened\n'
 run empty join falls none
 same "a file of join that cannot be opened" 1
 
-# What the system's join says of sorted numbers.
+# The system's join gives the same of sorted numbers.
 sed 's/.*/& a&,:/' threes >left
 sed 's/.*/& b&/' twos >right
 for options in '-a 1' '-v 2' '-a 1 -a 2 -e - -o 0,1.2,2.2,2.3' '-t , -v 1' '-v 1 -v 2' '-1 1 -2 1 -o 2.2,1.1'; do
@@ -383,7 +383,7 @@ status=$(cat ended)
 want '' ''
 same "uniq over one line of 64 MB" 0
 
-# The same line as a column, and in series, where nothing is kept.
+# This line as a column, and in series, where nothing is kept.
 {
     cat long
     echo

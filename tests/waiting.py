@@ -45,7 +45,7 @@ CASES = {
         lines("cut -f 2 @", ("a\tb\n", "b\n"), ("c\n", "c\n"), ("d\te\nf\tg\n", "e\ng\n"), ("h\t", ""), ("i\n", "i\n")),
         lines("cut -d : -f 1 -s @", ("a:b\n", "a\n"), ("c\n", ""), ("d:\n", "d\n")),
         lines("cut -d : -f 1 -z @", ("a:b\0", "a\0"), ("c\0", "c\0")),
-        # What a file gave comes out before the next input is waited for.
+        # The output for a file comes out before the next input is waited for.
         lines("cut -c 1 file @", ("", "1\n2\n"), ("ab\n", "a\n")),
         lines("cut -d 2 -f 1 file @", ("", "1\n\n"), ("a2\n", "a\n")),
         lines("cut -c 1 @ file", ("ab\n", "a\n"), last="1\n2\n"),
@@ -103,7 +103,7 @@ CASES = {
             last="d 6 5\n",
         ),
         lines("join -z @ &", ("a\0", ""), ("a\0", "", 1), ("b\0", ""), ("b\0", "a\0", 1), last="b\0"),
-        # What stands in front of a pair comes out with it, before the line behind the pair is waited for.
+        # Output before that of a pair comes out with it, before the line after the pair is waited for.
         lines("join -a 1 @ &", ("b 2\nc 1\n", "", 1), ("a 1\nb 3\n", "a 1\nb 3 2\n")),
     ],
     "much at once": [
@@ -121,7 +121,7 @@ CASES = {
 }
 WAYS = ["pipe", "FIFO", "terminal"]
 
-# What is said before standard input is waited for.
+# Messages before standard input is waited for.
 SAID = {
     "cut -c 1 none -": "cut: none: cannot be opened\n",
     "cut -f 1 none -": "cut: none: cannot be opened\n",

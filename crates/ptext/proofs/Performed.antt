@@ -1,4 +1,4 @@
--- What the words mean and what the parser returned agree on the number of files and on whether standard output is used,
+-- The meaning of the words and the parsed command agree on the number of files and on whether standard output is used,
 -- unless memory ran out. So a run over the parsed command is one that the words ask for.
 use Rattle.std.specs.Prelude.{◌≡◌, ℕ, Bool, true, false, List, Option, Some, None, Result, Ok, Err, codes, is_none, option_map, if◌then◌else◌}
 use Rattle.std.proofs.Common.{sym, ◌∙◌, ap, refl, subst}

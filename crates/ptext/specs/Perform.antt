@@ -57,8 +57,8 @@ pub record HasNotRun (words : List (List ℕ)) (messages : SinkState) (Unused : 
   pub unused : Unused
 
 -- The postcondition over inputs that are opened already.
-abbrev pub RunInputsPost : List (List ℕ) → List Reader → List Reader → SinkState → SinkState → Type 0 → Outcome → Type 0
-RunInputsPost words old new out messages Unused o = HasRun words old new out messages Unused o ⊎ HasNotRun words messages Unused o
+abbrev pub RunOverInputsPost : List (List ℕ) → List Reader → List Reader → SinkState → SinkState → Type 0 → Outcome → Type 0
+RunOverInputsPost words old new out messages Unused o = HasRun words old new out messages Unused o ⊎ HasNotRun words messages Unused o
 
 -- The postcondition of `perform`. The first reader is that of standard input.
 abbrev pub PerformPost : List (List ℕ) → SourceState → SinkState → SinkState → Type 0 → Outcome → Type 0

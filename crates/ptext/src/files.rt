@@ -4,7 +4,7 @@ ghost use Rattle.std.specs.Prelude.{◌≡◌, ◌+◌, false, [], ◌∷◌, co
 ghost use Rattle.std.specs.List.{list_any};
 ghost use Rattle.ptlines.specs.Readers.{Reader, new_reader, reader_at};
 ghost use Rattle.ptext.specs.CommandOutput.{output_file, has_standard_output, means_standard_output};
-ghost use Rattle.ptext.specs.Perform.{PerformPost, RunInputsPost};
+ghost use Rattle.ptext.specs.Perform.{PerformPost, RunOverInputsPost};
 ghost use Rattle.ptopts.specs.Commands.{command_of_args};
 ghost use Rattle.ptopts.specs.View.{words_view, CommandPost, HasToolName};
 ghost use Rattle.ptrun.specs.SpecOfArgs.{file_count};
@@ -67,7 +67,7 @@ fn run_with_inputs<R: Files, A: Allocator + Copy, S: Source, W: Sink, E: Sink>(
     requires writable { (W.state out).failed ≡ false }
     requires messages_writable { (E.state messages).failed ≡ false }
     ensures out_unchanged { means_standard_output (command_of_args (words_view words.now)) ≡ false → result.out ≡ out }
-    ensures performed { RunInputsPost (words_view words.now) inputs.old inputs.new (W.state out) (E.state messages)
+    ensures performed { RunOverInputsPost (words_view words.now) inputs.old inputs.new (W.state out) (E.state messages)
         (result.out ≡ out) (outcome W.state E.state result) }
 {
     if writes_to_stdout(&command) {

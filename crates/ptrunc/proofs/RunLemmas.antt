@@ -19,7 +19,7 @@ use Rattle.ptrunc.specs.declared.memory.Room.{Room}
 use Rattle.ptrunc.specs.declared.running.Filled.{Filled}
 use Rattle.ptrunc.specs.declared.answer.Answer.{Answer}
 
--- What was received is consistent with the bytes that the readers had to give.
+-- The received bytes are consistent with those that the readers had to give.
 consistent_at : (old new : Reader) (g : Option Received) (v : Option (List ℕ)) → IsNewOrUnopened old
     → HasReceivedAt old new g → HasBytesAt old v → IsConsistentAt g v
 consistent_at old new None None is_new received bytes = tt
