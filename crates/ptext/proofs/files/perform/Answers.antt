@@ -14,7 +14,7 @@ run_with_inputs-requires-clause-fresh g c = (
 pub returns-in-Ok-clause-performed : goal.returns-in-Ok-clause-performed
 returns-in-Ok-clause-performed g c =
     let standard = subst (λ (l : List Reader). reader_at l 0 ≡ new_reader (g.S.Source.state c.args.standard) false)
-        (sym c.deref_mut.ensures.value) c.in-Ok.ensures.standard in
+    (sym c.deref_mut.ensures.value) c.in-Ok.ensures.standard in
     ⊎_elim (λ ran. inl (_, _, standard, ran)) (λ unopened. inr unopened) c.run_with_inputs.ensures.performed
 
 pub returns-in-Err-clause-performed : goal.returns-in-Err-clause-performed
