@@ -8,7 +8,7 @@ import shutil
 import statistics
 
 import chart
-from measuring import FILE, OTHER, RUNS, compare, instructions
+from measuring import FILE, OTHER, RUNS, compare, instructions_beyond_none
 
 LENGTHS = [0, 1, 2, 4, 8, 16, 30, 100, 1000, 10000]
 # The bytes of an input, and of the greater one of two.
@@ -118,8 +118,7 @@ def instructions_a_line(folder, ptext, made, separator, words, length):
     """Those of a short input, without those of an empty one, for each line of standard input."""
     count = min(COUNTED_LINES, COUNTED_SIZE // (length + 1))
     paths = [write(folder, f"few{place}", text) for place, text in enumerate(made(length, count, separator))]
-    empty = write(folder, "none", "")
-    return (instructions(folder, *paths, ptext, words) - instructions(folder, empty, empty, ptext, words)) / count
+    return instructions_beyond_none(folder, paths, ptext, words) / count
 
 
 def measured(folder, ptext, other, quick):
@@ -136,7 +135,7 @@ def measured(folder, ptext, other, quick):
                     place = len(inputs)
                     texts = made(length, count, separator)
                     inputs[made, separator] = [write(folder, f"in{place}{it}", text) for it, text in enumerate(texts)]
-                ours, theirs = compare(folder, *inputs[made, separator], ptext, other, words, 1 if quick else RUNS)
+                ours, theirs = compare(folder, inputs[made, separator], ptext, other, words, 1 if quick else RUNS)
                 few = instructions_a_line(folder, ptext, made, separator, words, length) if counted else None
                 rows.append((tool, " ".join(words), length, ours, theirs, few))
                 said = "" if few is None else f"{few:10.0f} instructions a line"
@@ -182,20 +181,8 @@ def means_of(rows):
     }
 
 
-def keep_table(path, text):
-    """Puts the table between its two marks; a file without them, or none, becomes the table alone."""
-    begin, end = "<!-- begin: written by bench/run.py -->\n", "<!-- end -->\n"
-    old = ""
-    if os.path.exists(path):
-        with open(path, encoding="utf-8") as file:
-            old = file.read()
-    front, mark, rest = old.partition(begin)
-    new = front + begin + text + end + rest.partition(end)[2] if mark else text
-    with open(path, "w", encoding="utf-8") as file:
-        file.write(new)
-
-
 def run(folder, ptext, other, quick, to):
+    """The text and the table for the README; the data and the chart are written."""
     load = os.getloadavg()[0]
     rows = measured(folder, ptext, other, quick)
     part = 10 if quick else 1
@@ -206,8 +193,7 @@ def run(folder, ptext, other, quick, to):
         f"at the start: {load:.1f} of them.\n"
         "`OTHER` is the second input, of lines as long; `FILE` is the first once more.\n\n"
     )
-    os.makedirs(to, exist_ok=True)
     write(to, "speed.tsv", data(rows))
-    keep_table(os.path.join(to, "README.md"), said + table(rows))
     with open(os.path.join(to, "speed.svg"), "w", encoding="utf-8") as file:
         file.write(chart.drawn(means_of(rows)))
+    return said + table(rows)

@@ -2,24 +2,42 @@
 
 import os
 import re
+import resource
 import subprocess
 import sys
 
 RUNS = 5
-# Operands of a case: the input that is standard input, and the other input.
+# Operands of a case: the input that is standard input, the other input, and all inputs.
 FILE = "FILE"
 OTHER = "OTHER"
+FILES = "FILES"
+
+
+def filled(words, paths):
+    """The words, with the paths of the inputs in place of their names."""
+    operands = {FILE: paths[:1], OTHER: paths[1:2], FILES: paths}
+    return [it for word in words for it in operands.get(word, [word])]
+
+
+def ran(command, path, output, limit=resource.RLIM_INFINITY, messages=None):
+    """The exit status, and the seconds of user and system time. After so many of these the command is killed."""
+    with open(path, "rb") as standard, open(output, "wb") as out:
+        child = subprocess.Popen(
+            command, stdin=standard, stdout=out, stderr=messages, env={**os.environ, "LC_ALL": "C"}
+        )
+        if limit != resource.RLIM_INFINITY:
+            resource.prlimit(child.pid, resource.RLIMIT_CPU, (limit, limit))
+        _, status, usage = os.wait4(child.pid, 0)
+        child.returncode = os.waitstatus_to_exitcode(status)
+    return child.returncode, usage.ru_utime + usage.ru_stime
 
 
 def measure(command, path, output):
-    """Seconds of user and system time."""
-    with open(path, "rb") as standard, open(output, "wb") as out:
-        child = subprocess.Popen(command, stdin=standard, stdout=out, env={**os.environ, "LC_ALL": "C"})
-        _, status, usage = os.wait4(child.pid, 0)
-        child.returncode = os.waitstatus_to_exitcode(status)
-    if child.returncode != 0:
-        sys.exit(f"{command} ended with {child.returncode}")
-    return usage.ru_utime + usage.ru_stime
+    """Seconds of user and system time of a command that succeeds."""
+    status, seconds = ran(command, path, output)
+    if status != 0:
+        sys.exit(f"{command[:9]} ended with {status}")
+    return seconds
 
 
 def same(words, one, other):
@@ -30,27 +48,59 @@ def same(words, one, other):
     return subprocess.run(["cmp", "-s", one, other], check=False).returncode == 0
 
 
-def compare(folder, path, second, ptext, other, words, runs=RUNS):
-    """The best seconds of ptext and of the other side."""
+def compare(folder, paths, ptext, other, words, runs=RUNS):
+    """The best seconds of ptext and of the other side. The output of ptext stays in the file `ours`."""
     ours, theirs = [], []
-    words = [{FILE: path, OTHER: second}.get(word, word) for word in words]
+    words = filled(words, paths)
     ours_out, theirs_out = os.path.join(folder, "ours"), os.path.join(folder, "theirs")
-    measure([ptext, *words], path, ours_out)
-    measure([*other, *words], path, theirs_out)
+    measure([ptext, *words], paths[0], ours_out)
+    measure([*other, *words], paths[0], theirs_out)
     if not same(words, ours_out, theirs_out):
-        sys.exit(f"{words}: the outputs differ")
+        sys.exit(f"{words[:9]}: the outputs differ")
     for _ in range(runs):
-        ours.append(measure([ptext, *words], path, os.devnull))
-        theirs.append(measure([*other, *words], path, os.devnull))
+        ours.append(measure([ptext, *words], paths[0], os.devnull))
+        theirs.append(measure([*other, *words], paths[0], os.devnull))
     return min(ours), min(theirs)
 
 
-def instructions(folder, path, second, ptext, words):
+def instructions(folder, paths, ptext, words):
     """How many instructions of ptext run in user space."""
-    words = [{FILE: path, OTHER: second}.get(word, word) for word in words]
     counting = ["valgrind", "--tool=callgrind", f"--callgrind-out-file={folder}/counts"]
-    with open(path, "rb") as standard:
+    with open(paths[0], "rb") as standard:
         ended = subprocess.run(
-            [*counting, ptext, *words], stdin=standard, stdout=subprocess.DEVNULL, stderr=subprocess.PIPE, check=True
+            [*counting, ptext, *filled(words, paths)],
+            stdin=standard,
+            stdout=subprocess.DEVNULL,
+            stderr=subprocess.PIPE,
+            check=True,
         )
     return int(re.search(rb"Collected : ([0-9]+)", ended.stderr)[1])
+
+
+def instructions_beyond_none(folder, paths, ptext, words):
+    """Those that are not run over as many empty inputs."""
+    empty = os.path.join(folder, "empty")
+    open(empty, "wb").close()
+    return instructions(folder, paths, ptext, words) - instructions(folder, [empty] * len(paths), ptext, words)
+
+
+def runs_within(command, path, size):
+    """Whether the command runs in so many KiB of address space."""
+
+    def limit():
+        resource.setrlimit(resource.RLIMIT_AS, (size << 10, size << 10))
+
+    with open(path, "rb") as standard:
+        ended = subprocess.run(
+            command, stdin=standard, stdout=subprocess.DEVNULL, stderr=subprocess.DEVNULL, preexec_fn=limit, check=False
+        )
+    return ended.returncode == 0
+
+
+def least_space(command, path):
+    """The least address space in KiB, to 4 KiB."""
+    low, high = 0, 1 << 20
+    while high - low > 4:
+        middle = (low + high) // 2
+        low, high = (low, middle) if runs_within(command, path, middle) else (middle, high)
+    return high

@@ -1,0 +1,121 @@
+"""The inputs of works.py: lines as people have them, and files of such lines. A maker of files takes their size in
+bytes, all together, and answers their texts."""
+
+import functools
+import random
+
+# The lines that are repeated, where order does not matter. (4, 20 and 100 of them make whole rows.)
+PIECE = 20000
+
+GIVEN = random.Random(1)
+PEOPLE = "ada bob carol eve frank heidi ivan mallory niaj olivia rupert sybil trent walter".split()
+NAMES = GIVEN.choices(PEOPLE, k=PIECE)
+SYLLABLES = [first + last for first in "bcdfghlmnprstv" for last in "aeiou"]
+DNA = "".join("".join(GIVEN.choices("ACGT", k=60)) + "\n" for _ in range(PIECE))
+BYTES = GIVEN.randbytes(1 << 20).decode("latin-1")
+
+
+def name(number):
+    return NAMES[number % PIECE]
+
+
+def item_line(number):
+    return f"{number * 7919 % 1000003} {name(number)}\n"
+
+
+def log_line(number):
+    """A line of a log, each a millisecond later."""
+    time = f"{number // 3600000:02}:{number // 60000 % 60:02}:{number // 1000 % 60:02}.{number % 1000:03}"
+    return (
+        f"2026-11-22T{time}Z host{number % 17} web[{number % 9973}]: "
+        f"GET /items/{number} {200 + number % 5} {number * 7919 % 65536}\n"
+    )
+
+
+def person_line(number):
+    return f"{number:08} {name(number)} {name(number + 7)} {number * 7919 % 65536}\n"
+
+
+def comma_line(number):
+    return person_line(number).replace(" ", ",")
+
+
+def third_line(number):
+    return f"{name(number)} {number * 7919 % 65536} {number:08} {name(number + 7)}\n"
+
+
+def second_line(number):
+    return f"{name(number + 3)} {number:08} {number * 7919 % 65536} {name(number + 5)}\n"
+
+
+def padded_line(number):
+    return f"{name(number):10}{number * 7919 % 65536:>8}  {name(number + 7):10}{number % 1000:>6}\n"
+
+
+def repeated(text):
+    """One file: the text again and again, to the size or a little more."""
+    return lambda size: [text * -(-size // len(text))]
+
+
+def lines(line):
+    return repeated("".join(line(number) for number in range(PIECE)))
+
+
+def item_lines(size, first):
+    """Lines of 13 bytes in the mean, from this number on."""
+    return "".join(item_line(number) for number in range(first, first + size // 13))
+
+
+def items(count):
+    """So many files of as many lines."""
+    return lambda size: [item_lines(size // count, 1000 * number) for number in range(count)]
+
+
+def halving(size):
+    """8 files, of which each is half as long as the one before."""
+    return [item_lines(size >> number, 1000 * number) for number in range(1, 9)]
+
+
+def thirds(first, second):
+    """Two files of ascending numbers. The first lacks each third number, and the second another third: half of the
+    lines of each have a partner."""
+
+    def made(size):
+        count = size * 3 // 4 // len(first(123456))
+        return [
+            "".join(first(number) for number in range(count) if number % 3 != 2),
+            "".join(second(number) for number in range(count) if number % 3 != 0),
+        ]
+
+    return made
+
+
+def one_to_many(size):
+    """Keys of one line in the first file and of 300,000 in the second."""
+    group = 300000
+    count = size // len(person_line(123456))
+    keys = range(-(-count // group))
+    many = "".join(f"{number // group:08} {name(number)} {number * 7919 % 65536}\n" for number in range(count))
+    return ["".join(person_line(number) for number in keys), many]
+
+
+@functools.cache
+def dictionary(count):
+    """So many words less those that come twice, in order."""
+    given = random.Random(1)
+    return sorted({"".join(given.choices(SYLLABLES, k=given.randint(2, 5))) + "\n" for _ in range(count)})
+
+
+def word_lists(size):
+    """Two files of words, of half the size, as in `thirds`."""
+    words = dictionary(size // 16)
+    return [
+        "".join(word for number, word in enumerate(words) if number % 3 != 2),
+        "".join(word for number, word in enumerate(words) if number % 3 != 0),
+    ]
+
+
+def words_of_a_text(size):
+    """All words of a text in order: half of the different ones are there once, and few a thousand times."""
+    given = random.Random(1)
+    return ["".join(word * min(int(1 / (1 - given.random())), 1000) for word in dictionary(size // 64))]
