@@ -156,7 +156,7 @@ IsExactMerge tool input pushed (Err Memory) = Unit {0}
 -- a part of the output is missing.
 abbrev pub IsUnfinished : MergeTool → MergeState → (Side → Received) → List ℕ → Type 0
 IsUnfinished tool new given pushed =
-    ((side : Side) × (IsDone (new.reader side) → ⊥))
+    ((side : Side) × ¬ IsDone (new.reader side))
     ⊎ ((tool.keeps_groups ≡ true) × ((input : Side → List ℕ) → AreConsistent given input → pushed ≢ merge_output tool input))
 
 -- The postcondition of a call, given the bytes that it received from each input.
