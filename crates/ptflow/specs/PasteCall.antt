@@ -86,6 +86,10 @@ pub record PasteUnread (end : ℕ) (cells : List ℕ) (old new : List Reader) (w
   pub readers : (input : ℕ) → 0 < uses_of cells input → reader_at new input ≡ record (reader_at old input) { terminator = end }
   pub output : is ≡ was
 
+-- A column reads an input that is not at its end.
+abbrev pub IsColumnUnended : List ℕ → List Reader → Type 0
+IsColumnUnended cells readers = (input : ℕ) × (0 < uses_of cells input) × (IsDone (reader_at readers input) → ⊥)
+
 -- The postcondition of `paste`. For each reader, `given` has the bytes that it had buffered before the call and those
 -- that it read during the call; `texts` are inputs that begin with them.
 pub record PastePost (job : Paste) (cells : List ℕ) (old new : List Reader) (was is : Output) (before store : Slots) (result : Result (Unit {0}) FlowFault) : Type 0 where
@@ -110,6 +114,8 @@ pub record PastePost (job : Paste) (cells : List ℕ) (old new : List Reader) (w
   pub peak : (texts : ℕ → List ℕ) → ((input : ℕ) → IsConsistent (given input) (texts input))
       → store.peak ≤ max before.peak (paste_size job cells texts)
   pub slots : was.write_failed ≡ false → AddedSlots before store (length cells)
+  -- Memory is requested for missing slots, or for a line of an input that is not at its end.
+  pub line_left : result ≡ Err Memory → length cells ≤ length store.lines → IsColumnUnended cells new
   -- If a slot could not be allocated, nothing was read or pushed.
   pub refused : was.write_failed ≡ false → length store.lines < length cells → PasteUnread job.terminator cells old new was is
   -- A reader that no column uses is unchanged.
