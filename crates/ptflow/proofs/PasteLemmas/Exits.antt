@@ -3,8 +3,8 @@
 use Rattle.ptflow.proofs.Common.{◌≡◌, ◌≢◌, ◌⊎◌, ⊎_elim, inl, inr, ℕ, ◌+◌, ◌*◌, ◌<◌, ◌≤◌, true, false, List, [], ◌∷◌, ◌++◌, Result, Ok, Err, length, take, get_or, max, refl, sym, ◌∙◌, ap, subst, arith}
 use Rattle.ptflow.proofs.Common.{append_assoc, length-append, cases_eq, append-nil, All-from_get_or, lines, IsLine, max_length, max_line_length, Received, IsPrefix, IsConsistent, known_lines, Output, PushEffect, Reader}
 use Rattle.ptflow.proofs.Common.{ReaderAdvance, IsDone, HasReadCause, Slots, with_line, with_denied, received_with, has_received, advance_trans, push_nothing, push_trans, bounded_lag_now, bounded_lag_after, Paste, AddedSlots}
-use Rattle.ptflow.proofs.Common.{reader_at, update_at, PastePre, IsReadToEnd, PasteOutcome, PastePost, uses_of, columns, rows, rows_text, paste, paste_decided, paste_size, SlotsBound, SlotsKept, CellsFilled, RowFilled, RowFailed, ClearSlotsPost, CopyRowsPost, RowsTaken, AreConsumed}
-use Rattle.ptflow.proofs.Common.{is_write_fault, AreReceivedLines, LinesTaken, AreFirstRows, RowsWritten, FlowFault, Read, Write, Memory, Bool}
+use Rattle.ptflow.proofs.Common.{reader_at, update_at, PastePre, IsReadToEnd, PasteOutcome, PastePost, IsColumnUnended, uses_of, columns, rows, rows_text, paste, paste_decided, paste_size, SlotsBound, SlotsKept, CellsFilled, RowFilled, RowFailed, ClearSlotsPost, CopyRowsPost, BegunText, AreConsumed, job_shape}
+use Rattle.ptflow.proofs.Common.{is_write_fault, AreReceivedLines, LinesTaken, AreFirstRows, FlowFault, Read, Write, Memory}
 use Rattle.ptflow.proofs.PasteLemmas.CellSlots.{slots_bound_line, cells_total, sum_of_zeros}
 use Rattle.ptflow.proofs.PasteLemmas.RowsTaken.{first_rows_trans, lines_taken_by_cells, lines_taken_by_row}
 use Rattle.ptflow.proofs.PasteLemmas.Grid.{Column, uses_before_lt, uses_before, grid_none, rows_text-append}
@@ -15,8 +15,8 @@ use Rattle.ptflow.proofs.Passes.Lines.{max_length-append}
 use Rattle.ptflow.proofs.PasteLemmas.LinesTaken.{reads_nothing, lines_trans, taken_at_most, taken_more, nothing_taken}
 use Rattle.ptflow.proofs.PasteLemmas.BufferedRows.{still_pulled}
 use Rattle.ptflow.proofs.PasteLemmas.Invariant.{PasteInvariant, HasStarted, ReadMore, never_failed, set_failed, received_since, now_end, now_fault, now_failed, now_short, now_buffered}
-use Rattle.ptflow.proofs.PasteLemmas.Invariant.{given_by, later, rows_by, begins_by, LagsBy, EarlierBy, lags_by, begins_by_earlier, longest_of_rows}
-use Rattle.ptflow.proofs.PasteLemmas.Invariant.{rows_first, rows_wrote, rows_kept, row_kept, row_gives}
+use Rattle.ptflow.proofs.PasteLemmas.Invariant.{given_by, later, rows_by, begins_by, LagsBy, EarlierBy, lags_by, begins_by_earlier}
+use Rattle.ptflow.proofs.PasteLemmas.Invariant.{rows_wrote, rows_kept, row_kept, row_gives}
 
 -- Nothing was done.
 pub paste_on_failed_output : {job : Paste} {cells : List ℕ} {old : List Reader} {was : Output} {first : Slots} → PastePre cells old first → was.write_failed ≡ true
@@ -33,6 +33,7 @@ paste_on_failed_output {job} {cells} {old} {was} ready fault = record {
   is_exact = λ ok. cc;
   peak = λ texts a. omega arith;
   slots = λ clean. cc;
+  line_left = λ memory room. cc;
   refused = λ clean few. cc;
   untouched = λ p none. refl;
   unchanged_if_failed = λ h. record { write_fault = refl; same_readers = refl; same_output = refl; same_store = refl };
@@ -40,8 +41,9 @@ paste_on_failed_output {job} {cells} {old} {was} ready fault = record {
 
 -- A slot could not be allocated.
 pub paste_without_slots : {job : Paste} {cells : List ℕ} {old set : List Reader} {was : Output} {first store : Slots} → HasStarted job.terminator cells old set was first
-    → AddedSlots first store (length cells) → store.peak ≡ first.peak → store.denied ≡ true → PastePost job cells old set was was first store (Err Memory)
-paste_without_slots {job} {cells} {old} {set} {was} s adds same denied = record {
+    → AddedSlots first store (length cells) → store.peak ≡ first.peak → store.denied ≡ true
+    → length store.lines < length cells → PastePost job cells old set was was first store (Err Memory)
+paste_without_slots {job} {cells} {old} {set} {was} s adds same denied missing = record {
   given = given;
   came = λ p. received_since s p reads_nothing;
   pushed = [];
@@ -55,6 +57,7 @@ paste_without_slots {job} {cells} {old} {set} {was} s adds same denied = record 
   is_exact = λ ok. cc;
   peak = λ texts a. omega (arith, same);
   slots = λ clean. adds;
+  line_left = λ memory room. absurd (omega (arith, missing, room));
   refused = λ clean few. record { readers = λ p some. (s.are_set p).set some; output = refl };
   untouched = λ p none. (s.are_set p).left none;
   unchanged_if_failed = λ fault. cc (s.writable);
@@ -72,8 +75,9 @@ module _ {job : Paste} {cells : List ℕ} {old set now : List Reader} {was is : 
         → ((p : ℕ) → 0 < uses_of cells p → (reader_at new p).failed ≡ true → is'.write_failed ≡ false → IsPrefix (paste_decided job cells (given_by job s.first_rows r)) (rows_text job s.taken_rows ++ pushed))
         → (result ≡ Ok tt → rows_text job s.taken_rows ++ pushed ≡ paste job cells (λ p. (given_by job s.first_rows r p).bytes))
         → ((p : ℕ) → 0 < uses_of cells p → LagsBy job s.first_rows r p) → AddedSlots first after (length cells) → length cells ≤ length after.lines
+        → (result ≡ Err Memory → IsColumnUnended cells new)
         → ((p : ℕ) → uses_of cells p ≡ 0 → reader_at new p ≡ reader_at now p) → PastePost job cells old new was is' first after result
-    ends_by result ends begins decided_is_written whole processing adds room left = record {
+    ends_by result ends begins decided_is_written whole processing adds room unended left = record {
       given = given_by job s.first_rows r;
       came = λ p. received_since s.starts p
           (advance_trans (reader_at set p) (reader_at now p) (reader_at new p) (s.first_rows.lines_taken p).bytes (r.extra p) (s.first_rows.lines_taken p).reads (r.reads p));
@@ -87,6 +91,7 @@ module _ {job : Paste} {cells : List ℕ} {old set now : List Reader} {was is : 
       is_exact = whole;
       peak = λ texts a. (begins texts a).1;
       slots = λ clean. adds;
+      line_left = λ memory there. unended memory;
       refused = λ clean few. absurd (omega (arith, few, room));
       untouched = λ p none. left p none ∙ (s.first_rows.lines_taken p).none (ap (λ (k : ℕ). length s.taken_rows * k) none ∙ omega arith) ∙ (s.starts.are_set p).left none;
       unchanged_if_failed = λ fault. cc (s.starts.writable);
@@ -98,7 +103,7 @@ module _ {job : Paste} {cells : List ℕ} {old set now : List Reader} {was is : 
 
   -- Rows were taken, and the first columns of a row after them. A write of these rows failed.
   module _ {mid : List Reader} (new : List Reader) {ls taken : ℕ → Column} {more : List (List (List ℕ))} (n : ℕ)
-      (g : AreFirstRows job.terminator cells now mid ls more)
+      (g : AreFirstRows (job_shape job cells) now mid ls more)
       (b : (p : ℕ) → LinesTaken job.terminator (reader_at mid p) (reader_at new p) (uses_of (take n cells) p) (taken p))
     where
       abbrev all_taken : (p : ℕ) → LinesTaken job.terminator (reader_at now p) (reader_at new p)
@@ -138,7 +143,7 @@ module _ {job : Paste} {cells : List ℕ} {old set now : List Reader} {was is : 
             ))).peak,
           ))
           (λ p some failed clean. cc) (λ ok. cc) (λ p some. lags_by job s.first_rows read_on p some (cut p some)) k.adds
-          (omega (arith, k.adds.all k.denied))
+          (omega (arith, k.adds.all k.denied)) (λ memory. cc)
           (λ p none. (all_taken p).none (ap (λ (k : ℕ). length more * k + uses_of (take n cells) p) none
           ∙ omega (arith, none, uses_before cells n p)))
 
@@ -155,7 +160,7 @@ module _ {job : Paste} {cells : List ℕ} {old set now : List Reader} {was is : 
 
   -- An input without what was consumed of its buffer.
   earlier_of_buffered : {mid : List Reader} (new : List Reader) {ls taken : ℕ → Column} {more : List (List (List ℕ))}
-      (n : ℕ) (g : AreFirstRows job.terminator cells now mid ls more)
+      (n : ℕ) (g : AreFirstRows (job_shape job cells) now mid ls more)
       (b : (p : ℕ) → LinesTaken job.terminator (reader_at mid p) (reader_at new p) (uses_of (take n cells) p) (taken p))
       → AreConsumed now new
       → (p : ℕ) → 0 < uses_of cells p → EarlierBy job s.first_rows (read_on new n g b) p
@@ -163,30 +168,16 @@ module _ {job : Paste} {cells : List ℕ} {old set now : List Reader} {was is : 
       earlier_before (s.first_rows.lines_taken p).came (all_taken new n g b p).reads (still_pulled consumed p)
       (now_buffered s p some) (omega (arith, some, more_count p, taken_at_most (s.first_rows.lines_taken p)))
 
-  -- The terminator of the readers after some rows.
-  rows_end : {end : ℕ} {mid : List Reader} {written : List ℕ} → end ≡ job.terminator
-      → RowsTaken end job.delimiters cells now mid written → (p : ℕ) → 0 < uses_of cells p
-      → (reader_at mid p).terminator ≡ job.terminator
-  rows_end same r p some = (r.first_rows.lines_taken p).reads.terminator ∙ now_end s p some
-
-  -- A write of rows that all columns read from one input failed.
-  pub paste_shared_write_failed : (end : ℕ) {new : List Reader} {is' : Output} → end ≡ job.terminator
-      → RowsWritten end job.delimiters cells now new is is' → is'.write_failed ≡ true
-      → PastePost job cells old new was is' first store (Err Write)
-  paste_shared_write_failed end {new} same p fault =
-      paste_write new 0 (rows_first s same p.buffered) (λ q. nothing_taken refl) (rows_wrote s same p.buffered p.wrote)
-      fault (rows_kept s same p.buffered)
-      (earlier_of_buffered new 0 (rows_first s same p.buffered) (λ q. nothing_taken refl) p.consumed)
-
   -- A write of rows from the buffers failed, after the first columns of the next row were copied.
-  pub paste_rows_write_failed : (end : ℕ) {new : List Reader} {n : ℕ} {any_line : Bool} {copied begun : List ℕ}
-      {is' : Output} → end ≡ job.terminator → CopyRowsPost end job.delimiters cells now new n any_line copied begun
-      → PushEffect is is' copied → is'.write_failed ≡ true → PastePost job cells old new was is' first store (Err Write)
-  paste_rows_write_failed end {new} {n} same p wrote fault =
-      let g = rows_first s same p.rows in
-      let b = lines_taken_by_cells (rows_end same p.rows) p.filled.consumed in
-      paste_write new n g b (rows_wrote s same p.rows wrote) fault (rows_kept s same p.rows)
-      (earlier_of_buffered new n g b p.consumed)
+  pub paste_rows_write_failed : {copied : List ℕ} {begun : BegunText} {is' : Output}
+      → CopyRowsPost (job_shape job cells) now copied begun → PushEffect is is' copied → is'.write_failed ≡ true
+      → PastePost job cells old begun.readers was is' first store (Err Write)
+  paste_rows_write_failed {begun = begun} p wrote fault =
+      let g = p.rows.first_rows in
+      let b = lines_taken_by_cells (job_shape job cells) (λ q some. (g.lines_taken q).reads.terminator ∙ now_end s q some)
+      p.filled.consumed in
+      paste_write begun.readers begun.count g b (rows_wrote s p.rows wrote) fault (rows_kept s p.rows)
+      (earlier_of_buffered begun.readers begun.count g b p.consumed)
 
   -- A write of a row that was filled failed.
   pub paste_row_write_failed : {new : List Reader} {after : Slots} {fields : List (List ℕ)}
@@ -203,7 +194,7 @@ module _ {job : Paste} {cells : List ℕ} {old set now : List Reader} {was is : 
   module _ {new : List Reader} {after : Slots} {fields : List (List ℕ)} (slots : SlotsKept cells fields store after)
       (f : CellsFilled cells (length cells) now new fields false) where
     lines_taken_by : (p : ℕ) → LinesTaken job.terminator (reader_at now p) (reader_at new p) (uses_of cells p) (f.input_lines p)
-    lines_taken_by = lines_taken_by_row (now_end s) f.consumed
+    lines_taken_by = lines_taken_by_row (job_shape job cells) (now_end s) f.consumed
 
     abbrev read_by : ReadMore now new
     read_by = record { extra = λ p. (lines_taken_by p).bytes; reads = λ p. (lines_taken_by p).reads }
@@ -256,7 +247,7 @@ module _ {job : Paste} {cells : List ℕ} {old set now : List Reader} {was is : 
         ))
         (λ p some failed fine. cc ((lines_taken_by p).failed, now_failed s p, never_failed s.starts p some))
         (λ ok. append-nil (rows_text job s.taken_rows) ∙ text_is) (λ p some. lags_by job s.first_rows read_by p some (earlier_of_taken p some (lines_taken_by p) (omega arith))) k.adds (omega (arith, k.adds.all k.denied))
-        (λ p none. (lines_taken_by p).none none)
+        (λ memory. cc) (λ p none. (lines_taken_by p).none none)
 
   -- A row could not be filled: the reader of a column gave only a part of a line.
   module _ {CellFailed : Reader → Reader → Slots → Slots → ℕ → Type 0} {new : List Reader} {after : Slots} (b : RowFailed CellFailed cells now new store after) (piece : List ℕ)
@@ -268,7 +259,7 @@ module _ {job : Paste} {cells : List ℕ} {old set now : List Reader} {was is : 
     here_used = omega (arith, uses_before_lt cells b.column b.within)
 
     lines_taken_to : (p : ℕ) → LinesTaken job.terminator (reader_at now p) (reader_at b.mid p) (uses_of (take b.column cells) p) (b.input_lines p)
-    lines_taken_to = lines_taken_by_cells (now_end s) b.consumed
+    lines_taken_to = lines_taken_by_cells (job_shape job cells) (now_end s) b.consumed
 
     -- For each reader, the part of a line that it gave; only that reader gave one.
     partial_line_of : (p : ℕ) → (x : List ℕ) × ReaderAdvance (reader_at b.mid p) (reader_at new p) x × IsLine job.terminator x
@@ -348,7 +339,8 @@ module _ {job : Paste} {cells : List ℕ} {old set now : List Reader} {was is : 
           (row_kept s b.slots b.consumed
               (λ p. max_line_length job.terminator (texts p)) (λ p. omega (arith, long_to texts a p))).peak,
         ))
-        (λ p some failed clean. cc) (λ ok. cc) (lag_to (λ done. cc (done.eof))) buffered.adds (omega (arith, buffered.adds.all buffered.denied)) left_to
+        (λ p some failed clean. cc) (λ ok. cc) (lag_to (λ done. cc (done.eof))) buffered.adds (omega (arith, buffered.adds.all buffered.denied))
+        (λ memory. cc) left_to
 
     -- A growth of a slot failed.
     paste_memory_failed : {is' : Output} → PushEffect is is' [] → is'.write_failed ≡ false → after ≡ with_denied (with_line b.buffered b.column piece)
@@ -359,7 +351,8 @@ module _ {job : Paste} {cells : List ℕ} {old set now : List Reader} {was is : 
         (λ p some failed fine. cc (failed_to same p, never_failed s.starts p some)) (λ ok. cc)
         (lag_to (λ done. absurd (omega (arith, left, ap length (eof_gives_nothing (reader_at b.mid here) (reader_at new here) piece done piece_reads).1))))
         (record { least = omega (arith, size, some_kept.adds.least); most = omega (arith, size, some_kept.adds.most); all = λ allowed. cc })
-        (omega (arith, size, some_kept.adds.all some_kept.denied)) left_to
+        (omega (arith, size, some_kept.adds.all some_kept.denied))
+        (λ memory. (here, here_used, λ done. absurd (omega (arith, left, ap length done.buffered)))) left_to
       where
         denied : after.denied ≡ true
         denied = ap (λ (x : Slots). x.denied) stored
@@ -390,7 +383,8 @@ module _ {job : Paste} {cells : List ℕ} {old set now : List Reader} {was is : 
         (λ k. cc (ap (λ (r : Reader). r.failed) k.2, failed_mid p, never_failed s.starts p some))
         (partial_line_of p).3)
         (λ ok. cc) (lag_to may_have_more) (rw stored some_kept.adds)
-        (omega (arith, ap (λ (x : Slots). length x.lines) stored, some_kept.adds.all some_kept.denied)) left_to
+        (omega (arith, ap (λ (x : Slots). length x.lines) stored, some_kept.adds.all some_kept.denied))
+        (λ memory. cc) left_to
       where
         failed_mid : (p : ℕ) → (reader_at b.mid p).failed ≡ (reader_at old p).failed
         failed_mid p = (lines_taken_to p).failed ∙ now_failed s p
@@ -402,17 +396,17 @@ module _ {job : Paste} {cells : List ℕ} {old set now : List Reader} {was is : 
             cause
 
   -- A row could not be filled, for each fault.
-  pub paste_fill_failed : (end : ℕ) {new : List Reader} {after : Slots} (into : List ℕ) {is' : Output} (e : FlowFault)
-      → RowFilled end job.delimiters cells now new store after into (Err e) → PushEffect is is' []
+  pub paste_fill_failed : {new : List Reader} {after : Slots} (into : List ℕ) {is' : Output} (e : FlowFault)
+      → RowFilled (job_shape job cells) now store new after into (Err e) → PushEffect is is' []
       → (fault : is'.write_failed ≡ is_write_fault {X = Unit {0}} (Err e))
       → PastePost job cells old new was is' first after (Err e)
-  paste_fill_failed end into (Read input) f wrote clean =
-      let k = f.0.failure in
-      rw f.1 (paste_read_failed f.0 k.piece k.faults.reads k.faults.whole wrote clean k.stored k.cause)
-  paste_fill_failed end into Write f wrote fault =
+  paste_fill_failed into (Read input) (f, named) wrote clean =
       let k = f.failure in
-      rw k.1
-      (paste_send_failed f [] (rw k.0 reads_nothing) tt wrote fault (ap (λ (r : Reader). r.failed) k.0) k.2)
-  paste_fill_failed end into Memory f wrote clean =
+      rw named (paste_read_failed f k.piece k.faults.reads k.faults.whole wrote clean k.stored k.cause)
+  paste_fill_failed into Write f wrote fault =
+      let (same, kept, going) = f.failure in
+      rw kept
+      (paste_send_failed f [] (rw same reads_nothing) tt wrote fault (ap (λ (r : Reader). r.failed) same) going)
+  paste_fill_failed into Memory f wrote clean =
       let k = f.failure in
       paste_memory_failed f k.piece k.faults.reads k.faults.whole wrote clean k.stored k.failed k.left

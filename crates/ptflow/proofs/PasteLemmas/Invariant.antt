@@ -1,15 +1,16 @@
 -- The loop invariant of `paste`: the rows taken so far are the first rows of the inputs for every continuation, they
 -- were pushed, and the slots hold at most one line for each column. From it follow the clauses of the contract once the
 -- readers were read further.
-use Rattle.ptflow.proofs.Common.{◌≡◌, ⊎_elim, ℕ, ◌+◌, ◌*◌, ◌<◌, ◌≤◌, ◌^◌, Bool, true, false, List, [], ◌∷◌, ◌++◌, None, length, take, get_or, refl, sym, ◌∙◌, ap, subst, arith, append_assoc, All}
-use Rattle.ptflow.proofs.Common.{cases_lt, append-nil, All-get_or, unlines, lines, complete_lines, AreLines, max_length, max_line_length, Received, IsPrefix, IsConsistent, HasReceived, known_lines, Output, PushEffect, Reader, ReaderAdvance}
-use Rattle.ptflow.proofs.Common.{IsDone, Slots, total_bytes, received_with, has_received, has_received_of_set, push_nothing, push_trans, complete_lines_cons, Paste, AddedSlots, reader_at, IsReadable, PastePre, join_with_cycle, uses_of}
-use Rattle.ptflow.proofs.Common.{columns, rows, rows_text, paste, paste_decided, SetTerminatorsPost, SlotsBound, SlotsKept, CellsTaken, CellsFilled, AreReceivedLines, AreFirstRows, RowsTaken, cells_text, map}
+use Rattle.ptflow.proofs.Common.{◌≡◌, ⊎_elim, ℕ, ◌+◌, ◌*◌, ◌<◌, ◌≤◌, ◌^◌, Bool, true, false, List, [], ◌∷◌, ◌++◌, None, length, get_or, refl, sym, ◌∙◌, ap, subst, arith, append_assoc, All}
+use Rattle.ptflow.proofs.Common.{cases_lt, append-nil, All-get_or, unlines, lines, complete_lines, AreLines, max_length, Received, IsPrefix, IsConsistent, HasReceived, known_lines, Output, PushEffect, Reader, ReaderAdvance}
+use Rattle.ptflow.proofs.Common.{IsDone, Slots, total_bytes, received_with, has_received, has_received_of_set, push_nothing, push_trans, complete_lines_cons, Paste, AddedSlots, reader_at, IsReadable, PastePre, uses_of}
+use Rattle.ptflow.proofs.Common.{columns, rows, rows_text, paste, paste_decided, SetTerminatorsPost, SlotsBound, SlotsKept, CellsTaken, CellsFilled, AreReceivedLines, AreFirstRows, RowsTaken, cells_text, job_shape}
+use Rattle.ptflow.proofs.Common.{BufferedRowsPre}
 use Rattle.ptflow.proofs.PasteLemmas.CellSlots.{slots_bound_start, slots_kept_by_lines}
 use Rattle.ptflow.proofs.PasteLemmas.RowsTaken.{first_rows_trans, filled_row_is_first, filled_row_text}
 use Rattle.ptflow.proofs.PasteLemmas.Grid.{Column, last_use, rows_text-append}
 use Rattle.ptflow.proofs.Passes.Lines.{max_length-append}
-use Rattle.ptflow.proofs.Passes.LinesRead.{lines_on, received_longest}
+use Rattle.ptflow.proofs.Passes.LinesRead.{lines_on}
 use Rattle.ptflow.proofs.PasteLemmas.Lag.{EarlierPart, LagsAt, lags_here, decided_is_prefix}
 use Rattle.ptflow.proofs.Passes.Readers.{eof_gives_nothing, may_follow}
 use Rattle.ptflow.proofs.PasteLemmas.LinesTaken.{nothing_taken}
@@ -46,12 +47,7 @@ pub record ReadMore (now new : List Reader) : Type 0 where
   pub extra : ℕ → List ℕ
   pub reads : (p : ℕ) → ReaderAdvance (reader_at now p) (reader_at new p) (extra p)
 
--- No line of the rows is longer than the longest line of its input.
-pub longest_of_rows : {end : ℕ} {cells : List ℕ} {set now : List Reader} {ls : ℕ → Column} {taken_rows : List (List (List ℕ))} (g : AreFirstRows end cells set now ls taken_rows)
-    (texts : ℕ → List ℕ) → ((p : ℕ) → IsConsistent (received_with (g.lines_taken p).bytes (reader_at now p)) (texts p)) → (p : ℕ) → max_length (ls p) ≤ max_line_length end (texts p)
-longest_of_rows {end} {now = now} {ls = ls} g texts a p = received_longest end (reader_at now p) (g.lines_taken p).bytes (ls p) (g.lines_taken p).came (texts p) (a p)
-
-module _ (job : Paste) {cells : List ℕ} {set now new : List Reader} {ls : ℕ → Column} {taken_rows : List (List (List ℕ))} (g : AreFirstRows job.terminator cells set now ls taken_rows) (r : ReadMore now new) where
+module _ (job : Paste) {cells : List ℕ} {set now new : List Reader} {ls : ℕ → Column} {taken_rows : List (List (List ℕ))} (g : AreFirstRows (job_shape job cells) set now ls taken_rows) (r : ReadMore now new) where
   abbrev pub given_by : ℕ → Received
   given_by p = received_with ((g.lines_taken p).bytes ++ r.extra p) (reader_at new p)
 
@@ -149,7 +145,7 @@ pub record PasteInvariant (job : Paste) (cells : List ℕ) (old set now : List R
   pub starts : HasStarted job.terminator cells old set was first
   pub ls : ℕ → Column
   pub taken_rows : List (List (List ℕ))
-  pub first_rows : AreFirstRows job.terminator cells set now ls taken_rows
+  pub first_rows : AreFirstRows (job_shape job cells) set now ls taken_rows
   pub wrote : PushEffect was is (rows_text job taken_rows)
   pub clean : is.write_failed ≡ false
   pub kept : (top : ℕ → ℕ) → ((p : ℕ) → max_length (ls p) ≤ top p) → SlotsBound cells top first store
@@ -182,6 +178,14 @@ module _ {job : Paste} {cells : List ℕ} {old set now : List Reader} {was is : 
   pub now_buffered : (p : ℕ) → 0 < uses_of cells p → length (reader_at now p).buffered ≤ 8192
   now_buffered p some = (s.first_rows.lines_taken p).buffered ((s.starts.are_set p).sound some).buffered
 
+  -- The readers are still readable.
+  pub now_readable : length set ≡ length old → BufferedRowsPre (job_shape job cells) now
+  now_readable size = record {
+    within = λ k d low. omega (arith, s.starts.ready.within k d low, size, s.first_rows.count);
+    unfailed = now_fault;
+    same_end = now_end;
+  }
+
   -- Each column has a slot.
   pub invariant_slots : length cells ≤ length store.lines
   invariant_slots = let k = s.kept (λ p. max_length (s.ls p)) (λ p. omega arith) in omega (arith, k.adds.all k.denied)
@@ -199,7 +203,7 @@ module _ {job : Paste} {cells : List ℕ} {old set now : List Reader} {was is : 
   }
 
   -- More rows were taken and pushed.
-  invariant_after : {new : List Reader} {ls : ℕ → Column} {more : List (List (List ℕ))} → AreFirstRows job.terminator cells now new ls more → {buffered : Slots}
+  invariant_after : {new : List Reader} {ls : ℕ → Column} {more : List (List (List ℕ))} → AreFirstRows (job_shape job cells) now new ls more → {buffered : Slots}
       → ((top : ℕ → ℕ) → ((p : ℕ) → max_length (s.ls p ++ ls p) ≤ top p) → SlotsBound cells top first buffered)
       → {is' : Output} → PushEffect is is' (rows_text job more) → is'.write_failed ≡ false → PasteInvariant job cells old set new was is' first buffered
   invariant_after {new} {ls} {more} g kept {is'} wrote clean = record {
@@ -213,21 +217,16 @@ module _ {job : Paste} {cells : List ℕ} {old set now : List Reader} {was is : 
   }
 
   -- Rows from the buffers.
-  module _ {end : ℕ} (same : end ≡ job.terminator) {new : List Reader} {written : List ℕ}
-      (p : RowsTaken end job.delimiters cells now new written) where
+  module _ {new : List Reader} {written : List ℕ} (p : RowsTaken (job_shape job cells) now new written) where
     pub rows_wrote : {is' : Output} → PushEffect is is' written → PushEffect is is' (rows_text job p.taken_rows)
-    rows_wrote {is'} wrote = subst (PushEffect is is') (p.is
-        ∙ ap (λ (e : ℕ). unlines e (map (join_with_cycle job.delimiters 0) p.taken_rows)) same) wrote
-
-    pub rows_first : AreFirstRows job.terminator cells now new p.ls p.taken_rows
-    rows_first = rw same at p.first_rows
+    rows_wrote {is'} wrote = subst (PushEffect is is') p.is wrote
 
     pub rows_kept : (top : ℕ → ℕ) → ((q : ℕ) → max_length (s.ls q ++ p.ls q) ≤ top q) → SlotsBound cells top first store
     rows_kept top high = s.kept top (λ q. omega (arith, high q, max_length-append (s.ls q) (p.ls q)))
 
     pub invariant_rows : {is' : Output} → PushEffect is is' written → is'.write_failed ≡ false
         → PasteInvariant job cells old set new was is' first store
-    invariant_rows wrote clean = invariant_after rows_first rows_kept (rows_wrote wrote) clean
+    invariant_rows wrote clean = invariant_after p.first_rows rows_kept (rows_wrote wrote) clean
 
   -- A row that was filled.
   module _ {new : List Reader} {after : Slots} {fields : List (List ℕ)} (slots : SlotsKept cells fields store after)
@@ -240,15 +239,12 @@ module _ {job : Paste} {cells : List ℕ} {old set now : List Reader} {was is : 
           (λ p. omega (arith, high p, max_length-append (s.ls p) (input_lines p)))
 
       module _ (f : CellsFilled cells (length cells) now new fields true) where
-        pub row_gives : AreFirstRows job.terminator cells now new f.input_lines (fields ∷ [])
-        row_gives = filled_row_is_first now_end f
+        pub row_gives : AreFirstRows (job_shape job cells) now new f.input_lines (fields ∷ [])
+        row_gives = filled_row_is_first (job_shape job cells) now_end f
 
-        pub row_wrote : {is' : Output} (end : ℕ) → end ≡ job.terminator
-            → PushEffect is is' (cells_text end job.delimiters (length cells) 0 fields)
+        pub row_wrote : {is' : Output} → PushEffect is is' (cells_text (job_shape job cells) 0 fields)
             → PushEffect is is' (rows_text job (fields ∷ []))
-        row_wrote {is'} end same wrote = subst (PushEffect is is')
-            (ap (λ (e : ℕ). cells_text e job.delimiters (length cells) 0 fields) same
-            ∙ filled_row_text job.terminator job.delimiters f) wrote
+        row_wrote {is'} wrote = subst (PushEffect is is') (filled_row_text (job_shape job cells) f) wrote
 
         pub invariant_more : {is' : Output} → PushEffect is is' (rows_text job (fields ∷ [])) → is'.write_failed ≡ false
             → PasteInvariant job cells old set new was is' first after
