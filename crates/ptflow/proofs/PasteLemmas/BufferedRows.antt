@@ -1,11 +1,13 @@
 -- Columns that are copied from the buffers of the readers. A line that is complete in a buffer is the line that `fill`
 -- would return, so a column is filled by it in the same way.
-use Rattle.ptflow.proofs.Common.{◌≡◌, ⊎_elim, inl, ℕ, ◌+◌, ◌<◌, ◌≤◌, ◌^◌, ◌||◌, Bool, true, false, List, [], ◌∷◌, ◌++◌, None, Some, Ok, length, take, drop, set, get_or, refl}
-use Rattle.ptflow.proofs.Common.{sym, ◌∙◌, ap, subst, arith, append_assoc, length-append, length-drop, cases_eq, append-nil, take-take, take-append-le}
-use Rattle.ptflow.proofs.Common.{length-take-le, length-set, drop-drop, drop_at, IsFirstByte, is_byte, Reader, AdvanceOk}
-use Rattle.ptflow.proofs.Common.{IsSound, Slots, with_line, FillLine, FillPost, line_before_terminator, take_with_terminator, advance_ok_take, reader_at, uses_of, CellsFilled, after_cell, cells_text}
-use Rattle.ptflow.proofs.Common.{RowShape, BegunText, BufferedRowsPre, AreConsumed, IsFieldCopied}
-use Rattle.ptflow.proofs.Common.{CopyColumnsPost, CopyRowsPost, RowsTaken}
+use Rattle.ptflow.proofs.Common.{◌≡◌, ⊎_elim, inl, ℕ, ◌+◌, ◌<◌, ◌≤◌, ◌^◌, ◌||◌, Bool, true, false, List, [], ◌∷◌, ◌++◌}
+use Rattle.ptflow.proofs.Common.{None, Some, Ok, length, take, drop, set, get_or, refl, sym, ◌∙◌, ap, subst, arith}
+use Rattle.ptflow.proofs.Common.{append_assoc, length-append, length-drop, cases_eq, append-nil, take-take}
+use Rattle.ptflow.proofs.Common.{take-append-le, length-take-le, length-set, drop-drop, drop_at, IsFirstByte, is_byte}
+use Rattle.ptflow.proofs.Common.{Reader, AdvanceOk, IsSound, Slots, with_line, FillLine, FillPost}
+use Rattle.ptflow.proofs.Common.{line_before_terminator, take_with_terminator, advance_ok_take, reader_at, uses_of}
+use Rattle.ptflow.proofs.Common.{CellsFilled, after_cell, cells_text, RowShape, BegunText, BufferedRowsPre, AreConsumed}
+use Rattle.ptflow.proofs.Common.{IsFieldCopied, CopyColumnsPost, CopyRowsPost, RowsTaken}
 use Rattle.ptflow.proofs.PasteLemmas.RowsTaken.{cells_text-push, rows_taken_trans, row_taken}
 use Rattle.ptflow.proofs.PasteLemmas.FillRow.{at_same, at_other, fill_starts, fill_next}
 

@@ -1,13 +1,13 @@
 -- A row that is being filled: a field comes from the slot of its column, or from the buffer of its reader. The text of
 -- the first fields was copied, and the slots hold the others.
-use Rattle.ptflow.proofs.Common.{◌≡◌, ⊎_elim, ℕ, ◌+◌, ◌<◌, ◌≤◌, ◌||◌, Bool, true, false, List, [], ◌∷◌, ◌++◌, None, Ok, Err}
-use Rattle.ptflow.proofs.Common.{length, take, drop, set, get_or, ext_get_or, get_or-drop, length-drop, take-append-drop}
-use Rattle.ptflow.proofs.Common.{sym, ◌∙◌, ap, arith, length-append, cases_eq, take_all, take_more}
+use Rattle.ptflow.proofs.Common.{◌≡◌, ⊎_elim, ℕ, ◌+◌, ◌<◌, ◌≤◌, ◌||◌, Bool, true, false, List, [], ◌∷◌, ◌++◌, None, Ok}
+use Rattle.ptflow.proofs.Common.{Err, length, take, drop, set, get_or, ext_get_or, get_or-drop, length-drop}
+use Rattle.ptflow.proofs.Common.{take-append-drop, sym, ◌∙◌, ap, arith, length-append, cases_eq, take_all, take_more}
 use Rattle.ptflow.proofs.Common.{take-append-le, length-take-le, get_or-set_same, get_or-set_other, get_or_append_left}
-use Rattle.ptflow.proofs.Common.{get_or_push, Reader, IsSound, Slots, line, FillPost, reader_at, CellsFilled}
-use Rattle.ptflow.proofs.Common.{RowShape, BegunText, after_cell, cells_text, slots_text, CopyColumnsPost, BufferedRowsPre}
-use Rattle.ptflow.proofs.Common.{uses_of, length-set, RowAmid, RowFilled, FillCellPost, NotRead, FillReadErr, FillMemoryErr}
-use Rattle.ptflow.proofs.Common.{FlowFault, Read, Write, Memory}
+use Rattle.ptflow.proofs.Common.{get_or_push, Reader, IsSound, Slots, line, FillPost, reader_at, CellsFilled, RowShape}
+use Rattle.ptflow.proofs.Common.{BegunText, after_cell, cells_text, slots_text, CopyColumnsPost, BufferedRowsPre}
+use Rattle.ptflow.proofs.Common.{uses_of, length-set, RowAmid, RowFilled, FillCellPost, NotRead, FillReadErr}
+use Rattle.ptflow.proofs.Common.{FillMemoryErr, FlowFault, Read, Write, Memory}
 use Rattle.std.proofs.lemmas.List.{get_or-take}
 use Rattle.ptflow.proofs.PasteLemmas.CellSlots.{slots_kept_start, slots_kept_more, slots_kept_line}
 use Rattle.ptflow.proofs.PasteLemmas.RowsTaken.{cells_text-append, cells_text-push}
@@ -61,8 +61,10 @@ module _ {row : RowShape} where
     pub amid_failed : (r : Reader) (after : Slots) (into : List ℕ) (e : FlowFault)
         → FillCellPost (get_or row.cells n 0) n b r store after (Err e)
         → RowFilled row from first (set now.readers (get_or row.cells n 0) r) after into (Err e)
-    amid_failed r after into (Read input) (p, sound, named) =
-        (fill_failed a.filled low within {CellFailed = FillReadErr} after r a.slots is_read p (λ few. sound.buffered), named)
+    amid_failed r after into (Read input) (p, sound, named) = (
+      fill_failed a.filled low within {CellFailed = FillReadErr} after r a.slots is_read p (λ few. sound.buffered),
+      named,
+    )
     amid_failed r after into Write (same, kept, going) =
         fill_failed a.filled low within {CellFailed = NotRead} after r a.slots is_read (same, kept, going)
         (λ few. rw same few)

@@ -1,9 +1,9 @@
 -- Rows that are the next rows of the inputs, and whose lines were taken from the readers. They compose: if rows are
 -- taken and then more, the concatenation is taken. One filled row is such a row, since each column takes one line. Its
 -- fields, each with the byte after it, are the joined fields and the terminator.
-use Rattle.ptflow.proofs.Common.{◌≡◌, ⊎_elim, inl, inr, ℕ, suc, ◌+◌, ◌*◌, ◌<◌, true, List, [], ◌∷◌, ◌++◌}
-use Rattle.ptflow.proofs.Common.{length, take, refl, sym, ◌∙◌, ap, subst, arith, append_assoc, length-append, eq-eqb}
-use Rattle.ptflow.proofs.Common.{ne_eqb, cases_lt, append-nil, nil_from_length, take_all, Reader, reader_at, map, unlines}
+use Rattle.ptflow.proofs.Common.{◌≡◌, ⊎_elim, inl, inr, ℕ, suc, ◌+◌, ◌*◌, ◌<◌, true, List, [], ◌∷◌, ◌++◌, length, take}
+use Rattle.ptflow.proofs.Common.{refl, sym, ◌∙◌, ap, subst, arith, append_assoc, length-append, eq-eqb, ne_eqb}
+use Rattle.ptflow.proofs.Common.{cases_lt, append-nil, nil_from_length, take_all, Reader, reader_at, map, unlines}
 use Rattle.ptflow.proofs.Common.{join_with_cycle, uses_of, columns, rows, CellsTaken, CellsFilled, LinesTaken, RowShape}
 use Rattle.ptflow.proofs.Common.{after_cell, cells_text, AreFirstRows, RowsTaken}
 use Rattle.std.specs.Prelude.{slice_index_or}

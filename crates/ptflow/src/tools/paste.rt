@@ -7,7 +7,8 @@ ghost use Rattle.ptlines.specs.Slots.{line};
 ghost use Rattle.ptlangs.specs.Jobs.{paste_job, terminator};
 ghost use Rattle.ptflow.specs.PasteCall.{PastePre, PastePost};
 ghost use Rattle.ptflow.specs.Private.Paste.BufferedRows.{BufferedRowsPre};
-ghost use Rattle.ptflow.specs.Private.Paste.FillRow.{SetTerminatorsPost, FillCellPost, FillRowPost, ClearSlotsPost, is_write_fault};
+ghost use Rattle.ptflow.specs.Private.Paste.FillRow.{SetTerminatorsPost, FillCellPost, FillRowPost, ClearSlotsPost};
+ghost use Rattle.ptflow.specs.Private.Paste.FillRow.{is_write_fault};
 ghost use Rattle.ptflow.specs.Private.Paste.RowCells.{after_cell, begun_in, job_shape, shape_of, slots_text};
 
 mod buffered_rows;
@@ -75,8 +76,8 @@ fn fill_cell<A: Allocator + Copy, S: Source, R: Source, W: Sink>(
     }
 }
 
-// Finishes a begun row. A line that is not complete in the buffer of its reader is read into the slot of its column, and
-// copied from there. Once a line does not fit, it and those of all further columns stay in their slots.
+// Finishes a begun row. A line that is not complete in the buffer of its reader is read into the slot of its column,
+// and copied from there. Once a line does not fit, it and those of all further columns stay in their slots.
 fn fill_row<A: Allocator + Copy, S: Source, R: Source, W: Sink>(
     row: RowFormat,
     begun: BegunRow,
@@ -89,8 +90,8 @@ fn fill_row<A: Allocator + Copy, S: Source, R: Source, W: Sink>(
     requires within { begun.count ≤ length row.cells.now }
     requires slots { length row.cells.now ≤ length store.old.lines }
     requires clean { out.old.write_failed ≡ false }
-    ensures fills { FillRowPost (shape_of row.entry) (begun_in readers.old begun into.old) store.old readers.new store.new
-        into.new result }
+    ensures fills { FillRowPost (shape_of row.entry) (begun_in readers.old begun into.old) store.old readers.new
+        store.new into.new result }
     ensures wrote { PushEffect out.old out.new [] }
     ensures write_failed { out.new.write_failed ≡ is_write_fault result }
 {

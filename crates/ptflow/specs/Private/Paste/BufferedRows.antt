@@ -1,6 +1,6 @@
 -- Rows of `paste` whose lines are all complete in the buffers of their readers, or missing because the input has ended.
-use Rattle.std.specs.Prelude.{◌≡◌, ℕ, ◌+◌, ◌*◌, ◌<◌, ◌≤◌, Bool, true, false, List, [], ◌++◌, None, Some, All}
-use Rattle.std.specs.Prelude.{length, map, take, drop, sum_by}
+use Rattle.std.specs.Prelude.{◌≡◌, ℕ, ◌+◌, ◌*◌, ◌<◌, ◌≤◌, Bool, true, false, List, [], ◌++◌, None, Some, All, length}
+use Rattle.std.specs.Prelude.{map, take, drop, sum_by}
 use Rattle.memchr.specs.Find.{IsFirstByte, is_byte}
 use Rattle.ptlines.specs.Text.{unlines}
 use Rattle.ptlines.specs.Readers.{Reader, IsDone, budget, reader_at}
@@ -72,7 +72,8 @@ pub record CopyColumnsPost (row : RowShape) (old new : BegunText) : Type 0 where
       → CellsFilled row.cells old.count from old.readers front old.any_line
       → CellsFilled row.cells new.count from new.readers (front ++ fields) new.any_line
 
--- The postcondition of `copy_rows`: rows were taken from the buffers, `copied` is their text, and the next row is begun.
+-- The postcondition of `copy_rows`: rows were taken from the buffers, `copied` is their text, and the next row is
+-- begun.
 pub record CopyRowsPost (row : RowShape) (old : List Reader) (copied : List ℕ) (begun : BegunText) : Type 0 where
   pub mid : List Reader
   pub rows : RowsTaken row old mid copied

@@ -1,6 +1,8 @@
--- A row of `paste` that is finished with the store: a line that is not complete in the buffer of its reader is read into
+-- A row of `paste` that is finished with the store: a line that is not complete in the buffer of its reader is read
+-- into
 -- the slot of its column.
-use Rattle.std.specs.Prelude.{◌≡◌, ◌≢◌, ℕ, ◌<◌, ◌≤◌, Bool, true, false, List, [], Result, Ok, Err, length, take, drop, max, sum_by, slice_index_or}
+use Rattle.std.specs.Prelude.{◌≡◌, ◌≢◌, ℕ, ◌<◌, ◌≤◌, Bool, true, false, List, [], Result, Ok, Err, length, take, drop}
+use Rattle.std.specs.Prelude.{max, sum_by, slice_index_or}
 use Rattle.ptlines.specs.Readers.{Reader, IsSound, reader_at}
 use Rattle.ptlines.specs.Slots.{Slots, AddedSlots, line, total_bytes}
 use Rattle.ptlines.specs.ReadLine.{FillPost, FillReadErr, FillMemoryErr}
@@ -81,15 +83,18 @@ FillCellPost input column old new before after (Err Memory) = FillMemoryErr old 
 
 -- The state after `fill_row` for each result, if the first columns of the row were filled since the states `from` and
 -- `first`.
-abbrev pub RowFilled : RowShape → List Reader → Slots → List Reader → Slots → List ℕ → Result BegunRow FlowFault → Type 0
-RowFilled row from first new store into (Ok begun) = RowAmid row (length row.cells) from first (begun_in new begun into) store
+abbrev pub RowFilled : RowShape → List Reader → Slots → List Reader → Slots → List ℕ → Result BegunRow FlowFault
+    → Type 0
+RowFilled row from first new store into (Ok begun) = RowAmid row (length row.cells) from first (begun_in new begun into)
+    store
 RowFilled row from first new store into (Err (Read input))
     = (b : RowFailed FillReadErr row.cells from new first store) × (input ≡ slice_index_or row.cells b.column 0)
 RowFilled row from first new store into (Err Write) = RowFailed NotRead row.cells from new first store
 RowFilled row from first new store into (Err Memory) = RowFailed FillMemoryErr row.cells from new first store
 
 -- The postcondition of `fill_row`, regardless of how the first columns of the row had been filled.
-abbrev pub FillRowPost : RowShape → BegunText → Slots → List Reader → Slots → List ℕ → Result BegunRow FlowFault → Type 0
+abbrev pub FillRowPost : RowShape → BegunText → Slots → List Reader → Slots → List ℕ → Result BegunRow FlowFault
+    → Type 0
 FillRowPost row begun before new store into result =
     (from : List Reader) (first : Slots) → RowAmid row begun.count from first begun before
     → RowFilled row from first new store into result

@@ -1,5 +1,6 @@
 -- A row of `paste`, column by column: the field of each column, and the byte after it.
-use Rattle.std.specs.Prelude.{◌≡◌, ◌==◌, ℕ, ◌+◌, ◌<◌, ◌≤◌, Bool, true, false, List, [], ◌∷◌, ◌++◌, Option, length, take, drop, sum_by, slice_index_or, if◌then◌else◌}
+use Rattle.std.specs.Prelude.{◌≡◌, ◌==◌, ℕ, ◌+◌, ◌<◌, ◌≤◌, Bool, true, false, List, [], ◌∷◌, ◌++◌, Option, length, take}
+use Rattle.std.specs.Prelude.{drop, sum_by, slice_index_or, if◌then◌else◌}
 use Rattle.ptlines.specs.Readers.{Reader, budget, reader_at}
 use Rattle.ptlines.specs.Slots.{Slots}
 use Rattle.ptlangs.specs.Jobs.{Paste}
@@ -46,11 +47,19 @@ pub record BegunText : Type 0 where
 
 -- The row that was begun at the start of a buffer.
 abbrev pub begun_in : List Reader → BegunRow → List ℕ → BegunText
-begun_in readers row into = record { readers = readers; count = row.count; any_line = row.any_line; text = take row.end into }
+begun_in readers row into = record {
+  readers = readers;
+  count = row.count;
+  any_line = row.any_line;
+  text = take row.end into;
+}
 
 -- The row that was begun after the rows in a buffer.
 abbrev pub begun_after : List Reader → CopiedRows → List ℕ → BegunText
-begun_after readers rows into = record (begun_in readers rows.begun into) { text = drop rows.end (take rows.begun.end into) }
+begun_after readers rows into = record (begun_in readers rows.begun into) {
+  text = drop rows.end
+      (take rows.begun.end into);
+}
 
 -- The first n columns of a row took their fields from the readers: `input_lines` has the lines by input, and `fields`
 -- by column. A column whose input has ended has an empty field.

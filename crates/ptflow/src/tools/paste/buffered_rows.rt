@@ -1,7 +1,8 @@
 //! Rows of `paste` from the buffers of the readers: each line that is complete there is copied to a buffer for output,
 //! without the store, and after it the byte that follows its column. Used by `paste`.
 
-ghost use Rattle.std.specs.Prelude.{◌≡◌, ◌<◌, ◌≤◌, ◌+◌, ◌%◌, ◌++◌, false, length, take, List, option_to_list, IfNone, IfSome};
+ghost use Rattle.std.specs.Prelude.{◌≡◌, ◌<◌, ◌≤◌, ◌+◌, ◌%◌, ◌++◌, false, length, take, List, option_to_list, IfNone};
+ghost use Rattle.std.specs.Prelude.{IfSome};
 ghost use Rattle.memchr.specs.Find.{IsFirstByte, is_byte};
 ghost use Rattle.ptlines.specs.Readers.{Reader, IsSound};
 ghost use Rattle.ptflow.specs.Private.Paste.RowCells.{after_cell, begun_after, begun_in, shape_of};
@@ -245,8 +246,8 @@ pub(crate) fn move_to_front(copied: CopiedRows, into: &mut OutBuf) -> BegunRow
     }
 }
 
-// Copies the line of a column, and the byte after it, to the end of a begun row. Returns `None` if an earlier column was
-// not copied, or if the line does not fit; then nothing is copied.
+// Copies the line of a column, and the byte after it, to the end of a begun row. Returns `None` if an earlier column
+// was not copied, or if the line does not fit; then nothing is copied.
 pub(crate) fn copy_slot(
     row: RowFormat,
     column: usize,

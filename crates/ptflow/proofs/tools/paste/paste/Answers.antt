@@ -2,13 +2,15 @@
 -- again. If that row has no line, all readers are at the end of their inputs.
 use Rattle.ptflow.proofs.Common.{Bool, not, true, false, refl, ◌≡◌, ◌≤◌, Ok, sym, ◌∙◌, ap, subst, arith, length, take}
 use Rattle.ptflow.proofs.Common.{err_from_is_err_and, Paste, PushEffect, paste_job, RowShape, BegunText, RowAmid}
-use Rattle.ptflow.proofs.Common.{CellsFilled, CopyRowsPost, FillRowPost, RowFilled, Result, FlowFault, begun_after, begun_in, job_shape, shape_of}
-use Rattle.ptflow.proofs.Common.{[], ◌∷◌, ◌++◌, Err, Write, Output, PastePost, rows_text, slots_text}
+use Rattle.ptflow.proofs.Common.{CellsFilled, CopyRowsPost, FillRowPost, RowFilled, Result, FlowFault, begun_after}
+use Rattle.ptflow.proofs.Common.{begun_in, job_shape, shape_of, [], ◌∷◌, ◌++◌, Err, Write, Output, PastePost, rows_text}
+use Rattle.ptflow.proofs.Common.{slots_text}
 use Rattle.ptflow.specs.declared.tools.paste.row.BegunRow.{BegunRow}
 use Rattle.ptflow.proofs.PasteLemmas.Exits.{paste_on_failed_output, paste_without_slots, paste_rows_write_failed}
 use Rattle.ptflow.proofs.PasteLemmas.Exits.{paste_fill_failed, paste_done, paste_row_write_failed}
 use Rattle.ptflow.proofs.PasteLemmas.Invariant.{PasteInvariant, HasStarted, invariant_starts, invariant_rows}
-use Rattle.ptflow.proofs.PasteLemmas.Invariant.{invariant_sent, invariant_slots, invariant_more, now_readable, row_wrote}
+use Rattle.ptflow.proofs.PasteLemmas.Invariant.{invariant_sent, invariant_slots, invariant_more, now_readable}
+use Rattle.ptflow.proofs.PasteLemmas.Invariant.{row_wrote}
 use Rattle.ptflow.proofs.PasteLemmas.BufferedRows.{still_readable}
 use Rattle.ptflow.proofs.PasteLemmas.RowAmid.{amid_starts, amid_text}
 use Rattle.ptflow.proofs.tools.paste.paste.Given as given
@@ -59,7 +61,8 @@ no_line false same = refl
 
 pub returns-in_err-push : goal.returns-in_err-push
 returns-in_err-push g c =
-    let (fault, same, is) = err_from_is_err_and c.from_residual-in_err-push.result c.from_residual-in_err-push.ensures.1 in
+    let (fault, same, is) = err_from_is_err_and c.from_residual-in_err-push.result c.from_residual-in_err-push.ensures.1
+    in
     rw (same, is) (paste_rows_write_failed c.rows.invariant.invariant_holds
     (rw c.row_format-row.ensures at c.copy_rows-copied.ensures.rows) c.push.ensures.pushed.wrote
     c.in_err-push.ensures.pushed.fault)
@@ -137,13 +140,15 @@ module _ (g : given.Over) (c : After-fill_row g) where
         (clean : c.fill_row.new.out.write_failed ≡ false) {is : Output} (pushed : PushEffect c.fill_row.new.out is
         (take filled.end c.fill_row.new.into
         ++ slots_text (shape_of c.row_format-row.result) filled.count c.fill_row.new.store)) where
-      sent : PasteInvariant job c.args.cells.now c.args.readers.now c.set_terminators.new.readers rows.mid c.args.out.now
+      sent : PasteInvariant job c.args.cells.now c.args.readers.now c.set_terminators.new.readers rows.mid
+          c.args.out.now
           c.fill_row.new.out c.args.store.now c.rows.store
       sent = invariant_sent now wrote clean
 
       row_pushed : PushEffect c.fill_row.new.out is (rows_text job (amid.fields ∷ []))
       row_pushed = row_wrote sent amid.slots (has true some) (subst (PushEffect c.fill_row.new.out is)
-          (ap (λ (row : RowShape). take filled.end c.fill_row.new.into ++ slots_text row filled.count c.fill_row.new.store)
+          (ap (λ (row : RowShape). take filled.end c.fill_row.new.into ++ slots_text row filled.count
+          c.fill_row.new.store)
           c.row_format-row.ensures ∙ amid_text amid room) pushed)
 
       row_failed : is.write_failed ≡ true
@@ -162,7 +167,8 @@ returns-in_err-filled g c =
     let (fault, same, is) = err_from_is_err_and c.from_residual-in_err-filled.result
     c.from_residual-in_err-filled.ensures.1 in
     rw (same, is) (paste_fill_failed (now g here) c.fill_row.new.into c.in_err-filled.field-0.0
-    (filled_by g here (Err c.in_err-filled.field-0.0) c.in_err-filled.ensures.fills) c.in_err-filled.ensures.wrote c.in_err-filled.ensures.write_failed)
+    (filled_by g here (Err c.in_err-filled.field-0.0) c.in_err-filled.ensures.fills) c.in_err-filled.ensures.wrote
+    c.in_err-filled.ensures.write_failed)
 
 pub clear_slots-requires : goal.clear_slots-requires
 clear_slots-requires g c = room g (goal.at.clear_slots-requires g c).After-fill_row

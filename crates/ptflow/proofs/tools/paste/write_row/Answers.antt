@@ -1,7 +1,7 @@
 -- Each step writes the field of one more column. A failed write leaves a prefix of the row.
 use Rattle.ptflow.proofs.Common.{◌≡◌, ℕ, ◌+◌, ◌<◌, ◌≤◌, List, [], ◌∷◌, ◌++◌, length, take, drop, get_or, sym, ◌∙◌, ap}
-use Rattle.ptflow.proofs.Common.{subst, arith, length-take-le, length-drop, take_more, take-append-drop, take-take, drop_all}
-use Rattle.ptflow.proofs.Common.{append-nil, append_assoc, drop-append-le, err_from_is_err_and, PushEffect}
+use Rattle.ptflow.proofs.Common.{subst, arith, length-take-le, length-drop, take_more, take-append-drop, take-take}
+use Rattle.ptflow.proofs.Common.{drop_all, append-nil, append_assoc, drop-append-le, err_from_is_err_and, PushEffect}
 use Rattle.ptflow.proofs.Common.{push_past_failure, push_trans, RowShape, after_cell, cells_text, shape_of}
 use Rattle.std.proofs.lemmas.List.{length-take}
 use Rattle.ptflow.proofs.Passes.Prefix.{push_failed}

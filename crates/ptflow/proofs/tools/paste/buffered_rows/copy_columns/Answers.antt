@@ -1,6 +1,7 @@
 -- Each step copies the field of one more column and the byte after it. It ends at a field that cannot be copied, and
 -- then nothing was consumed.
-use Rattle.ptflow.proofs.Common.{◌≡◌, ◌+◌, ◌%◌, ℕ, length, take, set, get_or, refl, ◌∙◌, ap, arith, set-get_or, mod-add-mod}
+use Rattle.ptflow.proofs.Common.{◌≡◌, ◌+◌, ◌%◌, ℕ, length, take, set, get_or, refl, ◌∙◌, ap, arith, set-get_or}
+use Rattle.ptflow.proofs.Common.{mod-add-mod}
 use borrow.Author.Rules.{scaled_Fits}
 use Rattle.ptflow.proofs.PasteLemmas.FillRow.{at_index}
 use Rattle.ptflow.proofs.PasteLemmas.Grid.{uses_before_lt}

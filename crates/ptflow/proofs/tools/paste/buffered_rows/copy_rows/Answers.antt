@@ -2,7 +2,8 @@
 use Rattle.ptflow.proofs.Common.{◌≡◌, Bool, true, false, not, [], refl, sym, arith}
 use Rattle.ptflow.proofs.PasteLemmas.FillRow.{fill_starts}
 use Rattle.ptflow.proofs.PasteLemmas.RowsTaken.{rows_taken_none}
-use Rattle.ptflow.proofs.PasteLemmas.BufferedRows.{consumed_none, consumed_trans, still_readable, rows_and_begun, rows_more}
+use Rattle.ptflow.proofs.PasteLemmas.BufferedRows.{consumed_none, consumed_trans, still_readable, rows_and_begun}
+use Rattle.ptflow.proofs.PasteLemmas.BufferedRows.{rows_more}
 use Rattle.ptflow.proofs.tools.paste.buffered_rows.copy_rows.Goals as goal
 
 has_line : (any_line : Bool) → not any_line ≡ false → any_line ≡ true
