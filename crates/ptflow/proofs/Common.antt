@@ -57,7 +57,7 @@ pub use Rattle.ptflow.specs.Cuts.{select_from, cut, cut_decided, cut_fields, cut
 pub use Rattle.ptflow.specs.Parts.{HasGroupedKeys, BeginsWith, CutOfParts, EndsWith, IsRowSplit, PasteOfParts, TrAfterByte, TrMeetsTwice, TrOfAnyParts, TrOfParts, UniqByKey, UniqOfParts}
 pub use Rattle.ptflow.specs.Passes.{PassOutcome, StorelessPost, PassPost, PassPre, no_store}
 pub use Rattle.ptlines.specs.Slots.{AddedSlots}
-pub use Rattle.ptflow.specs.PasteCall.{PastePre, PastePost, IsReadable, IsReadToEnd, PasteOutcome, update_at}
+pub use Rattle.ptflow.specs.PasteCall.{PastePre, PastePost, IsColumnUnended, IsReadable, IsReadToEnd, PasteOutcome, update_at}
 pub use Rattle.ptlines.specs.Readers.{no_reader, reader_at}
 pub use Rattle.ptflow.specs.PasteText.{columns, delimiter, every_kth, join_with_cycle, row_count, is_row_known, known_rows, paste, paste_decided, paste_size, row_at, rows, paste_serial_decided, paste_serial_tool, rows_text, uses_of}
 pub use Rattle.ptflow.specs.ToolSpec.{ToolSpec}
@@ -73,12 +73,11 @@ pub use Rattle.ptflow.specs.Private.Cut.CutFrom.{ExtendsCut, CutChunkPost, HasTe
 pub use Rattle.ptflow.specs.Private.Cut.FieldOffsets.{IsFieldStart, fields, prefixed_fields}
 pub use Rattle.ptflow.specs.Private.Passes.StepOutput.{OutputPart, OutputFailed}
 pub use Rattle.ptflow.specs.Private.Passes.LineLoop.{SlotsCleared, IsLineFilter, IsSwapped, LinesFailed, LinesWritten, IsLinesLength}
-pub use Rattle.ptflow.specs.Private.Paste.SharedInput.{IsWholeRows, IsRowCycle, IsSharedCycle}
 pub use Rattle.ptflow.specs.Private.Paste.FillRow.{SetTerminatorsPost, FillCellPost, FillRowPost, SlotsBound, SlotsKept, NotRead, RowAmid, RowFailed, RowFilled, ClearSlotsPost, is_write_fault}
-pub use Rattle.ptflow.specs.Private.Paste.RowCells.{CellsFilled, CellsTaken, after_cell, cells_text}
+pub use Rattle.ptflow.specs.Private.Paste.RowCells.{RowShape, BegunText, CellsFilled, CellsTaken, after_cell, begun_after, begun_in, cells_text, job_shape, shape_of, slots_text}
 pub use Rattle.ptflow.specs.Private.Paste.SerialRest.{IsOnlyDelimiter, IsReplacedTo, CopyCellsPost, CopyBlockPost, next_position, leading_delimiter, row_from, row_rest, serial_rest, with_delimiter, with_cycle}
 pub use Rattle.ptflow.specs.Private.Paste.TakenLines.{AreReceivedLines, LinesTaken}
-pub use Rattle.ptflow.specs.Private.Paste.BufferedRows.{AreReadable, BufferedRowsPre, AreConsumed, AreFirstRows, RowsTaken, CopyCellPost, LineCopied, EofCopied, CopyColumnsPost, CopyRowsPost, RowsWritten}
+pub use Rattle.ptflow.specs.Private.Paste.BufferedRows.{BufferedRowsPre, AreConsumed, AreFirstRows, RowsTaken, IsFieldCopied, LineCopied, EofCopied, CopyColumnsPost, CopyRowsPost}
 pub use Rattle.ptflow.specs.Private.Tr.TrFrom.{squeeze_from, tr_from}
 pub use Rattle.ptflow.specs.Private.Uniq.BlockRuns.{CountRepeatsPost, IsSpan, RunsFailed, RunsWritten, IsPending, span_of}
 pub use Rattle.ptflow.specs.Private.Uniq.FirstLine.{first_line, current_run_of}

@@ -1,6 +1,7 @@
 -- The precondition and the postcondition of the engine of `paste` without `-s`. The parameter `cells` has, for each
 -- column, the index of the reader of that column.
-use Rattle.std.specs.Prelude.{◌≡◌, ◌≢◌, ◌≤◌, ◌<◌, ◌^◌, ◌==◌, ℕ, true, false, List, None, Result, Ok, Err, All, length, max, if◌then◌else◌}
+use Rattle.std.specs.Prelude.{◌≡◌, ◌≢◌, ◌≤◌, ◌<◌, ◌^◌, ◌==◌, ℕ, true, false, List, None, Result, Ok, Err, All, length}
+use Rattle.std.specs.Prelude.{max, if◌then◌else◌}
 use Rattle.ptlines.specs.Readers.{Reader, IsDone, HasReadCause, reader_at}
 use Rattle.ptlines.specs.Received.{Received, IsPrefix, IsConsistent, HasReceived}
 use Rattle.ptlines.specs.Lag.{BoundedLag}
@@ -47,13 +48,14 @@ pub record PasteDone (cells : List ℕ) (old new : List Reader) (out : Output) (
   pub empty : total_bytes store.lines ≡ 0
 
 -- `paste` returned `Read input`: a read of that reader failed, or it gave 2^63 bytes or more, and nothing else failed.
-pub record PasteReadFailed (cells : List ℕ) (old new : List Reader) (out : Output) (store : Slots) (input : ℕ) : Type 0 where
-  pub named : 0 < uses_of cells input
-  pub unfailed : (reader_at old input).failed ≡ false
-  pub cause : HasReadCause (reader_at old input) (reader_at new input)
-  pub others : (other : ℕ) → other ≢ input → (reader_at new other).failed ≡ (reader_at old other).failed
-  pub clean : out.write_failed ≡ false
-  pub denied : store.denied ≡ false
+pub record PasteReadFailed (cells : List ℕ) (old new : List Reader) (out : Output) (store : Slots) (input : ℕ) : Type 0
+  where
+    pub named : 0 < uses_of cells input
+    pub unfailed : (reader_at old input).failed ≡ false
+    pub cause : HasReadCause (reader_at old input) (reader_at new input)
+    pub others : (other : ℕ) → other ≢ input → (reader_at new other).failed ≡ (reader_at old other).failed
+    pub clean : out.write_failed ≡ false
+    pub denied : store.denied ≡ false
 
 -- `paste` returned `Write`: a write failed, and nothing else.
 pub record PasteWriteFailed (old new : List Reader) (out : Output) (store : Slots) : Type 0 where
@@ -75,7 +77,8 @@ PasteOutcome cells old new out store (Err Write) = PasteWriteFailed old new out 
 PasteOutcome cells old new out store (Err Memory) = PasteMemoryFailed old new out store
 
 -- The call did nothing, since the output had failed before it.
-pub record PasteUnchanged (old new : List Reader) (was is : Output) (before store : Slots) (result : Result (Unit {0}) FlowFault) : Type 0 where
+pub record PasteUnchanged (old new : List Reader) (was is : Output) (before store : Slots)
+    (result : Result (Unit {0}) FlowFault) : Type 0 where
   pub write_fault : result ≡ Err Write
   pub same_readers : new ≡ old
   pub same_output : is ≡ was
@@ -83,12 +86,18 @@ pub record PasteUnchanged (old new : List Reader) (was is : Output) (before stor
 
 -- Nothing was read or pushed. Only the terminator of the readers was set.
 pub record PasteUnread (end : ℕ) (cells : List ℕ) (old new : List Reader) (was is : Output) : Type 0 where
-  pub readers : (input : ℕ) → 0 < uses_of cells input → reader_at new input ≡ record (reader_at old input) { terminator = end }
+  pub readers : (input : ℕ) → 0 < uses_of cells input → reader_at new input ≡ record (reader_at old input)
+      { terminator = end }
   pub output : is ≡ was
+
+-- A column reads an input that is not at its end.
+abbrev pub IsColumnUnended : List ℕ → List Reader → Type 0
+IsColumnUnended cells readers = (input : ℕ) × (0 < uses_of cells input) × (IsDone (reader_at readers input) → ⊥)
 
 -- The postcondition of `paste`. For each reader, `given` has the bytes that it had buffered before the call and those
 -- that it read during the call; `texts` are inputs that begin with them.
-pub record PastePost (job : Paste) (cells : List ℕ) (old new : List Reader) (was is : Output) (before store : Slots) (result : Result (Unit {0}) FlowFault) : Type 0 where
+pub record PastePost (job : Paste) (cells : List ℕ) (old new : List Reader) (was is : Output) (before store : Slots)
+    (result : Result (Unit {0}) FlowFault) : Type 0 where
   pub given : ℕ → Received
   pub came : (input : ℕ) → HasReceived (reader_at old input) (reader_at new input) (given input)
   pub pushed : List ℕ
@@ -98,20 +107,25 @@ pub record PastePost (job : Paste) (cells : List ℕ) (old new : List Reader) (w
   pub is_prefix : (texts : ℕ → List ℕ) → ((input : ℕ) → IsConsistent (given input) (texts input))
       → IsPrefix pushed (paste job cells texts)
   -- After a failed read, all of the output that is determined was pushed, unless a write failed.
-  pub decided_is_written : (input : ℕ) → 0 < uses_of cells input → (reader_at new input).failed ≡ true → is.write_failed ≡ false
+  pub decided_is_written : (input : ℕ) → 0 < uses_of cells input → (reader_at new input).failed ≡ true
+      → is.write_failed ≡ false
       → IsPrefix (paste_decided job cells given) pushed
   -- Regardless of failures and of the other inputs: the output that was determined two blocks (16,384 bytes) of one
   -- input earlier was pushed.
   pub bounded_lag : (input : ℕ) → 0 < uses_of cells input → was.write_failed ≡ false
-      → BoundedLag {I = Unit {0}} (λ came. paste_decided job cells (update_at input (came tt) given)) (λ u. given input) was is pushed
+      → BoundedLag {I = Unit {0}} (λ came. paste_decided job cells (update_at input (came tt) given)) (λ u. given input)
+      was is pushed
   -- On success, the whole output was pushed.
   pub is_exact : result ≡ Ok tt → pushed ≡ paste job cells (λ input. (given input).bytes)
   -- The store held at most one longest line for each column.
   pub peak : (texts : ℕ → List ℕ) → ((input : ℕ) → IsConsistent (given input) (texts input))
       → store.peak ≤ max before.peak (paste_size job cells texts)
   pub slots : was.write_failed ≡ false → AddedSlots before store (length cells)
+  -- Memory is requested for missing slots, or for a line of an input that is not at its end.
+  pub line_left : result ≡ Err Memory → length cells ≤ length store.lines → IsColumnUnended cells new
   -- If a slot could not be allocated, nothing was read or pushed.
-  pub refused : was.write_failed ≡ false → length store.lines < length cells → PasteUnread job.terminator cells old new was is
+  pub refused : was.write_failed ≡ false → length store.lines < length cells
+      → PasteUnread job.terminator cells old new was is
   -- A reader that no column uses is unchanged.
   pub untouched : (input : ℕ) → uses_of cells input ≡ 0 → reader_at new input ≡ reader_at old input
   -- On an output that had failed before, the call does nothing.

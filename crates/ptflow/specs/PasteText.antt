@@ -1,6 +1,6 @@
 -- The output of `paste`, with and without option `-s`, as a function of its inputs.
-use Rattle.std.specs.Prelude.{ℕ, ◌+◌, ◌%◌, ◌==◌, ◌||◌, List, [], ◌∷◌, ◌++◌, Bool, length, take, max, map, filter, zip, fold, count_by, sum_by, nat_lt, Option}
-use Rattle.std.specs.Prelude.{option_to_list, slice_index_or, if◌then◌else◌}
+use Rattle.std.specs.Prelude.{ℕ, ◌+◌, ◌%◌, ◌==◌, ◌||◌, List, [], ◌∷◌, ◌++◌, Bool, length, take, max, map, filter, zip}
+use Rattle.std.specs.Prelude.{fold, count_by, sum_by, nat_lt, Option, option_to_list, slice_index_or, if◌then◌else◌}
 use Rattle.std.specs.List.{enumerate_from, range_with_len, list_all}
 use Rattle.ptlines.specs.Text.{unlines, lines, max_line_length}
 use Rattle.ptlines.specs.Received.{Received, known_lines}
@@ -29,11 +29,18 @@ paste_serial job bytes = join_with_cycle job.delimiters 0 (lines job.terminator 
 -- The part of the output that is determined by the bytes received so far: the complete lines, and the terminator of the
 -- row once the input has ended.
 abbrev pub paste_serial_decided : Paste → Received → List ℕ
-paste_serial_decided job given = join_with_cycle job.delimiters 0 (known_lines job.terminator given) ++ (if given.eof then job.terminator ∷ [] else [])
+paste_serial_decided job given = join_with_cycle job.delimiters 0 (known_lines job.terminator given)
+    ++ (if given.eof then job.terminator ∷ [] else [])
 
 -- `paste -s` as a tool over one input. It keeps no line in the store.
 abbrev pub paste_serial_tool : Paste → ToolSpec
-paste_serial_tool job = record { text = paste_serial job; decided = paste_serial_decided job; size = max_line_length job.terminator; slots = 0; end = job.terminator }
+paste_serial_tool job = record {
+  text = paste_serial job;
+  decided = paste_serial_decided job;
+  size = max_line_length job.terminator;
+  slots = 0;
+  end = job.terminator;
+}
 
 -- ---- `paste` without `-s`: several inputs side by side
 
@@ -47,7 +54,8 @@ uses_of cells input = count_by (λ p. p == input) cells
 
 -- The lines of each column. An input that several columns read deals its lines out to them in order.
 abbrev pub columns : List ℕ → (ℕ → List (List ℕ)) → List (List (List ℕ))
-columns cells inputs = map (λ (cell : ℕ × ℕ). every_kth (uses_of cells cell.1) (uses_of (take cell.0 cells) cell.1) (inputs cell.1)) (enumerate_from 0 cells)
+columns cells inputs = map (λ (cell : ℕ × ℕ). every_kth (uses_of cells cell.1) (uses_of (take cell.0 cells) cell.1)
+    (inputs cell.1)) (enumerate_from 0 cells)
 
 -- The number of rows: the length of the longest column.
 abbrev pub row_count : List (List (List ℕ)) → ℕ
@@ -79,7 +87,9 @@ known_rows cols eof = map (row_at cols) (filter (is_row_known cols eof) (range_w
 
 -- The part of the output that is determined by the bytes received so far: the rows that are known.
 abbrev pub paste_decided : Paste → List ℕ → (ℕ → Received) → List ℕ
-paste_decided job cells given = rows_text job (known_rows (columns cells (λ input. known_lines job.terminator (given input))) (map (λ input. (given input).eof) cells))
+paste_decided job cells given =
+    rows_text job (known_rows (columns cells (λ input. known_lines job.terminator (given input)))
+    (map (λ input. (given input).eof) cells))
 
 -- A bound on the bytes in the store: one longest line for each column.
 abbrev pub paste_size : Paste → List ℕ → (ℕ → List ℕ) → ℕ

@@ -1,13 +1,14 @@
 -- Columns that are copied from the buffers of the readers. A line that is complete in a buffer is the line that `fill`
 -- would return, so a column is filled by it in the same way.
-use Rattle.ptflow.proofs.Common.{◌≡◌, ◌≢◌, ⊎_elim, inl, ℕ, ◌+◌, ◌-◌, ◌<◌, ◌≤◌, ◌^◌, ◌||◌, Bool, true, false, List, [], ◌∷◌, ◌++◌, Option, None, Some, Ok, length, take, drop, set, get_or, refl}
-use Rattle.ptflow.proofs.Common.{sym, ◌∙◌, ap, subst, arith, append_assoc, length-append, length-drop, cases_eq, append-nil, take-take, take-append-le}
-use Rattle.ptflow.proofs.Common.{length-take-le, length-set, drop-drop, drop_at, IsFirstByte, is_byte, Reader, AdvanceOk}
-use Rattle.ptflow.proofs.Common.{IsSound, IsDone, Slots, with_line, FillLine, FillPost, line_before_terminator, take_with_terminator, advance_ok_take, reader_at, uses_of, CellsFilled, after_cell, cells_text}
-use Rattle.ptflow.proofs.Common.{AreReadable, BufferedRowsPre, AreConsumed, CopyCellPost, LineCopied, EofCopied, CopyColumnsPost, CopyRowsPost, RowsTaken}
-use Rattle.std.proofs.Common.{All}
-use Rattle.ptflow.proofs.PasteLemmas.RowCells.{cells_text-push}
-use Rattle.ptflow.proofs.PasteLemmas.RowsTaken.{rows_taken_none, rows_taken_trans, row_taken}
+use Rattle.ptflow.proofs.Common.{◌≡◌, ⊎_elim, inl, ℕ, ◌+◌, ◌<◌, ◌≤◌, ◌^◌, ◌||◌, Bool, true, false, List, [], ◌∷◌, ◌++◌}
+use Rattle.ptflow.proofs.Common.{None, Some, Ok, length, take, drop, set, get_or, refl, sym, ◌∙◌, ap, subst, arith}
+use Rattle.ptflow.proofs.Common.{append_assoc, length-append, length-drop, cases_eq, append-nil, take-take}
+use Rattle.ptflow.proofs.Common.{take-append-le, length-take-le, length-set, drop-drop, drop_at, IsFirstByte, is_byte}
+use Rattle.ptflow.proofs.Common.{Reader, AdvanceOk, IsSound, Slots, with_line, FillLine, FillPost}
+use Rattle.ptflow.proofs.Common.{line_before_terminator, take_with_terminator, advance_ok_take, reader_at, uses_of}
+use Rattle.ptflow.proofs.Common.{CellsFilled, after_cell, cells_text, RowShape, BegunText, BufferedRowsPre, AreConsumed}
+use Rattle.ptflow.proofs.Common.{IsFieldCopied, CopyColumnsPost, CopyRowsPost, RowsTaken}
+use Rattle.ptflow.proofs.PasteLemmas.RowsTaken.{cells_text-push, rows_taken_trans, row_taken}
 use Rattle.ptflow.proofs.PasteLemmas.FillRow.{at_same, at_other, fill_starts, fill_next}
 
 -- A line that is complete in a buffer is the line that `fill` would return.
@@ -60,7 +61,7 @@ record FieldCopied (old new : Reader) (before after : List ℕ) (has : Bool) : T
   consumed : new ≡ record old { buffered = drop count old.buffered }
 
 field_copied : {end : ℕ} {b r : Reader} {before after : List ℕ} (has : Bool) → b.fault ≡ None → b.terminator ≡ end
-    → IsSound b → CopyCellPost end b r before after has → FieldCopied b r before after has
+    → IsSound b → IsFieldCopied end b r before after has → FieldCopied b r before after has
 field_copied {b = b} {r = r} true clean ends sound p = record {
   field = take p.at b.buffered;
   fills = buffered_line b r p.at no_slots 0 clean (sound.long clean) (rw ends p.found) p.consumed;
@@ -112,16 +113,13 @@ consumed_trans {a} {b} {c} p q = record {
 }
 
 -- The readers are still readable.
-pub still_readable : (end : ℕ) (cells : List ℕ) {old new : List Reader} → AreConsumed old new
-    → BufferedRowsPre end cells old → BufferedRowsPre end cells new
-still_readable end cells c ready = (
-  λ k d low. omega (arith, ready.0 k d low, c.count),
-  λ p some. (
-    ap (λ (r : Reader). r.fault) (c.buffered p).1 ∙ (ready.1 p some).0,
-    ap (λ (r : Reader). r.terminator)
-        (c.buffered p).1 ∙ (ready.1 p some).1,
-  ),
-)
+pub still_readable : {row : RowShape} {old new : List Reader} → AreConsumed old new → BufferedRowsPre row old
+    → BufferedRowsPre row new
+still_readable c ready = record {
+  within = λ k d low. omega (arith, ready.within k d low, c.count);
+  unfailed = λ p some. ap (λ (r : Reader). r.fault) (c.buffered p).1 ∙ ready.unfailed p some;
+  same_end = λ p some. ap (λ (r : Reader). r.terminator) (c.buffered p).1 ∙ ready.same_end p some;
+}
 
 pub still_pulled : {old new : List Reader} → AreConsumed old new → (p : ℕ)
     → (reader_at new p).pulled ≡ (reader_at old p).pulled
@@ -140,85 +138,94 @@ columns_text : (before text field after : List ℕ) {copied cell next more : Lis
     → cell ≡ copied ++ field → next ≡ cell ++ after → more ≡ text ++ (field ++ after) → next ≡ before ++ more
 columns_text before text field after a b c d = rw (c, b, a, d) (simp append_assoc)
 
-module _ {end : ℕ} {delims : List (Option ℕ)} {cells : List ℕ} where
-  pub columns_start : {first : ℕ} {had_line : Bool} {old : List Reader} {before : List ℕ}
-      → CopyColumnsPost end delims cells first had_line old old first had_line before before
-  columns_start {first} {had_line} {old} {before} = record {
+module _ {row : RowShape} where
+  pub columns_start : {begun : BegunText} → CopyColumnsPost row begun begun
+  columns_start {begun} = record {
     fields = [];
-    is = sym (append-nil before);
+    is = sym (append-nil begun.text);
     consumed = consumed_none;
     width = omega arith;
-    filled = λ from front f. subst (λ (l : List (List ℕ)). CellsFilled cells first from old l had_line)
+    filled = λ from front f.
+        subst (λ (l : List (List ℕ)). CellsFilled row.cells begun.count from begun.readers l begun.any_line)
         (sym (append-nil front)) f;
   }
 
-  module _ {first n : ℕ} {had_line any_line : Bool} {old now : List Reader} {before copied : List ℕ}
-      (s : CopyColumnsPost end delims cells first had_line old now n any_line before copied)
-      (low : n < length cells) (ready : BufferedRowsPre end cells now) (used : 0 < uses_of cells (get_or cells n 0))
-      {b : Reader} (r : Reader) (is_read : b ≡ reader_at now (get_or cells n 0))
-      (sound : IsSound b) (has : Bool) (field : List ℕ) where
-    within : get_or cells n 0 < length now
-    within = ready.0 n 0 low
+  module _ {begun now : BegunText} (s : CopyColumnsPost row begun now) (low : now.count < length row.cells)
+      (ready : BufferedRowsPre row now.readers) (used : 0 < uses_of row.cells (get_or row.cells now.count 0))
+      {b : Reader} (r : Reader) (is_read : b ≡ reader_at now.readers (get_or row.cells now.count 0))
+      (sound : IsSound b) (has : Bool) (copied : List ℕ) where
+    abbrev input : ℕ
+    input = get_or row.cells now.count 0
+
+    within : input < length now.readers
+    within = ready.within now.count 0 low
 
     clean : b.fault ≡ None
-    clean = ap (λ (x : Reader). x.fault) is_read ∙ (ready.1 (get_or cells n 0) used).0
+    clean = ap (λ (x : Reader). x.fault) is_read ∙ ready.unfailed input used
 
-    ends : b.terminator ≡ end
-    ends = ap (λ (x : Reader). x.terminator) is_read ∙ (ready.1 (get_or cells n 0) used).1
+    ends : b.terminator ≡ row.terminator
+    ends = ap (λ (x : Reader). x.terminator) is_read ∙ ready.same_end input used
 
-    module _ (f : FieldCopied b r copied field has) where
-      filled_more : (from : List Reader) (front : List (List ℕ)) → CellsFilled cells first from old front had_line
-          → CellsFilled cells (n + 1) from (set now (get_or cells n 0) r) (front ++ (s.fields ++ f.field ∷ []))
-          (any_line || has)
+    -- The row after one more column.
+    abbrev pub with_column : List ℕ → BegunText
+    with_column next = record {
+      readers = set now.readers input r;
+      count = now.count + 1;
+      any_line = now.any_line || has;
+      text = next;
+    }
+
+    module _ (f : FieldCopied b r now.text copied has) where
+      filled_more : (from : List Reader) (front : List (List ℕ))
+          → CellsFilled row.cells begun.count from begun.readers front begun.any_line
+          → CellsFilled row.cells (now.count + 1) from (set now.readers input r)
+          (front ++ (s.fields ++ f.field ∷ [])) (now.any_line || has)
       filled_more from front given =
-          let k = fill_next (s.filled from front given) low within is_read clean
-          (sound_after_consume b r f.count sound f.consumed) no_slots (with_line no_slots 0 f.field) 0 has f.fills
-          in
-          let same : k.0 ≡ f.field = sym (ap (λ (x : Slots). get_or x.lines 0 []) k.1) in
-          subst (λ (l : List (List ℕ)). CellsFilled cells (n + 1) from (set now (get_or cells n 0) r) l
-          (any_line || has))
-          (ap (λ (l : List ℕ). (front ++ s.fields) ++ l ∷ []) same ∙ append_assoc front s.fields (f.field ∷ [])) k.2
+          let (field, stored, filled) = fill_next (s.filled from front given) low within is_read clean
+          (sound_after_consume b r f.count sound f.consumed) no_slots (with_line no_slots 0 f.field) 0 has f.fills in
+          let same : field ≡ f.field = sym (ap (λ (x : Slots). get_or x.lines 0 []) stored) in
+          subst (λ (l : List (List ℕ)). CellsFilled row.cells (now.count + 1) from (set now.readers input r) l
+          (now.any_line || has))
+          (ap (λ (l : List ℕ). (front ++ s.fields) ++ l ∷ []) same ∙ append_assoc front s.fields (f.field ∷ []))
+          filled
 
-      one_more : {next : List ℕ} → next ≡ field ++ after_cell end delims (length cells) n
-          → CopyColumnsPost end delims cells first had_line old (set now (get_or cells n 0) r) (n + 1) (any_line || has)
-          before next
+      one_more : {next : List ℕ} → next ≡ copied ++ after_cell row now.count
+          → CopyColumnsPost row begun (with_column next)
       one_more after = record {
         fields = s.fields ++ f.field ∷ [];
-        is = columns_text before (cells_text end delims (length cells) first s.fields) f.field
-            (after_cell end delims (length cells) n) s.is f.is after
-            (cells_text-push end delims (length cells) first s.fields f.field s.width);
+        is = columns_text begun.text (cells_text row begun.count s.fields) f.field (after_cell row now.count) s.is f.is
+            after (cells_text-push row begun.count s.fields f.field s.width);
         consumed = consumed_more f.count s.consumed within is_read f.consumed;
         width = omega (arith, s.width, length-append s.fields (f.field ∷ []));
         filled = filled_more;
       }
 
     -- One more column was copied, and the byte after it.
-    pub columns_more : {next : List ℕ} → CopyCellPost end b r copied field has
-        → next ≡ field ++ after_cell end delims (length cells) n
-        → CopyColumnsPost end delims cells first had_line old (set now (get_or cells n 0) r) (n + 1) (any_line || has)
-        before next
-    columns_more cell after = one_more (field_copied has clean ends sound cell) after
+    pub columns_more : {next : List ℕ} → IsFieldCopied row.terminator b r now.text copied has
+        → next ≡ copied ++ after_cell row now.count → CopyColumnsPost row begun (with_column next)
+    columns_more field after = one_more (field_copied has clean ends sound field) after
 
   -- The first columns of a row were copied after whole rows.
   pub rows_and_begun : {old now new : List Reader} {n at to : ℕ} {any_line : Bool} (into next : List ℕ)
-      → RowsTaken end delims cells old now (take at into) → AreConsumed old now
-      → (p : CopyColumnsPost end delims cells 0 false now new n any_line (take at into) (take to next)) → at ≤ to
-      → at ≤ length into
-      → CopyRowsPost end delims cells old new n any_line (take at next) (drop at (take to next))
+      → RowsTaken row old now (take at into) → AreConsumed old now
+      → (p : CopyColumnsPost row (record { readers = now; count = 0; any_line = false; text = take at into })
+      (record { readers = new; count = n; any_line = any_line; text = take to next }))
+      → at ≤ to → at ≤ length into
+      → CopyRowsPost row old (take at next)
+      (record { readers = new; count = n; any_line = any_line; text = drop at (take to next) })
   rows_and_begun {now = now} {at = at} {to} into next rows consumed p further fits = record {
     mid = now;
-    rows = rw (prefix_is_kept at to next into (cells_text end delims (length cells) 0 p.fields) further fits p.is) rows;
+    rows = rw (prefix_is_kept at to next into (cells_text row 0 p.fields) further fits p.is) rows;
     fields = p.fields;
     filled = p.filled now [] fill_starts;
-    is = ap (drop at) p.is ∙ drop_at (take at into) (cells_text end delims (length cells) 0 p.fields) at
-        (length-take-le at into fits);
+    is = ap (drop at) p.is ∙ drop_at (take at into) (cells_text row 0 p.fields) at (length-take-le at into fits);
     consumed = consumed_trans consumed p.consumed;
   }
 
   -- All columns of a row were copied.
-  pub rows_more : {old now new : List Reader} {n : ℕ} {any_line : Bool} {copied next : List ℕ}
-      → RowsTaken end delims cells old now copied → BufferedRowsPre end cells now
-      → (p : CopyColumnsPost end delims cells 0 false now new n any_line copied next) → n ≡ length cells
-      → any_line ≡ true → RowsTaken end delims cells old new next
+  pub rows_more : {old now : List Reader} {copied : List ℕ} {next : BegunText} → RowsTaken row old now copied
+      → BufferedRowsPre row now
+      → (p : CopyColumnsPost row (record { readers = now; count = 0; any_line = false; text = copied }) next)
+      → next.count ≡ length row.cells → next.any_line ≡ true → RowsTaken row old next.readers next.text
   rows_more rows ready p all some = rw p.is (rows_taken_trans rows
-      (row_taken (λ q used. (ready.1 q used).1) (rw (all, some) at (p.filled _ [] fill_starts))))
+      (row_taken row ready.same_end (rw (all, some) at (p.filled _ [] fill_starts))))

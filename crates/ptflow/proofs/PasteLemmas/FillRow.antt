@@ -1,28 +1,38 @@
 -- Filling a row column by column: each step changes one reader, so the lines of the columns before it stay as they are.
-use Rattle.ptflow.proofs.Common.{◌≡◌, ◌≢◌, ⊎_elim, ℕ, ◌+◌, ◌<◌, ◌≤◌, ◌==◌, ◌||◌, Bool, true, false, cond, List, [], ◌∷◌, ◌++◌, None, Ok, length, take, get_or, set, refl, sym, ◌∙◌, ap, subst, arith}
-use Rattle.ptflow.proofs.Common.{length-append, sum_by, cases_eq, cases_lt, eq-eqb, ne_eqb, append-nil, take-take, length-set, get_or-set_same, get_or-set_other, get_or_past, get_or_push, get_or_append_left}
-use Rattle.ptflow.proofs.Common.{get_or_at, get_or_default, sum_by-set, max_length, Reader, AdvanceOk, IsDone, IsSound, budget, Slots, with_line, FillLine, FillPost, no_reader, reader_at, uses_of, SetTerminatorsPost}
-use Rattle.ptflow.proofs.Common.{CellsTaken, CellsFilled, RowFailed, SlotsKept, LinesTaken}
+use Rattle.ptflow.proofs.Common.{◌≡◌, ◌≢◌, ⊎_elim, ℕ, ◌+◌, ◌<◌, ◌≤◌, ◌==◌, ◌||◌, Bool, true, false, cond, List, [], ◌∷◌}
+use Rattle.ptflow.proofs.Common.{◌++◌, None, Ok, length, take, get_or, set, refl, sym, ◌∙◌, ap, subst, arith}
+use Rattle.ptflow.proofs.Common.{length-append, sum_by, cases_eq, cases_lt, eq-eqb, ne_eqb, append-nil, take-take}
+use Rattle.ptflow.proofs.Common.{length-set, get_or-set_same, get_or-set_other, get_or_past, get_or_push}
+use Rattle.ptflow.proofs.Common.{get_or_append_left, get_or_at, get_or_default, sum_by-set, max_length, Reader}
+use Rattle.ptflow.proofs.Common.{AdvanceOk, IsDone, IsSound, budget, Slots, with_line, FillLine, FillPost, no_reader}
+use Rattle.ptflow.proofs.Common.{reader_at, uses_of, SetTerminatorsPost, CellsTaken, CellsFilled, RowFailed, SlotsKept}
+use Rattle.ptflow.proofs.Common.{LinesTaken}
 use Rattle.std.specs.Prelude.{slice_index_or}
 use Rattle.ptflow.proofs.PasteLemmas.Grid.{uses_here, uses_other, uses_before}
 use Rattle.ptflow.proofs.Passes.Lines.{max_length-append}
-use Rattle.ptflow.proofs.PasteLemmas.LinesTaken.{nothing_taken, taken_more, taken_line, taken_eof, taken_at_most, none_at_eof}
+use Rattle.ptflow.proofs.PasteLemmas.LinesTaken.{nothing_taken, taken_more, taken_line, taken_eof, taken_at_most}
+use Rattle.ptflow.proofs.PasteLemmas.LinesTaken.{none_at_eof}
 
 -- ---- readers by their indices
 
-pub at_same : (readers : List Reader) (input : ℕ) (r : Reader) → input < length readers → reader_at (set readers input r) input ≡ r
+pub at_same : (readers : List Reader) (input : ℕ) (r : Reader) → input < length readers
+    → reader_at (set readers input r) input ≡ r
 at_same readers input r low = get_or-set_same readers input r no_reader low
 
-pub at_other : (readers : List Reader) (input other : ℕ) (r : Reader) → other ≢ input → reader_at (set readers input r) other ≡ reader_at readers other
+pub at_other : (readers : List Reader) (input other : ℕ) (r : Reader) → other ≢ input
+    → reader_at (set readers input r) other ≡ reader_at readers other
 at_other readers input other r differ = get_or-set_other readers input other r no_reader differ
 
 -- The reader that an index expression read.
-pub at_index : (readers : List Reader) (input : ℕ) (r : Reader) → input < length readers → get_or readers input r ≡ reader_at readers input
+pub at_index : (readers : List Reader) (input : ℕ) (r : Reader) → input < length readers
+    → get_or readers input r ≡ reader_at readers input
 at_index readers input r low = get_or_default readers input r no_reader low
 
 -- The terminator of one more reader is set.
-pub set_terminator_more : (end : ℕ) (cells : List ℕ) (i : ℕ) (old now : List Reader) (r : Reader) → i < length cells → get_or cells i 0 < length now → SetTerminatorsPost end (take i cells) old now
-    → r ≡ record (reader_at now (get_or cells i 0)) { terminator = end } → IsSound r → SetTerminatorsPost end (take (i + 1) cells) old (set now (get_or cells i 0) r)
+pub set_terminator_more : (end : ℕ) (cells : List ℕ) (i : ℕ) (old now : List Reader) (r : Reader) → i < length cells
+    → get_or cells i 0 < length now → SetTerminatorsPost end (take i cells) old now
+    → r ≡ record (reader_at now (get_or cells i 0)) { terminator = end } → IsSound r
+    → SetTerminatorsPost end (take (i + 1) cells) old (set now (get_or cells i 0) r)
 set_terminator_more end cells i old now r low within a told sound q = ⊎_elim
     (λ same. rw same (rw (at_same now (get_or cells i 0) r within) (record {
       set = λ some. told ∙ before (get_or cells i 0);
@@ -32,7 +42,8 @@ set_terminator_more end cells i old now r low within a told sound q = ⊎_elim
     (λ differ. rw (at_other now (get_or cells i 0) q r differ, uses_other cells i q low (λ e. differ (sym e))) (a q))
     (cases_eq q (get_or cells i 0))
   where
-    before : (p : ℕ) → (let x : Reader = record (reader_at now p) { terminator = end } in let y : Reader = record (reader_at old p) { terminator = end } in x ≡ y)
+    before : (p : ℕ) → (let x : Reader = record (reader_at now p) { terminator = end } in let y : Reader = record
+        (reader_at old p) { terminator = end } in x ≡ y)
     before p = ⊎_elim
         (λ some. ap (λ (x : Reader). record x { terminator = end }) ((a p).set some))
         (λ none. ap (λ (x : Reader). record x { terminator = end }) ((a p).left (omega (arith, none))))
@@ -61,7 +72,8 @@ module _ (input : ℕ) (ls : List (List ℕ)) (input_lines : ℕ → List (List 
 
   -- Adding no line changes nothing.
   lines_at_none : ls ≡ [] → lines_at input ls input_lines q ≡ input_lines q
-  lines_at_none none = ⊎_elim (λ same. lines_at_here same ∙ ap (λ (l : List (List ℕ)). input_lines q ++ l) none ∙ append-nil (input_lines q)) lines_at_other (cases_eq q input)
+  lines_at_none none = ⊎_elim (λ same. lines_at_here same ∙ ap (λ (l : List (List ℕ)). input_lines q ++ l) none
+      ∙ append-nil (input_lines q)) lines_at_other (cases_eq q input)
 
   lines_at_longest : max_length (input_lines q) ≤ max_length (lines_at input ls input_lines q)
   lines_at_longest = ⊎_elim
@@ -71,7 +83,8 @@ module _ (input : ℕ) (ls : List (List ℕ)) (input_lines : ℕ → List (List 
 
 -- The line of a column.
 abbrev cell_of : List ℕ → (ℕ → List (List ℕ)) → ℕ → List ℕ
-cell_of cells input_lines c = slice_index_or (input_lines (get_or cells c 0)) (uses_of (take c cells) (get_or cells c 0)) []
+cell_of cells input_lines c = slice_index_or (input_lines (get_or cells c 0)) (uses_of (take c cells)
+    (get_or cells c 0)) []
 
 module _ {cells : List ℕ} {n : ℕ} {old now : List Reader} {fields : List (List ℕ)} {input_lines : ℕ → List (List ℕ)}
     (t : CellsTaken cells n old now fields input_lines)
@@ -82,11 +95,21 @@ module _ {cells : List ℕ} {n : ℕ} {old now : List Reader} {fields : List (Li
   abbrev input : ℕ
   input = get_or cells n 0
 
-  lines_taken_next : (q : ℕ) → LinesTaken (reader_at old q).terminator (reader_at old q) (reader_at (set now input r) q) (uses_of (take (n + 1) cells) q) (lines_at input ls input_lines q)
+  lines_taken_next : (q : ℕ) → LinesTaken (reader_at old q).terminator (reader_at old q) (reader_at (set now input r) q)
+      (uses_of (take (n + 1) cells) q) (lines_at input ls input_lines q)
   lines_taken_next q = ⊎_elim
-      (λ same. rw (lines_at_here input ls input_lines q same, ap (reader_at (set now input r)) same ∙ at_same now input r within)
-      (taken_more (uses_here cells n q low (sym same)) (t.lines_taken q) (subst (λ (p : ℕ). LinesTaken (reader_at old p).terminator (reader_at now p) r 1 ls) (sym same) lines_taken)))
-      (λ differ. rw (lines_at_other input ls input_lines q differ, uses_other cells n q low (λ e. differ (sym e)), at_other now input q r differ) (t.lines_taken q))
+      (λ same. rw (
+        lines_at_here input ls input_lines q same,
+        ap (reader_at (set now input r)) same
+            ∙ at_same now input r within,
+      )
+      (taken_more (uses_here cells n q low (sym same)) (t.lines_taken q)
+      (subst (λ (p : ℕ). LinesTaken (reader_at old p).terminator (reader_at now p) r 1 ls) (sym same) lines_taken)))
+      (λ differ. rw (
+        lines_at_other input ls input_lines q differ,
+        uses_other cells n q low (λ e. differ (sym e)),
+        at_other now input q r differ,
+      ) (t.lines_taken q))
       (cases_eq q input)
 
   -- The line of a column before this one does not change.
@@ -95,12 +118,20 @@ module _ {cells : List ℕ} {n : ℕ} {old now : List Reader} {fields : List (Li
       (λ all. ⊎_elim
       (λ same.
       let front : take (c + 1) (take n cells) ≡ take (c + 1) cells = take-take (c + 1) n cells (omega (arith, less)) in
-      let under : j < length (input_lines p) = omega (arith, all, uses_here cells c p (omega (arith, less, low)) refl, uses_before (take n cells) (c + 1) p, ap (λ (l : List ℕ). uses_of l p) front) in
-      ap (λ (l : List (List ℕ)). slice_index_or l j []) (lines_at_here input ls input_lines p same) ∙ get_or_append_left (input_lines p) ls [] j under)
+      let under : j < length (input_lines p) = omega (
+        arith,
+        all,
+        uses_here cells c p (omega (arith, less, low)) refl,
+        uses_before (take n cells) (c + 1) p,
+        ap (λ (l : List ℕ). uses_of l p) front,
+      ) in
+      ap (λ (l : List (List ℕ)). slice_index_or l j []) (lines_at_here input ls input_lines p same)
+      ∙ get_or_append_left (input_lines p) ls [] j under)
       (λ differ. ap (λ (l : List (List ℕ)). slice_index_or l j []) (lines_at_other input ls input_lines p differ))
       (cases_eq p input))
       (λ few. ⊎_elim
-      (λ same. ap (λ (l : List (List ℕ)). slice_index_or l j []) (lines_at_none input ls input_lines p (none_at_eof lines_taken (subst (λ (q : ℕ). IsDone (reader_at now q)) same few.0))))
+      (λ same. ap (λ (l : List (List ℕ)). slice_index_or l j []) (lines_at_none input ls input_lines p
+      (none_at_eof lines_taken (subst (λ (q : ℕ). IsDone (reader_at now q)) same few.0))))
       (λ differ. ap (λ (l : List (List ℕ)). slice_index_or l j []) (lines_at_other input ls input_lines p differ))
       (cases_eq p input))
       (t.lines_taken p).enough
@@ -161,15 +192,27 @@ module _ {cells : List ℕ} {n : ℕ} {old now : List Reader} {fields : List (Li
         → CellsFilled cells (n + 1) old (set now p r) (fields ++ e.line ∷ []) true
     fill_line e =
         let lines_taken : LinesTaken (reader_at old p).terminator (reader_at now p) r 1 (e.line ∷ []) = subst
-        (λ (x : Reader). LinesTaken (reader_at old p).terminator x r 1 (e.line ∷ [])) is_read (taken_line e same_end clean sound) in
+        (λ (x : Reader). LinesTaken (reader_at old p).terminator x r 1 (e.line ∷ [])) is_read
+        (taken_line e same_end clean sound) in
         let all : length (f.input_lines p) ≡ uses_of (take n cells) p =
-        ⊎_elim (λ same. same) (λ few. absurd (omega (arith, ap length (none_at_eof lines_taken few.0)))) (f.consumed.lines_taken p).enough in
+        ⊎_elim (λ same. same) (λ few. absurd (omega (arith, ap length (none_at_eof lines_taken few.0))))
+        (f.consumed.lines_taken p).enough in
         let less : sum_by budget (set now p r) < sum_by budget old = omega (arith, f.least, e.less, all_budgets) in
         record {
           input_lines = lines_at p (e.line ∷ []) f.input_lines;
           consumed = cells_taken_more f.consumed low within lines_taken
               (sym (get_or_at (f.input_lines p) e.line [] [] (uses_of (take n cells) p) all));
-          some = λ h. (n, omega arith, omega (arith, all, ap length (lines_at_here p (e.line ∷ []) f.input_lines p refl), length-append (f.input_lines p) (e.line ∷ [])));
+          some = λ h. (
+            n,
+            omega arith,
+            omega (
+              arith,
+              all,
+              ap length (lines_at_here p (e.line ∷ []) f.input_lines p
+                  refl),
+              length-append (f.input_lines p) (e.line ∷ []),
+            ),
+          );
           none = λ h. cc;
           least = omega (arith, less);
           less = λ h. less;
@@ -185,7 +228,12 @@ module _ {cells : List ℕ} {n : ℕ} {old now : List Reader} {fields : List (Li
           (sym (ap (λ (l : List (List ℕ)). slice_index_or l (uses_of (take n cells) p) [])
           (append-nil (f.input_lines p)) ∙ get_or_past (f.input_lines p) (uses_of (take n cells) p) []
           (taken_at_most (f.consumed.lines_taken p))));
-      some = λ h. let s = f.some h in (s.0, omega (arith, s.1), ap length (lines_at_none p [] f.input_lines (get_or cells s.0 0) refl) ∙ s.2);
+      some = λ h. let s = f.some h in (
+        s.0,
+        omega (arith, s.1),
+        ap length (lines_at_none p [] f.input_lines
+            (get_or cells s.0 0) refl) ∙ s.2,
+      );
       none = λ h q. lines_at_none p [] f.input_lines q refl ∙ f.none h q;
       least = omega (arith, f.least, advance_ok.reads.count, all_budgets);
       less = λ h. omega (arith, f.less h, advance_ok.reads.count, all_budgets);

@@ -1,10 +1,15 @@
 -- The columns and rows of a grid of lines. If each input gives one line to each of its columns, exactly the first row
 -- is removed: the first line of each column is that of the row, and the rest of each column is the column of the rest.
-use Rattle.ptflow.proofs.Common.{◌≡◌, ◌≢◌, ◌⊎◌, ⊎_elim, inl, inr, ℕ, zero, suc, ◌+◌, ◌-◌, ◌*◌, ◌%◌, ◌<◌, ◌≤◌, ◌==◌, ◌||◌, Bool, true, false, cond, List, [], ◌∷◌, ◌++◌, Option, length, take, drop}
-use Rattle.ptflow.proofs.Common.{get_or, map, max, refl, sym, ◌∙◌, ap, arith, length-append, length-drop, fold, nat_lt, enumerate_from, range_with_len, cases_eq, cases_lt, eq-eqb, ne_eqb, le-ltb}
-use Rattle.ptflow.proofs.Common.{and_right, nat_tests, add-mod_left, mod-eq_of_lt, append-nil, drop_at, drop_all, get_or_past, get_or_append_left, ext_get_or, get_or-map, length-map, map-append}
-use Rattle.ptflow.proofs.Common.{length-enumerate_from, get_or-enumerate_from, sum_by-cons, count_by_more_yes, count_by_more_no, sum_by-take-le, get_or_after_one, map-map, unlines, unlines-append}
-use Rattle.ptflow.proofs.Common.{select_from, update_at, join_with_cycle, every_kth, uses_of, columns, row_count, row_at, rows, is_row_known}
+use Rattle.ptflow.proofs.Common.{◌≡◌, ◌≢◌, ◌⊎◌, ⊎_elim, inl, inr, ℕ, zero, suc, ◌+◌, ◌-◌, ◌*◌, ◌%◌, ◌<◌, ◌≤◌, ◌==◌}
+use Rattle.ptflow.proofs.Common.{◌||◌, Bool, true, false, cond, List, [], ◌∷◌, ◌++◌, Option, length, take, drop, get_or}
+use Rattle.ptflow.proofs.Common.{map, max, refl, sym, ◌∙◌, ap, arith, length-append, length-drop, fold, nat_lt}
+use Rattle.ptflow.proofs.Common.{enumerate_from, range_with_len, cases_eq, cases_lt, eq-eqb, ne_eqb, le-ltb, and_right}
+use Rattle.ptflow.proofs.Common.{nat_tests, add-mod_left, mod-eq_of_lt, append-nil, drop_at, drop_all, get_or_past}
+use Rattle.ptflow.proofs.Common.{get_or_append_left, ext_get_or, get_or-map, length-map, map-append}
+use Rattle.ptflow.proofs.Common.{length-enumerate_from, get_or-enumerate_from, sum_by-cons, count_by_more_yes}
+use Rattle.ptflow.proofs.Common.{count_by_more_no, sum_by-take-le, get_or_after_one, map-map, unlines, unlines-append}
+use Rattle.ptflow.proofs.Common.{select_from, update_at, join_with_cycle, every_kth, uses_of, columns, row_count}
+use Rattle.ptflow.proofs.Common.{row_at, rows, is_row_known}
 use Rattle.std.specs.Prelude.{slice_index_or}
 
 abbrev pub Column : Type 0
@@ -23,8 +28,10 @@ module _ {k j : ℕ} (low : j < k) where
   chosen_apart n (x ∷ xs) =
       let same : (k + n) % k ≡ n % k = add-mod_left k n in
       let next : k + n + 1 ≡ k + (n + 1) = omega arith in
-      ap (λ (m : ℕ). cond (m == j) (x ∷ select_from (is_kth k j) (k + n + 1) xs) (select_from (is_kth k j) (k + n + 1) xs)) same
-      ∙ ap (λ (l : Column). cond (is_kth k j n) (x ∷ l) l) (ap (λ (m : ℕ). select_from (is_kth k j) m xs) next ∙ chosen_apart (n + 1) xs)
+      ap (λ (m : ℕ). cond (m == j) (x ∷ select_from (is_kth k j) (k + n + 1) xs) (select_from (is_kth k j)
+      (k + n + 1) xs)) same
+      ∙ ap (λ (l : Column). cond (is_kth k j n) (x ∷ l) l) (ap (λ (m : ℕ). select_from (is_kth k j) m xs) next
+      ∙ chosen_apart (n + 1) xs)
 
   is_kth_here : (n : ℕ) → n ≡ j → is_kth k j n ≡ true
   is_kth_here n same = let less : n % k ≡ j = mod-eq_of_lt (omega arith) ∙ same in eq-eqb (n % k) j less
@@ -34,16 +41,23 @@ module _ {k j : ℕ} (low : j < k) where
 
   -- After the j-th of the first k.
   chosen_after : (n b : ℕ) (xs : Column) → n + b ≡ k → j < n → select_from (is_kth k j) n xs ≡ every_kth k j (drop b xs)
-  chosen_after n zero xs all past = let same : n ≡ k + 0 = omega arith in ap (λ (m : ℕ). select_from (is_kth k j) m xs) same ∙ chosen_apart 0 xs
+  chosen_after n zero xs all past = let same : n ≡ k + 0 = omega arith in ap (λ (m : ℕ). select_from (is_kth k j) m xs)
+      same ∙ chosen_apart 0 xs
   chosen_after n (suc b) [] all past = refl
-  chosen_after n (suc b) (x ∷ xs) all past = rw (is_kth_not n (omega arith) (omega arith)) (chosen_after (n + 1) b xs (omega arith) (omega arith))
+  chosen_after n (suc b) (x ∷ xs) all past = rw (is_kth_not n (omega arith) (omega arith)) (chosen_after (n + 1) b xs
+      (omega arith) (omega arith))
 
   -- Up to the j-th of the first k, with the line there if there is one.
   chosen_before : (n a b : ℕ) (xs : Column) → n + a ≡ j → n + b ≡ k
-      → ((select_from (is_kth k j) n xs ≡ slice_index_or xs a [] ∷ every_kth k j (drop b xs)) × (a < length xs)) ⊎ ((select_from (is_kth k j) n xs ≡ []) × (length xs ≤ a) × (drop b xs ≡ []))
+      → ((select_from (is_kth k j) n xs ≡ slice_index_or xs a [] ∷ every_kth k j (drop b xs)) × (a < length xs)) ⊎
+      ((select_from (is_kth k j) n xs ≡ []) × (length xs ≤ a) × (drop b xs ≡ []))
   chosen_before n a zero xs here all = absurd (omega arith)
   chosen_before n a (suc b) [] here all = inr (refl, omega arith, refl)
-  chosen_before n zero (suc b) (x ∷ xs) here all = inl (rw (is_kth_here n (omega arith)) (ap (λ (l : Column). x ∷ l) (chosen_after (n + 1) b xs (omega arith) (omega arith))), omega arith)
+  chosen_before n zero (suc b) (x ∷ xs) here all = inl (
+    rw (is_kth_here n (omega arith)) (ap (λ (l : Column). x ∷ l)
+        (chosen_after (n + 1) b xs (omega arith) (omega arith))),
+    omega arith,
+  )
   chosen_before n (suc a) (suc b) (x ∷ xs) here all = rw (is_kth_not n (omega arith) (omega arith)) (⊎_elim
       (λ is. inl (is.0, omega (arith, is.1)))
       (λ is. inr (is.0, omega (arith, is.1), is.2))
@@ -63,18 +77,26 @@ module _ {k j : ℕ} (low : j < k) where
       (chosen_before 0 j k ls (omega arith) (omega arith))
 
   every_kth_some : (ls : Column) → j < length ls → 0 < length (every_kth k j ls)
-  every_kth_some ls some = ⊎_elim (λ is. omega (arith, ap length is.0)) (λ is. absurd (omega (arith, is.1))) (chosen_before 0 j k ls (omega arith) (omega arith))
+  every_kth_some ls some = ⊎_elim (λ is. omega (arith, ap length is.0)) (λ is. absurd (omega (arith, is.1)))
+      (chosen_before 0 j k ls (omega arith) (omega arith))
 
   -- A bound on the length of a column.
   pub every_kth_short : (r : ℕ) (ls : Column) → length ls ≤ j + r * k → length (every_kth k j ls) ≤ r
-  every_kth_short zero ls few = ⊎_elim (λ is. absurd (omega (arith, is.1, few))) (λ is. omega (arith, ap length is.0)) (chosen_before 0 j k ls (omega arith) (omega arith))
+  every_kth_short zero ls few = ⊎_elim (λ is. absurd (omega (arith, is.1, few))) (λ is. omega (arith, ap length is.0))
+      (chosen_before 0 j k ls (omega arith) (omega arith))
   every_kth_short (suc r) ls few =
       let more : suc r * k ≡ k + r * k = omega arith in
-      omega (arith, every_kth_short r (drop k ls) (omega (arith, few, more, length-drop k ls)), ap length (every_kth_rest ls), length-drop 1 (every_kth k j ls))
+      omega (
+        arith,
+        every_kth_short r (drop k ls) (omega (arith, few, more, length-drop k ls)),
+        ap length (every_kth_rest ls),
+        length-drop 1 (every_kth k j ls),
+      )
 
 -- ---- rows
 
-row_count_from : (a : ℕ) (cols : List Column) → fold max (a - 1) (map length (map (drop 1) cols)) ≡ fold max a (map length cols) - 1
+row_count_from : (a : ℕ) (cols : List Column) → fold max (a - 1) (map length (map (drop 1) cols)) ≡ fold max a
+    (map length cols) - 1
 row_count_from a [] = refl
 row_count_from a (c ∷ cols) =
     let same : max (a - 1) (length (drop 1 c)) ≡ max a (length c) - 1 = omega (arith, length-drop 1 c) in
@@ -86,14 +108,16 @@ row_later (c ∷ cols) r =
     let next : 1 + r ≡ r + 1 = omega arith in
     λ i. (get_or_after_one c r [] ∙ ap (λ (n : ℕ). get_or c n []) next) i ∷ row_later cols r i
 
-rows_later : (cols : List Column) (a h : ℕ) → map (row_at cols) (range_with_len (a + 1) h) ≡ map (row_at (map (drop 1) cols)) (range_with_len a h)
+rows_later : (cols : List Column) (a h : ℕ) → map (row_at cols) (range_with_len (a + 1) h)
+    ≡ map (row_at (map (drop 1) cols)) (range_with_len a h)
 rows_later cols a zero = refl
 rows_later cols a (suc h) = λ i. sym (row_later cols a) i ∷ rows_later cols (a + 1) h i
 
 rows_step : (cols : List Column) → 0 < row_count cols → rows cols ≡ row_at cols 0 ∷ rows (map (drop 1) cols)
 rows_step cols some = by_height (row_count cols) refl some
   where
-    by_height : (h : ℕ) → row_count cols ≡ h → 0 < h → map (row_at cols) (range_with_len 0 (row_count cols)) ≡ row_at cols 0 ∷ rows (map (drop 1) cols)
+    by_height : (h : ℕ) → row_count cols ≡ h → 0 < h → map (row_at cols) (range_with_len 0 (row_count cols))
+        ≡ row_at cols 0 ∷ rows (map (drop 1) cols)
     by_height zero is some = absurd (omega arith)
     by_height (suc h) is some =
         let less : h ≡ row_count (map (drop 1) cols) = omega (arith, row_count_from 0 cols, is) in
@@ -114,7 +138,8 @@ row_count_none : (cols : List Column) → ((c : ℕ) → c < length cols → get
 row_count_none [] none = refl
 row_count_none (col ∷ cols) none =
     let empty : length col ≡ 0 = ap length (none 0 (omega arith)) in
-    ap (λ (n : ℕ). fold max n (map length cols)) (omega (arith, empty)) ∙ row_count_none cols (λ c low. none (suc c) (omega arith))
+    ap (λ (n : ℕ). fold max n (map length cols)) (omega (arith, empty))
+    ∙ row_count_none cols (λ c low. none (suc c) (omega arith))
 
 pub rows_none : (cols : List Column) → ((c : ℕ) → c < length cols → get_or cols c [] ≡ []) → rows cols ≡ []
 rows_none cols none = ap (λ (n : ℕ). map (row_at cols) (range_with_len 0 n)) (row_count_none cols none)
@@ -126,31 +151,70 @@ abbrev pub for_each_cell : {Y : Type 0} → (ℕ → ℕ → Y) → List ℕ →
 for_each_cell f cells = map (λ (cell : ℕ × ℕ). f cell.0 cell.1) (enumerate_from 0 cells)
 
 length-for_each_cell : {Y : Type 0} (f : ℕ → ℕ → Y) (cells : List ℕ) → length (for_each_cell f cells) ≡ length cells
-length-for_each_cell f cells = length-map (enumerate_from 0 cells) (λ (cell : ℕ × ℕ). f cell.0 cell.1) ∙ length-enumerate_from 0 cells
+length-for_each_cell f cells = length-map (enumerate_from 0 cells) (λ (cell : ℕ × ℕ). f cell.0 cell.1)
+    ∙ length-enumerate_from 0 cells
 
-get_or-for_each_cell : {Y : Type 0} (f : ℕ → ℕ → Y) (cells : List ℕ) (c : ℕ) (d : Y) → c < length cells → get_or (for_each_cell f cells) c d ≡ f c (get_or cells c 0)
+get_or-for_each_cell : {Y : Type 0} (f : ℕ → ℕ → Y) (cells : List ℕ) (c : ℕ) (d : Y) → c < length cells
+    → get_or (for_each_cell f cells) c d ≡ f c (get_or cells c 0)
 get_or-for_each_cell {Y} f cells c d low =
-    get_or-map (λ (cell : ℕ × ℕ). f cell.0 cell.1) (enumerate_from 0 cells) c (0, 0) d (omega (arith, length-enumerate_from 0 cells))
-    ∙ ap (λ (cell : ℕ × ℕ). f cell.0 cell.1) (get_or-enumerate_from 0 cells c (0, 0) low) ∙ (let same : 0 + c ≡ c = omega arith in ap (λ (n : ℕ). f n (get_or cells c 0)) same)
+    get_or-map (λ (cell : ℕ × ℕ). f cell.0 cell.1) (enumerate_from 0 cells) c (0, 0) d
+    (omega (arith, length-enumerate_from 0 cells))
+    ∙ ap (λ (cell : ℕ × ℕ). f cell.0 cell.1) (get_or-enumerate_from 0 cells c (0, 0) low)
+    ∙ (let same : 0 + c ≡ c = omega arith in ap (λ (n : ℕ). f n (get_or cells c 0)) same)
 
 -- A list that has this value for each column is equal to that.
-pub for_each_cell_unique : {Y : Type 0} (f : ℕ → ℕ → Y) (cells : List ℕ) (ys : List Y) (d : Y) → length ys ≡ length cells → ((c : ℕ) → c < length cells → get_or ys c d ≡ f c (get_or cells c 0)) → ys ≡ for_each_cell f cells
+pub for_each_cell_unique : {Y : Type 0} (f : ℕ → ℕ → Y) (cells : List ℕ) (ys : List Y) (d : Y)
+    → length ys ≡ length cells → ((c : ℕ) → c < length cells → get_or ys c d ≡ f c (get_or cells c 0))
+    → ys ≡ for_each_cell f cells
 for_each_cell_unique f cells ys d long same =
-    ext_get_or d ys (for_each_cell f cells) (long ∙ sym (length-for_each_cell f cells)) (λ c low. let within : c < length cells = omega (arith, low, long) in same c within ∙ sym (get_or-for_each_cell f cells c d within))
+    ext_get_or d ys (for_each_cell f cells) (long ∙ sym (length-for_each_cell f cells))
+    (λ c low. let within : c < length cells = omega (arith, low, long) in same c within
+    ∙ sym (get_or-for_each_cell f cells c d within))
 
-pub for_each_cell_same : {Y : Type 0} (f g : ℕ → ℕ → Y) (cells : List ℕ) → ((c : ℕ) → c < length cells → f c (get_or cells c 0) ≡ g c (get_or cells c 0)) → for_each_cell f cells ≡ for_each_cell g cells
-for_each_cell_same f g cells same = for_each_cell_unique g cells (for_each_cell f cells) (f 0 0) (length-for_each_cell f cells) (λ c low. get_or-for_each_cell f cells c (f 0 0) low ∙ same c low)
+pub for_each_cell_same : {Y : Type 0} (f g : ℕ → ℕ → Y) (cells : List ℕ) → ((c : ℕ) → c < length cells
+    → f c (get_or cells c 0) ≡ g c (get_or cells c 0)) → for_each_cell f cells ≡ for_each_cell g cells
+for_each_cell_same f g cells same = for_each_cell_unique g cells (for_each_cell f cells) (f 0 0)
+    (length-for_each_cell f cells) (λ c low. get_or-for_each_cell f cells c (f 0 0) low ∙ same c low)
 
 -- ---- how many columns use an input
 
 -- The last column that uses an input.
-pub last_use : (cells : List ℕ) (p : ℕ) → 0 < uses_of cells p → (c : ℕ) × (c < length cells) × (get_or cells c 0 ≡ p) × (uses_of cells p ≡ uses_of (take c cells) p + 1)
+pub last_use : (cells : List ℕ) (p : ℕ) → 0 < uses_of cells p → (c : ℕ) × (c < length cells) × (get_or cells c 0 ≡ p)
+    × (uses_of cells p ≡ uses_of (take c cells) p + 1)
 last_use [] p some = absurd (omega arith)
 last_use (x ∷ cells) p some = ⊎_elim
-    (λ more. let l = last_use cells p more in (suc l.0, omega (arith, l.1), l.2, omega (arith, l.3, uses_first cells, uses_first (take l.0 cells))))
+    (λ more. let l = last_use cells p more in (
+      suc l.0,
+      omega (arith, l.1),
+      l.2,
+      omega (
+        arith,
+        l.3,
+        uses_first cells,
+        uses_first (take l.0 cells),
+      ),
+    ))
     (λ none. ⊎_elim
-    (λ same. (0, omega arith, same, omega (arith, none, uses_first cells, ap (λ (t : Bool). cond {A = ℕ} t 1 0) (eq-eqb x p same))))
-    (λ differ. absurd (omega (arith, some, none, uses_first cells, ap (λ (t : Bool). cond {A = ℕ} t 1 0) (ne_eqb x p differ))))
+    (λ same. (
+      0,
+      omega arith,
+      same,
+      omega (
+        arith,
+        none,
+        uses_first cells,
+        ap (λ (t : Bool). cond {A = ℕ} t 1 0)
+            (eq-eqb x p same),
+      ),
+    ))
+    (λ differ. absurd (omega (
+      arith,
+      some,
+      none,
+      uses_first cells,
+      ap (λ (t : Bool). cond {A = ℕ} t 1 0)
+          (ne_eqb x p differ),
+    )))
     (cases_eq x p))
     (cases_lt 0 (uses_of cells p))
   where
@@ -158,16 +222,19 @@ last_use (x ∷ cells) p some = ⊎_elim
     uses_first rest = sum_by-cons (λ y. cond (y == p) 1 0) x rest
 
 module _ (cells : List ℕ) where
-  pub uses_here : (c p : ℕ) → c < length cells → get_or cells c 0 ≡ p → uses_of (take (c + 1) cells) p ≡ uses_of (take c cells) p + 1
+  pub uses_here : (c p : ℕ) → c < length cells → get_or cells c 0 ≡ p → uses_of (take (c + 1) cells) p
+      ≡ uses_of (take c cells) p + 1
   uses_here c p low same = count_by_more_yes (λ x. x == p) cells c 0 low (eq-eqb (get_or cells c 0) p same)
 
-  pub uses_other : (c p : ℕ) → c < length cells → get_or cells c 0 ≢ p → uses_of (take (c + 1) cells) p ≡ uses_of (take c cells) p
+  pub uses_other : (c p : ℕ) → c < length cells → get_or cells c 0 ≢ p → uses_of (take (c + 1) cells) p
+      ≡ uses_of (take c cells) p
   uses_other c p low other = count_by_more_no (λ x. x == p) cells c 0 low (grind (arith, nat_tests))
 
   pub uses_before : (c p : ℕ) → uses_of (take c cells) p ≤ uses_of cells p
   uses_before c p = sum_by-take-le (λ x. cond (x == p) 1 0) cells c
 
-  pub uses_before_lt : (c : ℕ) → c < length cells → uses_of (take c cells) (get_or cells c 0) < uses_of cells (get_or cells c 0)
+  pub uses_before_lt : (c : ℕ) → c < length cells → uses_of (take c cells) (get_or cells c 0) < uses_of cells
+      (get_or cells c 0)
   uses_before_lt c low = omega (arith, uses_here c (get_or cells c 0) low refl, uses_before (c + 1) (get_or cells c 0))
 
   -- ---- one row of a grid
@@ -179,7 +246,8 @@ module _ (cells : List ℕ) where
   abbrev pub top_of : (ℕ → Column) → ℕ → ℕ → List ℕ
   top_of ins c p = slice_index_or (ins p) (uses_of (take c cells) p) []
 
-  pub column_at : (ins : ℕ → Column) (c : ℕ) → c < length cells → get_or (columns cells ins) c [] ≡ column_of ins c (get_or cells c 0)
+  pub column_at : (ins : ℕ → Column) (c : ℕ) → c < length cells → get_or (columns cells ins) c [] ≡ column_of ins c
+      (get_or cells c 0)
   column_at ins c low = get_or-for_each_cell (column_of ins) cells c [] low
 
   pub length-columns : (ins : ℕ → Column) → length (columns cells ins) ≡ length cells
@@ -187,7 +255,8 @@ module _ (cells : List ℕ) where
 
   -- The lines `input_lines` of one row: each column of an input takes one, until the input has ended.
   pub record IsOneRow (input_lines more : ℕ → Column) : Type 0 where
-    pub all : (p : ℕ) → (length (input_lines p) ≡ uses_of cells p) ⊎ ((more p ≡ []) × (length (input_lines p) ≤ uses_of cells p))
+    pub all : (p : ℕ) → (length (input_lines p) ≡ uses_of cells p) ⊎ ((more p ≡ [])
+        × (length (input_lines p) ≤ uses_of cells p))
 
   module _ (input_lines more : ℕ → Column) (t : IsOneRow input_lines more) where
     abbrev ins : ℕ → Column
@@ -196,49 +265,72 @@ module _ (cells : List ℕ) where
     rest_is : (p : ℕ) → drop (uses_of cells p) (input_lines p ++ more p) ≡ more p
     rest_is p = ⊎_elim
         (λ same. drop_at (input_lines p) (more p) (uses_of cells p) same)
-        (λ few. drop_all (uses_of cells p) (input_lines p ++ more p) (omega (arith, few.1, ap length few.0, length-append (input_lines p) (more p))) ∙ sym few.0)
+        (λ few. drop_all (uses_of cells p) (input_lines p ++ more p) (omega (
+          arith,
+          few.1,
+          ap length few.0,
+          length-append (input_lines p) (more p),
+        )) ∙ sym few.0)
         (t.all p)
 
-    input_lines_at : (p j : ℕ) → j < uses_of cells p → slice_index_or (input_lines p ++ more p) j [] ≡ slice_index_or (input_lines p) j []
+    input_lines_at : (p j : ℕ) → j < uses_of cells p → slice_index_or (input_lines p ++ more p) j [] ≡ slice_index_or
+        (input_lines p) j []
     input_lines_at p j low = ⊎_elim
         (λ same. get_or_append_left (input_lines p) (more p) [] j (omega (arith, same)))
-        (λ few. ap (λ (l : Column). slice_index_or l j []) (ap (λ (l : Column). input_lines p ++ l) few.0 ∙ append-nil (input_lines p)))
+        (λ few. ap (λ (l : Column). slice_index_or l j []) (ap (λ (l : Column). input_lines p ++ l) few.0
+        ∙ append-nil (input_lines p)))
         (t.all p)
 
-    pub grid_step : (c : ℕ) → c < length cells → uses_of (take c cells) (get_or cells c 0) < length (input_lines (get_or cells c 0))
-        → rows (columns cells (λ p. input_lines p ++ more p)) ≡ for_each_cell (top_of input_lines) cells ∷ rows (columns cells more)
+    pub grid_step : (c : ℕ) → c < length cells → uses_of (take c cells) (get_or cells c 0) < length
+        (input_lines (get_or cells c 0))
+        → rows (columns cells (λ p. input_lines p ++ more p)) ≡ for_each_cell (top_of input_lines) cells ∷ rows
+        (columns cells more)
     grid_step c low some =
         let input = get_or cells c 0 in
-        let high = every_kth_some (uses_before_lt c low) (input_lines input ++ more input) (omega (arith, some, length-append (input_lines input) (more input))) in
-        rows_step (columns cells ins) (omega (arith, row_count_bound 0 (columns cells ins) c, ap length (column_at ins c low), high))
-        ∙ (λ i. (map-map (λ (col : Column). slice_index_or col 0 []) (λ (cell : ℕ × ℕ). column_of ins cell.0 cell.1) (enumerate_from 0 cells)
+        let high = every_kth_some (uses_before_lt c low) (input_lines input ++ more input)
+        (omega (arith, some, length-append (input_lines input) (more input))) in
+        rows_step (columns cells ins) (omega (
+          arith,
+          row_count_bound 0 (columns cells ins) c,
+          ap length (column_at ins c low),
+          high,
+        ))
+        ∙ (λ i. (map-map (λ (col : Column). slice_index_or col 0 []) (λ (cell : ℕ × ℕ). column_of ins cell.0 cell.1)
+        (enumerate_from 0 cells)
         ∙ for_each_cell_same (λ c p. slice_index_or (column_of ins c p) 0 []) (top_of input_lines) cells
-        (λ d within. let q = get_or cells d 0 in every_kth_first (uses_before_lt d within) (ins q) ∙ input_lines_at q (uses_of (take d cells) q) (uses_before_lt d within))) i
+        (λ d within. let q = get_or cells d 0 in every_kth_first (uses_before_lt d within) (ins q)
+        ∙ input_lines_at q (uses_of (take d cells) q) (uses_before_lt d within))) i
         ∷ rows ((map-map (drop 1) (λ (cell : ℕ × ℕ). column_of ins cell.0 cell.1) (enumerate_from 0 cells)
         ∙ for_each_cell_same (λ c p. drop 1 (column_of ins c p)) (column_of more) cells
-        (λ d within. let q = get_or cells d 0 in every_kth_rest (uses_before_lt d within) (ins q) ∙ ap (every_kth (uses_of cells q) (uses_of (take d cells) q)) (rest_is q))) i))
+        (λ d within. let q = get_or cells d 0 in every_kth_rest (uses_before_lt d within) (ins q)
+        ∙ ap (every_kth (uses_of cells q) (uses_of (take d cells) q)) (rest_is q))) i))
 
   pub grid_none : (ins : ℕ → Column) → ((p : ℕ) → 0 < uses_of cells p → ins p ≡ []) → rows (columns cells ins) ≡ []
   grid_none ins none = rows_none (columns cells ins) (λ c low.
       let within : c < length cells = omega (arith, low, length-columns ins) in
       let q = get_or cells c 0 in
-      column_at ins c within ∙ ap (every_kth (uses_of cells q) (uses_of (take c cells) q)) (none q (omega (arith, uses_before_lt c within))))
+      column_at ins c within ∙ ap (every_kth (uses_of cells q) (uses_of (take c cells) q))
+      (none q (omega (arith, uses_before_lt c within))))
 
 -- ---- the text of rows
 
 pub rows_text-append : (end : ℕ) (delims : List (Option ℕ)) (xs ys : List Column)
-    → unlines end (map (join_with_cycle delims 0) (xs ++ ys)) ≡ unlines end (map (join_with_cycle delims 0) xs) ++ unlines end (map (join_with_cycle delims 0) ys)
-rows_text-append end delims xs ys = ap (unlines end) (map-append (join_with_cycle delims 0) xs ys) ∙ unlines-append end (map (join_with_cycle delims 0) xs) (map (join_with_cycle delims 0) ys)
+    → unlines end (map (join_with_cycle delims 0) (xs ++ ys)) ≡ unlines end (map (join_with_cycle delims 0) xs)
+    ++ unlines end (map (join_with_cycle delims 0) ys)
+rows_text-append end delims xs ys = ap (unlines end) (map-append (join_with_cycle delims 0) xs ys)
+    ∙ unlines-append end (map (join_with_cycle delims 0) xs) (map (join_with_cycle delims 0) ys)
 
 -- ---- the rows that are determined
 
-pub is_row_unknown : (cols : List Column) (eof : List Bool) (r c : ℕ) → c < length cols → c < length eof → get_or eof c true ≡ false
+pub is_row_unknown : (cols : List Column) (eof : List Bool) (r c : ℕ) → c < length cols → c < length eof
+    → get_or eof c true ≡ false
     → length (get_or cols c []) ≤ r → is_row_known cols eof r ≡ false
 is_row_unknown [] eof r c low within going few = absurd (omega arith)
 is_row_unknown (col ∷ cols) [] r c low within going few = absurd (omega arith)
 is_row_unknown (col ∷ cols) (e ∷ eof) r zero low within going few = rw (going, le-ltb r (length col) few) refl
 is_row_unknown (col ∷ cols) (e ∷ eof) r (suc c) low within going few =
-    and_right (e || nat_lt r (length col)) (is_row_known cols eof r) (is_row_unknown cols eof r c (omega arith) (omega arith) going few)
+    and_right (e || nat_lt r (length col)) (is_row_known cols eof r) (is_row_unknown cols eof r c (omega arith)
+    (omega arith) going few)
 
 -- ---- a function that is changed at one index
 

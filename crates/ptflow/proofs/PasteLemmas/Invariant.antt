@@ -1,15 +1,20 @@
 -- The loop invariant of `paste`: the rows taken so far are the first rows of the inputs for every continuation, they
 -- were pushed, and the slots hold at most one line for each column. From it follow the clauses of the contract once the
 -- readers were read further.
-use Rattle.ptflow.proofs.Common.{◌≡◌, ⊎_elim, ℕ, ◌+◌, ◌*◌, ◌<◌, ◌≤◌, ◌^◌, Bool, true, false, List, [], ◌∷◌, ◌++◌, None, length, take, get_or, refl, sym, ◌∙◌, ap, subst, arith, append_assoc, All}
-use Rattle.ptflow.proofs.Common.{cases_lt, append-nil, All-get_or, unlines, lines, complete_lines, AreLines, max_length, max_line_length, Received, IsPrefix, IsConsistent, HasReceived, known_lines, Output, PushEffect, Reader, ReaderAdvance}
-use Rattle.ptflow.proofs.Common.{IsDone, Slots, total_bytes, received_with, has_received, has_received_of_set, push_nothing, push_trans, complete_lines_cons, Paste, AddedSlots, reader_at, IsReadable, PastePre, join_with_cycle, uses_of}
-use Rattle.ptflow.proofs.Common.{columns, rows, rows_text, paste, paste_decided, SetTerminatorsPost, SlotsBound, SlotsKept, CellsTaken, CellsFilled, AreReceivedLines, AreFirstRows, RowsTaken, cells_text, map}
+use Rattle.ptflow.proofs.Common.{◌≡◌, ⊎_elim, ℕ, ◌+◌, ◌*◌, ◌<◌, ◌≤◌, ◌^◌, Bool, true, false, List, [], ◌∷◌, ◌++◌, None}
+use Rattle.ptflow.proofs.Common.{length, get_or, refl, sym, ◌∙◌, ap, subst, arith, append_assoc, All, cases_lt}
+use Rattle.ptflow.proofs.Common.{append-nil, All-get_or, unlines, lines, complete_lines, AreLines, max_length, Received}
+use Rattle.ptflow.proofs.Common.{IsPrefix, IsConsistent, HasReceived, known_lines, Output, PushEffect, Reader}
+use Rattle.ptflow.proofs.Common.{ReaderAdvance, IsDone, Slots, total_bytes, received_with, has_received}
+use Rattle.ptflow.proofs.Common.{has_received_of_set, push_nothing, push_trans, complete_lines_cons, Paste, AddedSlots}
+use Rattle.ptflow.proofs.Common.{reader_at, IsReadable, PastePre, uses_of, columns, rows, rows_text, paste}
+use Rattle.ptflow.proofs.Common.{paste_decided, SetTerminatorsPost, SlotsBound, SlotsKept, CellsTaken, CellsFilled}
+use Rattle.ptflow.proofs.Common.{AreReceivedLines, AreFirstRows, RowsTaken, cells_text, job_shape, BufferedRowsPre}
 use Rattle.ptflow.proofs.PasteLemmas.CellSlots.{slots_bound_start, slots_kept_by_lines}
 use Rattle.ptflow.proofs.PasteLemmas.RowsTaken.{first_rows_trans, filled_row_is_first, filled_row_text}
 use Rattle.ptflow.proofs.PasteLemmas.Grid.{Column, last_use, rows_text-append}
 use Rattle.ptflow.proofs.Passes.Lines.{max_length-append}
-use Rattle.ptflow.proofs.Passes.LinesRead.{lines_on, received_longest}
+use Rattle.ptflow.proofs.Passes.LinesRead.{lines_on}
 use Rattle.ptflow.proofs.PasteLemmas.Lag.{EarlierPart, LagsAt, lags_here, decided_is_prefix}
 use Rattle.ptflow.proofs.Passes.Readers.{eof_gives_nothing, may_follow}
 use Rattle.ptflow.proofs.PasteLemmas.LinesTaken.{nothing_taken}
@@ -24,15 +29,19 @@ all_used P cells all p some = let n = used_at cells p some in subst P n.2 (All-g
 
 -- ---- the complete lines that were received
 
-ended_more : (end : ℕ) (ls : Column) (bytes : List ℕ) → AreLines end ls → complete_lines end (unlines end ls ++ bytes) ≡ ls ++ complete_lines end bytes
+ended_more : (end : ℕ) (ls : Column) (bytes : List ℕ) → AreLines end ls → complete_lines end (unlines end ls ++ bytes)
+    ≡ ls ++ complete_lines end bytes
 ended_more end [] bytes w = refl
 ended_more end (line ∷ ls) bytes w =
-    ap (complete_lines end) (append_assoc (line ++ end ∷ []) (unlines end ls) bytes ∙ append_assoc line (end ∷ []) (unlines end ls ++ bytes)) ∙ complete_lines_cons end line (unlines end ls ++ bytes) w.0
+    ap (complete_lines end) (append_assoc (line ++ end ∷ []) (unlines end ls) bytes ∙ append_assoc line (end ∷ [])
+    (unlines end ls ++ bytes)) ∙ complete_lines_cons end line (unlines end ls ++ bytes) w.0
     ∙ ap (λ (l : Column). line ∷ l) (ended_more end ls bytes w.1)
 
 -- The known lines of all received bytes, if `ls` were received first.
-whole_lines_after : (end : ℕ) (now : Reader) (given : List ℕ) (ls : Column) → AreReceivedLines end now given ls → (rest : List ℕ) (eof : Bool) → (IsDone now → (rest ≡ []) × (eof ≡ true))
-    → known_lines end (record { bytes = given ++ rest; eof = eof }) ≡ ls ++ known_lines end (record { bytes = rest; eof = eof })
+whole_lines_after : (end : ℕ) (now : Reader) (given : List ℕ) (ls : Column) → AreReceivedLines end now given ls
+    → (rest : List ℕ) (eof : Bool) → (IsDone now → (rest ≡ []) × (eof ≡ true))
+    → known_lines end (record { bytes = given ++ rest; eof = eof }) ≡ ls ++ known_lines end
+    (record { bytes = rest; eof = eof })
 whole_lines_after end now given ls k rest true may = lines_on end now given ls k rest (λ done. (may done).0)
 whole_lines_after end now given ls k rest false may = ⊎_elim
     (λ o. rw o.0 (ended_more end ls rest o.1))
@@ -46,12 +55,9 @@ pub record ReadMore (now new : List Reader) : Type 0 where
   pub extra : ℕ → List ℕ
   pub reads : (p : ℕ) → ReaderAdvance (reader_at now p) (reader_at new p) (extra p)
 
--- No line of the rows is longer than the longest line of its input.
-pub longest_of_rows : {end : ℕ} {cells : List ℕ} {set now : List Reader} {ls : ℕ → Column} {taken_rows : List (List (List ℕ))} (g : AreFirstRows end cells set now ls taken_rows)
-    (texts : ℕ → List ℕ) → ((p : ℕ) → IsConsistent (received_with (g.lines_taken p).bytes (reader_at now p)) (texts p)) → (p : ℕ) → max_length (ls p) ≤ max_line_length end (texts p)
-longest_of_rows {end} {now = now} {ls = ls} g texts a p = received_longest end (reader_at now p) (g.lines_taken p).bytes (ls p) (g.lines_taken p).came (texts p) (a p)
-
-module _ (job : Paste) {cells : List ℕ} {set now new : List Reader} {ls : ℕ → Column} {taken_rows : List (List (List ℕ))} (g : AreFirstRows job.terminator cells set now ls taken_rows) (r : ReadMore now new) where
+module _ (job : Paste) {cells : List ℕ} {set now new : List Reader} {ls : ℕ
+    → Column} {taken_rows : List (List (List ℕ))} (g : AreFirstRows (job_shape job cells) set now ls taken_rows)
+    (r : ReadMore now new) where
   abbrev pub given_by : ℕ → Received
   given_by p = received_with ((g.lines_taken p).bytes ++ r.extra p) (reader_at new p)
 
@@ -61,38 +67,54 @@ module _ (job : Paste) {cells : List ℕ} {set now new : List Reader} {ls : ℕ 
     later p = r.extra p ++ ((reader_at new p).buffered ++ (a p).rest)
 
     may_later : (p : ℕ) → IsDone (reader_at now p) → later p ≡ []
-    may_later p = may_follow (reader_at now p) (reader_at new p) (r.extra p) ((reader_at new p).buffered ++ (a p).rest) (r.reads p) (λ done i. done.buffered i ++ (a p).whole done.eof i)
+    may_later p = may_follow (reader_at now p) (reader_at new p) (r.extra p) ((reader_at new p).buffered ++ (a p).rest)
+        (r.reads p) (λ done i. done.buffered i ++ (a p).whole done.eof i)
 
     lines_by : (p : ℕ) → lines job.terminator (texts p) ≡ ls p ++ lines job.terminator (later p)
     lines_by p =
         ap (lines job.terminator) (simp append_assoc at (a p).is)
-        ∙ lines_on job.terminator (reader_at now p) (g.lines_taken p).bytes (ls p) (g.lines_taken p).came (later p) (may_later p)
+        ∙ lines_on job.terminator (reader_at now p) (g.lines_taken p).bytes (ls p) (g.lines_taken p).came (later p)
+        (may_later p)
 
-    pub rows_by : rows (columns cells (λ p. lines job.terminator (texts p))) ≡ taken_rows ++ rows (columns cells (λ p. lines job.terminator (later p)))
-    rows_by = (λ i. rows (columns cells (λ p. lines_by p i))) ∙ g.on (λ p. lines job.terminator (later p)) (λ p done. ap (lines job.terminator) (may_later p done))
+    pub rows_by : rows (columns cells (λ p. lines job.terminator (texts p))) ≡ taken_rows ++ rows
+        (columns cells (λ p. lines job.terminator (later p)))
+    rows_by = (λ i. rows (columns cells (λ p. lines_by p i))) ∙ g.on (λ p. lines job.terminator (later p))
+        (λ p done. ap (lines job.terminator) (may_later p done))
 
     pub begins_by : IsPrefix (rows_text job taken_rows) (paste job cells texts)
     begins_by = record {
       rest = rows_text job (rows (columns cells (λ p. lines job.terminator (later p))));
-      is = ap (rows_text job) rows_by ∙ rows_text-append job.terminator job.delimiters taken_rows (rows (columns cells (λ p. lines job.terminator (later p))));
+      is = ap (rows_text job) rows_by ∙ rows_text-append job.terminator job.delimiters taken_rows
+          (rows (columns cells (λ p. lines job.terminator (later p))));
     }
 
   -- The known lines after the rows.
   abbrev pub more_by : ℕ → Column
-  more_by p = known_lines job.terminator (record { bytes = r.extra p ++ (reader_at new p).buffered; eof = (reader_at new p).eof })
+  more_by p = known_lines job.terminator (record {
+    bytes = r.extra p ++ (reader_at new p).buffered;
+    eof = (reader_at new p).eof;
+  })
 
-  none_more : (p : ℕ) → IsDone (reader_at now p) → (r.extra p ++ (reader_at new p).buffered ≡ []) × ((reader_at new p).eof ≡ true)
-  none_more p done = let k = eof_gives_nothing (reader_at now p) (reader_at new p) (r.extra p) done (r.reads p) in ((λ i. k.0 i ++ k.1 i), k.2)
+  none_more : (p : ℕ) → IsDone (reader_at now p) → (r.extra p ++ (reader_at new p).buffered ≡ [])
+      × ((reader_at new p).eof ≡ true)
+  none_more p done = let k = eof_gives_nothing (reader_at now p) (reader_at new p) (r.extra p) done (r.reads p) in
+      ((λ i. k.0 i ++ k.1 i), k.2)
 
   whole_more : (p : ℕ) → known_lines job.terminator (given_by p) ≡ ls p ++ more_by p
   whole_more p =
-      ap (λ (b : List ℕ). known_lines job.terminator (record { bytes = b; eof = (reader_at new p).eof })) (append_assoc (g.lines_taken p).bytes (r.extra p) (reader_at new p).buffered)
-      ∙ whole_lines_after job.terminator (reader_at now p) (g.lines_taken p).bytes (ls p) (g.lines_taken p).came (r.extra p ++ (reader_at new p).buffered) (reader_at new p).eof (none_more p)
+      ap (λ (b : List ℕ). known_lines job.terminator (record { bytes = b; eof = (reader_at new p).eof }))
+      (append_assoc (g.lines_taken p).bytes (r.extra p) (reader_at new p).buffered)
+      ∙ whole_lines_after job.terminator (reader_at now p) (g.lines_taken p).bytes (ls p) (g.lines_taken p).came
+      (r.extra p ++ (reader_at new p).buffered) (reader_at new p).eof (none_more p)
 
-  pub rows_whole : rows (columns cells (λ p. known_lines job.terminator (given_by p))) ≡ taken_rows ++ rows (columns cells more_by)
+  pub rows_whole : rows (columns cells (λ p. known_lines job.terminator (given_by p))) ≡ taken_rows ++ rows
+      (columns cells more_by)
   rows_whole =
       (λ i. rows (columns cells (λ p. whole_more p i)))
-      ∙ g.on more_by (λ p done i. known_lines job.terminator (record { bytes = (none_more p done).0 i; eof = (none_more p done).1 i }))
+      ∙ g.on more_by (λ p done i. known_lines job.terminator (record {
+        bytes = (none_more p done).0 i;
+        eof = (none_more p done).1 i;
+      }))
 
   -- Without the last bytes of this input alone, no more output is determined than was pushed.
   abbrev pub LagsBy : ℕ → Type 0
@@ -104,7 +126,8 @@ module _ (job : Paste) {cells : List ℕ} {set now new : List Reader} {ls : ℕ 
   pub lags_by : (p : ℕ) → 0 < uses_of cells p → EarlierBy p → LagsBy p
   lags_by = lags_here job cells given_by taken_rows (rows (columns cells more_by)) rows_whole
 
-  pub begins_by_earlier : (p : ℕ) (some : 0 < uses_of cells p) (cut : EarlierBy p) → cut.front ≡ (given_by p).bytes → (given_by p).eof ≡ false
+  pub begins_by_earlier : (p : ℕ) (some : 0 < uses_of cells p) (cut : EarlierBy p) → cut.front ≡ (given_by p).bytes
+      → (given_by p).eof ≡ false
       → IsPrefix (paste_decided job cells given_by) (rows_text job taken_rows)
   begins_by_earlier = decided_is_prefix job cells given_by taken_rows (rows (columns cells more_by)) rows_whole
 
@@ -116,7 +139,8 @@ pub record HasStarted (end : ℕ) (cells : List ℕ) (old set : List Reader) (wa
   pub ready : PastePre cells old first
   pub are_set : SetTerminatorsPost end cells old set
 
-module _ {end : ℕ} {cells : List ℕ} {old set : List Reader} {was : Output} {first : Slots} (s : HasStarted end cells old set was first) where
+module _ {end : ℕ} {cells : List ℕ} {old set : List Reader} {was : Output} {first : Slots}
+    (s : HasStarted end cells old set was first) where
   readable : (p : ℕ) → 0 < uses_of cells p → IsReadable (reader_at old p)
   readable = all_used (λ q. IsReadable (reader_at old q)) cells s.ready.readable
 
@@ -124,38 +148,45 @@ module _ {end : ℕ} {cells : List ℕ} {old set : List Reader} {was : Output} {
   set_end p some = ap (λ (r : Reader). r.terminator) ((s.are_set p).set some)
 
   pub set_failed : (p : ℕ) → (reader_at set p).failed ≡ (reader_at old p).failed
-  set_failed p = ⊎_elim (λ some. ap (λ (r : Reader). r.failed) ((s.are_set p).set some)) (λ none. ap (λ (r : Reader). r.failed) ((s.are_set p).left (omega (arith, none)))) (cases_lt 0 (uses_of cells p))
+  set_failed p = ⊎_elim (λ some. ap (λ (r : Reader). r.failed) ((s.are_set p).set some))
+      (λ none. ap (λ (r : Reader). r.failed) ((s.are_set p).left (omega (arith, none)))) (cases_lt 0 (uses_of cells p))
 
   pub set_fault : (p : ℕ) → 0 < uses_of cells p → (reader_at set p).fault ≡ None
   set_fault p some = ap (λ (r : Reader). r.fault) ((s.are_set p).set some) ∙ (readable p some).readable
 
   pub never_failed : (p : ℕ) → 0 < uses_of cells p → (reader_at old p).failed ≡ false
-  never_failed p some = sym (set_failed p) ∙ ((s.are_set p).sound some).unfailed (ap (λ (r : Reader). r.refused) ((s.are_set p).set some) ∙ (readable p some).opened) (set_fault p some)
+  never_failed p some = sym (set_failed p) ∙ ((s.are_set p).sound some).unfailed (ap (λ (r : Reader). r.refused)
+      ((s.are_set p).set some) ∙ (readable p some).opened) (set_fault p some)
 
   pub set_short : (p : ℕ) → 0 < uses_of cells p → (reader_at set p).pulled < 2 ^ 63
   set_short p some = ((s.are_set p).sound some).long (set_fault p some)
 
   -- The bytes that were received from each reader since.
-  pub received_since : (p : ℕ) {new : Reader} {bytes : List ℕ} → ReaderAdvance (reader_at set p) new bytes → HasReceived (reader_at old p) new (received_with bytes new)
+  pub received_since : (p : ℕ) {new : Reader} {bytes : List ℕ} → ReaderAdvance (reader_at set p) new bytes
+      → HasReceived (reader_at old p) new (received_with bytes new)
   received_since p {new} {bytes} reads = ⊎_elim
       (λ some. has_received_of_set (reader_at old p) (reader_at set p) end ((s.are_set p).set some) new bytes reads)
-      (λ none. subst (λ (r : Reader). HasReceived r new (received_with bytes new)) ((s.are_set p).left (omega (arith, none))) (has_received (reader_at set p) new bytes reads))
+      (λ none. subst (λ (r : Reader). HasReceived r new (received_with bytes new))
+      ((s.are_set p).left (omega (arith, none))) (has_received (reader_at set p) new bytes reads))
       (cases_lt 0 (uses_of cells p))
 
 -- ---- rows that were taken
 
 -- The rows `taken_rows` were taken and pushed; `ls` are their lines, by input.
-pub record PasteInvariant (job : Paste) (cells : List ℕ) (old set now : List Reader) (was is : Output) (first store : Slots) : Type 0 where
+pub record PasteInvariant (job : Paste) (cells : List ℕ) (old set now : List Reader) (was is : Output)
+    (first store : Slots) : Type 0 where
   pub starts : HasStarted job.terminator cells old set was first
   pub ls : ℕ → Column
   pub taken_rows : List (List (List ℕ))
-  pub first_rows : AreFirstRows job.terminator cells set now ls taken_rows
+  pub first_rows : AreFirstRows (job_shape job cells) set now ls taken_rows
   pub wrote : PushEffect was is (rows_text job taken_rows)
   pub clean : is.write_failed ≡ false
   pub kept : (top : ℕ → ℕ) → ((p : ℕ) → max_length (ls p) ≤ top p) → SlotsBound cells top first store
 
-pub invariant_starts : {job : Paste} {cells : List ℕ} {old set : List Reader} {was : Output} {first store : Slots} → HasStarted job.terminator cells old set was first
-    → AddedSlots first store (length cells) → store.denied ≡ false → total_bytes store.lines ≡ 0 → store.peak ≡ first.peak → PasteInvariant job cells old set set was was first store
+pub invariant_starts : {job : Paste} {cells : List ℕ} {old set : List Reader} {was : Output} {first store : Slots}
+    → HasStarted job.terminator cells old set was first
+    → AddedSlots first store (length cells) → store.denied ≡ false → total_bytes store.lines ≡ 0
+    → store.peak ≡ first.peak → PasteInvariant job cells old set set was was first store
 invariant_starts {job} {cells} {was = was} {first = first} {store = store} starts adds allowed empty peak = record {
   starts = starts;
   ls = λ p. [];
@@ -166,7 +197,8 @@ invariant_starts {job} {cells} {was = was} {first = first} {store = store} start
   kept = λ top high. slots_bound_start adds allowed empty peak;
 }
 
-module _ {job : Paste} {cells : List ℕ} {old set now : List Reader} {was is : Output} {first store : Slots} (s : PasteInvariant job cells old set now was is first store) where
+module _ {job : Paste} {cells : List ℕ} {old set now : List Reader} {was is : Output} {first store : Slots}
+    (s : PasteInvariant job cells old set now was is first store) where
   pub now_end : (p : ℕ) → 0 < uses_of cells p → (reader_at now p).terminator ≡ job.terminator
   now_end p some = (s.first_rows.lines_taken p).reads.terminator ∙ set_end s.starts p some
 
@@ -182,52 +214,61 @@ module _ {job : Paste} {cells : List ℕ} {old set now : List Reader} {was is : 
   pub now_buffered : (p : ℕ) → 0 < uses_of cells p → length (reader_at now p).buffered ≤ 8192
   now_buffered p some = (s.first_rows.lines_taken p).buffered ((s.starts.are_set p).sound some).buffered
 
+  -- The readers are still readable.
+  pub now_readable : length set ≡ length old → BufferedRowsPre (job_shape job cells) now
+  now_readable size = record {
+    within = λ k d low. omega (arith, s.starts.ready.within k d low, size, s.first_rows.count);
+    unfailed = now_fault;
+    same_end = now_end;
+  }
+
   -- Each column has a slot.
   pub invariant_slots : length cells ≤ length store.lines
   invariant_slots = let k = s.kept (λ p. max_length (s.ls p)) (λ p. omega arith) in omega (arith, k.adds.all k.denied)
 
   -- Buffered output was written out.
-  pub invariant_sent : {written_out : Output} → PushEffect is written_out [] → written_out.write_failed ≡ false → PasteInvariant job cells old set now was written_out first store
+  pub invariant_sent : {written_out : Output} → PushEffect is written_out [] → written_out.write_failed ≡ false
+      → PasteInvariant job cells old set now was written_out first store
   invariant_sent {written_out} wrote clean = record {
     starts = s.starts;
     ls = s.ls;
     taken_rows = s.taken_rows;
     first_rows = s.first_rows;
-    wrote = rw (append-nil (rows_text job s.taken_rows)) at (push_trans was is written_out (rows_text job s.taken_rows) [] s.clean s.wrote wrote);
+    wrote = rw (append-nil (rows_text job s.taken_rows)) at (push_trans was is written_out (rows_text job s.taken_rows)
+        [] s.clean s.wrote wrote);
     clean = clean;
     kept = s.kept;
   }
 
   -- More rows were taken and pushed.
-  invariant_after : {new : List Reader} {ls : ℕ → Column} {more : List (List (List ℕ))} → AreFirstRows job.terminator cells now new ls more → {buffered : Slots}
+  invariant_after : {new : List Reader} {ls : ℕ → Column} {more : List (List (List ℕ))}
+      → AreFirstRows (job_shape job cells) now new ls more → {buffered : Slots}
       → ((top : ℕ → ℕ) → ((p : ℕ) → max_length (s.ls p ++ ls p) ≤ top p) → SlotsBound cells top first buffered)
-      → {is' : Output} → PushEffect is is' (rows_text job more) → is'.write_failed ≡ false → PasteInvariant job cells old set new was is' first buffered
+      → {is' : Output} → PushEffect is is' (rows_text job more) → is'.write_failed ≡ false
+      → PasteInvariant job cells old set new was is' first buffered
   invariant_after {new} {ls} {more} g kept {is'} wrote clean = record {
     starts = s.starts;
     ls = λ p. s.ls p ++ ls p;
     taken_rows = s.taken_rows ++ more;
     first_rows = first_rows_trans s.first_rows g;
-    wrote = subst (λ (b : List ℕ). PushEffect was is' b) (sym (rows_text-append job.terminator job.delimiters s.taken_rows more)) (push_trans was is is' (rows_text job s.taken_rows) (rows_text job more) s.clean s.wrote wrote);
+    wrote = subst (λ (b : List ℕ). PushEffect was is' b)
+        (sym (rows_text-append job.terminator job.delimiters s.taken_rows more)) (push_trans was is is'
+        (rows_text job s.taken_rows) (rows_text job more) s.clean s.wrote wrote);
     clean = clean;
     kept = kept;
   }
 
   -- Rows from the buffers.
-  module _ {end : ℕ} (same : end ≡ job.terminator) {new : List Reader} {written : List ℕ}
-      (p : RowsTaken end job.delimiters cells now new written) where
+  module _ {new : List Reader} {written : List ℕ} (p : RowsTaken (job_shape job cells) now new written) where
     pub rows_wrote : {is' : Output} → PushEffect is is' written → PushEffect is is' (rows_text job p.taken_rows)
-    rows_wrote {is'} wrote = subst (PushEffect is is') (p.is
-        ∙ ap (λ (e : ℕ). unlines e (map (join_with_cycle job.delimiters 0) p.taken_rows)) same) wrote
-
-    pub rows_first : AreFirstRows job.terminator cells now new p.ls p.taken_rows
-    rows_first = rw same at p.first_rows
+    rows_wrote {is'} wrote = subst (PushEffect is is') p.is wrote
 
     pub rows_kept : (top : ℕ → ℕ) → ((q : ℕ) → max_length (s.ls q ++ p.ls q) ≤ top q) → SlotsBound cells top first store
     rows_kept top high = s.kept top (λ q. omega (arith, high q, max_length-append (s.ls q) (p.ls q)))
 
     pub invariant_rows : {is' : Output} → PushEffect is is' written → is'.write_failed ≡ false
         → PasteInvariant job cells old set new was is' first store
-    invariant_rows wrote clean = invariant_after rows_first rows_kept (rows_wrote wrote) clean
+    invariant_rows wrote clean = invariant_after p.first_rows rows_kept (rows_wrote wrote) clean
 
   -- A row that was filled.
   module _ {new : List Reader} {after : Slots} {fields : List (List ℕ)} (slots : SlotsKept cells fields store after)
@@ -240,15 +281,12 @@ module _ {job : Paste} {cells : List ℕ} {old set now : List Reader} {was is : 
           (λ p. omega (arith, high p, max_length-append (s.ls p) (input_lines p)))
 
       module _ (f : CellsFilled cells (length cells) now new fields true) where
-        pub row_gives : AreFirstRows job.terminator cells now new f.input_lines (fields ∷ [])
-        row_gives = filled_row_is_first now_end f
+        pub row_gives : AreFirstRows (job_shape job cells) now new f.input_lines (fields ∷ [])
+        row_gives = filled_row_is_first (job_shape job cells) now_end f
 
-        pub row_wrote : {is' : Output} (end : ℕ) → end ≡ job.terminator
-            → PushEffect is is' (cells_text end job.delimiters (length cells) 0 fields)
+        pub row_wrote : {is' : Output} → PushEffect is is' (cells_text (job_shape job cells) 0 fields)
             → PushEffect is is' (rows_text job (fields ∷ []))
-        row_wrote {is'} end same wrote = subst (PushEffect is is')
-            (ap (λ (e : ℕ). cells_text e job.delimiters (length cells) 0 fields) same
-            ∙ filled_row_text job.terminator job.delimiters f) wrote
+        row_wrote {is'} wrote = subst (PushEffect is is') (filled_row_text (job_shape job cells) f) wrote
 
         pub invariant_more : {is' : Output} → PushEffect is is' (rows_text job (fields ∷ [])) → is'.write_failed ≡ false
             → PasteInvariant job cells old set new was is' first after

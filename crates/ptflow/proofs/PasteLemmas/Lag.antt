@@ -1,13 +1,21 @@
 -- Bounded lag of `paste`: all output that was determined two blocks of an input earlier is pushed. Without its last two
 -- blocks that input has fewer lines than one more row takes, so only rows that were already pushed are determined.
-use Rattle.ptflow.proofs.Common.{◌≡◌, ⊎_elim, ℕ, zero, suc, ◌+◌, ◌-◌, ◌*◌, ◌%◌, ◌<◌, ◌≤◌, ◌==◌, Bool, true, false, cond, List, [], ◌∷◌, ◌++◌, length, take, drop, get_or, map, refl, sym, ◌∙◌, ap}
-use Rattle.ptflow.proofs.Common.{subst, arith, append_assoc, take-append-drop, length-append, length-drop, filter, range_with_len, enumerate_from, onto_first, cases_eq, cases_lt, cases_Bool}
-use Rattle.ptflow.proofs.Common.{nat_tests, append-nil, append_cancel_right, take-append-le, length-take-le, take_all, take_more, get_or-map, get_or_append_left, length-map, take-map-range_with_len}
-use Rattle.ptflow.proofs.Common.{length-map-range_with_len, map-map, unlines, lines, complete_lines, onto_first_if_any, IsLine, AreLines, Received, IsPrefix, known_lines, ProcessLag, Reader, ReaderAdvance, IsDone, received_with}
-use Rattle.ptflow.proofs.Common.{unlines_push, complete_lines_of_unlines, the_lines, Paste, select_from, update_at, every_kth, uses_of, columns, row_count, row_at, rows, rows_text, is_row_known, known_rows, paste_decided, AreReceivedLines}
+use Rattle.ptflow.proofs.Common.{◌≡◌, ⊎_elim, ℕ, zero, suc, ◌+◌, ◌-◌, ◌*◌, ◌%◌, ◌<◌, ◌≤◌, ◌==◌, Bool, true, false, cond}
+use Rattle.ptflow.proofs.Common.{List, [], ◌∷◌, ◌++◌, length, take, drop, get_or, map, refl, sym, ◌∙◌, ap, subst, arith}
+use Rattle.ptflow.proofs.Common.{append_assoc, take-append-drop, length-append, length-drop, filter, range_with_len}
+use Rattle.ptflow.proofs.Common.{enumerate_from, onto_first, cases_eq, cases_lt, cases_Bool, nat_tests, append-nil}
+use Rattle.ptflow.proofs.Common.{append_cancel_right, take-append-le, length-take-le, take_all, take_more, get_or-map}
+use Rattle.ptflow.proofs.Common.{get_or_append_left, length-map, take-map-range_with_len, length-map-range_with_len}
+use Rattle.ptflow.proofs.Common.{map-map, unlines, lines, complete_lines, onto_first_if_any, IsLine, AreLines, Received}
+use Rattle.ptflow.proofs.Common.{IsPrefix, known_lines, ProcessLag, Reader, ReaderAdvance, IsDone, received_with}
+use Rattle.ptflow.proofs.Common.{unlines_push, complete_lines_of_unlines, the_lines, Paste, select_from, update_at}
+use Rattle.ptflow.proofs.Common.{every_kth, uses_of, columns, row_count, row_at, rows, rows_text, is_row_known}
+use Rattle.ptflow.proofs.Common.{known_rows, paste_decided, AreReceivedLines}
 use Rattle.std.specs.Prelude.{slice_index_or}
 use Rattle.ptflow.proofs.CutLemmas.ShortLines.{select_append}
-use Rattle.ptflow.proofs.PasteLemmas.Grid.{Column, for_each_cell, for_each_cell_same, column_of, uses_before_lt, column_at, length-columns, every_kth_short, is_row_unknown, update_here, update_there, last_use, rows_text-append}
+use Rattle.ptflow.proofs.PasteLemmas.Grid.{Column, for_each_cell, for_each_cell_same, column_of, uses_before_lt}
+use Rattle.ptflow.proofs.PasteLemmas.Grid.{column_at, length-columns, every_kth_short, is_row_unknown, update_here}
+use Rattle.ptflow.proofs.PasteLemmas.Grid.{update_there, last_use, rows_text-append}
 use Rattle.ptflow.proofs.Passes.LinesRead.{line_take, lines_are_given}
 
 -- ---- one input without its last bytes
@@ -22,21 +30,31 @@ pub record EarlierPart (end most : ℕ) (came : Received) : Type 0 where
   pub few : length (complete_lines end front) < most
 
 -- Without the bytes that are still in the buffer.
-abbrev pub earlier_partial : {end most : ℕ} {now : Reader} (new : Reader) {given : List ℕ} {ls : Column} → AreReceivedLines end now given ls → (IsDone now → ⊥)
-    → (piece : List ℕ) {bytes : List ℕ} → bytes ≡ given ++ piece → IsLine end piece → length new.buffered ≤ 8192 → length ls < most → EarlierPart end most (received_with bytes new)
+abbrev pub earlier_partial : {end most : ℕ} {now : Reader} (new : Reader) {given : List ℕ} {ls : Column}
+    → AreReceivedLines end now given ls → (IsDone now → ⊥)
+    → (piece : List ℕ) {bytes : List ℕ} → bytes ≡ given ++ piece → IsLine end piece → length new.buffered ≤ 8192
+    → length ls < most → EarlierPart end most (received_with bytes new)
 earlier_partial {end} new {given} {ls} k going piece {bytes} is free buffered few = record {
   front = bytes;
   last = new.buffered;
   split = refl;
   short = omega (arith, buffered);
   few = let lines_are : complete_lines end (given ++ piece) ≡ ls =
-      ⊎_elim (λ o. ap (λ (b : List ℕ). complete_lines end (b ++ piece)) o.0 ∙ complete_lines_of_unlines end ls piece o.1 free) (λ c. absurd (going c.1)) k.so_far in
+      ⊎_elim (λ o. ap (λ (b : List ℕ). complete_lines end (b ++ piece)) o.0 ∙ complete_lines_of_unlines end ls piece o.1
+      free) (λ c. absurd (going c.1)) k.so_far in
       omega (arith, few, ap length (ap (complete_lines end) is ∙ lines_are));
 }
 
 -- If nothing was given, only the buffer is left.
-pub earlier_buffered : (end most : ℕ) (reader : Reader) → length reader.buffered ≤ 8192 → 0 < most → EarlierPart end most (received_with [] reader)
-earlier_buffered end most reader buffered some = record { front = []; last = reader.buffered; split = refl; short = omega (arith, buffered); few = omega (arith, some) }
+pub earlier_buffered : (end most : ℕ) (reader : Reader) → length reader.buffered ≤ 8192 → 0 < most
+    → EarlierPart end most (received_with [] reader)
+earlier_buffered end most reader buffered some = record {
+  front = [];
+  last = reader.buffered;
+  split = refl;
+  short = omega (arith, buffered);
+  few = omega (arith, some);
+}
 
 are_split : (end : ℕ) (xs : Column) (l : List ℕ) → AreLines end (xs ++ l ∷ []) → AreLines end xs × IsLine end l
 are_split end [] l are = (tt, are.0)
@@ -55,12 +73,21 @@ none_received {end} {reader} {given} k = ⊎_elim
 module _ (end : ℕ) (reader : Reader) (given : List ℕ) (buffered : length reader.buffered ≤ 8192) where
   module _ (most : ℕ) (xs : Column) (l : List ℕ) (few : length xs < most) where
     -- The given bytes are fewer than `most` lines and one more, perhaps with its terminator.
-    earlier_line : (suffix : List ℕ) → length suffix ≤ 1 → given ≡ unlines end xs ++ (l ++ suffix) → AreLines end xs × IsLine end l → EarlierPart end most (received_with given reader)
+    earlier_line : (suffix : List ℕ) → length suffix ≤ 1 → given ≡ unlines end xs ++ (l ++ suffix)
+        → AreLines end xs × IsLine end l → EarlierPart end most (received_with given reader)
     earlier_line suffix one is are = let n = length l - 8191 in record {
       front = unlines end xs ++ take n l;
       last = drop n l ++ (suffix ++ reader.buffered);
-      split = ap (λ (b : List ℕ). b ++ reader.buffered) (is ∙ ap (λ (b : List ℕ). unlines end xs ++ (b ++ suffix)) (sym (take-append-drop n l))) ∙ simp append_assoc;
-      short = omega (arith, one, buffered, length-append (drop n l) (suffix ++ reader.buffered), length-append suffix reader.buffered, length-drop n l);
+      split = ap (λ (b : List ℕ). b ++ reader.buffered) (is ∙ ap (λ (b : List ℕ). unlines end xs ++ (b ++ suffix))
+          (sym (take-append-drop n l))) ∙ simp append_assoc;
+      short = omega (
+        arith,
+        one,
+        buffered,
+        length-append (drop n l) (suffix ++ reader.buffered),
+        length-append suffix reader.buffered,
+        length-drop n l,
+      );
       few = omega (arith, few, ap length (complete_lines_of_unlines end xs (take n l) are.0 (line_take end n l are.1)));
     }
 
@@ -70,31 +97,45 @@ module _ (end : ℕ) (reader : Reader) (given : List ℕ) (buffered : length rea
         (λ o. earlier_line (end ∷ []) (omega arith) (o.0 ∙ unlines_push end xs l) (are_split end xs l o.1))
         (λ c. let all = (the_lines end given).0 in
         let are = are_split end xs l (subst (AreLines end) c.0 all.0) in
-        let put : unlines end (lines end given) ≡ unlines end xs ++ (l ++ end ∷ []) = ap (unlines end) c.0 ∙ unlines_push end xs l in
+        let put : unlines end (lines end given) ≡ unlines end xs ++ (l ++ end ∷ []) = ap (unlines end) c.0
+        ∙ unlines_push end xs l in
         ⊎_elim
         (λ same. earlier_line (end ∷ []) (omega arith) (sym same ∙ put) are)
-        (λ more. earlier_line [] (omega arith) (rw (append-nil l) (append_cancel_right given (unlines end xs ++ l) (end ∷ []) (sym more.2 ∙ put ∙ sym (append_assoc (unlines end xs) l (end ∷ []))))) are)
+        (λ more. earlier_line [] (omega arith) (rw (append-nil l) (append_cancel_right given (unlines end xs ++ l)
+        (end ∷ []) (sym more.2 ∙ put ∙ sym (append_assoc (unlines end xs) l (end ∷ []))))) are)
         all.1)
         k.so_far
 
   -- Without the last line, or if there are no lines without the buffer.
-  pub earlier_lines : (most : ℕ) (ls : Column) → AreReceivedLines end reader given ls → 0 < most → length ls ≤ most → EarlierPart end most (received_with given reader)
+  pub earlier_lines : (most : ℕ) (ls : Column) → AreReceivedLines end reader given ls → 0 < most → length ls ≤ most
+      → EarlierPart end most (received_with given reader)
   earlier_lines most [] k some few = rw (none_received k) (earlier_buffered end most reader buffered some)
   earlier_lines most (l ∷ ls) k some few =
       let n = length ls in
-      earlier_last most (take n (l ∷ ls)) (get_or (l ∷ ls) n []) (omega (arith, few, length-take-le n (l ∷ ls) (omega arith)))
-      (subst (AreReceivedLines end reader given) (sym (take_all (n + 1) (l ∷ ls) (omega arith)) ∙ take_more (l ∷ ls) n [] (omega arith)) k)
+      earlier_last most (take n (l ∷ ls)) (get_or (l ∷ ls) n []) (omega (
+        arith,
+        few,
+        length-take-le n (l ∷ ls)
+            (omega arith),
+      ))
+      (subst (AreReceivedLines end reader given) (sym (take_all (n + 1) (l ∷ ls) (omega arith))
+      ∙ take_more (l ∷ ls) n [] (omega arith)) k)
 
 -- ---- complete lines of a prefix
 
 -- The complete lines of a prefix come first.
-whole_lines_prefix : (end : ℕ) (eof : Bool) (front last : List ℕ) → (more : Column) × (known_lines end (record { bytes = front ++ last; eof = eof }) ≡ complete_lines end front ++ more)
+whole_lines_prefix : (end : ℕ) (eof : Bool) (front last : List ℕ)
+    → (more : Column) × (known_lines end (record { bytes = front ++ last; eof = eof }) ≡ complete_lines end front
+    ++ more)
 whole_lines_prefix end eof [] last = (known_lines end (record { bytes = last; eof = eof }), refl)
-whole_lines_prefix end eof (b ∷ front) last = by_test eof (b == end) (complete_lines end front) (whole_lines_prefix end eof front last)
+whole_lines_prefix end eof (b ∷ front) last = by_test eof (b == end) (complete_lines end front)
+    (whole_lines_prefix end eof front last)
   where
-    by_test : (e t : Bool) (xs : Column) → (more : Column) × (known_lines end (record { bytes = front ++ last; eof = e }) ≡ xs ++ more)
+    by_test : (e t : Bool) (xs : Column)
+        → (more : Column) × (known_lines end (record { bytes = front ++ last; eof = e }) ≡ xs ++ more)
         → (more : Column) × (cond e (cond t ([] ∷ lines end (front ++ last)) (onto_first b (lines end (front ++ last))))
-        (cond t ([] ∷ complete_lines end (front ++ last)) (onto_first_if_any b (complete_lines end (front ++ last)))) ≡ cond t ([] ∷ xs) (onto_first_if_any b xs) ++ more)
+        (cond t ([] ∷ complete_lines end (front ++ last)) (onto_first_if_any b (complete_lines end (front ++ last))))
+        ≡ cond t ([] ∷ xs) (onto_first_if_any b xs) ++ more)
     by_test true true xs later = (later.0, ap (λ (l : Column). [] ∷ l) later.1)
     by_test false true xs later = (later.0, ap (λ (l : Column). [] ∷ l) later.1)
     by_test true false [] later = (onto_first b (lines end (front ++ last)), refl)
@@ -103,7 +144,8 @@ whole_lines_prefix end eof (b ∷ front) last = by_test eof (b == end) (complete
     by_test false false (x ∷ xs) later = (later.0, ap (onto_first_if_any b) later.1)
 
 -- Without the last bytes that were given, if these came from the buffer.
-pub earlier_before : {end most : ℕ} {now new : Reader} {given more : List ℕ} {ls : Column} → AreReceivedLines end now given ls → ReaderAdvance now new more → new.pulled ≡ now.pulled
+pub earlier_before : {end most : ℕ} {now new : Reader} {given more : List ℕ} {ls : Column}
+    → AreReceivedLines end now given ls → ReaderAdvance now new more → new.pulled ≡ now.pulled
     → length now.buffered ≤ 8192 → length ls < most → EarlierPart end most (received_with (given ++ more) new)
 earlier_before {end} {now = now} {new = new} {given = given} {more = more} {ls = ls} came reads still buffered few =
     let f = whole_lines_prefix end true given [] in record {
@@ -111,60 +153,78 @@ earlier_before {end} {now = now} {new = new} {given = given} {more = more} {ls =
       last = more ++ new.buffered;
       split = append_assoc given more new.buffered;
       short = omega (arith, reads.count, still, buffered, length-append more new.buffered);
-      few = omega (arith, few, ap length (sym (lines_are_given end now given ls came) ∙ ap (lines end) (sym (append-nil given)) ∙ f.1), length-append (complete_lines end given) f.0);
+      few = omega (
+        arith,
+        few,
+        ap length (sym (lines_are_given end now given ls came)
+            ∙ ap (lines end) (sym (append-nil given)) ∙ f.1),
+        length-append (complete_lines end given) f.0,
+      );
     }
 
 -- ---- the rows that are determined come first
 
-none_known : (f : ℕ → Bool) → ((r : ℕ) → f r ≡ false → f (r + 1) ≡ false) → (a h : ℕ) → f a ≡ false → filter f (range_with_len a h) ≡ []
+none_known : (f : ℕ → Bool) → ((r : ℕ) → f r ≡ false → f (r + 1) ≡ false) → (a h : ℕ) → f a ≡ false
+    → filter f (range_with_len a h) ≡ []
 none_known f down a zero none = refl
 none_known f down a (suc h) none = rw none (none_known f down (a + 1) h (down a none))
 
 filter_first : (f : ℕ → Bool) → ((r : ℕ) → f r ≡ false → f (r + 1) ≡ false) → (a h : ℕ)
-    → (m : ℕ) × (m ≤ h) × ((n : ℕ) → a ≤ n → f n ≡ false → a + m ≤ n) × (filter f (range_with_len a h) ≡ range_with_len a m)
+    → (m : ℕ) × (m ≤ h) × ((n : ℕ) → a ≤ n → f n ≡ false → a + m ≤ n) × (filter f (range_with_len a h)
+    ≡ range_with_len a m)
 filter_first f down a zero = (0, omega arith, (λ n high none. omega (arith, high)), refl)
 filter_first f down a (suc h) = ⊎_elim
     (λ is. let later = filter_first f down (a + 1) h in (
       suc later.0,
       omega (arith, later.1),
-      (λ n high none. ⊎_elim (λ same. cc (none, ap f same, is)) (λ differ. omega (arith, later.2 n (omega (arith, high, differ)) none)) (cases_eq n a)),
+      (λ n high none. ⊎_elim (λ same. cc (none, ap f same, is))
+          (λ differ. omega (arith, later.2 n (omega (arith, high, differ)) none)) (cases_eq n a)),
       rw is (ap (λ (l : List ℕ). a ∷ l) later.3),
     ))
     (λ is. (0, omega arith, (λ n high none. omega (arith, high)), rw is (none_known f down (a + 1) h (down a is))))
     (cases_Bool (f a))
 
-known_down : (cols : List Column) (eof : List Bool) (r : ℕ) → is_row_known cols eof r ≡ false → is_row_known cols eof (r + 1) ≡ false
+known_down : (cols : List Column) (eof : List Bool) (r : ℕ) → is_row_known cols eof r ≡ false
+    → is_row_known cols eof (r + 1) ≡ false
 known_down [] eof r none = cc
 known_down (col ∷ cols) [] r none = cc
 known_down (col ∷ cols) (e ∷ eof) r none = let later = known_down cols eof r in grind (arith, nat_tests)
 
 known_first : (cols : List Column) (eof : List Bool)
-    → (m : ℕ) × (m ≤ row_count cols) × ((n : ℕ) → is_row_known cols eof n ≡ false → m ≤ n) × (known_rows cols eof ≡ map (row_at cols) (range_with_len 0 m))
+    → (m : ℕ) × (m ≤ row_count cols) × ((n : ℕ) → is_row_known cols eof n ≡ false → m ≤ n) × (known_rows cols eof
+    ≡ map (row_at cols) (range_with_len 0 m))
 known_first cols eof =
     let f = filter_first (is_row_known cols eof) (known_down cols eof) 0 (row_count cols) in
     (f.0, f.1, (λ n none. omega (arith, f.2 n (omega arith) none)), ap (map (row_at cols)) f.3)
 
 -- ---- two grids with the same rows
 
-same_rows : (f g : ℕ → List (List ℕ)) (a m : ℕ) → ((r : ℕ) → r < a + m → f r ≡ g r) → map f (range_with_len a m) ≡ map g (range_with_len a m)
+same_rows : (f g : ℕ → List (List ℕ)) (a m : ℕ) → ((r : ℕ) → r < a + m → f r ≡ g r) → map f (range_with_len a m)
+    ≡ map g (range_with_len a m)
 same_rows f g a zero same = refl
-same_rows f g a (suc m) same = λ i. same a (omega arith) i ∷ same_rows f g (a + 1) m (λ r low. same r (omega (arith, low))) i
+same_rows f g a (suc m) same = λ i. same a (omega arith) i ∷ same_rows f g (a + 1) m
+    (λ r low. same r (omega (arith, low))) i
 
 -- A column keeps its lines if more follow.
-every_kth_more : (k j r : ℕ) (xs more : Column) → r < length (every_kth k j xs) → slice_index_or (every_kth k j xs) r [] ≡ slice_index_or (every_kth k j (xs ++ more)) r []
-every_kth_more k j r xs more low = rw (select_append (λ i. i % k == j) 0 xs more) (sym (get_or_append_left (every_kth k j xs) (select_from (λ i. i % k == j) (0 + length xs) more) [] r low))
+every_kth_more : (k j r : ℕ) (xs more : Column) → r < length (every_kth k j xs) → slice_index_or (every_kth k j xs) r []
+    ≡ slice_index_or (every_kth k j (xs ++ more)) r []
+every_kth_more k j r xs more low = rw (select_append (λ i. i % k == j) 0 xs more)
+    (sym (get_or_append_left (every_kth k j xs) (select_from (λ i. i % k == j) (0 + length xs) more) [] r low))
 
 -- ---- the text of rows
 
-first_rows_prefix : (job : Paste) (m : ℕ) (rs : List (List (List ℕ))) {first : List (List (List ℕ))} → first ≡ take m rs → IsPrefix (rows_text job first) (rows_text job rs)
+first_rows_prefix : (job : Paste) (m : ℕ) (rs : List (List (List ℕ))) {first : List (List (List ℕ))} → first ≡ take m rs
+    → IsPrefix (rows_text job first) (rows_text job rs)
 first_rows_prefix job m rs {first} is = record {
   rest = rows_text job (drop m rs);
-  is = ap (rows_text job) (sym (take-append-drop m rs)) ∙ rows_text-append job.terminator job.delimiters (take m rs) (drop m rs) ∙ ap (λ (x : List (List (List ℕ))). rows_text job x ++ rows_text job (drop m rs)) (sym is);
+  is = ap (rows_text job) (sym (take-append-drop m rs)) ∙ rows_text-append job.terminator job.delimiters (take m rs)
+      (drop m rs) ∙ ap (λ (x : List (List (List ℕ))). rows_text job x ++ rows_text job (drop m rs)) (sym is);
 }
 
 -- Without the last bytes of this input alone, no more output is determined than was pushed.
 abbrev pub LagsAt : Paste → List ℕ → (ℕ → Received) → List ℕ → ℕ → Type 0
-LagsAt job cells came pushed input = ProcessLag {I = Unit {0}} (λ g. paste_decided job cells (update_at input (g tt) came)) (λ u. came input) pushed
+LagsAt job cells came pushed input = ProcessLag {I = Unit {0}} (λ g. paste_decided job cells
+    (update_at input (g tt) came)) (λ u. came input) pushed
 
 module _ (job : Paste) (cells : List ℕ) (came : ℕ → Received) where
   abbrev known_of : (ℕ → Received) → ℕ → Column
@@ -182,7 +242,8 @@ module _ (job : Paste) (cells : List ℕ) (came : ℕ → Received) where
   -- The rows that were taken, if the input `here` without its last bytes has fewer lines than one more row takes. That
   -- input is then not known to end, so each row that is determined has all its lines of that input, and is a row of the
   -- whole grid.
-  module _ (taken_rows more : List (List (List ℕ))) (all : rows (grid came) ≡ taken_rows ++ more) (here : ℕ) (named : 0 < uses_of cells here)
+  module _ (taken_rows more : List (List (List ℕ))) (all : rows (grid came) ≡ taken_rows ++ more) (here : ℕ)
+      (named : 0 < uses_of cells here)
       (cut : EarlierPart job.terminator ((length taken_rows + 1) * uses_of cells here) (came here)) where
     abbrev front : Received
     front = record { bytes = cut.front; eof = false }
@@ -194,21 +255,28 @@ module _ (job : Paste) (cells : List ℕ) (came : ℕ → Received) where
     ends = map (λ p. (earlier p).eof) cells
 
     -- A row is not determined if a column of the input has no line for it.
-    unknown : (r c : ℕ) → c < length cells → get_or cells c 0 ≡ here → length (column_of cells (known_of earlier) c (get_or cells c 0)) ≤ r → is_row_known (grid earlier) ends r ≡ false
+    unknown : (r c : ℕ) → c < length cells → get_or cells c 0 ≡ here
+        → length (column_of cells (known_of earlier) c (get_or cells c 0)) ≤ r → is_row_known (grid earlier) ends r
+        ≡ false
     unknown r c low is few =
-        is_row_unknown (grid earlier) ends r c (omega (arith, low, length-columns cells (known_of earlier))) (omega (arith, low, length-map cells (λ q. (earlier q).eof)))
-        (get_or-map (λ p. (earlier p).eof) cells c 0 true low ∙ ap (λ (g : Received). g.eof) (update_here here front came (get_or cells c 0) is))
+        is_row_unknown (grid earlier) ends r c (omega (arith, low, length-columns cells (known_of earlier)))
+        (omega (arith, low, length-map cells (λ q. (earlier q).eof)))
+        (get_or-map (λ p. (earlier p).eof) cells c 0 true low ∙ ap (λ (g : Received). g.eof)
+        (update_here here front came (get_or cells c 0) is))
         (omega (arith, few, ap length (column_at cells (known_of earlier) c low)))
 
     -- The last column of the input has no line in the next row.
     next_unknown : is_row_known (grid earlier) ends (length taken_rows) ≡ false
     next_unknown =
         let l = last_use cells here named in
-        let more : (length taken_rows + 1) * uses_of cells here ≡ length taken_rows * uses_of cells here + uses_of cells here = omega arith in
-        unknown (length taken_rows) l.0 l.1 l.2 (every_kth_short (uses_before_lt cells l.0 l.1) (length taken_rows) (known_of earlier (get_or cells l.0 0)) (omega (
+        let more : (length taken_rows + 1) * uses_of cells here ≡ length taken_rows * uses_of cells here
+        + uses_of cells here = omega arith in
+        unknown (length taken_rows) l.0 l.1 l.2 (every_kth_short (uses_before_lt cells l.0 l.1) (length taken_rows)
+        (known_of earlier (get_or cells l.0 0)) (omega (
           arith,
           cut.few,
-          ap (λ (g : Received). length (known_lines job.terminator g)) (update_here here front came (get_or cells l.0 0) l.2),
+          ap (λ (g : Received). length (known_lines job.terminator g)) (update_here here front came (get_or cells l.0 0)
+              l.2),
           l.3,
           ap (uses_of (take l.0 cells)) l.2,
           ap (λ (q : ℕ). length taken_rows * uses_of cells q) l.2,
@@ -216,18 +284,23 @@ module _ (job : Paste) (cells : List ℕ) (came : ℕ → Received) where
         )))
 
     cell_same : (r : ℕ) → is_row_known (grid earlier) ends r ≡ true → (c : ℕ) → c < length cells
-        → slice_index_or (column_of cells (known_of earlier) c (get_or cells c 0)) r [] ≡ slice_index_or (column_of cells (known_of came) c (get_or cells c 0)) r []
+        → slice_index_or (column_of cells (known_of earlier) c (get_or cells c 0)) r [] ≡ slice_index_or
+        (column_of cells (known_of came) c (get_or cells c 0)) r []
     cell_same r known c low = ⊎_elim
         (λ is.
         let f = whole_lines_prefix job.terminator (came here).eof cut.front cut.last in
         let is_front = update_here here front came p is in
         let there : r < length (every_kth k j (known_of earlier p)) =
-        ⊎_elim (λ there. there) (λ past. cc (unknown r c low is past, known)) (cases_lt r (length (every_kth k j (known_of earlier p)))) in
+        ⊎_elim (λ there. there) (λ past. cc (unknown r c low is past, known))
+        (cases_lt r (length (every_kth k j (known_of earlier p)))) in
         ap (λ (g : Received). slice_index_or (every_kth k j (known_lines job.terminator g)) r []) is_front
-        ∙ every_kth_more k j r (complete_lines job.terminator cut.front) f.0 (omega (arith, there, ap (λ (g : Received). length (every_kth k j (known_lines job.terminator g))) is_front))
-        ∙ ap (λ (l : Column). slice_index_or (every_kth k j l) r []) (sym ((λ i. known_lines job.terminator (record { bytes = cut.split i; eof = (came here).eof })) ∙ f.1))
+        ∙ every_kth_more k j r (complete_lines job.terminator cut.front) f.0
+        (omega (arith, there, ap (λ (g : Received). length (every_kth k j (known_lines job.terminator g))) is_front))
+        ∙ ap (λ (l : Column). slice_index_or (every_kth k j l) r [])
+        (sym ((λ i. known_lines job.terminator (record { bytes = cut.split i; eof = (came here).eof })) ∙ f.1))
         ∙ ap (λ (q : ℕ). slice_index_or (every_kth k j (known_of came q)) r []) (sym is))
-        (λ other. ap (λ (g : Received). slice_index_or (every_kth k j (known_lines job.terminator g)) r []) (update_there here front came p other))
+        (λ other. ap (λ (g : Received). slice_index_or (every_kth k j (known_lines job.terminator g)) r [])
+        (update_there here front came p other))
         (cases_eq p here)
       where
         p : ℕ
@@ -242,31 +315,49 @@ module _ (job : Paste) (cells : List ℕ) (came : ℕ → Received) where
     row_same : (r : ℕ) → is_row_known (grid earlier) ends r ≡ true → row_at (grid earlier) r ≡ row_at (grid came) r
     row_same r known =
         row_each (known_of earlier)
-        ∙ for_each_cell_same (λ c p. slice_index_or (column_of cells (known_of earlier) c p) r []) (λ c p. slice_index_or (column_of cells (known_of came) c p) r []) cells (cell_same r known)
+        ∙ for_each_cell_same (λ c p. slice_index_or (column_of cells (known_of earlier) c p) r [])
+        (λ c p. slice_index_or (column_of cells (known_of came) c p) r []) cells (cell_same r known)
         ∙ sym (row_each (known_of came))
       where
-        row_each : (ins : ℕ → Column) → row_at (columns cells ins) r ≡ for_each_cell (λ c p. slice_index_or (column_of cells ins c p) r []) cells
-        row_each ins = map-map (λ (col : Column). slice_index_or col r []) (λ (cell : ℕ × ℕ). column_of cells ins cell.0 cell.1) (enumerate_from 0 cells)
+        row_each : (ins : ℕ → Column) → row_at (columns cells ins) r ≡ for_each_cell (λ c p. slice_index_or
+            (column_of cells ins c p) r []) cells
+        row_each ins = map-map (λ (col : Column). slice_index_or col r []) (λ (cell : ℕ × ℕ). column_of cells ins cell.0
+            cell.1) (enumerate_from 0 cells)
 
     begins_then : IsPrefix (paste_decided job cells earlier) (rows_text job taken_rows)
     begins_then =
         let k = known_first (grid earlier) ends in
         let few : k.0 ≤ length taken_rows = k.2 (length taken_rows) next_unknown in
-        let high : k.0 ≤ row_count (grid came) = omega (arith, few, ap length all, length-append taken_rows more, length-map-range_with_len (row_at (grid came)) 0 (row_count (grid came))) in
+        let high : k.0 ≤ row_count (grid came) = omega (
+          arith,
+          few,
+          ap length all,
+          length-append taken_rows more,
+          length-map-range_with_len (row_at (grid came)) 0 (row_count (grid came)),
+        ) in
         first_rows_prefix job k.0 taken_rows (
         k.3
         ∙ same_rows (row_at (grid earlier)) (row_at (grid came)) 0 k.0
-        (λ r low. row_same r (⊎_elim (λ is. is) (λ not. absurd (omega (arith, low, k.2 r not))) (cases_Bool (is_row_known (grid earlier) ends r))))
+        (λ r low. row_same r (⊎_elim (λ is. is) (λ not. absurd (omega (arith, low, k.2 r not)))
+        (cases_Bool (is_row_known (grid earlier) ends r))))
         ∙ sym (take-map-range_with_len (row_at (grid came)) 0 (row_count (grid came)) k.0 high)
         ∙ ap (take k.0) all ∙ take-append-le k.0 taken_rows more few)
 
     pub lags_here : LagsAt job cells came (rows_text job taken_rows) here
     lags_here = record {
-      before = λ u. record { earlier = front; last = cut.last; split = cut.split; short = cut.short; eof = λ never. cc };
+      before = λ u. record {
+        earlier = front;
+        last = cut.last;
+        split = cut.split;
+        short = cut.short;
+        eof = λ never. cc;
+      };
       begins = begins_then;
     }
 
     -- The input has not given more than that.
-    pub decided_is_prefix : cut.front ≡ (came here).bytes → (came here).eof ≡ false → IsPrefix (paste_decided job cells came) (rows_text job taken_rows)
-    decided_is_prefix same going = subst (λ (g : ℕ → Received). IsPrefix (paste_decided job cells g) (rows_text job taken_rows))
+    pub decided_is_prefix : cut.front ≡ (came here).bytes → (came here).eof ≡ false
+        → IsPrefix (paste_decided job cells came) (rows_text job taken_rows)
+    decided_is_prefix same going = subst (λ (g : ℕ → Received). IsPrefix (paste_decided job cells g)
+        (rows_text job taken_rows))
         (update_same here front (λ i. record { bytes = same i; eof = sym going i })) begins_then

@@ -1,16 +1,22 @@
 -- `paste` of inputs that are split after the same row, by induction over the number of rows: the first row of the whole
 -- is the first row of the first parts.
-use Rattle.ptflow.proofs.Common.{◌≡◌, ◌⊎◌, inl, inr, ⊎_elim, ℕ, zero, suc, ◌+◌, ◌*◌, ◌<◌, ◌≤◌, List, [], ◌∷◌, ◌++◌, length, take, drop, get_or, refl, sym, ◌∙◌, ap, arith, append_assoc}
-use Rattle.ptflow.proofs.Common.{take-append-drop, length-drop, cases_lt, append-nil, nil_from_length, length-take-le, take_all, drop_all, lines, the_lines_of_parts, uses_of, every_kth, columns, rows}
-use Rattle.ptflow.proofs.Common.{rows_text, IsRowSplit, PasteOfParts}
-use Rattle.ptflow.proofs.PasteLemmas.Grid.{Column, IsOneRow, for_each_cell, for_each_cell_same, column_of, top_of, column_at, length-columns, uses_before_lt, grid_step, rows_none, every_kth_short, rows_text-append}
+use Rattle.ptflow.proofs.Common.{◌≡◌, ◌⊎◌, inl, inr, ⊎_elim, ℕ, zero, suc, ◌+◌, ◌*◌, ◌<◌, ◌≤◌, List, [], ◌∷◌, ◌++◌}
+use Rattle.ptflow.proofs.Common.{length, take, drop, get_or, refl, sym, ◌∙◌, ap, arith, append_assoc, take-append-drop}
+use Rattle.ptflow.proofs.Common.{length-drop, cases_lt, append-nil, nil_from_length, length-take-le, take_all, drop_all}
+use Rattle.ptflow.proofs.Common.{lines, the_lines_of_parts, uses_of, every_kth, columns, rows, rows_text, IsRowSplit}
+use Rattle.ptflow.proofs.Common.{PasteOfParts}
+use Rattle.ptflow.proofs.PasteLemmas.Grid.{Column, IsOneRow, for_each_cell, for_each_cell_same, column_of, top_of}
+use Rattle.ptflow.proofs.PasteLemmas.Grid.{column_at, length-columns, uses_before_lt, grid_step, rows_none}
+use Rattle.ptflow.proofs.PasteLemmas.Grid.{every_kth_short, rows_text-append}
 
 module _ (cells : List ℕ) where
   -- Inputs that no column uses do not matter.
-  columns_same : (f g : ℕ → Column) → ((c : ℕ) → c < length cells → f (get_or cells c 0) ≡ g (get_or cells c 0)) → columns cells f ≡ columns cells g
+  columns_same : (f g : ℕ → Column) → ((c : ℕ) → c < length cells → f (get_or cells c 0) ≡ g (get_or cells c 0))
+      → columns cells f ≡ columns cells g
   columns_same f g same =
       for_each_cell_same (column_of cells f) (column_of cells g) cells
-      (λ c low. ap (every_kth (uses_of cells (get_or cells c 0)) (uses_of (take c cells) (get_or cells c 0))) (same c low))
+      (λ c low. ap (every_kth (uses_of cells (get_or cells c 0)) (uses_of (take c cells) (get_or cells c 0)))
+      (same c low))
 
   -- Some column has a line in the first row, or none has.
   some_cell : (f : ℕ → Column) (n : ℕ) → n ≤ length cells
@@ -19,16 +25,19 @@ module _ (cells : List ℕ) where
   some_cell f zero high = inr (λ c low. absurd (omega arith))
   some_cell f (suc n) high = ⊎_elim
       (λ here. inl (n, omega arith, here))
-      (λ past. ⊎_elim inl (λ before. inr (λ c low. ⊎_elim (λ less. before c less) (λ same. let is : c ≡ n = omega arith in rw is past) (cases_lt c n))) (some_cell f n (omega arith)))
+      (λ past. ⊎_elim inl (λ before. inr (λ c low. ⊎_elim (λ less. before c less) (λ same. let is : c
+      ≡ n = omega arith in rw is past) (cases_lt c n))) (some_cell f n (omega arith)))
       (cases_lt (uses_of (take n cells) (get_or cells n 0)) (length (f (get_or cells n 0))))
 
   -- If no column has a line in the first row, there are no rows.
-  no_rows : (f : ℕ → Column) → ((c : ℕ) → c < length cells → length (f (get_or cells c 0)) ≤ uses_of (take c cells) (get_or cells c 0)) → rows (columns cells f) ≡ []
+  no_rows : (f : ℕ → Column) → ((c : ℕ) → c < length cells → length (f (get_or cells c 0)) ≤ uses_of (take c cells)
+      (get_or cells c 0)) → rows (columns cells f) ≡ []
   no_rows f none = rows_none (columns cells f) (λ c low.
       let within : c < length cells = omega (arith, low, length-columns cells f) in
       let p = get_or cells c 0 in
       let j = uses_of (take c cells) p in
-      column_at cells f c within ∙ nil_from_length (every_kth (uses_of cells p) j (f p)) (omega (arith, every_kth_short (uses_before_lt cells c within) 0 (f p) (omega (arith, none c within)))))
+      column_at cells f c within ∙ nil_from_length (every_kth (uses_of cells p) j (f p))
+      (omega (arith, every_kth_short (uses_before_lt cells c within) 0 (f p) (omega (arith, none c within)))))
 
   -- ---- the first row
 
@@ -54,13 +63,15 @@ module _ (cells : List ℕ) where
 
     -- The lines of the first row precede all others, for each continuation.
     first_row : (c : ℕ) → c < length cells → uses_of (take c cells) (get_or cells c 0) < length (ins (get_or cells c 0))
-        → rows (columns cells (λ p. ins p ++ more p)) ≡ for_each_cell (top_of cells (first ins)) cells ∷ rows (columns cells (λ p. rest ins p ++ more p))
+        → rows (columns cells (λ p. ins p ++ more p)) ≡ for_each_cell (top_of cells (first ins)) cells ∷ rows
+        (columns cells (λ p. rest ins p ++ more p))
     first_row c low some =
         let p = get_or cells c 0 in
         let k = uses_of cells p in
         ap rows (columns_same (λ q. ins q ++ more q) (λ q. first ins q ++ (rest ins q ++ more q)) (λ d within.
         let q = get_or cells d 0 in
-        ap (λ (l : Column). l ++ more q) (sym (take-append-drop (uses_of cells q) (ins q))) ∙ append_assoc (first ins q) (rest ins q) (more q)))
+        ap (λ (l : Column). l ++ more q) (sym (take-append-drop (uses_of cells q) (ins q))) ∙ append_assoc (first ins q)
+        (rest ins q) (more q)))
         ∙ grid_step cells (first ins) (λ q. rest ins q ++ more q) first_taken c low (⊎_elim
         (λ few. omega (arith, ap length (take_all k (ins p) (omega (arith, few))), some))
         (λ many. omega (arith, length-take-le k (ins p) (omega (arith, many)), uses_before_lt cells c low))
@@ -70,11 +81,14 @@ module _ (cells : List ℕ) where
 
   -- n rows take all lines of an input; more lines follow only if it has all the lines that n rows take.
   abbrev TakesAll : ℕ → (ℕ → Column) → (ℕ → Column) → Type 0
-  TakesAll n ins more = (p : ℕ) → 0 < uses_of cells p → (length (ins p) ≡ n * uses_of cells p) ⊎ ((more p ≡ []) × (length (ins p) ≤ n * uses_of cells p))
+  TakesAll n ins more = (p : ℕ) → 0 < uses_of cells p → (length (ins p) ≡ n * uses_of cells p) ⊎ ((more p ≡ [])
+      × (length (ins p) ≤ n * uses_of cells p))
 
-  more_is_empty : (n : ℕ) (ins more : ℕ → Column) → TakesAll (suc n) ins more → (p : ℕ) → length (ins p) < uses_of cells p → more p ≡ []
+  more_is_empty : (n : ℕ) (ins more : ℕ → Column) → TakesAll (suc n) ins more → (p : ℕ)
+      → length (ins p) < uses_of cells p → more p ≡ []
   more_is_empty n ins more reach p few = ⊎_elim
-      (λ all. let size : suc n * uses_of cells p ≡ uses_of cells p + n * uses_of cells p = omega arith in absurd (omega (arith, all, size, few)))
+      (λ all. let size : suc n * uses_of cells p ≡ uses_of cells p + n * uses_of cells p = omega arith in
+      absurd (omega (arith, all, size, few)))
       (λ none. none.0)
       (reach p (omega (arith, few)))
 
@@ -82,43 +96,54 @@ module _ (cells : List ℕ) where
   later n ins more reach p some =
       let size : suc n * uses_of cells p ≡ uses_of cells p + n * uses_of cells p = omega arith in
       let long = length-drop (uses_of cells p) (ins p) in
-      ⊎_elim (λ all. inl (omega (arith, all, size, long))) (λ few. inr (few.0, omega (arith, few.1, size, long))) (reach p some)
+      ⊎_elim (λ all. inl (omega (arith, all, size, long))) (λ few. inr (few.0, omega (arith, few.1, size, long)))
+      (reach p some)
 
   abbrev Append : (ℕ → Column) → (ℕ → Column) → Type 0
   Append ins more = rows (columns cells (λ p. ins p ++ more p)) ≡ rows (columns cells ins) ++ rows (columns cells more)
 
   append_none : (ins more : ℕ → Column) → ((c : ℕ) → c < length cells → ins (get_or cells c 0) ≡ []) → Append ins more
   append_none ins more empty =
-      ap rows (columns_same (λ p. ins p ++ more p) more (λ c low. ap (λ (l : Column). l ++ more (get_or cells c 0)) (empty c low)))
-      ∙ ap (λ (rs : List Column). rs ++ rows (columns cells more)) (sym (no_rows ins (λ c low. omega (arith, ap length (empty c low)))))
+      ap rows (columns_same (λ p. ins p ++ more p) more (λ c low. ap (λ (l : Column). l ++ more (get_or cells c 0))
+      (empty c low)))
+      ∙ ap (λ (rs : List Column). rs ++ rows (columns cells more))
+      (sym (no_rows ins (λ c low. omega (arith, ap length (empty c low)))))
 
   module _ (n : ℕ) (ins more : ℕ → Column) (reach : TakesAll (suc n) ins more) where
-    append_row : (c : ℕ) → c < length cells → uses_of (take c cells) (get_or cells c 0) < length (ins (get_or cells c 0)) → Append (rest ins) more → Append ins more
+    append_row : (c : ℕ) → c < length cells → uses_of (take c cells) (get_or cells c 0) < length
+        (ins (get_or cells c 0)) → Append (rest ins) more → Append ins more
     append_row c low has behind =
         let top = for_each_cell (top_of cells (first ins)) cells in
         let alone : rows (columns cells ins) ≡ top ∷ rows (columns cells (rest ins)) =
         ap rows (columns_same ins (λ p. ins p ++ []) (λ d within. sym (append-nil (ins (get_or cells d 0)))))
         ∙ first_row ins (λ p. []) (λ p few. refl) c low has
-        ∙ ap (λ (rs : List Column). top ∷ rs) (ap rows (columns_same (λ p. rest ins p ++ []) (rest ins) (λ d within. append-nil (rest ins (get_or cells d 0))))) in
+        ∙ ap (λ (rs : List Column). top ∷ rs) (ap rows (columns_same (λ p. rest ins p ++ []) (rest ins)
+        (λ d within. append-nil (rest ins (get_or cells d 0))))) in
         first_row ins more (more_is_empty n ins more reach) c low has
         ∙ ap (λ (rs : List Column). top ∷ rs) behind
         ∙ ap (λ (rs : List Column). rs ++ rows (columns cells more)) (sym alone)
 
     -- No input continues.
-    append_last : ((c : ℕ) → c < length cells → length (ins (get_or cells c 0)) ≤ uses_of (take c cells) (get_or cells c 0)) → Append ins more
+    append_last : ((c : ℕ) → c < length cells → length (ins (get_or cells c 0)) ≤ uses_of (take c cells)
+        (get_or cells c 0)) → Append ins more
     append_last short =
         let over : (c : ℕ) → c < length cells → more (get_or cells c 0) ≡ [] =
-        λ c low. more_is_empty n ins more reach (get_or cells c 0) (omega (arith, short c low, uses_before_lt cells c low)) in
-        ap rows (columns_same (λ p. ins p ++ more p) ins (λ c low. ap (λ (l : Column). ins (get_or cells c 0) ++ l) (over c low) ∙ append-nil (ins (get_or cells c 0))))
+        λ c low. more_is_empty n ins more reach (get_or cells c 0)
+        (omega (arith, short c low, uses_before_lt cells c low)) in
+        ap rows (columns_same (λ p. ins p ++ more p) ins (λ c low. ap (λ (l : Column). ins (get_or cells c 0) ++ l)
+        (over c low) ∙ append-nil (ins (get_or cells c 0))))
         ∙ sym (append-nil (rows (columns cells ins)))
-        ∙ ap (λ (rs : List Column). rows (columns cells ins) ++ rs) (sym (no_rows more (λ c low. omega (arith, ap length (over c low)))))
+        ∙ ap (λ (rs : List Column). rows (columns cells ins) ++ rs)
+        (sym (no_rows more (λ c low. omega (arith, ap length (over c low)))))
 
   rows-append : (n : ℕ) (ins more : ℕ → Column) → TakesAll n ins more → Append ins more
   rows-append zero ins more reach =
-      append_none ins more (λ c low. nil_from_length (ins (get_or cells c 0)) (⊎_elim (λ all. omega (arith, all)) (λ few. omega (arith, few.1))
+      append_none ins more (λ c low. nil_from_length (ins (get_or cells c 0)) (⊎_elim (λ all. omega (arith, all))
+      (λ few. omega (arith, few.1))
       (reach (get_or cells c 0) (omega (arith, uses_before_lt cells c low)))))
   rows-append (suc n) ins more reach = ⊎_elim
-      (λ here. append_row n ins more reach here.0 here.1 here.2 (rows-append n (rest ins) more (later n ins more reach)))
+      (λ here. append_row n ins more reach here.0 here.1 here.2 (rows-append n (rest ins) more
+      (later n ins more reach)))
       (append_last n ins more reach)
       (some_cell ins (length cells) (omega arith))
 
@@ -126,16 +151,19 @@ pub paste_of_parts : PasteOfParts
 paste_of_parts job cells n a b cut =
     let ins : ℕ → Column = λ p. lines job.terminator (a p) in
     let more : ℕ → Column = λ p. lines job.terminator (b p) in
-    ap (λ (cols : List Column). rows_text job (rows cols)) (columns_same cells (λ p. lines job.terminator (a p ++ b p)) (λ p. ins p ++ more p)
+    ap (λ (cols : List Column). rows_text job (rows cols)) (columns_same cells (λ p. lines job.terminator (a p ++ b p))
+    (λ p. ins p ++ more p)
     (λ c low. both (get_or cells c 0) (cut (get_or cells c 0) (omega (arith, uses_before_lt cells c low)))))
     ∙ ap (rows_text job) (rows-append cells n ins more (λ p named. reach p (cut p named)))
     ∙ rows_text-append job.terminator job.delimiters (rows (columns cells ins)) (rows (columns cells more))
   where
-    both : (p : ℕ) → IsRowSplit job.terminator n (uses_of cells p) (a p) (b p) → lines job.terminator (a p ++ b p) ≡ lines job.terminator (a p) ++ lines job.terminator (b p)
+    both : (p : ℕ) → IsRowSplit job.terminator n (uses_of cells p) (a p) (b p) → lines job.terminator (a p ++ b p)
+        ≡ lines job.terminator (a p) ++ lines job.terminator (b p)
     both p (inl is) = the_lines_of_parts job.terminator (a p) (b p) is.0
     both p (inr is) = rw is.0 (simp append-nil)
 
-    reach : (p : ℕ) → IsRowSplit job.terminator n (uses_of cells p) (a p) (b p) → (length (lines job.terminator (a p)) ≡ n * uses_of cells p)
+    reach : (p : ℕ) → IsRowSplit job.terminator n (uses_of cells p) (a p) (b p)
+        → (length (lines job.terminator (a p)) ≡ n * uses_of cells p)
         ⊎ ((lines job.terminator (b p) ≡ []) × (length (lines job.terminator (a p)) ≤ n * uses_of cells p))
     reach p (inl is) = inl is.1
     reach p (inr is) = inr (ap (lines job.terminator) is.0, is.1)

@@ -1,5 +1,4 @@
 -- Definitions for the contracts of the private functions and types of `paste`.
-pub mod SharedInput
 pub mod FillRow
 pub mod SerialRest
 pub mod TakenLines

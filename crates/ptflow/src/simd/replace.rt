@@ -1,4 +1,4 @@
-//! Replaces line terminators by delimiters, many at a time. `paste -s` uses it, and `cycle` its last part.
+//! Replaces line terminators by delimiters, many at a time. `paste -s` uses it.
 
 ghost use Rattle.std.specs.Prelude.{◌≡◌, ◌<◌, ◌+◌, ◌%◌, ◌++◌, length, map, take};
 ghost use Rattle.std.specs.List.{count_by};
@@ -54,7 +54,7 @@ pub(crate) struct CyclePos {
 
 impl CyclePos {
     // The position after `number` terminators.
-    pub(crate) fn of(number: u64, delims: &[Option<u8>]) -> CyclePos
+    fn of(number: u64, delims: &[Option<u8>]) -> CyclePos
         requires { 0 < length delims.now }
         ensures number { result.number ≡ number }
         ensures index { result.index ≡ number % length delims.now }
@@ -75,23 +75,6 @@ impl CyclePos {
         CyclePos {
             number: self.number + 1,
             index: if after == delims.len() { 0 } else { after },
-        }
-    }
-
-    // The position after `count` more terminators.
-    #[inline(always)]
-    pub(crate) fn after(self, count: usize, delims: &[Option<u8>]) -> CyclePos
-        requires { CyclePosPre delims.now self count }
-        ensures { IsCyclePosAfter delims.now self count result }
-    {
-        let index = self.index + count;
-        CyclePos {
-            number: self.number + count as u64,
-            index: if index < delims.len() {
-                index
-            } else {
-                index % delims.len()
-            },
         }
     }
 }

@@ -1,29 +1,41 @@
 //! `paste`: the engine that merges corresponding lines of several inputs, row by row. The module `serial` has the
 //! engine of `paste -s`, which `ptrun` runs over one input after the other.
 
-ghost use Rattle.std.specs.Prelude.{◌≡◌, ◌<◌, ◌≤◌, length, take, drop, false, None, [], ◌++◌, All};
+ghost use Rattle.std.specs.Prelude.{◌≡◌, ◌<◌, ◌≤◌, length, take, false, None, [], ◌++◌, All};
 ghost use Rattle.ptlines.specs.Outputs.{PushPost, PushEffect};
 ghost use Rattle.ptlines.specs.Slots.{line};
 ghost use Rattle.ptlangs.specs.Jobs.{paste_job, terminator};
 ghost use Rattle.ptflow.specs.PasteCall.{PastePre, PastePost};
 ghost use Rattle.ptflow.specs.Private.Paste.BufferedRows.{BufferedRowsPre};
-ghost use Rattle.ptflow.specs.Private.Paste.FillRow.{SetTerminatorsPost, FillCellPost, FillRowPost, ClearSlotsPost, is_write_fault};
-ghost use Rattle.ptflow.specs.Private.Paste.RowCells.{after_cell, cells_text};
+ghost use Rattle.ptflow.specs.Private.Paste.FillRow.{SetTerminatorsPost, FillCellPost, FillRowPost, ClearSlotsPost};
+ghost use Rattle.ptflow.specs.Private.Paste.FillRow.{is_write_fault};
+ghost use Rattle.ptflow.specs.Private.Paste.RowCells.{after_cell, begun_in, job_shape, shape_of, slots_text};
 
 mod buffered_rows;
+mod row;
 pub(crate) mod serial;
-mod shared_input;
 
 use crate::faults::FlowFault;
 use crate::slots::ensure_slots;
 use crate::tools::paste::buffered_rows::{
-    BegunRow, RowFormat, byte_after, copy_columns, copy_rows, copy_slot, move_to_front,
+    byte_after, copy_columns, copy_rows, copy_slot, move_to_front,
 };
+use crate::tools::paste::row::{BegunRow, RowFormat};
 use crate::tools::paste::serial::OutBuf;
-use crate::tools::paste::shared_input::{shared_cycle, write_shared_rows};
 use ptlangs::jobs::PasteJob;
 use ptlines::{LineFault, LineReader, Out, Sink, Source, Store, WriteFault};
 use std::alloc::Allocator;
+
+// The rows of a job, whose columns read the inputs with these indices.
+fn row_format<'a, B: Allocator>(job: &'a PasteJob<B>, cells: &'a [usize]) -> RowFormat<'a>
+    ensures { shape_of result ≡ job_shape (paste_job job.now) cells.now }
+{
+    RowFormat {
+        delims: job.delims.as_slice(),
+        terminator: if job.zero { 0 } else { b'\n' },
+        cells,
+    }
+}
 
 // Sets the line terminator of each reader that a column uses: newline, or byte 0 if `zero`.
 fn set_terminators<S: Source, R: Source>(
@@ -64,8 +76,8 @@ fn fill_cell<A: Allocator + Copy, S: Source, R: Source, W: Sink>(
     }
 }
 
-// Finishes a begun row. A line that is not complete in the buffer of its reader is read into the slot of its column, and
-// copied from there. Once a line does not fit, it and those of all further columns stay in their slots.
+// Finishes a begun row. A line that is not complete in the buffer of its reader is read into the slot of its column,
+// and copied from there. Once a line does not fit, it and those of all further columns stay in their slots.
 fn fill_row<A: Allocator + Copy, S: Source, R: Source, W: Sink>(
     row: RowFormat,
     begun: BegunRow,
@@ -74,12 +86,12 @@ fn fill_row<A: Allocator + Copy, S: Source, R: Source, W: Sink>(
     store: &mut Store<A>,
     out: &mut Out<W>,
 ) -> Result<BegunRow, FlowFault>
-    requires readable { BufferedRowsPre row.terminator row.cells.now readers.old }
+    requires readable { BufferedRowsPre (shape_of row) readers.old }
     requires within { begun.count ≤ length row.cells.now }
     requires slots { length row.cells.now ≤ length store.old.lines }
     requires clean { out.old.write_failed ≡ false }
-    ensures fills { FillRowPost row.entry.terminator row.entry.delims.now row.entry.cells.now begun readers.old readers.new store.old store.new
-        into.old into.new result }
+    ensures fills { FillRowPost (shape_of row.entry) (begun_in readers.old begun into.old) store.old readers.new
+        store.new into.new result }
     ensures wrote { PushEffect out.old out.new [] }
     ensures write_failed { out.new.write_failed ≡ is_write_fault result }
 {
@@ -116,7 +128,7 @@ fn write_slot<A: Allocator + Copy, W: Sink>(
     requires low { column < length row.cells.now }
     requires slots { length row.cells.now ≤ length store.now.lines }
     ensures { PushPost out.old out.new
-        (line store.now column ++ after_cell row.entry.terminator row.entry.delims.now (length row.entry.cells.now) column) result }
+        (line store.now column ++ after_cell (shape_of row.entry) column) result }
 {
     let line = store.line(column);
     match byte_after(row, column, column % row.delims.len()) {
@@ -136,9 +148,8 @@ fn write_row<A: Allocator + Copy, W: Sink>(
     requires within { begun.count ≤ length row.cells.now }
     requires slots { length row.cells.now ≤ length store.now.lines }
     requires clean { out.old.write_failed ≡ false }
-    ensures { PushPost out.old out.new (take begun.end into.now
-        ++ cells_text row.entry.terminator row.entry.delims.now (length row.entry.cells.now) begun.count
-        (drop begun.count (take (length row.entry.cells.now) store.now.lines))) result }
+    ensures { PushPost out.old out.new
+        (take begun.end into.now ++ slots_text (shape_of row.entry) begun.count store.now) result }
 {
     out.push(&into[..begun.end])?;
     for column in begun.count..row.cells.len() {
@@ -166,8 +177,7 @@ fn clear_slots<A: Allocator + Copy>(cells: &[usize], store: &mut Store<A>)
 ///
 /// Lines that are complete in the buffers of the readers are copied from there. Any other line is read into a slot of
 /// the store, one for each column, and copied from the slot if the first 8,192 bytes of its row have room for it.
-/// Missing slots are added before anything is read. If at most 64 columns all read one input, and no delimiter between
-/// them is empty, all complete rows in its buffer are written at once.
+/// Missing slots are added before anything is read.
 ///
 /// A row is written before 16,384 more bytes of any of its inputs are read. Not proved but tested: it is written before
 /// anything more is read, nothing of it is written before all of its lines are known, and the buffered output is
@@ -194,16 +204,9 @@ pub fn paste<A: Allocator + Copy, B: Allocator + Copy, S: Source, R: Source, W: 
     }
     set_terminators(cells, job.zero, readers);
     ensure_slots(store, cells.len())?;
-    let terminator = if job.zero { 0 } else { b'\n' };
-    let cycle = shared_cycle(&job.delims, terminator, cells);
-    let row = RowFormat {
-        delims: job.delims.as_slice(),
-        terminator,
-        cells,
-    };
+    let row = row_format(job, cells);
     let mut buffer = [0; 8208];
     'rows: loop {
-        write_shared_rows(&cycle, row, readers, &mut buffer, out)?;
         let copied = copy_rows(row, readers, &mut buffer);
         out.push(&buffer[..copied.end])?;
         let begun = move_to_front(copied, &mut buffer);

@@ -1,12 +1,14 @@
--- A row of `paste` that is finished with the store: a line that is not complete in the buffer of its reader is read into
+-- A row of `paste` that is finished with the store: a line that is not complete in the buffer of its reader is read
+-- into
 -- the slot of its column.
-use Rattle.std.specs.Prelude.{◌≡◌, ◌≢◌, ℕ, ◌<◌, ◌≤◌, Bool, true, false, List, [], Option, Result, Ok, Err, length, take, drop, max, sum_by, slice_index_or}
+use Rattle.std.specs.Prelude.{◌≡◌, ◌≢◌, ℕ, ◌<◌, ◌≤◌, Bool, true, false, List, [], Result, Ok, Err, length, take, drop}
+use Rattle.std.specs.Prelude.{max, sum_by, slice_index_or}
 use Rattle.ptlines.specs.Readers.{Reader, IsSound, reader_at}
 use Rattle.ptlines.specs.Slots.{Slots, AddedSlots, line, total_bytes}
 use Rattle.ptlines.specs.ReadLine.{FillPost, FillReadErr, FillMemoryErr}
 use Rattle.ptflow.specs.PasteText.{uses_of}
-use Rattle.ptflow.specs.Private.Paste.RowCells.{CellsTaken, CellsFilled, cells_text}
-use Rattle.ptflow.specs.declared.tools.paste.buffered_rows.BegunRow.{BegunRow}
+use Rattle.ptflow.specs.Private.Paste.RowCells.{RowShape, BegunText, CellsTaken, CellsFilled, begun_in, cells_text}
+use Rattle.ptflow.specs.declared.tools.paste.row.BegunRow.{BegunRow}
 use Rattle.ptflow.specs.declared.faults.FlowFault.{FlowFault}
 use Rattle.ptflow.specs.declared.faults.FlowFault.TheVariants.{Read, Write, Memory}
 
@@ -36,16 +38,16 @@ pub record SlotsKept (cells : List ℕ) (fields : List (List ℕ)) (before store
       → ((c : ℕ) → c < length fields → length (slice_index_or fields c []) ≤ top (slice_index_or cells c 0))
       → SlotsBound cells top first store
 
--- The first n columns of a row are filled: the first of them, up to `copied`, have their text in `text`, and the slots
--- of the others hold their fields.
-pub record RowAmid (end : ℕ) (delims : List (Option ℕ)) (cells : List ℕ) (n copied : ℕ) (any_line : Bool)
-    (old new : List Reader) (before store : Slots) (text : List ℕ) : Type 0 where
+-- The first n columns of a row are filled, since the states `from` and `first`: the columns up to `now.count` are
+-- copied, and the slots of the others hold their fields.
+pub record RowAmid (row : RowShape) (n : ℕ) (from : List Reader) (first : Slots) (now : BegunText)
+    (store : Slots) : Type 0 where
   pub fields : List (List ℕ)
-  pub filled : CellsFilled cells n old new fields any_line
-  pub within : copied ≤ n
-  pub is : text ≡ cells_text end delims (length cells) 0 (take copied fields)
-  pub held : (c : ℕ) → copied ≤ c → c < n → line store c ≡ slice_index_or fields c []
-  pub slots : SlotsKept cells fields before store
+  pub filled : CellsFilled row.cells n from now.readers fields now.any_line
+  pub within : now.count ≤ n
+  pub is : now.text ≡ cells_text row 0 (take now.count fields)
+  pub held : (c : ℕ) → now.count ≤ c → c < n → line store c ≡ slice_index_or fields c []
+  pub slots : SlotsKept row.cells fields first store
 
 -- Filling a row failed at `column`: the columns before it are filled, and `CellFailed` holds between the states of its
 -- reader and the store before and after the failed step.
@@ -79,24 +81,23 @@ FillCellPost input column old new before after (Err (Read index)) = FillReadErr 
 FillCellPost input column old new before after (Err Write) = NotRead old new before after column
 FillCellPost input column old new before after (Err Memory) = FillMemoryErr old new before after column × IsSound new
 
--- The postcondition of `fill_row` for each result, if the first columns of the row were filled since the states `old` and
--- `before`.
-abbrev pub RowFilled : ℕ → List (Option ℕ) → List ℕ → List Reader → List Reader → Slots → Slots → List ℕ
-    → Result BegunRow FlowFault → Type 0
-RowFilled end delims cells old new before store into (Ok row) = RowAmid end delims cells (length cells) row.count
-    row.any_line old new before store (take row.end into)
-RowFilled end delims cells old new before store into (Err (Read input))
-    = (b : RowFailed FillReadErr cells old new before store) × (input ≡ slice_index_or cells b.column 0)
-RowFilled end delims cells old new before store into (Err Write) = RowFailed NotRead cells old new before store
-RowFilled end delims cells old new before store into (Err Memory) = RowFailed FillMemoryErr cells old new before store
+-- The state after `fill_row` for each result, if the first columns of the row were filled since the states `from` and
+-- `first`.
+abbrev pub RowFilled : RowShape → List Reader → Slots → List Reader → Slots → List ℕ → Result BegunRow FlowFault
+    → Type 0
+RowFilled row from first new store into (Ok begun) = RowAmid row (length row.cells) from first (begun_in new begun into)
+    store
+RowFilled row from first new store into (Err (Read input))
+    = (b : RowFailed FillReadErr row.cells from new first store) × (input ≡ slice_index_or row.cells b.column 0)
+RowFilled row from first new store into (Err Write) = RowFailed NotRead row.cells from new first store
+RowFilled row from first new store into (Err Memory) = RowFailed FillMemoryErr row.cells from new first store
 
 -- The postcondition of `fill_row`, regardless of how the first columns of the row had been filled.
-abbrev pub FillRowPost : ℕ → List (Option ℕ) → List ℕ → BegunRow → List Reader → List Reader → Slots → Slots → List ℕ
-    → List ℕ → Result BegunRow FlowFault → Type 0
-FillRowPost end delims cells begun old new before store into after result =
-    (from : List Reader) (first : Slots) → RowAmid end delims cells begun.count begun.count begun.any_line from old
-    first before (take begun.end into)
-    → RowFilled end delims cells from new first store after result
+abbrev pub FillRowPost : RowShape → BegunText → Slots → List Reader → Slots → List ℕ → Result BegunRow FlowFault
+    → Type 0
+FillRowPost row begun before new store into result =
+    (from : List Reader) (first : Slots) → RowAmid row begun.count from first begun before
+    → RowFilled row from first new store into result
 
 -- The slots of the first columns are empty, and all others are as before.
 pub record ClearSlotsPost (cells : List ℕ) (old new : Slots) : Type 0 where

@@ -1,5 +1,6 @@
 -- The output of `paste -s` from some position on, and the replacement of terminators by delimiters.
-use Rattle.std.specs.Prelude.{◌≡◌, ◌<◌, ◌≤◌, ◌==◌, ℕ, ◌+◌, ◌%◌, ◌^◌, List, [], ◌∷◌, ◌++◌, Bool, true, false, Option, Some, length, take, unwrap_or, if◌then◌else◌}
+use Rattle.std.specs.Prelude.{◌≡◌, ◌<◌, ◌≤◌, ◌==◌, ℕ, ◌+◌, ◌%◌, ◌^◌, List, [], ◌∷◌, ◌++◌, Bool, true, false, Option}
+use Rattle.std.specs.Prelude.{Some, length, take, unwrap_or, if◌then◌else◌}
 use Rattle.std.specs.List.{count_by}
 use Rattle.memchr.specs.Find.{is_byte}
 use Rattle.ptlines.specs.Text.{lines}
@@ -14,7 +15,8 @@ use Rattle.ptflow.specs.declared.tools.paste.serial.ColumnPos.{ColumnPos}
 abbrev pub row_rest : ℕ → List (Option ℕ) → ℕ → Bool → List (List ℕ) → List ℕ
 row_rest end delims number false ls = join_with_cycle delims number ls ++ end ∷ []
 row_rest end delims number true [] = end ∷ []
-row_rest end delims number true (line ∷ more) = delimiter delims number ++ (join_with_cycle delims (number + 1) (line ∷ more) ++ end ∷ [])
+row_rest end delims number true (line ∷ more) = delimiter delims number ++ (join_with_cycle delims (number + 1)
+    (line ∷ more) ++ end ∷ [])
 
 -- The rest of the row, if the lines `ls` follow at a position.
 abbrev pub row_from : ℕ → List (Option ℕ) → ColumnPos → List (List ℕ) → List ℕ
@@ -37,13 +39,15 @@ leading_delimiter delims cell = if cell.complete then delimiter delims cell.numb
 abbrev pub CopyCellsPost : ℕ → List (Option ℕ) → ℕ → List ℕ → ℕ → List ℕ → List ℕ → Type 0
 CopyCellsPost end delims number bytes now rest written =
     (more : List ℕ) → 0 < length more
-    → row_rest end delims number false (lines end (bytes ++ more)) ≡ written ++ row_rest end delims now false (lines end (rest ++ more))
+    → row_rest end delims number false (lines end (bytes ++ more)) ≡ written ++ row_rest end delims now false
+    (lines end (rest ++ more))
 
 -- The postcondition of `copy_block`: a block that begins in column `number` was written as `written`, and the text
 -- after it continues at the position `after`.
 abbrev pub CopyBlockPost : ℕ → List (Option ℕ) → ℕ → List ℕ → ColumnPos → List ℕ → Type 0
 CopyBlockPost end delims number block after written =
-    (more : List ℕ) → row_rest end delims number false (lines end (block ++ more)) ≡ written ++ serial_rest end delims after more
+    (more : List ℕ) → row_rest end delims number false (lines end (block ++ more)) ≡ written ++ serial_rest end delims
+    after more
 
 -- Each column is followed by the delimiter `delim`.
 abbrev pub IsOnlyDelimiter : List (Option ℕ) → ℕ → Type 0
@@ -81,11 +85,13 @@ pub record ReplacePre (delims : List (Option ℕ)) (number : ℕ) (from to : Lis
 
 -- `after` is the cycle position `count` terminators after `cycle_pos`.
 abbrev pub IsCyclePosAfter : List (Option ℕ) → CyclePos → ℕ → CyclePos → Type 0
-IsCyclePosAfter delims cycle_pos count after = (after.index ≡ after.number % length delims) × (after.number ≡ cycle_pos.number + count)
+IsCyclePosAfter delims cycle_pos count after = (after.index ≡ after.number % length delims)
+    × (after.number ≡ cycle_pos.number + count)
 
 -- The terminators among the first `at` bytes are replaced, and `cycle_pos` is the position after them.
 abbrev pub IsReplacedTo : ℕ → List (Option ℕ) → ℕ → CyclePos → ℕ → List ℕ → List ℕ → Type 0
 IsReplacedTo end delims number cycle_pos at from to =
     (at ≤ length from) × (length to ≡ length from)
-    × (cycle_pos.number ≡ number + count_by (is_byte end) (take at from)) × (cycle_pos.index ≡ cycle_pos.number % length delims)
+    × (cycle_pos.number ≡ number + count_by (is_byte end) (take at from))
+    × (cycle_pos.index ≡ cycle_pos.number % length delims)
     × (take at to ≡ with_cycle end delims number (take at from))

@@ -1,48 +1,24 @@
 //! Rows of `paste` from the buffers of the readers: each line that is complete there is copied to a buffer for output,
 //! without the store, and after it the byte that follows its column. Used by `paste`.
 
-ghost use Rattle.std.specs.Prelude.{◌≡◌, ◌<◌, ◌≤◌, ◌+◌, ◌%◌, ◌++◌, false, length, take, drop, option_to_list, IfNone, IfSome};
+ghost use Rattle.std.specs.Prelude.{◌≡◌, ◌<◌, ◌≤◌, ◌+◌, ◌%◌, ◌++◌, false, length, take, List, option_to_list, IfNone};
+ghost use Rattle.std.specs.Prelude.{IfSome};
 ghost use Rattle.memchr.specs.Find.{IsFirstByte, is_byte};
-ghost use Rattle.ptlines.specs.Readers.{IsSound};
-ghost use Rattle.ptflow.specs.Private.Paste.RowCells.{after_cell};
+ghost use Rattle.ptlines.specs.Readers.{Reader, IsSound};
+ghost use Rattle.ptflow.specs.Private.Paste.RowCells.{after_cell, begun_after, begun_in, shape_of};
 ghost use Rattle.ptflow.specs.Private.Paste.BufferedRows.{BufferedRowsPre, CopyCellPost, CopyColumnsPost, CopyRowsPost};
 
+use crate::tools::paste::row::{BegunRow, CopiedField, CopiedRows, RowFormat};
 use crate::tools::paste::serial::OutBuf;
 use ptlines::{LineReader, Source, copy_short, find_byte, find_in_chunk};
 use std::simd::prelude::*;
-
-// The columns of a row: the index of the reader of each, the list of delimiters, and the terminator of lines and rows.
-#[derive(Clone, Copy)]
-pub(crate) struct RowFormat<'a> {
-    pub delims: &'a [Option<u8>],
-    pub terminator: u8,
-    pub cells: &'a [usize],
-    ghost some: { 0 < length delims.now },
-}
-
-// A row of which the first `count` columns were copied, up to `end`, and whether any of its columns has a line so far.
-#[derive(Clone, Copy)]
-pub(crate) struct BegunRow {
-    pub count: usize,
-    pub end: usize,
-    pub any_line: bool,
-    ghost size_bound: { end ≤ 8192 },
-}
-
-// Rows that were copied up to `end`, and a begun row after them.
-#[derive(Clone, Copy)]
-pub(crate) struct CopiedRows {
-    pub end: usize,
-    pub begun: BegunRow,
-    ghost order: { end ≤ begun.end },
-}
 
 // The byte after a column: the delimiter with this index in the list, or after the last column the terminator.
 #[inline(always)]
 pub(crate) fn byte_after(row: RowFormat, column: usize, index: usize) -> Option<u8>
     requires low { column < length row.cells.now }
     requires index { index ≡ column % length row.delims.now }
-    ensures { option_to_list result ≡ after_cell row.entry.terminator row.entry.delims.now (length row.entry.cells.now) column }
+    ensures { option_to_list result ≡ after_cell (shape_of row.entry) column }
 {
     if column + 1 == row.cells.len() {
         return Some(row.terminator);
@@ -62,8 +38,7 @@ fn copy_byte_after(
     requires low { column < length row.cells.now }
     requires index { index ≡ column % length row.delims.now }
     requires room { at < 8192 }
-    ensures copied { take result into.new
-        ≡ take at into.old ++ after_cell row.entry.terminator row.entry.delims.now (length row.entry.cells.now) column }
+    ensures copied { take result into.new ≡ take at into.old ++ after_cell (shape_of row.entry) column }
     ensures size_bound { (at ≤ result) × (result ≤ 8192) }
 {
     match byte_after(row, column, index) {
@@ -154,28 +129,33 @@ fn copy_line(terminator: u8, bytes: &[u8], into: &mut OutBuf, at: usize) -> Opti
 }
 
 // Copies the next line of a reader to `at` and consumes it. A reader that is at the end of its input gives an empty
-// field. Returns the offset after the field, and whether it is a line; `None` if the line is not complete in the buffer
-// or does not fit, and then nothing is consumed.
+// field. Returns `None` if the line is not complete in the buffer or does not fit; then nothing is consumed.
 #[inline(always)]
 fn copy_cell<S: Source, R: Source>(
     terminator: u8,
     reader: &mut LineReader<S, R>,
     into: &mut OutBuf,
     at: usize,
-) -> Option<(usize, bool)>
-    ensures cell { IfSome result (λ cell. CopyCellPost terminator reader.old reader.new (take at into.old) (take cell.0 into.new) cell.1) }
-    ensures size_bound { IfSome result (λ cell. (at ≤ cell.0) × (cell.0 < 8192)) }
+) -> Option<CopiedField>
+    ensures cell { IfSome result (CopyCellPost terminator reader.old reader.new (take at into.old) into.new) }
+    ensures size_bound { IfSome result (λ field. (at ≤ field.end) × (field.end < 8192)) }
     ensures none { IfNone result (reader.new ≡ reader.old) }
     ensures prefix_kept { take at into.new ≡ take at into.old }
     ensures was_sound { IsSound reader.old }
 {
     let rest = reader.buffered();
     if rest.is_empty() && reader.at_eof() && at < 8192 {
-        return Some((at, false));
+        return Some(CopiedField {
+            end: at,
+            is_line: false,
+        });
     }
     let count = copy_line(terminator, rest, into, at)?;
     reader.consume(count + 1);
-    Some((at + count, true))
+    Some(CopiedField {
+        end: at + count,
+        is_line: true,
+    })
 }
 
 // Copies the next columns of a begun row, each with the byte after it, up to the end of the row or to the first column
@@ -187,10 +167,10 @@ pub(crate) fn copy_columns<S: Source, R: Source>(
     into: &mut OutBuf,
     begun: BegunRow,
 ) -> BegunRow
-    requires readable { BufferedRowsPre row.terminator row.cells.now readers.old }
+    requires readable { BufferedRowsPre (shape_of row) readers.old }
     requires within { begun.count ≤ length row.cells.now }
-    ensures cells { CopyColumnsPost row.entry.terminator row.entry.delims.now row.entry.cells.now begun.count begun.any_line readers.old readers.new
-        result.count result.any_line (take begun.end into.old) (take result.end into.new) }
+    ensures cells { CopyColumnsPost (shape_of row.entry) (begun_in readers.old begun into.old)
+        (begun_in readers.new result into.new) }
     ensures within { (result.count ≤ length row.entry.cells.now) × (begun.end ≤ result.end) }
 {
     let RowFormat {
@@ -204,9 +184,9 @@ pub(crate) fn copy_columns<S: Source, R: Source>(
     for column in begun.count..cells.len() {
         let input = cells[column];
         match copy_cell(terminator, &mut readers[input], into, end) {
-            Some((at, has_line)) => {
-                any_line |= has_line;
-                end = copy_byte_after(row, column, index, into, at);
+            Some(field) => {
+                any_line |= field.is_line;
+                end = copy_byte_after(row, column, index, into, field.end);
             }
             None => {
                 return BegunRow {
@@ -233,9 +213,9 @@ pub(crate) fn copy_rows<S: Source, R: Source>(
     readers: &mut [LineReader<S, R>],
     into: &mut OutBuf,
 ) -> CopiedRows
-    requires { BufferedRowsPre row.terminator row.cells.now readers.old }
-    ensures rows { CopyRowsPost row.entry.terminator row.entry.delims.now row.entry.cells.now readers.old readers.new result.begun.count
-        result.begun.any_line (take result.end into.new) (drop result.end (take result.begun.end into.new)) }
+    requires { BufferedRowsPre (shape_of row) readers.old }
+    ensures rows { CopyRowsPost (shape_of row.entry) readers.old (take result.end into.new)
+        (begun_after readers.new result into.new) }
     ensures within { result.begun.count ≤ length row.entry.cells.now }
 {
     let mut end = 0;
@@ -255,8 +235,7 @@ pub(crate) fn copy_rows<S: Source, R: Source>(
 
 // Moves the begun row to the start of the buffer.
 pub(crate) fn move_to_front(copied: CopiedRows, into: &mut OutBuf) -> BegunRow
-    ensures moved { take result.end into.new ≡ drop copied.end (take copied.begun.end into.old) }
-    ensures same { (result.count ≡ copied.begun.count) × (result.any_line ≡ copied.begun.any_line) }
+    ensures { (readers : List Reader) → begun_in readers result into.new ≡ begun_after readers copied into.old }
 {
     let begun = copied.begun;
     into.copy_within(copied.end..begun.end, 0);
@@ -267,8 +246,8 @@ pub(crate) fn move_to_front(copied: CopiedRows, into: &mut OutBuf) -> BegunRow
     }
 }
 
-// Copies the line of a column, and the byte after it, to the end of a begun row. Returns `None` if an earlier column was
-// not copied, or if the line does not fit; then nothing is copied.
+// Copies the line of a column, and the byte after it, to the end of a begun row. Returns `None` if an earlier column
+// was not copied, or if the line does not fit; then nothing is copied.
 pub(crate) fn copy_slot(
     row: RowFormat,
     column: usize,
@@ -278,7 +257,7 @@ pub(crate) fn copy_slot(
 ) -> Option<BegunRow>
     requires { column < length row.cells.now }
     ensures copied { IfSome result (λ next. take next.end into.new
-        ≡ take begun.end into.old ++ (line.now ++ after_cell row.entry.terminator row.entry.delims.now (length row.entry.cells.now) column)) }
+        ≡ take begun.end into.old ++ (line.now ++ after_cell (shape_of row.entry) column)) }
     ensures same { IfSome result
         (λ next. (begun.count ≡ column) × (next.count ≡ column + 1) × (next.any_line ≡ begun.any_line)) }
     ensures none { IfNone result (into.new ≡ into.old) }

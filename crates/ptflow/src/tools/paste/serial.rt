@@ -1,12 +1,14 @@
 //! `paste -s`: the engine that writes all lines of one input in one row, block by block. `ptrun` runs it over one input
 //! after the other.
-ghost use Rattle.std.specs.Prelude.{◌≡◌, ◌<◌, ◌≤◌, ◌+◌, ◌^◌, ◌++◌, ◌∷◌, [], true, false, OnOk, OnErr, IfOk, IfSome, length, take};
+ghost use Rattle.std.specs.Prelude.{◌≡◌, ◌<◌, ◌≤◌, ◌+◌, ◌^◌, ◌++◌, ◌∷◌, [], true, false, OnOk, OnErr, IfOk, IfSome};
+ghost use Rattle.std.specs.Prelude.{length, take};
 ghost use Rattle.ptlines.specs.Outputs.{PushEffect, PushPost};
 ghost use Rattle.ptlangs.specs.Jobs.{paste_job};
 ghost use Rattle.ptflow.specs.Passes.{PassPre, PassPost};
 ghost use Rattle.ptflow.specs.PasteText.{delimiter, paste_serial_tool};
 ghost use Rattle.ptflow.specs.Private.Passes.BlockLoop.{HasRoom};
-ghost use Rattle.ptflow.specs.Private.Paste.SerialRest.{next_position, leading_delimiter, CopyCellsPost, CopyBlockPost, IsOnlyDelimiter};
+ghost use Rattle.ptflow.specs.Private.Paste.SerialRest.{next_position, leading_delimiter, CopyCellsPost, CopyBlockPost};
+ghost use Rattle.ptflow.specs.Private.Paste.SerialRest.{IsOnlyDelimiter};
 
 use crate::block_loop::{BlockFilter, run_blocks};
 use crate::faults::FlowFault;
@@ -166,7 +168,8 @@ fn copy_block<A: Allocator>(
     into: &mut OutBuf,
 ) -> (usize, ColumnPos)
     requires { HasRoom number 0 (length bytes.now) }
-    ensures copied_as { CopyBlockPost terminator delims.now number (bytes.now ++ last ∷ []) result.1 (take result.0 into.new) }
+    ensures copied_as { CopyBlockPost terminator delims.now number (bytes.now ++ last ∷ []) result.1
+        (take result.0 into.new) }
     ensures size_bound { result.0 ≤ length bytes.now + 1 }
     ensures bound { result.1.number ≤ number + length bytes.now }
 {

@@ -1,11 +1,14 @@
--- Each step reads the line of the next column into its slot. If the columns before it were all copied, it is copied from
--- there, and the further columns are from the buffers. A failed write, read or growth stops the row; nothing was pushed.
-use Rattle.ptflow.proofs.Common.{◌≡◌, ◌+◌, ◌<◌, ◌≤◌, ℕ, Bool, List, [], None, length, get_or, set, refl, ◌∙◌, ap, arith, err_from_is_err_and, Output, PushEffect, Reader, Slots, push_nothing, push_trans, reader_at, uses_of, ◌||◌, Ok, take, BufferedRowsPre, RowAmid, FillCellPost}
-use borrow.Author.Rules.{scaled_Fits}
+-- Each step reads the line of the next column into its slot. If the columns before it were all copied, it is copied
+-- from
+-- there, and the further columns are from the buffers. A failed write, read or growth stops the row; nothing was
+-- pushed.
+use Rattle.ptflow.proofs.Common.{◌≡◌, ◌+◌, ◌<◌, ℕ, Bool, List, [], ◌++◌, length, take, get_or, set, ◌∙◌, ap, arith}
+use Rattle.ptflow.proofs.Common.{err_from_is_err_and, Reader, Slots, push_nothing, push_trans, reader_at, uses_of, ◌||◌}
+use Rattle.ptflow.proofs.Common.{Ok, BegunText, BufferedRowsPre, RowAmid, FillCellPost, after_cell, begun_in, shape_of}
 use Rattle.ptflow.proofs.PasteLemmas.Grid.{uses_before_lt}
 use Rattle.ptflow.proofs.PasteLemmas.FillRow.{at_index}
 use Rattle.ptflow.proofs.PasteLemmas.BufferedRows.{still_readable}
-use Rattle.ptflow.proofs.PasteLemmas.RowAmid.{amid_next, amid_failed, amid_resumed, readable_after}
+use Rattle.ptflow.proofs.PasteLemmas.RowAmid.{amid_next, amid_failed, amid_resumed, with_slot, readable_after}
 use Rattle.ptflow.proofs.tools.paste.fill_row.Given as given
 use Rattle.ptflow.proofs.tools.paste.fill_row.Goals as goal
 use Rattle.ptflow.proofs.tools.paste.fill_row.Goals.{After-fill_cell}
@@ -26,8 +29,8 @@ fill_cell-requires-clause-readable g c =
     let input = get_or cells c.cells.column 0 in
     let ready = c.cells.invariant.readable in
     ap (λ (r : Reader). r.fault) (at_index c.cells.readers input c.index-readers-input.result
-    (ready.0 c.cells.column 0 c.cells-test.true))
-    ∙ (ready.1 input (omega (arith, uses_before_lt cells c.cells.column c.cells-test.true))).0
+    (ready.within c.cells.column 0 c.cells-test.true))
+    ∙ ready.unfailed input (omega (arith, uses_before_lt cells c.cells.column c.cells-test.true))
 
 pub fill_cell-requires-clause-slot : goal.fill_cell-requires-clause-slot
 fill_cell-requires-clause-slot g c = omega (arith, c.cells-test.true, c.cells.invariant.slots)
@@ -40,13 +43,12 @@ fill_cell-requires-clause-clean g c = c.cells.invariant.clean
 
 pub returns-in_err-has_line-clause-fills : goal.returns-in_err-has_line-clause-fills
 returns-in_err-has_line-clause-fills g c =
-    let e = err_from_is_err_and c.from_residual.result c.from_residual.ensures.1 in
+    let (fault, same, is) = err_from_is_err_and c.from_residual.result c.from_residual.ensures.1 in
     let n = c.cells.column in
-    let input = get_or c.args.row.cells.now n 0 in
-    let low = c.cells.invariant.readable.0 n 0 c.cells-test.true in
-    rw (e.1, e.2) (λ from first a.
+    let low = c.cells.invariant.readable.within n 0 c.cells-test.true in
+    rw (same, is) (λ from first a.
     amid_failed (c.cells.invariant.amid from first a) c.cells-test.true low
-    (at_index c.cells.readers input c.index-readers-input.result low)
+    (at_index c.cells.readers (get_or c.args.row.cells.now n 0) c.index-readers-input.result low)
     c.fill_cell.new.reader c.fill_cell.new.store c.cells.into c.in_err-has_line.field-0.0
     c.in_err-has_line.ensures.fills)
 
@@ -57,48 +59,63 @@ returns-in_err-has_line-clause-wrote g c = push_trans c.args.out.now c.cells.out
 pub invariant_of-filled : goal.invariant_of-filled
 invariant_of-filled g c = record { size_bound = c.cells.begun.size_bound }
 
--- The row after the line was read into its slot, and the readers.
-next : (g : given.Over) (c : After-fill_cell g) (has : Bool)
-    → FillCellPost (get_or c.args.row.cells.now c.cells.column 0) c.cells.column
-    (get_or c.cells.readers (get_or c.args.row.cells.now c.cells.column 0) c.index-readers-input.result)
-    c.fill_cell.new.reader c.cells.store c.fill_cell.new.store (Ok has)
-    → ((from : List Reader) (first : Slots)
-    → RowAmid c.args.row.terminator c.args.row.delims.now c.args.row.cells.now c.args.begun.count c.args.begun.count
-    c.args.begun.any_line from c.args.readers.now first c.args.store.now (take c.args.begun.end c.args.into.now)
-    → RowAmid c.args.row.terminator c.args.row.delims.now c.args.row.cells.now (c.cells.column + 1) c.cells.begun.count
-    (c.cells.begun.any_line || has) from (set c.cells.readers (get_or c.args.row.cells.now c.cells.column 0)
-    c.fill_cell.new.reader)
-    first c.fill_cell.new.store (take c.cells.begun.end c.cells.into))
-    × BufferedRowsPre c.args.row.terminator c.args.row.cells.now
-    (set c.cells.readers (get_or c.args.row.cells.now c.cells.column 0) c.fill_cell.new.reader)
-next g c has p =
-    let cells = c.args.row.cells.now in
-    let n = c.cells.column in
-    let inv = c.cells.invariant in
-    let input = get_or cells n 0 in
-    let low = inv.readable.0 n 0 c.cells-test.true in
-    let used : 0 < uses_of cells input = omega (arith, uses_before_lt cells n c.cells-test.true) in
-    let is_read = at_index c.cells.readers input c.index-readers-input.result low in
-    let clean = ap (λ (r : Reader). r.fault) is_read ∙ (inv.readable.1 input used).0 in (
-      λ from first a. amid_next (inv.amid from first a) c.cells-test.true low is_read c.fill_cell.new.reader
-          c.fill_cell.new.store (omega (arith, c.cells-test.true, inv.slots)) clean p.1 has p.0,
-      readable_after c.args.row.terminator cells c.cells.readers c.fill_cell.new.reader inv.readable low used is_read
-          c.cells.store c.fill_cell.new.store n has p.0,
-    )
+module _ (g : given.Over) (c : After-fill_cell g) (has : Bool) where
+  abbrev input : ℕ
+  input = get_or c.args.row.cells.now c.cells.column 0
+
+  -- The row after the line was read into its slot.
+  abbrev filled : BegunText
+  filled = record (begun_in c.cells.readers c.cells.begun c.cells.into) {
+    readers = set c.cells.readers input c.fill_cell.new.reader;
+    any_line = c.cells.begun.any_line || has;
+  }
+
+  module _ (p : FillCellPost input c.cells.column (get_or c.cells.readers input c.index-readers-input.result)
+      c.fill_cell.new.reader c.cells.store c.fill_cell.new.store (Ok has)) where
+    low : input < length c.cells.readers
+    low = c.cells.invariant.readable.within c.cells.column 0 c.cells-test.true
+
+    used : 0 < uses_of c.args.row.cells.now input
+    used = omega (arith, uses_before_lt c.args.row.cells.now c.cells.column c.cells-test.true)
+
+    is_read : get_or c.cells.readers input c.index-readers-input.result ≡ reader_at c.cells.readers input
+    is_read = at_index c.cells.readers input c.index-readers-input.result low
+
+    amid : (from : List Reader) (first : Slots)
+        → RowAmid (shape_of c.args.row) c.args.begun.count from first
+        (begun_in c.args.readers.now c.args.begun c.args.into.now) c.args.store.now
+        → RowAmid (shape_of c.args.row) (c.cells.column + 1) from first filled c.fill_cell.new.store
+    amid from first a =
+        let (fills, sound) = p in
+        amid_next (c.cells.invariant.amid from first a) c.cells-test.true low is_read c.fill_cell.new.reader
+        c.fill_cell.new.store (omega (arith, c.cells-test.true, c.cells.invariant.slots))
+        (ap (λ (r : Reader). r.fault) is_read ∙ c.cells.invariant.readable.unfailed input used) sound has fills
+
+    ready : BufferedRowsPre (shape_of c.args.row) filled.readers
+    ready =
+        let (fills, sound) = p in
+        readable_after c.cells.readers c.fill_cell.new.reader c.cells.invariant.readable low used is_read c.cells.store
+        c.fill_cell.new.store c.cells.column has fills
 
 pub copy_columns-begun-requires-clause-readable : goal.copy_columns-begun-requires-clause-readable
-copy_columns-begun-requires-clause-readable g c = (next g (goal.at.copy_columns-begun-requires-clause-readable g
-    c).After-fill_cell c.in_ok-has_line.has_line c.in_ok-has_line.ensures.fills).1
+copy_columns-begun-requires-clause-readable g c = ready g (goal.at.copy_columns-begun-requires-clause-readable g
+    c).After-fill_cell c.in_ok-has_line.has_line c.in_ok-has_line.ensures.fills
 
 pub cells-preserved : goal.cells-preserved
 cells-preserved g c =
-    let k = next g (goal.at.cells-preserved g c).After-fill_cell c.in_ok-has_line.has_line
-    c.in_ok-has_line.ensures.fills in
+    let here = (goal.at.cells-preserved g c).After-fill_cell in
+    let has = c.in_ok-has_line.has_line in
+    let fills = c.in_ok-has_line.ensures.fills in
     let p = c.copy_columns-begun.ensures.cells in
-    let s = c.in-Some.ensures in
+    let (first, count, any_line) = c.in-Some.ensures.same in
+    let text = c.in-Some.ensures.copied ∙ (λ i. take c.cells.begun.end c.cells.into
+    ++ (c.line.ensures i ++ after_cell (shape_of c.args.row) c.cells.column)) in
+    let resumed : begun_in (filled g here has).readers c.in-Some.next c.copy_slot.new.into
+    ≡ with_slot (shape_of c.args.row) c.cells.column c.fill_cell.new.store (filled g here has) = λ i.
+    record { readers = (filled g here has).readers; count = count i; any_line = any_line i; text = text i } in
     record {
-      amid = λ from first a. amid_resumed (k.0 from first a) s.same.0 c.line.ensures s.copied s.same.1 s.same.2 p;
-      readable = still_readable c.args.row.terminator c.args.row.cells.now p.consumed k.1;
+      amid = λ from start a. amid_resumed (amid g here has fills from start a) first resumed p;
+      readable = still_readable p.consumed (ready g here has fills);
       slots = omega (arith, c.cells.invariant.slots, c.fill_cell.ensures.slots);
       within = (omega arith, c.copy_columns-begun.ensures.within.0);
       wrote = push_trans c.args.out.now c.cells.out c.fill_cell.new.out [] [] c.cells.invariant.clean
@@ -108,11 +125,12 @@ cells-preserved g c =
 
 pub cells-preserved-in-None : goal.cells-preserved-in-None
 cells-preserved-in-None g c =
-    let k = next g (goal.at.cells-preserved-in-None g c).After-fill_cell c.in_ok-has_line.has_line
-    c.in_ok-has_line.ensures.fills in
+    let here = (goal.at.cells-preserved-in-None g c).After-fill_cell in
+    let has = c.in_ok-has_line.has_line in
+    let fills = c.in_ok-has_line.ensures.fills in
     record {
-      amid = λ from first a. rw c.in-None.ensures.none (k.0 from first a);
-      readable = k.1;
+      amid = λ from start a. rw c.in-None.ensures.none (amid g here has fills from start a);
+      readable = ready g here has fills;
       slots = omega (arith, c.cells.invariant.slots, c.fill_cell.ensures.slots);
       within = (omega (arith, c.cells.invariant.within), omega (arith, c.cells-test.true));
       wrote = push_trans c.args.out.now c.cells.out c.fill_cell.new.out [] [] c.cells.invariant.clean

@@ -1,6 +1,7 @@
 -- Each step sets the terminator of one more reader. Setting it twice, for a reader that several columns use, has no
 -- further effect.
-use Rattle.ptflow.proofs.Common.{◌≡◌, ◌<◌, ℕ, List, subst, Bool, true, false, cond, length, get_or, refl, ◌∙◌, arith, take_all, All-get_or, terminator, SetTerminatorsPost}
+use Rattle.ptflow.proofs.Common.{◌≡◌, ◌<◌, ℕ, List, subst, Bool, true, false, cond, length, get_or, refl, ◌∙◌, arith}
+use Rattle.ptflow.proofs.Common.{take_all, All-get_or, terminator, SetTerminatorsPost}
 use borrow.Author.Rules.{scaled_Fits}
 use Rattle.ptflow.proofs.PasteLemmas.FillRow.{at_index, set_terminator_more}
 use Rattle.ptflow.proofs.tools.paste.set_terminators.Goals as goal
@@ -14,18 +15,27 @@ loop-input-preserved g c =
     let cells = c.args.cells.now in
     let i = c.loop-input.input-index in
     let now = c.loop-input.readers in
-    let within : get_or cells i 0 < length now = omega (arith, All-get_or (λ (p : ℕ). p < length c.args.readers.now) cells i 0 c.loop-input-test.true c.requires, c.loop-input.auto.readers) in
-    set_terminator_more (terminator c.args.zero) cells i c.args.readers.now now c.set_ending.new.self c.loop-input-test.true within c.loop-input.invariant
-    (c.set_ending.ensures.set ∙ (λ j. record (at_index now (get_or cells i 0) c.index-readers-input.result within j) { terminator = ending_is c.args.zero j })) c.set_ending.ensures.is_sound
+    let within : get_or cells i 0 < length now = omega (
+      arith,
+      All-get_or (λ (p : ℕ). p < length c.args.readers.now)
+          cells i 0 c.loop-input-test.true c.requires,
+      c.loop-input.auto.readers,
+    ) in
+    set_terminator_more (terminator c.args.zero) cells i c.args.readers.now now c.set_ending.new.self
+    c.loop-input-test.true within c.loop-input.invariant
+    (c.set_ending.ensures.set ∙ (λ j. record (at_index now (get_or cells i 0) c.index-readers-input.result within j)
+    { terminator = ending_is c.args.zero j })) c.set_ending.ensures.is_sound
 
 pub bounds-readers-input : goal.bounds-readers-input
 bounds-readers-input g c =
-    let low = All-get_or (λ (p : ℕ). p < length c.args.readers.now) c.args.cells.now c.loop-input.input-index 0 c.loop-input-test.true c.requires in
+    let low = All-get_or (λ (p : ℕ). p < length c.args.readers.now) c.args.cells.now c.loop-input.input-index 0
+    c.loop-input-test.true c.requires in
     omega (arith, low, c.loop-input.auto.readers)
 
 pub offset_bounds-readers-input : goal.offset_bounds-readers-input
 offset_bounds-readers-input g c =
-    let low = All-get_or (λ (p : ℕ). p < length c.args.readers.now) c.args.cells.now c.loop-input.input-index 0 c.loop-input-test.true c.requires in
+    let low = All-get_or (λ (p : ℕ). p < length c.args.readers.now) c.args.cells.now c.loop-input.input-index 0
+    c.loop-input-test.true c.requires in
     search (scaled_Fits, low)
 
 pub returns : goal.returns

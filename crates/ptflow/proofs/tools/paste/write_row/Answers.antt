@@ -1,28 +1,29 @@
 -- Each step writes the field of one more column. A failed write leaves a prefix of the row.
-use Rattle.ptflow.proofs.Common.{◌≡◌, ℕ, ◌+◌, ◌<◌, ◌≤◌, List, [], ◌∷◌, ◌++◌, Option, length, take, drop, get_or, sym, ◌∙◌, ap, subst, arith, length-take-le, length-drop, take_more, take-append-drop, take-take, drop_all, append-nil, append_assoc}
-use Rattle.ptflow.proofs.Common.{drop-append-le, err_from_is_err_and, Output, PushEffect, push_past_failure, push_trans, after_cell, cells_text}
+use Rattle.ptflow.proofs.Common.{◌≡◌, ℕ, ◌+◌, ◌<◌, ◌≤◌, List, [], ◌∷◌, ◌++◌, length, take, drop, get_or, sym, ◌∙◌, ap}
+use Rattle.ptflow.proofs.Common.{subst, arith, length-take-le, length-drop, take_more, take-append-drop, take-take}
+use Rattle.ptflow.proofs.Common.{drop_all, append-nil, append_assoc, drop-append-le, err_from_is_err_and, PushEffect}
+use Rattle.ptflow.proofs.Common.{push_past_failure, push_trans, RowShape, after_cell, cells_text, shape_of}
 use Rattle.std.proofs.lemmas.List.{length-take}
 use Rattle.ptflow.proofs.Passes.Prefix.{push_failed}
-use Rattle.ptflow.proofs.PasteLemmas.RowCells.{cells_text-append, cells_text-push}
+use Rattle.ptflow.proofs.PasteLemmas.RowsTaken.{cells_text-append, cells_text-push}
 use Rattle.ptflow.proofs.tools.paste.write_row.Goals as goal
 
-module _ (end : ℕ) (delims : List (Option ℕ)) (n first : ℕ) (lines : List (List ℕ)) where
+module _ (row : RowShape) (first : ℕ) (lines : List (List ℕ)) where
   -- The text of the fields in the slots before this column.
   abbrev text_to : ℕ → List ℕ
-  text_to k = cells_text end delims n first (drop first (take k lines))
+  text_to k = cells_text row first (drop first (take k lines))
 
   text_start : text_to first ≡ []
-  text_start = ap (cells_text end delims n first) (drop_all first (take first lines)
-      (omega (arith, length-take first lines)))
+  text_start = ap (cells_text row first) (drop_all first (take first lines) (omega (arith, length-take first lines)))
 
-  text_more : (k : ℕ) → first ≤ k → k < length lines → text_to (k + 1) ≡ text_to k
-      ++ (get_or lines k [] ++ after_cell end delims n k)
+  text_more : (k : ℕ) → first ≤ k → k < length lines
+      → text_to (k + 1) ≡ text_to k ++ (get_or lines k [] ++ after_cell row k)
   text_more k over low =
       let front = take k lines in
       let long : length front ≡ k = length-take-le k lines (omega (arith, low)) in
-      ap (cells_text end delims n first) (ap (drop first) (take_more lines k [] low)
+      ap (cells_text row first) (ap (drop first) (take_more lines k [] low)
       ∙ drop-append-le first front (get_or lines k [] ∷ []) (omega (arith, long, over)))
-      ∙ cells_text-push end delims n first (drop first front) (get_or lines k [])
+      ∙ cells_text-push row first (drop first front) (get_or lines k [])
       (omega (arith, over, long, length-drop first front))
 
   -- The text of further fields.
@@ -34,10 +35,9 @@ module _ (end : ℕ) (delims : List (Option ℕ)) (n first : ℕ) (lines : List 
       let long : length front ≡ k = length-take-le k lines (omega (arith, under, fits)) in
       let split : take all lines ≡ front ++ more = sym (take-append-drop k (take all lines))
       ∙ ap (λ (l : List (List ℕ)). l ++ more) (take-take k all lines under) in (
-        cells_text end delims n (first + length (drop first front)) more,
-        ap (cells_text end delims n first) (ap (drop first) split
-            ∙ drop-append-le first front more (omega (arith, long, over)))
-            ∙ cells_text-append end delims n first (drop first front) more,
+        cells_text row (first + length (drop first front)) more,
+        ap (cells_text row first) (ap (drop first) split ∙ drop-append-le first front more (omega (arith, long, over)))
+            ∙ cells_text-append row first (drop first front) more,
       )
 
 part_of_row : (front before piece rest : List ℕ) {next all : List ℕ} → next ≡ before ++ piece → all ≡ next ++ rest
@@ -46,19 +46,16 @@ part_of_row front before piece rest a b = rw (b, a) (simp append_assoc)
 
 pub returns-in_err-push : goal.returns-in_err-push
 returns-in_err-push g c =
-    let e = err_from_is_err_and c.from_residual.result c.from_residual.ensures.1 in
-    let row = c.args.row in
-    let all = text_to row.terminator row.delims.now (length row.cells.now) c.args.begun.count c.args.store.now.lines
-    (length row.cells.now) in
-    push_failed e.1 (push_past_failure c.args.out.now c.push.new.self (take c.args.begun.end c.args.into.now) all
+    let (fault, same, is) = err_from_is_err_and c.from_residual.result c.from_residual.ensures.1 in
+    let row = shape_of c.args.row in
+    let all = text_to row c.args.begun.count c.args.store.now.lines (length row.cells) in
+    push_failed same (push_past_failure c.args.out.now c.push.new.self (take c.args.begun.end c.args.into.now) all
     c.in_err-push.ensures.pushed.fault c.push.ensures.pushed.wrote) c.in_err-push.ensures.pushed.fault
 
 pub loop-column-init : goal.loop-column-init
 loop-column-init g c =
-    let row = c.args.row in
     let front = take c.args.begun.end c.args.into.now in
-    let none = text_start row.terminator row.delims.now (length row.cells.now) c.args.begun.count c.args.store.now.lines
-    in
+    let none = text_start (shape_of c.args.row) c.args.begun.count c.args.store.now.lines in
     record {
       wrote = subst (PushEffect c.args.out.now c.push.new.self)
           (sym (ap (λ (l : List ℕ). front ++ l) none ∙ append-nil front)) c.push.ensures.pushed.wrote;
@@ -68,40 +65,38 @@ loop-column-init g c =
 
 pub returns-in_err-write_slot : goal.returns-in_err-write_slot
 returns-in_err-write_slot g c =
-    let e = err_from_is_err_and c.from_residual-in_err-write_slot.result c.from_residual-in_err-write_slot.ensures.1 in
-    let row = c.args.row in
-    let size = length row.cells.now in
+    let (fault, same, is) = err_from_is_err_and c.from_residual-in_err-write_slot.result
+    c.from_residual-in_err-write_slot.ensures.1 in
+    let row = shape_of c.args.row in
+    let size = length row.cells in
     let first = c.args.begun.count in
     let lines = c.args.store.now.lines in
     let k = c.loop-column.column in
     let front = take c.args.begun.end c.args.into.now in
-    let before = text_to row.terminator row.delims.now size first lines k in
-    let piece = get_or lines k [] ++ after_cell row.terminator row.delims.now size k in
+    let before = text_to row first lines k in
+    let piece = get_or lines k [] ++ after_cell row k in
     let over : first ≤ k = omega (arith, c.loop-column.auto.column) in
-    let more = text_more row.terminator row.delims.now size first lines k over
-    (omega (arith, c.loop-column-test.true, c.requires.slots)) in
-    let rest = text_rest row.terminator row.delims.now size first lines (k + 1) size (omega (arith, over))
-    (omega (arith, c.loop-column-test.true)) c.requires.slots in
+    let more = text_more row first lines k over (omega (arith, c.loop-column-test.true, c.requires.slots)) in
+    let (rest, all) = text_rest row first lines (k + 1) size (omega (arith, over)) (omega
+    (arith, c.loop-column-test.true)) c.requires.slots in
     let wrote = push_trans c.args.out.now c.loop-column.out c.write_slot.new.out (front ++ before) piece
     c.loop-column.invariant.clean c.loop-column.invariant.wrote c.write_slot.ensures.wrote in
-    push_failed e.1
-    (subst (PushEffect c.args.out.now c.write_slot.new.out) (part_of_row front before piece rest.0 more rest.1)
-    (push_past_failure c.args.out.now c.write_slot.new.out ((front ++ before) ++ piece) rest.0
+    push_failed same
+    (subst (PushEffect c.args.out.now c.write_slot.new.out) (part_of_row front before piece rest more all)
+    (push_past_failure c.args.out.now c.write_slot.new.out ((front ++ before) ++ piece) rest
     c.in_err-write_slot.ensures.fault wrote)) c.in_err-write_slot.ensures.fault
 
 pub loop-column-preserved : goal.loop-column-preserved
 loop-column-preserved g c =
-    let row = c.args.row in
-    let size = length row.cells.now in
+    let row = shape_of c.args.row in
     let first = c.args.begun.count in
     let lines = c.args.store.now.lines in
     let k = c.loop-column.column in
     let front = take c.args.begun.end c.args.into.now in
-    let before = text_to row.terminator row.delims.now size first lines k in
-    let piece = get_or lines k [] ++ after_cell row.terminator row.delims.now size k in
+    let before = text_to row first lines k in
+    let piece = get_or lines k [] ++ after_cell row k in
     let over : first ≤ k = omega (arith, c.loop-column.auto.column) in
-    let more = text_more row.terminator row.delims.now size first lines k over
-    (omega (arith, c.loop-column-test.true, c.requires.slots)) in
+    let more = text_more row first lines k over (omega (arith, c.loop-column-test.true, c.requires.slots)) in
     record {
       wrote = subst (PushEffect c.args.out.now c.write_slot.new.out)
           (append_assoc front before piece ∙ ap (λ (l : List ℕ). front ++ l) (sym more))

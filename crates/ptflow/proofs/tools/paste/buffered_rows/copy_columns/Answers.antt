@@ -1,8 +1,8 @@
 -- Each step copies the field of one more column and the byte after it. It ends at a field that cannot be copied, and
 -- then nothing was consumed.
-use Rattle.ptflow.proofs.Common.{◌≡◌, ◌+◌, ◌<◌, ◌≤◌, ◌%◌, ℕ, List, length, take, set, get_or, refl, sym, ◌∙◌, ap, subst, arith, CopyColumnsPost, Reader, reader_at, set-get_or, mod-add-mod}
+use Rattle.ptflow.proofs.Common.{◌≡◌, ◌+◌, ◌%◌, ℕ, length, take, set, get_or, refl, ◌∙◌, ap, arith, set-get_or}
+use Rattle.ptflow.proofs.Common.{mod-add-mod}
 use borrow.Author.Rules.{scaled_Fits}
-use Rattle.ptflow.proofs.PasteLemmas.Cycle.{next_index}
 use Rattle.ptflow.proofs.PasteLemmas.FillRow.{at_index}
 use Rattle.ptflow.proofs.PasteLemmas.Grid.{uses_before_lt}
 use Rattle.ptflow.proofs.PasteLemmas.BufferedRows.{columns_start, columns_more, still_readable}
@@ -19,7 +19,7 @@ loop-column-init g c = record {
 }
 
 pub offset_bounds-readers-input : goal.offset_bounds-readers-input
-offset_bounds-readers-input g c = let low = c.requires.readable.0 c.loop-column.column 0
+offset_bounds-readers-input g c = let low = c.requires.readable.within c.loop-column.column 0
     c.loop-column-test.true in search (scaled_Fits, low)
 
 pub returns-in-None-clause-cells : goal.returns-in-None-clause-cells
@@ -36,13 +36,13 @@ loop-column-preserved g c =
     let n = c.loop-column.column in
     let inv = c.loop-column.invariant in
     let input = get_or cells n 0 in
-    let ready = still_readable c.args.row.terminator cells inv.copied.consumed c.requires.readable in
+    let ready = still_readable inv.copied.consumed c.requires.readable in
     record {
       copied = columns_more inv.copied c.loop-column-test.true ready
           (omega (arith, uses_before_lt cells n c.loop-column-test.true)) c.copy_cell.new.reader
-          (at_index c.loop-column.readers input c.index-readers-input.result (ready.0 n 0 c.loop-column-test.true))
-          c.in-Some.ensures.was_sound c.in-Some.has_line
-          (take c.in-Some.at c.copy_cell.new.into) c.in-Some.ensures.cell c.copy_byte_after-end.ensures.copied;
+          (at_index c.loop-column.readers input c.index-readers-input.result (ready.within n 0 c.loop-column-test.true))
+          c.in-Some.ensures.was_sound c.in-Some.field.is_line
+          (take c.in-Some.field.end c.copy_cell.new.into) c.in-Some.ensures.cell c.copy_byte_after-end.ensures.copied;
       within = omega (arith, c.loop-column-test.true);
       grows = omega (arith, inv.grows, c.in-Some.ensures.size_bound, c.copy_byte_after-end.ensures.size_bound);
       size_bound = c.copy_byte_after-end.ensures.size_bound.1;

@@ -5,4 +5,5 @@ pub returns-clause-copied : goal.returns-clause-copied
 returns-clause-copied g c =
     let lanes = chunk 0 g.row.N c.args.bytes.now in
     let long = length-chunk 0 g.row.N c.args.bytes.now (omega (arith, c.requires.0)) in
-    take_more_put_chunk c.args.at c.args.into.now lanes (c.args.at + g.row.N) (omega (arith, long)) (omega (arith, c.requires.1))
+    take_more_put_chunk c.args.at c.args.into.now lanes (c.args.at + g.row.N) (omega (arith, long))
+    (omega (arith, c.requires.1))

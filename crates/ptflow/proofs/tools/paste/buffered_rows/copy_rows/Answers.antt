@@ -1,8 +1,9 @@
 -- Each step copies one more row. The loop ends at a row that is not complete.
-use Rattle.ptflow.proofs.Common.{◌≡◌, ◌<◌, ◌≤◌, Bool, true, false, not, [], length, refl, sym, arith}
+use Rattle.ptflow.proofs.Common.{◌≡◌, Bool, true, false, not, [], refl, sym, arith}
 use Rattle.ptflow.proofs.PasteLemmas.FillRow.{fill_starts}
 use Rattle.ptflow.proofs.PasteLemmas.RowsTaken.{rows_taken_none}
-use Rattle.ptflow.proofs.PasteLemmas.BufferedRows.{consumed_none, consumed_trans, still_readable, rows_and_begun, rows_more}
+use Rattle.ptflow.proofs.PasteLemmas.BufferedRows.{consumed_none, consumed_trans, still_readable, rows_and_begun}
+use Rattle.ptflow.proofs.PasteLemmas.BufferedRows.{rows_more}
 use Rattle.ptflow.proofs.tools.paste.buffered_rows.copy_rows.Goals as goal
 
 has_line : (any_line : Bool) → not any_line ≡ false → any_line ≡ true
@@ -19,7 +20,7 @@ rows-init g c = record {
 }
 
 pub copy_columns-begun-requires-clause-readable : goal.copy_columns-begun-requires-clause-readable
-copy_columns-begun-requires-clause-readable g c = still_readable c.args.row.terminator c.args.row.cells.now
+copy_columns-begun-requires-clause-readable g c = still_readable
     c.rows.invariant.consumed c.requires
 
 pub returns-then-begun-row-clause-rows : goal.returns-then-begun-row-clause-rows
@@ -36,8 +37,7 @@ pub rows-preserved : goal.rows-preserved
 rows-preserved g c =
     let p = c.copy_columns-begun.ensures.cells in
     record {
-      rows = rows_more c.rows.invariant.rows (still_readable c.args.row.terminator c.args.row.cells.now
-          c.rows.invariant.consumed c.requires) p
+      rows = rows_more c.rows.invariant.rows (still_readable c.rows.invariant.consumed c.requires) p
           (omega (arith, c.if-begun-row.false, c.copy_columns-begun.ensures.within)) (has_line _ c.if-not-begun.false);
       consumed = consumed_trans c.rows.invariant.consumed p.consumed;
       size_bound = c.copy_columns-begun.result.size_bound;

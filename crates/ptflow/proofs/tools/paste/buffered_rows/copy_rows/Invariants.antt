@@ -1,10 +1,10 @@
 -- Rows were copied up to `end`, and their lines were consumed. Each row takes a line.
-use Rattle.ptflow.proofs.Common.{◌≡◌, ◌≤◌, length, take, sum_by, budget, AreConsumed, RowsTaken}
+use Rattle.ptflow.proofs.Common.{◌≡◌, ◌≤◌, length, take, sum_by, budget, AreConsumed, RowsTaken, shape_of}
 use Rattle.ptflow.proofs.tools.paste.buffered_rows.copy_rows.Given as goal
 
 abbrev pub invariant-rows : goal.invariant-rows
 invariant-rows g l = record {
-  rows : RowsTaken l.row.terminator l.row.delims.now l.row.cells.now l.fn.readers l.readers (take l.end l.into);
+  rows : RowsTaken (shape_of l.row) l.fn.readers l.readers (take l.end l.into);
   consumed : AreConsumed l.fn.readers l.readers;
   size_bound : l.end ≤ 8192;
   buffer_size : length l.into ≡ 8208;

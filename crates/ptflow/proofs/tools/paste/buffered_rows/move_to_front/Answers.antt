@@ -1,4 +1,5 @@
-use Rattle.ptflow.proofs.Common.{◌≡◌, ◌+◌, ◌-◌, ◌≤◌, ℕ, List, length, take, drop, sym, ◌∙◌, ap, arith, length-drop, drop-take}
+use Rattle.ptflow.proofs.Common.{◌≡◌, ◌+◌, ◌-◌, ◌≤◌, ℕ, List, length, take, drop, sym, ◌∙◌, ap, arith, length-drop}
+use Rattle.ptflow.proofs.Common.{drop-take, begun_in}
 use lib.Seq.{paste}
 use Rattle.std.proofs.lemmas.List.Edits.{take-paste}
 use Rattle.ptflow.proofs.tools.paste.buffered_rows.move_to_front.Goals as goal
@@ -12,8 +13,10 @@ moved at to bytes further fits =
     ∙ take-paste bytes 0 (drop at bytes) (to - at) (omega arith) (omega (arith, length-drop at bytes))
     ∙ sym (drop-take at (to - at) bytes) ∙ ap (λ (k : ℕ). drop at (take k bytes)) split
 
-pub returns-clause-moved : goal.returns-clause-moved
-returns-clause-moved c =
-    ap (take (c.args.copied.begun.end - c.args.copied.end)) c.copy_within.ensures.after
-    ∙ moved c.args.copied.end c.args.copied.begun.end c.args.into.now c.args.copied.order
-    (omega (arith, c.args.copied.begun.size_bound, c.told-into))
+pub returns : goal.returns
+returns c = λ readers.
+    let rows = c.args.copied in
+    ap (λ (text : List ℕ). record (begun_in readers rows.begun c.args.into.now) { text = text })
+    (ap (take (rows.begun.end - rows.end)) c.copy_within.ensures.after
+    ∙ moved rows.end rows.begun.end c.args.into.now rows.order
+    (omega (arith, rows.begun.size_bound, c.told-into)))

@@ -7,4 +7,5 @@ pub returns-clause-copied_as : goal.returns-clause-copied_as
 returns-clause-copied_as g c =
     let copied = c.copy_cells-at in
     rw (take_more_set copied.new.into copied.result.0 c.args.last (omega arith))
-    (copied_last c.args.terminator c.args.delims.now c.args.number copied.result.1 c.args.last c.args.bytes.now (take copied.result.0 copied.new.into) copied.ensures.copied_as c.if-last-terminator.false)
+    (copied_last c.args.terminator c.args.delims.now c.args.number copied.result.1 c.args.last c.args.bytes.now
+    (take copied.result.0 copied.new.into) copied.ensures.copied_as c.if-last-terminator.false)

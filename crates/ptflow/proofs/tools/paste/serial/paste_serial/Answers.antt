@@ -1,27 +1,32 @@
 -- `SerialPaste` is a block filter for `paste -s`: at the start of a row the rest of the row is the whole output, and
 -- the delimiters and the terminator do not change from block to block.
-use Rattle.ptflow.proofs.Common.{◌≡◌, ℕ, false, cond, ◌++◌, refl, sym, ◌∙◌, ap, paste_job, paste_serial_tool, serial_rest}
+use Rattle.ptflow.proofs.Common.{◌≡◌, ℕ, false, cond, ◌++◌, refl, sym, ◌∙◌, ap, paste_job, paste_serial_tool}
+use Rattle.ptflow.proofs.Common.{serial_rest}
 use Rattle.std.proofs.Common.{rules}
 use Rattle.ptflow.proofs.Passes.Exits.{pass_unchanged, storeless_set}
 use Rattle.ptflow.proofs.PasteLemmas.SerialRest.{serial_is_decided}
 use Rattle.ptflow.proofs.tools.paste.serial.paste_serial.Goals as goal
 
 pub returns-then-has_failed : goal.returns-then-has_failed
-returns-then-has_failed g c = pass_unchanged (paste_serial_tool (paste_job c.args.job.now)) c.args.reader.now c.args.out.now c.args._store.now c.requires (sym c.has_failed.ensures ∙ c.if-has_failed.true)
+returns-then-has_failed g c = pass_unchanged (paste_serial_tool (paste_job c.args.job.now)) c.args.reader.now
+    c.args.out.now c.args._store.now c.requires (sym c.has_failed.ensures ∙ c.if-has_failed.true)
 
 pub returns : goal.returns
 returns g c =
     let job = paste_job c.args.job.now in
     let end : c.terminator.result ≡ job.terminator = search rules in
-    storeless_set (paste_serial_tool job) (cond c.args.job.now.zero 0 10) c.args.reader.now c.set_ending.new.self c.run_blocks.new.reader c.args.out.now c.run_blocks.new.out
-    c.args._store.now c.set_ending.ensures.set c.run_blocks.result (sym c.has_failed.ensures ∙ c.if-has_failed.false) c.requires
+    storeless_set (paste_serial_tool job) (cond c.args.job.now.zero 0 10) c.args.reader.now c.set_ending.new.self
+    c.run_blocks.new.reader c.args.out.now c.run_blocks.new.out
+    c.args._store.now c.set_ending.ensures.set c.run_blocks.result (sym c.has_failed.ensures ∙ c.if-has_failed.false)
+    c.requires
     (λ store ready.
     c.run_blocks.ensures (paste_serial_tool job)
     (record {
       text = λ bytes. ap (λ (e : ℕ). serial_rest e job.delimiters (record { number = 0; complete = false }) bytes) end;
       decided = λ given pushed now holds on.
           serial_is_decided job given pushed now.cell
-          (λ rest. (λ i. serial_rest (sym end i) job.delimiters (record { number = 0; complete = false }) (given ++ rest)) ∙ on rest
+          (λ rest. (λ i. serial_rest (sym end i) job.delimiters (record { number = 0; complete = false })
+          (given ++ rest)) ∙ on rest
           ∙ (λ i. pushed ++ serial_rest ((holds.1 ∙ end) i) (holds.0 i) now.cell rest));
       holds = (refl, refl);
       slots = refl;

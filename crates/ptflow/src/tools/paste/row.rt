@@ -1,0 +1,36 @@
+//! A row of `paste`: the shape that all rows have, and how much of one is copied.
+
+ghost use Rattle.std.specs.Prelude.{◌<◌, ◌≤◌, length};
+
+// The columns of a row: the index of the reader of each, the list of delimiters, and the terminator of lines and rows.
+#[derive(Clone, Copy)]
+pub(crate) struct RowFormat<'a> {
+    pub delims: &'a [Option<u8>],
+    pub terminator: u8,
+    pub cells: &'a [usize],
+    ghost some: { 0 < length delims.now },
+}
+
+// A field that was copied up to `end`, and whether it is a line. The input has ended if it is not.
+#[derive(Clone, Copy)]
+pub(crate) struct CopiedField {
+    pub end: usize,
+    pub is_line: bool,
+}
+
+// A row of which the first `count` columns were copied, up to `end`, and whether any of its columns has a line so far.
+#[derive(Clone, Copy)]
+pub(crate) struct BegunRow {
+    pub count: usize,
+    pub end: usize,
+    pub any_line: bool,
+    ghost size_bound: { end ≤ 8192 },
+}
+
+// Rows that were copied up to `end`, and a begun row after them.
+#[derive(Clone, Copy)]
+pub(crate) struct CopiedRows {
+    pub end: usize,
+    pub begun: BegunRow,
+    ghost order: { end ≤ begun.end },
+}
