@@ -22,12 +22,12 @@ abbrev decided_of : Join → List ℕ → Bool → List ℕ → Bool → List �
 decided_of job f ended1 g ended2 = decided_output (join_tool job) (both (record { bytes = f; eof = ended1 }) (record { bytes = g; eof = ended2 }))
 
 -- The bound on the bytes in the store.
-abbrev holds : List ℕ → List ℕ → ℕ
-holds f g = let tool = join_tool default_join in tool.size (both (lines 10 f) (lines 10 g))
+abbrev holds : Join → List ℕ → List ℕ → ℕ
+holds job f g = let tool = join_tool job in tool.size (both (lines 10 f) (lines 10 g))
 
 -- The bound on the number of slots.
-abbrev slots_for : List ℕ → List ℕ → ℕ
-slots_for f g = let tool = join_tool default_join in tool.slots (both (lines 10 f) (lines 10 g))
+abbrev slots_for : Join → List ℕ → List ℕ → ℕ
+slots_for job f g = let tool = join_tool job in tool.slots (both (lines 10 f) (lines 10 g))
 
 -- ---- fields
 
@@ -131,8 +131,14 @@ below_received = refl
 a_group_that_may_go_on : decided_of (record default_join { unpaired1 = true }) (codes "0\na 1\n") true (codes "a x\n") false ≡ codes "0\n"
 a_group_that_may_go_on = refl
 
-largest_group_counts : holds (codes "a 1\n") (codes "a xy\na z\nb 12345\n") ≡ 2 * 3 + 2 * 7 + 7
+largest_group_counts : holds default_join (codes "a 1\n") (codes "a xy\na z\nb 12345\n") ≡ 2 * 3 + 2 * 7 + 7
 largest_group_counts = refl
 
-most_lines_count : slots_for (codes "a 1\na 2\na 3\n") (codes "a xy\na z\nb 12345\n") ≡ 4 + 2
+most_lines_count : slots_for default_join (codes "a 1\na 2\na 3\n") (codes "a xy\na z\nb 12345\n") ≡ 4 + 2
 most_lines_count = refl
+
+no_group_without_pairs : holds (record default_join { pairs = false }) (codes "a 1\n") (codes "a xy\na z\nb 12345\n") ≡ 2 * 3 + 2 * 7
+no_group_without_pairs = refl
+
+no_slots_without_pairs : slots_for (record default_join { pairs = false }) (codes "a 1\na 2\na 3\n") (codes "a xy\na z\nb 12345\n") ≡ 4
+no_slots_without_pairs = refl

@@ -422,6 +422,26 @@ const PULL_EXAMPLES: &[Example] = &[
             ..ANY
         },
     },
+    // The bound is the bytes of four lines: without pairs no group is kept.
+    Example {
+        name: "without pairs nothing is copied",
+        job: Job::Join(Options {
+            pairs: false,
+            unpaired: [true, true],
+            ..DEFAULT_JOB
+        }),
+        case: Case {
+            first: b"a 1\na 2\nb 3\n",
+            second: b"a x\na y\na z\nc w\n",
+            ..BOTH_EMPTY
+        },
+        expected: Expected {
+            result: OK,
+            bytes: Some(b"b 3\nc w\n"),
+            peak: (4 * 3, 4 * 3),
+            ..ANY
+        },
+    },
     // The bound is the bytes of four lines: a line that has its key alone is not copied.
     Example {
         name: "a line alone of its key is kept once",

@@ -46,6 +46,7 @@ pub use Rattle.ptmerge.specs.MergeSpec.{FirstDisorder, Lines, MergeTool, entries
 pub use Rattle.ptmerge.specs.MergeSpec.{keys, lines_of, merge_output, merged_entries, sorted_prefixes, sorted_prefix, disorder_is_decided, is_up_to, lines_with_key}
 pub use Rattle.ptmerge.specs.WriteAndAdvance.{IsReadyToContinue, AdvanceOkPost, WriteFaultPost, WriteThenNextPost, AdvancePre}
 pub use Rattle.ptmerge.specs.MergeCall.{AreConsistent, MergeRunPre, MergeEndPost, MergePost, MergePre, IsMergeUnread, IsExactMerge, IsDisorderAt, MergeState, with_terminator, merge_state}
+pub use Rattle.ptmerge.specs.MergeCall.{HasNoLine, HasOneLineAndBlock, IsUnfinished, IsUnreadWithoutSlots}
 pub use Rattle.ptmerge.specs.Orders.{Cmp, Key, byte_cmp, line_cmp}
 pub use Rattle.ptmerge.specs.Parts.{CommByKey, IsSplittableByKey, IsConcatOfParts, JoinByKey, CommOfParts, JoinOfParts, text_of_part, output_lines}
 pub use Rattle.ptmerge.specs.Cursor.{NextErrPost, NextOkPost, HasSlots, initial_cursor, same_key_at, base_slot, status_at}

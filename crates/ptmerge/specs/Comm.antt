@@ -1,5 +1,5 @@
 -- The output of `comm`, as an instance of a merge of two inputs by whole lines.
-use Rattle.std.specs.Prelude.{ℕ, ◌-◌, ◌+◌, ◌*◌, List, [], ◌∷◌, ◌++◌, length, min, Bool, if◌then◌else◌, replicate}
+use Rattle.std.specs.Prelude.{ℕ, ◌-◌, ◌+◌, ◌*◌, List, [], ◌∷◌, ◌++◌, length, min, Bool, false, if◌then◌else◌, replicate}
 use Rattle.std.specs.Str.{byte}
 use Rattle.ptlines.specs.Text.{max_length}
 use Rattle.ptlangs.specs.Jobs.{Comm}
@@ -33,6 +33,7 @@ comm_with job cmp key = record {
   entries = λ line g1 g2. entries job line (length g1) (length g2);
   size = λ ls. 2 * max_length (ls First) + 2 * max_length (ls Second);
   slots = λ ls. 4;
+  keeps_groups = false;
 }
 
 -- `comm`: the keys are the whole lines, in byte order or its reverse.

@@ -109,15 +109,17 @@ max_group_bytes key ls = max_over_keys total_bytes key ls ls
 abbrev pub max_group_lines : Key → Lines → ℕ
 max_group_lines key ls = max_over_keys length key ls ls
 
--- `join` in an order `cmp` of keys. It stores at most two lines of each input, and the second input's lines of one key.
+-- `join` in an order `cmp` of keys. It stores at most two lines of each input and, if pairs are written, the second
+-- input's lines of one key.
 abbrev pub join_with : Join → Cmp → (Side → Key) → MergeTool
 join_with job cmp key = record {
   terminator = job.terminator;
   cmp = cmp;
   key = key;
   entries = join_entries job;
-  size = λ ls. 2 * max_length (ls First) + 2 * max_length (ls Second) + max_group_bytes (key Second) (ls Second);
-  slots = λ ls. 4 + max_group_lines (key Second) (ls Second);
+  size = λ ls. 2 * max_length (ls First) + 2 * max_length (ls Second) + (if job.pairs then max_group_bytes (key Second) (ls Second) else 0);
+  slots = λ ls. 4 + (if job.pairs then max_group_lines (key Second) (ls Second) else 0);
+  keeps_groups = job.pairs;
 }
 
 -- `join`: the keys are the join fields, in byte order or its reverse.

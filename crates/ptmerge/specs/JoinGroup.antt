@@ -66,36 +66,44 @@ pub record ClearGroupPost (before after : Slots) (end : ℕ) : Type 0 where
   pub peak : after.peak ≤ max before.peak (total_bytes before.lines)
   pub denied : after.denied ≡ before.denied
 
--- After the second input has advanced: its previous line either is the only one of its key, and stays in its slot, or
--- was copied to the group, as one of several.
-abbrev pub GroupLinePost : Sorted → Slots → Slots → ℕ → ℕ → Type 0
-GroupLinePost new made after end next =
-    ((new.same ≡ false) × (end ≡ 4) × (next ≡ end) × (after ≡ made))
-    ⊎ ((next ≡ end + 1) × CopyToGroupPost made after new.previous_slot end × ((new.same ≡ true) ⊎ (4 < end)))
+-- After the second input has advanced, its previous line stays in its slot: no group is kept, or the line is the only
+-- one of its key.
+pub record IsInItsSlot (keep : Bool) (new : Sorted) (made after : Slots) (end next : ℕ) : Type 0 where
+  pub alone : (keep ≡ false) ⊎ ((new.same ≡ false) × (end ≡ 4))
+  pub end_is : next ≡ end
+  pub store_is : after ≡ made
+
+-- After the second input has advanced, its previous line was copied to the group, as one of several.
+pub record IsCopiedToGroup (keep : Bool) (new : Sorted) (made after : Slots) (end next : ℕ) : Type 0 where
+  pub keeps : keep ≡ true
+  pub end_is : next ≡ end + 1
+  pub copied : CopyToGroupPost made after new.previous_slot end
+  pub several : (new.same ≡ true) ⊎ (4 < end)
 
 -- The postcondition of `read_group_line` if it succeeds: the second input advanced, and its previous line was copied if
 -- needed.
-pub record ReadGroupLineOkPost (key : Key) (cmp : Cmp) (old new : Sorted) (was is : Reader) (before after : Slots) (end next : ℕ) : Type 0 where
+pub record ReadGroupLineOkPost (keep : Bool) (key : Key) (cmp : Cmp) (old new : Sorted) (was is : Reader) (before after : Slots) (end next : ℕ) : Type 0 where
   pub made : Slots
   pub came : NextOkPost key cmp old new was is before made
-  pub kept : GroupLinePost new made after end next
+  pub kept : IsInItsSlot keep new made after end next ⊎ IsCopiedToGroup keep new made after end next
 
 -- The postcondition of `read_group_line` if the second input advanced, and its previous line could not be copied.
-pub record CopyFaultPost (key : Key) (cmp : Cmp) (old new : Sorted) (was is : Reader) (before after : Slots) (end : ℕ) (fault : MergeFault) : Type 0 where
+pub record CopyFaultPost (keep : Bool) (key : Key) (cmp : Cmp) (old new : Sorted) (was is : Reader) (before after : Slots) (end : ℕ) (fault : MergeFault) : Type 0 where
+  pub keeps : keep ≡ true
   pub made : Slots
   pub came : NextOkPost key cmp old new was is before made
   pub memory : fault ≡ Memory
   pub copy_failed : CopyToGroupErrPost made after end
 
 -- The postcondition of `read_group_line` if a read failed or the store could not grow.
-abbrev pub ReadGroupLineErrPost : Key → Cmp → Sorted → Sorted → Reader → Reader → Slots → Slots → ℕ → MergeFault → Type 0
-ReadGroupLineErrPost key cmp old new was is before after end fault = CopyFaultPost key cmp old new was is before after end fault ⊎ NextErrPost Second old was is before after fault
+abbrev pub ReadGroupLineErrPost : Bool → Key → Cmp → Sorted → Sorted → Reader → Reader → Slots → Slots → ℕ → MergeFault → Type 0
+ReadGroupLineErrPost keep key cmp old new was is before after end fault = CopyFaultPost keep key cmp old new was is before after end fault ⊎ NextErrPost Second old was is before after fault
 
 -- The postcondition of `read_group_line`. A failed write means that nothing was read.
-abbrev pub ReadGroupLinePost : Key → Cmp → Sorted → Sorted → Reader → Reader → Slots → Slots → Output → ℕ → Result ℕ MergeFault → Type 0
-ReadGroupLinePost key cmp old new was is before after out end (Ok next) = ReadGroupLineOkPost key cmp old new was is before after end next
-ReadGroupLinePost key cmp old new was is before after out end (Err fault) =
-    ((fault ≡ Write) × WriteFaultPost was is before after out) ⊎ ((out.write_failed ≡ false) × ReadGroupLineErrPost key cmp old new was is before after end fault)
+abbrev pub ReadGroupLinePost : Bool → Key → Cmp → Sorted → Sorted → Reader → Reader → Slots → Slots → Output → ℕ → Result ℕ MergeFault → Type 0
+ReadGroupLinePost keep key cmp old new was is before after out end (Ok next) = ReadGroupLineOkPost keep key cmp old new was is before after end next
+ReadGroupLinePost keep key cmp old new was is before after out end (Err fault) =
+    ((fault ≡ Write) × WriteFaultPost was is before after out) ⊎ ((out.write_failed ≡ false) × ReadGroupLineErrPost keep key cmp old new was is before after end fault)
 
 -- The slots from `from` to before `end` exist, and their lines have the key `k`.
 pub record SlotsHaveKey (key : Key) (store : Slots) (from end : ℕ) (k : List ℕ) : Type 0 where

@@ -1,14 +1,16 @@
 -- The precondition and the postcondition of a tool that merges two inputs, such as `comm` and `join`.
-use Rattle.std.specs.Prelude.{◌≡◌, ◌≤◌, ◌<◌, ◌^◌, ℕ, true, false, List, Option, None, Some, Result, Ok, Err, length, max}
+use Rattle.std.specs.Prelude.{◌≡◌, ◌≢◌, ◌⊎◌, ◌≤◌, ◌<◌, ◌++◌, ◌^◌, ℕ, true, false, List, Option, None, Some, Result, Ok, Err, length, max}
 use Rattle.ptlines.specs.Received.{Received, IsPrefix, IsConsistent, HasReceived}
 use Rattle.ptlines.specs.Lag.{LaggedInput, BoundedLag}
 use Rattle.ptlines.specs.Outputs.{Output, PushEffect}
 use Rattle.ptlines.specs.Readers.{Reader, IsDone, IsSound, HasReadCause}
 use Rattle.ptlines.specs.Slots.{Slots, total_bytes}
+use Rattle.ptlines.specs.Text.{IsLine, lines}
 use Rattle.ptmerge.specs.declared.faults.MergeFault.{MergeFault}
 use Rattle.ptmerge.specs.declared.faults.MergeFault.TheVariants.{Read, Write, Memory}
 use Rattle.ptmerge.specs.declared.faults.MergeFault.TheVariants as faults
 use Rattle.ptmerge.specs.declared.key_order.Side.{Side}
+use Rattle.ptmerge.specs.declared.key_order.Side.TheVariants.{First, Second}
 use Rattle.ptmerge.specs.MergeSpec.{MergeTool, MergeDisorder, merge_output, decided_output, disorder, lines_of, disorder_is_decided}
 use Rattle.ptmerge.specs.Sides.{both, other, with_side}
 
@@ -106,6 +108,31 @@ pub record IsMergeUnread (old new : MergeState) : Type 0 where
 abbrev pub with_terminator : ℕ → MergeState → MergeState
 with_terminator end s = record s { reader = λ side. record (s.reader side) { terminator = end } }
 
+-- If one of the first four slots is missing after the call, since it could not be added, nothing was read or written;
+-- the terminator of both readers was set.
+abbrev pub IsUnreadWithoutSlots : ℕ → MergeState → MergeState → Type 0
+IsUnreadWithoutSlots end old new = old.out.write_failed ≡ false → length new.store.lines < 4 → IsMergeUnread (with_terminator end old) new
+
+-- ---- the order of the first reads
+
+-- An input has given neither a whole line nor its end: there is no terminator among the bytes received.
+pub record HasNoLine (end : ℕ) (given : Received) : Type 0 where
+  pub line : IsLine end given.bytes
+  pub eof : given.eof ≡ false
+
+-- Nothing was read from an input after its first line was there: at most one block (8,192 bytes) follows this line.
+pub record HasOneLineAndBlock (end : ℕ) (given : Received) : Type 0 where
+  pub first : List ℕ
+  pub rest : List ℕ
+  pub split : given.bytes ≡ first ++ rest
+  pub one_line : length (lines end first) ≤ 1
+  pub block : length rest ≤ 8192
+
+-- The first line of the first input is read, then that of the second input, and only then further lines.
+pub record AreFirstReadsInOrder (end : ℕ) (old new : MergeState) (given : Side → Received) : Type 0 where
+  pub second_unread : HasNoLine end (given First) → new.reader Second ≡ record (old.reader Second) { terminator = end }
+  pub first_waits : HasNoLine end (given Second) → HasOneLineAndBlock end (given First)
+
 -- ---- the output
 
 -- Two texts from which the bytes received so far may come.
@@ -124,6 +151,13 @@ IsExactMerge tool input pushed (Err (faults.Disorder side number)) = (pushed ≡
 IsExactMerge tool input pushed (Err (Read side)) = Unit {0}
 IsExactMerge tool input pushed (Err Write) = Unit {0}
 IsExactMerge tool input pushed (Err Memory) = Unit {0}
+
+-- Something was left to do: an input is not at its end, or it is for the lines of a key that memory was requested, and
+-- a part of the output is missing.
+abbrev pub IsUnfinished : MergeTool → MergeState → (Side → Received) → List ℕ → Type 0
+IsUnfinished tool new given pushed =
+    ((side : Side) × ¬ IsDone (new.reader side))
+    ⊎ ((tool.keeps_groups ≡ true) × ((input : Side → List ℕ) → AreConsistent given input → pushed ≢ merge_output tool input))
 
 -- The postcondition of a call, given the bytes that it received from each input.
 pub record MergePost (tool : MergeTool) (old new : MergeState) (result : Result (Unit {0}) MergeFault) : Type 0 where
@@ -144,6 +178,10 @@ pub record MergePost (tool : MergeTool) (old new : MergeState) (result : Result 
   -- reading stops after a disorder: two blocks of the input `side` earlier, the disorder was not yet decided
   pub stops_at_disorder : (side : Side) → old.out.write_failed ≡ false
       → (before : LaggedInput (given side)) × (disorder_is_decided tool (with_side side before.earlier given) ≡ false)
+  -- the second input is not read before the first input has given a line, nor the first one further before the second
+  pub first_reads : old.out.write_failed ≡ false → AreFirstReadsInOrder tool.terminator old new given
+  -- memory is requested for the first four slots, or for something that is left to do
+  pub unfinished : result ≡ Err Memory → 4 ≤ length new.store.lines → IsUnfinished tool new given pushed
   -- the store never held more bytes than the tool's measure of the inputs
   pub peak : (input : Side → List ℕ) → AreConsistent given input
       → new.store.peak ≤ max old.store.peak (tool.size (lines_of tool input))

@@ -3,17 +3,17 @@
 -- inputs are past the key, the group is complete, and counts as processed.
 use Rattle.ptmerge.proofs.Common.{◌≡◌, ⊎_elim, inl, inr, ℕ, ◌+◌, ◌*◌, ◌≤◌, ◌<◌, ◌&&◌, Bool, true, false, List, [], ◌∷◌, ◌++◌, Some, Err, length, max, refl, sym, ◌∙◌, ap, subst, arith}
 use Rattle.ptmerge.proofs.Common.{append_assoc, bytes_eq, bytes_decides, is_gt, false≢true, append-nil, Output, PushEffect, Reader, ReaderAdvance, IsSound, Slots, line, total_bytes, with_line, unlines, IsLine, max_length}
-use Rattle.ptmerge.proofs.Common.{push_trans, unlines-append, MergeFault, Read, Memory, Side, First, Second, Sorted, CursorStatus, Head, Ended, Disorder, is_head, max_group_bytes, max_group_lines, Lines, MergeTool}
+use Rattle.ptmerge.proofs.Common.{push_trans, unlines-append, MergeFault, Read, Memory, Side, First, Second, Sorted, CursorStatus, Head, Ended, Disorder, is_head, length-append, Lines, MergeTool}
 use Rattle.ptmerge.proofs.Common.{entries_by_key, entries_of_key, lines_with_key, MergeState, MergePost, NextErrPost, NextOkPost, HasSlots, with_side, other, PrecedesInput, disorder, merged_entries, sorted_prefixes, is_up_to, MergeEndPost, IsExactMerge, Cmp, Key}
 use Rattle.ptmerge.proofs.Common.{Write}
-use Rattle.ptmerge.proofs.MergeLemmas.Step.{slots_on, SidesInvariant, IsAbove, IsLineByLine, current_key_is_above, next_at, own_slots, passed_at, sides_invariant_continues, slots_apart, StoreInvariant}
+use Rattle.ptmerge.proofs.MergeLemmas.Step.{slots_on, SidesInvariant, IsAbove, IsLineByLine, current_key_is_above, next_at, own_slots, passed_at, sides_invariant_continues, slots_apart, StoreInvariant, buffered_not_done}
 use Rattle.ptmerge.proofs.MergeLemmas.Invariant.{Bound, AtLeast, MayFollow, IsUnder, MergeInvariant, InputSplit, MayCome, all_keys, splits_step, all_wanted, written_is_wanted}
-use Rattle.ptmerge.proofs.JoinLemmas.GroupSlots.{AllSlots, GroupStore, group_store_line, group_store_next, low_slot, put_more}
+use Rattle.ptmerge.proofs.JoinLemmas.GroupSlots.{AllSlots, GroupBounds, InGroup, largest_group, GroupStore, group_store_line, group_store_next, low_slot, put_more}
 use Rattle.ptmerge.proofs.MergeLemmas.Orders.{EachKey, EachKey-append, EachKey-weaker, at_most-same, front_first, front_is, others_of, lines_with_key-above, IsKeyOrder, AtMost, least_or_above, self_at_most}
 use Rattle.ptmerge.proofs.MergeLemmas.Orders.{at_most_trans}
 use Rattle.ptmerge.proofs.MergeLemmas.Slots.{put_both, put_each, put_other, put_same, side_case, has_lines_total, line_other}
-use Rattle.ptmerge.proofs.MergeLemmas.Exits.{SideAfterNext, IsAtCurrentLine, MatchesStatus, next_same_key, side_invariant_kept, IsFailedRead, Fits, ReadFacts, read_facts_after_line, read_facts_at_line, exit_facts, input_split_of}
-use Rattle.ptmerge.proofs.MergeLemmas.LinesRead.{Continues}
+use Rattle.ptmerge.proofs.MergeLemmas.Exits.{SideAfterNext, IsAtCurrentLine, MatchesStatus, next_same_key, side_invariant_kept, IsFailedRead, Fits, ReadFacts, read_facts_after_line, read_facts_at_line, exit_facts, input_split_of, LeavesWork, both_begun}
+use Rattle.ptmerge.proofs.MergeLemmas.LinesRead.{Continues, HasBegun}
 use Rattle.ptmerge.specs.declared.faults.MergeFault.TheVariants as faults
 
 -- ---- a fault within a group
@@ -41,8 +41,12 @@ pub record OutputInGroup (tool : MergeTool) (was mid : Output) (p g : Side → L
 pub record OutputStartsWith (tool : MergeTool) (g : Side → Lines) (d : Side → Bound) (k : List ℕ) (extra : Lines) : Type 0 where
   pub rest : (w : List ℕ → Bool) (r : Side → Lines) → MayCome tool d r → w k ≡ true → (rest : Lines) × (entries_by_key tool w (λ side. g side ++ r side) ≡ extra ++ rest)
 
+-- the group has entries, for all lines that may follow
+pub record HasEntries (tool : MergeTool) (g : Side → Lines) (d : Side → Bound) (k : List ℕ) : Type 0 where
+  pub some : (w : List ℕ → Bool) (r : Side → Lines) → MayCome tool d r → w k ≡ true → 0 < length (entries_by_key tool w (λ side. g side ++ r side))
+
 module _ {tool : MergeTool} (o : IsKeyOrder tool.cmp) (old new : MergeState) {now : Side → Reader} {piece : Side → List ℕ} {mid : Output} {ls p g : Side → Lines} {d : Side → Bound} {k : List ℕ}
-    {extra : Lines} (m : OutputInGroup tool old.out mid p g d k) (starts : OutputStartsWith tool g d k extra) (wrote : PushEffect mid new.out (unlines tool.terminator extra))
+    (m : OutputInGroup tool old.out mid p g d k)
     (gone : (side : Side) → ReadFacts tool.terminator tool.cmp (tool.key side) (old.reader side) (now side) (new.reader side) (piece side) (ls side) (p side ++ g side) (d side)) where
   open tool use {cmp, terminator, key}
 
@@ -65,42 +69,60 @@ module _ {tool : MergeTool} (o : IsKeyOrder tool.cmp) (old new : MergeState) {no
     wanted x h = written_is_wanted _ o (d First) (d Second) _ _ x
         (seen.may_disorder First) (seen.may_disorder Second) (under_lower o (d First) x k h (m.under First)) (under_lower o (d Second) x k h (m.under Second))
 
-    all_is : (rest : Lines) × (merged_entries tool all ≡ (front ++ extra) ++ rest)
-    all_is =
-        let w = is_up_to cmp (disorder tool all) in
-        let s = starts.rest w seen.r seen.may_follow (wanted k (self_at_most cmp o k)) in
-        let at_current_line = all_wanted tool w p (λ side. EachKey-weaker (λ x. AtMost cmp x k) (λ x. w x ≡ true) wanted (key side) (p side) (m.merge_invariant.under First side)) in
-        (s.0, parts w ∙ (λ i. at_current_line i ++ s.1 i) ∙ sym (append_assoc front extra s.0))
+    abbrev is_wanted : List ℕ → Bool
+    is_wanted = is_up_to cmp (disorder tool all)
+
+    -- the entries of all lesser keys come first
+    front_is_first : entries_by_key tool is_wanted p ≡ front
+    front_is_first = all_wanted tool is_wanted p (λ side. EachKey-weaker (λ x. AtMost cmp x k) (λ x. is_wanted x ≡ true) wanted (key side) (p side) (m.merge_invariant.under First side))
+
+    all_is : {extra : Lines} → OutputStartsWith tool g d k extra → (rest : Lines) × (merged_entries tool all ≡ (front ++ extra) ++ rest)
+    all_is {extra} starts =
+        let s = starts.rest is_wanted seen.r seen.may_follow (wanted k (self_at_most cmp o k)) in
+        (s.0, parts is_wanted ∙ (λ i. front_is_first i ++ s.1 i) ∙ sym (append_assoc front extra s.0))
+
+    -- the entries of lesser keys are not all, if the group has entries
+    pub front_is_not_all : HasEntries tool g d k → ¬ (merged_entries tool all ≡ front ++ [])
+    front_is_not_all has same =
+        let some = has.some is_wanted seen.r seen.may_follow (wanted k (self_at_most cmp o k)) in
+        let own = entries_by_key tool is_wanted (λ side. g side ++ seen.r side) in
+        absurd (omega (arith, some, ap length (sym (parts is_wanted ∙ (λ i. front_is_first i ++ own)) ∙ same ∙ append-nil front), length-append front own))
 
   -- the keys of the processed lines and of the group
   passed_keys : (of side : Side) → EachKey (λ x. AtMost cmp x k) (key side) (p side ++ g side)
   passed_keys of side = EachKey-append (λ x. AtMost cmp x k) (key side) (p side) (g side) (m.merge_invariant.under of side)
       (all_own_keys (λ x. AtMost cmp x k) (key side) k (g side) (self_at_most cmp o k) (m.own side))
 
-  pub group_exit : {fault : MergeFault} → MergeEndPost old new (Err fault) → ((side : Side) → (new.reader side).failed ≡ true → IsFailedRead cmp (key side) (new.reader side) (ls side) (p side ++ g side))
-      → ((input : Side → List ℕ) (pushed : List ℕ) → IsExactMerge tool input pushed (Err fault)) → Fits tool old.store now ls piece new.store → MergePost tool old new (Err fault)
-  group_exit ends failed is_whole fits = exit_facts tool o old new now piece ls (λ side. p side ++ g side) d gone p g (λ side. AtLeast k) (λ side. refl) passed_keys
+  pub group_exit : {extra : Lines} → OutputStartsWith tool g d k extra → PushEffect mid new.out (unlines tool.terminator extra) → ((side : Side) → HasBegun (now side) (ls side)) → {fault : MergeFault}
+      → MergeEndPost old new (Err fault) → ((side : Side) → (new.reader side).failed ≡ true → IsFailedRead cmp (key side) (new.reader side) (ls side) (p side ++ g side))
+      → ((input : Side → List ℕ) (pushed : List ℕ) → IsExactMerge tool input pushed (Err fault)) → LeavesWork tool new now ls (front ++ extra) (Err fault)
+      → Fits tool old.store now ls piece new.store → MergePost tool old new (Err fault)
+  group_exit {extra} starts wrote begun ends failed is_whole left fits = exit_facts tool o old new now piece ls (λ side. p side ++ g side) d gone p g (λ side. AtLeast k) (λ side. refl) passed_keys
       (λ of side. EachKey-weaker (λ x. AtMost cmp x k) (IsUnder cmp (d of)) (λ x h. under_lower o (d of) x k h (m.under of)) (key side) (p side ++ g side) (passed_keys of side))
-      rest_not_less m.clean m.merge_invariant.wrote wrote _ (sym (unlines-append terminator front extra)) ends all_is failed (λ input a. is_whole input (unlines terminator (front ++ extra))) fits
+      rest_not_less m.clean m.merge_invariant.wrote wrote _ (sym (unlines-append terminator front extra)) ends (λ all more. all_is all more starts) failed (λ input a. is_whole input (unlines terminator (front ++ extra))) (both_begun begun) left fits
 
 -- ---- tools that write pairs
 
--- a tool whose output for a key of both inputs is a list of pairs
-pub record IsPairTool (tool : MergeTool) (pairs : List ℕ → Lines → Lines → Lines) : Type 0 where
+-- a tool whose output for a key of both inputs is a list of pairs, or nothing
+pub record IsPairTool (tool : MergeTool) (most : GroupBounds) (pairs : List ℕ → Lines → Lines → Lines) : Type 0 where
   pub alone : IsLineByLine tool
   pub none : (k : List ℕ) (g : Lines) → pairs k [] g ≡ []
   pub more : (k : List ℕ) (f g c : Lines) → pairs k (f ++ g) c ≡ pairs k f c ++ pairs k g c
   pub whole : (k a b : List ℕ) (f g : Lines) → tool.entries k (a ∷ f) (b ∷ g) ≡ pairs k (a ∷ f) (b ∷ g)
-  pub size : (ls : Side → Lines) → tool.size ls ≡ (2 * max_length (ls First) + 2 * max_length (ls Second)) + max_group_bytes (tool.key Second) (ls Second)
-  pub slots : (ls : Side → Lines) → tool.slots ls ≡ 4 + max_group_lines (tool.key Second) (ls Second)
+  pub written : tool.keeps_groups ≡ true → (k a b : List ℕ) (f g : Lines) → 0 < length (pairs k (a ∷ f) (b ∷ g))
+  pub unwritten : tool.keeps_groups ≡ false → (k : List ℕ) (f g : Lines) → pairs k f g ≡ []
+  pub size : (ls : Side → Lines) → tool.size ls ≡ (2 * max_length (ls First) + 2 * max_length (ls Second)) + most.bytes (ls Second)
+  pub slots : (ls : Side → Lines) → tool.slots ls ≡ 4 + most.lines (ls Second)
+  pub largest : tool.keeps_groups ≡ true → (g ls : Lines) → InGroup (largest_group (tool.key Second)) g ls → InGroup most g ls
 
 -- a call of such a tool, with its initial state
 pub record JoinCall : Type 0 where
   pub tool : MergeTool
   pub open tool use *
   pub o : IsKeyOrder cmp
+  pub most : GroupBounds
   pub pairs : List ℕ → Lines → Lines → Lines
-  pub laws : IsPairTool tool pairs
+  pub laws : IsPairTool tool most pairs
   pub old : MergeState
   pub unfailed : (side : Side) → (old.reader side).failed ≡ false
 
@@ -123,18 +145,18 @@ not_failed call side same fail = absurd (false≢true (sym (same ∙ call.unfail
 -- ---- the bytes in the store
 
 -- the measure of `join` for inputs that begin with these lines
-pub size_of : (call : JoinCall) {store : Slots} {ls : Side → Lines} {g : Lines} (h : GroupStore (call.key Second) call.old.store store ls g) (all : Side → Lines)
+pub size_of : (call : JoinCall) {store : Slots} {ls : Side → Lines} {g : Lines} (h : GroupStore call.most call.old.store store ls g) (all : Side → Lines)
     → ((side : Side) → max_length (ls side) ≤ max_length (all side)) → (more : Lines) × (all Second ≡ ls Second ++ more)
     → (store.peak ≤ max call.old.store.peak (call.size all)) × (length store.lines ≤ max (length call.old.store.lines) (call.slots all)) × (total_bytes store.lines ≤ call.size all)
 size_of call {store} {ls} {g} h all up more =
     let bounds = h.bounds (all Second) more.0 more.1 in
     omega (arith, bounds, call.laws.size all, call.laws.slots all, up First, up Second, (has_lines_total store.lines (λ side. max_length (ls side)) (total_bytes g) h.lines).1)
 
-module _ (call : JoinCall) {store : Slots} {ls : Side → Lines} {g : Lines} (h : GroupStore (call.key Second) call.old.store store ls g) {now : Side → Reader} where
+module _ (call : JoinCall) {store : Slots} {ls : Side → Lines} {g : Lines} (h : GroupStore call.most call.old.store store ls g) {now : Side → Reader} where
   -- a piece of a further line stays within the measure
   pub peak_line : (s : Side) (cursor : Sorted) → HasSlots s cursor → (piece : List ℕ) → Fits call.tool call.old.store now ls (with_side s piece (λ t. [])) (with_line store cursor.previous_slot piece)
   peak_line s cursor slots piece all w =
-      let k : GroupStore (call.key Second) call.old.store (with_line store cursor.previous_slot piece) all g = group_store_line s cursor slots piece h (λ side. omega (arith, (w side).1))
+      let k : GroupStore call.most call.old.store (with_line store cursor.previous_slot piece) all g = group_store_line s cursor slots piece h (λ side. omega (arith, (w side).1))
       (omega (arith, (w s).1, ap length (put_same s piece (λ t. [])))) ((w Second).0.more, (w Second).0.is) refl in
       let size = size_of call k all (λ side. omega arith) ([], sym (append-nil (all Second))) in
       (size.0, size.1)
@@ -143,7 +165,7 @@ module _ (call : JoinCall) {store : Slots} {ls : Side → Lines} {g : Lines} (h 
   pub fits_kept : (after : Slots) → after.peak ≤ max store.peak (total_bytes store.lines) → length after.lines ≡ length store.lines → Fits call.tool call.old.store now ls (λ side. []) after
   fits_kept after peak same all w = omega (arith, peak, same, size_of call h all (λ side. omega (arith, (w side).1)) ((w Second).0.more, (w Second).0.is))
 
-pub store_between_groups : (call : JoinCall) {reader : Side → Reader} {cursor : Side → Sorted} {store : Slots} {ls : Side → Lines} → GroupStore (call.key Second) call.old.store store ls [] → AllSlots cursor
+pub store_between_groups : (call : JoinCall) {reader : Side → Reader} {cursor : Side → Sorted} {store : Slots} {ls : Side → Lines} → GroupStore call.most call.old.store store ls [] → AllSlots cursor
     → StoreInvariant call.tool call.old.store reader cursor store ls
 store_between_groups call {cursor = cursor} h slots =
     record { lines = h.lines; denied = h.denied; fits = fits_kept call h; line = λ s. peak_line call h s (cursor s) (slots s) }
@@ -178,6 +200,21 @@ module _ (call : JoinCall) {was mid : Output} {p g : Side → Lines} {d : Side �
           front_is tool o w k g r m.own (λ side. m.beyond side (r side) (c side)) (laws.alone.none k)
               ∙ (rw (wanted, none, append-nil (g Second), s.1) (append_assoc (pairs k (g First) (g Second)) s.0 (entries_by_key tool w (others_of tool o k r)))),
         );
+  }
+
+  some_entries : tool.keeps_groups ≡ true → (f s : Lines) → 0 < length f → 0 < length s → 0 < length (entries k f s)
+  some_entries keeps (a ∷ f) (b ∷ s) some1 some2 = rw (laws.whole k a b f s) (laws.written keeps k a b f s)
+  some_entries keeps f s some1 some2 = absurd (omega (arith, some1, some2))
+
+  -- the entries of a group of lines of both inputs
+  pub has_entries : tool.keeps_groups ≡ true → ((side : Side) → 0 < length (g side)) → HasEntries tool g d k
+  has_entries keeps some = record {
+    some = λ w r c wanted.
+        let f = g First ++ lines_with_key (key First) (r First) k in
+        let s = g Second ++ lines_with_key (key Second) (r Second) k in
+        let own = some_entries keeps f s (omega (arith, some First, length-append (g First) (lines_with_key (key First) (r First) k))) (omega (arith, some Second, length-append (g Second) (lines_with_key (key Second) (r Second) k))) in
+        let rest = entries_by_key tool w (others_of tool o k r) in
+        rw (front_is tool o w k g r m.own (λ side. m.beyond side (r side) (c side)) (laws.alone.none k), wanted) (omega (arith, own, length-append (entries k f s) rest));
   }
 
   own_entries : (f s : Lines) → 0 < length f → 0 < length s → entries k f s ≡ pairs k f s
@@ -229,7 +266,7 @@ pub record GroupState (call : JoinCall) (now : MergeState) (cursor : Side → So
   pub mid : Output
   pub sides : SidesInvariant call.tool call.old.reader now.reader cursor now.store ls (λ side. p side ++ g side) d
   pub within : OutputInGroup call.tool call.old.out mid p g d k
-  pub keeps : GroupStore (call.key Second) call.old.store now.store ls kept
+  pub keeps : GroupStore call.most call.old.store now.store ls kept
   pub wrote : PushEffect mid now.out (unlines call.terminator (call.pairs k (g First) (g Second)))
   pub at : end ≡ 4 + length kept
 
@@ -249,12 +286,15 @@ module _ {call : JoinCall} {now : MergeState} {cursor : Side → Sorted} {end : 
   pub none_failed : (side : Side) → (now.reader side).failed ≡ (old.reader side).failed
   none_failed side = (q.sides side).lines_read.advance_ok.failed
 
+  pub group_begun : (side : Side) → HasBegun (now.reader side) (q.ls side)
+  group_begun side = (q.sides side).begun
+
   pub group_read_facts : (side : Side) → ReadFactsOf call now side (now.reader side) [] (q.ls side) (q.p side ++ g side) (q.d side)
   group_read_facts side = read_facts_at_line (q.sides side)
 
   -- the group after other lines were stored for it
   pub group_kept : AllSlots cursor → {after : Slots} → ((i : ℕ) → i < 4 → line after i ≡ line now.store i) → {lines : Lines}
-      → GroupStore (key Second) old.store after q.ls lines → {to : ℕ} → to ≡ 4 + length lines → GroupState call (record now { store = after }) cursor to k g lines
+      → GroupStore call.most old.store after q.ls lines → {to : ℕ} → to ≡ 4 + length lines → GroupState call (record now { store = after }) cursor to k g lines
   group_kept slots same keeps at = record
       { ls = q.ls; p = q.p; d = q.d; mid = q.mid; sides = same_cursors tool q.sides slots same; within = q.within; keeps = keeps; wrote = q.wrote; at = at }
 
@@ -299,21 +339,21 @@ module _ {call : JoinCall} {now : MergeState} {cursor : Side → Sorted} {end : 
     pub group_breaks : {after : Slots} (fault : MergeFault) → NextErrPost s (cursor s) (now.reader s) new now.store after fault → MergePost tool old (state_after_read now s new out after) (Err fault)
     group_breaks {after} (Read file) moves =
         let e = moves.0 in
-        rw moves.1 (group_exit o _ _ within_more begins wrote (passing new e.piece e.faults.reads e.faults.whole moves.2) (record {
+        rw moves.1 (group_exit o _ _ within_more (passing new e.piece e.faults.reads e.faults.whole moves.2) begins wrote (group_begun q) (record {
           cause = rw (put_same s new now.reader) (⊎_elim (λ h. inl h) (λ h. inr (h.0, h.1 ∙ none_failed q s)) e.cause);
           others = rw (put_other s new now.reader) (none_failed q (other s));
           clean = clean;
           denied = rw e.stored q.keeps.denied;
         }) (put_each (λ side (r : Reader). r.failed ≡ true → IsFailedRead cmp (key side) r (q.ls side) (q.p side ++ with_added_line now cursor s g side)) s new now.reader
         (λ fail. ⊎_elim (λ h. fails_in new h.1 h.2) (λ h. not_failed call s (h.1 ∙ none_failed q s) fail) e.cause) (λ side. not_failed call side (none_failed q side)))
-        (λ input pushed. tt) (rw e.stored (peak_line call q.keeps s (cursor s) (l.slots s) e.piece)))
+        (λ input pushed. tt) tt (rw e.stored (peak_line call q.keeps s (cursor s) (l.slots s) e.piece)))
     group_breaks Write moves = absurd moves
     group_breaks {after} Memory moves =
         let e = moves.0 in
         let failed = put_each (λ side (r : Reader). r.failed ≡ (old.reader side).failed) s new now.reader (e.failed ∙ none_failed q s) (none_failed q) in
-        group_exit o _ _ within_more begins wrote (passing new e.piece e.faults.reads e.faults.whole moves.1)
+        group_exit o _ _ within_more (passing new e.piece e.faults.reads e.faults.whole moves.1) begins wrote (group_begun q)
         (record { denied = ap (λ (t : Slots). t.denied) e.stored; failed = failed; clean = clean }) (λ side. not_failed call side (failed side))
-        (λ input pushed. tt) (rw e.stored (peak_line call q.keeps s (cursor s) (l.slots s) e.piece))
+        (λ input pushed. tt) (λ four. inl (s, rw (put_same s new now.reader) (buffered_not_done e.left))) (rw e.stored (peak_line call q.keeps s (cursor s) (l.slots s) e.piece))
     group_breaks (faults.Disorder file number) moves = absurd moves
 
   -- the input advances

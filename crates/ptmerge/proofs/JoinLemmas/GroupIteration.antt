@@ -1,22 +1,23 @@
 -- The iterations of `join` within a group: reading a line of the second input, or writing the pairs of a line of the
 -- first, and each exit from them. Each preserves the invariant of the group, since it adds one line to it.
-use Rattle.ptmerge.proofs.Common.{NextOkPost, ◌≡◌, ℕ, true, false, List, [], ◌∷◌, ◌++◌, refl, ap, sym, ◌∙◌, inl, inr, ◌+◌, ◌≤◌, ◌<◌, Result, Err, length, subst, arith, Join, Side, First, Second, join_with}
+use Rattle.ptmerge.proofs.Common.{NextOkPost, ◌≡◌, ℕ, true, false, List, [], ◌∷◌, ◌++◌, refl, ap, sym, ◌∙◌, inl, inr, ◌+◌, ◌≤◌, ◌<◌, Result, Err, length, arith, Join, Side, First, Second, join_with}
 use Rattle.ptmerge.proofs.Common.{join_key, pair_entries, Lines, Cmp, Key, Output, PushEffect, Reader, Slots, line, unlines, MergeFault, Sorted, ReadGroupLineOkPost, ReadGroupLinePost, IsGroup, ClearGroupPost, group_end_slot, group_first_slot}
 use Rattle.ptmerge.proofs.Common.{group, IsReadyToContinue, AdvanceOkPost, JoinLinePre, AdvancePre, MergeState, MergePost, both, with_side, ⊎_elim, ◌-◌, ◌==◌, push_trans, other, nat_tests, length_push, unlines-append, append_assoc}
-use Rattle.ptmerge.proofs.Common.{nil_from_length, CopyToGroupPost, ReadGroupLineErrPost, max_group_lines, false≢true}
-use Rattle.ptmerge.proofs.JoinLemmas.Iteration.{ReadGroup, IsGroupIn, IterationInvariant, ExitPost, WritePairs, join_call_of, end_in, joins, exit_post, slots, advance_pre, iteration_continues}
+use Rattle.ptmerge.proofs.Common.{Bool, cond, entries_by_key, merged_entries, nil_from_length, CopyToGroupPost, ReadGroupLineErrPost, false≢true}
+use Rattle.ptmerge.proofs.JoinLemmas.Iteration.{ReadGroup, IsGroupIn, IsOneForAll, IterationInvariant, ExitPost, WritePairs, join_call_of, end_in, joins, exit_post, slots, advance_pre, iteration_continues}
 use Rattle.ptmerge.proofs.MergeLemmas.Step.{next_keeps_slot_count, same_state, wrote_as, next_error_keeps_slot_count, IsAbove, valid_cursors_kept, wrote_and_sent, AdvanceErrPost}
 use Rattle.ptmerge.proofs.JoinLemmas.GroupInvariant.{JoinCall, state_after_read, fits_kept, not_failed, IsAtGroupLine, AdvancedGroup, GroupState, closes, continues_key, leaves_key, advanced_group, group_breaks, with_added_line, is_past, next_slots, others_stay}
-use Rattle.ptmerge.proofs.JoinLemmas.GroupInvariant.{passing, same_cursors, group_read_facts, starts, none_failed, within_more, group_kept, last_stays, own_more, size_of, starts_none, with_head, OutputStartsWith, group_exit}
+use Rattle.ptmerge.proofs.JoinLemmas.GroupInvariant.{passing, front_is_not_all, has_entries, group_begun, same_cursors, group_read_facts, starts, none_failed, within_more, group_kept, last_stays, own_more, size_of, starts_none, with_head, OutputStartsWith, group_exit}
 use Rattle.ptmerge.specs.declared.tools.join.JoinPhase.{JoinPhase}
-use Rattle.ptmerge.proofs.JoinLemmas.GroupSlots.{group_is, kept_line, group_store_cleared, low_slot, group_one, InGroup, CopiedLine, group_in, group_store_copied}
-use Rattle.ptmerge.proofs.MergeLemmas.LinesRead.{reads_nothing}
-use Rattle.ptmerge.proofs.MergeLemmas.Orders.{EachKey, EachKey-at}
+use Rattle.ptmerge.proofs.JoinLemmas.GroupSlots.{group_is, kept_line, group_store_cleared, low_slot, group_one, InGroup, largest_group, CopiedLine, group_in, group_store_copied}
+use Rattle.ptmerge.proofs.MergeLemmas.Invariant.{all_keys}
+use Rattle.ptmerge.proofs.MergeLemmas.LinesRead.{Continues, reads_nothing}
+use Rattle.ptmerge.proofs.MergeLemmas.Orders.{EachKey-at}
 use Rattle.ptmerge.specs.declared.tools.join.JoinPhase.TheVariants as phases
 
 -- the number of slots after the group could not be extended
-pub read_group_slots : {key : Key} {cmp : Cmp} {cursor next : Sorted} {was is : Reader} {before after : Slots} {end : ℕ} (fault : MergeFault)
-    → ReadGroupLineErrPost key cmp cursor next was is before after end fault → length before.lines ≤ length after.lines
+pub read_group_slots : {keep : Bool} {key : Key} {cmp : Cmp} {cursor next : Sorted} {was is : Reader} {before after : Slots} {end : ℕ} (fault : MergeFault)
+    → ReadGroupLineErrPost keep key cmp cursor next was is before after end fault → length before.lines ≤ length after.lines
 read_group_slots fault (inl e) = omega (arith, next_keeps_slot_count _ _ _ _ _ _ _ _ e.came, e.copy_failed.slots)
 read_group_slots {cursor = cursor} {was = was} {is = is} {before = before} {after = after} fault (inr e) = omega (arith, next_error_keeps_slot_count Second cursor was is before after fault e)
 
@@ -36,6 +37,13 @@ module _ {job : Join} {cmp : Cmp} {key : Side → Key} {old : MergeState} {phase
     pub read_group_pre : AdvancePre key Second one two (now.reader Second) now.store
     read_group_pre = advance_pre t Second (a.heads Second).0
 
+    -- the copied lines are all lines read, or none
+    all_copied : call.keeps_groups ≡ true → a.kept ≡ a.g
+    all_copied keeps = a.copied ∙ (λ i. cond (keeps i) a.g [])
+
+    none_copied : call.keeps_groups ≡ false → a.kept ≡ []
+    none_copied none = a.copied ∙ (λ i. cond (none i) a.g [])
+
     abbrev y : List ℕ
     y = line now.store two.current_slot
 
@@ -53,7 +61,7 @@ module _ {job : Join} {cmp : Cmp} {key : Side → Key} {old : MergeState} {phase
         on_second : AdvancedGroup at_second comes out
         on_second = advanced_group at_second comes (rw (call.laws.none a.k (a.g ++ y ∷ [])) wrote_none)
 
-        inside : (l : Lines) → InGroup (key Second) (a.g ++ y ∷ []) (on_second.group.ls Second ++ l)
+        inside : (l : Lines) → InGroup (largest_group (key Second)) (a.g ++ y ∷ []) (on_second.group.ls Second ++ l)
         inside l = rw (on_second.more.1, append_assoc (a.q.ls Second) on_second.more.0 l, with_head at_second, ← append_assoc (a.q.p Second) a.g (y ∷ []))
             (group_in (key Second) a.k (a.q.p Second) a.g y (on_second.more.0 ++ l) (own_more at_second Second) (a.heads Second).1)
 
@@ -66,7 +74,7 @@ module _ {job : Join} {cmp : Cmp} {key : Side → Key} {old : MergeState} {phase
           stays = same two2.current_slot (low_slot Second two2 (next_slots at_second comes Second)).0
 
           pairs_by : {to : ℕ} {kept : Lines} → GroupState call (state_after_read now Second reader out after) (with_side Second two2 (both one two)) to a.k (both [] (a.g ++ y ∷ [])) kept → two2.same ≡ false
-              → IsGroupIn after two2 kept (a.g ++ y ∷ []) → WritePairs call (state_after_read now Second reader out after) (with_side Second two2 (both one two)) to
+              → IsGroupIn call a.k (line after two2.previous_slot) kept (a.g ++ y ∷ []) → WritePairs call (state_after_read now Second reader out after) (with_side Second two2 (both one two)) to
           pairs_by {kept = kept} q other lines_in = record {
             k = a.k;
             g = both [] (a.g ++ y ∷ []);
@@ -78,50 +86,89 @@ module _ {job : Join} {cmp : Cmp} {key : Side → Key} {old : MergeState} {phase
             head = ((a.heads First).0, key1_on);
           }
 
-        -- the previous line was copied, too
-        module _ {after : Slots} (kept : CopyToGroupPost made after two2.previous_slot end) where
-          kept_too : CopiedLine on_second.group.keeps after y
-          kept_too = group_store_copied on_second.group.keeps on_second.group.at (low_slot Second two2 (next_slots at_second comes Second)).1 kept (last_stays at_second comes) inside
+          reads_by : {to : ℕ} {kept : Lines} → GroupState call (state_after_read now Second reader out after) (with_side Second two2 (both one two)) to a.k (both [] (a.g ++ y ∷ [])) kept → two2.same ≡ true
+              → kept ≡ cond call.keeps_groups (a.g ++ y ∷ []) [] → ReadGroup call (state_after_read now Second reader out after) (with_side Second two2 (both one two)) to
+          reads_by {kept = kept} q more copied = record {
+            k = a.k;
+            g = a.g ++ y ∷ [];
+            kept = kept;
+            q = q;
+            copied = copied;
+            heads = let h = continues_key at_second comes more in elim [ First ↦ ((a.heads First).0, key1_on) | Second ↦ (h.0, rw stays h.1) ];
+          }
 
-          group_on : GroupState call (state_after_read now Second reader out after) (with_side Second two2 (both one two)) (end + 1) a.k (both [] (a.g ++ y ∷ [])) (a.g ++ y ∷ [])
-          group_on = group_kept on_second.group (next_slots at_second comes) kept_too.same kept_too.store_holds (omega (arith, a.q.at, length_push a.g y))
+        -- the previous line stands for the group, if none is copied
+        one_for_all : a.kept ≡ [] → IsOneForAll call a.k (line made two2.previous_slot) a.kept (a.g ++ y ∷ [])
+        one_for_all none = record {
+          none = none;
+          own = rw (last_stays at_second comes) (a.heads Second).1;
+          same_pairs = rw (last_stays at_second comes) (by call.keeps_groups refl);
+        }
+          where
+            by : (t : Bool) → call.keeps_groups ≡ t → (f : Lines) → call.pairs a.k f (y ∷ []) ≡ call.pairs a.k f (a.g ++ y ∷ [])
+            by true keeps f = ap (λ (l : Lines). call.pairs a.k f (l ++ y ∷ [])) (sym none ∙ all_copied keeps)
+            by false without f = call.laws.unwritten without a.k f (y ∷ []) ∙ sym (call.laws.unwritten without a.k f (a.g ++ y ∷ []))
+
+        -- the previous line was copied, too
+        module _ {after : Slots} (keeps : call.keeps_groups ≡ true) (kept : CopyToGroupPost made after two2.previous_slot end) where
+          kept_too : CopiedLine on_second.group.keeps after y
+          kept_too = group_store_copied on_second.group.keeps on_second.group.at (low_slot Second two2 (next_slots at_second comes Second)).1 kept (last_stays at_second comes)
+              (λ l. rw (all_copied keeps) (call.laws.largest keeps _ _ (inside l)))
+
+          group_on : GroupState call (state_after_read now Second reader out after) (with_side Second two2 (both one two)) (end + 1) a.k (both [] (a.g ++ y ∷ [])) (a.kept ++ y ∷ [])
+          group_on = group_kept on_second.group (next_slots at_second comes) kept_too.same kept_too.store_holds (omega (arith, a.q.at, length_push a.kept y))
+
+          all_copied_too : a.kept ++ y ∷ [] ≡ a.g ++ y ∷ []
+          all_copied_too = ap (λ (l : Lines). l ++ y ∷ []) (all_copied keeps)
 
           reads_more : two2.same ≡ true → ReadGroup call (state_after_read now Second reader out after) (with_side Second two2 (both one two)) (end + 1)
-          reads_more same =
-              let h = continues_key at_second comes same in
-              let key1 = key1_on after kept_too.same in
-              record { k = a.k; g = a.g ++ y ∷ []; q = group_on; heads = elim [ First ↦ ((a.heads First).0, key1) | Second ↦ (h.0, rw (stays after kept_too.same) h.1) ] }
+          reads_more more = reads_by after kept_too.same group_on more (all_copied_too ∙ sym (λ i. cond (keeps i) (a.g ++ y ∷ []) []))
 
       module _ {one2 two2 : Sorted} {reader : Reader} {after : Slots} {to : ℕ}
-          (h : ReadGroupLineOkPost (key Second) cmp two two2 (now.reader Second) reader now.store after end to) (continues : IsReadyToContinue key Second one two one2 two2 reader after out) where
+          (h : ReadGroupLineOkPost call.keeps_groups (key Second) cmp two two2 (now.reader Second) reader now.store after end to) (continues : IsReadyToContinue key Second one two one2 two2 reader after out) where
         pub read_group_continues : two2.same ≡ true → IterationInvariant job cmp key old phase (state_after_read now Second reader out after) one2 two2 to
-        read_group_continues same = iteration_continues t {next = phase} Second continues (rw is (⊎_elim (λ e. absurd (false≢true (sym e.0 ∙ same))) (λ e. rw e.0 (reads_more h.came e.1 same)) h.kept))
+        read_group_continues same = iteration_continues t {next = phase} Second continues (rw is (⊎_elim (λ e.
+            let without = ⊎_elim (λ none. none) (λ alone. absurd (false≢true (sym alone.0 ∙ same))) e.alone in
+            rw (e.end_is, e.store_is) (reads_by h.came _ (λ i low. refl) (on_second h.came).group same (none_copied without ∙ sym (λ i. cond (without i) (a.g ++ y ∷ []) []))))
+            (λ e. rw e.end_is (reads_more h.came e.keeps e.copied same)) h.kept))
 
         pub write_pairs_next : two2.same ≡ false → IterationInvariant job cmp key old phases.WritePairs (state_after_read now Second reader out after) one2 two2 to
         write_pairs_next same = iteration_continues t {next = phases.WritePairs} Second continues (⊎_elim (λ e.
-            let none = nil_from_length a.g (omega (arith, e.1, a.q.at)) in
-            rw (e.2, e.3) (pairs_by h.came _ (λ i low. refl) (on_second h.came).group same (inr (none, rw (last_stays at_second h.came, none) refl))))
-            (λ e. rw e.0 (pairs_by h.came _ (kept_too h.came e.1).same (group_on h.came e.1) same (inl refl))) h.kept)
+            let none = ⊎_elim none_copied (λ alone. nil_from_length a.kept (omega (arith, alone.1, a.q.at))) e.alone in
+            rw (e.end_is, e.store_is) (pairs_by h.came _ (λ i low. refl) (on_second h.came).group same (inr (one_for_all h.came none))))
+            (λ e. rw e.end_is (pairs_by h.came _ (kept_too h.came e.keeps e.copied).same (group_on h.came e.keeps e.copied) same (inl (all_copied_too h.came e.keeps e.copied)))) h.kept)
+
+      -- the pairs of the first input's current line and the group are not written yet
+      pairs_are_missing : {reader : Reader} {two2 : Sorted} {made : Slots} (comes : NextOkPost (key Second) cmp two two2 (now.reader Second) reader now.store made) → call.keeps_groups ≡ true
+          → (all : Side → Lines) → ((side : Side) → Continues (with_side Second reader now.reader side) ((on_second comes).group.ls side) (all side))
+          → ¬ (merged_entries call.tool all ≡ entries_by_key call.tool all_keys (on_second comes).group.p ++ [])
+      pairs_are_missing {reader} {two2} {made} comes keeps all w =
+          let q = (on_second comes).group in
+          let first : IsAtGroupLine q First = record { slots = next_slots at_second comes; head = (a.heads First).0; is = key1_on comes made (λ i low. refl) } in
+          front_is_not_all o old (state_after_read now Second reader out made) {now = with_side Second reader now.reader} {piece = λ side. []} {ls = q.ls} (within_more first)
+          (elim [ First ↦ passing first (now.reader First) [] (reads_nothing (now.reader First)) tt (q.sides First).sound First | Second ↦ group_read_facts q Second ])
+          all w (has_entries call (within_more first) keeps (elim [ First ↦ omega arith | Second ↦ omega (arith, length_push a.g y) ]))
 
       -- a line could not be copied, or the next one could not be read
       read_group_fault : {two2 : Sorted} {reader : Reader} {after : Slots} → out.write_failed ≡ false → (fault : MergeFault)
-          → ReadGroupLineErrPost (key Second) cmp two two2 (now.reader Second) reader now.store after end fault → MergePost (join_with job cmp key) old (state_after_read now Second reader out after) (Err fault)
+          → ReadGroupLineErrPost call.keeps_groups (key Second) cmp two two2 (now.reader Second) reader now.store after end fault → MergePost (join_with job cmp key) old (state_after_read now Second reader out after) (Err fault)
       read_group_fault fine fault (inl e) =
           let q = (on_second e.came).group in
-          rw e.memory (group_exit o _ _ q.within (starts_none call q.within) (rw (call.laws.none a.k (a.g ++ y ∷ [])) at q.wrote) (group_read_facts q)
-          (record { denied = e.copy_failed.denied; failed = none_failed q; clean = fine }) (λ side. not_failed call side (none_failed q side)) (λ input pushed. tt) (λ all w.
+          rw e.memory (group_exit o _ _ q.within (group_read_facts q) (starts_none call q.within) (rw (call.laws.none a.k (a.g ++ y ∷ [])) at q.wrote) (group_begun q)
+          (record { denied = e.copy_failed.denied; failed = none_failed q; clean = fine }) (λ side. not_failed call side (none_failed q side)) (λ input pushed. tt)
+          (λ four. inr (e.keeps, λ all w. pairs_are_missing e.came e.keeps all w)) (λ all w.
           let size = size_of call q.keeps all (λ side. omega (arith, (w side).1)) ((w Second).0.more, (w Second).0.is) in
-          let many : length (a.g ++ y ∷ []) ≤ max_group_lines (key Second) (all Second) = rw (w Second).0.is (inside e.came (w Second).0.more).1 in (
+          let many : length (a.g ++ y ∷ []) ≤ call.most.lines (all Second) = rw (w Second).0.is (call.laws.largest e.keeps _ _ (inside e.came (w Second).0.more)).1 in (
             omega (arith, e.copy_failed.peak, size),
-            omega (arith, e.copy_failed.most, q.at, size, many, call.laws.slots all, length_push a.g y),
+            omega (arith, e.copy_failed.most, q.at, ap length (all_copied e.keeps), size, many, call.laws.slots all, length_push a.g y),
           )))
       read_group_fault {reader = reader} fine fault (inr e) = group_breaks at_second fine (starts_none call (within_more at_second)) wrote_none reader fault e
 
       pub read_group_fails : {two2 : Sorted} {reader : Reader} {after : Slots} {fault : MergeFault} {r : Result (Unit {0}) MergeFault} → r ≡ Err fault
-          → ReadGroupLinePost (key Second) cmp two two2 (now.reader Second) reader now.store after out end (Err fault) → ExitPost job cmp key old (state_after_read now Second reader out after) r
+          → ReadGroupLinePost call.keeps_groups (key Second) cmp two two2 (now.reader Second) reader now.store after out end (Err fault) → ExitPost job cmp key old (state_after_read now Second reader out after) r
       read_group_fails {reader = reader} is_fault (inl e) = exit_post t is_fault (omega (arith, ap (λ (z : Slots). length z.lines) e.1.store)) (same_state _ _ Second now _ reader _ _ e.0 e.1
-          (group_exit o _ _ a.q.within (starts_none call a.q.within) wrote_none (group_read_facts a.q) (record { write_failed = e.1.write_failed; failed = none_failed a.q; denied = a.q.keeps.denied })
-          (λ side. not_failed call side (none_failed a.q side)) (λ input pushed. tt) (fits_kept call a.q.keeps now.store (omega arith) refl)))
+          (group_exit o _ _ a.q.within (group_read_facts a.q) (starts_none call a.q.within) wrote_none (group_begun a.q) (record { write_failed = e.1.write_failed; failed = none_failed a.q; denied = a.q.keeps.denied })
+          (λ side. not_failed call side (none_failed a.q side)) (λ input pushed. tt) tt (fits_kept call a.q.keeps now.store (omega arith) refl)))
       read_group_fails {fault = fault} is_fault (inr e) = exit_post t is_fault (read_group_slots fault e.1) (read_group_fault e.0 fault e.1)
 
   -- ---- writing pairs
@@ -147,15 +194,18 @@ module _ {job : Join} {cmp : Cmp} {key : Side → Key} {old : MergeState} {phase
         ap (key Second) (kept_line r.q.keeps slot least (omega (arith, most, r.q.at)))
         ∙ EachKey-at (λ x. x ≡ r.k) (key Second) r.kept (slot - 4) (omega (arith, least, most, r.q.at)) (rw same (r.q.within.own Second)))
         (λ h.
-        let least : two.previous_slot ≤ slot = rw (is_alone h.0) at from in
-        let most : slot < two.previous_slot + 1 = rw (is_alone h.0) at low in
+        let least : two.previous_slot ≤ slot = rw (is_alone h.none) at from in
+        let most : slot < two.previous_slot + 1 = rw (is_alone h.none) at low in
         let is : slot ≡ two.previous_slot = omega (arith, least, most) in
-        rw is (subst (EachKey (λ x. x ≡ r.k) (key Second)) h.1 (r.q.within.own Second)).0) r.lines_in
+        rw is h.own) r.lines_in
 
-    -- the lines of the group are in its slots
-    group_lines_are : group now.store (group_first_slot two end) (group_end_slot two end) ≡ r.g Second
-    group_lines_are = ⊎_elim (λ same. rw (is_kept same) (group_is r.q.keeps r.q.at ∙ same))
-        (λ h. rw (is_alone h.0) (group_one now.store two.previous_slot (omega (arith, r.q.keeps.four, (low_slot Second two (slots t Second)).1)) ∙ sym h.1)) r.lines_in
+    -- the lines in the slots of the group have the pairs of the group
+    group_pairs_are : (f : Lines) → pair_entries job r.k f (group now.store (group_first_slot two end) (group_end_slot two end)) ≡ pair_entries job r.k f (r.g Second)
+    group_pairs_are f = ⊎_elim (λ same. ap (λ (l : Lines). pair_entries job r.k f l) (rw (is_kept same) (group_is r.q.keeps r.q.at ∙ same)))
+        (λ h.
+        let one : group now.store (group_first_slot two end) (group_end_slot two end) ≡ line now.store two.previous_slot ∷ []
+        = rw (is_alone h.none) (group_one now.store two.previous_slot (omega (arith, r.q.keeps.four, (low_slot Second two (slots t Second)).1))) in
+        ap (λ (l : Lines). pair_entries job r.k f l) one ∙ h.same_pairs f) r.lines_in
 
     pub write_pairs_group : IsGroup (join_key job Second) two now.store end (key First (line now.store one.current_slot))
     write_pairs_group = record { within = end_in t; keyed = λ slot from low. sym (t.opened.keys Second (line now.store slot)) ∙ keyed_slot slot from low ∙ sym r.head.1 }
@@ -170,7 +220,7 @@ module _ {job : Join} {cmp : Cmp} {key : Side → Key} {old : MergeState} {phase
         (pushed : PushEffect now.out new (unlines e (pair_entries job (key First (line now.store one.current_slot)) z (group now.store (group_first_slot two end) (group_end_slot two end))))) where
       wrote_more : PushEffect r.q.mid new (unlines job.terminator (pair_entries job r.k (r.g First ++ z) (r.g Second)))
       wrote_more = rw (call.laws.more r.k (r.g First) z (r.g Second), unlines-append job.terminator (pair_entries job r.k (r.g First) (r.g Second)) (pair_entries job r.k z (r.g Second)))
-          (push_trans _ _ _ _ _ t.clean r.q.wrote (wrote_as _ _ _ _ _ _ (ends ∙ t.opened.w.terminator First) (λ j. pair_entries job (sym r.head.1 j) z (sym group_lines_are j)) pushed))
+          (push_trans _ _ _ _ _ t.clean r.q.wrote (wrote_as _ _ _ _ _ _ (ends ∙ t.opened.w.terminator First) (sym (group_pairs_are z) ∙ (λ j. pair_entries job (sym r.head.1 j) z (group now.store (group_first_slot two end) (group_end_slot two end)))) pushed))
 
       begins : OutputStartsWith (join_with job cmp key) (with_added_line now (both one two) First r.g) r.q.d r.k (pair_entries job r.k (r.g First ++ z) (r.g Second))
       begins = starts call (within_more at_first) r.some r.above
@@ -178,9 +228,10 @@ module _ {job : Join} {cmp : Cmp} {key : Side → Key} {old : MergeState} {phase
       pub pair_fails : {reader : Reader} {after : Slots} {fault : MergeFault} {r : Result (Unit {0}) MergeFault} → r ≡ Err fault
           → AdvanceErrPost First one (now.reader First) reader now.store after new fault → ExitPost job cmp key old (state_after_read now First reader new after) r
       pair_fails {reader} is_fault (inl e) = exit_post t is_fault (omega (arith, ap (λ (z : Slots). length z.lines) e.1.store)) (same_state _ _ First now _ reader _ _ e.0 e.1
-          (group_exit o old (record now { out = new }) {now = now.reader} {piece = λ side. []} {ls = r.q.ls} (within_more at_first) begins wrote_more
+          (group_exit o old (record now { out = new }) {now = now.reader} {piece = λ side. []} {ls = r.q.ls} (within_more at_first)
           (elim [ First ↦ passing at_first (now.reader First) [] (reads_nothing (now.reader First)) tt (r.q.sides First).sound First | Second ↦ group_read_facts r.q Second ])
-          (record { write_failed = e.1.write_failed; failed = none_failed r.q; denied = r.q.keeps.denied }) (λ side. not_failed call side (none_failed r.q side)) (λ input pushed. tt)
+          begins wrote_more (group_begun r.q)
+          (record { write_failed = e.1.write_failed; failed = none_failed r.q; denied = r.q.keeps.denied }) (λ side. not_failed call side (none_failed r.q side)) (λ input pushed. tt) tt
           (fits_kept call r.q.keeps now.store (omega arith) refl)))
       pair_fails {reader} {fault = fault} is_fault (inr e) = exit_post t is_fault (omega (arith, next_error_keeps_slot_count First one _ _ _ _ fault e.1)) (group_breaks at_first e.0 begins wrote_more reader fault e.1)
 

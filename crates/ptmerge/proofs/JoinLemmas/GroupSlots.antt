@@ -126,11 +126,21 @@ module _ (m : Lines → ℕ) (laws : IsLineMeasure m) (key : Key) where
       let in_group : m (g ++ y ∷ []) ≤ m (lines_with_key key ((p ++ g) ++ y ∷ w) (key y)) = rw (is, append_assoc p g (y ∷ w), ← append_assoc g (y ∷ []) w) (group_measure_max k p (g ++ y ∷ []) w own) in
       rw (append_assoc (p ++ g) (y ∷ []) w) (omega (arith, in_group, greatest_has ((p ++ g) ++ y ∷ w) (p ++ g) y w))
 
--- the lines of a group are at most the largest group, in bytes and in number
-abbrev pub InGroup : Key → Lines → Lines → Type 0
-InGroup key g ls = (total_bytes g ≤ max_group_bytes key ls) × (length g ≤ max_group_lines key ls)
+-- the most bytes and the most lines of a group, by the lines of the second input
+pub record GroupBounds : Type 0 where
+  pub bytes : Lines → ℕ
+  pub lines : Lines → ℕ
 
-pub group_in : (key : Key) (k : List ℕ) (p g : Lines) (y : List ℕ) (w : Lines) → EachKey (λ x. x ≡ k) key (g ++ y ∷ []) → key y ≡ k → InGroup key (g ++ y ∷ []) (((p ++ g) ++ y ∷ []) ++ w)
+-- those of the largest group of an input
+abbrev pub largest_group : Key → GroupBounds
+largest_group key = record { bytes = max_group_bytes key; lines = max_group_lines key }
+
+-- the lines of a group are within the bounds
+abbrev pub InGroup : GroupBounds → Lines → Lines → Type 0
+InGroup most g ls = (total_bytes g ≤ most.bytes ls) × (length g ≤ most.lines ls)
+
+pub group_in : (key : Key) (k : List ℕ) (p g : Lines) (y : List ℕ) (w : Lines) → EachKey (λ x. x ≡ k) key (g ++ y ∷ []) → key y ≡ k
+    → InGroup (largest_group key) (g ++ y ∷ []) (((p ++ g) ++ y ∷ []) ++ w)
 group_in key k p g y w own is = (
   measure_in total_bytes (record { weight = length; none = refl; more = λ x xs. sum_by-cons length x xs }) key k p g y w own is,
   measure_in length (record { weight = λ x. 1; none = refl; more = λ x xs. omega arith }) key k p g y w own is,
@@ -151,20 +161,20 @@ same_lines (a ∷ b ∷ c ∷ d ∷ rest) ys m more now h four same is = absurd 
 same_lines xs ys m more now h four same is = absurd h
 
 -- The invariant of the store of `join`: two lines of each input, and then the lines of the group.
-pub record GroupStore (key : Key) (before store : Slots) (ls : Side → Lines) (g : Lines) : Type 0 where
+pub record GroupStore (most : GroupBounds) (before store : Slots) (ls : Side → Lines) (g : Lines) : Type 0 where
   pub tail : Lines
   pub split : drop 4 store.lines ≡ g ++ tail
   pub empty : total_bytes tail ≡ 0
   pub lines : HasLines (λ side. max_length (ls side)) (total_bytes g) store.lines
   -- for all lines that the second input may continue with
-  pub bounds : (all more : Lines) → all ≡ ls Second ++ more → InGroup key g all × (store.peak ≤ max before.peak (2 * max_length (ls First) + 2 * max_length (ls Second) + max_group_bytes key all))
-      × (length store.lines ≤ max (length before.lines) (4 + max_group_lines key all))
+  pub bounds : (all more : Lines) → all ≡ ls Second ++ more → InGroup most g all × (store.peak ≤ max before.peak (2 * max_length (ls First) + 2 * max_length (ls Second) + most.bytes all))
+      × (length store.lines ≤ max (length before.lines) (4 + most.lines all))
   pub least : length before.lines ≤ length store.lines
   pub four : 4 ≤ length store.lines
   pub denied : store.denied ≡ false
 
-pub group_store_starts : {key : Key} {before store : Slots} {ls : Side → Lines} → StoreOfLines before store (λ side. max_length (ls side)) → GroupStore key before store ls []
-group_store_starts {key} {before} {store} {ls} k = record {
+pub group_store_starts : {most : GroupBounds} {before store : Slots} {ls : Side → Lines} → StoreOfLines before store (λ side. max_length (ls side)) → GroupStore most before store ls []
+group_store_starts {before = before} {store} {ls} k = record {
   tail = drop 4 store.lines;
   split = refl;
   empty = drop_total store.lines (λ side. max_length (ls side)) 0 k.lines;
@@ -184,10 +194,10 @@ pub low_slot : (s : Side) (cursor : Sorted) → HasSlots s cursor → (cursor.cu
 low_slot s cursor h = omega (arith, own_slots s cursor h, slot_low s)
 
 -- the next line of an input replaces its previous line
-pub group_store_line : {key : Key} {before store after : Slots} {ls now : Side → Lines} {g : Lines} (s : Side) (cursor : Sorted) → HasSlots s cursor → (x : List ℕ) → GroupStore key before store ls g
+pub group_store_line : {most : GroupBounds} {before store after : Slots} {ls now : Side → Lines} {g : Lines} (s : Side) (cursor : Sorted) → HasSlots s cursor → (x : List ℕ) → GroupStore most before store ls g
     → ((side : Side) → max_length (ls side) ≤ max_length (now side)) → length x ≤ max_length (now s) → (more : Lines) × (now Second ≡ ls Second ++ more) → after ≡ with_line store cursor.previous_slot x
-    → GroupStore key before after now g
-group_store_line {key} {before} {store} {after} {ls} {now} {g} s cursor slots x k up fit continues_key is =
+    → GroupStore most before after now g
+group_store_line {store = store} {after} {ls} {now} {g} s cursor slots x k up fit continues_key is =
     let inside = set_line s cursor store.lines (λ side. max_length (ls side)) (λ side. max_length (now side)) (total_bytes g) x slots k.lines up fit in
     let sum = has_lines_total (set store.lines cursor.previous_slot x) (λ side. max_length (now side)) (total_bytes g) inside in
     let size = length-set store.lines cursor.previous_slot x in
@@ -210,28 +220,28 @@ put_more First ls now more e = ([], sym (append-nil (ls Second)))
 put_more Second ls now more e = (more, e)
 
 -- an input advances
-pub group_store_next : {key own : Key} {before store after : Slots} {ls : Side → Lines} {g : Lines} {cmp : Cmp} {end : ℕ} {old new : Reader} {next : Sorted}
+pub group_store_next : {most : GroupBounds} {own : Key} {before store after : Slots} {ls : Side → Lines} {g : Lines} {cmp : Cmp} {end : ℕ} {old new : Reader} {next : Sorted}
     {last : Option (List ℕ)} (s : Side) (cursor : Sorted)
-    → HasSlots s cursor → GroupStore key before store ls g → (n : SideAfterNext end cmp own old new next cursor.previous_slot store after (ls s) last) → GroupStore key before after (with_side s n.now_ls ls) g
-group_store_next {key} {own} {before} {store} {after} {ls} s cursor slots k n = group_store_line s cursor slots n.bytes k
+    → HasSlots s cursor → GroupStore most before store ls g → (n : SideAfterNext end cmp own old new next cursor.previous_slot store after (ls s) last) → GroupStore most before after (with_side s n.now_ls ls) g
+group_store_next {ls = ls} s cursor slots k n = group_store_line s cursor slots n.bytes k
     (put_each (λ side (l : Lines). max_length (ls side) ≤ max_length l) s n.now_ls ls n.longer (λ side. omega arith))
     (subst (λ (l : Lines). length n.bytes ≤ max_length l) (sym (put_same s n.now_ls ls)) n.fits) (put_more s ls n.now_ls n.more n.continues_key) n.stored
 
-module _ {key : Key} {before store : Slots} {ls : Side → Lines} {g : Lines} (k : GroupStore key before store ls g) where
+module _ {most : GroupBounds} {before store : Slots} {ls : Side → Lines} {g : Lines} (k : GroupStore most before store ls g) where
   -- the result of copying a line to the end of the group
   pub record CopiedLine (after : Slots) (y : List ℕ) : Type 0 where
-    pub store_holds : GroupStore key before after ls (g ++ y ∷ [])
+    pub store_holds : GroupStore most before after ls (g ++ y ∷ [])
     pub same : (i : ℕ) → i < 4 → line after i ≡ line store i
 
   module _ {made : Slots} {to : ℕ} (w : EnsuredSlot store made to) where
     made_same : (i : ℕ) → i < 4 → line made i ≡ line store i
     made_same i low = ap (λ (l : Lines). get_or l i []) w.lines ∙ get_or-append store.lines w.more [] i (omega (arith, k.four, low))
 
-    module _ (y : List ℕ) (at : to ≡ 4 + length g) (within : to < length made.lines) (largest : (l : Lines) → InGroup key (g ++ y ∷ []) (ls Second ++ l)) where
+    module _ (y : List ℕ) (at : to ≡ 4 + length g) (within : to < length made.lines) (largest : (l : Lines) → InGroup most (g ++ y ∷ []) (ls Second ++ l)) where
       first_same : (i : ℕ) → i < 4 → get_or (set made.lines to y) i [] ≡ get_or store.lines i []
       first_same i low = line_other made to i y (λ e. absurd (omega (arith, at, e))) ∙ made_same i low
 
-      by_tail : (t : Lines) → total_bytes t ≡ 0 → length g + 1 ≤ length (g ++ t) → drop 4 (set made.lines to y) ≡ set (g ++ t) (length g) y → GroupStore key before (with_line made to y) ls (g ++ y ∷ [])
+      by_tail : (t : Lines) → total_bytes t ≡ 0 → length g + 1 ≤ length (g ++ t) → drop 4 (set made.lines to y) ≡ set (g ++ t) (length g) y → GroupStore most before (with_line made to y) ls (g ++ y ∷ [])
       by_tail [] none some is = absurd (omega (arith, some, length-append g []))
       by_tail (z ∷ t) none some is =
           let split : drop 4 (set made.lines to y) ≡ (g ++ y ∷ []) ++ t = is ∙ set_at g z t y (length g) refl ∙ sym (append_assoc g (y ∷ []) t) in
@@ -246,7 +256,7 @@ module _ {key : Key} {before store : Slots} {ls : Side → Lines} {g : Lines} (k
             empty = empty;
             lines = inside;
             bounds = λ all more e.
-                let within : InGroup key (g ++ y ∷ []) all = rw e (largest more) in
+                let within : InGroup most (g ++ y ∷ []) all = rw e (largest more) in
                 let all_lines = has_lines_total (set made.lines to y) (λ side. max_length (ls side)) (total_bytes (g ++ y ∷ [])) inside in
                 omega (arith, within, at, k.bounds all more e, w.peak, w.slots, all_lines.1, size, length_push g y);
             least = omega (arith, k.least, w.slots, size);
@@ -265,7 +275,7 @@ module _ {key : Key} {before store : Slots} {ls : Side → Lines} {g : Lines} (k
           }
 
   pub group_store_copied : {after : Slots} {from to : ℕ} → to ≡ 4 + length g → from < 4 → CopyToGroupPost store after from to → {y : List ℕ} → line store from ≡ y
-      → ((l : Lines) → InGroup key (g ++ y ∷ []) (ls Second ++ l)) → CopiedLine after y
+      → ((l : Lines) → InGroup most (g ++ y ∷ []) (ls Second ++ l)) → CopiedLine after y
   group_store_copied {after} {from} {to} at low e {y} is largest = let w = ensured_slot store e.made to e.grown in rw (e.copied, made_same w from low, is) (kept w y at e.grown.within largest)
 
   -- the lines of the group are in its slots
@@ -282,7 +292,7 @@ module _ {key : Key} {before store : Slots} {ls : Side → Lines} {g : Lines} (k
   end_within at = omega (arith, at, k.four, ap length k.split, length-append g k.tail, length-drop 4 store.lines)
 
   -- the group is emptied
-  pub group_store_cleared : {after : Slots} {end : ℕ} → end ≡ 4 + length g → ClearGroupPost store after end → GroupStore key before after ls []
+  pub group_store_cleared : {after : Slots} {end : ℕ} → end ≡ 4 + length g → ClearGroupPost store after end → GroupStore most before after ls []
   group_store_cleared {after} at c =
       let none : total_bytes (drop 4 after.lines) ≡ 0 = omega (arith, c.emptied, ap total_bytes (group_is at), ap total_bytes k.split, sum_by-append length g k.tail, k.empty) in
       let four : 4 ≤ length after.lines = omega (arith, k.four, c.slots) in

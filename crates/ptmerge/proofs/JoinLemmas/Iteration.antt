@@ -4,14 +4,14 @@
 use Rattle.ptmerge.proofs.Common.{NextOkPost, ◌≡◌, ℕ, Bool, true, false, cond, List, [], ◌∷◌, ◌++◌, map, refl, ap, sym, ◌∙◌, ◌+◌, ◌*◌, ◌≤◌, ◌<◌, Result, Ok, Err, length, subst, arith, append-nil}
 use Rattle.ptmerge.proofs.Common.{flat_map-append, bytes_decides, Join, Side, First, Second, unpaired_entries1, unpaired_entries2, unpaired_entry, entry, join_fields, join_with, join_entries, join_key, pair_entries, Lines, entries_by_key, Cmp}
 use Rattle.ptmerge.proofs.Common.{Key, Output, PushEffect, Reader, Slots, line, unlines, MergeFault, Sorted, Head, Ended, AddedAtLeast, IsReadyToContinue, AdvanceOkPost, MergeState, MergePost, IsMergeUnread, merge_state, HasSlots, both, with_side}
-use Rattle.ptmerge.proofs.Common.{HaveEqualKeys, StartErrPost, HasOnlyLeastKey, IsDisorderDecided, IsReaderOf, AreValidCursors, StartOkPost, merge_inputs, ClearFourSlotsPost, ◌⊎◌, MergeRunPre, JoinStepPre, AdvancePre, push_nothing, other}
+use Rattle.ptmerge.proofs.Common.{HaveEqualKeys, StartErrPost, HasOnlyLeastKey, IsDisorderDecided, IsReaderOf, AreValidCursors, StartOkPost, merge_inputs, ClearFourSlotsPost, ◌⊎◌, MergeRunPre, JoinStepPre, AdvancePre, push_nothing, other, if◌then◌else◌, max_group_bytes, max_group_lines}
 use Rattle.ptmerge.proofs.MergeLemmas.Step.{open_merge, slots_of, wrote_as, IsLineByLine, alone, current_key_is_above, IsOpenMerge as OpenMerge, write_one_line, IsAbove, reads_ahead, measure_less, own_reader_kept, place_is, LoopInvariant, CursorsInvariant}
 use Rattle.ptmerge.proofs.MergeLemmas.Step.{AdvanceErrPost, advance_keeps_slot_count, iteration_fails, read_facts_current, runs_on, n, ends_well, ends_fallen}
 use Rattle.std.specs.List.{flat_map}
 use Rattle.ptmerge.proofs.JoinLemmas.GroupInvariant.{IsPairTool, head_of, JoinCall, state_after_read, GroupState, store_between_groups}
 use Rattle.ptmerge.proofs.MergeLemmas.Invariant.{all_keys, AtLeast, LagInvariant, MergeInvariant, Bound}
 use Rattle.ptmerge.specs.declared.tools.join.JoinPhase.{JoinPhase}
-use Rattle.ptmerge.proofs.JoinLemmas.GroupSlots.{end_within, pair_of, GroupStore, group_store_next, group_store_starts}
+use Rattle.ptmerge.proofs.JoinLemmas.GroupSlots.{GroupBounds, end_within, pair_of, GroupStore, group_store_next, group_store_starts}
 use Rattle.ptmerge.proofs.MergeLemmas.Orders.{IsKeyOrder, self_at_most}
 use Rattle.ptmerge.proofs.MergeLemmas.Slots.{put_other, put_same}
 use Rattle.ptmerge.proofs.MergeLemmas.Start.{start_fault, start_ok, start_unread, start_slots}
@@ -43,7 +43,11 @@ module _ (job : Join) (cmp : Cmp) (key : Side → Key) where
     second = λ k x g. let of = λ (b : List ℕ). entry job k [] (join_fields job.separator b) in cond_of_append job.unpaired2 (of x ∷ []) (map of g);
   }
 
-  pub join_pairs : IsPairTool (join_with job cmp key) (pair_entries job)
+  -- the bounds of a group, if pairs are written; otherwise none is kept
+  abbrev pub most_in_group : GroupBounds
+  most_in_group = record { bytes = λ ls. if job.pairs then max_group_bytes (key Second) ls else 0; lines = λ ls. if job.pairs then max_group_lines (key Second) ls else 0 }
+
+  pub join_pairs : IsPairTool (join_with job cmp key) most_in_group (pair_entries job)
   join_pairs = record {
     alone = is_line_by_line;
     none = λ k g. cond_of_empty job.pairs;
@@ -51,8 +55,11 @@ module _ (job : Join) (cmp : Cmp) (key : Side → Key) where
         let each = λ (a : List ℕ). map (pair_of job k a) c in
         ap (λ l. cond job.pairs l []) (flat_map-append each f g) ∙ cond_of_append job.pairs (flat_map each f) (flat_map each g);
     whole = λ k a b f g. refl;
+    written = λ keeps k a b f g. rw keeps (omega arith);
+    unwritten = λ none k f g. rw none;
     size = λ ls. refl;
     slots = λ ls. refl;
+    largest = λ keeps g ls within. rw keeps within;
   }
 
   -- the entries of one unpaired line of one input
@@ -64,7 +71,7 @@ module _ (job : Join) (cmp : Cmp) (key : Side → Key) where
 
 -- between groups the store holds two lines of each input
 abbrev pub IsOutsideGroup : JoinCall → Slots → (Side → Lines) → Type 0
-IsOutsideGroup call store ls = GroupStore (call.key Second) call.old.store store ls []
+IsOutsideGroup call store ls = GroupStore call.most call.old.store store ls []
 
 -- between two groups
 abbrev pub BetweenGroups : JoinCall → MergeState → (Side → Sorted) → Type 0
@@ -74,12 +81,21 @@ BetweenGroups call now cursor = LoopInvariant call.tool (IsOutsideGroup call) ca
 pub record ReadGroup (call : JoinCall) (now : MergeState) (cursor : Side → Sorted) (end : ℕ) : Type 0 where
   pub k : List ℕ
   pub g : Lines
-  pub q : GroupState call now cursor end k (both [] g) g
+  pub kept : Lines
+  pub q : GroupState call now cursor end k (both [] g) kept
+  pub copied : kept ≡ cond call.keeps_groups g []
   pub heads : (side : Side) → ((cursor side).status ≡ Head) × (call.key side (head_of now cursor side) ≡ k)
 
--- the group's lines are the copied ones, or the only one is the previous line of the second input
-abbrev pub IsGroupIn : Slots → Sorted → Lines → Lines → Type 0
-IsGroupIn store second kept g = (kept ≡ g) ⊎ ((kept ≡ []) × (g ≡ line store second.previous_slot ∷ []))
+-- no line of the group is copied, and `last`, the previous line of the second input, stands for all of them: it is the
+-- only one, or no pairs are written
+pub record IsOneForAll (call : JoinCall) (k last : List ℕ) (kept g : Lines) : Type 0 where
+  pub none : kept ≡ []
+  pub own : call.key Second last ≡ k
+  pub same_pairs : (f : Lines) → call.pairs k f (last ∷ []) ≡ call.pairs k f g
+
+-- the group's lines are the copied ones, or the previous line of the second input stands for them
+abbrev pub IsGroupIn : JoinCall → List ℕ → List ℕ → Lines → Lines → Type 0
+IsGroupIn call k last kept g = (kept ≡ g) ⊎ IsOneForAll call k last kept g
 
 -- the group is read, and the first input is at a line with its key
 pub record WritePairs (call : JoinCall) (now : MergeState) (cursor : Side → Sorted) (end : ℕ) : Type 0 where
@@ -87,7 +103,7 @@ pub record WritePairs (call : JoinCall) (now : MergeState) (cursor : Side → So
   pub g : Side → Lines
   pub kept : Lines
   pub q : GroupState call now cursor end k g kept
-  pub lines_in : IsGroupIn now.store (cursor Second) kept (g Second)
+  pub lines_in : IsGroupIn call k (line now.store (cursor Second).previous_slot) kept (g Second)
   pub some : 0 < length (g Second)
   pub above : IsAbove call.cmp (call.key Second) k (q.d Second)
   pub head : ((cursor First).status ≡ Head) × (call.key First (head_of now cursor First) ≡ k)
@@ -119,7 +135,7 @@ opened job cmp key o keys begins = record { w = open_merge o (λ ls. (omega arit
 
 -- the call
 abbrev pub join_call_of : {job : Join} {cmp : Cmp} {key : Side → Key} {old : MergeState} → IsOpenMerge job cmp key old → JoinCall
-join_call_of {job} {cmp} {key} {old} a = record { tool = join_with job cmp key; o = a.w.o; pairs = pair_entries job; laws = join_pairs job cmp key; old = old; unfailed = a.w.unfailed }
+join_call_of {job} {cmp} {key} {old} a = record { tool = join_with job cmp key; o = a.w.o; most = most_in_group job cmp key; pairs = pair_entries job; laws = join_pairs job cmp key; old = old; unfailed = a.w.unfailed }
 
 -- the loop invariant
 pub record IterationInvariant (job : Join) (cmp : Cmp) (key : Side → Key) (old : MergeState) (phase : JoinPhase) (now : MergeState) (one two : Sorted) (end : ℕ) : Type 0 where
@@ -256,6 +272,8 @@ module _ {job : Join} {cmp : Cmp} {key : Side → Key} {old : MergeState} {phase
           phased = record {
             k = k;
             g = [];
+            kept = [];
+            copied = sym (cond_of_empty job.pairs);
             q = record {
               ls = r.ls;
               p = r.p;

@@ -3,13 +3,13 @@
 use Rattle.ptmerge.proofs.Common.{◌≡◌, ◌≢◌, inl, inr, ℕ, ◌+◌, ◌<◌, ◌≤◌, ◌&&◌, Bool, true, false, cond, List, [], ◌∷◌, ◌++◌, Option, Some, None, length, refl, sym, ◌∙◌, ap, subst, arith, nat_lt}
 use Rattle.ptmerge.proofs.Common.{bytes_eq, Ordering, is_eq, is_gt, false≢true, nat_tests, append-nil, length_push, FillLine, Reader, IsDone, IsSound, budget, Slots, line, with_line, max_length}
 use Rattle.ptmerge.proofs.Common.{line_of_with_line, Sorted, CursorStatus, Head, Ended, Disorder, Lines, Cmp, Key, is_head, status_at, same_key_at, NextOkPost, Result, Ok, Err, max, Received, known_lines, Output, ReaderAdvance, unlines}
-use Rattle.ptmerge.proofs.Common.{lines, IsLine, received_with, has_received, has_received_set, cause_set, advance_trans, append_assoc, PushEffect, push_trans, push_nothing, bounded_lag_after, unlines-append, MergeFault, Read, Write}
+use Rattle.ptmerge.proofs.Common.{◌⊎◌, ⊎_elim, length-append, Memory, lines, IsLine, received_with, has_received, has_received_set, cause_set, advance_trans, append_assoc, PushEffect, push_trans, push_nothing, bounded_lag_after, unlines-append, MergeFault, Read, Write}
 use Rattle.ptmerge.proofs.Common.{Side, First, Second, MergeTool, entries_by_key, decided_output, disorder, earlier_disorder, first_disorder, lines_of, merge_output, merged_entries, sorted_prefix, is_up_to, MergeState, AreConsistent, MergeEndPost, MergePost}
-use Rattle.ptmerge.proofs.Common.{IsMergeUnread, IsExactMerge, with_terminator, other, with_side}
+use Rattle.ptmerge.proofs.Common.{IsMergeUnread, IsExactMerge, IsUnreadWithoutSlots, HasNoLine, with_terminator, other, with_side}
 use Rattle.ptmerge.proofs.MergeLemmas.Lag.{ProcessedNearly, LagPoint, back, decided_of_passed, unsettled, lag_bound}
 use Rattle.ptmerge.proofs.MergeLemmas.Invariant.{Bound, NoBound, AtLeast, AfterDisorder, NothingMore, MayFollow, IsUnder, IsSortedUpTo, sorted_up_to_more, is_disordered, IsProcessedPrefix, processed_before_line, processed_all, processed_to_disorder, processed_to_line}
 use Rattle.ptmerge.proofs.MergeLemmas.Invariant.{LagInvariant, MergeInvariant, InputSplit, IsExactStop, is_continuation, past_none, input_split, all_keys, under_fall}
-use Rattle.ptmerge.proofs.MergeLemmas.LinesRead.{LinesRead, lines_read_more, lines_read_eof, Continues, KnownLines, lines_read_known, lines_read_of_input, lines_read_none, reads_nothing}
+use Rattle.ptmerge.proofs.MergeLemmas.LinesRead.{LinesRead, HasBegun, begun_gives_line, one_line_and_block, lines_read_more, lines_read_eof, Continues, KnownLines, lines_read_known, lines_read_of_input, lines_read_none, reads_nothing}
 use Rattle.ptmerge.proofs.MergeLemmas.Orders.{EachKey, EachKey-weaker, IsKeyOrder, AtMost, at_most_trans, equal_is}
 use Rattle.ptlines.proofs.MaxLength.{max_length-append}
 use Rattle.ptmerge.proofs.MergeLemmas.Slots.{line_other}
@@ -25,6 +25,7 @@ MatchesStatus cmp key (Disorder n) cursor store now ls p b = b ≡ AfterDisorder
 -- the invariant of one input
 pub record SideInvariant (end : ℕ) (cmp : Cmp) (key : Key) (old now : Reader) (cursor : Sorted) (store : Slots) (ls p : Lines) (b : Bound) : Type 0 where
   pub lines_read : LinesRead end old now ls
+  pub begun : HasBegun now ls
   pub sound : IsSound now
   pub processed_nearly : ProcessedNearly ls p []
   pub number : cursor.number ≡ length ls
@@ -35,7 +36,7 @@ pub record SideInvariant (end : ℕ) (cmp : Cmp) (key : Key) (old now : Reader) 
 pub side_invariant_kept : {end : ℕ} {cmp : Cmp} {key : Key} {old now : Reader} {cursor : Sorted} {before after : Slots} {ls p : Lines} {b : Bound} → SideInvariant end cmp key old now cursor before ls p b
     → line after cursor.current_slot ≡ line before cursor.current_slot → line after cursor.previous_slot ≡ line before cursor.previous_slot → SideInvariant end cmp key old now cursor after ls p b
 side_invariant_kept {cmp = cmp} {key} {now = now} {cursor} {before} {after} {ls} {p} {b} s same1 same2 = record
-    { lines_read = s.lines_read; sound = s.sound; processed_nearly = s.processed_nearly; number = s.number; processed_prefix = s.processed_prefix; status_is = by cursor.status s.status_is }
+    { lines_read = s.lines_read; begun = s.begun; sound = s.sound; processed_nearly = s.processed_nearly; number = s.number; processed_prefix = s.processed_prefix; status_is = by cursor.status s.status_is }
   where
     by : (t : CursorStatus) → MatchesStatus cmp key t cursor before now ls p b → MatchesStatus cmp key t cursor after now ls p b
     by Head st = rw same1 st
@@ -109,13 +110,13 @@ module _ (end : ℕ) (cmp : Cmp) (o : IsKeyOrder cmp) (key : Key) (old now new :
   Goal last q = SideAfterNext end cmp key old new q cursor.previous_slot before after ls last
 
   -- at most one more line was read
-  at_next : (last : Option (List ℕ)) (more : Lines) (bytes : List ℕ) (q : Sorted) (b : Bound) → LinesRead end old new (ls ++ more) → IsSound new → ProcessedNearly (ls ++ more) ls [] → q.number ≡ length (ls ++ more)
+  at_next : (last : Option (List ℕ)) (more : Lines) (bytes : List ℕ) (q : Sorted) (b : Bound) → LinesRead end old new (ls ++ more) → HasBegun new (ls ++ more) → IsSound new → ProcessedNearly (ls ++ more) ls [] → q.number ≡ length (ls ++ more)
       → IsProcessedPrefix cmp key (ls ++ more) ls b → MatchesStatus cmp key q.status q after new (ls ++ more) ls b → ((r : Lines) → MayFollow cmp key b r → MayFollow cmp key (bound_after last) r)
       → ((k : List ℕ) → IsUnder cmp (bound_after last) k → IsUnder cmp b k) → after ≡ with_line before cursor.previous_slot bytes → length bytes ≤ max_length (ls ++ more) → Goal last q
-  at_next last more bytes q b lines_read sound processed_nearly number processed_prefix status_is may_follow under stored fits = record {
+  at_next last more bytes q b lines_read begun sound processed_nearly number processed_prefix status_is may_follow under stored fits = record {
     now_ls = ls ++ more;
     bound = b;
-    side_invariant = record { lines_read = lines_read; sound = sound; processed_nearly = processed_nearly; number = number; processed_prefix = processed_prefix; status_is = status_is };
+    side_invariant = record { lines_read = lines_read; begun = begun; sound = sound; processed_nearly = processed_nearly; number = number; processed_prefix = processed_prefix; status_is = status_is };
     may_follow = may_follow;
     under = under;
     bytes = bytes;
@@ -133,7 +134,7 @@ module _ (end : ℕ) (cmp : Cmp) (o : IsKeyOrder cmp) (key : Key) (old now new :
         let now_is : line after cursor.previous_slot ≡ e.line = rw e.stored (line_of_with_line before cursor.previous_slot e.line within) in
         let more = sorted_up_to_more e.line sorted_up_to no_disorder in
         let f = from_next o key last e.line no_disorder in
-        at_next last (e.line ∷ []) e.line (next_cursor Head (cursor.number + 1) same) (AtLeast (key e.line)) (lines_read_more lines_read e) sound (inr (e.line, refl, refl)) (omega (arith, number, length_push ls e.line))
+        at_next last (e.line ∷ []) e.line (next_cursor Head (cursor.number + 1) same) (AtLeast (key e.line)) (lines_read_more lines_read e) (inr (omega (arith, length_push ls e.line))) sound (inr (e.line, refl, refl)) (omega (arith, number, length_push ls e.line))
         (processed_before_line o more) (rw now_is (refl, more, refl)) f.0 f.1 e.stored (omega (arith, max_length-append ls (e.line ∷ [])))
 
     at_fall : (last : Option (List ℕ)) → cursor.current_slot ≢ cursor.previous_slot → IsSortedUpTo cmp key ls last → IsLastKey key last cursor before → is_disordered cmp last (key e.line) ≡ true
@@ -142,7 +143,7 @@ module _ (end : ℕ) (cmp : Cmp) (o : IsKeyOrder cmp) (key : Key) (old now new :
     at_fall (Some k) apart sorted_up_to is falls_now =
         let kept : line after cursor.current_slot ≡ line before cursor.current_slot = rw e.stored (line_other before cursor.previous_slot cursor.current_slot e.line (λ i. apart (sym i))) in
         let key_is : k ≡ key (line after cursor.current_slot) = is.1 ∙ ap key (sym kept) in
-        at_next (Some k) (e.line ∷ []) e.line (next_cursor (Disorder (cursor.number + 1)) (cursor.number + 1) same) (AfterDisorder (record { last_key = k; line = length ls + 1 })) (lines_read_more lines_read e) sound
+        at_next (Some k) (e.line ∷ []) e.line (next_cursor (Disorder (cursor.number + 1)) (cursor.number + 1) same) (AfterDisorder (record { last_key = k; line = length ls + 1 })) (lines_read_more lines_read e) (inr (omega (arith, length_push ls e.line))) sound
         (inr (e.line, refl, refl)) (omega (arith, number, length_push ls e.line)) (processed_to_disorder e.line sorted_up_to falls_now)
         (rw (← key_is, number) refl) (nothing_follows cmp key (Some k)) (λ j u. u) e.stored (omega (arith, max_length-append ls (e.line ∷ [])))
 
@@ -157,7 +158,7 @@ module _ (end : ℕ) (cmp : Cmp) (o : IsKeyOrder cmp) (key : Key) (old now new :
       ] refl)
   next_invariant {last} within apart lines_read number sorted_up_to is (inr e) =
       let all = append-nil ls in
-      subst (Goal last) (sym e.cursor) (at_next last [] [] (next_cursor Ended cursor.number false) NothingMore (rw all (lines_read_eof lines_read e.advance_ok e.done)) e.sound (inl all) (rw all number) (rw all (processed_all sorted_up_to))
+      subst (Goal last) (sym e.cursor) (at_next last [] [] (next_cursor Ended cursor.number false) NothingMore (rw all (lines_read_eof lines_read e.advance_ok e.done)) (inl e.done) e.sound (inl all) (rw all number) (rw all (processed_all sorted_up_to))
       (refl, e.done) (nothing_follows cmp key last) (λ k u. tt) e.empty (omega arith))
 
 -- advancing decreases the remaining work
@@ -247,10 +248,39 @@ Fits tool before now ls piece after = (all : Side → Lines)
     → ((side : Side) → Continues (now side) (ls side) (all side) × (max (max_length (ls side)) (length (piece side)) ≤ max_length (all side))) → FitsIn tool before after all
 
 -- the knowledge about unread lines that each result requires
-abbrev pub IsExactExit : MergeTool → (Side → Bound) → Result (Unit {0}) MergeFault → Type 0
-IsExactExit tool b (Ok u) = (side : Side) → b side ≡ NothingMore
-IsExactExit tool b (Err (faults.Disorder side number)) = IsExactStop tool b side number
-IsExactExit tool b other = Unit {0}
+abbrev pub IsExactExit : MergeTool → MergeState → (Side → Bound) → Result (Unit {0}) MergeFault → Type 0
+IsExactExit tool new b (Ok u) = (side : Side) → b side ≡ NothingMore
+IsExactExit tool new b (Err (faults.Disorder side number)) = IsExactStop tool b side number
+IsExactExit tool new b (Err Memory) = 4 ≤ length new.store.lines → (side : Side) × ¬ IsDone (new.reader side)
+IsExactExit tool new b other = Unit {0}
+
+-- After a memory fault, if the output is that of the entries `done`: an input is not at its end, or entries are missing
+-- for all lists that continue the lines read.
+abbrev pub LeavesWork : MergeTool → MergeState → (Side → Reader) → (Side → Lines) → Lines → Result (Unit {0}) MergeFault → Type 0
+LeavesWork tool new now ls done (Err Memory) = 4 ≤ length new.store.lines → ((side : Side) × ¬ IsDone (new.reader side))
+    ⊎ ((tool.keeps_groups ≡ true) × ((all : Side → Lines) → ((side : Side) → Continues (now side) (ls side) (all side)) → ¬ (merged_entries tool all ≡ done)))
+LeavesWork tool new now ls done other = Unit {0}
+
+-- The order of the first reads: the first input has begun, or the second is unread; and the second has begun, or at
+-- most one line of the first was read.
+pub record FirstReads (end : ℕ) (old now new : Side → Reader) (ls : Side → Lines) (piece : Side → List ℕ) : Type 0 where
+  pub first : HasBegun (now First) (ls First) ⊎ (new Second ≡ old Second)
+  pub second : HasBegun (now Second) (ls Second) ⊎ (length (ls First) + length (lines end (piece First)) ≤ 1)
+
+pub both_begun : {end : ℕ} {old now new : Side → Reader} {ls : Side → Lines} {piece : Side → List ℕ} → ((side : Side) → HasBegun (now side) (ls side)) → FirstReads end old now new ls piece
+both_begun begun = record { first = inl (begun First); second = inl (begun Second) }
+
+-- lines without a text are none
+no_lines_left : (end : ℕ) (done rest : Lines) → unlines end done ≡ unlines end (done ++ rest) → rest ≡ []
+no_lines_left end done [] same = refl
+no_lines_left end done (x ∷ rest) same = absurd (omega (
+  arith,
+  ap length same,
+  ap length (unlines-append end done (x ∷ rest)),
+  length-append (unlines end done) (unlines end (x ∷ rest)),
+  length-append (x ++ end ∷ []) (unlines end rest),
+  length_push x end,
+))
 
 module _ (tool : MergeTool) (o : IsKeyOrder tool.cmp) (old new : MergeState) (now : Side → Reader) (piece : Side → List ℕ) (ls p : Side → Lines) (b : Side → Bound)
     (g : (side : Side) → ReadFacts tool.terminator tool.cmp (tool.key side) (old.reader side) (now side) (new.reader side) (piece side) (ls side) (p side) (b side)) where
@@ -292,8 +322,9 @@ module _ (tool : MergeTool) (o : IsKeyOrder tool.cmp) (old new : MergeState) (no
     pub exit_facts : (done : Lines) → unlines tool.terminator (entries_by_key tool all_keys front) ++ bytes ≡ unlines tool.terminator done → {result : Result (Unit {0}) MergeFault} → MergeEndPost old new result
         → ((all : Side → Lines) → ((side : Side) → Continues (now side) (ls side) (all side)) → (rest : Lines) × (merged_entries tool all ≡ done ++ rest))
         → ((side : Side) → (new.reader side).failed ≡ true → IsFailedRead tool.cmp (tool.key side) (new.reader side) (ls side) (p side))
-        → ((input : Side → List ℕ) → AreConsistent given input → IsExactMerge tool input (unlines tool.terminator done) result) → Fits tool old.store now ls piece new.store → MergePost tool old new result
-    exit_facts done is ends all failed is_exact fits = record {
+        → ((input : Side → List ℕ) → AreConsistent given input → IsExactMerge tool input (unlines tool.terminator done) result) → FirstReads tool.terminator old.reader now new.reader ls piece
+        → LeavesWork tool new now ls done result → Fits tool old.store now ls piece new.store → MergePost tool old new result
+    exit_facts done is ends all failed is_exact order left fits = record {
       given = given;
       came = λ side. has_received (old.reader side) (new.reader side) ((g side).lines_read.given ++ piece side) (advance_trans _ _ _ _ _ (g side).lines_read.advance_ok.reads (g side).reads);
       pushed = unlines tool.terminator done;
@@ -324,17 +355,39 @@ module _ (tool : MergeTool) (o : IsKeyOrder tool.cmp) (old new : MergeState) (no
           let f = first_disorder tool.cmp (tool.key (other of)) (known_lines tool.terminator (given (other of))) in
           unsettled tool o given front _ tail _ backs split under future of
           (EachKey-weaker _ _ (λ k u. under_fall tool.cmp o (b (other of)) k f u (whole_input_split.may_disorder (other of))) _ _ (before (other of) of));
+      first_reads = λ clean_then. record {
+        second_unread = λ none. ⊎_elim (λ begun. absurd (has_line First begun none)) (λ same. same ∙ (λ i. record (old.reader Second) { terminator = terminator_is Second i })) order.first;
+        first_waits = λ none. ⊎_elim (λ begun. absurd (has_line Second begun none))
+            (λ few. one_line_and_block _ _ _ _ _ _ (g First).lines_read (g First).reads (g First).line (g First).sound few) order.second;
+      };
+      unfinished = λ memory four. ⊎_elim (λ h. inl h) (λ h. inr (
+        h.0,
+        λ input a same. h.1 (lines_of tool input) (λ side. (input_lines input a side).0)
+            (none_missing input a same),
+      )) (subst (λ (r : Result (Unit {0}) MergeFault). LeavesWork tool new now ls done r) memory left four);
       peak = λ input a. (fits (lines_of tool input) (input_lines input a)).0;
       slots = λ input a. (fits (lines_of tool input) (input_lines input a)).1;
       is_exact = is_exact;
     }
+      where
+        has_line : (side : Side) → HasBegun (now side) (ls side) → ¬ HasNoLine tool.terminator (given side)
+        has_line side begun none = begun_gives_line _ _ _ _ _ _ (g side).lines_read (g side).reads (g side).line begun none
+
+        terminator_is : (side : Side) → (old.reader side).terminator ≡ tool.terminator
+        terminator_is side = sym (g side).lines_read.advance_ok.reads.terminator ∙ (g side).lines_read.terminator
+
+        -- if nothing is missing in the output, no entry is
+        none_missing : (input : Side → List ℕ) (a : AreConsistent given input) → unlines tool.terminator done ≡ merge_output tool input → merged_entries tool (lines_of tool input) ≡ done
+        none_missing input a same =
+            let e = all (lines_of tool input) (λ side. (input_lines input a side).0) in
+            e.1 ∙ ap (λ (l : Lines). done ++ l) (no_lines_left tool.terminator done e.0 (same ∙ ap (unlines tool.terminator) e.1)) ∙ append-nil done
 
   pub exit_is_merge_post : MergeInvariant tool b p old.out new.out → LagInvariant tool b p old.out new.out → (result : Result (Unit {0}) MergeFault) → MergeEndPost old new result
-      → ((side : Side) → (new.reader side).failed ≡ true → IsFailedRead tool.cmp (tool.key side) (new.reader side) (ls side) (p side)) → IsExactExit tool b result
-      → Fits tool old.store now ls piece new.store → MergePost tool old new result
-  exit_is_merge_post m lag_invariant result ends failed concludes fits = exit_facts lag_invariant.front lag_invariant.tail b lag_invariant.split m.under m.under lag_invariant.may_follow lag_invariant.clean lag_invariant.wrote lag_invariant.more _ lag_invariant.all ends
+      → ((side : Side) → (new.reader side).failed ≡ true → IsFailedRead tool.cmp (tool.key side) (new.reader side) (ls side) (p side)) → IsExactExit tool new b result
+      → FirstReads tool.terminator old.reader now new.reader ls piece → Fits tool old.store now ls piece new.store → MergePost tool old new result
+  exit_is_merge_post m lag_invariant result ends failed concludes order fits = exit_facts lag_invariant.front lag_invariant.tail b lag_invariant.split m.under m.under lag_invariant.may_follow lag_invariant.clean lag_invariant.wrote lag_invariant.more _ lag_invariant.all ends
       (λ all w. let s = input_split_of all w in (entries_by_key tool (is_up_to tool.cmp (disorder tool all)) s.r, input_split o m s))
-      failed (by result concludes) fits
+      failed (by result concludes) order (left_by result concludes) fits
     where
       done : Lines
       done = entries_by_key tool all_keys p
@@ -348,7 +401,11 @@ module _ (tool : MergeTool) (o : IsKeyOrder tool.cmp) (old new : MergeState) (no
       all_of : (input : Side → List ℕ) (a : AreConsistent given input) → unlines tool.terminator (merged_entries tool (lines_of tool input)) ≡ unlines tool.terminator (done ++ later input a)
       all_of input a = ap (unlines tool.terminator) (input_split o m (input_split_in input a))
 
-      by : (result : Result (Unit {0}) MergeFault) → IsExactExit tool b result → (input : Side → List ℕ) (a : AreConsistent given input) → IsExactMerge tool input (unlines tool.terminator done) result
+      left_by : (result : Result (Unit {0}) MergeFault) → IsExactExit tool new b result → LeavesWork tool new now ls done result
+      left_by (Err Memory) c = λ four. inl (c four)
+      left_by other c = tt
+
+      by : (result : Result (Unit {0}) MergeFault) → IsExactExit tool new b result → (input : Side → List ℕ) (a : AreConsistent given input) → IsExactMerge tool input (unlines tool.terminator done) result
       by (Ok u) nothing_follows input a =
           let s = input_split_in input a in
           let none : (side : Side) → s.r side ≡ [] = λ side. rw (nothing_follows side) at (s.may_follow side) in
@@ -382,13 +439,15 @@ module _ (old new : MergeState) (set : Side → Reader) (end : ℕ) (is : (side 
         decided_is_written = m.decided_is_written;
         bounded_lag = m.bounded_lag;
         stops_at_disorder = m.stops_at_disorder;
+        first_reads = λ clean. record { second_unread = (m.first_reads clean).second_unread; first_waits = (m.first_reads clean).first_waits };
+        unfinished = m.unfinished;
         peak = m.peak;
         slots = m.slots;
         is_exact = m.is_exact;
       }
 
-  pub unread_set : IsMergeUnread (record { reader = set; out = old.out; store = old.store }) new → IsMergeUnread (with_terminator end old) new
-  unread_set u = record { readers = λ side. u.readers side ∙ is side; output = u.output }
+  pub unread_set : (length new.store.lines < 4 → IsMergeUnread (record { reader = set; out = old.out; store = old.store }) new) → IsUnreadWithoutSlots end old new
+  unread_set u fine few = record { readers = λ side. (u few).readers side ∙ is side; output = (u few).output }
 
 -- ---- an exit before the start
 
@@ -404,6 +463,8 @@ merge_halted tool old allowed fault = record {
   decided_is_written = λ side fail clean. absurd (false≢true (sym clean ∙ fault));
   bounded_lag = λ side clean. absurd (false≢true (sym clean ∙ fault));
   stops_at_disorder = λ side clean. absurd (false≢true (sym clean ∙ fault));
+  first_reads = λ clean. absurd (false≢true (sym clean ∙ fault));
+  unfinished = λ memory. cc;
   peak = λ input a. omega arith;
   slots = λ input a. omega arith;
   is_exact = λ input a. tt;

@@ -2,7 +2,7 @@
 -- terminator. So every input that begins with these bytes begins with these lines.
 use Rattle.ptmerge.proofs.Common.{◌≡◌, ◌⊎◌, ⊎_elim, inl, inr, ℕ, ◌+◌, ◌<◌, ◌≤◌, Bool, true, false, List, [], ◌∷◌, ◌++◌, None, length, max, refl, sym, ◌∙◌, ap, arith, append_assoc, length-append}
 use Rattle.ptmerge.proofs.Common.{append-nil, nil_from_length, false≢true, FillLine, Received, IsConsistent, known_lines, Reader, ReaderAdvance, AdvanceOk, IsDone, remaining_bytes, Slots, unlines, lines, complete_lines, IsLine}
-use Rattle.ptmerge.proofs.Common.{AreLines, max_length, received_with, advance_ok_trans, lines_of_unlines, lines_of_last, unlines_push, AreLines_push, complete_lines_none, complete_lines_cons}
+use Rattle.ptmerge.proofs.Common.{AreLines, max_length, received_with, advance_ok_trans, lines_of_unlines, lines_of_last, unlines_push, IsSound, HasNoLine, HasOneLineAndBlock, AreLines_push, complete_lines_none, complete_lines_cons}
 use Rattle.ptlines.proofs.KnownBytes.{prepend_known-nil}
 use Rattle.ptlines.proofs.MaxLength.{max_length-append, piece_le_max_length}
 
@@ -37,6 +37,15 @@ done_gives_nothing {now} {new} {bytes} done reads =
     let still = reads.still done.eof in
     let none : length bytes + length new.buffered ≡ 0 = omega (arith, reads.count, still.0, ap length done.buffered) in
     (nil_from_length bytes (omega (arith, none)), nil_from_length new.buffered (omega (arith, none)), still.1)
+
+-- a line was read, or the end of the source
+abbrev pub HasBegun : Reader → List (List ℕ) → Type 0
+HasBegun now ls = IsDone now ⊎ (0 < length ls)
+
+-- a part of a line is at most one line
+pub one_line_at_most : (end : ℕ) (piece : List ℕ) → IsLine end piece → length (lines end piece) ≤ 1
+one_line_at_most end [] free = omega arith
+one_line_at_most end (b ∷ piece) free = rw (lines_of_last end (b ∷ piece) free (omega arith)) (omega arith)
 
 pub lines_read_more : {end : ℕ} {old now new : Reader} {ls : List (List ℕ)} {before after : Slots} {slot : ℕ} → LinesRead end old now ls
     → (e : FillLine now new before after slot) → LinesRead end old new (ls ++ e.line ∷ [])
@@ -116,3 +125,22 @@ module _ (end : ℕ) (old now new : Reader) (ls : List (List ℕ)) (piece : List
             known = record { more = complete_lines end (piece ++ (new.buffered ++ [])); is = is; done = λ d. absurd (false≢true (sym e ∙ (done_gives_nothing d reads).2)) };
             exact = λ empty _. is ∙ (rw (empty, append-nil piece, complete_lines_none end piece free) (append-nil ls));
           }) (λ k. absurd (false≢true (sym e ∙ (done_gives_nothing k.1 reads).2))) c.so_far
+
+  -- after the first line or the end was read, one of both was received
+  pub begun_gives_line : HasBegun now ls → ¬ HasNoLine end (received_with (c.given ++ piece) new)
+  begun_gives_line begun none = ⊎_elim (λ done. false≢true (sym none.eof ∙ (done_gives_nothing done reads).2)) (λ some.
+      let nothing : known_lines end (received_with (c.given ++ piece) new) ≡ [] = rw none.eof (complete_lines_none end ((c.given ++ piece) ++ new.buffered) none.line) in
+      let known = lines_read_known.known in
+      absurd (omega (arith, some, ap length (sym nothing ∙ known.is), length-append ls known.more))) begun
+
+  -- at most one line was read, or a part of it
+  pub one_line_and_block : IsSound new → length ls + length (lines end piece) ≤ 1 → HasOneLineAndBlock end (received_with (c.given ++ piece) new)
+  one_line_and_block sound few = record {
+    first = c.given ++ piece;
+    rest = new.buffered;
+    split = refl;
+    one_line = ⊎_elim (λ o. rw (o.0, lines_of_unlines end ls piece o.1) (omega (arith, few, length-append ls (lines end piece)))) (λ k.
+        let none = done_gives_nothing k.1 reads in
+        rw (none.0, append-nil c.given, k.0) (omega (arith, few))) c.so_far;
+    block = sound.buffered;
+  }

@@ -1,11 +1,11 @@
 -- The start of a merge: slots are added and the first line of each input is read. Nothing is processed yet, so the
 -- invariant holds with an empty output.
-use Rattle.ptmerge.proofs.Common.{◌≡◌, inl, inr, ◌≤◌, ◌<◌, Bool, cond, [], None, Err, length, refl, sym, ◌∙◌, arith, false≢true, terminator, Reader, Slots}
+use Rattle.ptmerge.proofs.Common.{◌≡◌, inl, inr, ◌≤◌, ◌<◌, Bool, cond, [], None, Err, length, refl, sym, ap, ◌+◌, ◌∙◌, arith, false≢true, terminator, Reader, Slots}
 use Rattle.ptmerge.proofs.Common.{max_length, push_nothing, MergeFault, Memory, Side, First, Second, Sorted, Lines, MergeTool, MergeState, MergePost, IsMergeUnread, NextOkPost, HasSlots, initial_cursor, base_slot, both, MergeInputs}
 use Rattle.ptmerge.proofs.Common.{StartErrPost, StartOkPost, AddedSlots, StartFirstPost, StartSlotFaultPost, ⊎_elim, max, ◌⊎◌}
 use Rattle.ptmerge.proofs.MergeLemmas.Invariant.{NoBound, sorted_up_to_none, MergeInvariant, lag_invariant_starts, merge_invariant_starts, bound_changes}
 use Rattle.ptmerge.proofs.MergeLemmas.Step.{LoopInvariant, adds_of, next_error_keeps_slot_count, within_size, IsOpenMerge, StoreHoldsTwoLines, fails, own_slots, slot_low, slots_apart}
-use Rattle.ptmerge.proofs.MergeLemmas.LinesRead.{lines_read_none, reads_nothing}
+use Rattle.ptmerge.proofs.MergeLemmas.LinesRead.{lines_read_none, reads_nothing, one_line_at_most}
 use Rattle.ptmerge.proofs.MergeLemmas.Slots.{StoreOfLines, has_lines_total, store_with_line, store_of_no_lines, line_other}
 use Rattle.ptmerge.proofs.MergeLemmas.Exits.{SideAfterNext, next_invariant, side_invariant_kept, ReadFacts, read_facts_at_start, read_facts_at_line, state_by_side, exit_is_merge_post}
 
@@ -41,6 +41,10 @@ module _ {tool : MergeTool} {old : MergeState} (w : IsOpenMerge tool old) where
     half_invariant : MergeInvariant tool (both n.bound NoBound) no_lines old.out old.out
     half_invariant = bound_changes First n.bound (merge_invariant_starts tool old.out) n.may_follow n.under
 
+    -- at most one line of it was read
+    first_line_only : length n.now_ls + 0 ≤ 1
+    first_line_only = ⊎_elim (λ e. omega (arith, n.side_invariant.number, ap (λ (c : Sorted). c.number) e.cursor)) (λ e. omega (arith, n.side_invariant.number, ap (λ (c : Sorted). c.number) e.cursor)) s.came
+
     mid_four : 4 ≤ length s.mid.lines
     mid_four = (has_lines_total s.mid.lines (λ side. max_length (both n.now_ls [] side)) 0 half_store.lines).0
 
@@ -74,18 +78,21 @@ module _ {tool : MergeTool} {old : MergeState} (w : IsOpenMerge tool old) where
         rw u.memory (exit_is_merge_post _ w.o _ _ old.reader (λ side. []) no_lines no_lines (λ side. NoBound) (λ side. rw (u.unread side) (unread_side side))
         (merge_invariant_starts tool old.out) (lag_invariant_starts _ _ _ _ _ _ w.writable (push_nothing old.out) (push_nothing old.out))
         (Err Memory) (record { denied = u.slots.denied; failed = same; clean = w.writable })
-        (λ side fail. absurd (false≢true (sym (same side ∙ w.unfailed side) ∙ fail))) tt (λ all l. (omega (arith, u.slots.peak), omega (arith, u.slots.most, (w.fits all).1))))
+        (λ side fail. absurd (false≢true (sym (same side ∙ w.unfailed side) ∙ fail))) (λ four. absurd (omega (arith, four, u.slots.few)))
+        (record { first = inr (u.unread Second); second = inr (omega arith) }) (λ all l. (omega (arith, u.slots.peak), omega (arith, u.slots.few, (w.fits all).1))))
     start_fault (inr (inl f)) =
         let kept = store_of_no_lines f.four w.allowed w.empty in
         rw f.unread (fails tool w.o old (state_by_side old.reader old.out f.made) no_lines no_lines (λ side. NoBound) (merge_invariant_starts tool old.out) w.unfailed (λ side. refl) w.writable
-        First (initial_cursor First) new1 after fault (λ r piece. read_facts_at_start (w.readable First) (w.terminator First)) refl None sorted_up_to_none (unread_side Second) kept.denied
+        First (initial_cursor First) new1 after fault (λ r piece. read_facts_at_start (w.readable First) (w.terminator First)) refl None sorted_up_to_none (unread_side Second)
+        (λ r piece free. record { first = inr refl; second = inr (omega (arith, one_line_at_most tool.terminator piece (rw (w.terminator First) at free))) }) kept.denied
         (λ piece all l. within_size tool w.fits First (initial_cursor First) no_lines all piece (fresh_slots First) kept (λ side. omega (arith, (l side).1)) (omega (arith, (l First).1))) f.fails)
     start_fault (inr (inr f)) =
         let s = f.begins in
         let g = n s in
         fails tool w.o old (state_by_side (both new1 (old.reader Second)) old.out s.mid) (both g.now_ls []) no_lines (both g.bound NoBound) (half_invariant s) w.unfailed
         (elim [ First ↦ g.side_invariant.lines_read.advance_ok.failed | Second ↦ refl ]) w.writable
-        Second (initial_cursor Second) new2 after fault (λ r piece. read_facts_at_start (w.readable Second) (w.terminator Second)) refl None sorted_up_to_none (read_facts_at_line g.side_invariant) (half_store s).denied
+        Second (initial_cursor Second) new2 after fault (λ r piece. read_facts_at_start (w.readable Second) (w.terminator Second)) refl None sorted_up_to_none (read_facts_at_line g.side_invariant)
+        (λ r piece free. record { first = inl g.side_invariant.begun; second = inr (first_line_only s) }) (half_store s).denied
         (λ piece all l. within_size tool w.fits Second (initial_cursor Second) (both g.now_ls []) all piece (fresh_slots Second) (half_store s)
         (λ side. omega (arith, (l side).1)) (omega (arith, (l Second).1))) s.later
 
@@ -96,7 +103,7 @@ module _ {tool : MergeTool} {old : MergeState} (w : IsOpenMerge tool old) where
     slots_then (inr (inr f)) = let s = f.begins in inr (next_error_keeps_slot_count Second (initial_cursor Second) (old.reader Second) new2 s.mid after fault s.later ∙ (half_store s).slots)
 
     pub start_slots : StartErr new1 new2 after fault → AddedSlots old.store after 4
-    start_slots c = ⊎_elim (λ u. record { least = u.slots.least; most = u.slots.most; all = λ allowed. absurd (false≢true (sym allowed ∙ u.slots.denied)) }) adds_of (slots_then c)
+    start_slots c = ⊎_elim (λ u. record { least = u.slots.least; most = omega (arith, u.slots.few); all = λ allowed. absurd (false≢true (sym allowed ∙ u.slots.denied)) }) adds_of (slots_then c)
 
     -- nothing was read if one of the first four slots could not be added
     pub start_unread : StartErr new1 new2 after fault → length after.lines < 4 → IsMergeUnread old (state_by_side (both new1 new2) old.out after)

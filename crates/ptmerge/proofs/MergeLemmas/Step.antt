@@ -11,9 +11,9 @@ use Rattle.ptmerge.proofs.MergeLemmas.Invariant.{Bound, AtLeast, AfterDisorder, 
 use Rattle.ptmerge.proofs.MergeLemmas.Invariant.{all_keys, none_wanted}
 use Rattle.ptmerge.proofs.MergeLemmas.Orders.{EachKey, EachKey-weaker, lines_with_key-above, IsKeyOrder, Above, above_at_most, above_up, greater_flips, is_greater}
 use Rattle.ptmerge.proofs.MergeLemmas.Slots.{both_each, put_both, put_each, put_other, put_same, side_case, line_other, StoreOfLines, has_lines_total, store_with_line, line_added, HasLines}
-use Rattle.ptmerge.proofs.MergeLemmas.Exits.{SideInvariant, MatchesStatus, SideAfterNext, IsAtCurrentLine, next_invariant, at_current_line, side_invariant_kept, IsFailedRead, Fits, ReadFacts, state_by_side, exit_is_merge_post, FitsIn, read_facts_after_line, read_facts_at_line, reads_left, next_decreases}
+use Rattle.ptmerge.proofs.MergeLemmas.Exits.{SideInvariant, MatchesStatus, SideAfterNext, IsAtCurrentLine, next_invariant, at_current_line, side_invariant_kept, IsFailedRead, Fits, ReadFacts, state_by_side, exit_is_merge_post, FitsIn, read_facts_after_line, read_facts_at_line, reads_left, next_decreases, FirstReads, both_begun}
 use Rattle.ptmerge.proofs.MergeLemmas.Exits.{IsExactExit}
-use Rattle.ptmerge.proofs.MergeLemmas.LinesRead.{reads_nothing}
+use Rattle.ptmerge.proofs.MergeLemmas.LinesRead.{HasBegun, reads_nothing}
 use Rattle.ptmerge.specs.declared.faults.MergeFault.TheVariants as faults
 
 -- ---- slots
@@ -173,6 +173,10 @@ stops_at tool o old now cursor store ls p b sides s n dec l r c f =
 
 -- ---- a failed read
 
+-- a reader with buffered bytes is not at its end
+pub buffered_not_done : {r : Reader} → 0 < length r.buffered → ¬ IsDone r
+buffered_not_done some done = absurd (omega (arith, some, ap length done.buffered))
+
 module _ (tool : MergeTool) (o : IsKeyOrder tool.cmp) (old now : MergeState) (ls q : Side → Lines) (b : Side → Bound) (m : MergeInvariant tool b q old.out now.out)
     (unfailed : (side : Side) → (old.reader side).failed ≡ false)
     (none_failed : (side : Side) → (now.reader side).failed ≡ (old.reader side).failed) (clean : now.out.write_failed ≡ false) where
@@ -185,13 +189,18 @@ module _ (tool : MergeTool) (o : IsKeyOrder tool.cmp) (old now : MergeState) (ls
   lag_invariant : LagInvariant tool b q old.out now.out
   lag_invariant = lag_invariant_starts _ _ _ _ _ _ clean m.wrote (push_nothing now.out)
 
+  -- the order of the first reads, if reading the next line of the input `s` failed
+  abbrev pub FirstReadsOf : Side → Reader → List ℕ → Type 0
+  FirstReadsOf s r piece = FirstReads tool.terminator old.reader now.reader (with_side s r now.reader) ls (with_side s piece (λ side. []))
+
   -- reading the next line of an input failed
   pub fails : (s : Side) (cursor : Sorted) (new : Reader) (after : Slots) (fault : MergeFault)
       → ((r : Reader) (piece : List ℕ) → ReaderAdvance (now.reader s) r piece → IsLine (now.reader s).terminator piece → IsSound r → ReadFactsOf s r piece) → ls s ≡ q s
-      → (last : Option (List ℕ)) → IsSortedUpTo tool.cmp (tool.key s) (q s) last → ReadFactsOf (other s) (now.reader (other s)) [] → now.store.denied ≡ false
+      → (last : Option (List ℕ)) → IsSortedUpTo tool.cmp (tool.key s) (q s) last → ReadFactsOf (other s) (now.reader (other s)) []
+      → ((r : Reader) (piece : List ℕ) → IsLine (now.reader s).terminator piece → FirstReadsOf s r piece) → now.store.denied ≡ false
       → ((piece : List ℕ) → Fits tool old.store now.reader ls (with_side s piece (λ side. [])) (with_line now.store cursor.previous_slot piece)) → NextErrPost s cursor (now.reader s) new now.store after fault
       → MergePost tool old (record { reader = with_side s new now.reader; out = now.out; store = after }) (Err fault)
-  fails s cursor new after (Read file) gone all last sorted_up_to rest roomy fits moves =
+  fails s cursor new after (Read file) gone all last sorted_up_to rest order roomy fits moves =
       let e = moves.0 in
       rw moves.1 (exit_is_merge_post tool o old (state_by_side (with_side s new now.reader) now.out after) now.reader (with_side s e.piece (λ side. [])) ls q b
       (put_both ReadFactsOf s new now.reader e.piece (λ side. []) (gone new e.piece e.faults.reads e.faults.whole moves.2) rest) m lag_invariant (Err (Read s))
@@ -203,14 +212,15 @@ module _ (tool : MergeTool) (o : IsKeyOrder tool.cmp) (old now : MergeState) (ls
       })
       (put_each (λ side (r : Reader). r.failed ≡ true → IsFailedRead tool.cmp (tool.key side) r (ls side) (q side)) s new now.reader
       (λ fail. ⊎_elim (λ h. record { buffered = h.1; eof = h.2; all = all; last = last; sorted_up_to = sorted_up_to }) (λ h. fails_not s new (h.1 ∙ none_failed s) fail) e.cause)
-      (λ side. fails_not side (now.reader side) (none_failed side))) tt (rw e.stored (fits e.piece)))
-  fails s cursor new after Memory gone all last sorted_up_to rest roomy fits moves =
+      (λ side. fails_not side (now.reader side) (none_failed side))) tt (order new e.piece e.faults.whole) (rw e.stored (fits e.piece)))
+  fails s cursor new after Memory gone all last sorted_up_to rest order roomy fits moves =
       let e = moves.0 in
       let failed = put_each (λ side (r : Reader). r.failed ≡ (old.reader side).failed) s new now.reader (e.failed ∙ none_failed s) none_failed in
       exit_is_merge_post tool o old (state_by_side (with_side s new now.reader) now.out after) now.reader (with_side s e.piece (λ side. [])) ls q b
       (put_both ReadFactsOf s new now.reader e.piece (λ side. []) (gone new e.piece e.faults.reads e.faults.whole moves.1) rest) m lag_invariant (Err Memory)
-      (record { denied = rw e.stored refl; failed = failed; clean = clean }) (λ side. fails_not side (with_side s new now.reader side) (failed side)) tt (rw e.stored (fits e.piece))
-  fails s cursor new after other gone all last sorted_up_to rest roomy fits moves = absurd moves
+      (record { denied = rw e.stored refl; failed = failed; clean = clean }) (λ side. fails_not side (with_side s new now.reader side) (failed side))
+      (λ four. (s, rw (put_same s new now.reader) (buffered_not_done e.left))) (order new e.piece e.faults.whole) (rw e.stored (fits e.piece))
+  fails s cursor new after other gone all last sorted_up_to rest order roomy fits moves = absurd moves
 
 -- ---- between two steps
 
@@ -348,6 +358,9 @@ module _ {tool : MergeTool} {old : MergeState} (w : IsOpenMerge tool old) {reade
   no_failure : (X : Side → Type 0) (side : Side) → (reader side).failed ≡ true → X side
   no_failure X side fail = absurd (false≢true (sym (none_failed side ∙ w.unfailed side) ∙ fail))
 
+  begun : (side : Side) → HasBegun (reader side) (ls side)
+  begun side = (a.sides side).begun
+
   fault : (side : Side) → (reader side).fault ≡ None
   fault side = (a.sides side).lines_read.advance_ok.fault
 
@@ -371,17 +384,17 @@ module _ {tool : MergeTool} {old : MergeState} (w : IsOpenMerge tool old) {reade
       → {new : Reader} {after : Slots} {fault : MergeFault} → AdvanceErrPost s (cursor s) (reader s) new store after out fault → MergePost tool old (state_by_side (with_side s new reader) out after) (Err fault)
   iteration_fails s head {q} {out} m same rest {new} {after} {fault} (inl e) = same_state tool old s (state_by_side reader out store) out new after fault e.0 e.1 (exit_is_merge_post _ w.o _ _ _ (λ side. []) _ q _
       (side_case (λ side. ReadFactsBy side (q side)) s (rw same (passing_now s head)) rest) m.0 m.1 (Err Write) (record { write_failed = e.1.write_failed; failed = none_failed; denied = a.holds.denied })
-      (no_failure _) tt (a.holds.fits store (omega arith) refl))
+      (no_failure _) tt (both_begun begun) (a.holds.fits store (omega arith) refl))
   iteration_fails s head {q} {out} m same rest {new} {after} {fault} (inr e) =
       let h = at_current_line head (a.sides s) in
       fails tool w.o old (state_by_side reader out store) ls q b m.0 w.unfailed none_failed e.0 s (cursor s) new after fault
-      (λ r piece reads free sound. rw same (passing s head r piece reads free sound)) (sym same) (Some (tool.key s (line store (cursor s).current_slot))) (rw same h.sorted_up_to) rest a.holds.denied
+      (λ r piece reads free sound. rw same (passing s head r piece reads free sound)) (sym same) (Some (tool.key s (line store (cursor s).current_slot))) (rw same h.sorted_up_to) rest (λ r piece free. both_begun begun) a.holds.denied
       (a.holds.line s) e.1
 
   -- the slots are emptied at the end
   module _ {out : Output} (m : MergeInvariant tool b p old.out out) (clean : out.write_failed ≡ false) {after : Slots} (clear : ClearFourSlotsPost store after) where
-    concludes : (result : Result (Unit {0}) MergeFault) → MergeEndPost old (state_by_side reader out after) result → IsExactExit tool b result → MergePost tool old (state_by_side reader out after) result
-    concludes result ends conclusion = exit_is_merge_post _ w.o _ _ _ (λ side. []) _ _ _ read_facts_current m (lag_invariant_starts _ _ _ _ _ _ clean m.wrote (push_nothing out)) result ends (no_failure _) conclusion
+    concludes : (result : Result (Unit {0}) MergeFault) → MergeEndPost old (state_by_side reader out after) result → IsExactExit tool (state_by_side reader out after) b result → MergePost tool old (state_by_side reader out after) result
+    concludes result ends conclusion = exit_is_merge_post _ w.o _ _ _ (λ side. []) _ _ _ read_facts_current m (lag_invariant_starts _ _ _ _ _ _ clean m.wrote (push_nothing out)) result ends (no_failure _) conclusion (both_begun begun)
         (a.holds.fits after clear.peak clear.slots)
 
     empty : total_bytes after.lines ≡ 0

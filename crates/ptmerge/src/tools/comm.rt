@@ -6,7 +6,7 @@ ghost use Rattle.ptlines.specs.Outputs.{PushEffect};
 ghost use Rattle.ptlines.specs.Slots.{line};
 ghost use Rattle.ptlines.specs.Text.{unlines};
 ghost use Rattle.ptmerge.specs.Comm.{comm_with, comm_tool, tab_if_shown, column_entries};
-ghost use Rattle.ptmerge.specs.MergeCall.{MergeRunPre, MergePost, MergePre, IsMergeUnread, IsMergeUntouched, with_terminator, merge_state};
+ghost use Rattle.ptmerge.specs.MergeCall.{MergeRunPre, MergePost, MergePre, IsMergeUnread, IsMergeUntouched, IsUnreadWithoutSlots, merge_state};
 ghost use Rattle.ptmerge.specs.WriteAndAdvance.{WriteThenAdvancePost, AdvancePre};
 ghost use Rattle.ptmerge.specs.Write.{WriteBytesPost};
 ghost use Rattle.ptmerge.specs.Sides.{both};
@@ -151,9 +151,8 @@ pub fn comm<A: Allocator + Copy, S: Source, R: Source, W: Sink>(
     ensures merged { let was = merge_state first.old second.old out.old store.old in
         MergePost (comm_tool (comm_job job.now)) was (merge_state first.new second.new out.new store.new) result }
     ensures slots { out.old.write_failed ≡ false → AddedSlots store.old store.new 4 }
-    ensures unread_without_slots { let was = with_terminator (comm_job job.now).terminator (merge_state first.old second.old out.old store.old) in
-        out.old.write_failed ≡ false → length store.new.lines < 4 →
-        IsMergeUnread was (merge_state first.new second.new out.new store.new) }
+    ensures unread_without_slots { let was = merge_state first.old second.old out.old store.old in
+        IsUnreadWithoutSlots (comm_job job.now).terminator was (merge_state first.new second.new out.new store.new) }
     ensures unchanged_if_failed { let was = merge_state first.old second.old out.old store.old in
         out.old.write_failed ≡ true → IsMergeUntouched was (merge_state first.new second.new out.new store.new) result }
 {

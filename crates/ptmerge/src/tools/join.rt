@@ -9,7 +9,7 @@ ghost use Rattle.ptlines.specs.Outputs.{PushEffect};
 ghost use Rattle.ptlines.specs.Slots.{line};
 ghost use Rattle.ptlines.specs.Text.{unlines};
 ghost use Rattle.ptmerge.specs.JoinGroup.{AddedAtLeast, SlotsHaveKey, IsGroup, JoinStepPre, JoinLinePre, group_end_slot, group_first_slot, group};
-ghost use Rattle.ptmerge.specs.MergeCall.{MergeRunPre, MergePost, MergePre, IsMergeUnread, IsMergeUntouched, with_terminator, merge_state};
+ghost use Rattle.ptmerge.specs.MergeCall.{MergeRunPre, MergePost, MergePre, IsMergeUnread, IsMergeUntouched, IsUnreadWithoutSlots, merge_state};
 ghost use Rattle.ptmerge.specs.declared.key_order.Side.{Side as SideType};
 ghost use Rattle.ptmerge.specs.Join.{unpaired_entry, join_with, join_key, join_tool, pair_entries};
 ghost use Rattle.ptmerge.specs.WriteAndAdvance.{WriteThenAdvancePost, AdvancePre};
@@ -216,7 +216,7 @@ fn join_with_order<
                 }
             },
             JoinPhase::ReadGroup => {
-                end = read_group_line(&mut merge, end, second, store, out)?;
+                end = read_group_line(&mut merge, job.pairs, end, second, store, out)?;
                 if !merge.has_same_key(Second) {
                     phase = JoinPhase::WritePairs;
                 }
@@ -240,8 +240,8 @@ fn join_with_order<
 /// field has an empty key; POSIX leaves this unspecified. As extensions, `-r` reverses the byte order, and with `-z`
 /// lines end with byte 0.
 ///
-/// The slots 0 to 3 of the store are used, and added if they are missing; after them at most one slot is added for each
-/// of the second input's lines of one key. After `Ok` and `Disorder` all slots are empty. If one of the first four
+/// The slots 0 to 3 of the store are used, and added if they are missing; after them, if pairs are written, at most one
+/// slot is added for each of the second input's lines of one key. After `Ok` and `Disorder` all slots are empty. If one of the first four
 /// could not be added, nothing is read or written. If the output has failed before, the call does nothing. However the
 /// call ends, everything was pushed that was decided two blocks (16,384 bytes) of either input earlier, regardless of
 /// the content of the other input; and a disorder was not yet decided then. The pairs of a key are written once all
@@ -263,9 +263,8 @@ pub fn join<A: Allocator + Copy, B: Allocator + Copy, S: Source, R: Source, W: S
     ensures merged { let was = merge_state first.old second.old out.old store.old in
         MergePost (join_tool (join_job job.now)) was (merge_state first.new second.new out.new store.new) result }
     ensures slots { out.old.write_failed ≡ false → AddedAtLeast store.old store.new 4 }
-    ensures unread_without_slots { let was = with_terminator (join_job job.now).terminator (merge_state first.old second.old out.old store.old) in
-        out.old.write_failed ≡ false → length store.new.lines < 4 →
-        IsMergeUnread was (merge_state first.new second.new out.new store.new) }
+    ensures unread_without_slots { let was = merge_state first.old second.old out.old store.old in
+        IsUnreadWithoutSlots (join_job job.now).terminator was (merge_state first.new second.new out.new store.new) }
     ensures unchanged_if_failed { let was = merge_state first.old second.old out.old store.old in
         out.old.write_failed ≡ true → IsMergeUntouched was (merge_state first.new second.new out.new store.new) result }
 {

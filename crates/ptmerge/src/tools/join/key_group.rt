@@ -42,12 +42,13 @@ fn copy_to_group<A: Allocator + Copy>(
     Ok(store.slots().min(to + 1))
 }
 
-// Advances the second input, and copies its previous line to the group's slots, unless that line is the only one of its
-// key. Returns the slot after the copied lines. Not inlined, so that the merge stays in memory and is not moved between
-// registers in each iteration.
+// Advances the second input, and copies its previous line to the group's slots, if a group is to be kept and that line
+// is not the only one of its key. Returns the slot after the copied lines. Not inlined, so that the merge stays in
+// memory and is not moved between registers in each iteration.
 #[inline(never)]
 pub(crate) fn read_group_line<K: KeyOrder, A: Allocator + Copy, S: Source, R: Source, W: Sink>(
     merge: &mut Merge<K>,
+    keep: bool,
     end: usize,
     reader: &mut LineReader<S, R>,
     store: &mut Store<A>,
@@ -59,14 +60,14 @@ pub(crate) fn read_group_line<K: KeyOrder, A: Allocator + Copy, S: Source, R: So
     requires clean { out.old.write_failed ≡ false }
     ensures written_out { PushEffect out.old out.new [] }
     ensures reads_line { let key = K.key_of merge.old.order sides.Second in
-        ReadGroupLinePost key (K.order merge.old.order)
+        ReadGroupLinePost keep key (K.order merge.old.order)
         merge.old.second merge.new.second reader.old reader.new store.old store.new out.new end result }
     ensures continues { OnOk result (IsReadyToContinue (K.key_of merge.old.order) sides.Second merge.old.first merge.old.second
         merge.new.first merge.new.second reader.new store.new out.new) }
     ensures order { merge.new.order ≡ merge.old.order }
 {
     merge.write_out_and_advance(Side::Second, reader, store, out)?;
-    if end == 4 && !merge.has_same_key(Side::Second) {
+    if !keep || end == 4 && !merge.has_same_key(Side::Second) {
         return Ok(end);
     }
     match copy_to_group(store, merge.previous_slot_of(Side::Second), end) {
