@@ -12,22 +12,22 @@ use Rattle.ptopts.specs.declared.fault.UseFault.{UseFault}
 use Rattle.ptlangs.specs.Results.{IsFault}
 use Rattle.ptlines.specs.Readers.{Reader}
 use Rattle.ptlines.specs.Sinks.{SinkState}
-use Rattle.ptrun.specs.Files.{AreNewInputs, is_reader_unopened}
+use Rattle.ptrun.specs.Files.{AreNewInputs}
 use Rattle.ptrun.specs.Messages.{unopened_message}
-use Rattle.ptrun.specs.Runs.{Outcome, IsRun, HasWrittenNothing, sinks}
-use Rattle.ptrun.specs.SpecOfArgs.{is_memory_fault, file_count, spec_of_parsed}
+use Rattle.ptrun.specs.Runs.{Outcome, IsRun, IsUnchangedIfUnread, sinks}
+use Rattle.ptrun.specs.SpecOfArgs.{is_memory_fault, named_file_count, file_count, spec_of_parsed}
 use Rattle.ptext.specs.CommandOutput.{has_standard_output, means_standard_output, output_file}
-use Rattle.ptext.specs.Perform.{number_of_files, HasRun, IsOutputUnopened}
+use Rattle.ptext.specs.Perform.{HasRun, IsOutputUnopened}
 
 -- the number of files of a parsed command is that of the words
 pub files_of_parsed : {A : Type 0} (command : Result (code.Command A) UseFault) (meaning : Result Command Fault)
-    → CommandPost command meaning → file_count command ≡ (if is_memory_fault command then 0 else number_of_files meaning)
-files_of_parsed (Ok command) meaning meant = ap number_of_files (sym meant)
+    → CommandPost command meaning → file_count command ≡ (if is_memory_fault command then 0 else named_file_count meaning)
+files_of_parsed (Ok command) meaning meant = ap named_file_count (sym meant)
 files_of_parsed (Err fault) meaning meant = by_view (fault_view fault) meant
   where
-    by_view : (seen : Option Fault) → IsFault seen meaning → 0 ≡ (if is_none seen then 0 else number_of_files meaning)
+    by_view : (seen : Option Fault) → IsFault seen meaning → 0 ≡ (if is_none seen then 0 else named_file_count meaning)
     by_view None meant = refl
-    by_view (Some e) meant = ap number_of_files (sym meant)
+    by_view (Some e) meant = ap named_file_count (sym meant)
 
 -- a parsed command writes to standard output if the words say so
 pub output_of_parsed : {A : Type 0} (command : Result (code.Command A) UseFault) (meaning : Result Command Fault)
@@ -55,7 +55,7 @@ pub has_run : {A : Type 0} (command : Result (code.Command A) UseFault) (words :
     {out messages sink : SinkState} {Unused : Type 0} {o ran : Outcome} → record o { out = ran.out } ≡ ran
     → CommandPost command (command_of_args words) → AreNewInputs (file_count command) old
     → IsRun (spec_of_parsed command words) old new (sinks sink messages) ran
-    → ((spec_of_parsed command words).reads_nothing (is_reader_unopened old) ≡ true → (new ≡ old) × HasWrittenNothing sink ran)
+    → IsUnchangedIfUnread (spec_of_parsed command words) old new sink ran
     → (has_standard_output command ≡ true → (sink ≡ out) × (ran.out ≡ o.out)) → (has_standard_output command ≡ false → Unused)
     → HasRun words old new out messages Unused o
 has_run command words {old} {new} {out} {messages} {sink} {Unused} {o} {ran} same meant fresh run unread standard unused = record {
@@ -64,7 +64,7 @@ has_run command words {old} {new} {out} {messages} {sink} {Unused} {o} {ran} sam
   sink_old = sink;
   sink_new = ran.out;
   run = subst (λ (x : Outcome). IsRun (spec_of_parsed command words) old new (sinks sink messages) x) (sym same) run;
-  reads_nothing = λ none. ((unread none).0, subst (λ (x : Outcome). HasWrittenNothing sink x) (sym same) (unread none).1);
+  reads_nothing = subst (λ (x : Outcome). IsUnchangedIfUnread (spec_of_parsed command words) old new sink x) (sym same) unread;
   standard_output = λ parsed means. standard (output_of_parsed command (command_of_args words) meant parsed means);
   unused = λ failed. unused (no_output_without_memory command failed);
 }

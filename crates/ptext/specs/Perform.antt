@@ -1,27 +1,16 @@
 -- The postcondition of `perform`: the command was run over the inputs that the words name, or a message says why not.
-use Rattle.std.specs.Prelude.{◌≡◌, ◌⊎◌, ℕ, Bool, true, false, List, Some, None, Result, Ok, Err, codes, length, option_map, if◌then◌else◌}
+use Rattle.std.specs.Prelude.{◌≡◌, ◌⊎◌, ℕ, Bool, true, false, List, Some, Result, Ok, Err, codes, option_map, if◌then◌else◌}
 use Rattle.ptlines.specs.Readers.{Reader, new_reader, reader_at}
 use Rattle.ptlines.specs.Sinks.{SinkState}
 use Rattle.ptlines.specs.Sources.{SourceState}
 use Rattle.ptopts.specs.Commands.{Command, command_of_args}
 use Rattle.ptopts.specs.Faults.{Fault}
-use Rattle.ptrun.specs.CommandSpec.{CommandSpec}
-use Rattle.ptrun.specs.Files.{AreNewInputs, is_reader_unopened}
-use Rattle.ptrun.specs.Messages.{usage_message, memory_message, unopened_message}
+use Rattle.ptrun.specs.Files.{AreNewInputs}
+use Rattle.ptrun.specs.Messages.{memory_message, unopened_message}
 use Rattle.ptrun.specs.MessageWrites.{HasSaid}
-use Rattle.ptrun.specs.Runs.{Outcome, IsRun, HasWrittenNothing, sinks}
-use Rattle.ptrun.specs.SpecOfArgs.{spec_of_args, tool_name, message_only}
+use Rattle.ptrun.specs.Runs.{Outcome, IsRun, IsUnchangedIfUnread, sinks}
+use Rattle.ptrun.specs.SpecOfArgs.{named_file_count, spec_unless_memory}
 use Rattle.ptext.specs.CommandOutput.{means_standard_output}
-
--- The number of files that a command reads, and 0 if the words are no command.
-abbrev pub number_of_files : Result Command Fault → ℕ
-number_of_files (Ok command) = length command.names
-number_of_files (Err fault) = 0
-
--- The specification of what is run: that of the words, unless memory ran out while they were parsed. That is then the
--- only message.
-abbrev pub spec_of_words : List (List ℕ) → Bool → CommandSpec
-spec_of_words words out_of_memory = if out_of_memory then message_only (usage_message (tool_name words) None) 1 else spec_of_args words
 
 -- The command was run over these readers: standard input, and one for each file, in the order of the words. The state
 -- of standard output is `out` before, and that of the outcome after. `Unused` says that standard output was handed back
@@ -29,14 +18,13 @@ spec_of_words words out_of_memory = if out_of_memory then message_only (usage_me
 pub record HasRun (words : List (List ℕ)) (old new : List Reader) (out messages : SinkState) (Unused : Type 0) (o : Outcome) : Type 0 where
   -- whether memory ran out while the words were parsed
   pub out_of_memory : Bool
-  pub files : AreNewInputs (if out_of_memory then 0 else number_of_files (command_of_args words)) old
+  pub files : AreNewInputs (if out_of_memory then 0 else named_file_count (command_of_args words)) old
   -- the sink of the output, before and after: standard output, if the command writes to it
   pub sink_old : SinkState
   pub sink_new : SinkState
-  pub run : IsRun (spec_of_words words out_of_memory) old new (sinks sink_old messages) (record o { out = sink_new })
+  pub run : IsRun (spec_unless_memory words out_of_memory) old new (sinks sink_old messages) (record o { out = sink_new })
   -- if the command is to read nothing, the inputs are unchanged, and nothing was written
-  pub reads_nothing : (spec_of_words words out_of_memory).reads_nothing (is_reader_unopened old) ≡ true
-      → (new ≡ old) × HasWrittenNothing sink_old (record o { out = sink_new })
+  pub reads_nothing : IsUnchangedIfUnread (spec_unless_memory words out_of_memory) old new sink_old (record o { out = sink_new })
   pub standard_output : out_of_memory ≡ false → means_standard_output (command_of_args words) ≡ true
       → (sink_old ≡ out) × (sink_new ≡ o.out)
   pub unused : out_of_memory ≡ true → Unused

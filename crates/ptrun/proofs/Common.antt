@@ -37,7 +37,7 @@ pub use Rattle.ptopts.specs.View.{CommandPost, fault_view, command_view, words_v
 pub use Rattle.ptopts.specs.declared.inputs.Input.{Input}
 pub use Rattle.ptopts.specs.declared.inputs.Input.TheVariants.{File, Standard}
 pub use Rattle.ptrun.specs.SpecOfArgs.{spec_of_args, spec_of_parsed, command_spec, is_memory_fault, job_spec, spec_of_result, message_only, tool_name}
-pub use Rattle.ptrun.specs.Driver.{AreConsistentAt, InputsPre, JointPre, BothAreSound, ReportUnopenedPost, FinishPost, JointPost, JointReadFailed, RunInputsPre, HasIndexBelow, JointEnd, NoReadFailed, RunInputsPost, RunInputsEnd, fault_at, completion_of}
+pub use Rattle.ptrun.specs.Driver.{AreConsistentAt, IsJointUnfinished, InputsPre, JointPre, BothAreSound, ReportUnopenedPost, FinishPost, JointPost, JointReadFailed, RunInputsPre, HasIndexBelow, JointEnd, NoReadFailed, RunInputsPost, RunInputsEnd, fault_at, completion_of}
 pub use Rattle.ptrun.specs.Driver.{result_message, result_status, merge_completion}
 pub use Rattle.ptrun.specs.Lag.{LagOfAny, HasBoundedLag, BoundedLagAs, IsWrittenUpToBlock, LagOfLast, IsPushedUpToBlock}
 pub use Rattle.ptrun.specs.CommandSpec.{CommandSpec, messages, operand_messages, unopened_messages, ended_operands}
@@ -47,7 +47,7 @@ pub use Rattle.ptrun.specs.Runs.{HasCause, RunEnd, IsExactUnlessFailed, IsExact,
 pub use Rattle.ptrun.specs.MessageWrites.{SayPost, HasSaid, line_of, texts}
 pub use Rattle.ptrun.specs.Joint.{JointTool, disorder_status, disorder_text, received_in, has_unopened, one_input_tool, by_side, paste_rows_tool, two_input_tool, operand, bytes_of, joint_spec}
 pub use Rattle.ptrun.specs.Files.{IsConsistentAt, AreNewInputs, HasReceivedAt, HasReadFailed, IsNewOrUnopened, IsNew, HaveReceived, IsTooLong, ReceivedInputs, HasBytesAt, InputBytes, at, input_of_operand, inputs_of_operands, is_in, is_unopened}
-pub use Rattle.ptrun.specs.Files.{AreInputsConsistent, AreReadToEnd, IsOneUnended}
+pub use Rattle.ptrun.specs.Files.{AreInputsConsistent, AreReadToEnd}
 pub use Rattle.ptlines.specs.Readers.{no_reader}
 pub use Rattle.ptrun.specs.Files.{opened_values, is_reader_unopened, opened_inputs}
 pub use Rattle.ptlines.specs.Readers.{reader_at}

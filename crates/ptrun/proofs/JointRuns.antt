@@ -208,7 +208,8 @@ module _ (word : List ℕ) {t : JointTool} (names : List (List ℕ)) {positions 
     position = e.position;
     untouched = k.untouched;
     ended = e.ended;
-    left = λ memory grows. let l = k.left memory grows in (l.0, l.1, (k.came l.0 l.1).refused ∙ open_at l.0 l.1, l.2);
+    left = λ memory. ⊎_elim (λ (q, named, unended). inl (q, named, (k.came q named).refused ∙ open_at q named, unended))
+        (λ (keeps, unwritten). inr (keeps, λ w agrees. rw (complete w agrees) (unwritten (bytes_of w) (agree w agrees)))) (k.left memory);
     is_prefix = λ w agrees. rw (complete w agrees) (k.is_prefix (bytes_of w) (agree w agrees));
     names_failed_read = e.names_failed_read;
     decided_is_written = λ q failed clean. rw (decided_is received k.given (λ q. refl) given_listed) (k.decided_is_written q (failed_is_in q failed) failed.2 clean);
@@ -289,7 +290,7 @@ module _ (t : ToolSpec) (old : List Reader) (was is : Output) (before store : Sl
     same = λ f g same. ap t.decided (same p named);
     peak = λ texts agrees. e.peak (texts p) (agrees p named);
     slots = λ texts agrees. (e.slots clean).most;
-    left = λ memory grows. (p, named, rw here (input_left (memory_of result memory)));
+    left = λ memory. inl (p, named, rw here (input_left (memory_of result memory)));
   }
 
 -- the position of the only operand
@@ -433,5 +434,22 @@ module _ (job : Paste) {positions : List ℕ} {old : List Reader} {was : Output}
       same = decided_same job positions;
       peak = λ texts agrees. subst (λ (n : ℕ). store.peak ≤ max before.peak n) (size_same job positions (with_received texts) texts (with_received_is texts)) (k.peak (with_received texts) (consistent_at texts agrees));
       slots = λ texts agrees. (k.slots ready.writable).most;
-      left = λ memory grows. absurd (false≢true grows);
+      left = λ memory. inl (⊎_elim unread_left (λ enough. let (q, used, unended) = k.line_left (memory_of result memory) enough in (q, used_is_in positions q used, unended))
+          (cases_lt (length store.lines) (length positions)));
     }
+      where
+        memory_of : (r : Result (Unit {0}) FlowFault) → rows_completion r ≡ Err Memory → r ≡ Err Memory
+        memory_of (Ok u) same = cc
+        memory_of (Err fault) same = cc
+
+        -- without all slots nothing was read, so the first input is left
+        unread_left : length store.lines < length positions → (q : ℕ) × (is_in positions q ≡ true) × (IsDone (reader_at new q) → ⊥)
+        unread_left few =
+            let q = get_or positions 0 0 in
+            let named = cell_in positions 0 (omega arith) in
+            let unread = (k.refused ready.writable few).readers q (is_in_used positions q named) in (
+              q,
+              named,
+              λ done. false≢true (sym (fresh_all old ready.fresh q (none_passes (is_reader_unopened old) positions ready.opened q named)).eof
+                  ∙ ap (λ (r : Reader). r.eof) (sym unread) ∙ done.eof),
+            )

@@ -269,7 +269,7 @@ module _ {m : CommandSpec} {old new : List Reader} {was is is' : Output} {messag
     ended = rw status_is (⊎_elim (λ write_failed. rw (f.broken write_failed) (ended_after_all m new k.operands_done run_result k.ended))
         (λ clean. rw (f.clean clean).0 k.ended) (cases_Bool is'.write_failed));
     left = λ memory. ⊎_elim (λ write_failed. absurd (not_memory (f.broken write_failed) memory))
-        (λ clean. k.left (sym (f.clean clean).0 ∙ err_of final_result memory)) (cases_Bool is'.write_failed);
+        (λ clean. rw (all_front clean) (k.left (sym (f.clean clean).0 ∙ err_of final_result memory))) (cases_Bool is'.write_failed);
     is_prefix = begins;
     names_failed_read = λ position failed fine. let clean = sym last_failed ∙ fine in ap fault_of ((f.clean clean).0 ∙ k.names_failed_read position failed (f.clean clean).2);
     decided_is_written = λ position failed fine. let clean = sym last_failed ∙ fine in let b = k.decided_is_written position failed (f.clean clean).2 in record { rest = b.rest; is = all_front clean ∙ b.is };

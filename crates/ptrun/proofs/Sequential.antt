@@ -417,7 +417,7 @@ module _ {word : List ℕ} {t : ToolSpec} {names : List (List ℕ)} {old : List 
           position = index_within fault;
           untouched = λ q other. let n = not_more done p q (rw (take-append-add done (p ∷ more) 1) at other) in reader_other q n.0 ∙ (k.unread q n.1).0;
           ended = λ q named. ended_still q (rw (take-append_seam done (p ∷ more)) at named);
-          left = λ memory grows. let same : fault_at p fault ≡ Memory = cc in (
+          left = λ memory. let same : fault_at p fault ≡ Memory = cc in inl (
             p,
             rw (take-append-add done (p ∷ more) 1) (is_in-same done p),
             rw reader_here (e.came.refused ∙ sym (was_unopened p) ∙ old_open),

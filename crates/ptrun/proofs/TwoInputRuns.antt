@@ -1,13 +1,13 @@
 -- Tools with two inputs. What the merge ensures about its two readers is what the tool has to ensure about the list
 -- from which both were lent; no other reader changes.
 use Rattle.ptrun.proofs.Common.{IsDone, subst, JointReadFailed, HasReadCause, positions, length-append, length-map, ◌≡◌, ◌≢◌, ℕ, ◌<◌, ◌^◌, ◌||◌, ◌&&◌, ◌==◌, Bool, true, false, List, [], ◌∷◌, Option, Some, None}
-use Rattle.ptrun.proofs.Common.{Result, Ok, Err, length, get_or, refl, sym, ◌∙◌, ap, arith, option_map, not, All-nil, All-cons, false≢true, nat_tests, Reader, Output, Slots, Received, IsPrefix, HasReceived}
+use Rattle.ptrun.proofs.Common.{Memory, cases_lt, ⊎_elim, inl, inr, IsJointUnfinished, Result, Ok, Err, length, get_or, refl, sym, ◌∙◌, ap, arith, option_map, not, All-nil, All-cons, false≢true, nat_tests, Reader, Output, Slots, Received, IsPrefix, HasReceived}
 use Rattle.ptrun.proofs.Common.{LaggedInput, update_at, First, Second, disorder, lines_of, decided_output, Input, Disorder, is_in, reader_at, is_reader_unopened, IsNew, IsPushedUpToBlock, position, two_input_tool, operand, by_side, JointPre}
 use Rattle.ptrun.proofs.Common.{BothAreSound, merge_completion, completion_of, AreConsistentAt, NoReadFailed, JointEnd, JointPost, ◌-◌, ◌++◌, set, length-set, set-append_left, set-append_right, get_or_append_left}
 use Rattle.ptrun.proofs.Common.{get_or-append_right, get_or_default, get_or-set_same, get_or-set_other, no_reader}
 use Rattle.ptmerge.specs.declared.faults.MergeFault.{MergeFault}
 use Rattle.ptmerge.specs.declared.key_order.Side.{Side}
-use Rattle.ptmerge.specs.MergeCall.{MergePre, MergePost, MergeEndPost, AreConsistent, IsExactMerge, IsDisorderAt, NeitherReadFailed as NoneBroke, MergeState, merge_state}
+use Rattle.ptmerge.specs.MergeCall.{MergePre, MergePost, MergeEndPost, AreConsistent, IsExactMerge, IsDisorderAt, IsUnfinished, IsUnreadWithoutSlots, NeitherReadFailed as NoneBroke, MergeState, merge_state}
 use Rattle.ptmerge.specs.Sides.{both, with_side}
 use Rattle.ptmerge.specs.declared.faults.MergeFault.TheVariants as faults
 use Rattle.ptmerge.specs.MergeSpec as keyed
@@ -61,7 +61,8 @@ module _ (t : keyed.MergeTool) {old : List Reader} {was : Output} {before : Slot
   module _ (new : List Reader) (is : Output) (store : Slots) (result : Result (Unit {0}) MergeFault)
       (sound : BothAreSound (reader_at old p) (reader_at old q) (reader_at new p) (reader_at new q))
       (others : (k : ℕ) → (p ≡ k → ⊥) → (q ≡ k → ⊥) → reader_at new k ≡ reader_at old k)
-      (e : MergePost t (merge_state (reader_at old p) (reader_at old q) was before) (merge_state (reader_at new p) (reader_at new q) is store) result) where
+      (e : MergePost t (merge_state (reader_at old p) (reader_at old q) was before) (merge_state (reader_at new p) (reader_at new q) is store) result)
+      (unread : IsUnreadWithoutSlots t.terminator (merge_state (reader_at old p) (reader_at old q) was before) (merge_state (reader_at new p) (reader_at new q) is store)) where
     abbrev old_state : MergeState
     old_state = merge_state (reader_at old p) (reader_at old q) was before
 
@@ -158,9 +159,25 @@ module _ (t : keyed.MergeTool) {old : List Reader} {was : Output} {before : Slot
       same = λ f g same. ap (decided_output t) (λ i side. rw (side_of_operand p q side) at (same (both p q side) (named side)) i);
       peak = λ texts agrees. e.peak (by_side two texts) (agree texts agrees);
       slots = λ texts agrees. e.slots (by_side two texts) (agree texts agrees);
-      left = λ memory grows. absurd (false≢true grows);
+      left = λ memory. ⊎_elim (λ few. inl (p, named First, first_left few)) (λ enough. unfinished (e.unfinished (memory_of result memory) enough)) (cases_lt (length store.lines) 4);
     }
       where
+        memory_of : (r : Result (Unit {0}) MergeFault) → merge_completion (both p q) r ≡ Err Memory → r ≡ Err faults.Memory
+        memory_of (Ok u) same = cc
+        memory_of (Err (faults.Read side)) same = cc
+        memory_of (Err faults.Write) same = cc
+        memory_of (Err faults.Memory) same = refl
+        memory_of (Err (faults.Disorder side line)) same = cc
+
+        -- without all slots nothing was read
+        first_left : length store.lines < 4 → IsDone (reader_at new p) → ⊥
+        first_left few done = false≢true (sym (new_at First).eof ∙ ap (λ (r : Reader). r.eof) (sym ((unread ready.writable few).readers First)) ∙ done.eof)
+
+        unfinished : IsUnfinished t new_state e.given e.pushed → IsJointUnfinished (two_input_tool t) two given new e.pushed
+        unfinished (inl (First, left)) = inl (p, named First, left)
+        unfinished (inl (Second, left)) = inl (q, named Second, left)
+        unfinished (inr (keeps, unwritten)) = inr (keeps, λ texts agrees. unwritten (by_side two texts) (agree texts agrees))
+
         keeps : (side : Side) → (cut : LaggedInput (given (both p q side))) × IsPushedUpToBlock (decided_output t (by_side two (update_at (both p q side) cut.earlier given))) was is e.pushed
         keeps side = rw (given_at side) (passed_on (λ g. decided_output t (with_side side g e.given)) (λ g. decided_output t (by_side two (update_at (both p q side) g given)))
             (λ g. ap (decided_output t) (put_is side g)) (e.bounded_lag side ready.writable))

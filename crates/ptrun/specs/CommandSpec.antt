@@ -1,20 +1,21 @@
 -- The requirements on one command, in terms of the bytes of its inputs. The inputs have positions: 0 is standard input,
 -- and `i` + 1 the `i`-th file.
-use Rattle.std.specs.Prelude.{ℕ, ◌==◌, Option, List, [], ◌++◌, Bool, flat_map, is_none, length, take, if◌then◌else◌}
+use Rattle.std.specs.Prelude.{◌≡◌, ◌≢◌, ◌⊎◌, ℕ, ◌==◌, Option, List, [], ◌++◌, Bool, true, flat_map, is_none, length, take, if◌then◌else◌}
 use Rattle.ptflow.specs.ToolSpec.{ToolSpec}
-use Rattle.ptrun.specs.Files.{InputBytes, ReceivedInputs, is_unopened}
+use Rattle.ptlines.specs.Readers.{Reader}
+use Rattle.ptrun.specs.Files.{InputBytes, ReceivedInputs, is_unopened, AreInputsConsistent, IsOneUnended}
 use Rattle.ptrun.specs.Messages.{unopened_message, name_of}
 
 -- The specification of a command.
 pub record CommandSpec : Type 0 where
-  -- the output, the exit status, and the most bytes of lines that are held at any moment
+  -- the output, the exit status, and the most bytes of lines that are stored at any moment
   pub out : InputBytes → List ℕ
   pub status : InputBytes → ℕ
   pub memory_bound : InputBytes → ℕ
   -- the most slots that the store needs for these lines
   pub slot_bound : InputBytes → ℕ
-  -- whether the tool requests memory only for input that it has not read yet
-  pub grows_for_input : Bool
+  -- whether the tool may store lines of an input that has ended, as `join` stores the lines of a group
+  pub keeps_groups : Bool
   -- the output that is decided by what was received, regardless of the bytes that follow
   pub decided : ReceivedInputs → List ℕ
   -- the tool, if it reads its operands one after another, and `None` if it reads them together
@@ -49,3 +50,13 @@ messages m w = operand_messages m w (length m.positions) ++ m.final_message w
 abbrev pub ended_operands : CommandSpec → ℕ → ℕ → List ℕ
 ended_operands m n status =
     if is_none m.sequential then (if status == 0 then m.positions else []) else take n m.positions
+
+-- The written bytes are not the whole output, regardless of the bytes that follow in the inputs.
+abbrev pub IsUnwritten : CommandSpec → ReceivedInputs → List ℕ → Type 0
+IsUnwritten m r written = (w : InputBytes) → AreInputsConsistent r w → written ≢ m.out w
+
+-- A command that stopped after `n` operands, with this output, had something left to do: an input that it had begun was
+-- not read to its end. If the tool keeps groups, all inputs may have ended, but then some output was left to write.
+abbrev pub IsUnfinished : CommandSpec → ReceivedInputs → List Reader → List ℕ → ℕ → Type 0
+IsUnfinished m r new written n =
+    IsOneUnended new (m.may_touch n) ⊎ ((m.keeps_groups ≡ true) × IsUnwritten m r written)

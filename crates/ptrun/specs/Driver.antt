@@ -1,5 +1,5 @@
 -- The contracts between a tool and the driver that runs it: the conditions before and after each of the driver's steps.
-use Rattle.std.specs.Prelude.{◌≡◌, ◌≢◌, ℕ, ◌+◌, ◌<◌, ◌≤◌, ◌^◌, Bool, true, false, List, [], All, Option, Some, None, Result, Ok, Err, length, max, if◌then◌else◌}
+use Rattle.std.specs.Prelude.{◌≡◌, ◌≢◌, ◌⊎◌, ℕ, ◌+◌, ◌<◌, ◌≤◌, ◌^◌, Bool, true, false, List, [], All, Option, Some, None, Result, Ok, Err, length, max, if◌then◌else◌}
 use Rattle.std.specs.List.{list_any}
 use Rattle.ptlines.specs.Readers.{Reader, IsDone, IsSound, HasReadCause}
 use Rattle.ptlines.specs.Outputs.{Output, PushEffect}
@@ -16,9 +16,9 @@ use Rattle.ptmerge.specs.declared.key_order.Side.{Side}
 use Rattle.ptrun.specs.declared.driver.Completion.{Completion}
 use Rattle.ptrun.specs.declared.driver.Completion.TheVariants.{AllWritten, Unopened, Disorder}
 use Rattle.ptrun.specs.Files.{InputBytes, ReceivedInputs, is_in, is_unopened, is_reader_unopened, HaveReceived, IsNewOrUnopened, HasReadFailed}
-use Rattle.ptrun.specs.Files.{AreInputsConsistent, AreReadToEnd, IsOneUnended}
+use Rattle.ptrun.specs.Files.{AreInputsConsistent, AreReadToEnd}
 use Rattle.ptlines.specs.Readers.{reader_at}
-use Rattle.ptrun.specs.CommandSpec.{CommandSpec, operand_messages, unopened_messages, ended_operands}
+use Rattle.ptrun.specs.CommandSpec.{CommandSpec, operand_messages, unopened_messages, ended_operands, IsUnfinished}
 use Rattle.ptrun.specs.Lag.{IsPushedUpToBlock, HasBoundedLag}
 use Rattle.ptrun.specs.Joint.{JointTool}
 use Rattle.ptrun.specs.MessageWrites.{HasSaid}
@@ -43,8 +43,8 @@ pub record ReportUnopenedPost (m : CommandSpec) (inputs : List Reader) (messages
   pub at_once : any_unopened ≡ true → m.sequential ≡ None
   pub undecided : any_unopened ≡ true → (r : ReceivedInputs) → ((position : ℕ) → is_reader_unopened inputs position ≡ is_unopened r position) → m.decided r ≡ []
 
--- The precondition of processing the inputs: all files that the tool cannot run without were opened, no write and no
--- growth failed, and the store is empty.
+-- The precondition of processing the inputs: all files that the tool cannot run without were opened, no write has
+-- failed, and the store is empty and was not denied memory.
 pub record RunInputsPre (m : CommandSpec) (inputs : List Reader) (out : Output) (store : Slots) : Type 0 where
   pub given : InputsPre m inputs
   pub complete : m.reads_nothing (is_reader_unopened inputs) ≡ false
@@ -130,7 +130,7 @@ pub record RunInputsPost (m : CommandSpec) (old new : List Reader) (was is : Out
   pub position : HasIndexBelow (length old) result
   pub untouched : (position : ℕ) → is_in (m.may_touch operands_done) position ≡ false → reader_at new position ≡ reader_at old position
   pub ended : AreReadToEnd new (ended_operands m operands_done (result_status result))
-  pub left : result ≡ Err Memory → m.grows_for_input ≡ true → IsOneUnended new (m.may_touch operands_done)
+  pub left : result ≡ Err Memory → IsUnfinished m received new pushed operands_done
   pub is_prefix : (w : InputBytes) → AreInputsConsistent received w → IsPrefix pushed (m.out w)
   pub names_failed_read : (position : ℕ) → HasReadFailed old new position → is.write_failed ≡ false → result ≡ Err (Read position)
   pub decided_is_written : (position : ℕ) → HasReadFailed old new position → is.write_failed ≡ false → IsPrefix (m.decided received) pushed
@@ -139,8 +139,8 @@ pub record RunInputsPost (m : CommandSpec) (old new : List Reader) (was is : Out
   pub slots : (w : InputBytes) → AreInputsConsistent received w
       → length store.lines ≤ max (length before.lines) (m.slot_bound w)
 
--- The postcondition of a run with a lent store: the peak and the failed growth that it reports are the store's own, and
--- if it reads nothing, then inputs, store and output are unchanged.
+-- The postcondition of a run with a lent store: the peak that it reports, and whether memory was denied, are the store's
+-- own, and if it reads nothing, then inputs, store and output are unchanged.
 pub record RunWithStorePost (m : CommandSpec) (old new : List Reader) (handed : Sinks) (o : Outcome) (lent left : Slots) : Type 0 where
   pub run : IsRunInStore m old new handed o lent left
   pub reads_nothing : IsUnchangedIfUnread m old new handed.out o × IsStoreUnchangedIfUnread m old lent left
@@ -198,6 +198,13 @@ JointEnd t positions given old new pushed failed denied (Err (Read p)) = JointRe
 JointEnd t positions given old new pushed failed denied (Err Write) = failed ≡ true
 JointEnd t positions given old new pushed failed denied (Err Memory) = (denied ≡ true) × (failed ≡ false) × NoReadFailed positions old new
 
+-- Something was left to do: an input at these positions was not read to its end. If the tool keeps groups, all may have
+-- ended, but then some output was left to push.
+abbrev pub IsJointUnfinished : JointTool → List ℕ → (ℕ → Received) → List Reader → List ℕ → Type 0
+IsJointUnfinished t positions given new pushed =
+    ((q : ℕ) × (is_in positions q ≡ true) × (IsDone (reader_at new q) → ⊥))
+    ⊎ ((t.keeps_groups ≡ true) × ((texts : ℕ → List ℕ) → AreConsistentAt positions given texts → pushed ≢ t.text positions texts))
+
 -- The postcondition of such a tool. `given` is what was received from each input, by position, and `texts` are bytes
 -- that are consistent with it. The inputs at other positions are unchanged.
 pub record JointPost (t : JointTool) (positions : List ℕ) (old new : List Reader) (was is : Output) (before store : Slots) (result : Result Completion FlowFault) : Type 0 where
@@ -216,5 +223,4 @@ pub record JointPost (t : JointTool) (positions : List ℕ) (old new : List Read
   pub peak : (texts : ℕ → List ℕ) → AreConsistentAt positions given texts → store.peak ≤ max before.peak (t.size positions texts)
   pub slots : (texts : ℕ → List ℕ) → AreConsistentAt positions given texts
       → length store.lines ≤ max (length before.lines) (t.slots positions texts)
-  pub left : result ≡ Err Memory → t.grows_for_input ≡ true
-      → (q : ℕ) × (is_in positions q ≡ true) × (IsDone (reader_at new q) → ⊥)
+  pub left : result ≡ Err Memory → IsJointUnfinished t positions given new pushed

@@ -21,12 +21,12 @@ pub record JointTool : Type 0 where
   pub text : List ℕ → (ℕ → List ℕ) → List ℕ
   -- the output that is decided by what was received from each input
   pub decided : List ℕ → (ℕ → Received) → List ℕ
-  -- the most bytes of lines that are held at any moment
+  -- the most bytes of lines that are stored at any moment
   pub size : List ℕ → (ℕ → List ℕ) → ℕ
   -- the most slots that the store needs for them
   pub slots : List ℕ → (ℕ → List ℕ) → ℕ
-  -- whether it requests memory only for input that it has not read yet
-  pub grows_for_input : Bool
+  -- whether it may store lines of an input that has ended
+  pub keeps_groups : Bool
   -- the position of an input that is out of order, and the number of the line, counted from 1
   pub disorder : List ℕ → (ℕ → List ℕ) → Option (ℕ × ℕ)
   -- whether the tool accepts these operands
@@ -43,7 +43,7 @@ one_input_tool t = record {
   decided = λ positions given. t.decided (given (only_operand positions));
   size = λ positions texts. t.size (texts (only_operand positions));
   slots = λ positions texts. t.slots;
-  grows_for_input = true;
+  keeps_groups = false;
   disorder = λ positions texts. None;
   accepts = λ positions. length positions == 1;
 }
@@ -55,7 +55,7 @@ paste_rows_tool job = record {
   decided = paste_decided job;
   size = paste_size job;
   slots = λ positions texts. length positions;
-  grows_for_input = false;
+  keeps_groups = false;
   disorder = λ positions texts. None;
   accepts = λ positions. nat_le (length positions) 512;
 }
@@ -76,7 +76,7 @@ two_input_tool t = record {
   decided = λ positions given. keyed.decided_output t (by_side positions given);
   size = λ positions texts. t.size (lines_of t (by_side positions texts));
   slots = λ positions texts. t.slots (lines_of t (by_side positions texts));
-  grows_for_input = false;
+  keeps_groups = t.keeps_groups;
   disorder = λ positions texts. option_map (λ d. (operand positions d.file, d.first_disorder.line)) (keyed.disorder t (lines_of t (by_side positions texts)));
   accepts = λ positions. (length positions == 2) && not (operand positions First == operand positions Second);
 }
@@ -110,7 +110,7 @@ joint_spec word t names positions = record {
   status = λ w. if has_unopened positions w then 1 else disorder_status (t.disorder positions (bytes_of w));
   memory_bound = λ w. if has_unopened positions w then 0 else t.size positions (bytes_of w);
   slot_bound = λ w. if has_unopened positions w then 0 else t.slots positions (bytes_of w);
-  grows_for_input = t.grows_for_input;
+  keeps_groups = t.keeps_groups;
   decided = λ r. if has_unopened positions r then [] else t.decided positions (received_in r);
   sequential = None;
   final_message = λ w. if has_unopened positions w then [] else disorder_text word names (t.disorder positions (bytes_of w));

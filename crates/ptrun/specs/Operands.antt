@@ -23,7 +23,7 @@ maximum (n ∷ ns) = max n (maximum ns)
 abbrev pub sequential_output : ToolSpec → InputBytes → List ℕ → List ℕ
 sequential_output t w positions = flat_map t.text (opened_inputs [] w positions)
 
--- The most bytes of lines held over operands at these positions: the maximum over the inputs.
+-- The most bytes of lines stored over operands at these positions: the maximum over the inputs.
 abbrev pub sequential_bound : ToolSpec → InputBytes → List ℕ → ℕ
 sequential_bound t w positions = maximum (map t.size (opened_inputs [] w positions))
 
@@ -47,7 +47,7 @@ sequential_spec word t names positions = record {
   status = λ w. if list_any (is_unopened w) positions then 1 else 0;
   memory_bound = λ w. sequential_bound t w positions;
   slot_bound = λ w. sequential_slots t w positions;
-  grows_for_input = true;
+  keeps_groups = false;
   decided = λ r. sequential_decided t r positions;
   sequential = Some t;
   final_message = λ w. [];

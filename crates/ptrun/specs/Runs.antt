@@ -9,9 +9,9 @@ use Rattle.ptflow.specs.declared.faults.FlowFault.{FlowFault}
 use Rattle.ptflow.specs.declared.faults.FlowFault.TheVariants.{Read, Write, Memory}
 use Rattle.ptrun.specs.declared.report.Report.{Report}
 use Rattle.ptrun.specs.Files.{InputBytes, ReceivedInputs, at, is_in, HaveReceived, HasReadFailed, IsTooLong, HasBytes}
-use Rattle.ptrun.specs.Files.{AreInputsConsistent, AreReadToEnd, IsOneUnended, is_reader_unopened}
+use Rattle.ptrun.specs.Files.{AreInputsConsistent, AreReadToEnd, is_reader_unopened}
 use Rattle.ptlines.specs.Readers.{reader_at}
-use Rattle.ptrun.specs.CommandSpec.{CommandSpec, operand_messages, messages, ended_operands}
+use Rattle.ptrun.specs.CommandSpec.{CommandSpec, operand_messages, messages, ended_operands, IsUnfinished}
 use Rattle.ptrun.specs.Lag.{IsWrittenUpToBlock, HasBoundedLag}
 use Rattle.ptrun.specs.MessageWrites.{HasSaid}
 use Rattle.ptrun.specs.Messages.{fault_message}
@@ -25,7 +25,7 @@ pub record Sinks : Type 0 where
 abbrev pub sinks : SinkState → SinkState → Sinks
 sinks out messages = record { out = out; messages = messages }
 
--- The store never held anything, and none of its growths failed.
+-- The store was never used, and no request of it for memory failed.
 pub record IsUnused (store : Slots) : Type 0 where
   pub empty : total_bytes store.lines ≡ 0
   pub never : store.peak ≡ 0
@@ -37,8 +37,8 @@ pub record RunPre (lent : Slots) (handed : Sinks) : Type 0 where
   pub writable : handed.out.failed ≡ false
   pub messages_writable : handed.messages.failed ≡ false
 
--- The result of a run, apart from its inputs: its sinks, the exit status, the most bytes of lines that were held, and
--- whether a growth of the store failed.
+-- The result of a run, apart from its inputs: its sinks, the exit status, the most bytes of lines that were stored, and
+-- whether a request of the store for memory failed.
 pub record Outcome : Type 0 where
   pub out : SinkState
   pub messages : SinkState
@@ -111,8 +111,8 @@ pub record IsRun (m : CommandSpec) (old new : List Reader) (before : Sinks) (o :
   pub untouched : (position : ℕ) → is_in (m.may_touch operands_done) position ≡ false → reader_at new position ≡ reader_at old position
   -- operands that are done were read to their end
   pub ended : AreReadToEnd new (ended_operands m operands_done o.status)
-  -- if memory ran out, input was left
-  pub left : fault ≡ Some Memory → m.grows_for_input ≡ true → IsOneUnended new (m.may_touch operands_done)
+  -- if memory ran out, something was left to do
+  pub left : fault ≡ Some Memory → IsUnfinished m received new written operands_done
   -- the output is a prefix of the command's output, regardless of the bytes that follow in the inputs
   pub is_prefix : (w : InputBytes) → AreInputsConsistent received w → IsPrefix written (m.out w)
   -- a failed read is reported, and all output that was decided by then is written, unless a write failed

@@ -24,7 +24,7 @@ message_only text status = record {
   status = λ w. status;
   memory_bound = λ w. 0;
   slot_bound = λ w. 0;
-  grows_for_input = true;
+  keeps_groups = false;
   decided = λ r. [];
   sequential = None;
   final_message = λ w. text;
@@ -73,12 +73,21 @@ abbrev pub is_memory_fault : {A : Type 0} → Result (code.Command A) UseFault �
 is_memory_fault (Ok command) = false
 is_memory_fault (Err fault) = is_none (fault_view fault)
 
--- The specification for the arguments and the result that parsing returned: that of the arguments, unless parsing ran
--- out of memory. This is then the only message, with status 1.
+-- The specification for the arguments, unless parsing them ran out of memory: this is then the only message, with status
+-- 1.
+abbrev pub spec_unless_memory : List (List ℕ) → Bool → CommandSpec
+spec_unless_memory words out_of_memory = if out_of_memory then message_only (usage_message (tool_name words) None) 1 else spec_of_args words
+
+-- The specification for the arguments and the result that parsing returned.
 abbrev pub spec_of_parsed : {A : Type 0} → Result (code.Command A) UseFault → List (List ℕ) → CommandSpec
-spec_of_parsed command words = if is_memory_fault command then message_only (usage_message (tool_name words) None) 1 else spec_of_args words
+spec_of_parsed command words = spec_unless_memory words (is_memory_fault command)
 
 -- The number of input files that a command names, and 0 if the arguments are no command.
+abbrev pub named_file_count : Result Command Fault → ℕ
+named_file_count (Ok command) = length command.names
+named_file_count (Err fault) = 0
+
+-- The same, of the result that parsing returned.
 abbrev pub file_count : {A : Type 0} → Result (code.Command A) UseFault → ℕ
 file_count (Ok command) = length (command_view command).names
 file_count (Err fault) = 0

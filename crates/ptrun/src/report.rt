@@ -13,9 +13,9 @@ pub struct Report<W, E> {
     /// The exit status: 0; 1 if a file could not be opened, a line is out of order, a read or write failed, or memory
     /// ran out; 2 for a usage error. POSIX.1-2017 (XCU, EXIT STATUS of each utility) requires 0 or more than 0.
     pub status: u8,
-    /// The most bytes of lines that were held at any moment, without their terminators.
+    /// The most bytes of lines that were stored at any moment, without their terminators.
     pub peak: u128,
-    /// Whether a growth of the run's store failed.
+    /// Whether a request of the run's store for memory failed.
     pub denied: bool,
     /// The sink of the output.
     pub out: W,

@@ -171,7 +171,7 @@ impl<A: Allocator + Copy> PerOperand<A> for CharPlan {
         "tr"
     }
 
-    // `tr` holds no lines, so the store is not used.
+    // `tr` stores no lines, so the store is not used.
     fn run_on<S: Source, R: Source, W: Sink>(
         &self,
         reader: &mut LineReader<S, R>,

@@ -5,7 +5,7 @@ ghost use Rattle.std.specs.Prelude.{◌≡◌, ◌<◌, ℕ, List, None, length,
 ghost use Rattle.ptlines.specs.Readers.{IsSound};
 ghost use Rattle.ptlines.specs.Slots.{total_bytes};
 ghost use Rattle.ptmerge.specs.MergeSpec.{MergeTool};
-ghost use Rattle.ptmerge.specs.MergeCall.{MergePre, MergePost, merge_state};
+ghost use Rattle.ptmerge.specs.MergeCall.{MergePre, MergePost, IsUnreadWithoutSlots, merge_state};
 ghost use Rattle.ptmerge.specs.Sides.{both};
 ghost use Rattle.ptrun.specs.Driver.{BothAreSound, merge_completion};
 ghost use Rattle.ptlines.specs.Readers.{reader_at};
@@ -40,8 +40,10 @@ pub(crate) trait TwoInputs<A: Allocator + Copy>: Drop {
         out: &mut Out<W>,
     ) -> Result<(), MergeFault>
         requires { MergePre first.old second.old store.old }
-        ensures { MergePost (tool self.now) (merge_state first.old second.old out.old store.old)
-            (merge_state first.new second.new out.new store.new) result };
+        ensures merged { MergePost (tool self.now) (merge_state first.old second.old out.old store.old)
+            (merge_state first.new second.new out.new store.new) result }
+        ensures unread_without_slots { IsUnreadWithoutSlots (tool self.now).terminator
+            (merge_state first.old second.old out.old store.old) (merge_state first.new second.new out.new store.new) };
 }
 
 impl<A: Allocator + Copy> TwoInputs<A> for CommJob {
@@ -138,6 +140,9 @@ fn merge_at<A: Allocator + Copy, T: TwoInputs<A>, S: Source, R: Source, W: Sink>
     ensures merged { let was = merge_state (reader_at inputs.old first) (reader_at inputs.old second) out.old store.old in
         let is = merge_state (reader_at inputs.new first) (reader_at inputs.new second) out.new store.new in
         MergePost (T.tool tool.now) was is result }
+    ensures unread_without_slots { let was = merge_state (reader_at inputs.old first) (reader_at inputs.old second) out.old store.old in
+        let is = merge_state (reader_at inputs.new first) (reader_at inputs.new second) out.new store.new in
+        IsUnreadWithoutSlots (T.tool tool.now).terminator was is }
     ensures others { (position : ℕ) → (first ≡ position → ⊥) → (second ≡ position → ⊥)
         → reader_at inputs.new position ≡ reader_at inputs.old position }
     ensures sound { BothAreSound (reader_at inputs.old first) (reader_at inputs.old second)
@@ -166,6 +171,8 @@ fn merge_two<A: Allocator + Copy, T: TwoInputs<A>, S: Source, R: Source, W: Sink
     requires store { (store.old.denied ≡ false) × (total_bytes store.old.lines ≡ 0) }
     ensures merged { MergePost (T.tool tool.now) (merge_state first.old second.old out.old store.old)
         (merge_state first.new second.new out.new store.new) result }
+    ensures unread_without_slots { IsUnreadWithoutSlots (T.tool tool.now).terminator
+        (merge_state first.old second.old out.old store.old) (merge_state first.new second.new out.new store.new) }
     ensures sound { BothAreSound first.old second.old first.new second.new }
 {
     let open = are_opened(first, second);

@@ -9,9 +9,9 @@ use Rattle.ptopts.specs.Faults.{Fault}
 use Rattle.ptopts.specs.View.{CommandPost, fault_view}
 use Rattle.ptopts.specs.declared.command.Command as code
 use Rattle.ptopts.specs.declared.fault.UseFault.{UseFault}
-use Rattle.ptrun.specs.SpecOfArgs.{file_count, is_memory_fault}
+use Rattle.ptrun.specs.SpecOfArgs.{file_count, is_memory_fault, named_file_count}
 use Rattle.ptrun.specs.Files.{InputBytes, AreNewInputs, HasBytes, HasBytesAt, IsNewOrUnopened, at}
-use Rattle.ptrunc.specs.Inputs.{AreReadersOf, IsShort, first_files, memory_reader, name_count}
+use Rattle.ptrunc.specs.Inputs.{AreReadersOf, IsShort, first_files, memory_reader}
 
 has_bytes_at : (v : Option (List ℕ)) → IsShort v → HasBytesAt (memory_reader v) v
 has_bytes_at None short = refl
@@ -65,10 +65,10 @@ reader_added files count input readers r v same are is short = rw (plus_one coun
 
 -- A command names as many files as its words do, unless parsing ran out of memory.
 pub count_is : {A : Type 0} (command : Result (code.Command A) UseFault) (meaning : Result Command Fault)
-    → CommandPost command meaning → is_memory_fault command ≡ false → name_count meaning ≡ file_count command
-count_is (Ok c) meaning is fine = ap name_count is
+    → CommandPost command meaning → is_memory_fault command ≡ false → named_file_count meaning ≡ file_count command
+count_is (Ok c) meaning is fine = ap named_file_count is
 count_is (Err fault) meaning is fine = by_view (fault_view fault) refl
   where
-    by_view : (f : Option Fault) → fault_view fault ≡ f → name_count meaning ≡ 0
+    by_view : (f : Option Fault) → fault_view fault ≡ f → named_file_count meaning ≡ 0
     by_view None none = absurd (true≢false (ap is_none (sym none) ∙ fine))
-    by_view (Some f) some = ap name_count (rw some at is)
+    by_view (Some f) some = ap named_file_count (rw some at is)

@@ -1,11 +1,11 @@
 -- The inputs of a run over memory, and their readers.
-use Rattle.std.specs.Prelude.{◌≡◌, ℕ, zero, suc, ◌^◌, ◌<◌, Bool, false, true, List, [], ◌∷◌, ◌++◌, Option, Some, None, Result, Ok, Err, ⊤, All, length, map, option_map}
+use Rattle.std.specs.Prelude.{◌≡◌, ℕ, zero, suc, ◌^◌, ◌<◌, Bool, false, true, List, [], ◌∷◌, ◌++◌, Option, Some, None, ⊤, All, length, map, option_map}
 use Rattle.std.specs.Borrow.{Bor}
 use Rattle.ptlines.specs.Readers.{Reader, new_reader}
 use Rattle.ptlines.specs.Sources.{SourceState, unopened_state}
-use Rattle.ptopts.specs.Commands.{Command, command_of_args}
-use Rattle.ptopts.specs.Faults.{Fault}
+use Rattle.ptopts.specs.Commands.{command_of_args}
 use Rattle.ptrun.specs.Files.{InputBytes, at}
+use Rattle.ptrun.specs.SpecOfArgs.{named_file_count}
 
 -- These bytes are left. No read has failed, since none fails.
 abbrev pub bytes_state : List ℕ → Bool → SourceState
@@ -23,14 +23,9 @@ abbrev pub first_files : InputBytes → ℕ → InputBytes
 first_files files zero = []
 first_files files (suc count) = first_files files count ++ at files count ∷ []
 
--- The number of files that a command names.
-abbrev pub name_count : Result Command Fault → ℕ
-name_count (Ok command) = length command.names
-name_count (Err fault) = 0
-
 -- The inputs of the command that these words are: standard input, and the files that it names.
 abbrev pub inputs_for : List (List ℕ) → List ℕ → InputBytes → InputBytes
-inputs_for words input files = Some input ∷ first_files files (name_count (command_of_args words))
+inputs_for words input files = Some input ∷ first_files files (named_file_count (command_of_args words))
 
 -- ---- readers
 

@@ -11,7 +11,7 @@ use Rattle.ptlines.specs.Readers.{Reader, IsDone, reader_at}
 use Rattle.ptflow.specs.declared.faults.FlowFault.{FlowFault}
 use Rattle.ptflow.specs.declared.faults.FlowFault.TheVariants.{Memory}
 use Rattle.ptfakes.proofs.SplitWords.{words}
-use Rattle.ptrun.specs.Files.{InputBytes, AreReadToEnd}
+use Rattle.ptrun.specs.Files.{InputBytes, AreInputsConsistent, AreReadToEnd}
 use Rattle.ptrun.specs.Runs.{IsRun, RunEnd, Sinks, Outcome}
 use Rattle.ptrun.specs.SpecOfArgs.{spec_of_args}
 
@@ -51,10 +51,10 @@ module _ {old new : List Reader} {before : Sinks} {o : Outcome} where
   -- Memory does not run out once standard input has ended.
   needs_no_memory_at_the_end : (k : IsRun (spec_of_args (words "cut -f 1")) old new before o) → IsDone (reader_at new 0)
       → k.fault ≡ Some Memory → ⊥
-  needs_no_memory_at_the_end k ended memory =
-      let left = k.left memory refl in
-      by_position left.0 (is_zero left.0 (rw (take_all {A = ℕ} (k.operands_done + 1) (0 ∷ []) (omega arith)) at left.1))
-      left.3
+  needs_no_memory_at_the_end k ended memory = ⊎_elim
+      (λ (p, named, opened, unended). by_position p
+      (is_zero p (rw (take_all {A = ℕ} (k.operands_done + 1) (0 ∷ []) (omega arith)) at named)) unended)
+      (λ (keeps, unwritten). false≢true keeps) (k.left memory)
     where
       is_zero : (p : ℕ) → ((0 == p) || false) ≡ true → p ≡ 0
       is_zero p named = ⊎_elim (λ same. sym same.1)
@@ -62,6 +62,34 @@ module _ {old new : List Reader} {before : Sinks} {o : Outcome} where
 
       by_position : (p : ℕ) → p ≡ 0 → (IsDone (reader_at new p) → ⊥) → ⊥
       by_position p is unended = unended (rw is ended)
+
+  -- Nor does it for `paste` and `comm` once both files have ended.
+  one_of_two : (p : ℕ) → ((1 == p) || ((2 == p) || false)) ≡ true → IsDone (reader_at new 1) → IsDone (reader_at new 2)
+      → IsDone (reader_at new p)
+  one_of_two p named first second = ⊎_elim (λ same. rw (sym same.1) first)
+      (λ other. ⊎_elim (λ same. rw (sym same.1) second)
+      (λ neither. absurd (false≢true (sym (λ i. other.0 i || (neither.0 i || false)) ∙ named))) (eqb_tells 2 p)) (eqb_tells 1 p)
+
+  paste_needs_no_memory_at_the_end : (k : IsRun (spec_of_args (words "paste f g")) old new before o)
+      → IsDone (reader_at new 1) → IsDone (reader_at new 2) → k.fault ≡ Some Memory → ⊥
+  paste_needs_no_memory_at_the_end k first second memory = ⊎_elim
+      (λ (p, named, opened, unended). unended (one_of_two p named first second))
+      (λ (keeps, unwritten). false≢true keeps) (k.left memory)
+
+  comm_needs_no_memory_at_the_end : (k : IsRun (spec_of_args (words "comm f g")) old new before o)
+      → IsDone (reader_at new 1) → IsDone (reader_at new 2) → k.fault ≡ Some Memory → ⊥
+  comm_needs_no_memory_at_the_end k first second memory = ⊎_elim
+      (λ (p, named, opened, unended). unended (one_of_two p named first second))
+      (λ (keeps, unwritten). false≢true keeps) (k.left memory)
+
+  -- `join` may run out of memory then, but not once its output is written, for example if it has nothing to write.
+  join_needs_no_memory_for_nothing : (k : IsRun (spec_of_args (words "join f g")) old new before o)
+      → IsDone (reader_at new 1) → IsDone (reader_at new 2)
+      → (w : InputBytes) → AreInputsConsistent k.received w → k.written ≡ (spec_of_args (words "join f g")).out w
+      → k.fault ≡ Some Memory → ⊥
+  join_needs_no_memory_for_nothing k first second w agrees written memory = ⊎_elim
+      (λ (p, named, opened, unended). unended (one_of_two p named first second))
+      (λ (keeps, unwritten). unwritten w agrees written) (k.left memory)
 
 -- The slots that commands need: none for `tr`, for `cut` by bytes, and if no operand was opened.
 slot_bounds : map (λ (example : List (List ℕ) × InputBytes). (spec_of_args example.0).slot_bound example.1)

@@ -31,6 +31,7 @@ returns-then-first-second g c =
     c.index-front-first.result c.index-back-0.result in
     record {
       merged = rw (sym k.was_low, sym k.was_high, k.is_low, k.is_high) w.ensures.merged;
+      unread_without_slots = rw (sym k.was_low, sym k.was_high, k.is_low, k.is_high) w.ensures.unread_without_slots;
       others = k.others;
       sound = rw (sym k.was_low, sym k.was_high, k.is_low, k.is_high) w.ensures.sound;
     }
@@ -44,6 +45,7 @@ returns-else-first-second g c =
     c.index-front-second.result c.index-back-0-else-first-second.result in
     record {
       merged = rw (sym k.was_low, sym k.was_high, k.is_low, k.is_high) w.ensures.merged;
+      unread_without_slots = rw (sym k.was_low, sym k.was_high, k.is_low, k.is_high) w.ensures.unread_without_slots;
       others = λ position first second. k.others position second first;
       sound = rw (sym k.was_low, sym k.was_high, k.is_low, k.is_high) w.ensures.sound;
     }

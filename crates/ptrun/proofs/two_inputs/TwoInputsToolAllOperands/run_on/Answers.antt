@@ -15,7 +15,7 @@ returns g c =
     let two = two_of c.args.order.now _ _ c.requires.ready.accepts_operands c.position_of-first.ensures c.position_of-second.ensures in
     let m = c.merge_at-merge_result in
     rw (c.completion_at.ensures, two.are) (two_inputs_post (g.T.TwoInputs.tool c.args.self.now.tool) two.apart (rw two.are at c.requires.ready)
-    m.new.inputs m.new.out m.new.store m.result m.ensures.sound m.ensures.others m.ensures.merged)
+    m.new.inputs m.new.out m.new.store m.result m.ensures.sound m.ensures.others m.ensures.merged m.ensures.unread_without_slots)
 
 pub merge_at-merge_result-requires-clause-within : goal.merge_at-merge_result-requires-clause-within
 merge_at-merge_result-requires-clause-within g c =
