@@ -87,12 +87,8 @@ impl<'a> Translation<'a> {
             return bytes;
         }
         let images = &mut into[..bytes.len()];
-        let table = self.plan.images();
-        let mut at = self.map_kind.map_prefix(table, bytes, images);
-        while at < bytes.len() {
-            images[at] = table[usize::from(bytes[at])];
-            at += 1;
-        }
+        self.map_kind
+            .store_images(self.plan.images(), bytes, images);
         images
     }
 
