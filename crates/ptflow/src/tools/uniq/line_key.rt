@@ -35,8 +35,8 @@ fn skip_nonblanks(line: &[u8]) -> &[u8]
     if line.len() < 16 {
         return skip_nonblanks_cold(line);
     }
-    let space = find_in_chunk::<16>(b' ', line, 0).unwrap_or(16);
-    let at = find_in_chunk::<16>(b'\t', line, 0).unwrap_or(16).min(space);
+    let tab = find_in_chunk::<16>(b'\t', line, 0).unwrap_or(16);
+    let at = find_in_chunk::<16>(b' ', line, 0).unwrap_or(16).min(tab);
     if at == 16 {
         return skip_nonblanks_cold(&line[16..]);
     }
