@@ -131,9 +131,6 @@ module _ (d : ℕ) (all : List Interval) {line : List ℕ} {first : ℕ} {cursor
       pub next_fits : from + passed ≤ length line
       next_fits = omega (arith, from_fits, p.fits, length-drop from line)
 
-      pub next_is_later : size ≤ passed
-      next_is_later = p.count
-
       -- the slice, and then the output that is left
       output : remaining_fields d all line cursor
           ≡ take ((from + passed - 1) - (from - cursor.sep)) (drop (from - cursor.sep) line)
