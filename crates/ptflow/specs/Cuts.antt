@@ -1,5 +1,5 @@
 -- The output of `cut` (POSIX.1-2017, XCU, `cut`).
-use Rattle.std.specs.Prelude.{ℕ, ◌+◌, ◌==◌, ◌||◌, List, [], ◌∷◌, Bool, not, if◌then◌else◌}
+use Rattle.std.specs.Prelude.{ℕ, ◌+◌, ◌==◌, List, [], ◌∷◌, Bool, if◌then◌else◌}
 use Rattle.std.specs.List.{flat_map, list_any, slice_split, join_with_byte}
 use Rattle.ptlines.specs.Text.{unlines, lines, max_line_length}
 use Rattle.ptlines.specs.Received.{Received, known_lines}
@@ -22,10 +22,6 @@ is_field_delimiter job b = b == job.delimiter
 -- the fields whose numbers, counted from 1, are selected, joined by the delimiter
 abbrev pub cut_fields : Cut → List ℕ → List ℕ
 cut_fields job line = join_with_byte job.delimiter (select_from job.selected 1 (slice_split (is_field_delimiter job) line))
-
--- a line that is cut by fields has output: it contains the delimiter, or lines without it are not dropped
-abbrev pub is_line_kept : Cut → List ℕ → Bool
-is_line_kept job line = list_any (is_field_delimiter job) line || not job.only
 
 -- the output lines for a line: one, or none
 abbrev pub cut_line : Cut → List ℕ → List (List ℕ)

@@ -1,47 +1,28 @@
 -- The selected fields of a line, in one pass. The fields of an interval, with the delimiter before each, are one slice
 -- of the line; so the output is these slices, the first without the delimiter before it.
-use Rattle.ptflow.proofs.Common.{◌≡◌, ℕ, zero, suc, ◌+◌, ◌-◌, ◌<◌, ◌≤◌, List, [], ◌∷◌, ◌++◌, length, take, drop, get_or, refl, sym, ◌∙◌, ap, arith, append_assoc, length-drop, take-append-drop}
-use Rattle.ptflow.proofs.Common.{append-nil, take_all, drop_all, drop_more, drop-drop, drop-take, drop-append-le, length-take-le, join_with_byte, is_selected, AreSeparated, Interval, fields, prefixed_fields}
-use Rattle.ptflow.proofs.Common.{IsFieldStart}
-use Rattle.ptflow.proofs.Vectors.Select.{selected_bytes, not_selected, select_none, select_first, select_slice, select_skip}
+use Rattle.ptflow.proofs.Common.{◌≡◌, ℕ, zero, suc, Bool, true, false, cond, ◌+◌, ◌-◌, ◌<◌, ◌≤◌, List, [], ◌∷◌, ◌++◌, length, take, drop, get_or}
+use Rattle.ptflow.proofs.Common.{refl, sym, ◌∙◌, ap, arith, append_assoc, length-append, length-drop, append-nil}
+use Rattle.ptflow.proofs.Common.{take_all, drop_all, drop_more, drop-drop, drop-take, drop-append-le, length-take-le}
+use Rattle.ptflow.proofs.Common.{Cut, cut_fields, join_with_byte, is_selected, AreSeparated, Interval, select_from, fields, prefixed_fields}
+use Rattle.ptflow.proofs.Common.{IsFieldStart, IsFieldCursor, IsNextSlice, remaining_fields}
+use Rattle.ptflow.specs.declared.tools.cut.fields.FieldCursor.{FieldCursor}
+use Rattle.ptflow.specs.declared.tools.cut.fields.FieldSlice.{FieldSlice}
+use Rattle.ptflow.proofs.Vectors.Select.{not_selected, select_none, select_first, select_slice, select_skip}
 use Rattle.ptflow.proofs.CutLemmas.FieldOffsets.{prefixed_fields-append, prefixed_of_fields, join_prefixed}
 
--- adjacent fields: with a delimiter before each, or, if `sep` is 0, before each but the first
-abbrev pub written_so_far : ℕ → ℕ → List (List ℕ) → List ℕ
-written_so_far d sep fs = drop (1 - sep) (prefixed_fields d fs)
-
--- the output that is left for a line from the start of field `number` on, for the intervals that are left; then comes
--- the tail
-abbrev pub remaining_fields : ℕ → List Interval → List ℕ → List ℕ → ℕ → ℕ → ℕ → List ℕ
-remaining_fields d others line tail number at sep = written_so_far d sep (selected_bytes (is_selected others) number (fields d (drop at line))) ++ tail
-
--- field `number` starts here, and the intervals that are left begin after it
-pub record FieldLoopInvariant (d : ℕ) (others : List Interval) (line : List ℕ) (number at sep : ℕ) : Type 0 where
-  pub fits : at ≤ length line
-  pub begun : sep ≤ 1
-  pub passed : sep ≤ at
-  pub count : number ≤ at + 1
-  pub low : ℕ
-  pub apart : AreSeparated low others
-  pub low_is : low + 1 ≡ number + sep
-
--- a step ends within the line, and so does a second one after it
-pub step_fits : {d n number at sep skipped : ℕ} {others : List Interval} {line : List ℕ} → FieldLoopInvariant d others line number at sep → IsFieldStart d n (drop at line) skipped → at + skipped ≤ length line
-step_fits {at} {line} w s = omega (arith, length-drop at line)
-
-pub slice_fits : {d n m number at sep skipped passed : ℕ} {others : List Interval} {line : List ℕ} → FieldLoopInvariant d others line number at sep → IsFieldStart d n (drop at line) skipped
-    → IsFieldStart d m (drop (at + skipped) line) passed → at + skipped + passed ≤ length line
-slice_fits {at} {skipped} {line} w s p = omega (arith, step_fits w s, length-drop (at + skipped) line)
-
-pub slice_order : (n : ℕ) {d : ℕ} {line : List ℕ} {passed : ℕ} → IsFieldStart d (n + 1) line passed → (from sep : ℕ) → from - sep ≤ from + passed - 1
-slice_order n s from sep = omega (arith, s.count)
+-- the cursor before all intervals from an index on, at the start of a line
+abbrev pub cursor_from : ℕ → FieldCursor
+cursor_from i = record { index = i; number = 1; at = 0; sep = 0 }
 
 -- all selected fields of a line are left
-pub all_remaining : (d : ℕ) (all : List Interval) (line tail : List ℕ) → join_with_byte d (selected_bytes (is_selected all) 1 (fields d line)) ++ tail ≡ remaining_fields d all line tail 1 0 0
-all_remaining d all line tail = cc (join_prefixed d (selected_bytes (is_selected all) 1 (fields d line)))
+pub all_remaining : (d : ℕ) (all : List Interval) (line : List ℕ)
+    → join_with_byte d (select_from (is_selected all) 1 (fields d line)) ≡ remaining_fields d all line (cursor_from 0)
+all_remaining d all line = cc (join_prefixed d (select_from (is_selected all) 1 (fields d line)))
 
-pub field_loop_starts : {d : ℕ} {all : List Interval} {line : List ℕ} → AreSeparated 0 all → FieldLoopInvariant d all line 1 0 0
-field_loop_starts apart = record {
+pub cursor_starts : {all : List Interval} {line : List ℕ} {first : ℕ} (i : ℕ) → AreSeparated 0 (drop i all)
+    → IsFieldCursor all line first (cursor_from i)
+cursor_starts i apart = record {
+  known = λ le. refl;
   fits = omega arith;
   begun = omega arith;
   passed = omega arith;
@@ -51,142 +32,255 @@ field_loop_starts apart = record {
   low_is = refl;
 }
 
-module _ {d : ℕ} (all : List Interval) {line : List ℕ} (tail : List ℕ) (i : ℕ) {number at sep : ℕ} (w : FieldLoopInvariant d (drop i all) line number at sep) where
-  -- the fields from here on, and the output that is left for them
+-- no interval is left
+pub none_remaining : (d : ℕ) (all : List Interval) (line : List ℕ) (cursor : FieldCursor) → length all ≤ cursor.index
+    → remaining_fields d all line cursor ≡ []
+none_remaining d all line cursor past =
+    let here = fields d (drop cursor.at line) in
+    cc (
+      drop_all cursor.index all past,
+      select_none (is_selected []) cursor.number here (λ m low high. refl),
+      drop_all (1 - cursor.sep) (prefixed_fields d []) (omega arith),
+    )
+
+module _ (d : ℕ) (all : List Interval) {line : List ℕ} {first : ℕ} {cursor : FieldCursor}
+    (w : IsFieldCursor all line first cursor) (within : cursor.index < length all) where
+  -- the fields from the cursor on, the next interval, and those after it
   abbrev here : List (List ℕ)
-  here = fields d (drop at line)
+  here = fields d (drop cursor.at line)
 
-  abbrev to_come : List ℕ
-  to_come = remaining_fields d (drop i all) line tail number at sep
+  abbrev r : Interval
+  r = get_or all cursor.index (record { first = 0; last = 0 })
 
-  only_tail : {fs : List (List ℕ)} → fs ≡ [] → written_so_far d sep fs ++ tail ≡ tail
-  only_tail none = ap (λ gs. written_so_far d sep gs ++ tail) none ∙ ap (λ l. l ++ tail) (drop_all (1 - sep) [] (omega arith))
+  abbrev rs : List Interval
+  rs = drop (cursor.index + 1) all
 
-  -- all intervals were processed
-  pub field_loop_done : length all ≤ i → to_come ≡ tail
-  field_loop_done past =
-      ap (λ l. written_so_far d sep (selected_bytes (is_selected l) number here) ++ tail) (drop_all i all past)
-      ∙ only_tail (select_none (is_selected []) number here (λ m low high. refl))
+  -- how many fields are before the interval, and how many are in it
+  abbrev skip : ℕ
+  skip = r.first - cursor.number
 
-  module _ (within : i < length all) where
-    abbrev r : Interval
-    r = get_or all i (record { first = 0; last = 0 })
+  abbrev size : ℕ
+  size = r.last - r.first + 1
 
-    abbrev rs : List Interval
-    rs = drop (i + 1) all
+  these : drop cursor.index all ≡ r ∷ rs
+  these = drop_more all cursor.index (record { first = 0; last = 0 }) within
 
-    -- how many fields are before the interval, and how many are in it
-    abbrev skip : ℕ
-    skip = r.first - number
+  apart : AreSeparated w.low (r ∷ rs)
+  apart = rw these at w.apart
 
-    abbrev size : ℕ
-    size = r.last - r.first + 1
+  pub not_past : cursor.number + cursor.sep ≤ r.first
+  not_past = omega (arith, w.low_is, apart.0)
 
-    these : drop i all ≡ r ∷ rs
-    these = drop_more all i (record { first = 0; last = 0 }) within
+  pub in_order : r.first ≤ r.last
+  in_order = apart.1
 
-    apart : AreSeparated w.low (r ∷ rs)
-    apart = rw these at w.apart
+  -- the line ends before the interval
+  pub ends_before : length here ≤ skip → remaining_fields d all line cursor ≡ []
+  ends_before few =
+      let far : AreSeparated (r.first - 1) (r ∷ rs) = (omega (arith, not_past), apart.1, apart.2) in
+      let none = λ (m : ℕ) (low : cursor.number ≤ m) (high : m < cursor.number + length here).
+      not_selected (r ∷ rs) (r.first - 1) m far (omega (arith, not_past)) in
+      cc (
+        these,
+        select_none (is_selected (r ∷ rs)) cursor.number here none,
+        drop_all (1 - cursor.sep) (prefixed_fields d []) (omega arith),
+      )
 
-    pub not_past : number + sep ≤ r.first
-    not_past = omega (arith, apart.0)
+  module _ {skipped : ℕ} (s : IsFieldStart d skip (drop cursor.at line) skipped) where
+    abbrev from : ℕ
+    from = cursor.at + skipped
 
-    pub not_before : number ≤ r.first
-    not_before = omega (arith, not_past)
+    abbrev rest : List ℕ
+    rest = drop from line
 
-    pub in_order : r.first ≤ r.last
-    in_order = apart.1
+    pub from_fits : from ≤ length line
+    from_fits = omega (arith, w.fits, s.fits, length-drop cursor.at line)
 
-    -- the line ends before the interval
-    pub field_loop_short : length here ≤ skip → to_come ≡ tail
-    field_loop_short few =
-        let far : AreSeparated (r.first - 1) (r ∷ rs) = (omega (arith, apart.0), apart.1, apart.2) in
-        cc (these, only_tail (select_none (is_selected (r ∷ rs)) number here (λ m low high. not_selected (r ∷ rs) (r.first - 1) m far (omega (arith, not_past)))))
+    -- the start of the interval, with or without the delimiter before it
+    sep_drop : drop (from - cursor.sep) line ≡ drop (1 - cursor.sep) (d ∷ rest)
+    sep_drop = by_sep cursor.sep refl
+      where
+        at_delimiter : (q : ℕ) → skipped ≡ suc q → drop (cursor.at + q) line ≡ d ∷ rest
+        at_delimiter q is = cc (drop-drop q cursor.at line, drop-drop skipped cursor.at line)
 
-    module _ {skipped : ℕ} (s : IsFieldStart d skip (drop at line) skipped) where
-      abbrev from : ℕ
-      from = at + skipped
+        by_sep : (n : ℕ) → n ≡ cursor.sep → drop (from - n) line ≡ drop (1 - n) (d ∷ rest)
+        by_sep zero is = let same : from - 0 ≡ from = omega arith in rw same refl
+        by_sep (suc zero) is =
+            let some : skipped ≡ suc (skipped - 1) = omega (arith, not_past, s.count) in
+            let same : from - 1 ≡ cursor.at + (skipped - 1) = omega (arith, some) in
+            rw same (at_delimiter (skipped - 1) some)
+        by_sep (suc (suc n)) is = absurd (omega (arith, w.begun))
 
-      abbrev rest : List ℕ
-      rest = drop from line
+    -- the fields in the interval, and those that the others select
+    here_is : select_from (is_selected (r ∷ rs)) cursor.number here
+        ≡ take size (fields d rest) ++ select_from (is_selected rs) cursor.number here
+    here_is =
+        let b = r.last + 1 - cursor.number in
+        let many : b - skip ≡ size = omega (arith, not_past, apart.1) in
+        cc (
+          select_first r rs cursor.number here apart.2,
+          select_slice r cursor.number here skip b refl refl,
+          drop-drop skipped cursor.at line,
+        )
 
-      from_fits : from ≤ length line
-      from_fits = omega (arith, length-drop at line)
+    -- the line continues after the interval
+    module _ {passed : ℕ} (p : IsFieldStart d size rest passed) where
+      abbrev next : FieldCursor
+      next = record { index = cursor.index + 1; number = r.last + 1; at = from + passed; sep = 1 }
 
-      -- the start of the interval, with or without the delimiter before it
-      pub sep_drop : drop (from - sep) line ≡ drop (1 - sep) (d ∷ rest)
-      sep_drop = by_sep sep refl
-        where
-          at_delimiter : (q : ℕ) → skipped ≡ suc q → drop (at + q) line ≡ d ∷ rest
-          at_delimiter q is = cc (drop-drop q at line, drop-drop skipped at line)
+      pub next_fits : from + passed ≤ length line
+      next_fits = omega (arith, from_fits, p.fits, length-drop from line)
 
-          by_sep : (n : ℕ) → n ≡ sep → drop (from - n) line ≡ drop (1 - n) (d ∷ rest)
-          by_sep zero is = let same : from - 0 ≡ from = omega arith in rw same refl
-          by_sep (suc zero) is =
-              let some : skipped ≡ suc (skipped - 1) = omega (arith, not_past) in
-              let same : from - 1 ≡ at + (skipped - 1) = omega (arith, some) in
-              rw same (at_delimiter (skipped - 1) some)
-          by_sep (suc (suc n)) is = absurd (omega arith)
+      -- the slice, and then the output that is left
+      output : remaining_fields d all line cursor
+          ≡ take ((from + passed - 1) - (from - cursor.sep)) (drop (from - cursor.sep) line)
+          ++ remaining_fields d all line next
+      output =
+          let front = take size (fields d rest) in
+          let more = select_from (is_selected rs) (r.last + 1) (fields d (drop (from + passed) line)) in
+          let some : 1 ≤ passed = omega (arith, p.count) in
+          let before : 1 - cursor.sep ≤ 1 = omega arith in
+          let many : (from + passed - 1) - (from - cursor.sep) ≡ (passed - 1) + cursor.sep =
+          omega (arith, some, w.begun, w.passed) in
+          let all_of : (1 - cursor.sep) + ((passed - 1) + cursor.sep) ≡ passed = omega (arith, some, w.begun) in
+          let count : cursor.number + (skip + size) ≡ r.last + 1 = omega (arith, not_past, apart.1) in
+          let left : drop (skip + size) here ≡ fields d (drop (from + passed) line) =
+          cc (
+            s.later,
+            p.later,
+            drop-drop size skip here,
+            drop-drop skipped cursor.at line,
+            drop-drop passed from line,
+          ) in
+          let long : 1 - cursor.sep ≤ length (prefixed_fields d front) =
+          omega (arith, some, ap length (sym p.front), length-take-le passed (d ∷ rest) (omega (arith, p.fits))) in
+          let none = λ (m : ℕ) (low : cursor.number ≤ m) (high : m < cursor.number + (skip + size)).
+          not_selected rs (r.last + 1) m apart.2 (omega (arith, count)) in
+          cc (
+            sep_drop,
+            p.front,
+            drop-take (1 - cursor.sep) ((passed - 1) + cursor.sep) (d ∷ rest),
+            these,
+            here_is,
+            select_skip (is_selected rs) cursor.number (skip + size) here none,
+            prefixed_fields-append d front more,
+            drop-append-le (1 - cursor.sep) (prefixed_fields d front) (prefixed_fields d more) long,
+          )
 
-      -- the fields in the interval, and those that the others select
-      here_is : selected_bytes (is_selected (r ∷ rs)) number here ≡ take size (fields d rest) ++ selected_bytes (is_selected rs) number here
-      here_is =
-          let a = r.first - number in
-          let b = r.last + 1 - number in
-          let many : b - a ≡ size = omega (arith, not_past, apart.1) in
-          cc (select_first r rs number here apart.2, select_slice r number here a b refl refl, drop-drop skipped at line)
-
-      -- the line continues after the interval
-      module _ {passed : ℕ} (p : IsFieldStart d size rest passed) where
-        abbrev next : ℕ
-        next = from + passed
-
-        some : 1 ≤ passed
-        some = omega arith
-
-        -- the slice, and then the output that is left
-        pub field_loop_slice : to_come ≡ take ((next - 1) - (from - sep)) (drop (from - sep) line) ++ remaining_fields d rs line tail (r.last + 1) next 1
-        field_loop_slice =
-            let more = selected_bytes (is_selected rs) (r.last + 1) (fields d (drop next line)) in
-            let many : (next - 1) - (from - sep) ≡ (passed - 1) + sep = omega (arith, some) in
-            let all_of : (1 - sep) + ((passed - 1) + sep) ≡ passed = omega (arith, some) in
-            let count : number + (skip + size) ≡ r.last + 1 = omega (arith, not_past, apart.1) in
-            let left : drop (skip + size) here ≡ fields d (drop next line) = cc (drop-drop size skip here, drop-drop skipped at line, drop-drop passed from line) in
-            let long : 1 - sep ≤ length (prefixed_fields d (take size (fields d rest))) = omega (arith, some, ap length (sym p.front), length-take-le passed (d ∷ rest) (omega arith)) in
-            cc (
-              sep_drop,
-              drop-take (1 - sep) ((passed - 1) + sep) (d ∷ rest),
-              these,
-              here_is,
-              select_skip (is_selected rs) number (skip + size) here (λ m low high. not_selected rs (r.last + 1) m apart.2 (omega (arith, count))),
-              prefixed_fields-append d (take size (fields d rest)) more,
-              drop-append-le (1 - sep) (prefixed_fields d (take size (fields d rest))) (prefixed_fields d more) long,
-              append_assoc (written_so_far d sep (take size (fields d rest))) (prefixed_fields d more) tail,
-            )
-
-        pub field_loop_next : FieldLoopInvariant d rs line (r.last + 1) next 1
-        field_loop_next = record {
-          fits = omega (arith, length-drop from line, from_fits);
+      pub next_slice : (from + passed ≤ first → from + passed ≡ 0)
+          → IsNextSlice d all line first cursor (record { start = from - cursor.sep; end = from + passed - 1; next = next })
+      next_slice known = record {
+        output = output;
+        order = omega (arith, p.count);
+        within = omega (arith, next_fits);
+        next = record {
+          known = known;
+          fits = next_fits;
           begun = omega arith;
-          passed = omega (arith, some);
-          count = omega (arith, apart.1);
+          passed = omega (arith, p.count);
+          count = omega (arith, p.count, s.count, w.count, not_past, apart.1);
           low = r.last + 1;
           apart = apart.2;
           low_is = refl;
+        };
+        later = omega arith;
+        bound = omega arith;
+      }
+
+    -- the interval reaches the end of the line
+    pub last_slice : length (fields d rest) ≤ size → IsNextSlice d all line first cursor
+        (record { start = from - cursor.sep; end = length line; next = cursor_from (length all) })
+    last_slice few =
+        let number_of : length here ≤ skip + size =
+        omega (
+          arith,
+          few,
+          ap length (s.later ∙ ap (fields d) (drop-drop skipped cursor.at line)),
+          length-drop skip here,
+        ) in
+        let none = λ (m : ℕ) (low : cursor.number ≤ m) (high : m < cursor.number + length here).
+        not_selected rs (r.last + 1) m apart.2 (omega (arith, number_of, not_past, apart.1)) in
+        let long : length line - (from - cursor.sep) ≡ length (drop (from - cursor.sep) line) =
+        sym (length-drop (from - cursor.sep) line) in
+        let whole = take_all (length line - (from - cursor.sep)) (drop (from - cursor.sep) line) (omega (arith, long)) in
+        let past : drop (length all) all ≡ [] = drop_all (length all) all (omega arith) in
+        record {
+          output =
+              cc (
+                these,
+                here_is,
+                take_all size (fields d rest) few,
+                select_none (is_selected rs) cursor.number here none,
+                append-nil (fields d rest),
+                whole,
+                sep_drop,
+                prefixed_of_fields d rest,
+                none_remaining d all line (cursor_from (length all)) (omega arith),
+                append-nil (drop (from - cursor.sep) line),
+              );
+          order = omega (arith, from_fits);
+          within = omega arith;
+          next = cursor_starts (length all) (rw past tt);
+          later = within;
+          bound = omega arith;
         }
 
-      -- the interval reaches the end of the line, which is at the start of these bytes
-      pub field_loop_ends : (count : ℕ) (bytes : List ℕ) → line ≡ take count bytes → tail ≡ drop count bytes → length (fields d rest) ≤ size → to_come ≡ drop (from - sep) bytes
-      field_loop_ends count bytes is_line is_tail few =
-          let number_of : length here ≤ skip + size = omega (arith, few, ap length (s.later ∙ ap (fields d) (drop-drop skipped at line)), length-drop skip here) in
-          cc (
-            these,
-            here_is,
-            take_all size (fields d rest) few,
-            select_none (is_selected rs) number here (λ m low high. not_selected rs (r.last + 1) m apart.2 (omega (arith, number_of, not_past, apart.1))),
-            append-nil (fields d rest),
-            take-append-drop count bytes,
-            drop-append-le (from - sep) line tail (omega (arith, from_fits)),
-            sep_drop,
-            prefixed_of_fields d rest,
-          )
+-- ---- the output of a line is not longer than the line
+
+few_prefixed : (d : ℕ) (test : ℕ → Bool) (n : ℕ) (fs : List (List ℕ))
+    → length (prefixed_fields d (select_from test n fs)) ≤ length (prefixed_fields d fs)
+few_prefixed d test n [] = omega arith
+few_prefixed d test n (f ∷ fs) = by_test (select_from test (n + 1) fs) (test n) (few_prefixed d test (n + 1) fs)
+  where
+    by_test : (rest : List (List ℕ)) (t : Bool) → length (prefixed_fields d rest) ≤ length (prefixed_fields d fs)
+        → length (prefixed_fields d (cond t (f ∷ rest) rest)) ≤ length (prefixed_fields d (f ∷ fs))
+    by_test rest true few = omega (
+      arith,
+      few,
+      length-append f (prefixed_fields d rest),
+      length-append f (prefixed_fields d fs),
+    )
+    by_test rest false few = omega (arith, few, length-append f (prefixed_fields d fs))
+
+pub output_is_short : (job : Cut) (line : List ℕ) → length (cut_fields job line) ≤ length line
+output_is_short job line =
+    let d = job.delimiter in
+    let selected = select_from job.selected 1 (fields d line) in
+    omega (
+      arith,
+      ap length (join_prefixed d selected),
+      length-drop 1 (prefixed_fields d selected),
+      few_prefixed d job.selected 1 (fields d line),
+      ap length (prefixed_of_fields d line),
+    )
+
+-- the copied output and the next slice are not longer than the line
+pub slice_is_near : {d first : ℕ} {all : List Interval} {line : List ℕ} {cursor : FieldCursor} {slice : FieldSlice}
+    (start end : ℕ) (was now out : List ℕ) → IsNextSlice d all line first cursor slice
+    → take start was ++ out ≡ take end now ++ remaining_fields d all line cursor
+    → start ≤ length was → end ≤ length now → length out ≤ length line
+    → end + (slice.end - slice.start) ≤ start + length line
+slice_is_near {d} {all = all} {line} {cursor} {slice} start end was now out next copied room place short =
+    let part = take (slice.end - slice.start) (drop slice.start line) in
+    let long : length part ≡ slice.end - slice.start =
+    length-take-le (slice.end - slice.start) (drop slice.start line)
+    (omega (arith, next.within, next.order, length-drop slice.start line)) in
+    omega (
+      arith,
+      short,
+      long,
+      ap length copied,
+      ap length next.output,
+      length-append (take start was) out,
+      length-append (take end now) (remaining_fields d all line cursor),
+      length-append part (remaining_fields d all line slice.next),
+      length-take-le start was room,
+      length-take-le end now place,
+    )
+
+-- all selected fields of a line are left, by the list of a job
+pub selected_remaining : (job : Cut) (list : List Interval) {d : ℕ} (line : List ℕ) → d ≡ job.delimiter
+    → is_selected list ≡ job.selected → cut_fields job line ≡ remaining_fields d list line (cursor_from 0)
+selected_remaining job list {d} line same selected =
+    (λ i. join_with_byte (sym same i) (select_from (sym selected i) 1 (fields (sym same i) line)))
+    ∙ all_remaining d list line

@@ -76,12 +76,6 @@ rest_of (suc n) (suc to) (b ∷ bytes) = let less : suc to - suc n ≡ to - n = 
 pub slice_of : (from size : ℕ) {to : ℕ} (bytes : List ℕ) → from + size ≤ to → take size (drop from (take to bytes)) ≡ take size (drop from bytes)
 slice_of from size {to} bytes le = cc (rest_of from to bytes, take-take size (to - from) (drop from bytes) (omega arith))
 
--- a line and the byte after it
-pub line_with_end : (to : ℕ) (bytes : List ℕ) → drop to (take (to + 1) bytes) ≡ take 1 (drop to bytes)
-line_with_end to bytes =
-    let one : to + 1 - to ≡ 1 = omega arith in
-    cc (rest_of to (to + 1) bytes)
-
 -- one byte is appended
 pub put_byte : (room bytes : List ℕ) (end : ℕ) {to : ℕ} → end < length room → to < length bytes → take (end + 1) (slice_set room end (get_or bytes to 0)) ≡ take end room ++ take 1 (drop to bytes)
 put_byte room bytes end {to} in_room within = cc (take_more_set room end (get_or bytes to 0) in_room, drop_more bytes to 0 within)

@@ -144,26 +144,6 @@ module _ (p : ℕ → Bool) (bytes : List ℕ) where
   some_counted [] lt = absurd (omega arith)
   some_counted (x ∷ xs) lt = grind (arith, some_counted xs, sum_by-cons (λ b. cond (p b) 1 0) x xs)
 
-  -- the first index that the mask of the first bytes gives
-  module _ {size marked : ℕ} (k : ℕ) (few : size ≤ 64) (room : size ≤ length bytes) (is : marked ≡ mask_l (map p (chunk 0 size bytes))) (some : marked ≡ 0 → ⊥)
-      (found : (test : ℕ → Bool) (xs : List ℕ) → length xs ≤ 64 → marked ≡ mask_l (map test xs) → 0 < count_by test xs → IsNth test 0 0 xs k) where
-    in_front : IsNth p 0 0 (chunk 0 size bytes) k
-    in_front =
-        let v = chunk 0 size bytes in
-        found p v (omega (arith, length-chunk 0 size bytes (omega arith))) is (some_counted v (rw (← is) (omega arith)))
-
-    pub first_in_prefix : (to : ℕ) → k < to → to ≤ length bytes → IsNth p 0 0 (take to bytes) k
-    first_in_prefix to lt le =
-        let same : 0 + k ≡ k = omega arith in
-        rw (← same) (nth_in_prefix size 0 0 k (omega arith) in_front (omega arith) le)
-
-    pub none_in_prefix : {to : ℕ} → to ≤ k → count_by p (take to bytes) ≤ 0
-    none_in_prefix {to} le = omega (arith, count_in_prefix size 0 0 k (omega arith) in_front, count_up_to to (0 + k) (omega arith))
-
-    pub first_of_all : NoneBefore (Passes p bytes) 0 (length bytes) k × Passes p bytes k
-    first_of_all =
-        first_is k (rw (take_all (length bytes) bytes (omega arith)) at (first_in_prefix (length bytes) (omega (arith, room, near size 0 0 k (omega arith) in_front)) (omega arith)))
-
 -- ---- fields
 
 module _ (d : ℕ) (line : List ℕ) where
@@ -191,8 +171,23 @@ module _ (d : ℕ) (line : List ℕ) where
   none_counted [] free = refl
   none_counted (b ∷ bytes) free = cc (sum_by-cons (λ x. cond (is_byte d x) 1 0) b bytes, byte_ne d b free.0, none_counted bytes free.1)
 
+  -- the first delimiter, which is among the first `end` bytes
+  module _ {end at : ℕ} (first : NoneBefore (Passes (is_byte d) line) 0 end at) (is : Passes (is_byte d) line at) (within : end ≤ length line) where
+    pub none_before : count_by (is_byte d) (take at line) ≡ 0
+    none_before =
+        let all : IsFirstByte (is_byte d) line (Some at) =
+        (record { low = omega arith; high = omega (arith, first.high); before = first.before }, is) in
+        none_counted (take at line) (line_before_terminator d line at all)
+
+    pub first_is_nth : {to : ℕ} → at < to → to ≤ length line → IsNth (is_byte d) 0 0 (take to line) at
+    first_is_nth {to} lt le = (
+      omega (arith, length-take-le to line le),
+      cc (get_or-take to line at 0 lt),
+      cc (take-take at to line (omega arith), none_before),
+    )
+
   pub starts_after_first : (at : ℕ) → IsFirstByte (is_byte d) line (Some at) → IsFieldStart d 1 line (at + 1)
-  starts_after_first at first = starts_behind 0 at (first.0.high, first.1, none_counted (take at line) (line_before_terminator d line at first))
+  starts_after_first at (first, is) = starts_behind 0 at (first.high, is, none_before first is (omega arith))
 
   pub starts_after_nth : {n : ℕ} (at : ℕ) → 0 < n → IsNth (is_byte d) 0 (n - 1) line at → IsFieldStart d n line (at + 1)
   starts_after_nth {n} at some h =

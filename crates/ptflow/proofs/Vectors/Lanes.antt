@@ -49,8 +49,9 @@ filter_same p q same (b ∷ v) fit = λ i. cond (same b fit.0.fits i) (b ∷ fil
 pub bytes_fit : (v : List ℕ) → ((k : ℕ) → Fits w8 (get_or v k 0)) → Each1 (Fits w8) v
 bytes_fit v fit = Each1-from_get_or (Fits w8) v 0 (λ k _. fit k)
 
-pub mapped_same : (f g : ℕ → ℕ) (at : ℕ) (from to : List ℕ) → ((b : ℕ) → b < 256 → f b ≡ g b) → ((k : ℕ) → Fits w8 (get_or from k 0)) → IsMappedTo at f from to → IsMappedTo at g from to
-mapped_same f g at from to same fit moved = (moved.0, moved.1, moved.2 ∙ bytes_same f g same (take at from) (chunk-fits w8 0 at from fit))
+pub images_same : {X : Type 0} {f g : ℕ → X} (v : List ℕ) → ((b : ℕ) → b < 256 → f b ≡ g b)
+    → ((k : ℕ) → Fits w8 (get_or v k 0)) → map f v ≡ map g v
+images_same {f = f} {g} v same fit = bytes_same f g same v (bytes_fit v fit)
 
 -- ---- ranges that are shifted
 

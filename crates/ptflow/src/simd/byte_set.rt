@@ -3,6 +3,7 @@
 ghost use Rattle.std.specs.Prelude.{◌≡◌, ◌/◌, ◌%◌, map, slice_index};
 ghost use Rattle.ptflow.specs.Private.Vectors.ByteSets.{IsSetOf};
 
+use crate::simd::compress::CompressTable;
 use std::simd::Mask;
 use std::simd::prelude::*;
 
@@ -33,11 +34,12 @@ pub(crate) struct ByteSet {
     pub high: u8x16,
 }
 
-/// A set together with the 256 flags that it was made of.
+/// A set together with the 256 flags that it was made of, and the table for compression.
 #[derive(Clone, Copy)]
 pub(crate) struct FlagSet<'a> {
     pub set: ByteSet,
     pub flags: &'a [bool; 256],
+    pub table: &'a CompressTable,
     ghost same: { IsSetOf set flags.now },
 }
 

@@ -9,8 +9,10 @@ ghost use Rattle.ptflow.specs.Private.Vectors.Compress.{ChunkPre, IsCompressTabl
 use std::array;
 use std::simd::prelude::*;
 
-/// A block of at most 8,192 bytes. A buffer of 8,224 bytes has room for the selected ones, even if a whole vector is
-/// stored after the last of them.
+/// Room for the selected bytes of a block, even if a whole vector is stored after the last of them.
+pub(crate) type OutBuf = [u8; 8224];
+
+/// A block of at most 8,192 bytes.
 #[derive(Clone, Copy)]
 pub(crate) struct Block<'a> {
     pub bytes: &'a [u8],
@@ -48,7 +50,7 @@ impl CompressTable {
 
 // Appends the 64 bytes at index `at` to the first `count` bytes of `into`.
 #[inline(always)]
-pub(crate) fn copy_chunk(block: Block, at: usize, into: &mut [u8; 8224], count: usize)
+pub(crate) fn copy_chunk(block: Block, at: usize, into: &mut OutBuf, count: usize)
     requires { ChunkPre block.bytes.now at count }
     ensures { take (count + 64) into.new ≡ take count into.old ++ chunk at 64 block.entry.bytes.now }
 {
@@ -60,20 +62,14 @@ pub(crate) fn copy_chunk(block: Block, at: usize, into: &mut [u8; 8224], count: 
 // Appends to the first `at` bytes of `into` the bytes of those of the first eight lanes of `v` whose bit in `keep` is
 // set. Returns the new count.
 #[inline(always)]
-fn compress8(
-    compress_table: &CompressTable,
-    v: u8x16,
-    keep: u8,
-    into: &mut [u8; 8224],
-    at: usize,
-) -> usize
+fn compress8(table: &CompressTable, v: u8x16, keep: u8, into: &mut OutBuf, at: usize) -> usize
     requires { at ≤ 8208 }
     ensures packed { (flags : List Bool) → length flags ≡ 8 → keep ≡ mask_l flags
         → take result into.new ≡ take at into.old ++ select_by flags v }
     ensures end { (at ≤ result) × (result ≤ at + 8) }
 {
     let into: &mut [u8] = into;
-    let indices = u8x16::from_array(compress_table.rows[usize::from(keep)]);
+    let indices = u8x16::from_array(table.rows[usize::from(keep)]);
     v.swizzle_dyn(indices).copy_to_slice(&mut into[at..]);
     at + keep.count_ones() as usize
 }
@@ -82,10 +78,10 @@ fn compress8(
 // count. The bytes of `into` after these may change.
 #[inline(always)]
 pub(crate) fn compress16(
-    compress_table: &CompressTable,
+    table: &CompressTable,
     v: u8x16,
     keep: u64,
-    into: &mut [u8; 8224],
+    into: &mut OutBuf,
     at: usize,
 ) -> usize
     requires { at ≤ 8200 }
@@ -93,12 +89,7 @@ pub(crate) fn compress16(
         → take result into.new ≡ take at into.old ++ select_by flags v }
     ensures end { (at ≤ result) × (result ≤ at + 16) }
 {
-    let half = compress8(compress_table, v, (keep & 255) as u8, into, at);
-    compress8(
-        compress_table,
-        v.rotate_elements_left::<8>(),
-        (keep >> 8 & 255) as u8,
-        into,
-        half,
-    )
+    let half = compress8(table, v, (keep & 255) as u8, into, at);
+    let rest = v.rotate_elements_left::<8>();
+    compress8(table, rest, (keep >> 8 & 255) as u8, into, half)
 }

@@ -7,7 +7,7 @@ ghost use Rattle.std.specs.Simd.Lanes.{mask_l, chunk};
 ghost use Rattle.memchr.specs.Find.{IsFirstByte, is_byte};
 ghost use Rattle.ptflow.specs.Private.Vectors.FindNth.{IsNth, IsNthResult};
 
-use ptlines::find_byte;
+use ptlines::{find_byte, find_in_chunk};
 use std::simd::prelude::*;
 
 // The match mask of a byte in the 64 bytes at index `at`: bit `i` is set if the byte at `at + i` is equal to it.
@@ -18,17 +18,6 @@ pub(crate) fn match_mask(byte: u8, bytes: &[u8], at: usize) -> u64
 {
     u8x64::from_slice(&bytes[at..])
         .simd_eq(u8x64::splat(byte))
-        .to_bitmask()
-}
-
-// Like `match_mask`, of the first 16 bytes.
-#[inline(always)]
-fn match_mask16(byte: u8, bytes: &[u8]) -> u64
-    requires { 16 ≤ length bytes.now }
-    ensures { result ≡ mask_l (map (is_byte byte) (chunk 0 16 bytes.now)) }
-{
-    u8x16::from_slice(bytes)
-        .simd_eq(u8x16::splat(byte))
         .to_bitmask()
 }
 
@@ -93,9 +82,7 @@ fn first_index(byte: u8, bytes: &[u8], to: usize) -> Option<usize>
     ensures { IsNthResult (is_byte byte) 0 (take to bytes.now) result }
 {
     if bytes.len() >= 16 {
-        let mask = match_mask16(byte, bytes);
-        if mask != 0 {
-            let index = nth_bit(mask, 0);
+        if let Some(index) = find_in_chunk::<16>(byte, bytes, 0) {
             return if index < to { Some(index) } else { None };
         }
     }
@@ -121,9 +108,9 @@ pub(crate) fn find_line_end(byte: u8, bytes: &[u8]) -> Option<usize>
     ensures { IsFirstByte (is_byte byte) bytes.now result }
 {
     if bytes.len() >= 64 {
-        let mask = match_mask(byte, bytes, 0);
-        if mask != 0 {
-            return Some(nth_bit(mask, 0));
+        let near = find_in_chunk::<64>(byte, bytes, 0);
+        if near.is_some() {
+            return near;
         }
     }
     find_byte(byte, bytes)

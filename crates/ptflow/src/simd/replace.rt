@@ -7,7 +7,7 @@ ghost use Rattle.memchr.specs.Find.{is_byte};
 ghost use Rattle.ptflow.specs.Private.Paste.SerialRest.{with_delimiter, with_cycle, ReplaceChunkPre, ReplacePre, CyclePosPre, IsCyclePosAfter, IsReplacedTo};
 
 use crate::simd::find_nth::match_mask;
-use crate::simd::shift::{ByteMap, map_chunks};
+use crate::simd::shift::{ByteMap, map_bytes};
 use std::simd::prelude::*;
 
 /// The map that replaces the line terminator by one delimiter.
@@ -32,16 +32,7 @@ pub(crate) fn replace_terminators(by: ReplaceTerminator, from: &[u8], to: &mut [
     requires { length to.old ≡ length from.now }
     ensures { to.new ≡ map (with_delimiter by) from.now }
 {
-    let mut at = map_chunks(by, from, to);
-    while at < from.len() {
-        let byte = from[at];
-        to[at] = if byte == by.terminator {
-            by.delim
-        } else {
-            byte
-        };
-        at += 1;
-    }
+    map_bytes(by, from, to);
 }
 
 // A position in the cycle of delimiters: how many terminators were replaced, and the index of the next delimiter in the

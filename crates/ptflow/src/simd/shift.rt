@@ -26,9 +26,9 @@ fn map_at<M: ByteMap>(by: M, v: u8x16, to: &mut [u8], at: usize)
     by.map16(v).copy_to_slice(&mut to[at..]);
 }
 
-/// Maps all but the last bytes, 32 at a time. Returns how many were mapped.
+// Maps all but the last bytes, 32 at a time. Returns how many were mapped.
 #[inline(always)]
-pub(crate) fn map_chunks<M: ByteMap>(by: M, from: &[u8], to: &mut [u8]) -> usize
+fn map_chunks<M: ByteMap>(by: M, from: &[u8], to: &mut [u8]) -> usize
     requires { length to.old ≡ length from.now }
     ensures { IsMappedTo result (M.map_byte by) from.now to.new }
 {
@@ -39,6 +39,19 @@ pub(crate) fn map_chunks<M: ByteMap>(by: M, from: &[u8], to: &mut [u8]) -> usize
         at += 32;
     }
     at
+}
+
+/// Stores the images of the bytes of `from` in `to`. Both slices have the same length.
+#[inline(always)]
+pub(crate) fn map_bytes<M: ByteMap>(by: M, from: &[u8], to: &mut [u8])
+    requires { length to.old ≡ length from.now }
+    ensures { to.new ≡ map (M.map_byte by) from.now }
+{
+    let mut at = map_chunks(by, from, to);
+    while at < from.len() {
+        to[at] = by.map16(u8x16::splat(from[at]))[0];
+        at += 1;
+    }
 }
 
 /// A range of bytes and its shift: the first byte, the distance of the last one from it, and the value to add.
@@ -119,28 +132,16 @@ impl<const N: usize> ByteMap for ShiftRanges<N> {
     }
 }
 
-// Maps all but the last bytes by the shifts, 32 at a time. Returns how many were mapped.
-fn translate_chunks(shifts: &Shifts, from: &[u8], to: &mut [u8]) -> usize
-    requires { length to.old ≡ length from.now }
-    ensures { IsMappedTo result (image_of_shifts shifts.now) from.now to.new }
-{
-    if shifts.stretch(1).is_none() {
-        return map_chunks(ShiftRanges::<1>::of(shifts), from, to);
-    }
-    if shifts.stretch(2).is_none() {
-        return map_chunks(ShiftRanges::<2>::of(shifts), from, to);
-    }
-    map_chunks(ShiftRanges::<4>::of(shifts), from, to)
-}
-
 /// Stores the images of the bytes of `from` by the shifts in `to`. Both slices have the same length.
 pub fn translate(shifts: &Shifts, from: &[u8], to: &mut [u8])
     requires { length to.old ≡ length from.now }
     ensures { to.new ≡ map (image_of_shifts shifts.now) from.now }
 {
-    let mut at = translate_chunks(shifts, from, to);
-    while at < from.len() {
-        to[at] = shifts.image(from[at]);
-        at += 1;
+    if shifts.stretch(1).is_none() {
+        return map_bytes(ShiftRanges::<1>::of(shifts), from, to);
     }
+    if shifts.stretch(2).is_none() {
+        return map_bytes(ShiftRanges::<2>::of(shifts), from, to);
+    }
+    map_bytes(ShiftRanges::<4>::of(shifts), from, to);
 }

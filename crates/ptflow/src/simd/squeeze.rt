@@ -7,46 +7,32 @@ ghost use Rattle.ptflow.specs.Private.Vectors.ByteSets.{set_has};
 ghost use Rattle.ptflow.specs.Private.Vectors.Compress.{ChunkPre, select_by};
 ghost use Rattle.ptflow.specs.Private.Tr.TrFrom.{SqueezePre, squeeze_from};
 
-use crate::simd::byte_set::{ByteSet, FlagSet};
-use crate::simd::compress::{Block, CompressTable, compress16, copy_chunk};
+use crate::simd::byte_set::FlagSet;
+use crate::simd::compress::{Block, OutBuf, compress16, copy_chunk};
 use std::simd::prelude::*;
 
 // Appends the bytes of a vector that are kept to the first `count` bytes of `into`. Returns the new count. `before` has
 // the byte before each byte.
 #[inline(always)]
-fn squeeze16(
-    set: ByteSet,
-    compress_table: &CompressTable,
-    before: u8x16,
-    bytes: u8x16,
-    into: &mut [u8; 8224],
-    count: usize,
-) -> usize
+fn squeeze16(by: FlagSet, before: u8x16, bytes: u8x16, into: &mut OutBuf, count: usize) -> usize
     requires { count ≤ 8200 }
     ensures squeezed { take result into.new
-        ≡ take count into.old ++ select_by (zip2 (λ a b. not ((a == b) && set_has set b)) before bytes) bytes }
+        ≡ take count into.old ++ select_by (zip2 (λ a b. not ((a == b) && set_has by.entry.set b)) before bytes) bytes }
     ensures end { result ≤ count + 16 }
 {
-    let removed = before.simd_eq(bytes) & set.test(bytes);
-    compress16(compress_table, bytes, (!removed).to_bitmask(), into, count)
+    let removed = before.simd_eq(bytes) & by.set.test(bytes);
+    compress16(by.table, bytes, (!removed).to_bitmask(), into, count)
 }
 
 // Appends those of the 64 bytes at index `at` that are kept. Returns the new count. If no byte is equal to the one
 // before it, which is tested first, or none is removed, the chunk is copied whole.
 #[inline(always)]
-fn squeeze64(
-    set: ByteSet,
-    compress_table: &CompressTable,
-    block: Block,
-    at: usize,
-    into: &mut [u8; 8224],
-    count: usize,
-) -> usize
+fn squeeze64(by: FlagSet, block: Block, at: usize, into: &mut OutBuf, count: usize) -> usize
     requires not_first { 0 < at }
     requires chunk { ChunkPre block.bytes.now at count }
     ensures squeezed { take result into.new
         ≡ take count into.old
-        ++ squeeze_after (set_has set) (slice_index block.entry.bytes.now (at - 1))
+        ++ squeeze_after (set_has by.entry.set) (slice_index block.entry.bytes.now (at - 1))
         (take 64 (drop at block.entry.bytes.now)) }
     ensures end { result ≤ count + 64 }
 {
@@ -68,18 +54,18 @@ fn squeeze64(
         copy_chunk(block, at, into, count);
         return count + 64;
     }
-    let removed = same_a & set.test(a)
-        | same_b & set.test(b)
-        | same_c & set.test(c)
-        | same_d & set.test(d);
+    let removed = same_a & by.set.test(a)
+        | same_b & by.set.test(b)
+        | same_c & by.set.test(c)
+        | same_d & by.set.test(d);
     if removed.to_bitmask() == 0 {
         copy_chunk(block, at, into, count);
         return count + 64;
     }
-    let first = squeeze16(set, compress_table, before_a, a, into, count);
-    let second = squeeze16(set, compress_table, before_b, b, into, first);
-    let third = squeeze16(set, compress_table, before_c, c, into, second);
-    squeeze16(set, compress_table, before_d, d, into, third)
+    let first = squeeze16(by, before_a, a, into, count);
+    let second = squeeze16(by, before_b, b, into, first);
+    let third = squeeze16(by, before_c, c, into, second);
+    squeeze16(by, before_d, d, into, third)
 }
 
 // Appends the bytes from index `start` on that are kept, byte by byte. Returns the new count.
@@ -88,7 +74,7 @@ fn squeeze_by_byte(
     by: FlagSet,
     block: Block,
     start: usize,
-    into: &mut [u8; 8224],
+    into: &mut OutBuf,
     count: usize,
 ) -> usize
     requires { SqueezePre block.bytes.now start count }
@@ -113,14 +99,7 @@ fn squeeze_by_byte(
 
 // Like `squeeze_by_byte`, but 16 bytes at a time up to the last 15 bytes.
 #[inline(always)]
-fn squeeze_tail(
-    by: FlagSet,
-    compress_table: &CompressTable,
-    block: Block,
-    start: usize,
-    into: &mut [u8; 8224],
-    count: usize,
-) -> usize
+fn squeeze_tail(by: FlagSet, block: Block, start: usize, into: &mut OutBuf, count: usize) -> usize
     requires { SqueezePre block.bytes.now start count }
     ensures squeezed { take result into.new
         ≡ take count into.old
@@ -129,13 +108,12 @@ fn squeeze_tail(
     ensures end { result ≤ length block.entry.bytes.now }
 {
     let from = block.bytes;
-    let set = by.set;
     let mut at = start;
     let mut count = count;
     while from.len() - at >= 16 {
         let before = u8x16::from_slice(&from[at - 1..]);
         let bytes = u8x16::from_slice(&from[at..]);
-        count = squeeze16(set, compress_table, before, bytes, into, count);
+        count = squeeze16(by, before, bytes, into, count);
         at += 16;
     }
     squeeze_by_byte(by, block, at, into, count)
@@ -144,20 +122,13 @@ fn squeeze_tail(
 /// Copies the bytes that are kept to the front of `into`. Returns how many they are. Repeats of the bytes whose flag is
 /// set are squeezed. `last` is the byte before the block, if there is one.
 #[inline(never)]
-pub(crate) fn squeeze_block(
-    by: FlagSet,
-    compress_table: &CompressTable,
-    last: Option<u8>,
-    from: &[u8],
-    into: &mut [u8; 8224],
-) -> usize
+pub(crate) fn squeeze_block(by: FlagSet, last: Option<u8>, from: &[u8], into: &mut OutBuf) -> usize
     requires { length from.now ≤ 8192 }
     ensures squeezed { take result into.new
         ≡ squeeze_from (λ b. slice_index_or by.entry.flags.now b false) last from.now }
     ensures within { result ≤ length from.now }
 {
     let block = Block { bytes: from };
-    let set = by.set;
     if from.is_empty() {
         return 0;
     }
@@ -167,8 +138,8 @@ pub(crate) fn squeeze_block(
     let mut count = usize::from(!repeats);
     let mut at = 1;
     while from.len() - at >= 64 {
-        count = squeeze64(set, compress_table, block, at, into, count);
+        count = squeeze64(by, block, at, into, count);
         at += 64;
     }
-    squeeze_tail(by, compress_table, block, at, into, count)
+    squeeze_tail(by, block, at, into, count)
 }

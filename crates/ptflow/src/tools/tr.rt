@@ -14,7 +14,7 @@ mod map_kind;
 use crate::block_loop::{BlockFilter, run_blocks};
 use crate::faults::FlowFault;
 use crate::simd::byte_set::{ByteSet, FlagSet};
-use crate::simd::compress::CompressTable;
+use crate::simd::compress::{CompressTable, OutBuf};
 use crate::simd::filter::filter_out;
 use crate::simd::squeeze::squeeze_block;
 use crate::tools::tr::map_kind::MapKind;
@@ -29,7 +29,7 @@ struct Translation<'a> {
     deleting: Option<ByteSet>,
     map_kind: MapKind,
     squeezing: Option<ByteSet>,
-    compress_table: CompressTable,
+    table: CompressTable,
     ghost is_deleting: { IsOptionalSet deleting plan.now.deleted } by { IsOptionalSet-prop deleting plan.now.deleted },
     ghost is_map_kind: { IsMapKind map_kind plan.now },
     ghost is_squeezing: { IsOptionalSet squeezing plan.now.squeezed } by { IsOptionalSet-prop squeezing plan.now.squeezed },
@@ -55,23 +55,21 @@ impl<'a> Translation<'a> {
             deleting: optional_set(plan.deleted()),
             map_kind: MapKind::of(plan),
             squeezing: optional_set(plan.squeezed()),
-            compress_table: CompressTable::new(),
+            table: CompressTable::new(),
         }
     }
 
     // The bytes of `block` that are not deleted, in `into`.
-    fn kept<'b>(&self, block: &'b [u8], into: &'b mut [u8; 8224]) -> &'b [u8]
+    fn kept<'b>(&self, block: &'b [u8], into: &'b mut OutBuf) -> &'b [u8]
         requires { length block.now ≤ 8192 }
         ensures kept { result.now ≡ filter (λ b. not (deletes self.now.plan.now b)) block.now }
         ensures within { length result.now ≤ length block.now }
     {
         match self.deleting {
             Some(set) => {
-                let removed = FlagSet {
-                    set,
-                    flags: self.plan.deleted(),
-                };
-                let count = filter_out(removed, &self.compress_table, block, into);
+                let flags = self.plan.deleted();
+                let table = &self.table;
+                let count = filter_out(FlagSet { set, flags, table }, block, into);
                 &into[..count]
             }
             None => block,
@@ -79,7 +77,7 @@ impl<'a> Translation<'a> {
     }
 
     // The images of `bytes`, in `into`.
-    fn mapped<'b>(&self, bytes: &'b [u8], into: &'b mut [u8; 8224]) -> &'b [u8]
+    fn mapped<'b>(&self, bytes: &'b [u8], into: &'b mut OutBuf) -> &'b [u8]
         requires { length bytes.now ≤ 8192 }
         ensures { result.now ≡ map (image self.now.plan.now) bytes.now }
     {
@@ -87,27 +85,21 @@ impl<'a> Translation<'a> {
             return bytes;
         }
         let images = &mut into[..bytes.len()];
-        let table = self.plan.images();
-        let mut at = self.map_kind.map_prefix(table, bytes, images);
-        while at < bytes.len() {
-            images[at] = table[usize::from(bytes[at])];
-            at += 1;
-        }
+        self.map_kind
+            .store_images(self.plan.images(), bytes, images);
         images
     }
 
     // The bytes that are left after squeezing, in `into`. `last` is the byte before `bytes`, if there is one.
-    fn squeezed<'b>(&self, last: Option<u8>, bytes: &'b [u8], into: &'b mut [u8; 8224]) -> &'b [u8]
+    fn squeezed<'b>(&self, last: Option<u8>, bytes: &'b [u8], into: &'b mut OutBuf) -> &'b [u8]
         requires { length bytes.now ≤ 8192 }
         ensures { result.now ≡ squeeze_from (squeezes self.now.plan.now) last bytes.now }
     {
         match self.squeezing {
             Some(set) => {
-                let by = FlagSet {
-                    set,
-                    flags: self.plan.squeezed(),
-                };
-                let count = squeeze_block(by, &self.compress_table, last, bytes, into);
+                let flags = self.plan.squeezed();
+                let table = &self.table;
+                let count = squeeze_block(FlagSet { set, flags, table }, last, bytes, into);
                 &into[..count]
             }
             None => bytes,
@@ -120,9 +112,9 @@ impl<'a> Translation<'a> {
 struct Translator<'a> {
     by: Translation<'a>,
     last: Option<u8>,
-    kept: [u8; 8224],
-    mapped: [u8; 8224],
-    squeezed: [u8; 8224],
+    kept: OutBuf,
+    mapped: OutBuf,
+    squeezed: OutBuf,
 }
 
 impl<'a> BlockFilter for Translator<'a> {

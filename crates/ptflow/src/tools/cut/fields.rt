@@ -8,6 +8,7 @@ ghost use Rattle.ptflow.specs.Cuts.{cut_fields, cut_lines, cut_tool};
 ghost use Rattle.ptflow.specs.Passes.{PassPost};
 ghost use Rattle.ptflow.specs.Private.Passes.LineLoop.{RunLinesPre};
 ghost use Rattle.ptflow.specs.Private.Cut.FieldOffsets.{fields, IsFieldStart, HasFirstDelimiter, FieldStartPre};
+ghost use Rattle.ptflow.specs.Private.Cut.FieldSlices.{remaining_fields, IsFieldCursor, IsNextSlice};
 ghost use Rattle.ptflow.specs.Private.Cut.CutFrom.{CopyLinesPost};
 
 use crate::faults::FlowFault;
@@ -21,6 +22,15 @@ use std::alloc::Allocator;
 
 // The output of the lines of a block, and 16 bytes more, which a short copy may change.
 type OutBuf = [u8; 8192 + 16];
+
+// A line, which is the first `to` bytes. Its first delimiter is at index `first`.
+#[derive(Clone, Copy)]
+struct DelimitedLine<'a> {
+    delimiter: u8,
+    first: usize,
+    bytes: &'a [u8],
+    to: usize,
+}
 
 // The index at which field `count`, counted from 0, starts in a line, which is the first `to` bytes. `None` if the line
 // has no such field.
@@ -42,31 +52,96 @@ fn field_start(delimiter: u8, bytes: &[u8], to: usize, count: u64) -> Option<usi
 }
 
 // Like `field_start`, but counts fields and bytes from index `from`, which is the line's start or is after its first
-// delimiter. That delimiter is at the known index `first` and is not searched again.
+// delimiter. That delimiter is not searched again.
 #[inline(always)]
-fn field_start_after(
-    delimiter: u8,
-    first: usize,
-    bytes: &[u8],
-    from: usize,
-    to: usize,
-    count: u64,
-) -> Option<usize>
-    requires { FieldStartPre delimiter bytes.now to first from }
-    ensures found { MatchOption result (length (fields delimiter (drop from (take to bytes.now))) ≤ count)
-        (IsFieldStart delimiter count (drop from (take to bytes.now))) }
-    ensures start { IfSome result (λ passed. from + passed ≤ first → from + passed ≡ 0) }
+fn field_start_after(line: &DelimitedLine, from: usize, count: u64) -> Option<usize>
+    requires { FieldStartPre line.now.delimiter line.now.bytes.now line.now.to line.now.first from }
+    ensures found { MatchOption result
+        (length (fields line.now.delimiter (drop from (take line.now.to line.now.bytes.now))) ≤ count)
+        (IsFieldStart line.now.delimiter count (drop from (take line.now.to line.now.bytes.now))) }
+    ensures start { IfSome result (λ passed. from + passed ≤ line.now.first → from + passed ≡ 0) }
 {
-    if count == 0 || from > first {
-        return field_start(delimiter, &bytes[from..], to - from, count);
+    if count == 0 || from > line.first {
+        return field_start(line.delimiter, &line.bytes[from..], line.to - from, count);
     }
-    let behind = first + 1;
-    let passed = field_start(delimiter, &bytes[behind..], to - behind, count - 1)?;
-    Some(behind + passed)
+    let after = line.first + 1;
+    let passed = field_start(
+        line.delimiter,
+        &line.bytes[after..],
+        line.to - after,
+        count - 1,
+    )?;
+    Some(after + passed)
 }
 
-// Pushes the selected fields of a line of any length. Its first delimiter is at index `first`. Adjacent fields are
-// pushed as one slice, which begins with the delimiter before them.
+// Where the fields of a line are that the intervals from `index` on select: field `number` starts at index `at`, and
+// `sep` delimiters belong to the next slice: one, unless it is the first.
+#[derive(Clone, Copy)]
+struct FieldCursor {
+    index: usize,
+    number: u64,
+    at: usize,
+    sep: usize,
+}
+
+const LINE_START: FieldCursor = FieldCursor {
+    index: 0,
+    number: 1,
+    at: 0,
+    sep: 0,
+};
+
+// A slice of a line, and where the fields after it are.
+#[derive(Clone, Copy)]
+struct FieldSlice {
+    start: usize,
+    end: usize,
+    next: FieldCursor,
+}
+
+// The next slice of the output for a line: adjacent fields, with the delimiter before them if they are not the first.
+#[inline(always)]
+fn next_slice(
+    line: &DelimitedLine,
+    selected: &[Interval],
+    cursor: FieldCursor,
+) -> Option<FieldSlice>
+    requires line { HasFirstDelimiter line.now.delimiter line.now.bytes.now line.now.to line.now.first }
+    requires cursor { IsFieldCursor selected.now (take line.now.to line.now.bytes.now) line.now.first cursor }
+    ensures { MatchOption result
+        (remaining_fields line.now.delimiter selected.now (take line.now.to line.now.bytes.now) cursor ≡ [])
+        (IsNextSlice line.now.delimiter selected.now (take line.now.to line.now.bytes.now) line.now.first cursor) }
+{
+    if cursor.index >= selected.len() {
+        return None;
+    }
+    let Interval { first, last } = selected[cursor.index];
+    let from = cursor.at + field_start_after(line, cursor.at, first - cursor.number)?;
+    let start = from - cursor.sep;
+    let slice = match field_start_after(line, from, last - first + 1) {
+        Some(passed) => FieldSlice {
+            start,
+            end: from + passed - 1,
+            next: FieldCursor {
+                index: cursor.index + 1,
+                number: last + 1,
+                at: from + passed,
+                sep: 1,
+            },
+        },
+        None => FieldSlice {
+            start,
+            end: line.to,
+            next: FieldCursor {
+                index: selected.len(),
+                ..LINE_START
+            },
+        },
+    };
+    Some(slice)
+}
+
+// Pushes the selected fields of a line of any length.
 fn write_fields<A: Allocator + Copy, W: Sink>(
     job: &CutJob<A>,
     first: usize,
@@ -79,25 +154,16 @@ fn write_fields<A: Allocator + Copy, W: Sink>(
     ensures fault { OnErr result (out.new.write_failed ≡ true) }
 {
     let selected = job.list.intervals();
-    let to = line.len();
-    // Field `number` starts at index `at`, and `sep` delimiters belong to the next slice: one, unless it is the first.
-    let mut number = 1;
-    let mut at = 0;
-    let mut sep = 0;
-    for interval in selected {
-        let Interval { first: low, last } = *interval;
-        let Some(skipped) = field_start_after(job.delim, first, line, at, to, low - number) else {
-            return Ok(());
-        };
-        let from = at + skipped;
-        let Some(passed) = field_start_after(job.delim, first, line, from, to, last - low + 1)
-        else {
-            return out.push(&line[from - sep..]);
-        };
-        at = from + passed;
-        out.push(&line[from - sep..at - 1])?;
-        number = last + 1;
-        sep = 1;
+    let fields = DelimitedLine {
+        delimiter: job.delim,
+        first,
+        bytes: line,
+        to: line.len(),
+    };
+    let mut cursor = LINE_START;
+    'slices: while let Some(slice) = next_slice(&fields, selected, cursor) {
+        out.push(&line[slice.start..slice.end])?;
+        cursor = slice.next;
     }
     Ok(())
 }
@@ -133,50 +199,32 @@ fn write_line<A: Allocator + Copy, W: Sink>(
     out.push(&[by.terminator])
 }
 
-// Copies the selected fields of a line, which is the first `to` bytes, and its terminator, which is the byte after
-// them, to index `start` of `room`. The line's first delimiter is at index `first`. Returns the index after the copied
-// bytes.
+// Copies the selected fields of a line and its terminator, which is the byte after it, to index `start` of `room`.
+// Returns the index after the copied bytes.
 #[inline(always)]
 fn copy_fields<A: Allocator + Copy>(
     job: &CutJob<A>,
-    first: usize,
-    bytes: &[u8],
-    to: usize,
+    line: DelimitedLine,
     room: &mut [u8],
     start: usize,
 ) -> usize
-    requires line { HasFirstDelimiter job.now.delim bytes.now to first }
-    requires room { (to < length bytes.now) × (start + to + 17 ≤ length room.old) }
+    requires line { HasFirstDelimiter line.delimiter line.bytes.now line.to line.first }
+    requires delimiter { line.delimiter ≡ job.now.delim }
+    requires room { (line.to < length line.bytes.now) × (start + line.to + 17 ≤ length room.old) }
     ensures long { length room.new ≡ length room.old }
     ensures put { take result room.new ≡ take start room.old
-        ++ (cut_fields (cut_job job.now) (take to bytes.now) ++ take 1 (drop to bytes.now)) }
-    ensures end { (start ≤ result) × (result ≤ start + to + 1) }
+        ++ (cut_fields (cut_job job.now) (take line.entry.to line.entry.bytes.now) ++ take 1 (drop line.entry.to line.entry.bytes.now)) }
+    ensures end { (start ≤ result) × (result ≤ start + line.entry.to + 1) }
 {
     let selected = job.list.intervals();
-    let delimiter = job.delim;
-    let mut number = 1;
-    let mut at = 0;
-    let mut sep = 0;
+    let mut cursor = LINE_START;
     let mut end = start;
-    for interval in selected {
-        let Interval { first: low, last } = *interval;
-        let Some(skipped) = field_start_after(delimiter, first, bytes, at, to, low - number) else {
-            room[end] = bytes[to];
-            return end + 1;
-        };
-        let from = at + skipped;
-        let Some(passed) = field_start_after(delimiter, first, bytes, from, to, last - low + 1)
-        else {
-            copy_short(bytes, from - sep, to + 1, room, end);
-            return end + (to + 1 - (from - sep));
-        };
-        at = from + passed;
-        copy_short(bytes, from - sep, at - 1, room, end);
-        end += at - 1 - (from - sep);
-        number = last + 1;
-        sep = 1;
+    'slices: while let Some(slice) = next_slice(&line, selected, cursor) {
+        copy_short(line.bytes, slice.start, slice.end, room, end);
+        end += slice.end - slice.start;
+        cursor = slice.next;
     }
-    room[end] = bytes[to];
+    room[end] = line.bytes[line.to];
     end + 1
 }
 
@@ -218,7 +266,13 @@ fn copy_lines<A: Allocator + Copy>(
     let FieldCut { job, terminator } = *by;
     let first = find_byte(job.delim, bytes).unwrap_or(bytes.len());
     if first < to {
-        return (to + 1, copy_fields(job, first, bytes, to, room, start));
+        let line = DelimitedLine {
+            delimiter: job.delim,
+            first,
+            bytes,
+            to,
+        };
+        return (to + 1, copy_fields(job, line, room, start));
     }
     let size = whole_lines_len(terminator, bytes, to, first);
     if job.only {

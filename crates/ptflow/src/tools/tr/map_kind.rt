@@ -1,11 +1,10 @@
 //! The ways to compute the images of bytes for `tr`, with vectors if the plan allows it.
 
-ghost use Rattle.std.specs.Prelude.{◌≡◌, ◌<◌, ℕ, IfSome, length, slice_index};
-ghost use Rattle.ptflow.specs.Private.Vectors.Shift.{IsMappedTo};
+ghost use Rattle.std.specs.Prelude.{◌≡◌, ◌<◌, ℕ, IfSome, length, map, slice_index};
 ghost use Rattle.ptflow.specs.Private.Tr.MapKinds.{IsMapKind, set_to_byte, image_of_kind};
 
 use crate::simd::byte_set::ByteSet;
-use crate::simd::shift::{ByteMap, map_chunks, translate};
+use crate::simd::shift::{ByteMap, map_bytes, translate};
 use crate::simd::table::{TableMap, Window, moved_span};
 use ptlangs::{CharPlan, Shifts};
 use std::simd::prelude::*;
@@ -82,27 +81,19 @@ impl MapKind {
         }
     }
 
-    /// Stores the images of the first bytes of `from` in `to`, all that can be mapped with vectors. Returns how many
-    /// they are. `images` is the plan's table. Both slices have the same length.
-    pub(crate) fn map_prefix(&self, images: &[u8; 256], from: &[u8], to: &mut [u8]) -> usize
+    /// Stores the images of the bytes of `from` in `to`. `images` is the plan's table. Both slices have the same length.
+    pub(crate) fn store_images(&self, images: &[u8; 256], from: &[u8], to: &mut [u8])
         requires { length to.old ≡ length from.now }
-        ensures { IsMappedTo result (image_of_kind self.now images.now) from.now to.new }
+        ensures { to.new ≡ map (image_of_kind self.now images.now) from.now }
     {
         match self {
-            MapKind::Identity => 0,
-            MapKind::Shifts(shifts) => {
-                translate(shifts, from, to);
-                from.len()
+            MapKind::Identity => to.copy_from_slice(from),
+            MapKind::Shifts(shifts) => translate(shifts, from, to),
+            MapKind::SetToByte(set_map) => map_bytes(*set_map, from, to),
+            MapKind::Table(window) => {
+                let window = *window;
+                map_bytes(TableMap { images, window }, from, to);
             }
-            MapKind::SetToByte(set_map) => map_chunks(*set_map, from, to),
-            MapKind::Table(window) => map_chunks(
-                TableMap {
-                    images,
-                    window: *window,
-                },
-                from,
-                to,
-            ),
         }
     }
 }

@@ -7,8 +7,8 @@ use Rattle.ptflow.proofs.simd.compress.compress8.Goals as goal
 pub swizzle : goal.swizzle
 swizzle c =
     let keep = c.from.result in
-    let row = slice_index_or c.args.compress_table.now.rows keep [] in
-    let is : IsCompressRow (flags_of 8 keep) row = row_of_mask c.args.compress_table.now.rows keep c.args.compress_table.now.is_table (omega arith) in
+    let row = slice_index_or c.args.table.now.rows keep [] in
+    let is : IsCompressRow (flags_of 8 keep) row = row_of_mask c.args.table.now.rows keep c.args.table.now.is_table (omega arith) in
     SwzOk-from_below w8 16 1 16 0 row refl (omega arith) (row_lanes is)
 
 pub returns-clause-packed : goal.returns-clause-packed
@@ -16,8 +16,8 @@ returns-clause-packed c flags long masked =
     let at = c.args.at in
     let into = c.args.into.now in
     let v = c.args.v in
-    let row = slice_index_or c.args.compress_table.now.rows c.from.result [] in
-    let is : IsCompressRow flags row = subst (λ m. IsCompressRow flags (slice_index_or c.args.compress_table.now.rows m [])) (sym (cc)) (c.args.compress_table.now.is_table flags long) in
+    let row = slice_index_or c.args.table.now.rows c.from.result [] in
+    let is : IsCompressRow flags row = subst (λ m. IsCompressRow flags (slice_index_or c.args.table.now.rows m [])) (sym (cc)) (c.args.table.now.is_table flags long) in
     let lanes = swz_l w8 16 v 0 row in
     cc (
       selected_stored at (count_ones c.args.keep) into lanes (length-swz_l w8 16 v 0 row ∙ is.long)

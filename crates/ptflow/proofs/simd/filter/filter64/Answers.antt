@@ -7,7 +7,7 @@ pub returns-then-removed-eq0-clause-kept : goal.returns-then-removed-eq0-clause-
 returns-then-removed-eq0-clause-kept c =
     let at = c.args.at in
     let from = c.args.block.bytes.now in
-    let test = set_has c.args.set in
+    let test = set_has c.args.by.set in
     let bytes = map (cast_unsigned w8) in
     let lanes = λ (k : ℕ). lanes_of_mask test (chunk k 16 from) in
     let none = none_of_four (λ k. map test (chunk k 16 from)) at
@@ -18,5 +18,5 @@ returns-then-removed-eq0-clause-kept c =
 
 pub returns-clause-kept : goal.returns-clause-kept
 returns-clause-kept c =
-    kept_after (λ b. not (set_has c.args.set b)) (take c.args.count c.args.into.now) c.args.at c.args.block.bytes.now
+    kept_after (λ b. not (set_has c.args.by.set b)) (take c.args.count c.args.into.now) c.args.at c.args.block.bytes.now
     c.filter16-first.ensures.kept c.filter16-second.ensures.kept c.filter16-third.ensures.kept c.filter16.ensures.kept

@@ -9,7 +9,7 @@ pub returns-then-same-eq0-clause-squeezed : goal.returns-then-same-eq0-clause-sq
 returns-then-same-eq0-clause-squeezed c =
     let at = c.args.at in
     let from = c.args.block.bytes.now in
-    let test = set_has c.args.set in
+    let test = set_has c.args.by.set in
     let lanes = λ (k : ℕ). same_lanes (chunk (k - 1) 16 from) (chunk k 16 from) in
     let same = none_of_four (λ k. same_flags k from) at (long_flags test from c.requires.not_first c.requires.chunk.lanes eqb)
     (lanes at) (lanes (at + 16)) (lanes (at + 32)) (lanes (at + 48)) c.if-same-eq0.true in
@@ -21,7 +21,7 @@ pub returns-then-removed-eq0-clause-squeezed : goal.returns-then-removed-eq0-cla
 returns-then-removed-eq0-clause-squeezed c =
     let at = c.args.at in
     let from = c.args.block.bytes.now in
-    let test = set_has c.args.set in
+    let test = set_has c.args.by.set in
     let same = λ (k : ℕ) (v : List ℤ). zip2 bit_and (zip2 (λ a b. cond (eqb a b) 255 0) (chunk (k - 1) 16 from) (chunk k 16 from)) (map (cast_unsigned w8) v) in
     let lanes = λ (k : ℕ). removed_lanes test (chunk (k - 1) 16 from) (chunk k 16 from) in
     let none = none_of_four (λ k. removed_flags test k from) at (long_flags test from c.requires.not_first c.requires.chunk.lanes (λ a b. eqb a b && test b))
@@ -31,5 +31,5 @@ returns-then-removed-eq0-clause-squeezed c =
 
 pub returns-clause-squeezed : goal.returns-clause-squeezed
 returns-clause-squeezed c =
-    stays_after (set_has c.args.set) c.args.block.bytes.now c.requires.not_first c.requires.chunk.lanes (take c.args.count c.args.into.now)
+    stays_after (set_has c.args.by.set) c.args.block.bytes.now c.requires.not_first c.requires.chunk.lanes (take c.args.count c.args.into.now)
     c.squeeze16-first.ensures.squeezed c.squeeze16-second.ensures.squeezed c.squeeze16-third.ensures.squeezed c.squeeze16.ensures.squeezed

@@ -5,7 +5,7 @@ use Rattle.ptflow.proofs.tools.cut.bytes.cut_block.Goals as goal
 
 pub loop-from-preserved-then-mask-eq0 : goal.loop-from-preserved-then-mask-eq0
 loop-from-preserved-then-mask-eq0 c =
-    let p = is_byte c.args.terminator in
+    let p = is_byte c.args.by.now.terminator in
     let loop = c.loop-from in
     let none = ap count_ones c.if-mask-eq0.true ∙ ones-mask_l p [] in
     let counted = ap count_ones c.match_mask-mask.ensures ∙ ones-mask_l p (chunk loop.from 64 c.args.block.now) in record {

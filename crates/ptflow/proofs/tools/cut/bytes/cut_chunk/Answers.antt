@@ -10,7 +10,7 @@ use Rattle.ptflow.proofs.tools.cut.bytes.cut_chunk.Goals.{In-loop-end}
 
 pub returns-then-cursor-eq0-clause-on : goal.returns-then-cursor-eq0-clause-on
 returns-then-cursor-eq0-clause-on c =
-    let end = c.args.terminator in
+    let end = c.args.by.now.terminator in
     let list = c.args.by.now.selected.now in
     let block = c.args.block.now in
     let cursor = c.args.cursor in
@@ -25,19 +25,19 @@ returns-then-cursor-eq0-clause-on c =
       near = omega arith;
     }
 
-next : (c : In-loop-end) → NextTerminator c.args.terminator c.args.block.now c.args.from c.loop-end._end (count_trailing_zeros 64 c.loop-end.mask) c.loop-end.cursor.start
+next : (c : In-loop-end) → NextTerminator c.args.by.now.terminator c.args.block.now c.args.from c.loop-end._end (count_trailing_zeros 64 c.loop-end.mask) c.loop-end.cursor.start
 next c = next_terminator c.loop-end._end c.loop-end.cursor.start c.requires.ends (omega arith) c.loop-end.invariant.bits c.loop-end.invariant.ends
 
-pub overflow_sub-end : goal.overflow_sub-end
-overflow_sub-end c = (next (goal.at.overflow_sub-end c).In-loop-end).order
+pub overflow_sub-part : goal.overflow_sub-part
+overflow_sub-part c = (next (goal.at.overflow_sub-part c).In-loop-end).order
 
-pub copy_line-at-requires-clause-within : goal.copy_line-at-requires-clause-within
-copy_line-at-requires-clause-within c =
-    let e = next (goal.at.copy_line-at-requires-clause-within c).In-loop-end in omega (arith, length-drop c.loop-end.cursor.start c.args.block.now)
+pub copy_line-requires-clause-within : goal.copy_line-requires-clause-within
+copy_line-requires-clause-within c =
+    let e = next (goal.at.copy_line-requires-clause-within c).In-loop-end in omega (arith, length-drop c.loop-end.cursor.start c.args.block.now)
 
-pub copy_line-at-requires-clause-room : goal.copy_line-at-requires-clause-room
-copy_line-at-requires-clause-room c =
-    let e = next (goal.at.copy_line-at-requires-clause-room c).In-loop-end in record { short = omega arith; small = omega arith }
+pub copy_line-requires-clause-room : goal.copy_line-requires-clause-room
+copy_line-requires-clause-room c =
+    let e = next (goal.at.copy_line-requires-clause-room c).In-loop-end in record { short = omega arith; small = omega arith }
 
 pub loop-end-preserved : goal.loop-end-preserved
 loop-end-preserved c =
@@ -51,13 +51,13 @@ loop-end-preserved c =
     let behind : s + (at - s + 1) ≡ at + 1 = omega arith in
     let left : drop (at - s + 1) (drop s block) ≡ drop (at + 1) block = cc (drop-drop (at - s + 1) s block) in
     record {
-      bits = rw (← turn) (cleared l._end (map (is_byte c.args.terminator) (chunk c.args.from 64 block)) l.auto.mask-fits.fits l.invariant.bits);
+      bits = rw (← turn) (cleared l._end (map (is_byte c.args.by.now.terminator) (chunk c.args.from 64 block)) l.auto.mask-fits.fits l.invariant.bits);
       within = omega arith;
       ends = e.counted;
       on = record {
-        cut = cut_next c.args.terminator list _ l.cursor.line_offset 0 _ (drop s block) (drop (at + 1) block) _ (take l.cursor.at l.into)
-            (cut_piece list l.cursor.line_offset (at - s) (take (at - s + 1) (drop s block))) l.invariant.on.cut (rw take_rest at c.copy_line-at.ensures.copied)
-            (rw (← left) (line_on c.args.terminator (drop s block) (at - s) e.first (is_selected list) l.cursor.line_offset));
+        cut = cut_next c.args.by.now.terminator list _ l.cursor.line_offset 0 _ (drop s block) (drop (at + 1) block) _ (take l.cursor.at l.into)
+            (cut_piece list l.cursor.line_offset (at - s) (take (at - s + 1) (drop s block))) l.invariant.on.cut (rw take_rest at c.copy_line.ensures.copied)
+            (rw (← left) (line_on c.args.by.now.terminator (drop s block) (at - s) e.first (is_selected list) l.cursor.line_offset));
         bound = omega arith;
         near = omega arith;
       };
@@ -67,6 +67,6 @@ loop-end-preserved c =
 pub returns-clause-passed : goal.returns-clause-passed
 returns-clause-passed c =
     let bytes = chunk c.args.from 64 c.args.block.now in
-    let counted = ap count_ones c.requires.ends.is ∙ ones-mask_l (is_byte c.args.terminator) bytes in
-    let some = some_counted (is_byte c.args.terminator) bytes bytes (rw c.requires.ends.is at c.requires.ends.some) in
+    let counted = ap count_ones c.requires.ends.is ∙ ones-mask_l (is_byte c.args.by.now.terminator) bytes in
+    let some = some_counted (is_byte c.args.by.now.terminator) bytes bytes (rw c.requires.ends.is at c.requires.ends.some) in
     (c.loop-end.invariant.passed (omega arith), c.loop-end.invariant.within)

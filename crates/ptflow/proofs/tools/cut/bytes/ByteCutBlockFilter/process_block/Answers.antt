@@ -13,7 +13,7 @@ returns-in_err-push-clause-halts g c =
       wrote = c.push.ensures.pushed.wrote;
       fault = c.in_err-push.ensures.pushed.fault;
       is_prefix = λ more. record {
-        rest = cut_list_from tool.terminator tool.by.selected.now made.result.1 more;
+        rest = cut_list_from tool.by.terminator tool.by.selected.now made.result.1 more;
         is = made.ensures.cut more;
       };
     })

@@ -1,0 +1,9 @@
+-- The images of the bytes so far were stored.
+use Rattle.ptflow.proofs.Common.{length, ◌-◌, IsMappedTo}
+use Rattle.ptflow.proofs.simd.shift.map_bytes.Given as goal
+
+abbrev pub invariant-loop-at : goal.invariant-loop-at
+invariant-loop-at g l = IsMappedTo l.at (g.M.ByteMap.map_byte l.by) l.from l.to
+
+abbrev pub decreases-loop-at : goal.decreases-loop-at
+decreases-loop-at g l = length l.from - l.at
