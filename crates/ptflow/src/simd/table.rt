@@ -90,6 +90,8 @@ pub(crate) fn moved_span(images: &[u8; 256]) -> (u8, u8)
 /// A part of the 256 bytes.
 #[derive(Clone, Copy)]
 pub(crate) enum Window {
+    /// The eighth that contains this byte.
+    Eighth(u8),
     /// The quarter that contains this byte.
     Quarter(u8),
     /// The half that contains this byte.
@@ -104,7 +106,9 @@ impl Window {
         ensures { (images : List ℕ) → IsSameOutside first last images
             → (b : ℕ) → b < 256 → image_by_window result images b ≡ slice_index images b }
     {
-        if first / 64 == last / 64 {
+        if first / 32 == last / 32 {
+            Window::Eighth(first)
+        } else if first / 64 == last / 64 {
             Window::Quarter(first)
         } else if first / 128 == last / 128 {
             Window::Half(first)
@@ -128,6 +132,10 @@ impl ByteMap for TableMap<'_> {
     fn map16(self, v: u8x16) -> u8x16 {
         let table = self.images;
         match self.window {
+            Window::Eighth(byte) => {
+                let index = byte / 32;
+                select_window(v, 5, index, look_up_32(table, 32 * usize::from(index), v))
+            }
             Window::Quarter(byte) => {
                 let index = byte / 64;
                 select_window(v, 6, index, look_up_64(table, 64 * usize::from(index), v))

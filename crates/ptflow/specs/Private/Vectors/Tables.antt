@@ -1,7 +1,7 @@
 -- Byte maps as tables of 256 images.
 use Rattle.std.specs.Prelude.{◌≡◌, ◌<◌, ◌⊎◌, ℕ, ◌+◌, ◌/◌, ◌%◌, ◌^◌, List, nat_eq, slice_index, if◌then◌else◌}
 use Rattle.ptflow.specs.declared.simd.table.Window.{Window}
-use Rattle.ptflow.specs.declared.simd.table.Window.TheVariants.{Quarter, Half, Whole}
+use Rattle.ptflow.specs.declared.simd.table.Window.TheVariants.{Eighth, Quarter, Half, Whole}
 
 -- the entry of a byte among `width` entries of a table that begin at `start`
 abbrev pub entry_of : List ℕ → ℕ → ℕ → ℕ → ℕ
@@ -13,6 +13,7 @@ image_in bits index table b = if nat_eq (b / 2 ^ bits) index then slice_index ta
 
 -- the image of a byte, if it is in a window; any other byte stays as it is
 abbrev pub image_by_window : Window → List ℕ → ℕ → ℕ
+image_by_window (Eighth byte) table b = image_in 5 (byte / 32) table b
 image_by_window (Quarter byte) table b = image_in 6 (byte / 64) table b
 image_by_window (Half byte) table b = image_in 7 (byte / 128) table b
 image_by_window Whole table b = slice_index table b
