@@ -81,18 +81,6 @@ impl CharClass {
         )
     }
 
-    /// The number of bytes in the class.
-    pub(crate) fn len(self) -> u128
-        ensures { result ≡ length (class_bytes self) }
-    {
-        let ranges = self.ranges();
-        let mut count = 0;
-        for &(first, last) in ranges {
-            count += span_len(first, last);
-        }
-        count
-    }
-
     /// The byte of the class with this index, in ascending order, or `None` past its end.
     pub(crate) fn get(self, index: u128) -> Option<u8>
         ensures { result ≡ slice_get (class_bytes self) index }
