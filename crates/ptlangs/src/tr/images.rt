@@ -29,8 +29,9 @@ fn classes_match(from: Option<CharClass>, to: Option<CharClass>) -> bool
 {
     match (from, to) {
         (_, None) => true,
-        (Some(from), Some(to)) => from.is_other_case(to),
-        (None, Some(_)) => false,
+        (Some(CharClass::Lower), Some(CharClass::Upper)) => true,
+        (Some(CharClass::Upper), Some(CharClass::Lower)) => true,
+        _ => false,
     }
 }
 
@@ -38,11 +39,7 @@ fn classes_match(from: Option<CharClass>, to: Option<CharClass>) -> bool
 pub(crate) fn identity() -> [u8; 256]
     ensures { (to : List ℕ) → result ≡ map (image_by [] to) all_bytes }
 {
-    let mut table = [0; 256];
-    for (byte, entry) in table.iter_mut().enumerate() {
-        *entry = byte as u8;
-    }
-    table
+    std::array::from_fn(|byte| byte as u8)
 }
 
 impl<'a> Images<'a> {

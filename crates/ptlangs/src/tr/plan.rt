@@ -38,10 +38,7 @@ impl Form {
     pub fn takes_second(self) -> bool
         ensures { result ≡ takes_second self }
     {
-        match self {
-            Form::Translate | Form::TranslateSqueeze | Form::DeleteSqueeze => true,
-            Form::Squeeze | Form::Delete => false,
-        }
+        !matches!(self, Form::Squeeze | Form::Delete)
     }
 
     /// The role of the second string.

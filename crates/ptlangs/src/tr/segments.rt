@@ -1,7 +1,7 @@
 //! The segments of the array that a string of `tr` denotes, one for each element of the string. `bytes` iterates over
 //! their bytes, so that no array is kept in memory.
 ghost use Rattle.std.specs.Prelude.{◌≡◌, ◌+◌, ◌^◌, ◌<◌, ◌≤◌, length, replicate, slice_get, IfOk, IfSome};
-ghost use Rattle.ptlangs.specs.TrPlan.{segment, repeat_segment, is_fill, members};
+ghost use Rattle.ptlangs.specs.TrPlan.{segment, is_fill, members};
 ghost use Rattle.ptlangs.specs.TrParsing.{class_of, marked_members};
 
 use crate::faults::SetFaultKind;
@@ -39,18 +39,6 @@ pub(crate) enum Segment {
     Fill(u8),
 }
 
-/// The segment of a repeat with this count. `has_fill` says whether a fill came before.
-fn repeat(has_fill: bool, byte: u8, count: Option<u16>) -> Result<Segment, SetFaultKind>
-    ensures { result ≡ repeat_segment has_fill byte count }
-{
-    match count {
-        None => Err(SetFaultKind::RepeatSize),
-        Some(0) if has_fill => Err(SetFaultKind::SecondFill),
-        Some(0) => Ok(Segment::Fill(byte)),
-        Some(count) => Ok(Segment::Repeat(byte, count)),
-    }
-}
-
 impl Segment {
     /// The segment of an element. `has_fill` says whether a fill came before.
     #[tactic(auto, using(crate::proofs::TrByteRanges::member_steps))]
@@ -70,7 +58,10 @@ impl Segment {
             (SetElement::Equivalence(_), SetRole::Images) => Err(SetFaultKind::EquivPlace),
             (SetElement::Equivalence(byte), _) => Ok(Segment::Range(byte, byte)),
             (SetElement::Repeat(_, _), SetRole::First) => Err(SetFaultKind::RepeatPlace),
-            (SetElement::Repeat(byte, count), _) => repeat(has_fill, byte, count),
+            (SetElement::Repeat(_, None), _) => Err(SetFaultKind::RepeatSize),
+            (SetElement::Repeat(_, Some(0)), _) if has_fill => Err(SetFaultKind::SecondFill),
+            (SetElement::Repeat(byte, Some(0)), _) => Ok(Segment::Fill(byte)),
+            (SetElement::Repeat(byte, Some(count)), _) => Ok(Segment::Repeat(byte, count)),
         }
     }
 
