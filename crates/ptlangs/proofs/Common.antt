@@ -34,7 +34,6 @@ pub use Rattle.ptlangs.specs.TrElements.{bracketed_inside, single_or_range, char
 pub use Rattle.ptlangs.specs.TrPlan.{FirstFaultIsReported, FirstFault, LaterFault, NoMemoryFault, NoElement, NoSegment, Plan, array, class_offsets, sequence, complement_of, fill_count, first_array, padded_to}
 pub use Rattle.ptlangs.specs.TrPlan.{has_byte, image_by, image_of, in_string, is_deleted, is_fill, are_paired, is_squeezed, last_position, next_index_or, has_valid_classes, members, segment, segments, segments_of, plan}
 pub use Rattle.ptlangs.specs.TrPlan.{plan_from, plan_of, plan_with, repeat_segment, second_role, second_plan, has_other_case_at, string_segments, takes_second}
-pub use Rattle.ptlangs.specs.TrParsing.{AppendPost, segments_left, last_positions}
 pub use Rattle.ptlangs.specs.TrShifts.{shift_at, prepend_shift, shift_of, image_of_shifts, stretches_from}
 pub use Rattle.ptlangs.specs.TrTables.{Tables, tables}
 pub use Rattle.ptlangs.specs.TrChars.{ALargeOctal, ALoneBackslash, APlainByte, AChar, AnEscape, AnOctal, IsOctalRun, NoChar, OneDigit, SpellsChar, SpellsChars, ThreeDigits, TwoDigits, CharsMatchGrammar}
@@ -50,7 +49,6 @@ pub use Rattle.ptlangs.specs.declared.tr.segments.Segment.{Segment}
 pub use Rattle.ptlangs.specs.declared.tr.segments.Segment.TheVariants.{Fill, Repeat}
 pub use Rattle.ptlangs.specs.declared.tr.segments.SetRole.{SetRole}
 pub use Rattle.ptlangs.specs.declared.tr.segments.SetRole.TheVariants.{First, Images, Squeezed}
-pub use Rattle.ptlangs.specs.declared.tr.last_index.LastIndex.{LastIndex}
 pub use Rattle.ptlangs.specs.declared.tr.plan.Form.{Form}
 pub use Rattle.ptlangs.specs.declared.tr.plan.Form.TheVariants.{Delete, DeleteSqueeze, Squeeze, Translate, TranslateSqueeze}
 pub use Rattle.ptlangs.specs.declared.ranges.Interval.{Interval}

@@ -6,8 +6,9 @@ pub mod OutGrammar
 pub mod TrPlainRuns
 pub mod TrCharGrammar
 pub mod TrElementGrammar
-pub mod TrLastIndex
-pub mod TrSegmentWalk
+pub mod TrContents
+pub mod TrByteWalk
+pub mod TrImages
 pub mod TrByteRanges
 pub mod TrShifts
 pub mod TrPlans

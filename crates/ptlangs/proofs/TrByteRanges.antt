@@ -4,7 +4,8 @@ use Rattle.ptlangs.proofs.Common.{◌≡◌, ◌<◌, ◌≤◌, ◌+◌, ◌-�
 use Rattle.ptlangs.proofs.Common.{drop_more, length-append, length-replicate, length-range_with_len, CharClass, span, range_bytes, class_bytes, get_or-replicate}
 use Rattle.std.proofs.Math.ListN.{get_or}
 use Rattle.std.proofs.lemmas.List.FromFn.{get_or-range_with_len}
-use Rattle.std.proofs.lemmas.Option.{slice_get-get_or, slice_get_past}
+use Rattle.std.proofs.lemmas.Option.{slice_get-get_or, slice_get_past, slice_get_within}
+use Rattle.std.specs.Prelude.{◌^◌, IfSome}
 use Rattle.ptlangs.specs.declared.tr.classes.CharClass.TheVariants.{Alnum, Alpha, Blank, Cntrl, Digit, Graph, Lower, Print, Punct, Space, Upper, Xdigit}
 
 pub slice_get-left : {X : Type 0} (xs ys : List X) (i : ℕ) → i < length xs → slice_get (xs ++ ys) i ≡ slice_get xs i
@@ -49,13 +50,6 @@ ranges_next rs i left count d h e past =
     sym (slice_get-right (range_bytes (get_or rs i d)) (flat_map range_bytes (drop (i + 1) rs)) left (left - count) (omega arith))
     ∙ ap (λ xs. slice_get (flat_map range_bytes xs) left) (sym (drop_more rs i d h))
 
-pub length-ranges : (rs : List (ℕ × ℕ)) (i : ℕ) (d : ℕ × ℕ) → i < length rs
-    → length (flat_map range_bytes (take i rs)) + length (range_bytes (get_or rs i d)) ≤ length (flat_map range_bytes rs)
-length-ranges [] i d h = absurd (omega arith)
-length-ranges (r ∷ rs) zero d h = omega (arith, length-append (range_bytes r) (flat_map range_bytes rs))
-length-ranges (r ∷ rs) (suc i) d h =
-    omega (arith, length-ranges rs i d (omega arith), length-append (range_bytes r) (flat_map range_bytes rs), length-append (range_bytes r) (flat_map range_bytes (take i rs)))
-
 pub class_bytes-short : (class : CharClass) → length (class_bytes class) ≤ 256
 class_bytes-short Alnum = lit≤ tt
 class_bytes-short Alpha = lit≤ tt
@@ -69,6 +63,25 @@ class_bytes-short Punct = lit≤ tt
 class_bytes-short Space = lit≤ tt
 class_bytes-short Upper = lit≤ tt
 class_bytes-short Xdigit = lit≤ tt
+
+pub class_bytes-some : (class : CharClass) → 0 < length (class_bytes class)
+class_bytes-some Alnum = lit≤ tt
+class_bytes-some Alpha = lit≤ tt
+class_bytes-some Blank = lit≤ tt
+class_bytes-some Cntrl = lit≤ tt
+class_bytes-some Digit = lit≤ tt
+class_bytes-some Graph = lit≤ tt
+class_bytes-some Lower = lit≤ tt
+class_bytes-some Print = lit≤ tt
+class_bytes-some Punct = lit≤ tt
+class_bytes-some Space = lit≤ tt
+class_bytes-some Upper = lit≤ tt
+class_bytes-some Xdigit = lit≤ tt
+
+-- an index within a list that is no longer than a number of 128 bits can be counted up
+pub room : (bytes : List ℕ) (i : ℕ) (found : Option ℕ) → found ≡ slice_get bytes i → length bytes < 2 ^ 128 → IfSome found (λ _. i + 1 < 2 ^ 128)
+room bytes i None e h = tt
+room bytes i (Some b) e h = omega (arith, slice_get_within bytes i b (sym e), h)
 
 -- ---- copies of one byte
 

@@ -1,17 +1,21 @@
 -- The plan of two strings, step by step, and its tables. Reading never fails for lack of memory: no character, no
 -- element and no segment has that fault.
-use Rattle.ptlangs.proofs.Common.{◌≡◌, Bool, Err, List, None, Ok, Option, Result, Some, [], ap, arith, cond, eqb, false, length, map, refl, suc, sym, true, zero, ℕ, ◌++◌, ◌-◌, ◌∙◌, ◌∷◌, ◌≢◌}
+use Rattle.ptlangs.proofs.Common.{◌≡◌, Bool, Err, List, None, Ok, Option, Result, Some, [], ap, arith, cond, false, length, map, refl, suc, sym, true, zero, ℕ, ◌++◌, ◌-◌, ◌∙◌, ◌∷◌, ◌≢◌}
 use Rattle.ptlangs.proofs.Common.{result_map_both, and_then, AClass, ADescendingRange, AnInvalidEnd, AnInvalidChar, ARange, ARepeat, Alone, AnEquivalence, StartsElement, StartsInvalid, InBrackets, StartsBracketed}
 use Rattle.ptlangs.proofs.Common.{FirstFault, LaterFault, NoMemoryFault, NoElement, NoSegment, Plan, array, class_offsets, sequence, fill_count, first_array, image_of, in_string, is_deleted, is_squeezed}
-use Rattle.ptlangs.proofs.Common.{has_valid_classes, segment, segments_of, plan, plan_from, plan_of, plan_with, repeat_segment, second_role, second_plan, string_segments, takes_second, last_positions, tables, ALargeOctal}
+use Rattle.ptlangs.proofs.Common.{has_valid_classes, segment, segments_of, plan, plan_from, plan_of, plan_with, repeat_segment, second_role, second_plan, string_segments, takes_second, tables, ALargeOctal}
 use Rattle.ptlangs.proofs.Common.{ALoneBackslash, APlainByte, AChar, AnEscape, AnOctal, NoChar, SpellsChar, SpellsChars, chars, SetFault, SetFaultKind, ClassPlace, Memory, SetElement, Segment, SetRole, First}
-use Rattle.ptlangs.proofs.Common.{Images, Squeezed, LastIndex, Form, Delete, DeleteSqueeze, Squeeze, Translate, TranslateSqueeze, SetChar, Escaped, Invalid, Plain}
+use Rattle.ptlangs.proofs.Common.{Images, Squeezed, Form, Delete, DeleteSqueeze, Squeeze, Translate, TranslateSqueeze, SetChar, Escaped, Invalid, Plain}
 use Rattle.std.proofs.lemmas.Bool.{cond_both}
 use Rattle.ptlangs.specs.TrClasses.{all_bytes}
+use Rattle.ptlangs.specs.declared.tr.contents.Contents.{Contents}
 use Rattle.ptlangs.specs.declared.faults.SetString.TheVariants as string
 use Rattle.ptlangs.specs.declared.faults.SetString.{SetString}
 use Rattle.ptlangs.specs.declared.tr.elements.SetElement.TheVariants as element
 use Rattle.ptlangs.proofs.TrElementGrammar.{faults_are_first}
+use Rattle.ptlangs.proofs.Common.{complement_of}
+use Rattle.ptlangs.specs.TrParsing.{all_paired, contents_of, first_members, marked_array}
+use Rattle.ptlangs.proofs.TrByteWalk.{paired-arrays, paired-plain}
 use Rattle.ptlangs.proofs.TrCharGrammar.{chars_are_spelled}
 
 -- ---- two facts about a result
@@ -32,35 +36,40 @@ sequence-string role [] ps e = absurd (let no : ⊥ = cc in no)
 sequence-string role (b ∷ text) ps e = e
 
 -- a result that comes from segments, and these segments
-pub mapped_ok : (r : Result (List Segment) SetFaultKind) (f : List Segment → LastIndex) (y : LastIndex) → Ok y ≡ result_map_both f (λ (k : SetFaultKind). k) r → (ps : List Segment) × (r ≡ Ok ps) × (y ≡ f ps)
+pub mapped_ok : (r : Result (List Segment) SetFaultKind) (f : List Segment → Contents) (y : Contents) → Ok y ≡ result_map_both f (λ (k : SetFaultKind). k) r
+    → (ps : List Segment) × (r ≡ Ok ps) × (y ≡ f ps)
 mapped_ok (Ok ps) f y e = (ps, refl, cc)
 mapped_ok (Err k) f y e = absurd (let no : ⊥ = cc in no)
 
--- a property of each form except `DeleteSqueeze`
-pub unless_alone : (P : Form → Type 0) (form : Form) → (form ≡ DeleteSqueeze → ⊥) → P Translate → P TranslateSqueeze → P Squeeze → P Delete → P form
-unless_alone P Translate n t ts s d = t
-unless_alone P TranslateSqueeze n t ts s d = ts
-unless_alone P Squeeze n t ts s d = s
-unless_alone P Delete n t ts s d = d
-unless_alone P DeleteSqueeze n t ts s d = absurd (n refl)
-
-pub mapped_at : (r : Result (List Segment) SetFaultKind) (f : List Segment → LastIndex) (y : LastIndex) (ps : List Segment) → Ok y ≡ result_map_both f (λ (k : SetFaultKind). k) r → r ≡ Ok ps → y ≡ f ps
+pub mapped_at : (r : Result (List Segment) SetFaultKind) (f : List Segment → Contents) (y : Contents) (ps : List Segment) → Ok y ≡ result_map_both f (λ (k : SetFaultKind). k) r → r ≡ Ok ps → y ≡ f ps
 mapped_at (Ok qs) f y ps e h = let same : qs ≡ ps = cc in let value : y ≡ f qs = cc in value ∙ ap f same
 mapped_at (Err k) f y ps e h = absurd (let no : ⊥ = cc in no)
 
--- the plan of two strings, after the second one was read without a fill, by whether its classes are allowed
-pub second_plan-read : (form : Form) (complement : Bool) (firsts : List Segment) (text : List ℕ) (role : SetRole) (fill : ℕ) (first unfilled : LastIndex) (pairs : Bool) → role ≡ second_role form
-    → false ≡ eqb (length text) 0 → Ok unfilled ≡ result_map_both (λ ps. last_positions (array 0 ps)) (λ (k : SetFaultKind). k) (sequence (segments_of role text)) → fill ≡ first.length - unfilled.length
-    → first ≡ last_positions (first_array complement firsts)
-    → ((ps : List Segment) → sequence (segments_of role text) ≡ Ok ps → pairs ≡ has_valid_classes form complement (class_offsets 0 0 firsts) (class_offsets fill 0 ps))
-    → (ps : List Segment) × (sequence (segments_of role text) ≡ Ok ps)
-    × (second_plan form complement firsts text ≡ cond {A = Result Plan SetFaultKind} pairs (Ok (plan_of form (first_array complement firsts) (array fill ps))) (Err ClassPlace))
-second_plan-read form complement firsts [] role fill first unfilled pairs at some was e f p = cc
-second_plan-read form complement firsts (b ∷ text) role fill first unfilled pairs at some was e f p =
-    let (ps, read, is) = mapped_ok (sequence (segments_of role (b ∷ text))) (λ ps. last_positions (array 0 ps)) unfilled was in
-    let whole : string_segments (second_role form) (b ∷ text) ≡ Ok ps = ap (λ q. string_segments q (b ∷ text)) (sym at) ∙ read in
-    let has_fill : fill ≡ fill_count (length (first_array complement firsts)) ps = omega (arith, e, ap (λ (q : LastIndex). q.length) f, ap (λ (q : LastIndex). q.length) is) in
-    (ps, read, rw (whole, ← has_fill, ← p ps read) refl)
+-- the plan of two strings, after the second one was read without a fill
+pub second_plan-read : (form : Form) (complement : Bool) (firsts : List Segment) (text : List ℕ) (role : SetRole) (fill : ℕ) (first unfilled : Contents) → role ≡ second_role form
+    → Ok unfilled ≡ result_map_both (λ ps. contents_of (array 0 ps)) (λ (k : SetFaultKind). k) (string_segments role text) → fill ≡ first.length - unfilled.length
+    → first ≡ contents_of (first_array complement firsts)
+    → (ps : List Segment) × (string_segments role text ≡ Ok ps)
+    × ((valid : Bool) → has_valid_classes form complement (class_offsets 0 0 firsts) (class_offsets fill 0 ps) ≡ valid
+    → second_plan form complement firsts text ≡ cond {A = Result Plan SetFaultKind} valid (Ok (plan_of form (first_array complement firsts) (array fill ps))) (Err ClassPlace))
+second_plan-read form complement firsts text role fill first unfilled at was e f =
+    let (ps, read, is) = mapped_ok (string_segments role text) (λ ps. contents_of (array 0 ps)) unfilled was in
+    let whole : string_segments (second_role form) text ≡ Ok ps = ap (λ q. string_segments q text) (sym at) ∙ read in
+    let has_fill : fill ≡ fill_count (length (first_array complement firsts)) ps = omega (arith, e, ap (λ (q : Contents). q.length) f, ap (λ (q : Contents). q.length) is) in
+    (ps, read, λ valid is. rw (whole, ← has_fill, is) refl)
+
+-- the classes of a second string that translates are valid if they are paired
+pub valid-paired : (form : Form) (complement : Bool) (firsts ps : List Segment) (n : ℕ) → (form ≡ DeleteSqueeze → ⊥)
+    → has_valid_classes form complement (class_offsets 0 0 firsts) (class_offsets n 0 ps) ≡ all_paired (first_members complement firsts) (marked_array n ps)
+valid-paired DeleteSqueeze complement firsts ps n other = absurd (other refl)
+valid-paired Translate true firsts ps n other = paired-plain n (complement_of (array 0 firsts)) ps
+valid-paired Translate false firsts ps n other = paired-arrays n firsts ps
+valid-paired TranslateSqueeze true firsts ps n other = paired-plain n (complement_of (array 0 firsts)) ps
+valid-paired TranslateSqueeze false firsts ps n other = paired-arrays n firsts ps
+valid-paired Squeeze true firsts ps n other = paired-plain n (complement_of (array 0 firsts)) ps
+valid-paired Squeeze false firsts ps n other = paired-arrays n firsts ps
+valid-paired Delete true firsts ps n other = paired-plain n (complement_of (array 0 firsts)) ps
+valid-paired Delete false firsts ps n other = paired-arrays n firsts ps
 
 -- the plan of two strings, the first of which has no fault
 pub plan_two : (form : Form) (complement : Bool) (s1 s2 : List ℕ) (firsts : List Segment) (k : SetFaultKind) → string_segments First s1 ≡ Ok firsts

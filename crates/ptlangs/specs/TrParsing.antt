@@ -1,19 +1,23 @@
 -- Definitions for the contracts of the private functions that read a string of `tr`: the characters after an index, the
--- elements still to be read, and the last position of each byte in an array.
-use Rattle.std.specs.Prelude.{◌≡◌, ◌++◌, ℕ, List, Result, Ok, drop, length, map}
+-- bytes still to be read, and the pairs of the two arrays.
+use Rattle.std.specs.Prelude.{◌≡◌, ◌-◌, ◌+◌, ◌*◌, ◌++◌, ◌&&◌, ℕ, Bool, true, false, List, [], ◌∷◌, Option, None, Some, Result, Ok, Err, drop, length, map, take, if◌then◌else◌}
+use Rattle.std.specs.List.{flat_map, last_or}
 use Rattle.std.specs.Result.{result_map_both}
 use Rattle.ptlangs.specs.declared.faults.SetFaultKind.{SetFaultKind}
-use Rattle.ptlangs.specs.declared.tr.elements.SetElement.{SetElement}
-use Rattle.ptlangs.specs.declared.tr.segments.Segment.{Segment}
-use Rattle.ptlangs.specs.declared.tr.segments.Segments.{Segments}
-use Rattle.ptlangs.specs.declared.tr.segments.SetRole.{SetRole}
-use Rattle.ptlangs.specs.declared.tr.last_index.LastIndex.{LastIndex}
-use Rattle.ptlangs.specs.declared.tr.string2.String2.{String2}
+use Rattle.ptlangs.specs.declared.faults.SetFaultKind.TheVariants.{ClassPlace}
+use Rattle.ptlangs.specs.declared.tr.bytes.Bytes.{Bytes}
 use Rattle.ptlangs.specs.declared.tr.chars.SetChar.{SetChar}
-use Rattle.ptlangs.specs.TrClasses.{all_bytes}
-use Rattle.ptlangs.specs.TrElements.{set_elements}
-use Rattle.ptlangs.specs.TrPlan.{array, sequence, last_position, segments, segments_of}
+use Rattle.ptlangs.specs.declared.tr.classes.CharClass.{CharClass}
+use Rattle.ptlangs.specs.declared.tr.contents.Contents.{Contents}
+use Rattle.ptlangs.specs.declared.tr.elements.SetElement.{SetElement}
+use Rattle.ptlangs.specs.declared.tr.images.Images.{Images}
+use Rattle.ptlangs.specs.declared.tr.segments.Member.{Member}
+use Rattle.ptlangs.specs.declared.tr.segments.Segment.{Segment}
+use Rattle.ptlangs.specs.declared.tr.segments.Segment.TheVariants.{Range, Class, Repeat, Fill}
 use Rattle.ptlangs.specs.TrChars.{chars}
+use Rattle.ptlangs.specs.TrClasses.{all_bytes, are_opposite_cases}
+use Rattle.ptlangs.specs.TrElements.{set_elements}
+use Rattle.ptlangs.specs.TrPlan.{array, complement_of, has_byte, image_by, members, segments, sequence}
 
 -- the characters of the text after its first `at` bytes
 abbrev pub chars_from : List ℕ → ℕ → List SetChar
@@ -27,26 +31,87 @@ element_and_rest text found = (found.0, chars_from text found.1)
 abbrev pub ok_map : {A B E : Type 0} → (A → B) → Result A E → Result B E
 ok_map {A} {B} {E} f r = result_map_both f (λ (e : E). e) r
 
--- the segments that an iterator has still to yield
-abbrev pub segments_left : Segments → List (Result Segment SetFaultKind)
-segments_left p = segments p.role p.has_fill (set_elements (chars_from p.text.now p.at))
+-- ---- the bytes of an array
 
--- for each byte its last position in an array, and the length of the array
-abbrev pub last_positions : List ℕ → LastIndex
-last_positions bytes = record { last = map (λ b. last_position b bytes) all_bytes; length = length bytes }
+-- the class of a segment, if it is one
+abbrev pub class_of : Segment → Option CharClass
+class_of (Range a b) = None
+class_of (Class class) = Some class
+class_of (Repeat b n) = None
+class_of (Fill b) = None
 
--- when `old` describes an array, `new` describes that array with `more` appended, for every array
-abbrev pub AppendPost : LastIndex → LastIndex → List ℕ → Type 0
-AppendPost old new more = (bytes : List ℕ) → old ≡ last_positions bytes → new ≡ last_positions (bytes ++ more)
+-- bytes with which no class starts
+abbrev pub plain_members : List ℕ → List Member
+plain_members bytes = map (λ b. record { byte = b; class = None }) bytes
 
--- the string has these segments, and no fault
-abbrev pub HasSegments : SetRole → List ℕ → List Segment → Type 0
-HasSegments role text ps = sequence (segments_of role text) ≡ Ok ps
+-- bytes with the class that starts with the first of them
+abbrev pub members_from : Option CharClass → List ℕ → List Member
+members_from class [] = []
+members_from class (b ∷ bytes) = record { byte = b; class = class } ∷ plain_members bytes
 
--- `HasSegments` of a second string
-abbrev pub String2HasSegments : String2 → List Segment → Type 0
-String2HasSegments second ps = HasSegments second.role second.text.now ps
+-- the bytes of a segment, with its class, if a fill has `n` bytes
+abbrev pub marked_members : ℕ → Segment → List Member
+marked_members n x = members_from (class_of x) (members n x)
 
--- the array of a second string with these segments
-abbrev pub second_array : String2 → List Segment → List ℕ
-second_array second ps = array second.fill ps
+-- the array of segments, with the classes that start in it
+abbrev pub marked_array : ℕ → List Segment → List Member
+marked_array n ps = flat_map (marked_members n) ps
+
+-- the first array, or its complement, in which no class starts
+abbrev pub first_members : Bool → List Segment → List Member
+first_members complement ps = if complement then plain_members (complement_of (array 0 ps)) else marked_array 0 ps
+
+-- the bytes alone
+abbrev pub bytes_of : List Member → List ℕ
+bytes_of ms = map (λ (m : Member). m.byte) ms
+
+-- the bytes of segments, and the faults between them
+abbrev pub member_results : ℕ → List (Result Segment SetFaultKind) → List (Result Member SetFaultKind)
+member_results n [] = []
+member_results n (Ok x ∷ rs) = map Ok (marked_members n x) ++ member_results n rs
+member_results n (Err k ∷ rs) = Err k ∷ member_results n rs
+
+-- the bytes that are left to read, and the faults between them
+abbrev pub bytes_left : Bytes → List (Result Member SetFaultKind)
+bytes_left b =
+    map Ok (drop b.index (marked_members b.fill b.segment)) ++ member_results b.fill (segments b.role b.has_fill (set_elements (chars_from b.text.now b.at)))
+
+-- a bound on the number of bytes that are left: each byte of the text gives at most 65,535, and one segment is a fill
+abbrev pub most_left : Bytes → ℕ
+most_left b = length (drop b.index (marked_members b.fill b.segment)) + 65536 * (length b.text.now - b.at) + (if b.has_fill then 0 else b.fill)
+
+-- one item of a list of results is read: `old` is the list before, `new` the rest after it; a fault ends the list
+abbrev pub NextPost : {A E : Type 0} → List (Result A E) → List (Result A E) → Result (Option A) E → Type 0
+NextPost old new (Ok None) = (old ≡ []) × (new ≡ [])
+NextPost old new (Ok (Some x)) = old ≡ Ok x ∷ new
+NextPost old new (Err e) = sequence old ≡ Err e
+
+-- which bytes the array contains, and its length
+abbrev pub contents_of : List ℕ → Contents
+contents_of bytes = record { has = map (λ b. has_byte b bytes) all_bytes; length = length bytes }
+
+-- ---- pairs of two arrays
+
+-- the class `to`, if one starts in the second array, has its other case `from` at the same index of the first
+abbrev pub classes_match : Option CharClass → Option CharClass → Bool
+classes_match from None = true
+classes_match None (Some to) = false
+classes_match (Some from) (Some to) = are_opposite_cases from to
+
+-- each class that starts in the second array has its other case at the same index of the first
+abbrev pub all_paired : List Member → List Member → Bool
+all_paired from [] = true
+all_paired [] (t ∷ to) = classes_match None t.class && all_paired [] to
+all_paired (f ∷ from) (t ∷ to) = classes_match f.class t.class && all_paired from to
+
+-- the bytes `before` of the first array are paired with those of `to`, and each class so far is paired
+pub record HasPaired (before to : List Member) (images : Images) : Type 0 where
+  pub left : bytes_left images.second ≡ map Ok (drop (length before) to)
+  pub last : images.last ≡ last_or None (bytes_of (take (length before) to))
+  pub table : images.table ≡ map (image_by (bytes_of before) (bytes_of to)) all_bytes
+  pub decides : (more : List Member) → all_paired (before ++ more) to ≡ all_paired more (drop (length before) to)
+
+-- all bytes of the first array are paired, or a class has no other case
+abbrev pub PairPost : List Member → List Member → Images → Result Unit SetFaultKind → Type 0
+PairPost from to new (Ok _) = HasPaired from to new
+PairPost from to new (Err k) = (k ≡ ClassPlace) × (all_paired from to ≡ false)

@@ -2,15 +2,15 @@
 //! DESCRIPTION"). A string has characters, these form elements, and each element gives a segment of the string's array
 //! of bytes. No array is kept in memory. Callers use [`CharPlan`] and [`Shifts`].
 
+mod bytes;
 mod chars;
 mod classes;
+mod contents;
 mod elements;
 mod images;
-mod last_index;
 mod plan;
 mod segments;
 mod shifts;
-mod string2;
 
 pub use elements::elements_match_grammar;
 pub use plan::{CharPlan, Form, strings_need_no_memory, tables_match_plan};

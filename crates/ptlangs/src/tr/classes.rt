@@ -2,7 +2,7 @@
 //! The strings of `tr` name them.
 ghost use Rattle.std.specs.Prelude.{◌≡◌, ◌+◌, ◌<◌, length, slice_get, bytes_eq};
 ghost use Rattle.std.specs.List.{flat_map};
-ghost use Rattle.ptlangs.specs.TrClasses.{range_bytes, span, are_opposite_cases, class_bytes, class_named};
+ghost use Rattle.ptlangs.specs.TrClasses.{range_bytes, span, class_bytes, class_named};
 
 /// A class of characters.
 #[derive(Clone, Copy, PartialEq, Eq)]
@@ -69,28 +69,6 @@ impl CharClass {
             CharClass::Upper => &[(b'A', b'Z')],
             CharClass::Xdigit => &[(b'0', b'9'), (b'A', b'F'), (b'a', b'f')],
         }
-    }
-
-    /// Whether one of the two is `lower` and the other `upper`.
-    pub(crate) fn is_other_case(self, other: CharClass) -> bool
-        ensures { result ≡ are_opposite_cases self other }
-    {
-        matches!(
-            (self, other),
-            (CharClass::Lower, CharClass::Upper) | (CharClass::Upper, CharClass::Lower)
-        )
-    }
-
-    /// The number of bytes in the class.
-    pub(crate) fn len(self) -> u128
-        ensures { result ≡ length (class_bytes self) }
-    {
-        let ranges = self.ranges();
-        let mut count = 0;
-        for &(first, last) in ranges {
-            count += span_len(first, last);
-        }
-        count
     }
 
     /// The byte of the class with this index, in ascending order, or `None` past its end.

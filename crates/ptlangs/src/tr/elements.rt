@@ -64,17 +64,14 @@ fn after_bytes(text: &[u8], at: usize, first: u8, second: u8) -> Option<usize>
 fn digits_len(bytes: &[u8]) -> usize
     ensures { result ≡ length (take_while is_ascii_digit bytes.now) }
 {
-    bytes.iter().take_while(|b| (**b).is_ascii_digit()).count()
+    bytes.iter().take_while(|b| b.is_ascii_digit()).count()
 }
 
 /// The number of lower-case letters at the start.
 fn letters_len(bytes: &[u8]) -> usize
     ensures { result ≡ length (take_while is_ascii_lowercase bytes.now) }
 {
-    bytes
-        .iter()
-        .take_while(|b| (**b).is_ascii_lowercase())
-        .count()
+    bytes.iter().take_while(|b| b.is_ascii_lowercase()).count()
 }
 
 /// The index after the digits at `at`.
@@ -115,16 +112,12 @@ fn read_count(digits: &[u8]) -> Option<u16>
     requires { AllPass is_ascii_digit digits.now }
     ensures { result ≡ repeat_count digits.now }
 {
-    if digits.is_empty() {
-        return Some(0);
+    match digits {
+        [] => Some(0),
+        [b'0', ..] if !are_octal(digits) => None,
+        [b'0', ..] => Some(number(digits, 8, 65535)? as u16),
+        _ => Some(number(digits, 10, 65535)? as u16),
     }
-    if digits[0] != b'0' {
-        return Some(number(digits, 10, 65535)? as u16);
-    }
-    if !are_octal(digits) {
-        return None;
-    }
-    Some(number(digits, 8, 65535)? as u16)
 }
 
 /// `[x*n]` from the index after its opening bracket.
@@ -142,10 +135,8 @@ fn repeat(text: &[u8], at: usize) -> Option<(SetElement, usize)>
     let digits = after_byte(text, star, b'*')?;
     let end = after_digits(text, digits);
     let next = after_byte(text, end, b']')?;
-    Some((
-        SetElement::Repeat(byte, read_count(&text[digits..end])),
-        next,
-    ))
+    let count = read_count(&text[digits..end]);
+    Some((SetElement::Repeat(byte, count), next))
 }
 
 /// `[:class:]` from the index after its opening bracket.
@@ -161,10 +152,8 @@ fn class(text: &[u8], at: usize) -> Option<(SetElement, usize)>
         return None;
     }
     let next = after_bytes(text, end, b':', b']')?;
-    Some((
-        SetElement::Class(CharClass::from_name(&text[name..end])),
-        next,
-    ))
+    let class = CharClass::from_name(&text[name..end]);
+    Some((SetElement::Class(class), next))
 }
 
 /// `[=x=]` from the index after its opening bracket.
@@ -193,13 +182,8 @@ fn bracketed(text: &[u8], at: usize) -> Option<(SetElement, usize)>
     ensures within { IfSome result (λ r. r.1 ≤ length text.now) }
 {
     let inside = after_byte(text, at, b'[')?;
-    if let Some(found) = repeat(text, inside) {
-        return Some(found);
-    }
-    if let Some(found) = class(text, inside) {
-        return Some(found);
-    }
-    equivalence(text, inside)
+    let other = class(text, inside).or(equivalence(text, inside));
+    repeat(text, inside).or(other)
 }
 
 /// The element at `at`, and the index after it.

@@ -1,52 +1,147 @@
-//! The table of images of a plan of `tr`: for each byte the byte that replaces it. `plan` builds its tables with it.
-ghost use Rattle.std.specs.Prelude.{◌≡◌, [], ℕ, List, Ok, length, map};
+//! The images of a plan of `tr`: for each byte the byte that replaces it. The bytes of the first array are paired with
+//! those of the second one, which is extended by its last byte.
+ghost use Rattle.std.specs.Prelude.{◌≡◌, ◌++◌, ◌∷◌, [], ℕ, List, Ok, Err, false, if◌then◌else◌, length, map, MatchResult};
+ghost use Rattle.ptlangs.specs.declared.faults.SetFaultKind.TheVariants.{ClassPlace};
+ghost use Rattle.ptlangs.specs.declared.tr.segments.Member.{Member};
 ghost use Rattle.ptlangs.specs.declared.tr.segments.Segment.{Segment};
 ghost use Rattle.ptlangs.specs.TrClasses.{all_bytes};
-ghost use Rattle.ptlangs.specs.TrPlan.{array, sequence, image_by, segments_of};
-ghost use Rattle.ptlangs.specs.TrParsing.{String2HasSegments, last_positions, second_array};
+ghost use Rattle.ptlangs.specs.TrPlan.{array, complement_of, first_array, image_by, string_segments};
+ghost use Rattle.ptlangs.specs.TrParsing.{HasPaired, PairPost, all_paired, bytes_left, bytes_of, classes_match, contents_of, first_members, marked_array, plain_members};
 
 use crate::faults::SetFaultKind;
-use crate::tr::last_index::LastIndex;
-use crate::tr::string2::String2;
+use crate::tr::bytes::Bytes;
+use crate::tr::classes::CharClass;
+use crate::tr::contents::Contents;
+use crate::tr::segments::{Member, SetRole};
+
+/// The images so far, the bytes of the second array that are left, and the last one that was taken.
+#[derive(Drop)]
+struct Images<'a> {
+    table: [u8; 256],
+    second: Bytes<'a>,
+    last: Option<u8>,
+}
+
+/// Whether the class `to`, which starts with a byte of the second array, may stand there: the class that starts with
+/// the byte of the first array at the same index is its other case.
+fn classes_match(from: Option<CharClass>, to: Option<CharClass>) -> bool
+    ensures { result ≡ classes_match from to }
+{
+    match (from, to) {
+        (_, None) => true,
+        (Some(CharClass::Lower), Some(CharClass::Upper)) => true,
+        (Some(CharClass::Upper), Some(CharClass::Lower)) => true,
+        _ => false,
+    }
+}
 
 /// The table in which each byte is its own image.
 pub(crate) fn identity() -> [u8; 256]
-    ensures { result ≡ map (image_by [] []) all_bytes }
+    ensures { (to : List ℕ) → result ≡ map (image_by [] to) all_bytes }
 {
-    let mut table = [0; 256];
-    for (byte, entry) in table.iter_mut().enumerate() {
-        *entry = byte as u8;
-    }
-    table
+    std::array::from_fn(|byte| byte as u8)
 }
 
-/// The images of all bytes, if `len` is the length of the second array: the image of a byte of the first array is the
-/// byte of the second array with the same index. The last index of the byte counts.
-pub(crate) fn images(
-    first: &LastIndex,
-    second: &String2,
-    len: u128,
+impl<'a> Images<'a> {
+    /// No images, before the bytes of the second array.
+    fn new(second: Bytes<'a>) -> Images<'a>
+        ensures { (to : List Member) → bytes_left second.entry ≡ map Ok to → HasPaired [] to result }
+    {
+        Images {
+            table: identity(),
+            second,
+            last: None,
+        }
+    }
+
+    /// Pairs the next byte of the first array. Its image is the next byte of the second one, or the last if none is
+    /// left.
+    ///
+    /// # Errors
+    ///
+    /// A class starts in the second array, and not its other case in the first one.
+    fn push(&mut self, from: Member) -> Result<(), SetFaultKind>
+        ensures { (before to : List Member) → HasPaired before to self.old → MatchResult result
+            (λ _. HasPaired (before ++ from ∷ []) to self.new)
+            (λ k. (k ≡ ClassPlace) × ((more : List Member) → all_paired (before ++ from ∷ more) to ≡ false)) }
+    {
+        if let Some(to) = self.second.next()? {
+            if !classes_match(from.class, to.class) {
+                return Err(SetFaultKind::ClassPlace);
+            }
+            self.last = Some(to.byte);
+        }
+        self.table[usize::from(from.byte)] = self.last.unwrap_or(from.byte);
+        Ok(())
+    }
+
+    /// Pairs the bytes of the first array, if it is that of `text`.
+    fn push_string(&mut self, text: &[u8]) -> Result<(), SetFaultKind>
+        ensures { (ps : List Segment) (to : List Member) → string_segments SetRole.First text.now ≡ Ok ps
+            → HasPaired [] to self.old → PairPost (marked_array 0 ps) to self.new result }
+    {
+        let mut bytes = Bytes::new(SetRole::First, text, 0);
+        while let Some(member) = bytes.next()? {
+            self.push(member)?;
+        }
+        Ok(())
+    }
+
+    /// Pairs the bytes that `first` contains, in ascending order.
+    fn push_ascending(&mut self, first: &Contents) -> Result<(), SetFaultKind>
+        ensures { (bytes : List ℕ) (to : List Member) → first.now ≡ contents_of (complement_of bytes)
+            → HasPaired [] to self.old → PairPost (plain_members (complement_of bytes)) to self.new result }
+    {
+        for byte in u8::MIN..=u8::MAX {
+            if first.has[usize::from(byte)] {
+                self.push(Member { byte, class: None })?;
+            }
+        }
+        Ok(())
+    }
+
+    /// The images of all bytes, once the first array has ended.
+    ///
+    /// # Errors
+    ///
+    /// A class starts in the second array after the end of the first one.
+    fn finish(mut self) -> Result<[u8; 256], SetFaultKind>
+        ensures { (from to : List Member) → HasPaired from to self.entry → result
+            ≡ (if all_paired from to then Ok (map (image_by (bytes_of from) (bytes_of to)) all_bytes)
+            else Err ClassPlace) }
+    {
+        while let Some(member) = self.second.next()? {
+            if member.class.is_some() {
+                return Err(SetFaultKind::ClassPlace);
+            }
+        }
+        Ok(self.table)
+    }
+}
+
+/// The images of all bytes: of the bytes of the first array, which is that of `s1` or the complement of that, those of
+/// `second` with the same index. If the first array contains a byte twice, its last index counts.
+///
+/// # Errors
+///
+/// A class starts in the second array, and not its other case at the same index of the first one.
+pub(crate) fn read_images(
+    complement: bool,
+    s1: &[u8],
+    first: &Contents,
+    second: Bytes,
 ) -> Result<[u8; 256], SetFaultKind>
-    ensures { (from : List ℕ) (ps : List Segment) → first.now ≡ last_positions from
-        → String2HasSegments second.now ps → len ≡ length (second_array second.now ps)
-        → result ≡ Ok (map (image_by from (second_array second.now ps)) all_bytes) }
+    ensures { (ps : List Segment) (to : List Member) → string_segments SetRole.First s1.now ≡ Ok ps
+        → first.now ≡ contents_of (first_array complement ps) → bytes_left second.entry ≡ map Ok to → result
+        ≡ (if all_paired (first_members complement ps) to
+        then Ok (map (image_by (first_array complement ps) (bytes_of to)) all_bytes)
+        else Err ClassPlace) }
 {
-    let mut table = [0; 256];
-    for (byte, entry) in table.iter_mut().enumerate() {
-        *entry = image(first, second, len, byte as u8)?;
+    let mut images = Images::new(second);
+    if complement {
+        images.push_ascending(first)?;
+    } else {
+        images.push_string(s1)?;
     }
-    Ok(table)
-}
-
-/// The image of one byte.
-fn image(first: &LastIndex, second: &String2, len: u128, byte: u8) -> Result<u8, SetFaultKind>
-    ensures { (from : List ℕ) (ps : List Segment) → first.now ≡ last_positions from
-        → String2HasSegments second.now ps → len ≡ length (second_array second.now ps)
-        → result ≡ Ok (image_by from (second_array second.now ps) byte) }
-{
-    let Some(index) = first.last(byte) else {
-        return Ok(byte);
-    };
-    let image = second.get(index.min(len.saturating_sub(1)))?;
-    Ok(image.unwrap_or(byte))
+    images.finish()
 }

@@ -5,17 +5,17 @@ ghost use Rattle.std.specs.Result.{result_map_both};
 ghost use Rattle.ptlangs.specs.declared.faults.SetFault.{SetFault};
 ghost use Rattle.ptlangs.specs.declared.faults.SetFaultKind.{SetFaultKind};
 ghost use Rattle.ptlangs.specs.declared.tr.segments.Segment.{Segment};
-ghost use Rattle.ptlangs.specs.TrPlan.{array, sequence, first_array, segments_of, plan, plan_of, second_plan, has_valid_classes as pairs, NoMemoryFault, class_offsets, second_role, string_segments, takes_second};
+ghost use Rattle.ptlangs.specs.TrPlan.{array, first_array, plan, plan_of, second_plan, NoMemoryFault, second_role, string_segments, takes_second};
 ghost use Rattle.ptlangs.specs.TrTables.{tables, deletes, image, squeezes, TablesMatchPlan};
 ghost use Rattle.ptlangs.specs.TrShifts.{stretches, HasImagesOf};
-ghost use Rattle.ptlangs.specs.TrParsing.{String2HasSegments, ok_map, last_positions, second_array};
+ghost use Rattle.ptlangs.specs.TrParsing.{contents_of, ok_map};
 
 use crate::faults::{SetFault, SetFaultKind, SetString};
-use crate::tr::images::{identity, images};
-use crate::tr::last_index::{LastIndex, no_bytes};
+use crate::tr::bytes::Bytes;
+use crate::tr::contents::Contents;
+use crate::tr::images::{identity, read_images};
 use crate::tr::segments::SetRole;
 use crate::tr::shifts::{Shifts, shifts_of};
-use crate::tr::string2::String2;
 use std::marker::Model;
 
 /// The form of a command line of `tr`, given by its flags and the number of its strings.
@@ -38,10 +38,7 @@ impl Form {
     pub fn takes_second(self) -> bool
         ensures { result ≡ takes_second self }
     {
-        match self {
-            Form::Translate | Form::TranslateSqueeze | Form::DeleteSqueeze => true,
-            Form::Squeeze | Form::Delete => false,
-        }
+        !matches!(self, Form::Squeeze | Form::Delete)
     }
 
     /// The role of the second string.
@@ -53,46 +50,28 @@ impl Form {
             _ => SetRole::Images,
         }
     }
+}
 
-    /// Whether all classes of the second string are allowed. If the string is only squeezed, every class is. If it
-    /// translates, a class needs its other case at the same offset of the first string; a complement has no classes.
-    fn has_valid_classes(
-        self,
-        complement: bool,
-        s1: &[u8],
-        second: &String2,
-    ) -> Result<bool, SetFaultKind>
-        requires { second.now.fill < 2 ^ 100 }
-        ensures { (firsts ps : List Segment) → string_segments SetRole.First s1.now ≡ Ok firsts
-            → String2HasSegments second.now ps
-            → result ≡ Ok (pairs self complement
-            (class_offsets 0 0 firsts)
-            (class_offsets second.now.fill 0 ps)) }
-    {
-        match self {
-            Form::DeleteSqueeze => Ok(true),
-            _ if complement => second.are_paired(&[]),
-            _ => second.are_paired(s1),
-        }
+/// Reads the array of the first string, or its complement.
+fn read_first(complement: bool, s1: &[u8]) -> Result<Contents, SetFaultKind>
+    ensures is { result
+        ≡ ok_map (λ (ps : List Segment). contents_of (first_array complement ps))
+        (string_segments SetRole.First s1.now) }
+    ensures bound { IfOk result (λ c. c.length < 2 ^ 90) }
+{
+    let first = Contents::read(SetRole::First, s1, 0)?;
+    if complement {
+        Ok(first.complement())
+    } else {
+        Ok(first)
     }
 }
 
-/// Reads the array of the first string.
-fn read_first(complement: bool, s1: &[u8]) -> Result<LastIndex, SetFaultKind>
-    ensures positions { result
-        ≡ ok_map (λ (ps : List Segment). last_positions (first_array complement ps))
-        (string_segments SetRole.First s1.now) }
-    ensures bound { IfOk result (λ p. p.length < 2 ^ 90) }
+/// The fault of this kind in the string.
+fn fault(string: SetString, kind: SetFaultKind) -> SetFault
+    ensures { result ≡ record { string = string; kind = kind } }
 {
-    if s1.is_empty() {
-        return Err(SetFaultKind::Empty);
-    }
-    let first = LastIndex::read(SetRole::First, s1, 0)?;
-    Ok(if complement {
-        first.complement()
-    } else {
-        first
-    })
+    SetFault { string, kind }
 }
 
 /// For each byte: whether it is deleted, its image, and whether its repeats are squeezed. Reading a plan from its
@@ -146,42 +125,37 @@ impl CharPlan {
     {
         let first = match read_first(complement, s1) {
             Ok(first) => first,
-            Err(kind) => {
-                return Err(SetFault {
-                    string: SetString::First,
-                    kind,
-                });
-            }
+            Err(kind) => return Err(fault(SetString::First, kind)),
         };
         let Some(s2) = s2 else {
             return Ok(CharPlan::of_one(form, &first));
         };
         match CharPlan::of_two(form, complement, s1, &first, s2) {
             Ok(plan) => Ok(plan),
-            Err(kind) => Err(SetFault {
-                string: SetString::Second,
-                kind,
-            }),
+            Err(kind) => Err(fault(SetString::Second, kind)),
+        }
+    }
+
+    /// The plan with these tables.
+    fn new(deleted: [bool; 256], images: [u8; 256], squeezed: [bool; 256]) -> CharPlan
+        ensures { result ≡ record { deleted = deleted; images = images; squeezed = squeezed } }
+    {
+        CharPlan {
+            deleted,
+            images,
+            squeezed,
         }
     }
 
     /// The plan of one string, from its array.
-    fn of_one(form: Form, first: &LastIndex) -> CharPlan
+    fn of_one(form: Form, first: &Contents) -> CharPlan
         requires { takes_second form ≡ false }
-        ensures { (bytes : List ℕ) → first.now ≡ last_positions bytes
+        ensures { (bytes : List ℕ) → first.now ≡ contents_of bytes
             → result ≡ tables (plan_of form bytes []) }
     {
         match form {
-            Form::Delete => CharPlan {
-                deleted: first.membership(),
-                images: identity(),
-                squeezed: no_bytes(),
-            },
-            _ => CharPlan {
-                deleted: no_bytes(),
-                images: identity(),
-                squeezed: first.membership(),
-            },
+            Form::Delete => CharPlan::new(first.has, identity(), [false; 256]),
+            _ => CharPlan::new([false; 256], identity(), first.has),
         }
     }
 
@@ -190,60 +164,26 @@ impl CharPlan {
         form: Form,
         complement: bool,
         s1: &[u8],
-        first: &LastIndex,
+        first: &Contents,
         s2: &[u8],
     ) -> Result<CharPlan, SetFaultKind>
         requires form { takes_second form ≡ true }
         requires bound { first.now.length < 2 ^ 90 }
         ensures { (firsts : List Segment) → string_segments SetRole.First s1.now ≡ Ok firsts
-            → first.now ≡ last_positions (first_array complement firsts)
+            → first.now ≡ contents_of (first_array complement firsts)
             → result ≡ ok_map tables (second_plan form complement firsts s2.now) }
     {
-        if s2.is_empty() {
-            return Err(SetFaultKind::Empty);
-        }
         let role = form.second_role();
-        let unfilled = LastIndex::read(role, s2, 0)?;
-        let second = String2 {
-            role,
-            text: s2,
-            fill: first.len().saturating_sub(unfilled.len()),
-        };
-        if !form.has_valid_classes(complement, s1, &second)? {
-            return Err(SetFaultKind::ClassPlace);
+        let unfilled = Contents::read(role, s2, 0)?;
+        let fill = first.length.saturating_sub(unfilled.length);
+        let second = Contents::read(role, s2, fill)?;
+        if let Form::DeleteSqueeze = form {
+            return Ok(CharPlan::new(first.has, identity(), second.has));
         }
-        let positions = LastIndex::read(role, s2, second.fill)?;
-        CharPlan::of_arrays(form, first, &second, &positions)
-    }
-
-    /// The plan of two strings, from both arrays.
-    fn of_arrays(
-        form: Form,
-        first: &LastIndex,
-        second: &String2,
-        positions: &LastIndex,
-    ) -> Result<CharPlan, SetFaultKind>
-        requires { takes_second form ≡ true }
-        ensures { (bytes : List ℕ) (ps : List Segment) → first.now ≡ last_positions bytes
-            → String2HasSegments second.now ps → positions.now ≡ last_positions (second_array second.now ps)
-            → result ≡ Ok (tables (plan_of form bytes (second_array second.now ps))) }
-    {
+        let table = read_images(complement, s1, first, Bytes::new(role, s2, fill))?;
         match form {
-            Form::DeleteSqueeze => Ok(CharPlan {
-                deleted: first.membership(),
-                images: identity(),
-                squeezed: positions.membership(),
-            }),
-            Form::TranslateSqueeze => Ok(CharPlan {
-                deleted: no_bytes(),
-                images: images(first, second, positions.len())?,
-                squeezed: positions.membership(),
-            }),
-            _ => Ok(CharPlan {
-                deleted: no_bytes(),
-                images: images(first, second, positions.len())?,
-                squeezed: no_bytes(),
-            }),
+            Form::TranslateSqueeze => Ok(CharPlan::new([false; 256], table, second.has)),
+            _ => Ok(CharPlan::new([false; 256], table, [false; 256])),
         }
     }
 

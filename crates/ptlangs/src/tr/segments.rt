@@ -1,13 +1,12 @@
-//! The segments of the array that a string of `tr` denotes, one for each element of the string. `last_index` and
-//! `string2` iterate over them, so that no array is kept in memory.
-ghost use Rattle.std.specs.Prelude.{◌≡◌, ◌≤◌, length, replicate, slice_get};
-ghost use Rattle.std.specs.Iterator.{YieldsFirst, item_count};
-ghost use Rattle.ptlangs.specs.TrPlan.{segment, repeat_segment, is_fill, segments_of, members};
-ghost use Rattle.ptlangs.specs.TrParsing.{segments_left};
+//! The segments of the array that a string of `tr` denotes, one for each element of the string. `bytes` iterates over
+//! their bytes, so that no array is kept in memory.
+ghost use Rattle.std.specs.Prelude.{◌≡◌, ◌+◌, ◌^◌, ◌<◌, ◌≤◌, length, replicate, slice_get, IfOk, IfSome};
+ghost use Rattle.ptlangs.specs.TrPlan.{segment, is_fill, members};
+ghost use Rattle.ptlangs.specs.TrParsing.{class_of, marked_members};
 
 use crate::faults::SetFaultKind;
-use crate::tr::classes::{CharClass, span_get, span_len};
-use crate::tr::elements::{SetElement, element_at};
+use crate::tr::classes::{CharClass, span_get};
+use crate::tr::elements::SetElement;
 
 /// Which string of which form it is. This decides which elements are allowed.
 #[derive(Clone, Copy)]
@@ -18,6 +17,13 @@ pub(crate) enum SetRole {
     Images,
     /// A second string that is only squeezed.
     Squeezed,
+}
+
+/// A byte of an array, and the class that starts with it, if one does.
+#[derive(Clone, Copy)]
+pub(crate) struct Member {
+    pub(crate) byte: u8,
+    pub(crate) class: Option<CharClass>,
 }
 
 /// A segment of an array.
@@ -33,22 +39,16 @@ pub(crate) enum Segment {
     Fill(u8),
 }
 
-/// The segment of a repeat with this count. `has_fill` says whether a fill came before.
-fn repeat(has_fill: bool, byte: u8, count: Option<u16>) -> Result<Segment, SetFaultKind>
-    ensures { result ≡ repeat_segment has_fill byte count }
-{
-    match count {
-        None => Err(SetFaultKind::RepeatSize),
-        Some(0) if has_fill => Err(SetFaultKind::SecondFill),
-        Some(0) => Ok(Segment::Fill(byte)),
-        Some(count) => Ok(Segment::Repeat(byte, count)),
-    }
-}
-
 impl Segment {
     /// The segment of an element. `has_fill` says whether a fill came before.
-    fn new(role: SetRole, has_fill: bool, element: SetElement) -> Result<Segment, SetFaultKind>
-        ensures { result ≡ segment role has_fill element }
+    #[tactic(auto, using(crate::proofs::TrByteRanges::member_steps))]
+    pub(crate) fn new(
+        role: SetRole,
+        has_fill: bool,
+        element: SetElement,
+    ) -> Result<Segment, SetFaultKind>
+        ensures is { result ≡ segment role has_fill element }
+        ensures short { IfOk result (λ x. length (members 0 x) ≤ 65535) }
     {
         match (element, role) {
             (SetElement::Single(byte), _) => Ok(Segment::Range(byte, byte)),
@@ -58,28 +58,35 @@ impl Segment {
             (SetElement::Equivalence(_), SetRole::Images) => Err(SetFaultKind::EquivPlace),
             (SetElement::Equivalence(byte), _) => Ok(Segment::Range(byte, byte)),
             (SetElement::Repeat(_, _), SetRole::First) => Err(SetFaultKind::RepeatPlace),
-            (SetElement::Repeat(byte, count), _) => repeat(has_fill, byte, count),
+            (SetElement::Repeat(_, None), _) => Err(SetFaultKind::RepeatSize),
+            (SetElement::Repeat(_, Some(0)), _) if has_fill => Err(SetFaultKind::SecondFill),
+            (SetElement::Repeat(byte, Some(0)), _) => Ok(Segment::Fill(byte)),
+            (SetElement::Repeat(byte, Some(count)), _) => Ok(Segment::Repeat(byte, count)),
         }
     }
 
-    /// The number of bytes in the segment, if a fill has `fill` bytes.
-    #[tactic(auto, using(crate::proofs::TrByteRanges::member_steps))]
-    pub(crate) fn len(self, fill: u128) -> u128
-        ensures count { result ≡ length (members fill self) }
-        ensures short { length (members 0 self) ≤ 65535 }
+    /// Whether the segment is a fill.
+    pub(crate) fn is_fill(self) -> bool
+        ensures { result ≡ is_fill (Ok self) }
+    {
+        matches!(self, Segment::Fill(_))
+    }
+
+    /// The class, if the segment is one.
+    fn class(self) -> Option<CharClass>
+        ensures { result ≡ class_of self }
     {
         match self {
-            Segment::Range(first, last) => span_len(first, last),
-            Segment::Class(class) => class.len(),
-            Segment::Repeat(_, count) => u128::from(count),
-            Segment::Fill(_) => fill,
+            Segment::Class(class) => Some(class),
+            _ => None,
         }
     }
 
     /// The byte with this index in the segment, if a fill has `fill` bytes, or `None` past its end.
     #[tactic(auto, using(crate::proofs::TrByteRanges::member_steps))]
-    pub(crate) fn get(self, fill: u128, index: u128) -> Option<u8>
-        ensures { result ≡ slice_get (members fill self) index }
+    fn byte(self, fill: u128, index: u128) -> Option<u8>
+        ensures found { result ≡ slice_get (members fill self) index }
+        ensures room { IfSome result (λ _. index + 1 < 2 ^ 128) }
     {
         match self {
             Segment::Range(first, last) => span_get(first, last, index),
@@ -87,6 +94,16 @@ impl Segment {
             Segment::Repeat(byte, count) => repeat_get(byte, u128::from(count), index),
             Segment::Fill(byte) => repeat_get(byte, fill, index),
         }
+    }
+
+    /// The member with this index, if a fill has `fill` bytes, or `None` past the end of the segment.
+    pub(crate) fn get(self, fill: u128, index: u128) -> Option<Member>
+        ensures found { result ≡ slice_get (marked_members fill self) index }
+        ensures room { IfSome result (λ _. index + 1 < 2 ^ 128) }
+    {
+        let byte = self.byte(fill, index)?;
+        let class = if index == 0 { self.class() } else { None };
+        Some(Member { byte, class })
     }
 }
 
@@ -96,60 +113,4 @@ fn repeat_get(byte: u8, count: u128, index: u128) -> Option<u8>
     ensures { result ≡ slice_get (replicate count byte) index }
 {
     if index < count { Some(byte) } else { None }
-}
-
-/// Whether the segment is a fill.
-fn is_fill_segment(segment: Result<Segment, SetFaultKind>) -> bool
-    ensures { result ≡ is_fill segment }
-{
-    matches!(segment, Ok(Segment::Fill(_)))
-}
-
-/// Iterates over the segments of a string, or their faults. After a fault of an element the iterator ends.
-#[derive(Drop)]
-pub(crate) struct Segments<'a> {
-    text: &'a [u8],
-    at: usize,
-    role: SetRole,
-    has_fill: bool,
-}
-
-impl<'a> Segments<'a> {
-    /// The segments of `text`.
-    pub(crate) fn new(role: SetRole, text: &'a [u8]) -> Segments<'a>
-        ensures { segments_left result ≡ segments_of role text.now }
-    {
-        Segments {
-            text,
-            at: 0,
-            role,
-            has_fill: false,
-        }
-    }
-}
-
-impl<'a> Iterator for Segments<'a> {
-    type Item = Result<Segment, SetFaultKind>;
-
-    ghost next_gives = { YieldsFirst segments_left };
-
-    ghost remaining = { item_count segments_left };
-
-    fn next(&mut self) -> Option<Result<Segment, SetFaultKind>> {
-        if self.at >= self.text.len() {
-            return None;
-        }
-        match element_at(self.text, self.at) {
-            Ok((element, next)) => {
-                let segment = Segment::new(self.role, self.has_fill, element);
-                self.at = next;
-                self.has_fill = self.has_fill || is_fill_segment(segment);
-                Some(segment)
-            }
-            Err(kind) => {
-                self.at = self.text.len();
-                Some(Err(kind))
-            }
-        }
-    }
 }

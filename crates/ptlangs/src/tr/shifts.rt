@@ -15,6 +15,15 @@ pub(crate) struct Stretch {
     pub(crate) by: u8,
 }
 
+impl Stretch {
+    /// The stretch from `first` to `last`, with the shift `by`.
+    fn new(first: u8, last: u8, by: u8) -> Stretch
+        ensures { result ≡ record { first = first; last = last; by = by } }
+    {
+        Stretch { first, last, by }
+    }
+}
+
 /// A plan as at most four stretches, each with the number that is added to its bytes, modulo 256.
 #[derive(Drop)]
 pub struct Shifts {
@@ -40,11 +49,7 @@ impl Shifts {
         ensures { result ≡ [] }
     {
         Shifts {
-            stretches: [Stretch {
-                first: 0,
-                last: 0,
-                by: 0,
-            }; 4],
+            stretches: [Stretch::new(0, 0, 0); 4],
             count: 0,
         }
     }
@@ -58,21 +63,14 @@ impl Shifts {
         if self.count > 0 {
             let front = self.stretches[self.count - 1];
             if front.by == by && usize::from(front.first) == usize::from(byte) + 1 {
-                self.stretches[self.count - 1] = Stretch {
-                    first: byte,
-                    ..front
-                };
+                self.stretches[self.count - 1].first = byte;
                 return true;
             }
         }
         if self.count == 4 {
             return false;
         }
-        self.stretches[self.count] = Stretch {
-            first: byte,
-            last: byte,
-            by,
-        };
+        self.stretches[self.count] = Stretch::new(byte, byte, by);
         self.count += 1;
         true
     }

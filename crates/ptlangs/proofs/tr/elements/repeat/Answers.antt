@@ -2,6 +2,6 @@ use Rattle.ptlangs.proofs.Common.{drop, is_ascii_digit, chars}
 use Rattle.ptlangs.proofs.TrPlainRuns.{AllPass-run}
 use Rattle.ptlangs.proofs.tr.elements.repeat.Goals as goal
 
-pub read_count-requires : goal.read_count-requires
-read_count-requires c =
+pub read_count-count-requires : goal.read_count-count-requires
+read_count-count-requires c =
     AllPass-run is_ascii_digit _ (chars (drop c.in_ok-digits.digits c.args.text.now)) c.after_digits-end.ensures.run

@@ -1,6 +1,10 @@
-use Rattle.ptlangs.proofs.Common.{[], arith, image_by}
-use Rattle.ptlangs.proofs.TrLastIndex.{same_table}
+use Rattle.ptlangs.proofs.Common.{◌≡◌, [], get_or, image_by}
+use Rattle.std.proofs.Common.{rules, tests}
+use Rattle.ptlangs.proofs.TrContents.{same_table}
 use Rattle.ptlangs.proofs.tr.images.identity.Goals as goal
 
 pub returns : goal.returns
-returns c = same_table c.loop-byte.entry-items (image_by [] []) 0 c.loop-byte-test.array_long (λ k h. c.loop-byte.invariant k (omega arith))
+returns c = λ to. same_table c.from_fn.result (image_by [] to) 0 c.from_fn.ensures.items.long (λ k h.
+    let (p, q, called) = c.from_fn.ensures.items.at k 0 h in
+    let same : get_or c.from_fn.result k 0 ≡ k = search (rules, tests, called) in
+    same)

@@ -1,5 +1,5 @@
 use Rattle.ptlangs.proofs.Common.{false, is_deleted, image_of, is_squeezed}
-use Rattle.ptlangs.proofs.TrLastIndex.{get_or-table}
+use Rattle.ptlangs.proofs.TrContents.{get_or-table}
 use Rattle.ptlangs.proofs.tr.plan.tables_match_plan.Goals as goal
 
 pub returns : goal.returns

@@ -1,30 +1,66 @@
--- The second string is read twice: first without a fill, to find the number of bytes that a fill has, and then with it.
--- Both times the segments are the same, so the plan is that of the definition.
-use Rattle.ptlangs.proofs.Common.{true, false, arith, ap, sym, ◌∙◌, Result, result_map_both, SetFaultKind, Plan, array, sequence, first_array, segments_of, Tables, tables, last_positions}
-use Rattle.ptlangs.proofs.TrPlans.{same_answer, no_answer, mapped_ok, mapped_at, second_plan-read}
+-- The second string is read without a fill, to find the number of bytes that a fill has, and then with it. The segments
+-- are the same each time, so the plan is that of the definition.
+use Rattle.ptlangs.proofs.Common.{◌≡◌, true, false, arith, ap, sym, [], ◌∙◌, Ok, Err, Result, SetFaultKind, Form, Translate, TranslateSqueeze, DeleteSqueeze, Plan, array, class_offsets, first_array}
+use Rattle.ptlangs.proofs.Common.{has_valid_classes, image_by, map, plan_of, second_plan, string_segments, Tables, tables}
+use Rattle.ptlangs.specs.TrClasses.{all_bytes}
+use Rattle.ptlangs.specs.TrParsing.{contents_of, marked_array, ok_map}
+use Rattle.ptlangs.specs.declared.tr.contents.Contents.{Contents}
+use Rattle.ptlangs.proofs.TrByteWalk.{bytes_of-array, on_fault, string-ok}
+use Rattle.ptlangs.proofs.TrContents.{none_contained}
+use Rattle.ptlangs.proofs.TrImages.{answer_fault, answer_ok}
+use Rattle.ptlangs.proofs.TrPlans.{is_translate, mapped_at, second_plan-read, tables_are, valid-paired}
 use Rattle.ptlangs.proofs.tr.plan.CharPlan.of_two.Goals as goal
 
 abbrev answer_of : Result Plan SetFaultKind → Result Tables SetFaultKind
-answer_of r = result_map_both tables (λ (k : SetFaultKind). k) r
+answer_of r = ok_map tables r
 
-pub returns-in_err-has_valid_classes : goal.returns-in_err-has_valid_classes
-returns-in_err-has_valid_classes c = λ firsts e f.
-    let (ps, read, unfilled) = mapped_ok (sequence (segments_of c.second_role-role.result c.args.s2.now)) (λ ps. last_positions (array 0 ps)) c.in_ok-unfilled.unfilled
-    (sym c.in_ok-unfilled.was ∙ c.read.ensures.positions) in
-    no_answer c.has_valid_classes.result c.in_err-has_valid_classes.field-0.0 _ c.in_err-has_valid_classes.was (c.has_valid_classes.ensures firsts ps e read)
+pub returns-in-DeleteSqueeze : goal.returns-in-DeleteSqueeze
+returns-in-DeleteSqueeze c = λ firsts e f.
+    let role = c.second_role-role.result in
+    let fill = c.saturating_sub-fill.result in
+    let (ps, read, plan) = second_plan-read c.args.form c.args.complement firsts c.args.s2.now role fill c.args.first.now c.in_ok-unfilled.unfilled
+    c.second_role-role.ensures (sym c.in_ok-unfilled.was ∙ c.read.ensures.is) (omega (arith, c.saturating_sub-fill.ensures)) f in
+    let second = mapped_at (string_segments role c.args.s2.now) (λ ps. contents_of (array fill ps)) c.in_ok-second.second ps (sym c.in_ok-second.was ∙ c.read-2.ensures.is) read in
+    let valid = ap (λ (form : Form). has_valid_classes form c.args.complement (class_offsets 0 0 firsts) (class_offsets fill 0 ps)) c.in-DeleteSqueeze.is in
+    let from = first_array c.args.complement firsts in
+    let is = tables_are (plan_of DeleteSqueeze from (array fill ps)) _ _ _ (ap (λ (q : Contents). q.has) f) (c.identity.ensures []) (ap (λ (q : Contents). q.has) second) in
+    ap Ok (c.new.ensures ∙ is ∙ ap (λ (form : Form). tables (plan_of form from (array fill ps))) (sym c.in-DeleteSqueeze.is)) ∙ sym (ap answer_of (plan true valid))
 
-pub returns-then-not-branch : goal.returns-then-not-branch
-returns-then-not-branch c = λ firsts e f.
-    let (ps, read, plan) = second_plan-read c.args.form c.args.complement firsts c.args.s2.now c.second_role-role.result c.saturating_sub.result c.args.first.now c.in_ok-unfilled.unfilled
-    false c.second_role-role.ensures c.if-is_empty.ensures (sym c.in_ok-unfilled.was ∙ c.read.ensures.positions) (omega (arith, c.saturating_sub.ensures, c.len.ensures, c.len-2.ensures))
-    f (λ ps read. sym c.if-not-branch.true ∙ same_answer c.has_valid_classes.result _ _ c.in_ok-has_valid_classes.was (c.has_valid_classes.ensures firsts ps e read)) in
-    sym (ap answer_of plan)
+pub returns-in_err-table : goal.returns-in_err-table
+returns-in_err-table c = λ firsts e f.
+    let role = c.second_role-role.result in
+    let fill = c.saturating_sub-fill.result in
+    let (ps, read, plan) = second_plan-read c.args.form c.args.complement firsts c.args.s2.now role fill c.args.first.now c.in_ok-unfilled.unfilled
+    c.second_role-role.ensures (sym c.in_ok-unfilled.was ∙ c.read.ensures.is) (omega (arith, c.saturating_sub-fill.ensures)) f in
+    let (unpaired, kind) = answer_fault _ _ _ (c.in_err-table.ensures firsts (marked_array fill ps) e f (c.new-2.ensures.all ∙ string-ok role c.args.s2.now fill ps read)) in
+    let valid = valid-paired c.args.form c.args.complement firsts ps fill c.in_default.not-DeleteSqueeze ∙ unpaired in
+    let (_, fault) = c.from_residual-in_err-table.ensures in
+    on_fault (λ r. r ≡ answer_of (second_plan c.args.form c.args.complement firsts c.args.s2.now)) c.from_residual-in_err-table.result _ fault (ap Err kind ∙ sym (ap answer_of (plan false valid)))
 
-pub returns : goal.returns
-returns c = λ firsts e f.
-    let (ps, read, plan) = second_plan-read c.args.form c.args.complement firsts c.args.s2.now c.second_role-role.result c.saturating_sub.result c.args.first.now c.in_ok-unfilled.unfilled
-    true c.second_role-role.ensures c.if-is_empty.ensures (sym c.in_ok-unfilled.was ∙ c.read.ensures.positions) (omega (arith, c.saturating_sub.ensures, c.len.ensures, c.len-2.ensures))
-    f (λ ps read. sym c.if-not-branch.false ∙ same_answer c.has_valid_classes.result _ _ c.in_ok-has_valid_classes.was (c.has_valid_classes.ensures firsts ps e read)) in
-    let positions = mapped_at (sequence (segments_of c.second_role-role.result c.args.s2.now))
-    (λ ps. last_positions (array c.saturating_sub.result ps)) c.in_ok-positions.positions ps (sym c.in_ok-positions.was ∙ c.read-2.ensures.positions) read in
-    c.of_arrays.ensures (first_array c.args.complement firsts) ps f read positions ∙ sym (ap answer_of plan)
+pub returns-in-TranslateSqueeze : goal.returns-in-TranslateSqueeze
+returns-in-TranslateSqueeze c = λ firsts e f.
+    let role = c.second_role-role.result in
+    let fill = c.saturating_sub-fill.result in
+    let (ps, read, plan) = second_plan-read c.args.form c.args.complement firsts c.args.s2.now role fill c.args.first.now c.in_ok-unfilled.unfilled
+    c.second_role-role.ensures (sym c.in_ok-unfilled.was ∙ c.read.ensures.is) (omega (arith, c.saturating_sub-fill.ensures)) f in
+    let second = mapped_at (string_segments role c.args.s2.now) (λ ps. contents_of (array fill ps)) c.in_ok-second.second ps (sym c.in_ok-second.was ∙ c.read-2.ensures.is) read in
+    let (paired, table) = answer_ok _ _ _ (c.in_ok-table.ensures firsts (marked_array fill ps) e f (c.new-2.ensures.all ∙ string-ok role c.args.s2.now fill ps read)) in
+    let valid = valid-paired c.args.form c.args.complement firsts ps fill c.in_default.not-DeleteSqueeze ∙ paired in
+    let from = first_array c.args.complement firsts in
+    let images = table ∙ ap (λ to. map (image_by from to) all_bytes) (bytes_of-array fill ps) in
+    let is = tables_are (plan_of TranslateSqueeze from (array fill ps)) _ _ _ none_contained images (ap (λ (q : Contents). q.has) second) in
+    ap Ok (c.new-in-TranslateSqueeze.ensures ∙ is ∙ ap (λ (form : Form). tables (plan_of form from (array fill ps))) (sym c.in-TranslateSqueeze.is)) ∙ sym (ap answer_of (plan true valid))
+
+pub returns-in_default-form : goal.returns-in_default-form
+returns-in_default-form c = λ firsts e f.
+    let role = c.second_role-role.result in
+    let fill = c.saturating_sub-fill.result in
+    let (ps, read, plan) = second_plan-read c.args.form c.args.complement firsts c.args.s2.now role fill c.args.first.now c.in_ok-unfilled.unfilled
+    c.second_role-role.ensures (sym c.in_ok-unfilled.was ∙ c.read.ensures.is) (omega (arith, c.saturating_sub-fill.ensures)) f in
+    let (paired, table) = answer_ok _ _ _ (c.in_ok-table.ensures firsts (marked_array fill ps) e f (c.new-2.ensures.all ∙ string-ok role c.args.s2.now fill ps read)) in
+    let valid = valid-paired c.args.form c.args.complement firsts ps fill c.in_default.not-DeleteSqueeze ∙ paired in
+    let from = first_array c.args.complement firsts in
+    let images = table ∙ ap (λ to. map (image_by from to) all_bytes) (bytes_of-array fill ps) in
+    let is = tables_are (plan_of Translate from (array fill ps)) _ _ _ none_contained images none_contained in
+    let translates = is_translate c.args.form c.requires.form c.in_default.not-DeleteSqueeze c.in_default-form.not-TranslateSqueeze in
+    ap Ok (c.new-in_default-form.ensures ∙ is ∙ ap (λ (form : Form). tables (plan_of form from (array fill ps))) (sym translates)) ∙ sym (ap answer_of (plan true valid))

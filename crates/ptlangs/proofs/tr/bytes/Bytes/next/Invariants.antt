@@ -1,0 +1,10 @@
+-- The segments that were passed have no bytes left, so what is left to read is the same.
+use Rattle.ptlangs.proofs.Common.{◌≡◌, ◌≤◌, ◌-◌, length}
+use Rattle.ptlangs.specs.TrParsing.{bytes_left, most_left}
+use Rattle.ptlangs.proofs.tr.bytes.Bytes.next.Given as goal
+
+abbrev pub invariant-loop-member : goal.invariant-loop-member
+invariant-loop-member l = record { left : bytes_left l.self ≡ bytes_left l.fn.self; most : most_left l.self ≤ most_left l.fn.self }
+
+abbrev pub decreases-loop-member : goal.decreases-loop-member
+decreases-loop-member l = length l.self.text.now - l.self.at

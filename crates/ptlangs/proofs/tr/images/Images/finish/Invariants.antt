@@ -1,0 +1,12 @@
+-- No class starts in the bytes of the second array that were passed after the end of the first one.
+use Rattle.ptlangs.proofs.Common.{List}
+use Rattle.ptlangs.specs.declared.tr.segments.Member.{Member}
+use Rattle.ptlangs.specs.TrParsing.{HasPaired, most_left}
+use Rattle.ptlangs.proofs.TrImages.{IsPassing}
+use Rattle.ptlangs.proofs.tr.images.Images.finish.Given as goal
+
+abbrev pub invariant-loop-member : goal.invariant-loop-member
+invariant-loop-member l = (from to : List Member) → HasPaired from to l.fn.self → IsPassing from to l.self
+
+abbrev pub decreases-loop-member : goal.decreases-loop-member
+decreases-loop-member l = most_left l.self.second

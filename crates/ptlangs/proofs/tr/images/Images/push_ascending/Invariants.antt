@@ -1,0 +1,10 @@
+-- The bytes of the complement below this one are paired.
+use Rattle.ptlangs.proofs.Common.{◌≡◌, [], ℕ, List, complement_of}
+use Rattle.ptlangs.specs.declared.tr.segments.Member.{Member}
+use Rattle.ptlangs.specs.TrParsing.{HasPaired, contents_of, plain_members}
+use Rattle.ptlangs.proofs.TrContents.{others_below}
+use Rattle.ptlangs.proofs.tr.images.Images.push_ascending.Given as goal
+
+abbrev pub invariant-loop-byte : goal.invariant-loop-byte
+invariant-loop-byte l =
+    (bytes : List ℕ) (to : List Member) → l.fn.first ≡ contents_of (complement_of bytes) → HasPaired [] to l.fn.self → HasPaired (plain_members (others_below bytes l.byte)) to l.self

@@ -1,0 +1,64 @@
+//! The bytes of the array that a string of `tr` denotes, read from the string one after another. No array is kept in
+//! memory.
+ghost use Rattle.std.specs.Prelude.{◌≡◌, ◌*◌, ◌+◌, ◌<◌, length, IfOk, IfSome};
+ghost use Rattle.ptlangs.specs.TrPlan.{segments_of};
+ghost use Rattle.ptlangs.specs.TrParsing.{NextPost, bytes_left, member_results, most_left};
+
+use crate::faults::SetFaultKind;
+use crate::tr::elements::element_at;
+use crate::tr::segments::{Member, Segment, SetRole};
+
+/// Iterates over the bytes of a string's array, of which a fill has `fill`.
+#[derive(Drop)]
+pub(crate) struct Bytes<'a> {
+    role: SetRole,
+    text: &'a [u8],
+    at: usize,
+    has_fill: bool,
+    fill: u128,
+    segment: Segment,
+    index: u128,
+}
+
+impl<'a> Bytes<'a> {
+    /// The bytes of `text`.
+    pub(crate) fn new(role: SetRole, text: &'a [u8], fill: u128) -> Bytes<'a>
+        ensures all { bytes_left result ≡ member_results fill (segments_of role text.now) }
+        ensures most { most_left result ≡ 65536 * length text.now + fill }
+    {
+        Bytes {
+            role,
+            text,
+            at: 0,
+            has_fill: false,
+            fill,
+            segment: Segment::Repeat(0, 0),
+            index: 0,
+        }
+    }
+
+    /// The next byte, or `None` after the last one.
+    ///
+    /// # Errors
+    ///
+    /// The fault of the next segment.
+    pub(crate) fn next(&mut self) -> Result<Option<Member>, SetFaultKind>
+        ensures steps { NextPost (bytes_left self.old) (bytes_left self.new) result }
+        ensures fewer { IfOk result (λ found. IfSome found (λ _. most_left self.new < most_left self.old)) }
+    {
+        loop {
+            if let Some(member) = self.segment.get(self.fill, self.index) {
+                self.index += 1;
+                return Ok(Some(member));
+            }
+            if self.at >= self.text.len() {
+                return Ok(None);
+            }
+            let (element, next) = element_at(self.text, self.at)?;
+            self.segment = Segment::new(self.role, self.has_fill, element)?;
+            self.has_fill = self.has_fill || self.segment.is_fill();
+            self.at = next;
+            self.index = 0;
+        }
+    }
+}

@@ -1,0 +1,78 @@
+//! Which bytes the array of a string of `tr` contains, and how many bytes it has. `plan` makes its tables with it.
+ghost use Rattle.std.specs.Prelude.{◌≡◌, ◌+◌, ◌*◌, ◌^◌, ◌<◌, ◌≤◌, ◌++◌, ◌∷◌, [], ℕ, List, IfOk, length, map};
+ghost use Rattle.ptlangs.specs.declared.tr.segments.Segment.{Segment};
+ghost use Rattle.ptlangs.specs.TrPlan.{array, complement_of, first_array, string_segments};
+ghost use Rattle.ptlangs.specs.TrParsing.{contents_of, ok_map};
+
+use crate::faults::SetFaultKind;
+use crate::tr::bytes::Bytes;
+use crate::tr::segments::SetRole;
+
+/// Which bytes an array contains, and its length.
+#[derive(Drop)]
+pub(crate) struct Contents {
+    pub(crate) has: [bool; 256],
+    pub(crate) length: u128,
+}
+
+impl Contents {
+    /// The empty array.
+    #[tactic(auto, using(crate::proofs::TrContents::contents_steps))]
+    fn new() -> Contents
+        ensures { result ≡ contents_of [] }
+    {
+        Contents {
+            has: [false; 256],
+            length: 0,
+        }
+    }
+
+    /// Appends a byte to the array.
+    #[tactic(auto, using(crate::proofs::TrContents::contents_steps))]
+    fn push(&mut self, byte: u8)
+        requires { self.old.length < 2 ^ 127 }
+        ensures length { self.new.length ≡ self.old.length + 1 }
+        ensures is { (bytes : List ℕ) → self.old ≡ contents_of bytes
+            → self.new ≡ contents_of (bytes ++ byte ∷ []) }
+    {
+        self.has[usize::from(byte)] = true;
+        self.length += 1;
+    }
+
+    /// Reads the array of a string, if a fill has `fill` bytes.
+    ///
+    /// # Errors
+    ///
+    /// The leftmost fault of the string.
+    pub(crate) fn read(role: SetRole, text: &[u8], fill: u128) -> Result<Contents, SetFaultKind>
+        requires { fill < 2 ^ 100 }
+        ensures is { result
+            ≡ ok_map (λ (ps : List Segment). contents_of (array fill ps)) (string_segments role text.now) }
+        ensures bound { IfOk result (λ c. c.length ≤ 2 ^ 80 + fill) }
+    {
+        if text.is_empty() {
+            return Err(SetFaultKind::Empty);
+        }
+        let mut bytes = Bytes::new(role, text, fill);
+        let mut contents = Contents::new();
+        while let Some(member) = bytes.next()? {
+            contents.push(member.byte);
+        }
+        Ok(contents)
+    }
+
+    /// The array of all bytes that this one does not contain, ascending.
+    pub(crate) fn complement(&self) -> Contents
+        ensures is { (bytes : List ℕ) → self.now ≡ contents_of bytes
+            → result ≡ contents_of (complement_of bytes) }
+        ensures bound { result.length ≤ 256 }
+    {
+        let mut others = Contents::new();
+        for byte in u8::MIN..=u8::MAX {
+            if !self.has[usize::from(byte)] {
+                others.push(byte);
+            }
+        }
+        others
+    }
+}
