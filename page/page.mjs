@@ -30,6 +30,10 @@ function newWorker() {
         URL.revokeObjectURL(place);
         if (data.number === number) finish(data);
     };
+    made.onerror = () => {
+        settle();
+        say("Failed", "the worker of this page does not run");
+    };
     made.postMessage({ module: compiled });
     return made;
 }
@@ -197,19 +201,18 @@ function take(example) {
     for (const it of FIELDS) at(it).value = example[it] ?? "";
     clearTimeout(waiting);
     run();
-    at("command").focus();
 }
 
 async function begin() {
     const bytes = Uint8Array.from(atob(textOf("module")), (it) => it.charCodeAt(0));
     try {
         compiled = await WebAssembly.compile(bytes);
+        worker = newWorker();
     } catch (error) {
         at("lacks").textContent = error instanceof WebAssembly.CompileError ? LACKS : String(error);
         at("lacks").hidden = false;
         return;
     }
-    worker = newWorker();
     const examples = JSON.parse(textOf("examples"));
     for (const it of FIELDS) at(it).addEventListener("input", change);
     for (const it of INPUTS) {
@@ -223,7 +226,10 @@ async function begin() {
     }
     at("stop").addEventListener("click", stop);
     for (const it of document.querySelectorAll("[data-example]")) {
-        it.addEventListener("click", () => take(examples[it.dataset.example]));
+        it.addEventListener("click", () => {
+            take(examples[it.dataset.example]);
+            at("command").focus();
+        });
     }
     document.body.dataset.ready = "yes";
     // (A browser may fill the fields with what was there before.)

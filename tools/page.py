@@ -23,7 +23,7 @@ import tempfile
 sys.dont_write_bytecode = True
 sys.path.append(os.path.join(os.path.dirname(os.path.dirname(os.path.realpath(__file__))), "tests"))
 
-from build import NO_RT, Progress, below, proved_in, put, say
+from build import NO_RT, Progress, below, left_out, proved_in, put, say
 from check import TOP, uses_of
 from library import CRATE, KEPT, version, words_for
 from names import NAMES
@@ -33,6 +33,8 @@ from static import ran
 WASM = "wasm64-unknown-unknown"
 # The stack of the module, in bytes. (The calls of the program take a few tens of thousands.)
 STACK = 4 * 2**20
+# How many files the page has room for.
+FILES = 2
 HEAP = "hostheap"
 HEAP_KEPT = f"{TOP}/build/{HEAP}-kept"
 # What is changed in the copy of the toolchain's heap: in its code, in the declarations of its calls, and in its proofs.
@@ -99,7 +101,7 @@ def heap(kit, place):
 def module(kit, place, crates, uses):
     """Makes ptext.wasm in the place. Returns the messages of a step that failed."""
     made = f"{place}/{CRATE}"
-    shutil.copytree(f"{TOP}/crates/{CRATE}", made, ignore=shutil.ignore_patterns("out", "must-fail"))
+    shutil.copytree(f"{TOP}/crates/{CRATE}", made, ignore=left_out)
     why = copied(f"{TOP}/crates/{CRATE}/src/lib.rt", f"{made}/src/lib.rt", IN_CRATE)
     words = [*words_for(kit, f"{place}/room", crates, uses), "--logic-built", f"{kit}/logic_built", "--jobs", "2"]
     words += ["--extern", f"{HEAP}={place}/rlib/{HEAP}.rlib", "--incremental", KEPT]
@@ -122,8 +124,10 @@ def fields(command, folder):
     makes, ptext, rest = command.partition("ptext ")
     text = (ptext + rest).removesuffix("; echo $?").replace("| ptext ", "| ").removeprefix("ptext ")
     found = {"command": text, "stdin": by_shell(makes.strip().removesuffix("|"), folder) if makes else ""}
-    names = [it for it in shlex.split(text) if os.path.isfile(f"{folder}/{it}")]
-    for number, name in enumerate(dict.fromkeys(names), 1):
+    names = dict.fromkeys(it for it in shlex.split(text) if os.path.isfile(f"{folder}/{it}"))
+    if len(names) > FILES:
+        sys.exit(f"an example in man/ needs more than {FILES} files, for which page/page.html has no room: {command}")
+    for number, name in enumerate(names, 1):
         found |= {f"name{number}": name, f"file{number}": text_of(f"{folder}/{name}")}
     return found
 
