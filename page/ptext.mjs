@@ -21,7 +21,7 @@ class NoMemory extends Error {
 }
 
 /** The heap of a module. A block has 2^k bytes; its first 16 hold k, and the caller gets those after them. */
-class Heap {
+export class Heap {
     constructor(limit) {
         this.limit = limit;
         /** The request that is refused, counted from 0. Only tests set it. */

@@ -1,6 +1,7 @@
 // Tests of the module of a page, and of the scripts around it, by node. usage: node tests/page.mjs PAGE
 import { commands, runAll, Refused } from "../page/command.mjs";
 import { load } from "../page/node.mjs";
+import { Heap } from "../page/ptext.mjs";
 import { firstOf, shown } from "../page/shown.mjs";
 
 const page = process.argv[2];
@@ -111,6 +112,42 @@ for (const [text, stdin, files, wanted] of CASES) {
     }
 }
 small.heap.refused = -1;
+
+// ---- the heap: what the contracts of its three calls say, in a random order of calls
+const heap = new Heap(2 ** 20), blocks = [];
+heap.begin(new WebAssembly.Memory({ initial: 1 }), 1001);
+let seed = 1, faults = 0, refusals = 0;
+const random = (below) => (seed = (seed * 48271) % 2147483647) % below;
+const holds = ({ at, size, mark }) => heap.bytes().subarray(at, at + size).every((it) => it === mark);
+/** Fills a new block, which is apart from all others. */
+function fill(at, size) {
+    const isApart = blocks.every((it) => at >= it.at + it.size || it.at >= at + size);
+    if (!isApart || at % 16 || at < 1001 || at + size > heap.memory.buffer.byteLength) faults++;
+    const block = { at, size, mark: random(256) };
+    heap.bytes().fill(block.mark, at, at + size);
+    blocks.push(block);
+}
+for (let turn = 0; turn < 5000; turn++) {
+    const size = random(2) ? random(100) : random(60000), index = random(blocks.length || 1);
+    if (blocks.length < 20 || random(3) === 0) {
+        const at = heap.take(size);
+        if (at) fill(at, size);
+        else refusals++;
+        continue;
+    }
+    const [block] = blocks.splice(index, 1);
+    if (!holds(block)) faults++;
+    if (random(2)) {
+        heap.give(block.at);
+        continue;
+    }
+    const kept = Math.min(block.size, size), at = heap.resize(block.at, kept, size);
+    if (!holds({ at: at || block.at, size: at ? kept : block.size, mark: block.mark })) faults++;
+    if (at) fill(at, size);
+    else blocks.push(block);
+}
+is("blocks of the heap", [faults, blocks.every(holds), refusals > 0], [0, true, true]);
+is("no block of that size", [heap.take(2 ** 40), heap.take(2 ** 63)], [0, 0]);
 
 // ---- words
 const QUOTES = [
