@@ -10,6 +10,7 @@
 # make lib                  build/libptext.so and build/libptext.a with ptext.h: the tools over bytes in memory, for C
 # make install-lib          installs them and the page ptext(3) into PREFIX
 # make python               build/dist: a wheel of the Python module, with the library in it (docs/LIBRARY.md)
+# make page                 build/page/ptext.html: the tools in a browser, as one file (docs/PAGE.md)
 # make bench                ratios to the system's tools, by the length of a line and by work: tables, data and chart in
 #                           bench/; and the tools over parts of their input, on all processors
 # make compare N=5000       random words and inputs, against the definitions and the system's tools; AGAINST=busybox,
@@ -45,8 +46,8 @@ WITH_RT = command -v rt >/dev/null || { echo 'there is no rt in PATH: it is part
     says what can be had without it (if it is unpacked: export PATH=/opt/rattle/bin:$$PATH)' >&2; exit 1; }
 AGAINST ?= system
 
-.PHONY: all try check check-program test static lib install-lib python bench compare install is-built install-tools \
-    uninstall dist dist-static deb clean help
+.PHONY: all try check check-program test static lib install-lib python page bench compare install is-built \
+    install-tools uninstall dist dist-static deb clean help
 
 all: build/ptext
 	@echo '$$ echo abcd | build/ptext cut -c 3-,1' && echo abcd | build/ptext cut -c 3-,1
@@ -104,6 +105,13 @@ python: build/libptext.a
 	rm -rf build/python && cp -r python build/python
 	cp build/libptext.so.$(shell cat VERSION) build/python/ptext/libptext.so
 	cd build/python && $(PYTHON) setup.py -q bdist_wheel -d ../dist
+
+page: build/page/ptext.html
+
+build/page/ptext.html: HANDLES crates.txt tools/page.py $(wildcard page/* man/ptext-*.1) \
+    $(shell find crates -name out -prune -o -path '*/must-fail' -prune -o -type f -print)
+	@$(WITH_RT)
+	python3 tools/page.py
 
 bench: build/ptext
 	python3 bench/run.py build/ptext

@@ -1,11 +1,14 @@
 #!/usr/bin/env python3
-"""Measures the Python module on a million bytes a call, beside the program and beside plain Python.
+"""Measures the Python module on a million bytes a call, beside the module of the page, the program and plain Python.
 
   python3 bench/library.py PROGRAM       prints a table in MB/s of input, the best of several calls
+
+The page is build/page/ptext.html, by node. Without it or without node, its column is empty.
 """
 import csv
 import io
 import os
+import shutil
 import subprocess
 import sys
 import tempfile
@@ -13,11 +16,13 @@ import time
 
 sys.dont_write_bytecode = True
 TOP = os.path.dirname(os.path.dirname(os.path.realpath(__file__)))
-sys.path.insert(0, f"{TOP}/python")
+sys.path[:0] = [f"{TOP}/python", f"{TOP}/tools"]
 os.environ.setdefault("PTEXT_LIBRARY", f"{TOP}/build/libptext.so")
 
 import ptext
+from same import Page
 
+PAGE = f"{TOP}/build/page/ptext.html"
 SIZE, CALLS = 1_000_000, 15
 
 
@@ -85,7 +90,8 @@ def best(call, size):
 
 def main():
     program = os.path.realpath(sys.argv[1])
-    print("| Command | Library | Program | Python |\n|---|---|---|---|")
+    page = Page(PAGE) if shutil.which("node") and os.path.exists(PAGE) else None
+    print("| Command | Library | Page | Program | Python |\n|---|---|---|---|---|")
     with tempfile.TemporaryDirectory() as room:
         for words, stdin, files, others in COMMANDS:
             for name, text in files.items():
@@ -96,11 +102,14 @@ def main():
             for name, other in others:
                 if other() != wanted:
                     return f"{words}: {name} has another output"
+            if page and page.run_all(words, stdin, files)[1] != wanted:
+                return f"{words}: the page has another output"
+            by_page = f"{size / page.asked(words, stdin, files, repeat=CALLS)['seconds'] / 1e6:,.0f}" if page else ""
             by_library = best(lambda: ptext.run(words, stdin, files), size)
             how = {"input": stdin, "stdout": subprocess.PIPE, "cwd": room, "check": True}
             by_program = best(lambda: subprocess.run([program, *words], **how), size)
             by_python = ", ".join(f"{name} {best(other, size):,.0f}" for name, other in others)
-            print(f"| `{' '.join(words)}` | {by_library:,.0f} | {by_program:,.0f} | {by_python} |")
+            print(f"| `{' '.join(words)}` | {by_library:,.0f} | {by_page} | {by_program:,.0f} | {by_python} |")
     return 0
 
 

@@ -26,6 +26,11 @@ if [ -e build/libptext.so ]; then
 else
     echo "left out: the library (make lib builds it)"
 fi
+if [ -e build/page/ptext.html ]; then
+    sh tests/page.sh "$program"
+else
+    echo "left out: the page (make page builds it)"
+fi
 if [ ! -x build/ptext-static ]; then
     echo "left out: the program without shared libraries (make static builds it)"
 elif [ -x build/ptext ] && [ -z "$(find build/ptext-static -newer build/ptext)" ]; then

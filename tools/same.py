@@ -1,8 +1,14 @@
 #!/usr/bin/env python3
 """Compares the library with the program: the same output, messages and status on random words and inputs.
 
-  python3 tools/same.py PROGRAM [COUNT]       COUNT is 2,000. The library is build/libptext.so, through the Python module
+  python3 tools/same.py PROGRAM [COUNT] [--page PAGE]
+
+COUNT is 2,000. The library is build/libptext.so, through the Python module; with --page, the module of a built page, by
+node.
 """
+import argparse
+import base64
+import json
 import os
 import random
 import subprocess
@@ -17,10 +23,46 @@ os.environ.setdefault("PTEXT_LIBRARY", f"{TOP}/build/libptext.so")
 from generating import some_case
 from reading import FLAGS
 
-from ptext._library import names, run_all
+# (Before version 24, node has memories with 64-bit addresses by this option only.)
+OPTION = "--experimental-wasm-memory64"
 
 
-def of_program(program, words, inputs, room):
+class Library:
+    """Calls of the library, by the Python module."""
+
+    def __init__(self):
+        from ptext import _library
+
+        self.names, self.run_all = _library.names, _library.run_all
+
+
+class Page:
+    """Calls of the module of a page, by node."""
+
+    def __init__(self, page):
+        how = {"stdout": subprocess.DEVNULL, "stderr": subprocess.DEVNULL, "check": False}
+        options = [] if subprocess.run(["node", OPTION, "-e", ""], **how).returncode else [OPTION]
+        words = ["node", *options, f"{TOP}/page/node.mjs", page]
+        self.node = subprocess.Popen(words, stdin=subprocess.PIPE, stdout=subprocess.PIPE, text=True)
+
+    def asked(self, words, stdin=b"", files=None, **more):
+        """The answer to one call."""
+        given = {name: base64.b64encode(text).decode() for name, text in (files or {}).items()}
+        call = {"words": words, "stdin": base64.b64encode(stdin).decode(), "files": given, **more}
+        self.node.stdin.write(json.dumps(call) + "\n")
+        self.node.stdin.flush()
+        return json.loads(self.node.stdout.readline())
+
+    def names(self, words):
+        answer = self.asked(words)
+        return answer["read"], answer["output"]
+
+    def run_all(self, words, stdin, files):
+        answer = self.asked(words, stdin, files)
+        return (answer["status"], *(base64.b64decode(answer[it]) for it in ("out", "messages")))
+
+
+def of_program(program, words, inputs, output, room):
     """The status, the output (also that to a file) and the messages of the program."""
     with tempfile.TemporaryDirectory(dir=room) as folder:
         for name, text in inputs.items():
@@ -29,30 +71,41 @@ def of_program(program, words, inputs, room):
                     it.write(text)
         how = {"input": inputs.get("-", b""), "capture_output": True, "cwd": folder, "check": False}
         did = subprocess.run([program, *words], **how)
-        output, out = names(words)[1], did.stdout
+        out = did.stdout
         if output is not None and os.path.isfile(f"{folder}/{output}") and did.returncode != 2:
             with open(f"{folder}/{output}", "rb") as it:
                 out = it.read()
         return did.returncode, out, did.stderr
 
 
+def is_text(words):
+    return not any("\udc80" <= it <= "\udcff" for word in words for it in word)
+
+
 def main():
-    program, count = os.path.realpath(sys.argv[1]), int((sys.argv[2:] or ["2000"])[0])
+    takes = argparse.ArgumentParser(description="Compares the library with the program.")
+    takes.add_argument("program")
+    takes.add_argument("count", nargs="?", type=int, default=2000)
+    takes.add_argument("--page")
+    given = takes.parse_args()
+    program, other = os.path.realpath(given.program), Page(given.page) if given.page else Library()
     tools, differences, left_out = list(FLAGS), 0, 0
     with tempfile.TemporaryDirectory() as room:
-        for number in range(count):
+        for number in range(given.count):
             case = some_case(tools[number % len(tools)], random.Random(f"library {number}"))
             words, inputs = case.words(), dict(case.inputs)
-            read, output = names(words)
+            # (Nobody can type a word that is not UTF-8 into a page.)
+            read, output = other.names(words) if not given.page or is_text(words) else ([""], "")
             if output is not None and output in read:
                 left_out += 1
                 continue
-            wanted = of_program(program, words, inputs, room)
-            found = run_all(words, inputs.get("-", b""), {it: inputs[it] for it in read if it in inputs})
+            wanted = of_program(program, words, inputs, output, room)
+            found = other.run_all(words, inputs.get("-", b""), {it: inputs[it] for it in read if it in inputs})
             if wanted != found:
                 differences += 1
                 print(f"FAILED: {words}\nprogram: {wanted}\nlibrary: {found}\ninputs: {inputs}")
-    print(f"{count - left_out} commands: {differences} differences" + (f"; left out: {left_out}" if left_out else ""))
+    more = f"; left out: {left_out}" if left_out else ""
+    print(f"{given.count - left_out} commands: {differences} differences{more}")
     return 1 if differences else 0
 
 

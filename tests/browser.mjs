@@ -1,0 +1,279 @@
+// Tests of a built page in a browser without a window: types, clicks, and compares with the program.
+// usage: node tests/browser.mjs CHROMIUM PAGE PROGRAM [PICTURE]      PICTURE: a picture of the page is put there
+import { spawn, spawnSync } from "node:child_process";
+import fs from "node:fs";
+import os from "node:os";
+import path from "node:path";
+import { pathToFileURL } from "node:url";
+
+const [chromium, page, program, picture] = process.argv.slice(2);
+const room = fs.mkdtempSync(path.join(os.tmpdir(), "ptext-page-"));
+const address = pathToFileURL(path.resolve(page)).href;
+let tests = 0, failed = 0;
+
+function is(what, found, wanted) {
+    tests++;
+    const [one, two] = [found, wanted].map((it) => JSON.stringify(it) ?? "nothing");
+    if (one !== two) {
+        failed++;
+        console.log(`FAILED: ${what}\nwanted: ${two.slice(0, 300)}\nfound:  ${one.slice(0, 300)}`);
+    }
+}
+
+/** A browser, to which messages go by a pipe, as the protocol of its developer tools has them. */
+class Browser {
+    constructor() {
+        const all = ["--headless=new", "--no-sandbox", "--disable-gpu", "--disable-dev-shm-usage", "--no-first-run",
+            "--disable-background-networking", "--remote-debugging-pipe", `--user-data-dir=${room}/profile`];
+        this.child = spawn(chromium, all, { stdio: ["ignore", "ignore", "ignore", "pipe", "pipe"] });
+        [this.number, this.waiting, this.events, this.heard] = [0, new Map(), [], ""];
+        this.child.stdio[4].on("data", (text) => this.hear(String(text)));
+    }
+
+    hear(text) {
+        this.heard += text;
+        const messages = this.heard.split("\0");
+        this.heard = messages.pop();
+        for (const it of messages.map((message) => JSON.parse(message))) {
+            if (it.id === undefined) this.events.push(it);
+            else if (it.error) this.waiting.get(it.id)[1](new Error(it.error.message));
+            else this.waiting.get(it.id)[0](it.result);
+        }
+    }
+
+    send(method, params = {}) {
+        const id = ++this.number;
+        this.child.stdio[3].write(`${JSON.stringify({ id, method, params, sessionId: this.session })}\0`);
+        return new Promise((good, bad) => this.waiting.set(id, [good, bad]));
+    }
+
+    /** Opens a page. The script runs in it before its own. */
+    async open(url, script = "") {
+        this.session = undefined;
+        const { targetId } = await this.send("Target.createTarget", { url: "about:blank" });
+        this.session = (await this.send("Target.attachToTarget", { targetId, flatten: true })).sessionId;
+        for (const it of ["Page", "Runtime", "Network", "Log"]) await this.send(`${it}.enable`);
+        if (script) await this.send("Page.addScriptToEvaluateOnNewDocument", { source: script });
+        await this.send("Page.navigate", { url });
+    }
+
+    /** The value of an expression in the page. */
+    async value(expression) {
+        const did = await this.send("Runtime.evaluate", { expression, awaitPromise: true, returnByValue: true });
+        if (did.exceptionDetails) throw new Error(did.exceptionDetails.exception.description);
+        return did.result.value;
+    }
+
+    /** Waits until an expression is true. Returns whether it was, within the time. */
+    async until(expression, seconds = 20) {
+        const end = Date.now() + 1000 * seconds;
+        while (Date.now() < end) {
+            if (await this.value(expression).catch(() => false)) return true;
+            await new Promise((after) => setTimeout(after, 20));
+        }
+        return false;
+    }
+
+    /** Presses a key, which has this name and this number. */
+    async press(key, number, text) {
+        const event = { key, code: key, windowsVirtualKeyCode: number };
+        await this.send("Input.dispatchKeyEvent", { type: "keyDown", text, ...event });
+        await this.send("Input.dispatchKeyEvent", { type: "keyUp", ...event });
+    }
+
+    /** Types a text into a field, in the place of what is there. */
+    async type(id, text) {
+        await this.value(`document.getElementById("${id}").focus(); document.getElementById("${id}").select()`);
+        if (text) await this.send("Input.insertText", { text });
+        else await this.press("Delete", 46);
+    }
+
+    async close() {
+        this.session = undefined;
+        const ended = new Promise((after) => this.child.on("exit", after));
+        await this.send("Browser.close");
+        await ended;
+    }
+}
+
+// What the page shows. Escapes are shown, too: so these inputs have none.
+const RESULT = `Object.fromEntries(["status", "out", "messages"]
+    .map((id) => [id, document.getElementById(id).textContent]))`;
+const FIELDS = `Object.fromEntries(["command", "stdin", "name1", "file1", "name2", "file2"]
+    .map((id) => [id, document.getElementById(id).value]))`;
+
+/** The results of the program for what the fields hold, by a shell. */
+function byProgram(fields) {
+    const folder = fs.mkdtempSync(`${room}/here-`);
+    fs.mkdirSync(`${folder}/bin`);
+    for (const tool of ["cut", "paste", "join", "comm", "uniq", "tr"]) {
+        const text = `#!/bin/sh\nexec '${path.resolve(program)}' ${tool} "$@"\n`;
+        fs.writeFileSync(`${folder}/bin/${tool}`, text, { mode: 0o755 });
+    }
+    fs.mkdirSync(`${folder}/files`);
+    for (const it of [1, 2]) {
+        if (fields[`name${it}`]) fs.writeFileSync(`${folder}/files/${fields[`name${it}`]}`, fields[`file${it}`]);
+    }
+    const before = fs.readdirSync(`${folder}/files`);
+    const environment = { ...process.env, PATH: `${folder}/bin:${process.env.PATH}` };
+    const how = { cwd: `${folder}/files`, input: fields.stdin, env: environment, encoding: "utf8" };
+    const did = spawnSync("sh", ["-c", fields.command], how);
+    // (The output of `uniq` may be in a file.)
+    const made = fs.readdirSync(`${folder}/files`).filter((it) => !before.includes(it));
+    const out = made.length ? fs.readFileSync(`${folder}/files/${made[0]}`, "utf8") : did.stdout;
+    return { status: did.status, out, messages: did.stderr };
+}
+
+const numbered = ({ status, ...rest }) => ({ status: Number(/^Status (\d)/.exec(status)?.[1] ?? -1), ...rest });
+
+/** Clicks the link, and compares the file with these bytes. */
+async function downloaded(browser, wanted) {
+    await browser.send("Page.setDownloadBehavior", { behavior: "allow", downloadPath: `${room}/downloads` });
+    await browser.value(`document.getElementById("download").click()`);
+    const file = `${room}/downloads/output.txt`;
+    for (let turn = 0; turn < 500 && !fs.existsSync(file); turn++) await new Promise((after) => setTimeout(after, 20));
+    is("the download", fs.existsSync(file) && fs.readFileSync(file).toString("hex"), wanted.toString("hex"));
+}
+
+async function typed(browser) {
+    is("the page is ready", await browser.until(`document.body.dataset.ready === "yes"`), true);
+    for (const it of ["stdin", "name1", "file1", "name2", "file2"]) await browser.type(it, "");
+    await browser.type("stdin", "root:x:0\nbin:x:1\n");
+    await browser.type("command", "cut -d : -f 1,3");
+    is("typed", await browser.until(`(${RESULT}).out === "root:0\\nbin:1\\n"`), true);
+    is("its status", (await browser.value(RESULT)).status, "Status 0: everything was written");
+    await browser.type("name1", "names");
+    await browser.type("file1", "b:2\n");
+    await browser.type("command", "cut -d : -f 1 names nowhere");
+    is("a file that is not there", await browser.until(`(${RESULT}).status.startsWith("Status 1: ")`), true);
+    is("its result", numbered(await browser.value(RESULT)), byProgram(await browser.value(FIELDS)));
+    await browser.type("command", "cut -q");
+    is("a wrong command", await browser.until(`(${RESULT}).status.startsWith("Status 2: ")`), true);
+    const wrong = { status: 2, out: "", messages: "cut: unknown option in -q\n" };
+    is("its message", numbered(await browser.value(RESULT)), wrong);
+    await browser.type("command", "cut -f 1 > f");
+    is("not taken", await browser.until(`(${RESULT}).status.startsWith("Not run")`), true);
+    await browser.type("command", "tr ab '\\377\\0'");
+    await browser.type("stdin", "abc");
+    is("escapes", await browser.until(`(${RESULT}).out === "\\\\xff\\\\x00c"`), true);
+    is("they are marked", await browser.value(`document.querySelector("#out .escapes").textContent`), "\\xff\\x00");
+    const fetching = `fetch("https://example.org").then(() => "read", () => "refused")`;
+    is("nothing is fetched", await browser.value(fetching), "refused");
+    await downloaded(browser, Buffer.from([255, 0, 99]));
+}
+
+async function clicked(browser) {
+    const count = await browser.value(`document.querySelectorAll("[data-example]").length`);
+    is("there are examples", count > 25, true);
+    for (let number = 0; number < count; number++) {
+        const button = `document.querySelector('[data-example="${number}"]')`;
+        await browser.value(`document.getElementById("status").textContent = ""; ${button}.focus()`);
+        // By the keyboard, as a person who cannot see the pointer does.
+        await browser.press("Enter", 13, "\r");
+        const shows = await browser.until(`document.getElementById("status").textContent.startsWith("Status")`);
+        const fields = await browser.value(FIELDS);
+        is(`example ${number} is run`, shows, true);
+        is(`the button of example ${number}`, await browser.value(`${button}.textContent`), fields.command);
+        is(`example: ${fields.command}`, numbered(await browser.value(RESULT)), byProgram(fields));
+    }
+}
+
+async function large(browser) {
+    for (const it of ["name1", "file1", "name2", "file2", "stdin"]) await browser.type(it, "");
+    await browser.type("command", "tr 0-9 a-j");
+    const paste = (id, text) => browser.value(`{ const it = document.getElementById("${id}"); it.value = ${text};
+        it.dispatchEvent(new Event("input", { bubbles: true })); }`);
+    // As the clipboard hands it over; and then a file of bytes that are no text.
+    await browser.value(`{ const data = new DataTransfer();
+        data.setData("text/plain", "012345678\\r\\n".repeat(1000000));
+        const event = new ClipboardEvent("paste", { clipboardData: data, bubbles: true, cancelable: true });
+        document.getElementById("stdin").dispatchEvent(event); }`);
+    const size = `document.getElementById("size").textContent`;
+    is("10 MB", await browser.until(`${size}.startsWith("10,000,000 bytes, of which")`, 60), true);
+    is("their beginning", await browser.value(`document.getElementById("out").textContent.length`), 65536);
+    is("they are held", await browser.value(`document.getElementById("stdin-held").textContent`),
+        "10,000,000 characters, of which the beginning is shown.");
+    await browser.value(`document.getElementById("stdin-empty").click()`);
+    is("nothing", await browser.until(`${size} === "0 bytes"`), true);
+    fs.writeFileSync(`${room}/bytes`, Buffer.from([0x61, 0xff, 0x0d, 0x0a]));
+    const { root } = await browser.send("DOM.getDocument");
+    const { nodeId } = await browser.send("DOM.querySelector", { nodeId: root.nodeId, selector: "#file1-open" });
+    await browser.send("DOM.setFileInputFiles", { files: [`${room}/bytes`], nodeId });
+    await browser.type("command", "cut -b 1- bytes");
+    is("a file is taken", await browser.until(`(${RESULT}).out.startsWith("a\\\\xff")`), true);
+    is("its bytes", numbered(await browser.value(RESULT)), { status: 0, out: "a\\xff\\x0d\n", messages: "" });
+    await browser.value(`document.getElementById("file1-empty").click()`);
+    await browser.type("name1", "f");
+    await browser.type("name2", "g");
+    for (const it of ["file1", "file2"]) await paste(it, `"k some more words\\n".repeat(20000)`);
+    await browser.type("command", "join f g");
+    is("a long run can be stopped", await browser.until(`!document.getElementById("stop").hidden`), true);
+    await browser.value(`document.getElementById("stop").click()`);
+    is("it is stopped", (await browser.value(RESULT)).status, "Stopped");
+    await browser.type("command", "uniq -c f");
+    is("a run after it", await browser.until(`(${RESULT}).out === "20000 k some more words\\n"`), true);
+}
+
+/** Each control has a name, and so has each region that takes the focus. */
+async function names(browser) {
+    const { nodes } = await browser.send("Accessibility.getFullAXTree");
+    const roles = ["textbox", "button", "link", "region", "status"];
+    const found = nodes.filter((it) => !it.ignored && roles.includes(it.role?.value));
+    is("controls", found.length > 40, true);
+    const lacking = found.filter((it) => it.role.value !== "status" && !it.name?.value);
+    is("controls without a name", lacking.map((it) => it.role.value), []);
+}
+
+async function narrow(browser) {
+    const phone = { width: 360, height: 740, deviceScaleFactor: 2, mobile: true };
+    await browser.send("Emulation.setDeviceMetricsOverride", phone);
+    is("on a phone nothing is cut off", await browser.value("document.documentElement.scrollWidth"), 360);
+    await browser.send("Emulation.clearDeviceMetricsOverride");
+    const colors = async (scheme) => {
+        const features = [{ name: "prefers-color-scheme", value: scheme }];
+        await browser.send("Emulation.setEmulatedMedia", { features });
+        return browser.value("getComputedStyle(document.body).backgroundColor");
+    };
+    is("dark", await colors("dark"), "rgb(22, 22, 22)");
+    is("light", await colors("light"), "rgb(255, 255, 255)");
+}
+
+async function pictured(browser) {
+    const size = { width: 900, height: 880, deviceScaleFactor: 1, mobile: false };
+    await browser.send("Emulation.setDeviceMetricsOverride", size);
+    await browser.value(`document.querySelectorAll("[data-example]")[10].click()`);
+    await browser.until(`document.getElementById("status").textContent.startsWith("Status")`);
+    await browser.value("scrollTo(0, 0)");
+    const { data } = await browser.send("Page.captureScreenshot", { format: "png" });
+    fs.writeFileSync(picture, Buffer.from(data, "base64"));
+}
+
+async function main() {
+    const browser = new Browser();
+    await browser.open(address);
+    await typed(browser);
+    await clicked(browser);
+    await names(browser);
+    await narrow(browser);
+    if (picture) await pictured(browser);
+    await large(browser);
+    const requests = browser.events.filter((it) => it.method === "Network.requestWillBeSent");
+    const asked = requests.map((it) => it.params.request.url);
+    is("requests beside the page", asked.filter((it) => it !== address && !/^(blob|data):/.test(it)), []);
+    const thrown = browser.events.filter((it) => it.method === "Runtime.exceptionThrown");
+    is("errors", thrown.map((it) => it.params.exceptionDetails.exception?.description), []);
+    await browser.open(address, `WebAssembly.compile = async () => { throw new WebAssembly.CompileError(""); }`);
+    is("no memories with 64-bit addresses", await browser.until(`!document.getElementById("lacks").hidden`), true);
+    const lacks = await browser.value(`document.getElementById("lacks").textContent`);
+    is("it says so", lacks.includes("64-bit addresses"), true);
+    await browser.close();
+    console.log(`${tests} tests in a browser: ${failed} failed`);
+}
+
+main().catch((error) => {
+    console.log(`FAILED: ${error.stack}`);
+    failed++;
+}).finally(() => {
+    fs.rmSync(room, { recursive: true, force: true });
+    process.exit(failed ? 1 : 0);
+});
