@@ -19,7 +19,8 @@ number_lt : (p q : ℕ) (xs ys : List ℕ) → length xs ≡ length ys → Each1
 number_lt p q [] [] long fit less = less
 number_lt p q [] (y ∷ ys) long fit less = absurd (omega arith)
 number_lt p q (x ∷ xs) [] long fit less = absurd (omega arith)
-number_lt p q (x ∷ xs) (y ∷ ys) long fit less = number_lt (p * 256 + x) (q * 256 + y) xs ys (omega arith) fit.1 (omega (arith, fit.0.fits))
+number_lt p q (x ∷ xs) (y ∷ ys) long (first, fit) less =
+    number_lt (p * 256 + x) (q * 256 + y) xs ys (omega arith) fit (omega (arith, first.fits))
 
 nat_cmp_less : (x y : ℕ) → x < y → nat_cmp x y ≡ Less
 nat_cmp_less x y less = grind (arith, nat_tests)
@@ -35,14 +36,14 @@ digits_cmp : (p : ℕ) (xs ys : List ℕ) → length xs ≡ length ys → Each1 
 digits_cmp p [] [] long fx fy = nat_cmp_equal p
 digits_cmp p [] (y ∷ ys) long fx fy = absurd (omega arith)
 digits_cmp p (x ∷ xs) [] long fx fy = absurd (omega arith)
-digits_cmp p (x ∷ xs) (y ∷ ys) long fx fy =
+digits_cmp p (x ∷ xs) (y ∷ ys) long (x_fits, xs_fit) (y_fits, ys_fit) =
     let m = number (p * 256 + x) xs in
     let n = number (p * 256 + y) ys in
     let both : (o : Ordering) → nat_cmp x y ≡ o → byte_cmp (x ∷ xs) (y ∷ ys) ≡ ordering_then o (byte_cmp xs ys) = λ o is. ap (λ r. ordering_then r (byte_cmp xs ys)) is in
     by_ranked _ _ _ (nat_cmp x y) (ranked x y (nat_cmp x y) refl)
-    (λ is less. nat_cmp_less m n (number_lt (p * 256 + x) (p * 256 + y) xs ys (omega arith) fx.1 (omega (arith, fx.0.fits, less))) ∙ sym (both Less is))
-    (λ is same. ap (λ (z : ℕ). nat_cmp m (number (p * 256 + z) ys)) (sym same) ∙ digits_cmp (p * 256 + x) xs ys (omega arith) fx.1 fy.1 ∙ sym (both Equal is))
-    (λ is more. nat_cmp_greater m n (number_lt (p * 256 + y) (p * 256 + x) ys xs (omega arith) fy.1 (omega (arith, fy.0.fits, more))) ∙ sym (both Greater is))
+    (λ is less. nat_cmp_less m n (number_lt (p * 256 + x) (p * 256 + y) xs ys (omega arith) xs_fit (omega (arith, x_fits.fits, less))) ∙ sym (both Less is))
+    (λ is same. ap (λ (z : ℕ). nat_cmp m (number (p * 256 + z) ys)) (sym same) ∙ digits_cmp (p * 256 + x) xs ys (omega arith) xs_fit ys_fit ∙ sym (both Equal is))
+    (λ is more. nat_cmp_greater m n (number_lt (p * 256 + y) (p * 256 + x) ys xs (omega arith) ys_fit (omega (arith, y_fits.fits, more))) ∙ sym (both Greater is))
 
 list_of_4 : (xs : List ℕ) → length xs ≡ 4 → get_or xs 0 0 ∷ get_or xs 1 0 ∷ get_or xs 2 0 ∷ get_or xs 3 0 ∷ [] ≡ xs
 list_of_4 [] l = absurd (omega arith)

@@ -32,8 +32,13 @@ buffer_lag_bytes (Some t) mid is buffered waits bytes p q all few = (
 
 buffer_lag : (was mid is : Output) (pushed bytes : List ℕ) → PushEffect was mid pushed → mid.write_failed ≡ false → IsKnownPrefix mid.accepted is.accepted → IsPrefix bytes pushed → BufferLag was is bytes
 buffer_lag was mid is pushed bytes wrote clean kept front =
-    let s = buffer_lag_bytes was.accepted mid.accepted is.accepted was.buffered mid.buffered pushed wrote.kept kept (wrote.whole clean) wrote.buffered in
-    record { written_out = s.0; accepted = s.1; most = omega (arith, s.2, ap length front.is, length-append bytes front.rest) }
+    let (written_out, accepted, most) = buffer_lag_bytes was.accepted mid.accepted is.accepted was.buffered mid.buffered pushed
+    wrote.kept kept (wrote.whole clean) wrote.buffered in
+    record {
+      written_out = written_out;
+      accepted = accepted;
+      most = omega (arith, most, ap length front.is, length-append bytes front.rest);
+    }
 
 module _ {I : Type 0} (decided : (I → Received) → List ℕ) (came : I → Received) (was mid : Output) (pushed : List ℕ) (processing : ProcessLag decided came pushed)
     (wrote : PushEffect was mid pushed) (clean : mid.write_failed ≡ false) where

@@ -11,23 +11,25 @@ is_line_if_none end (b ∷ bytes) none = (none 0 (omega arith), is_line_if_none 
 
 pub IsLine-append : (end : ℕ) (xs ys : List ℕ) → IsLine end xs → IsLine end ys → IsLine end (xs ++ ys)
 IsLine-append end [] ys p q = q
-IsLine-append end (x ∷ xs) ys p q = (p.0, IsLine-append end xs ys p.1 q)
+IsLine-append end (x ∷ xs) ys (differs, p) q = (differs, IsLine-append end xs ys p q)
 
 -- the bytes before the first terminator contain none
 pub line_before_terminator : (end : ℕ) (hay : List ℕ) (at : ℕ) → IsFirstByte (is_byte end) hay (Some at) → IsLine end (take at hay)
-line_before_terminator end hay at first =
+line_before_terminator end hay at (none, _) =
     is_line_if_none end (take at hay) (λ k lt is.
-    let near : k < at = omega (arith, length-take at hay, first.0.high) in
-    first.0.before k (omega arith) near (eq-eqb (get_or hay k 0) end (sym (get_or-take at hay k 0 near) ∙ is)))
+    let near : k < at = omega (arith, length-take at hay, none.high) in
+    none.before k (omega arith) near (eq-eqb (get_or hay k 0) end (sym (get_or-take at hay k 0 near) ∙ is)))
 
 pub line_if_not_found : (end : ℕ) (hay : List ℕ) → IsFirstByte (is_byte end) hay None → IsLine end hay
 line_if_not_found end hay none = is_line_if_none end hay (λ k lt is. none k (omega arith) lt (eq-eqb (get_or hay k 0) end is))
 
 pub take_with_terminator : (end : ℕ) (hay : List ℕ) (at : ℕ) → IsFirstByte (is_byte end) hay (Some at) → take (at + 1) hay ≡ take at hay ++ end ∷ []
-take_with_terminator end hay at first = take_more hay at 0 first.0.high ∙ ap (λ (b : ℕ). take at hay ++ b ∷ []) (eqb-true (get_or hay at 0) end first.1)
+take_with_terminator end hay at (none, found) =
+    take_more hay at 0 none.high ∙ ap (λ (b : ℕ). take at hay ++ b ∷ []) (eqb-true (get_or hay at 0) end found)
 
 pub drop_at_terminator : (end : ℕ) (hay : List ℕ) (at : ℕ) → IsFirstByte (is_byte end) hay (Some at) → drop at hay ≡ end ∷ drop (at + 1) hay
-drop_at_terminator end hay at first = drop_more hay at 0 first.0.high ∙ ap (λ (b : ℕ). b ∷ drop (at + 1) hay) (eqb-true (get_or hay at 0) end first.1)
+drop_at_terminator end hay at (none, found) =
+    drop_more hay at 0 none.high ∙ ap (λ (b : ℕ). b ∷ drop (at + 1) hay) (eqb-true (get_or hay at 0) end found)
 
 -- consuming the first n buffered bytes
 pub advance_ok_take : (old new : Reader) (n : ℕ) → old.fault ≡ None → n ≤ length old.buffered → new ≡ record old { buffered = drop n old.buffered } → AdvanceOk old new (take n old.buffered)
@@ -48,9 +50,10 @@ piece_line old mid new hay before after slot at clean is found first_step second
     let first : IsFirstByte (is_byte old.terminator) old.buffered (Some at) = subst (λ (h : List ℕ). IsFirstByte (is_byte old.terminator) h (Some at)) is found in
     let step : new ≡ record old { buffered = drop (at + 1) old.buffered } =
     second_step ∙ ap (λ (r : Reader). record r { buffered = drop 1 r.buffered }) first_step ∙ ap (λ (h : List ℕ). record old { buffered = h }) (drop-drop 1 at old.buffered) in
+    let (none, _) = first in
     record {
       piece = take at old.buffered;
-      advance_ok = subst (λ (b : List ℕ). AdvanceOk old new b) (take_with_terminator old.terminator old.buffered at first) (advance_ok_take old new (at + 1) clean (omega (arith, first.0.high)) step);
+      advance_ok = subst (λ (b : List ℕ). AdvanceOk old new b) (take_with_terminator old.terminator old.buffered at first) (advance_ok_take old new (at + 1) clean (omega (arith, none.high)) step);
       whole = line_before_terminator old.terminator old.buffered at first;
       appended = appended;
     }

@@ -52,9 +52,13 @@ module _ (P : ℕ → Type 0) where
   -- nothing matches before `later`, so a search that begins at `j` finds the first match from `i` on
   pub first_after : (i j k later : ℕ) (r : Option ℕ) → i ≤ j → j ≤ later → Nowhere P i later → IsFirst P j k r → IsFirst P i k r
   first_after i j k later None order near none first = nowhere_trans i j k (λ m low high. none m low (omega (arith, high, near))) first
-  first_after i j k later (Some m) order near none first = (
-    record { low = omega (arith, order, first.0.low); high = first.0.high; before = nowhere_trans i j m (λ n low high. none n low (omega (arith, high, near))) first.0.before },
-    first.1,
+  first_after i j k later (Some m) order near none (first, found) = (
+    record {
+      low = omega (arith, order, first.low);
+      high = first.high;
+      before = nowhere_trans i j m (λ n low high. none n low (omega (arith, high, near))) first.before;
+    },
+    found,
   )
 
 -- ---- masks of adjacent chunks
@@ -116,8 +120,8 @@ module _ (test : ℕ → Bool) (hay : List ℕ) where
 
   pub first_of_mask_16 : (m : ℕ) → 64 ≤ length hay → m ≡ mask_l (map test (chunk 0 16 hay)) → (m ≡ 0 → ⊥) → IsFirst (Passes test hay) 0 64 (Some (count_trailing_zeros 64 m))
   first_of_mask_16 m room is some =
-      let first = first_from_start 16 m (omega arith) (omega (arith, room)) is some in
-      (record { low = omega arith; high = omega (arith, first.0.high); before = first.0.before }, first.1)
+      let (first, found) = first_from_start 16 m (omega arith) (omega (arith, room)) is some in
+      (record { low = omega arith; high = omega (arith, first.high); before = first.before }, found)
 
   pub mask_64 : (near far : ℕ) → 64 ≤ length hay → near ≡ mask_l (map test (chunk 0 16 hay)) → near ≡ 0 → far ≡ mask_l (map test (chunk 16 48 hay))
       → far * 65536 % 18446744073709551616 ≡ mask_l (map test (chunk 0 64 hay))

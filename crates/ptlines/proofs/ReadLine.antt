@@ -15,7 +15,7 @@ advance_trans a b c xs ys p q = record {
   terminator = q.terminator ∙ p.terminator;
   count = omega (arith, p.count, q.count, length-append xs ys);
   refused = q.refused ∙ p.refused;
-  still = λ eof. let first = p.still eof in let second = q.still first.1 in (second.0 ∙ first.0, second.1);
+  still = λ eof. let (pulled, still_eof) = p.still eof in let (pulled_more, at_eof) = q.still still_eof in (pulled_more ∙ pulled, at_eof);
   end = λ h. q.end (p.end h);
 }
 
@@ -135,13 +135,13 @@ module _ (n : ℕ) (old new : Reader) (block front : List ℕ) (start end size :
   -- the terminator that was found lies within the buffered bytes
   first_in_block : start + size < end → end - start ≤ length old.buffered → take (end - start) front ≡ old.buffered → IsFirst (Passes (is_byte old.terminator) front) 0 n (Some size)
       → IsFirstByte (is_byte old.terminator) old.buffered (Some size)
-  first_in_block high fits buffered first = (
+  first_in_block high fits buffered (none, found) = (
     record {
       low = omega arith;
       high = omega (arith, high, fits);
-      before = λ k from to passes. first.0.before k from to (sym (there k (omega (arith, to, high))) ∙ passes);
+      before = λ k from to passes. none.before k from to (sym (there k (omega (arith, to, high))) ∙ passes);
     },
-    there size (omega (arith, high)) ∙ first.1,
+    there size (omega (arith, high)) ∙ found,
   )
     where
       there : (k : ℕ) → k < end - start → is_byte old.terminator (get_or old.buffered k 0) ≡ is_byte old.terminator (get_or front k 0)
@@ -153,7 +153,8 @@ module _ (n : ℕ) (old new : Reader) (block front : List ℕ) (start end size :
   fill_short_line clean short high fits buffered is_front first step stored =
       let long : end - start ≤ length old.buffered = omega (arith, length_range block start end (omega (arith, high)) fits, ap length buffered) in
       let found = first_in_block high long is_front first in
-      let within : size + 1 ≤ length old.buffered = omega (arith, found.0.high) in
+      let (none, _) = found in
+      let within : size + 1 ≤ length old.buffered = omega (arith, none.high) in
       let past : start + (size + 1) ≡ start + size + 1 = omega arith in
       let rest : slice_range block (start + size + 1) end ≡ drop (size + 1) old.buffered =
       ap (λ (k : ℕ). slice_range block k end) (sym past) ∙ rest_of_range block start end (size + 1) old.buffered (omega (arith, high)) fits buffered within in

@@ -2,7 +2,7 @@
 -- exchanged. The total changes by the difference of the lengths of the new and the old line, and always fits 128 bits.
 use Rattle.ptlines.proofs.Common.{◌≡◌, ◌≢◌, ℕ, zero, suc, ◌+◌, ◌*◌, ◌^◌, ◌<◌, ◌≤◌, List, [], ◌∷◌, ◌++◌, length, take, drop, get_or, sym, ◌∙◌, ap, arith, set, Bool, take-append-drop, subst, refl, get_or-take, max}
 use Rattle.ptlines.proofs.Common.{get_or-drop, set-get_or, get_or-set_same, get_or-set_other, set-set, swap, length-map, map-append, Slots, LengthsAreBounded, line, total_bytes, with_line, with_denied, true}
-use Rattle.ptlines.specs.Slots.{SlotBuffer, slot_lines, AreBuffersBounded}
+use Rattle.ptlines.specs.Slots.{SlotBuffer, slot_lines, AreBuffersBounded, AreCounted}
 use Rattle.std.proofs.lemmas.List.{map-set, get_or-map}
 use Rattle.std.proofs.lemmas.List.Elements.{All-append, All-set, All-get_or}
 use Rattle.std.proofs.lemmas.List.Sums.{sum_by-append, sum_by-set, sum_by-le}
@@ -64,19 +64,19 @@ slot_lines-swap (s ∷ more) a b a_in b_in =
     ∙ (λ i. set (set (slot_lines slots) a (sym (get_or-map line_of slots b s s.line b_in) i)) b (get_or (slot_lines slots) a s.line))
 
 -- the invariant after an exchange
-pub counted_after_swap : (slots : List SlotBuffer) (a b : ℕ) {byte_count peak : ℕ} → a < length slots → b < length slots → byte_count ≡ total_bytes (slot_lines slots) → byte_count ≤ peak
-    → LengthsAreBounded (slot_lines slots) → AreBuffersBounded peak slots
-    → (byte_count ≡ total_bytes (slot_lines (swap slots a b))) × (byte_count ≤ peak) × LengthsAreBounded (slot_lines (swap slots a b)) × AreBuffersBounded peak (swap slots a b)
-counted_after_swap slots a b {byte_count} {peak} a_in b_in counts low short fit =
+pub counted_after_swap : (slots : List SlotBuffer) (a b : ℕ) {byte_count peak : ℕ} → a < length slots → b < length slots
+    → AreCounted byte_count peak slots → AreCounted byte_count peak (swap slots a b)
+counted_after_swap slots a b {byte_count} {peak} a_in b_in counted =
     let lines = slot_lines slots in
     let a_low : a < length lines = omega (arith, a_in, length-map slots line_of) in
     let b_low : b < length lines = omega (arith, b_in, length-map slots line_of) in
-    let is = slot_lines-swap slots a b a_in b_in in (
-      counts ∙ sym (ap total_bytes is ∙ total_bytes_swap lines a b a_low b_low),
-      low,
-      subst LengthsAreBounded (sym is) (All-swap IsBounded lines a b a_low b_low short),
-      All-swap (HasBoundedBuffer peak) slots a b a_in b_in fit,
-    )
+    let is = slot_lines-swap slots a b a_in b_in in
+    record {
+      total = counted.total ∙ sym (ap total_bytes is ∙ total_bytes_swap lines a b a_low b_low);
+      below_peak = counted.below_peak;
+      lines = subst LengthsAreBounded (sym is) (All-swap IsBounded lines a b a_low b_low counted.lines);
+      buffers = All-swap (HasBoundedBuffer peak) slots a b a_in b_in counted.buffers;
+    }
 
 -- the lines and the buffers after one slot is set
 module _ (slots after : List SlotBuffer) (slot : ℕ) (had new : SlotBuffer) (d : SlotBuffer) (within : slot < length slots) (is : after ≡ set slots slot new) (was : had ≡ get_or slots slot d) where
@@ -101,33 +101,39 @@ module _ (slots after : List SlotBuffer) (slot : ℕ) (had new : SlotBuffer) (d 
       subst (AreBuffersBounded peak) (sym is) (All-set (HasBoundedBuffer peak) slots slot new (omega (arith, room, held, few)) fit)
 
 -- A slot that was `had` is set to another one: the old line was part of the total, and the new total follows.
-module _ (slots : List SlotBuffer) (slot byte_count : ℕ) (had : SlotBuffer) (within : slot < length slots) (was : had ≡ get_or slots slot had) (counts : byte_count ≡ total_bytes (slot_lines slots)) where
+module _ (slots : List SlotBuffer) (slot : ℕ) {byte_count before : ℕ} (had : SlotBuffer) (within : slot < length slots)
+    (was : had ≡ get_or slots slot had) (counted : AreCounted byte_count before slots) where
   pub line_le_total : length had.line ≤ byte_count
-  line_le_total = omega (
-    arith,
-    total_bytes_set (slot_lines slots) slot [] (low slots slots slot had had had within (sym (set-get_or slots slot had) ∙ ap (set slots slot) (sym was)) was),
-    ap length (line_was slots slots slot had had had within (sym (set-get_or slots slot had) ∙ ap (set slots slot) (sym was)) was),
-    counts,
-  )
+  line_le_total =
+      let same = sym (set-get_or slots slot had) ∙ ap (set slots slot) (sym was) in
+      omega (
+        arith,
+        total_bytes_set (slot_lines slots) slot [] (low slots slots slot had had had within same was),
+        ap length (line_was slots slots slot had had had within same was),
+        counted.total,
+      )
 
-  pub total_after_set : (new : SlotBuffer) {now before peak : ℕ} → LengthsAreBounded (slot_lines slots) → AreBuffersBounded before slots → length new.line ≤ 2 ^ 63
-      → new.buffer_size ≤ max had.buffer_size (2 * length new.line + 64) → now + length had.line ≡ byte_count + length new.line → now ≤ peak → before ≤ peak
-      → (now ≡ total_bytes (slot_lines (set slots slot new))) × (now ≤ peak) × LengthsAreBounded (slot_lines (set slots slot new)) × AreBuffersBounded peak (set slots slot new)
-  total_after_set new {now} {before} {peak} short fit few room moves less more =
+  pub counted_after_set : (new : SlotBuffer) {now peak : ℕ} → length new.line ≤ 2 ^ 63
+      → new.buffer_size ≤ max had.buffer_size (2 * length new.line + 64)
+      → now + length had.line ≡ byte_count + length new.line → now ≤ peak → before ≤ peak
+      → AreCounted now peak (set slots slot new)
+  counted_after_set new {now} {peak} few room moves less more =
       let after = set slots slot new in
       let total : now ≡ total_bytes (slot_lines after) = omega (
         arith,
         ap total_bytes (lines_are slots after slot had new had within refl was),
         total_bytes_set (slot_lines slots) slot new.line (low slots after slot had new had within refl was),
         ap length (line_was slots after slot had new had within refl was),
-        counts,
+        counted.total,
         moves,
-      ) in (
-        total,
-        less,
-        lengths_after_set slots after slot had new had within refl was few short,
-        buffers_after_set slots after slot had new had within refl was room peak (omega (arith, total, less)) (λ k d lt. omega (arith, fit k d lt, more)),
-      )
+      ) in
+      record {
+        total = total;
+        below_peak = less;
+        lines = lengths_after_set slots after slot had new had within refl was few counted.lines;
+        buffers = buffers_after_set slots after slot had new had within refl was room peak (omega (arith, total, less))
+            (λ k d lt. omega (arith, counted.buffers k d lt, more));
+      }
 
 -- one slot, at two default values
 pub same_slot : (slots : List SlotBuffer) (slot : ℕ) {a b : SlotBuffer} → slot < length slots → a ≡ get_or slots slot a → b ≡ get_or slots slot b → a ≡ b
@@ -171,16 +177,18 @@ module _ (slots : List SlotBuffer) {peak : ℕ} {denied : Bool} {now : Slots} (s
       (λ i. record { lines = lines i; peak = (peak_is ∙ ap (max peak) (counts ∙ ap total_bytes lines)) i; denied = denied }) ∙ (λ i. with_line (is i) slot bytes)
 
 -- the invariant after an empty slot was added
-pub total_after_add : (slots : List SlotBuffer) {after : List SlotBuffer} {byte_count peak : ℕ} → after ≡ slots ++ empty_slot ∷ [] → byte_count ≡ total_bytes (slot_lines slots) → byte_count ≤ peak
-    → LengthsAreBounded (slot_lines slots) → AreBuffersBounded peak slots
-    → (byte_count ≡ total_bytes (slot_lines after)) × (byte_count ≤ peak) × LengthsAreBounded (slot_lines after) × AreBuffersBounded peak after
-total_after_add slots {after} {byte_count} {peak} is counts low short fit =
-    let lines : slot_lines after ≡ slot_lines slots ++ [] ∷ [] = ap slot_lines is ∙ map-append line_of slots (empty_slot ∷ []) in (
-      omega (arith, counts, ap total_bytes lines, sum_by-append length (slot_lines slots) ([] ∷ [])),
-      low,
-      subst LengthsAreBounded (sym lines) (All-append IsBounded (slot_lines slots) ([] ∷ []) short empty_bounded),
-      subst (AreBuffersBounded peak) (sym is) (All-append (HasBoundedBuffer peak) slots (empty_slot ∷ []) fit (empty_fits peak)),
-    )
+pub counted_after_add : (slots : List SlotBuffer) {after : List SlotBuffer} {byte_count peak : ℕ}
+    → after ≡ slots ++ empty_slot ∷ [] → AreCounted byte_count peak slots → AreCounted byte_count peak after
+counted_after_add slots {after} {byte_count} {peak} is counted =
+    let lines : slot_lines after ≡ slot_lines slots ++ [] ∷ [] = ap slot_lines is ∙ map-append line_of slots (empty_slot ∷ []) in
+    record {
+      total = omega (arith, counted.total, ap total_bytes lines, sum_by-append length (slot_lines slots) ([] ∷ []));
+      below_peak = counted.below_peak;
+      lines = subst LengthsAreBounded (sym lines)
+          (All-append IsBounded (slot_lines slots) ([] ∷ []) counted.lines empty_bounded);
+      buffers = subst (AreBuffersBounded peak) (sym is)
+          (All-append (HasBoundedBuffer peak) slots (empty_slot ∷ []) counted.buffers (empty_fits peak));
+    }
 
 -- the slots after the line of one was appended to that of another
 module _ (slots after : List SlotBuffer) (from to : ℕ) (had source new d e : SlotBuffer) (more : List ℕ) (from_in : from < length slots) (to_in : to < length slots)

@@ -13,13 +13,14 @@ byte_ne end b differs = grind (arith, nat_tests)
 -- the first line of a text that has a terminator
 pub lines_cons : (end : ℕ) (front rest : List ℕ) → IsLine end front → lines end (front ++ end ∷ rest) ≡ front ∷ lines end rest
 lines_cons end [] rest free = rw (byte_eq end) refl
-lines_cons end (b ∷ front) rest free = rw (byte_ne end b free.0) (ap (onto_first b) (lines_cons end front rest free.1))
+lines_cons end (b ∷ front) rest (differs, free) = rw (byte_ne end b differs) (ap (onto_first b) (lines_cons end front rest free))
 
 -- a last line without a terminator
 pub lines_of_last : (end : ℕ) (line : List ℕ) → IsLine end line → 0 < length line → lines end line ≡ line ∷ []
 lines_of_last end [] free some = absurd (omega arith)
-lines_of_last end (b ∷ []) free some = rw (byte_ne end b free.0) refl
-lines_of_last end (b ∷ c ∷ line) free some = rw (byte_ne end b free.0) (ap (onto_first b) (lines_of_last end (c ∷ line) free.1 (omega arith)))
+lines_of_last end (b ∷ []) (differs, free) some = rw (byte_ne end b differs) refl
+lines_of_last end (b ∷ c ∷ line) (differs, free) some =
+    rw (byte_ne end b differs) (ap (onto_first b) (lines_of_last end (c ∷ line) free (omega arith)))
 
 pub unlines-append : (end : ℕ) (xs ys : List (List ℕ)) → unlines end (xs ++ ys) ≡ unlines end xs ++ unlines end ys
 unlines-append end [] ys = refl
@@ -30,14 +31,22 @@ unlines_push end xs line = unlines-append end xs (line ∷ []) ∙ ap (λ (l : L
 
 pub AreLines_push : (end : ℕ) (ls : List (List ℕ)) (line : List ℕ) → AreLines end ls → IsLine end line → AreLines end (ls ++ line ∷ [])
 AreLines_push end [] line w l = (l, tt)
-AreLines_push end (x ∷ ls) line w l = (w.0, AreLines_push end ls line w.1 l)
+AreLines_push end (x ∷ ls) line (first, others) l = (first, AreLines_push end ls line others l)
+
+-- the text of some lines followed by more bytes: the first line, and what comes after it
+unlines_first : (end : ℕ) (line : List ℕ) (ls : List (List ℕ)) (bytes : List ℕ)
+    → unlines end (line ∷ ls) ++ bytes ≡ line ++ end ∷ (unlines end ls ++ bytes)
+unlines_first end line ls bytes =
+    append_assoc (line ++ end ∷ []) (unlines end ls) bytes
+    ∙ append_assoc line (end ∷ []) (unlines end ls ++ bytes)
 
 -- the text of some lines followed by more bytes has these lines, followed by the lines of the bytes
 pub lines_of_unlines : (end : ℕ) (ls : List (List ℕ)) (bytes : List ℕ) → AreLines end ls → lines end (unlines end ls ++ bytes) ≡ ls ++ lines end bytes
 lines_of_unlines end [] bytes w = refl
-lines_of_unlines end (line ∷ ls) bytes w =
-    ap (lines end) (append_assoc (line ++ end ∷ []) (unlines end ls) bytes ∙ append_assoc line (end ∷ []) (unlines end ls ++ bytes)) ∙ lines_cons end line (unlines end ls ++ bytes) w.0
-    ∙ ap (λ (l : List (List ℕ)). line ∷ l) (lines_of_unlines end ls bytes w.1)
+lines_of_unlines end (line ∷ ls) bytes (first, others) =
+    ap (lines end) (unlines_first end line ls bytes)
+    ∙ lines_cons end line (unlines end ls ++ bytes) first
+    ∙ ap (λ (l : List (List ℕ)). line ∷ l) (lines_of_unlines end ls bytes others)
 
 -- the lines of the text of some lines are these lines
 pub lines-unlines : (end : ℕ) (ls : List (List ℕ)) → AreLines end ls → lines end (unlines end ls) ≡ ls
@@ -46,18 +55,21 @@ lines-unlines end ls w = ap (lines end) (sym (append-nil (unlines end ls))) ∙ 
 -- a part of a line contains no complete line
 pub complete_lines_none : (end : ℕ) (piece : List ℕ) → IsLine end piece → complete_lines end piece ≡ []
 complete_lines_none end [] free = refl
-complete_lines_none end (b ∷ piece) free = rw (byte_ne end b free.0) (ap (onto_first_if_any b) (complete_lines_none end piece free.1))
+complete_lines_none end (b ∷ piece) (differs, free) =
+    rw (byte_ne end b differs) (ap (onto_first_if_any b) (complete_lines_none end piece free))
 
 pub complete_lines_cons : (end : ℕ) (front rest : List ℕ) → IsLine end front → complete_lines end (front ++ end ∷ rest) ≡ front ∷ complete_lines end rest
 complete_lines_cons end [] rest free = rw (byte_eq end) refl
-complete_lines_cons end (b ∷ front) rest free = rw (byte_ne end b free.0) (ap (onto_first_if_any b) (complete_lines_cons end front rest free.1))
+complete_lines_cons end (b ∷ front) rest (differs, free) =
+    rw (byte_ne end b differs) (ap (onto_first_if_any b) (complete_lines_cons end front rest free))
 
 -- the complete lines of the text of some lines, followed by a part of a line, are these lines
 pub complete_lines_of_unlines : (end : ℕ) (ls : List (List ℕ)) (piece : List ℕ) → AreLines end ls → IsLine end piece → complete_lines end (unlines end ls ++ piece) ≡ ls
 complete_lines_of_unlines end [] piece w p = complete_lines_none end piece p
-complete_lines_of_unlines end (line ∷ ls) piece w p =
-    ap (complete_lines end) (append_assoc (line ++ end ∷ []) (unlines end ls) piece ∙ append_assoc line (end ∷ []) (unlines end ls ++ piece)) ∙ complete_lines_cons end line (unlines end ls ++ piece) w.0
-    ∙ ap (λ (l : List (List ℕ)). line ∷ l) (complete_lines_of_unlines end ls piece w.1 p)
+complete_lines_of_unlines end (line ∷ ls) piece (first, others) p =
+    ap (complete_lines end) (unlines_first end line ls piece)
+    ∙ complete_lines_cons end line (unlines end ls ++ piece) first
+    ∙ ap (λ (l : List (List ℕ)). line ∷ l) (complete_lines_of_unlines end ls piece others p)
 
 -- a terminator added to an incomplete last line changes no line
 lines_extra_terminator : (end : ℕ) (bytes : List ℕ) → bytes ≢ [] → ¬ EndsWithByte end bytes → lines end (bytes ++ end ∷ []) ≡ lines end bytes
@@ -69,8 +81,9 @@ lines_extra_terminator end (b ∷ c ∷ bytes) some not_eof =
     ap (λ ls. cond (b == end) ([] ∷ ls) (onto_first b ls)) more
 
 lines-only : (end : ℕ) (bytes : List ℕ) (ls : List (List ℕ)) → AreLinesOf end bytes ls → ls ≡ lines end bytes
-lines-only end bytes ls a =
-    ⊎_elim (λ e. sym (lines-unlines end ls a.0) ∙ ap (lines end) e) (λ e. sym (lines-unlines end ls a.0) ∙ (ap (lines end) e.2 ∙ lines_extra_terminator end bytes e.0 e.1)) a.1
+lines-only end bytes ls (w, inl whole) = sym (lines-unlines end ls w) ∙ ap (lines end) whole
+lines-only end bytes ls (w, inr (some, unended, added)) =
+    sym (lines-unlines end ls w) ∙ ap (lines end) added ∙ lines_extra_terminator end bytes some unended
 
 -- no line contains the terminator
 pub lines_are : (end : ℕ) (bytes : List ℕ) → AreLines end (lines end bytes)
@@ -80,7 +93,7 @@ lines_are end (b ∷ bytes) = put (b == end) refl (lines end bytes) (lines_are e
     put : (t : Bool) → (b == end) ≡ t → (ls : List (List ℕ)) → AreLines end ls → AreLines end (cond t ([] ∷ ls) (onto_first b ls))
     put true e ls a = (tt, a)
     put false e [] a = ((eqb-false b end e, tt), tt)
-    put false e (l ∷ ls) a = ((eqb-false b end e, a.0), a.1)
+    put false e (l ∷ ls) (first, others) = ((eqb-false b end e, first), others)
 
 unlines_onto : (end b c : ℕ) (bytes : List ℕ) → unlines end (onto_first b (lines end (c ∷ bytes))) ≡ b ∷ unlines end (lines end (c ∷ bytes))
 unlines_onto end b c bytes = put (c == end) (lines end bytes)
@@ -95,7 +108,7 @@ tail_ends end b c bytes ([], e) = let bad : b ∷ c ∷ bytes ≡ end ∷ [] = e
 tail_ends end b c bytes (f ∷ fs, e) = (fs, ap (drop 1) e)
 
 -- the text of the lines is the text, with one terminator added if the last line was incomplete
-unlines-lines : (end : ℕ) (bytes : List ℕ) → (unlines end (lines end bytes) ≡ bytes) ⊎ ((bytes ≢ []) × ¬ EndsWithByte end bytes × (unlines end (lines end bytes) ≡ bytes ++ end ∷ []))
+pub unlines-lines : (end : ℕ) (bytes : List ℕ) → (unlines end (lines end bytes) ≡ bytes) ⊎ ((bytes ≢ []) × ¬ EndsWithByte end bytes × (unlines end (lines end bytes) ≡ bytes ++ end ∷ []))
 unlines-lines end [] = inl refl
 unlines-lines end (b ∷ []) =
     ⊎_elim (λ e. inl (rw (eqb-true b end e, byte_eq end) refl)) (λ e. inr ((λ z. cc), (λ h. not_ended e h), rw e refl)) (cases_Bool (b == end))
@@ -125,7 +138,7 @@ the_lines end bytes = ((lines_are end bytes, unlines-lines end bytes), lines-onl
 complete_lines_up_to_last : (end : ℕ) (front rest : List ℕ) → IsLine end rest → complete_lines end (front ++ end ∷ rest) ≡ lines end (front ++ end ∷ [])
 complete_lines_up_to_last end front rest free =
     let all : List ℕ = front ++ end ∷ [] in
-    let whole : unlines end (lines end all) ≡ all = ⊎_elim (λ e. e) (λ e. absurd (e.1 (front, refl))) (unlines-lines end all) in
+    let whole : unlines end (lines end all) ≡ all = ⊎_elim (λ e. e) (λ (_, unended, _). absurd (unended (front, refl))) (unlines-lines end all) in
     ap (complete_lines end) (sym (append_assoc front (end ∷ []) rest) ∙ ap (λ (l : List ℕ). l ++ rest) (sym whole)) ∙ complete_lines_of_unlines end (lines end all) rest (lines_are end all) free
 
 pub the_complete_lines : CompleteLinesAreLines

@@ -21,4 +21,8 @@ loop-rest-preserved g c =
     let so_far = c.loop-rest.invariant in
     let rest = c.loop-rest.rest.now in
     let n = c.in-Ok.n in
-    rw take_rest (so_far.0 ++ take n rest, split_more c.args.bytes.now so_far.0 rest n so_far.1, took_more _ _ _ so_far.0 rest n so_far.2 c.in-Ok.ensures (omega arith))
+    rw take_rest (record {
+      done = so_far.done ++ take n rest;
+      split = split_more c.args.bytes.now so_far.done rest n so_far.split;
+      written = took_more _ _ _ so_far.done rest n so_far.written c.in-Ok.ensures (omega arith);
+    })

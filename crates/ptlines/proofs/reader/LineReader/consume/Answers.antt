@@ -7,5 +7,6 @@ returns-clause-consumed g c =
     let r = c.self.inside in
     let buffered = ap (λ (r : Reader). r.buffered) c.self.view_is in
     λ i. record (c.self.view_is i) {
-      buffered = rest_of_range r.block r.start r.end c.args.count c.args.self.now.buffered c.self.invariant.0 (omega (arith, c.self.invariant.1, c.self.told)) buffered c.requires i;
+      buffered = rest_of_range r.block r.start r.end c.args.count c.args.self.now.buffered c.self.invariant.order
+          (omega (arith, c.self.invariant.within, c.self.told)) buffered c.requires i;
     }

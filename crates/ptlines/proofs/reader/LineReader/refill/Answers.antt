@@ -35,10 +35,15 @@ invariant_of-self-then-self g c =
     let some : 0 < c.in-Ok.count = omega (arith, c.if-count-eq0.false) in
     let sound = filled_sound c.args.self.now _ _ c.read_block.new.block _ c.self.inside.pulled c.in-Ok.count _ _ c.self.inside.fault c.self.inside.terminator c.self.view_is
     c.requires.empty c.in-Ok.ensures.refused c.requires.clean c.requires.going _ c.in-Ok.ensures.pulled small some (grind arith) (grind arith) in
-    (omega arith, small, c.self.invariant.2 ∙ sym (c.in-Ok.ensures.pulled.more some), sound)
+    record {
+      order = omega arith;
+      within = small;
+      eof = c.self.invariant.eof ∙ sym (c.in-Ok.ensures.pulled.more some);
+      sound = sound;
+    }
 
 pub returns-then-self-clause-sound : goal.returns-then-self-clause-sound
-returns-then-self-clause-sound g c = (invariant_of-self-then-self g c).3
+returns-then-self-clause-sound g c = (invariant_of-self-then-self g c).sound
 
 pub invariant_of-self-else-self : goal.invariant_of-self-else-self
 invariant_of-self-else-self g c =
@@ -46,8 +51,13 @@ invariant_of-self-else-self g c =
     let some : 0 < c.in-Ok.count = omega (arith, c.if-count-eq0.false) in
     let sound = filled_sound c.args.self.now _ _ c.read_block.new.block _ c.self.inside.pulled c.in-Ok.count _ _ c.self.inside.fault c.self.inside.terminator c.self.view_is
     c.requires.empty c.in-Ok.ensures.refused c.requires.clean c.requires.going _ c.in-Ok.ensures.pulled small some (λ _. c.if-self.false)
-    (λ there clean. c.in-Ok.ensures.pulled.failed ∙ c.self.invariant.3.unfailed (sym c.in-Ok.ensures.refused ∙ there) clean) in
-    (omega arith, small, c.self.invariant.2 ∙ sym (c.in-Ok.ensures.pulled.more some), sound)
+    (λ there clean. c.in-Ok.ensures.pulled.failed ∙ c.self.invariant.sound.unfailed (sym c.in-Ok.ensures.refused ∙ there) clean) in
+    record {
+      order = omega arith;
+      within = small;
+      eof = c.self.invariant.eof ∙ sym (c.in-Ok.ensures.pulled.more some);
+      sound = sound;
+    }
 
 pub returns-else-self-clause-sound : goal.returns-else-self-clause-sound
-returns-else-self-clause-sound g c = (invariant_of-self-else-self g c).3
+returns-else-self-clause-sound g c = (invariant_of-self-else-self g c).sound

@@ -13,7 +13,7 @@ returns g c =
     let stored : (n : ℕ) (was : List ℕ) → length was ≡ buffer.len → size ≤ n → n ≤ 64 → take size (with_items buffer (put_chunk 0 was (take n bytes))).items ≡ take size bytes =
     λ n was len few lanes.
     ap (take size) (with_items_is buffer (put_chunk 0 was (take n bytes)) (length-put_chunk 0 was (take n bytes) ∙ len))
-    ∙ copied_vector_prefix size n was bytes few (omega (arith, lanes, c.self.invariant.1, len)) (omega (arith, lanes, c.args.near.front.long)) in
+    ∙ copied_vector_prefix size n was bytes few (omega (arith, lanes, c.self.invariant.least, len)) (omega (arith, lanes, c.args.near.front.long)) in
     elim c.if-size-lt16.branch [
       | then-size-lt16 w ↦
           (λ i. record { line = take size (w.self-inside-is i).buffer.items; buffer_size = (w.self-inside-is i).buffer.len })
