@@ -1,6 +1,7 @@
 -- A copy of a whole vector copies its first bytes too; the bytes after them do not matter. Two vectors that overlap
 -- copy all bytes.
-use Rattle.ptlines.proofs.Common.{◌≡◌, ℕ, ◌+◌, ◌-◌, ◌≤◌, List, length, take, drop, ◌++◌, append_assoc, sym, ◌∙◌, ap, arith, length-take-le, take-take, take_rest, take_more_put_chunk, put_chunk}
+use Rattle.ptlines.proofs.Common.{◌≡◌, ℕ, ◌+◌, ◌-◌, ◌≤◌, List, length, take, drop, ◌++◌, append_assoc, sym, ◌∙◌, ap}
+use Rattle.ptlines.proofs.Common.{arith, length-take-le, take-take, take_rest, take_more_put_chunk, put_chunk}
 use Rattle.ptlines.proofs.Common.{take-append-add}
 use Rattle.std.proofs.lemmas.List.{take-append-drop}
 
@@ -14,7 +15,8 @@ copied_prefix at few many was is bytes within fewer copied =
     ∙ ap (λ (b : List ℕ). take at was ++ b) (take-take few many bytes fewer)
 
 -- a vector stored at the beginning of a list
-pub copied_vector_prefix : (few many : ℕ) (was bytes : List ℕ) → few ≤ many → many ≤ length was → many ≤ length bytes → take few (put_chunk 0 was (take many bytes)) ≡ take few bytes
+pub copied_vector_prefix : (few many : ℕ) (was bytes : List ℕ) → few ≤ many → many ≤ length was → many ≤ length bytes
+    → take few (put_chunk 0 was (take many bytes)) ≡ take few bytes
 copied_vector_prefix few many was bytes fewer room within =
     let lanes = take many bytes in
     sym (take-take few many (put_chunk 0 was lanes) fewer)
@@ -23,7 +25,8 @@ copied_vector_prefix few many was bytes fewer room within =
 
 -- the first n bytes and the last n, which may overlap, are all bytes
 pub copied_ends : (at last n : ℕ) (was between is bytes : List ℕ) → at ≤ length was → last ≤ n → last + n ≡ length bytes
-    → take (at + n) between ≡ take at was ++ take n bytes → take (at + last + n) is ≡ take (at + last) between ++ take n (drop last bytes)
+    → take (at + n) between ≡ take at was ++ take n bytes
+    → take (at + last + n) is ≡ take (at + last) between ++ take n (drop last bytes)
     → take (at + length bytes) is ≡ take at was ++ bytes
 copied_ends at last n was between is bytes within less whole first second =
     let all : at + length bytes ≡ at + last + n = omega (arith, whole) in

@@ -5,7 +5,8 @@ use Rattle.ptlines.specs.Parts.{HasOnlyCompleteLines, LinesOfParts}
 use Rattle.ptlines.proofs.TextLaws.{lines_are, lines_of_unlines, unlines-lines}
 
 -- a text that has only complete lines is the text of its lines
-pub unlines_of_complete : (end : ℕ) (bytes : List ℕ) → HasOnlyCompleteLines end bytes → unlines end (lines end bytes) ≡ bytes
+pub unlines_of_complete : (end : ℕ) (bytes : List ℕ) → HasOnlyCompleteLines end bytes
+    → unlines end (lines end bytes) ≡ bytes
 unlines_of_complete end bytes whole = ⊎_elim
     (λ none. ap (λ (l : List ℕ). unlines end (lines end l)) none ∙ sym none)
     (λ ends. ⊎_elim (λ same. same) (λ (_, unended, _). absurd (unended ends)) (unlines-lines end bytes))
@@ -13,4 +14,5 @@ unlines_of_complete end bytes whole = ⊎_elim
 
 pub the_lines_of_parts : LinesOfParts
 the_lines_of_parts end a b whole =
-    ap (λ (l : List ℕ). lines end (l ++ b)) (sym (unlines_of_complete end a whole)) ∙ lines_of_unlines end (lines end a) b (lines_are end a)
+    ap (λ (l : List ℕ). lines end (l ++ b)) (sym (unlines_of_complete end a whole))
+    ∙ lines_of_unlines end (lines end a) b (lines_are end a)

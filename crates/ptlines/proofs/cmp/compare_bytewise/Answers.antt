@@ -9,8 +9,10 @@ returns-then-a-at c =
     let at = c.loop-at.at in
     let a = c.args.a.now in
     let b = c.args.b.now in
-    c.cmp.ensures ∙ byte_differs at a b (slice_index a at) (slice_index b at) c.type_inv.a c.type_inv.b c.loop-at.invariant
-    (omega (arith, c.loop-at-test.true, c.min-least.ensures)) (omega (arith, c.loop-at-test.true, c.min-least.ensures)) refl refl c.if-a-at.true
+    c.cmp.ensures ∙ byte_differs at a b (slice_index a at) (slice_index b at)
+    c.type_inv.a c.type_inv.b c.loop-at.invariant
+    (omega (arith, c.loop-at-test.true, c.min-least.ensures)) (omega (arith, c.loop-at-test.true, c.min-least.ensures))
+    refl refl c.if-a-at.true
 
 pub returns : goal.returns
 returns c =
@@ -18,4 +20,5 @@ returns c =
     let a = c.args.a.now in
     let b = c.args.b.now in
     let end : c.loop-at.at ≡ least = omega (arith, c.loop-at-test.false, c.loop-at.auto.at-end) in
-    c.cmp-2.ensures ∙ cmp_by_length least a b c.min-least.ensures (subst (λ (n : ℕ). take n a ≡ take n b) end c.loop-at.invariant)
+    c.cmp-2.ensures ∙ cmp_by_length least a b c.min-least.ensures
+    (subst (λ (n : ℕ). take n a ≡ take n b) end c.loop-at.invariant)

@@ -14,8 +14,10 @@ returns-in_ok-move_to_slot-in-Some-clause-piece_post g c =
     let (rest, appended) = c.in_ok-move_to_slot-in-Some.ensures.moves in
     let (refilled, _) = rw c.if-not-branch.false at c.in_ok-has_more.ensures.refills in
     line_after_refill _ _ _ _ _ c.args.slot refilled
-    (piece_line _ c.move_to_slot.new.self _ c.buffered.result.now _ _ c.args.slot c.in-Some.at refilled.fault c.buffered.ensures.buffered
-    (found _ _ c.buffered.result.now (Some c.in-Some.at) c.terminator.ensures c.in-Some.ensures) rest c.consume.ensures.consumed appended)
+    (piece_line _ c.move_to_slot.new.self _ c.buffered.result.now _ _ c.args.slot c.in-Some.at refilled.fault
+    c.buffered.ensures.buffered
+    (found _ _ c.buffered.result.now (Some c.in-Some.at) c.terminator.ensures c.in-Some.ensures)
+    rest c.consume.ensures.consumed appended)
 
 pub returns-in_ok-move_to_slot-in-None-clause-piece_post : goal.returns-in_ok-move_to_slot-in-None-clause-piece_post
 returns-in_ok-move_to_slot-in-None-clause-piece_post g c =
@@ -23,4 +25,5 @@ returns-in_ok-move_to_slot-in-None-clause-piece_post g c =
     let (refilled, some) = rw c.if-not-branch.false at c.in_ok-has_more.ensures.refills in
     partial_after_refill _ _ _ _ _ c.args.slot refilled
     (piece_partial _ _ c.buffered.result.now _ _ c.args.slot _ refilled.fault some c.buffered.ensures.buffered
-    (found _ _ c.buffered.result.now None c.terminator.ensures c.in-None.ensures) (ap length c.buffered-count.ensures.buffered) rest appended)
+    (found _ _ c.buffered.result.now None c.terminator.ensures c.in-None.ensures)
+    (ap length c.buffered-count.ensures.buffered) rest appended)

@@ -9,7 +9,8 @@ pub pieces-preserved : goal.pieces-preserved
 pieces-preserved g c =
     let partial = rw c.in-Partial.is at c.in_ok-fill_piece.ensures.piece_post in
     record {
-      so_far = line_so_far_partial c.args.self.now _ _ c.args.store.now _ _ c.args.slot c.requires.in_store c.pieces.invariant.so_far partial;
+      so_far = line_so_far_partial c.args.self.now _ _ c.args.store.now _ _ c.args.slot c.requires.in_store
+          c.pieces.invariant.so_far partial;
       fill_pre = record {
         clean = partial.advance_ok.fault;
         sound = c.fill_piece.ensures.sound;
@@ -19,7 +20,8 @@ pieces-preserved g c =
 
 pub returns-in-Line-clause-fills : goal.returns-in-Line-clause-fills
 returns-in-Line-clause-fills g c =
-    fill_line c.args.self.now _ _ c.args.store.now _ _ c.args.slot c.requires.in_store (c.requires.sound.long c.requires.clean)
+    fill_line c.args.self.now _ _ c.args.store.now _ _ c.args.slot c.requires.in_store
+    (c.requires.sound.long c.requires.clean)
     c.pieces.invariant.so_far (rw c.in-Line.is at c.in_ok-fill_piece.ensures.piece_post)
 
 pub returns-in-Eof-clause-fills : goal.returns-in-Eof-clause-fills

@@ -9,7 +9,11 @@ returns-in-Ok-clause-moves g c =
     let buffered = ap (λ (r : Reader). r.buffered) c.self.view_is in
     let order = c.self.invariant.order in
     let fits : r.end ≤ length r.block = omega (arith, c.self.invariant.within, c.self.told) in (
-      λ i. record (c.self.view_is i) { buffered = rest_of_range r.block r.start r.end n c.args.self.now.buffered order fits buffered c.requires.within i },
-      c.in-Ok.ensures.ok ∙ ap (λ (b : List ℕ). with_line c.args.store.now c.args.slot (line c.args.store.now c.args.slot ++ b))
+      λ i. record (c.self.view_is i) {
+        buffered = rest_of_range r.block r.start r.end n c.args.self.now.buffered order
+            fits buffered c.requires.within i;
+      },
+      c.in-Ok.ensures.ok
+          ∙ ap (λ (b : List ℕ). with_line c.args.store.now c.args.slot (line c.args.store.now c.args.slot ++ b))
           (front_of_range r.block r.start r.end n c.args.self.now.buffered order fits buffered c.requires.within),
     )

@@ -2,14 +2,19 @@
 -- is as before.
 use Rattle.ptlines.proofs.Common.{List, ℕ, ◌<◌, ◌^◌, length, ◌++◌, ◌∙◌, ap, arith, length-append, length-map}
 use Rattle.ptlines.specs.Slots.{slot_lines}
-use Rattle.ptlines.proofs.SlotTotals.{counted_after_set, total_fits, slot_in_range, line_before, denied_line, store_after_set, line_of}
+use Rattle.ptlines.proofs.SlotTotals.{counted_after_set, total_fits, slot_in_range, line_before, denied_line}
+use Rattle.ptlines.proofs.SlotTotals.{store_after_set, line_of}
 use Rattle.ptlines.proofs.store.Store.append.Goals as goal
 
 pub overflow_add-self : goal.overflow_add-self
 overflow_add-self g c =
     let s = c.self.inside.slots in
     let few : length (slot_lines s.items) < 2 ^ 63 = omega (arith, s.ok, s.small, length-map s.items line_of) in
-    omega (arith, total_fits (slot_lines s.items) (length c.args.bytes.now) c.self.invariant.lines few (omega arith), c.self.invariant.total)
+    omega (
+      arith,
+      total_fits (slot_lines s.items) (length c.args.bytes.now) c.self.invariant.lines few (omega arith),
+      c.self.invariant.total,
+    )
 
 pub invariant_of-self : goal.invariant_of-self
 invariant_of-self g c =
@@ -30,7 +35,8 @@ invariant_of-self-in-Err g c =
     (omega (arith, ap (λ t. length (line_of t)) c.in-Err.ensures.err)) c.self.invariant.below_peak (omega arith)
 
 pub index_mut-requires : goal.index_mut-requires
-index_mut-requires g c = omega (arith, slot_in_range c.self.inside.slots.items c.args.slot c.self.view_is c.requires, c.self.inside.slots.ok)
+index_mut-requires g c =
+    omega (arith, slot_in_range c.self.inside.slots.items c.args.slot c.self.view_is c.requires, c.self.inside.slots.ok)
 
 pub returns-in-Ok-clause-ok : goal.returns-in-Ok-clause-ok
 returns-in-Ok-clause-ok g c =
@@ -38,7 +44,9 @@ returns-in-Ok-clause-ok g c =
     let low = slot_in_range slots c.args.slot c.self.view_is c.requires in
     let had = line_before slots c.args.slot c.self.view_is low c.index_mut.ensures.value in
     let bytes = c.in-Ok.ensures.ok ∙ ap (λ (l : List ℕ). l ++ c.args.bytes.now) had in
-    store_after_set slots c.args.slot c.self.view_is c.append.new.self bytes (invariant_of-self g c).total c.max-self-inside.ensures
+    store_after_set slots c.args.slot c.self.view_is c.append.new.self bytes
+    (invariant_of-self g c).total c.max-self-inside.ensures
 
 pub returns-in-Err-clause-err : goal.returns-in-Err-clause-err
-returns-in-Err-clause-err g c = denied_line c.self.inside.slots.items c.args.slot c.self.view_is c.index_mut.ensures.value c.in-Err.ensures.err
+returns-in-Err-clause-err g c =
+    denied_line c.self.inside.slots.items c.args.slot c.self.view_is c.index_mut.ensures.value c.in-Err.ensures.err

@@ -1,6 +1,7 @@
 -- The line of the slot is part of the total, so the subtraction does not underflow and leaves the new total.
 use Rattle.ptlines.proofs.Common.{length, ap, arith}
-use Rattle.ptlines.proofs.SlotTotals.{line_le_total, counted_after_set, store_after_set, slot_in_range, same_slot, line_of}
+use Rattle.ptlines.proofs.SlotTotals.{line_le_total, counted_after_set, store_after_set, slot_in_range, same_slot}
+use Rattle.ptlines.proofs.SlotTotals.{line_of}
 use Rattle.ptlines.proofs.store.Store.clear.Goals as goal
 
 pub overflow_sub-self : goal.overflow_sub-self
@@ -31,7 +32,9 @@ returns g c =
     counted.total (omega (arith, counted.below_peak))
 
 pub index-requires : goal.index-requires
-index-requires g c = omega (arith, slot_in_range c.self.inside.slots.items c.args.slot c.self.view_is c.requires, c.self.inside.slots.ok)
+index-requires g c =
+    omega (arith, slot_in_range c.self.inside.slots.items c.args.slot c.self.view_is c.requires, c.self.inside.slots.ok)
 
 pub index_mut-requires : goal.index_mut-requires
-index_mut-requires g c = omega (arith, slot_in_range c.self.inside.slots.items c.args.slot c.self.view_is c.requires, c.self.inside.slots.ok)
+index_mut-requires g c =
+    omega (arith, slot_in_range c.self.inside.slots.items c.args.slot c.self.view_is c.requires, c.self.inside.slots.ok)

@@ -1,8 +1,10 @@
 -- The line of a slot is replaced, so the total changes by the difference of the two lengths. The peak becomes the total
 -- if that is greater.
-use Rattle.ptlines.proofs.Common.{◌≡◌, ◌≤◌, ◌<◌, ◌+◌, ◌-◌, ◌^◌, ℕ, List, length, take, get_or, set, ◌∙◌, ap, arith, length-map, length-take-le}
+use Rattle.ptlines.proofs.Common.{◌≡◌, ◌≤◌, ◌<◌, ◌+◌, ◌-◌, ◌^◌, ℕ, List, length, take, get_or, set, ◌∙◌, ap, arith}
+use Rattle.ptlines.proofs.Common.{length-map, length-take-le}
 use Rattle.ptlines.specs.Slots.{SlotBuffer, slot_lines, AreCounted}
-use Rattle.ptlines.proofs.SlotTotals.{line_le_total, counted_after_set, total_fits, store_after_set, slot_in_range, same_slot, line_of}
+use Rattle.ptlines.proofs.SlotTotals.{line_le_total, counted_after_set, total_fits, store_after_set, slot_in_range}
+use Rattle.ptlines.proofs.SlotTotals.{same_slot, line_of}
 use Rattle.ptlines.proofs.store.Store.set_short_line.Goals as goal
 
 -- the total after the slot was set
@@ -30,7 +32,8 @@ pub overflow_add-self : goal.overflow_add-self
 overflow_add-self g c =
     let s = c.self.inside.slots in
     let few : length (slot_lines s.items) < 2 ^ 63 = omega (arith, s.ok, s.small, length-map s.items line_of) in
-    let fits = total_fits (slot_lines s.items) c.args.near.size c.self.invariant.lines few (omega (arith, c.args.near.near)) in
+    let fits = total_fits (slot_lines s.items) c.args.near.size c.self.invariant.lines few
+    (omega (arith, c.args.near.near)) in
     omega (arith, fits, c.self.invariant.total)
 
 -- the new peak is the total, or the old peak
@@ -41,7 +44,8 @@ invariant_of-self g c =
     let same = same_slot s.slots.items c.args.slot low c.index.ensures c.index_mut.ensures.value in
     put_counted s.slots.items c.args.slot c.index_mut.result.now low c.index_mut.ensures.value c.self.invariant
     c.size-was.result (c.size-was.ensures.size ∙ ap (λ t. length (line_of t)) same)
-    c.args.near.front.bytes.now c.args.near.size c.args.near.near c.args.near.front.long c.set_short_line.new.self c.set_short_line.ensures _ (omega arith)
+    c.args.near.front.bytes.now c.args.near.size c.args.near.near c.args.near.front.long c.set_short_line.new.self
+    c.set_short_line.ensures _ (omega arith)
     (omega (arith, c.self.invariant.below_peak, c.if-self.true))
 
 pub invariant_of-self-else-self : goal.invariant_of-self-else-self
@@ -51,19 +55,26 @@ invariant_of-self-else-self g c =
     let same = same_slot s.slots.items c.args.slot low c.index.ensures c.index_mut.ensures.value in
     put_counted s.slots.items c.args.slot c.index_mut.result.now low c.index_mut.ensures.value c.self.invariant
     c.size-was.result (c.size-was.ensures.size ∙ ap (λ t. length (line_of t)) same)
-    c.args.near.front.bytes.now c.args.near.size c.args.near.near c.args.near.front.long c.set_short_line.new.self c.set_short_line.ensures s.peak (omega (arith, c.if-self.false))
+    c.args.near.front.bytes.now c.args.near.size c.args.near.near c.args.near.front.long c.set_short_line.new.self
+    c.set_short_line.ensures s.peak (omega (arith, c.if-self.false))
     (omega arith)
 
 pub returns-then-self : goal.returns-then-self
 returns-then-self g c =
-    store_after_set c.self.inside.slots.items c.args.slot c.self.view_is c.set_short_line.new.self (ap line_of c.set_short_line.ensures) (invariant_of-self g c).total (omega (arith, c.self.invariant.below_peak, c.if-self.true))
+    store_after_set c.self.inside.slots.items c.args.slot c.self.view_is c.set_short_line.new.self
+    (ap line_of c.set_short_line.ensures) (invariant_of-self g c).total
+    (omega (arith, c.self.invariant.below_peak, c.if-self.true))
 
 pub returns-else-self : goal.returns-else-self
 returns-else-self g c =
-    store_after_set c.self.inside.slots.items c.args.slot c.self.view_is c.set_short_line.new.self (ap line_of c.set_short_line.ensures) (invariant_of-self-else-self g c).total (omega (arith, c.self.invariant.below_peak, c.if-self.false))
+    store_after_set c.self.inside.slots.items c.args.slot c.self.view_is c.set_short_line.new.self
+    (ap line_of c.set_short_line.ensures) (invariant_of-self-else-self g c).total
+    (omega (arith, c.self.invariant.below_peak, c.if-self.false))
 
 pub index-requires : goal.index-requires
-index-requires g c = omega (arith, slot_in_range c.self.inside.slots.items c.args.slot c.self.view_is c.requires, c.self.inside.slots.ok)
+index-requires g c =
+    omega (arith, slot_in_range c.self.inside.slots.items c.args.slot c.self.view_is c.requires, c.self.inside.slots.ok)
 
 pub index_mut-requires : goal.index_mut-requires
-index_mut-requires g c = omega (arith, slot_in_range c.self.inside.slots.items c.args.slot c.self.view_is c.requires, c.self.inside.slots.ok)
+index_mut-requires g c =
+    omega (arith, slot_in_range c.self.inside.slots.items c.args.slot c.self.view_is c.requires, c.self.inside.slots.ok)

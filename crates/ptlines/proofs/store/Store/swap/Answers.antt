@@ -17,10 +17,21 @@ returns g c =
     let lines = ap slot_lines c.swap.ensures.items ∙ slot_lines-swap s.slots.items c.args.a c.args.b
     (slot_in_range s.slots.items c.args.a c.self.view_is c.requires.a_in)
     (slot_in_range s.slots.items c.args.b c.self.view_is c.requires.b_in) in
-    (λ i. record { lines = lines i; peak = s.peak; denied = s.denied }) ∙ ap (λ (t : Slots). record t { lines = swap t.lines c.args.a c.args.b }) c.self.view_is
+    (λ i. record { lines = lines i; peak = s.peak; denied = s.denied })
+    ∙ ap (λ (t : Slots). record t { lines = swap t.lines c.args.a c.args.b }) c.self.view_is
 
 pub swap-requires-clause-i_in_bounds : goal.swap-requires-clause-i_in_bounds
-swap-requires-clause-i_in_bounds g c = omega (arith, slot_in_range c.self.inside.slots.items c.args.a c.self.view_is c.requires.a_in, c.self.inside.slots.ok)
+swap-requires-clause-i_in_bounds g c =
+    omega (
+      arith,
+      slot_in_range c.self.inside.slots.items c.args.a c.self.view_is c.requires.a_in,
+      c.self.inside.slots.ok,
+    )
 
 pub swap-requires-clause-j_in_bounds : goal.swap-requires-clause-j_in_bounds
-swap-requires-clause-j_in_bounds g c = omega (arith, slot_in_range c.self.inside.slots.items c.args.b c.self.view_is c.requires.b_in, c.self.inside.slots.ok)
+swap-requires-clause-j_in_bounds g c =
+    omega (
+      arith,
+      slot_in_range c.self.inside.slots.items c.args.b c.self.view_is c.requires.b_in,
+      c.self.inside.slots.ok,
+    )
