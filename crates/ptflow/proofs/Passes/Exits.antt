@@ -213,8 +213,8 @@ module _ {X : Type 0} {rest_from : X → List ℕ → List ℕ} {start : X} {too
       → IsPrefix (tool.decided (received_with (m.given ++ piece) new)) m.pushed) → PassPost tool old new was is before store (Err (Read 0))
   pass_read cause not_denied decided =
       pass m.reached.wrote still
-      (record { cause = ⊎_elim inl (λ c. inr (c.0, same_failed c.1)) cause; clean = m.reached.clean; denied = not_denied; only = refl })
-      begins (λ failed fine. ⊎_elim (λ c. decided c.1 c.2) (λ c. absurd (false≢true (cc (continued c.1)))) cause) (λ ok. cc) (λ memory. cc)
+      (record { cause = ⊎_elim inl (λ (many, same). inr (many, same_failed same)) cause; clean = m.reached.clean; denied = not_denied; only = refl })
+      begins (λ failed fine. ⊎_elim (λ (_, empty, going). decided empty going) (λ (_, same). absurd (false≢true (cc (continued same)))) cause) (λ ok. cc) (λ memory. cc)
 
   -- the store could not grow
   pub pass_memory : new.failed ≡ reader.failed → store.denied ≡ true → 0 < length new.buffered → PassPost tool old new was is before store (Err Memory)

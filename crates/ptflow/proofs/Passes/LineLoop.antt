@@ -133,7 +133,8 @@ module _ {S X E : Type 0} {tool : ToolSpec} {state : S → Slots → X} {rest_fr
           → {next : X} {is' : Output} → On now next (complete_lines tool.end block) is is' → Run old new was is' before store next
       run_block {new} {block} advance_ok buffered passed consumed c =
           let ls = complete_lines end block in
-          let front = subst (AdvanceOk reader new) (cc) (advance_past _ advance_ok buffered passed.0 consumed) in
+          let (within, _) = passed in
+          let front = subst (AdvanceOk reader new) (cc) (advance_past _ advance_ok buffered within consumed) in
           run_more ls front (lines_block r.came ls front (line_split end block).whole)
           (bounds_weaker (max (max_length r.ls) (max_length ls)) r.keeps (omega arith)) c
 
@@ -225,10 +226,10 @@ module _ {S X E : Type 0} {tool : ToolSpec} {state : S → Slots → X} {rest_fr
         unfolding midway
         halts reads s processing same not_denied h front =
             pass_write (t.tool_text r.first) midway ready sound reads s processing h.wrote h.fault same not_denied (λ rest may.
-            let f = front rest may in
-            let on = h.is_prefix f.0 in record {
-              rest = written on.0;
-              is = cc (t.apart h.passed on.0);
+            let (more, split) = front rest may in
+            let (later, on) = h.is_prefix more in record {
+              rest = written later;
+              is = cc (t.apart h.passed later);
             })
 
         -- the lines of a block
@@ -304,10 +305,10 @@ module _ {S X E : Type 0} {tool : ToolSpec} {state : S → Slots → X} {rest_fr
         pub run_done : {after' : Slots} → SlotsCleared (width - 1) after after' → is'.write_failed ≡ false → PassPost tool old new was is' before after' (Ok tt)
         unfolding midway
         run_done empties clean =
-            let end = bounds_cleared k t.some (filled [] told) empties in
+            let (bounds, total) = bounds_cleared k t.some (filled [] told) empties in
             pass_done (t.tool_text r.first) (midway r) ready sound advance_ok.reads
-            (kept r (received_with (r.given ++ []) new) end.0 (short_piece r ready sound advance_ok.reads tt is_sound)) (works_piece r advance_ok.reads tt is_sound)
-            last done refl advance_ok.failed end.0.denied clean advance_ok.fault (advance_ok.short (sound.long r.reached.advance_ok.fault)) end.1
+            (kept r (received_with (r.given ++ []) new) bounds (short_piece r ready sound advance_ok.reads tt is_sound)) (works_piece r advance_ok.reads tt is_sound)
+            last done refl advance_ok.failed bounds.denied clean advance_ok.fault (advance_ok.short (sound.long r.reached.advance_ok.fault)) total
 
         pub run_unended : is'.write_failed ≡ true → PassPost tool old new was is' before after (Err Write)
         unfolding midway

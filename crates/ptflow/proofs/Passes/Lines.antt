@@ -12,19 +12,20 @@ pub record LineSplit (end : ℕ) (bytes : List ℕ) : Type 0 where
   pub whole : AreLines end (complete_lines end bytes)
   pub line : IsLine end piece
 
--- one byte is put before the text
-line_split_step : (end b : ℕ) {bytes : List ℕ} (piece : List ℕ) (t : Bool) (ls : List (List ℕ)) → (b == end) ≡ t → bytes ≡ unlines end ls ++ piece → AreLines end ls → IsLine end piece
-    → (rest : List ℕ) × (b ∷ bytes ≡ unlines end (cond t ([] ∷ ls) (onto_first_if_any b ls)) ++ rest) × AreLines end (cond t ([] ∷ ls) (onto_first_if_any b ls)) × IsLine end rest
-line_split_step end b piece true ls same is whole line = (piece, (λ i. eqb-true b end same i ∷ is i), (tt, whole), line)
-line_split_step end b piece false [] other is whole line = (b ∷ piece, ap (◌∷◌ b) is, tt, (eqb-false b end other, line))
-line_split_step end b piece false (l ∷ ls) other is whole line = (piece, ap (◌∷◌ b) is, ((eqb-false b end other, whole.0), whole.1), line)
-
 pub line_split : (end : ℕ) (bytes : List ℕ) → LineSplit end bytes
 line_split end [] = record { piece = []; is = refl; whole = tt; line = tt }
 line_split end (b ∷ bytes) =
     let p = line_split end bytes in
-    let q = line_split_step end b p.piece (b == end) (complete_lines end bytes) refl p.is p.whole p.line in
-    record { piece = q.0; is = q.1; whole = q.2; line = q.3 }
+    let (piece, is, whole, line) = put (b == end) (complete_lines end bytes) p.piece refl p.is p.whole p.line in
+    record { piece = piece; is = is; whole = whole; line = line }
+  where
+    put : (t : Bool) (ls : List (List ℕ)) (piece : List ℕ) → (b == end) ≡ t → bytes ≡ unlines end ls ++ piece → AreLines end ls → IsLine end piece
+        → let more = cond t ([] ∷ ls) (onto_first_if_any b ls) in
+        (rest : List ℕ) × (b ∷ bytes ≡ unlines end more ++ rest) × AreLines end more × IsLine end rest
+    put true ls piece same is whole line = (piece, (λ i. eqb-true b end same i ∷ is i), (tt, whole), line)
+    put false [] piece other is whole line = (b ∷ piece, ap (◌∷◌ b) is, tt, (eqb-false b end other, line))
+    put false (l ∷ ls) piece other is (first, others) line =
+        (piece, ap (◌∷◌ b) is, ((eqb-false b end other, first), others), line)
 
 -- the complete lines come before those of the continuation
 pub complete_prefix : (end : ℕ) (bytes rest : List ℕ) → lines end (bytes ++ rest) ≡ complete_lines end bytes ++ lines end ((line_split end bytes).piece ++ rest)

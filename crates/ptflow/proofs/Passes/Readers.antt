@@ -14,18 +14,20 @@ advance_none r clean = record {
 -- after the end of the input, nothing is read
 pub eof_gives_nothing : (now new : Reader) (bytes : List ℕ) → IsDone now → ReaderAdvance now new bytes → (bytes ≡ []) × (new.buffered ≡ []) × (new.eof ≡ true)
 eof_gives_nothing now new bytes done reads =
-    let still = reads.still done.eof in
+    let (pulled, eof) = reads.still done.eof in
     let none : length bytes + length new.buffered ≡ 0 = omega (arith, ap length done.buffered) in
-    (nil_from_length bytes (omega arith), nil_from_length new.buffered (omega arith), still.1)
+    (nil_from_length bytes (omega arith), nil_from_length new.buffered (omega arith), eof)
 
 pub stays_at_eof : (now new : Reader) (bytes : List ℕ) → IsDone now → ReaderAdvance now new bytes → IsDone new
 stays_at_eof now new bytes done reads =
-    let none = eof_gives_nothing _ _ _ done reads in
-    record { eof = none.2; buffered = none.1; left = reads.end (λ eof. done.left) none.2 }
+    let (_, buffered, eof) = eof_gives_nothing _ _ _ done reads in
+    record { eof = eof; buffered = buffered; left = reads.end (λ _. done.left) eof }
 
 -- once the input has ended, the bytes of a read and any continuation after them are empty
 pub may_follow : (now new : Reader) (bytes rest : List ℕ) → ReaderAdvance now new bytes → (IsDone new → rest ≡ []) → IsDone now → bytes ++ rest ≡ []
-may_follow now new bytes rest reads may done = λ i. (eof_gives_nothing _ _ _ done reads).0 i ++ may (stays_at_eof _ _ _ done reads) i
+may_follow now new bytes rest reads may done =
+    let (none, _, _) = eof_gives_nothing _ _ _ done reads in
+    λ i. none i ++ may (stays_at_eof _ _ _ done reads) i
 
 -- a sound reader that can be read has not failed
 pub never_failed : {old reader : Reader} {store : Slots} {bytes : List ℕ} → PassPre old store → AdvanceOk old reader bytes → IsSound reader → reader.failed ≡ false

@@ -22,8 +22,8 @@ piece_ends from at (suc n) some room =
 -- tests that agree on bytes squeeze alike
 same_after : (p q : ℕ → Bool) → ((b : ℕ) → b < 256 → p b ≡ q b) → (last : ℕ) (bytes : List ℕ) → Each1 (Fits w8) bytes → squeeze_after p last bytes ≡ squeeze_after q last bytes
 same_after p q same last [] small = refl
-same_after p q same last (b ∷ bytes) small =
-    cc (after_one_byte p last b bytes, same b (Fits-lt-pow small.0), same_after p q same b bytes small.1, after_one_byte q last b bytes)
+same_after p q same last (b ∷ bytes) (first, others) =
+    cc (after_one_byte p last b bytes, same b (Fits-lt-pow first), same_after p q same b bytes others, after_one_byte q last b bytes)
 
 pub same_from : (p q : ℕ → Bool) → ((b : ℕ) → b < 256 → p b ≡ q b) → (last : Option ℕ) (bytes : List ℕ) → ((k : ℕ) → Fits w8 (get_or bytes k 0)) → squeeze_from p last bytes ≡ squeeze_from q last bytes
 same_from p q same None [] fit = refl
@@ -219,13 +219,13 @@ module _ (test : ℕ → Bool) (from : List ℕ) where
 
     -- if no byte is removed, all are kept
     pub all_stay_in_four : InFour (λ k. mask_l (removed_flags test k from) ≡ 0) at → squeeze_after test (get_or from (at - 1) 0) (chunk at 64 from) ≡ chunk at 64 from
-    all_stay_in_four none =
+    all_stay_in_four (first, second, third, last) =
         let stay = λ (k : ℕ) (low : at ≤ k) (high : k ≤ at + 48). none_removed test (chunk (k - 1) 16 from) (chunk k 16 from) (long_prefixes k low high) in
         cc (
           stays_in_four,
-          stay at (omega arith) (omega arith) none.0,
-          stay (at + 16) (omega arith) (omega arith) none.1,
-          stay (at + 32) (omega arith) (omega arith) none.2,
-          stay (at + 48) (omega arith) (omega arith) none.3,
+          stay at (omega arith) (omega arith) first,
+          stay (at + 16) (omega arith) (omega arith) second,
+          stay (at + 32) (omega arith) (omega arith) third,
+          stay (at + 48) (omega arith) (omega arith) last,
           chunk_in_four at from,
         )

@@ -101,7 +101,9 @@ filter_all test none (b ∷ bytes) = cc (none b, filter_all test none bytes)
 -- the last item of a list that is not empty
 last_of : {X : Type 0} (x : X) (xs : List X) → (last : X) × (last_or (Some x) xs ≡ Some last) × EndsWith last (x ∷ xs)
 last_of x [] = (x, refl, ([], refl))
-last_of x (y ∷ xs) = let l = last_of y xs in (l.0, l.1, (x ∷ l.2.0, ap (◌∷◌ x) l.2.1))
+last_of x (y ∷ xs) =
+    let (last, is, ends) = last_of y xs in
+    let (front, split) = ends in (last, is, (x ∷ front, ap (◌∷◌ x) split))
 
 -- A byte before the text makes no difference if the text does not begin with it, or it is not squeezed.
 after_two_parts : (squeezed : ℕ → Bool) (last : ℕ) (bytes : List ℕ) → (BeginsWith last (squeeze squeezed bytes) → squeezed last ≡ false) → squeeze_after squeezed last bytes ≡ squeeze squeezed bytes
@@ -123,8 +125,8 @@ from_two_parts : (squeezed : ℕ → Bool) (written bytes : List ℕ) → ((byte
     → squeeze_from squeezed (last_or None written) bytes ≡ squeeze squeezed bytes
 from_two_parts squeezed [] bytes apart = refl
 from_two_parts squeezed (b ∷ written) bytes apart =
-    let l = last_of b written in
-    cc (after_two_parts squeezed l.0 bytes (apart l.0 l.2))
+    let (last, is, ends) = last_of b written in
+    cc (after_two_parts squeezed last bytes (apart last ends))
 
 pub tr_of_parts : TrOfParts
 tr_of_parts tables a b apart = cc (front_on tables None a b, from_two_parts (squeezes tables) (tr tables a) (translation tables b) apart)
@@ -140,7 +142,7 @@ last_after o (y ∷ front) x = last_after (Some y) front x
 
 -- the last item of a list is unique
 pub same_last : {X : Type 0} (x y : X) (xs : List X) → EndsWith x xs → EndsWith y xs → Some x ≡ Some y
-same_last x y xs ends others = cc (last_after None ends.0 x, last_after None others.0 y)
+same_last x y xs (front, ends) (others, other_ends) = cc (last_after None front x, last_after None others y)
 
 -- one byte that is not deleted and whose image is not squeezed
 one_byte : (tables : Tables) (last : Option ℕ) (byte : ℕ) → deletes tables byte ≡ false → squeezes tables (image tables byte) ≡ false → tr_from tables last (byte ∷ []) ≡ image tables byte ∷ []
@@ -151,10 +153,10 @@ one_byte tables last byte is_not_repeat stays_too =
     by_test t = grind arith
 
 pub tr_after_byte : TrAfterByte
-tr_after_byte tables byte a b ends kept unsqueezed =
+tr_after_byte tables byte a b (front, ends) kept unsqueezed =
     let last : EndsWith (image tables byte) (tr tables a) = (
-      tr tables ends.0,
-      cc (ends.1, front_on tables None ends.0 (byte ∷ []), one_byte tables (last_or None (tr tables ends.0)) byte kept unsqueezed),
+      tr tables front,
+      cc (ends, front_on tables None front (byte ∷ []), one_byte tables (last_or None (tr tables front)) byte kept unsqueezed),
     ) in
     tr_of_parts tables a b (λ c is begins. cc (same_last c (image tables byte) (tr tables a) is last, unsqueezed))
 
@@ -169,5 +171,5 @@ after_same squeezed last (b ∷ bytes) rest is begins =
     again same = rw (eq-eqb last b (sym same)) (cc (same))
 
 pub tr_meets_twice : TrMeetsTwice
-tr_meets_twice tables byte a b rest is ends begins =
-    cc (front_on tables None a b, last_after None ends.0 byte, after_same (squeezes tables) byte (translation tables b) rest is begins)
+tr_meets_twice tables byte a b rest is (front, ends) begins =
+    cc (front_on tables None a b, last_after None front byte, after_same (squeezes tables) byte (translation tables b) rest is begins)

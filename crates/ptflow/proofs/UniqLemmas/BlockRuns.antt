@@ -168,13 +168,13 @@ other_count n other = grind arith
 -- the next line with its terminator
 line_in_block : {end : ℕ} {block rest : List ℕ} {front : List (List ℕ)} → BlockPrefix end block rest front → (at : ℕ) → IsFirstByte (is_byte end) rest (Some at)
     → (from to : ℕ) → from ≡ length block - length rest → to ≡ from + at + 1
-    → (slice_range block from to ≡ take at rest ++ end ∷ []) × (from < to) × (to ≤ length block)
+    → (slice_range block from to ≡ take at rest ++ end ∷ []) × ((from < to) × (to ≤ length block))
 line_in_block lies at first from to from_is to_is = grind (arith, common_steps)
 
 pub runs_loop_starts : (job : Uniq) (block : List ℕ) (at : ℕ) → IsFirstByte (is_byte job.terminator) block (Some at) → {run_key : List ℕ} → run_key ≡ key job (take at block) → (was : Output)
     → RunsInvariant job block (drop (at + 1) block) 1 (record { from = 0; to = at + 1 }) (record { from = 0; to = 0 }) run_key was was
 runs_loop_starts job block at first run_key_is was =
-    let l = line_in_block (prefix_nothing job.terminator block) at first 0 (at + 1) (omega arith) (omega arith) in record {
+    let (whole, line_in) = line_in_block (prefix_nothing job.terminator block) at first 0 (at + 1) (omega arith) (omega arith) in record {
       front = take at block ∷ [];
       lies = front_more (prefix_nothing job.terminator block) at first;
       passed = [];
@@ -184,8 +184,8 @@ runs_loop_starts job block at first run_key_is was =
       first = take at block;
       on = λ more. runs_after_next job (run_of [] 0) (take at block) more refl;
       run_key_is = run_key_is;
-      whole = l.0;
-      line_in = (l.1, l.2);
+      whole = whole;
+      line_in = line_in;
       waiting_in = span_nothing;
       some = omega arith;
       few = omega arith;
@@ -240,7 +240,7 @@ module _ {job : Uniq} {block : List ℕ} {rest : List ℕ} {count : ℕ} {line p
           → (from to : ℕ) → from ≡ length block - length rest → to ≡ from + at + 1 → {own' : List ℕ} → own' ≡ key job next
           → RunsInvariant job block (drop (at + 1) rest) 1 (record { from = from; to = to }) now own' was is'
       runs_loop_next {now} w from to from_is to_is own_is' =
-          let l = line_in_block r.lies at found _ _ from_is to_is in record {
+          let (whole, line_in) = line_in_block r.lies at found _ _ from_is to_is in record {
             front = r.front ++ next ∷ [];
             lies = front_more r.lies at found;
             passed = r.passed ++ current_run (run_of r.first count);
@@ -250,8 +250,8 @@ module _ {job : Uniq} {block : List ℕ} {rest : List ℕ} {count : ℕ} {line p
             first = next;
             on = turned;
             run_key_is = own_is';
-            whole = l.0;
-            line_in = (l.1, l.2);
+            whole = whole;
+            line_in = line_in;
             waiting_in = w.span;
             some = omega arith;
             few = omega (arith, length-append r.front (next ∷ []));
@@ -295,7 +295,8 @@ module _ {job : Uniq} {block : List ℕ} {rest : List ℕ} {count : ℕ} {line p
     }
       where
         sizes : line.to - line.from ≡ length r.first + 1
-        sizes = omega (arith, length_range block line.from _ (omega (arith, r.line_in.0)) r.line_in.1, ap length r.whole, length-append r.first (job.terminator ∷ []))
+        sizes = let (some, within) = r.line_in in
+            omega (arith, length_range block line.from _ (omega (arith, some)) within, ap length r.whole, length-append r.first (job.terminator ∷ []))
 
         first_is : slice_range block line.from (line.to - 1) ≡ r.first
         first_is =

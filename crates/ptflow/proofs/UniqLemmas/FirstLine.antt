@@ -156,7 +156,7 @@ module _ {job : Uniq} {end : ℕ} {first block : List ℕ} {same : RepeatCount} 
         passed = current_run run ++ h.passed;
         wrote = both_wrote h.passed h.wrote;
         fault = h.fault;
-        is_prefix = λ more. let t = h.is_prefix more in (t.0, cc (turned more, append_assoc (current_run run) h.passed t.0));
+        is_prefix = λ more. let (rest, on) = h.is_prefix more in (rest, cc (turned more, append_assoc (current_run run) h.passed rest));
       }
 
   pub block_passed : (passed : ℕ) → take passed rest ≡ unlines end (complete_lines end rest) → take (same.passed + passed) block ≡ unlines end (complete_lines end block)

@@ -37,7 +37,9 @@ module _ (job : Uniq) where
   first line n (l ∷ ls) = first_more l (is_same job line l) refl (first line (n + 1) ls)
 
   onto_first_run : (line : List ℕ) {l : List ℕ} {ls : List (List ℕ)} (t : Bool) → is_same job line l ≡ t → First l 1 ls → cons_run job line (runs_from job (run_of l 1) ls) ≡ chosen l ls line 1 t
-  onto_first_run line {l} true e f = ap (cons_run job line) f.is ∙ rw e (sym (f.led line ((bytes_eq-Decides (key job line) (key job l)).0 e)))
+  onto_first_run line {l} true e f =
+      let (from_same, _) = bytes_eq-Decides (key job line) (key job l) in
+      ap (cons_run job line) f.is ∙ rw e (sym (f.led line (from_same e)))
   onto_first_run line false e f = ap (cons_run job line) f.is ∙ rw e (ap (◌∷◌ (run_of line 1)) (sym f.is))
 
   -- the runs of a list of lines, from its first line
@@ -74,16 +76,16 @@ init_push (r ∷ q ∷ rs) run = ap (◌∷◌ r) (init_push (q ∷ rs) run)
 init_prefix : (rs : List Run) → (last : List Run) × (rs ≡ init rs ++ last)
 init_prefix [] = ([], refl)
 init_prefix (r ∷ []) = (r ∷ [], refl)
-init_prefix (r ∷ q ∷ rs) = let f = init_prefix (q ∷ rs) in (f.0, ap (◌∷◌ r) f.1)
+init_prefix (r ∷ q ∷ rs) = let (last, is) = init_prefix (q ∷ rs) in (last, ap (◌∷◌ r) is)
 
 -- all runs but the current one were written, or all but the last of them
 pub init_current : (job : Uniq) (passed : List Run) (run : Run) → IsPrefix (output_of job (init (passed ++ current_run run))) (output_of job passed)
 init_current job passed run = by_test (nat_lt 0 run.count)
   where
     by_test : (t : Bool) → IsPrefix (output_of job (init (passed ++ cond t (run ∷ []) []))) (output_of job passed)
-    by_test false = let f = init_prefix passed in record {
-      rest = output_of job f.0;
-      is = cc (entries-append job (init passed) f.0, append-nil passed);
+    by_test false = let (last, split) = init_prefix passed in record {
+      rest = output_of job last;
+      is = cc (entries-append job (init passed) last, append-nil passed);
     }
     by_test true = record {
       rest = [];

@@ -14,7 +14,7 @@ use Rattle.ptflow.proofs.Vectors.Lanes.{sel_maps, mask_right, bytes_same}
 module _ (half : ℕ → ℕ) (small : (b : ℕ) → b < 256 → half b < 16) where
   halves_small : (v : List ℕ) → Each1 (Fits w8) v → Each1 (λ j. j < 16) (map half v)
   halves_small [] fit = tt
-  halves_small (b ∷ v) fit = (small b fit.0.fits, halves_small v fit.1)
+  halves_small (b ∷ v) (first, others) = (small b first.fits, halves_small v others)
 
   pub nibbles_ok : {js : List ℕ} (v : List ℕ) → js ≡ map half v → length v ≡ 16 → Each1 (Fits w8) v → SwzOk w8 16 16 0 js
   nibbles_ok v is long fit =
@@ -27,8 +27,8 @@ module _ (half : ℕ → ℕ) (small : (b : ℕ) → b < 256 → half b < 16) wh
 
   looked_up_from : (table v : List ℕ) (i : ℕ) → i + length v ≤ 16 → Each1 (Fits w8) v → swz_l w8 16 table i (map half v) ≡ map (λ b. get_or table (half b) 0) v
   looked_up_from table [] i few fit = refl
-  looked_up_from table (b ∷ v) i few fit =
-      λ k. lane table i (omega arith) (small b fit.0.fits) k ∷ looked_up_from table v (suc i) (omega arith) fit.1 k
+  looked_up_from table (b ∷ v) i few (first, others) =
+      λ k. lane table i (omega arith) (small b first.fits) k ∷ looked_up_from table v (suc i) (omega arith) others k
 
   pub looked_up : (table : List ℕ) {js : List ℕ} (v : List ℕ) → js ≡ map half v → length v ≡ 16 → Each1 (Fits w8) v → swz_l w8 16 table 0 js ≡ map (λ b. get_or table (half b) 0) v
   looked_up table v is long fit = cc (looked_up_from table v 0 (omega arith) fit)

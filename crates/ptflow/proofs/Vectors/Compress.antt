@@ -69,10 +69,10 @@ low_index low = grind (arith, nat_tests)
 -- lanes at indices below 16
 pub shuffle_result : (v : List ℕ) (i : ℕ) (row : List ℕ) → i + length row ≤ 16 → Each1 (λ place. place < 16) row → swz_l w8 16 v i row ≡ pick_l 0 v row
 shuffle_result v i [] room lanes = refl
-shuffle_result v i (j ∷ js) room lanes = λ t. here t ∷ shuffle_result v (suc i) js (omega arith) lanes.1 t
+shuffle_result v i (j ∷ js) room (low, lanes) = λ t. here t ∷ shuffle_result v (suc i) js (omega arith) lanes t
   where
     here : cond (nat_le 128 j) 0 (get_or v (16 * (i / 16) + j) 0) ≡ get_or v j 0
-    here = ap (λ high. cond high 0 (get_or v (16 * (i / 16) + j) 0)) (low_index lanes.0) ∙ ap (λ k. get_or v k 0) (omega arith)
+    here = ap (λ high. cond high 0 (get_or v (16 * (i / 16) + j) 0)) (low_index low) ∙ ap (λ k. get_or v k 0) (omega arith)
 
 pub row_lanes : {flags : List Bool} {indices : List ℕ} → IsCompressRow flags indices → Each1 (λ place. place < 16) indices
 row_lanes {indices} is = Each1-from_get_or (λ place. place < 16) indices 0 (λ i low. is.lanes i 0 low)

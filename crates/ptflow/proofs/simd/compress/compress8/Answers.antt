@@ -16,11 +16,12 @@ returns-clause-packed c flags long masked =
     let at = c.args.at in
     let into = c.args.into.now in
     let v = c.args.v in
+    let (size, _) = c.fits-v in
     let row = slice_index_or c.args.compress_table.now.rows c.from.result [] in
     let is : IsCompressRow flags row = subst (λ m. IsCompressRow flags (slice_index_or c.args.compress_table.now.rows m [])) (sym (cc)) (c.args.compress_table.now.is_table flags long) in
     let lanes = swz_l w8 16 v 0 row in
     cc (
       selected_stored at (count_ones c.args.keep) into lanes (length-swz_l w8 16 v 0 row ∙ is.long)
           (omega (arith, ones-le 8 c.args.keep c.ranges.keep.fits)) (omega (arith, c.requires)),
-      row_selects v (omega (arith, long, c.fits-v.0)) is,
+      row_selects v (omega (arith, long, size)) is,
     )

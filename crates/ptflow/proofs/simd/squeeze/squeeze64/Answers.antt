@@ -11,11 +11,11 @@ returns-then-same-eq0-clause-squeezed c =
     let from = c.args.block.bytes.now in
     let test = set_has c.args.set in
     let lanes = λ (k : ℕ). same_lanes (chunk (k - 1) 16 from) (chunk k 16 from) in
-    let same = none_of_four (λ k. same_flags k from) at (long_flags test from c.requires.not_first c.requires.chunk.lanes eqb)
+    let (first, second, third, last) = none_of_four (λ k. same_flags k from) at (long_flags test from c.requires.not_first c.requires.chunk.lanes eqb)
     (lanes at) (lanes (at + 16)) (lanes (at + 32)) (lanes (at + 48)) c.if-same-eq0.true in
     let none = λ (k : ℕ). none_same test (chunk (k - 1) 16 from) (chunk k 16 from) in
     c.copy_chunk.ensures ∙ ap (◌++◌ (take c.args.count c.args.into.now)) (sym (all_stay_in_four test from c.requires.not_first c.requires.chunk.lanes
-    (none at same.0, none (at + 16) same.1, none (at + 32) same.2, none (at + 48) same.3)))
+    (none at first, none (at + 16) second, none (at + 32) third, none (at + 48) last)))
 
 pub returns-then-removed-eq0-clause-squeezed : goal.returns-then-removed-eq0-clause-squeezed
 returns-then-removed-eq0-clause-squeezed c =

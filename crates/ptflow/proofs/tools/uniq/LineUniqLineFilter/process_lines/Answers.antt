@@ -87,7 +87,7 @@ pub returns-clause-passed : goal.returns-clause-passed
 returns-clause-passed g c =
     let same = c.count_repeats-same.result in
     let went = continued g (goal.at.returns-clause-passed g c).After-count_repeats-same in
-    let passed = rw take_rest at c.in_ok-last.ensures.passed in (
+    let (within, passed) = rw take_rest at c.in_ok-last.ensures.passed in (
       omega (arith, length-drop same.passed c.args.block.now),
-      block_passed went c.requires.buffered.waits c.in_ok-last.last.passed passed.1,
+      block_passed went c.requires.buffered.waits c.in_ok-last.last.passed passed,
     )
