@@ -1,6 +1,6 @@
 -- The lines that were read from a reader. A line that was read is complete, so it is a line of the input for every
 -- continuation; the same holds for the complete lines of a block.
-use Rattle.ptflow.proofs.Common.{◌≡◌, ◌⊎◌, ⊎_elim, inl, inr, ℕ, zero, suc, ◌-◌, ◌<◌, ◌≤◌, true, false, List, [], ◌∷◌, ◌++◌, length, take, drop, max, refl, ◌∙◌, ap, arith, append_assoc, length-append}
+use Rattle.ptflow.proofs.Common.{◌≡◌, ⊎_elim, inl, inr, ℕ, zero, suc, ◌-◌, ◌<◌, ◌≤◌, true, false, List, [], ◌∷◌, ◌++◌, length, take, drop, max, refl, ◌∙◌, ap, arith, append_assoc, length-append}
 use Rattle.ptflow.proofs.Common.{length-drop, take-append-drop, false≢true, append-nil, unlines, lines, complete_lines, IsLine, AreLines, max_length, max_line_length, Received, IsConsistent, known_lines, LaggedInput, Reader}
 use Rattle.ptflow.proofs.Common.{ReaderAdvance, AdvanceOk, IsDone, IsSound, Slots, FillLine, lines_of_unlines, lines_of_last, lines_cons, lines-unlines, unlines-append, unlines_push, AreLines_push, complete_lines_of_unlines, AreReceivedLines}
 use Rattle.ptflow.proofs.Common.{received_with}

@@ -51,8 +51,7 @@ pub bytes_fit : (v : List ℕ) → ((k : ℕ) → Fits w8 (get_or v k 0)) → Ea
 bytes_fit v fit = Each1-from_get_or (Fits w8) v 0 (λ k _. fit k)
 
 pub mapped_same : (f g : ℕ → ℕ) (at : ℕ) (from to : List ℕ) → ((b : ℕ) → b < 256 → f b ≡ g b) → ((k : ℕ) → Fits w8 (get_or from k 0)) → IsMappedTo at f from to → IsMappedTo at g from to
-mapped_same f g at from to same fit (within, long, mapped) =
-    (within, long, mapped ∙ bytes_same f g same (take at from) (chunk-fits w8 0 at from fit))
+mapped_same f g at from to same fit moved = (moved.0, moved.1, moved.2 ∙ bytes_same f g same (take at from) (chunk-fits w8 0 at from fit))
 
 -- ---- ranges that are shifted
 

@@ -34,9 +34,7 @@ loop-after-preserved c =
 pub returns-clause-next : goal.returns-clause-next
 returns-clause-next c =
     let counted = ap count_ones c.match_mask-mask.ensures ∙ ones-mask_l (is_byte c.args.by.now.terminator) (chunk c.args.at 64 c.args.from.now) in
-    let (index, number) = c.after.ensures in
-    (index, number ∙ ap (◌+◌ c.args.cycle_pos.number) counted)
+    (c.after.ensures.0, c.after.ensures.1 ∙ ap (◌+◌ c.args.cycle_pos.number) counted)
 
 pub returns-clause-replaced : goal.returns-clause-replaced
-returns-clause-replaced c =
-    let (_, replaced) = replace_end c.loop-after.invariant c.match_mask-mask.ensures (omega arith) in replaced
+returns-clause-replaced c = (replace_end c.loop-after.invariant c.match_mask-mask.ensures (omega arith)).1

@@ -8,8 +8,8 @@ pub returns-clause-number : goal.returns-clause-number
 returns-clause-number c =
     let p = is_byte c.args.by.now.terminator in
     let from = c.args.from.now in
-    let (cycle_pos, at) = c.replace_chunks_unrolled-at.result in
-    let rest : c.replace_cyclic.result ≡ cycle_pos.number + count_by p (drop at from) = rw take_rest at c.replace_cyclic.ensures.number in
+    let at = c.replace_chunks_unrolled-at.result.1 in
+    let rest : c.replace_cyclic.result ≡ c.replace_chunks_unrolled-at.result.0.number + count_by p (drop at from) = rw take_rest at c.replace_cyclic.ensures.number in
     let all : count_by p (take at from ++ drop at from) ≡ count_by p (take at from) + count_by p (drop at from) = sum_by-append (λ b. cond (p b) 1 0) (take at from) (drop at from) in
     omega (arith, ap (count_by p) (take-append-drop at from))
 
@@ -18,15 +18,15 @@ returns-clause-replaced c =
     let end = c.args.by.now.terminator in
     let cycle = c.args.by.now.cycle.now in
     let from = c.args.from.now in
-    let (cycle_pos, at) = c.replace_chunks_unrolled-at.result in
-    let (_, _, front, _, same_after) = c.replace_chunks_unrolled-at.ensures in
+    let at = c.replace_chunks_unrolled-at.result.1 in
     let mid = c.replace_chunks_unrolled-at.new.to in
+    let cycle_pos = c.replace_chunks_unrolled-at.result.0 in
     let rest : c.replace_cyclic.new.to ≡ with_cycle end cycle cycle_pos.number (drop at from) = rw take_rest at c.replace_cyclic.ensures.replaced in
     let none : drop (length mid - at) (drop at mid) ≡ [] = drop_all (length mid - at) (drop at mid) (omega (arith, length-drop at mid)) in
     cc (
-      same_after,
+      c.replace_chunks_unrolled-at.ensures.4,
       append-nil (with_cycle end cycle cycle_pos.number (drop at from)),
-      front,
+      c.replace_chunks_unrolled-at.ensures.2,
       cycle-append end cycle 0 (take at from) (drop at from),
       take-append-drop at from,
     )
