@@ -1,14 +1,25 @@
 -- The lines that were read from a reader. A line that was read is complete, so it is a line of the input for every
 -- continuation; the same holds for the complete lines of a block.
-use Rattle.ptflow.proofs.Common.{◌≡◌, ⊎_elim, inl, inr, ℕ, zero, suc, ◌-◌, ◌<◌, ◌≤◌, true, false, List, [], ◌∷◌, ◌++◌, length, take, drop, max, refl, ◌∙◌, ap, arith, append_assoc, length-append}
-use Rattle.ptflow.proofs.Common.{length-drop, take-append-drop, false≢true, append-nil, unlines, lines, complete_lines, IsLine, AreLines, max_length, max_line_length, Received, IsConsistent, known_lines, LaggedInput, Reader}
-use Rattle.ptflow.proofs.Common.{ReaderAdvance, AdvanceOk, IsDone, IsSound, Slots, FillLine, lines_of_unlines, lines_of_last, lines_cons, lines-unlines, unlines-append, unlines_push, AreLines_push, complete_lines_of_unlines, AreReceivedLines}
+use Rattle.ptflow.proofs.Common.{◌≡◌, ⊎_elim, inl, inr, ℕ, zero, suc, ◌-◌, ◌<◌, ◌≤◌, true, false, List, [], ◌∷◌, ◌++◌}
+use Rattle.ptflow.proofs.Common.{length, take, drop, max, refl, ◌∙◌, ap, arith, append_assoc, length-append}
+use Rattle.ptflow.proofs.Common.{length-drop, take-append-drop, false≢true, append-nil, unlines, lines, complete_lines}
+use Rattle.ptflow.proofs.Common.{IsLine, AreLines, max_length, max_line_length, Received, IsConsistent, known_lines}
+use Rattle.ptflow.proofs.Common.{LaggedInput, Reader, ReaderAdvance, AdvanceOk, IsDone, IsSound, Slots, FillLine}
+use Rattle.ptflow.proofs.Common.{lines_of_unlines, lines_of_last, lines_cons, lines-unlines, unlines-append}
+use Rattle.ptflow.proofs.Common.{unlines_push, AreLines_push, complete_lines_of_unlines, AreReceivedLines}
 use Rattle.ptflow.proofs.Common.{received_with}
 use Rattle.ptflow.proofs.Passes.Lines.{piece_le_max_length, max_length-append}
 use Rattle.ptflow.proofs.Passes.Readers.{eof_gives_nothing, stays_at_eof}
 
-longest_prefix : (end : ℕ) (ls : List (List ℕ)) (piece rest : List ℕ) → AreLines end ls → IsLine end piece → max (max_length ls) (length piece) ≤ max_length (lines end (unlines end ls ++ (piece ++ rest)))
-longest_prefix end ls piece rest whole free = omega (arith, ap max_length (lines_of_unlines end ls (piece ++ rest) whole) ∙ max_length-append ls (lines end (piece ++ rest)), piece_le_max_length end piece rest free)
+longest_prefix : (end : ℕ) (ls : List (List ℕ)) (piece rest : List ℕ) → AreLines end ls → IsLine end piece
+    → max (max_length ls) (length piece) ≤ max_length (lines end (unlines end ls ++ (piece ++ rest)))
+longest_prefix end ls piece rest whole free =
+    omega (
+      arith,
+      ap max_length (lines_of_unlines end ls (piece ++ rest) whole)
+          ∙ max_length-append ls (lines end (piece ++ rest)),
+      piece_le_max_length end piece rest free,
+    )
 
 pub lines_none : (end : ℕ) (reader : Reader) → AreReceivedLines end reader [] []
 lines_none end reader = record { so_far = inl (refl, tt) }
@@ -35,23 +46,33 @@ module _ (end : ℕ) (now : Reader) (given : List ℕ) (ls : List (List ℕ)) (k
       closed (same, done) = let none = may done in
           cc (append-nil given, append-nil ls)
 
-  pub received_longest : (input : List ℕ) → IsConsistent (received_with given now) input → max_length ls ≤ max_line_length end input
+  pub received_longest : (input : List ℕ) → IsConsistent (received_with given now) input
+      → max_length ls ≤ max_line_length end input
   received_longest input a =
       omega (
         arith,
         ap max_length (ap (lines end) (a.is ∙ append_assoc given now.buffered a.rest)
-            ∙ lines_on (now.buffered ++ a.rest) (λ done. λ i. done.buffered i ++ a.whole done.eof i)) ∙ max_length-append ls (lines end (now.buffered ++ a.rest)),
+            ∙ lines_on (now.buffered ++ a.rest) (λ done. λ i. done.buffered i ++ a.whole done.eof i))
+            ∙ max_length-append ls (lines end (now.buffered ++ a.rest)),
       )
 
   -- the first part of a line was read
   module _ (new : Reader) (piece : List ℕ) (reads : ReaderAdvance now new piece) (free : IsLine end piece) where
-    pub piece_longest : (input : List ℕ) → IsConsistent (received_with (given ++ piece) new) input → max (max_length ls) (length piece) ≤ max_line_length end input
+    pub piece_longest : (input : List ℕ) → IsConsistent (received_with (given ++ piece) new) input
+        → max (max_length ls) (length piece) ≤ max_line_length end input
     piece_longest input a = ⊎_elim opened closed k.so_far
       where
-        opened : (given ≡ unlines end ls) × AreLines end ls → max (max_length ls) (length piece) ≤ max_line_length end input
+        opened : (given ≡ unlines end ls) × AreLines end ls
+            → max (max_length ls) (length piece) ≤ max_line_length end input
         opened (text, are) =
             let split : input ≡ unlines end ls ++ (piece ++ (new.buffered ++ a.rest)) =
-            cc (a.is, append_assoc given piece new.buffered, append_assoc given (piece ++ new.buffered) a.rest, text, append_assoc piece new.buffered a.rest) in
+            cc (
+              a.is,
+              append_assoc given piece new.buffered,
+              append_assoc given (piece ++ new.buffered) a.rest,
+              text,
+              append_assoc piece new.buffered a.rest,
+            ) in
             rw (← split) at (longest_prefix end ls piece (new.buffered ++ a.rest) are free)
 
         closed : (lines end given ≡ ls) × IsDone now → max (max_length ls) (length piece) ≤ max_line_length end input
@@ -66,11 +87,13 @@ module _ (end : ℕ) (now : Reader) (given : List ℕ) (ls : List (List ℕ)) (k
     whole_before empty going =
         ⊎_elim
         (λ (text, are). (λ i. known_lines end (record { bytes = (text i ++ piece) ++ empty i; eof = going i }))
-        ∙ ap (complete_lines end) (append-nil (unlines end ls ++ piece)) ∙ complete_lines_of_unlines end ls piece are free)
+        ∙ ap (complete_lines end) (append-nil (unlines end ls ++ piece))
+        ∙ complete_lines_of_unlines end ls piece are free)
         (λ (_, done). absurd (false≢true (cc ((stays_at_eof _ _ _ done reads).eof)))) k.so_far
 
   -- one line was read
-  module _ (new : Reader) (before after : Slots) (slot : ℕ) (e : FillLine now new before after slot) (same : now.terminator ≡ end) where
+  module _ (new : Reader) (before after : Slots) (slot : ℕ) (e : FillLine now new before after slot)
+      (same : now.terminator ≡ end) where
     free : IsLine end e.line
     free = rw same at e.whole
 
@@ -81,9 +104,11 @@ module _ (end : ℕ) (now : Reader) (given : List ℕ) (ls : List (List ℕ)) (k
     ]
 
     -- its bytes are a line for every continuation
-    pub line_prefix : (rest : List ℕ) → (IsDone new → rest ≡ []) → lines end ((e.line ++ e.terminator) ++ rest) ≡ e.line ∷ lines end rest
+    pub line_prefix : (rest : List ℕ) → (IsDone new → rest ≡ [])
+        → lines end ((e.line ++ e.terminator) ++ rest) ≡ e.line ∷ lines end rest
     line_prefix rest may = elim e.ends [
-      | inl ends ↦ (λ i. lines end (append_assoc e.line ((ends ∙ ap (λ b. b ∷ []) same) i) rest i)) ∙ lines_cons end e.line rest free
+      | inl ends ↦ (λ i. lines end (append_assoc e.line ((ends ∙ ap (λ b. b ∷ []) same) i) rest i))
+          ∙ lines_cons end e.line rest free
       | inr (unended, some, done) ↦
           let none = may done in
           cc (append-nil (e.line ++ []), append-nil e.line, lines_of_last end e.line free some)
@@ -115,10 +140,13 @@ are_append end [] ys a b = b
 are_append end (x ∷ xs) ys (first, others) b = (first, are_append end xs ys others b)
 
 -- some complete lines were read after those
-pub lines_block : {end : ℕ} {reader : Reader} {given : List ℕ} {ls : List (List ℕ)} → AreReceivedLines end reader given ls → {new : Reader} (more : List (List ℕ))
-    → AdvanceOk reader new (unlines end more) → AreLines end more → AreReceivedLines end new (given ++ unlines end more) (ls ++ more)
+pub lines_block : {end : ℕ} {reader : Reader} {given : List ℕ} {ls : List (List ℕ)}
+    → AreReceivedLines end reader given ls → {new : Reader} (more : List (List ℕ))
+    → AdvanceOk reader new (unlines end more) → AreLines end more
+    → AreReceivedLines end new (given ++ unlines end more) (ls ++ more)
 lines_block {end} {ls} k more advance_ok are = record {
-  so_far = ⊎_elim (λ (text, before). inl (cc (unlines-append end ls more), are_append end ls more before are)) (λ (_, done).
+  so_far = ⊎_elim (λ (text, before). inl (cc (unlines-append end ls more), are_append end ls more before are))
+      (λ (_, done).
       let (none, _, _) = eof_gives_nothing _ _ _ done advance_ok.reads in
       inr (
         cc (lines_on _ _ _ _ k (unlines end more) (λ _. none), lines-unlines end more are),
@@ -139,13 +167,15 @@ line_take end (suc n) [] are = tt
 line_take end (suc n) (b ∷ bytes) (differs, are) = (differs, line_take end n bytes are)
 
 -- the terminator of a line and the buffered bytes after it are at most 8,193 bytes
-pub after_line : {now new : Reader} {before after : Slots} {slot : ℕ} (e : FillLine now new before after slot) → IsSound new → length (e.terminator ++ new.buffered) ≤ 8193
+pub after_line : {now new : Reader} {before after : Slots} {slot : ℕ} (e : FillLine now new before after slot)
+    → IsSound new → length (e.terminator ++ new.buffered) ≤ 8193
 after_line {new} e sound = elim e.ends [
   | inl ends ↦ omega (arith, ap length ends, length-append e.terminator new.buffered)
   | inr (none, _, _) ↦ omega (arith, ap length none, length-append e.terminator new.buffered)
 ]
 
-module _ {end : ℕ} {now new : Reader} {given : List ℕ} {ls : List (List ℕ)} (k : AreReceivedLines end now given ls) {piece : List ℕ} (reads : ReaderAdvance now new piece) (line behind : List ℕ)
+module _ {end : ℕ} {now new : Reader} {given : List ℕ} {ls : List (List ℕ)} (k : AreReceivedLines end now given ls)
+    {piece : List ℕ} (reads : ReaderAdvance now new piece) (line behind : List ℕ)
     (is : piece ++ new.buffered ≡ line ++ behind) (whole : IsLine end line) (short : length behind ≤ 8193) where
   -- all but the terminator of a line that was read, and the bytes after it
   pub before_line : EarlierLines end ls (received_with (given ++ piece) new)
@@ -156,7 +186,13 @@ module _ {end : ℕ} {now new : Reader} {given : List ℕ} {ls : List (List ℕ)
         before = record {
           earlier = record { bytes = given ++ take n line; eof = false };
           last = drop n line ++ behind;
-          split = cc (append_assoc given piece new.buffered, take-append-drop n line, append_assoc (take n line) (drop n line) behind, append_assoc given (take n line) (drop n line ++ behind));
+          split =
+              cc (
+                append_assoc given piece new.buffered,
+                take-append-drop n line,
+                append_assoc (take n line) (drop n line) behind,
+                append_assoc given (take n line) (drop n line ++ behind),
+              );
           short = omega (arith, length-append (drop n line) behind, length-drop n line);
           eof = λ never. absurd (false≢true never);
         };

@@ -11,6 +11,13 @@ pub returned_err : {T E A : Type 0} {Q : E → Type 0} (r : Result T E) → A ×
 returned_err r (_, is_err) = err_from_is_err_and r is_err
 
 -- a write failed before these items
-pub failed_before : {X Y : Type 0} (rest_from : X → List Y → List ℕ) (now : X) (items : List Y) {was is : Output} → PushEffect was is [] → is.write_failed ≡ true
-    → OutputFailed rest_from now items was is
-failed_before rest_from now items {is} wrote fault = record { pushed = []; wrote = wrote; fault = fault; is_prefix = λ rest. record { rest = rest_from now (items ++ rest); is = refl } }
+pub failed_before : {X Y : Type 0} (rest_from : X → List Y → List ℕ) (now : X) (items : List Y) {was is : Output}
+    → PushEffect was is [] → is.write_failed ≡ true → OutputFailed rest_from now items was is
+failed_before rest_from now items {is} wrote
+    fault =
+    record {
+      pushed = [];
+      wrote = wrote;
+      fault = fault;
+      is_prefix = λ rest. record { rest = rest_from now (items ++ rest); is = refl };
+    }

@@ -1,7 +1,9 @@
 -- `uniq` for a text that is cut between two runs, or whose lines are distributed by their keys. Lines with different
 -- keys are in different runs, so no run is cut or merged.
-use Rattle.ptflow.proofs.Common.{◌≡◌, ◌⊎◌, inl, inr, ⊎_elim, ℕ, ◌+◌, Bool, true, false, cond, List, [], ◌∷◌, ◌++◌, refl, sym, ◌∙◌, ap, filter, AllByRecursion, cases_Bool, bytes_eq-Decides, lines}
-use Rattle.ptflow.proofs.Common.{IsLine, the_lines_of_parts, lines-unlines, lines_are, Uniq, Run, key, is_same, cons_run, runs, BeginsWith, EndsWith, HasGroupedKeys, UniqOfParts, UniqByKey, run_of}
+use Rattle.ptflow.proofs.Common.{◌≡◌, ◌⊎◌, inl, inr, ⊎_elim, ℕ, ◌+◌, Bool, true, false, cond, List, [], ◌∷◌, ◌++◌, refl}
+use Rattle.ptflow.proofs.Common.{sym, ◌∙◌, ap, filter, AllByRecursion, cases_Bool, bytes_eq-Decides, lines, IsLine}
+use Rattle.ptflow.proofs.Common.{the_lines_of_parts, lines-unlines, lines_are, Uniq, Run, key, is_same, cons_run, runs}
+use Rattle.ptflow.proofs.Common.{BeginsWith, EndsWith, HasGroupedKeys, UniqOfParts, UniqByKey, run_of}
 use Rattle.std.specs.Prelude.{◌≢◌}
 use Rattle.ptflow.proofs.UniqLemmas.RunsFrom.{entries-append}
 
@@ -12,11 +14,14 @@ module _ (job : Uniq) where
       ⊎_elim (λ e. absurd (differ (from_same e))) (λ e. e) (cases_Bool (is_same job a b))
 
   -- a line before some runs is the line of the first run
-  onto_is : (line : List ℕ) (rs : List Run) → (count : ℕ) × (more : List Run) × (cons_run job line rs ≡ run_of line count ∷ more)
+  onto_is : (line : List ℕ) (rs : List Run)
+      → (count : ℕ) × (more : List Run) × (cons_run job line rs ≡ run_of line count ∷ more)
   onto_is line [] = (1, [], refl)
   onto_is line (run ∷ more) = by_test (is_same job line run.line)
     where
-      by_test : (t : Bool) → (count : ℕ) × (rest : List Run) × (cond t (run_of line (run.count + 1) ∷ more) (run_of line 1 ∷ run ∷ more) ≡ run_of line count ∷ rest)
+      by_test : (t : Bool)
+          → (count : ℕ) × (rest : List Run) × (cond t (run_of line (run.count + 1) ∷ more) (run_of line 1 ∷ run ∷ more)
+          ≡ run_of line count ∷ rest)
       by_test true = (run.count + 1, more, refl)
       by_test false = (1, run ∷ more, refl)
 
@@ -24,16 +29,20 @@ module _ (job : Uniq) where
   same_key a b same = let (_, to_same) = bytes_eq-Decides (key job a) (key job b) in to_same same
 
   -- runs followed by other runs
-  onto_front : (line : List ℕ) (run : Run) (rs others : List Run) → cons_run job line ((run ∷ rs) ++ others) ≡ cons_run job line (run ∷ rs) ++ others
+  onto_front : (line : List ℕ) (run : Run) (rs others : List Run)
+      → cons_run job line ((run ∷ rs) ++ others) ≡ cons_run job line (run ∷ rs) ++ others
   onto_front line run rs others = by_test (is_same job line run.line)
     where
-      by_test : (t : Bool) → cond t (run_of line (run.count + 1) ∷ (rs ++ others)) (run_of line 1 ∷ run ∷ (rs ++ others))
+      by_test : (t : Bool)
+          → cond t (run_of line (run.count + 1) ∷ (rs ++ others)) (run_of line 1 ∷ run ∷ (rs ++ others))
           ≡ cond t (run_of line (run.count + 1) ∷ rs) (run_of line 1 ∷ run ∷ rs) ++ others
       by_test true = refl
       by_test false = refl
 
   -- the runs of lines, and of lines after them that begin with another key
-  runs-append : (xs ys : List (List ℕ)) → ((last first : List ℕ) → EndsWith last xs → BeginsWith first ys → key job last ≢ key job first) → runs job (xs ++ ys) ≡ runs job xs ++ runs job ys
+  runs-append : (xs ys : List (List ℕ))
+      → ((last first : List ℕ) → EndsWith last xs → BeginsWith first ys → key job last ≢ key job first)
+      → runs job (xs ++ ys) ≡ runs job xs ++ runs job ys
   runs-append [] ys change = refl
   runs-append (x ∷ []) [] change = refl
   runs-append (x ∷ []) (y ∷ ys) change =
@@ -52,12 +61,17 @@ module _ (job : Uniq) where
 
 pub uniq_of_parts : UniqOfParts
 uniq_of_parts job a b whole change =
-    cc (the_lines_of_parts job.terminator a b whole, runs-append job (lines job.terminator a) (lines job.terminator b) change, entries-append job (runs job (lines job.terminator a)) (runs job (lines job.terminator b)))
+    cc (
+      the_lines_of_parts job.terminator a b whole,
+      runs-append job (lines job.terminator a) (lines job.terminator b) change,
+      entries-append job (runs job (lines job.terminator a)) (runs job (lines job.terminator b)),
+    )
 
 -- ---- lines that are distributed by their keys
 
 -- a fact about all items is one about those that pass a test
-all_filter : {X : Type 0} (P : X → Type 0) (test : X → Bool) (xs : List X) → AllByRecursion P xs → AllByRecursion P (filter test xs)
+all_filter : {X : Type 0} (P : X → Type 0) (test : X → Bool) (xs : List X) → AllByRecursion P xs
+    → AllByRecursion P (filter test xs)
 all_filter P test [] all = tt
 all_filter {X} P test (x ∷ xs) (first, others) = by_test (test x) (filter test xs) (all_filter P test xs others)
   where
@@ -73,20 +87,24 @@ module _ (job : Uniq) (taken : List ℕ → Bool) where
   run_taken run = taken (key job run.line)
 
   -- a fact about all lines is one about the lines of their runs
-  all_runs : (P : List ℕ → Type 0) (ls : List (List ℕ)) → AllByRecursion P ls → AllByRecursion (λ run. P run.line) (runs job ls)
+  all_runs : (P : List ℕ → Type 0) (ls : List (List ℕ)) → AllByRecursion P ls
+      → AllByRecursion (λ run. P run.line) (runs job ls)
   all_runs P [] all = tt
   all_runs P (x ∷ ls) (first, others) = put (runs job ls) (all_runs P ls others)
     where
-      put : (rs : List Run) → AllByRecursion (λ run. P run.line) rs → AllByRecursion (λ run. P run.line) (cons_run job x rs)
+      put : (rs : List Run) → AllByRecursion (λ run. P run.line) rs
+          → AllByRecursion (λ run. P run.line) (cons_run job x rs)
       put [] rest = (first, tt)
       put (r ∷ rs) (run, later) = by_test (is_same job x r.line)
         where
-          by_test : (t : Bool) → AllByRecursion (λ run. P run.line) (cond t (run_of x (r.count + 1) ∷ rs) (run_of x 1 ∷ r ∷ rs))
+          by_test : (t : Bool)
+              → AllByRecursion (λ run. P run.line) (cond t (run_of x (r.count + 1) ∷ rs) (run_of x 1 ∷ r ∷ rs))
           by_test true = (first, later)
           by_test false = (first, (run, later))
 
   -- a line whose key is not in the part
-  onto_dropped : (x : List ℕ) (rs : List Run) → line_taken x ≡ false → filter run_taken (cons_run job x rs) ≡ filter run_taken rs
+  onto_dropped : (x : List ℕ) (rs : List Run) → line_taken x ≡ false
+      → filter run_taken (cons_run job x rs) ≡ filter run_taken rs
   onto_dropped x [] is = rw is refl
   onto_dropped x (r ∷ rs) is =
       let rest = filter run_taken rs in
@@ -98,25 +116,35 @@ module _ (job : Uniq) (taken : List ℕ → Bool) where
       cc) (λ other. cc) (cases_Bool (is_same job x r.line))
 
   -- a line of the part before a run of its key
-  onto_same : (x : List ℕ) (r : Run) (rs : List Run) → line_taken x ≡ true → key job x ≡ key job r.line → cons_run job x (filter run_taken (r ∷ rs)) ≡ filter run_taken (cons_run job x (r ∷ rs))
-  onto_same x r rs is same = let too : run_taken r ≡ true = cc in rw (same_key job x r.line same, is, too) (rw (same_key job x r.line same) refl)
+  onto_same : (x : List ℕ) (r : Run) (rs : List Run) → line_taken x ≡ true → key job x ≡ key job r.line
+      → cons_run job x (filter run_taken (r ∷ rs)) ≡ filter run_taken (cons_run job x (r ∷ rs))
+  onto_same x r rs is same = let too : run_taken r ≡ true = cc in
+      rw (same_key job x r.line same, is, too) (rw (same_key job x r.line same) refl)
 
   -- a line before runs of other keys
-  onto_other : (x : List ℕ) (rs : List Run) → AllByRecursion (λ run. key job x ≢ key job run.line) rs → cons_run job x rs ≡ run_of x 1 ∷ rs
+  onto_other : (x : List ℕ) (rs : List Run) → AllByRecursion (λ run. key job x ≢ key job run.line) rs
+      → cons_run job x rs ≡ run_of x 1 ∷ rs
   onto_other x [] others = refl
   onto_other x (r ∷ rs) (differs, _) = rw (other_key job x r.line differs) refl
 
-  onto_apart : (x : List ℕ) (rs : List Run) → line_taken x ≡ true → AllByRecursion (λ run. key job x ≢ key job run.line) rs
+  onto_apart : (x : List ℕ) (rs : List Run) → line_taken x ≡ true
+      → AllByRecursion (λ run. key job x ≢ key job run.line) rs
       → cons_run job x (filter run_taken rs) ≡ filter run_taken (cons_run job x rs)
   onto_apart x rs is others =
-      cc (onto_other x (filter run_taken rs) (all_filter (λ run. key job x ≢ key job run.line) run_taken rs others), onto_other x rs others)
+      cc (
+        onto_other x (filter run_taken rs) (all_filter (λ run. key job x ≢ key job run.line) run_taken rs others),
+        onto_other x rs others,
+      )
 
-  runs_taken : (ls : List (List ℕ)) → HasGroupedKeys job ls → runs job (filter line_taken ls) ≡ filter run_taken (runs job ls)
+  runs_taken : (ls : List (List ℕ)) → HasGroupedKeys job ls
+      → runs job (filter line_taken ls) ≡ filter run_taken (runs job ls)
   runs_taken [] grouped = refl
   runs_taken (x ∷ ls) (next_key, grouped) = ⊎_elim (λ is. cc (runs_taken ls grouped, kept is next_key))
       (λ is. cc (runs_taken ls grouped, onto_dropped x (runs job ls) is)) (cases_Bool (line_taken x))
     where
-      kept : line_taken x ≡ true → (((next : List ℕ) × BeginsWith next ls × (key job x ≡ key job next)) ⊎ AllByRecursion (λ other. key job x ≢ key job other) ls)
+      kept : line_taken x ≡ true
+          → (((next : List ℕ) × BeginsWith next ls × (key job x ≡ key job next))
+          ⊎ AllByRecursion (λ other. key job x ≢ key job other) ls)
           → cons_run job x (filter run_taken (runs job ls)) ≡ filter run_taken (cons_run job x (runs job ls))
       kept is (inl (next, (later, begins), same)) =
           let (count, more, onto) = onto_is job next (runs job later) in
@@ -128,4 +156,8 @@ pub uniq_by_key : UniqByKey
 uniq_by_key job taken bytes grouped =
     let ls = lines job.terminator bytes in
     let some = filter (λ line. taken (key job line)) ls in
-    cc (lines-unlines job.terminator some (all_filter (IsLine job.terminator) (λ line. taken (key job line)) ls (lines_are job.terminator bytes)), runs_taken job taken ls grouped)
+    cc (
+      lines-unlines job.terminator some
+          (all_filter (IsLine job.terminator) (λ line. taken (key job line)) ls (lines_are job.terminator bytes)),
+      runs_taken job taken ls grouped,
+    )

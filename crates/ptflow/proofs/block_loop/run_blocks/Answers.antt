@@ -1,7 +1,9 @@
 -- Each iteration processes one block, and the contract of `process_block` preserves the invariant. Each exit is a lemma
 -- of `Exits` or of `BlockLoop`. The budget decreases, since a block that is not empty is consumed.
-use Rattle.ptflow.proofs.Common.{◌≡◌, [], ◌++◌, length, refl, sym, ◌∙◌, ap, append_assoc, arith, eqb-true, eqb-false, nil_from_length}
-use Rattle.ptflow.proofs.Passes.BlockLoop.{pass_state_starts, pass_state_more, block_room, not_empty, counted_more, block_read, block_write, block_flush_failed, block_done, block_unended}
+use Rattle.ptflow.proofs.Common.{◌≡◌, [], ◌++◌, length, refl, sym, ◌∙◌, ap, append_assoc, arith, eqb-true, eqb-false}
+use Rattle.ptflow.proofs.Common.{nil_from_length}
+use Rattle.ptflow.proofs.Passes.BlockLoop.{pass_state_starts, pass_state_more, block_room, not_empty, counted_more}
+use Rattle.ptflow.proofs.Passes.BlockLoop.{block_read, block_write, block_flush_failed, block_done, block_unended}
 use Rattle.ptflow.proofs.Passes.Exits.{pass_state_flushed}
 use Rattle.ptflow.proofs.Passes.Readers.{advance_none, budget_of_block}
 use Rattle.ptflow.proofs.Passes.StepOutput.{returned_err}
@@ -21,13 +23,16 @@ returns-in_err-write_out_before_blocking g c =
     let i = c.reading.invariant in
     let (_, is_err, is_fault) = returned_err c.from_residual.result c.from_residual.ensures in
     λ t tool store ready. rw (is_err, is_fault) (block_flush_failed tool
-    i.midway ready c.write_out_before_blocking.ensures.sound (advance_none c.reading.reader i.midway.reached.advance_ok.fault).reads c.write_out_before_blocking.ensures.sound i.holds i.all
+    i.midway ready c.write_out_before_blocking.ensures.sound
+    (advance_none c.reading.reader i.midway.reached.advance_ok.fault).reads
+    c.write_out_before_blocking.ensures.sound i.holds i.all
     c.write_out_before_blocking.ensures.pushed.wrote c.in_err-write_out_before_blocking.ensures.pushed.fault refl)
 
 pub returns-in-Err : goal.returns-in-Err
 returns-in-Err g c =
     let b = c.block.follows.holds-at-none in
-    let m = pass_state_flushed c.reading.invariant.midway c.write_out_before_blocking.ensures.pushed.wrote c.in_ok-write_out_before_blocking.ensures.pushed.clean in
+    let m = pass_state_flushed c.reading.invariant.midway c.write_out_before_blocking.ensures.pushed.wrote
+    c.in_ok-write_out_before_blocking.ensures.pushed.clean in
     let (failed, cause, _) = (rw c.in-Err.is at b.shows) m.reached.advance_ok.fault in
     λ t tool store ready. block_read tool
     m ready b.was_sound failed.reads b.is_sound c.reading.invariant.holds c.reading.invariant.all cause
@@ -45,9 +50,11 @@ process_block-requires-clause-room g c =
 pub returns-in_err-process_block-in-Ok : goal.returns-in_err-process_block-in-Ok
 returns-in_err-process_block-in-Ok g c =
     let b = c.block.follows.holds-at-none in
-    let m = pass_state_flushed c.reading.invariant.midway c.write_out_before_blocking.ensures.pushed.wrote c.in_ok-write_out_before_blocking.ensures.pushed.clean in
+    let m = pass_state_flushed c.reading.invariant.midway c.write_out_before_blocking.ensures.pushed.wrote
+    c.in_ok-write_out_before_blocking.ensures.pushed.clean in
     let (refilled, shown, ended) = (rw c.in-Ok.is at b.shows) m.reached.advance_ok.fault in
-    let (_, is_err, is_fault) = returned_err c.from_residual-in_err-process_block-in-Ok.result c.from_residual-in_err-process_block-in-Ok.ensures in
+    let (_, is_err, is_fault) =
+    returned_err c.from_residual-in_err-process_block-in-Ok.result c.from_residual-in_err-process_block-in-Ok.ensures in
     λ t tool store ready. rw (is_err, is_fault) (block_write tool
     m ready b.was_sound refilled.reads b.is_sound c.reading.invariant.holds c.reading.invariant.all
     shown c.in_err-process_block-in-Ok.ensures.halts refilled.failed)
@@ -55,20 +62,28 @@ returns-in_err-process_block-in-Ok g c =
 pub returns-then-is_empty : goal.returns-then-is_empty
 returns-then-is_empty g c =
     let b = c.block.follows.holds-at-none in
-    let m = pass_state_flushed c.reading.invariant.midway c.write_out_before_blocking.ensures.pushed.wrote c.in_ok-write_out_before_blocking.ensures.pushed.clean in
+    let m = pass_state_flushed c.reading.invariant.midway c.write_out_before_blocking.ensures.pushed.wrote
+    c.in_ok-write_out_before_blocking.ensures.pushed.clean in
     let (refilled, shown, ended) = (rw c.in-Ok.is at b.shows) m.reached.advance_ok.fault in
-    let none : c.in-Ok.block.now ≡ [] = nil_from_length c.in-Ok.block.now (eqb-true (length c.in-Ok.block.now) 0 (sym c.is_empty.ensures ∙ c.if-is_empty.true)) in
+    let none : c.in-Ok.block.now ≡ [] =
+    nil_from_length c.in-Ok.block.now
+    (eqb-true (length c.in-Ok.block.now) 0 (sym c.is_empty.ensures ∙ c.if-is_empty.true)) in
     λ t tool store ready. block_done tool
     m ready b.was_sound refilled.reads b.is_sound c.reading.invariant.holds c.reading.invariant.all
-    c.finish.ensures.wrote (ended none) refilled.failed c.in_ok-finish-in-Ok.ensures.clean refilled.fault (b.is_sound.long refilled.fault)
+    c.finish.ensures.wrote (ended none) refilled.failed c.in_ok-finish-in-Ok.ensures.clean refilled.fault
+    (b.is_sound.long refilled.fault)
 
 pub returns-in_err-finish-in-Ok : goal.returns-in_err-finish-in-Ok
 returns-in_err-finish-in-Ok g c =
     let b = c.block.follows.holds-at-none in
-    let m = pass_state_flushed c.reading.invariant.midway c.write_out_before_blocking.ensures.pushed.wrote c.in_ok-write_out_before_blocking.ensures.pushed.clean in
+    let m = pass_state_flushed c.reading.invariant.midway c.write_out_before_blocking.ensures.pushed.wrote
+    c.in_ok-write_out_before_blocking.ensures.pushed.clean in
     let (refilled, shown, ended) = (rw c.in-Ok.is at b.shows) m.reached.advance_ok.fault in
-    let none : c.in-Ok.block.now ≡ [] = nil_from_length c.in-Ok.block.now (eqb-true (length c.in-Ok.block.now) 0 (sym c.is_empty.ensures ∙ c.if-is_empty.true)) in
-    let (_, is_err, is_fault) = returned_err c.from_residual-in_err-finish-in-Ok.result c.from_residual-in_err-finish-in-Ok.ensures in
+    let none : c.in-Ok.block.now ≡ [] =
+    nil_from_length c.in-Ok.block.now
+    (eqb-true (length c.in-Ok.block.now) 0 (sym c.is_empty.ensures ∙ c.if-is_empty.true)) in
+    let (_, is_err, is_fault) =
+    returned_err c.from_residual-in_err-finish-in-Ok.result c.from_residual-in_err-finish-in-Ok.ensures in
     λ t tool store ready.
     rw (is_err, is_fault) (block_unended tool
     m ready b.was_sound refilled.reads b.is_sound c.reading.invariant.holds c.reading.invariant.all
@@ -79,7 +94,8 @@ unfolding pass_state_more
 reading-preserved g c =
     let b = c.block.follows.holds-at-none in
     let i = c.reading.invariant in
-    let m = pass_state_flushed c.reading.invariant.midway c.write_out_before_blocking.ensures.pushed.wrote c.in_ok-write_out_before_blocking.ensures.pushed.clean in
+    let m = pass_state_flushed c.reading.invariant.midway c.write_out_before_blocking.ensures.pushed.wrote
+    c.in_ok-write_out_before_blocking.ensures.pushed.clean in
     let (refilled, shown, ended) = (rw c.in-Ok.is at b.shows) i.midway.reached.advance_ok.fault in
     let e = c.in_ok-process_block-in-Ok.ensures in
     let block = c.in-Ok.block.now in
@@ -95,7 +111,8 @@ reading-preserved g c =
 
 pub reading-smaller : goal.reading-smaller
 reading-smaller g c =
-    let (refilled, shown, ended) = (rw c.in-Ok.is at c.block.follows.holds-at-none.shows) c.reading.invariant.midway.reached.advance_ok.fault in
+    let (refilled, shown, ended) =
+    (rw c.in-Ok.is at c.block.follows.holds-at-none.shows) c.reading.invariant.midway.reached.advance_ok.fault in
     let some = eqb-false (length c.in-Ok.block.now) 0 (sym c.is_empty.ensures ∙ c.if-is_empty.false) in
     budget_of_block refilled shown c.block.follows.holds-at-none.is_sound.count some c.consume.ensures.consumed
     (c.block.follows.holds-at-none.is_sound.long refilled.fault)

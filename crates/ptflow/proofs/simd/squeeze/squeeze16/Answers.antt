@@ -8,5 +8,6 @@ returns-clause-squeezed c =
     let (long_before, _) = c.fits-before in
     let (long, _) = c.fits-bytes in
     let as_long : length c.args.before ≡ length c.args.bytes = long_before ∙ sym long in
-    c.compress16.ensures.packed (zip2 stays c.args.before c.args.bytes) (length-zip2 stays c.args.before c.args.bytes as_long ∙ long_before)
+    c.compress16.ensures.packed (zip2 stays c.args.before c.args.bytes)
+    (length-zip2 stays c.args.before c.args.bytes as_long ∙ long_before)
     (cc (stays_mask (set_has c.args.set) c.args.before c.args.bytes as_long (omega arith)))

@@ -9,7 +9,8 @@ pub returns-in_err-write_run-clause-pushed : goal.returns-in_err-write_run-claus
 returns-in_err-write_run-clause-pushed g c = λ was_clean.
     let (_, is_err, _) = returned_err c.from_residual.result c.from_residual.ensures in
     push_failed is_err (run_wrote (uniq_job c.args.self.now.job.now) c.args.run.now.count
-    c.first_line.ensures (ap (λ b. b ∷ []) c.args.self.now.ends) c.write_run.ensures.wrote) c.in_err-write_run.ensures.fault
+    c.first_line.ensures (ap (λ b. b ∷ []) c.args.self.now.ends) c.write_run.ensures.wrote)
+    c.in_err-write_run.ensures.fault
 
 pub returns-clause-pushed : goal.returns-clause-pushed
 returns-clause-pushed g c = λ was_clean. record {
