@@ -39,7 +39,7 @@ module _ (old now new : Reader) (before after : Slots) (slot : ℕ) (first : Adv
   pub partial_after_refill : PiecePartial now new before after slot → PiecePartial old new before after slot
   partial_after_refill p = record {
     piece = p.piece;
-    advance_ok = advance_ok_trans old now new [] p.piece first p.advance_ok;
+    advance_ok = advance_ok_trans _ _ _ _ _ first p.advance_ok;
     whole = subst (λ (end : ℕ). IsLine end p.piece) first.reads.terminator p.whole;
     some = p.some;
     empty = p.empty;
@@ -50,7 +50,7 @@ module _ (old now new : Reader) (before after : Slots) (slot : ℕ) (first : Adv
   line_after_refill e = record {
     piece = e.piece;
     advance_ok = subst (λ (end : ℕ). AdvanceOk old new (e.piece ++ end ∷ [])) first.reads.terminator
-        (advance_ok_trans old now new [] (e.piece ++ now.terminator ∷ []) first e.advance_ok);
+        (advance_ok_trans _ _ _ _ _ first e.advance_ok);
     whole = subst (λ (end : ℕ). IsLine end e.piece) first.reads.terminator e.whole;
     appended = e.appended;
   }
@@ -91,7 +91,7 @@ pub line_so_far_partial : (old now new : Reader) (before so_far after : Slots) (
     → LineSoFar old new before after slot
 line_so_far_partial old now new before so_far after slot within f p = record {
   piece = f.piece ++ p.piece;
-  advance_ok = advance_ok_trans old now new f.piece p.piece f.advance_ok p.advance_ok;
+  advance_ok = advance_ok_trans _ _ _ _ _ f.advance_ok p.advance_ok;
   whole = IsLine-append old.terminator f.piece p.piece f.whole
       (subst (λ (end : ℕ). IsLine end p.piece) f.advance_ok.reads.terminator p.whole);
   stored = appended_twice before so_far after slot f.piece p.piece within f.stored p.appended;
@@ -107,7 +107,7 @@ pub fill_line : (old now new : Reader) (before so_far after : Slots) (slot : ℕ
     → old.pulled < 2 ^ 63 → LineSoFar old now before so_far slot → PieceLine now new so_far after slot
     → FillLine old new before after slot
 fill_line old now new before so_far after slot within short f e = record {
-  less = budget_decreases old new ((f.piece ++ e.piece) ++ old.terminator ∷ []) all
+  less = budget_decreases _ _ _ all
       (omega (arith, length-append (f.piece ++ e.piece) (old.terminator ∷ []))) short;
   line = f.piece ++ e.piece;
   terminator = old.terminator ∷ [];
@@ -125,7 +125,7 @@ fill_line old now new before so_far after slot within short f e = record {
         subst (λ (b : List ℕ). AdvanceOk old new b)
         (ap (λ (end : ℕ). f.piece ++ (e.piece ++ end ∷ [])) same
         ∙ sym (append_assoc f.piece e.piece (old.terminator ∷ [])))
-        (advance_ok_trans old now new f.piece (e.piece ++ now.terminator ∷ []) f.advance_ok e.advance_ok)
+        (advance_ok_trans _ _ _ _ _ f.advance_ok e.advance_ok)
 
 not_empty : (n : ℕ) → 0 < n → (n == 0) ≡ false
 not_empty n some = grind (arith, nat_tests)
@@ -137,7 +137,7 @@ pub fill_eof : (old now new : Reader) (before so_far after : Slots) (slot : ℕ)
 fill_eof old now new before so_far after slot empty within short f advance_ok done same is =
     let whole : AdvanceOk old new f.piece =
     subst (λ (b : List ℕ). AdvanceOk old new b) (append-nil f.piece)
-    (advance_ok_trans old now new f.piece [] f.advance_ok advance_ok) in
+    (advance_ok_trans _ _ _ _ _ f.advance_ok advance_ok) in
     let buffered : line after slot ≡ f.piece = ap (λ (s : Slots). line s slot) (same ∙ f.stored)
     ∙ line_of_with_line before slot f.piece within in
     let test : empty ≡ (length f.piece == 0) = is ∙ ap (λ (l : List ℕ). length l == 0) buffered in
@@ -156,7 +156,7 @@ fill_eof old now new before so_far after slot empty within short f advance_ok do
           whole = w;
           ends = inr (refl, some, done);
           stored = s;
-          less = budget_decreases old new (x ∷ piece) g some short;
+          less = budget_decreases _ _ _ g some short;
         })
 
 -- The terminator is among the first n bytes of `front`, which begins with the buffered bytes; the line before it was
@@ -210,6 +210,6 @@ module _ (n : ℕ) (old new : Reader) (block front : List ℕ) (start end size :
         whole = line_before_terminator old.terminator old.buffered size found;
         ends = inl refl;
         stored = stored ∙ ap (with_line before slot) line;
-        less = budget_decreases old new (take size old.buffered ++ old.terminator ∷ []) advance_ok
+        less = budget_decreases _ _ _ advance_ok
             (omega (arith, length-append (take size old.buffered) (old.terminator ∷ []))) short;
       }

@@ -53,8 +53,8 @@ at_end_if_eof : (was is : SourceState) (into : List ℕ) (n : ℕ) → PullOk wa
 at_end_if_eof was is into zero gives going eof = gives.at_end refl
 at_end_if_eof was is into (suc n) gives going eof = absurd (false≢true (sym (gives.more (omega arith) ∙ going) ∙ eof))
 
-module _ (old : Reader) (was is : SourceState) (block buffered : List ℕ) (p n : ℕ) (q q' : Bool)
-    (fault : Option LineFault) (end : ℕ)
+module _ {old : Reader} {was : SourceState} (is : SourceState) (block : List ℕ) {buffered : List ℕ} {p : ℕ} (n : ℕ)
+    {q : Bool} (q' : Bool) {fault : Option LineFault} {end : ℕ}
     (view : reader_of was buffered p fault q end ≡ old) (empty : old.buffered ≡ []) (kept : q' ≡ q)
     (clean : old.fault ≡ None) (going : old.eof ≡ false) where
   same_terminator : end ≡ old.terminator
