@@ -43,7 +43,7 @@ digits_cmp p (x ∷ xs) (y ∷ ys) long (x_fits, xs_fit) (y_fits, ys_fit) =
     by_ranked _ _ _ (nat_cmp x y) (ranked x y (nat_cmp x y) refl)
     (λ is less. nat_cmp_less m n (number_lt (p * 256 + x) (p * 256 + y) xs ys (omega arith) xs_fit
     (omega (arith, x_fits.fits, less))) ∙ sym (both Less is))
-    (λ is same. ap (λ (z : ℕ). nat_cmp m (number (p * 256 + z) ys)) (sym same)
+    (λ is same. ap (λ z. nat_cmp m (number (p * 256 + z) ys)) (sym same)
     ∙ digits_cmp (p * 256 + x) xs ys (omega arith) xs_fit ys_fit ∙ sym (both Equal is))
     (λ is more. nat_cmp_greater m n (number_lt (p * 256 + y) (p * 256 + x) ys xs (omega arith) ys_fit
     (omega (arith, y_fits.fits, more))) ∙ sym (both Greater is))
@@ -93,13 +93,13 @@ byte_cmp_after_prefix : (at : ℕ) (a b : List ℕ) → at ≤ length a → at �
     → byte_cmp a b ≡ byte_cmp (drop at a) (drop at b)
 byte_cmp_after_prefix at a b la lb same =
     byte_cmp_split at a b la lb
-    ∙ ap (λ (o : Ordering). ordering_then o (byte_cmp (drop at a) (drop at b)))
+    ∙ ap (λ o. ordering_then o (byte_cmp (drop at a) (drop at b)))
     (ap (byte_cmp (take at a)) (sym same) ∙ tied_itself nat_list_cmp_total (take at a))
 
 first_decides : (r o k : Ordering) → o ≡ r → (r ≡ Equal → ⊥) → r ≡ ordering_then o k
-first_decides Less o k is other = sym (ap (λ (q : Ordering). ordering_then q k) is)
+first_decides Less o k is other = sym (ap (λ q. ordering_then q k) is)
 first_decides Equal o k is other = absurd (other refl)
-first_decides Greater o k is other = sym (ap (λ (q : Ordering). ordering_then q k) is)
+first_decides Greater o k is other = sym (ap (λ q. ordering_then q k) is)
 
 -- Two words of `n` bytes, read at the same index of two slices.
 module _ {n : ℕ} {read : List ℕ → ℕ} (is_number : (xs : List ℕ) → length xs ≡ n → read xs ≡ number 0 xs)
@@ -149,8 +149,8 @@ cmp_by_length zero (x ∷ a) (y ∷ b) least same = absurd (omega arith)
 cmp_by_length (suc n) (x ∷ a) (y ∷ b) least same =
     next (length a) (length b)
     ∙ cmp_by_length n a b (omega arith) (ap (drop 1) same)
-    ∙ ap (λ (o : Ordering). ordering_then o (byte_cmp a b))
-    (sym (ap (nat_cmp x) (sym (ap (λ (l : List ℕ). get_or l 0 0) same)) ∙ nat_cmp_equal x))
+    ∙ ap (λ o. ordering_then o (byte_cmp a b))
+    (sym (ap (nat_cmp x) (sym (ap (λ l. get_or l 0 0) same)) ∙ nat_cmp_equal x))
   where
     next : (m n : ℕ) → nat_cmp (suc m) (suc n) ≡ nat_cmp m n
     next m n = grind (arith, nat_tests)

@@ -20,16 +20,16 @@ buffer_lag_bytes : (was mid is : Option (List ℕ)) (buffered waits bytes : List
 unfolding known_length
 buffer_lag_bytes None mid is buffered waits bytes p q all few = (
   buffered ++ bytes,
-  q.is ∙ ap (λ (t : Option (List ℕ)). append_known t q.front) p.is,
+  q.is ∙ ap (λ t. append_known t q.front) p.is,
   omega (arith, length-append buffered bytes),
 )
 buffer_lag_bytes (Some t) mid is buffered waits bytes p q all few = (
   p.front ++ q.front,
-  q.is ∙ ap (λ (t : Option (List ℕ)). append_known t q.front) p.is ∙ append_known-append (Some t) p.front q.front,
+  q.is ∙ ap (λ t. append_known t q.front) p.is ∙ append_known-append (Some t) p.front q.front,
   omega (
     arith,
     few,
-    ap known_length (sym (ap (λ (m : Option (List ℕ)). append_known m waits) p.is) ∙ all),
+    ap known_length (sym (ap (λ m. append_known m waits) p.is) ∙ all),
     length-append p.front q.front,
     length-append t p.front,
     length-append (t ++ p.front) waits,
@@ -72,7 +72,7 @@ module _ {I : Type 0} (decided : (I → Received) → List ℕ) (came : I → Re
           before = processing.before;
           begins = record {
             rest = processing.begins.rest ++ bytes;
-            is = ap (λ (l : List ℕ). l ++ bytes) processing.begins.is
+            is = ap (λ l. l ++ bytes) processing.begins.is
                 ∙ append_assoc now processing.begins.rest bytes;
           };
         };

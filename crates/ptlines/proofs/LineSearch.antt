@@ -32,27 +32,27 @@ line_if_not_found end hay none =
 pub take_with_terminator : (end : ℕ) (hay : List ℕ) (at : ℕ) → IsFirstByte (is_byte end) hay (Some at)
     → take (at + 1) hay ≡ take at hay ++ end ∷ []
 take_with_terminator end hay at (none, found) =
-    take_more hay at 0 none.high ∙ ap (λ (b : ℕ). take at hay ++ b ∷ []) (eqb-true (get_or hay at 0) end found)
+    take_more hay at 0 none.high ∙ ap (λ b. take at hay ++ b ∷ []) (eqb-true (get_or hay at 0) end found)
 
 pub drop_at_terminator : (end : ℕ) (hay : List ℕ) (at : ℕ) → IsFirstByte (is_byte end) hay (Some at)
     → drop at hay ≡ end ∷ drop (at + 1) hay
 drop_at_terminator end hay at (none, found) =
-    drop_more hay at 0 none.high ∙ ap (λ (b : ℕ). b ∷ drop (at + 1) hay) (eqb-true (get_or hay at 0) end found)
+    drop_more hay at 0 none.high ∙ ap (λ b. b ∷ drop (at + 1) hay) (eqb-true (get_or hay at 0) end found)
 
 -- consuming the first n buffered bytes
 pub advance_ok_take : (old new : Reader) (n : ℕ) → old.fault ≡ None → n ≤ length old.buffered
     → new ≡ record old { buffered = drop n old.buffered } → AdvanceOk old new (take n old.buffered)
 advance_ok_take old new n clean fits step = record {
-  reads = advance_take old new n fits (ap (λ (r : Reader). r.buffered) step) (ap (λ (r : Reader). r.left) step) pulled
-      (ap (λ (r : Reader). r.refused) step)
-      (ap (λ (r : Reader). r.terminator) step) (ap (λ (r : Reader). r.eof) step);
-  fault = ap (λ (r : Reader). r.fault) step ∙ clean;
-  failed = ap (λ (r : Reader). r.failed) step;
+  reads = advance_take old new n fits (ap (λ r. r.buffered) step) (ap (λ r. r.left) step) pulled
+      (ap (λ r. r.refused) step)
+      (ap (λ r. r.terminator) step) (ap (λ r. r.eof) step);
+  fault = ap (λ r. r.fault) step ∙ clean;
+  failed = ap (λ r. r.failed) step;
   short = λ h. omega (arith, pulled);
 }
   where
     pulled : new.pulled ≡ old.pulled
-    pulled = ap (λ (r : Reader). r.pulled) step
+    pulled = ap (λ r. r.pulled) step
 
 pub piece_line : (old mid new : Reader) (hay : List ℕ) (before after : Slots) (slot at : ℕ) → old.fault ≡ None
     → hay ≡ old.buffered → IsFirstByte (is_byte old.terminator) hay (Some at)
@@ -60,7 +60,7 @@ pub piece_line : (old mid new : Reader) (hay : List ℕ) (before after : Slots) 
     → IsAppended before after slot (take at old.buffered) → PieceLine old new before after slot
 piece_line old mid new hay before after slot at clean is found first_step second_step appended =
     let first : IsFirstByte (is_byte old.terminator) old.buffered (Some at) =
-    subst (λ (h : List ℕ). IsFirstByte (is_byte old.terminator) h (Some at)) is found in
+    subst (λ h. IsFirstByte (is_byte old.terminator) h (Some at)) is found in
     let step : new ≡ record old { buffered = drop (at + 1) old.buffered } =
     second_step ∙ ap (λ (r : Reader). record r { buffered = drop 1 r.buffered }) first_step
     ∙ ap (λ (h : List ℕ). record old { buffered = h }) (drop-drop 1 at old.buffered) in
@@ -68,7 +68,7 @@ piece_line old mid new hay before after slot at clean is found first_step second
     record {
       piece = take at old.buffered;
       advance_ok =
-          subst (λ (b : List ℕ). AdvanceOk old new b) (take_with_terminator old.terminator old.buffered at first)
+          subst (λ b. AdvanceOk old new b) (take_with_terminator old.terminator old.buffered at first)
           (advance_ok_take old new (at + 1) clean (omega (arith, none.high)) step);
       whole = line_before_terminator old.terminator old.buffered at first;
       appended = appended;
@@ -80,13 +80,13 @@ pub piece_partial : (old new : Reader) (hay : List ℕ) (before after : Slots) (
     → IsAppended before after slot (take count old.buffered) → PiecePartial old new before after slot
 piece_partial old new hay before after slot count clean some is found all step appended =
     let none : IsFirstByte (is_byte old.terminator) old.buffered None =
-    subst (λ (h : List ℕ). IsFirstByte (is_byte old.terminator) h None) is found in
+    subst (λ h. IsFirstByte (is_byte old.terminator) h None) is found in
     let whole : take count old.buffered ≡ old.buffered = take_all count old.buffered (omega (arith, all)) in
     record {
       piece = take count old.buffered;
       advance_ok = advance_ok_take old new count clean (omega (arith, all)) step;
       whole = subst (IsLine old.terminator) (sym whole) (line_if_not_found old.terminator old.buffered none);
       some = omega (arith, ap length whole);
-      empty = ap (λ (r : Reader). r.buffered) step ∙ drop_all count old.buffered (omega (arith, all));
+      empty = ap (λ r. r.buffered) step ∙ drop_all count old.buffered (omega (arith, all));
       appended = appended;
     }

@@ -57,7 +57,7 @@ pub first_at_lowest_bit : (test : ℕ → Bool) (hay : List ℕ) (i n m : ℕ) �
     → m ≡ mask_l (map test (chunk i n hay)) → (m ≡ 0 → ⊥)
     → IsFirst (Passes test hay) i (i + n) (Some (i + count_trailing_zeros 64 m))
 first_at_lowest_bit test hay i n m few room is some =
-    subst (λ (m : ℕ). IsFirst (Passes test hay) i (i + n) (Some (i + count_trailing_zeros 64 m))) (sym is)
+    subst (λ m. IsFirst (Passes test hay) i (i + n) (Some (i + count_trailing_zeros 64 m))) (sym is)
     (first_at_lowest_bit_of_chunk test hay i n few room
     (omega (arith, λ (none : mask_l (map test (chunk i n hay)) ≡ 0). some (is ∙ none))))
 
@@ -91,13 +91,13 @@ mask_append (f ∷ front) back =
     omega (
       arith,
       mask_append front back,
-      ap (λ (p : ℕ). p * mask_l back) (pow-succ' 2 (length front)),
+      ap (λ p. p * mask_l back) (pow-succ' 2 (length front)),
       mul_assoc 2 (2 ^ length front) (mask_l back),
     )
 
 chunk_append : {X : Type 0} (i m n : ℕ) (xs : List X) → chunk i (m + n) xs ≡ chunk i m xs ++ chunk (i + m) n xs
 chunk_append {X} i m n xs = take-add m n (drop i xs)
-    ∙ ap (λ (l : List X). take m (drop i xs) ++ take n l) (drop-drop m i xs)
+    ∙ ap (λ l. take m (drop i xs) ++ take n l) (drop-drop m i xs)
 
 -- the mask of 16 + n bytes is the mask of the first 16 plus 2^16 times that of the next n
 mask_16_append : (test : ℕ → Bool) (hay : List ℕ) (i n : ℕ) → i + 16 ≤ length hay
@@ -107,15 +107,15 @@ mask_16_append test hay i n room =
     let front = map test (chunk i 16 hay) in
     let back = map test (chunk (i + 16) n hay) in
     let long : length front ≡ 16 = length-map (chunk i 16 hay) test ∙ length-chunk i 16 hay room in
-    ap (λ (l : List ℕ). mask_l (map test l)) (chunk_append i 16 n hay)
+    ap (λ l. mask_l (map test l)) (chunk_append i 16 n hay)
     ∙ ap mask_l (map-append test (chunk i 16 hay) (chunk (i + 16) n hay))
     ∙ mask_append front back
-    ∙ ap (λ (k : ℕ). mask_l front + 2 ^ k * mask_l back) long
+    ∙ ap (λ k. mask_l front + 2 ^ k * mask_l back) long
 
 mask_16_lt : (test : ℕ → Bool) (hay : List ℕ) (i : ℕ) → i + 16 ≤ length hay → mask_l (map test (chunk i 16 hay)) < 65536
 mask_16_lt test hay i room =
     let flags = map test (chunk i 16 hay) in
-    subst (λ (n : ℕ). mask_l flags < 2 ^ n) (length-map (chunk i 16 hay) test ∙ length-chunk i 16 hay room)
+    subst (λ n. mask_l flags < 2 ^ n) (length-map (chunk i 16 hay) test ∙ length-chunk i 16 hay room)
     (mask_l-lt flags)
 
 -- three masks of 16 bytes make one of 48
@@ -137,7 +137,7 @@ mask_48 test hay i a b c room first second third =
     let rest : mask (i + 16) 32 ≡ mask (i + 16) 16 + 65536 * mask (i + 16 + 16) 16 =
     mask_16_append test hay (i + 16) 16 (omega (arith, room)) in
     let place : i + 16 + 16 ≡ i + 32 = omega arith in
-    let last : mask (i + 16 + 16) 16 ≡ mask (i + 32) 16 = ap (λ (k : ℕ). mask k 16) place in
+    let last : mask (i + 16 + 16) 16 ≡ mask (i + 32) 16 = ap (λ k. mask k 16) place in
     let sum : b * 65536 + a + c * 4294967296 ≡ mask i 48 = omega (arith, all, rest, last, first, second, third) in
     omega (arith, two, three, sum)
 
@@ -149,8 +149,8 @@ module _ (test : ℕ → Bool) (hay : List ℕ) where
   first_from_start n m few room is some =
       let at : 0 + count_trailing_zeros 64 m ≡ count_trailing_zeros 64 m = omega arith in
       let end : 0 + n ≡ n = omega arith in
-      subst (λ (k : ℕ). IsFirst (Passes test hay) 0 n (Some k)) at
-      (subst (λ (k : ℕ). IsFirst (Passes test hay) 0 k (Some (0 + count_trailing_zeros 64 m))) end
+      subst (λ k. IsFirst (Passes test hay) 0 n (Some k)) at
+      (subst (λ k. IsFirst (Passes test hay) 0 k (Some (0 + count_trailing_zeros 64 m))) end
       (first_at_lowest_bit test hay 0 n m few (omega (arith, room)) is some))
 
   pub first_of_mask_64 : (m : ℕ) → 64 ≤ length hay → m ≡ mask_l (map test (chunk 0 64 hay)) → (m ≡ 0 → ⊥)
@@ -170,7 +170,7 @@ module _ (test : ℕ → Bool) (hay : List ℕ) where
       let all : mask_l (map test (chunk 0 64 hay)) ≡ mask_l (map test (chunk 0 16 hay))
       + 65536 * mask_l (map test (chunk 16 48 hay)) = mask_16_append test hay 0 48 (omega (arith, room)) in
       let flags = map test (chunk 16 48 hay) in
-      let few : far < 2 ^ 48 = subst (λ (m : ℕ). m < 2 ^ 48) (sym rest)
-      (subst (λ (n : ℕ). mask_l flags < 2 ^ n)
+      let few : far < 2 ^ 48 = subst (λ m. m < 2 ^ 48) (sym rest)
+      (subst (λ n. mask_l flags < 2 ^ n)
       (length-map (chunk 16 48 hay) test ∙ length-chunk 16 48 hay (omega (arith, room))) (mask_l-lt flags)) in
       omega (arith, all, is, none, rest, few)

@@ -8,11 +8,11 @@ use Rattle.ptlines.proofs.TextLaws.{lines_are, lines_of_unlines, unlines-lines}
 pub unlines_of_complete : (end : ℕ) (bytes : List ℕ) → HasOnlyCompleteLines end bytes
     → unlines end (lines end bytes) ≡ bytes
 unlines_of_complete end bytes whole = ⊎_elim
-    (λ none. ap (λ (l : List ℕ). unlines end (lines end l)) none ∙ sym none)
+    (λ none. ap (λ l. unlines end (lines end l)) none ∙ sym none)
     (λ ends. ⊎_elim (λ same. same) (λ (_, unended, _). absurd (unended ends)) (unlines-lines end bytes))
     whole
 
 pub the_lines_of_parts : LinesOfParts
 the_lines_of_parts end a b whole =
-    ap (λ (l : List ℕ). lines end (l ++ b)) (sym (unlines_of_complete end a whole))
+    ap (λ l. lines end (l ++ b)) (sym (unlines_of_complete end a whole))
     ∙ lines_of_unlines end (lines end a) b (lines_are end a)

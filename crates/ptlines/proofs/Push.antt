@@ -61,7 +61,7 @@ push_trans a b c xs ys clean p q =
       kept = known_prefix_trans p.kept q.kept;
       beginning = subst (λ t. IsKnownPrefix (output_bytes c) t) joined q.beginning;
       whole = λ still. q.whole still ∙ joined;
-      stays = λ fault. absurd (false≢true (sym clean ∙ ap (λ (o : Output). o.write_failed) (p.stays fault) ∙ fault));
+      stays = λ fault. absurd (false≢true (sym clean ∙ ap (λ o. o.write_failed) (p.stays fault) ∙ fault));
       buffered = omega (arith, p.buffered, q.buffered);
       flushes = q.flushes ∙ p.flushes;
     }

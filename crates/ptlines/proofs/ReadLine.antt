@@ -1,7 +1,7 @@
 -- A line is read piece by piece: the pieces put together are the line, and what was consumed in several calls is the
 -- concatenation of what each consumed. A line whose terminator is among the next 64 bytes is copied at once.
 use Rattle.ptlines.proofs.Common.{◌≡◌, ℕ, ◌+◌, ◌-◌, ◌^◌, ◌<◌, ◌≤◌, None, Some, get_or, take, drop, Bool, List, [], ◌∷◌}
-use Rattle.ptlines.proofs.Common.{◌++◌, Option, length, set, max, refl, sym, ◌∙◌, ap, subst, arith, append_assoc}
+use Rattle.ptlines.proofs.Common.{◌++◌, length, set, max, refl, sym, ◌∙◌, ap, subst, arith, append_assoc}
 use Rattle.ptlines.proofs.Common.{length-append, nat_tests, append-nil, set-set, get_or-set_same, take-take}
 use Rattle.ptlines.proofs.Common.{get_or-take, prepend_known, Slots, line, total_bytes, with_line, false, not, ◌==◌}
 use Rattle.ptlines.proofs.Common.{inl, inr, Ok, IsLine, Reader, remaining_bytes, ReaderAdvance, AdvanceOk, IsDone}
@@ -15,7 +15,7 @@ use Rattle.ptlines.proofs.Consume.{length_range, rest_of_range}
 pub advance_trans : (a b c : Reader) (xs ys : List ℕ) → ReaderAdvance a b xs → ReaderAdvance b c ys
     → ReaderAdvance a c (xs ++ ys)
 advance_trans a b c xs ys p q = record {
-  moved = p.moved ∙ ap (λ (t : Option (List ℕ)). prepend_known xs t) q.moved
+  moved = p.moved ∙ ap (λ t. prepend_known xs t) q.moved
       ∙ prepend_known-append xs ys (remaining_bytes c);
   terminator = q.terminator ∙ p.terminator;
   count = omega (arith, p.count, q.count, length-append xs ys);
@@ -40,7 +40,7 @@ module _ (old now new : Reader) (before after : Slots) (slot : ℕ) (first : Adv
   partial_after_refill p = record {
     piece = p.piece;
     advance_ok = advance_ok_trans _ _ _ _ _ first p.advance_ok;
-    whole = subst (λ (end : ℕ). IsLine end p.piece) first.reads.terminator p.whole;
+    whole = subst (λ end. IsLine end p.piece) first.reads.terminator p.whole;
     some = p.some;
     empty = p.empty;
     appended = p.appended;
@@ -49,9 +49,9 @@ module _ (old now new : Reader) (before after : Slots) (slot : ℕ) (first : Adv
   pub line_after_refill : PieceLine now new before after slot → PieceLine old new before after slot
   line_after_refill e = record {
     piece = e.piece;
-    advance_ok = subst (λ (end : ℕ). AdvanceOk old new (e.piece ++ end ∷ [])) first.reads.terminator
+    advance_ok = subst (λ end. AdvanceOk old new (e.piece ++ end ∷ [])) first.reads.terminator
         (advance_ok_trans _ _ _ _ _ first e.advance_ok);
-    whole = subst (λ (end : ℕ). IsLine end e.piece) first.reads.terminator e.whole;
+    whole = subst (λ end. IsLine end e.piece) first.reads.terminator e.whole;
     appended = e.appended;
   }
 
@@ -64,7 +64,7 @@ with_line_twice s slot xs ys within longer =
     omega (arith, total_bytes_set s.lines slot xs within, total_bytes_set s.lines slot ys within) in
     let peak : max (max s.peak (total_bytes (set s.lines slot xs))) (total_bytes (set (set s.lines slot xs) slot ys))
     ≡ max s.peak (total_bytes (set s.lines slot ys)) =
-    ap (λ (l : List (List ℕ)). max (max s.peak (total_bytes (set s.lines slot xs))) (total_bytes l)) same
+    ap (λ l. max (max s.peak (total_bytes (set s.lines slot xs))) (total_bytes l)) same
     ∙ (omega arith) in
     λ i. record { lines = same i; peak = peak i; denied = s.denied }
 
@@ -75,8 +75,8 @@ line_of_with_line s slot xs within = get_or-set_same s.lines slot xs [] within
 pub appended_twice : (s t u : Slots) (slot : ℕ) (xs ys : List ℕ) → slot < length s.lines → t ≡ with_line s slot xs
     → IsAppended t u slot ys → u ≡ with_line s slot (xs ++ ys)
 appended_twice s t u slot xs ys within is appended =
-    appended ∙ ap (λ (v : Slots). with_line v slot (line v slot ++ ys)) is
-    ∙ ap (λ (l : List ℕ). with_line (with_line s slot xs) slot (l ++ ys)) (line_of_with_line s slot xs within)
+    appended ∙ ap (λ v. with_line v slot (line v slot ++ ys)) is
+    ∙ ap (λ l. with_line (with_line s slot xs) slot (l ++ ys)) (line_of_with_line s slot xs within)
     ∙ with_line_twice s slot xs (xs ++ ys) within (omega (arith, length-append xs ys))
 
 -- The bytes consumed since `old` are a prefix of one line, and the slot holds them.
@@ -93,7 +93,7 @@ line_so_far_partial old now new before so_far after slot within f p = record {
   piece = f.piece ++ p.piece;
   advance_ok = advance_ok_trans _ _ _ _ _ f.advance_ok p.advance_ok;
   whole = IsLine-append old.terminator f.piece p.piece f.whole
-      (subst (λ (end : ℕ). IsLine end p.piece) f.advance_ok.reads.terminator p.whole);
+      (subst (λ end. IsLine end p.piece) f.advance_ok.reads.terminator p.whole);
   stored = appended_twice before so_far after slot f.piece p.piece within f.stored p.appended;
 }
 
@@ -112,7 +112,7 @@ fill_line old now new before so_far after slot within short f e = record {
   line = f.piece ++ e.piece;
   terminator = old.terminator ∷ [];
   advance_ok = all;
-  whole = IsLine-append old.terminator f.piece e.piece f.whole (subst (λ (end : ℕ). IsLine end e.piece) same e.whole);
+  whole = IsLine-append old.terminator f.piece e.piece f.whole (subst (λ end. IsLine end e.piece) same e.whole);
   ends = inl refl;
   stored = appended_twice before so_far after slot f.piece e.piece within f.stored e.appended;
 }
@@ -122,8 +122,8 @@ fill_line old now new before so_far after slot within short f e = record {
 
     all : AdvanceOk old new ((f.piece ++ e.piece) ++ old.terminator ∷ [])
     all =
-        subst (λ (b : List ℕ). AdvanceOk old new b)
-        (ap (λ (end : ℕ). f.piece ++ (e.piece ++ end ∷ [])) same
+        subst (λ b. AdvanceOk old new b)
+        (ap (λ end. f.piece ++ (e.piece ++ end ∷ [])) same
         ∙ sym (append_assoc f.piece e.piece (old.terminator ∷ [])))
         (advance_ok_trans _ _ _ _ _ f.advance_ok e.advance_ok)
 
@@ -136,23 +136,23 @@ pub fill_eof : (old now new : Reader) (before so_far after : Slots) (slot : ℕ)
     → FillPost old new before after slot (Ok (not empty))
 fill_eof old now new before so_far after slot empty within short f advance_ok done same is =
     let whole : AdvanceOk old new f.piece =
-    subst (λ (b : List ℕ). AdvanceOk old new b) (append-nil f.piece)
+    subst (λ b. AdvanceOk old new b) (append-nil f.piece)
     (advance_ok_trans _ _ _ _ _ f.advance_ok advance_ok) in
-    let buffered : line after slot ≡ f.piece = ap (λ (s : Slots). line s slot) (same ∙ f.stored)
+    let buffered : line after slot ≡ f.piece = ap (λ s. line s slot) (same ∙ f.stored)
     ∙ line_of_with_line before slot f.piece within in
-    let test : empty ≡ (length f.piece == 0) = is ∙ ap (λ (l : List ℕ). length l == 0) buffered in
+    let test : empty ≡ (length f.piece == 0) = is ∙ ap (λ l. length l == 0) buffered in
     by_piece f.piece whole f.whole (same ∙ f.stored) test
   where
     by_piece : (piece : List ℕ) → AdvanceOk old new piece → IsLine old.terminator piece
         → after ≡ with_line before slot piece → empty ≡ (length piece == 0)
         → FillPost old new before after slot (Ok (not empty))
-    by_piece [] g w s t = subst (λ (b : Bool). FillPost old new before after slot (Ok (not b))) (sym t) (g, done, s)
+    by_piece [] g w s t = subst (λ b. FillPost old new before after slot (Ok (not b))) (sym t) (g, done, s)
     by_piece (x ∷ piece) g w s t = let some : 0 < length (x ∷ piece) = omega arith in
-        subst (λ (b : Bool). FillPost old new before after slot (Ok (not b)))
+        subst (λ b. FillPost old new before after slot (Ok (not b)))
         (sym (t ∙ not_empty (length (x ∷ piece)) some)) (record {
           line = x ∷ piece;
           terminator = [];
-          advance_ok = subst (λ (b : List ℕ). AdvanceOk old new b) (sym (append-nil (x ∷ piece))) g;
+          advance_ok = subst (λ b. AdvanceOk old new b) (sym (append-nil (x ∷ piece))) g;
           whole = w;
           ends = inr (refl, some, done);
           stored = s;
@@ -178,7 +178,7 @@ module _ (n : ℕ) (old new : Reader) (block front : List ℕ) (start end size :
       there : (k : ℕ) → k < end - start
           → is_byte old.terminator (get_or old.buffered k 0) ≡ is_byte old.terminator (get_or front k 0)
       there k near =
-          ap (is_byte old.terminator) (ap (λ (l : List ℕ). get_or l k 0) (sym buffered)
+          ap (is_byte old.terminator) (ap (λ l. get_or l k 0) (sym buffered)
           ∙ get_or-take (end - start) front k 0 near)
 
   pub fill_short_line : old.fault ≡ None → old.pulled < 2 ^ 63 → start + size < end → end ≤ length block
@@ -194,14 +194,14 @@ module _ (n : ℕ) (old new : Reader) (block front : List ℕ) (start end size :
       let within : size + 1 ≤ length old.buffered = omega (arith, none.high) in
       let past : start + (size + 1) ≡ start + size + 1 = omega arith in
       let rest : slice_range block (start + size + 1) end ≡ drop (size + 1) old.buffered =
-      ap (λ (k : ℕ). slice_range block k end) (sym past)
+      ap (λ k. slice_range block k end) (sym past)
       ∙ rest_of_range block start end (size + 1) old.buffered (omega (arith, high)) fits buffered within in
       let moved : new ≡ record old { buffered = drop (size + 1) old.buffered } = step
       ∙ ap (λ (h : List ℕ). record old { buffered = h }) rest in
       let line : take size front ≡ take size old.buffered =
       sym (take-take size (end - start) front (omega (arith, high))) ∙ ap (take size) is_front in
       let advance_ok =
-      subst (λ (b : List ℕ). AdvanceOk old new b) (take_with_terminator old.terminator old.buffered size found)
+      subst (λ b. AdvanceOk old new b) (take_with_terminator old.terminator old.buffered size found)
       (advance_ok_take old new (size + 1) clean within moved) in
       record {
         line = take size old.buffered;

@@ -22,7 +22,7 @@ has_received old new bytes reads = record {
 -- The reader `set` differs from `old` only in its terminator. What holds from `set` on holds from `old` on.
 module _ (old set : Reader) (end : ℕ) (is : set ≡ record old { terminator = end }) where
   pub has_received_set : (new : Reader) (given : Received) → HasReceived set new given → HasReceived old new given
-  has_received_set new given came = let c = subst (λ (r : Reader). HasReceived r new given) is came in record {
+  has_received_set new given came = let c = subst (λ r. HasReceived r new given) is came in record {
     moved = c.moved;
     count = c.count;
     eof = c.eof;
@@ -37,7 +37,7 @@ module _ (old set : Reader) (end : ℕ) (is : set ≡ record old { terminator = 
       has_received_set new (received_with bytes new) (has_received set new bytes reads)
 
   pub cause_set : (new : Reader) → HasReadCause set new → HasReadCause old new
-  cause_set new cause = subst (λ (r : Reader). HasReadCause r new) is cause
+  cause_set new cause = subst (λ r. HasReadCause r new) is cause
 
   pub sound_set : IsSound old → IsSound set
   sound_set s =

@@ -10,7 +10,7 @@ use Rattle.ptlines.proofs.KnownBytes.{prepend_known-nil}
 
 -- a reader with an empty block has only the bytes left in its source
 pub remaining_of_empty : (r : Reader) → r.buffered ≡ [] → remaining_bytes r ≡ r.left
-remaining_of_empty r empty = ap (λ (h : List ℕ). prepend_known h r.left) empty ∙ prepend_known-nil r.left
+remaining_of_empty r empty = ap (λ h. prepend_known h r.left) empty ∙ prepend_known-nil r.left
 
 pub advance_by_pull : (old new : Reader) (was is : SourceState) (into : List ℕ) (n : ℕ) → PullOk was is into n
     → was.left ≡ old.left → old.buffered ≡ [] → n ≤ 8192 → new.buffered ≡ take n into → new.left ≡ is.left
@@ -23,8 +23,8 @@ advance_by_pull old new was is into n gives same empty small buffered left pulle
       still = λ eof. absurd (false≢true (sym going ∙ eof));
       moved =
           remaining_of_empty old empty ∙ sym same ∙ gives.moved
-          ∙ ap (λ (t : Option (List ℕ)). prepend_known (take n into) t) (sym left)
-          ∙ ap (λ (h : List ℕ). prepend_known h new.left) (sym buffered)
+          ∙ ap (λ t. prepend_known (take n into) t) (sym left)
+          ∙ ap (λ h. prepend_known h new.left) (sym buffered)
           ∙ sym (prepend_known-nil (remaining_bytes new));
       count = omega (arith, size, pulled, ap length empty);
       refused = refused;
@@ -58,10 +58,10 @@ module _ {old : Reader} {was : SourceState} (is : SourceState) (block : List ℕ
     (view : reader_of was buffered p fault q end ≡ old) (empty : old.buffered ≡ []) (kept : q' ≡ q)
     (clean : old.fault ≡ None) (going : old.eof ≡ false) where
   same_terminator : end ≡ old.terminator
-  same_terminator = ap (λ (r : Reader). r.terminator) view
+  same_terminator = ap (λ r. r.terminator) view
 
   same_refused : q' ≡ old.refused
-  same_refused = kept ∙ ap (λ (r : Reader). r.refused) view
+  same_refused = kept ∙ ap (λ r. r.refused) view
 
   -- the beginning of the block holds the bytes that were read
   front : n ≤ 8192 → slice_range block 0 n ≡ take n (take 8192 block)
@@ -71,9 +71,9 @@ module _ {old : Reader} {was : SourceState} (is : SourceState) (block : List ℕ
       → ReaderAdvance old (reader_of is (slice_range block 0 n) (p + n) new_fault q' end) []
   filled new_fault gives small =
       advance_by_pull old (reader_of is (slice_range block 0 n) (p + n) new_fault q' end) was is (take 8192 block)
-      n gives (ap (λ (r : Reader). r.left) view) empty small
-      (front small) refl (ap (λ (r : Reader). r.pulled + n) view) same_refused same_terminator going
-      (at_end_if_eof was is (take 8192 block) n gives (ap (λ (r : Reader). r.eof) view ∙ going))
+      n gives (ap (λ r. r.left) view) empty small
+      (front small) refl (ap (λ r. r.pulled + n) view) same_refused same_terminator going
+      (at_end_if_eof was is (take 8192 block) n gives (ap (λ r. r.eof) view ∙ going))
 
   -- a reader whose block was just filled is sound, whether or not it reports a fault
   pub filled_sound : (new_fault : Option LineFault) → PullOk was is (take 8192 block) n → n ≤ 8192 → 0 < n
@@ -82,20 +82,20 @@ module _ {old : Reader} {was : SourceState} (is : SourceState) (block : List ℕ
   filled_sound new_fault gives small some short unfailed = record {
     buffered = omega (arith, ap length (front small), length-take-le n (take 8192 block) gives.fits, small);
     count = omega (arith, ap length (front small), length-take-le n (take 8192 block) gives.fits);
-    end = at_end_if_eof was is (take 8192 block) n gives (ap (λ (r : Reader). r.eof) view ∙ going);
+    end = at_end_if_eof was is (take 8192 block) n gives (ap (λ r. r.eof) view ∙ going);
     long = short;
     unfailed = unfailed;
   }
 
   same_failed : PullOk was is (take 8192 block) n → is.failed ≡ old.failed
-  same_failed gives = gives.failed ∙ ap (λ (r : Reader). r.failed) view
+  same_failed gives = gives.failed ∙ ap (λ r. r.failed) view
 
   pub refill_more : PullOk was is (take 8192 block) n → n ≤ 8192 → 0 < n → p + n < 2 ^ 63
       → RefillPost old (reader_of is (slice_range block 0 n) (p + n) fault q' end) (Ok true)
   refill_more gives small some short = (
     record {
       reads = filled fault gives small;
-      fault = ap (λ (r : Reader). r.fault) view
+      fault = ap (λ r. r.fault) view
           ∙ clean;
       failed = same_failed gives;
       short = λ _. short;
@@ -113,14 +113,14 @@ module _ {old : Reader} {was : SourceState} (is : SourceState) (block : List ℕ
   refill_end gives none =
       let still : slice_range block 0 0 ≡ [] = between_from_start block 0 in
       let nothing : was.left ≡ is.left = gives.moved
-      ∙ ap (λ (k : ℕ). prepend_known (take k (take 8192 block)) is.left) none ∙ prepend_known-nil is.left in (
+      ∙ ap (λ k. prepend_known (take k (take 8192 block)) is.left) none ∙ prepend_known-nil is.left in (
         record {
           reads = advance_without_bytes old (reader_of is (slice_range block 0 0) p fault q' end) empty still
-              (sym nothing ∙ ap (λ (r : Reader). r.left) view) (ap (λ (r : Reader). r.pulled) view)
+              (sym nothing ∙ ap (λ r. r.left) view) (ap (λ r. r.pulled) view)
               same_refused same_terminator going (λ _. gives.at_end none);
-          fault = ap (λ (r : Reader). r.fault) view ∙ clean;
-          failed = gives.failed ∙ ap (λ (r : Reader). r.failed) view;
-          short = λ h. omega (arith, ap (λ (r : Reader). r.pulled) view);
+          fault = ap (λ r. r.fault) view ∙ clean;
+          failed = gives.failed ∙ ap (λ r. r.failed) view;
+          short = λ h. omega (arith, ap (λ r. r.pulled) view);
         },
         record { eof = gives.eof none; buffered = still; left = gives.at_end none },
       )
@@ -131,19 +131,19 @@ module _ {old : Reader} {was : SourceState} (is : SourceState) (block : List ℕ
       let still : slice_range into' 0 0 ≡ [] = between_from_start into' 0 in (
         record {
           reads = advance_without_bytes old (reader_of is (slice_range into' 0 0) p (Some Read) q' end) empty still
-              (ap (λ (s : SourceState). s.left) is_failed ∙ ap (λ (r : Reader). r.left) view)
-              (ap (λ (r : Reader). r.pulled) view) same_refused same_terminator going
+              (ap (λ s. s.left) is_failed ∙ ap (λ r. r.left) view)
+              (ap (λ r. r.pulled) view) same_refused same_terminator going
               (λ eof. absurd
-              (false≢true (sym (ap (λ (s : SourceState). s.eof) is_failed ∙ ap (λ (r : Reader). r.eof) view ∙ going)
+              (false≢true (sym (ap (λ s. s.eof) is_failed ∙ ap (λ r. r.eof) view ∙ going)
               ∙ eof)));
           whole = tt;
           is = refl;
         },
         inl (
-          ap (λ (s : SourceState). s.failed) is_failed,
+          ap (λ s. s.failed) is_failed,
           still,
-          ap (λ (s : SourceState). s.eof) is_failed
-              ∙ ap (λ (r : Reader). r.eof) view ∙ going,
+          ap (λ s. s.eof) is_failed
+              ∙ ap (λ r. r.eof) view ∙ going,
         ),
         refl,
       )

@@ -40,15 +40,15 @@ module _ {X : Type 0} where
   set_after_split [] at w within = absurd (omega arith)
   set_after_split (x ∷ xs) zero w within = refl
   set_after_split (x ∷ xs) (suc at) w within =
-      ap (λ (l : List X). x ∷ l) (set_after_split xs at w (omega (arith, within)))
+      ap (λ l. x ∷ l) (set_after_split xs at w (omega (arith, within)))
 
   pub set_before_split : (xs : List X) (at cut : ℕ) (w : X) → at < cut
       → set (take cut xs) at w ++ drop cut xs ≡ set xs at w
   set_before_split xs at zero w near = absurd (omega (arith, near))
   set_before_split [] at (suc cut) w near = refl
-  set_before_split (x ∷ xs) zero (suc cut) w near = ap (λ (l : List X). w ∷ l) (take-append-drop cut xs)
+  set_before_split (x ∷ xs) zero (suc cut) w near = ap (λ l. w ∷ l) (take-append-drop cut xs)
   set_before_split (x ∷ xs) (suc at) (suc cut) w near =
-      ap (λ (l : List X). x ∷ l) (set_before_split xs at cut w (omega (arith, near)))
+      ap (λ l. x ∷ l) (set_before_split xs at cut w (omega (arith, near)))
 
   All-swap : (P : X → Type 0) (xs : List X) (a b : ℕ) → a < length xs → b < length xs
       → ((k : ℕ) (d : X) → k < length xs → P (get_or xs k d)) → (k : ℕ) (d : X) → k < length (swap xs a b)
@@ -186,12 +186,12 @@ module _ (slots : List SlotBuffer) {peak : ℕ} {denied : Bool} {now : Slots} (s
     (is : store_of slots peak denied ≡ now) where
   -- a slot number below the number of slots is an index of the list
   pub slot_in_range : slot < length now.lines → slot < length slots
-  slot_in_range within = omega (arith, within, ap (λ (t : Slots). length t.lines) is, length-map slots line_of)
+  slot_in_range within = omega (arith, within, ap (λ t. length t.lines) is, length-map slots line_of)
 
   -- the line of a slot is that of the element of the list
   pub line_before : {had : SlotBuffer} → slot < length slots → had ≡ get_or slots slot had → had.line ≡ line now slot
   line_before {had} within there = ap line_of there ∙ sym (get_or-map line_of slots slot had [] within)
-      ∙ ap (λ (t : Slots). line t slot) is
+      ∙ ap (λ t. line t slot) is
 
   -- memory could not be allocated, so the slot is as before
   pub denied_line : {had new : SlotBuffer} → had ≡ get_or slots slot had → new ≡ had
@@ -250,11 +250,11 @@ module _ (slots front back : List SlotBuffer) (from to : ℕ) (d e new : SlotBuf
 
   back_slot : get_or back 0 d ≡ get_or slots to d
   back_slot = let here : to + 0 ≡ to = omega arith in
-      ap (λ (l : List SlotBuffer). get_or l 0 d) back_is ∙ get_or-drop to slots 0 d
-      ∙ ap (λ (n : ℕ). get_or slots n d) here
+      ap (λ l. get_or l 0 d) back_is ∙ get_or-drop to slots 0 d
+      ∙ ap (λ n. get_or slots n d) here
 
   front_slot : get_or front from e ≡ get_or slots from e
-  front_slot = ap (λ (l : List SlotBuffer). get_or l from e) front_is ∙ get_or-take to slots from e near
+  front_slot = ap (λ l. get_or l from e) front_is ∙ get_or-take to slots from e near
 
   pub back_same : new ≡ get_or back 0 d → front ++ set back 0 new ≡ slots
   back_same new_is = back_set ∙ ap (set slots to) (new_is ∙ back_slot) ∙ set-get_or slots to d
@@ -282,12 +282,12 @@ module _ (slots front back : List SlotBuffer) (from to : ℕ) (d e new : SlotBuf
   front_set = (λ i. set (front_is i) to new ++ back_is i) ∙ set_before_split slots to from new near
 
   target_slot : get_or front to d ≡ get_or slots to d
-  target_slot = ap (λ (l : List SlotBuffer). get_or l to d) front_is ∙ get_or-take from slots to d near
+  target_slot = ap (λ l. get_or l to d) front_is ∙ get_or-take from slots to d near
 
   source_slot : get_or back 0 e ≡ get_or slots from e
   source_slot = let here : from + 0 ≡ from = omega arith in
-      ap (λ (l : List SlotBuffer). get_or l 0 e) back_is ∙ get_or-drop from slots 0 e
-      ∙ ap (λ (n : ℕ). get_or slots n e) here
+      ap (λ l. get_or l 0 e) back_is ∙ get_or-drop from slots 0 e
+      ∙ ap (λ n. get_or slots n e) here
 
   pub front_same : new ≡ get_or front to d → set front to new ++ back ≡ slots
   front_same new_is = front_set ∙ ap (set slots to) (new_is ∙ target_slot) ∙ set-get_or slots to d
@@ -314,9 +314,9 @@ pub copy_lines : (lines cleared after : List (List ℕ)) (from to : ℕ) → fro
     → cleared ≡ set lines to [] → after ≡ set cleared to (get_or cleared to [] ++ get_or cleared from [])
     → after ≡ set lines to (get_or lines from [])
 copy_lines lines cleared after from to differ to_in cleared_is after_is =
-    let empty : get_or cleared to [] ≡ [] = ap (λ (l : List (List ℕ)). get_or l to []) cleared_is
+    let empty : get_or cleared to [] ≡ [] = ap (λ l. get_or l to []) cleared_is
     ∙ get_or-set_same lines to [] [] to_in in
-    let source : get_or cleared from [] ≡ get_or lines from [] = ap (λ (l : List (List ℕ)). get_or l from []) cleared_is
+    let source : get_or cleared from [] ≡ get_or lines from [] = ap (λ l. get_or l from []) cleared_is
     ∙ get_or-set_other lines to from [] [] differ in
     after_is ∙ (λ i. set (cleared_is i) to (empty i ++ source i)) ∙ set-set lines to [] (get_or lines from [])
 
@@ -328,7 +328,7 @@ pub copy_total : (lines cleared after : List (List ℕ)) (from to byte_count siz
     × (byte_count + size ≡ total_bytes (set lines to (get_or lines from [])))
 copy_total lines cleared after from to byte_count size v differ from_in to_in cleared_is after_is counts there long =
     let bytes : v ≡ get_or lines from [] =
-    there ∙ ap (λ (l : List (List ℕ)). get_or l from v) after_is
+    there ∙ ap (λ l. get_or l from v) after_is
     ∙ get_or-set_other lines to from (get_or lines from []) v differ ∙ get_or_any_default lines from v [] from_in in
     let before : byte_count ≡ total_bytes (set lines to []) = counts ∙ ap total_bytes cleared_is in
     let all : byte_count + size ≡ total_bytes (set lines to (get_or lines from [])) =

@@ -28,13 +28,13 @@ lines_of_last end (b ∷ c ∷ line) (differs, free) some =
 
 pub unlines-append : (end : ℕ) (xs ys : List (List ℕ)) → unlines end (xs ++ ys) ≡ unlines end xs ++ unlines end ys
 unlines-append end [] ys = refl
-unlines-append end (x ∷ xs) ys = ap (λ (l : List ℕ). (x ++ end ∷ []) ++ l) (unlines-append end xs ys)
+unlines-append end (x ∷ xs) ys = ap (λ l. (x ++ end ∷ []) ++ l) (unlines-append end xs ys)
     ∙ sym (append_assoc (x ++ end ∷ []) (unlines end xs) (unlines end ys))
 
 pub unlines_push : (end : ℕ) (xs : List (List ℕ)) (line : List ℕ)
     → unlines end (xs ++ line ∷ []) ≡ unlines end xs ++ (line ++ end ∷ [])
 unlines_push end xs line = unlines-append end xs (line ∷ [])
-    ∙ ap (λ (l : List ℕ). unlines end xs ++ l) (append-nil (line ++ end ∷ []))
+    ∙ ap (λ l. unlines end xs ++ l) (append-nil (line ++ end ∷ []))
 
 pub AreLines_push : (end : ℕ) (ls : List (List ℕ)) (line : List ℕ) → AreLines end ls → IsLine end line
     → AreLines end (ls ++ line ∷ [])
@@ -55,7 +55,7 @@ lines_of_unlines end [] bytes w = refl
 lines_of_unlines end (line ∷ ls) bytes (first, others) =
     ap (lines end) (unlines_first end line ls bytes)
     ∙ lines_cons end line (unlines end ls ++ bytes) first
-    ∙ ap (λ (l : List (List ℕ)). line ∷ l) (lines_of_unlines end ls bytes others)
+    ∙ ap (λ l. line ∷ l) (lines_of_unlines end ls bytes others)
 
 -- the lines of the text of some lines are these lines
 pub lines-unlines : (end : ℕ) (ls : List (List ℕ)) → AreLines end ls → lines end (unlines end ls) ≡ ls
@@ -81,7 +81,7 @@ complete_lines_of_unlines end [] piece w p = complete_lines_none end piece p
 complete_lines_of_unlines end (line ∷ ls) piece (first, others) p =
     ap (complete_lines end) (unlines_first end line ls piece)
     ∙ complete_lines_cons end line (unlines end ls ++ piece) first
-    ∙ ap (λ (l : List (List ℕ)). line ∷ l) (complete_lines_of_unlines end ls piece others p)
+    ∙ ap (λ l. line ∷ l) (complete_lines_of_unlines end ls piece others p)
 
 -- a terminator added to an incomplete last line changes no line
 lines_extra_terminator : (end : ℕ) (bytes : List ℕ) → bytes ≢ [] → ¬ EndsWithByte end bytes
@@ -170,7 +170,7 @@ complete_lines_up_to_last end front rest free =
     let all : List ℕ = front ++ end ∷ [] in
     let whole : unlines end (lines end all) ≡ all =
     ⊎_elim (λ e. e) (λ (_, unended, _). absurd (unended (front, refl))) (unlines-lines end all) in
-    ap (complete_lines end) (sym (append_assoc front (end ∷ []) rest) ∙ ap (λ (l : List ℕ). l ++ rest) (sym whole))
+    ap (complete_lines end) (sym (append_assoc front (end ∷ []) rest) ∙ ap (λ l. l ++ rest) (sym whole))
     ∙ complete_lines_of_unlines end (lines end all) rest (lines_are end all) free
 
 pub the_complete_lines : CompleteLinesAreLines

@@ -10,17 +10,17 @@ took_more : (old mid new : SinkState) (done rest : List ℕ) (n : ℕ) → Write
     → 0 < n → WriteOutOk old new (done ++ take n rest)
 took_more old mid new done rest n p q some =
     let accepted : new.accepted ≡ append_known old.accepted (done ++ take n rest) = q.accepted
-    ∙ ap (λ (s : SinkState). append_known s.accepted (take n rest)) p
+    ∙ ap (λ s. append_known s.accepted (take n rest)) p
     ∙ append_known-append old.accepted done (take n rest) in
-    let failed : new.failed ≡ old.failed = q.same some ∙ ap (λ (s : SinkState). s.failed) p in
+    let failed : new.failed ≡ old.failed = q.same some ∙ ap (λ s. s.failed) p in
     let unflushed : new.unflushed ≡ unflushed_after old.unflushed (done ++ take n rest) =
-    q.unflushed ∙ ap (λ (s : SinkState). unflushed_after s.unflushed (take n rest)) p
+    q.unflushed ∙ ap (λ s. unflushed_after s.unflushed (take n rest)) p
     ∙ unflushed_after-append old.unflushed done (take n rest) in
-    let flushes : new.flushes ≡ old.flushes = q.flushes ∙ ap (λ (s : SinkState). s.flushes) p in
+    let flushes : new.flushes ≡ old.flushes = q.flushes ∙ ap (λ s. s.flushes) p in
     λ i. record { accepted = accepted i; failed = failed i; unflushed = unflushed i; flushes = flushes i }
 
 split_more : (bytes done rest : List ℕ) (n : ℕ) → bytes ≡ done ++ rest → bytes ≡ done ++ take n rest ++ drop n rest
-split_more bytes done rest n is = is ∙ ap (λ (s : List ℕ). done ++ s) (sym (take-append-drop n rest))
+split_more bytes done rest n is = is ∙ ap (λ s. done ++ s) (sym (take-append-drop n rest))
     ∙ sym (append_assoc done (take n rest) (drop n rest))
 
 pub loop-rest-preserved : goal.loop-rest-preserved

@@ -9,7 +9,7 @@ in_front : (old new : SourceState) (into rest : List ℕ) (r : Result ℕ Failed
     → PullPost old new into r → PullPost old new (take 8192 (into ++ rest)) r
 in_front old new into rest r long =
     let whole = take-append-le 8192 into rest (omega (arith, long)) ∙ take_all 8192 into (omega (arith, long)) in
-    subst (λ (l : List ℕ). PullPost old new l r) (sym whole)
+    subst (λ l. PullPost old new l r) (sym whole)
 
 pub returns-in-Standard-clause-pulled : goal.returns-in-Standard-clause-pulled
 returns-in-Standard-clause-pulled g c =

@@ -1,6 +1,6 @@
 -- The list of slots is split at the greater of the two numbers, so source and target lie in different parts. Setting
 -- the target in its part sets it in the whole list.
-use Rattle.std.proofs.Common.{◌<◌, ℕ, Result, Ok, Err, OnOk, OnErr, sym, subst, arith}
+use Rattle.std.proofs.Common.{◌<◌, Result, Ok, Err, OnOk, OnErr, sym, subst, arith}
 use borrow.Author.Rules.{scaled_Fits}
 use Rattle.ptlines.proofs.SlotTotals.{append_to_back, bounded_back, buffers_back, back_same, append_to_front}
 use Rattle.ptlines.proofs.SlotTotals.{bounded_front, buffers_front, front_same}
@@ -67,13 +67,13 @@ returns-else-from-to-clause-buffers g c =
 
 pub offset_bounds-front-from : goal.offset_bounds-front-from
 offset_bounds-front-from g c =
-    let low = subst (λ (n : ℕ). c.args.from < n) (sym c.split_at_mut-front.ensures.front_len) c.if-from-to.true in
+    let low = subst (λ n. c.args.from < n) (sym c.split_at_mut-front.ensures.front_len) c.if-from-to.true in
     search (scaled_Fits, low)
 
 pub offset_bounds-front-to : goal.offset_bounds-front-to
 offset_bounds-front-to g c =
     let near : c.args.to < c.args.from = omega (arith, c.if-from-to.false, c.requires.differ) in
-    let low = subst (λ (n : ℕ). c.args.to < n) (sym c.split_at_mut-front-else-from-to.ensures.front_len) near in
+    let low = subst (λ n. c.args.to < n) (sym c.split_at_mut-front-else-from-to.ensures.front_len) near in
     search (scaled_Fits, low)
 
 pub returns-then-from-to-clause-err : goal.returns-then-from-to-clause-err

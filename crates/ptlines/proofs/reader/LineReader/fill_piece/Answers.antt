@@ -7,7 +7,7 @@ use Rattle.ptlines.proofs.reader.LineReader.fill_piece.Goals as goal
 
 -- the byte searched for is the reader's terminator
 found : (a b : ℕ) (hay : List ℕ) (r : Option ℕ) → a ≡ b → IsFirstByte (is_byte a) hay r → IsFirstByte (is_byte b) hay r
-found a b hay r is first = subst (λ (x : ℕ). IsFirstByte (is_byte x) hay r) is first
+found a b hay r is first = subst (λ x. IsFirstByte (is_byte x) hay r) is first
 
 pub returns-in_ok-move_to_slot-in-Some-clause-piece_post : goal.returns-in_ok-move_to_slot-in-Some-clause-piece_post
 returns-in_ok-move_to_slot-in-Some-clause-piece_post g c =

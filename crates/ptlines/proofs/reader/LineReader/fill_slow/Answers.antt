@@ -1,7 +1,7 @@
 -- Each piece extends the line so far. A terminator completes it; at the end of input the line so far is the last line,
 -- or there is none if it is empty.
 use Rattle.ptlines.proofs.ReadLine.{line_so_far_partial, fill_line, fill_eof}
-use Rattle.ptlines.proofs.Common.{◌∙◌, ◌==◌, [], ap, arith, length, length-set, refl, List, ℕ, Slots}
+use Rattle.ptlines.proofs.Common.{◌∙◌, ◌==◌, [], ap, arith, length, length-set, refl}
 use Rattle.ptlines.proofs.LineSearch.{advance_ok_take}
 use Rattle.ptlines.proofs.reader.LineReader.fill_slow.Goals as goal
 
@@ -29,7 +29,7 @@ returns-in-Eof-clause-fills g c =
     let (advance_ok, done, same) = rw c.in-Eof.is at c.in_ok-fill_piece.ensures.piece_post in
     fill_eof c.args.self.now _ _ c.args.store.now _ _ c.args.slot c.is_empty.result c.requires.in_store
     (c.requires.sound.long c.requires.clean) c.pieces.invariant.so_far advance_ok done same
-    (c.is_empty.ensures ∙ ap (λ (l : List ℕ). length l == 0) c.line.ensures)
+    (c.is_empty.ensures ∙ ap (λ l. length l == 0) c.line.ensures)
 
 pub pieces-init : goal.pieces-init
 pieces-init g c = record {
@@ -44,7 +44,7 @@ pieces-init g c = record {
     sound = c.requires.sound;
     in_store = omega (
       arith,
-      ap (λ (s : Slots). length s.lines) c.clear.ensures,
+      ap (λ s. length s.lines) c.clear.ensures,
       length-set c.args.store.now.lines c.args.slot [],
       c.requires.in_store,
     );

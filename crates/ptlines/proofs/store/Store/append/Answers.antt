@@ -1,6 +1,6 @@
 -- The line of one slot grows by the appended bytes, and so does the total. If memory could not be allocated, the line
 -- is as before.
-use Rattle.ptlines.proofs.Common.{List, ℕ, ◌<◌, ◌^◌, length, ◌++◌, ◌∙◌, ap, arith, length-append, length-map}
+use Rattle.ptlines.proofs.Common.{◌<◌, ◌^◌, length, ◌++◌, ◌∙◌, ap, arith, length-append, length-map}
 use Rattle.ptlines.specs.Slots.{slot_lines}
 use Rattle.ptlines.proofs.SlotTotals.{counted_after_set, total_fits, slot_in_range, line_before, denied_line}
 use Rattle.ptlines.proofs.SlotTotals.{store_after_set, line_of}
@@ -43,7 +43,7 @@ returns-in-Ok-clause-ok g c =
     let slots = c.self.inside.slots.items in
     let low = slot_in_range slots c.args.slot c.self.view_is c.requires in
     let had = line_before slots c.args.slot c.self.view_is low c.index_mut.ensures.value in
-    let bytes = c.in-Ok.ensures.ok ∙ ap (λ (l : List ℕ). l ++ c.args.bytes.now) had in
+    let bytes = c.in-Ok.ensures.ok ∙ ap (λ l. l ++ c.args.bytes.now) had in
     store_after_set slots c.args.slot c.self.view_is c.append.new.self bytes
     (invariant_of-self g c).total c.max-self-inside.ensures
 

@@ -13,7 +13,7 @@ use Rattle.ptlines.proofs.store.Store.copy.Goals as goal
 slots_after_clear : (slots : List SlotBuffer) (now : Slots) (to : ℕ) {peak : ℕ} {denied : Bool}
     → store_of slots peak denied ≡ with_line now to [] → length slots ≡ length now.lines
 slots_after_clear slots now to is =
-    omega (arith, length-map slots line_of, ap (λ (t : Slots). length t.lines) is, length-set now.lines to [])
+    omega (arith, length-map slots line_of, ap (λ t. length t.lines) is, length-set now.lines to [])
 
 -- the total after the copy
 copied : (lines cleared : List (List ℕ)) (after : List SlotBuffer) (from to byte_count size : ℕ) (v : SlotBuffer)
@@ -42,7 +42,7 @@ invariant_of-self g c =
     let s = c.self.inside in
     let was = c.args.self.now.lines in
     let lent = c.deref_mut.ensures.value in
-    let cleared = ap (λ (t : Slots). t.lines) (c.self.view_is ∙ c.clear.ensures) in
+    let cleared = ap (λ t. t.lines) (c.self.view_is ∙ c.clear.ensures) in
     let whole = with_items_is s.slots c.append_slot.new.slots (c.append_slot.auto.slots ∙ c.deref_mut.ensures.len) in
     let lines = copy_lines was (slot_lines c.deref_mut.result.now) (slot_lines c.append_slot.new.slots)
     c.args.from c.args.to c.requires.differ c.requires.to_in (ap slot_lines lent ∙ cleared) c.in-Ok.ensures.ok in
@@ -78,7 +78,7 @@ returns-in-Ok-clause-ok g c =
     let was = c.args.self.now.lines in
     let lent = c.deref_mut.ensures.value in
     let emptied = c.self.view_is ∙ c.clear.ensures in
-    let cleared = ap (λ (t : Slots). t.lines) emptied in
+    let cleared = ap (λ t. t.lines) emptied in
     let whole = with_items_is s.slots c.append_slot.new.slots (c.append_slot.auto.slots ∙ c.deref_mut.ensures.len) in
     let lines = copy_lines was (slot_lines c.deref_mut.result.now) (slot_lines c.append_slot.new.slots)
     c.args.from c.args.to c.requires.differ c.requires.to_in (ap slot_lines lent ∙ cleared) c.in-Ok.ensures.ok in
@@ -89,8 +89,8 @@ returns-in-Ok-clause-ok g c =
     c.self.invariant.total c.index.ensures c.size.ensures.size in
     let peak : c.max-self-inside.result
     ≡ max c.args.self.now.peak (total_bytes (set was c.args.to (get_or was c.args.from []))) =
-    omega (arith, c.max-self-inside.ensures, emptied_total, total, ap (λ (t : Slots). t.peak) emptied) in
-    let denied = ap (λ (t : Slots). t.denied) emptied in
+    omega (arith, c.max-self-inside.ensures, emptied_total, total, ap (λ t. t.peak) emptied) in
+    let denied = ap (λ t. t.denied) emptied in
     λ i. record { lines = (ap slot_lines whole ∙ lines) i; peak = peak i; denied = denied i }
 
 pub returns-in-Err-clause-err : goal.returns-in-Err-clause-err
@@ -99,7 +99,7 @@ returns-in-Err-clause-err g c =
     let emptied = c.self.view_is ∙ c.clear.ensures in
     let whole = with_items_is s.slots c.append_slot.new.slots (c.append_slot.auto.slots ∙ c.deref_mut.ensures.len) in
     let lines = ap slot_lines (whole ∙ c.in-Err.ensures.err ∙ c.deref_mut.ensures.value)
-    ∙ ap (λ (t : Slots). t.lines) emptied in
+    ∙ ap (λ t. t.lines) emptied in
     λ i. record { lines = lines i; peak = (emptied i).peak; denied = true }
 
 pub append_slot-requires : goal.append_slot-requires

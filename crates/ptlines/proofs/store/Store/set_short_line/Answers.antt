@@ -17,9 +17,9 @@ put_counted : (slots : List SlotBuffer) (slot : ℕ) {byte_count before : ℕ} (
 put_counted slots slot had low is counted was was_is bytes size near within new new_is peak less more =
     let few = line_le_total slots slot had low is counted in
     let long : length new.line ≡ size =
-    ap (λ (t : SlotBuffer). length t.line) new_is ∙ length-take-le size bytes (omega (arith, near, within)) in
+    ap (λ t. length t.line) new_is ∙ length-take-le size bytes (omega (arith, near, within)) in
     counted_after_set slots slot had low is counted new (omega (arith, long, near))
-    (omega (arith, ap (λ (t : SlotBuffer). t.buffer_size) new_is)) (omega (arith, few, long, was_is)) less more
+    (omega (arith, ap (λ t. t.buffer_size) new_is)) (omega (arith, few, long, was_is)) less more
 
 pub overflow_sub-self : goal.overflow_sub-self
 overflow_sub-self g c =
