@@ -94,14 +94,14 @@ bounds_line {width} {most} {store} new slot bytes k within fits is = record {
 pub swapped_room : {width : ℕ} {before after : Slots} → IsSwapped width before after → 0 < width
     → width ≤ length before.lines → width ≤ length after.lines
 swapped_room {width} {before} {after} either some room = ⊎_elim
-    (λ same. omega (arith, ap (λ (s : Slots). length s.lines) same)) changed either
+    (λ same. omega (arith, ap (λ s. length s.lines) same)) changed either
   where
     changed : after ≡ record before { lines = swap before.lines 0 (width - 1) } → width ≤ length after.lines
     changed is =
         let first = set before.lines 0 (get_or before.lines (width - 1) []) in
         omega (
           arith,
-          ap (λ (s : Slots). length s.lines) is,
+          ap (λ s. length s.lines) is,
           ap length (swap_is before.lines 0 (width - 1) [] (omega arith) (omega arith)),
           length-set first (width - 1) (get_or before.lines 0 []),
           length-set before.lines 0 (get_or before.lines (width - 1) []),

@@ -48,16 +48,16 @@ module _ (job : Uniq) where
   runs-append (x ∷ []) (y ∷ ys) change =
       let (count, more, is) = onto_is y (runs job ys) in
       ap (cons_run job x) is
-      ∙ ap (λ (t : Bool). cond t (run_of x (count + 1) ∷ more) (run_of x 1 ∷ run_of y count ∷ more))
+      ∙ ap (λ t. cond t (run_of x (count + 1) ∷ more) (run_of x 1 ∷ run_of y count ∷ more))
       (other_key x y (change x y ([], refl) (ys, refl)))
-      ∙ ap (λ (rs : List Run). run_of x 1 ∷ rs) (sym is)
+      ∙ ap (λ rs. run_of x 1 ∷ rs) (sym is)
   runs-append (x ∷ z ∷ xs) ys change =
       let (count, more, is) = onto_is z (runs job xs) in
       ap (cons_run job x) (runs-append (z ∷ xs) ys (λ last first (front, ends) begins.
-      change last first (x ∷ front, ap (λ (l : List (List ℕ)). x ∷ l) ends) begins)
-      ∙ ap (λ (rs : List Run). rs ++ runs job ys) is)
+      change last first (x ∷ front, ap (λ l. x ∷ l) ends) begins)
+      ∙ ap (λ rs. rs ++ runs job ys) is)
       ∙ onto_front x (run_of z count) more (runs job ys)
-      ∙ ap (λ (rs : List Run). cons_run job x rs ++ runs job ys) (sym is)
+      ∙ ap (λ rs. cons_run job x rs ++ runs job ys) (sym is)
 
 pub uniq_of_parts : UniqOfParts
 uniq_of_parts job a b whole change =

@@ -25,8 +25,8 @@ loop-end-preserved c =
     let (index, number) = c.next-cycle_pos.ensures in
     let delim : c.unwrap_or.result ≡ unwrap_or (delim_at c.args.delims.now (c.args.cycle_pos.number + loop._end))
     c.args.terminator =
-    c.unwrap_or.ensures ∙ ap (λ (p : ℕ). unwrap_or (slice_index_or delims p None) c.args.terminator)
-    (loop.invariant.index ∙ ap (λ (n : ℕ). n % length delims) loop.invariant.number) in
+    c.unwrap_or.ensures ∙ ap (λ p. unwrap_or (slice_index_or delims p None) c.args.terminator)
+    (loop.invariant.index ∙ ap (λ n. n % length delims) loop.invariant.number) in
     record {
       ends = replace_next loop.invariant.ends c.match_mask-mask.ensures c.loop-end-test.true loop.auto.mask-fits.fits
           delim refl refl;
