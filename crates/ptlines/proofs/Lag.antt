@@ -1,7 +1,8 @@
 -- Bounded lag: if output was pushed while no write had failed, all of it but at most one block has been written to the
 -- sink, since the block holds at most 8,192 bytes.
-use Rattle.ptlines.proofs.Common.{◌≡◌, ℕ, ◌+◌, ◌≤◌, false, List, ◌++◌, Option, None, Some, length, max, sym, ◌∙◌, ap, arith, append_assoc, length-append, append_known, Received, IsPrefix, Output, IsKnownPrefix}
-use Rattle.ptlines.proofs.Common.{PushEffect}
+use Rattle.ptlines.proofs.Common.{◌≡◌, ℕ, ◌+◌, ◌≤◌, false, List, ◌++◌, Option, None, Some, length, max, sym, ◌∙◌, ap}
+use Rattle.ptlines.proofs.Common.{arith, append_assoc, length-append, append_known, Received, IsPrefix, Output}
+use Rattle.ptlines.proofs.Common.{IsKnownPrefix, PushEffect}
 use Rattle.ptlines.specs.Lag.{ProcessLag, BufferLag, BoundedLag}
 use Rattle.ptlines.proofs.KnownBytes.{append_known-append}
 use Rattle.ptlines.proofs.Push.{known_prefix_refl}
@@ -11,17 +12,24 @@ known_length None = 0
 known_length (Some bytes) = length bytes
 
 -- the bytes written to the sink since then, and how many are missing
-buffer_lag_bytes : (was mid is : Option (List ℕ)) (buffered waits bytes : List ℕ) → IsKnownPrefix was mid → IsKnownPrefix mid is → append_known mid waits ≡ append_known (append_known was buffered) bytes
-    → length waits ≤ max 8192 (length buffered) → (written_out : List ℕ) × (is ≡ append_known was written_out) × (length buffered + length bytes ≤ length written_out + max 8192 (length buffered))
+buffer_lag_bytes : (was mid is : Option (List ℕ)) (buffered waits bytes : List ℕ) → IsKnownPrefix was mid
+    → IsKnownPrefix mid is → append_known mid waits ≡ append_known (append_known was buffered) bytes
+    → length waits ≤ max 8192 (length buffered)
+    → (written_out : List ℕ) × (is ≡ append_known was written_out)
+    × (length buffered + length bytes ≤ length written_out + max 8192 (length buffered))
 unfolding known_length
-buffer_lag_bytes None mid is buffered waits bytes p q all few = (buffered ++ bytes, q.is ∙ ap (λ (t : Option (List ℕ)). append_known t q.front) p.is, omega (arith, length-append buffered bytes))
+buffer_lag_bytes None mid is buffered waits bytes p q all few = (
+  buffered ++ bytes,
+  q.is ∙ ap (λ t. append_known t q.front) p.is,
+  omega (arith, length-append buffered bytes),
+)
 buffer_lag_bytes (Some t) mid is buffered waits bytes p q all few = (
   p.front ++ q.front,
-  q.is ∙ ap (λ (t : Option (List ℕ)). append_known t q.front) p.is ∙ append_known-append (Some t) p.front q.front,
+  q.is ∙ ap (λ t. append_known t q.front) p.is ∙ append_known-append (Some t) p.front q.front,
   omega (
     arith,
     few,
-    ap known_length (sym (ap (λ (m : Option (List ℕ)). append_known m waits) p.is) ∙ all),
+    ap known_length (sym (ap (λ m. append_known m waits) p.is) ∙ all),
     length-append p.front q.front,
     length-append t p.front,
     length-append (t ++ p.front) waits,
@@ -30,18 +38,33 @@ buffer_lag_bytes (Some t) mid is buffered waits bytes p q all few = (
   ),
 )
 
-buffer_lag : (was mid is : Output) (pushed bytes : List ℕ) → PushEffect was mid pushed → mid.write_failed ≡ false → IsKnownPrefix mid.accepted is.accepted → IsPrefix bytes pushed → BufferLag was is bytes
+buffer_lag : (was mid is : Output) (pushed bytes : List ℕ) → PushEffect was mid pushed → mid.write_failed ≡ false
+    → IsKnownPrefix mid.accepted is.accepted → IsPrefix bytes pushed → BufferLag was is bytes
 buffer_lag was mid is pushed bytes wrote clean kept front =
-    let s = buffer_lag_bytes was.accepted mid.accepted is.accepted was.buffered mid.buffered pushed wrote.kept kept (wrote.whole clean) wrote.buffered in
-    record { written_out = s.0; accepted = s.1; most = omega (arith, s.2, ap length front.is, length-append bytes front.rest) }
+    let (written_out, accepted, most) =
+    buffer_lag_bytes was.accepted mid.accepted is.accepted was.buffered mid.buffered pushed
+    wrote.kept kept (wrote.whole clean) wrote.buffered in
+    record {
+      written_out = written_out;
+      accepted = accepted;
+      most = omega (arith, most, ap length front.is, length-append bytes front.rest);
+    }
 
-module _ {I : Type 0} (decided : (I → Received) → List ℕ) (came : I → Received) (was mid : Output) (pushed : List ℕ) (processing : ProcessLag decided came pushed)
+module _ {I : Type 0} (decided : (I → Received) → List ℕ) (came : I → Received) (was mid : Output) (pushed : List ℕ)
+    (processing : ProcessLag decided came pushed)
     (wrote : PushEffect was mid pushed) (clean : mid.write_failed ≡ false) where
   pub bounded_lag_now : BoundedLag decided came was mid pushed
-  bounded_lag_now = record { processing = processing; buffering = buffer_lag was mid mid pushed (decided (λ i. (processing.before i).earlier)) wrote clean (known_prefix_refl mid.accepted) processing.begins }
+  bounded_lag_now =
+      record {
+        processing = processing;
+        buffering = buffer_lag was mid mid pushed
+            (decided (λ i. (processing.before i).earlier)) wrote clean (known_prefix_refl mid.accepted)
+            processing.begins;
+      }
 
   -- regardless of the bytes pushed after that
-  pub bounded_lag_after : (is : Output) (bytes : List ℕ) → PushEffect mid is bytes → BoundedLag decided came was is (pushed ++ bytes)
+  pub bounded_lag_after : (is : Output) (bytes : List ℕ) → PushEffect mid is bytes
+      → BoundedLag decided came was is (pushed ++ bytes)
   bounded_lag_after is bytes more =
       let now = decided (λ i. (processing.before i).earlier) in
       record {
@@ -49,7 +72,7 @@ module _ {I : Type 0} (decided : (I → Received) → List ℕ) (came : I → Re
           before = processing.before;
           begins = record {
             rest = processing.begins.rest ++ bytes;
-            is = ap (λ (l : List ℕ). l ++ bytes) processing.begins.is
+            is = ap (λ l. l ++ bytes) processing.begins.is
                 ∙ append_assoc now processing.begins.rest bytes;
           };
         };

@@ -1,129 +1,176 @@
 -- The number of trailing zeros of a match mask is the index of the first match, and a mask of zero means that there is
 -- none. Masks of adjacent chunks are combined by shifting and adding.
-use Rattle.ptlines.proofs.Common.{◌≡◌, ⊎_elim, ℕ, suc, ◌+◌, ◌*◌, ◌^◌, ◌%◌, ◌<◌, ◌≤◌, Bool, true, false, cond, not, List, [], ◌∷◌, ◌++◌, Option, None, Some, length, take, drop, map, refl, sym, ◌∙◌, ap}
-use Rattle.ptlines.proofs.Common.{subst, arith, bit_or, take-add, drop-drop, map-append, length-map, none_from_empty_mask, trailing_mask_l, run_in_chunk_fails, run_in_chunk_stops, length-chunk}
-use Rattle.ptlines.proofs.Common.{mask_l-lt, false≢true, cases_order, prefix_len, mask_l, chunk, Nowhere, NoneBefore, Passes, IsFirst}
+use Rattle.ptlines.proofs.Common.{◌≡◌, ⊎_elim, ℕ, suc, ◌+◌, ◌*◌, ◌^◌, ◌%◌, ◌<◌, ◌≤◌, Bool, true, false, cond, not, List}
+use Rattle.ptlines.proofs.Common.{[], ◌∷◌, ◌++◌, Option, None, Some, length, take, drop, map, refl, sym, ◌∙◌, ap, subst}
+use Rattle.ptlines.proofs.Common.{arith, bit_or, take-add, drop-drop, map-append, length-map, none_from_empty_mask}
+use Rattle.ptlines.proofs.Common.{trailing_mask_l, run_in_chunk_fails, run_in_chunk_stops, length-chunk, mask_l-lt}
+use Rattle.ptlines.proofs.Common.{false≢true, cases_order, prefix_len, mask_l, chunk, Nowhere, NoneBefore, Passes}
+use Rattle.ptlines.proofs.Common.{IsFirst}
 use Rattle.std.proofs.Math.Nat.{pow-succ', mul_assoc}
 use Rattle.std.proofs.lemmas.Grind.{or_before_shift}
 use lib.Count.{count_trailing_zeros}
 
-pub none_if_zero_mask_at : (test : ℕ → Bool) (hay : List ℕ) (i n : ℕ) → i + n ≤ length hay → mask_l (map test (chunk i n hay)) ≡ 0 → Nowhere (Passes test hay) i (i + n)
-none_if_zero_mask_at test hay i n room none k low high passes = false≢true (sym (none_from_empty_mask test hay i n 0 room none k low high) ∙ passes)
+pub none_if_zero_mask_at : (test : ℕ → Bool) (hay : List ℕ) (i n : ℕ) → i + n ≤ length hay
+    → mask_l (map test (chunk i n hay)) ≡ 0 → Nowhere (Passes test hay) i (i + n)
+none_if_zero_mask_at test hay i n room none k low high passes =
+    false≢true (sym (none_from_empty_mask test hay i n 0 room none k low high) ∙ passes)
 
 -- if the mask is not zero, the first match lies within the list
-prefix_len_lt : (test : ℕ → Bool) (xs : List ℕ) → 0 < mask_l (map test xs) → prefix_len (λ x. not (test x)) xs < length xs
+prefix_len_lt : (test : ℕ → Bool) (xs : List ℕ) → 0 < mask_l (map test xs)
+    → prefix_len (λ x. not (test x)) xs < length xs
 prefix_len_lt test [] some = absurd (omega arith)
-prefix_len_lt test (x ∷ xs) some = by_test (test x) (mask_l (map test xs)) (prefix_len (λ y. not (test y)) xs) (length xs) some (prefix_len_lt test xs)
+prefix_len_lt test (x ∷ xs) some =
+    by_test (test x) (mask_l (map test xs)) (prefix_len (λ y. not (test y)) xs) (length xs) some (prefix_len_lt test xs)
   where
     by_test : (b : Bool) (m n l : ℕ) → 0 < cond b 1 0 + 2 * m → (0 < m → n < l) → cond (not b) (1 + n) 0 < suc l
     by_test true m n l some more = omega arith
     by_test false m n l some more = omega (arith, more (omega arith))
 
 -- the lowest set bit is the first match
-pub first_at_lowest_bit_of_chunk : (test : ℕ → Bool) (hay : List ℕ) (i n : ℕ) → n ≤ 64 → i + n ≤ length hay → 0 < mask_l (map test (chunk i n hay))
-    → NoneBefore (Passes test hay) i (i + n) (i + count_trailing_zeros 64 (mask_l (map test (chunk i n hay)))) × Passes test hay (i + count_trailing_zeros 64 (mask_l (map test (chunk i n hay))))
+pub first_at_lowest_bit_of_chunk : (test : ℕ → Bool) (hay : List ℕ) (i n : ℕ) → n ≤ 64 → i + n ≤ length hay
+    → 0 < mask_l (map test (chunk i n hay))
+    → NoneBefore (Passes test hay) i (i + n) (i + count_trailing_zeros 64 (mask_l (map test (chunk i n hay))))
+    × Passes test hay (i + count_trailing_zeros 64 (mask_l (map test (chunk i n hay))))
 first_at_lowest_bit_of_chunk test hay i n few room some =
     let v = chunk i n hay in
     let at = count_trailing_zeros 64 (mask_l (map test v)) in
     let long : length v ≡ n = length-chunk i n hay room in
     let counted : at ≡ prefix_len (λ x. not (test x)) v = trailing_mask_l test 64 v (omega (arith, long, few)) some in
     let near : at < n = omega (arith, counted, long, prefix_len_lt test v some) in (
-      record { low = omega arith; high = omega (arith, near); before = λ k low high passes. false≢true (sym (run_in_chunk_fails test hay i n at 0 room counted k low high) ∙ passes) },
+      record {
+        low = omega arith;
+        high = omega (arith, near);
+        before =
+            λ k low high passes. false≢true (sym (run_in_chunk_fails test hay i n at 0 room counted k low high)
+            ∙ passes);
+      },
       run_in_chunk_stops test hay i n at 0 room counted near,
     )
 
 -- ---- the same facts for a number that equals the mask
 
-pub none_if_zero_mask : (test : ℕ → Bool) (hay : List ℕ) (i n m : ℕ) → i + n ≤ length hay → m ≡ mask_l (map test (chunk i n hay)) → m ≡ 0 → Nowhere (Passes test hay) i (i + n)
+pub none_if_zero_mask : (test : ℕ → Bool) (hay : List ℕ) (i n m : ℕ) → i + n ≤ length hay
+    → m ≡ mask_l (map test (chunk i n hay)) → m ≡ 0 → Nowhere (Passes test hay) i (i + n)
 none_if_zero_mask test hay i n m room is none = none_if_zero_mask_at test hay i n room (sym is ∙ none)
 
-pub first_at_lowest_bit : (test : ℕ → Bool) (hay : List ℕ) (i n m : ℕ) → n ≤ 64 → i + n ≤ length hay → m ≡ mask_l (map test (chunk i n hay)) → (m ≡ 0 → ⊥)
+pub first_at_lowest_bit : (test : ℕ → Bool) (hay : List ℕ) (i n m : ℕ) → n ≤ 64 → i + n ≤ length hay
+    → m ≡ mask_l (map test (chunk i n hay)) → (m ≡ 0 → ⊥)
     → IsFirst (Passes test hay) i (i + n) (Some (i + count_trailing_zeros 64 m))
 first_at_lowest_bit test hay i n m few room is some =
-    subst (λ (m : ℕ). IsFirst (Passes test hay) i (i + n) (Some (i + count_trailing_zeros 64 m))) (sym is)
-    (first_at_lowest_bit_of_chunk test hay i n few room (omega (arith, λ (none : mask_l (map test (chunk i n hay)) ≡ 0). some (is ∙ none))))
+    subst (λ m. IsFirst (Passes test hay) i (i + n) (Some (i + count_trailing_zeros 64 m))) (sym is)
+    (first_at_lowest_bit_of_chunk test hay i n few room
+    (omega (arith, λ (none : mask_l (map test (chunk i n hay)) ≡ 0). some (is ∙ none))))
 
 -- ---- a search that continues after indices without a match
 
 module _ (P : ℕ → Type 0) where
   pub nowhere_trans : (i j k : ℕ) → Nowhere P i j → Nowhere P j k → Nowhere P i k
-  nowhere_trans i j k none more m low high = ⊎_elim (λ is. more m (omega (arith, is)) high) (λ h. ⊎_elim (λ less. none m low less) (λ past. more m (omega (arith, past)) high) h) (cases_order m j)
+  nowhere_trans i j k none more m low high =
+      ⊎_elim (λ is. more m (omega (arith, is)) high)
+      (λ h. ⊎_elim (λ less. none m low less) (λ past. more m (omega (arith, past)) high) h) (cases_order m j)
 
   -- nothing matches before `later`, so a search that begins at `j` finds the first match from `i` on
-  pub first_after : (i j k later : ℕ) (r : Option ℕ) → i ≤ j → j ≤ later → Nowhere P i later → IsFirst P j k r → IsFirst P i k r
-  first_after i j k later None order near none first = nowhere_trans i j k (λ m low high. none m low (omega (arith, high, near))) first
-  first_after i j k later (Some m) order near none first = (
-    record { low = omega (arith, order, first.0.low); high = first.0.high; before = nowhere_trans i j m (λ n low high. none n low (omega (arith, high, near))) first.0.before },
-    first.1,
+  pub first_after : (i j k later : ℕ) (r : Option ℕ) → i ≤ j → j ≤ later → Nowhere P i later → IsFirst P j k r
+      → IsFirst P i k r
+  first_after i j k later None order near none first =
+      nowhere_trans i j k (λ m low high. none m low (omega (arith, high, near))) first
+  first_after i j k later (Some m) order near none (first, found) = (
+    record {
+      low = omega (arith, order, first.low);
+      high = first.high;
+      before = nowhere_trans i j m (λ n low high. none n low (omega (arith, high, near))) first.before;
+    },
+    found,
   )
 
 -- ---- masks of adjacent chunks
 
 pub mask_append : (front back : List Bool) → mask_l (front ++ back) ≡ mask_l front + 2 ^ length front * mask_l back
 mask_append [] back = omega arith
-mask_append (f ∷ front) back = omega (arith, mask_append front back, ap (λ (p : ℕ). p * mask_l back) (pow-succ' 2 (length front)), mul_assoc 2 (2 ^ length front) (mask_l back))
+mask_append (f ∷ front) back =
+    omega (
+      arith,
+      mask_append front back,
+      ap (λ p. p * mask_l back) (pow-succ' 2 (length front)),
+      mul_assoc 2 (2 ^ length front) (mask_l back),
+    )
 
 chunk_append : {X : Type 0} (i m n : ℕ) (xs : List X) → chunk i (m + n) xs ≡ chunk i m xs ++ chunk (i + m) n xs
-chunk_append {X} i m n xs = take-add m n (drop i xs) ∙ ap (λ (l : List X). take m (drop i xs) ++ take n l) (drop-drop m i xs)
+chunk_append {X} i m n xs = take-add m n (drop i xs)
+    ∙ ap (λ l. take m (drop i xs) ++ take n l) (drop-drop m i xs)
 
 -- the mask of 16 + n bytes is the mask of the first 16 plus 2^16 times that of the next n
 mask_16_append : (test : ℕ → Bool) (hay : List ℕ) (i n : ℕ) → i + 16 ≤ length hay
-    → mask_l (map test (chunk i (16 + n) hay)) ≡ mask_l (map test (chunk i 16 hay)) + 65536 * mask_l (map test (chunk (i + 16) n hay))
+    → mask_l (map test (chunk i (16 + n) hay))
+    ≡ mask_l (map test (chunk i 16 hay)) + 65536 * mask_l (map test (chunk (i + 16) n hay))
 mask_16_append test hay i n room =
     let front = map test (chunk i 16 hay) in
     let back = map test (chunk (i + 16) n hay) in
     let long : length front ≡ 16 = length-map (chunk i 16 hay) test ∙ length-chunk i 16 hay room in
-    ap (λ (l : List ℕ). mask_l (map test l)) (chunk_append i 16 n hay)
+    ap (λ l. mask_l (map test l)) (chunk_append i 16 n hay)
     ∙ ap mask_l (map-append test (chunk i 16 hay) (chunk (i + 16) n hay))
     ∙ mask_append front back
-    ∙ ap (λ (k : ℕ). mask_l front + 2 ^ k * mask_l back) long
+    ∙ ap (λ k. mask_l front + 2 ^ k * mask_l back) long
 
 mask_16_lt : (test : ℕ → Bool) (hay : List ℕ) (i : ℕ) → i + 16 ≤ length hay → mask_l (map test (chunk i 16 hay)) < 65536
 mask_16_lt test hay i room =
     let flags = map test (chunk i 16 hay) in
-    subst (λ (n : ℕ). mask_l flags < 2 ^ n) (length-map (chunk i 16 hay) test ∙ length-chunk i 16 hay room) (mask_l-lt flags)
+    subst (λ n. mask_l flags < 2 ^ n) (length-map (chunk i 16 hay) test ∙ length-chunk i 16 hay room)
+    (mask_l-lt flags)
 
 -- three masks of 16 bytes make one of 48
-pub mask_48 : (test : ℕ → Bool) (hay : List ℕ) (i a b c : ℕ) → i + 48 ≤ length hay → a ≡ mask_l (map test (chunk i 16 hay))
-    → b ≡ mask_l (map test (chunk (i + 16) 16 hay)) → c ≡ mask_l (map test (chunk (i + 32) 16 hay))
-    → bit_or (bit_or a (b * 65536 % 18446744073709551616)) (c * 4294967296 % 18446744073709551616) ≡ mask_l (map test (chunk i 48 hay))
+pub mask_48 : (test : ℕ → Bool) (hay : List ℕ) (i a b c : ℕ) → i + 48 ≤ length hay
+    → a ≡ mask_l (map test (chunk i 16 hay)) → b ≡ mask_l (map test (chunk (i + 16) 16 hay))
+    → c ≡ mask_l (map test (chunk (i + 32) 16 hay))
+    → bit_or (bit_or a (b * 65536 % 18446744073709551616)) (c * 4294967296 % 18446744073709551616)
+    ≡ mask_l (map test (chunk i 48 hay))
 mask_48 test hay i a b c room first second third =
     let low : a < 65536 = omega (arith, first, mask_16_lt test hay i (omega (arith, room))) in
     let mid : b < 65536 = omega (arith, second, mask_16_lt test hay (i + 16) (omega (arith, room))) in
     let high : c < 65536 = omega (arith, third, mask_16_lt test hay (i + 32) (omega (arith, room))) in
-    let two : bit_or a (b * 65536 % 18446744073709551616) ≡ b * 65536 + a = or_before_shift a b 65536 18446744073709551616 refl low (omega (arith, mid)) in
-    let three = or_before_shift (bit_or a (b * 65536 % 18446744073709551616)) c 4294967296 18446744073709551616 refl (omega (arith, two, low, mid)) (omega (arith, high)) in
+    let two : bit_or a (b * 65536 % 18446744073709551616) ≡ b * 65536 + a =
+    or_before_shift a b 65536 18446744073709551616 refl low (omega (arith, mid)) in
+    let three = or_before_shift (bit_or a (b * 65536 % 18446744073709551616)) c 4294967296 18446744073709551616 refl
+    (omega (arith, two, low, mid)) (omega (arith, high)) in
     let mask : ℕ → ℕ → ℕ = λ k n. mask_l (map test (chunk k n hay)) in
     let all : mask i 48 ≡ mask i 16 + 65536 * mask (i + 16) 32 = mask_16_append test hay i 32 (omega (arith, room)) in
-    let rest : mask (i + 16) 32 ≡ mask (i + 16) 16 + 65536 * mask (i + 16 + 16) 16 = mask_16_append test hay (i + 16) 16 (omega (arith, room)) in
+    let rest : mask (i + 16) 32 ≡ mask (i + 16) 16 + 65536 * mask (i + 16 + 16) 16 =
+    mask_16_append test hay (i + 16) 16 (omega (arith, room)) in
     let place : i + 16 + 16 ≡ i + 32 = omega arith in
-    let last : mask (i + 16 + 16) 16 ≡ mask (i + 32) 16 = ap (λ (k : ℕ). mask k 16) place in
+    let last : mask (i + 16 + 16) 16 ≡ mask (i + 32) 16 = ap (λ k. mask k 16) place in
     let sum : b * 65536 + a + c * 4294967296 ≡ mask i 48 = omega (arith, all, rest, last, first, second, third) in
     omega (arith, two, three, sum)
 
 -- The first match among 64 bytes: by the mask of the first 16 if that is not zero, otherwise by the mask of all.
 
 module _ (test : ℕ → Bool) (hay : List ℕ) where
-  first_from_start : (n m : ℕ) → n ≤ 64 → n ≤ length hay → m ≡ mask_l (map test (chunk 0 n hay)) → (m ≡ 0 → ⊥) → IsFirst (Passes test hay) 0 n (Some (count_trailing_zeros 64 m))
+  first_from_start : (n m : ℕ) → n ≤ 64 → n ≤ length hay → m ≡ mask_l (map test (chunk 0 n hay)) → (m ≡ 0 → ⊥)
+      → IsFirst (Passes test hay) 0 n (Some (count_trailing_zeros 64 m))
   first_from_start n m few room is some =
       let at : 0 + count_trailing_zeros 64 m ≡ count_trailing_zeros 64 m = omega arith in
       let end : 0 + n ≡ n = omega arith in
-      subst (λ (k : ℕ). IsFirst (Passes test hay) 0 n (Some k)) at
-      (subst (λ (k : ℕ). IsFirst (Passes test hay) 0 k (Some (0 + count_trailing_zeros 64 m))) end (first_at_lowest_bit test hay 0 n m few (omega (arith, room)) is some))
+      subst (λ k. IsFirst (Passes test hay) 0 n (Some k)) at
+      (subst (λ k. IsFirst (Passes test hay) 0 k (Some (0 + count_trailing_zeros 64 m))) end
+      (first_at_lowest_bit test hay 0 n m few (omega (arith, room)) is some))
 
-  pub first_of_mask_64 : (m : ℕ) → 64 ≤ length hay → m ≡ mask_l (map test (chunk 0 64 hay)) → (m ≡ 0 → ⊥) → IsFirst (Passes test hay) 0 64 (Some (count_trailing_zeros 64 m))
+  pub first_of_mask_64 : (m : ℕ) → 64 ≤ length hay → m ≡ mask_l (map test (chunk 0 64 hay)) → (m ≡ 0 → ⊥)
+      → IsFirst (Passes test hay) 0 64 (Some (count_trailing_zeros 64 m))
   first_of_mask_64 m room is some = first_from_start 64 m (omega arith) room is some
 
-  pub first_of_mask_16 : (m : ℕ) → 64 ≤ length hay → m ≡ mask_l (map test (chunk 0 16 hay)) → (m ≡ 0 → ⊥) → IsFirst (Passes test hay) 0 64 (Some (count_trailing_zeros 64 m))
+  pub first_of_mask_16 : (m : ℕ) → 64 ≤ length hay → m ≡ mask_l (map test (chunk 0 16 hay)) → (m ≡ 0 → ⊥)
+      → IsFirst (Passes test hay) 0 64 (Some (count_trailing_zeros 64 m))
   first_of_mask_16 m room is some =
-      let first = first_from_start 16 m (omega arith) (omega (arith, room)) is some in
-      (record { low = omega arith; high = omega (arith, first.0.high); before = first.0.before }, first.1)
+      let (first, found) = first_from_start 16 m (omega arith) (omega (arith, room)) is some in
+      (record { low = omega arith; high = omega (arith, first.high); before = first.before }, found)
 
-  pub mask_64 : (near far : ℕ) → 64 ≤ length hay → near ≡ mask_l (map test (chunk 0 16 hay)) → near ≡ 0 → far ≡ mask_l (map test (chunk 16 48 hay))
+  pub mask_64 : (near far : ℕ) → 64 ≤ length hay → near ≡ mask_l (map test (chunk 0 16 hay)) → near ≡ 0
+      → far ≡ mask_l (map test (chunk 16 48 hay))
       → far * 65536 % 18446744073709551616 ≡ mask_l (map test (chunk 0 64 hay))
   mask_64 near far room is none rest =
-      let all : mask_l (map test (chunk 0 64 hay)) ≡ mask_l (map test (chunk 0 16 hay)) + 65536 * mask_l (map test (chunk 16 48 hay)) = mask_16_append test hay 0 48 (omega (arith, room)) in
+      let all : mask_l (map test (chunk 0 64 hay)) ≡ mask_l (map test (chunk 0 16 hay))
+      + 65536 * mask_l (map test (chunk 16 48 hay)) = mask_16_append test hay 0 48 (omega (arith, room)) in
       let flags = map test (chunk 16 48 hay) in
-      let few : far < 2 ^ 48 = subst (λ (m : ℕ). m < 2 ^ 48) (sym rest)
-      (subst (λ (n : ℕ). mask_l flags < 2 ^ n) (length-map (chunk 16 48 hay) test ∙ length-chunk 16 48 hay (omega (arith, room))) (mask_l-lt flags)) in
+      let few : far < 2 ^ 48 = subst (λ m. m < 2 ^ 48) (sym rest)
+      (subst (λ n. mask_l flags < 2 ^ n)
+      (length-map (chunk 16 48 hay) test ∙ length-chunk 16 48 hay (omega (arith, room))) (mask_l-lt flags)) in
       omega (arith, all, is, none, rest, few)

@@ -21,10 +21,15 @@ unfolding first_length
 first_le_max_length [] = omega arith
 first_le_max_length (line ∷ ls) = omega arith
 
-first_piece : (end : ℕ) (piece rest : List ℕ) → IsLine end piece → length piece ≤ first_length (lines end (piece ++ rest))
+first_piece : (end : ℕ) (piece rest : List ℕ) → IsLine end piece
+    → length piece ≤ first_length (lines end (piece ++ rest))
 first_piece end [] rest free = omega arith
-first_piece end (b ∷ piece) rest free = rw (byte_ne end b free.0) (omega (arith, first_onto b (lines end (piece ++ rest)), first_piece end piece rest free.1))
+first_piece end (b ∷ piece) rest (differs, free) =
+    rw (byte_ne end b differs)
+    (omega (arith, first_onto b (lines end (piece ++ rest)), first_piece end piece rest free))
 
 -- a prefix of a line is no longer than the longest line
-pub piece_le_max_length : (end : ℕ) (piece rest : List ℕ) → IsLine end piece → length piece ≤ max_length (lines end (piece ++ rest))
-piece_le_max_length end piece rest free = omega (arith, first_piece end piece rest free, first_le_max_length (lines end (piece ++ rest)))
+pub piece_le_max_length : (end : ℕ) (piece rest : List ℕ) → IsLine end piece
+    → length piece ≤ max_length (lines end (piece ++ rest))
+piece_le_max_length end piece rest free =
+    omega (arith, first_piece end piece rest free, first_le_max_length (lines end (piece ++ rest)))

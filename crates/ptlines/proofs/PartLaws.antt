@@ -2,15 +2,17 @@
 -- parts.
 use Rattle.ptlines.proofs.Common.{◌≡◌, ⊎_elim, ℕ, List, ◌++◌, sym, ◌∙◌, ap, unlines, lines}
 use Rattle.ptlines.specs.Parts.{HasOnlyCompleteLines, LinesOfParts}
-use Rattle.ptlines.proofs.TextLaws.{lines_of_unlines, the_lines}
+use Rattle.ptlines.proofs.TextLaws.{lines_are, lines_of_unlines, unlines-lines}
 
 -- a text that has only complete lines is the text of its lines
-pub unlines_of_complete : (end : ℕ) (bytes : List ℕ) → HasOnlyCompleteLines end bytes → unlines end (lines end bytes) ≡ bytes
+pub unlines_of_complete : (end : ℕ) (bytes : List ℕ) → HasOnlyCompleteLines end bytes
+    → unlines end (lines end bytes) ≡ bytes
 unlines_of_complete end bytes whole = ⊎_elim
-    (λ none. ap (λ (l : List ℕ). unlines end (lines end l)) none ∙ sym none)
-    (λ ends. ⊎_elim (λ same. same) (λ other. absurd (other.1 ends)) (the_lines end bytes).0.1)
+    (λ none. ap (λ l. unlines end (lines end l)) none ∙ sym none)
+    (λ ends. ⊎_elim (λ same. same) (λ (_, unended, _). absurd (unended ends)) (unlines-lines end bytes))
     whole
 
 pub the_lines_of_parts : LinesOfParts
 the_lines_of_parts end a b whole =
-    ap (λ (l : List ℕ). lines end (l ++ b)) (sym (unlines_of_complete end a whole)) ∙ lines_of_unlines end (lines end a) b (the_lines end a).0.0
+    ap (λ l. lines end (l ++ b)) (sym (unlines_of_complete end a whole))
+    ∙ lines_of_unlines end (lines end a) b (lines_are end a)

@@ -1,7 +1,9 @@
 -- The effects of pushes compose: two pushes are one push of the concatenation, and after a failed write nothing changes
 -- any more.
-use Rattle.ptlines.proofs.Common.{◌≡◌, ◌+◌, ◌≤◌, ℕ, true, false, List, [], ◌++◌, Option, length, refl, sym, ◌∙◌, ap, subst, arith, append_assoc, length-append, Result, Ok, Err, OnOk, OnErr}
-use Rattle.ptlines.proofs.Common.{false≢true, append-nil, append_known, Output, with_buffered, with_written_out, with_direct_write, IsKnownPrefix, PushEffect, PushPost, OutputErr}
+use Rattle.ptlines.proofs.Common.{◌≡◌, ◌+◌, ◌≤◌, ℕ, true, false, List, [], ◌++◌, Option, length, refl, sym, ◌∙◌, ap}
+use Rattle.ptlines.proofs.Common.{subst, arith, append_assoc, length-append, Result, Ok, Err, OnOk, OnErr, false≢true}
+use Rattle.ptlines.proofs.Common.{append-nil, append_known, Output, with_buffered, with_written_out, with_direct_write}
+use Rattle.ptlines.proofs.Common.{IsKnownPrefix, PushEffect, PushPost, OutputErr}
 use Rattle.ptlines.specs.declared.out.WriteFault.{WriteFault}
 use Rattle.ptlines.specs.Outputs.{output_bytes}
 use Rattle.ptlines.proofs.KnownBytes.{append_known-append, append_known-nil}
@@ -18,7 +20,8 @@ known_prefix_trans {a} p q = record {
   is = q.is ∙ ap (λ t. append_known t q.front) p.is ∙ append_known-append a p.front q.front;
 }
 
-known_prefix_append : {a b : Option (List ℕ)} (bytes : List ℕ) → IsKnownPrefix a b → IsKnownPrefix a (append_known b bytes)
+known_prefix_append : {a b : Option (List ℕ)} (bytes : List ℕ) → IsKnownPrefix a b
+    → IsKnownPrefix a (append_known b bytes)
 known_prefix_append {a} {b} bytes p = known_prefix_trans p (known_prefix_by b bytes)
 
 -- a push of nothing
@@ -33,10 +36,12 @@ push_nothing o = record {
 }
 
 -- after a failed write nothing more is written
-pub push_past_failure : (a b : Output) (xs ys : List ℕ) → b.write_failed ≡ true → PushEffect a b xs → PushEffect a b (xs ++ ys)
+pub push_past_failure : (a b : Output) (xs ys : List ℕ) → b.write_failed ≡ true → PushEffect a b xs
+    → PushEffect a b (xs ++ ys)
 push_past_failure a b xs ys fault w = record {
   kept = w.kept;
-  beginning = subst (λ t. IsKnownPrefix (output_bytes b) t) (append_known-append (output_bytes a) xs ys) (known_prefix_append ys w.beginning);
+  beginning = subst (λ t. IsKnownPrefix (output_bytes b) t) (append_known-append (output_bytes a) xs ys)
+      (known_prefix_append ys w.beginning);
   whole = λ clean. absurd (false≢true (sym clean ∙ fault));
   stays = w.stays;
   buffered = w.buffered;
@@ -47,23 +52,27 @@ pub push_after_failure : (o : Output) (bytes : List ℕ) → o.write_failed ≡ 
 push_after_failure o bytes fault = push_past_failure o o [] bytes fault (push_nothing o)
 
 -- two pushes in sequence
-pub push_trans : (a b c : Output) (xs ys : List ℕ) → b.write_failed ≡ false → PushEffect a b xs → PushEffect b c ys → PushEffect a c (xs ++ ys)
+pub push_trans : (a b c : Output) (xs ys : List ℕ) → b.write_failed ≡ false → PushEffect a b xs → PushEffect b c ys
+    → PushEffect a c (xs ++ ys)
 push_trans a b c xs ys clean p q =
-    let joined : append_known (output_bytes b) ys ≡ append_known (output_bytes a) (xs ++ ys) = ap (λ t. append_known t ys) (p.whole clean) ∙ append_known-append (output_bytes a) xs ys in
+    let joined : append_known (output_bytes b) ys ≡ append_known (output_bytes a) (xs ++ ys) =
+    ap (λ t. append_known t ys) (p.whole clean) ∙ append_known-append (output_bytes a) xs ys in
     record {
       kept = known_prefix_trans p.kept q.kept;
       beginning = subst (λ t. IsKnownPrefix (output_bytes c) t) joined q.beginning;
       whole = λ still. q.whole still ∙ joined;
-      stays = λ fault. absurd (false≢true (sym clean ∙ ap (λ (o : Output). o.write_failed) (p.stays fault) ∙ fault));
+      stays = λ fault. absurd (false≢true (sym clean ∙ ap (λ o. o.write_failed) (p.stays fault) ∙ fault));
       buffered = omega (arith, p.buffered, q.buffered);
       flushes = q.flushes ∙ p.flushes;
     }
 
 -- the bytes fit into the block
-pub push_buffered : (old new : Output) (bytes : List ℕ) → old.write_failed ≡ false → length old.buffered + length bytes ≤ 8192 → new ≡ with_buffered old bytes → PushEffect old new bytes
+pub push_buffered : (old new : Output) (bytes : List ℕ) → old.write_failed ≡ false
+    → length old.buffered + length bytes ≤ 8192 → new ≡ with_buffered old bytes → PushEffect old new bytes
 push_buffered old new bytes clean room is = subst (λ o. PushEffect old o bytes) (sym is) (record {
   kept = known_prefix_refl old.accepted;
-  beginning = subst (λ t. IsKnownPrefix t (append_known (output_bytes old) bytes)) (append_known-append old.accepted old.buffered bytes) (known_prefix_refl (append_known (output_bytes old) bytes));
+  beginning = subst (λ t. IsKnownPrefix t (append_known (output_bytes old) bytes))
+      (append_known-append old.accepted old.buffered bytes) (known_prefix_refl (append_known (output_bytes old) bytes));
   whole = λ _. sym (append_known-append old.accepted old.buffered bytes);
   stays = λ fault. absurd (false≢true (sym clean ∙ fault));
   buffered = omega (arith, room, length-append old.buffered bytes);
@@ -71,7 +80,8 @@ push_buffered old new bytes clean room is = subst (λ o. PushEffect old o bytes)
 })
 
 -- the block was written to the sink
-pub push_written_out : (old new : Output) → old.write_failed ≡ false → new ≡ with_written_out old → PushEffect old new []
+pub push_written_out : (old new : Output) → old.write_failed ≡ false → new ≡ with_written_out old
+    → PushEffect old new []
 push_written_out old new clean is = subst (λ o. PushEffect old o []) (sym is) (record {
   kept = known_prefix_by old.accepted old.buffered;
   beginning = known_prefix_refl (append_known (output_bytes old) []);
@@ -82,14 +92,18 @@ push_written_out old new clean is = subst (λ o. PushEffect old o []) (sym is) (
 })
 
 -- the bytes were written directly to the sink, with an empty block
-pub push_direct : (old new : Output) (bytes : List ℕ) → old.write_failed ≡ false → old.buffered ≡ [] → new ≡ with_direct_write old bytes → PushEffect old new bytes
+pub push_direct : (old new : Output) (bytes : List ℕ) → old.write_failed ≡ false → old.buffered ≡ []
+    → new ≡ with_direct_write old bytes → PushEffect old new bytes
 push_direct old new bytes clean empty is =
-    let text_old : output_bytes old ≡ old.accepted = ap (λ s. append_known old.accepted s) empty ∙ append_known-nil old.accepted in
+    let text_old : output_bytes old ≡ old.accepted = ap (λ s. append_known old.accepted s) empty
+    ∙ append_known-nil old.accepted in
     let text_new : append_known (append_known old.accepted bytes) old.buffered ≡ append_known (output_bytes old) bytes =
-    ap (λ s. append_known (append_known old.accepted bytes) s) empty ∙ append_known-nil (append_known old.accepted bytes) ∙ ap (λ t. append_known t bytes) (sym text_old) in
+    ap (λ s. append_known (append_known old.accepted bytes) s) empty
+    ∙ append_known-nil (append_known old.accepted bytes) ∙ ap (λ t. append_known t bytes) (sym text_old) in
     subst (λ o. PushEffect old o bytes) (sym is) (record {
       kept = known_prefix_by old.accepted bytes;
-      beginning = subst (λ t. IsKnownPrefix t (append_known (output_bytes old) bytes)) (sym text_new) (known_prefix_refl (append_known (output_bytes old) bytes));
+      beginning = subst (λ t. IsKnownPrefix t (append_known (output_bytes old) bytes)) (sym text_new)
+          (known_prefix_refl (append_known (output_bytes old) bytes));
       whole = λ _. text_new;
       stays = λ fault. absurd (false≢true (sym clean ∙ fault));
       buffered = omega arith;
@@ -97,7 +111,8 @@ push_direct old new bytes clean empty is =
     })
 
 -- a write failed while the block, and then some of the bytes, were written
-pub push_broken : (old new : Output) (written_out bytes more : List ℕ) → old.write_failed ≡ false → old.buffered ++ bytes ≡ written_out ++ more → OutputErr old new written_out → PushEffect old new bytes
+pub push_broken : (old new : Output) (written_out bytes more : List ℕ) → old.write_failed ≡ false
+    → old.buffered ++ bytes ≡ written_out ++ more → OutputErr old new written_out → PushEffect old new bytes
 push_broken old new written_out bytes more clean is b =
     let text_new : output_bytes new ≡ append_known old.accepted b.front =
     ap (λ s. append_known new.accepted s) b.buffered ∙ append_known-nil new.accepted ∙ b.accepted in
@@ -116,10 +131,12 @@ push_broken old new written_out bytes more clean is b =
     }
 
 -- the result of a direct write with an empty block
-pub push_large : (old new : Output) (bytes : List ℕ) (r : Result (Unit {0}) WriteFault) → old.write_failed ≡ false → old.buffered ≡ []
-    → OnOk r (new ≡ with_direct_write old bytes) → OnErr r (OutputErr old new bytes) → PushEffect old new bytes
+pub push_large : (old new : Output) (bytes : List ℕ) (r : Result (Unit {0}) WriteFault) → old.write_failed ≡ false
+    → old.buffered ≡ [] → OnOk r (new ≡ with_direct_write old bytes) → OnErr r (OutputErr old new bytes)
+    → PushEffect old new bytes
 push_large old new bytes (Ok u) clean empty ok err = push_direct old new bytes clean empty ok
-push_large old new bytes (Err e) clean empty ok err = push_broken old new bytes bytes [] clean (ap (λ s. s ++ bytes) empty ∙ sym (append-nil bytes)) err
+push_large old new bytes (Err e) clean empty ok err =
+    push_broken old new bytes bytes [] clean (ap (λ s. s ++ bytes) empty ∙ sym (append-nil bytes)) err
 
 -- the sink was flushed; except for the count of flushes that is a push of nothing
 push_flush_ok : (old : Output) → old.write_failed ≡ false → PushEffect old (record old { unflushed = false }) []
@@ -138,5 +155,7 @@ push_flush old new (Ok u) clean empty ok err = subst (λ o. PushEffect old o [])
 push_flush old new (Err e) clean empty ok err = push_broken old new [] [] [] clean (ap (λ s. s ++ []) empty) err
 
 -- a push after others, with its result
-pub push_post_trans : {E : Type 0} (a b c : Output) (xs ys : List ℕ) (r : Result (Unit {0}) E) → b.write_failed ≡ false → PushEffect a b xs → PushPost b c ys r → PushPost a c (xs ++ ys) r
-push_post_trans a b c xs ys r clean p q = record { wrote = push_trans a b c xs ys clean p q.wrote; clean = q.clean; fault = q.fault }
+pub push_post_trans : {E : Type 0} (a b c : Output) (xs ys : List ℕ) (r : Result (Unit {0}) E) → b.write_failed ≡ false
+    → PushEffect a b xs → PushPost b c ys r → PushPost a c (xs ++ ys) r
+push_post_trans a b c xs ys r clean p q =
+    record { wrote = push_trans a b c xs ys clean p q.wrote; clean = q.clean; fault = q.fault }

@@ -1,25 +1,32 @@
 -- A line is read piece by piece: the pieces put together are the line, and what was consumed in several calls is the
 -- concatenation of what each consumed. A line whose terminator is among the next 64 bytes is copied at once.
-use Rattle.ptlines.proofs.Common.{◌≡◌, ℕ, ◌+◌, ◌-◌, ◌^◌, ◌<◌, ◌≤◌, None, Some, get_or, take, drop, Bool, List, [], ◌∷◌, ◌++◌, Option, length, set, max, refl, sym, ◌∙◌, ap, subst, arith, append_assoc}
-use Rattle.ptlines.proofs.Common.{length-append, nat_tests, append-nil, set-set, get_or-set_same, take-take, get_or-take, prepend_known, Slots, line, total_bytes, with_line, false}
-use Rattle.ptlines.proofs.Common.{not, ◌==◌, inl, inr, Ok, IsLine, Reader, remaining_bytes, ReaderAdvance, AdvanceOk, IsDone, budget, PiecePartial, PieceLine, FillLine, FillPost}
-use Rattle.ptlines.proofs.Common.{IsAppended, IsFirst, IsFirstByte, Passes, is_byte, slice_range}
+use Rattle.ptlines.proofs.Common.{◌≡◌, ℕ, ◌+◌, ◌-◌, ◌^◌, ◌<◌, ◌≤◌, None, Some, get_or, take, drop, Bool, List, [], ◌∷◌}
+use Rattle.ptlines.proofs.Common.{◌++◌, length, set, max, refl, sym, ◌∙◌, ap, subst, arith, append_assoc}
+use Rattle.ptlines.proofs.Common.{length-append, nat_tests, append-nil, set-set, get_or-set_same, take-take}
+use Rattle.ptlines.proofs.Common.{get_or-take, prepend_known, Slots, line, total_bytes, with_line, false, not, ◌==◌}
+use Rattle.ptlines.proofs.Common.{inl, inr, Ok, IsLine, Reader, remaining_bytes, ReaderAdvance, AdvanceOk, IsDone}
+use Rattle.ptlines.proofs.Common.{budget, PiecePartial, PieceLine, FillLine, FillPost, IsAppended, IsFirst, IsFirstByte}
+use Rattle.ptlines.proofs.Common.{Passes, is_byte, slice_range}
 use Rattle.ptlines.proofs.KnownBytes.{prepend_known-append}
 use Rattle.ptlines.proofs.SlotTotals.{total_bytes_set}
 use Rattle.ptlines.proofs.LineSearch.{IsLine-append, line_before_terminator, take_with_terminator, advance_ok_take}
 use Rattle.ptlines.proofs.Consume.{length_range, rest_of_range}
 
-pub advance_trans : (a b c : Reader) (xs ys : List ℕ) → ReaderAdvance a b xs → ReaderAdvance b c ys → ReaderAdvance a c (xs ++ ys)
+pub advance_trans : (a b c : Reader) (xs ys : List ℕ) → ReaderAdvance a b xs → ReaderAdvance b c ys
+    → ReaderAdvance a c (xs ++ ys)
 advance_trans a b c xs ys p q = record {
-  moved = p.moved ∙ ap (λ (t : Option (List ℕ)). prepend_known xs t) q.moved ∙ prepend_known-append xs ys (remaining_bytes c);
+  moved = p.moved ∙ ap (λ t. prepend_known xs t) q.moved
+      ∙ prepend_known-append xs ys (remaining_bytes c);
   terminator = q.terminator ∙ p.terminator;
   count = omega (arith, p.count, q.count, length-append xs ys);
   refused = q.refused ∙ p.refused;
-  still = λ eof. let first = p.still eof in let second = q.still first.1 in (second.0 ∙ first.0, second.1);
+  still = λ eof. let (pulled, still_eof) = p.still eof in let (pulled_more, at_eof) = q.still still_eof in
+      (pulled_more ∙ pulled, at_eof);
   end = λ h. q.end (p.end h);
 }
 
-pub advance_ok_trans : (a b c : Reader) (xs ys : List ℕ) → AdvanceOk a b xs → AdvanceOk b c ys → AdvanceOk a c (xs ++ ys)
+pub advance_ok_trans : (a b c : Reader) (xs ys : List ℕ) → AdvanceOk a b xs → AdvanceOk b c ys
+    → AdvanceOk a c (xs ++ ys)
 advance_ok_trans a b c xs ys p q = record {
   reads = advance_trans a b c xs ys p.reads q.reads;
   fault = q.fault;
@@ -32,8 +39,8 @@ module _ (old now new : Reader) (before after : Slots) (slot : ℕ) (first : Adv
   pub partial_after_refill : PiecePartial now new before after slot → PiecePartial old new before after slot
   partial_after_refill p = record {
     piece = p.piece;
-    advance_ok = advance_ok_trans old now new [] p.piece first p.advance_ok;
-    whole = subst (λ (end : ℕ). IsLine end p.piece) first.reads.terminator p.whole;
+    advance_ok = advance_ok_trans _ _ _ _ _ first p.advance_ok;
+    whole = subst (λ end. IsLine end p.piece) first.reads.terminator p.whole;
     some = p.some;
     empty = p.empty;
     appended = p.appended;
@@ -42,26 +49,34 @@ module _ (old now new : Reader) (before after : Slots) (slot : ℕ) (first : Adv
   pub line_after_refill : PieceLine now new before after slot → PieceLine old new before after slot
   line_after_refill e = record {
     piece = e.piece;
-    advance_ok = subst (λ (end : ℕ). AdvanceOk old new (e.piece ++ end ∷ [])) first.reads.terminator (advance_ok_trans old now new [] (e.piece ++ now.terminator ∷ []) first e.advance_ok);
-    whole = subst (λ (end : ℕ). IsLine end e.piece) first.reads.terminator e.whole;
+    advance_ok = subst (λ end. AdvanceOk old new (e.piece ++ end ∷ [])) first.reads.terminator
+        (advance_ok_trans _ _ _ _ _ first e.advance_ok);
+    whole = subst (λ end. IsLine end e.piece) first.reads.terminator e.whole;
     appended = e.appended;
   }
 
 -- setting a slot twice, the second time to a longer line, is the same as setting it once to that line
-pub with_line_twice : (s : Slots) (slot : ℕ) (xs ys : List ℕ) → slot < length s.lines → length xs ≤ length ys → with_line (with_line s slot xs) slot ys ≡ with_line s slot ys
+pub with_line_twice : (s : Slots) (slot : ℕ) (xs ys : List ℕ) → slot < length s.lines → length xs ≤ length ys
+    → with_line (with_line s slot xs) slot ys ≡ with_line s slot ys
 with_line_twice s slot xs ys within longer =
     let same = set-set s.lines slot xs ys in
-    let appended : total_bytes (set s.lines slot xs) ≤ total_bytes (set s.lines slot ys) = omega (arith, total_bytes_set s.lines slot xs within, total_bytes_set s.lines slot ys within) in
-    let peak : max (max s.peak (total_bytes (set s.lines slot xs))) (total_bytes (set (set s.lines slot xs) slot ys)) ≡ max s.peak (total_bytes (set s.lines slot ys)) =
-    ap (λ (l : List (List ℕ)). max (max s.peak (total_bytes (set s.lines slot xs))) (total_bytes l)) same ∙ (omega arith) in
+    let appended : total_bytes (set s.lines slot xs) ≤ total_bytes (set s.lines slot ys) =
+    omega (arith, total_bytes_set s.lines slot xs within, total_bytes_set s.lines slot ys within) in
+    let peak : max (max s.peak (total_bytes (set s.lines slot xs))) (total_bytes (set (set s.lines slot xs) slot ys))
+    ≡ max s.peak (total_bytes (set s.lines slot ys)) =
+    ap (λ l. max (max s.peak (total_bytes (set s.lines slot xs))) (total_bytes l)) same
+    ∙ (omega arith) in
     λ i. record { lines = same i; peak = peak i; denied = s.denied }
 
-pub line_of_with_line : (s : Slots) (slot : ℕ) (xs : List ℕ) → slot < length s.lines → line (with_line s slot xs) slot ≡ xs
+pub line_of_with_line : (s : Slots) (slot : ℕ) (xs : List ℕ) → slot < length s.lines
+    → line (with_line s slot xs) slot ≡ xs
 line_of_with_line s slot xs within = get_or-set_same s.lines slot xs [] within
 
-pub appended_twice : (s t u : Slots) (slot : ℕ) (xs ys : List ℕ) → slot < length s.lines → t ≡ with_line s slot xs → IsAppended t u slot ys → u ≡ with_line s slot (xs ++ ys)
+pub appended_twice : (s t u : Slots) (slot : ℕ) (xs ys : List ℕ) → slot < length s.lines → t ≡ with_line s slot xs
+    → IsAppended t u slot ys → u ≡ with_line s slot (xs ++ ys)
 appended_twice s t u slot xs ys within is appended =
-    appended ∙ ap (λ (v : Slots). with_line v slot (line v slot ++ ys)) is ∙ ap (λ (l : List ℕ). with_line (with_line s slot xs) slot (l ++ ys)) (line_of_with_line s slot xs within)
+    appended ∙ ap (λ v. with_line v slot (line v slot ++ ys)) is
+    ∙ ap (λ l. with_line (with_line s slot xs) slot (l ++ ys)) (line_of_with_line s slot xs within)
     ∙ with_line_twice s slot xs (xs ++ ys) within (omega (arith, length-append xs ys))
 
 -- The bytes consumed since `old` are a prefix of one line, and the slot holds them.
@@ -71,28 +86,33 @@ pub record LineSoFar (old now : Reader) (before so_far : Slots) (slot : ℕ) : T
   pub whole : IsLine old.terminator piece
   pub stored : so_far ≡ with_line before slot piece
 
-pub line_so_far_partial : (old now new : Reader) (before so_far after : Slots) (slot : ℕ) → slot < length before.lines → LineSoFar old now before so_far slot
-    → PiecePartial now new so_far after slot → LineSoFar old new before after slot
+pub line_so_far_partial : (old now new : Reader) (before so_far after : Slots) (slot : ℕ) → slot < length before.lines
+    → LineSoFar old now before so_far slot → PiecePartial now new so_far after slot
+    → LineSoFar old new before after slot
 line_so_far_partial old now new before so_far after slot within f p = record {
   piece = f.piece ++ p.piece;
-  advance_ok = advance_ok_trans old now new f.piece p.piece f.advance_ok p.advance_ok;
-  whole = IsLine-append old.terminator f.piece p.piece f.whole (subst (λ (end : ℕ). IsLine end p.piece) f.advance_ok.reads.terminator p.whole);
+  advance_ok = advance_ok_trans _ _ _ _ _ f.advance_ok p.advance_ok;
+  whole = IsLine-append old.terminator f.piece p.piece f.whole
+      (subst (λ end. IsLine end p.piece) f.advance_ok.reads.terminator p.whole);
   stored = appended_twice before so_far after slot f.piece p.piece within f.stored p.appended;
 }
 
-budget_decreases : (old new : Reader) (bytes : List ℕ) → AdvanceOk old new bytes → 0 < length bytes → old.pulled < 2 ^ 63 → budget new < budget old
+budget_decreases : (old new : Reader) (bytes : List ℕ) → AdvanceOk old new bytes → 0 < length bytes
+    → old.pulled < 2 ^ 63 → budget new < budget old
 budget_decreases old new bytes advance_ok some short =
     let new_short : new.pulled < 2 ^ 63 = advance_ok.short short in
     omega (arith, advance_ok.reads.count)
 
-pub fill_line : (old now new : Reader) (before so_far after : Slots) (slot : ℕ) → slot < length before.lines → old.pulled < 2 ^ 63
-    → LineSoFar old now before so_far slot → PieceLine now new so_far after slot → FillLine old new before after slot
+pub fill_line : (old now new : Reader) (before so_far after : Slots) (slot : ℕ) → slot < length before.lines
+    → old.pulled < 2 ^ 63 → LineSoFar old now before so_far slot → PieceLine now new so_far after slot
+    → FillLine old new before after slot
 fill_line old now new before so_far after slot within short f e = record {
-  less = budget_decreases old new ((f.piece ++ e.piece) ++ old.terminator ∷ []) all (omega (arith, length-append (f.piece ++ e.piece) (old.terminator ∷ []))) short;
+  less = budget_decreases _ _ _ all
+      (omega (arith, length-append (f.piece ++ e.piece) (old.terminator ∷ []))) short;
   line = f.piece ++ e.piece;
   terminator = old.terminator ∷ [];
   advance_ok = all;
-  whole = IsLine-append old.terminator f.piece e.piece f.whole (subst (λ (end : ℕ). IsLine end e.piece) same e.whole);
+  whole = IsLine-append old.terminator f.piece e.piece f.whole (subst (λ end. IsLine end e.piece) same e.whole);
   ends = inl refl;
   stored = appended_twice before so_far after slot f.piece e.piece within f.stored e.appended;
 }
@@ -101,65 +121,88 @@ fill_line old now new before so_far after slot within short f e = record {
     same = f.advance_ok.reads.terminator
 
     all : AdvanceOk old new ((f.piece ++ e.piece) ++ old.terminator ∷ [])
-    all = subst (λ (b : List ℕ). AdvanceOk old new b) (ap (λ (end : ℕ). f.piece ++ (e.piece ++ end ∷ [])) same ∙ sym (append_assoc f.piece e.piece (old.terminator ∷ [])))
-        (advance_ok_trans old now new f.piece (e.piece ++ now.terminator ∷ []) f.advance_ok e.advance_ok)
+    all =
+        subst (λ b. AdvanceOk old new b)
+        (ap (λ end. f.piece ++ (e.piece ++ end ∷ [])) same
+        ∙ sym (append_assoc f.piece e.piece (old.terminator ∷ [])))
+        (advance_ok_trans _ _ _ _ _ f.advance_ok e.advance_ok)
 
 not_empty : (n : ℕ) → 0 < n → (n == 0) ≡ false
 not_empty n some = grind (arith, nat_tests)
 
-pub fill_eof : (old now new : Reader) (before so_far after : Slots) (slot : ℕ) (empty : Bool) → slot < length before.lines → old.pulled < 2 ^ 63
-    → LineSoFar old now before so_far slot → AdvanceOk now new [] → IsDone new → after ≡ so_far
-    → empty ≡ (length (line after slot) == 0) → FillPost old new before after slot (Ok (not empty))
+pub fill_eof : (old now new : Reader) (before so_far after : Slots) (slot : ℕ) (empty : Bool)
+    → slot < length before.lines → old.pulled < 2 ^ 63 → LineSoFar old now before so_far slot → AdvanceOk now new []
+    → IsDone new → after ≡ so_far → empty ≡ (length (line after slot) == 0)
+    → FillPost old new before after slot (Ok (not empty))
 fill_eof old now new before so_far after slot empty within short f advance_ok done same is =
-    let whole : AdvanceOk old new f.piece = subst (λ (b : List ℕ). AdvanceOk old new b) (append-nil f.piece) (advance_ok_trans old now new f.piece [] f.advance_ok advance_ok) in
-    let buffered : line after slot ≡ f.piece = ap (λ (s : Slots). line s slot) (same ∙ f.stored) ∙ line_of_with_line before slot f.piece within in
-    let test : empty ≡ (length f.piece == 0) = is ∙ ap (λ (l : List ℕ). length l == 0) buffered in
+    let whole : AdvanceOk old new f.piece =
+    subst (λ b. AdvanceOk old new b) (append-nil f.piece)
+    (advance_ok_trans _ _ _ _ _ f.advance_ok advance_ok) in
+    let buffered : line after slot ≡ f.piece = ap (λ s. line s slot) (same ∙ f.stored)
+    ∙ line_of_with_line before slot f.piece within in
+    let test : empty ≡ (length f.piece == 0) = is ∙ ap (λ l. length l == 0) buffered in
     by_piece f.piece whole f.whole (same ∙ f.stored) test
   where
-    by_piece : (piece : List ℕ) → AdvanceOk old new piece → IsLine old.terminator piece → after ≡ with_line before slot piece → empty ≡ (length piece == 0) → FillPost old new before after slot (Ok (not empty))
-    by_piece [] g w s t = subst (λ (b : Bool). FillPost old new before after slot (Ok (not b))) (sym t) (g, done, s)
-    by_piece (x ∷ piece) g w s t = let some : 0 < length (x ∷ piece) = omega arith in subst (λ (b : Bool). FillPost old new before after slot (Ok (not b)))
+    by_piece : (piece : List ℕ) → AdvanceOk old new piece → IsLine old.terminator piece
+        → after ≡ with_line before slot piece → empty ≡ (length piece == 0)
+        → FillPost old new before after slot (Ok (not empty))
+    by_piece [] g w s t = subst (λ b. FillPost old new before after slot (Ok (not b))) (sym t) (g, done, s)
+    by_piece (x ∷ piece) g w s t = let some : 0 < length (x ∷ piece) = omega arith in
+        subst (λ b. FillPost old new before after slot (Ok (not b)))
         (sym (t ∙ not_empty (length (x ∷ piece)) some)) (record {
           line = x ∷ piece;
           terminator = [];
-          advance_ok = subst (λ (b : List ℕ). AdvanceOk old new b) (sym (append-nil (x ∷ piece))) g;
+          advance_ok = subst (λ b. AdvanceOk old new b) (sym (append-nil (x ∷ piece))) g;
           whole = w;
           ends = inr (refl, some, done);
           stored = s;
-          less = budget_decreases old new (x ∷ piece) g some short;
+          less = budget_decreases _ _ _ g some short;
         })
 
 -- The terminator is among the first n bytes of `front`, which begins with the buffered bytes; the line before it was
 -- copied to the slot at once.
 module _ (n : ℕ) (old new : Reader) (block front : List ℕ) (start end size : ℕ) (before after : Slots) (slot : ℕ) where
   -- the terminator that was found lies within the buffered bytes
-  first_in_block : start + size < end → end - start ≤ length old.buffered → take (end - start) front ≡ old.buffered → IsFirst (Passes (is_byte old.terminator) front) 0 n (Some size)
+  first_in_block : start + size < end → end - start ≤ length old.buffered → take (end - start) front ≡ old.buffered
+      → IsFirst (Passes (is_byte old.terminator) front) 0 n (Some size)
       → IsFirstByte (is_byte old.terminator) old.buffered (Some size)
-  first_in_block high fits buffered first = (
+  first_in_block high fits buffered (none, found) = (
     record {
       low = omega arith;
       high = omega (arith, high, fits);
-      before = λ k from to passes. first.0.before k from to (sym (there k (omega (arith, to, high))) ∙ passes);
+      before = λ k from to passes. none.before k from to (sym (there k (omega (arith, to, high))) ∙ passes);
     },
-    there size (omega (arith, high)) ∙ first.1,
+    there size (omega (arith, high)) ∙ found,
   )
     where
-      there : (k : ℕ) → k < end - start → is_byte old.terminator (get_or old.buffered k 0) ≡ is_byte old.terminator (get_or front k 0)
-      there k near = ap (is_byte old.terminator) (ap (λ (l : List ℕ). get_or l k 0) (sym buffered) ∙ get_or-take (end - start) front k 0 near)
+      there : (k : ℕ) → k < end - start
+          → is_byte old.terminator (get_or old.buffered k 0) ≡ is_byte old.terminator (get_or front k 0)
+      there k near =
+          ap (is_byte old.terminator) (ap (λ l. get_or l k 0) (sym buffered)
+          ∙ get_or-take (end - start) front k 0 near)
 
-  pub fill_short_line : old.fault ≡ None → old.pulled < 2 ^ 63 → start + size < end → end ≤ length block → slice_range block start end ≡ old.buffered → take (end - start) front ≡ old.buffered
+  pub fill_short_line : old.fault ≡ None → old.pulled < 2 ^ 63 → start + size < end → end ≤ length block
+      → slice_range block start end ≡ old.buffered → take (end - start) front ≡ old.buffered
       → IsFirst (Passes (is_byte old.terminator) front) 0 n (Some size)
-      → new ≡ record old { buffered = slice_range block (start + size + 1) end } → after ≡ with_line before slot (take size front) → FillLine old new before after slot
+      → new ≡ record old { buffered = slice_range block (start + size + 1) end }
+      → after ≡ with_line before slot (take size front) → FillLine old new before after slot
   fill_short_line clean short high fits buffered is_front first step stored =
-      let long : end - start ≤ length old.buffered = omega (arith, length_range block start end (omega (arith, high)) fits, ap length buffered) in
+      let long : end - start ≤ length old.buffered =
+      omega (arith, length_range block start end (omega (arith, high)) fits, ap length buffered) in
       let found = first_in_block high long is_front first in
-      let within : size + 1 ≤ length old.buffered = omega (arith, found.0.high) in
+      let (none, _) = found in
+      let within : size + 1 ≤ length old.buffered = omega (arith, none.high) in
       let past : start + (size + 1) ≡ start + size + 1 = omega arith in
       let rest : slice_range block (start + size + 1) end ≡ drop (size + 1) old.buffered =
-      ap (λ (k : ℕ). slice_range block k end) (sym past) ∙ rest_of_range block start end (size + 1) old.buffered (omega (arith, high)) fits buffered within in
-      let moved : new ≡ record old { buffered = drop (size + 1) old.buffered } = step ∙ ap (λ (h : List ℕ). record old { buffered = h }) rest in
-      let line : take size front ≡ take size old.buffered = sym (take-take size (end - start) front (omega (arith, high))) ∙ ap (take size) is_front in
-      let advance_ok = subst (λ (b : List ℕ). AdvanceOk old new b) (take_with_terminator old.terminator old.buffered size found) (advance_ok_take old new (size + 1) clean within moved) in
+      ap (λ k. slice_range block k end) (sym past)
+      ∙ rest_of_range block start end (size + 1) old.buffered (omega (arith, high)) fits buffered within in
+      let moved : new ≡ record old { buffered = drop (size + 1) old.buffered } = step
+      ∙ ap (λ (h : List ℕ). record old { buffered = h }) rest in
+      let line : take size front ≡ take size old.buffered =
+      sym (take-take size (end - start) front (omega (arith, high))) ∙ ap (take size) is_front in
+      let advance_ok =
+      subst (λ b. AdvanceOk old new b) (take_with_terminator old.terminator old.buffered size found)
+      (advance_ok_take old new (size + 1) clean within moved) in
       record {
         line = take size old.buffered;
         terminator = old.terminator ∷ [];
@@ -167,5 +210,6 @@ module _ (n : ℕ) (old new : Reader) (block front : List ℕ) (start end size :
         whole = line_before_terminator old.terminator old.buffered size found;
         ends = inl refl;
         stored = stored ∙ ap (with_line before slot) line;
-        less = budget_decreases old new (take size old.buffered ++ old.terminator ∷ []) advance_ok (omega (arith, length-append (take size old.buffered) (old.terminator ∷ []))) short;
+        less = budget_decreases _ _ _ advance_ok
+            (omega (arith, length-append (take size old.buffered) (old.terminator ∷ []))) short;
       }

@@ -1,19 +1,24 @@
 -- The total length of the lines in a store, and the bounds of its lines and buffers, after one slot is set, added or
 -- exchanged. The total changes by the difference of the lengths of the new and the old line, and always fits 128 bits.
-use Rattle.ptlines.proofs.Common.{◌≡◌, ◌≢◌, ℕ, zero, suc, ◌+◌, ◌*◌, ◌^◌, ◌<◌, ◌≤◌, List, [], ◌∷◌, ◌++◌, length, take, drop, get_or, sym, ◌∙◌, ap, arith, set, Bool, take-append-drop, subst, refl, get_or-take, max}
-use Rattle.ptlines.proofs.Common.{get_or-drop, set-get_or, get_or-set_same, get_or-set_other, set-set, swap, length-map, map-append, Slots, LengthsAreBounded, line, total_bytes, with_line, with_denied, true}
-use Rattle.ptlines.specs.Slots.{SlotBuffer, slot_lines, AreBuffersBounded}
+use Rattle.ptlines.proofs.Common.{◌≡◌, ◌≢◌, ℕ, zero, suc, ◌+◌, ◌*◌, ◌^◌, ◌<◌, ◌≤◌, List, [], ◌∷◌, ◌++◌, length, take}
+use Rattle.ptlines.proofs.Common.{drop, get_or, sym, ◌∙◌, ap, arith, set, Bool, take-append-drop, subst, refl}
+use Rattle.ptlines.proofs.Common.{get_or-take, max, get_or-drop, set-get_or, get_or-set_same, get_or-set_other, set-set}
+use Rattle.ptlines.proofs.Common.{swap, length-map, map-append, Slots, LengthsAreBounded, line, total_bytes, with_line}
+use Rattle.ptlines.proofs.Common.{with_denied, true}
+use Rattle.ptlines.specs.Slots.{SlotBuffer, slot_lines, AreBuffersBounded, AreCounted}
 use Rattle.std.proofs.lemmas.List.{map-set, get_or-map}
 use Rattle.std.proofs.lemmas.List.Elements.{All-append, All-set, All-get_or}
 use Rattle.std.proofs.lemmas.List.Sums.{sum_by-append, sum_by-set, sum_by-le}
 use Rattle.std.proofs.lemmas.List.Sorted.{sum_by-IsPermutation, IsPermutation-swap}
 
 -- the total after one line is set
-pub total_bytes_set : (lines : List (List ℕ)) (slot : ℕ) (bytes : List ℕ) → slot < length lines → total_bytes (set lines slot bytes) + length (get_or lines slot []) ≡ total_bytes lines + length bytes
+pub total_bytes_set : (lines : List (List ℕ)) (slot : ℕ) (bytes : List ℕ) → slot < length lines
+    → total_bytes (set lines slot bytes) + length (get_or lines slot []) ≡ total_bytes lines + length bytes
 total_bytes_set lines slot bytes within = sum_by-set length lines slot bytes [] within
 
 -- the total with one more line fits 128 bits
-pub total_fits : (lines : List (List ℕ)) (more : ℕ) → LengthsAreBounded lines → length lines < 2 ^ 63 → more < 2 ^ 64 → total_bytes lines + more < 2 ^ 128
+pub total_fits : (lines : List (List ℕ)) (more : ℕ) → LengthsAreBounded lines → length lines < 2 ^ 63 → more < 2 ^ 64
+    → total_bytes lines + more < 2 ^ 128
 total_fits lines more short few small = omega (arith, sum_by-le length (2 ^ 63) lines short)
 
 abbrev pub IsBounded : List ℕ → Type 0
@@ -30,56 +35,67 @@ module _ {X : Type 0} where
   get_or_any_default (x ∷ xs) (suc at) d e within = get_or_any_default xs at d e (omega (arith, within))
 
   -- setting an element after a split of the list, and before it
-  pub set_after_split : (xs : List X) (at : ℕ) (w : X) → at < length xs → take at xs ++ set (drop at xs) 0 w ≡ set xs at w
+  pub set_after_split : (xs : List X) (at : ℕ) (w : X) → at < length xs
+      → take at xs ++ set (drop at xs) 0 w ≡ set xs at w
   set_after_split [] at w within = absurd (omega arith)
   set_after_split (x ∷ xs) zero w within = refl
-  set_after_split (x ∷ xs) (suc at) w within = ap (λ (l : List X). x ∷ l) (set_after_split xs at w (omega (arith, within)))
+  set_after_split (x ∷ xs) (suc at) w within =
+      ap (λ l. x ∷ l) (set_after_split xs at w (omega (arith, within)))
 
-  pub set_before_split : (xs : List X) (at cut : ℕ) (w : X) → at < cut → set (take cut xs) at w ++ drop cut xs ≡ set xs at w
+  pub set_before_split : (xs : List X) (at cut : ℕ) (w : X) → at < cut
+      → set (take cut xs) at w ++ drop cut xs ≡ set xs at w
   set_before_split xs at zero w near = absurd (omega (arith, near))
   set_before_split [] at (suc cut) w near = refl
-  set_before_split (x ∷ xs) zero (suc cut) w near = ap (λ (l : List X). w ∷ l) (take-append-drop cut xs)
-  set_before_split (x ∷ xs) (suc at) (suc cut) w near = ap (λ (l : List X). x ∷ l) (set_before_split xs at cut w (omega (arith, near)))
+  set_before_split (x ∷ xs) zero (suc cut) w near = ap (λ l. w ∷ l) (take-append-drop cut xs)
+  set_before_split (x ∷ xs) (suc at) (suc cut) w near =
+      ap (λ l. x ∷ l) (set_before_split xs at cut w (omega (arith, near)))
 
-  All-swap : (P : X → Type 0) (xs : List X) (a b : ℕ) → a < length xs → b < length xs → ((k : ℕ) (d : X) → k < length xs → P (get_or xs k d))
-      → (k : ℕ) (d : X) → k < length (swap xs a b) → P (get_or (swap xs a b) k d)
+  All-swap : (P : X → Type 0) (xs : List X) (a b : ℕ) → a < length xs → b < length xs
+      → ((k : ℕ) (d : X) → k < length xs → P (get_or xs k d)) → (k : ℕ) (d : X) → k < length (swap xs a b)
+      → P (get_or (swap xs a b) k d)
   All-swap P [] a b a_in b_in all = all
   All-swap P (x ∷ more) a b a_in b_in all =
       let xs : List X = x ∷ more in
-      All-set P (set xs a (get_or xs b x)) b (get_or xs a x) (All-get_or P xs a x a_in all) (All-set P xs a (get_or xs b x) (All-get_or P xs b x b_in all) all)
+      All-set P (set xs a (get_or xs b x)) b (get_or xs a x) (All-get_or P xs a x a_in all)
+      (All-set P xs a (get_or xs b x) (All-get_or P xs b x b_in all) all)
 
 abbrev pub line_of : SlotBuffer → List ℕ
 line_of slot = slot.line
 
 -- exchanging two slots does not change the total
-pub total_bytes_swap : (lines : List (List ℕ)) (a b : ℕ) → a < length lines → b < length lines → total_bytes (swap lines a b) ≡ total_bytes lines
-total_bytes_swap lines a b a_in b_in = sum_by-IsPermutation length lines (swap lines a b) (IsPermutation-swap lines (swap lines a b) a b a_in b_in refl)
+pub total_bytes_swap : (lines : List (List ℕ)) (a b : ℕ) → a < length lines → b < length lines
+    → total_bytes (swap lines a b) ≡ total_bytes lines
+total_bytes_swap lines a b a_in b_in =
+    sum_by-IsPermutation length lines (swap lines a b) (IsPermutation-swap lines (swap lines a b) a b a_in b_in refl)
 
-pub slot_lines-swap : (slots : List SlotBuffer) (a b : ℕ) → a < length slots → b < length slots → slot_lines (swap slots a b) ≡ swap (slot_lines slots) a b
+pub slot_lines-swap : (slots : List SlotBuffer) (a b : ℕ) → a < length slots → b < length slots
+    → slot_lines (swap slots a b) ≡ swap (slot_lines slots) a b
 slot_lines-swap [] a b a_in b_in = refl
 slot_lines-swap (s ∷ more) a b a_in b_in =
     let slots : List SlotBuffer = s ∷ more in
     map-set line_of (set slots a (get_or slots b s)) b (get_or slots a s)
     ∙ (λ i. set (map-set line_of slots a (get_or slots b s) i) b (sym (get_or-map line_of slots a s s.line a_in) i))
-    ∙ (λ i. set (set (slot_lines slots) a (sym (get_or-map line_of slots b s s.line b_in) i)) b (get_or (slot_lines slots) a s.line))
+    ∙ (λ i. set (set (slot_lines slots) a (sym (get_or-map line_of slots b s s.line b_in) i)) b
+    (get_or (slot_lines slots) a s.line))
 
 -- the invariant after an exchange
-pub counted_after_swap : (slots : List SlotBuffer) (a b : ℕ) {byte_count peak : ℕ} → a < length slots → b < length slots → byte_count ≡ total_bytes (slot_lines slots) → byte_count ≤ peak
-    → LengthsAreBounded (slot_lines slots) → AreBuffersBounded peak slots
-    → (byte_count ≡ total_bytes (slot_lines (swap slots a b))) × (byte_count ≤ peak) × LengthsAreBounded (slot_lines (swap slots a b)) × AreBuffersBounded peak (swap slots a b)
-counted_after_swap slots a b {byte_count} {peak} a_in b_in counts low short fit =
+pub counted_after_swap : (slots : List SlotBuffer) (a b : ℕ) {byte_count peak : ℕ} → a < length slots → b < length slots
+    → AreCounted byte_count peak slots → AreCounted byte_count peak (swap slots a b)
+counted_after_swap slots a b {byte_count} {peak} a_in b_in counted =
     let lines = slot_lines slots in
     let a_low : a < length lines = omega (arith, a_in, length-map slots line_of) in
     let b_low : b < length lines = omega (arith, b_in, length-map slots line_of) in
-    let is = slot_lines-swap slots a b a_in b_in in (
-      counts ∙ sym (ap total_bytes is ∙ total_bytes_swap lines a b a_low b_low),
-      low,
-      subst LengthsAreBounded (sym is) (All-swap IsBounded lines a b a_low b_low short),
-      All-swap (HasBoundedBuffer peak) slots a b a_in b_in fit,
-    )
+    let is = slot_lines-swap slots a b a_in b_in in
+    record {
+      total = counted.total ∙ sym (ap total_bytes is ∙ total_bytes_swap lines a b a_low b_low);
+      below_peak = counted.below_peak;
+      lines = subst LengthsAreBounded (sym is) (All-swap IsBounded lines a b a_low b_low counted.lines);
+      buffers = All-swap (HasBoundedBuffer peak) slots a b a_in b_in counted.buffers;
+    }
 
 -- the lines and the buffers after one slot is set
-module _ (slots after : List SlotBuffer) (slot : ℕ) (had new : SlotBuffer) (d : SlotBuffer) (within : slot < length slots) (is : after ≡ set slots slot new) (was : had ≡ get_or slots slot d) where
+module _ (slots after : List SlotBuffer) (slot : ℕ) (had new : SlotBuffer) (d : SlotBuffer)
+    (within : slot < length slots) (is : after ≡ set slots slot new) (was : had ≡ get_or slots slot d) where
   low : slot < length (slot_lines slots)
   low = omega (arith, within, length-map slots line_of)
 
@@ -89,48 +105,66 @@ module _ (slots after : List SlotBuffer) (slot : ℕ) (had new : SlotBuffer) (d 
   lines_are : slot_lines after ≡ set (slot_lines slots) slot new.line
   lines_are = ap slot_lines is ∙ map-set line_of slots slot new
 
-  lengths_after_set : length new.line ≤ 2 ^ 63 → LengthsAreBounded (slot_lines slots) → LengthsAreBounded (slot_lines after)
-  lengths_after_set few short = subst LengthsAreBounded (sym lines_are) (All-set IsBounded (slot_lines slots) slot new.line few short)
+  lengths_after_set : length new.line ≤ 2 ^ 63 → LengthsAreBounded (slot_lines slots)
+      → LengthsAreBounded (slot_lines after)
+  lengths_after_set few short =
+      subst LengthsAreBounded (sym lines_are) (All-set IsBounded (slot_lines slots) slot new.line few short)
 
   -- the new line is a part of the new total, so a buffer that grows to twice its length stays below the bound
-  buffers_after_set : new.buffer_size ≤ max had.buffer_size (2 * length new.line + 64) → (peak : ℕ) → total_bytes (slot_lines after) ≤ peak → AreBuffersBounded peak slots → AreBuffersBounded peak after
+  buffers_after_set : new.buffer_size ≤ max had.buffer_size (2 * length new.line + 64) → (peak : ℕ)
+      → total_bytes (slot_lines after) ≤ peak → AreBuffersBounded peak slots → AreBuffersBounded peak after
   buffers_after_set room peak less fit =
-      let held : HasBoundedBuffer peak had = subst (HasBoundedBuffer peak) (sym was) (All-get_or (HasBoundedBuffer peak) slots slot d within fit) in
+      let held : HasBoundedBuffer peak had =
+      subst (HasBoundedBuffer peak) (sym was) (All-get_or (HasBoundedBuffer peak) slots slot d within fit) in
       let few : length new.line ≤ peak =
-      omega (arith, less, ap total_bytes lines_are, total_bytes_set (slot_lines slots) slot new.line low, total_bytes_set (slot_lines slots) slot [] low) in
-      subst (AreBuffersBounded peak) (sym is) (All-set (HasBoundedBuffer peak) slots slot new (omega (arith, room, held, few)) fit)
+      omega (
+        arith,
+        less,
+        ap total_bytes lines_are,
+        total_bytes_set (slot_lines slots) slot new.line low,
+        total_bytes_set (slot_lines slots) slot [] low,
+      ) in
+      subst (AreBuffersBounded peak) (sym is)
+      (All-set (HasBoundedBuffer peak) slots slot new (omega (arith, room, held, few)) fit)
 
 -- A slot that was `had` is set to another one: the old line was part of the total, and the new total follows.
-module _ (slots : List SlotBuffer) (slot byte_count : ℕ) (had : SlotBuffer) (within : slot < length slots) (was : had ≡ get_or slots slot had) (counts : byte_count ≡ total_bytes (slot_lines slots)) where
+module _ (slots : List SlotBuffer) (slot : ℕ) {byte_count before : ℕ} (had : SlotBuffer) (within : slot < length slots)
+    (was : had ≡ get_or slots slot had) (counted : AreCounted byte_count before slots) where
   pub line_le_total : length had.line ≤ byte_count
-  line_le_total = omega (
-    arith,
-    total_bytes_set (slot_lines slots) slot [] (low slots slots slot had had had within (sym (set-get_or slots slot had) ∙ ap (set slots slot) (sym was)) was),
-    ap length (line_was slots slots slot had had had within (sym (set-get_or slots slot had) ∙ ap (set slots slot) (sym was)) was),
-    counts,
-  )
+  line_le_total =
+      let same = sym (set-get_or slots slot had) ∙ ap (set slots slot) (sym was) in
+      omega (
+        arith,
+        total_bytes_set (slot_lines slots) slot [] (low slots slots slot had had had within same was),
+        ap length (line_was slots slots slot had had had within same was),
+        counted.total,
+      )
 
-  pub total_after_set : (new : SlotBuffer) {now before peak : ℕ} → LengthsAreBounded (slot_lines slots) → AreBuffersBounded before slots → length new.line ≤ 2 ^ 63
-      → new.buffer_size ≤ max had.buffer_size (2 * length new.line + 64) → now + length had.line ≡ byte_count + length new.line → now ≤ peak → before ≤ peak
-      → (now ≡ total_bytes (slot_lines (set slots slot new))) × (now ≤ peak) × LengthsAreBounded (slot_lines (set slots slot new)) × AreBuffersBounded peak (set slots slot new)
-  total_after_set new {now} {before} {peak} short fit few room moves less more =
+  pub counted_after_set : (new : SlotBuffer) {now peak : ℕ} → length new.line ≤ 2 ^ 63
+      → new.buffer_size ≤ max had.buffer_size (2 * length new.line + 64)
+      → now + length had.line ≡ byte_count + length new.line → now ≤ peak → before ≤ peak
+      → AreCounted now peak (set slots slot new)
+  counted_after_set new {now} {peak} few room moves less more =
       let after = set slots slot new in
       let total : now ≡ total_bytes (slot_lines after) = omega (
         arith,
         ap total_bytes (lines_are slots after slot had new had within refl was),
         total_bytes_set (slot_lines slots) slot new.line (low slots after slot had new had within refl was),
         ap length (line_was slots after slot had new had within refl was),
-        counts,
+        counted.total,
         moves,
-      ) in (
-        total,
-        less,
-        lengths_after_set slots after slot had new had within refl was few short,
-        buffers_after_set slots after slot had new had within refl was room peak (omega (arith, total, less)) (λ k d lt. omega (arith, fit k d lt, more)),
-      )
+      ) in
+      record {
+        total = total;
+        below_peak = less;
+        lines = lengths_after_set slots after slot had new had within refl was few counted.lines;
+        buffers = buffers_after_set slots after slot had new had within refl was room peak (omega (arith, total, less))
+            (λ k d lt. omega (arith, counted.buffers k d lt, more));
+      }
 
 -- one slot, at two default values
-pub same_slot : (slots : List SlotBuffer) (slot : ℕ) {a b : SlotBuffer} → slot < length slots → a ≡ get_or slots slot a → b ≡ get_or slots slot b → a ≡ b
+pub same_slot : (slots : List SlotBuffer) (slot : ℕ) {a b : SlotBuffer} → slot < length slots → a ≡ get_or slots slot a
+    → b ≡ get_or slots slot b → a ≡ b
 same_slot slots slot {a} {b} within a_is b_is = a_is ∙ get_or_any_default slots slot a b within ∙ sym b_is
 
 empty_bounded : LengthsAreBounded ([] ∷ [])
@@ -148,118 +182,162 @@ empty_fits peak (suc k) d within = absurd (omega (arith, within))
 abbrev pub store_of : List SlotBuffer → ℕ → Bool → Slots
 store_of slots peak denied = record { lines = slot_lines slots; peak = peak; denied = denied }
 
-module _ (slots : List SlotBuffer) {peak : ℕ} {denied : Bool} {now : Slots} (slot : ℕ) (is : store_of slots peak denied ≡ now) where
+module _ (slots : List SlotBuffer) {peak : ℕ} {denied : Bool} {now : Slots} (slot : ℕ)
+    (is : store_of slots peak denied ≡ now) where
   -- a slot number below the number of slots is an index of the list
   pub slot_in_range : slot < length now.lines → slot < length slots
-  slot_in_range within = omega (arith, within, ap (λ (t : Slots). length t.lines) is, length-map slots line_of)
+  slot_in_range within = omega (arith, within, ap (λ t. length t.lines) is, length-map slots line_of)
 
   -- the line of a slot is that of the element of the list
   pub line_before : {had : SlotBuffer} → slot < length slots → had ≡ get_or slots slot had → had.line ≡ line now slot
-  line_before {had} within there = ap line_of there ∙ sym (get_or-map line_of slots slot had [] within) ∙ ap (λ (t : Slots). line t slot) is
+  line_before {had} within there = ap line_of there ∙ sym (get_or-map line_of slots slot had [] within)
+      ∙ ap (λ t. line t slot) is
 
   -- memory could not be allocated, so the slot is as before
-  pub denied_line : {had new : SlotBuffer} → had ≡ get_or slots slot had → new ≡ had → store_of (set slots slot new) peak true ≡ with_denied now
+  pub denied_line : {had new : SlotBuffer} → had ≡ get_or slots slot had → new ≡ had
+      → store_of (set slots slot new) peak true ≡ with_denied now
   denied_line {had} there same =
-      let lines : slot_lines (set slots slot _) ≡ slot_lines slots = ap slot_lines (ap (set slots slot) (same ∙ there) ∙ set-get_or slots slot had) in
+      let lines : slot_lines (set slots slot _) ≡ slot_lines slots =
+      ap slot_lines (ap (set slots slot) (same ∙ there) ∙ set-get_or slots slot had) in
       (λ i. record { lines = lines i; peak = peak; denied = true }) ∙ ap with_denied is
 
   -- the model of the store after a slot was set
-  pub store_after_set : (new : SlotBuffer) {bytes : List ℕ} {byte_count peak_now : ℕ} → new.line ≡ bytes → byte_count ≡ total_bytes (slot_lines (set slots slot new))
-      → peak_now ≡ max peak byte_count → store_of (set slots slot new) peak_now denied ≡ with_line now slot bytes
+  pub store_after_set : (new : SlotBuffer) {bytes : List ℕ} {byte_count peak_now : ℕ} → new.line ≡ bytes
+      → byte_count ≡ total_bytes (slot_lines (set slots slot new)) → peak_now ≡ max peak byte_count
+      → store_of (set slots slot new) peak_now denied ≡ with_line now slot bytes
   store_after_set new {bytes} new_is counts peak_is =
       let lines = map-set line_of slots slot new ∙ ap (set (slot_lines slots) slot) new_is in
-      (λ i. record { lines = lines i; peak = (peak_is ∙ ap (max peak) (counts ∙ ap total_bytes lines)) i; denied = denied }) ∙ (λ i. with_line (is i) slot bytes)
+      (λ i. record {
+        lines = lines i;
+        peak = (peak_is ∙ ap (max peak) (counts ∙ ap total_bytes lines)) i;
+        denied = denied;
+      }) ∙ (λ i. with_line (is i) slot bytes)
 
 -- the invariant after an empty slot was added
-pub total_after_add : (slots : List SlotBuffer) {after : List SlotBuffer} {byte_count peak : ℕ} → after ≡ slots ++ empty_slot ∷ [] → byte_count ≡ total_bytes (slot_lines slots) → byte_count ≤ peak
-    → LengthsAreBounded (slot_lines slots) → AreBuffersBounded peak slots
-    → (byte_count ≡ total_bytes (slot_lines after)) × (byte_count ≤ peak) × LengthsAreBounded (slot_lines after) × AreBuffersBounded peak after
-total_after_add slots {after} {byte_count} {peak} is counts low short fit =
-    let lines : slot_lines after ≡ slot_lines slots ++ [] ∷ [] = ap slot_lines is ∙ map-append line_of slots (empty_slot ∷ []) in (
-      omega (arith, counts, ap total_bytes lines, sum_by-append length (slot_lines slots) ([] ∷ [])),
-      low,
-      subst LengthsAreBounded (sym lines) (All-append IsBounded (slot_lines slots) ([] ∷ []) short empty_bounded),
-      subst (AreBuffersBounded peak) (sym is) (All-append (HasBoundedBuffer peak) slots (empty_slot ∷ []) fit (empty_fits peak)),
-    )
+pub counted_after_add : (slots : List SlotBuffer) {after : List SlotBuffer} {byte_count peak : ℕ}
+    → after ≡ slots ++ empty_slot ∷ [] → AreCounted byte_count peak slots → AreCounted byte_count peak after
+counted_after_add slots {after} {byte_count} {peak} is counted =
+    let lines : slot_lines after ≡ slot_lines slots ++ [] ∷ [] = ap slot_lines is
+    ∙ map-append line_of slots (empty_slot ∷ []) in
+    record {
+      total = omega (arith, counted.total, ap total_bytes lines, sum_by-append length (slot_lines slots) ([] ∷ []));
+      below_peak = counted.below_peak;
+      lines = subst LengthsAreBounded (sym lines)
+          (All-append IsBounded (slot_lines slots) ([] ∷ []) counted.lines empty_bounded);
+      buffers = subst (AreBuffersBounded peak) (sym is)
+          (All-append (HasBoundedBuffer peak) slots (empty_slot ∷ []) counted.buffers (empty_fits peak));
+    }
 
 -- the slots after the line of one was appended to that of another
-module _ (slots after : List SlotBuffer) (from to : ℕ) (had source new d e : SlotBuffer) (more : List ℕ) (from_in : from < length slots) (to_in : to < length slots)
+module _ (slots after : List SlotBuffer) (from to : ℕ) (had source new d e : SlotBuffer) (more : List ℕ)
+    (from_in : from < length slots) (to_in : to < length slots)
     (is : after ≡ set slots to new) (had_is : had ≡ get_or slots to d) (source_is : source ≡ get_or slots from e) where
-  slots_appended : more ≡ source.line → new.line ≡ had.line ++ more → slot_lines after ≡ set (slot_lines slots) to (get_or (slot_lines slots) to [] ++ get_or (slot_lines slots) from [])
+  slots_appended : more ≡ source.line → new.line ≡ had.line ++ more
+      → slot_lines after ≡ set (slot_lines slots) to
+      (get_or (slot_lines slots) to [] ++ get_or (slot_lines slots) from [])
   slots_appended more_is new_is =
-      let added : more ≡ get_or (slot_lines slots) from [] = more_is ∙ ap line_of source_is ∙ sym (get_or-map line_of slots from e [] from_in) in
+      let added : more ≡ get_or (slot_lines slots) from [] = more_is ∙ ap line_of source_is
+      ∙ sym (get_or-map line_of slots from e [] from_in) in
       lines_are slots after to had new d to_in is had_is
       ∙ ap (set (slot_lines slots) to) (new_is ∙ (λ i. line_was slots after to had new d to_in is had_is i ++ added i))
 
 -- The slots are split at `to`, so the target is the first slot of the back part.
-module _ (slots front back : List SlotBuffer) (from to : ℕ) (d e new : SlotBuffer) (more : List ℕ) (near : from < to) (within : to < length slots)
+module _ (slots front back : List SlotBuffer) (from to : ℕ) (d e new : SlotBuffer) (more : List ℕ) (near : from < to)
+    (within : to < length slots)
     (front_is : front ≡ take to slots) (back_is : back ≡ drop to slots) where
   back_set : front ++ set back 0 new ≡ set slots to new
   back_set = (λ i. front_is i ++ set (back_is i) 0 new) ∙ set_after_split slots to new within
 
   back_slot : get_or back 0 d ≡ get_or slots to d
   back_slot = let here : to + 0 ≡ to = omega arith in
-      ap (λ (l : List SlotBuffer). get_or l 0 d) back_is ∙ get_or-drop to slots 0 d ∙ ap (λ (n : ℕ). get_or slots n d) here
+      ap (λ l. get_or l 0 d) back_is ∙ get_or-drop to slots 0 d
+      ∙ ap (λ n. get_or slots n d) here
 
   front_slot : get_or front from e ≡ get_or slots from e
-  front_slot = ap (λ (l : List SlotBuffer). get_or l from e) front_is ∙ get_or-take to slots from e near
+  front_slot = ap (λ l. get_or l from e) front_is ∙ get_or-take to slots from e near
 
   pub back_same : new ≡ get_or back 0 d → front ++ set back 0 new ≡ slots
   back_same new_is = back_set ∙ ap (set slots to) (new_is ∙ back_slot) ∙ set-get_or slots to d
 
   pub append_to_back : more ≡ (get_or front from e).line → new.line ≡ (get_or back 0 d).line ++ more
-      → slot_lines (front ++ set back 0 new) ≡ set (slot_lines slots) to (get_or (slot_lines slots) to [] ++ get_or (slot_lines slots) from [])
-  append_to_back = slots_appended slots (front ++ set back 0 new) from to (get_or back 0 d) (get_or front from e) new d e more (omega (arith, near, within)) within back_set back_slot front_slot
+      → slot_lines (front ++ set back 0 new)
+      ≡ set (slot_lines slots) to (get_or (slot_lines slots) to [] ++ get_or (slot_lines slots) from [])
+  append_to_back = slots_appended slots (front ++ set back 0 new) from to (get_or back 0 d) (get_or front from e)
+      new d e more (omega (arith, near, within)) within back_set back_slot front_slot
 
-  pub bounded_back : length new.line ≤ 2 ^ 63 → LengthsAreBounded (slot_lines slots) → LengthsAreBounded (slot_lines (front ++ set back 0 new))
+  pub bounded_back : length new.line ≤ 2 ^ 63 → LengthsAreBounded (slot_lines slots)
+      → LengthsAreBounded (slot_lines (front ++ set back 0 new))
   bounded_back = lengths_after_set slots (front ++ set back 0 new) to (get_or back 0 d) new d within back_set back_slot
 
-  pub buffers_back : new.buffer_size ≤ max (get_or back 0 d).buffer_size (2 * length new.line + 64) → (peak : ℕ) → total_bytes (slot_lines (front ++ set back 0 new)) ≤ peak
-      → AreBuffersBounded peak slots → AreBuffersBounded peak (front ++ set back 0 new)
+  pub buffers_back : new.buffer_size ≤ max (get_or back 0 d).buffer_size (2 * length new.line + 64) → (peak : ℕ)
+      → total_bytes (slot_lines (front ++ set back 0 new)) ≤ peak → AreBuffersBounded peak slots
+      → AreBuffersBounded peak (front ++ set back 0 new)
   buffers_back = buffers_after_set slots (front ++ set back 0 new) to (get_or back 0 d) new d within back_set back_slot
 
 -- The slots are split at `from`, so the target lies in the front part.
-module _ (slots front back : List SlotBuffer) (from to : ℕ) (d e new : SlotBuffer) (more : List ℕ) (near : to < from) (within : from < length slots)
+module _ (slots front back : List SlotBuffer) (from to : ℕ) (d e new : SlotBuffer) (more : List ℕ) (near : to < from)
+    (within : from < length slots)
     (front_is : front ≡ take from slots) (back_is : back ≡ drop from slots) where
   front_set : set front to new ++ back ≡ set slots to new
   front_set = (λ i. set (front_is i) to new ++ back_is i) ∙ set_before_split slots to from new near
 
   target_slot : get_or front to d ≡ get_or slots to d
-  target_slot = ap (λ (l : List SlotBuffer). get_or l to d) front_is ∙ get_or-take from slots to d near
+  target_slot = ap (λ l. get_or l to d) front_is ∙ get_or-take from slots to d near
 
   source_slot : get_or back 0 e ≡ get_or slots from e
   source_slot = let here : from + 0 ≡ from = omega arith in
-      ap (λ (l : List SlotBuffer). get_or l 0 e) back_is ∙ get_or-drop from slots 0 e ∙ ap (λ (n : ℕ). get_or slots n e) here
+      ap (λ l. get_or l 0 e) back_is ∙ get_or-drop from slots 0 e
+      ∙ ap (λ n. get_or slots n e) here
 
   pub front_same : new ≡ get_or front to d → set front to new ++ back ≡ slots
   front_same new_is = front_set ∙ ap (set slots to) (new_is ∙ target_slot) ∙ set-get_or slots to d
 
   pub append_to_front : more ≡ (get_or back 0 e).line → new.line ≡ (get_or front to d).line ++ more
-      → slot_lines (set front to new ++ back) ≡ set (slot_lines slots) to (get_or (slot_lines slots) to [] ++ get_or (slot_lines slots) from [])
-  append_to_front = slots_appended slots (set front to new ++ back) from to (get_or front to d) (get_or back 0 e) new d e more within (omega (arith, near, within)) front_set target_slot source_slot
+      → slot_lines (set front to new ++ back)
+      ≡ set (slot_lines slots) to (get_or (slot_lines slots) to [] ++ get_or (slot_lines slots) from [])
+  append_to_front = slots_appended slots (set front to new ++ back) from to (get_or front to d) (get_or back 0 e)
+      new d e more within (omega (arith, near, within)) front_set target_slot source_slot
 
-  pub bounded_front : length new.line ≤ 2 ^ 63 → LengthsAreBounded (slot_lines slots) → LengthsAreBounded (slot_lines (set front to new ++ back))
-  bounded_front = lengths_after_set slots (set front to new ++ back) to (get_or front to d) new d (omega (arith, near, within)) front_set target_slot
+  pub bounded_front : length new.line ≤ 2 ^ 63 → LengthsAreBounded (slot_lines slots)
+      → LengthsAreBounded (slot_lines (set front to new ++ back))
+  bounded_front = lengths_after_set slots (set front to new ++ back) to (get_or front to d) new d
+      (omega (arith, near, within)) front_set target_slot
 
-  pub buffers_front : new.buffer_size ≤ max (get_or front to d).buffer_size (2 * length new.line + 64) → (peak : ℕ) → total_bytes (slot_lines (set front to new ++ back)) ≤ peak
-      → AreBuffersBounded peak slots → AreBuffersBounded peak (set front to new ++ back)
-  buffers_front = buffers_after_set slots (set front to new ++ back) to (get_or front to d) new d (omega (arith, near, within)) front_set target_slot
+  pub buffers_front : new.buffer_size ≤ max (get_or front to d).buffer_size (2 * length new.line + 64) → (peak : ℕ)
+      → total_bytes (slot_lines (set front to new ++ back)) ≤ peak → AreBuffersBounded peak slots
+      → AreBuffersBounded peak (set front to new ++ back)
+  buffers_front = buffers_after_set slots (set front to new ++ back) to (get_or front to d) new d
+      (omega (arith, near, within)) front_set target_slot
 
 -- the slot `to` after it was emptied and the line of `from` was appended
-pub copy_lines : (lines cleared after : List (List ℕ)) (from to : ℕ) → from ≢ to → to < length lines → cleared ≡ set lines to []
-    → after ≡ set cleared to (get_or cleared to [] ++ get_or cleared from []) → after ≡ set lines to (get_or lines from [])
+pub copy_lines : (lines cleared after : List (List ℕ)) (from to : ℕ) → from ≢ to → to < length lines
+    → cleared ≡ set lines to [] → after ≡ set cleared to (get_or cleared to [] ++ get_or cleared from [])
+    → after ≡ set lines to (get_or lines from [])
 copy_lines lines cleared after from to differ to_in cleared_is after_is =
-    let empty : get_or cleared to [] ≡ [] = ap (λ (l : List (List ℕ)). get_or l to []) cleared_is ∙ get_or-set_same lines to [] [] to_in in
-    let source : get_or cleared from [] ≡ get_or lines from [] = ap (λ (l : List (List ℕ)). get_or l from []) cleared_is ∙ get_or-set_other lines to from [] [] differ in
+    let empty : get_or cleared to [] ≡ [] = ap (λ l. get_or l to []) cleared_is
+    ∙ get_or-set_same lines to [] [] to_in in
+    let source : get_or cleared from [] ≡ get_or lines from [] = ap (λ l. get_or l from []) cleared_is
+    ∙ get_or-set_other lines to from [] [] differ in
     after_is ∙ (λ i. set (cleared_is i) to (empty i ++ source i)) ∙ set-set lines to [] (get_or lines from [])
 
 -- the total after that copy
-pub copy_total : (lines cleared after : List (List ℕ)) (from to byte_count size : ℕ) (v : List ℕ) → from ≢ to → from < length lines → to < length lines → cleared ≡ set lines to []
-    → after ≡ set lines to (get_or lines from []) → byte_count ≡ total_bytes cleared → v ≡ get_or after from v → size ≡ length v
-    → (byte_count + size ≡ total_bytes after) × (byte_count ≡ total_bytes (set lines to [])) × (byte_count + size ≡ total_bytes (set lines to (get_or lines from [])))
+pub copy_total : (lines cleared after : List (List ℕ)) (from to byte_count size : ℕ) (v : List ℕ) → from ≢ to
+    → from < length lines → to < length lines → cleared ≡ set lines to [] → after ≡ set lines to (get_or lines from [])
+    → byte_count ≡ total_bytes cleared → v ≡ get_or after from v → size ≡ length v
+    → (byte_count + size ≡ total_bytes after) × (byte_count ≡ total_bytes (set lines to []))
+    × (byte_count + size ≡ total_bytes (set lines to (get_or lines from [])))
 copy_total lines cleared after from to byte_count size v differ from_in to_in cleared_is after_is counts there long =
     let bytes : v ≡ get_or lines from [] =
-    there ∙ ap (λ (l : List (List ℕ)). get_or l from v) after_is ∙ get_or-set_other lines to from (get_or lines from []) v differ ∙ get_or_any_default lines from v [] from_in in
+    there ∙ ap (λ l. get_or l from v) after_is
+    ∙ get_or-set_other lines to from (get_or lines from []) v differ ∙ get_or_any_default lines from v [] from_in in
     let before : byte_count ≡ total_bytes (set lines to []) = counts ∙ ap total_bytes cleared_is in
-    let all : byte_count + size ≡ total_bytes (set lines to (get_or lines from [])) = omega (arith, before, long, ap length bytes, total_bytes_set lines to [] to_in, total_bytes_set lines to (get_or lines from []) to_in) in
+    let all : byte_count + size ≡ total_bytes (set lines to (get_or lines from [])) =
+    omega (
+      arith,
+      before,
+      long,
+      ap length bytes,
+      total_bytes_set lines to [] to_in,
+      total_bytes_set lines to (get_or lines from []) to_in,
+    ) in
     (all ∙ sym (ap total_bytes after_is), before, all)

@@ -1,7 +1,9 @@
 -- Facts about lines and their text: a text is split at each terminator, so splitting the text of lines gives these
 -- lines, and the text of the lines of a text is that text, to which one terminator may be added.
-use Rattle.ptlines.proofs.Common.{◌≡◌, ◌≢◌, ◌⊎◌, inl, inr, ⊎_elim, ℕ, ◌==◌, ◌<◌, Bool, true, false, cond, List, [], ◌∷◌, ◌++◌, length, drop, get_or, refl, sym, ◌∙◌, ap, arith, append_assoc}
-use Rattle.ptlines.proofs.Common.{onto_first, eq-eqb, eqb-true, eqb-false, cases_Bool, nat_tests, append-nil, unlines, lines, onto_first_if_any, complete_lines, IsLine, AreLines, AreLinesOf, EndsWithByte}
+use Rattle.ptlines.proofs.Common.{◌≡◌, ◌≢◌, ◌⊎◌, inl, inr, ⊎_elim, ℕ, ◌==◌, ◌<◌, Bool, true, false, cond, List, [], ◌∷◌}
+use Rattle.ptlines.proofs.Common.{◌++◌, length, drop, get_or, refl, sym, ◌∙◌, ap, arith, append_assoc, onto_first}
+use Rattle.ptlines.proofs.Common.{eq-eqb, eqb-true, eqb-false, cases_Bool, nat_tests, append-nil, unlines, lines}
+use Rattle.ptlines.proofs.Common.{onto_first_if_any, complete_lines, IsLine, AreLines, AreLinesOf, EndsWithByte}
 use Rattle.ptlines.proofs.Common.{LinesAreUnique, CompleteLinesAreLines}
 
 pub byte_eq : (end : ℕ) → (end == end) ≡ true
@@ -11,94 +13,128 @@ pub byte_ne : (end b : ℕ) → b ≢ end → (b == end) ≡ false
 byte_ne end b differs = grind (arith, nat_tests)
 
 -- the first line of a text that has a terminator
-pub lines_cons : (end : ℕ) (front rest : List ℕ) → IsLine end front → lines end (front ++ end ∷ rest) ≡ front ∷ lines end rest
+pub lines_cons : (end : ℕ) (front rest : List ℕ) → IsLine end front
+    → lines end (front ++ end ∷ rest) ≡ front ∷ lines end rest
 lines_cons end [] rest free = rw (byte_eq end) refl
-lines_cons end (b ∷ front) rest free = rw (byte_ne end b free.0) (ap (onto_first b) (lines_cons end front rest free.1))
+lines_cons end (b ∷ front) rest (differs, free) =
+    rw (byte_ne end b differs) (ap (onto_first b) (lines_cons end front rest free))
 
 -- a last line without a terminator
 pub lines_of_last : (end : ℕ) (line : List ℕ) → IsLine end line → 0 < length line → lines end line ≡ line ∷ []
 lines_of_last end [] free some = absurd (omega arith)
-lines_of_last end (b ∷ []) free some = rw (byte_ne end b free.0) refl
-lines_of_last end (b ∷ c ∷ line) free some = rw (byte_ne end b free.0) (ap (onto_first b) (lines_of_last end (c ∷ line) free.1 (omega arith)))
+lines_of_last end (b ∷ []) (differs, free) some = rw (byte_ne end b differs) refl
+lines_of_last end (b ∷ c ∷ line) (differs, free) some =
+    rw (byte_ne end b differs) (ap (onto_first b) (lines_of_last end (c ∷ line) free (omega arith)))
 
 pub unlines-append : (end : ℕ) (xs ys : List (List ℕ)) → unlines end (xs ++ ys) ≡ unlines end xs ++ unlines end ys
 unlines-append end [] ys = refl
-unlines-append end (x ∷ xs) ys = ap (λ (l : List ℕ). (x ++ end ∷ []) ++ l) (unlines-append end xs ys) ∙ sym (append_assoc (x ++ end ∷ []) (unlines end xs) (unlines end ys))
+unlines-append end (x ∷ xs) ys = ap (λ l. (x ++ end ∷ []) ++ l) (unlines-append end xs ys)
+    ∙ sym (append_assoc (x ++ end ∷ []) (unlines end xs) (unlines end ys))
 
-pub unlines_push : (end : ℕ) (xs : List (List ℕ)) (line : List ℕ) → unlines end (xs ++ line ∷ []) ≡ unlines end xs ++ (line ++ end ∷ [])
-unlines_push end xs line = unlines-append end xs (line ∷ []) ∙ ap (λ (l : List ℕ). unlines end xs ++ l) (append-nil (line ++ end ∷ []))
+pub unlines_push : (end : ℕ) (xs : List (List ℕ)) (line : List ℕ)
+    → unlines end (xs ++ line ∷ []) ≡ unlines end xs ++ (line ++ end ∷ [])
+unlines_push end xs line = unlines-append end xs (line ∷ [])
+    ∙ ap (λ l. unlines end xs ++ l) (append-nil (line ++ end ∷ []))
 
-pub AreLines_push : (end : ℕ) (ls : List (List ℕ)) (line : List ℕ) → AreLines end ls → IsLine end line → AreLines end (ls ++ line ∷ [])
+pub AreLines_push : (end : ℕ) (ls : List (List ℕ)) (line : List ℕ) → AreLines end ls → IsLine end line
+    → AreLines end (ls ++ line ∷ [])
 AreLines_push end [] line w l = (l, tt)
-AreLines_push end (x ∷ ls) line w l = (w.0, AreLines_push end ls line w.1 l)
+AreLines_push end (x ∷ ls) line (first, others) l = (first, AreLines_push end ls line others l)
+
+-- the text of some lines followed by more bytes: the first line, and what comes after it
+unlines_first : (end : ℕ) (line : List ℕ) (ls : List (List ℕ)) (bytes : List ℕ)
+    → unlines end (line ∷ ls) ++ bytes ≡ line ++ end ∷ (unlines end ls ++ bytes)
+unlines_first end line ls bytes =
+    append_assoc (line ++ end ∷ []) (unlines end ls) bytes
+    ∙ append_assoc line (end ∷ []) (unlines end ls ++ bytes)
 
 -- the text of some lines followed by more bytes has these lines, followed by the lines of the bytes
-pub lines_of_unlines : (end : ℕ) (ls : List (List ℕ)) (bytes : List ℕ) → AreLines end ls → lines end (unlines end ls ++ bytes) ≡ ls ++ lines end bytes
+pub lines_of_unlines : (end : ℕ) (ls : List (List ℕ)) (bytes : List ℕ) → AreLines end ls
+    → lines end (unlines end ls ++ bytes) ≡ ls ++ lines end bytes
 lines_of_unlines end [] bytes w = refl
-lines_of_unlines end (line ∷ ls) bytes w =
-    ap (lines end) (append_assoc (line ++ end ∷ []) (unlines end ls) bytes ∙ append_assoc line (end ∷ []) (unlines end ls ++ bytes)) ∙ lines_cons end line (unlines end ls ++ bytes) w.0
-    ∙ ap (λ (l : List (List ℕ)). line ∷ l) (lines_of_unlines end ls bytes w.1)
+lines_of_unlines end (line ∷ ls) bytes (first, others) =
+    ap (lines end) (unlines_first end line ls bytes)
+    ∙ lines_cons end line (unlines end ls ++ bytes) first
+    ∙ ap (λ l. line ∷ l) (lines_of_unlines end ls bytes others)
 
 -- the lines of the text of some lines are these lines
 pub lines-unlines : (end : ℕ) (ls : List (List ℕ)) → AreLines end ls → lines end (unlines end ls) ≡ ls
-lines-unlines end ls w = ap (lines end) (sym (append-nil (unlines end ls))) ∙ lines_of_unlines end ls [] w ∙ append-nil ls
+lines-unlines end ls w = ap (lines end) (sym (append-nil (unlines end ls))) ∙ lines_of_unlines end ls [] w
+    ∙ append-nil ls
 
 -- a part of a line contains no complete line
 pub complete_lines_none : (end : ℕ) (piece : List ℕ) → IsLine end piece → complete_lines end piece ≡ []
 complete_lines_none end [] free = refl
-complete_lines_none end (b ∷ piece) free = rw (byte_ne end b free.0) (ap (onto_first_if_any b) (complete_lines_none end piece free.1))
+complete_lines_none end (b ∷ piece) (differs, free) =
+    rw (byte_ne end b differs) (ap (onto_first_if_any b) (complete_lines_none end piece free))
 
-pub complete_lines_cons : (end : ℕ) (front rest : List ℕ) → IsLine end front → complete_lines end (front ++ end ∷ rest) ≡ front ∷ complete_lines end rest
+pub complete_lines_cons : (end : ℕ) (front rest : List ℕ) → IsLine end front
+    → complete_lines end (front ++ end ∷ rest) ≡ front ∷ complete_lines end rest
 complete_lines_cons end [] rest free = rw (byte_eq end) refl
-complete_lines_cons end (b ∷ front) rest free = rw (byte_ne end b free.0) (ap (onto_first_if_any b) (complete_lines_cons end front rest free.1))
+complete_lines_cons end (b ∷ front) rest (differs, free) =
+    rw (byte_ne end b differs) (ap (onto_first_if_any b) (complete_lines_cons end front rest free))
 
 -- the complete lines of the text of some lines, followed by a part of a line, are these lines
-pub complete_lines_of_unlines : (end : ℕ) (ls : List (List ℕ)) (piece : List ℕ) → AreLines end ls → IsLine end piece → complete_lines end (unlines end ls ++ piece) ≡ ls
+pub complete_lines_of_unlines : (end : ℕ) (ls : List (List ℕ)) (piece : List ℕ) → AreLines end ls → IsLine end piece
+    → complete_lines end (unlines end ls ++ piece) ≡ ls
 complete_lines_of_unlines end [] piece w p = complete_lines_none end piece p
-complete_lines_of_unlines end (line ∷ ls) piece w p =
-    ap (complete_lines end) (append_assoc (line ++ end ∷ []) (unlines end ls) piece ∙ append_assoc line (end ∷ []) (unlines end ls ++ piece)) ∙ complete_lines_cons end line (unlines end ls ++ piece) w.0
-    ∙ ap (λ (l : List (List ℕ)). line ∷ l) (complete_lines_of_unlines end ls piece w.1 p)
+complete_lines_of_unlines end (line ∷ ls) piece (first, others) p =
+    ap (complete_lines end) (unlines_first end line ls piece)
+    ∙ complete_lines_cons end line (unlines end ls ++ piece) first
+    ∙ ap (λ l. line ∷ l) (complete_lines_of_unlines end ls piece others p)
 
 -- a terminator added to an incomplete last line changes no line
-lines_extra_terminator : (end : ℕ) (bytes : List ℕ) → bytes ≢ [] → ¬ EndsWithByte end bytes → lines end (bytes ++ end ∷ []) ≡ lines end bytes
+lines_extra_terminator : (end : ℕ) (bytes : List ℕ) → bytes ≢ [] → ¬ EndsWithByte end bytes
+    → lines end (bytes ++ end ∷ []) ≡ lines end bytes
 lines_extra_terminator end [] some not_eof = absurd (some refl)
 lines_extra_terminator end (b ∷ []) some not_eof =
-    ⊎_elim (λ e. absurd (not_eof ([], ap (λ x. x ∷ []) (eqb-true b end e)))) (λ (e : (b == end) ≡ false). rw (byte_eq end, e) refl) (cases_Bool (b == end))
+    ⊎_elim (λ e. absurd (not_eof ([], ap (λ x. x ∷ []) (eqb-true b end e))))
+    (λ (e : (b == end) ≡ false). rw (byte_eq end, e) refl) (cases_Bool (b == end))
 lines_extra_terminator end (b ∷ c ∷ bytes) some not_eof =
-    let more = lines_extra_terminator end (c ∷ bytes) (λ e. cc) (λ (front, e). not_eof (b ∷ front, ap (λ xs. b ∷ xs) e)) in
+    let more =
+    lines_extra_terminator end (c ∷ bytes) (λ e. cc) (λ (front, e). not_eof (b ∷ front, ap (λ xs. b ∷ xs) e)) in
     ap (λ ls. cond (b == end) ([] ∷ ls) (onto_first b ls)) more
 
 lines-only : (end : ℕ) (bytes : List ℕ) (ls : List (List ℕ)) → AreLinesOf end bytes ls → ls ≡ lines end bytes
-lines-only end bytes ls a =
-    ⊎_elim (λ e. sym (lines-unlines end ls a.0) ∙ ap (lines end) e) (λ e. sym (lines-unlines end ls a.0) ∙ (ap (lines end) e.2 ∙ lines_extra_terminator end bytes e.0 e.1)) a.1
+lines-only end bytes ls (w, inl whole) = sym (lines-unlines end ls w) ∙ ap (lines end) whole
+lines-only end bytes ls (w, inr (some, unended, added)) =
+    sym (lines-unlines end ls w) ∙ ap (lines end) added ∙ lines_extra_terminator end bytes some unended
 
 -- no line contains the terminator
 pub lines_are : (end : ℕ) (bytes : List ℕ) → AreLines end (lines end bytes)
 lines_are end [] = tt
 lines_are end (b ∷ bytes) = put (b == end) refl (lines end bytes) (lines_are end bytes)
   where
-    put : (t : Bool) → (b == end) ≡ t → (ls : List (List ℕ)) → AreLines end ls → AreLines end (cond t ([] ∷ ls) (onto_first b ls))
+    put : (t : Bool) → (b == end) ≡ t → (ls : List (List ℕ)) → AreLines end ls
+        → AreLines end (cond t ([] ∷ ls) (onto_first b ls))
     put true e ls a = (tt, a)
     put false e [] a = ((eqb-false b end e, tt), tt)
-    put false e (l ∷ ls) a = ((eqb-false b end e, a.0), a.1)
+    put false e (l ∷ ls) (first, others) = ((eqb-false b end e, first), others)
 
-unlines_onto : (end b c : ℕ) (bytes : List ℕ) → unlines end (onto_first b (lines end (c ∷ bytes))) ≡ b ∷ unlines end (lines end (c ∷ bytes))
+unlines_onto : (end b c : ℕ) (bytes : List ℕ)
+    → unlines end (onto_first b (lines end (c ∷ bytes))) ≡ b ∷ unlines end (lines end (c ∷ bytes))
 unlines_onto end b c bytes = put (c == end) (lines end bytes)
   where
-    put : (t : Bool) (ls : List (List ℕ)) → unlines end (onto_first b (cond t ([] ∷ ls) (onto_first c ls))) ≡ b ∷ unlines end (cond t ([] ∷ ls) (onto_first c ls))
+    put : (t : Bool) (ls : List (List ℕ))
+        → unlines end (onto_first b (cond t ([] ∷ ls) (onto_first c ls)))
+        ≡ b ∷ unlines end (cond t ([] ∷ ls) (onto_first c ls))
     put true ls = refl
     put false [] = refl
     put false (l ∷ ls) = refl
 
 tail_ends : (end b c : ℕ) (bytes : List ℕ) → EndsWithByte end (b ∷ c ∷ bytes) → EndsWithByte end (c ∷ bytes)
-tail_ends end b c bytes ([], e) = let bad : b ∷ c ∷ bytes ≡ end ∷ [] = e in let worse : c ∷ bytes ≡ [] = ap (drop 1) bad in cc
+tail_ends end b c bytes ([], e) = let bad : b ∷ c ∷ bytes ≡ end ∷ [] = e in let worse : c ∷ bytes ≡ [] =
+    ap (drop 1) bad in cc
 tail_ends end b c bytes (f ∷ fs, e) = (fs, ap (drop 1) e)
 
 -- the text of the lines is the text, with one terminator added if the last line was incomplete
-unlines-lines : (end : ℕ) (bytes : List ℕ) → (unlines end (lines end bytes) ≡ bytes) ⊎ ((bytes ≢ []) × ¬ EndsWithByte end bytes × (unlines end (lines end bytes) ≡ bytes ++ end ∷ []))
+pub unlines-lines : (end : ℕ) (bytes : List ℕ)
+    → (unlines end (lines end bytes) ≡ bytes)
+    ⊎ ((bytes ≢ []) × ¬ EndsWithByte end bytes × (unlines end (lines end bytes) ≡ bytes ++ end ∷ []))
 unlines-lines end [] = inl refl
 unlines-lines end (b ∷ []) =
-    ⊎_elim (λ e. inl (rw (eqb-true b end e, byte_eq end) refl)) (λ e. inr ((λ z. cc), (λ h. not_ended e h), rw e refl)) (cases_Bool (b == end))
+    ⊎_elim (λ e. inl (rw (eqb-true b end e, byte_eq end) refl)) (λ e. inr ((λ z. cc), (λ h. not_ended e h), rw e refl))
+    (cases_Bool (b == end))
   where
     not_ended : (b == end) ≡ false → EndsWithByte end (b ∷ []) → ⊥
     not_ended e ([], h) = eqb-false b end e (ap (λ xs. get_or xs 0 0) h)
@@ -109,24 +145,34 @@ unlines-lines end (b ∷ []) =
         not_nil (x ∷ xs) z = cc
 unlines-lines end (b ∷ c ∷ bytes) = put (b == end) refl (unlines-lines end (c ∷ bytes))
   where
-    put : (t : Bool) → (b == end) ≡ t → (unlines end (lines end (c ∷ bytes)) ≡ c ∷ bytes)
-        ⊎ ((c ∷ bytes ≢ []) × ¬ EndsWithByte end (c ∷ bytes) × (unlines end (lines end (c ∷ bytes)) ≡ (c ∷ bytes) ++ end ∷ []))
+    put : (t : Bool) → (b == end) ≡ t
+        → (unlines end (lines end (c ∷ bytes)) ≡ c ∷ bytes)
+        ⊎ ((c ∷ bytes ≢ []) × ¬ EndsWithByte end (c ∷ bytes)
+        × (unlines end (lines end (c ∷ bytes)) ≡ (c ∷ bytes) ++ end ∷ []))
         → (unlines end (cond t ([] ∷ lines end (c ∷ bytes)) (onto_first b (lines end (c ∷ bytes)))) ≡ b ∷ c ∷ bytes)
-        ⊎ ((b ∷ c ∷ bytes ≢ []) × ¬ EndsWithByte end (b ∷ c ∷ bytes) × (unlines end (cond t ([] ∷ lines end (c ∷ bytes)) (onto_first b (lines end (c ∷ bytes)))) ≡ (b ∷ c ∷ bytes) ++ end ∷ []))
+        ⊎ ((b ∷ c ∷ bytes ≢ []) × ¬ EndsWithByte end (b ∷ c ∷ bytes)
+        × (unlines end (cond t ([] ∷ lines end (c ∷ bytes)) (onto_first b (lines end (c ∷ bytes))))
+        ≡ (b ∷ c ∷ bytes) ++ end ∷ []))
     put true e (inl h) = inl (rw (eqb-true b end e) (ap (λ xs. end ∷ xs) h))
-    put true e (inr (n, u, h)) = inr ((λ z. cc), (λ x. u (tail_ends end b c bytes x)), rw (eqb-true b end e) (ap (λ xs. end ∷ xs) h))
+    put true e (inr (n, u, h)) =
+        inr ((λ z. cc), (λ x. u (tail_ends end b c bytes x)), rw (eqb-true b end e) (ap (λ xs. end ∷ xs) h))
     put false e (inl h) = inl (unlines_onto end b c bytes ∙ ap (λ xs. b ∷ xs) h)
-    put false e (inr (n, u, h)) = inr ((λ z. cc), (λ x. u (tail_ends end b c bytes x)), unlines_onto end b c bytes ∙ ap (λ xs. b ∷ xs) h)
+    put false e (inr (n, u, h)) =
+        inr ((λ z. cc), (λ x. u (tail_ends end b c bytes x)), unlines_onto end b c bytes ∙ ap (λ xs. b ∷ xs) h)
 
 pub the_lines : LinesAreUnique
 the_lines end bytes = ((lines_are end bytes, unlines-lines end bytes), lines-only end bytes)
 
 -- the complete lines are the lines up to the last terminator
-complete_lines_up_to_last : (end : ℕ) (front rest : List ℕ) → IsLine end rest → complete_lines end (front ++ end ∷ rest) ≡ lines end (front ++ end ∷ [])
+complete_lines_up_to_last : (end : ℕ) (front rest : List ℕ) → IsLine end rest
+    → complete_lines end (front ++ end ∷ rest) ≡ lines end (front ++ end ∷ [])
 complete_lines_up_to_last end front rest free =
     let all : List ℕ = front ++ end ∷ [] in
-    let whole : unlines end (lines end all) ≡ all = ⊎_elim (λ e. e) (λ e. absurd (e.1 (front, refl))) (unlines-lines end all) in
-    ap (complete_lines end) (sym (append_assoc front (end ∷ []) rest) ∙ ap (λ (l : List ℕ). l ++ rest) (sym whole)) ∙ complete_lines_of_unlines end (lines end all) rest (lines_are end all) free
+    let whole : unlines end (lines end all) ≡ all =
+    ⊎_elim (λ e. e) (λ (_, unended, _). absurd (unended (front, refl))) (unlines-lines end all) in
+    ap (complete_lines end) (sym (append_assoc front (end ∷ []) rest) ∙ ap (λ l. l ++ rest) (sym whole))
+    ∙ complete_lines_of_unlines end (lines end all) rest (lines_are end all) free
 
 pub the_complete_lines : CompleteLinesAreLines
-the_complete_lines end rest free = (complete_lines_none end rest free, λ front. complete_lines_up_to_last end front rest free)
+the_complete_lines end rest free =
+    (complete_lines_none end rest free, λ front. complete_lines_up_to_last end front rest free)

@@ -49,6 +49,13 @@ pub record IsSound (r : Reader) : Type 0 where
   -- a failed read is always reported as a fault
   pub unfailed : r.refused ≡ false → r.fault ≡ None → r.failed ≡ false
 
+-- The invariant of `LineReader`: its bounds lie in the block, and its model is sound.
+pub record IsValidReader (start end : ℕ) (at_eof : Bool) (r : Reader) : Type 0 where
+  pub order : start ≤ end
+  pub within : end ≤ 8192
+  pub eof : at_eof ≡ r.eof
+  pub sound : IsSound r
+
 -- the reader has moved on: exactly these bytes were consumed, and the block may have been refilled
 pub record ReaderAdvance (old new : Reader) (bytes : List ℕ) : Type 0 where
   pub moved : remaining_bytes old ≡ prepend_known bytes (remaining_bytes new)

@@ -47,8 +47,8 @@ pub struct LineReader<S: Source, R: Source> {
 }
 
 impl<S: Source, R: Source> Model for LineReader<S, R> {
-    ghost use Rattle.std.specs.Prelude.{◌≡◌, ◌≤◌, slice_range};
-    ghost use Rattle.ptlines.specs.Readers.{Reader, IsSound, reader_of};
+    ghost use Rattle.std.specs.Prelude.{slice_range};
+    ghost use Rattle.ptlines.specs.Readers.{Reader, IsValidReader, reader_of};
 
     ghost Value = { Reader };
 
@@ -58,9 +58,8 @@ impl<S: Source, R: Source> Model for LineReader<S, R> {
     ghost view = { λ r. reader_of (input_state S.state R.state r.input) (slice_range r.block r.start r.end)
         r.pulled r.fault (is_unopened_source r.input) r.terminator };
 
-    ghost invariant = { λ r. (r.start ≤ r.end) × (r.end ≤ 8192)
-        × (r.eof ≡ (input_state S.state R.state r.input).eof)
-        × IsSound (reader_of (input_state S.state R.state r.input) (slice_range r.block r.start r.end)
+    ghost invariant = { λ r. IsValidReader r.start r.end r.eof
+        (reader_of (input_state S.state R.state r.input) (slice_range r.block r.start r.end)
         r.pulled r.fault (is_unopened_source r.input) r.terminator) };
 }
 

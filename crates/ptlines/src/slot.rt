@@ -16,14 +16,14 @@ pub(crate) struct Slot<A: Allocator + Copy> {
 }
 
 impl<A: Allocator + Copy> Model for Slot<A> {
-    ghost use Rattle.std.specs.Prelude.{◌≤◌, ◌+◌, take, vec_len};
-    ghost use Rattle.ptlines.specs.Slots.{SlotBuffer};
+    ghost use Rattle.std.specs.Prelude.{take, vec_len};
+    ghost use Rattle.ptlines.specs.Slots.{SlotBuffer, IsPadded};
 
     ghost Value = { SlotBuffer };
 
     ghost view = { λ s. record { line = take s.size s.buffer.items; buffer_size = vec_len s.buffer } };
 
-    ghost invariant = { λ s. (s.size + 64 ≤ vec_len s.buffer) × (128 ≤ vec_len s.buffer) };
+    ghost invariant = { λ s. IsPadded s.size (vec_len s.buffer) };
 }
 
 impl<A: Allocator + Copy> Slot<A> {

@@ -30,15 +30,13 @@ pub struct Store<A: Allocator + Copy = Global> {
 }
 
 impl<A: Allocator + Copy> Model for Store<A> {
-    ghost use Rattle.std.specs.Prelude.{◌≡◌, ◌≤◌};
-    ghost use Rattle.ptlines.specs.Slots.{Slots, slot_lines, total_bytes, LengthsAreBounded, AreBuffersBounded};
+    ghost use Rattle.ptlines.specs.Slots.{Slots, AreCounted, slot_lines};
 
     ghost Value = { Slots };
 
     ghost view = { λ s. record { lines = slot_lines s.slots.items; peak = s.peak; denied = s.denied } };
 
-    ghost invariant = { λ s. (s.byte_count ≡ total_bytes (slot_lines s.slots.items)) × (s.byte_count ≤ s.peak)
-        × LengthsAreBounded (slot_lines s.slots.items) × AreBuffersBounded s.peak s.slots.items };
+    ghost invariant = { λ s. AreCounted s.byte_count s.peak s.slots.items };
 }
 
 // Appends the line of the slot `from` to that of the slot `to`.

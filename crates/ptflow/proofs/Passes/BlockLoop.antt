@@ -1,37 +1,59 @@
 -- A tool that works block by block. The output of each block is pushed before the next is read, so the input with no
 -- output yet is in the reader's buffer.
-use Rattle.ptflow.proofs.Common.{◌≡◌, ℕ, ◌+◌, ◌-◌, ◌≤◌, ◌<◌, ◌^◌, true, false, List, [], ◌++◌, None, Ok, Err, length, drop, refl, sym, ◌∙◌, ap, subst, arith, append_assoc, length-drop, false≢true}
-use Rattle.ptflow.proofs.Common.{append-nil, take_all, Reader, ReaderAdvance, AdvanceOk, IsDone, IsSound, HasReadCause, IsPrefix, Output, PushEffect, Slots, advance_ok_trans, push_trans, ToolSpec, PassPre, PassPost, Read, Write}
-use Rattle.ptflow.proofs.Common.{OutputPart, OutputFailed, received_with, eqb, eqb-false}
+use Rattle.ptflow.proofs.Common.{◌≡◌, ℕ, ◌+◌, ◌-◌, ◌≤◌, ◌<◌, ◌^◌, true, false, List, [], ◌++◌, None, Ok, Err, length}
+use Rattle.ptflow.proofs.Common.{drop, refl, sym, ◌∙◌, ap, subst, arith, append_assoc, length-drop, false≢true}
+use Rattle.ptflow.proofs.Common.{append-nil, take_all, Reader, ReaderAdvance, AdvanceOk, IsDone, IsSound, HasReadCause}
+use Rattle.ptflow.proofs.Common.{IsPrefix, Output, PushEffect, Slots, advance_ok_trans, push_trans, ToolSpec, PassPre}
+use Rattle.ptflow.proofs.Common.{PassPost, Read, Write, OutputPart, OutputFailed, received_with, eqb, eqb-false}
 use Rattle.ptflow.specs.Private.Passes.BlockLoop.{HasRoom, IsBlockFilter}
 use Rattle.ptflow.proofs.Passes.StepOutput.{failed_before}
 use Rattle.ptflow.proofs.Passes.Readers.{may_follow, advance_past}
-use Rattle.ptflow.proofs.Passes.Exits.{PassState, LaggedOutput, StoreBounds, store_unchanged, progress_none, pass_read, pass_write, pass_done, pass_unended}
+use Rattle.ptflow.proofs.Passes.Exits.{PassState, LaggedOutput, StoreBounds, store_unchanged, progress_none, pass_read}
+use Rattle.ptflow.proofs.Passes.Exits.{pass_write, pass_done, pass_unended}
 
 pub not_empty : (block : List ℕ) → eqb (length block) 0 ≡ false → 0 < length block
 not_empty block other = omega (arith, eqb-false (length block) 0 other)
 
 -- a counter is at most the number of bytes that were processed
-module _ {reader shown : Reader} {block : List ℕ} (advance_ok : AdvanceOk reader shown []) (buffered : shown.buffered ≡ block) (sound : IsSound reader) {counted : ℕ}
+module _ {reader shown : Reader} {block : List ℕ} (advance_ok : AdvanceOk reader shown [])
+    (buffered : shown.buffered ≡ block) (sound : IsSound reader) {counted : ℕ}
     (few : counted ≤ reader.pulled - length reader.buffered) where
   counted_block : counted + length block ≤ shown.pulled
   counted_block = omega (arith, ap length buffered)
 
   pub block_room : IsSound shown → HasRoom counted 0 (length block)
-  block_room is_sound = record { short = omega (arith, counted_block, is_sound.long advance_ok.fault); small = omega (arith, is_sound.buffered, ap length buffered) }
+  block_room is_sound =
+      record {
+        short = omega (arith, counted_block, is_sound.long advance_ok.fault);
+        small = omega (arith, is_sound.buffered, ap length buffered);
+      }
 
-  pub counted_more : {new : Reader} {more : ℕ} → new ≡ record shown { buffered = drop (length block) shown.buffered } → more ≤ counted + length block → more ≤ new.pulled - length new.buffered
+  pub counted_more : {new : Reader} {more : ℕ} → new ≡ record shown { buffered = drop (length block) shown.buffered }
+      → more ≤ counted + length block → more ≤ new.pulled - length new.buffered
   counted_more consumed least =
-      omega (arith, least, counted_block, ap (λ r. r.pulled) consumed, ap (λ r. length r.buffered) consumed, length-drop (length block) shown.buffered, ap length buffered)
+      omega (
+        arith,
+        least,
+        counted_block,
+        ap (λ r. r.pulled) consumed,
+        ap (λ r. length r.buffered) consumed,
+        length-drop (length block) shown.buffered,
+        ap length buffered,
+      )
 
-unfoldable pub pass_state_starts : {X : Type 0} {rest_from : X → List ℕ → List ℕ} {start : X} {old : Reader} {was : Output} → old.fault ≡ None → was.write_failed ≡ false
-    → PassState rest_from start start old old was was
-pass_state_starts {old} {was} readable clean = record { given = []; pushed = []; reached = progress_none old was readable clean; on = λ rest may. refl }
+unfoldable pub pass_state_starts : {X : Type 0} {rest_from : X → List ℕ → List ℕ} {start : X} {old : Reader}
+    {was : Output}
+    → old.fault ≡ None → was.write_failed ≡ false → PassState rest_from start start old old was was
+pass_state_starts {old} {was} readable
+    clean = record { given = []; pushed = []; reached = progress_none old was readable clean; on = λ rest may. refl }
 
-module _ {X : Type 0} {rest_from : X → List ℕ → List ℕ} {start : X} {now : X} {old reader shown : Reader} {block : List ℕ} {was is : Output}
-    (m : PassState rest_from start now old reader was is) (advance_ok : AdvanceOk reader shown []) (buffered : shown.buffered ≡ block) where
+module _ {X : Type 0} {rest_from : X → List ℕ → List ℕ} {start : X} {now : X} {old reader shown : Reader}
+    {block : List ℕ} {was is : Output}
+    (m : PassState rest_from start now old reader was is) (advance_ok : AdvanceOk reader shown [])
+    (buffered : shown.buffered ≡ block) where
   -- the output of the block was pushed, and the block consumed
-  unfoldable pub pass_state_more : {next : X} {new : Reader} {is' : Output} → new ≡ record shown { buffered = drop (length block) shown.buffered }
+  unfoldable pub pass_state_more : {next : X} {new : Reader} {is' : Output}
+      → new ≡ record shown { buffered = drop (length block) shown.buffered }
       → OutputPart rest_from now next block is is' → PassState rest_from start next old new was is'
   pass_state_more {next} {new} consumed c = record {
     given = m.given ++ block;
@@ -42,15 +64,23 @@ module _ {X : Type 0} {rest_from : X → List ℕ → List ℕ} {start : X} {now
       clean = c.clean;
     };
     on = λ rest may.
-        cc (append_assoc m.given block rest, m.on (block ++ rest) (may_follow _ _ _ rest whole.reads may), c.on rest, append_assoc m.pushed c.pushed (rest_from next rest));
+        cc (
+          append_assoc m.given block rest,
+          m.on (block ++ rest) (may_follow _ _ _ rest whole.reads may),
+          c.on rest,
+          append_assoc m.pushed c.pushed (rest_from next rest),
+        );
   }
     where
       whole : AdvanceOk reader new block
-      whole = rw (take_all (length block) block (omega arith)) at (advance_past (length block) advance_ok buffered (omega arith) consumed)
+      whole = rw (take_all (length block) block (omega arith)) at
+          (advance_past (length block) advance_ok buffered (omega arith) consumed)
 
-module _ {X : Type 0} {tool : ToolSpec} {rest_from : X → List ℕ → List ℕ} {IsUnchanged : X → X → Type 0} {start : X} (b : IsBlockFilter tool rest_from IsUnchanged start)
+module _ {X : Type 0} {tool : ToolSpec} {rest_from : X → List ℕ → List ℕ} {IsUnchanged : X → X → Type 0} {start : X}
+    (b : IsBlockFilter tool rest_from IsUnchanged start)
     {now : X} {old reader new : Reader} {was is : Output} {store : Slots}
-    (m : PassState rest_from start now old reader was is) (ready : PassPre old store) (sound : IsSound reader) (reads : ReaderAdvance reader new [])
+    (m : PassState rest_from start now old reader was is) (ready : PassPre old store) (sound : IsSound reader)
+    (reads : ReaderAdvance reader new [])
     (is_sound : IsSound new) (holds : IsUnchanged start start → IsUnchanged start now)
     (all : (rest : List ℕ) → rest_from start (m.given ++ rest) ≡ m.pushed ++ rest_from now rest) where
   -- the output that was pushed before this block
@@ -72,27 +102,35 @@ module _ {X : Type 0} {tool : ToolSpec} {rest_from : X → List ℕ → List ℕ
   pub block_read : HasReadCause reader new → PassPost tool old new was is store store (Err (Read 0))
   block_read cause = pass_read b.text m ready sound reads stored processing cause ready.not_denied decided
     where
-      decided : new.buffered ≡ [] → new.eof ≡ false → IsPrefix (tool.decided (received_with (m.given ++ []) new)) m.pushed
+      decided : new.buffered ≡ [] → new.eof ≡ false
+          → IsPrefix (tool.decided (received_with (m.given ++ []) new)) m.pushed
       decided empty going =
-          subst (λ g. IsPrefix (tool.decided g) m.pushed) (λ i. record
-          { bytes = (sym (append-nil m.given) ∙ sym (append-nil (m.given ++ [])) ∙ ap (◌++◌ (m.given ++ [])) (sym empty)) i; eof = sym going i })
+          subst (λ g. IsPrefix (tool.decided g) m.pushed) (λ i. record {
+            bytes =
+                (sym (append-nil m.given) ∙ sym (append-nil (m.given ++ [])) ∙ ap (◌++◌ (m.given ++ [])) (sym empty)) i;
+            eof = sym going i;
+          })
           (b.decided m.given m.pushed now (holds b.holds) all)
 
   -- a write failed at the block
-  pub block_write : {is' : Output} {block : List ℕ} → new.buffered ≡ block → OutputFailed rest_from now block is is' → new.failed ≡ reader.failed
-      → PassPost tool old new was is' store store (Err Write)
+  pub block_write : {is' : Output} {block : List ℕ} → new.buffered ≡ block → OutputFailed rest_from now block is is'
+      → new.failed ≡ reader.failed → PassPost tool old new was is' store store (Err Write)
   block_write buffered h same =
       pass_write b.text m ready sound reads stored processing h.wrote h.fault same ready.not_denied
       (λ rest may. rw buffered (h.is_prefix rest))
 
   -- the buffered output could not be written
-  pub block_flush_failed : {is' : Output} → PushEffect is is' [] → is'.write_failed ≡ true → new.failed ≡ reader.failed → PassPost tool old new was is' store store (Err Write)
+  pub block_flush_failed : {is' : Output} → PushEffect is is' [] → is'.write_failed ≡ true → new.failed ≡ reader.failed
+      → PassPost tool old new was is' store store (Err Write)
   block_flush_failed wrote fault same = block_write refl (failed_before rest_from now new.buffered wrote fault) same
 
-  module _ {is' : Output} (wrote : PushEffect is is' (rest_from now [])) (done : IsDone new) (same : new.failed ≡ reader.failed) where
-    pub block_done : is'.write_failed ≡ false → new.fault ≡ None → new.pulled < 2 ^ 63 → PassPost tool old new was is' store store (Ok tt)
+  module _ {is' : Output} (wrote : PushEffect is is' (rest_from now [])) (done : IsDone new)
+      (same : new.failed ≡ reader.failed) where
+    pub block_done : is'.write_failed ≡ false → new.fault ≡ None → new.pulled < 2 ^ 63
+        → PassPost tool old new was is' store store (Ok tt)
     block_done fine fault short = pass_done b.text m ready sound reads stored processing wrote
         done refl same ready.not_denied fine fault short ready.empty
 
     pub block_unended : is'.write_failed ≡ true → PassPost tool old new was is' store store (Err Write)
-    block_unended fault = pass_unended b.text m ready sound reads stored processing wrote done refl same ready.not_denied fault
+    block_unended fault =
+        pass_unended b.text m ready sound reads stored processing wrote done refl same ready.not_denied fault

@@ -2,9 +2,13 @@
 -- allocation failed, or the input ended. Between two steps (`PassState`) the pushed bytes, followed by the output for
 -- the rest, are the output for every continuation of the input. So the output is exact at the end of the input, it is a
 -- prefix of the output for each consistent input, and decided output is written.
-use Rattle.ptflow.proofs.Common.{◌≡◌, ⊎_elim, inl, inr, ℕ, ◌≤◌, ◌<◌, ◌^◌, true, false, List, [], ◌++◌, length, None, Result, Ok, Err, max, refl, sym, ◌∙◌, ap, arith, append_assoc, common_steps}
-use Rattle.ptflow.proofs.Common.{append-nil, false≢true, Reader, ReaderAdvance, AdvanceOk, IsDone, IsSound, HasReadCause, Received, IsPrefix, IsConsistent, Output, PushEffect, Slots, total_bytes, received_with, has_received, has_received_set}
-use Rattle.ptflow.proofs.Common.{advance_trans, push_nothing, push_trans, ToolSpec, PassPre, PassOutcome, AddedSlots, PassPost, StorelessPost, ProcessLag, BoundedLag, bounded_lag_now, bounded_lag_after, FlowFault, Read, Write, Memory}
+use Rattle.ptflow.proofs.Common.{◌≡◌, ⊎_elim, inl, inr, ℕ, ◌≤◌, ◌<◌, ◌^◌, true, false, List, [], ◌++◌, length, None}
+use Rattle.ptflow.proofs.Common.{Result, Ok, Err, max, refl, sym, ◌∙◌, ap, arith, append_assoc, common_steps}
+use Rattle.ptflow.proofs.Common.{append-nil, false≢true, Reader, ReaderAdvance, AdvanceOk, IsDone, IsSound}
+use Rattle.ptflow.proofs.Common.{HasReadCause, Received, IsPrefix, IsConsistent, Output, PushEffect, Slots, total_bytes}
+use Rattle.ptflow.proofs.Common.{received_with, has_received, has_received_set, advance_trans, push_nothing, push_trans}
+use Rattle.ptflow.proofs.Common.{ToolSpec, PassPre, PassOutcome, AddedSlots, PassPost, StorelessPost, ProcessLag}
+use Rattle.ptflow.proofs.Common.{BoundedLag, bounded_lag_now, bounded_lag_after, FlowFault, Read, Write, Memory}
 use Rattle.ptflow.proofs.Passes.Readers.{advance_none, never_failed, stays_at_eof}
 
 -- these bytes were read, and these pushed
@@ -13,12 +17,15 @@ pub record Progress (old reader : Reader) (was is : Output) (given pushed : List
   pub wrote : PushEffect was is pushed
   pub clean : is.write_failed ≡ false
 
-pub progress_none : (old : Reader) (was : Output) → old.fault ≡ None → was.write_failed ≡ false → Progress old old was was [] []
-progress_none old was readable clean = record { advance_ok = advance_none old readable; wrote = push_nothing was; clean = clean }
+pub progress_none : (old : Reader) (was : Output) → old.fault ≡ None → was.write_failed ≡ false
+    → Progress old old was was [] []
+progress_none old was readable clean =
+    record { advance_ok = advance_none old readable; wrote = push_nothing was; clean = clean }
 
 -- the buffered output was written
-abbrev pub progress_flushed : {old reader : Reader} {was is is' : Output} {given pushed : List ℕ} → Progress old reader was is given pushed → PushEffect is is' []
-    → is'.write_failed ≡ false → Progress old reader was is' given pushed
+abbrev pub progress_flushed : {old reader : Reader} {was is is' : Output} {given pushed : List ℕ}
+    → Progress old reader was is given pushed → PushEffect is is' [] → is'.write_failed ≡ false
+    → Progress old reader was is' given pushed
 progress_flushed {pushed} r wrote clean = record {
   advance_ok = r.advance_ok;
   wrote = rw (append-nil pushed) at (push_trans _ _ _ _ _ r.clean r.wrote wrote);
@@ -26,14 +33,18 @@ progress_flushed {pushed} r wrote clean = record {
 }
 
 -- The state between two steps: after the end of the input the continuation is empty, and else it is any text.
-pub record PassState {X : Type 0} (rest_from : X → List ℕ → List ℕ) (start now : X) (old reader : Reader) (was is : Output) : Type 0 where
+pub record PassState {X : Type 0} (rest_from : X → List ℕ → List ℕ) (start now : X) (old reader : Reader)
+    (was is : Output) : Type 0 where
   pub given : List ℕ
   pub pushed : List ℕ
   pub reached : Progress old reader was is given pushed
-  pub on : (rest : List ℕ) → (IsDone reader → rest ≡ []) → rest_from start (given ++ rest) ≡ pushed ++ rest_from now rest
+  pub on : (rest : List ℕ) → (IsDone reader → rest ≡ [])
+      → rest_from start (given ++ rest) ≡ pushed ++ rest_from now rest
 
-abbrev pub pass_state_flushed : {X : Type 0} {rest_from : X → List ℕ → List ℕ} {start now : X} {old reader : Reader} {was is is' : Output}
-    → PassState rest_from start now old reader was is → PushEffect is is' [] → is'.write_failed ≡ false → PassState rest_from start now old reader was is'
+abbrev pub pass_state_flushed : {X : Type 0} {rest_from : X → List ℕ → List ℕ} {start now : X} {old reader : Reader}
+    {was is is' : Output}
+    → PassState rest_from start now old reader was is → PushEffect is is' [] → is'.write_failed ≡ false
+    → PassState rest_from start now old reader was is'
 pass_state_flushed m wrote clean = record
     { given = m.given; pushed = m.pushed; reached = progress_flushed m.reached wrote clean; on = m.on }
 
@@ -49,7 +60,8 @@ pub record StoreBounds (tool : ToolSpec) (before store : Slots) (given : Receive
   pub keeps_store : tool.slots ≡ 0 → store ≡ before
 
 -- the store is unchanged
-pub store_unchanged : {tool : ToolSpec} {store : Slots} {given : Received} → tool.slots ≡ 0 → StoreBounds tool store store given
+pub store_unchanged : {tool : ToolSpec} {store : Slots} {given : Received} → tool.slots ≡ 0
+    → StoreBounds tool store store given
 store_unchanged none = record {
   peak = λ input a. omega arith;
   adds = record { least = omega arith; most = omega arith; all = λ allowed. omega (arith, none) };
@@ -58,7 +70,8 @@ store_unchanged none = record {
 }
 
 -- on an output that has failed, nothing is done
-pub pass_unchanged : (tool : ToolSpec) (old : Reader) (was : Output) (before : Slots) → PassPre old before → was.write_failed ≡ true → PassPost tool old old was was before before (Err Write)
+pub pass_unchanged : (tool : ToolSpec) (old : Reader) (was : Output) (before : Slots) → PassPre old before
+    → was.write_failed ≡ true → PassPost tool old old was was before before (Err Write)
 pass_unchanged tool old was before ready fault = record {
   given = received_with [] old;
   came = has_received old old [] (advance_none old ready.readable).reads;
@@ -79,14 +92,26 @@ pass_unchanged tool old was before ready fault = record {
 }
 
 -- setting the terminator of a reader does not change the input that is read
-module _ (tool : ToolSpec) (end : ℕ) (old : Reader) {set : Reader} (new : Reader) (was is : Output) (before store : Slots) (same : set ≡ record old { terminator = end }) where
-  ends_set : (result : Result (Unit {0}) FlowFault) → PassOutcome (record old { terminator = end }) new is store result → PassOutcome old new is store result
-  ends_set (Ok u) e = record { done = e.done; fault = e.fault; failed = e.failed; clean = e.clean; denied = e.denied; empty = e.empty; short = e.short }
+module _ (tool : ToolSpec) (end : ℕ) (old : Reader) {set : Reader} (new : Reader) (was is : Output)
+    (before store : Slots) (same : set ≡ record old { terminator = end }) where
+  ends_set : (result : Result (Unit {0}) FlowFault) → PassOutcome (record old { terminator = end }) new is store result
+      → PassOutcome old new is store result
+  ends_set (Ok u) e =
+      record {
+        done = e.done;
+        fault = e.fault;
+        failed = e.failed;
+        clean = e.clean;
+        denied = e.denied;
+        empty = e.empty;
+        short = e.short;
+      }
   ends_set (Err (Read place)) e = record { cause = e.cause; clean = e.clean; denied = e.denied; only = e.only }
   ends_set (Err Write) e = record { write_failed = e.write_failed; failed = e.failed; denied = e.denied }
   ends_set (Err Memory) e = record { denied = e.denied; failed = e.failed; clean = e.clean }
 
-  pub pass_set : {result : Result (Unit {0}) FlowFault} → was.write_failed ≡ false → PassPost tool set new was is before store result → PassPost tool old new was is before store result
+  pub pass_set : {result : Result (Unit {0}) FlowFault} → was.write_failed ≡ false
+      → PassPost tool set new was is before store result → PassPost tool old new was is before store result
   pass_set {result} clean pass =
       let p = rw same at pass in
       record {
@@ -101,7 +126,11 @@ module _ (tool : ToolSpec) (end : ℕ) (old : Reader) {set : Reader} (new : Read
         is_exact = p.is_exact;
         peak = p.peak;
         slots = p.slots;
-        refused = λ fine few. record { same_reader = (p.refused fine few).same_reader; same_output = (p.refused fine few).same_output };
+        refused =
+            λ fine few. record {
+              same_reader = (p.refused fine few).same_reader;
+              same_output = (p.refused fine few).same_output;
+            };
         keeps_store = p.keeps_store;
         stays_done = λ done. p.stays_done (record { eof = done.eof; buffered = done.buffered; left = done.left });
         line_left = p.line_left;
@@ -109,16 +138,23 @@ module _ (tool : ToolSpec) (end : ℕ) (old : Reader) {set : Reader} (new : Read
       }
 
 -- like `pass_set`, without a store
-pub storeless_set : (tool : ToolSpec) (end : ℕ) (old set new : Reader) (was is : Output) (store : Slots) → set ≡ record old { terminator = end } → (result : Result (Unit {0}) FlowFault)
-    → was.write_failed ≡ false → PassPre old store → StorelessPost tool set new was is result → PassPost tool old new was is store store result
+pub storeless_set : (tool : ToolSpec) (end : ℕ) (old set new : Reader) (was is : Output) (store : Slots)
+    → set ≡ record old { terminator = end } → (result : Result (Unit {0}) FlowFault)
+    → was.write_failed ≡ false → PassPre old store → StorelessPost tool set new was is result
+    → PassPost tool old new was is store store result
 storeless_set tool end old set new was is store same result clean ready bare =
     pass_set _ end old _ _ _ _ _ same clean
-    (bare store (rw same (record { opened = ready.opened; readable = ready.readable; not_denied = ready.not_denied; empty = ready.empty })))
+    (bare store
+    (rw same
+    (record { opened = ready.opened; readable = ready.readable; not_denied = ready.not_denied; empty = ready.empty })))
 
 -- a slot could not be allocated
-module _ (tool : ToolSpec) {old : Reader} (was : Output) {before store : Slots} (ready : PassPre old before) (sound : IsSound old) (clean : was.write_failed ≡ false)
-    (adds : AddedSlots before store tool.slots) (few : length store.lines < tool.slots) (same : store.peak ≡ before.peak) (denied : store.denied ≡ true) where
-  received_before : (decided : IsPrefix (tool.decided (record { bytes = []; eof = false })) []) → LaggedOutput tool (received_with [] old) []
+module _ (tool : ToolSpec) {old : Reader} (was : Output) {before store : Slots} (ready : PassPre old before)
+    (sound : IsSound old) (clean : was.write_failed ≡ false)
+    (adds : AddedSlots before store tool.slots) (few : length store.lines < tool.slots)
+    (same : store.peak ≡ before.peak) (denied : store.denied ≡ true) where
+  received_before : (decided : IsPrefix (tool.decided (record { bytes = []; eof = false })) [])
+      → LaggedOutput tool (received_with [] old) []
   received_before decided = record {
     before = λ u. record {
       earlier = record { bytes = []; eof = false };
@@ -130,7 +166,9 @@ module _ (tool : ToolSpec) {old : Reader} (was : Output) {before store : Slots} 
     begins = decided;
   }
 
-  pub pass_unslotted : 0 < tool.slots → old.terminator ≡ tool.end → IsPrefix (tool.decided (record { bytes = []; eof = false })) [] → PassPost tool old old was was before store (Err Memory)
+  pub pass_unslotted : 0 < tool.slots → old.terminator ≡ tool.end
+      → IsPrefix (tool.decided (record { bytes = []; eof = false })) []
+      → PassPost tool old old was was before store (Err Memory)
   pass_unslotted some ends decided = record {
     given = received_with [] old;
     came = has_received old old [] (advance_none old ready.readable).reads;
@@ -138,7 +176,8 @@ module _ (tool : ToolSpec) {old : Reader} (was : Output) {before store : Slots} 
     wrote = push_nothing was;
     ends = record { denied = denied; failed = refl; clean = clean };
     is_prefix = λ input a. record { rest = tool.text input; is = refl };
-    decided_is_written = λ failed fine. absurd (false≢true (cc (never_failed ready (advance_none old ready.readable) sound)));
+    decided_is_written =
+        λ failed fine. absurd (false≢true (cc (never_failed ready (advance_none old ready.readable) sound)));
     bounded_lag = λ fine. bounded_lag_now _ _ _ _ _ (received_before decided) (push_nothing was) clean;
     is_exact = λ ok. cc;
     peak = λ input a. omega arith;
@@ -151,15 +190,19 @@ module _ (tool : ToolSpec) {old : Reader} (was : Output) {before store : Slots} 
   }
 
 -- a tool that is given a store that is not denied, and leaves it unchanged, never returns `Memory`
-pub never_memory : {tool : ToolSpec} {old new : Reader} {was is : Output} {store : Slots} {result : Result (Unit {0}) FlowFault} → store.denied ≡ false
-    → PassPost tool old new was is store store result → result ≡ Err Memory → ⊥
+pub never_memory : {tool : ToolSpec} {old new : Reader} {was is : Output} {store : Slots}
+    {result : Result (Unit {0}) FlowFault}
+    → store.denied ≡ false → PassPost tool old new was is store store result → result ≡ Err Memory → ⊥
 never_memory {old} {new} {is} {store} not_denied p e =
     let ends : PassOutcome old new is store (Err Memory) = rw e at p.ends in
     false≢true (cc)
 
-module _ {X : Type 0} {rest_from : X → List ℕ → List ℕ} {start : X} {tool : ToolSpec} (is_text : (bytes : List ℕ) → rest_from start bytes ≡ tool.text bytes)
-    {now : X} {old reader new : Reader} {was is : Output} {before store : Slots} (m : PassState rest_from start now old reader was is) (ready : PassPre old before) (sound : IsSound reader)
-    {piece : List ℕ} (reads : ReaderAdvance reader new piece) (stored : StoreBounds tool before store (received_with (m.given ++ piece) new))
+module _ {X : Type 0} {rest_from : X → List ℕ → List ℕ} {start : X} {tool : ToolSpec}
+    (is_text : (bytes : List ℕ) → rest_from start bytes ≡ tool.text bytes)
+    {now : X} {old reader new : Reader} {was is : Output} {before store : Slots}
+    (m : PassState rest_from start now old reader was is) (ready : PassPre old before) (sound : IsSound reader)
+    {piece : List ℕ} (reads : ReaderAdvance reader new piece)
+    (stored : StoreBounds tool before store (received_with (m.given ++ piece) new))
     (processing : LaggedOutput tool (received_with (m.given ++ piece) new) m.pushed) where
   same_failed : new.failed ≡ reader.failed → new.failed ≡ old.failed
   same_failed same = cc
@@ -167,11 +210,13 @@ module _ {X : Type 0} {rest_from : X → List ℕ → List ℕ} {start : X} {too
   continued : new.failed ≡ reader.failed → new.failed ≡ false
   continued same = same ∙ never_failed ready m.reached.advance_ok sound
 
-  text_of : {input : List ℕ} (a : IsConsistent (received_with (m.given ++ piece) new) input) → tool.text input ≡ m.pushed ++ rest_from now (piece ++ (new.buffered ++ a.rest))
+  text_of : {input : List ℕ} (a : IsConsistent (received_with (m.given ++ piece) new) input)
+      → tool.text input ≡ m.pushed ++ rest_from now (piece ++ (new.buffered ++ a.rest))
   text_of a = grind (arith, common_steps)
 
   abbrev bounded_lag : Output → List ℕ → Type 0
-  bounded_lag is' pushed = BoundedLag {I = Unit {0}} (λ given. tool.decided (given tt)) (λ u. received_with (m.given ++ piece) new) was is' pushed
+  bounded_lag is' pushed = BoundedLag {I = Unit {0}} (λ given. tool.decided (given tt))
+      (λ u. received_with (m.given ++ piece) new) was is' pushed
 
   still : bounded_lag is m.pushed
   still = bounded_lag_now _ _ _ _ _ processing m.reached.wrote m.reached.clean
@@ -179,10 +224,14 @@ module _ {X : Type 0} {rest_from : X → List ℕ → List ℕ} {start : X} {too
   more : (is' : Output) (bytes : List ℕ) → PushEffect is is' bytes → bounded_lag is' (m.pushed ++ bytes)
   more = bounded_lag_after _ _ _ _ _ processing m.reached.wrote m.reached.clean
 
-  pass : {is' : Output} {pushed : List ℕ} {result : Result (Unit {0}) FlowFault} → PushEffect was is' pushed → bounded_lag is' pushed → PassOutcome old new is' store result
-      → ((input : List ℕ) → IsConsistent (received_with (m.given ++ piece) new) input → IsPrefix pushed (tool.text input))
-      → (new.failed ≡ true → is'.write_failed ≡ false → IsPrefix (tool.decided (received_with (m.given ++ piece) new)) pushed)
-      → (result ≡ Ok tt → pushed ≡ tool.text ((m.given ++ piece) ++ new.buffered)) → (result ≡ Err Memory → IsDone new → ⊥) → PassPost tool old new was is' before store result
+  pass : {is' : Output} {pushed : List ℕ} {result : Result (Unit {0}) FlowFault} → PushEffect was is' pushed
+      → bounded_lag is' pushed → PassOutcome old new is' store result
+      → ((input : List ℕ) → IsConsistent (received_with (m.given ++ piece) new) input
+      → IsPrefix pushed (tool.text input))
+      → (new.failed ≡ true → is'.write_failed ≡ false
+      → IsPrefix (tool.decided (received_with (m.given ++ piece) new)) pushed)
+      → (result ≡ Ok tt → pushed ≡ tool.text ((m.given ++ piece) ++ new.buffered))
+      → (result ≡ Err Memory → IsDone new → ⊥) → PassPost tool old new was is' before store result
   pass {pushed} wrote keeps ends is_prefix decided_is_written whole left = record {
     given = received_with (m.given ++ piece) new;
     came = has_received _ _ _ advanced;
@@ -205,27 +254,39 @@ module _ {X : Type 0} {rest_from : X → List ℕ → List ℕ} {start : X} {too
       advanced : ReaderAdvance old new (m.given ++ piece)
       advanced = advance_trans _ _ _ _ _ m.reached.advance_ok.reads reads
 
-  begins : (input : List ℕ) → IsConsistent (received_with (m.given ++ piece) new) input → IsPrefix m.pushed (tool.text input)
+  begins : (input : List ℕ) → IsConsistent (received_with (m.given ++ piece) new) input
+      → IsPrefix m.pushed (tool.text input)
   begins input a = record { rest = rest_from now (piece ++ (new.buffered ++ a.rest)); is = text_of a }
 
   -- a read failed
-  pub pass_read : HasReadCause reader new → store.denied ≡ false → (new.buffered ≡ [] → new.eof ≡ false
-      → IsPrefix (tool.decided (received_with (m.given ++ piece) new)) m.pushed) → PassPost tool old new was is before store (Err (Read 0))
+  pub pass_read : HasReadCause reader new → store.denied ≡ false
+      → (new.buffered ≡ [] → new.eof ≡ false → IsPrefix (tool.decided (received_with (m.given ++ piece) new)) m.pushed)
+      → PassPost tool old new was is before store (Err (Read 0))
   pass_read cause not_denied decided =
       pass m.reached.wrote still
-      (record { cause = ⊎_elim inl (λ c. inr (c.0, same_failed c.1)) cause; clean = m.reached.clean; denied = not_denied; only = refl })
-      begins (λ failed fine. ⊎_elim (λ c. decided c.1 c.2) (λ c. absurd (false≢true (cc (continued c.1)))) cause) (λ ok. cc) (λ memory. cc)
+      (record {
+        cause = ⊎_elim inl (λ (many, same). inr (many, same_failed same)) cause;
+        clean = m.reached.clean;
+        denied = not_denied;
+        only = refl;
+      })
+      begins (λ failed fine. ⊎_elim (λ (_, empty, going). decided empty going)
+      (λ (_, same). absurd (false≢true (cc (continued same)))) cause) (λ ok. cc) (λ memory. cc)
 
   -- the store could not grow
-  pub pass_memory : new.failed ≡ reader.failed → store.denied ≡ true → 0 < length new.buffered → PassPost tool old new was is before store (Err Memory)
+  pub pass_memory : new.failed ≡ reader.failed → store.denied ≡ true → 0 < length new.buffered
+      → PassPost tool old new was is before store (Err Memory)
   pass_memory same denied left =
       pass m.reached.wrote still (record { denied = denied; failed = same_failed same; clean = m.reached.clean })
       begins (λ failed fine. absurd (false≢true (cc (continued same)))) (λ ok. cc)
       (λ memory done. omega (arith, left, ap length done.buffered))
 
   -- a write failed while these bytes were pushed
-  pub pass_write : {is' : Output} {bytes : List ℕ} → PushEffect is is' bytes → is'.write_failed ≡ true → new.failed ≡ reader.failed → store.denied ≡ false
-      → ((rest : List ℕ) → (new.eof ≡ true → rest ≡ []) → IsPrefix bytes (rest_from now (piece ++ (new.buffered ++ rest)))) → PassPost tool old new was is' before store (Err Write)
+  pub pass_write : {is' : Output} {bytes : List ℕ} → PushEffect is is' bytes → is'.write_failed ≡ true
+      → new.failed ≡ reader.failed → store.denied ≡ false
+      → ((rest : List ℕ) → (new.eof ≡ true → rest ≡ [])
+      → IsPrefix bytes (rest_from now (piece ++ (new.buffered ++ rest))))
+      → PassPost tool old new was is' before store (Err Write)
   pass_write {bytes} wrote fault same not_denied fronts =
       pass (push_trans _ _ _ _ _ m.reached.clean m.reached.wrote wrote) (more _ _ wrote)
       (record { write_failed = fault; failed = same_failed same; denied = not_denied })
@@ -236,21 +297,33 @@ module _ {X : Type 0} {rest_from : X → List ℕ → List ℕ} {start : X} {too
       (λ failed fine. absurd (false≢true (cc))) (λ ok. cc) (λ memory. cc)
 
   -- the end of the input was reached
-  module _ {is' : Output} (wrote : PushEffect is is' (rest_from now [])) (done : IsDone new) (none : piece ≡ []) (same : new.failed ≡ reader.failed) (not_denied : store.denied ≡ false) where
+  module _ {is' : Output} (wrote : PushEffect is is' (rest_from now [])) (done : IsDone new) (none : piece ≡ [])
+      (same : new.failed ≡ reader.failed) (not_denied : store.denied ≡ false) where
     nothing_left : (rest : List ℕ) → (new.eof ≡ true → rest ≡ []) → piece ++ (new.buffered ++ rest) ≡ []
     nothing_left rest whole = λ i. none i ++ (done.buffered i ++ whole done.eof i)
 
     -- and the output that is due there was pushed
-    pub pass_done : is'.write_failed ≡ false → new.fault ≡ None → new.pulled < 2 ^ 63 → total_bytes store.lines ≡ 0 → PassPost tool old new was is' before store (Ok tt)
+    pub pass_done : is'.write_failed ≡ false → new.fault ≡ None → new.pulled < 2 ^ 63 → total_bytes store.lines ≡ 0
+        → PassPost tool old new was is' before store (Ok tt)
     pass_done fine fault short empty =
         pass (push_trans _ _ _ _ _ m.reached.clean m.reached.wrote wrote) (more _ _ wrote)
-        (record { done = done; fault = fault; failed = same_failed same; clean = fine; denied = not_denied; empty = empty; short = short })
+        (record {
+          done = done;
+          fault = fault;
+          failed = same_failed same;
+          clean = fine;
+          denied = not_denied;
+          empty = empty;
+          short = short;
+        })
         (λ input a. record { rest = []; is = all_of input a ∙ sym (append-nil (m.pushed ++ rest_from now [])) })
         (λ failed good. absurd (false≢true (cc (continued same))))
-        (λ ok. sym (all_of ((m.given ++ piece) ++ new.buffered) (record { rest = []; is = sym (append-nil ((m.given ++ piece) ++ new.buffered)); whole = λ eof. refl })))
+        (λ ok. sym (all_of ((m.given ++ piece) ++ new.buffered)
+        (record { rest = []; is = sym (append-nil ((m.given ++ piece) ++ new.buffered)); whole = λ eof. refl })))
         (λ memory. cc)
       where
-        all_of : (input : List ℕ) → IsConsistent (received_with (m.given ++ piece) new) input → tool.text input ≡ m.pushed ++ rest_from now []
+        all_of : (input : List ℕ) → IsConsistent (received_with (m.given ++ piece) new) input
+            → tool.text input ≡ m.pushed ++ rest_from now []
         all_of input a = cc (text_of a, nothing_left a.rest a.whole)
 
     -- and a write failed there

@@ -1,18 +1,26 @@
 -- A tool that works line by line. The items written for the lines so far, and then those of the rest, are the items of
 -- the whole for every continuation; so the state between two lines is a `PassState`, and each exit is a lemma of
 -- `Exits`.
-use Rattle.ptflow.proofs.Common.{◌≡◌, Bool, ℕ, ◌+◌, ◌-◌, ◌*◌, ◌<◌, ◌≤◌, ◌^◌, true, false, List, [], ◌∷◌, ◌++◌, Ok, Err, length, drop, max, refl, ◌∙◌, ap, subst, arith, append_assoc, length-append}
-use Rattle.ptflow.proofs.Common.{mul-le-mul_left, false≢true, nil_from_length, get_or-set_same, lines, complete_lines, IsLine, max_length, max_line_length, Received, known_lines, IsPrefix, IsConsistent, Output, PushEffect}
-use Rattle.ptflow.proofs.Common.{Reader, ReaderAdvance, AdvanceOk, IsDone, IsSound, HasReadCause, Slots, line, with_line, with_denied, FillPost, FillLine, advance_ok_trans, push_trans, ToolSpec, PassPre, PassPost, AddedSlots}
-use Rattle.ptflow.proofs.Common.{AreReceivedLines, LinesWritten, LinesFailed, IsLinesLength, IsSwapped, SlotsCleared, IsLineFilter, Read, Write, Memory, received_with}
+use Rattle.ptflow.proofs.Common.{◌≡◌, Bool, ℕ, ◌+◌, ◌-◌, ◌*◌, ◌<◌, ◌≤◌, ◌^◌, true, false, List, [], ◌∷◌, ◌++◌, Ok, Err}
+use Rattle.ptflow.proofs.Common.{length, drop, max, refl, ◌∙◌, ap, subst, arith, append_assoc, length-append}
+use Rattle.ptflow.proofs.Common.{mul-le-mul_left, false≢true, nil_from_length, get_or-set_same, lines, complete_lines}
+use Rattle.ptflow.proofs.Common.{IsLine, max_length, max_line_length, Received, known_lines, IsPrefix, IsConsistent}
+use Rattle.ptflow.proofs.Common.{Output, PushEffect, Reader, ReaderAdvance, AdvanceOk, IsDone, IsSound, HasReadCause}
+use Rattle.ptflow.proofs.Common.{Slots, line, with_line, with_denied, FillPost, FillLine, advance_ok_trans, push_trans}
+use Rattle.ptflow.proofs.Common.{ToolSpec, PassPre, PassPost, AddedSlots, AreReceivedLines, LinesWritten, LinesFailed}
+use Rattle.ptflow.proofs.Common.{IsLinesLength, IsSwapped, SlotsCleared, IsLineFilter, Read, Write, Memory}
+use Rattle.ptflow.proofs.Common.{received_with}
 use Rattle.ptflow.proofs.Passes.Lines.{line_split, complete_prefix, max_length-append}
-use Rattle.ptflow.proofs.Passes.LinesRead.{lines_none, lines_few, lines_on, lines_more, lines_block, line_prefix, received_longest, piece_longest, whole_before, before_line, after_line}
-use Rattle.ptflow.proofs.Passes.Exits.{Progress, progress_none, progress_flushed, PassState, LaggedOutput, StoreBounds, pass_unslotted, pass_read, pass_memory, pass_write, pass_done, pass_unended}
+use Rattle.ptflow.proofs.Passes.LinesRead.{lines_none, lines_few, lines_on, lines_more, lines_block, line_prefix}
+use Rattle.ptflow.proofs.Passes.LinesRead.{received_longest, piece_longest, whole_before, before_line, after_line}
+use Rattle.ptflow.proofs.Passes.Exits.{Progress, progress_none, progress_flushed, PassState, LaggedOutput, StoreBounds}
+use Rattle.ptflow.proofs.Passes.Exits.{pass_unslotted, pass_read, pass_memory, pass_write, pass_done, pass_unended}
 use Rattle.ptflow.proofs.Passes.Readers.{advance_none, advance_past}
 use Rattle.ptflow.proofs.Passes.Slots.{SlotBounds, bounds_weaker, bounds_line, bounds_swapped, bounds_cleared}
 
 -- These lines were read, and each of `width` slots has at most one line.
-pub record LineLoopState {S X E : Type 0} (state : S → Slots → X) (rest_from : X → List (List ℕ) → List E) (written : List E → List ℕ) (counted : X → ℕ) (end width : ℕ) (start : S) (now : X)
+pub record LineLoopState {S X E : Type 0} (state : S → Slots → X) (rest_from : X → List (List ℕ) → List E)
+    (written : List E → List ℕ) (counted : X → ℕ) (end width : ℕ) (start : S) (now : X)
     (old reader : Reader) (was is : Output) (before store : Slots) : Type 0 where
   pub given : List ℕ
   pub ls : List (List ℕ)
@@ -26,8 +34,8 @@ pub record LineLoopState {S X E : Type 0} (state : S → Slots → X) (rest_from
   pub keeps : SlotBounds width (max_length ls) before store
 
 -- the result of `fill` for a line, with the slot given as the last of `slots`
-pub filled_line : {slots width : ℕ} {came : Bool} {old new : Reader} {before after : Slots} → slots ≡ width → came ≡ true → FillPost old new before after (slots - 1) (Ok came)
-    → FillLine old new before after (width - 1)
+pub filled_line : {slots width : ℕ} {came : Bool} {old new : Reader} {before after : Slots} → slots ≡ width
+    → came ≡ true → FillPost old new before after (slots - 1) (Ok came) → FillLine old new before after (width - 1)
 filled_line same is fills = rw same at (rw is at fills)
 
 -- the number of slots is unchanged
@@ -40,14 +48,16 @@ short_block same sound = omega (arith, ap length same, sound.buffered)
 pub some_line : 0 < 1
 some_line = omega arith
 
-module _ {S X E : Type 0} {tool : ToolSpec} {state : S → Slots → X} {rest_from : X → List (List ℕ) → List E} {written : List E → List ℕ} {counted : X → ℕ} {width : ℕ} {start : S}
+module _ {S X E : Type 0} {tool : ToolSpec} {state : S → Slots → X} {rest_from : X → List (List ℕ) → List E}
+    {written : List E → List ℕ} {counted : X → ℕ} {width : ℕ} {start : S}
     (t : IsLineFilter tool state rest_from written counted width start) where
   abbrev end : ℕ
   end = tool.end
 
   -- the state between two lines
   abbrev Run : Reader → Reader → Output → Output → Slots → Slots → X → Type 0
-  Run old reader was is before store now = LineLoopState state rest_from written counted end width start now old reader was is before store
+  Run old reader was is before store now =
+      LineLoopState state rest_from written counted end width start now old reader was is before store
 
   -- some lines were processed
   abbrev On : X → X → List (List ℕ) → Output → Output → Type 0
@@ -57,10 +67,12 @@ module _ {S X E : Type 0} {tool : ToolSpec} {state : S → Slots → X} {rest_fr
   Halt = LinesFailed rest_from written
 
   none_written : written [] ≡ []
-  none_written = nil_from_length (written []) (omega (arith, ap length (t.apart [] []), length-append (written []) (written [])))
+  none_written =
+      nil_from_length (written []) (omega (arith, ap length (t.apart [] []), length-append (written []) (written [])))
 
   module _ {old : Reader} {was : Output} {before : Slots} where
-    pub run_starts : {store : Slots} → old.terminator ≡ end → PassPre old before → was.write_failed ≡ false → SlotBounds width 0 before store → Run old old was was before store (state start store)
+    pub run_starts : {store : Slots} → old.terminator ≡ end → PassPre old before → was.write_failed ≡ false
+        → SlotBounds width 0 before store → Run old old was was before store (state start store)
     run_starts {store} ends ready clean keeps = record {
       given = [];
       ls = [];
@@ -75,16 +87,19 @@ module _ {S X E : Type 0} {tool : ToolSpec} {state : S → Slots → X} {rest_fr
     }
 
     -- a slot could not be allocated
-    pub run_unslotted : {store : Slots} → old.terminator ≡ end → PassPre old before → IsSound old → was.write_failed ≡ false → AddedSlots before store width → length store.lines < width
+    pub run_unslotted : {store : Slots} → old.terminator ≡ end → PassPre old before → IsSound old
+        → was.write_failed ≡ false → AddedSlots before store width → length store.lines < width
         → store.peak ≡ before.peak → store.denied ≡ true → PassPost tool old old was was before store (Err Memory)
     run_unslotted {store} ends ready sound clean adds few same denied =
         let nothing : Received = record { bytes = []; eof = false } in
         pass_unslotted tool was ready sound clean (rw t.slots adds) (rw t.slots few) same denied (omega arith) (cc)
         (rw none_written at (t.decided store nothing [] (state start store) (λ more. refl)))
 
-    module _ {now : X} {reader : Reader} {is : Output} {store : Slots} (r : Run old reader was is before store now) where
+    module _ {now : X} {reader : Reader} {is : Output} {store : Slots}
+        (r : Run old reader was is before store now) where
       -- the buffered output was written
-      pub run_sent : {is' : Output} → PushEffect is is' [] → is'.write_failed ≡ false → Run old reader was is' before store now
+      pub run_sent : {is' : Output} → PushEffect is is' [] → is'.write_failed ≡ false
+          → Run old reader was is' before store now
       run_sent wrote clean = record {
         given = r.given;
         ls = r.ls;
@@ -106,9 +121,10 @@ module _ {S X E : Type 0} {tool : ToolSpec} {state : S → Slots → X} {rest_fr
       run_count sound is_sound = omega (arith, lines_few _ _ _ _ r.came, is_sound.long r.reached.advance_ok.fault)
 
       -- some lines more were read
-      run_more : {new : Reader} {bytes : List ℕ} (ls : List (List ℕ)) → AdvanceOk reader new bytes → AreReceivedLines end new (r.given ++ bytes) (r.ls ++ ls)
-          → {after : Slots} → SlotBounds width (max (max_length r.ls) (max_length ls)) before after
-          → {next : X} {is' : Output} → On now next ls is is' → Run old new was is' before after next
+      run_more : {new : Reader} {bytes : List ℕ} (ls : List (List ℕ)) → AdvanceOk reader new bytes
+          → AreReceivedLines end new (r.given ++ bytes) (r.ls ++ ls) → {after : Slots}
+          → SlotBounds width (max (max_length r.ls) (max_length ls)) before after → {next : X} {is' : Output}
+          → On now next ls is is' → Run old new was is' before after next
       run_more {bytes} ls advance_ok came keeps {next} c = record {
         given = r.given ++ bytes;
         ls = r.ls ++ ls;
@@ -122,18 +138,25 @@ module _ {S X E : Type 0} {tool : ToolSpec} {state : S → Slots → X} {rest_fr
         };
         first = r.first;
         on = λ more.
-            cc (append_assoc r.ls ls more, r.on (ls ++ more), c.on more, append_assoc r.passed c.passed (rest_from next more));
+            cc (
+              append_assoc r.ls ls more,
+              r.on (ls ++ more),
+              c.on more,
+              append_assoc r.passed c.passed (rest_from next more),
+            );
         count = omega (arith, length-append r.ls ls);
         keeps = bounds_weaker (max_length (r.ls ++ ls)) keeps (omega (arith, max_length-append r.ls ls));
       }
 
       -- the lines of a block were read and consumed
-      pub run_block : {shown new : Reader} {block : List ℕ} {count : ℕ} → AdvanceOk reader shown [] → shown.buffered ≡ block
-          → IsLinesLength tool.end block count → new ≡ record shown { buffered = drop count shown.buffered }
-          → {next : X} {is' : Output} → On now next (complete_lines tool.end block) is is' → Run old new was is' before store next
+      pub run_block : {shown new : Reader} {block : List ℕ} {count : ℕ} → AdvanceOk reader shown []
+          → shown.buffered ≡ block → IsLinesLength tool.end block count
+          → new ≡ record shown { buffered = drop count shown.buffered } → {next : X} {is' : Output}
+          → On now next (complete_lines tool.end block) is is' → Run old new was is' before store next
       run_block {new} {block} advance_ok buffered passed consumed c =
           let ls = complete_lines end block in
-          let front = subst (AdvanceOk reader new) (cc) (advance_past _ advance_ok buffered passed.0 consumed) in
+          let (within, _) = passed in
+          let front = subst (AdvanceOk reader new) (cc) (advance_past _ advance_ok buffered within consumed) in
           run_more ls front (lines_block r.came ls front (line_split end block).whole)
           (bounds_weaker (max (max_length r.ls) (max_length ls)) r.keeps (omega arith)) c
 
@@ -148,7 +171,11 @@ module _ {S X E : Type 0} {tool : ToolSpec} {state : S → Slots → X} {rest_fr
         pushed = written r.passed;
         reached = r.reached;
         on = λ rest may.
-            cc (lines_on _ _ _ _ r.came rest may, r.on (lines end rest), t.apart r.passed (rest_from now (lines end rest)));
+            cc (
+              lines_on _ _ _ _ r.came rest may,
+              r.on (lines end rest),
+              t.apart r.passed (rest_from now (lines end rest)),
+            );
       }
 
       -- the output that the lines so far decide was pushed
@@ -156,18 +183,22 @@ module _ {S X E : Type 0} {tool : ToolSpec} {state : S → Slots → X} {rest_fr
       decided_so given are = t.decided r.first given r.passed now (λ more. cc (r.on more))
 
       -- and after them at most a line and a block were read
-      works_line : {new : Reader} {piece : List ℕ} → ReaderAdvance reader new piece → (line behind : List ℕ) → piece ++ new.buffered ≡ line ++ behind → IsLine end line
-          → length behind ≤ 8193 → LaggedOutput tool (received_with (r.given ++ piece) new) (written r.passed)
+      works_line : {new : Reader} {piece : List ℕ} → ReaderAdvance reader new piece → (line behind : List ℕ)
+          → piece ++ new.buffered ≡ line ++ behind → IsLine end line → length behind ≤ 8193
+          → LaggedOutput tool (received_with (r.given ++ piece) new) (written r.passed)
       works_line reads line behind is_line whole short =
           let e = before_line r.came reads line behind is_line whole short in
           record { before = λ u. e.before; begins = decided_so e.before.earlier e.whole }
 
-      works_piece : {new : Reader} {piece : List ℕ} → ReaderAdvance reader new piece → IsLine end piece → IsSound new → LaggedOutput tool (received_with (r.given ++ piece) new) (written r.passed)
+      works_piece : {new : Reader} {piece : List ℕ} → ReaderAdvance reader new piece → IsLine end piece → IsSound new
+          → LaggedOutput tool (received_with (r.given ++ piece) new) (written r.passed)
       works_piece {new} {piece} reads free is_sound = works_line reads piece new.buffered refl free (omega arith)
 
       -- the slots hold at most the maximum length of a line, for each consistent input
-      stored : (after : Slots) (most : ℕ) (given : Received) → after.peak ≤ max before.peak (width * most) → AddedSlots before after width → width ≤ length after.lines
-          → ((input : List ℕ) → IsConsistent given input → most ≤ max_line_length end input) → StoreBounds tool before after given
+      stored : (after : Slots) (most : ℕ) (given : Received) → after.peak ≤ max before.peak (width * most)
+          → AddedSlots before after width → width ≤ length after.lines
+          → ((input : List ℕ) → IsConsistent given input → most ≤ max_line_length end input)
+          → StoreBounds tool before after given
       stored after most given peak adds room short = record {
         peak = λ input a. omega (arith, t.size input, mul-le-mul_left width (short input a));
         adds = rw t.slots adds;
@@ -175,73 +206,98 @@ module _ {S X E : Type 0} {tool : ToolSpec} {state : S → Slots → X} {rest_fr
         keeps_store = λ none. absurd (omega arith);
       }
 
-      kept : {after : Slots} {most : ℕ} (given : Received) → SlotBounds width most before after → ((input : List ℕ) → IsConsistent given input → most ≤ max_line_length end input) → StoreBounds tool before after given
+      kept : {after : Slots} {most : ℕ} (given : Received) → SlotBounds width most before after
+          → ((input : List ℕ) → IsConsistent given input → most ≤ max_line_length end input)
+          → StoreBounds tool before after given
       kept {most} given k = stored _ most given k.peak k.adds (omega (arith, k.adds.all k.denied))
 
-      keeps_last : {after : Slots} (bytes : List ℕ) → after ≡ with_line store (width - 1) bytes → SlotBounds width (max (max_length r.ls) (length bytes)) before after
+      keeps_last : {after : Slots} (bytes : List ℕ) → after ≡ with_line store (width - 1) bytes
+          → SlotBounds width (max (max_length r.ls) (length bytes)) before after
       keeps_last bytes told =
           let most = max (max_length r.ls) (length bytes) in
-          bounds_line _ (width - 1) bytes (bounds_weaker most r.keeps (omega arith)) (omega (arith, t.some)) (omega arith) told
+          bounds_line _ (width - 1) bytes (bounds_weaker most r.keeps (omega arith)) (omega (arith, t.some))
+          (omega arith) told
 
       module _ (ready : PassPre old before) (sound : IsSound reader) where
         -- the first part of a line was read
-        module _ {new : Reader} {piece : List ℕ} (reads : ReaderAdvance reader new piece) (free : IsLine end piece) (is_sound : IsSound new) where
-          short_piece : (input : List ℕ) → IsConsistent (received_with (r.given ++ piece) new) input → max (max_length r.ls) (length piece) ≤ max_line_length end input
+        module _ {new : Reader} {piece : List ℕ} (reads : ReaderAdvance reader new piece) (free : IsLine end piece)
+            (is_sound : IsSound new) where
+          short_piece : (input : List ℕ) → IsConsistent (received_with (r.given ++ piece) new) input
+              → max (max_length r.ls) (length piece) ≤ max_line_length end input
           short_piece = piece_longest _ _ _ _ r.came _ _ reads free
 
           -- and then a read failed
-          pub run_read : {after : Slots} → SlotBounds width (max (max_length r.ls) (length piece)) before after → HasReadCause reader new → PassPost tool old new was is before after (Err (Read 0))
+          pub run_read : {after : Slots} → SlotBounds width (max (max_length r.ls) (length piece)) before after
+              → HasReadCause reader new → PassPost tool old new was is before after (Err (Read 0))
           unfolding midway
           run_read k cause =
               pass_read (t.tool_text r.first) midway ready sound reads
-              (kept (received_with (r.given ++ piece) new) k short_piece) (works_piece reads free is_sound) cause k.denied
-              (λ empty going. decided_so (received_with (r.given ++ piece) new) (whole_before _ _ _ _ r.came _ _ reads free empty going))
+              (kept (received_with (r.given ++ piece) new) k short_piece) (works_piece reads free is_sound)
+              cause k.denied
+              (λ empty going. decided_so (received_with (r.given ++ piece) new)
+              (whole_before _ _ _ _ r.came _ _ reads free empty going))
 
-          pub run_broken : {after : Slots} → after ≡ with_line store (width - 1) piece → HasReadCause reader new → PassPost tool old new was is before after (Err (Read 0))
+          pub run_broken : {after : Slots} → after ≡ with_line store (width - 1) piece → HasReadCause reader new
+              → PassPost tool old new was is before after (Err (Read 0))
           run_broken told = run_read (keeps_last piece told)
 
           -- and then the store could not grow
-          pub run_memory : {after : Slots} → after ≡ with_denied (with_line store (width - 1) piece) → new.failed ≡ reader.failed → 0 < length new.buffered → PassPost tool old new was is before after (Err Memory)
+          pub run_memory : {after : Slots} → after ≡ with_denied (with_line store (width - 1) piece)
+              → new.failed ≡ reader.failed → 0 < length new.buffered
+              → PassPost tool old new was is before after (Err Memory)
           unfolding midway
           run_memory {after} told same left =
               let k = keeps_last piece refl in
               let denied : after.denied ≡ true = cc in
               let size : length after.lines ≡ length (with_line store (width - 1) piece).lines = cc in
               pass_memory (t.tool_text r.first) midway ready sound reads
-              (stored after (max (max_length r.ls) (length piece)) (received_with (r.given ++ piece) new) (omega (arith, k.peak, ap (λ s. s.peak) told))
-              (record { least = omega (arith, k.adds.least); most = omega (arith, k.adds.most); all = λ allowed. absurd (false≢true (cc)) })
+              (stored after (max (max_length r.ls) (length piece)) (received_with (r.given ++ piece) new)
+              (omega (arith, k.peak, ap (λ s. s.peak) told))
+              (record {
+                least = omega (arith, k.adds.least);
+                most = omega (arith, k.adds.most);
+                all = λ allowed. absurd (false≢true (cc));
+              })
               (omega (arith, k.adds.all k.denied)) short_piece) (works_piece reads free is_sound) same denied left
 
         -- reading a block failed
-        pub run_no_block : {new : Reader} → ReaderAdvance reader new [] → IsSound new → HasReadCause reader new → PassPost tool old new was is before store (Err (Read 0))
-        run_no_block reads is_sound = run_read reads tt is_sound (bounds_weaker (max (max_length r.ls) 0) r.keeps (omega arith))
+        pub run_no_block : {new : Reader} → ReaderAdvance reader new [] → IsSound new → HasReadCause reader new
+            → PassPost tool old new was is before store (Err (Read 0))
+        run_no_block reads is_sound =
+            run_read reads tt is_sound (bounds_weaker (max (max_length r.ls) 0) r.keeps (omega arith))
 
         -- a write failed at some lines, which come before the continuation
-        halts : {new : Reader} {piece : List ℕ} → ReaderAdvance reader new piece → {after : Slots} → StoreBounds tool before after (received_with (r.given ++ piece) new)
-            → LaggedOutput tool (received_with (r.given ++ piece) new) (written r.passed) → new.failed ≡ reader.failed → after.denied ≡ false
-            → {ls : List (List ℕ)} {is' : Output} → Halt now ls is is'
-            → ((rest : List ℕ) → (new.eof ≡ true → rest ≡ []) → (more : List (List ℕ)) × (lines end (piece ++ (new.buffered ++ rest)) ≡ ls ++ more))
+        halts : {new : Reader} {piece : List ℕ} → ReaderAdvance reader new piece → {after : Slots}
+            → StoreBounds tool before after (received_with (r.given ++ piece) new)
+            → LaggedOutput tool (received_with (r.given ++ piece) new) (written r.passed) → new.failed ≡ reader.failed
+            → after.denied ≡ false → {ls : List (List ℕ)} {is' : Output} → Halt now ls is is'
+            → ((rest : List ℕ) → (new.eof ≡ true → rest ≡ [])
+            → (more : List (List ℕ)) × (lines end (piece ++ (new.buffered ++ rest)) ≡ ls ++ more))
             → PassPost tool old new was is' before after (Err Write)
         unfolding midway
         halts reads s processing same not_denied h front =
-            pass_write (t.tool_text r.first) midway ready sound reads s processing h.wrote h.fault same not_denied (λ rest may.
-            let f = front rest may in
-            let on = h.is_prefix f.0 in record {
-              rest = written on.0;
-              is = cc (t.apart h.passed on.0);
+            pass_write (t.tool_text r.first) midway ready sound reads s processing h.wrote h.fault same not_denied
+            (λ rest may.
+            let (more, split) = front rest may in
+            let (later, on) = h.is_prefix more in record {
+              rest = written later;
+              is = cc (t.apart h.passed later);
             })
 
         -- the lines of a block
-        pub run_block_halts : {shown : Reader} {block : List ℕ} → IsSound shown → AdvanceOk reader shown [] → shown.buffered ≡ block
-            → {is' : Output} → Halt now (complete_lines tool.end block) is is' → PassPost tool old shown was is' before store (Err Write)
+        pub run_block_halts : {shown : Reader} {block : List ℕ} → IsSound shown → AdvanceOk reader shown []
+            → shown.buffered ≡ block → {is' : Output} → Halt now (complete_lines tool.end block) is is'
+            → PassPost tool old shown was is' before store (Err Write)
         run_block_halts {shown} {block} is_sound advance_ok buffered {is'} h =
-            halts advance_ok.reads (kept (received_with (r.given ++ []) shown) (bounds_weaker (max (max_length r.ls) 0) r.keeps (omega arith))
+            halts advance_ok.reads (kept (received_with (r.given ++ []) shown)
+            (bounds_weaker (max (max_length r.ls) 0) r.keeps (omega arith))
             (short_piece advance_ok.reads tt is_sound))
             (works_piece advance_ok.reads tt is_sound) advance_ok.failed r.keeps.denied h
             (λ rest may. (lines end ((line_split end block).piece ++ rest), cc (complete_prefix end block rest)))
 
         -- the buffered output could not be written
-        pub run_flush_failed : {is' : Output} → PushEffect is is' [] → is'.write_failed ≡ true → PassPost tool old reader was is' before store (Err Write)
+        pub run_flush_failed : {is' : Output} → PushEffect is is' [] → is'.write_failed ≡ true
+            → PassPost tool old reader was is' before store (Err Write)
         run_flush_failed wrote fault =
             run_block_halts sound (advance_none reader r.reached.advance_ok.fault) refl
             (record {
@@ -253,30 +309,39 @@ module _ {S X E : Type 0} {tool : ToolSpec} {state : S → Slots → X} {rest_fr
 
     -- ---- the line in the last slot
 
-    module _ {now : S} {reader : Reader} {is : Output} {store : Slots} (r : Run old reader was is before store (state now store)) where
+    module _ {now : S} {reader : Reader} {is : Output} {store : Slots}
+        (r : Run old reader was is before store (state now store)) where
       -- the slot has these bytes, and the state is unchanged
-      filled : {after : Slots} (bytes : List ℕ) → after ≡ with_line store (width - 1) bytes → line after (width - 1) ≡ bytes
+      filled : {after : Slots} (bytes : List ℕ) → after ≡ with_line store (width - 1) bytes
+          → line after (width - 1) ≡ bytes
       filled bytes told = cc (get_or-set_same store.lines (width - 1) bytes [] (omega (arith, run_room r)))
 
-      same_state : {after : Slots} (bytes : List ℕ) → after ≡ with_line store (width - 1) bytes → state now after ≡ state now store
+      same_state : {after : Slots} (bytes : List ℕ) → after ≡ with_line store (width - 1) bytes
+          → state now after ≡ state now store
       same_state bytes told = cc (t.stays now store bytes (run_room r))
 
       -- the number of lines with no output yet is unchanged
-      pub filled_count : IsSound old → IsSound reader → {after : Slots} (bytes : List ℕ) → after ≡ with_line store (width - 1) bytes → counted (state now after) ≤ 2 ^ 63
-      filled_count sound is_sound bytes told = omega (arith, run_count r sound is_sound, ap counted (same_state bytes told))
+      pub filled_count : IsSound old → IsSound reader → {after : Slots} (bytes : List ℕ)
+          → after ≡ with_line store (width - 1) bytes → counted (state now after) ≤ 2 ^ 63
+      filled_count sound is_sound bytes told =
+          omega (arith, run_count r sound is_sound, ap counted (same_state bytes told))
 
       module _ {new : Reader} {after : Slots} (e : FillLine reader new store after (width - 1)) where
         -- one line more was read
-        pub run_line : {next : X} {is' : Output} {after' : Slots} → On (state now after) next (line after (width - 1) ∷ []) is is' → IsSwapped width after after'
+        pub run_line : {next : X} {is' : Output} {after' : Slots}
+            → On (state now after) next (line after (width - 1) ∷ []) is is' → IsSwapped width after after'
             → Run old new was is' before after' next
         run_line {next} {is'} {after'} c swapped =
             let most = max (max_length r.ls) (max_length (e.line ∷ [])) in
-            run_more r (e.line ∷ []) e.advance_ok (lines_more _ _ _ _ r.came _ _ _ _ e (r.reached.advance_ok.reads.terminator ∙ r.terminator))
+            run_more r (e.line ∷ []) e.advance_ok
+            (lines_more _ _ _ _ r.came _ _ _ _ e (r.reached.advance_ok.reads.terminator ∙ r.terminator))
             (bounds_swapped after' t.some (bounds_weaker most (keeps_last r e.line e.stored) (omega arith)) swapped)
-            (subst (λ x. On x next (e.line ∷ []) is is') (same_state e.line e.stored) (subst (λ l. On (state now after) next (l ∷ []) is is') (filled e.line e.stored) c))
+            (subst (λ x. On x next (e.line ∷ []) is is') (same_state e.line e.stored)
+            (subst (λ l. On (state now after) next (l ∷ []) is is') (filled e.line e.stored) c))
 
         -- a write failed
-        pub run_line_halts : PassPre old before → IsSound reader → IsSound new → {is' : Output} → Halt (state now after) (line after (width - 1) ∷ []) is is'
+        pub run_line_halts : PassPre old before → IsSound reader → IsSound new → {is' : Output}
+            → Halt (state now after) (line after (width - 1) ∷ []) is is'
             → PassPost tool old new was is' before after (Err Write)
         run_line_halts ready sound is_sound h =
             let came = e.line ++ e.terminator in
@@ -286,13 +351,18 @@ module _ {S X E : Type 0} {tool : ToolSpec} {state : S → Slots → X} {rest_fr
             halts r ready sound e.advance_ok.reads (kept r (received_with (r.given ++ came) new)
             (bounds_weaker (max_length (r.ls ++ e.line ∷ [])) k (omega (arith, max_length-append r.ls (e.line ∷ []))))
             (received_longest _ _ _ _ more))
-            (works_line r e.advance_ok.reads e.line (e.terminator ++ new.buffered) (append_assoc e.line e.terminator new.buffered) (rw ends at e.whole)
+            (works_line r e.advance_ok.reads e.line (e.terminator ++ new.buffered)
+            (append_assoc e.line e.terminator new.buffered) (rw ends at e.whole)
             (after_line e is_sound)) e.advance_ok.failed k.denied
-            (rw (same_state e.line e.stored) at (rw (filled e.line e.stored) at h)) (λ rest may.
-            (lines end (new.buffered ++ rest), line_prefix _ _ _ _ r.came _ _ _ _ e ends (new.buffered ++ rest) (λ done. λ i. done.buffered i ++ may done.eof i)))
+            (rw (same_state e.line e.stored) at (rw (filled e.line e.stored) at h)) (λ rest may. (
+              lines end (new.buffered ++ rest),
+              line_prefix _ _ _ _ r.came _ _ _ _ e ends (new.buffered ++ rest)
+                  (λ done. λ i. done.buffered i ++ may done.eof i),
+            ))
 
       -- the end of the input was reached
-      module _ (ready : PassPre old before) (sound : IsSound reader) {new : Reader} (is_sound : IsSound new) (advance_ok : AdvanceOk reader new []) (done : IsDone new)
+      module _ (ready : PassPre old before) (sound : IsSound reader) {new : Reader} (is_sound : IsSound new)
+          (advance_ok : AdvanceOk reader new []) (done : IsDone new)
           {after : Slots} (told : after ≡ with_line store (width - 1) [])
           {is' : Output} (wrote : PushEffect is is' (written (rest_from (state now after) []))) where
         last : PushEffect is is' (bytes_from r (state now store) [])
@@ -301,17 +371,21 @@ module _ {S X E : Type 0} {tool : ToolSpec} {state : S → Slots → X} {rest_fr
         k : SlotBounds width (max (max_length r.ls) 0) before after
         k = keeps_last r [] told
 
-        pub run_done : {after' : Slots} → SlotsCleared (width - 1) after after' → is'.write_failed ≡ false → PassPost tool old new was is' before after' (Ok tt)
+        pub run_done : {after' : Slots} → SlotsCleared (width - 1) after after' → is'.write_failed ≡ false
+            → PassPost tool old new was is' before after' (Ok tt)
         unfolding midway
         run_done empties clean =
-            let end = bounds_cleared k t.some (filled [] told) empties in
+            let (bounds, total) = bounds_cleared k t.some (filled [] told) empties in
             pass_done (t.tool_text r.first) (midway r) ready sound advance_ok.reads
-            (kept r (received_with (r.given ++ []) new) end.0 (short_piece r ready sound advance_ok.reads tt is_sound)) (works_piece r advance_ok.reads tt is_sound)
-            last done refl advance_ok.failed end.0.denied clean advance_ok.fault (advance_ok.short (sound.long r.reached.advance_ok.fault)) end.1
+            (kept r (received_with (r.given ++ []) new) bounds (short_piece r ready sound advance_ok.reads tt is_sound))
+            (works_piece r advance_ok.reads tt is_sound)
+            last done refl advance_ok.failed bounds.denied clean advance_ok.fault
+            (advance_ok.short (sound.long r.reached.advance_ok.fault)) total
 
         pub run_unended : is'.write_failed ≡ true → PassPost tool old new was is' before after (Err Write)
         unfolding midway
         run_unended fault =
             pass_unended (t.tool_text r.first) (midway r) ready sound advance_ok.reads
-            (kept r (received_with (r.given ++ []) new) k (short_piece r ready sound advance_ok.reads tt is_sound)) (works_piece r advance_ok.reads tt is_sound)
+            (kept r (received_with (r.given ++ []) new) k (short_piece r ready sound advance_ok.reads tt is_sound))
+            (works_piece r advance_ok.reads tt is_sound)
             last done refl advance_ok.failed k.denied fault

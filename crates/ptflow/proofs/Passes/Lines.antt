@@ -1,8 +1,11 @@
 -- Laws of the lines of a text: complete lines and the unfinished line after them, the maximum length, and the lines of
 -- a block one by one. All of them use the first terminator in some bytes, before which there is no other.
-use Rattle.ptflow.proofs.Common.{◌≡◌, ℕ, ◌+◌, ◌==◌, Bool, true, false, cond, List, [], ◌∷◌, ◌++◌, length, refl, ap, arith, take-append-drop, ◌-◌, Some, take, drop, append_assoc, length-append}
-use Rattle.ptflow.proofs.Common.{eqb-true, eqb-false, unlines, lines, complete_lines, onto_first_if_any, IsLine, AreLines, lines_of_unlines, complete_lines_none, complete_lines_cons, append-nil, take_at, take-append-le}
-use Rattle.ptflow.proofs.Common.{drop-append-le, take_all, drop_all, length-take-le, IsFirstByte, is_byte, line_before_terminator, take_with_terminator, drop_at_terminator}
+use Rattle.ptflow.proofs.Common.{◌≡◌, ℕ, ◌+◌, ◌==◌, Bool, true, false, cond, List, [], ◌∷◌, ◌++◌, length, refl, ap}
+use Rattle.ptflow.proofs.Common.{arith, take-append-drop, ◌-◌, Some, take, drop, append_assoc, length-append, eqb-true}
+use Rattle.ptflow.proofs.Common.{eqb-false, unlines, lines, complete_lines, onto_first_if_any, IsLine, AreLines}
+use Rattle.ptflow.proofs.Common.{lines_of_unlines, complete_lines_none, complete_lines_cons, append-nil, take_at}
+use Rattle.ptflow.proofs.Common.{take-append-le, drop-append-le, take_all, drop_all, length-take-le, IsFirstByte}
+use Rattle.ptflow.proofs.Common.{is_byte, line_before_terminator, take_with_terminator, drop_at_terminator}
 pub use Rattle.ptlines.proofs.MaxLength.{max_length-append, piece_le_max_length}
 
 -- the complete lines of a text, and the unfinished line after them
@@ -12,37 +15,51 @@ pub record LineSplit (end : ℕ) (bytes : List ℕ) : Type 0 where
   pub whole : AreLines end (complete_lines end bytes)
   pub line : IsLine end piece
 
--- one byte is put before the text
-line_split_step : (end b : ℕ) {bytes : List ℕ} (piece : List ℕ) (t : Bool) (ls : List (List ℕ)) → (b == end) ≡ t → bytes ≡ unlines end ls ++ piece → AreLines end ls → IsLine end piece
-    → (rest : List ℕ) × (b ∷ bytes ≡ unlines end (cond t ([] ∷ ls) (onto_first_if_any b ls)) ++ rest) × AreLines end (cond t ([] ∷ ls) (onto_first_if_any b ls)) × IsLine end rest
-line_split_step end b piece true ls same is whole line = (piece, (λ i. eqb-true b end same i ∷ is i), (tt, whole), line)
-line_split_step end b piece false [] other is whole line = (b ∷ piece, ap (◌∷◌ b) is, tt, (eqb-false b end other, line))
-line_split_step end b piece false (l ∷ ls) other is whole line = (piece, ap (◌∷◌ b) is, ((eqb-false b end other, whole.0), whole.1), line)
-
 pub line_split : (end : ℕ) (bytes : List ℕ) → LineSplit end bytes
 line_split end [] = record { piece = []; is = refl; whole = tt; line = tt }
 line_split end (b ∷ bytes) =
     let p = line_split end bytes in
-    let q = line_split_step end b p.piece (b == end) (complete_lines end bytes) refl p.is p.whole p.line in
-    record { piece = q.0; is = q.1; whole = q.2; line = q.3 }
+    let (piece, is, whole, line) = put (b == end) (complete_lines end bytes) p.piece refl p.is p.whole p.line in
+    record { piece = piece; is = is; whole = whole; line = line }
+  where
+    put : (t : Bool) (ls : List (List ℕ)) (piece : List ℕ) → (b == end) ≡ t → bytes ≡ unlines end ls ++ piece
+        → AreLines end ls → IsLine end piece
+        → let more = cond t ([] ∷ ls) (onto_first_if_any b ls) in
+        (rest : List ℕ) × (b ∷ bytes ≡ unlines end more ++ rest) × AreLines end more × IsLine end rest
+    put true ls piece same is whole line = (piece, (λ i. eqb-true b end same i ∷ is i), (tt, whole), line)
+    put false [] piece other is whole line = (b ∷ piece, ap (◌∷◌ b) is, tt, (eqb-false b end other, line))
+    put false (l ∷ ls) piece other is (first, others) line =
+        (piece, ap (◌∷◌ b) is, ((eqb-false b end other, first), others), line)
 
 -- the complete lines come before those of the continuation
-pub complete_prefix : (end : ℕ) (bytes rest : List ℕ) → lines end (bytes ++ rest) ≡ complete_lines end bytes ++ lines end ((line_split end bytes).piece ++ rest)
+pub complete_prefix : (end : ℕ) (bytes rest : List ℕ)
+    → lines end (bytes ++ rest) ≡ complete_lines end bytes ++ lines end ((line_split end bytes).piece ++ rest)
 complete_prefix end bytes rest =
     let p = line_split end bytes in
-    cc (append_assoc (unlines end (complete_lines end bytes)) p.piece rest, lines_of_unlines end (complete_lines end bytes) (p.piece ++ rest) p.whole)
+    cc (
+      append_assoc (unlines end (complete_lines end bytes)) p.piece rest,
+      lines_of_unlines end (complete_lines end bytes) (p.piece ++ rest) p.whole,
+    )
 
 -- the bytes before the first terminator, and those after it
 module _ (end : ℕ) (bytes : List ℕ) (at : ℕ) (first : IsFirstByte (is_byte end) bytes (Some at)) where
   pub line_of : take at (take (at + 1) bytes) ≡ take at bytes
   line_of =
       let long : length (take at bytes) ≡ at = length-take-le at bytes (omega arith) in
-      cc (take_with_terminator end bytes at first, take-append-le at (take at bytes) (end ∷ []) (omega arith), take_all at (take at bytes) (omega arith))
+      cc (
+        take_with_terminator end bytes at first,
+        take-append-le at (take at bytes) (end ∷ []) (omega arith),
+        take_all at (take at bytes) (omega arith),
+      )
 
   pub end_of : drop at (take (at + 1) bytes) ≡ end ∷ []
   end_of =
       let long : length (take at bytes) ≡ at = length-take-le at bytes (omega arith) in
-      cc (take_with_terminator end bytes at first, drop-append-le at (take at bytes) (end ∷ []) (omega arith), drop_all at (take at bytes) (omega arith))
+      cc (
+        take_with_terminator end bytes at first,
+        drop-append-le at (take at bytes) (end ∷ []) (omega arith),
+        drop_all at (take at bytes) (omega arith),
+      )
 
   pub split_of : bytes ≡ take at bytes ++ end ∷ drop (at + 1) bytes
   split_of = cc (take-append-drop at bytes, drop_at_terminator end bytes at first)
@@ -54,11 +71,18 @@ pub record TakenLines (end : ℕ) (block rest : List ℕ) : Type 0 where
   pub texts : unlines end (complete_lines end block) ≡ front ++ unlines end (complete_lines end rest)
 
 module _ (end : ℕ) where
-  pub ended_next : (rest : List ℕ) (at : ℕ) → IsFirstByte (is_byte end) rest (Some at) → complete_lines end rest ≡ take at rest ∷ complete_lines end (drop (at + 1) rest)
-  ended_next rest at first = cc (split_of end rest at first, complete_lines_cons end (take at rest) (drop (at + 1) rest) (line_before_terminator end rest at first))
+  pub ended_next : (rest : List ℕ) (at : ℕ) → IsFirstByte (is_byte end) rest (Some at)
+      → complete_lines end rest ≡ take at rest ∷ complete_lines end (drop (at + 1) rest)
+  ended_next rest at first =
+      cc (
+        split_of end rest at first,
+        complete_lines_cons end (take at rest) (drop (at + 1) rest)
+            (line_before_terminator end rest at first),
+      )
 
   -- these first lines were processed too
-  pub taken_more : {block rest : List ℕ} (size : ℕ) → unlines end (complete_lines end rest) ≡ take size rest ++ unlines end (complete_lines end (drop size rest))
+  pub taken_more : {block rest : List ℕ} (size : ℕ)
+      → unlines end (complete_lines end rest) ≡ take size rest ++ unlines end (complete_lines end (drop size rest))
       → TakenLines end block rest → TakenLines end block (drop size rest)
   taken_more {rest} size texts t =
       let front = take size rest in record {
@@ -68,7 +92,9 @@ module _ (end : ℕ) where
       }
 
   -- no complete line is left
-  pub taken_all : {block rest : List ℕ} → IsLine end rest → TakenLines end block rest → take (length block - length rest) block ≡ unlines end (complete_lines end block)
+  pub taken_all : {block rest : List ℕ} → IsLine end rest → TakenLines end block rest
+      → take (length block - length rest) block ≡ unlines end (complete_lines end block)
   taken_all {block} {rest} none t =
-      let size : length block - length rest ≡ length t.front = omega (arith, ap length t.split, length-append t.front rest) in
+      let size : length block - length rest ≡ length t.front =
+      omega (arith, ap length t.split, length-append t.front rest) in
       cc (take_at t.front rest (length t.front) refl, complete_lines_none end rest none, append-nil t.front)

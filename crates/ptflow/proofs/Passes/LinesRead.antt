@@ -1,14 +1,25 @@
 -- The lines that were read from a reader. A line that was read is complete, so it is a line of the input for every
 -- continuation; the same holds for the complete lines of a block.
-use Rattle.ptflow.proofs.Common.{◌≡◌, ◌⊎◌, ⊎_elim, inl, inr, ℕ, zero, suc, ◌-◌, ◌<◌, ◌≤◌, true, false, List, [], ◌∷◌, ◌++◌, length, take, drop, max, refl, ◌∙◌, ap, arith, append_assoc, length-append}
-use Rattle.ptflow.proofs.Common.{length-drop, take-append-drop, false≢true, append-nil, unlines, lines, complete_lines, IsLine, AreLines, max_length, max_line_length, Received, IsConsistent, known_lines, LaggedInput, Reader}
-use Rattle.ptflow.proofs.Common.{ReaderAdvance, AdvanceOk, IsDone, IsSound, Slots, FillLine, lines_of_unlines, lines_of_last, lines_cons, lines-unlines, unlines-append, unlines_push, AreLines_push, complete_lines_of_unlines, AreReceivedLines}
+use Rattle.ptflow.proofs.Common.{◌≡◌, ⊎_elim, inl, inr, ℕ, zero, suc, ◌-◌, ◌<◌, ◌≤◌, true, false, List, [], ◌∷◌, ◌++◌}
+use Rattle.ptflow.proofs.Common.{length, take, drop, max, refl, ◌∙◌, ap, arith, append_assoc, length-append}
+use Rattle.ptflow.proofs.Common.{length-drop, take-append-drop, false≢true, append-nil, unlines, lines, complete_lines}
+use Rattle.ptflow.proofs.Common.{IsLine, AreLines, max_length, max_line_length, Received, IsConsistent, known_lines}
+use Rattle.ptflow.proofs.Common.{LaggedInput, Reader, ReaderAdvance, AdvanceOk, IsDone, IsSound, Slots, FillLine}
+use Rattle.ptflow.proofs.Common.{lines_of_unlines, lines_of_last, lines_cons, lines-unlines, unlines-append}
+use Rattle.ptflow.proofs.Common.{unlines_push, AreLines_push, complete_lines_of_unlines, AreReceivedLines}
 use Rattle.ptflow.proofs.Common.{received_with}
 use Rattle.ptflow.proofs.Passes.Lines.{piece_le_max_length, max_length-append}
 use Rattle.ptflow.proofs.Passes.Readers.{eof_gives_nothing, stays_at_eof}
 
-longest_prefix : (end : ℕ) (ls : List (List ℕ)) (piece rest : List ℕ) → AreLines end ls → IsLine end piece → max (max_length ls) (length piece) ≤ max_length (lines end (unlines end ls ++ (piece ++ rest)))
-longest_prefix end ls piece rest whole free = omega (arith, ap max_length (lines_of_unlines end ls (piece ++ rest) whole) ∙ max_length-append ls (lines end (piece ++ rest)), piece_le_max_length end piece rest free)
+longest_prefix : (end : ℕ) (ls : List (List ℕ)) (piece rest : List ℕ) → AreLines end ls → IsLine end piece
+    → max (max_length ls) (length piece) ≤ max_length (lines end (unlines end ls ++ (piece ++ rest)))
+longest_prefix end ls piece rest whole free =
+    omega (
+      arith,
+      ap max_length (lines_of_unlines end ls (piece ++ rest) whole)
+          ∙ max_length-append ls (lines end (piece ++ rest)),
+      piece_le_max_length end piece rest free,
+    )
 
 pub lines_none : (end : ℕ) (reader : Reader) → AreReceivedLines end reader [] []
 lines_none end reader = record { so_far = inl (refl, tt) }
@@ -19,7 +30,7 @@ lines_length end (b ∷ bytes) = grind (arith, lines_length end bytes)
 
 module _ (end : ℕ) (now : Reader) (given : List ℕ) (ls : List (List ℕ)) (k : AreReceivedLines end now given ls) where
   pub lines_are_given : lines end given ≡ ls
-  lines_are_given = ⊎_elim (λ o. cc (lines-unlines end ls o.1)) (λ c. c.0) k.so_far
+  lines_are_given = ⊎_elim (λ (text, are). cc (lines-unlines end ls are)) (λ (same, _). same) k.so_far
 
   pub lines_few : length ls ≤ length given
   lines_few = rw lines_are_given at (lines_length end given)
@@ -29,46 +40,60 @@ module _ (end : ℕ) (now : Reader) (given : List ℕ) (ls : List (List ℕ)) (k
   lines_on rest may = ⊎_elim opened closed k.so_far
     where
       opened : (given ≡ unlines end ls) × AreLines end ls → lines end (given ++ rest) ≡ ls ++ lines end rest
-      opened o = cc (lines_of_unlines end ls rest o.1)
+      opened (text, are) = cc (lines_of_unlines end ls rest are)
 
       closed : (lines end given ≡ ls) × IsDone now → lines end (given ++ rest) ≡ ls ++ lines end rest
-      closed c = let none = may c.1 in
+      closed (same, done) = let none = may done in
           cc (append-nil given, append-nil ls)
 
-  pub received_longest : (input : List ℕ) → IsConsistent (received_with given now) input → max_length ls ≤ max_line_length end input
+  pub received_longest : (input : List ℕ) → IsConsistent (received_with given now) input
+      → max_length ls ≤ max_line_length end input
   received_longest input a =
       omega (
         arith,
         ap max_length (ap (lines end) (a.is ∙ append_assoc given now.buffered a.rest)
-            ∙ lines_on (now.buffered ++ a.rest) (λ done. λ i. done.buffered i ++ a.whole done.eof i)) ∙ max_length-append ls (lines end (now.buffered ++ a.rest)),
+            ∙ lines_on (now.buffered ++ a.rest) (λ done. λ i. done.buffered i ++ a.whole done.eof i))
+            ∙ max_length-append ls (lines end (now.buffered ++ a.rest)),
       )
 
   -- the first part of a line was read
   module _ (new : Reader) (piece : List ℕ) (reads : ReaderAdvance now new piece) (free : IsLine end piece) where
-    pub piece_longest : (input : List ℕ) → IsConsistent (received_with (given ++ piece) new) input → max (max_length ls) (length piece) ≤ max_line_length end input
+    pub piece_longest : (input : List ℕ) → IsConsistent (received_with (given ++ piece) new) input
+        → max (max_length ls) (length piece) ≤ max_line_length end input
     piece_longest input a = ⊎_elim opened closed k.so_far
       where
-        opened : (given ≡ unlines end ls) × AreLines end ls → max (max_length ls) (length piece) ≤ max_line_length end input
-        opened o =
+        opened : (given ≡ unlines end ls) × AreLines end ls
+            → max (max_length ls) (length piece) ≤ max_line_length end input
+        opened (text, are) =
             let split : input ≡ unlines end ls ++ (piece ++ (new.buffered ++ a.rest)) =
-            cc (a.is, append_assoc given piece new.buffered, append_assoc given (piece ++ new.buffered) a.rest, o.0, append_assoc piece new.buffered a.rest) in
-            rw (← split) at (longest_prefix end ls piece (new.buffered ++ a.rest) o.1 free)
+            cc (
+              a.is,
+              append_assoc given piece new.buffered,
+              append_assoc given (piece ++ new.buffered) a.rest,
+              text,
+              append_assoc piece new.buffered a.rest,
+            ) in
+            rw (← split) at (longest_prefix end ls piece (new.buffered ++ a.rest) are free)
 
         closed : (lines end given ≡ ls) × IsDone now → max (max_length ls) (length piece) ≤ max_line_length end input
-        closed c =
-            let none = eof_gives_nothing _ _ _ c.1 reads in
-            let all : input ≡ given = cc (a.whole none.2, append-nil ((given ++ []) ++ []), append-nil (given ++ []), append-nil given) in
-            omega (arith, ap length none.0, ap max_length (ap (lines end) all ∙ c.0))
+        closed (same, done) =
+            let (no_piece, no_rest, eof) = eof_gives_nothing _ _ _ done reads in
+            let all : input ≡ given =
+            cc (a.whole eof, append-nil ((given ++ []) ++ []), append-nil (given ++ []), append-nil given) in
+            omega (arith, ap length no_piece, ap max_length (ap (lines end) all ∙ same))
 
     -- and the read of its rest failed
     pub whole_before : new.buffered ≡ [] → new.eof ≡ false → known_lines end (received_with (given ++ piece) new) ≡ ls
     whole_before empty going =
         ⊎_elim
-        (λ o. (λ i. known_lines end (record { bytes = (o.0 i ++ piece) ++ empty i; eof = going i })) ∙ ap (complete_lines end) (append-nil (unlines end ls ++ piece)) ∙ complete_lines_of_unlines end ls piece o.1 free)
-        (λ c. absurd (false≢true (cc ((eof_gives_nothing _ _ _ c.1 reads).2)))) k.so_far
+        (λ (text, are). (λ i. known_lines end (record { bytes = (text i ++ piece) ++ empty i; eof = going i }))
+        ∙ ap (complete_lines end) (append-nil (unlines end ls ++ piece))
+        ∙ complete_lines_of_unlines end ls piece are free)
+        (λ (_, done). absurd (false≢true (cc ((stays_at_eof _ _ _ done reads).eof)))) k.so_far
 
   -- one line was read
-  module _ (new : Reader) (before after : Slots) (slot : ℕ) (e : FillLine now new before after slot) (same : now.terminator ≡ end) where
+  module _ (new : Reader) (before after : Slots) (slot : ℕ) (e : FillLine now new before after slot)
+      (same : now.terminator ≡ end) where
     free : IsLine end e.line
     free = rw same at e.whole
 
@@ -79,43 +104,54 @@ module _ (end : ℕ) (now : Reader) (given : List ℕ) (ls : List (List ℕ)) (k
     ]
 
     -- its bytes are a line for every continuation
-    pub line_prefix : (rest : List ℕ) → (IsDone new → rest ≡ []) → lines end ((e.line ++ e.terminator) ++ rest) ≡ e.line ∷ lines end rest
+    pub line_prefix : (rest : List ℕ) → (IsDone new → rest ≡ [])
+        → lines end ((e.line ++ e.terminator) ++ rest) ≡ e.line ∷ lines end rest
     line_prefix rest may = elim e.ends [
-      | inl ends ↦ (λ i. lines end (append_assoc e.line ((ends ∙ ap (λ b. b ∷ []) same) i) rest i)) ∙ lines_cons end e.line rest free
-      | inr last ↦
-          let none = may last.2 in
-          cc (append-nil (e.line ++ []), append-nil e.line, lines_of_last end e.line free last.1)
+      | inl ends ↦ (λ i. lines end (append_assoc e.line ((ends ∙ ap (λ b. b ∷ []) same) i) rest i))
+          ∙ lines_cons end e.line rest free
+      | inr (unended, some, done) ↦
+          let none = may done in
+          cc (append-nil (e.line ++ []), append-nil e.line, lines_of_last end e.line free some)
     ]
 
     pub lines_more : AreReceivedLines end new (given ++ (e.line ++ e.terminator)) (ls ++ e.line ∷ [])
-    lines_more = record { so_far = ⊎_elim opened closed k.so_far }
+    lines_more = ⊎_elim opened closed k.so_far
       where
         opened : (given ≡ unlines end ls) × AreLines end ls
-            → ((given ++ (e.line ++ e.terminator) ≡ unlines end (ls ++ e.line ∷ [])) × AreLines end (ls ++ e.line ∷ [])) ⊎ ((lines end (given ++ (e.line ++ e.terminator)) ≡ ls ++ e.line ∷ []) × IsDone new)
-        opened o = elim e.ends [
-          | inl ends ↦ inl (cc (unlines_push end ls e.line), AreLines_push end ls e.line o.1 free)
-          | inr last ↦ inr (
-            cc (append-nil e.line, lines_of_unlines end ls e.line o.1, lines_of_last end e.line free last.1),
-            last.2,
-          )
+            → AreReceivedLines end new (given ++ (e.line ++ e.terminator)) (ls ++ e.line ∷ [])
+        opened (text, are) = elim e.ends [
+          | inl ends ↦ record { so_far = inl (cc (unlines_push end ls e.line), AreLines_push end ls e.line are free) }
+          | inr (unended, some, done) ↦ record {
+            so_far = inr (
+              cc (append-nil e.line, lines_of_unlines end ls e.line are, lines_of_last end e.line free some),
+              done,
+            );
+          }
         ]
 
         closed : (lines end given ≡ ls) × IsDone now
-            → ((given ++ (e.line ++ e.terminator) ≡ unlines end (ls ++ e.line ∷ [])) × AreLines end (ls ++ e.line ∷ [])) ⊎ ((lines end (given ++ (e.line ++ e.terminator)) ≡ ls ++ e.line ∷ []) × IsDone new)
-        closed c = let none = (eof_gives_nothing _ _ _ c.1 e.advance_ok.reads).0 in absurd (omega (arith, some_received, ap length none))
+            → AreReceivedLines end new (given ++ (e.line ++ e.terminator)) (ls ++ e.line ∷ [])
+        closed (_, done) =
+            let (none, _, _) = eof_gives_nothing _ _ _ done e.advance_ok.reads in
+            absurd (omega (arith, some_received, ap length none))
 
 are_append : (end : ℕ) (xs ys : List (List ℕ)) → AreLines end xs → AreLines end ys → AreLines end (xs ++ ys)
 are_append end [] ys a b = b
-are_append end (x ∷ xs) ys a b = (a.0, are_append end xs ys a.1 b)
+are_append end (x ∷ xs) ys (first, others) b = (first, are_append end xs ys others b)
 
 -- some complete lines were read after those
-pub lines_block : {end : ℕ} {reader : Reader} {given : List ℕ} {ls : List (List ℕ)} → AreReceivedLines end reader given ls → {new : Reader} (more : List (List ℕ))
-    → AdvanceOk reader new (unlines end more) → AreLines end more → AreReceivedLines end new (given ++ unlines end more) (ls ++ more)
+pub lines_block : {end : ℕ} {reader : Reader} {given : List ℕ} {ls : List (List ℕ)}
+    → AreReceivedLines end reader given ls → {new : Reader} (more : List (List ℕ))
+    → AdvanceOk reader new (unlines end more) → AreLines end more
+    → AreReceivedLines end new (given ++ unlines end more) (ls ++ more)
 lines_block {end} {ls} k more advance_ok are = record {
-  so_far = ⊎_elim (λ o. inl (cc (unlines-append end ls more), are_append end ls more o.1 are)) (λ c. inr (
-    cc (lines_on _ _ _ _ k (unlines end more) (λ done. (eof_gives_nothing _ _ _ done advance_ok.reads).0), lines-unlines end more are),
-    stays_at_eof _ _ _ c.1 advance_ok.reads,
-  )) k.so_far;
+  so_far = ⊎_elim (λ (text, before). inl (cc (unlines-append end ls more), are_append end ls more before are))
+      (λ (_, done).
+      let (none, _, _) = eof_gives_nothing _ _ _ done advance_ok.reads in
+      inr (
+        cc (lines_on _ _ _ _ k (unlines end more) (λ _. none), lines-unlines end more are),
+        stays_at_eof _ _ _ done advance_ok.reads,
+      )) k.so_far;
 }
 
 -- ---- the input two blocks earlier
@@ -128,41 +164,49 @@ pub record EarlierLines (end : ℕ) (ls : List (List ℕ)) (came : Received) : T
 pub line_take : (end n : ℕ) (bytes : List ℕ) → IsLine end bytes → IsLine end (take n bytes)
 line_take end zero bytes are = tt
 line_take end (suc n) [] are = tt
-line_take end (suc n) (b ∷ bytes) are = (are.0, line_take end n bytes are.1)
+line_take end (suc n) (b ∷ bytes) (differs, are) = (differs, line_take end n bytes are)
 
 -- the terminator of a line and the buffered bytes after it are at most 8,193 bytes
-pub after_line : {now new : Reader} {before after : Slots} {slot : ℕ} (e : FillLine now new before after slot) → IsSound new → length (e.terminator ++ new.buffered) ≤ 8193
+pub after_line : {now new : Reader} {before after : Slots} {slot : ℕ} (e : FillLine now new before after slot)
+    → IsSound new → length (e.terminator ++ new.buffered) ≤ 8193
 after_line {new} e sound = elim e.ends [
   | inl ends ↦ omega (arith, ap length ends, length-append e.terminator new.buffered)
-  | inr last ↦ omega (arith, ap length last.0, length-append e.terminator new.buffered)
+  | inr (none, _, _) ↦ omega (arith, ap length none, length-append e.terminator new.buffered)
 ]
 
-module _ {end : ℕ} {now new : Reader} {given : List ℕ} {ls : List (List ℕ)} (k : AreReceivedLines end now given ls) {piece : List ℕ} (reads : ReaderAdvance now new piece) (line behind : List ℕ)
+module _ {end : ℕ} {now new : Reader} {given : List ℕ} {ls : List (List ℕ)} (k : AreReceivedLines end now given ls)
+    {piece : List ℕ} (reads : ReaderAdvance now new piece) (line behind : List ℕ)
     (is : piece ++ new.buffered ≡ line ++ behind) (whole : IsLine end line) (short : length behind ≤ 8193) where
   -- all but the terminator of a line that was read, and the bytes after it
   pub before_line : EarlierLines end ls (received_with (given ++ piece) new)
   before_line = ⊎_elim opened closed k.so_far
     where
       opened : (given ≡ unlines end ls) × AreLines end ls → EarlierLines end ls (received_with (given ++ piece) new)
-      opened o = let n = length line - 8191 in record {
+      opened (text, are) = let n = length line - 8191 in record {
         before = record {
           earlier = record { bytes = given ++ take n line; eof = false };
           last = drop n line ++ behind;
-          split = cc (append_assoc given piece new.buffered, take-append-drop n line, append_assoc (take n line) (drop n line) behind, append_assoc given (take n line) (drop n line ++ behind));
+          split =
+              cc (
+                append_assoc given piece new.buffered,
+                take-append-drop n line,
+                append_assoc (take n line) (drop n line) behind,
+                append_assoc given (take n line) (drop n line ++ behind),
+              );
           short = omega (arith, length-append (drop n line) behind, length-drop n line);
           eof = λ never. absurd (false≢true never);
         };
-        whole = cc (complete_lines_of_unlines end ls (take n line) o.1 (line_take end n line whole));
+        whole = cc (complete_lines_of_unlines end ls (take n line) are (line_take end n line whole));
       }
 
       closed : (lines end given ≡ ls) × IsDone now → EarlierLines end ls (received_with (given ++ piece) new)
-      closed c = let none = eof_gives_nothing _ _ _ c.1 reads in record {
+      closed (same, done) = let none = eof_gives_nothing _ _ _ done reads in record {
         before = record {
           earlier = record { bytes = given; eof = true };
           last = [];
           split = cc (append-nil (given ++ []));
           short = omega arith;
-          eof = λ e. none.2;
+          eof = λ e. (stays_at_eof _ _ _ done reads).eof;
         };
-        whole = c.0;
+        whole = same;
       }

@@ -1,6 +1,7 @@
 -- Bytes that are pushed piece by piece: the pushed bytes are a prefix, and the rest is left. A failed push leaves a
 -- prefix too, so the result of several pushes is that of one.
-use Rattle.ptflow.proofs.Common.{◌≡◌, ℕ, Bool, false, true, List, [], ◌++◌, refl, sym, subst, append_assoc, Output, PushEffect, push_nothing, push_trans, push_past_failure}
+use Rattle.ptflow.proofs.Common.{◌≡◌, ℕ, Bool, false, true, List, [], ◌++◌, refl, sym, subst, append_assoc, Output}
+use Rattle.ptflow.proofs.Common.{PushEffect, push_nothing, push_trans, push_past_failure}
 use Rattle.ptlines.specs.Outputs.{PushPost}
 use Rattle.std.specs.Prelude.{Err, Result}
 
@@ -10,14 +11,18 @@ wrote_then a b c {xs} {ys} p q = by_fault b.write_failed refl
   where
     by_fault : (fault : Bool) → b.write_failed ≡ fault → PushEffect a c (xs ++ ys)
     by_fault false clean = push_trans a b c xs ys clean p q
-    by_fault true fault = subst (λ o. PushEffect a o (xs ++ ys)) (sym (q.stays fault)) (push_past_failure a b xs ys fault p)
+    by_fault true fault =
+        subst (λ o. PushEffect a o (xs ++ ys)) (sym (q.stays fault)) (push_past_failure a b xs ys fault p)
 
-pub push_then : {E : Type 0} {a b c : Output} {xs ys : List ℕ} {r : Result (Unit {0}) E} → PushEffect a b xs → PushPost b c ys r → PushPost a c (xs ++ ys) r
+pub push_then : {E : Type 0} {a b c : Output} {xs ys : List ℕ} {r : Result (Unit {0}) E} → PushEffect a b xs
+    → PushPost b c ys r → PushPost a c (xs ++ ys) r
 push_then p q = record { wrote = wrote_then _ _ _ p q.wrote; clean = q.clean; fault = q.fault }
 
 -- a push failed, and so did the call
-pub push_failed : {E : Type 0} {a b : Output} {xs : List ℕ} {r : Result (Unit {0}) E} {e : E} → r ≡ Err e → PushEffect a b xs → b.write_failed ≡ true → PushPost a b xs r
-push_failed {a = a} {b = b} {xs = xs} failed wrote fault = subst (PushPost a b xs) (sym failed) (record { wrote = wrote; clean = tt; fault = fault })
+pub push_failed : {E : Type 0} {a b : Output} {xs : List ℕ} {r : Result (Unit {0}) E} {e : E} → r ≡ Err e
+    → PushEffect a b xs → b.write_failed ≡ true → PushPost a b xs r
+push_failed {a = a} {b = b} {xs = xs} failed wrote fault = subst (PushPost a b xs) (sym failed)
+    (record { wrote = wrote; clean = tt; fault = fault })
 
 pub record WrittenPrefix (whole rest : List ℕ) (was is : Output) : Type 0 where
   pub pushed : List ℕ
@@ -28,7 +33,8 @@ pub prefix_starts : {whole rest : List ℕ} {was : Output} → whole ≡ rest �
 prefix_starts {was} same = record { pushed = []; wrote = push_nothing was; split = same }
 
 module _ {whole rest : List ℕ} {was is : Output} (f : WrittenPrefix whole rest was is) where
-  module _ {is' : Output} {bytes : List ℕ} (more : List ℕ) (same : rest ≡ bytes ++ more) (wrote : PushEffect is is' bytes) where
+  module _ {is' : Output} {bytes : List ℕ} (more : List ℕ) (same : rest ≡ bytes ++ more)
+      (wrote : PushEffect is is' bytes) where
     all_split : whole ≡ (f.pushed ++ bytes) ++ more
     all_split = cc (append_assoc f.pushed bytes more)
 

@@ -1,7 +1,9 @@
 -- The slots of a tool that works line by line: at most one line in each of its slots, and nothing in the others. So the
 -- store holds at most `width` times the maximum length of these lines.
-use Rattle.ptflow.proofs.Common.{◌≡◌, ℕ, zero, suc, ◌+◌, ◌-◌, ◌*◌, ◌<◌, ◌≤◌, false, List, [], ◌∷◌, length, take, drop, set, get_or, max, refl, sym, ◌∙◌, ap, subst, arith, ⊎_elim, take-append-drop}
-use Rattle.ptflow.proofs.Common.{common_steps, swap, mul-le-mul_left, drop_more, length-set, drop-set-lt, sum_by-cons, sum_by-append, get_or-le-sum_by, Slots, total_bytes, with_line, AddedSlots, IsSwapped}
+use Rattle.ptflow.proofs.Common.{◌≡◌, ℕ, zero, suc, ◌+◌, ◌-◌, ◌*◌, ◌<◌, ◌≤◌, false, List, [], ◌∷◌, length, take, drop}
+use Rattle.ptflow.proofs.Common.{set, get_or, max, refl, sym, ◌∙◌, ap, subst, arith, ⊎_elim, take-append-drop}
+use Rattle.ptflow.proofs.Common.{common_steps, swap, mul-le-mul_left, drop_more, length-set, drop-set-lt, sum_by-cons}
+use Rattle.ptflow.proofs.Common.{sum_by-append, get_or-le-sum_by, Slots, total_bytes, with_line, AddedSlots, IsSwapped}
 use Rattle.ptflow.proofs.Common.{SlotsCleared}
 use Rattle.std.proofs.lemmas.List.Edits.{swap_is}
 
@@ -13,21 +15,31 @@ pub record SlotBounds (width most : ℕ) (before store : Slots) : Type 0 where
   pub others : total_bytes (drop width store.lines) ≡ 0
   pub peak : store.peak ≤ max before.peak (width * most)
 
-total_split : (width : ℕ) (ls : List (List ℕ)) → total_bytes ls ≡ total_bytes (take width ls) + total_bytes (drop width ls)
+total_split : (width : ℕ) (ls : List (List ℕ))
+    → total_bytes ls ≡ total_bytes (take width ls) + total_bytes (drop width ls)
 total_split width ls = cc (take-append-drop width ls, sum_by-append length (take width ls) (drop width ls))
 
-prefix_total : (width most : ℕ) (ls : List (List ℕ)) → ((k : ℕ) → k < width → length (get_or ls k []) ≤ most) → total_bytes (take width ls) ≤ width * most
+prefix_total : (width most : ℕ) (ls : List (List ℕ)) → ((k : ℕ) → k < width → length (get_or ls k []) ≤ most)
+    → total_bytes (take width ls) ≤ width * most
 prefix_total zero most ls short = omega arith
 prefix_total (suc width) most [] short = omega arith
 prefix_total (suc width) most (l ∷ ls) short =
     let more : suc width * most ≡ most + width * most = omega arith in
-    rw more (omega (arith, sum_by-cons length l (take width ls), short 0 (omega arith), prefix_total width most ls (λ k low. short (suc k) (omega arith))))
+    rw more
+    (omega (
+      arith,
+      sum_by-cons length l (take width ls),
+      short 0 (omega arith),
+      prefix_total width most ls (λ k low. short (suc k) (omega arith)),
+    ))
 
 -- the total of slots with bounded lines is bounded
-pub bounded_total : (width most : ℕ) (ls : List (List ℕ)) → ((k : ℕ) → k < width → length (get_or ls k []) ≤ most) → total_bytes (drop width ls) ≡ 0 → total_bytes ls ≤ width * most
+pub bounded_total : (width most : ℕ) (ls : List (List ℕ)) → ((k : ℕ) → k < width → length (get_or ls k []) ≤ most)
+    → total_bytes (drop width ls) ≡ 0 → total_bytes ls ≤ width * most
 bounded_total width most ls short others = omega (arith, total_split width ls, prefix_total width most ls short, others)
 
-pub bounds_start : {width : ℕ} {before store : Slots} → AddedSlots before store width → store.denied ≡ false → total_bytes store.lines ≡ 0 → store.peak ≡ before.peak → SlotBounds width 0 before store
+pub bounds_start : {width : ℕ} {before store : Slots} → AddedSlots before store width → store.denied ≡ false
+    → total_bytes store.lines ≡ 0 → store.peak ≡ before.peak → SlotBounds width 0 before store
 bounds_start {width} {store} adds denied empty peak = record {
   denied = denied;
   adds = adds;
@@ -36,7 +48,8 @@ bounds_start {width} {store} adds denied empty peak = record {
   peak = omega (arith, peak);
 }
 
-pub bounds_weaker : {width most : ℕ} (more : ℕ) {before store : Slots} → SlotBounds width most before store → most ≤ more → SlotBounds width more before store
+pub bounds_weaker : {width most : ℕ} (more : ℕ) {before store : Slots} → SlotBounds width most before store
+    → most ≤ more → SlotBounds width more before store
 bounds_weaker {width} more k high = record {
   denied = k.denied;
   adds = k.adds;
@@ -46,8 +59,9 @@ bounds_weaker {width} more k high = record {
 }
 
 -- a line was put into a slot
-pub bounds_line : {width most : ℕ} {before store : Slots} (new : Slots) (slot : ℕ) (bytes : List ℕ) → SlotBounds width most before store → slot < width → length bytes ≤ most
-    → new ≡ with_line store slot bytes → SlotBounds width most before new
+pub bounds_line : {width most : ℕ} {before store : Slots} (new : Slots) (slot : ℕ) (bytes : List ℕ)
+    → SlotBounds width most before store → slot < width → length bytes ≤ most → new ≡ with_line store slot bytes
+    → SlotBounds width most before new
 bounds_line {width} {most} {store} new slot bytes k within fits is = record {
   denied = cc;
   adds = record {
@@ -57,7 +71,14 @@ bounds_line {width} {most} {store} new slot bytes k within fits is = record {
   };
   short = short;
   others = others;
-  peak = omega (arith, ap (λ s. s.peak) is, k.peak, ap (λ s. total_bytes s.lines) is, bounded_total width most new.lines short others);
+  peak =
+      omega (
+        arith,
+        ap (λ s. s.peak) is,
+        k.peak,
+        ap (λ s. total_bytes s.lines) is,
+        bounded_total width most new.lines short others,
+      );
 }
   where
     same_length : length new.lines ≡ length store.lines
@@ -70,22 +91,26 @@ bounds_line {width} {most} {store} new slot bytes k within fits is = record {
     others = cc (drop-set-lt width store.lines slot bytes within)
 
 -- the first and the last slot may have been swapped
-pub swapped_room : {width : ℕ} {before after : Slots} → IsSwapped width before after → 0 < width → width ≤ length before.lines → width ≤ length after.lines
-swapped_room {width} {before} {after} either some room = ⊎_elim (λ same. omega (arith, ap (λ (s : Slots). length s.lines) same)) changed either
+pub swapped_room : {width : ℕ} {before after : Slots} → IsSwapped width before after → 0 < width
+    → width ≤ length before.lines → width ≤ length after.lines
+swapped_room {width} {before} {after} either some room = ⊎_elim
+    (λ same. omega (arith, ap (λ s. length s.lines) same)) changed either
   where
     changed : after ≡ record before { lines = swap before.lines 0 (width - 1) } → width ≤ length after.lines
     changed is =
         let first = set before.lines 0 (get_or before.lines (width - 1) []) in
         omega (
           arith,
-          ap (λ (s : Slots). length s.lines) is,
+          ap (λ s. length s.lines) is,
           ap length (swap_is before.lines 0 (width - 1) [] (omega arith) (omega arith)),
           length-set first (width - 1) (get_or before.lines 0 []),
           length-set before.lines 0 (get_or before.lines (width - 1) []),
         )
 
-pub bounds_swapped : {width most : ℕ} {before store : Slots} (new : Slots) → 0 < width → SlotBounds width most before store → IsSwapped width store new → SlotBounds width most before new
-bounds_swapped {width} {most} {before} {store} new some k either = ⊎_elim (λ same. subst (SlotBounds width most before) (sym same) k) changed either
+pub bounds_swapped : {width most : ℕ} {before store : Slots} (new : Slots) → 0 < width
+    → SlotBounds width most before store → IsSwapped width store new → SlotBounds width most before new
+bounds_swapped {width} {most} {before} {store} new some k either = ⊎_elim
+    (λ same. subst (SlotBounds width most before) (sym same) k) changed either
   where
     first : List ℕ
     first = get_or store.lines 0 []
@@ -96,7 +121,8 @@ bounds_swapped {width} {most} {before} {store} new some k either = ⊎_elim (λ 
     bounds_both : SlotBounds width most before (with_line (with_line store 0 last) (width - 1) first)
     bounds_both =
         bounds_line (with_line (with_line store 0 last) (width - 1) first) (width - 1) first
-        (bounds_line (with_line store 0 last) 0 last k some (k.short (width - 1) (omega arith)) refl) (omega arith) (k.short 0 some) refl
+        (bounds_line (with_line store 0 last) 0 last k some (k.short (width - 1) (omega arith)) refl) (omega arith)
+        (k.short 0 some) refl
 
     changed : new ≡ record store { lines = swap store.lines 0 (width - 1) } → SlotBounds width most before new
     changed is =
@@ -116,8 +142,9 @@ bounds_swapped {width} {most} {before} {store} new some k either = ⊎_elim (λ 
         }
 
 -- the last slot was empty, and the others were cleared
-pub bounds_cleared : {width most : ℕ} {before store new : Slots} → SlotBounds width most before store → 0 < width → get_or store.lines (width - 1) [] ≡ []
-    → SlotsCleared (width - 1) store new → SlotBounds width most before new × (total_bytes new.lines ≡ 0)
+pub bounds_cleared : {width most : ℕ} {before store new : Slots} → SlotBounds width most before store → 0 < width
+    → get_or store.lines (width - 1) [] ≡ [] → SlotsCleared (width - 1) store new
+    → SlotBounds width most before new × (total_bytes new.lines ≡ 0)
 bounds_cleared {width} {most} {store} {new} k some last e = (
   record {
     denied = cc;
@@ -137,5 +164,6 @@ bounds_cleared {width} {most} {store} {new} k some last e = (
     none =
         let one : width - 1 + 1 ≡ width = omega arith in
         let more = drop_more store.lines (width - 1) [] (omega (arith, k.adds.all k.denied)) in
-        let behind = ap total_bytes more ∙ sum_by-cons length (get_or store.lines (width - 1) []) (drop (width - 1 + 1) store.lines) in
+        let behind = ap total_bytes more ∙ sum_by-cons length (get_or store.lines (width - 1) [])
+        (drop (width - 1 + 1) store.lines) in
         omega (arith, e.left, behind, ap length last, ap (λ n. total_bytes (drop n store.lines)) one, k.others)

@@ -1,15 +1,22 @@
 -- The output of `tr` for the rest of a text, and for a text that is cut anywhere. A byte is kept or removed by the last
 -- output byte alone, so that byte is the only state, from block to block and within a block.
-use Rattle.ptflow.proofs.Common.{◌≡◌, ℕ, ◌-◌, ◌==◌, ◌&&◌, not, eqb, Bool, true, false, cond, List, [], ◌∷◌, ◌++◌, Option, None, Some, map, length, refl, ap, arith, filter, slice_get, last_or}
-use Rattle.ptflow.proofs.Common.{option_eq, option_or, append-nil, map-append, filter-append, IsPrefix, Tables, deletes, image, squeezes, is_not_repeat, squeeze_after, translation, tr, tr_decided, squeeze_from}
-use Rattle.ptflow.proofs.Common.{tr_from, ⊎_elim, sym, cases_Bool, eq-eqb, eqb-true, squeeze, BeginsWith, EndsWith, TrOfAnyParts, TrOfParts, TrAfterByte, TrMeetsTwice, and_right}
+use Rattle.ptflow.proofs.Common.{◌≡◌, ℕ, ◌-◌, ◌==◌, ◌&&◌, not, eqb, Bool, true, false, cond, List, [], ◌∷◌, ◌++◌}
+use Rattle.ptflow.proofs.Common.{Option, None, Some, map, length, refl, ap, arith, filter, slice_get, last_or}
+use Rattle.ptflow.proofs.Common.{option_eq, option_or, append-nil, map-append, filter-append, IsPrefix, Tables, deletes}
+use Rattle.ptflow.proofs.Common.{image, squeezes, is_not_repeat, squeeze_after, translation, tr, tr_decided}
+use Rattle.ptflow.proofs.Common.{squeeze_from, tr_from, ⊎_elim, sym, cases_Bool, eq-eqb, eqb-true, squeeze, BeginsWith}
+use Rattle.ptflow.proofs.Common.{EndsWith, TrOfAnyParts, TrOfParts, TrAfterByte, TrMeetsTwice, and_right}
 
 module _ (squeezed : ℕ → Bool) where
-  pub after_one_byte : (last b : ℕ) (bytes : List ℕ) → squeeze_after squeezed last (b ∷ bytes) ≡ cond (is_not_repeat squeezed (last, b)) (b ∷ squeeze_after squeezed b bytes) (squeeze_after squeezed b bytes)
+  pub after_one_byte : (last b : ℕ) (bytes : List ℕ)
+      → squeeze_after squeezed last (b ∷ bytes)
+      ≡ cond (is_not_repeat squeezed (last, b)) (b ∷ squeeze_after squeezed b bytes) (squeeze_after squeezed b bytes)
   after_one_byte last b bytes = grind arith
 
-  pub from_one : (last : Option ℕ) (b : ℕ) (bytes : List ℕ) → squeeze_from squeezed last (b ∷ bytes)
-      ≡ cond (not (option_eq eqb last (Some b) && squeezed b)) (b ∷ squeeze_after squeezed b bytes) (squeeze_after squeezed b bytes)
+  pub from_one : (last : Option ℕ) (b : ℕ) (bytes : List ℕ)
+      → squeeze_from squeezed last (b ∷ bytes)
+      ≡ cond (not (option_eq eqb last (Some b) && squeezed b)) (b ∷ squeeze_after squeezed b bytes)
+      (squeeze_after squeezed b bytes)
   from_one None b bytes = refl
   from_one (Some last) b bytes = after_one_byte last b bytes
 
@@ -22,7 +29,9 @@ module _ (squeezed : ℕ → Bool) where
   after_split last [] ys = refl
   after_split last (b ∷ xs) ys = grind (arith, after_split b xs ys, repeats last b)
 
-  from_append : (last : Option ℕ) (xs ys : List ℕ) → squeeze_from squeezed last (xs ++ ys) ≡ squeeze_from squeezed last xs ++ squeeze_from squeezed (last_or last (squeeze_from squeezed last xs)) ys
+  from_append : (last : Option ℕ) (xs ys : List ℕ)
+      → squeeze_from squeezed last (xs ++ ys) ≡ squeeze_from squeezed last xs
+      ++ squeeze_from squeezed (last_or last (squeeze_from squeezed last xs)) ys
   from_append None [] ys = refl
   from_append None (b ∷ xs) ys = ap (◌∷◌ b) (after_split b xs ys)
   from_append (Some last) xs ys = after_split last xs ys
@@ -33,7 +42,8 @@ at_end : (b : ℕ) (bytes : List ℕ) → slice_get (b ∷ bytes) (length bytes)
 at_end b [] = refl
 at_end b (c ∷ bytes) = at_end c bytes
 
-some_last : (last : Option ℕ) (b : ℕ) (bytes : List ℕ) → option_or (last_or (Some b) bytes) last ≡ last_or (Some b) bytes
+some_last : (last : Option ℕ) (b : ℕ) (bytes : List ℕ)
+    → option_or (last_or (Some b) bytes) last ≡ last_or (Some b) bytes
 some_last last b [] = refl
 some_last last b (c ∷ bytes) = some_last last c bytes
 
@@ -51,29 +61,39 @@ module _ (t : Tables) where
   rest_nothing (Some last) = refl
 
   translated_append : (xs ys : List ℕ) → translation t (xs ++ ys) ≡ translation t xs ++ translation t ys
-  translated_append xs ys = cc (filter-append (λ b. not (deletes t b)) xs ys, map-append (image t) (filter (λ b. not (deletes t b)) xs) (filter (λ b. not (deletes t b)) ys))
+  translated_append xs ys =
+      cc (
+        filter-append (λ b. not (deletes t b)) xs ys,
+        map-append (image t) (filter (λ b. not (deletes t b)) xs) (filter (λ b. not (deletes t b)) ys),
+      )
 
   -- the output for a block comes first
-  pub front_on : (last : Option ℕ) (block rest : List ℕ) → tr_from t last (block ++ rest) ≡ tr_from t last block ++ tr_from t (last_or last (tr_from t last block)) rest
-  front_on last block rest = cc (translated_append block rest, from_append (squeezes t) last (translation t block) (translation t rest))
+  pub front_on : (last : Option ℕ) (block rest : List ℕ)
+      → tr_from t last (block ++ rest) ≡ tr_from t last block ++ tr_from t (last_or last (tr_from t last block)) rest
+  front_on last block rest =
+      cc (translated_append block rest, from_append (squeezes t) last (translation t block) (translation t rest))
 
   -- the last output byte of a block is the last one after it
-  pub block_on : (last : Option ℕ) {after : Option ℕ} (block : List ℕ) {written : List ℕ} (rest : List ℕ) → written ≡ tr_from t last block → after
-      ≡ option_or (slice_get written (length written - 1)) last → tr_from t last (block ++ rest) ≡ written ++ tr_from t after rest
+  pub block_on : (last : Option ℕ) {after : Option ℕ} (block : List ℕ) {written : List ℕ} (rest : List ℕ)
+      → written ≡ tr_from t last block → after ≡ option_or (slice_get written (length written - 1)) last
+      → tr_from t last (block ++ rest) ≡ written ++ tr_from t after rest
   block_on last block {written} rest made end = cc (front_on last block rest, last_is last written)
 
   -- the output for a block: bytes are deleted, then translated, then squeezed
-  pub passes_make : (last : Option ℕ) (block : List ℕ) {kept mapped written : List ℕ} → kept ≡ filter (λ b. not (deletes t b)) block → mapped ≡ map (image t) kept
+  pub passes_make : (last : Option ℕ) (block : List ℕ) {kept mapped written : List ℕ}
+      → kept ≡ filter (λ b. not (deletes t b)) block → mapped ≡ map (image t) kept
       → written ≡ squeeze_from (squeezes t) last mapped → written ≡ tr_from t last block
   passes_make last block k m w = cc
 
-  pub block_begins : (last : Option ℕ) (block : List ℕ) {written : List ℕ} (rest : List ℕ) → written ≡ tr_from t last block → IsPrefix written (tr_from t last (block ++ rest))
+  pub block_begins : (last : Option ℕ) (block : List ℕ) {written : List ℕ} (rest : List ℕ)
+      → written ≡ tr_from t last block → IsPrefix written (tr_from t last (block ++ rest))
   block_begins last block rest made = record {
     rest = tr_from t (last_or last (tr_from t last block)) rest;
     is = cc (front_on last block rest);
   }
 
-  pub rest_decided : (given pushed : List ℕ) (now : Option ℕ) → ((rest : List ℕ) → tr_from t None (given ++ rest) ≡ pushed ++ tr_from t now rest)
+  pub rest_decided : (given pushed : List ℕ) (now : Option ℕ)
+      → ((rest : List ℕ) → tr_from t None (given ++ rest) ≡ pushed ++ tr_from t now rest)
       → IsPrefix (tr_decided t (record { bytes = given; eof = false })) pushed
   rest_decided given pushed now on = record {
     rest = [];
@@ -82,17 +102,24 @@ module _ (t : Tables) where
 
 -- ---- nothing is deleted or squeezed
 
-after_all : (squeezed : ℕ → Bool) → ((b : ℕ) → squeezed b ≡ false) → (last : ℕ) (bytes : List ℕ) → squeeze_after squeezed last bytes ≡ bytes
+after_all : (squeezed : ℕ → Bool) → ((b : ℕ) → squeezed b ≡ false) → (last : ℕ) (bytes : List ℕ)
+    → squeeze_after squeezed last bytes ≡ bytes
 after_all squeezed none last [] = refl
 after_all squeezed none last (b ∷ bytes) =
-    cc (after_one_byte squeezed last b bytes, and_right (last == b) (squeezed b) (none b), after_all squeezed none b bytes)
+    cc (
+      after_one_byte squeezed last b bytes,
+      and_right (last == b) (squeezed b) (none b),
+      after_all squeezed none b bytes,
+    )
 
-pub from_all : (squeezed : ℕ → Bool) → ((b : ℕ) → squeezed b ≡ false) → (last : Option ℕ) (bytes : List ℕ) → squeeze_from squeezed last bytes ≡ bytes
+pub from_all : (squeezed : ℕ → Bool) → ((b : ℕ) → squeezed b ≡ false) → (last : Option ℕ) (bytes : List ℕ)
+    → squeeze_from squeezed last bytes ≡ bytes
 from_all squeezed none None [] = refl
 from_all squeezed none None (b ∷ bytes) = ap (◌∷◌ b) (after_all squeezed none b bytes)
 from_all squeezed none (Some last) bytes = after_all squeezed none last bytes
 
-pub filter_all : (test : ℕ → Bool) → ((b : ℕ) → test b ≡ false) → (bytes : List ℕ) → filter (λ b. not (test b)) bytes ≡ bytes
+pub filter_all : (test : ℕ → Bool) → ((b : ℕ) → test b ≡ false) → (bytes : List ℕ)
+    → filter (λ b. not (test b)) bytes ≡ bytes
 filter_all test none [] = refl
 filter_all test none (b ∷ bytes) = cc (none b, filter_all test none bytes)
 
@@ -101,10 +128,14 @@ filter_all test none (b ∷ bytes) = cc (none b, filter_all test none bytes)
 -- the last item of a list that is not empty
 last_of : {X : Type 0} (x : X) (xs : List X) → (last : X) × (last_or (Some x) xs ≡ Some last) × EndsWith last (x ∷ xs)
 last_of x [] = (x, refl, ([], refl))
-last_of x (y ∷ xs) = let l = last_of y xs in (l.0, l.1, (x ∷ l.2.0, ap (◌∷◌ x) l.2.1))
+last_of x (y ∷ xs) =
+    let (last, is, ends) = last_of y xs in
+    let (front, split) = ends in (last, is, (x ∷ front, ap (◌∷◌ x) split))
 
 -- A byte before the text makes no difference if the text does not begin with it, or it is not squeezed.
-after_two_parts : (squeezed : ℕ → Bool) (last : ℕ) (bytes : List ℕ) → (BeginsWith last (squeeze squeezed bytes) → squeezed last ≡ false) → squeeze_after squeezed last bytes ≡ squeeze squeezed bytes
+after_two_parts : (squeezed : ℕ → Bool) (last : ℕ) (bytes : List ℕ)
+    → (BeginsWith last (squeeze squeezed bytes) → squeezed last ≡ false)
+    → squeeze_after squeezed last bytes ≡ squeeze squeezed bytes
 after_two_parts squeezed last [] apart = refl
 after_two_parts squeezed last (b ∷ bytes) apart =
     let rest = squeeze_after squeezed b bytes in
@@ -119,15 +150,17 @@ after_two_parts squeezed last (b ∷ bytes) apart =
     other e = rw e refl
 
 -- bytes after some output
-from_two_parts : (squeezed : ℕ → Bool) (written bytes : List ℕ) → ((byte : ℕ) → EndsWith byte written → BeginsWith byte (squeeze squeezed bytes) → squeezed byte ≡ false)
+from_two_parts : (squeezed : ℕ → Bool) (written bytes : List ℕ)
+    → ((byte : ℕ) → EndsWith byte written → BeginsWith byte (squeeze squeezed bytes) → squeezed byte ≡ false)
     → squeeze_from squeezed (last_or None written) bytes ≡ squeeze squeezed bytes
 from_two_parts squeezed [] bytes apart = refl
 from_two_parts squeezed (b ∷ written) bytes apart =
-    let l = last_of b written in
-    cc (after_two_parts squeezed l.0 bytes (apart l.0 l.2))
+    let (last, is, ends) = last_of b written in
+    cc (after_two_parts squeezed last bytes (apart last ends))
 
 pub tr_of_parts : TrOfParts
-tr_of_parts tables a b apart = cc (front_on tables None a b, from_two_parts (squeezes tables) (tr tables a) (translation tables b) apart)
+tr_of_parts tables a b apart =
+    cc (front_on tables None a b, from_two_parts (squeezes tables) (tr tables a) (translation tables b) apart)
 
 pub tr_of_any_parts : TrOfAnyParts
 tr_of_any_parts tables a b none = tr_of_parts tables a b (λ byte ends begins. none byte)
@@ -140,26 +173,36 @@ last_after o (y ∷ front) x = last_after (Some y) front x
 
 -- the last item of a list is unique
 pub same_last : {X : Type 0} (x y : X) (xs : List X) → EndsWith x xs → EndsWith y xs → Some x ≡ Some y
-same_last x y xs ends others = cc (last_after None ends.0 x, last_after None others.0 y)
+same_last x y xs (front, ends) (others, other_ends) = cc (last_after None front x, last_after None others y)
 
 -- one byte that is not deleted and whose image is not squeezed
-one_byte : (tables : Tables) (last : Option ℕ) (byte : ℕ) → deletes tables byte ≡ false → squeezes tables (image tables byte) ≡ false → tr_from tables last (byte ∷ []) ≡ image tables byte ∷ []
+one_byte : (tables : Tables) (last : Option ℕ) (byte : ℕ) → deletes tables byte ≡ false
+    → squeezes tables (image tables byte) ≡ false → tr_from tables last (byte ∷ []) ≡ image tables byte ∷ []
 one_byte tables last byte is_not_repeat stays_too =
-    cc (is_not_repeat, from_one (squeezes tables) last (image tables byte) [], by_test (option_eq eqb last (Some (image tables byte))))
+    cc (
+      is_not_repeat,
+      from_one (squeezes tables) last (image tables byte) [],
+      by_test (option_eq eqb last (Some (image tables byte))),
+    )
   where
     by_test : (t : Bool) → cond (not (t && false)) (image tables byte ∷ []) [] ≡ image tables byte ∷ []
     by_test t = grind arith
 
 pub tr_after_byte : TrAfterByte
-tr_after_byte tables byte a b ends kept unsqueezed =
+tr_after_byte tables byte a b (front, ends) kept unsqueezed =
     let last : EndsWith (image tables byte) (tr tables a) = (
-      tr tables ends.0,
-      cc (ends.1, front_on tables None ends.0 (byte ∷ []), one_byte tables (last_or None (tr tables ends.0)) byte kept unsqueezed),
+      tr tables front,
+      cc (
+        ends,
+        front_on tables None front (byte ∷ []),
+        one_byte tables (last_or None (tr tables front)) byte kept unsqueezed,
+      ),
     ) in
     tr_of_parts tables a b (λ c is begins. cc (same_last c (image tables byte) (tr tables a) is last, unsqueezed))
 
 -- bytes that begin with the byte before them, which is squeezed
-after_same : (squeezed : ℕ → Bool) (last : ℕ) (bytes rest : List ℕ) → squeezed last ≡ true → squeeze squeezed bytes ≡ last ∷ rest → squeeze_after squeezed last bytes ≡ rest
+after_same : (squeezed : ℕ → Bool) (last : ℕ) (bytes rest : List ℕ) → squeezed last ≡ true
+    → squeeze squeezed bytes ≡ last ∷ rest → squeeze_after squeezed last bytes ≡ rest
 after_same squeezed last [] rest is begins = cc
 after_same squeezed last (b ∷ bytes) rest is begins =
     let same : b ≡ last = cc in
@@ -169,5 +212,9 @@ after_same squeezed last (b ∷ bytes) rest is begins =
     again same = rw (eq-eqb last b (sym same)) (cc (same))
 
 pub tr_meets_twice : TrMeetsTwice
-tr_meets_twice tables byte a b rest is ends begins =
-    cc (front_on tables None a b, last_after None ends.0 byte, after_same (squeezes tables) byte (translation tables b) rest is begins)
+tr_meets_twice tables byte a b rest is (front, ends) begins =
+    cc (
+      front_on tables None a b,
+      last_after None front byte,
+      after_same (squeezes tables) byte (translation tables b) rest is begins,
+    )

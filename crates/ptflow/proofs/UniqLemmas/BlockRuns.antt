@@ -1,10 +1,13 @@
 -- The runs of the lines of a block, line by line. A line either has the key of the run before it, and adds to its
 -- count, or ends it. Output that is contiguous in the block is deferred, so the pushed bytes and the deferred ones
 -- together are the output so far.
-use Rattle.ptflow.proofs.Common.{◌≡◌, ℕ, ◌+◌, ◌-◌, ◌<◌, ◌≤◌, ◌&&◌, Bool, true, false, List, [], ◌∷◌, ◌++◌, Some, length, take, drop, refl, sym, ◌∙◌, ap, subst, arith, append_assoc, length-append}
-use Rattle.ptflow.proofs.Common.{common_steps, bytes_eq, nat_lt, slice_range, nat_tests, drop_split, append-nil, take-take, take_at, drop_at, IsFirstByte, is_byte, Output, PushEffect, unlines, complete_lines}
-use Rattle.ptflow.proofs.Common.{IsLine, push_nothing, unlines_push, complete_lines_none, Uniq, Run, key, is_same, output_of, run_of, current_run, runs_after, has_output, run_output, RunsWritten, RunsFailed}
-use Rattle.ptflow.proofs.Common.{CountRepeatsPost, span_of, IsSpan, IsPending}
+use Rattle.ptflow.proofs.Common.{◌≡◌, ℕ, ◌+◌, ◌-◌, ◌<◌, ◌≤◌, ◌&&◌, Bool, true, false, List, [], ◌∷◌, ◌++◌, Some, length}
+use Rattle.ptflow.proofs.Common.{take, drop, refl, sym, ◌∙◌, ap, subst, arith, append_assoc, length-append}
+use Rattle.ptflow.proofs.Common.{common_steps, bytes_eq, nat_lt, slice_range, nat_tests, drop_split, append-nil}
+use Rattle.ptflow.proofs.Common.{take-take, take_at, drop_at, IsFirstByte, is_byte, Output, PushEffect, unlines}
+use Rattle.ptflow.proofs.Common.{complete_lines, IsLine, push_nothing, unlines_push, complete_lines_none, Uniq, Run}
+use Rattle.ptflow.proofs.Common.{key, is_same, output_of, run_of, current_run, runs_after, has_output, run_output}
+use Rattle.ptflow.proofs.Common.{RunsWritten, RunsFailed, CountRepeatsPost, span_of, IsSpan, IsPending}
 use Rattle.ptlines.proofs.Consume.{length_range}
 use Rattle.ptlangs.specs.declared.jobs.Show.{Show}
 use Rattle.ptflow.specs.Private.Uniq.RunsFrom.{count_prefix}
@@ -20,7 +23,8 @@ pub record BlockPrefix (end : ℕ) (block rest : List ℕ) (front : List (List �
 
 pub text_long : (end : ℕ) (ls : List (List ℕ)) → length ls ≤ length (unlines end ls)
 text_long end [] = omega arith
-text_long end (l ∷ ls) = omega (arith, text_long end ls, length-append (l ++ end ∷ []) (unlines end ls), length-append l (end ∷ []))
+text_long end (l ∷ ls) =
+    omega (arith, text_long end ls, length-append (l ++ end ∷ []) (unlines end ls), length-append l (end ∷ []))
 
 pub prefix_nothing : (end : ℕ) (block : List ℕ) → BlockPrefix end block block []
 prefix_nothing end block = record { lines = refl; bytes = refl }
@@ -44,9 +48,15 @@ module _ {end : ℕ} {block rest : List ℕ} {front : List (List ℕ)} (f : Bloc
   pub front_all : IsLine end rest → complete_lines end block ≡ front
   front_all none = cc (complete_lines_none end rest none, append-nil front)
 
-  pub front_more : (at : ℕ) → IsFirstByte (is_byte end) rest (Some at) → BlockPrefix end block (drop (at + 1) rest) (front ++ take at rest ∷ [])
+  pub front_more : (at : ℕ) → IsFirstByte (is_byte end) rest (Some at)
+      → BlockPrefix end block (drop (at + 1) rest) (front ++ take at rest ∷ [])
   front_more at first = record {
-    lines = cc (ended_next end rest at first, append_assoc front (take at rest ∷ []) (complete_lines end (drop (at + 1) rest)));
+    lines =
+        cc (
+          ended_next end rest at first,
+          append_assoc front (take at rest ∷ [])
+              (complete_lines end (drop (at + 1) rest)),
+        );
     bytes =
         cc (
           split_of end rest at first,
@@ -60,7 +70,8 @@ same_head : {x y : List ℕ} {xs ys : List (List ℕ)} → x ∷ xs ≡ y ∷ ys
 same_head is = cc
 
 -- two lines are of one run if their keys are equal
-pub same_by_keys : (job : Uniq) (first line : List ℕ) {run_key next : List ℕ} → run_key ≡ key job first → next ≡ key job line → is_same job first line ≡ bytes_eq run_key next
+pub same_by_keys : (job : Uniq) (first line : List ℕ) {run_key next : List ℕ} → run_key ≡ key job first
+    → next ≡ key job line → is_same job first line ≡ bytes_eq run_key next
 same_by_keys job first line run_key_is next_is = λ i. bytes_eq (sym run_key_is i) (sym next_is i)
 
 -- ---- lines of one run
@@ -70,19 +81,23 @@ pub record CountInvariant (job : Uniq) (end : ℕ) (first block rest : List ℕ)
   pub front : List (List ℕ)
   pub lies : BlockPrefix end block rest front
   pub number : length front ≡ count
-  pub on : (n : ℕ) → 0 < n → (more : List (List ℕ)) → runs_after job (run_of first n) (front ++ more) ≡ runs_after job (run_of first (n + count)) more
+  pub on : (n : ℕ) → 0 < n → (more : List (List ℕ))
+      → runs_after job (run_of first n) (front ++ more) ≡ runs_after job (run_of first (n + count)) more
 
-module _ {job : Uniq} {end : ℕ} {first block : List ℕ} {rest : List ℕ} {count : ℕ} (c : CountInvariant job end first block rest count) where
+module _ {job : Uniq} {end : ℕ} {first block : List ℕ} {rest : List ℕ} {count : ℕ}
+    (c : CountInvariant job end first block rest count) where
   pub count_few : count + length rest ≤ length block
   count_few = omega (arith, front_few c.lies)
 
-  pub count_more : (at : ℕ) → IsFirstByte (is_byte end) rest (Some at) → is_same job first (take at rest) ≡ true → CountInvariant job end first block (drop (at + 1) rest) (count + 1)
+  pub count_more : (at : ℕ) → IsFirstByte (is_byte end) rest (Some at) → is_same job first (take at rest) ≡ true
+      → CountInvariant job end first block (drop (at + 1) rest) (count + 1)
   count_more at found same = record {
     front = c.front ++ take at rest ∷ [];
     lies = front_more c.lies at found;
     number = omega (arith, length-append c.front (take at rest ∷ []));
     on = λ n some more.
-        ap (runs_after job (run_of first n)) (append_assoc c.front (take at rest ∷ []) more) ∙ c.on n some (take at rest ∷ more)
+        ap (runs_after job (run_of first n)) (append_assoc c.front (take at rest ∷ []) more)
+        ∙ c.on n some (take at rest ∷ more)
         ∙ runs_after_more job (run_of first (n + count)) (take at rest) more (both (n + count) (omega (arith, some)))
         ∙ ap (λ m. runs_after job (run_of first m) more) (omega arith);
   }
@@ -90,7 +105,8 @@ module _ {job : Uniq} {end : ℕ} {first block : List ℕ} {rest : List ℕ} {co
       both : (m : ℕ) → 0 < m → (nat_lt 0 m && is_same job first (take at rest)) ≡ true
       both m some = rw same (grind (arith, nat_tests))
 
-  pub count_ends : ((line : List ℕ) (more : List (List ℕ)) → complete_lines end rest ≡ line ∷ more → is_same job first line ≡ false)
+  pub count_ends : ((line : List ℕ) (more : List (List ℕ)) → complete_lines end rest ≡ line ∷ more
+      → is_same job first line ≡ false)
       → CountRepeatsPost job end first block (record { count = count; passed = length block - length rest })
   count_ends turns = record {
     front = c.front;
@@ -103,13 +119,16 @@ module _ {job : Uniq} {end : ℕ} {first block : List ℕ} {rest : List ℕ} {co
   }
 
   -- no complete line is left
-  pub count_done : IsLine end rest → CountRepeatsPost job end first block (record { count = count; passed = length block - length rest })
-  count_done none = count_ends (λ line more is. absurd (omega (arith, ap length (sym (complete_lines_none end rest none) ∙ is))))
+  pub count_done : IsLine end rest → CountRepeatsPost job end first block
+      (record { count = count; passed = length block - length rest })
+  count_done none =
+      count_ends (λ line more is. absurd (omega (arith, ap length (sym (complete_lines_none end rest none) ∙ is))))
 
   -- the next line has another key
   pub count_next_key : (at : ℕ) → IsFirstByte (is_byte end) rest (Some at) → is_same job first (take at rest) ≡ false
       → CountRepeatsPost job end first block (record { count = count; passed = length block - length rest })
-  count_next_key at found turns = count_ends (λ line more is. rw (same_head (sym (ended_next end rest at found) ∙ is)) at turns)
+  count_next_key at found turns =
+      count_ends (λ line more is. rw (same_head (sym (ended_next end rest at found) ∙ is)) at turns)
 
 -- ---- deferred output
 
@@ -117,22 +136,35 @@ pub span_nothing : {block : List ℕ} → IsSpan block (record { from = 0; to = 
 span_nothing = record { ordered = omega arith; within = omega arith }
 
 -- adjacent ranges are one range
-pub span_join : {block : List ℕ} {a b : Span} → IsSpan block a → IsSpan block b → a.to ≡ b.from → span_of block (record { from = a.from; to = b.to }) ≡ span_of block a ++ span_of block b
+pub span_join : {block : List ℕ} {a b : Span} → IsSpan block a → IsSpan block b → a.to ≡ b.from
+    → span_of block (record { from = a.from; to = b.to }) ≡ span_of block a ++ span_of block b
 span_join {block} {a} {b} fits next touch =
     let front = span_of block a in
     let back = span_of block b in
-    let long : b.to - a.from ≡ length (front ++ back) = omega
-    (arith, length-append front back, length_range block _ _ fits.ordered fits.within, length_range block _ _ next.ordered next.within, next.ordered) in
+    let long : b.to - a.from ≡ length (front ++ back) = omega (
+      arith,
+      length-append front back,
+      length_range block _ _ fits.ordered fits.within,
+      length_range block _ _ next.ordered next.within,
+      next.ordered,
+    ) in
     let split : drop a.from block ≡ (front ++ back) ++ drop b.to block =
-    cc (drop_split block a.from a.to fits.ordered, drop_split block b.from b.to next.ordered, append_assoc front back (drop b.to block)) in
+    cc (
+      drop_split block a.from a.to fits.ordered,
+      drop_split block b.from b.to next.ordered,
+      append_assoc front back (drop b.to block),
+    ) in
     cc (take_at (front ++ back) (drop b.to block) (length (front ++ back)) refl)
 
-pub run_text_shown : (show : Show) (count : ℕ) (bytes : List ℕ) → has_output show count ≡ true → count_prefix show count ++ bytes ≡ run_output show count bytes
+pub run_text_shown : (show : Show) (count : ℕ) (bytes : List ℕ) → has_output show count ≡ true
+    → count_prefix show count ++ bytes ≡ run_output show count bytes
 run_text_shown show count bytes shown = sym (rw shown refl)
 
-pub pending_joined : (show : Show) (count : ℕ) {block : List ℕ} {pending line : Span} {out : Output} → IsSpan block pending → IsSpan block line → pending.to
-    ≡ line.from → count_prefix show count ≡ [] → has_output show count ≡ true
-    → IsPending (span_of block pending ++ run_output show count (span_of block line)) block (record { from = pending.from; to = line.to }) out out
+pub pending_joined : (show : Show) (count : ℕ) {block : List ℕ} {pending line : Span} {out : Output}
+    → IsSpan block pending → IsSpan block line → pending.to ≡ line.from → count_prefix show count ≡ []
+    → has_output show count ≡ true
+    → IsPending (span_of block pending ++ run_output show count (span_of block line)) block
+    (record { from = pending.from; to = line.to }) out out
 pending_joined show count {block} {line} {out} fits next touch none shown = record {
   pushed = [];
   wrote = push_nothing out;
@@ -143,7 +175,8 @@ pending_joined show count {block} {line} {out} fits next touch none shown = reco
 -- ---- runs one after another
 
 -- Between two lines of a block: the current run, and the deferred output of the runs before it.
-pub record RunsInvariant (job : Uniq) (block rest : List ℕ) (count : ℕ) (line pending : Span) (run_key : List ℕ) (was is : Output) : Type 0 where
+pub record RunsInvariant (job : Uniq) (block rest : List ℕ) (count : ℕ) (line pending : Span) (run_key : List ℕ)
+    (was is : Output) : Type 0 where
   pub front : List (List ℕ)
   pub lies : BlockPrefix job.terminator block rest front
   pub passed : List Run
@@ -151,7 +184,8 @@ pub record RunsInvariant (job : Uniq) (block rest : List ℕ) (count : ℕ) (lin
   pub wrote : PushEffect was is pushed
   pub waits : pushed ++ span_of block pending ≡ output_of job passed
   pub first : List ℕ
-  pub on : (more : List (List ℕ)) → runs_after job (run_of [] 0) (front ++ more) ≡ passed ++ runs_after job (run_of first count) more
+  pub on : (more : List (List ℕ))
+      → runs_after job (run_of [] 0) (front ++ more) ≡ passed ++ runs_after job (run_of first count) more
   pub run_key_is : run_key ≡ key job first
   pub whole : span_of block line ≡ first ++ job.terminator ∷ []
   pub line_in : (line.from < line.to) × (line.to ≤ length block)
@@ -166,15 +200,18 @@ pub other_count : (n : ℕ) {t : Bool} → t ≡ false → (nat_lt 0 n && t) ≡
 other_count n other = grind arith
 
 -- the next line with its terminator
-line_in_block : {end : ℕ} {block rest : List ℕ} {front : List (List ℕ)} → BlockPrefix end block rest front → (at : ℕ) → IsFirstByte (is_byte end) rest (Some at)
-    → (from to : ℕ) → from ≡ length block - length rest → to ≡ from + at + 1
-    → (slice_range block from to ≡ take at rest ++ end ∷ []) × (from < to) × (to ≤ length block)
+line_in_block : {end : ℕ} {block rest : List ℕ} {front : List (List ℕ)} → BlockPrefix end block rest front → (at : ℕ)
+    → IsFirstByte (is_byte end) rest (Some at) → (from to : ℕ) → from ≡ length block - length rest → to ≡ from + at + 1
+    → (slice_range block from to ≡ take at rest ++ end ∷ []) × ((from < to) × (to ≤ length block))
 line_in_block lies at first from to from_is to_is = grind (arith, common_steps)
 
-pub runs_loop_starts : (job : Uniq) (block : List ℕ) (at : ℕ) → IsFirstByte (is_byte job.terminator) block (Some at) → {run_key : List ℕ} → run_key ≡ key job (take at block) → (was : Output)
-    → RunsInvariant job block (drop (at + 1) block) 1 (record { from = 0; to = at + 1 }) (record { from = 0; to = 0 }) run_key was was
+pub runs_loop_starts : (job : Uniq) (block : List ℕ) (at : ℕ) → IsFirstByte (is_byte job.terminator) block (Some at)
+    → {run_key : List ℕ} → run_key ≡ key job (take at block) → (was : Output)
+    → RunsInvariant job block (drop (at + 1) block) 1 (record { from = 0; to = at + 1 }) (record { from = 0; to = 0 })
+    run_key was was
 runs_loop_starts job block at first run_key_is was =
-    let l = line_in_block (prefix_nothing job.terminator block) at first 0 (at + 1) (omega arith) (omega arith) in record {
+    let (whole, line_in) = line_in_block (prefix_nothing job.terminator block) at first 0 (at + 1) (omega arith)
+    (omega arith) in record {
       front = take at block ∷ [];
       lies = front_more (prefix_nothing job.terminator block) at first;
       passed = [];
@@ -184,14 +221,15 @@ runs_loop_starts job block at first run_key_is was =
       first = take at block;
       on = λ more. runs_after_next job (run_of [] 0) (take at block) more refl;
       run_key_is = run_key_is;
-      whole = l.0;
-      line_in = (l.1, l.2);
+      whole = whole;
+      line_in = line_in;
       waiting_in = span_nothing;
       some = omega arith;
       few = omega arith;
     }
 
-module _ {job : Uniq} {block : List ℕ} {rest : List ℕ} {count : ℕ} {line pending : Span} {run_key : List ℕ} {was is : Output} (r : RunsInvariant job block rest count line pending run_key was is) where
+module _ {job : Uniq} {block : List ℕ} {rest : List ℕ} {count : ℕ} {line pending : Span} {run_key : List ℕ}
+    {was is : Output} (r : RunsInvariant job block rest count line pending run_key was is) where
   pub runs_loop_few : count + length rest ≤ length block
   runs_loop_few = omega (arith, front_few r.lies)
 
@@ -199,10 +237,13 @@ module _ {job : Uniq} {block : List ℕ} {rest : List ℕ} {count : ℕ} {line p
     abbrev next : List ℕ
     next = take at rest
 
-    one_more : (more : List (List ℕ)) → runs_after job (run_of [] 0) ((r.front ++ next ∷ []) ++ more) ≡ r.passed ++ runs_after job (run_of r.first count) (next ∷ more)
+    one_more : (more : List (List ℕ))
+        → runs_after job (run_of [] 0) ((r.front ++ next ∷ []) ++ more)
+        ≡ r.passed ++ runs_after job (run_of r.first count) (next ∷ more)
     one_more more = cc (append_assoc r.front (next ∷ []) more, r.on (next ∷ more))
 
-    pub runs_loop_more : is_same job r.first next ≡ true → RunsInvariant job block (drop (at + 1) rest) (count + 1) line pending run_key was is
+    pub runs_loop_more : is_same job r.first next ≡ true
+        → RunsInvariant job block (drop (at + 1) rest) (count + 1) line pending run_key was is
     runs_loop_more same = record {
       front = r.front ++ next ∷ [];
       lies = front_more r.lies at found;
@@ -221,12 +262,19 @@ module _ {job : Uniq} {block : List ℕ} {rest : List ℕ} {count : ℕ} {line p
     }
 
     module _ (other : is_same job r.first next ≡ false) where
-      turned : (more : List (List ℕ)) → runs_after job (run_of [] 0) ((r.front ++ next ∷ []) ++ more) ≡ (r.passed ++ current_run (run_of r.first count)) ++ runs_after job (run_of next 1) more
+      turned : (more : List (List ℕ))
+          → runs_after job (run_of [] 0) ((r.front ++ next ∷ []) ++ more)
+          ≡ (r.passed ++ current_run (run_of r.first count)) ++ runs_after job (run_of next 1) more
       turned more =
-          cc (one_more more, runs_after_next job (run_of r.first count) next more (other_count count other), append_assoc r.passed (current_run (run_of r.first count)) (runs_after job (run_of next 1) more))
+          cc (
+            one_more more,
+            runs_after_next job (run_of r.first count) next more (other_count count other),
+            append_assoc r.passed (current_run (run_of r.first count)) (runs_after job (run_of next 1) more),
+          )
 
       -- the deferred output, and then that of the run, are the output of all runs but the next
-      all_entries : (pushed waiting' : List ℕ) → pushed ++ waiting' ≡ span_of block pending ++ run_output job.show count (span_of block line)
+      all_entries : (pushed waiting' : List ℕ)
+          → pushed ++ waiting' ≡ span_of block pending ++ run_output job.show count (span_of block line)
           → (r.pushed ++ pushed) ++ waiting' ≡ output_of job (r.passed ++ current_run (run_of r.first count))
       all_entries pushed waiting' all =
           cc (
@@ -236,11 +284,13 @@ module _ {job : Uniq} {block : List ℕ} {rest : List ℕ} {count : ℕ} {line p
             entries-append job r.passed (current_run (run_of r.first count)),
           )
 
-      pub runs_loop_next : {is' : Output} {now : Span} → IsPending (span_of block pending ++ run_output job.show count (span_of block line)) block now is is'
-          → (from to : ℕ) → from ≡ length block - length rest → to ≡ from + at + 1 → {own' : List ℕ} → own' ≡ key job next
+      pub runs_loop_next : {is' : Output} {now : Span}
+          → IsPending (span_of block pending ++ run_output job.show count (span_of block line)) block now is is'
+          → (from to : ℕ) → from ≡ length block - length rest → to ≡ from + at + 1 → {own' : List ℕ}
+          → own' ≡ key job next
           → RunsInvariant job block (drop (at + 1) rest) 1 (record { from = from; to = to }) now own' was is'
       runs_loop_next {now} w from to from_is to_is own_is' =
-          let l = line_in_block r.lies at found _ _ from_is to_is in record {
+          let (whole, line_in) = line_in_block r.lies at found _ _ from_is to_is in record {
             front = r.front ++ next ∷ [];
             lies = front_more r.lies at found;
             passed = r.passed ++ current_run (run_of r.first count);
@@ -250,31 +300,38 @@ module _ {job : Uniq} {block : List ℕ} {rest : List ℕ} {count : ℕ} {line p
             first = next;
             on = turned;
             run_key_is = own_is';
-            whole = l.0;
-            line_in = (l.1, l.2);
+            whole = whole;
+            line_in = line_in;
             waiting_in = w.span;
             some = omega arith;
             few = omega (arith, length-append r.front (next ∷ []));
           }
 
       -- a write failed
-      pub runs_loop_failed : {is' : Output} → is'.write_failed ≡ true → PushEffect is is' (span_of block pending ++ run_output job.show count (span_of block line))
+      pub runs_loop_failed : {is' : Output} → is'.write_failed ≡ true
+          → PushEffect is is' (span_of block pending ++ run_output job.show count (span_of block line))
           → RunsFailed job (run_of [] 0) (complete_lines job.terminator block) was is'
       runs_loop_failed {is'} fault wrote = record {
         passed = r.passed ++ current_run (run_of r.first count);
         fault = fault;
         wrote = subst (PushEffect was is')
             (sym (append-nil (r.pushed ++ (span_of block pending ++ run_output job.show count (span_of block line))))
-            ∙ all_entries (span_of block pending ++ run_output job.show count (span_of block line)) [] (append-nil (span_of block pending ++ run_output job.show count (span_of block line))))
+            ∙ all_entries (span_of block pending ++ run_output job.show count (span_of block line)) []
+            (append-nil (span_of block pending ++ run_output job.show count (span_of block line))))
             (wrote_then _ _ _ r.wrote wrote);
         is_prefix = λ more.
             let behind = complete_lines job.terminator (drop (at + 1) rest) ++ more in
             (runs_after job (run_of next 1) behind, cc (lines_on more, turned behind));
       }
         where
-          lines_on : (more : List (List ℕ)) → complete_lines job.terminator block ++ more ≡ (r.front ++ next ∷ []) ++ (complete_lines job.terminator (drop (at + 1) rest) ++ more)
+          lines_on : (more : List (List ℕ))
+              → complete_lines job.terminator block ++ more
+              ≡ (r.front ++ next ∷ []) ++ (complete_lines job.terminator (drop (at + 1) rest) ++ more)
           lines_on more =
-              cc ((front_more r.lies at found).lines, append_assoc (r.front ++ next ∷ []) (complete_lines job.terminator (drop (at + 1) rest)) more)
+              cc (
+                (front_more r.lies at found).lines,
+                append_assoc (r.front ++ next ∷ []) (complete_lines job.terminator (drop (at + 1) rest)) more,
+              )
 
   -- no complete line is left
   module _ (none : IsLine job.terminator rest) {is' : Output} (wrote : PushEffect is is' (span_of block pending)) where
@@ -284,7 +341,9 @@ module _ {job : Uniq} {block : List ℕ} {rest : List ℕ} {count : ℕ} {line p
     all_wrote : PushEffect was is' (output_of job r.passed)
     all_wrote = rw r.waits at (wrote_then _ _ _ r.wrote wrote)
 
-    pub running_done : is'.write_failed ≡ false → RunsWritten job (run_of [] 0) (run_of (slice_range block line.from (line.to - 1)) count) (complete_lines job.terminator block) was is'
+    pub running_done : is'.write_failed ≡ false
+        → RunsWritten job (run_of [] 0) (run_of (slice_range block line.from (line.to - 1)) count)
+        (complete_lines job.terminator block) was is'
     running_done clean = record {
       passed = r.passed;
       wrote = all_wrote;
@@ -295,14 +354,24 @@ module _ {job : Uniq} {block : List ℕ} {rest : List ℕ} {count : ℕ} {line p
     }
       where
         sizes : line.to - line.from ≡ length r.first + 1
-        sizes = omega (arith, length_range block line.from _ (omega (arith, r.line_in.0)) r.line_in.1, ap length r.whole, length-append r.first (job.terminator ∷ []))
+        sizes = let (some, within) = r.line_in in
+            omega (
+              arith,
+              length_range block line.from _ (omega (arith, some)) within,
+              ap length r.whole,
+              length-append r.first (job.terminator ∷ []),
+            )
 
         first_is : slice_range block line.from (line.to - 1) ≡ r.first
         first_is =
             let short : line.to - 1 - line.from ≡ length r.first = omega (arith, sizes) in
-            cc (take-take (length r.first) (line.to - line.from) (drop line.from block) (omega (arith, sizes)), take_at r.first (job.terminator ∷ []) (length r.first) refl)
+            cc (
+              take-take (length r.first) (line.to - line.from) (drop line.from block) (omega (arith, sizes)),
+              take_at r.first (job.terminator ∷ []) (length r.first) refl,
+            )
 
-    pub running_unended : is'.write_failed ≡ true → RunsFailed job (run_of [] 0) (complete_lines job.terminator block) was is'
+    pub running_unended : is'.write_failed ≡ true
+        → RunsFailed job (run_of [] 0) (complete_lines job.terminator block) was is'
     running_unended fault = record {
       passed = r.passed;
       wrote = all_wrote;
@@ -310,5 +379,6 @@ module _ {job : Uniq} {block : List ℕ} {rest : List ℕ} {count : ℕ} {line p
       is_prefix = λ more. (runs_after job (run_of r.first count) more, cc (all_lines, r.on more));
     }
 
-    pub runs_loop_passed : take (length block - length rest) block ≡ unlines job.terminator (complete_lines job.terminator block)
+    pub runs_loop_passed : take (length block - length rest) block
+        ≡ unlines job.terminator (complete_lines job.terminator block)
     runs_loop_passed = cc (front_take r.lies, all_lines)

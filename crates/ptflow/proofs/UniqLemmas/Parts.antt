@@ -1,64 +1,82 @@
 -- `uniq` for a text that is cut between two runs, or whose lines are distributed by their keys. Lines with different
 -- keys are in different runs, so no run is cut or merged.
-use Rattle.ptflow.proofs.Common.{◌≡◌, ◌⊎◌, inl, inr, ⊎_elim, ℕ, ◌+◌, Bool, true, false, cond, List, [], ◌∷◌, ◌++◌, refl, sym, ◌∙◌, ap, filter, AllByRecursion, cases_Bool, bytes_eq-Decides, lines}
-use Rattle.ptflow.proofs.Common.{IsLine, the_lines_of_parts, lines-unlines, the_lines, Uniq, Run, key, is_same, cons_run, runs, BeginsWith, EndsWith, HasGroupedKeys, UniqOfParts, UniqByKey, run_of}
+use Rattle.ptflow.proofs.Common.{◌≡◌, ◌⊎◌, inl, inr, ⊎_elim, ℕ, ◌+◌, Bool, true, false, cond, List, [], ◌∷◌, ◌++◌, refl}
+use Rattle.ptflow.proofs.Common.{sym, ◌∙◌, ap, filter, AllByRecursion, cases_Bool, bytes_eq-Decides, lines, IsLine}
+use Rattle.ptflow.proofs.Common.{the_lines_of_parts, lines-unlines, lines_are, Uniq, Run, key, is_same, cons_run, runs}
+use Rattle.ptflow.proofs.Common.{BeginsWith, EndsWith, HasGroupedKeys, UniqOfParts, UniqByKey, run_of}
 use Rattle.std.specs.Prelude.{◌≢◌}
 use Rattle.ptflow.proofs.UniqLemmas.RunsFrom.{entries-append}
 
 module _ (job : Uniq) where
   other_key : (a b : List ℕ) → key job a ≢ key job b → is_same job a b ≡ false
-  other_key a b differ = ⊎_elim (λ e. absurd (differ ((bytes_eq-Decides (key job a) (key job b)).0 e))) (λ e. e) (cases_Bool (is_same job a b))
+  other_key a b differ =
+      let (from_same, _) = bytes_eq-Decides (key job a) (key job b) in
+      ⊎_elim (λ e. absurd (differ (from_same e))) (λ e. e) (cases_Bool (is_same job a b))
 
   -- a line before some runs is the line of the first run
-  onto_is : (line : List ℕ) (rs : List Run) → (count : ℕ) × (more : List Run) × (cons_run job line rs ≡ run_of line count ∷ more)
+  onto_is : (line : List ℕ) (rs : List Run)
+      → (count : ℕ) × (more : List Run) × (cons_run job line rs ≡ run_of line count ∷ more)
   onto_is line [] = (1, [], refl)
   onto_is line (run ∷ more) = by_test (is_same job line run.line)
     where
-      by_test : (t : Bool) → (count : ℕ) × (rest : List Run) × (cond t (run_of line (run.count + 1) ∷ more) (run_of line 1 ∷ run ∷ more) ≡ run_of line count ∷ rest)
+      by_test : (t : Bool)
+          → (count : ℕ) × (rest : List Run) × (cond t (run_of line (run.count + 1) ∷ more) (run_of line 1 ∷ run ∷ more)
+          ≡ run_of line count ∷ rest)
       by_test true = (run.count + 1, more, refl)
       by_test false = (1, run ∷ more, refl)
 
   same_key : (a b : List ℕ) → key job a ≡ key job b → is_same job a b ≡ true
-  same_key a b same = (bytes_eq-Decides (key job a) (key job b)).1 same
+  same_key a b same = let (_, to_same) = bytes_eq-Decides (key job a) (key job b) in to_same same
 
   -- runs followed by other runs
-  onto_front : (line : List ℕ) (run : Run) (rs others : List Run) → cons_run job line ((run ∷ rs) ++ others) ≡ cons_run job line (run ∷ rs) ++ others
+  onto_front : (line : List ℕ) (run : Run) (rs others : List Run)
+      → cons_run job line ((run ∷ rs) ++ others) ≡ cons_run job line (run ∷ rs) ++ others
   onto_front line run rs others = by_test (is_same job line run.line)
     where
-      by_test : (t : Bool) → cond t (run_of line (run.count + 1) ∷ (rs ++ others)) (run_of line 1 ∷ run ∷ (rs ++ others))
+      by_test : (t : Bool)
+          → cond t (run_of line (run.count + 1) ∷ (rs ++ others)) (run_of line 1 ∷ run ∷ (rs ++ others))
           ≡ cond t (run_of line (run.count + 1) ∷ rs) (run_of line 1 ∷ run ∷ rs) ++ others
       by_test true = refl
       by_test false = refl
 
   -- the runs of lines, and of lines after them that begin with another key
-  runs-append : (xs ys : List (List ℕ)) → ((last first : List ℕ) → EndsWith last xs → BeginsWith first ys → key job last ≢ key job first) → runs job (xs ++ ys) ≡ runs job xs ++ runs job ys
+  runs-append : (xs ys : List (List ℕ))
+      → ((last first : List ℕ) → EndsWith last xs → BeginsWith first ys → key job last ≢ key job first)
+      → runs job (xs ++ ys) ≡ runs job xs ++ runs job ys
   runs-append [] ys change = refl
   runs-append (x ∷ []) [] change = refl
   runs-append (x ∷ []) (y ∷ ys) change =
-      let r = onto_is y (runs job ys) in
-      ap (cons_run job x) r.2
-      ∙ ap (λ (t : Bool). cond t (run_of x (r.0 + 1) ∷ r.1) (run_of x 1 ∷ run_of y r.0 ∷ r.1)) (other_key x y (change x y ([], refl) (ys, refl)))
-      ∙ ap (λ (rs : List Run). run_of x 1 ∷ rs) (sym r.2)
+      let (count, more, is) = onto_is y (runs job ys) in
+      ap (cons_run job x) is
+      ∙ ap (λ t. cond t (run_of x (count + 1) ∷ more) (run_of x 1 ∷ run_of y count ∷ more))
+      (other_key x y (change x y ([], refl) (ys, refl)))
+      ∙ ap (λ rs. run_of x 1 ∷ rs) (sym is)
   runs-append (x ∷ z ∷ xs) ys change =
-      let r = onto_is z (runs job xs) in
-      ap (cons_run job x) (runs-append (z ∷ xs) ys (λ last first ends begins. change last first (x ∷ ends.0, ap (λ (l : List (List ℕ)). x ∷ l) ends.1) begins)
-      ∙ ap (λ (rs : List Run). rs ++ runs job ys) r.2)
-      ∙ onto_front x (run_of z r.0) r.1 (runs job ys)
-      ∙ ap (λ (rs : List Run). cons_run job x rs ++ runs job ys) (sym r.2)
+      let (count, more, is) = onto_is z (runs job xs) in
+      ap (cons_run job x) (runs-append (z ∷ xs) ys (λ last first (front, ends) begins.
+      change last first (x ∷ front, ap (λ l. x ∷ l) ends) begins)
+      ∙ ap (λ rs. rs ++ runs job ys) is)
+      ∙ onto_front x (run_of z count) more (runs job ys)
+      ∙ ap (λ rs. cons_run job x rs ++ runs job ys) (sym is)
 
 pub uniq_of_parts : UniqOfParts
 uniq_of_parts job a b whole change =
-    cc (the_lines_of_parts job.terminator a b whole, runs-append job (lines job.terminator a) (lines job.terminator b) change, entries-append job (runs job (lines job.terminator a)) (runs job (lines job.terminator b)))
+    cc (
+      the_lines_of_parts job.terminator a b whole,
+      runs-append job (lines job.terminator a) (lines job.terminator b) change,
+      entries-append job (runs job (lines job.terminator a)) (runs job (lines job.terminator b)),
+    )
 
 -- ---- lines that are distributed by their keys
 
 -- a fact about all items is one about those that pass a test
-all_filter : {X : Type 0} (P : X → Type 0) (test : X → Bool) (xs : List X) → AllByRecursion P xs → AllByRecursion P (filter test xs)
+all_filter : {X : Type 0} (P : X → Type 0) (test : X → Bool) (xs : List X) → AllByRecursion P xs
+    → AllByRecursion P (filter test xs)
 all_filter P test [] all = tt
-all_filter {X} P test (x ∷ xs) all = by_test (test x) (filter test xs) (all_filter P test xs all.1)
+all_filter {X} P test (x ∷ xs) (first, others) = by_test (test x) (filter test xs) (all_filter P test xs others)
   where
     by_test : (t : Bool) (ys : List X) → AllByRecursion P ys → AllByRecursion P (cond t (x ∷ ys) ys)
-    by_test true ys rest = (all.0, rest)
+    by_test true ys rest = (first, rest)
     by_test false ys rest = rest
 
 module _ (job : Uniq) (taken : List ℕ → Bool) where
@@ -69,58 +87,77 @@ module _ (job : Uniq) (taken : List ℕ → Bool) where
   run_taken run = taken (key job run.line)
 
   -- a fact about all lines is one about the lines of their runs
-  all_runs : (P : List ℕ → Type 0) (ls : List (List ℕ)) → AllByRecursion P ls → AllByRecursion (λ run. P run.line) (runs job ls)
+  all_runs : (P : List ℕ → Type 0) (ls : List (List ℕ)) → AllByRecursion P ls
+      → AllByRecursion (λ run. P run.line) (runs job ls)
   all_runs P [] all = tt
-  all_runs P (x ∷ ls) all = put (runs job ls) (all_runs P ls all.1)
+  all_runs P (x ∷ ls) (first, others) = put (runs job ls) (all_runs P ls others)
     where
-      put : (rs : List Run) → AllByRecursion (λ run. P run.line) rs → AllByRecursion (λ run. P run.line) (cons_run job x rs)
-      put [] rest = (all.0, tt)
-      put (r ∷ rs) rest = by_test (is_same job x r.line)
+      put : (rs : List Run) → AllByRecursion (λ run. P run.line) rs
+          → AllByRecursion (λ run. P run.line) (cons_run job x rs)
+      put [] rest = (first, tt)
+      put (r ∷ rs) (run, later) = by_test (is_same job x r.line)
         where
-          by_test : (t : Bool) → AllByRecursion (λ run. P run.line) (cond t (run_of x (r.count + 1) ∷ rs) (run_of x 1 ∷ r ∷ rs))
-          by_test true = (all.0, rest.1)
-          by_test false = (all.0, rest)
+          by_test : (t : Bool)
+              → AllByRecursion (λ run. P run.line) (cond t (run_of x (r.count + 1) ∷ rs) (run_of x 1 ∷ r ∷ rs))
+          by_test true = (first, later)
+          by_test false = (first, (run, later))
 
   -- a line whose key is not in the part
-  onto_dropped : (x : List ℕ) (rs : List Run) → line_taken x ≡ false → filter run_taken (cons_run job x rs) ≡ filter run_taken rs
+  onto_dropped : (x : List ℕ) (rs : List Run) → line_taken x ≡ false
+      → filter run_taken (cons_run job x rs) ≡ filter run_taken rs
   onto_dropped x [] is = rw is refl
   onto_dropped x (r ∷ rs) is =
       let rest = filter run_taken rs in
       let onto = λ (t : Bool). filter run_taken (cond t (run_of x (r.count + 1) ∷ rs) (run_of x 1 ∷ r ∷ rs)) in
       ⊎_elim
       (λ same.
-      let too : run_taken r ≡ false = cc ((bytes_eq-Decides (key job x) (key job r.line)).0 same) in
+      let (from_same, _) = bytes_eq-Decides (key job x) (key job r.line) in
+      let too : run_taken r ≡ false = cc (from_same same) in
       cc) (λ other. cc) (cases_Bool (is_same job x r.line))
 
   -- a line of the part before a run of its key
-  onto_same : (x : List ℕ) (r : Run) (rs : List Run) → line_taken x ≡ true → key job x ≡ key job r.line → cons_run job x (filter run_taken (r ∷ rs)) ≡ filter run_taken (cons_run job x (r ∷ rs))
-  onto_same x r rs is same = let too : run_taken r ≡ true = cc in rw (same_key job x r.line same, is, too) (rw (same_key job x r.line same) refl)
+  onto_same : (x : List ℕ) (r : Run) (rs : List Run) → line_taken x ≡ true → key job x ≡ key job r.line
+      → cons_run job x (filter run_taken (r ∷ rs)) ≡ filter run_taken (cons_run job x (r ∷ rs))
+  onto_same x r rs is same = let too : run_taken r ≡ true = cc in
+      rw (same_key job x r.line same, is, too) (rw (same_key job x r.line same) refl)
 
   -- a line before runs of other keys
-  onto_other : (x : List ℕ) (rs : List Run) → AllByRecursion (λ run. key job x ≢ key job run.line) rs → cons_run job x rs ≡ run_of x 1 ∷ rs
+  onto_other : (x : List ℕ) (rs : List Run) → AllByRecursion (λ run. key job x ≢ key job run.line) rs
+      → cons_run job x rs ≡ run_of x 1 ∷ rs
   onto_other x [] others = refl
-  onto_other x (r ∷ rs) others = rw (other_key job x r.line others.0) refl
+  onto_other x (r ∷ rs) (differs, _) = rw (other_key job x r.line differs) refl
 
-  onto_apart : (x : List ℕ) (rs : List Run) → line_taken x ≡ true → AllByRecursion (λ run. key job x ≢ key job run.line) rs
+  onto_apart : (x : List ℕ) (rs : List Run) → line_taken x ≡ true
+      → AllByRecursion (λ run. key job x ≢ key job run.line) rs
       → cons_run job x (filter run_taken rs) ≡ filter run_taken (cons_run job x rs)
   onto_apart x rs is others =
-      cc (onto_other x (filter run_taken rs) (all_filter (λ run. key job x ≢ key job run.line) run_taken rs others), onto_other x rs others)
+      cc (
+        onto_other x (filter run_taken rs) (all_filter (λ run. key job x ≢ key job run.line) run_taken rs others),
+        onto_other x rs others,
+      )
 
-  runs_taken : (ls : List (List ℕ)) → HasGroupedKeys job ls → runs job (filter line_taken ls) ≡ filter run_taken (runs job ls)
+  runs_taken : (ls : List (List ℕ)) → HasGroupedKeys job ls
+      → runs job (filter line_taken ls) ≡ filter run_taken (runs job ls)
   runs_taken [] grouped = refl
-  runs_taken (x ∷ ls) grouped = ⊎_elim (λ is. cc (runs_taken ls grouped.1, kept is grouped.0))
-      (λ is. cc (runs_taken ls grouped.1, onto_dropped x (runs job ls) is)) (cases_Bool (line_taken x))
+  runs_taken (x ∷ ls) (next_key, grouped) = ⊎_elim (λ is. cc (runs_taken ls grouped, kept is next_key))
+      (λ is. cc (runs_taken ls grouped, onto_dropped x (runs job ls) is)) (cases_Bool (line_taken x))
     where
-      kept : line_taken x ≡ true → (((next : List ℕ) × BeginsWith next ls × (key job x ≡ key job next)) ⊎ AllByRecursion (λ other. key job x ≢ key job other) ls)
+      kept : line_taken x ≡ true
+          → (((next : List ℕ) × BeginsWith next ls × (key job x ≡ key job next))
+          ⊎ AllByRecursion (λ other. key job x ≢ key job other) ls)
           → cons_run job x (filter run_taken (runs job ls)) ≡ filter run_taken (cons_run job x (runs job ls))
-      kept is (inl n) =
-          let r = onto_is job n.0 (runs job n.1.0) in
-          let first : runs job ls ≡ run_of n.0 r.0 ∷ r.1 = cc in
-          cc (onto_same x (run_of n.0 r.0) r.1 is n.2)
+      kept is (inl (next, (later, begins), same)) =
+          let (count, more, onto) = onto_is job next (runs job later) in
+          let first : runs job ls ≡ run_of next count ∷ more = cc in
+          cc (onto_same x (run_of next count) more is same)
       kept is (inr others) = onto_apart x (runs job ls) is (all_runs (λ other. key job x ≢ key job other) ls others)
 
 pub uniq_by_key : UniqByKey
 uniq_by_key job taken bytes grouped =
     let ls = lines job.terminator bytes in
     let some = filter (λ line. taken (key job line)) ls in
-    cc (lines-unlines job.terminator some (all_filter (IsLine job.terminator) (λ line. taken (key job line)) ls (the_lines job.terminator bytes).0.0), runs_taken job taken ls grouped)
+    cc (
+      lines-unlines job.terminator some
+          (all_filter (IsLine job.terminator) (λ line. taken (key job line)) ls (lines_are job.terminator bytes)),
+      runs_taken job taken ls grouped,
+    )

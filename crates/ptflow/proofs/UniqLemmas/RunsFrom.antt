@@ -1,7 +1,9 @@
 -- The runs of some lines, from the first line on. A run that is continued by the first of some lines is one of their
 -- runs with a larger count.
-use Rattle.ptflow.proofs.Common.{◌≡◌, ℕ, ◌+◌, ◌&&◌, Bool, true, false, cond, List, [], ◌∷◌, ◌++◌, refl, sym, ◌∙◌, ap, arith, common_steps, bytes_eq, nat_lt, flat_map, nat_tests, append-nil}
-use Rattle.ptflow.proofs.Common.{flat_map-append, bytes_eq-Decides, IsPrefix, unlines-append, Uniq, Run, key, is_same, cons_run, runs, output_of_run, output_of, init, run_of, current_run, runs_from}
+use Rattle.ptflow.proofs.Common.{◌≡◌, ℕ, ◌+◌, ◌&&◌, Bool, true, false, cond, List, [], ◌∷◌, ◌++◌, refl, sym, ◌∙◌, ap}
+use Rattle.ptflow.proofs.Common.{arith, common_steps, bytes_eq, nat_lt, flat_map, nat_tests, append-nil}
+use Rattle.ptflow.proofs.Common.{flat_map-append, bytes_eq-Decides, IsPrefix, unlines-append, Uniq, Run, key, is_same}
+use Rattle.ptflow.proofs.Common.{cons_run, runs, output_of_run, output_of, init, run_of, current_run, runs_from}
 use Rattle.ptflow.proofs.Common.{runs_after, run_output}
 
 some_lines : (n : ℕ) → nat_lt 0 (n + 1) ≡ true
@@ -18,7 +20,8 @@ module _ (job : Uniq) where
   abbrev chosen : List ℕ → List (List ℕ) → List ℕ → ℕ → Bool → List Run
   chosen l ls x m t = cond t (runs_from job (run_of x (m + 1)) ls) (run_of x m ∷ runs_from job (run_of l 1) ls)
 
-  first_more : {line : List ℕ} {n : ℕ} (l : List ℕ) {ls : List (List ℕ)} (t : Bool) → is_same job line l ≡ t → First line (n + 1) ls → First line n (l ∷ ls)
+  first_more : {line : List ℕ} {n : ℕ} (l : List ℕ) {ls : List (List ℕ)} (t : Bool) → is_same job line l ≡ t
+      → First line (n + 1) ls → First line n (l ∷ ls)
   first_more l true e f = record {
     count = f.count;
     more = f.more;
@@ -36,8 +39,11 @@ module _ (job : Uniq) where
   first line n [] = record { count = n; more = []; is = refl; led = λ x same. refl }
   first line n (l ∷ ls) = first_more l (is_same job line l) refl (first line (n + 1) ls)
 
-  onto_first_run : (line : List ℕ) {l : List ℕ} {ls : List (List ℕ)} (t : Bool) → is_same job line l ≡ t → First l 1 ls → cons_run job line (runs_from job (run_of l 1) ls) ≡ chosen l ls line 1 t
-  onto_first_run line {l} true e f = ap (cons_run job line) f.is ∙ rw e (sym (f.led line ((bytes_eq-Decides (key job line) (key job l)).0 e)))
+  onto_first_run : (line : List ℕ) {l : List ℕ} {ls : List (List ℕ)} (t : Bool) → is_same job line l ≡ t → First l 1 ls
+      → cons_run job line (runs_from job (run_of l 1) ls) ≡ chosen l ls line 1 t
+  onto_first_run line {l} true e f =
+      let (from_same, _) = bytes_eq-Decides (key job line) (key job l) in
+      ap (cons_run job line) f.is ∙ rw e (sym (f.led line (from_same e)))
   onto_first_run line false e f = ap (cons_run job line) f.is ∙ rw e (ap (◌∷◌ (run_of line 1)) (sym f.is))
 
   -- the runs of a list of lines, from its first line
@@ -47,21 +53,28 @@ module _ (job : Uniq) where
 
   -- ---- one line more
 
-  pub runs_after_more : (run : Run) (line : List ℕ) (more : List (List ℕ)) → (nat_lt 0 run.count && is_same job run.line line) ≡ true
+  pub runs_after_more : (run : Run) (line : List ℕ) (more : List (List ℕ))
+      → (nat_lt 0 run.count && is_same job run.line line) ≡ true
       → runs_after job run (line ∷ more) ≡ runs_after job (run_of run.line (run.count + 1)) more
   runs_after_more run line more advance_ok = grind (arith, some_lines run.count)
 
-  pub runs_after_next : (run : Run) (line : List ℕ) (more : List (List ℕ)) → (nat_lt 0 run.count && is_same job run.line line) ≡ false
+  pub runs_after_next : (run : Run) (line : List ℕ) (more : List (List ℕ))
+      → (nat_lt 0 run.count && is_same job run.line line) ≡ false
       → runs_after job run (line ∷ more) ≡ current_run run ++ runs_after job (run_of line 1) more
   runs_after_next run line more turns = grind (arith, runs_are line more)
 
   -- ---- the output of runs
 
   pub entries-append : (xs ys : List Run) → output_of job (xs ++ ys) ≡ output_of job xs ++ output_of job ys
-  entries-append xs ys = cc (flat_map-append (output_of_run job.show) xs ys, unlines-append job.terminator (flat_map (output_of_run job.show) xs) (flat_map (output_of_run job.show) ys))
+  entries-append xs ys =
+      cc (
+        flat_map-append (output_of_run job.show) xs ys,
+        unlines-append job.terminator (flat_map (output_of_run job.show) xs) (flat_map (output_of_run job.show) ys),
+      )
 
 -- the output of one run
-pub current_run_is : (job : Uniq) (run : Run) → output_of job (current_run run) ≡ run_output job.show run.count (run.line ++ job.terminator ∷ [])
+pub current_run_is : (job : Uniq) (run : Run)
+    → output_of job (current_run run) ≡ run_output job.show run.count (run.line ++ job.terminator ∷ [])
 current_run_is job run = grind (arith, common_steps)
 
 -- ---- all runs but the last
@@ -74,16 +87,17 @@ init_push (r ∷ q ∷ rs) run = ap (◌∷◌ r) (init_push (q ∷ rs) run)
 init_prefix : (rs : List Run) → (last : List Run) × (rs ≡ init rs ++ last)
 init_prefix [] = ([], refl)
 init_prefix (r ∷ []) = (r ∷ [], refl)
-init_prefix (r ∷ q ∷ rs) = let f = init_prefix (q ∷ rs) in (f.0, ap (◌∷◌ r) f.1)
+init_prefix (r ∷ q ∷ rs) = let (last, is) = init_prefix (q ∷ rs) in (last, ap (◌∷◌ r) is)
 
 -- all runs but the current one were written, or all but the last of them
-pub init_current : (job : Uniq) (passed : List Run) (run : Run) → IsPrefix (output_of job (init (passed ++ current_run run))) (output_of job passed)
+pub init_current : (job : Uniq) (passed : List Run) (run : Run)
+    → IsPrefix (output_of job (init (passed ++ current_run run))) (output_of job passed)
 init_current job passed run = by_test (nat_lt 0 run.count)
   where
     by_test : (t : Bool) → IsPrefix (output_of job (init (passed ++ cond t (run ∷ []) []))) (output_of job passed)
-    by_test false = let f = init_prefix passed in record {
-      rest = output_of job f.0;
-      is = cc (entries-append job (init passed) f.0, append-nil passed);
+    by_test false = let (last, split) = init_prefix passed in record {
+      rest = output_of job last;
+      is = cc (entries-append job (init passed) last, append-nil passed);
     }
     by_test true = record {
       rest = [];

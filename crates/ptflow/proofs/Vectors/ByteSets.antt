@@ -1,9 +1,13 @@
 -- Membership tests of a byte set. The tables are filled flag by flag, and each flag is one bit of one entry; a test
 -- looks up the entry and the bit of each byte.
-use Rattle.ptflow.proofs.Common.{◌≡◌, ℕ, suc, ◌+◌, ◌*◌, ◌/◌, ◌%◌, ◌<◌, ◌≤◌, ◌^◌, ◌&&◌, ◌||◌, Bool, true, false, List, [], ◌∷◌, length, map, cond, leb, ltb, eqb, zero, ◌≢◌, ⊎_elim, get_or}
-use Rattle.ptflow.proofs.Common.{get_or-drop, drop, ◌-◌, set, bit_or, replicate, negsuc, pos, bit_and, refl, ap, ◌∙◌, arith, w8, Fits, top, zip2, sel_l, Each1, cast_signed, bit_at, from_bool}
-use Rattle.ptflow.proofs.Common.{swz_l, SwzOk, SwzOk-from_below, zip2_splat, zip2_of_maps, map-map, and_mask, lt-leb, lt-ltb, le-ltb, cases_eq, cases_lt, eq-eqb, nat_tests, get_or-map-range_with_len}
-use Rattle.ptflow.proofs.Common.{pow_pos, length-map, set-get_or, get_or-set_same, get_or-set_other, table_has, set_has, IsSetOf, mask_of, ne_eqb}
+use Rattle.ptflow.proofs.Common.{◌≡◌, ℕ, suc, ◌+◌, ◌*◌, ◌/◌, ◌%◌, ◌<◌, ◌≤◌, ◌^◌, ◌&&◌, ◌||◌, Bool, true, false, List}
+use Rattle.ptflow.proofs.Common.{[], ◌∷◌, length, map, cond, leb, ltb, eqb, zero, ◌≢◌, ⊎_elim, get_or, get_or-drop}
+use Rattle.ptflow.proofs.Common.{drop, ◌-◌, set, bit_or, replicate, negsuc, pos, bit_and, refl, ap, ◌∙◌, arith, w8}
+use Rattle.ptflow.proofs.Common.{Fits, top, zip2, sel_l, Each1, cast_signed, bit_at, from_bool, swz_l, SwzOk}
+use Rattle.ptflow.proofs.Common.{SwzOk-from_below, zip2_splat, zip2_of_maps, map-map, and_mask, lt-leb, lt-ltb, le-ltb}
+use Rattle.ptflow.proofs.Common.{cases_eq, cases_lt, eq-eqb, nat_tests, get_or-map-range_with_len, pow_pos, length-map}
+use Rattle.ptflow.proofs.Common.{set-get_or, get_or-set_same, get_or-set_other, table_has, set_has, IsSetOf, mask_of}
+use Rattle.ptflow.proofs.Common.{ne_eqb}
 use Rattle.std.proofs.lemmas.Nat.Bits.{and_pow, bit_at-lt, bit_at_set_same, bit_at_set_other}
 use Rattle.std.specs.Int.Bits.{or_zero_r}
 use Rattle.ptflow.specs.declared.simd.byte_set.ByteSet.{ByteSet}
@@ -14,23 +18,27 @@ use Rattle.ptflow.proofs.Vectors.Lanes.{sel_maps, mask_right, bytes_same}
 module _ (half : ℕ → ℕ) (small : (b : ℕ) → b < 256 → half b < 16) where
   halves_small : (v : List ℕ) → Each1 (Fits w8) v → Each1 (λ j. j < 16) (map half v)
   halves_small [] fit = tt
-  halves_small (b ∷ v) fit = (small b fit.0.fits, halves_small v fit.1)
+  halves_small (b ∷ v) (first, others) = (small b first.fits, halves_small v others)
 
-  pub nibbles_ok : {js : List ℕ} (v : List ℕ) → js ≡ map half v → length v ≡ 16 → Each1 (Fits w8) v → SwzOk w8 16 16 0 js
+  pub nibbles_ok : {js : List ℕ} (v : List ℕ) → js ≡ map half v → length v ≡ 16 → Each1 (Fits w8) v
+      → SwzOk w8 16 16 0 js
   nibbles_ok v is long fit =
       rw is (SwzOk-from_below w8 16 1 16 0 (map half v) refl (omega (arith, length-map v half)) (halves_small v fit))
 
-  lane : (table : List ℕ) (i : ℕ) {j : ℕ} → i < 16 → j < 16 → cond (leb 128 j) 0 (get_or table (16 * (i / 16) + j) 0) ≡ get_or table j 0
+  lane : (table : List ℕ) (i : ℕ) {j : ℕ} → i < 16 → j < 16
+      → cond (leb 128 j) 0 (get_or table (16 * (i / 16) + j) 0) ≡ get_or table j 0
   lane table i {j} li lj =
       let first : 16 * (i / 16) + j ≡ j = omega arith in
       cc (lt-leb 128 j (omega arith))
 
-  looked_up_from : (table v : List ℕ) (i : ℕ) → i + length v ≤ 16 → Each1 (Fits w8) v → swz_l w8 16 table i (map half v) ≡ map (λ b. get_or table (half b) 0) v
+  looked_up_from : (table v : List ℕ) (i : ℕ) → i + length v ≤ 16 → Each1 (Fits w8) v
+      → swz_l w8 16 table i (map half v) ≡ map (λ b. get_or table (half b) 0) v
   looked_up_from table [] i few fit = refl
-  looked_up_from table (b ∷ v) i few fit =
-      λ k. lane table i (omega arith) (small b fit.0.fits) k ∷ looked_up_from table v (suc i) (omega arith) fit.1 k
+  looked_up_from table (b ∷ v) i few (first, others) =
+      λ k. lane table i (omega arith) (small b first.fits) k ∷ looked_up_from table v (suc i) (omega arith) others k
 
-  pub looked_up : (table : List ℕ) {js : List ℕ} (v : List ℕ) → js ≡ map half v → length v ≡ 16 → Each1 (Fits w8) v → swz_l w8 16 table 0 js ≡ map (λ b. get_or table (half b) 0) v
+  pub looked_up : (table : List ℕ) {js : List ℕ} (v : List ℕ) → js ≡ map half v → length v ≡ 16 → Each1 (Fits w8) v
+      → swz_l w8 16 table 0 js ≡ map (λ b. get_or table (half b) 0) v
   looked_up table v is long fit = cc (looked_up_from table v 0 (omega arith) fit)
 
 pub low_small : (b : ℕ) → b < 256 → b % 16 < 16
@@ -66,7 +74,8 @@ all_or_none row k = cc (and_pow row k, times (bit_at row k) (2 ^ k) (bit_at-lt r
     times (suc zero) p few some = grind (arith, nat_tests)
     times (suc (suc x)) p few some = absurd (omega arith)
 
-table_row : (set : ByteSet) (low : Bool) (n : ℕ) → cond low (get_or set.low n 0) (get_or set.high n 0) ≡ get_or (cond low set.low set.high) n 0
+table_row : (set : ByteSet) (low : Bool) (n : ℕ)
+    → cond low (get_or set.low n 0) (get_or set.high n 0) ≡ get_or (cond low set.low set.high) n 0
 table_row set true n = refl
 table_row set false n = refl
 
@@ -74,21 +83,33 @@ as_mask : (t : Bool) → cast_signed w8 (cond t 255 0) ≡ cond t (negsuc 0) (po
 as_mask t = grind arith
 
 byte_tested : (set : ByteSet) (b : ℕ) → b < 256
-    → cast_signed w8 (cond (eqb (bit_and (cond (ltb b 128) (get_or set.low (b % 16) 0) (get_or set.high (b % 16) 0)) (get_or bits_in_order (b / 16) 0)) (get_or bits_in_order (b / 16) 0)) 255 0)
+    → cast_signed w8
+    (cond
+    (eqb (bit_and (cond (ltb b 128) (get_or set.low (b % 16) 0) (get_or set.high (b % 16) 0))
+    (get_or bits_in_order (b / 16) 0)) (get_or bits_in_order (b / 16) 0)) 255 0)
     ≡ cond (set_has set b) (negsuc 0) (pos 0)
 byte_tested set b byte =
     let row = cond (ltb b 128) (get_or set.low (b % 16) 0) (get_or set.high (b % 16) 0) in
-    cc (bit_of (high_small b byte), all_or_none row (b / 16 % 8), table_row set (ltb b 128) (b % 16), as_mask (set_has set b))
+    cc (
+      bit_of (high_small b byte),
+      all_or_none row (b / 16 % 8),
+      table_row set (ltb b 128) (b % 16),
+      as_mask (set_has set b),
+    )
 
 pub tested : (set : ByteSet) (v : List ℕ) {low high bit : List ℕ} → length v ≡ 16 → Each1 (Fits w8) v
-    → low ≡ map (λ b. get_or set.low (b % 16) 0) v → high ≡ map (λ b. get_or set.high (b % 16) 0) v → bit ≡ map (λ b. get_or bits_in_order (b / 16) 0) v
-    → map (cast_signed w8) (zip2 (λ a b. cond (eqb a b) 255 0) (zip2 bit_and (sel_l (map (top 7) (zip2 (λ a b. cond (ltb a b) 255 0) v (replicate 16 128))) low high) bit) bit)
+    → low ≡ map (λ b. get_or set.low (b % 16) 0) v → high ≡ map (λ b. get_or set.high (b % 16) 0) v
+    → bit ≡ map (λ b. get_or bits_in_order (b / 16) 0) v
+    → map (cast_signed w8) (zip2 (λ a b. cond (eqb a b) 255 0)
+    (zip2 bit_and (sel_l (map (top 7) (zip2 (λ a b. cond (ltb a b) 255 0) v (replicate 16 128))) low high) bit) bit)
     ≡ mask_of (set_has set) v
 tested set v long fit el eh eb =
     let row_at = λ (b : ℕ). cond (ltb b 128) (get_or set.low (b % 16) 0) (get_or set.high (b % 16) 0) in
     let bit_at_byte = λ (b : ℕ). get_or bits_in_order (b / 16) 0 in
-    let rows = sel_maps (λ b. ltb b 128) (λ b. get_or set.low (b % 16) 0) (λ b. get_or set.high (b % 16) 0) v (mask_right ltb v 128 long) el eh in
-    let lanes = zip2_of_maps (λ a b. cond (eqb a b) 255 0) (λ b. bit_and (row_at b) (bit_at_byte b)) bit_at_byte v (zip2_of_maps bit_and row_at bit_at_byte v rows eb) eb in
+    let rows = sel_maps (λ b. ltb b 128) (λ b. get_or set.low (b % 16) 0) (λ b. get_or set.high (b % 16) 0) v
+    (mask_right ltb v 128 long) el eh in
+    let lanes = zip2_of_maps (λ a b. cond (eqb a b) 255 0) (λ b. bit_and (row_at b) (bit_at_byte b)) bit_at_byte v
+    (zip2_of_maps bit_and row_at bit_at_byte v rows eb) eb in
     ap (map (cast_signed w8)) lanes
     ∙ map-map (cast_signed w8) (λ b. cond (eqb (bit_and (row_at b) (bit_at_byte b)) (bit_at_byte b)) 255 0) v
     ∙ bytes_same _ _ (byte_tested set) v fit
@@ -115,30 +136,40 @@ module _ (table : List ℕ) {n : ℕ} (long : length table ≡ 16) (within : n <
   put = bit_or old (1 * 2 ^ (n / 16) % 256)
 
   set_here : table_has (flags_set table n 1) n ≡ true
-  set_here = cc (get_or-set_same table (n % 16) put 0 (omega arith), same_bit, bit_at_set_same w8 old (n / 16) (omega arith))
+  set_here =
+      cc (get_or-set_same table (n % 16) put 0 (omega arith), same_bit, bit_at_set_same w8 old (n / 16) (omega arith))
 
   set_there : {b : ℕ} → b < 128 → b ≢ n → table_has (flags_set table n 1) b ≡ table_has table b
   set_there {b} byte other = ⊎_elim
-      (λ row. cc (get_or-set_same table (n % 16) put 0 (omega arith), bit_at_set_other w8 old (n / 16) (omega arith) (b / 16 % 8) (λ same. other (omega (arith, row, same)))))
+      (λ row. cc (
+        get_or-set_same table (n % 16) put 0 (omega arith),
+        bit_at_set_other w8 old (n / 16) (omega arith) (b / 16 % 8) (λ same. other (omega (arith, row, same))),
+      ))
       (λ row. cc (get_or-set_other table (n % 16) (b % 16) put 0 row)) (cases_eq (b % 16) (n % 16))
 
-  filled_is : (flag : Bool) {b : ℕ} → b < 128 → table_has (flags_set table n (from_bool flag)) b ≡ cond (eqb b n) (flag || table_has table n) (table_has table b)
-  filled_is true {b} byte = ⊎_elim (λ same. cc (eq-eqb b n same, set_here)) (λ other. cc (ne_eqb b n other, set_there byte other)) (cases_eq b n)
-  filled_is false {b} byte = ⊎_elim (λ same. cc (eq-eqb b n same, unset)) (λ other. cc (ne_eqb b n other, unset)) (cases_eq b n)
+  filled_is : (flag : Bool) {b : ℕ} → b < 128
+      → table_has (flags_set table n (from_bool flag)) b
+      ≡ cond (eqb b n) (flag || table_has table n) (table_has table b)
+  filled_is true {b} byte = ⊎_elim (λ same. cc (eq-eqb b n same, set_here))
+      (λ other. cc (ne_eqb b n other, set_there byte other)) (cases_eq b n)
+  filled_is false {b} byte = ⊎_elim (λ same. cc (eq-eqb b n same, unset)) (λ other. cc (ne_eqb b n other, unset))
+      (cases_eq b n)
 
 -- the table with the flag of one byte more
-pub one_more_flag : (table : List ℕ) (flags : List Bool) (n : ℕ) {x : ℕ} → length table ≡ 16 → n < 128 → x ≡ from_bool (get_or flags n false)
-    → ((b : ℕ) → b < 128 → table_has table b ≡ (ltb b n && get_or flags b false))
+pub one_more_flag : (table : List ℕ) (flags : List Bool) (n : ℕ) {x : ℕ} → length table ≡ 16 → n < 128
+    → x ≡ from_bool (get_or flags n false) → ((b : ℕ) → b < 128 → table_has table b ≡ (ltb b n && get_or flags b false))
     → (b : ℕ) → b < 128 → table_has (flags_set table n x) b ≡ (ltb b (n + 1) && get_or flags b false)
 one_more_flag table flags n long within is marked b byte =
     ap (λ k. table_has (flags_set table n k) b) is ∙ filled_is table long within (get_or flags n false) byte ∙ ⊎_elim
-    (λ same. let before = marked n within in grind (arith, nat_tests, before, same, ap (λ m. get_or flags m false) same))
+    (λ same. let before = marked n within in
+    grind (arith, nat_tests, before, same, ap (λ m. get_or flags m false) same))
     (λ other. let before = marked b byte in grind (arith, nat_tests, before, other)) (cases_eq b n)
 
 -- ---- a set of two tables
 
 -- the tables have the flags of the bytes below 128, and of the others
-pub set_of_nibbles : (set : ByteSet) (flags : List Bool) (n : ℕ) → 128 ≤ n → ((b : ℕ) → b < 128 → table_has set.low b ≡ (ltb b n && get_or flags b false))
+pub set_of_nibbles : (set : ByteSet) (flags : List Bool) (n : ℕ) → 128 ≤ n
+    → ((b : ℕ) → b < 128 → table_has set.low b ≡ (ltb b n && get_or flags b false))
     → ((b : ℕ) → b < 128 → table_has set.high b ≡ (ltb b n && get_or (drop 128 flags) b false)) → IsSetOf set flags
 set_of_nibbles set flags n all low high b byte = ⊎_elim
     (λ less. cc (lt-ltb b 128 less, low b less, lt-ltb b n (omega (arith, less, all))))
@@ -146,4 +177,9 @@ set_of_nibbles set flags n all low high b byte = ⊎_elim
     let entry : b % 16 ≡ (b - 128) % 16 = omega (arith, more) in
     let bit : b / 16 % 8 ≡ (b - 128) / 16 % 8 = omega (arith, more) in
     let place : 128 + (b - 128) ≡ b = omega (arith, more) in
-    cc (le-ltb b 128 more, high (b - 128) (omega arith), lt-ltb (b - 128) n (omega arith), get_or-drop 128 flags (b - 128) false)) (cases_lt b 128)
+    cc (
+      le-ltb b 128 more,
+      high (b - 128) (omega arith),
+      lt-ltb (b - 128) n (omega arith),
+      get_or-drop 128 flags (b - 128) false,
+    )) (cases_lt b 128)

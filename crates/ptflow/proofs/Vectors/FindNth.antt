@@ -77,8 +77,8 @@ lowest_set bits few some =
 
 module _ {X : Type 0} (p : X → Bool) (d : X) where
   one_more : (x : X) (xs : List X) {t : Bool} {r : ℕ} (s n m : ℕ) → p x ≡ t → r ≡ suc s → n ≡ cond t 1 0 + m → IsNth p d m xs s → IsNth p d n (x ∷ xs) r
-  one_more x xs s n m e next count h =
-      rw next (omega (arith, h.0), h.1, cc (sum_by-cons (λ b. cond (p b) 1 0) x (take s xs)))
+  one_more x xs s n m e next count (within, passes, others) =
+      rw next (omega (arith, within), passes, cc (sum_by-cons (λ b. cond (p b) 1 0) x (take s xs)))
 
   behind : (xs : List X) (n : ℕ) → n < count_by p xs → IsNth p d n xs (prefix_len not (without n (map p xs)))
   behind [] n lt = absurd (omega arith)
@@ -99,8 +99,9 @@ pub after_set : (p : ℕ → Bool) (xs : List ℕ) (n : ℕ) {rest : ℕ} → le
 after_set p xs n few lt is =
     let bits = map p xs in
     let here = behind p 0 xs n lt in
+    let (within, _, _) = here in
     let long : length (without n bits) ≡ length xs = length-without n bits ∙ length-map xs p in
-    subst (IsNth p 0 n xs) (sym (cc (is, lowest_set (without n bits) (omega (arith, long)) (omega (arith, long, here.0))))) here
+    subst (IsNth p 0 n xs) (sym (cc (is, lowest_set (without n bits) (omega (arith, long)) (omega (arith, long, within))))) here
 
 -- ---- in a chunk of some bytes
 
@@ -128,16 +129,16 @@ module _ (p : ℕ → Bool) (bytes : List ℕ) where
 
   -- no item before the first one passes
   pub first_is : (at : ℕ) → IsNth p 0 0 bytes at → NoneBefore (Passes p bytes) 0 (length bytes) at × Passes p bytes at
-  first_is at h = (
+  first_is at (within, passes, none) = (
     record {
       low = omega arith;
-      high = h.0;
+      high = within;
       before = λ k low near passes.
           let here : p (get_or (take at bytes) k 0) ≡ true = cc (get_or-take at bytes k 0 near) in
           let one : cond {A = ℕ} (p (get_or (take at bytes) k 0)) 1 0 ≡ 1 = cc (here) in
-          omega (arith, one, get_or-le-sum_by (λ b. cond (p b) 1 0) (take at bytes) k 0 (omega (arith, near, h.0, length-take-le at bytes (omega (arith, h.0)))));
+          omega (arith, one, get_or-le-sum_by (λ b. cond (p b) 1 0) (take at bytes) k 0 (omega (arith, near, within, length-take-le at bytes (omega (arith, within)))));
     },
-    h.1,
+    passes,
   )
 
   pub some_counted : (xs : List ℕ) → 0 < mask_l (map p xs) → 0 < count_by p xs
@@ -151,17 +152,17 @@ module _ (d : ℕ) (line : List ℕ) where
   few_fields lt = omega (arith, length-slice_split (is_byte d) line)
 
   starts_behind : (n at : ℕ) → IsNth (is_byte d) 0 n line at → IsFieldStart d (n + 1) line (at + 1)
-  starts_behind n at h =
+  starts_behind n at (within, passes, before) =
       let xs = take at line in
       let ys = drop (at + 1) line in
       let one : at + 1 ≡ suc at = omega arith in
       let long : length xs ≡ at = length-take-le at line (omega arith) in
-      let here : drop at line ≡ d ∷ ys = cc (drop_more line at 0 h.0, eqb-true (get_or line at 0) d h.1) in
-      let number : length (fields d xs) ≡ n + 1 = omega (arith, length-slice_split (is_byte d) xs, h.2) in
+      let here : drop at line ≡ d ∷ ys = cc (drop_more line at 0 within, eqb-true (get_or line at 0) d passes) in
+      let number : length (fields d xs) ≡ n + 1 = omega (arith, length-slice_split (is_byte d) xs, before) in
       let split : fields d line ≡ fields d xs ++ fields d ys = cc (take-append-drop at line, fields-append d xs ys) in
       record {
-        fits = omega (arith, h.0);
-        count = omega (arith, count_by-le-length (is_byte d) xs, h.2);
+        fits = omega (arith, within);
+        count = omega (arith, count_by-le-length (is_byte d) xs, before);
         front = cc (prefixed_of_fields d xs, take_at (fields d xs) (fields d ys) (n + 1) number);
         behind = cc;
         later = cc (drop_at (fields d xs) (fields d ys) (n + 1) number);
@@ -169,7 +170,8 @@ module _ (d : ℕ) (line : List ℕ) where
 
   pub none_counted : (bytes : List ℕ) → IsLine d bytes → count_by (is_byte d) bytes ≡ 0
   none_counted [] free = refl
-  none_counted (b ∷ bytes) free = cc (sum_by-cons (λ x. cond (is_byte d x) 1 0) b bytes, byte_ne d b free.0, none_counted bytes free.1)
+  none_counted (b ∷ bytes) (differs, free) =
+      cc (sum_by-cons (λ x. cond (is_byte d x) 1 0) b bytes, byte_ne d b differs, none_counted bytes free)
 
   -- the first delimiter, which is among the first `end` bytes
   module _ {end at : ℕ} (first : NoneBefore (Passes (is_byte d) line) 0 end at) (is : Passes (is_byte d) line at) (within : end ≤ length line) where
@@ -246,7 +248,8 @@ module _ {d : ℕ} {block : List ℕ} {from all marked : ℕ} (n start : ℕ) (h
       let stands : IsNth p 0 n v bit = after_set p v n (omega (arith, length-chunk from 64 block room)) (omega (arith, ap count_ones h.is, ones-mask_l p v)) bits in
       let close : bit < 64 = near p block 64 from n bit room stands in
       let fits : from + bit < length block = omega (arith, close, room) in
-      let is : p (get_or block (from + bit) 0) ≡ true = cc (get_or-chunk from 64 block bit 0 close, stands.1) in
+      let (_, passes, _) = stands in
+      let is : p (get_or block (from + bit) 0) ≡ true = cc (get_or-chunk from 64 block bit 0 close, passes) in
       let as_many : count_by p (take (from + bit) block) ≡ count_by p (take start block) = count_in_prefix p block 64 from n bit room stands ∙ sym ends in
       record {
         near = close;
@@ -293,8 +296,11 @@ module _ {end : ℕ} {delims : List (Option ℕ)} {first at : ℕ} {from was : L
     bit_at_index : IsNth (is_byte end) 0 n ends bit_at
     bit_at_index = after_set (is_byte end) ends n (omega (arith, length-chunk at 64 from r.room)) (omega (arith, ends_counted)) r.bits
 
+    bit_at_low : bit_at < 64
+    bit_at_low = let (within, _, _) = bit_at_index in omega (arith, within, length-chunk at 64 from r.room)
+
     pub end_within : at + bit_at < length to
-    end_within = omega (arith, bit_at_index.0, length-chunk at 64 from r.room, r.room, r.long)
+    end_within = omega (arith, bit_at_low, r.room, r.long)
 
     -- the lowest one is replaced by its delimiter
     pub replace_next : {rest put : ℕ} {to' : List ℕ} → marked < 2 ^ 64 → put ≡ unwrap_or (delim_at delims (first + n)) end → rest ≡ bit_and marked ((marked + (2 ^ 64 - 1)) % 2 ^ 64)
@@ -302,14 +308,13 @@ module _ {end : ℕ} {delims : List (Option ℕ)} {first at : ℕ} {from was : L
     replace_next {rest} {put} {to'} small put_is rest_is to_is =
         let next : suc n ≡ n + 1 = omega arith in
         let front : length (take at was) ≡ at = length-take-le at was (omega (arith, r.room, r.same)) in
-        let near : bit_at < 64 = omega (arith, bit_at_index.0, length-chunk at 64 from r.room) in
         record {
           room = r.room;
           same = r.same;
           bits = cc (cleared n (map (is_byte end) ends) small r.bits);
           long = cc (length-set to (at + bit_at) put, r.long);
           replaced =
-              cc (set_in_chunk to (take at was) (first_replaced end delims n first ends) at 64 bit_at put r.replaced front near, replaced_next end delims n first ends bit_at bit_at_index);
+              cc (set_in_chunk to (take at was) (first_replaced end delims n first ends) at 64 bit_at put r.replaced front bit_at_low, replaced_next end delims n first ends bit_at bit_at_index);
         }
 
   pub replace_end : n ≡ count_ones all → (n ≡ count_by (is_byte end) ends) × (take (at + 64) to ≡ take at was ++ with_cycle end delims first ends)

@@ -40,11 +40,12 @@ mapped_more map_byte at next n from to new is begun more =
 -- two functions that agree on bytes map lists of bytes to the same list
 pub bytes_same : {X : Type 0} (f g : ℕ → X) → ((b : ℕ) → b < 256 → f b ≡ g b) → (v : List ℕ) → Each1 (Fits w8) v → map f v ≡ map g v
 bytes_same f g same [] fit = refl
-bytes_same f g same (b ∷ v) fit = λ i. same b fit.0.fits i ∷ bytes_same f g same v fit.1 i
+bytes_same f g same (b ∷ v) (first, others) = λ i. same b first.fits i ∷ bytes_same f g same v others i
 
 pub filter_same : (p q : ℕ → Bool) → ((b : ℕ) → b < 256 → p b ≡ q b) → (v : List ℕ) → Each1 (Fits w8) v → filter p v ≡ filter q v
 filter_same p q same [] fit = refl
-filter_same p q same (b ∷ v) fit = λ i. cond (same b fit.0.fits i) (b ∷ filter_same p q same v fit.1 i) (filter_same p q same v fit.1 i)
+filter_same p q same (b ∷ v) (first, others) =
+    λ i. cond (same b first.fits i) (b ∷ filter_same p q same v others i) (filter_same p q same v others i)
 
 pub bytes_fit : (v : List ℕ) → ((k : ℕ) → Fits w8 (get_or v k 0)) → Each1 (Fits w8) v
 bytes_fit v fit = Each1-from_get_or (Fits w8) v 0 (λ k _. fit k)
@@ -167,10 +168,10 @@ module _ (flags : ℕ → List Bool) (at : ℕ) (long : (k : ℕ) → at ≤ k �
       let long_all = long_or three (at + 48) long_three (omega arith) (omega arith) in
       let nothing : mask_l all ≡ 0 =
       cc (or_lanes (flags at) (flags (at + 16)), or_lanes two (flags (at + 32)), or_lanes three (flags (at + 48)), mask_l-mod all 64 (omega arith), tops_of_lanes all) in
-      let last = none_of_two three (flags (at + 48)) (long_three ∙ sym (long (at + 48) (omega arith) (omega arith))) nothing in
-      let third = none_of_two two (flags (at + 32)) (long_two ∙ sym (long (at + 32) (omega arith) (omega arith))) last.0 in
-      let first = none_of_two (flags at) (flags (at + 16)) (long_a ∙ sym (long (at + 16) (omega arith) (omega arith))) third.0 in
-      (first.0, first.1, third.1, last.1)
+      let (no_three, no_last) = none_of_two three (flags (at + 48)) (long_three ∙ sym (long (at + 48) (omega arith) (omega arith))) nothing in
+      let (no_two, no_third) = none_of_two two (flags (at + 32)) (long_two ∙ sym (long (at + 32) (omega arith) (omega arith))) no_three in
+      let (no_first, no_second) = none_of_two (flags at) (flags (at + 16)) (long_a ∙ sym (long (at + 16) (omega arith) (omega arith))) no_two in
+      (no_first, no_second, no_third, no_last)
 
 -- ---- chunks of 64 bytes
 
@@ -205,8 +206,8 @@ module _ (test : ℕ → Bool) where
 
 -- if no flag is set in four vectors, all of their 64 bytes are kept
 pub all_selected_in_four : (test : ℕ → Bool) (at : ℕ) (from : List ℕ) → InFour (λ k. mask_l (map test (chunk k 16 from)) ≡ 0) at → filter (λ b. not (test b)) (chunk at 64 from) ≡ chunk at 64 from
-all_selected_in_four test at from none =
-    cc (kept_in_four (λ b. not (test b)) [] at from, all_kept test _ none.0, all_kept test _ none.1, all_kept test _ none.2, all_kept test _ none.3, chunk_in_four at from)
+all_selected_in_four test at from (first, second, third, last) =
+    cc (kept_in_four (λ b. not (test b)) [] at from, all_kept test _ first, all_kept test _ second, all_kept test _ third, all_kept test _ last, chunk_in_four at from)
 
 -- ---- bytes that pass a test, moved to the front
 
@@ -245,17 +246,21 @@ module _ {test : ℕ → Bool} {from into : List ℕ} {at count : ℕ} (before :
       ≡ count + from_bool (test (get_or from at 0)) → IsFilteredTo test from (at + 1) after end
   filter_byte room small is eof = record {
     within = omega arith;
-    few = omega (arith, (bit (test b)).0);
+    few = omega (arith, bit_small (test b));
     room = cc (length-set into count b);
-    kept = cc ((bit (test b)).1, stored_more (test b) into count b (omega arith), filter-append test (take at from) (b ∷ []), take_more from at 0 room);
+    kept = cc (bit (test b), stored_more (test b) into count b (omega arith), filter-append test (take at from) (b ∷ []), take_more from at 0 room);
   }
     where
       b : ℕ
       b = get_or from at 0
 
-      bit : (t : Bool) → (from_bool t ≤ 1) × (from_bool t ≡ cond t 1 0)
-      bit true = (omega arith, refl)
-      bit false = (omega arith, refl)
+      bit : (t : Bool) → from_bool t ≡ cond t 1 0
+      bit true = refl
+      bit false = refl
+
+      bit_small : (t : Bool) → from_bool t ≤ 1
+      bit_small true = omega arith
+      bit_small false = omega arith
 
 -- all bytes
 pub filter_keeps_all : {test : ℕ → Bool} {from into : List ℕ} {at count : ℕ} → IsFilteredTo test from at into count → length from ≤ at → (take count into ≡ filter test from) × (count ≤ length from)

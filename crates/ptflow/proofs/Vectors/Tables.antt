@@ -1,8 +1,8 @@
 -- Tables of images. A table is two halves, and a bit of a byte selects the half that has its entry; a byte in a window
 -- is the first byte of the window and an offset.
 use Rattle.ptflow.proofs.Common.{◌≡◌, ℕ, zero, suc, ◌+◌, ◌*◌, ◌/◌, ◌%◌, ◌<◌, ◌^◌, ◌∙◌, List, map, cond, not, eqb}
-use Rattle.ptflow.proofs.Common.{get_or, bit_and, bit_at, ap, arith}
-use Rattle.ptflow.proofs.Common.{chunk, get_or-chunk, ⊎_elim, cases_eq, eq-eqb, ne_eqb, pow_pos, entry_of, image_in, pow_below}
+use Rattle.ptflow.proofs.Common.{get_or, bit_and, bit_at, ap, arith, chunk, get_or-chunk, ⊎_elim, cases_eq, eq-eqb}
+use Rattle.ptflow.proofs.Common.{ne_eqb, pow_pos, entry_of, image_in, pow_below}
 use Rattle.std.proofs.Math.Arith.{mod-mul}
 use Rattle.std.proofs.Math.Nat.{div-add-mod}
 use Rattle.std.proofs.lemmas.Nat.Bits.{and_pow, bit_at-lt}
@@ -13,7 +13,8 @@ pub entries_are : (table v : List ℕ) (start : ℕ) {images : List ℕ}
 entries_are table v start is = is ∙ (λ i. map (λ b. get_or-chunk start 16 table (b % 16) 0 (omega arith) i) v)
 
 module _ (table : List ℕ) (start w b : ℕ) (some : 0 < w) where
-  entry_by : (x : ℕ) → x < 2 → cond (not (eqb (x * w) 0)) (entry_of table (start + w) w b) (entry_of table start w b)
+  entry_by : (x : ℕ) → x < 2
+      → cond (not (eqb (x * w) 0)) (entry_of table (start + w) w b) (entry_of table start w b)
       ≡ get_or table (start + (x * w + b % w)) 0
   entry_by zero less =
       let none : 0 * w ≡ 0 = omega arith in
@@ -27,9 +28,8 @@ module _ (table : List ℕ) (start w b : ℕ) (some : 0 < w) where
 
 -- the half that a bit selects has the entry of the byte
 pub entry_selected : (table : List ℕ) (start bit b : ℕ) → bit < 8
-    → cond (not (eqb (bit_and b (1 * 2 ^ bit % 256)) 0))
-    (entry_of table (start + 2 ^ bit) (2 ^ bit) b) (entry_of table start (2 ^ bit) b)
-    ≡ entry_of table start (2 * 2 ^ bit) b
+    → cond (not (eqb (bit_and b (1 * 2 ^ bit % 256)) 0)) (entry_of table (start + 2 ^ bit) (2 ^ bit) b)
+    (entry_of table start (2 ^ bit) b) ≡ entry_of table start (2 * 2 ^ bit) b
 entry_selected table start bit b small =
     let byte : 2 ^ bit < 256 = pow_below bit 8 small in
     let weight : 1 * 2 ^ bit % 256 ≡ 2 ^ bit = omega arith in

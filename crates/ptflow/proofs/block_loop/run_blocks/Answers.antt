@@ -1,9 +1,12 @@
 -- Each iteration processes one block, and the contract of `process_block` preserves the invariant. Each exit is a lemma
 -- of `Exits` or of `BlockLoop`. The budget decreases, since a block that is not empty is consumed.
-use Rattle.ptflow.proofs.Common.{◌≡◌, [], ◌++◌, length, refl, sym, ◌∙◌, ap, append_assoc, arith, eqb-true, eqb-false, nil_from_length, err_from_is_err_and}
-use Rattle.ptflow.proofs.Passes.BlockLoop.{pass_state_starts, pass_state_more, block_room, not_empty, counted_more, block_read, block_write, block_flush_failed, block_done, block_unended}
+use Rattle.ptflow.proofs.Common.{◌≡◌, [], ◌++◌, length, refl, sym, ◌∙◌, ap, append_assoc, arith, eqb-true, eqb-false}
+use Rattle.ptflow.proofs.Common.{nil_from_length}
+use Rattle.ptflow.proofs.Passes.BlockLoop.{pass_state_starts, pass_state_more, block_room, not_empty, counted_more}
+use Rattle.ptflow.proofs.Passes.BlockLoop.{block_read, block_write, block_flush_failed, block_done, block_unended}
 use Rattle.ptflow.proofs.Passes.Exits.{pass_state_flushed}
 use Rattle.ptflow.proofs.Passes.Readers.{advance_none, budget_of_block}
+use Rattle.ptflow.proofs.Passes.StepOutput.{returned_err}
 use Rattle.ptflow.proofs.block_loop.run_blocks.Goals as goal
 
 pub reading-init : goal.reading-init
@@ -18,18 +21,21 @@ reading-init g c = record {
 pub returns-in_err-write_out_before_blocking : goal.returns-in_err-write_out_before_blocking
 returns-in_err-write_out_before_blocking g c =
     let i = c.reading.invariant in
-    let e = err_from_is_err_and c.from_residual.result c.from_residual.ensures.1 in
-    λ t tool store ready. rw (e.1, e.2) (block_flush_failed tool
-    i.midway ready c.write_out_before_blocking.ensures.sound (advance_none c.reading.reader i.midway.reached.advance_ok.fault).reads c.write_out_before_blocking.ensures.sound i.holds i.all
+    let (_, is_err, is_fault) = returned_err c.from_residual.result c.from_residual.ensures in
+    λ t tool store ready. rw (is_err, is_fault) (block_flush_failed tool
+    i.midway ready c.write_out_before_blocking.ensures.sound
+    (advance_none c.reading.reader i.midway.reached.advance_ok.fault).reads
+    c.write_out_before_blocking.ensures.sound i.holds i.all
     c.write_out_before_blocking.ensures.pushed.wrote c.in_err-write_out_before_blocking.ensures.pushed.fault refl)
 
 pub returns-in-Err : goal.returns-in-Err
 returns-in-Err g c =
     let b = c.block.follows.holds-at-none in
-    let m = pass_state_flushed c.reading.invariant.midway c.write_out_before_blocking.ensures.pushed.wrote c.in_ok-write_out_before_blocking.ensures.pushed.clean in
-    let shows = (rw c.in-Err.is at b.shows) m.reached.advance_ok.fault in
+    let m = pass_state_flushed c.reading.invariant.midway c.write_out_before_blocking.ensures.pushed.wrote
+    c.in_ok-write_out_before_blocking.ensures.pushed.clean in
+    let (failed, cause, _) = (rw c.in-Err.is at b.shows) m.reached.advance_ok.fault in
     λ t tool store ready. block_read tool
-    m ready b.was_sound shows.0.reads b.is_sound c.reading.invariant.holds c.reading.invariant.all shows.1
+    m ready b.was_sound failed.reads b.is_sound c.reading.invariant.holds c.reading.invariant.all cause
 
 pub process_block-requires-clause-some : goal.process_block-requires-clause-some
 process_block-requires-clause-some g c = not_empty c.in-Ok.block.now (sym c.is_empty.ensures ∙ c.if-is_empty.false)
@@ -38,63 +44,75 @@ pub process_block-requires-clause-room : goal.process_block-requires-clause-room
 process_block-requires-clause-room g c =
     let b = c.block.follows.holds-at-none in
     let i = c.reading.invariant in
-    let shows = (rw c.in-Ok.is at b.shows) i.midway.reached.advance_ok.fault in
-    block_room shows.0 shows.1 b.was_sound i.counted b.is_sound
+    let (refilled, shown, ended) = (rw c.in-Ok.is at b.shows) i.midway.reached.advance_ok.fault in
+    block_room refilled shown b.was_sound i.counted b.is_sound
 
 pub returns-in_err-process_block-in-Ok : goal.returns-in_err-process_block-in-Ok
 returns-in_err-process_block-in-Ok g c =
     let b = c.block.follows.holds-at-none in
-    let m = pass_state_flushed c.reading.invariant.midway c.write_out_before_blocking.ensures.pushed.wrote c.in_ok-write_out_before_blocking.ensures.pushed.clean in
-    let shows = (rw c.in-Ok.is at b.shows) m.reached.advance_ok.fault in
-    let e = err_from_is_err_and c.from_residual-in_err-process_block-in-Ok.result c.from_residual-in_err-process_block-in-Ok.ensures.1 in
-    λ t tool store ready. rw (e.1, e.2) (block_write tool
-    m ready b.was_sound shows.0.reads b.is_sound c.reading.invariant.holds c.reading.invariant.all
-    shows.1 c.in_err-process_block-in-Ok.ensures.halts shows.0.failed)
+    let m = pass_state_flushed c.reading.invariant.midway c.write_out_before_blocking.ensures.pushed.wrote
+    c.in_ok-write_out_before_blocking.ensures.pushed.clean in
+    let (refilled, shown, ended) = (rw c.in-Ok.is at b.shows) m.reached.advance_ok.fault in
+    let (_, is_err, is_fault) =
+    returned_err c.from_residual-in_err-process_block-in-Ok.result c.from_residual-in_err-process_block-in-Ok.ensures in
+    λ t tool store ready. rw (is_err, is_fault) (block_write tool
+    m ready b.was_sound refilled.reads b.is_sound c.reading.invariant.holds c.reading.invariant.all
+    shown c.in_err-process_block-in-Ok.ensures.halts refilled.failed)
 
 pub returns-then-is_empty : goal.returns-then-is_empty
 returns-then-is_empty g c =
     let b = c.block.follows.holds-at-none in
-    let m = pass_state_flushed c.reading.invariant.midway c.write_out_before_blocking.ensures.pushed.wrote c.in_ok-write_out_before_blocking.ensures.pushed.clean in
-    let shows = (rw c.in-Ok.is at b.shows) m.reached.advance_ok.fault in
-    let none : c.in-Ok.block.now ≡ [] = nil_from_length c.in-Ok.block.now (eqb-true (length c.in-Ok.block.now) 0 (sym c.is_empty.ensures ∙ c.if-is_empty.true)) in
+    let m = pass_state_flushed c.reading.invariant.midway c.write_out_before_blocking.ensures.pushed.wrote
+    c.in_ok-write_out_before_blocking.ensures.pushed.clean in
+    let (refilled, shown, ended) = (rw c.in-Ok.is at b.shows) m.reached.advance_ok.fault in
+    let none : c.in-Ok.block.now ≡ [] =
+    nil_from_length c.in-Ok.block.now
+    (eqb-true (length c.in-Ok.block.now) 0 (sym c.is_empty.ensures ∙ c.if-is_empty.true)) in
     λ t tool store ready. block_done tool
-    m ready b.was_sound shows.0.reads b.is_sound c.reading.invariant.holds c.reading.invariant.all
-    c.finish.ensures.wrote (shows.2 none) shows.0.failed c.in_ok-finish-in-Ok.ensures.clean shows.0.fault (b.is_sound.long shows.0.fault)
+    m ready b.was_sound refilled.reads b.is_sound c.reading.invariant.holds c.reading.invariant.all
+    c.finish.ensures.wrote (ended none) refilled.failed c.in_ok-finish-in-Ok.ensures.clean refilled.fault
+    (b.is_sound.long refilled.fault)
 
 pub returns-in_err-finish-in-Ok : goal.returns-in_err-finish-in-Ok
 returns-in_err-finish-in-Ok g c =
     let b = c.block.follows.holds-at-none in
-    let m = pass_state_flushed c.reading.invariant.midway c.write_out_before_blocking.ensures.pushed.wrote c.in_ok-write_out_before_blocking.ensures.pushed.clean in
-    let shows = (rw c.in-Ok.is at b.shows) m.reached.advance_ok.fault in
-    let none : c.in-Ok.block.now ≡ [] = nil_from_length c.in-Ok.block.now (eqb-true (length c.in-Ok.block.now) 0 (sym c.is_empty.ensures ∙ c.if-is_empty.true)) in
-    let e = err_from_is_err_and c.from_residual-in_err-finish-in-Ok.result c.from_residual-in_err-finish-in-Ok.ensures.1 in
+    let m = pass_state_flushed c.reading.invariant.midway c.write_out_before_blocking.ensures.pushed.wrote
+    c.in_ok-write_out_before_blocking.ensures.pushed.clean in
+    let (refilled, shown, ended) = (rw c.in-Ok.is at b.shows) m.reached.advance_ok.fault in
+    let none : c.in-Ok.block.now ≡ [] =
+    nil_from_length c.in-Ok.block.now
+    (eqb-true (length c.in-Ok.block.now) 0 (sym c.is_empty.ensures ∙ c.if-is_empty.true)) in
+    let (_, is_err, is_fault) =
+    returned_err c.from_residual-in_err-finish-in-Ok.result c.from_residual-in_err-finish-in-Ok.ensures in
     λ t tool store ready.
-    rw (e.1, e.2) (block_unended tool
-    m ready b.was_sound shows.0.reads b.is_sound c.reading.invariant.holds c.reading.invariant.all
-    c.finish.ensures.wrote (shows.2 none) shows.0.failed c.in_err-finish-in-Ok.ensures.fault)
+    rw (is_err, is_fault) (block_unended tool
+    m ready b.was_sound refilled.reads b.is_sound c.reading.invariant.holds c.reading.invariant.all
+    c.finish.ensures.wrote (ended none) refilled.failed c.in_err-finish-in-Ok.ensures.fault)
 
 pub reading-preserved : goal.reading-preserved
 unfolding pass_state_more
 reading-preserved g c =
     let b = c.block.follows.holds-at-none in
     let i = c.reading.invariant in
-    let m = pass_state_flushed c.reading.invariant.midway c.write_out_before_blocking.ensures.pushed.wrote c.in_ok-write_out_before_blocking.ensures.pushed.clean in
-    let shows = (rw c.in-Ok.is at b.shows) i.midway.reached.advance_ok.fault in
+    let m = pass_state_flushed c.reading.invariant.midway c.write_out_before_blocking.ensures.pushed.wrote
+    c.in_ok-write_out_before_blocking.ensures.pushed.clean in
+    let (refilled, shown, ended) = (rw c.in-Ok.is at b.shows) i.midway.reached.advance_ok.fault in
     let e = c.in_ok-process_block-in-Ok.ensures in
     let block = c.in-Ok.block.now in
     record {
-      midway = pass_state_more m shows.0 shows.1 c.consume.ensures.consumed e.continues;
+      midway = pass_state_more m refilled shown c.consume.ensures.consumed e.continues;
       all = λ rest.
           ap (g.T.BlockFilter.rest c.args.tool.now) (append_assoc i.midway.given block rest) ∙ i.all (block ++ rest)
           ∙ ap (◌++◌ i.midway.pushed) (e.continues.on rest)
           ∙ sym (append_assoc i.midway.pushed e.continues.pushed (g.T.BlockFilter.rest c.process_block.new.self rest));
       holds = λ same. e.holds c.args.tool.now (i.holds same);
-      counted = counted_more shows.0 shows.1 b.was_sound i.counted c.consume.ensures.consumed e.counts;
+      counted = counted_more refilled shown b.was_sound i.counted c.consume.ensures.consumed e.counts;
     }
 
 pub reading-smaller : goal.reading-smaller
 reading-smaller g c =
-    let shows = (rw c.in-Ok.is at c.block.follows.holds-at-none.shows) c.reading.invariant.midway.reached.advance_ok.fault in
+    let (refilled, shown, ended) =
+    (rw c.in-Ok.is at c.block.follows.holds-at-none.shows) c.reading.invariant.midway.reached.advance_ok.fault in
     let some = eqb-false (length c.in-Ok.block.now) 0 (sym c.is_empty.ensures ∙ c.if-is_empty.false) in
-    budget_of_block shows.0 shows.1 c.block.follows.holds-at-none.is_sound.count some c.consume.ensures.consumed
-    (c.block.follows.holds-at-none.is_sound.long shows.0.fault)
+    budget_of_block refilled shown c.block.follows.holds-at-none.is_sound.count some c.consume.ensures.consumed
+    (c.block.follows.holds-at-none.is_sound.long refilled.fault)

@@ -7,7 +7,8 @@ use Rattle.ptflow.proofs.block_loop.run_blocks.Given as goal
 abbrev pub invariant-reading : goal.invariant-reading
 invariant-reading g l = record {
   midway : PassState g.T.BlockFilter.rest l.fn.tool l.tool l.fn.reader l.reader l.fn.out l.out;
-  all : (rest : List ℕ) → g.T.BlockFilter.rest l.fn.tool (midway.given ++ rest) ≡ midway.pushed ++ g.T.BlockFilter.rest l.tool rest;
+  all : (rest : List ℕ)
+      → g.T.BlockFilter.rest l.fn.tool (midway.given ++ rest) ≡ midway.pushed ++ g.T.BlockFilter.rest l.tool rest;
   holds : g.T.BlockFilter.IsUnchanged l.fn.tool l.fn.tool → g.T.BlockFilter.IsUnchanged l.fn.tool l.tool;
   counted : g.T.BlockFilter.counted l.tool ≤ l.reader.pulled - length l.reader.buffered;
 }

@@ -1,59 +1,82 @@
 -- The buffered output is written before each read, so each exit comes after that. After the line in the last slot it is
 -- written again, and the lines of the block follow. Each exit is an outcome of a pass.
-use Rattle.ptflow.proofs.Common.{◌∙◌, subst, err_from_is_err_and, IsLine}
-use Rattle.ptflow.proofs.Passes.LineLoop.{LineLoopState, short_block, filled_line, run_starts, run_unslotted, run_sent, run_count, run_room, run_flush_failed, run_line, run_line_halts, filled_count, same_room}
-use Rattle.ptflow.proofs.Passes.LineLoop.{some_line}
-use Rattle.ptflow.proofs.Passes.LineLoop.{run_broken, run_memory, run_no_block, run_done, run_unended, run_block, run_block_halts}
+use Rattle.ptflow.proofs.Common.{◌∙◌, subst, IsLine}
+use Rattle.ptflow.proofs.Passes.LineLoop.{LineLoopState, short_block, filled_line, run_starts, run_unslotted, run_sent}
+use Rattle.ptflow.proofs.Passes.LineLoop.{run_count, run_room, run_flush_failed, run_line, run_line_halts, filled_count}
+use Rattle.ptflow.proofs.Passes.LineLoop.{same_room, some_line, run_broken, run_memory, run_no_block, run_done}
+use Rattle.ptflow.proofs.Passes.LineLoop.{run_unended, run_block, run_block_halts}
 use Rattle.ptflow.proofs.Passes.Readers.{budget_of_line}
+use Rattle.ptflow.proofs.Passes.StepOutput.{returned_err}
 use Rattle.ptflow.proofs.Passes.Slots.{bounds_start, swapped_room}
 use Rattle.ptflow.proofs.line_loop.run_lines.Given as given
 use Rattle.ptflow.proofs.line_loop.run_lines.Goals as goal
-use Rattle.ptflow.proofs.line_loop.run_lines.Goals.{In_ok-write_out_before_blocking, In_ok-process_line-in-Ok-true, In_ok-write_out_before_blocking-2}
+use Rattle.ptflow.proofs.line_loop.run_lines.Goals.{In_ok-write_out_before_blocking, In_ok-process_line-in-Ok-true}
+use Rattle.ptflow.proofs.line_loop.run_lines.Goals.{In_ok-write_out_before_blocking-2}
 
 -- the state after the buffered output was written; after the line in the last slot; and after the output was written
 -- again
 written_out : (g : given.Over) (c : In_ok-write_out_before_blocking g) → let T = g.T.LineFilter in
-    LineLoopState T.model (T.rest c.args.tool.now) (T.written c.args.tool.now) T.counted (T.tool c.args.tool.now).end T.SLOTS c.args.state.now (T.model c.reading.state c.reading.store)
-    c.args.reader.now c.reading.reader c.args.out.now c.write_out_before_blocking.new.out c.args.store.now c.reading.store
-written_out g c = run_sent c.requires.tool c.reading.invariant c.write_out_before_blocking.ensures.pushed.wrote c.in_ok-write_out_before_blocking.ensures.pushed.clean
+    LineLoopState T.model (T.rest c.args.tool.now) (T.written c.args.tool.now) T.counted
+    (T.tool c.args.tool.now).end T.SLOTS c.args.state.now (T.model c.reading.state c.reading.store)
+    c.args.reader.now c.reading.reader c.args.out.now c.write_out_before_blocking.new.out c.args.store.now
+    c.reading.store
+written_out g c = run_sent c.requires.tool c.reading.invariant c.write_out_before_blocking.ensures.pushed.wrote
+    c.in_ok-write_out_before_blocking.ensures.pushed.clean
 
 line_taken : (g : given.Over) (c : In_ok-process_line-in-Ok-true g) → let T = g.T.LineFilter in
-    LineLoopState T.model (T.rest c.args.tool.now) (T.written c.args.tool.now) T.counted (T.tool c.args.tool.now).end T.SLOTS c.args.state.now
-    (T.model c.process_line.new.state c.process_line.new.store) c.args.reader.now c.fill.new.self c.args.out.now c.process_line.new.out c.args.store.now c.process_line.new.store
+    LineLoopState T.model (T.rest c.args.tool.now) (T.written c.args.tool.now) T.counted
+    (T.tool c.args.tool.now).end T.SLOTS c.args.state.now
+    (T.model c.process_line.new.state c.process_line.new.store) c.args.reader.now c.fill.new.self c.args.out.now
+    c.process_line.new.out c.args.store.now c.process_line.new.store
 line_taken g c =
-    let r = run_sent c.requires.tool c.reading.invariant c.write_out_before_blocking.ensures.pushed.wrote c.in_ok-write_out_before_blocking.ensures.pushed.clean in
-    let e = filled_line c.slots-slots.ensures c.in-Ok-true.field-0-test (c.in-Ok-true.ensures.fills r.reached.advance_ok.fault) in
+    let r = run_sent c.requires.tool c.reading.invariant c.write_out_before_blocking.ensures.pushed.wrote
+    c.in_ok-write_out_before_blocking.ensures.pushed.clean in
+    let e = filled_line c.slots-slots.ensures c.in-Ok-true.field-0-test
+    (c.in-Ok-true.ensures.fills r.reached.advance_ok.fault) in
     let took = c.in_ok-process_line-in-Ok-true.ensures in
-    run_line c.requires.tool r e {next = g.T.LineFilter.model c.process_line.new.state c.process_line.new.store} took.continues took.swapped
+    run_line c.requires.tool r e {next = g.T.LineFilter.model c.process_line.new.state c.process_line.new.store}
+    took.continues took.swapped
 
 sent_again : (g : given.Over) (c : In_ok-write_out_before_blocking-2 g) → let T = g.T.LineFilter in
-    LineLoopState T.model (T.rest c.args.tool.now) (T.written c.args.tool.now) T.counted (T.tool c.args.tool.now).end T.SLOTS c.args.state.now
-    (T.model c.process_line.new.state c.process_line.new.store) c.args.reader.now c.fill.new.self c.args.out.now c.write_out_before_blocking-in-reading.new.out c.args.store.now c.process_line.new.store
+    LineLoopState T.model (T.rest c.args.tool.now) (T.written c.args.tool.now) T.counted
+    (T.tool c.args.tool.now).end T.SLOTS c.args.state.now
+    (T.model c.process_line.new.state c.process_line.new.store) c.args.reader.now c.fill.new.self c.args.out.now
+    c.write_out_before_blocking-in-reading.new.out c.args.store.now c.process_line.new.store
 sent_again g c =
-    let r = run_sent c.requires.tool c.reading.invariant c.write_out_before_blocking.ensures.pushed.wrote c.in_ok-write_out_before_blocking.ensures.pushed.clean in
-    let e = filled_line c.slots-slots.ensures c.in-Ok-true.field-0-test (c.in-Ok-true.ensures.fills r.reached.advance_ok.fault) in
+    let r = run_sent c.requires.tool c.reading.invariant c.write_out_before_blocking.ensures.pushed.wrote
+    c.in_ok-write_out_before_blocking.ensures.pushed.clean in
+    let e = filled_line c.slots-slots.ensures c.in-Ok-true.field-0-test
+    (c.in-Ok-true.ensures.fills r.reached.advance_ok.fault) in
     let took = c.in_ok-process_line-in-Ok-true.ensures in
-    let v = run_line c.requires.tool r e {next = g.T.LineFilter.model c.process_line.new.state c.process_line.new.store} took.continues took.swapped in
-    run_sent c.requires.tool v c.write_out_before_blocking-in-reading.ensures.pushed.wrote c.in_ok-write_out_before_blocking-2.ensures.pushed.clean
+    let v = run_line c.requires.tool r e {next = g.T.LineFilter.model c.process_line.new.state c.process_line.new.store}
+    took.continues took.swapped in
+    run_sent c.requires.tool v c.write_out_before_blocking-in-reading.ensures.pushed.wrote
+    c.in_ok-write_out_before_blocking-2.ensures.pushed.clean
 
 pub returns-in_err-ensure_slots : goal.returns-in_err-ensure_slots
 returns-in_err-ensure_slots g c =
-    let x = err_from_is_err_and c.from_residual.result c.from_residual.ensures.1 in
+    let (_, is_err, is_fault) = returned_err c.from_residual.result c.from_residual.ensures in
     let adds = rw c.slots-slots.ensures at c.ensure_slots.ensures.adds in
-    rw (x.1, x.2, c.in_err-ensure_slots.ensures.err)
-    (run_unslotted c.requires.tool c.requires.begins.ends c.requires.begins.ready c.requires.begins.sound c.requires.begins.clean adds
-    (rw c.slots-slots.ensures at c.in_err-ensure_slots.ensures.few) c.ensure_slots.ensures.same_peak c.in_err-ensure_slots.ensures.denied)
+    rw (is_err, is_fault, c.in_err-ensure_slots.ensures.err)
+    (run_unslotted c.requires.tool c.requires.begins.ends c.requires.begins.ready c.requires.begins.sound
+    c.requires.begins.clean adds
+    (rw c.slots-slots.ensures at c.in_err-ensure_slots.ensures.few)
+    c.ensure_slots.ensures.same_peak c.in_err-ensure_slots.ensures.denied)
 
 pub reading-init : goal.reading-init
 reading-init g c =
     let adds = rw c.slots-slots.ensures at c.ensure_slots.ensures.adds in
-    run_starts c.requires.tool c.requires.begins.ends c.requires.begins.ready c.requires.begins.clean (bounds_start adds c.in_ok-ensure_slots.ensures.allowed
+    run_starts c.requires.tool c.requires.begins.ends c.requires.begins.ready c.requires.begins.clean
+    (bounds_start adds c.in_ok-ensure_slots.ensures.allowed
     (cc) c.ensure_slots.ensures.same_peak)
 
 pub returns-in_err-write_out_before_blocking : goal.returns-in_err-write_out_before_blocking
 returns-in_err-write_out_before_blocking g c =
-    let x = err_from_is_err_and c.from_residual-in_err-write_out_before_blocking.result c.from_residual-in_err-write_out_before_blocking.ensures.1 in
-    rw (x.1, x.2) (run_flush_failed c.requires.tool c.reading.invariant c.requires.begins.ready c.write_out_before_blocking.ensures.sound
+    let (_, is_err, is_fault) =
+    returned_err c.from_residual-in_err-write_out_before_blocking.result
+    c.from_residual-in_err-write_out_before_blocking.ensures in
+    rw (is_err, is_fault) (run_flush_failed c.requires.tool c.reading.invariant c.requires.begins.ready
+    c.write_out_before_blocking.ensures.sound
     c.write_out_before_blocking.ensures.pushed.wrote c.in_err-write_out_before_blocking.ensures.pushed.fault)
 
 pub process_line-requires-clause-room : goal.process_line-requires-clause-room
@@ -62,91 +85,117 @@ process_line-requires-clause-room g c = same_room c.fill.ensures.slots (run_room
 pub process_line-requires-clause-few : goal.process_line-requires-clause-few
 process_line-requires-clause-few g c =
     let r = c.reading.invariant in
-    let e = filled_line c.slots-slots.ensures c.in-Ok-true.field-0-test (c.in-Ok-true.ensures.fills r.reached.advance_ok.fault) in
+    let e = filled_line c.slots-slots.ensures c.in-Ok-true.field-0-test
+    (c.in-Ok-true.ensures.fills r.reached.advance_ok.fault) in
     filled_count c.requires.tool r c.requires.begins.sound c.fill.ensures.was_sound e.line e.stored
 
 pub returns-in_err-process_line-in-Ok-true : goal.returns-in_err-process_line-in-Ok-true
 returns-in_err-process_line-in-Ok-true g c =
     let r = written_out g (goal.at.returns-in_err-process_line-in-Ok-true g c).In_ok-write_out_before_blocking in
-    let e = filled_line c.slots-slots.ensures c.in-Ok-true.field-0-test (c.in-Ok-true.ensures.fills r.reached.advance_ok.fault) in
-    let x = err_from_is_err_and c.from_residual-in_err-process_line-in-Ok-true.result c.from_residual-in_err-process_line-in-Ok-true.ensures.1 in
-    rw (x.1, x.2, c.in_err-process_line-in-Ok-true.ensures.same)
-    (run_line_halts c.requires.tool r e c.requires.begins.ready c.fill.ensures.was_sound c.fill.ensures.is_sound c.in_err-process_line-in-Ok-true.ensures.halts)
+    let e = filled_line c.slots-slots.ensures c.in-Ok-true.field-0-test
+    (c.in-Ok-true.ensures.fills r.reached.advance_ok.fault) in
+    let (_, is_err, is_fault) =
+    returned_err c.from_residual-in_err-process_line-in-Ok-true.result
+    c.from_residual-in_err-process_line-in-Ok-true.ensures in
+    rw (is_err, is_fault, c.in_err-process_line-in-Ok-true.ensures.same)
+    (run_line_halts c.requires.tool r e c.requires.begins.ready c.fill.ensures.was_sound c.fill.ensures.is_sound
+    c.in_err-process_line-in-Ok-true.ensures.halts)
 
 pub returns-in_err-finish-in-Ok-false : goal.returns-in_err-finish-in-Ok-false
 returns-in_err-finish-in-Ok-false g c =
     let r = written_out g (goal.at.returns-in_err-finish-in-Ok-false g c).In_ok-write_out_before_blocking in
-    let e = rw (c.in-Ok-false.field-0-test, c.slots-slots.ensures) at (c.in-Ok-false.ensures.fills r.reached.advance_ok.fault) in
+    let (advance_ok, done, emptied) = rw (c.in-Ok-false.field-0-test, c.slots-slots.ensures) at
+    (c.in-Ok-false.ensures.fills r.reached.advance_ok.fault) in
     let end = c.in_err-finish-in-Ok-false.ensures.pushed r.reached.clean in
-    let x = err_from_is_err_and c.from_residual-in_err-finish-in-Ok-false.result c.from_residual-in_err-finish-in-Ok-false.ensures.1 in
-    rw (x.1, x.2, c.in_err-finish-in-Ok-false.ensures.same)
-    (run_unended c.requires.tool r c.requires.begins.ready c.fill.ensures.was_sound c.fill.ensures.is_sound e.0 e.1 e.2 end.wrote end.fault)
+    let (_, is_err, is_fault) =
+    returned_err c.from_residual-in_err-finish-in-Ok-false.result c.from_residual-in_err-finish-in-Ok-false.ensures in
+    rw (is_err, is_fault, c.in_err-finish-in-Ok-false.ensures.same)
+    (run_unended c.requires.tool r c.requires.begins.ready c.fill.ensures.was_sound c.fill.ensures.is_sound advance_ok
+    done emptied end.wrote end.fault)
 
 pub returns-in-Ok-false : goal.returns-in-Ok-false
 returns-in-Ok-false g c =
     let r = written_out g (goal.at.returns-in-Ok-false g c).In_ok-write_out_before_blocking in
-    let e = rw (c.in-Ok-false.field-0-test, c.slots-slots.ensures) at (c.in-Ok-false.ensures.fills r.reached.advance_ok.fault) in
+    let (advance_ok, done, emptied) = rw (c.in-Ok-false.field-0-test, c.slots-slots.ensures) at
+    (c.in-Ok-false.ensures.fills r.reached.advance_ok.fault) in
     let end = c.in_ok-finish-in-Ok-false.ensures in
     let pushed = end.pushed r.reached.clean in
-    run_done c.requires.tool r c.requires.begins.ready c.fill.ensures.was_sound c.fill.ensures.is_sound e.0 e.1 e.2 pushed.wrote end.emptied pushed.clean
+    run_done c.requires.tool r c.requires.begins.ready c.fill.ensures.was_sound c.fill.ensures.is_sound advance_ok done
+    emptied pushed.wrote end.emptied pushed.clean
 
 pub returns-in-Err-Read : goal.returns-in-Err-Read
 returns-in-Err-Read g c =
     let r = written_out g (goal.at.returns-in-Err-Read g c).In_ok-write_out_before_blocking in
-    let e = rw (c.in-Err-Read.field-0-is, c.slots-slots.ensures) at (c.in-Err-Read.ensures.fills r.reached.advance_ok.fault) in
+    let e = rw (c.in-Err-Read.field-0-is, c.slots-slots.ensures) at
+    (c.in-Err-Read.ensures.fills r.reached.advance_ok.fault) in
     let free = subst (λ b. IsLine b e.piece) (r.reached.advance_ok.reads.terminator ∙ r.terminator) e.faults.whole in
-    run_broken c.requires.tool r c.requires.begins.ready c.fill.ensures.was_sound e.faults.reads free c.fill.ensures.is_sound e.stored e.cause
+    run_broken c.requires.tool r c.requires.begins.ready c.fill.ensures.was_sound e.faults.reads free
+    c.fill.ensures.is_sound e.stored e.cause
 
 pub returns-in-Err-Memory : goal.returns-in-Err-Memory
 returns-in-Err-Memory g c =
     let r = written_out g (goal.at.returns-in-Err-Memory g c).In_ok-write_out_before_blocking in
-    let e = rw (c.in-Err-Memory.field-0-is, c.slots-slots.ensures) at (c.in-Err-Memory.ensures.fills r.reached.advance_ok.fault) in
+    let e = rw (c.in-Err-Memory.field-0-is, c.slots-slots.ensures) at
+    (c.in-Err-Memory.ensures.fills r.reached.advance_ok.fault) in
     let free = subst (λ b. IsLine b e.piece) (r.reached.advance_ok.reads.terminator ∙ r.terminator) e.faults.whole in
-    run_memory c.requires.tool r c.requires.begins.ready c.fill.ensures.was_sound e.faults.reads free c.fill.ensures.is_sound e.stored e.failed e.left
+    run_memory c.requires.tool r c.requires.begins.ready c.fill.ensures.was_sound e.faults.reads free
+    c.fill.ensures.is_sound e.stored e.failed e.left
 
 pub returns-in_err-write_out_before_blocking-2 : goal.returns-in_err-write_out_before_blocking-2
 returns-in_err-write_out_before_blocking-2 g c =
     let v = line_taken g (goal.at.returns-in_err-write_out_before_blocking-2 g c).In_ok-process_line-in-Ok-true in
-    let x = err_from_is_err_and c.from_residual-in_err-write_out_before_blocking-2.result c.from_residual-in_err-write_out_before_blocking-2.ensures.1 in
-    rw (x.1, x.2) (run_flush_failed c.requires.tool v c.requires.begins.ready c.fill.ensures.is_sound c.write_out_before_blocking-in-reading.ensures.pushed.wrote c.in_err-write_out_before_blocking-2.ensures.pushed.fault)
+    let (_, is_err, is_fault) =
+    returned_err c.from_residual-in_err-write_out_before_blocking-2.result
+    c.from_residual-in_err-write_out_before_blocking-2.ensures in
+    rw (is_err, is_fault)
+    (run_flush_failed c.requires.tool v c.requires.begins.ready c.fill.ensures.is_sound
+    c.write_out_before_blocking-in-reading.ensures.pushed.wrote
+    c.in_err-write_out_before_blocking-2.ensures.pushed.fault)
 
 pub reading-smaller : goal.reading-smaller
 reading-smaller g c =
-    let e = filled_line c.slots-slots.ensures c.in-Ok-true.field-0-test (c.in-Ok-true.ensures.fills c.reading.invariant.reached.advance_ok.fault) in
-    let shows = (rw c.in-Ok.is at c.block.follows.holds-at-none.shows) e.advance_ok.fault in
-    budget_of_line c.reading.reader c.in_ok-passed-in-Ok.passed e.less shows.0 c.consume.ensures.consumed
+    let e = filled_line c.slots-slots.ensures c.in-Ok-true.field-0-test
+    (c.in-Ok-true.ensures.fills c.reading.invariant.reached.advance_ok.fault) in
+    let (refilled, shown, _) = (rw c.in-Ok.is at c.block.follows.holds-at-none.shows) e.advance_ok.fault in
+    budget_of_line c.reading.reader c.in_ok-passed-in-Ok.passed e.less refilled c.consume.ensures.consumed
 
 pub process_lines-requires-clause-room : goal.process_lines-requires-clause-room
 process_lines-requires-clause-room g c =
-    swapped_room c.in_ok-process_line-in-Ok-true.ensures.swapped c.requires.tool.some (same_room c.fill.ensures.slots (run_room c.requires.tool c.reading.invariant))
+    swapped_room c.in_ok-process_line-in-Ok-true.ensures.swapped c.requires.tool.some
+    (same_room c.fill.ensures.slots (run_room c.requires.tool c.reading.invariant))
 
 pub process_lines-requires-clause-buffered : goal.process_lines-requires-clause-buffered
 process_lines-requires-clause-buffered g c =
     let took = c.in_ok-process_line-in-Ok-true.ensures in
     let v = line_taken g (goal.at.process_lines-requires-clause-buffered g c).In_ok-process_line-in-Ok-true in
+    let (_, shown, _) = (rw c.in-Ok.is at c.block.follows.holds-at-none.shows) v.reached.advance_ok.fault in
     record {
       few = run_count c.requires.tool v c.requires.begins.sound c.fill.ensures.is_sound;
       waits = took.continues.some some_line;
-      short = short_block ((rw c.in-Ok.is at c.block.follows.holds-at-none.shows) v.reached.advance_ok.fault).1 c.block.follows.holds-at-none.is_sound;
+      short = short_block shown c.block.follows.holds-at-none.is_sound;
     }
 
 pub returns-in_err-passed-in-Ok : goal.returns-in_err-passed-in-Ok
 returns-in_err-passed-in-Ok g c =
     let u = sent_again g (goal.at.returns-in_err-passed-in-Ok g c).In_ok-write_out_before_blocking-2 in
-    let shows = (rw c.in-Ok.is at c.block.follows.holds-at-none.shows) u.reached.advance_ok.fault in
-    let x = err_from_is_err_and c.from_residual-in_err-passed-in-Ok.result c.from_residual-in_err-passed-in-Ok.ensures.1 in
-    rw (x.1, x.2)
-    (run_block_halts c.requires.tool u c.requires.begins.ready c.fill.ensures.is_sound c.block.follows.holds-at-none.is_sound shows.0 shows.1 c.in_err-passed-in-Ok.ensures.halts)
+    let (refilled, shown, _) = (rw c.in-Ok.is at c.block.follows.holds-at-none.shows) u.reached.advance_ok.fault in
+    let (_, is_err, is_fault) =
+    returned_err c.from_residual-in_err-passed-in-Ok.result c.from_residual-in_err-passed-in-Ok.ensures in
+    rw (is_err, is_fault)
+    (run_block_halts c.requires.tool u c.requires.begins.ready c.fill.ensures.is_sound
+    c.block.follows.holds-at-none.is_sound refilled shown c.in_err-passed-in-Ok.ensures.halts)
 
 pub returns-in-Err : goal.returns-in-Err
 returns-in-Err g c =
     let u = sent_again g (goal.at.returns-in-Err g c).In_ok-write_out_before_blocking-2 in
-    let shows = (rw c.in-Err.is at c.block.follows.holds-at-none.shows) u.reached.advance_ok.fault in
-    run_no_block c.requires.tool u c.requires.begins.ready c.fill.ensures.is_sound shows.0.reads c.block.follows.holds-at-none.is_sound shows.1
+    let (failed, cause, _) = (rw c.in-Err.is at c.block.follows.holds-at-none.shows) u.reached.advance_ok.fault in
+    run_no_block c.requires.tool u c.requires.begins.ready c.fill.ensures.is_sound failed.reads
+    c.block.follows.holds-at-none.is_sound cause
 
 pub reading-preserved : goal.reading-preserved
 reading-preserved g c =
     let u = sent_again g (goal.at.reading-preserved g c).In_ok-write_out_before_blocking-2 in
-    let shows = (rw c.in-Ok.is at c.block.follows.holds-at-none.shows) u.reached.advance_ok.fault in
+    let (refilled, shown, _) = (rw c.in-Ok.is at c.block.follows.holds-at-none.shows) u.reached.advance_ok.fault in
     let rest = c.in_ok-passed-in-Ok.ensures in
-    run_block c.requires.tool u shows.0 shows.1 rest.passed c.consume.ensures.consumed {next = g.T.LineFilter.model c.process_lines.new.state c.process_line.new.store} rest.continues
+    run_block c.requires.tool u refilled shown rest.passed c.consume.ensures.consumed
+    {next = g.T.LineFilter.model c.process_lines.new.state c.process_line.new.store} rest.continues

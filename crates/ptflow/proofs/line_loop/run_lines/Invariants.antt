@@ -7,7 +7,8 @@ use Rattle.ptflow.proofs.line_loop.run_lines.Given as goal
 abbrev pub invariant-reading : goal.invariant-reading
 invariant-reading g l =
     let T = g.T.LineFilter in
-    LineLoopState T.model (T.rest l.tool) (T.written l.tool) T.counted (T.tool l.tool).end T.SLOTS l.fn.state (T.model l.state l.store) l.fn.reader l.reader l.fn.out l.out l.fn.store l.store
+    LineLoopState T.model (T.rest l.tool) (T.written l.tool) T.counted (T.tool l.tool).end T.SLOTS l.fn.state
+    (T.model l.state l.store) l.fn.reader l.reader l.fn.out l.out l.fn.store l.store
 
 abbrev pub decreases-reading : goal.decreases-reading
 decreases-reading g l = budget l.reader

@@ -1,7 +1,7 @@
 -- The loop stops at the first byte that differs, which decides. If none does, the shorter slice is a prefix of the
 -- longer, so the lengths decide.
-use Rattle.std.proofs.Common.{◌∙◌, refl, subst, ◌≡◌, take, ℕ, arith, slice_index}
-use Rattle.ptlines.proofs.ByteOrder.{byte_differs, cmp_by_length}
+use Rattle.std.proofs.Common.{◌∙◌, subst, ◌≡◌, take, arith}
+use Rattle.ptlines.proofs.ByteOrder.{word_1, byte_at, words_differ, cmp_by_length}
 use Rattle.ptlines.proofs.cmp.compare_bytewise.Goals as goal
 
 pub returns-then-a-at : goal.returns-then-a-at
@@ -9,8 +9,8 @@ returns-then-a-at c =
     let at = c.loop-at.at in
     let a = c.args.a.now in
     let b = c.args.b.now in
-    c.cmp.ensures ∙ byte_differs at a b (slice_index a at) (slice_index b at) c.type_inv.a c.type_inv.b c.loop-at.invariant
-    (omega (arith, c.loop-at-test.true, c.min-least.ensures)) (omega (arith, c.loop-at-test.true, c.min-least.ensures)) refl refl c.if-a-at.true
+    c.cmp.ensures ∙ words_differ word_1 at a b (omega (arith, c.loop-at-test.true, c.min-least.ensures))
+    c.type_inv.a c.type_inv.b c.loop-at.invariant (byte_at at a) (byte_at at b) c.if-a-at.true
 
 pub returns : goal.returns
 returns c =
@@ -18,4 +18,5 @@ returns c =
     let a = c.args.a.now in
     let b = c.args.b.now in
     let end : c.loop-at.at ≡ least = omega (arith, c.loop-at-test.false, c.loop-at.auto.at-end) in
-    c.cmp-2.ensures ∙ cmp_by_length least a b c.min-least.ensures (subst (λ (n : ℕ). take n a ≡ take n b) end c.loop-at.invariant)
+    c.cmp-2.ensures ∙ cmp_by_length least a b c.min-least.ensures
+    (subst (λ n. take n a ≡ take n b) end c.loop-at.invariant)

@@ -1,34 +1,36 @@
 -- Two numbers of 4 bytes differ exactly if the bytes do, and compare as the bytes do. The first 4 bytes and the last 4
 -- cover the shorter slice; if all are equal, the lengths decide.
-use Rattle.std.proofs.Common.{◌≡◌, ◌-◌, ◌+◌, take, ◌∙◌, refl, subst, ℕ, arith}
-use Rattle.ptlines.proofs.ByteOrder.{u32_differ, u32_same, shorter_prefix_same, cmp_by_length}
+use Rattle.ptlines.proofs.Common.{◌≡◌, ◌-◌, ◌+◌, take, ◌∙◌, refl, subst, arith}
+use Rattle.ptlines.proofs.ByteOrder.{word_4, words_differ, words_same, shorter_prefix_same, cmp_by_length}
 use Rattle.ptlines.proofs.cmp.compare_short.Goals as goal
 
 pub returns-then-x-y : goal.returns-then-x-y
 returns-then-x-y c =
-    c.cmp.ensures ∙ u32_differ 0 c.args.a.now c.args.b.now c.read_u32-x.result c.read_u32-y.result c.type_inv.a c.type_inv.b refl
-    (omega (arith, c.if-least-lt4.false, c.min-least.ensures)) (omega (arith, c.if-least-lt4.false, c.min-least.ensures)) c.read_u32-x.ensures c.read_u32-y.ensures c.if-x-y.true
+    c.cmp.ensures ∙ words_differ word_4 0 c.args.a.now c.args.b.now
+    (omega (arith, c.if-least-lt4.false, c.min-least.ensures))
+    c.type_inv.a c.type_inv.b refl c.read_u32-x.ensures c.read_u32-y.ensures c.if-x-y.true
 
 pub returns-then-x-y-2 : goal.returns-then-x-y-2
 returns-then-x-y-2 c =
     let least = c.min-least.result in
     let a = c.args.a.now in
     let b = c.args.b.now in
-    let first = u32_same 0 a b c.read_u32-x.result c.read_u32-y.result c.type_inv.a c.type_inv.b refl
-    (omega (arith, c.if-least-lt4.false, c.min-least.ensures)) (omega (arith, c.if-least-lt4.false, c.min-least.ensures)) c.read_u32-x.ensures c.read_u32-y.ensures c.if-x-y.false in
+    let first = words_same word_4 0 a b (omega (arith, c.if-least-lt4.false, c.min-least.ensures))
+    c.type_inv.a c.type_inv.b refl c.read_u32-x.ensures c.read_u32-y.ensures c.if-x-y.false in
     let same = shorter_prefix_same (least - 4) 4 a b (omega (arith, c.requires, c.min-least.ensures)) first in
-    c.cmp-then-x-y-2.ensures ∙ u32_differ (least - 4) a b c.read_u32-x-2.result c.read_u32-y-2.result c.type_inv.a c.type_inv.b same
-    (omega (arith, c.if-least-lt4.false, c.min-least.ensures)) (omega (arith, c.if-least-lt4.false, c.min-least.ensures)) c.read_u32-x-2.ensures c.read_u32-y-2.ensures c.if-x-y-2.true
+    c.cmp-then-x-y-2.ensures ∙ words_differ word_4 (least - 4) a b
+    (omega (arith, c.if-least-lt4.false, c.min-least.ensures))
+    c.type_inv.a c.type_inv.b same c.read_u32-x-2.ensures c.read_u32-y-2.ensures c.if-x-y-2.true
 
 pub returns : goal.returns
 returns c =
     let least = c.min-least.result in
     let a = c.args.a.now in
     let b = c.args.b.now in
-    let first = u32_same 0 a b c.read_u32-x.result c.read_u32-y.result c.type_inv.a c.type_inv.b refl
-    (omega (arith, c.if-least-lt4.false, c.min-least.ensures)) (omega (arith, c.if-least-lt4.false, c.min-least.ensures)) c.read_u32-x.ensures c.read_u32-y.ensures c.if-x-y.false in
+    let first = words_same word_4 0 a b (omega (arith, c.if-least-lt4.false, c.min-least.ensures))
+    c.type_inv.a c.type_inv.b refl c.read_u32-x.ensures c.read_u32-y.ensures c.if-x-y.false in
     let same = shorter_prefix_same (least - 4) 4 a b (omega (arith, c.requires, c.min-least.ensures)) first in
-    let all = u32_same (least - 4) a b c.read_u32-x-2.result c.read_u32-y-2.result c.type_inv.a c.type_inv.b same
-    (omega (arith, c.if-least-lt4.false, c.min-least.ensures)) (omega (arith, c.if-least-lt4.false, c.min-least.ensures)) c.read_u32-x-2.ensures c.read_u32-y-2.ensures c.if-x-y-2.false in
+    let all = words_same word_4 (least - 4) a b (omega (arith, c.if-least-lt4.false, c.min-least.ensures))
+    c.type_inv.a c.type_inv.b same c.read_u32-x-2.ensures c.read_u32-y-2.ensures c.if-x-y-2.false in
     let whole : (least - 4) + 4 ≡ least = omega (arith, c.if-least-lt4.false) in
-    c.cmp-2.ensures ∙ cmp_by_length least a b c.min-least.ensures (subst (λ (n : ℕ). take n a ≡ take n b) whole all)
+    c.cmp-2.ensures ∙ cmp_by_length least a b c.min-least.ensures (subst (λ n. take n a ≡ take n b) whole all)

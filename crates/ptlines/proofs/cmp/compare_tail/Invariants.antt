@@ -3,7 +3,7 @@ use Rattle.std.proofs.Common.{◌≡◌, ◌-◌, ◌≤◌, take}
 use Rattle.ptlines.proofs.cmp.compare_tail.Given as goal
 
 abbrev pub invariant-loop-at : goal.invariant-loop-at
-invariant-loop-at l = (l.at ≤ l.least) × (take l.at l.a ≡ take l.at l.b)
+invariant-loop-at l = record { within : l.at ≤ l.least; same : take l.at l.a ≡ take l.at l.b }
 
 abbrev pub decreases-loop-at : goal.decreases-loop-at
 decreases-loop-at l = l.least - l.at

@@ -4,4 +4,5 @@ use Rattle.ptlines.proofs.find.match_mask.Goals as goal
 pub returns : goal.returns
 returns g c =
     let bytes = c.args.bytes.now in
-    bitmask_splat w8 eqb (chunk c.args.at g.row.N bytes) g.row.N c.args.byte (length-chunk c.args.at g.row.N bytes c.requires.within) c.requires.lanes
+    bitmask_splat w8 eqb (chunk c.args.at g.row.N bytes) g.row.N c.args.byte
+    (length-chunk c.args.at g.row.N bytes c.requires.within) c.requires.lanes

@@ -5,14 +5,17 @@ use Rattle.ptlines.proofs.MatchMasks.{first_of_mask_16, mask_64, none_if_zero_ma
 use Rattle.ptlines.proofs.find.match_mask_64.Goals as goal
 
 pub returns-then-near-ne0-clause-first : goal.returns-then-near-ne0-clause-first
-returns-then-near-ne0-clause-first c some = first_of_mask_16 (is_byte c.args.byte) c.args.front.bytes.now _ c.args.front.long c.match_mask-near.ensures some
+returns-then-near-ne0-clause-first c some =
+    first_of_mask_16 (is_byte c.args.byte) c.args.front.bytes.now _ c.args.front.long c.match_mask-near.ensures some
 
 pub returns-clause-none : goal.returns-clause-none
 returns-clause-none c none =
-    let all = mask_64 (is_byte c.args.byte) c.args.front.bytes.now _ _ c.args.front.long c.match_mask-near.ensures c.if-near-ne0.false c.match_mask_after_16.ensures in
+    let all = mask_64 (is_byte c.args.byte) c.args.front.bytes.now _ _ c.args.front.long c.match_mask-near.ensures
+    c.if-near-ne0.false c.match_mask_after_16.ensures in
     none_if_zero_mask (is_byte c.args.byte) c.args.front.bytes.now 0 64 _ c.args.front.long all none
 
 pub returns-clause-first : goal.returns-clause-first
 returns-clause-first c some =
-    let all = mask_64 (is_byte c.args.byte) c.args.front.bytes.now _ _ c.args.front.long c.match_mask-near.ensures c.if-near-ne0.false c.match_mask_after_16.ensures in
+    let all = mask_64 (is_byte c.args.byte) c.args.front.bytes.now _ _ c.args.front.long c.match_mask-near.ensures
+    c.if-near-ne0.false c.match_mask_after_16.ensures in
     first_of_mask_64 (is_byte c.args.byte) c.args.front.bytes.now _ c.args.front.long all some

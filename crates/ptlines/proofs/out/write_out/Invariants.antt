@@ -3,7 +3,11 @@ use Rattle.ptlines.proofs.Common.{◌≡◌, ℕ, List, ◌++◌, length, WriteO
 use Rattle.ptlines.proofs.out.write_out.Given as goal
 
 abbrev pub invariant-loop-rest : goal.invariant-loop-rest
-invariant-loop-rest g l = (done : List ℕ) × (l.bytes ≡ done ++ l.rest) × WriteOutOk (g.W.Sink.state l.initial.sink) (g.W.Sink.state l.sink) done
+invariant-loop-rest g l = record {
+  done : List ℕ;
+  split : l.bytes ≡ done ++ l.rest;
+  written : WriteOutOk (g.W.Sink.state l.initial.sink) (g.W.Sink.state l.sink) done;
+}
 
 abbrev pub decreases-loop-rest : goal.decreases-loop-rest
 decreases-loop-rest g l = length l.rest

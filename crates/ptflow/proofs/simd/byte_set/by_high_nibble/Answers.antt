@@ -3,7 +3,9 @@ use Rattle.ptflow.proofs.Vectors.ByteSets.{nibbles_ok, looked_up, high_small, hi
 use Rattle.ptflow.proofs.simd.byte_set.by_high_nibble.Goals as goal
 
 pub swizzle : goal.swizzle
-swizzle c = nibbles_ok (λ b. b / 16) high_small c.args.v (high_nibbles c.args.v c.fits-v.0) c.fits-v.0 c.fits-v.1
+swizzle c = let (long, fits) = c.fits-v in
+    nibbles_ok (λ b. b / 16) high_small c.args.v (high_nibbles c.args.v long) long fits
 
 pub returns : goal.returns
-returns c = looked_up (λ b. b / 16) high_small c.args.table c.args.v (high_nibbles c.args.v c.fits-v.0) c.fits-v.0 c.fits-v.1
+returns c = let (long, fits) = c.fits-v in
+    looked_up (λ b. b / 16) high_small c.args.table c.args.v (high_nibbles c.args.v long) long fits

@@ -6,10 +6,11 @@ use Rattle.ptflow.proofs.simd.table.select_half.Goals as goal
 pub returns : goal.returns
 returns c = λ table start lower upper.
     let v = c.args.v in
+    let (long, _) = c.fits-v in
     let bit = c.args.bit in
     let weight = 1 * 2 ^ bit % 256 in
-    let bits = zip2_splat bit_and v 16 weight c.fits-v.0 in
+    let bits = zip2_splat bit_and v 16 weight long in
     sel_maps (λ b. not (eqb (bit_and b weight) 0))
     (entry_of table (start + 2 ^ bit) (2 ^ bit)) (entry_of table start (2 ^ bit)) v
-    (tests_are (λ a b. not (eqb a b)) (λ b. bit_and b weight) v 0 c.fits-v.0 bits) upper lower
+    (tests_are (λ a b. not (eqb a b)) (λ b. bit_and b weight) v 0 long bits) upper lower
     ∙ (λ i. map (λ b. entry_selected table start bit b c.requires i) v)

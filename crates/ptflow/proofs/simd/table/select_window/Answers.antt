@@ -10,9 +10,10 @@ overflow_shr-is_inside c = shifts_fit_splat 8 c.args.v 16 c.args.bits c.requires
 pub returns : goal.returns
 returns c = λ table images.
     let v = c.args.v in
+    let (long, _) = c.fits-v in
     let bits = c.args.bits in
     let index = c.args.index in
-    let indices = zip2_splat (λ a b. a / 2 ^ b) v 16 bits c.fits-v.0 in
+    let indices = zip2_splat (λ a b. a / 2 ^ b) v 16 bits long in
     sel_maps (λ b. eqb (b / 2 ^ bits) index) (entry_of table (2 ^ bits * index) (2 ^ bits)) (λ b. b) v
-    (tests_are eqb (λ b. b / 2 ^ bits) v index c.fits-v.0 indices) images (sym (map-id v))
+    (tests_are eqb (λ b. b / 2 ^ bits) v index long indices) images (sym (map-id v))
     ∙ (λ i. map (λ b. window_entry bits index table b i) v)

@@ -1,19 +1,22 @@
 -- Three calls of `push` add the three slices in order. After the first that fails nothing more is written.
-use Rattle.ptlines.proofs.Common.{List, ℕ, ◌++◌, append_assoc, sym, subst, rules, PushEffect}
+use Rattle.ptlines.proofs.Common.{◌++◌, append_assoc, sym, subst, rules, PushEffect}
 use Rattle.ptlines.proofs.Push.{push_post_trans, push_trans, push_past_failure}
 use Rattle.ptlines.proofs.out.Out.push_line_slow.Goals as goal
 
 pub returns-in_err-push : goal.returns-in_err-push
 returns-in_err-push g c = record {
-  wrote = subst (λ (t : List ℕ). PushEffect c.args.self.now c.push.new.self t) (sym (append_assoc c.args.prefix.now c.args.line.now c.args.terminator.now))
-      (push_past_failure _ _ _ (c.args.line.now ++ c.args.terminator.now) c.in_err-push.ensures.pushed.fault c.push.ensures.pushed.wrote);
+  wrote = subst (λ t. PushEffect c.args.self.now c.push.new.self t)
+      (sym (append_assoc c.args.prefix.now c.args.line.now c.args.terminator.now))
+      (push_past_failure _ _ _ (c.args.line.now ++ c.args.terminator.now) c.in_err-push.ensures.pushed.fault
+      c.push.ensures.pushed.wrote);
   clean = search rules;
   fault = search rules;
 }
 
 pub returns-in_err-push-2 : goal.returns-in_err-push-2
 returns-in_err-push-2 g c =
-    let two = push_trans _ _ _ _ _ c.in_ok-push.ensures.pushed.clean c.push.ensures.pushed.wrote c.push-2.ensures.pushed.wrote in
+    let two =
+    push_trans _ _ _ _ _ c.in_ok-push.ensures.pushed.clean c.push.ensures.pushed.wrote c.push-2.ensures.pushed.wrote in
     record {
       wrote = push_past_failure _ _ _ c.args.terminator.now c.in_err-push-2.ensures.pushed.fault two;
       clean = search rules;
@@ -22,5 +25,6 @@ returns-in_err-push-2 g c =
 
 pub returns : goal.returns
 returns g c =
-    let two = push_trans _ _ _ _ _ c.in_ok-push.ensures.pushed.clean c.push.ensures.pushed.wrote c.push-2.ensures.pushed.wrote in
+    let two =
+    push_trans _ _ _ _ _ c.in_ok-push.ensures.pushed.clean c.push.ensures.pushed.wrote c.push-2.ensures.pushed.wrote in
     push_post_trans _ _ _ _ _ _ c.in_ok-push-2.ensures.pushed.clean two c.push-3.ensures.pushed

@@ -5,7 +5,8 @@ use Rattle.ptlines.proofs.out.Out.push_slow.Goals as goal
 
 pub returns-in_err-write_out_block : goal.returns-in_err-write_out_block
 returns-in_err-write_out_block g c = record {
-  wrote = push_broken c.args.self.now c.write_out_block.new.self c.args.self.now.buffered c.args.bytes.now c.args.bytes.now c.requires refl c.in_err-write_out_block.ensures.err;
+  wrote = push_broken c.args.self.now c.write_out_block.new.self c.args.self.now.buffered c.args.bytes.now
+      c.args.bytes.now c.requires refl c.in_err-write_out_block.ensures.err;
   clean = search rules;
   fault = search rules;
 }
@@ -16,8 +17,10 @@ returns-then-bytes-room g c =
     let clean = ap (λ o. o.write_failed) is_sent in
     let empty = ap (λ o. o.buffered) is_sent in
     record {
-      wrote = push_trans c.args.self.now c.write_out_block.new.self _ [] c.args.bytes.now clean (push_written_out _ _ c.requires is_sent)
-          (push_large _ _ c.args.bytes.now c.write_out-written_out.result clean empty (search (rules, clean, empty)) (search (rules, clean, empty)));
+      wrote = push_trans c.args.self.now c.write_out_block.new.self _ [] c.args.bytes.now clean
+          (push_written_out _ _ c.requires is_sent)
+          (push_large _ _ c.args.bytes.now c.write_out-written_out.result clean empty (search (rules, clean, empty))
+          (search (rules, clean, empty)));
       clean = search rules;
       fault = search rules;
     }

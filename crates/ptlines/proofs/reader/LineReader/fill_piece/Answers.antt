@@ -7,20 +7,23 @@ use Rattle.ptlines.proofs.reader.LineReader.fill_piece.Goals as goal
 
 -- the byte searched for is the reader's terminator
 found : (a b : ℕ) (hay : List ℕ) (r : Option ℕ) → a ≡ b → IsFirstByte (is_byte a) hay r → IsFirstByte (is_byte b) hay r
-found a b hay r is first = subst (λ (x : ℕ). IsFirstByte (is_byte x) hay r) is first
+found a b hay r is first = subst (λ x. IsFirstByte (is_byte x) hay r) is first
 
 pub returns-in_ok-move_to_slot-in-Some-clause-piece_post : goal.returns-in_ok-move_to_slot-in-Some-clause-piece_post
 returns-in_ok-move_to_slot-in-Some-clause-piece_post g c =
-    let moved = c.in_ok-move_to_slot-in-Some.ensures.moves in
-    let more = rw c.if-not-branch.false at c.in_ok-has_more.ensures.refills in
-    line_after_refill c.args.self.now c.has_more.new.self c.consume.new.self c.args.store.now c.move_to_slot.new.store c.args.slot more.0
-    (piece_line c.has_more.new.self c.move_to_slot.new.self c.consume.new.self c.buffered.result.now c.args.store.now c.move_to_slot.new.store c.args.slot c.in-Some.at more.0.fault c.buffered.ensures.buffered
-    (found _ _ c.buffered.result.now (Some c.in-Some.at) c.terminator.ensures c.in-Some.ensures) moved.0 c.consume.ensures.consumed moved.1)
+    let (rest, appended) = c.in_ok-move_to_slot-in-Some.ensures.moves in
+    let (refilled, _) = rw c.if-not-branch.false at c.in_ok-has_more.ensures.refills in
+    line_after_refill _ _ _ _ _ c.args.slot refilled
+    (piece_line _ c.move_to_slot.new.self _ c.buffered.result.now _ _ c.args.slot c.in-Some.at refilled.fault
+    c.buffered.ensures.buffered
+    (found _ _ c.buffered.result.now (Some c.in-Some.at) c.terminator.ensures c.in-Some.ensures)
+    rest c.consume.ensures.consumed appended)
 
 pub returns-in_ok-move_to_slot-in-None-clause-piece_post : goal.returns-in_ok-move_to_slot-in-None-clause-piece_post
 returns-in_ok-move_to_slot-in-None-clause-piece_post g c =
-    let moved = c.in_ok-move_to_slot-in-None.ensures.moves in
-    let more = rw c.if-not-branch.false at c.in_ok-has_more.ensures.refills in
-    partial_after_refill c.args.self.now c.has_more.new.self c.move_to_slot-in-None.new.self c.args.store.now c.move_to_slot-in-None.new.store c.args.slot more.0
-    (piece_partial c.has_more.new.self c.move_to_slot-in-None.new.self c.buffered.result.now c.args.store.now c.move_to_slot-in-None.new.store c.args.slot _ more.0.fault more.1 c.buffered.ensures.buffered
-    (found _ _ c.buffered.result.now None c.terminator.ensures c.in-None.ensures) (ap length c.buffered-count.ensures.buffered) moved.0 moved.1)
+    let (rest, appended) = c.in_ok-move_to_slot-in-None.ensures.moves in
+    let (refilled, some) = rw c.if-not-branch.false at c.in_ok-has_more.ensures.refills in
+    partial_after_refill _ _ _ _ _ c.args.slot refilled
+    (piece_partial _ _ c.buffered.result.now _ _ c.args.slot _ refilled.fault some c.buffered.ensures.buffered
+    (found _ _ c.buffered.result.now None c.terminator.ensures c.in-None.ensures)
+    (ap length c.buffered-count.ensures.buffered) rest appended)

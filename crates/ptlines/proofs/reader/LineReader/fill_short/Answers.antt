@@ -1,6 +1,7 @@
 -- The terminator that was found among the 64 bytes lies before the end of the buffered bytes, so it is the first one of
 -- them. The line before it is copied at once.
-use Rattle.ptlines.proofs.Common.{ℕ, ◌≡◌, ◌+◌, ◌-◌, Some, subst, ◌<◌, ◌≤◌, ◌^◌, length, take, drop, ◌∙◌, ap, arith, take-take, slice_range, IsFirst, Passes, is_byte, Reader, IsSound}
+use Rattle.ptlines.proofs.Common.{◌≡◌, ◌+◌, ◌-◌, Some, subst, ◌<◌, ◌≤◌, ◌^◌, length, take, drop, ◌∙◌, ap, arith}
+use Rattle.ptlines.proofs.Common.{take-take, slice_range, IsFirst, Passes, is_byte, IsSound}
 use Rattle.ptlines.proofs.ReadLine.{fill_short_line}
 use Rattle.ptlines.proofs.Consume.{length_range, sound_shorter}
 use Rattle.ptlines.proofs.reader.LineReader.fill_short.Goals as goal
@@ -8,31 +9,34 @@ use Rattle.ptlines.proofs.reader.LineReader.fill_short.Goals as goal
 pub returns-clause-line : goal.returns-clause-line
 returns-clause-line g c given =
     let r = c.self.inside in
-    let buffered = ap (λ (r : Reader). r.buffered) c.self.view_is in
-    let fits : r.end ≤ length r.block = omega (arith, c.self.invariant.1, c.self.told) in
+    let buffered = ap (λ r. r.buffered) c.self.view_is in
+    let fits : r.end ≤ length r.block = omega (arith, c.self.invariant.within, c.self.told) in
     let high : r.start + c.in-Some.size < r.end = omega (arith, c.if-at-self.false) in
-    let short : c.args.self.now.pulled < 2 ^ 63 = omega (
-      arith,
-      c.self.invariant.3.long (ap (λ (r : Reader). r.fault) c.self.view_is ∙ c.requires.clean),
-      ap
-          (λ (r : Reader). r.pulled) c.self.view_is,
-    ) in
+    let clean = ap (λ r. r.fault) c.self.view_is ∙ c.requires.clean in
+    let short : c.args.self.now.pulled < 2 ^ 63 =
+    omega (arith, c.self.invariant.sound.long clean, ap (λ r. r.pulled) c.self.view_is) in
     let front = take (8256 - r.start) (drop r.start r.block) in
-    let is_front : take (r.end - r.start) front ≡ c.args.self.now.buffered = take-take (r.end - r.start) (8256 - r.start) (drop r.start r.block) (omega (arith, c.self.invariant.1)) ∙ buffered in
-    let first = subst (λ (b : ℕ). IsFirst (Passes (is_byte b) front) 0 64 (Some c.in-Some.size)) (ap (λ (r : Reader). r.terminator) c.self.view_is) c.in-Some.ensures in
-    fill_short_line 64 c.args.self.now _ r.block front r.start r.end c.in-Some.size c.args.store.now c.set_short_line.new.self c.args.slot c.requires.clean short high fits buffered is_front first
-    (λ i. record (c.self.view_is i) { buffered = slice_range r.block (r.start + c.in-Some.size + 1) r.end }) c.set_short_line.ensures
+    let is_front : take (r.end - r.start) front ≡ c.args.self.now.buffered =
+    take-take (r.end - r.start) (8256 - r.start) (drop r.start r.block) (omega (arith, c.self.invariant.within))
+    ∙ buffered in
+    let first = subst (λ b. IsFirst (Passes (is_byte b) front) 0 64 (Some c.in-Some.size))
+    (ap (λ r. r.terminator) c.self.view_is) c.in-Some.ensures in
+    fill_short_line 64 c.args.self.now _ r.block front r.start r.end c.in-Some.size c.args.store.now
+    c.set_short_line.new.self c.args.slot c.requires.clean short high fits buffered is_front first
+    (λ i. record (c.self.view_is i) { buffered = slice_range r.block (r.start + c.in-Some.size + 1) r.end })
+    c.set_short_line.ensures
 
 pub returns-clause-sound : goal.returns-clause-sound
 returns-clause-sound g c =
     let r = c.self.inside in
-    let fits : r.end ≤ length r.block = omega (arith, c.self.invariant.1, c.self.told) in
+    let fits : r.end ≤ length r.block = omega (arith, c.self.invariant.within, c.self.told) in
     let high : r.start + c.in-Some.size < r.end = omega (arith, c.if-at-self.false) in
     let less = length_range r.block (r.start + c.in-Some.size + 1) r.end (omega (arith, high)) fits in
-    sound_shorter _ c.self.invariant.3 (omega (arith, less, length_range r.block r.start r.end c.self.invariant.0 fits))
+    sound_shorter _ c.self.invariant.sound
+    (omega (arith, less, length_range r.block r.start r.end c.self.invariant.order fits))
 
 pub returns-in_default-clause-sound : goal.returns-in_default-clause-sound
-returns-in_default-clause-sound g c = subst IsSound c.self.view_is c.self.invariant.3
+returns-in_default-clause-sound g c = subst IsSound c.self.view_is c.self.invariant.sound
 
 pub returns-then-at-self-clause-sound : goal.returns-then-at-self-clause-sound
-returns-then-at-self-clause-sound g c = subst IsSound c.self.view_is c.self.invariant.3
+returns-then-at-self-clause-sound g c = subst IsSound c.self.view_is c.self.invariant.sound

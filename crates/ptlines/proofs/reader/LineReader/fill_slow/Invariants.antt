@@ -6,7 +6,10 @@ use Rattle.ptlines.specs.ReadLine.{FillPre}
 use Rattle.ptlines.proofs.reader.LineReader.fill_slow.Given as goal
 
 abbrev pub invariant-pieces : goal.invariant-pieces
-invariant-pieces g l = LineSoFar l.fn.self l.self l.fn.store l.store l.slot × FillPre l.self l.store l.slot
+invariant-pieces g l = record {
+  so_far : LineSoFar l.fn.self l.self l.fn.store l.store l.slot;
+  fill_pre : FillPre l.self l.store l.slot;
+}
 
 abbrev pub decreases-pieces : goal.decreases-pieces
 decreases-pieces g l = 2 ^ 63 + length l.self.buffered - l.self.pulled

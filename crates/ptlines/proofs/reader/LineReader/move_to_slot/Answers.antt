@@ -1,4 +1,4 @@
-use Rattle.ptlines.proofs.Common.{List, ℕ, ◌≤◌, length, ◌++◌, ◌∙◌, ap, arith, Reader, line, with_line}
+use Rattle.ptlines.proofs.Common.{◌≤◌, length, ◌++◌, ◌∙◌, ap, arith, line, with_line}
 use Rattle.ptlines.proofs.Consume.{rest_of_range, front_of_range}
 use Rattle.ptlines.proofs.reader.LineReader.move_to_slot.Goals as goal
 
@@ -6,10 +6,14 @@ pub returns-in-Ok-clause-moves : goal.returns-in-Ok-clause-moves
 returns-in-Ok-clause-moves g c =
     let r = c.self.inside in
     let n = c.args.count in
-    let buffered = ap (λ (r : Reader). r.buffered) c.self.view_is in
-    let order = c.self.invariant.0 in
-    let fits : r.end ≤ length r.block = omega (arith, c.self.invariant.1, c.self.told) in (
-      λ i. record (c.self.view_is i) { buffered = rest_of_range r.block r.start r.end n c.args.self.now.buffered order fits buffered c.requires.within i },
-      c.in-Ok.ensures.ok ∙ ap (λ (b : List ℕ). with_line c.args.store.now c.args.slot (line c.args.store.now c.args.slot ++ b))
+    let buffered = ap (λ r. r.buffered) c.self.view_is in
+    let order = c.self.invariant.order in
+    let fits : r.end ≤ length r.block = omega (arith, c.self.invariant.within, c.self.told) in (
+      λ i. record (c.self.view_is i) {
+        buffered = rest_of_range r.block r.start r.end n c.args.self.now.buffered order
+            fits buffered c.requires.within i;
+      },
+      c.in-Ok.ensures.ok
+          ∙ ap (λ b. with_line c.args.store.now c.args.slot (line c.args.store.now c.args.slot ++ b))
           (front_of_range r.block r.start r.end n c.args.self.now.buffered order fits buffered c.requires.within),
     )

@@ -1,38 +1,52 @@
 -- The line of one slot grows by the appended bytes, and so does the total. If memory could not be allocated, the line
 -- is as before.
-use Rattle.ptlines.proofs.Common.{List, ℕ, length, ◌++◌, ◌∙◌, ap, arith, length-append, length-map}
+use Rattle.ptlines.proofs.Common.{◌<◌, ◌^◌, length, ◌++◌, ◌∙◌, ap, arith, length-append, length-map}
 use Rattle.ptlines.specs.Slots.{slot_lines}
-use Rattle.ptlines.proofs.SlotTotals.{total_after_set, total_fits, slot_in_range, line_before, denied_line, store_after_set, line_of}
+use Rattle.ptlines.proofs.SlotTotals.{counted_after_set, total_fits, slot_in_range, line_before, denied_line}
+use Rattle.ptlines.proofs.SlotTotals.{store_after_set, line_of}
 use Rattle.ptlines.proofs.store.Store.append.Goals as goal
 
 pub overflow_add-self : goal.overflow_add-self
 overflow_add-self g c =
     let s = c.self.inside.slots in
-    omega (arith, total_fits (slot_lines s.items) (length c.args.bytes.now) c.self.invariant.2 (omega (arith, s.ok, s.small, length-map s.items line_of)) (omega arith), c.self.invariant.0)
+    let few : length (slot_lines s.items) < 2 ^ 63 = omega (arith, s.ok, s.small, length-map s.items line_of) in
+    omega (
+      arith,
+      total_fits (slot_lines s.items) (length c.args.bytes.now) c.self.invariant.lines few (omega arith),
+      c.self.invariant.total,
+    )
 
 pub invariant_of-self : goal.invariant_of-self
 invariant_of-self g c =
     let s = c.self.inside in
     let had = c.index_mut.result.now in
     let low = slot_in_range s.slots.items c.args.slot c.self.view_is c.requires in
-    total_after_set s.slots.items c.args.slot s.byte_count had low c.index_mut.ensures.value c.self.invariant.0 c.append.new.self c.self.invariant.2 c.self.invariant.3 c.append.ensures.short c.append.ensures.buffer
-    (omega (arith, ap length c.in-Ok.ensures.ok, length-append had.line c.args.bytes.now)) (omega (arith, c.max-self-inside.ensures)) (omega (arith, c.max-self-inside.ensures))
+    counted_after_set s.slots.items c.args.slot had low c.index_mut.ensures.value c.self.invariant
+    c.append.new.self c.append.ensures.short c.append.ensures.buffer
+    (omega (arith, ap length c.in-Ok.ensures.ok, length-append had.line c.args.bytes.now))
+    (omega (arith, c.max-self-inside.ensures)) (omega (arith, c.max-self-inside.ensures))
 
 pub invariant_of-self-in-Err : goal.invariant_of-self-in-Err
 invariant_of-self-in-Err g c =
     let s = c.self.inside in
     let low = slot_in_range s.slots.items c.args.slot c.self.view_is c.requires in
-    total_after_set s.slots.items c.args.slot s.byte_count c.index_mut.result.now low c.index_mut.ensures.value c.self.invariant.0 c.append.new.self c.self.invariant.2 c.self.invariant.3
-    c.append.ensures.short c.append.ensures.buffer (omega (arith, ap (λ t. length (line_of t)) c.in-Err.ensures.err)) c.self.invariant.1 (omega arith)
+    counted_after_set s.slots.items c.args.slot c.index_mut.result.now low c.index_mut.ensures.value c.self.invariant
+    c.append.new.self c.append.ensures.short c.append.ensures.buffer
+    (omega (arith, ap (λ t. length (line_of t)) c.in-Err.ensures.err)) c.self.invariant.below_peak (omega arith)
 
 pub index_mut-requires : goal.index_mut-requires
-index_mut-requires g c = omega (arith, slot_in_range c.self.inside.slots.items c.args.slot c.self.view_is c.requires, c.self.inside.slots.ok)
+index_mut-requires g c =
+    omega (arith, slot_in_range c.self.inside.slots.items c.args.slot c.self.view_is c.requires, c.self.inside.slots.ok)
 
 pub returns-in-Ok-clause-ok : goal.returns-in-Ok-clause-ok
 returns-in-Ok-clause-ok g c =
     let slots = c.self.inside.slots.items in
-    let had = line_before slots c.args.slot c.self.view_is (slot_in_range slots c.args.slot c.self.view_is c.requires) c.index_mut.ensures.value in
-    store_after_set slots c.args.slot c.self.view_is c.append.new.self (c.in-Ok.ensures.ok ∙ ap (λ (l : List ℕ). l ++ c.args.bytes.now) had) (invariant_of-self g c).0 c.max-self-inside.ensures
+    let low = slot_in_range slots c.args.slot c.self.view_is c.requires in
+    let had = line_before slots c.args.slot c.self.view_is low c.index_mut.ensures.value in
+    let bytes = c.in-Ok.ensures.ok ∙ ap (λ l. l ++ c.args.bytes.now) had in
+    store_after_set slots c.args.slot c.self.view_is c.append.new.self bytes
+    (invariant_of-self g c).total c.max-self-inside.ensures
 
 pub returns-in-Err-clause-err : goal.returns-in-Err-clause-err
-returns-in-Err-clause-err g c = denied_line c.self.inside.slots.items c.args.slot c.self.view_is c.index_mut.ensures.value c.in-Err.ensures.err
+returns-in-Err-clause-err g c =
+    denied_line c.self.inside.slots.items c.args.slot c.self.view_is c.index_mut.ensures.value c.in-Err.ensures.err

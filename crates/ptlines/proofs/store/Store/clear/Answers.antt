@@ -1,34 +1,40 @@
 -- The line of the slot is part of the total, so the subtraction does not underflow and leaves the new total.
 use Rattle.ptlines.proofs.Common.{length, ap, arith}
-use Rattle.ptlines.proofs.SlotTotals.{line_le_total, total_after_set, store_after_set, slot_in_range, same_slot, line_of}
+use Rattle.ptlines.proofs.SlotTotals.{line_le_total, counted_after_set, store_after_set, slot_in_range, same_slot}
+use Rattle.ptlines.proofs.SlotTotals.{line_of}
 use Rattle.ptlines.proofs.store.Store.clear.Goals as goal
 
 pub overflow_sub-self : goal.overflow_sub-self
 overflow_sub-self g c =
     let s = c.self.inside in
     let low = slot_in_range s.slots.items c.args.slot c.self.view_is c.requires in
-    omega (arith, line_le_total s.slots.items c.args.slot s.byte_count c.index.result.now low c.index.ensures c.self.invariant.0, c.size-count.ensures.size)
+    let few = line_le_total s.slots.items c.args.slot c.index.result.now low c.index.ensures c.self.invariant in
+    omega (arith, few, c.size-count.ensures.size)
 
 pub invariant_of-self : goal.invariant_of-self
 invariant_of-self g c =
-    let s = c.self.inside in
-    let slots = s.slots.items in
+    let slots = c.self.inside.slots.items in
     let low = slot_in_range slots c.args.slot c.self.view_is c.requires in
     let had = c.index_mut.result.now in
     let there = c.index_mut.ensures.value in
-    let few = line_le_total slots c.args.slot s.byte_count had low there c.self.invariant.0 in
+    let few = line_le_total slots c.args.slot had low there c.self.invariant in
     let same = same_slot slots c.args.slot low c.index.ensures there in
     let none = ap (λ t. length (line_of t)) c.clear.ensures in
-    total_after_set slots c.args.slot s.byte_count had low there c.self.invariant.0 c.clear.new.self c.self.invariant.2 c.self.invariant.3
-    (omega (arith, none)) (omega (arith, ap (λ t. t.buffer_size) c.clear.ensures)) (omega (arith, few, none, c.size-count.ensures.size, ap (λ t. length (line_of t)) same)) (omega (arith, c.self.invariant.1)) (omega arith)
+    counted_after_set slots c.args.slot had low there c.self.invariant c.clear.new.self
+    (omega (arith, none)) (omega (arith, ap (λ t. t.buffer_size) c.clear.ensures))
+    (omega (arith, few, none, c.size-count.ensures.size, ap (λ t. length (line_of t)) same))
+    (omega (arith, c.self.invariant.below_peak)) (omega arith)
 
 pub returns : goal.returns
 returns g c =
-    let k = invariant_of-self g c in
-    store_after_set c.self.inside.slots.items c.args.slot c.self.view_is c.clear.new.self (ap line_of c.clear.ensures) k.0 (omega (arith, k.1))
+    let counted = invariant_of-self g c in
+    store_after_set c.self.inside.slots.items c.args.slot c.self.view_is c.clear.new.self (ap line_of c.clear.ensures)
+    counted.total (omega (arith, counted.below_peak))
 
 pub index-requires : goal.index-requires
-index-requires g c = omega (arith, slot_in_range c.self.inside.slots.items c.args.slot c.self.view_is c.requires, c.self.inside.slots.ok)
+index-requires g c =
+    omega (arith, slot_in_range c.self.inside.slots.items c.args.slot c.self.view_is c.requires, c.self.inside.slots.ok)
 
 pub index_mut-requires : goal.index_mut-requires
-index_mut-requires g c = omega (arith, slot_in_range c.self.inside.slots.items c.args.slot c.self.view_is c.requires, c.self.inside.slots.ok)
+index_mut-requires g c =
+    omega (arith, slot_in_range c.self.inside.slots.items c.args.slot c.self.view_is c.requires, c.self.inside.slots.ok)

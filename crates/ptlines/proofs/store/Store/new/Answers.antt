@@ -5,4 +5,6 @@ use Rattle.ptlines.proofs.store.Store.new.Goals as goal
 
 pub loop-i-preserved : goal.loop-i-preserved
 loop-i-preserved g c =
-    c.in_ok-add.ensures.ok ∙ ap with_new_slot c.loop-i.invariant ∙ ap (λ (l : List (List ℕ)). record { lines = l; peak = 0; denied = false }) (replicate-append-replicate c.loop-i._i 1 [])
+    c.in_ok-add.ensures.ok ∙ ap with_new_slot c.loop-i.invariant
+    ∙ ap (λ (l : List (List ℕ)). record { lines = l; peak = 0; denied = false })
+    (replicate-append-replicate c.loop-i._i 1 [])

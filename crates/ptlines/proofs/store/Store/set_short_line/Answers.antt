@@ -1,31 +1,40 @@
 -- The line of a slot is replaced, so the total changes by the difference of the two lengths. The peak becomes the total
 -- if that is greater.
-use Rattle.ptlines.proofs.Common.{◌≡◌, ◌≤◌, ◌<◌, ◌+◌, ◌-◌, ℕ, List, length, take, get_or, set, ◌∙◌, ap, arith, length-map, length-take-le, LengthsAreBounded, total_bytes}
-use Rattle.ptlines.specs.Slots.{SlotBuffer, slot_lines, AreBuffersBounded}
-use Rattle.ptlines.proofs.SlotTotals.{line_le_total, total_after_set, total_fits, store_after_set, slot_in_range, same_slot, line_of}
+use Rattle.ptlines.proofs.Common.{◌≡◌, ◌≤◌, ◌<◌, ◌+◌, ◌-◌, ◌^◌, ℕ, List, length, take, get_or, set, ◌∙◌, ap, arith}
+use Rattle.ptlines.proofs.Common.{length-map, length-take-le}
+use Rattle.ptlines.specs.Slots.{SlotBuffer, slot_lines, AreCounted}
+use Rattle.ptlines.proofs.SlotTotals.{line_le_total, counted_after_set, total_fits, store_after_set, slot_in_range}
+use Rattle.ptlines.proofs.SlotTotals.{same_slot, line_of}
 use Rattle.ptlines.proofs.store.Store.set_short_line.Goals as goal
 
 -- the total after the slot was set
-put_counted : (slots : List SlotBuffer) (slot byte_count : ℕ) (had : SlotBuffer) → slot < length slots → had ≡ get_or slots slot had → byte_count ≡ total_bytes (slot_lines slots) → LengthsAreBounded (slot_lines slots)
-    → {before : ℕ} → AreBuffersBounded before slots → (was : ℕ) → was ≡ length had.line → (bytes : List ℕ) (n size : ℕ) → n ≤ 64 → size < n → n ≤ length bytes
-    → (new : SlotBuffer) → new ≡ record had { line = take size bytes } → (peak : ℕ) → byte_count - was + size ≤ peak → before ≤ peak
-    → (byte_count - was + size ≡ total_bytes (slot_lines (set slots slot new))) × (byte_count - was + size ≤ peak) × LengthsAreBounded (slot_lines (set slots slot new)) × AreBuffersBounded peak (set slots slot new)
-put_counted slots slot byte_count had low is counts short fit was was_is bytes n size lanes near within new new_is peak less more =
-    let few = line_le_total slots slot byte_count had low is counts in
-    let long : length new.line ≡ size = ap (λ (t : SlotBuffer). length t.line) new_is ∙ length-take-le size bytes (omega (arith, near, within)) in
-    total_after_set slots slot byte_count had low is counts new short fit (omega (arith, long, near, lanes)) (omega (arith, ap (λ (t : SlotBuffer). t.buffer_size) new_is))
-    (omega (arith, few, long, was_is)) less more
+put_counted : (slots : List SlotBuffer) (slot : ℕ) {byte_count before : ℕ} (had : SlotBuffer) → slot < length slots
+    → had ≡ get_or slots slot had → AreCounted byte_count before slots → (was : ℕ) → was ≡ length had.line
+    → (bytes : List ℕ) (size : ℕ) → size < 64 → 64 ≤ length bytes
+    → (new : SlotBuffer) → new ≡ record had { line = take size bytes }
+    → (peak : ℕ) → byte_count - was + size ≤ peak → before ≤ peak
+    → AreCounted (byte_count - was + size) peak (set slots slot new)
+put_counted slots slot had low is counted was was_is bytes size near within new new_is peak less more =
+    let few = line_le_total slots slot had low is counted in
+    let long : length new.line ≡ size =
+    ap (λ t. length t.line) new_is ∙ length-take-le size bytes (omega (arith, near, within)) in
+    counted_after_set slots slot had low is counted new (omega (arith, long, near))
+    (omega (arith, ap (λ t. t.buffer_size) new_is)) (omega (arith, few, long, was_is)) less more
 
 pub overflow_sub-self : goal.overflow_sub-self
 overflow_sub-self g c =
     let s = c.self.inside in
     let low = slot_in_range s.slots.items c.args.slot c.self.view_is c.requires in
-    omega (arith, line_le_total s.slots.items c.args.slot s.byte_count c.index.result.now low c.index.ensures c.self.invariant.0, c.size-was.ensures.size)
+    let few = line_le_total s.slots.items c.args.slot c.index.result.now low c.index.ensures c.self.invariant in
+    omega (arith, few, c.size-was.ensures.size)
 
 pub overflow_add-self : goal.overflow_add-self
 overflow_add-self g c =
     let s = c.self.inside.slots in
-    omega (arith, total_fits (slot_lines s.items) c.args.near.size c.self.invariant.2 (omega (arith, s.ok, s.small, length-map s.items line_of)) (omega (arith, c.args.near.near)), c.self.invariant.0)
+    let few : length (slot_lines s.items) < 2 ^ 63 = omega (arith, s.ok, s.small, length-map s.items line_of) in
+    let fits = total_fits (slot_lines s.items) c.args.near.size c.self.invariant.lines few
+    (omega (arith, c.args.near.near)) in
+    omega (arith, fits, c.self.invariant.total)
 
 -- the new peak is the total, or the old peak
 pub invariant_of-self : goal.invariant_of-self
@@ -33,31 +42,39 @@ invariant_of-self g c =
     let s = c.self.inside in
     let low = slot_in_range s.slots.items c.args.slot c.self.view_is c.requires in
     let same = same_slot s.slots.items c.args.slot low c.index.ensures c.index_mut.ensures.value in
-    put_counted s.slots.items c.args.slot s.byte_count c.index_mut.result.now low c.index_mut.ensures.value c.self.invariant.0 c.self.invariant.2 c.self.invariant.3
+    put_counted s.slots.items c.args.slot c.index_mut.result.now low c.index_mut.ensures.value c.self.invariant
     c.size-was.result (c.size-was.ensures.size ∙ ap (λ t. length (line_of t)) same)
-    c.args.near.front.bytes.now 64 c.args.near.size (omega arith) c.args.near.near c.args.near.front.long c.set_short_line.new.self c.set_short_line.ensures _ (omega arith)
-    (omega (arith, c.self.invariant.1, c.if-self.true))
+    c.args.near.front.bytes.now c.args.near.size c.args.near.near c.args.near.front.long c.set_short_line.new.self
+    c.set_short_line.ensures _ (omega arith)
+    (omega (arith, c.self.invariant.below_peak, c.if-self.true))
 
 pub invariant_of-self-else-self : goal.invariant_of-self-else-self
 invariant_of-self-else-self g c =
     let s = c.self.inside in
     let low = slot_in_range s.slots.items c.args.slot c.self.view_is c.requires in
     let same = same_slot s.slots.items c.args.slot low c.index.ensures c.index_mut.ensures.value in
-    put_counted s.slots.items c.args.slot s.byte_count c.index_mut.result.now low c.index_mut.ensures.value c.self.invariant.0 c.self.invariant.2 c.self.invariant.3
+    put_counted s.slots.items c.args.slot c.index_mut.result.now low c.index_mut.ensures.value c.self.invariant
     c.size-was.result (c.size-was.ensures.size ∙ ap (λ t. length (line_of t)) same)
-    c.args.near.front.bytes.now 64 c.args.near.size (omega arith) c.args.near.near c.args.near.front.long c.set_short_line.new.self c.set_short_line.ensures s.peak (omega (arith, c.if-self.false))
+    c.args.near.front.bytes.now c.args.near.size c.args.near.near c.args.near.front.long c.set_short_line.new.self
+    c.set_short_line.ensures s.peak (omega (arith, c.if-self.false))
     (omega arith)
 
 pub returns-then-self : goal.returns-then-self
 returns-then-self g c =
-    store_after_set c.self.inside.slots.items c.args.slot c.self.view_is c.set_short_line.new.self (ap line_of c.set_short_line.ensures) (invariant_of-self g c).0 (omega (arith, c.self.invariant.1, c.if-self.true))
+    store_after_set c.self.inside.slots.items c.args.slot c.self.view_is c.set_short_line.new.self
+    (ap line_of c.set_short_line.ensures) (invariant_of-self g c).total
+    (omega (arith, c.self.invariant.below_peak, c.if-self.true))
 
 pub returns-else-self : goal.returns-else-self
 returns-else-self g c =
-    store_after_set c.self.inside.slots.items c.args.slot c.self.view_is c.set_short_line.new.self (ap line_of c.set_short_line.ensures) (invariant_of-self-else-self g c).0 (omega (arith, c.self.invariant.1, c.if-self.false))
+    store_after_set c.self.inside.slots.items c.args.slot c.self.view_is c.set_short_line.new.self
+    (ap line_of c.set_short_line.ensures) (invariant_of-self-else-self g c).total
+    (omega (arith, c.self.invariant.below_peak, c.if-self.false))
 
 pub index-requires : goal.index-requires
-index-requires g c = omega (arith, slot_in_range c.self.inside.slots.items c.args.slot c.self.view_is c.requires, c.self.inside.slots.ok)
+index-requires g c =
+    omega (arith, slot_in_range c.self.inside.slots.items c.args.slot c.self.view_is c.requires, c.self.inside.slots.ok)
 
 pub index_mut-requires : goal.index_mut-requires
-index_mut-requires g c = omega (arith, slot_in_range c.self.inside.slots.items c.args.slot c.self.view_is c.requires, c.self.inside.slots.ok)
+index_mut-requires g c =
+    omega (arith, slot_in_range c.self.inside.slots.items c.args.slot c.self.view_is c.requires, c.self.inside.slots.ok)

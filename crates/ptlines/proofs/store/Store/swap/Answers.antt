@@ -7,17 +7,31 @@ use Rattle.ptlines.proofs.store.Store.swap.Goals as goal
 pub invariant_of-self : goal.invariant_of-self
 invariant_of-self g c =
     let s = c.self.inside in
-    rw c.swap.ensures.items (counted_after_swap s.slots.items c.args.a c.args.b (slot_in_range s.slots.items c.args.a c.self.view_is c.requires.a_in) (slot_in_range s.slots.items c.args.b c.self.view_is c.requires.b_in)
-    c.self.invariant.0 c.self.invariant.1 c.self.invariant.2 c.self.invariant.3)
+    rw c.swap.ensures.items (counted_after_swap s.slots.items c.args.a c.args.b
+    (slot_in_range s.slots.items c.args.a c.self.view_is c.requires.a_in)
+    (slot_in_range s.slots.items c.args.b c.self.view_is c.requires.b_in) c.self.invariant)
 
 pub returns : goal.returns
 returns g c =
     let s = c.self.inside in
-    let lines = ap slot_lines c.swap.ensures.items ∙ slot_lines-swap s.slots.items c.args.a c.args.b (slot_in_range s.slots.items c.args.a c.self.view_is c.requires.a_in) (slot_in_range s.slots.items c.args.b c.self.view_is c.requires.b_in) in
-    (λ i. record { lines = lines i; peak = s.peak; denied = s.denied }) ∙ ap (λ (t : Slots). record t { lines = swap t.lines c.args.a c.args.b }) c.self.view_is
+    let lines = ap slot_lines c.swap.ensures.items ∙ slot_lines-swap s.slots.items c.args.a c.args.b
+    (slot_in_range s.slots.items c.args.a c.self.view_is c.requires.a_in)
+    (slot_in_range s.slots.items c.args.b c.self.view_is c.requires.b_in) in
+    (λ i. record { lines = lines i; peak = s.peak; denied = s.denied })
+    ∙ ap (λ (t : Slots). record t { lines = swap t.lines c.args.a c.args.b }) c.self.view_is
 
 pub swap-requires-clause-i_in_bounds : goal.swap-requires-clause-i_in_bounds
-swap-requires-clause-i_in_bounds g c = omega (arith, slot_in_range c.self.inside.slots.items c.args.a c.self.view_is c.requires.a_in, c.self.inside.slots.ok)
+swap-requires-clause-i_in_bounds g c =
+    omega (
+      arith,
+      slot_in_range c.self.inside.slots.items c.args.a c.self.view_is c.requires.a_in,
+      c.self.inside.slots.ok,
+    )
 
 pub swap-requires-clause-j_in_bounds : goal.swap-requires-clause-j_in_bounds
-swap-requires-clause-j_in_bounds g c = omega (arith, slot_in_range c.self.inside.slots.items c.args.b c.self.view_is c.requires.b_in, c.self.inside.slots.ok)
+swap-requires-clause-j_in_bounds g c =
+    omega (
+      arith,
+      slot_in_range c.self.inside.slots.items c.args.b c.self.view_is c.requires.b_in,
+      c.self.inside.slots.ok,
+    )

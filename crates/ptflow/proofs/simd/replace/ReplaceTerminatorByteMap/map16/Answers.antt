@@ -5,7 +5,8 @@ use Rattle.ptflow.proofs.simd.replace.ReplaceTerminatorByteMap.map16.Goals as go
 pub returns : goal.returns
 returns c =
     let v = c.args.v in
+    let (long, _) = c.fits-v in
     let by = c.args.self in
-    sel_maps (λ b. eqb b by.terminator) (λ _. by.delim) (λ b. b) v (mask_right eqb v by.terminator c.fits-v.0)
-    (splat_is_map v 16 by.delim c.fits-v.0)
+    sel_maps (λ b. eqb b by.terminator) (λ _. by.delim) (λ b. b) v (mask_right eqb v by.terminator long)
+    (splat_is_map v 16 by.delim long)
     (sym (map-id v))

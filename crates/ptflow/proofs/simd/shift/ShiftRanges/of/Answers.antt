@@ -8,7 +8,8 @@ loop-index-preserved g c =
       long = simp length-set loop.invariant.long;
       added = λ b byte.
           one_stretch_more loop.ranges c.args.shifts.now loop.index _ b (omega (arith, loop.invariant.long))
-          (loop.invariant.added b byte) (c.of.ensures b byte ∙ ap (λ range. stretch_delta range b) c.stretch.ensures.found);
+          (loop.invariant.added b byte) (c.of.ensures b byte
+          ∙ ap (λ range. stretch_delta range b) c.stretch.ensures.found);
     }
 
 pub returns : goal.returns

@@ -9,6 +9,7 @@ pub returns : goal.returns
 returns c =
     let table = c.args.self.images.now in
     let v = c.args.v in
+    let (_, fits) = c.fits-v in
     let images_in = λ (window : Window). map (image_by_window window table) v in
     elim c.match-self.branch [
       | in-Eighth w ↦
@@ -22,5 +23,5 @@ returns c =
           ∙ ap images_in (sym w.in-Half.is)
       | in-Whole w ↦
           w.result-is ∙ w.select_half.ensures table 0 w.look_up_128-lower.ensures w.look_up_128-in-Whole.ensures
-          ∙ bytes_same _ _ (whole_entry table) v c.fits-v.1 ∙ ap images_in (sym w.in-Whole.is)
+          ∙ bytes_same _ _ (whole_entry table) v fits ∙ ap images_in (sym w.in-Whole.is)
     ]

@@ -1,14 +1,16 @@
 -- At the end of the input the current run is the last one, and its output is pushed. The first slot is cleared.
-use Rattle.ptflow.proofs.Common.{[], ◌∷◌, ap, arith, err_from_is_err_and, uniq_job}
+use Rattle.ptflow.proofs.Common.{[], ◌∷◌, ap, arith, uniq_job}
 use Rattle.ptflow.proofs.Passes.Prefix.{push_failed}
+use Rattle.ptflow.proofs.Passes.StepOutput.{returned_err}
 use Rattle.ptflow.proofs.UniqLemmas.FirstLine.{first_emptied, run_wrote}
 use Rattle.ptflow.proofs.tools.uniq.LineUniqLineFilter.finish.Goals as goal
 
 pub returns-in_err-write_run-clause-pushed : goal.returns-in_err-write_run-clause-pushed
 returns-in_err-write_run-clause-pushed g c = λ was_clean.
-    let e = err_from_is_err_and c.from_residual.result c.from_residual.ensures.1 in
-    push_failed e.1 (run_wrote (uniq_job c.args.self.now.job.now) c.args.run.now.count
-    c.first_line.ensures (ap (λ b. b ∷ []) c.args.self.now.ends) c.write_run.ensures.wrote) c.in_err-write_run.ensures.fault
+    let (_, is_err, _) = returned_err c.from_residual.result c.from_residual.ensures in
+    push_failed is_err (run_wrote (uniq_job c.args.self.now.job.now) c.args.run.now.count
+    c.first_line.ensures (ap (λ b. b ∷ []) c.args.self.now.ends) c.write_run.ensures.wrote)
+    c.in_err-write_run.ensures.fault
 
 pub returns-clause-pushed : goal.returns-clause-pushed
 returns-clause-pushed g c = λ was_clean. record {

@@ -17,7 +17,8 @@ returns-in_err-write_run-clause-halts g c =
     let job = uniq_job c.args.self.now.job.now in
     let next = line c.args.store.now 1 in
     on_err c.from_residual.result (line_halts job (current_run_of c.args.run.now c.args.store.now) next
-    (line_tested job c.args.run.now.count c.is_same_run.ensures c.first_line.ensures c.line.ensures c.if-is_same_run.false)
+    (line_tested job c.args.run.now.count c.is_same_run.ensures c.first_line.ensures c.line.ensures
+    c.if-is_same_run.false)
     (run_wrote job c.args.run.now.count c.first_line-2.ensures
     (ap (λ b. b ∷ []) c.args.self.now.ends) c.write_run.ensures.wrote) c.in_err-write_run.ensures.fault)
 
@@ -25,9 +26,11 @@ pub returns-clause-continues : goal.returns-clause-continues
 returns-clause-continues g c =
     let job = uniq_job c.args.self.now.job.now in
     let next = line c.args.store.now 1 in
-    subst (λ l. RunsWritten job (current_run_of c.args.run.now c.args.store.now) (run_of l 1) (next ∷ []) c.args.out.now c.write_run.new.out)
+    subst (λ l. RunsWritten job (current_run_of c.args.run.now c.args.store.now) (run_of l 1)
+    (next ∷ []) c.args.out.now c.write_run.new.out)
     (sym (swapped_first c.args.store.now (omega (arith, c.requires.room)) c.swap.ensures))
     (line_turns job (current_run_of c.args.run.now c.args.store.now) next
-    (line_tested job c.args.run.now.count c.is_same_run.ensures c.first_line.ensures c.line.ensures c.if-is_same_run.false)
+    (line_tested job c.args.run.now.count c.is_same_run.ensures c.first_line.ensures c.line.ensures
+    c.if-is_same_run.false)
     (run_wrote job c.args.run.now.count c.first_line-2.ensures
     (ap (λ b. b ∷ []) c.args.self.now.ends) c.write_run.ensures.wrote) c.in_ok-write_run.ensures.clean)

@@ -1,5 +1,6 @@
 -- Each iteration reads a line with the key of the run; the first line with another key ends the count.
-use Rattle.ptflow.proofs.Common.{◌≡◌, refl, true, false, Bool, not, take, ◌∙◌, arith, bytes_eq, take_rest, line_if_not_found, uniq_job}
+use Rattle.ptflow.proofs.Common.{◌≡◌, refl, true, false, Bool, not, take, ◌∙◌, arith, bytes_eq, take_rest}
+use Rattle.ptflow.proofs.Common.{line_if_not_found, uniq_job}
 use Rattle.ptflow.proofs.UniqLemmas.BlockRuns.{same_by_keys, count_few, count_more, count_next_key, count_done}
 use Rattle.ptflow.proofs.tools.uniq.block_runs.count_repeats.Goals as goal
 
@@ -34,4 +35,6 @@ lines-preserved c =
     })
 
 pub returns : goal.returns
-returns c = count_done c.lines.invariant.counting (line_if_not_found _ c.lines.rest.now (rw c.args.by.now.ends at c.in_default.ensures))
+returns c =
+    count_done c.lines.invariant.counting
+    (line_if_not_found _ c.lines.rest.now (rw c.args.by.now.ends at c.in_default.ensures))

@@ -1,20 +1,24 @@
 -- The output of a run is pushed in three parts, and a failed push leaves a prefix of the whole.
-use Rattle.ptflow.proofs.Common.{◌≡◌, ◌++◌, true, sym, ◌∙◌, err_from_is_err_and, push_past_failure, has_output}
+use Rattle.ptflow.proofs.Common.{◌≡◌, ◌++◌, true, sym, ◌∙◌, push_past_failure, has_output}
 use Rattle.ptflow.proofs.Passes.Prefix.{push_failed, wrote_then, push_then}
+use Rattle.ptflow.proofs.Passes.StepOutput.{returned_err}
 use Rattle.ptflow.proofs.tools.uniq.block_runs.write_run.Goals as goal
 
 pub returns-in_err-write_count : goal.returns-in_err-write_count
 returns-in_err-write_count g c =
     let shown : has_output c.args.show c.args.count ≡ true = sym c.has_output.ensures ∙ c.if-not-has_output.false in
-    let e = err_from_is_err_and c.from_residual.result c.from_residual.ensures.1 in
-    rw shown (push_failed e.1 (push_past_failure _ _ _ (c.args.bytes.now ++ c.args.terminator.now) c.in_err-write_count.ensures.fault c.write_count.ensures.wrote) c.in_err-write_count.ensures.fault)
+    let (_, is_err, _) = returned_err c.from_residual.result c.from_residual.ensures in
+    rw shown
+    (push_failed is_err (push_past_failure _ _ _ (c.args.bytes.now ++ c.args.terminator.now)
+    c.in_err-write_count.ensures.fault c.write_count.ensures.wrote) c.in_err-write_count.ensures.fault)
 
 pub returns-in_err-push : goal.returns-in_err-push
 returns-in_err-push g c =
     let shown : has_output c.args.show c.args.count ≡ true = sym c.has_output.ensures ∙ c.if-not-has_output.false in
-    let e = err_from_is_err_and c.from_residual-in_err-push.result c.from_residual-in_err-push.ensures.1 in
-    rw shown (push_failed e.1 (wrote_then _ _ _ c.write_count.ensures.wrote
-    (push_past_failure _ _ _ c.args.terminator.now c.in_err-push.ensures.pushed.fault c.push-2.ensures.pushed.wrote)) c.in_err-push.ensures.pushed.fault)
+    let (_, is_err, _) = returned_err c.from_residual-in_err-push.result c.from_residual-in_err-push.ensures in
+    rw shown (push_failed is_err (wrote_then _ _ _ c.write_count.ensures.wrote
+    (push_past_failure _ _ _ c.args.terminator.now c.in_err-push.ensures.pushed.fault c.push-2.ensures.pushed.wrote))
+    c.in_err-push.ensures.pushed.fault)
 
 pub returns : goal.returns
 returns g c =
