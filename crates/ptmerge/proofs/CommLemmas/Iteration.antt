@@ -3,11 +3,11 @@
 -- over.
 use Rattle.ptmerge.proofs.Common.{◌≡◌, ℕ, ◌<◌, false, List, [], ◌∷◌, ◌++◌, Result, Ok, Err, length, refl, sym, ◌∙◌, ap, arith, Comm, Output, PushEffect, Reader, Slots, line, unlines, MergeFault, Side, First}
 use Rattle.ptmerge.proofs.Common.{Second, Sorted, Head, Ended, comm_with, column_entries, tab_if_shown, Lines, MergeTool, entries_by_key, lines_with_key, AdvanceOkPost, AdvancePre, MergeState, MergePost, IsMergeUnread, merge_state, Cmp, Key, both}
-use Rattle.ptmerge.proofs.Common.{with_side, other, HaveEqualKeys, StartErrPost, HasOnlyLeastKey, IsDisorderDecided, IsReaderOf, AreValidCursors, StartOkPost, merge_inputs, AddedSlots, ClearFourSlotsPost, suc, ◌-◌, min, append_assoc, append-nil, bytes_decides}
+use Rattle.ptmerge.proofs.Common.{with_side, other, HaveEqualKeys, StartErrPost, HasOnlyLeastKey, IsDisorderDecided, IsReaderOf, AreValidCursors, StartOkPost, merge_inputs, AddedSlots, ClearFourSlotsPost, suc, ◌-◌, min, append_assoc, append-nil}
 use Rattle.ptmerge.proofs.Common.{tied_itself, entries, Bool}
 use Rattle.ptmerge.proofs.MergeLemmas.Step.{AdvanceErrPost, IsOpenMerge, CursorsInvariant, LoopInvariant, adds_of, next_keeps_slot_count, advance_ok, goes_merging, advance_keeps_slot_count, passing_now, runs_on, slots_of, read_facts_current, iteration_fails}
 use Rattle.ptmerge.proofs.MergeLemmas.Step.{IsLineByLine, current_key_is_above, alone, write_one_line, reads_ahead, measure_less, own_reader_kept, place_is, wrote_and_sent, StoreHoldsTwoLines, holds_two, keeps_two, ends_well, ends_fallen}
-use Rattle.ptmerge.proofs.MergeLemmas.Orders.{IsKeyOrder}
+use Rattle.ptmerge.proofs.MergeLemmas.Orders.{IsKeyOrder, same_bytes}
 use Rattle.ptmerge.proofs.MergeLemmas.Slots.{put_other, put_same}
 use Rattle.ptmerge.proofs.MergeLemmas.Invariant.{LagInvariant, MergeInvariant, line_is_least_run, lag_invariant_starts, write_least_run, all_keys}
 use Rattle.ptmerge.proofs.MergeLemmas.Exits.{at_current_line, state_by_side}
@@ -63,13 +63,13 @@ module _ (job : Comm) (cmp : Cmp) (key : Side → Key) where
 
   -- the entries of one line of one input alone, if the key is the line
   entries_alone : (s : Side) (x : List ℕ) → key s x ≡ x → entries_by_key (comm_with job cmp key) all_keys (alone s x) ≡ column_entries (hidden_of job s) (tabs_of job s) 1 x
-  entries_alone First x whole_line_keys = rw (whole_line_keys, (bytes_decides x x).1 refl, append-nil) (only_first job x 1)
-  entries_alone Second x whole_line_keys = simp (whole_line_keys, (bytes_decides x x).1 refl, append-nil) (only_second job x 1)
+  entries_alone First x whole_line_keys = rw (whole_line_keys, same_bytes (refl {a = x}), append-nil) (only_first job x 1)
+  entries_alone Second x whole_line_keys = simp (whole_line_keys, same_bytes (refl {a = x}), append-nil) (only_second job x 1)
 
   -- the entries of one line of both inputs
   entries_of_pair : IsKeyOrder cmp → (x y : List ℕ) → key First x ≡ x → key Second y ≡ key First x
       → entries_by_key (comm_with job cmp key) all_keys (both (x ∷ []) (y ∷ [])) ≡ column_entries job.hide3 (tab_if_shown job.hide1 ++ tab_if_shown job.hide2) 1 x
-  entries_of_pair o x y whole_line_keys same = simp (same ∙ whole_line_keys, whole_line_keys, tied_itself o.total x, (bytes_decides x x).1 refl, append-nil) (one_common_entry job x)
+  entries_of_pair o x y whole_line_keys same = simp (same ∙ whole_line_keys, whole_line_keys, tied_itself o.total x, same_bytes (refl {a = x}), append-nil) (one_common_entry job x)
 
 -- ---- the loop invariant
 
@@ -106,12 +106,12 @@ module _ (job : Comm) {cmp : Cmp} {key : Side → Key} {old : MergeState} (w : I
   pub starts : ((side : Side) (x : List ℕ) → key side x ≡ x) → {first second : Reader} {store : Slots} {one two : Sorted}
       → StartOkPost key cmp (both one two) (record { reader = old.reader; store = old.store }) (merge_inputs first second store)
       → AreValidCursors key one two store → IsReaderOf one first × IsReaderOf two second → IterationInvariant job cmp key old (merge_state first second old.out store) one two
-  starts whole_line_keys {first} {second} {store} {one} {two} h valid_cursors own_reader = record {
+  starts whole_line_keys {first} {second} {store} {one} {two} h valid_cursors (reader1, reader2) = record {
     opened = w;
     whole_line_keys = whole_line_keys;
     loop_invariant = start_ok w (merge_inputs first second store) (both one two) valid_cursors.first h;
     valid_cursors = valid_cursors;
-    own_reader = elim [ First ↦ own_reader.0 | Second ↦ own_reader.1 ];
+    own_reader = elim [ First ↦ reader1 | Second ↦ reader2 ];
     clean = w.writable;
   }
 
@@ -146,8 +146,8 @@ module _ {job : Comm} {cmp : Cmp} {key : Side → Key} {old now : MergeState} {o
       wrote_line : MergeInvariant tool b (with_side s (ls s) p) old.out new × LagInvariant tool b (with_side s (ls s) p) old.out new
       wrote_line =
           let h = at_current_line step.status_is (sides s) in
-          let a = current_key_is_above _ w.o _ _ _ _ _ _ _ _ _ step.before (sides (other s)).status_is in
-          rw h.all (write_one_line _ w.o (is_line_by_line job cmp key) s (head s) _ _ _ _ _ clean merge_invariant h.bound a.0 a.1
+          let (above, under) = current_key_is_above _ w.o _ _ _ _ _ _ _ _ _ step.before (sides (other s)).status_is in
+          rw h.all (write_one_line _ w.o (is_line_by_line job cmp key) s (head s) _ _ _ _ _ clean merge_invariant h.bound above under
           (rw (entries_alone job cmp key s (head s) (whole_line_keys s (head s))) (rw (ends, led) at pushed)))
 
       pub alone_continues : {one2 two2 : Sorted} {reader : Reader} {after : Slots} → AdvanceOkPost key cmp s one two one2 two2 (now.reader s) reader now.store after new
@@ -155,7 +155,7 @@ module _ {job : Comm} {cmp : Cmp} {key : Side → Key} {old now : MergeState} {o
       alone_continues {one2} {two2} {reader} h = record {
         opened = w;
         whole_line_keys = whole_line_keys;
-        loop_invariant = rw (← place_is s one two one2 two2 h.continues.others) (runs_on w stood_at s step.status_is h.came (keeps_two w stood_at s step.status_is h.came keeps) wrote_line.0);
+        loop_invariant = rw (← place_is s one two one2 two2 h.continues.others) (runs_on w stood_at s step.status_is h.came (keeps_two w stood_at s step.status_is h.came keeps) (let (m, _) = wrote_line in m));
         valid_cursors = h.continues.valid_cursors;
         own_reader = own_reader_kept s one two one2 two2 now.reader reader h.continues.others h.continues.own_reader own_reader;
         clean = h.continues.clean;
@@ -208,15 +208,16 @@ module _ {job : Comm} {cmp : Cmp} {key : Side → Key} {old now : MergeState} {o
       module _ {one2 two2 : Sorted} {reader : Reader} {after : Slots} (h : AdvanceOkPost key cmp First one two one2 two2 (now.reader First) reader now.store after mid)
           {new : Output} (written_out : PushEffect mid new []) where
         wrote_line_out : MergeInvariant tool b both_written old.out new
-        wrote_line_out = (wrote_both (wrote_and_sent _ _ _ _ h.continues.clean wrote_pair written_out)).0
+        wrote_line_out = let (m, _) = wrote_both (wrote_and_sent _ _ _ _ h.continues.clean wrote_pair written_out) in m
 
         pub second_fails : {reader2 : Reader} {last : Slots} {fault : MergeFault} {r : Result (Unit {0}) MergeFault} → r ≡ Err fault
             → AdvanceErrPost Second two2 (now.reader Second) reader2 after last new fault → ExitPost tool old (state_by_side (both reader reader2) new last) r
         second_fails {fault = fault} is k =
             let g = advance_ok w stood_at First step.first h.came w.fits keeps in
             let m = goes_merging w stood_at First step.first h.came wrote_line_out in
+            let (before, _) = wrote_both wrote_pair in
             rw is (exit_post (advance_keeps_slot_count (key Second) cmp Second two2 two2 _ _ _ _ _ fault k ∙ next_keeps_slot_count _ _ _ _ _ _ _ _ h.came)
-            (iteration_fails w g Second step.second (m, lag_invariant_starts _ _ _ _ _ _ h.continues.clean (wrote_both wrote_pair).0.wrote written_out) refl (read_facts_current w g First) (rw h.continues.others at k)))
+            (iteration_fails w g Second step.second (m, lag_invariant_starts _ _ _ _ _ _ h.continues.clean before.wrote written_out) refl (read_facts_current w g First) (rw h.continues.others at k)))
 
         pub pair_continues : {one3 two3 : Sorted} {reader2 : Reader} {last : Slots} → AdvanceOkPost key cmp Second one2 two2 one3 two3 (now.reader Second) reader2 after last new
             → IterationInvariant job cmp key old (state_by_side (both reader reader2) new last) one3 two3

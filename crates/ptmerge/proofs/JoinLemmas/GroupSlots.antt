@@ -4,11 +4,11 @@
 use Rattle.ptmerge.proofs.Common.{◌≡◌, ⊎_elim, inl, inr, ℕ, ◌+◌, ◌-◌, ◌≤◌, ◌<◌, suc, true, false, length-drop, List, [], ◌∷◌, ◌++◌, length, map, take, drop, get_or, set, max, refl, sym, ap, ◌∙◌}
 use Rattle.ptmerge.proofs.Common.{subst, arith, ◌*◌, cond, Option, append_assoc, length-append, append-nil, length-set, drop_more, get_or-drop, drop-set-add, take_more, length_push, drop-append-le}
 use Rattle.ptmerge.proofs.Common.{drop-set-lt, set_at, take_at, bytes_eq, sum_by_push, sum_by-append, sum_by-cons, Slots, line, total_bytes, with_line, with_denied, unlines, max_length, total_bytes_set, Join}
-use Rattle.ptmerge.proofs.Common.{ClearGroupPost, EnsureSlotPost, CopyToGroupErrPost, group, CopyToGroupPost, entry, join_fields, pair_entries, max_over_keys, max_group_bytes, max_group_lines, Lines, lines_with_key, bytes_decides, Reader, Side}
+use Rattle.ptmerge.proofs.Common.{ClearGroupPost, EnsureSlotPost, CopyToGroupErrPost, group, CopyToGroupPost, entry, join_fields, pair_entries, max_over_keys, max_group_bytes, max_group_lines, Lines, lines_with_key, Reader, Side}
 use Rattle.ptmerge.proofs.Common.{First, Second, Sorted, Cmp, Key, HasSlots, with_side}
 use Rattle.ptmerge.proofs.MergeLemmas.Slots.{line_other, HasLines, StoreOfLines, has_lines_total, set_line, put_each, put_same}
 use Rattle.std.proofs.Math.ListN.{get_or-append}
-use Rattle.ptmerge.proofs.MergeLemmas.Orders.{EachKey}
+use Rattle.ptmerge.proofs.MergeLemmas.Orders.{EachKey, same_bytes}
 use Rattle.ptmerge.proofs.MergeLemmas.Exits.{SideAfterNext}
 use Rattle.ptmerge.proofs.MergeLemmas.Step.{own_slots, slot_low}
 
@@ -109,7 +109,7 @@ module _ (m : Lines → ℕ) (laws : IsLineMeasure m) (key : Key) where
   -- lines of one key are at most all lines with this key
   group_measure_max : (k : List ℕ) (p g c : Lines) → EachKey (λ x. x ≡ k) key g → m g ≤ m (lines_with_key key (p ++ (g ++ c)) k)
   group_measure_max k [] [] c e = omega (arith, laws.none)
-  group_measure_max k [] (x ∷ g) c e = rw ((bytes_decides (key x) k).1 e.0) (omega (arith, laws.more x g, laws.more x (lines_with_key key (g ++ c) k), group_measure_max k [] g c e.1))
+  group_measure_max k [] (x ∷ g) c (here, more) = rw (same_bytes here) (omega (arith, laws.more x g, laws.more x (lines_with_key key (g ++ c) k), group_measure_max k [] g c more))
   group_measure_max k (x ∷ p) g c e =
       let ih = group_measure_max k p g c e in
       let ls : Lines = lines_with_key key (p ++ (g ++ c)) k in
@@ -190,12 +190,23 @@ abbrev pub AllSlots : (Side → Sorted) → Type 0
 AllSlots cursor = (side : Side) → HasSlots side (cursor side)
 
 -- the slots of an input are among the first four
-pub low_slot : (s : Side) (cursor : Sorted) → HasSlots s cursor → (cursor.current_slot < 4) × (cursor.previous_slot < 4)
-low_slot s cursor h = omega (arith, own_slots s cursor h, slot_low s)
+pub record AreLow (cursor : Sorted) : Type 0 where
+  pub current : cursor.current_slot < 4
+  pub previous : cursor.previous_slot < 4
+
+pub low_slot : (s : Side) (cursor : Sorted) → HasSlots s cursor → AreLow cursor
+low_slot s cursor h =
+    let own = own_slots s cursor h in
+    record { current = omega (arith, own, slot_low s); previous = omega (arith, own, slot_low s) }
+
+-- the list `now` continues the list `was`
+pub record Extends (was now : Lines) : Type 0 where
+  pub more : Lines
+  pub is : now ≡ was ++ more
 
 -- the next line of an input replaces its previous line
 pub group_store_line : {most : GroupBounds} {before store after : Slots} {ls now : Side → Lines} {g : Lines} (s : Side) (cursor : Sorted) → HasSlots s cursor → (x : List ℕ) → GroupStore most before store ls g
-    → ((side : Side) → max_length (ls side) ≤ max_length (now side)) → length x ≤ max_length (now s) → (more : Lines) × (now Second ≡ ls Second ++ more) → after ≡ with_line store cursor.previous_slot x
+    → ((side : Side) → max_length (ls side) ≤ max_length (now side)) → length x ≤ max_length (now s) → Extends (ls Second) (now Second) → after ≡ with_line store cursor.previous_slot x
     → GroupStore most before after now g
 group_store_line {store = store} {after} {ls} {now} {g} s cursor slots x k up fit continues_key is =
     let inside = set_line s cursor store.lines (λ side. max_length (ls side)) (λ side. max_length (now side)) (total_bytes g) x slots k.lines up fit in
@@ -203,11 +214,11 @@ group_store_line {store = store} {after} {ls} {now} {g} s cursor slots x k up fi
     let size = length-set store.lines cursor.previous_slot x in
     rw is (record {
       tail = k.tail;
-      split = drop-set-lt 4 store.lines cursor.previous_slot x (low_slot s cursor slots).1 ∙ k.split;
+      split = drop-set-lt 4 store.lines cursor.previous_slot x (low_slot s cursor slots).previous ∙ k.split;
       empty = k.empty;
       lines = inside;
       bounds = λ all more e.
-          let bounds = k.bounds all (continues_key.0 ++ more) (e ∙ ap (λ (l : Lines). l ++ more) continues_key.1 ∙ append_assoc (ls Second) continues_key.0 more) in
+          let bounds = k.bounds all (continues_key.more ++ more) (e ∙ ap (λ (l : Lines). l ++ more) continues_key.is ∙ append_assoc (ls Second) continues_key.more more) in
           omega (arith, bounds, up First, up Second, sum, size);
       least = omega (arith, k.least, size);
       four = omega (arith, k.four, size);
@@ -215,9 +226,9 @@ group_store_line {store = store} {after} {ls} {now} {g} s cursor slots x k up fi
     })
 
 -- the lines that an input continues with, after one input advanced
-pub put_more : (s : Side) (ls : Side → Lines) (now more : Lines) → now ≡ ls s ++ more → (m : Lines) × (with_side s now ls Second ≡ ls Second ++ m)
-put_more First ls now more e = ([], sym (append-nil (ls Second)))
-put_more Second ls now more e = (more, e)
+pub put_more : (s : Side) (ls : Side → Lines) (now more : Lines) → now ≡ ls s ++ more → Extends (ls Second) (with_side s now ls Second)
+put_more First ls now more e = record { more = []; is = sym (append-nil (ls Second)) }
+put_more Second ls now more e = record { more = more; is = e }
 
 -- an input advances
 pub group_store_next : {most : GroupBounds} {own : Key} {before store after : Slots} {ls : Side → Lines} {g : Lines} {cmp : Cmp} {end : ℕ} {old new : Reader} {next : Sorted}
@@ -258,7 +269,7 @@ module _ {most : GroupBounds} {before store : Slots} {ls : Side → Lines} {g : 
             bounds = λ all more e.
                 let within : InGroup most (g ++ y ∷ []) all = rw e (largest more) in
                 let all_lines = has_lines_total (set made.lines to y) (λ side. max_length (ls side)) (total_bytes (g ++ y ∷ [])) inside in
-                omega (arith, within, at, k.bounds all more e, w.peak, w.slots, all_lines.1, size, length_push g y);
+                omega (arith, within, at, k.bounds all more e, w.peak, w.slots, all_lines.most, size, length_push g y);
             least = omega (arith, k.least, w.slots, size);
             four = four;
             denied = w.denied ∙ k.denied;
@@ -301,7 +312,7 @@ module _ {most : GroupBounds} {before store : Slots} {ls : Side → Lines} {g : 
         split = refl;
         empty = none;
         lines = same_lines store.lines after.lines (λ side. max_length (ls side)) (total_bytes g) 0 k.lines four (λ i low. c.others i (inl low)) none;
-        bounds = λ all more e. omega (arith, c.peak, c.slots, k.bounds all more e, (has_lines_total store.lines (λ side. max_length (ls side)) (total_bytes g) k.lines).1);
+        bounds = λ all more e. omega (arith, c.peak, c.slots, k.bounds all more e, (has_lines_total store.lines (λ side. max_length (ls side)) (total_bytes g) k.lines).most);
         least = omega (arith, k.least, c.slots);
         four = four;
         denied = c.denied ∙ k.denied;

@@ -2,17 +2,17 @@
 -- merge. An iteration there writes one unpaired line, opens a group or ends the loop. The remaining work, three times
 -- the reads that are left plus the rank of the phase, decreases in each iteration.
 use Rattle.ptmerge.proofs.Common.{NextOkPost, ◌≡◌, ℕ, Bool, true, false, cond, List, [], ◌∷◌, ◌++◌, map, refl, ap, sym, ◌∙◌, ◌+◌, ◌*◌, ◌≤◌, ◌<◌, Result, Ok, Err, length, subst, arith, append-nil}
-use Rattle.ptmerge.proofs.Common.{flat_map-append, bytes_decides, Join, Side, First, Second, unpaired_entries1, unpaired_entries2, unpaired_entry, entry, join_fields, join_with, join_entries, join_key, pair_entries, Lines, entries_by_key, Cmp}
+use Rattle.ptmerge.proofs.Common.{flat_map-append, Join, Side, First, Second, unpaired_entries1, unpaired_entries2, unpaired_entry, entry, join_fields, join_with, join_entries, join_key, pair_entries, Lines, entries_by_key, Cmp}
 use Rattle.ptmerge.proofs.Common.{Key, Output, PushEffect, Reader, Slots, line, unlines, MergeFault, Sorted, Head, Ended, AddedAtLeast, IsReadyToContinue, AdvanceOkPost, MergeState, MergePost, IsMergeUnread, merge_state, HasSlots, both, with_side}
 use Rattle.ptmerge.proofs.Common.{HaveEqualKeys, StartErrPost, HasOnlyLeastKey, IsDisorderDecided, IsReaderOf, AreValidCursors, StartOkPost, merge_inputs, ClearFourSlotsPost, ◌⊎◌, MergeRunPre, JoinStepPre, AdvancePre, push_nothing, other, if◌then◌else◌, max_group_bytes, max_group_lines}
 use Rattle.ptmerge.proofs.MergeLemmas.Step.{open_merge, slots_of, wrote_as, IsLineByLine, alone, current_key_is_above, IsOpenMerge as OpenMerge, write_one_line, IsAbove, reads_ahead, measure_less, own_reader_kept, place_is, LoopInvariant, CursorsInvariant}
 use Rattle.ptmerge.proofs.MergeLemmas.Step.{AdvanceErrPost, advance_keeps_slot_count, iteration_fails, read_facts_current, runs_on, n, ends_well, ends_fallen}
 use Rattle.std.specs.List.{flat_map}
-use Rattle.ptmerge.proofs.JoinLemmas.GroupInvariant.{IsPairTool, head_of, JoinCall, state_after_read, GroupState, store_between_groups}
+use Rattle.ptmerge.proofs.JoinLemmas.GroupInvariant.{IsPairTool, IsAtKey, head_of, JoinCall, state_after_read, GroupState, store_between_groups}
 use Rattle.ptmerge.proofs.MergeLemmas.Invariant.{all_keys, AtLeast, LagInvariant, MergeInvariant, Bound}
 use Rattle.ptmerge.specs.declared.tools.join.JoinPhase.{JoinPhase}
 use Rattle.ptmerge.proofs.JoinLemmas.GroupSlots.{GroupBounds, end_within, pair_of, GroupStore, group_store_next, group_store_starts}
-use Rattle.ptmerge.proofs.MergeLemmas.Orders.{IsKeyOrder, self_at_most}
+use Rattle.ptmerge.proofs.MergeLemmas.Orders.{IsKeyOrder, same_bytes, self_at_most}
 use Rattle.ptmerge.proofs.MergeLemmas.Slots.{put_other, put_same}
 use Rattle.ptmerge.proofs.MergeLemmas.Start.{start_fault, start_ok, start_unread, start_slots}
 use Rattle.ptmerge.proofs.MergeLemmas.Exits.{at_current_line}
@@ -64,8 +64,8 @@ module _ (job : Join) (cmp : Cmp) (key : Side → Key) where
 
   -- the entries of one unpaired line of one input
   pub entries_alone : (s : Side) (x : List ℕ) → key s x ≡ join_key job s x → entries_by_key (join_with job cmp key) all_keys (alone s x) ≡ unpaired_entry job s x
-  entries_alone First x is = rw ((bytes_decides (key First x) (key First x)).1 refl) (append-nil (unpaired_entries1 job (key First x) (x ∷ [])) ∙ ap (λ (k : List ℕ). unpaired_entries1 job k (x ∷ [])) is)
-  entries_alone Second x is = rw ((bytes_decides (key Second x) (key Second x)).1 refl) (append-nil (unpaired_entries2 job (key Second x) (x ∷ [])) ∙ ap (λ (k : List ℕ). unpaired_entries2 job k (x ∷ [])) is)
+  entries_alone First x is = rw (same_bytes (refl {a = key First x})) (append-nil (unpaired_entries1 job (key First x) (x ∷ [])) ∙ ap (λ (k : List ℕ). unpaired_entries1 job k (x ∷ [])) is)
+  entries_alone Second x is = rw (same_bytes (refl {a = key Second x})) (append-nil (unpaired_entries2 job (key Second x) (x ∷ [])) ∙ ap (λ (k : List ℕ). unpaired_entries2 job k (x ∷ [])) is)
 
 -- ---- the phases
 
@@ -84,7 +84,7 @@ pub record ReadGroup (call : JoinCall) (now : MergeState) (cursor : Side → Sor
   pub kept : Lines
   pub q : GroupState call now cursor end k (both [] g) kept
   pub copied : kept ≡ cond call.keeps_groups g []
-  pub heads : (side : Side) → ((cursor side).status ≡ Head) × (call.key side (head_of now cursor side) ≡ k)
+  pub heads : (side : Side) → IsAtKey call now cursor k side
 
 -- no line of the group is copied, and `last`, the previous line of the second input, stands for all of them: it is the
 -- only one, or no pairs are written
@@ -106,7 +106,7 @@ pub record WritePairs (call : JoinCall) (now : MergeState) (cursor : Side → So
   pub lines_in : IsGroupIn call k (line now.store (cursor Second).previous_slot) kept (g Second)
   pub some : 0 < length (g Second)
   pub above : IsAbove call.cmp (call.key Second) k (q.d Second)
-  pub head : ((cursor First).status ≡ Head) × (call.key First (head_of now cursor First) ≡ k)
+  pub head : IsAtKey call now cursor k First
 
 -- the invariant in each phase
 abbrev pub PhaseInvariant : JoinCall → JoinPhase → MergeState → (Side → Sorted) → ℕ → Type 0
@@ -123,6 +123,11 @@ rank_few phases.BetweenGroups = omega arith
 rank_few p = omega arith
 
 -- ---- an iteration
+
+-- the slots of the group exist, and all slots that existed before
+pub record GroupSlotsExist (old now : Slots) (end : ℕ) : Type 0 where
+  pub end_in : (4 ≤ end) × (end ≤ length now.lines)
+  pub least : length old.lines ≤ length now.lines
 
 -- the conditions at the start
 pub record IsOpenMerge (job : Join) (cmp : Cmp) (key : Side → Key) (old : MergeState) : Type 0 where
@@ -164,13 +169,13 @@ module _ {K : Type 0} (order : K → Cmp) (key_of : K → Side → Key) {a b : K
 module _ {job : Join} {cmp : Cmp} {key : Side → Key} {old : MergeState} (a : IsOpenMerge job cmp key old) where
   pub begins : {first second : Reader} {store : Slots} {one two : Sorted} → StartOkPost key cmp (both one two) (record { reader = old.reader; store = old.store }) (merge_inputs first second store)
       → AreValidCursors key one two store → IsReaderOf one first × IsReaderOf two second → IterationInvariant job cmp key old phases.BetweenGroups (merge_state first second old.out store) one two 4
-  begins {first} {second} {store} {one} {two} starts valid_cursors own_reader =
+  begins {first} {second} {store} {one} {two} starts valid_cursors (reader1, reader2) =
       let r = start_ok a.w (merge_inputs first second store) (both one two) valid_cursors.first starts in
       record {
         opened = a;
         phased = (record { ls = r.ls; p = r.p; b = r.b; sides = r.sides; merge_invariant = r.merge_invariant; keeps = group_store_starts r.keeps }, refl);
         valid_cursors = valid_cursors;
-        own_reader = elim [ First ↦ own_reader.0 | Second ↦ own_reader.1 ];
+        own_reader = elim [ First ↦ reader1 | Second ↦ reader2 ];
         clean = a.w.writable;
       }
 
@@ -188,21 +193,20 @@ module _ {job : Join} {cmp : Cmp} {key : Side → Key} {old : MergeState} {phase
   pub slots : (side : Side) → HasSlots side (both one two side)
   slots = slots_of one two now.store t.valid_cursors
 
-  -- the slots of the group exist, and all slots that existed before
-  bounds : (p : JoinPhase) → PhaseInvariant (join_call_of t.opened) p now (both one two) end → ((4 ≤ end) × (end ≤ length now.store.lines)) × (length old.store.lines ≤ length now.store.lines)
-  bounds phases.BetweenGroups r = ((omega (arith, r.1), omega (arith, r.1, r.0.keeps.four)), r.0.keeps.least)
-  bounds phases.ReadGroup r = ((omega (arith, r.q.at), end_within r.q.keeps r.q.at), r.q.keeps.least)
-  bounds phases.WritePairs r = ((omega (arith, r.q.at), end_within r.q.keeps r.q.at), r.q.keeps.least)
+  bounds : (p : JoinPhase) → PhaseInvariant (join_call_of t.opened) p now (both one two) end → GroupSlotsExist old.store now.store end
+  bounds phases.BetweenGroups (r, at) = record { end_in = omega (arith, at, r.keeps.four); least = r.keeps.least }
+  bounds phases.ReadGroup r = record { end_in = (omega (arith, r.q.at), end_within r.q.keeps r.q.at); least = r.q.keeps.least }
+  bounds phases.WritePairs r = record { end_in = (omega (arith, r.q.at), end_within r.q.keeps r.q.at); least = r.q.keeps.least }
 
   pub end_in : (4 ≤ end) × (end ≤ length now.store.lines)
-  end_in = (bounds phase t.phased).0
+  end_in = (bounds phase t.phased).end_in
 
   pub exit_post : {new : MergeState} {fault : Result (Unit {0}) MergeFault} {r : Result (Unit {0}) MergeFault} → r ≡ fault → length now.store.lines ≤ length new.store.lines
       → MergePost (join_with job cmp key) old new fault → ExitPost job cmp key old new r
   exit_post is more merged = record {
     merged = rw is merged;
     unread_without_slots = λ few. absurd (omega (arith, few, more, t.valid_cursors.slots));
-    slots = record { least = omega (arith, more, (bounds phase t.phased).1); all = λ allowed. omega (arith, more, t.valid_cursors.slots) };
+    slots = record { least = omega (arith, more, (bounds phase t.phased).least); all = λ allowed. omega (arith, more, t.valid_cursors.slots) };
   }
 
   pub iteration_continues : {next : JoinPhase} (s : Side) {one2 two2 : Sorted} {reader : Reader} {after : Slots} {new : Output} {to : ℕ} → IsReadyToContinue key s one two one2 two2 reader after new
@@ -234,7 +238,10 @@ module _ {job : Join} {cmp : Cmp} {key : Side → Key} {old : MergeState} {phase
     between = rw is at t.phased
 
     r : BetweenGroups (join_call_of t.opened) now (both one two)
-    r = between.0
+    r = let (here, _) = between in here
+
+    no_copies : end ≡ 4
+    no_copies = let (_, four) = between in four
 
     stood_at : CursorsInvariant (join_with job cmp key) old now.reader (both one two) now.store r.ls r.p r.b
     stood_at = record { sides = r.sides; holds = store_between_groups (join_call_of t.opened) r.keeps slots; slots = slots }
@@ -246,15 +253,16 @@ module _ {job : Join} {cmp : Cmp} {key : Side → Key} {old : MergeState} {phase
       wrote_unpaired =
           let x = head_of now (both one two) s in
           let h = at_current_line step.status_is (r.sides s) in
-          let a = current_key_is_above cmp o _ _ _ _ _ _ _ _ _ step.before (r.sides (other s)).status_is in
-          rw h.all (write_one_line _ o (is_line_by_line job cmp key) s x r.b r.p _ _ _ t.clean r.merge_invariant h.bound a.0 a.1
+          let (above, under) = current_key_is_above cmp o _ _ _ _ _ _ _ _ _ step.before (r.sides (other s)).status_is in
+          rw h.all (write_one_line _ o (is_line_by_line job cmp key) s x r.b r.p _ _ _ t.clean r.merge_invariant h.bound above under
           (wrote_as _ _ _ _ _ _ (ends ∙ t.opened.w.terminator First) (entries_alone job cmp key s x (t.opened.keys s x)) pushed))
 
       pub alone_continues : {one2 two2 : Sorted} {reader : Reader} {after : Slots} → AdvanceOkPost key cmp s one two one2 two2 (now.reader s) reader now.store after new
           → IterationInvariant job cmp key old phase (state_after_read now s reader new after) one2 two2 end
       alone_continues h =
           let keeps = group_store_next s (both one two s) (slots s) r.keeps (n t.opened.w stood_at s step.status_is h.came) in
-          iteration_continues {next = phase} s h.continues (rw is (runs_on t.opened.w stood_at s step.status_is h.came keeps wrote_unpaired.0, between.1))
+          let (m, _) = wrote_unpaired in
+          iteration_continues {next = phase} s h.continues (rw is (runs_on t.opened.w stood_at s step.status_is h.came keeps m, no_copies))
 
       pub alone_fails : {reader : Reader} {after : Slots} {fault : MergeFault} {r : Result (Unit {0}) MergeFault} → r ≡ Err fault
           → AdvanceErrPost s (both one two s) (now.reader s) reader now.store after new fault → ExitPost job cmp key old (state_after_read now s reader new after) r
@@ -289,9 +297,9 @@ module _ {job : Join} {cmp : Cmp} {key : Side → Key} {old : MergeState} {phase
               };
               keeps = r.keeps;
               wrote = rw ((join_pairs job cmp key).none k []) (push_nothing now.out);
-              at = between.1;
+              at = no_copies;
             };
-            heads = elim [ First ↦ (step.first, refl) | Second ↦ (step.second, sym step.same) ];
+            heads = elim [ First ↦ record { head = step.first; is = refl } | Second ↦ record { head = step.second; is = sym step.same } ];
           };
           valid_cursors = t.valid_cursors;
           own_reader = t.own_reader;

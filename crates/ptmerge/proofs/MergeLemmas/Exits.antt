@@ -6,10 +6,10 @@ use Rattle.ptmerge.proofs.Common.{line_of_with_line, Sorted, CursorStatus, Head,
 use Rattle.ptmerge.proofs.Common.{◌⊎◌, ⊎_elim, length-append, Memory, lines, IsLine, received_with, has_received, has_received_set, cause_set, advance_trans, append_assoc, PushEffect, push_trans, push_nothing, bounded_lag_after, unlines-append, MergeFault, Read, Write}
 use Rattle.ptmerge.proofs.Common.{Side, First, Second, MergeTool, entries_by_key, decided_output, disorder, earlier_disorder, first_disorder, lines_of, merge_output, merged_entries, sorted_prefix, is_up_to, MergeState, AreConsistent, MergeEndPost, MergePost}
 use Rattle.ptmerge.proofs.Common.{IsMergeUnread, IsExactMerge, IsUnreadWithoutSlots, HasNoLine, with_terminator, other, with_side}
-use Rattle.ptmerge.proofs.MergeLemmas.Lag.{ProcessedNearly, LagPoint, back, decided_of_passed, unsettled, lag_bound}
+use Rattle.ptmerge.proofs.MergeLemmas.Lag.{ProcessedNearly, LinesToCome, LagPoint, back, decided_of_passed, unsettled, lag_bound}
 use Rattle.ptmerge.proofs.MergeLemmas.Invariant.{Bound, NoBound, AtLeast, AfterDisorder, NothingMore, MayFollow, IsUnder, IsSortedUpTo, sorted_up_to_more, is_disordered, IsProcessedPrefix, processed_before_line, processed_all, processed_to_disorder, processed_to_line}
 use Rattle.ptmerge.proofs.MergeLemmas.Invariant.{LagInvariant, MergeInvariant, InputSplit, IsExactStop, is_continuation, past_none, input_split, all_keys, under_fall}
-use Rattle.ptmerge.proofs.MergeLemmas.LinesRead.{LinesRead, HasBegun, begun_gives_line, one_line_and_block, lines_read_more, lines_read_eof, Continues, KnownLines, lines_read_known, lines_read_of_input, lines_read_none, reads_nothing}
+use Rattle.ptmerge.proofs.MergeLemmas.LinesRead.{LinesRead, HoldsLines, HasBegun, begun_gives_line, one_line_and_block, lines_read_more, lines_read_eof, Continues, KnownLines, lines_read_known, lines_read_of_input, lines_read_none, reads_nothing}
 use Rattle.ptmerge.proofs.MergeLemmas.Orders.{EachKey, EachKey-weaker, IsKeyOrder, AtMost, at_most_trans, equal_is}
 use Rattle.ptlines.proofs.MaxLength.{max_length-append}
 use Rattle.ptmerge.proofs.MergeLemmas.Slots.{line_other}
@@ -18,7 +18,9 @@ use Rattle.ptmerge.specs.declared.faults.MergeFault.TheVariants as faults
 -- The lines `ls` are read and `p` of them are processed: the last one is the current line, or there is none, or it is
 -- out of order.
 abbrev pub MatchesStatus : Cmp → Key → CursorStatus → Sorted → Slots → Reader → Lines → Lines → Bound → Type 0
-MatchesStatus cmp key Head cursor store now ls p b = (ls ≡ p ++ line store cursor.current_slot ∷ []) × IsSortedUpTo cmp key ls (Some (key (line store cursor.current_slot))) × (b ≡ AtLeast (key (line store cursor.current_slot)))
+MatchesStatus cmp key Head cursor store now ls p b =
+    (ls ≡ p ++ line store cursor.current_slot ∷ []) × IsSortedUpTo cmp key ls (Some (key (line store cursor.current_slot)))
+    × (b ≡ AtLeast (key (line store cursor.current_slot)))
 MatchesStatus cmp key Ended cursor store now ls p b = (b ≡ NothingMore) × IsDone now
 MatchesStatus cmp key (Disorder n) cursor store now ls p b = b ≡ AfterDisorder (record { last_key = key (line store cursor.previous_slot); line = n })
 
@@ -53,8 +55,8 @@ pub record IsAtCurrentLine (cmp : Cmp) (key : Key) (cursor : Sorted) (store : Sl
 pub at_current_line : {end : ℕ} {cmp : Cmp} {key : Key} {old now : Reader} {cursor : Sorted} {store : Slots} {ls p : Lines} {b : Bound} → cursor.status ≡ Head
     → SideInvariant end cmp key old now cursor store ls p b → IsAtCurrentLine cmp key cursor store ls p b
 at_current_line {cmp = cmp} {key} {now = now} {cursor} {store} {ls} {p} {b} e s =
-    let st = subst (λ t. MatchesStatus cmp key t cursor store now ls p b) e s.status_is in
-    record { all = st.0; sorted_up_to = st.1; bound = st.2; some = omega (arith, s.number, ap length st.0, length_push p (line store cursor.current_slot)) }
+    let (all, sorted_up_to, bound) = subst (λ t. MatchesStatus cmp key t cursor store now ls p b) e s.status_is in
+    record { all = all; sorted_up_to = sorted_up_to; bound = bound; some = omega (arith, s.number, ap length all, length_push p (line store cursor.current_slot)) }
 
 -- the bound of an input after the last key, or before any line
 abbrev pub bound_after : Option (List ℕ) → Bound
@@ -133,16 +135,16 @@ module _ (end : ℕ) (cmp : Cmp) (o : IsKeyOrder cmp) (key : Key) (old now new :
     at_head last within sorted_up_to no_disorder =
         let now_is : line after cursor.previous_slot ≡ e.line = rw e.stored (line_of_with_line before cursor.previous_slot e.line within) in
         let more = sorted_up_to_more e.line sorted_up_to no_disorder in
-        let f = from_next o key last e.line no_disorder in
+        let (may_follow, under) = from_next o key last e.line no_disorder in
         at_next last (e.line ∷ []) e.line (next_cursor Head (cursor.number + 1) same) (AtLeast (key e.line)) (lines_read_more lines_read e) (inr (omega (arith, length_push ls e.line))) sound (inr (e.line, refl, refl)) (omega (arith, number, length_push ls e.line))
-        (processed_before_line o more) (rw now_is (refl, more, refl)) f.0 f.1 e.stored (omega (arith, max_length-append ls (e.line ∷ [])))
+        (processed_before_line o more) (rw now_is (refl, more, refl)) may_follow under e.stored (omega (arith, max_length-append ls (e.line ∷ [])))
 
     at_fall : (last : Option (List ℕ)) → cursor.current_slot ≢ cursor.previous_slot → IsSortedUpTo cmp key ls last → IsLastKey key last cursor before → is_disordered cmp last (key e.line) ≡ true
         → Goal last (next_cursor (Disorder (cursor.number + 1)) (cursor.number + 1) same)
     at_fall None apart sorted_up_to is falls_now = absurd (false≢true falls_now)
-    at_fall (Some k) apart sorted_up_to is falls_now =
+    at_fall (Some k) apart sorted_up_to (_, is) falls_now =
         let kept : line after cursor.current_slot ≡ line before cursor.current_slot = rw e.stored (line_other before cursor.previous_slot cursor.current_slot e.line (λ i. apart (sym i))) in
-        let key_is : k ≡ key (line after cursor.current_slot) = is.1 ∙ ap key (sym kept) in
+        let key_is : k ≡ key (line after cursor.current_slot) = is ∙ ap key (sym kept) in
         at_next (Some k) (e.line ∷ []) e.line (next_cursor (Disorder (cursor.number + 1)) (cursor.number + 1) same) (AfterDisorder (record { last_key = k; line = length ls + 1 })) (lines_read_more lines_read e) (inr (omega (arith, length_push ls e.line))) sound
         (inr (e.line, refl, refl)) (omega (arith, number, length_push ls e.line)) (processed_to_disorder e.line sorted_up_to falls_now)
         (rw (← key_is, number) refl) (nothing_follows cmp key (Some k)) (λ j u. u) e.stored (omega (arith, max_length-append ls (e.line ∷ [])))
@@ -212,8 +214,8 @@ read_facts_at_line {cmp = cmp} {key} {now = now} {cursor} {store} {ls} {p} {b} s
   processed_nearly = s.processed_nearly;
   processed_prefix = s.processed_prefix;
   nothing_follows = elim cursor.status as (λ t. MatchesStatus cmp key t cursor store now ls p b → b ≡ NothingMore → IsDone now) [
-    | Head ↦ λ st e. (let bad = sym st.2 ∙ e in cc)
-    | Ended ↦ λ st e. st.1
+    | Head ↦ λ (_, _, bound) e. (let bad = sym bound ∙ e in cc)
+    | Ended ↦ λ (_, done) e. done
     | Disorder n ↦ λ st e. (let bad = sym st ∙ e in cc)
   ] s.status_is;
 }
@@ -228,7 +230,7 @@ read_facts_after_line o lines_read reads line sound sorted_up_to = record
 pub read_facts_at_start : {end : ℕ} {cmp : Cmp} {key : Key} {old new : Reader} {piece : List ℕ} → old.fault ≡ None → old.terminator ≡ end → ReaderAdvance old new piece
     → IsLine old.terminator piece → IsSound new → ReadFacts end cmp key old old new piece [] [] NoBound
 read_facts_at_start {cmp = cmp} {key} clean terminator reads line sound = record
-    { lines_read = lines_read_none clean terminator; reads = reads; line = line; sound = sound; processed_nearly = inl refl; processed_prefix = record { future = λ w _. (sorted_prefix cmp key w, refl, tt, tt) }; nothing_follows = λ e. cc }
+    { lines_read = lines_read_none clean terminator; reads = reads; line = line; sound = sound; processed_nearly = inl refl; processed_prefix = record { future = λ w _. record { rest = sorted_prefix cmp key w; is = refl; may_follow = tt; may_disorder = tt } }; nothing_follows = λ e. cc }
 
 -- reading an input failed after all its lines were processed
 pub record IsFailedRead (cmp : Cmp) (key : Key) (new : Reader) (ls p : Lines) : Type 0 where
@@ -245,7 +247,7 @@ FitsIn tool before after ls = (after.peak ≤ max before.peak (tool.size ls)) ×
 -- this holds for all lists that continue these lines and pieces
 abbrev pub Fits : MergeTool → Slots → (Side → Reader) → (Side → Lines) → (Side → List ℕ) → Slots → Type 0
 Fits tool before now ls piece after = (all : Side → Lines)
-    → ((side : Side) → Continues (now side) (ls side) (all side) × (max (max_length (ls side)) (length (piece side)) ≤ max_length (all side))) → FitsIn tool before after all
+    → ((side : Side) → HoldsLines (now side) (ls side) (piece side) (all side)) → FitsIn tool before after all
 
 -- the knowledge about unread lines that each result requires
 abbrev pub IsExactExit : MergeTool → MergeState → (Side → Bound) → Result (Unit {0}) MergeFault → Type 0
@@ -289,16 +291,15 @@ module _ (tool : MergeTool) (o : IsKeyOrder tool.cmp) (old new : MergeState) (no
 
   pub input_split_of : (all : Side → Lines) → ((side : Side) → Continues (now side) (ls side) (all side)) → InputSplit tool b p all
   input_split_of all w =
-      let current_key_is_above = λ (side : Side). (g side).processed_prefix.future (w side).more (is_continuation (b side) (w side).more (λ e. (w side).done ((g side).nothing_follows e))) in
+      let rest = λ (side : Side). (g side).processed_prefix.future (w side).more (is_continuation (b side) (w side).more (λ e. (w side).done ((g side).nothing_follows e))) in
       record {
-        r = λ side. (current_key_is_above side).0;
-        parts = λ side. ap (sorted_prefix tool.cmp (tool.key side)) (w side).is ∙ (current_key_is_above side).1;
-        may_follow = λ side. (current_key_is_above side).2;
-        may_disorder = λ side. rw (w side).is (current_key_is_above side).3;
+        r = λ side. (rest side).rest;
+        parts = λ side. ap (sorted_prefix tool.cmp (tool.key side)) (w side).is ∙ (rest side).is;
+        may_follow = λ side. (rest side).may_follow;
+        may_disorder = λ side. rw (w side).is (rest side).may_disorder;
       }
 
-  input_lines : (input : Side → List ℕ) → AreConsistent given input → (side : Side) → Continues (now side) (ls side) (lines tool.terminator (input side))
-      × (max (max_length (ls side)) (length (piece side)) ≤ max_length (lines tool.terminator (input side)))
+  input_lines : (input : Side → List ℕ) → AreConsistent given input → (side : Side) → HoldsLines (now side) (ls side) (piece side) (lines tool.terminator (input side))
   input_lines input a side = lines_read_of_input _ _ _ _ _ _ (g side).lines_read (g side).reads (g side).line (input side) (a side)
 
   known : (side : Side) → KnownLines tool.terminator (old.reader side) (now side) (new.reader side) (ls side) (piece side) (g side).lines_read (g side).reads (g side).line (known_lines tool.terminator (given side))
@@ -316,8 +317,10 @@ module _ (tool : MergeTool) (o : IsKeyOrder tool.cmp) (old new : MergeState) (no
       (under : (of side : Side) → EachKey (IsUnder tool.cmp (bound of)) (tool.key side) (p side)) (before : (of side : Side) → EachKey (IsUnder tool.cmp (b of)) (tool.key side) (p side))
       (may_follow : (side : Side) (r : Lines) → MayFollow tool.cmp (tool.key side) (b side) r → MayFollow tool.cmp (tool.key side) (bound side) (tail side ++ r))
       {mid : Output} (clean : mid.write_failed ≡ false) (wrote : PushEffect old.out mid (unlines tool.terminator (entries_by_key tool all_keys front))) {bytes : List ℕ} (more : PushEffect mid new.out bytes) where
-    future : (side : Side) → (r : Lines) × (sorted_prefix tool.cmp (tool.key side) (known_lines tool.terminator (given side)) ≡ p side ++ r) × MayFollow tool.cmp (tool.key side) (bound side) (tail side ++ r)
-    future side = (whole_input_split.r side, whole_input_split.parts side, may_follow side (whole_input_split.r side) (whole_input_split.may_follow side))
+    future : (side : Side) → LinesToCome tool side (known_lines tool.terminator (given side)) (p side) (tail side) (bound side)
+    future side =
+        let w = whole_input_split in
+        record { rest = w.r side; is = w.parts side; may_follow = may_follow side (w.r side) (w.may_follow side) }
 
     pub exit_facts : (done : Lines) → unlines tool.terminator (entries_by_key tool all_keys front) ++ bytes ≡ unlines tool.terminator done → {result : Result (Unit {0}) MergeFault} → MergeEndPost old new result
         → ((all : Side → Lines) → ((side : Side) → Continues (now side) (ls side) (all side)) → (rest : Lines) × (merged_entries tool all ≡ done ++ rest))
@@ -331,8 +334,8 @@ module _ (tool : MergeTool) (o : IsKeyOrder tool.cmp) (old new : MergeState) (no
       wrote = rw is at (push_trans _ _ _ _ _ clean wrote more);
       ends = ends;
       is_prefix = λ input a.
-          let e = all (lines_of tool input) (λ side. (input_lines input a side).0) in
-          record { rest = unlines tool.terminator e.0; is = ap (unlines tool.terminator) e.1 ∙ unlines-append tool.terminator done e.0 };
+          let (rest, is) = all (lines_of tool input) (λ side. (input_lines input a side).continues) in
+          record { rest = unlines tool.terminator rest; is = ap (unlines tool.terminator) is ∙ unlines-append tool.terminator done rest };
       -- everything is decided once the last line of an input is processed
       decided_is_written = λ side fail clean_now.
           let f = failed side fail in
@@ -340,11 +343,11 @@ module _ (tool : MergeTool) (o : IsKeyOrder tool.cmp) (old new : MergeState) (no
           let b = decided_of_passed tool o (λ s. (new.reader s).eof) (λ s. known_lines tool.terminator (given s)) side f.eof
           (ap (first_disorder tool.cmp (tool.key side)) (e ∙ sym (append-nil (p side))) ∙ f.sorted_up_to.may_disorder []) front (λ s. record {
             rest = [];
-            tail = tail s ++ (future s).0;
-            same = append-nil (sorted_prefix tool.cmp (tool.key s) (known_lines tool.terminator (given s))) ∙ (future s).1
-                ∙ ap (λ (l : Lines). l ++ (future s).0) (split s) ∙ append_assoc (front s) (tail s) (future s).0;
+            tail = tail s ++ (future s).rest;
+            same = append-nil (sorted_prefix tool.cmp (tool.key s) (known_lines tool.terminator (given s))) ∙ (future s).is
+                ∙ ap (λ (l : Lines). l ++ (future s).rest) (split s) ∙ append_assoc (front s) (tail s) (future s).rest;
             none_rest = tt;
-            none_tail = rw e (past_none tool.cmp o (tool.key side) (tool.key s) (bound s) (p side) (tail s ++ (future s).0) (under s side) (future s).2);
+            none_tail = rw e (past_none tool.cmp o (tool.key side) (tool.key s) (bound s) (p side) (tail s ++ (future s).rest) (under s side) (future s).may_follow);
           }) in
           record { rest = b.rest ++ bytes; is = sym is ∙ ap (λ (l : List ℕ). l ++ bytes) b.is ∙ append_assoc (decided_output tool given) b.rest bytes };
       -- everything was written that was decided two blocks of an input earlier
@@ -360,13 +363,13 @@ module _ (tool : MergeTool) (o : IsKeyOrder tool.cmp) (old new : MergeState) (no
         first_waits = λ none. ⊎_elim (λ begun. absurd (has_line Second begun none))
             (λ few. one_line_and_block _ _ _ _ _ _ (g First).lines_read (g First).reads (g First).line (g First).sound few) order.second;
       };
-      unfinished = λ memory four. ⊎_elim (λ h. inl h) (λ h. inr (
-        h.0,
-        λ input a same. h.1 (lines_of tool input) (λ side. (input_lines input a side).0)
+      unfinished = λ memory four. ⊎_elim (λ h. inl h) (λ (keeps, missing). inr (
+        keeps,
+        λ input a same. missing (lines_of tool input) (λ side. (input_lines input a side).continues)
             (none_missing input a same),
       )) (subst (λ (r : Result (Unit {0}) MergeFault). LeavesWork tool new now ls done r) memory left four);
-      peak = λ input a. (fits (lines_of tool input) (input_lines input a)).0;
-      slots = λ input a. (fits (lines_of tool input) (input_lines input a)).1;
+      peak = λ input a. (let (peak, _) = fits (lines_of tool input) (input_lines input a) in peak);
+      slots = λ input a. (let (_, slots) = fits (lines_of tool input) (input_lines input a) in slots);
       is_exact = is_exact;
     }
       where
@@ -379,8 +382,8 @@ module _ (tool : MergeTool) (o : IsKeyOrder tool.cmp) (old new : MergeState) (no
         -- if nothing is missing in the output, no entry is
         none_missing : (input : Side → List ℕ) (a : AreConsistent given input) → unlines tool.terminator done ≡ merge_output tool input → merged_entries tool (lines_of tool input) ≡ done
         none_missing input a same =
-            let e = all (lines_of tool input) (λ side. (input_lines input a side).0) in
-            e.1 ∙ ap (λ (l : Lines). done ++ l) (no_lines_left tool.terminator done e.0 (same ∙ ap (unlines tool.terminator) e.1)) ∙ append-nil done
+            let (rest, is) = all (lines_of tool input) (λ side. (input_lines input a side).continues) in
+            is ∙ ap (λ (l : Lines). done ++ l) (no_lines_left tool.terminator done rest (same ∙ ap (unlines tool.terminator) is)) ∙ append-nil done
 
   pub exit_is_merge_post : MergeInvariant tool b p old.out new.out → LagInvariant tool b p old.out new.out → (result : Result (Unit {0}) MergeFault) → MergeEndPost old new result
       → ((side : Side) → (new.reader side).failed ≡ true → IsFailedRead tool.cmp (tool.key side) (new.reader side) (ls side) (p side)) → IsExactExit tool new b result
@@ -393,7 +396,7 @@ module _ (tool : MergeTool) (o : IsKeyOrder tool.cmp) (old new : MergeState) (no
       done = entries_by_key tool all_keys p
 
       input_split_in : (input : Side → List ℕ) → AreConsistent given input → InputSplit tool b p (lines_of tool input)
-      input_split_in input a = input_split_of (lines_of tool input) (λ side. (input_lines input a side).0)
+      input_split_in input a = input_split_of (lines_of tool input) (λ side. (input_lines input a side).continues)
 
       later : (input : Side → List ℕ) → AreConsistent given input → Lines
       later input a = entries_by_key tool (is_up_to tool.cmp (disorder tool (lines_of tool input))) (input_split_in input a).r
@@ -415,8 +418,8 @@ module _ (tool : MergeTool) (o : IsKeyOrder tool.cmp) (old new : MergeState) (no
           )
       by (Err (faults.Disorder side number)) stop input a =
           let s = input_split_in input a in
-          let t = stop (lines_of tool input) s.r s.may_follow s.may_disorder in
-          (sym (all_of input a ∙ ap (unlines tool.terminator) (ap (λ l. done ++ l) t.0 ∙ append-nil done)), t.1)
+          let (none, named) = stop (lines_of tool input) s.r s.may_follow s.may_disorder in
+          (sym (all_of input a ∙ ap (unlines tool.terminator) (ap (λ l. done ++ l) none ∙ append-nil done)), named)
       by other c input a = tt
 
 -- ---- a merge of readers whose terminator was set

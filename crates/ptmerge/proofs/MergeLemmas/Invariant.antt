@@ -66,8 +66,9 @@ pub after_from : (cmp : Cmp) (o : IsKeyOrder cmp) (key : Key) (k : List ℕ) (n 
 after_from cmp o key k n [] = (tt, tt)
 after_from cmp o key k n (x ∷ w) =
     let ih = after_from cmp o key (key x) (n + 1) w in
+    let (more, _) = ih in
     let weaker : is_gt (cmp k (key x)) ≡ false → EachKey (AtMost cmp k) key (sorted_after cmp key (Some (key x)) w) =
-    λ h. EachKey-weaker _ _ (λ y a. at_most_trans cmp o k (key x) y h a) _ _ ih.0 in
+    λ h. EachKey-weaker _ _ (λ y a. at_most_trans cmp o k (key x) y h a) _ _ more in
     grind (arith, ih, weaker, at_most_trans, self_at_most cmp o k)
 
 -- The lines that may follow in an input: any lines; lines with keys of at least k; none, since the input is out of
@@ -107,37 +108,52 @@ IsContinuation b w = Unit {0}
 pub may_follow_none : (cmp : Cmp) (key : Key) (b : Bound) → MayFollow cmp key b []
 may_follow_none cmp key b = grind arith
 
--- The lines `ls` are read, and `p` of them are processed: the sorted prefix of every list that continues `ls` is `p`,
--- followed by lines that the bound allows.
+-- the sorted prefix of the lines `all` is `p`, followed by lines that the bound allows, and so is their disorder
+pub record IsFuture (cmp : Cmp) (key : Key) (all p : Lines) (b : Bound) : Type 0 where
+  pub rest : Lines
+  pub is : sorted_prefix cmp key all ≡ p ++ rest
+  pub may_follow : MayFollow cmp key b rest
+  pub may_disorder : MayDisorder cmp b (first_disorder cmp key all)
+
+-- The lines `ls` are read, and `p` of them are processed: so it is for every list that continues `ls`.
 pub record IsProcessedPrefix (cmp : Cmp) (key : Key) (ls p : Lines) (b : Bound) : Type 0 where
-  pub future : (w : Lines) → IsContinuation b w → (r : Lines) × (sorted_prefix cmp key (ls ++ w) ≡ p ++ r) × MayFollow cmp key b r × MayDisorder cmp b (first_disorder cmp key (ls ++ w))
+  pub future : (w : Lines) → IsContinuation b w → IsFuture cmp key (ls ++ w) p b
 
 -- all lines read are processed
 pub processed_to_line : {cmp : Cmp} (o : IsKeyOrder cmp) {key : Key} {ls : Lines} {k : List ℕ} → IsSortedUpTo cmp key ls (Some k) → IsProcessedPrefix cmp key ls ls (AtLeast k)
 processed_to_line {cmp} o {key} {ls} {k} g = record {
   future = λ w _.
-      let a = after_from cmp o key k (length ls) w in (sorted_after cmp key (Some k) w, g.ordered w, a.0, rw (g.may_disorder w) a.1);
+      let (more, later) = after_from cmp o key k (length ls) w in
+      record { rest = sorted_after cmp key (Some k) w; is = g.ordered w; may_follow = more; may_disorder = rw (g.may_disorder w) later };
 }
 
 pub processed_all : {cmp : Cmp} {key : Key} {ls : Lines} {last : Option (List ℕ)} → IsSortedUpTo cmp key ls last → IsProcessedPrefix cmp key ls ls NothingMore
-processed_all g = record { future = λ w none. rw none ([], g.ordered [], refl, g.may_disorder []) }
+processed_all g = record { future = λ w none. rw none (record { rest = []; is = g.ordered []; may_follow = refl; may_disorder = g.may_disorder [] }) }
 
 -- the current line is not yet processed
 pub processed_before_line : {cmp : Cmp} (o : IsKeyOrder cmp) {key : Key} {p : Lines} {x : List ℕ} → IsSortedUpTo cmp key (p ++ x ∷ []) (Some (key x)) → IsProcessedPrefix cmp key (p ++ x ∷ []) p (AtLeast (key x))
 processed_before_line {cmp} o {key} {p} {x} g = record {
   future = λ w _.
-      let a = after_from cmp o key (key x) (length (p ++ x ∷ [])) w in (
-        x ∷ sorted_after cmp key (Some (key x)) w,
-        g.ordered w ∙ append_assoc p (x ∷ []) (sorted_after cmp key (Some (key x)) w),
-        (self_at_most cmp o (key x), a.0),
-        rw (g.may_disorder w) a.1,
-      );
+      let (more, later) = after_from cmp o key (key x) (length (p ++ x ∷ [])) w in
+      record {
+        rest = x ∷ sorted_after cmp key (Some (key x)) w;
+        is = g.ordered w ∙ append_assoc p (x ∷ []) (sorted_after cmp key (Some (key x)) w);
+        may_follow = (self_at_most cmp o (key x), more);
+        may_disorder = rw (g.may_disorder w) later;
+      };
 }
 
 -- the current line is out of order
 pub processed_to_disorder : {cmp : Cmp} {key : Key} {p : Lines} {k : List ℕ} (x : List ℕ) → IsSortedUpTo cmp key p (Some k) → is_gt (cmp k (key x)) ≡ true
     → IsProcessedPrefix cmp key (p ++ x ∷ []) p (AfterDisorder (record { last_key = k; line = length p + 1 }))
-processed_to_disorder {p = p} x g fell = record { future = λ w _. ([], rw (append_assoc p (x ∷ []) w, g.ordered (x ∷ w), fell), refl, rw (append_assoc p (x ∷ []) w, g.may_disorder (x ∷ w), fell)) }
+processed_to_disorder {p = p} x g fell = record {
+  future = λ w _. record {
+    rest = [];
+    is = rw (append_assoc p (x ∷ []) w, g.ordered (x ∷ w), fell);
+    may_follow = refl;
+    may_disorder = rw (append_assoc p (x ∷ []) w, g.may_disorder (x ∷ w), fell);
+  };
+}
 
 -- ---- the output
 
@@ -146,11 +162,11 @@ all_keys k = true
 
 filter_all : (w : List ℕ → Bool) (ks : Lines) → Each (λ k. w k ≡ true) ks → filter w ks ≡ ks
 filter_all w [] e = refl
-filter_all w (k ∷ ks) e = rw e.0 (ap (λ l. k ∷ l) (filter_all w ks e.1))
+filter_all w (k ∷ ks) (here, more) = rw here (ap (λ l. k ∷ l) (filter_all w ks more))
 
 filter_none : (w : List ℕ → Bool) (ks : Lines) → Each (λ k. w k ≡ false) ks → filter w ks ≡ []
 filter_none w [] e = refl
-filter_none w (k ∷ ks) e = rw e.0 (filter_none w ks e.1)
+filter_none w (k ∷ ks) (here, more) = rw here (filter_none w ks more)
 
 -- keys in order, without repetition
 abbrev pub Ascends : Cmp → Lines → Type 0
@@ -164,10 +180,10 @@ IsDownwardClosed cmp w = (a b : List ℕ) → cmp b a ≡ Greater → w b ≡ tr
 module _ (cmp : Cmp) (o : IsKeyOrder cmp) where
   ascends_insert : (k : List ℕ) (ks : Lines) → Ascends cmp ks → Ascends cmp (insert_key cmp k ks)
   ascends_insert k [] a = (tt, tt)
-  ascends_insert k (x ∷ ks) a = elim (cmp k x) as (λ r. cmp k x ≡ r → Ascends cmp (match_ordering r (k ∷ x ∷ ks) (x ∷ ks) (x ∷ insert_key cmp k ks))) [
-    | Less ↦ λ e. ((less_flips cmp o k x e, Each-weaker _ _ (λ y h. above_trans cmp o k x y (ap is_gt e) h) _ a.0), a)
-    | Equal ↦ λ e. a
-    | Greater ↦ λ e. (Each-insert cmp (Above cmp x) k ks e a.0, ascends_insert k ks a.1)
+  ascends_insert k (x ∷ ks) (above, more) = elim (cmp k x) as (λ r. cmp k x ≡ r → Ascends cmp (match_ordering r (k ∷ x ∷ ks) (x ∷ ks) (x ∷ insert_key cmp k ks))) [
+    | Less ↦ λ e. ((less_flips cmp o k x e, Each-weaker _ _ (λ y h. above_trans cmp o k x y (ap is_gt e) h) _ above), (above, more))
+    | Equal ↦ λ e. (above, more)
+    | Greater ↦ λ e. (Each-insert cmp (Above cmp x) k ks e above, ascends_insert k ks more)
   ] refl
 
   pub ascends_distinct : (ks : Lines) → Ascends cmp (distinct_keys cmp ks)
@@ -177,9 +193,9 @@ module _ (cmp : Cmp) (o : IsKeyOrder cmp) where
   -- the keys that pass the test come first
   downward_first : (w p : List ℕ → Bool) → IsDownwardClosed cmp p → (ks : Lines) → Ascends cmp ks → filter w ks ≡ filter (λ k. w k && p k) ks ++ filter (λ k. w k && not (p k)) ks
   downward_first w p down [] a = refl
-  downward_first w p down (k ∷ ks) a =
-      let ih = downward_first w p down ks a.1 in
-      let none : p k ≡ false → filter (λ y. w y && p y) ks ≡ [] = λ h. filter_none _ ks (Each-weaker _ _ (not_above h) _ a.0) in
+  downward_first w p down (k ∷ ks) (above, more) =
+      let ih = downward_first w p down ks more in
+      let none : p k ≡ false → filter (λ y. w y && p y) ks ≡ [] = λ h. filter_none _ ks (Each-weaker _ _ (not_above h) _ above) in
       grind (arith, ih, none)
     where
       not_above : p k ≡ false → (y : List ℕ) → cmp y k ≡ Greater → (w y && p y) ≡ false
@@ -344,12 +360,12 @@ is_continuation b w h = grind arith
 
 pub both_under : (key : Key) (P Q R : List ℕ → Type 0) → ((k : List ℕ) → P k → Q k → R k) → (xs : Lines) → EachKey P key xs → EachKey Q key xs → EachKey R key xs
 both_under key P Q R f [] p q = tt
-both_under key P Q R f (x ∷ xs) p q = (f (key x) p.0 q.0, both_under key P Q R f xs p.1 q.1)
+both_under key P Q R f (x ∷ xs) (p, more1) (q, more2) = (f (key x) p q, both_under key P Q R f xs more1 more2)
 
 -- a property of each key holds for the last key
 pub last_has : (key : Key) (P : List ℕ → Type 0) (last : Option (List ℕ)) (xs : Lines) (x : List ℕ) → last_or last (map key xs) ≡ Some x → ((y : List ℕ) → last ≡ Some y → P y) → EachKey P key xs → P x
 last_has key P last [] x e f h = f x e
-last_has key P last (y ∷ xs) x e f h = last_has key P (Some (key y)) xs x e (λ z same. (let is : key y ≡ z = cc in subst P is h.0)) h.1
+last_has key P last (y ∷ xs) x e f (here, more) = last_has key P (Some (key y)) xs x e (λ z same. (let is : key y ≡ z = cc in subst P is here)) more
 
 module _ (cmp : Cmp) (o : IsKeyOrder cmp) where
   pub not_below : (k x : List ℕ) → AtMost cmp x k → is_lt (cmp k x) ≡ false

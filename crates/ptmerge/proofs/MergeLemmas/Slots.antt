@@ -54,9 +54,17 @@ pub has_lines_none : (xs : List (List ℕ)) → 4 ≤ length xs → total_bytes 
 has_lines_none (a ∷ b ∷ c ∷ d ∷ rest) four none = omega (arith, four_total a b c d rest)
 has_lines_none few four none = absurd (omega arith)
 
+-- the number of slots, and the bytes in all of them
+pub record LinesTotal (xs : List (List ℕ)) (m : Side → ℕ) (more : ℕ) : Type 0 where
+  pub four : 4 ≤ length xs
+  pub most : total_bytes xs ≤ 2 * m First + 2 * m Second + more
+  pub is : total_bytes xs ≡ ((length (get_or xs 0 []) + length (get_or xs 1 [])) + length (get_or xs 2 [])) + length (get_or xs 3 []) + more
+
 pub has_lines_total : (xs : List (List ℕ)) (m : Side → ℕ) (more : ℕ) → HasLines m more xs
-    → (4 ≤ length xs) × (total_bytes xs ≤ 2 * m First + 2 * m Second + more) × (total_bytes xs ≡ ((length (get_or xs 0 []) + length (get_or xs 1 [])) + length (get_or xs 2 [])) + length (get_or xs 3 []) + more)
-has_lines_total (a ∷ b ∷ c ∷ d ∷ rest) m more h = omega (arith, four_total a b c d rest)
+    → LinesTotal xs m more
+has_lines_total (a ∷ b ∷ c ∷ d ∷ rest) m more h =
+    let sum = four_total a b c d rest in
+    record { four = omega arith; most = omega (arith, sum, h); is = omega (arith, sum, h) }
 has_lines_total few m more h = absurd h
 
 -- the next line of an input replaces its previous line
@@ -71,10 +79,10 @@ set_line s cursor (a ∷ b ∷ c ∷ d ∷ rest) m k more x slots h up l = by s 
     second = omega (arith, h, up Second)
 
     by : (t : Side) → HasSlots t cursor → length x ≤ k t → HasLines k more (set (a ∷ b ∷ c ∷ d ∷ rest) cursor.previous_slot x)
-    by First (inl e) l = rw e.1 (first.0, l, second.0, second.1, h.4)
-    by First (inr e) l = rw e.1 (l, first.1, second.0, second.1, h.4)
-    by Second (inl e) l = rw e.1 (first.0, first.1, second.0, l, h.4)
-    by Second (inr e) l = rw e.1 (first.0, first.1, l, second.1, h.4)
+    by First (inl (_, is)) l = rw is (first.0, l, second.0, second.1, h.4)
+    by First (inr (_, is)) l = rw is (l, first.1, second.0, second.1, h.4)
+    by Second (inl (_, is)) l = rw is (first.0, first.1, second.0, l, h.4)
+    by Second (inr (_, is)) l = rw is (first.0, first.1, l, second.1, h.4)
 set_line s cursor few m k more x slots h up l = absurd h
 
 -- The invariant of the store of a merge: two lines of each input, of at most `m` bytes each.
@@ -94,7 +102,7 @@ store_with_line {store = store} s cursor {m} k x slots kept up fits is =
     let inside = set_line s cursor store.lines m k 0 x slots kept.lines up fits in
     rw is (record {
       lines = inside;
-      peak = omega (arith, kept.peak, up First, up Second, (has_lines_total (set store.lines cursor.previous_slot x) k 0 inside).1);
+      peak = omega (arith, kept.peak, up First, up Second, (has_lines_total (set store.lines cursor.previous_slot x) k 0 inside).most);
       slots = length-set store.lines cursor.previous_slot x ∙ kept.slots;
       denied = kept.denied;
     })

@@ -20,8 +20,8 @@ module _ {tool : MergeTool} {old : MergeState} (w : IsOpenMerge tool old) where
   first_line : (side : Side) {new : Reader} {cursor : Sorted} {before after : Slots} → 4 ≤ length before.lines → NextOkPost (tool.key side) tool.cmp (initial_cursor side) cursor (old.reader side) new before after
       → SideAfterNext tool.terminator tool.cmp (tool.key side) (old.reader side) new cursor (base_slot side) before after [] None
   first_line side four comes =
-      let own = own_slots side (initial_cursor side) (fresh_slots side) in
-      next_invariant _ _ w.o _ _ _ _ _ _ _ _ _ (omega (arith, own.1, slot_low side)) own.0 (lines_read_none (w.readable side) (w.terminator side)) refl sorted_up_to_none refl comes
+      let (apart, low, _, _, _) = own_slots side (initial_cursor side) (fresh_slots side) in
+      next_invariant _ _ w.o _ _ _ _ _ _ _ _ _ (omega (arith, low, slot_low side)) apart (lines_read_none (w.readable side) (w.terminator side)) refl sorted_up_to_none refl comes
 
   unread_side : (side : Side) → ReadFacts tool.terminator tool.cmp (tool.key side) (old.reader side) (old.reader side) (old.reader side) [] [] [] NoBound
   unread_side side = read_facts_at_start (w.readable side) (w.terminator side) (reads_nothing (old.reader side)) tt (w.sound side)
@@ -46,20 +46,20 @@ module _ {tool : MergeTool} {old : MergeState} (w : IsOpenMerge tool old) where
     first_line_only = ⊎_elim (λ e. omega (arith, n.side_invariant.number, ap (λ (c : Sorted). c.number) e.cursor)) (λ e. omega (arith, n.side_invariant.number, ap (λ (c : Sorted). c.number) e.cursor)) s.came
 
     mid_four : 4 ≤ length s.mid.lines
-    mid_four = (has_lines_total s.mid.lines (λ side. max_length (both n.now_ls [] side)) 0 half_store.lines).0
+    mid_four = (has_lines_total s.mid.lines (λ side. max_length (both n.now_ls [] side)) 0 half_store.lines).four
 
   pub start_ok : (new : MergeInputs) (cursor : Side → Sorted) → HasSlots First (cursor First) → StartOkPost tool.key tool.cmp cursor unstarted new
       → LoopInvariant tool (StoreHoldsTwoLines old.store) old (state_by_side (both (new.reader First) (new.reader Second)) old.out new.store) (both (cursor First) (cursor Second))
   start_ok new cursor slots s =
       let f = n s in
       let k = first_line Second (mid_four s) s.later in
-      let apart = slots_apart Second (initial_cursor Second) (cursor First) (fresh_slots Second) slots in
+      let (apart, apart_previous) = slots_apart Second (initial_cursor Second) (cursor First) (fresh_slots Second) slots in
       record {
         ls = both f.now_ls k.now_ls;
         p = no_lines;
         b = both f.bound k.bound;
         sides = elim [
-          | First ↦ side_invariant_kept f.side_invariant (rw k.stored (line_other s.mid 2 (cursor First).current_slot k.bytes apart.0)) (rw k.stored (line_other s.mid 2 (cursor First).previous_slot k.bytes apart.1))
+          | First ↦ side_invariant_kept f.side_invariant (rw k.stored (line_other s.mid 2 (cursor First).current_slot k.bytes apart)) (rw k.stored (line_other s.mid 2 (cursor First).previous_slot k.bytes apart_previous))
           | Second ↦ k.side_invariant
         ];
         merge_invariant = bound_changes Second k.bound (half_invariant s) k.may_follow k.under;
@@ -79,13 +79,13 @@ module _ {tool : MergeTool} {old : MergeState} (w : IsOpenMerge tool old) where
         (merge_invariant_starts tool old.out) (lag_invariant_starts _ _ _ _ _ _ w.writable (push_nothing old.out) (push_nothing old.out))
         (Err Memory) (record { denied = u.slots.denied; failed = same; clean = w.writable })
         (λ side fail. absurd (false≢true (sym (same side ∙ w.unfailed side) ∙ fail))) (λ four. absurd (omega (arith, four, u.slots.few)))
-        (record { first = inr (u.unread Second); second = inr (omega arith) }) (λ all l. (omega (arith, u.slots.peak), omega (arith, u.slots.few, (w.fits all).1))))
+        (record { first = inr (u.unread Second); second = inr (omega arith) }) (λ all l. omega (arith, u.slots.peak, u.slots.few, w.fits all)))
     start_fault (inr (inl f)) =
         let kept = store_of_no_lines f.four w.allowed w.empty in
         rw f.unread (fails tool w.o old (state_by_side old.reader old.out f.made) no_lines no_lines (λ side. NoBound) (merge_invariant_starts tool old.out) w.unfailed (λ side. refl) w.writable
         First (initial_cursor First) new1 after fault (λ r piece. read_facts_at_start (w.readable First) (w.terminator First)) refl None sorted_up_to_none (unread_side Second)
         (λ r piece free. record { first = inr refl; second = inr (omega (arith, one_line_at_most tool.terminator piece (rw (w.terminator First) at free))) }) kept.denied
-        (λ piece all l. within_size tool w.fits First (initial_cursor First) no_lines all piece (fresh_slots First) kept (λ side. omega (arith, (l side).1)) (omega (arith, (l First).1))) f.fails)
+        (λ piece all l. within_size tool w.fits First (initial_cursor First) no_lines all piece (fresh_slots First) kept (λ side. omega (arith, (l side).longest)) (omega (arith, (l First).longest))) f.fails)
     start_fault (inr (inr f)) =
         let s = f.begins in
         let g = n s in
@@ -94,7 +94,7 @@ module _ {tool : MergeTool} {old : MergeState} (w : IsOpenMerge tool old) where
         Second (initial_cursor Second) new2 after fault (λ r piece. read_facts_at_start (w.readable Second) (w.terminator Second)) refl None sorted_up_to_none (read_facts_at_line g.side_invariant)
         (λ r piece free. record { first = inl g.side_invariant.begun; second = inr (first_line_only s) }) (half_store s).denied
         (λ piece all l. within_size tool w.fits Second (initial_cursor Second) (both g.now_ls []) all piece (fresh_slots Second) (half_store s)
-        (λ side. omega (arith, (l side).1)) (omega (arith, (l Second).1))) s.later
+        (λ side. omega (arith, (l side).longest)) (omega (arith, (l Second).longest))) s.later
 
     -- the number of slots after such a start: fewer than four, or all
     slots_then : StartErr new1 new2 after fault → StartSlotFaultPost unstarted (record { reader = both new1 new2; store = after }) fault ⊎ (length after.lines ≡ max (length old.store.lines) 4)

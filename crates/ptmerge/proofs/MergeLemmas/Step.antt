@@ -38,11 +38,11 @@ IsAbove cmp key x b = (r : Lines) → MayFollow cmp key b r → EachKey (Above c
 -- a key that precedes an input's current line precedes all lines that may follow
 pub current_key_is_above : (cmp : Cmp) (o : IsKeyOrder cmp) (key : Key) (x : List ℕ) (status : CursorStatus) (cursor : Sorted) (store : Slots) (now : Reader) (ls p : Lines) (b : Bound)
     → PrecedesInput cmp x status (key (line store cursor.current_slot)) (key (line store cursor.previous_slot)) → MatchesStatus cmp key status cursor store now ls p b → IsAbove cmp key x b × IsUnder cmp b x
-current_key_is_above cmp o key x Head cursor store now ls p b before st =
+current_key_is_above cmp o key x Head cursor store now ls p b before (_, _, bound) =
     let head = key (line store cursor.current_slot) in
     let above : Above cmp x head = is_greater (cmp head x) before in
-    rw st.2 (λ r c. EachKey-weaker _ _ (λ k h. above_up cmp o x head k above h) _ _ c, above_at_most cmp o x head above)
-current_key_is_above cmp o key x Ended cursor store now ls p b before st = rw st.0 (λ r none. rw none tt, tt)
+    rw bound (λ r c. EachKey-weaker _ _ (λ k h. above_up cmp o x head k above h) _ _ c, above_at_most cmp o x head above)
+current_key_is_above cmp o key x Ended cursor store now ls p b before (bound, _) = rw bound (λ r none. rw none tt, tt)
 current_key_is_above cmp o key x (Disorder n) cursor store now ls p b before st = rw st (λ r none. rw none tt, before)
 
 -- ---- one line
@@ -94,16 +94,16 @@ module _ (tool : MergeTool) (o : IsKeyOrder tool.cmp) (old now : Side → Reader
 
   pub next_at : (new : Reader) (next : Sorted) (after : Slots) → NextOkPost (tool.key s) tool.cmp (cursor s) next (now s) new store after → NextOf new next after
   next_at new next after comes =
-      let own = own_slots s (cursor s) (slots s) in
-      next_invariant _ _ o _ _ _ _ _ _ _ _ _ (omega (arith, own.1, slot_low s)) own.0 (sides s).lines_read (sides s).number passed_at.sorted_up_to (passed_at.some, refl) comes
+      let (apart, low, _, _, _) = own_slots s (cursor s) (slots s) in
+      next_invariant _ _ o _ _ _ _ _ _ _ _ _ (omega (arith, low, slot_low s)) apart (sides s).lines_read (sides s).number passed_at.sorted_up_to (passed_at.some, refl) comes
 
   module _ (new : Reader) (next : Sorted) (after : Slots) (n : NextOf new next after) where
     -- the other input is unchanged
     other_stays : SideInvariant tool.terminator tool.cmp (tool.key (other s)) (old (other s)) (now (other s)) (cursor (other s)) after (ls (other s)) (p (other s)) (b (other s))
     other_stays =
-        let apart = slots_apart s (cursor s) (cursor (other s)) (slots s) (slots (other s)) in
-        side_invariant_kept (sides (other s)) (rw n.stored (line_other store (cursor s).previous_slot (cursor (other s)).current_slot n.bytes apart.0))
-        (rw n.stored (line_other store (cursor s).previous_slot (cursor (other s)).previous_slot n.bytes apart.1))
+        let (apart, apart_previous) = slots_apart s (cursor s) (cursor (other s)) (slots s) (slots (other s)) in
+        side_invariant_kept (sides (other s)) (rw n.stored (line_other store (cursor s).previous_slot (cursor (other s)).current_slot n.bytes apart))
+        (rw n.stored (line_other store (cursor s).previous_slot (cursor (other s)).previous_slot n.bytes apart_previous))
 
     pub sides_invariant_continues : SidesInvariant tool old (with_side s new now) (with_side s next cursor) after (with_side s n.now_ls ls) (with_side s (ls s) p) (with_side s n.bound b)
     sides_invariant_continues = elim s as (λ t. SideInvariant tool.terminator tool.cmp (tool.key t) (old t) new next after n.now_ls (ls t) n.bound
@@ -148,14 +148,14 @@ module _ (cmp : Cmp) (o : IsKeyOrder cmp) where
   named_other : (key : Key) (s : Side) (d : FirstDisorder) (status : CursorStatus) (cursor : Sorted) (store : Slots) (now : Reader) (ls p : Lines) (b : Bound)
       → IsReportable cmp s d.last_key status (key (line store cursor.current_slot)) (key (line store cursor.previous_slot)) → MatchesStatus cmp key status cursor store now ls p b
       → (f : Option FirstDisorder) (r : Lines) → MayFollow cmp key b r → MayDisorder cmp b f → IsReportedOver cmp s d f × EachKey (λ k. is_le (cmp k d.last_key) ≡ false) key r
-  named_other key s d Head cursor store now ls p b named st f r c is_disordered =
+  named_other key s d Head cursor store now ls p b named (_, _, bound) f r c is_disordered =
       let l = d.last_key in
       let head = key (line store cursor.current_slot) in
       let above : Above cmp l head = is_greater (cmp head l) named in (
-        elim f as (λ g. IsDisorderFrom cmp head g → IsReportedOver cmp s d g) [ None ↦ λ u. tt | Some e ↦ λ u. precedes_above s l e.last_key (above_up cmp o l head e.last_key above u) ] (rw st.2 at is_disordered),
-        EachKey-weaker _ _ (λ k h. ap is_le (above_up cmp o l head k above h)) _ _ (rw st.2 at c),
+        elim f as (λ g. IsDisorderFrom cmp head g → IsReportedOver cmp s d g) [ None ↦ λ u. tt | Some e ↦ λ u. precedes_above s l e.last_key (above_up cmp o l head e.last_key above u) ] (rw bound at is_disordered),
+        EachKey-weaker _ _ (λ k h. ap is_le (above_up cmp o l head k above h)) _ _ (rw bound at c),
       )
-  named_other key s d Ended cursor store now ls p b named st f r c is_disordered = rw (rw st.0 at is_disordered, rw st.0 at c) (tt, tt)
+  named_other key s d Ended cursor store now ls p b named (bound, _) f r c is_disordered = rw (rw bound at is_disordered, rw bound at c) (tt, tt)
   named_other key s d (Disorder m) cursor store now ls p b named st f r c is_disordered =
       rw (rw st at is_disordered, rw st at c) (named_precedes s d.last_key (key (line store cursor.current_slot)) (key (line store cursor.previous_slot)) m named, tt)
 
@@ -165,9 +165,9 @@ pub stops_at : (tool : MergeTool) (o : IsKeyOrder tool.cmp) (old now : Side → 
 stops_at tool o old now cursor store ls p b sides s n dec l r c f =
     let d : FirstDisorder = record { last_key = previous_key tool.key cursor store s; line = n } in
     let disordered : b s ≡ AfterDisorder d = rw dec.status_is at (sides s).status_is in
-    let rest = named_other _ o _ s d _ _ _ _ _ _ _ dec.named (sides (other s)).status_is _ _ (c (other s)) (f (other s)) in
-    rw (named_is tool.cmp s (λ side. first_disorder tool.cmp (tool.key side) (l side)) d (rw disordered at (f s)) rest.0) (
-      none_wanted tool (λ k. is_le (tool.cmp k d.last_key)) r (side_case (λ side. EachKey (λ k. is_le (tool.cmp k d.last_key) ≡ false) (tool.key side) (r side)) s (rw (rw disordered at (c s)) tt) rest.1),
+    let (reported, above) = named_other _ o _ s d _ _ _ _ _ _ _ dec.named (sides (other s)).status_is _ _ (c (other s)) (f (other s)) in
+    rw (named_is tool.cmp s (λ side. first_disorder tool.cmp (tool.key side) (l side)) d (rw disordered at (f s)) reported) (
+      none_wanted tool (λ k. is_le (tool.cmp k d.last_key)) r (side_case (λ side. EachKey (λ k. is_le (tool.cmp k d.last_key) ≡ false) (tool.key side) (r side)) s (rw (rw disordered at (c s)) tt) above),
       (refl, refl),
     )
 
@@ -200,24 +200,22 @@ module _ (tool : MergeTool) (o : IsKeyOrder tool.cmp) (old now : MergeState) (ls
       → ((r : Reader) (piece : List ℕ) → IsLine (now.reader s).terminator piece → FirstReadsOf s r piece) → now.store.denied ≡ false
       → ((piece : List ℕ) → Fits tool old.store now.reader ls (with_side s piece (λ side. [])) (with_line now.store cursor.previous_slot piece)) → NextErrPost s cursor (now.reader s) new now.store after fault
       → MergePost tool old (record { reader = with_side s new now.reader; out = now.out; store = after }) (Err fault)
-  fails s cursor new after (Read file) gone all last sorted_up_to rest order roomy fits moves =
-      let e = moves.0 in
-      rw moves.1 (exit_is_merge_post tool o old (state_by_side (with_side s new now.reader) now.out after) now.reader (with_side s e.piece (λ side. [])) ls q b
-      (put_both ReadFactsOf s new now.reader e.piece (λ side. []) (gone new e.piece e.faults.reads e.faults.whole moves.2) rest) m lag_invariant (Err (Read s))
+  fails s cursor new after (Read file) gone all last sorted_up_to rest order roomy fits (e, file_is, sound) =
+      rw file_is (exit_is_merge_post tool o old (state_by_side (with_side s new now.reader) now.out after) now.reader (with_side s e.piece (λ side. [])) ls q b
+      (put_both ReadFactsOf s new now.reader e.piece (λ side. []) (gone new e.piece e.faults.reads e.faults.whole sound) rest) m lag_invariant (Err (Read s))
       (record {
-        cause = rw (put_same s new now.reader) (⊎_elim (λ h. inl h) (λ h. inr (h.0, h.1 ∙ none_failed s)) e.cause);
+        cause = rw (put_same s new now.reader) (⊎_elim (λ h. inl h) (λ (long, same). inr (long, same ∙ none_failed s)) e.cause);
         others = rw (put_other s new now.reader) (none_failed (other s));
         clean = clean;
         denied = rw e.stored roomy;
       })
       (put_each (λ side (r : Reader). r.failed ≡ true → IsFailedRead tool.cmp (tool.key side) r (ls side) (q side)) s new now.reader
-      (λ fail. ⊎_elim (λ h. record { buffered = h.1; eof = h.2; all = all; last = last; sorted_up_to = sorted_up_to }) (λ h. fails_not s new (h.1 ∙ none_failed s) fail) e.cause)
+      (λ fail. ⊎_elim (λ (_, buffered, eof). record { buffered = buffered; eof = eof; all = all; last = last; sorted_up_to = sorted_up_to }) (λ (_, same). fails_not s new (same ∙ none_failed s) fail) e.cause)
       (λ side. fails_not side (now.reader side) (none_failed side))) tt (order new e.piece e.faults.whole) (rw e.stored (fits e.piece)))
-  fails s cursor new after Memory gone all last sorted_up_to rest order roomy fits moves =
-      let e = moves.0 in
+  fails s cursor new after Memory gone all last sorted_up_to rest order roomy fits (e, sound) =
       let failed = put_each (λ side (r : Reader). r.failed ≡ (old.reader side).failed) s new now.reader (e.failed ∙ none_failed s) none_failed in
       exit_is_merge_post tool o old (state_by_side (with_side s new now.reader) now.out after) now.reader (with_side s e.piece (λ side. [])) ls q b
-      (put_both ReadFactsOf s new now.reader e.piece (λ side. []) (gone new e.piece e.faults.reads e.faults.whole moves.1) rest) m lag_invariant (Err Memory)
+      (put_both ReadFactsOf s new now.reader e.piece (λ side. []) (gone new e.piece e.faults.reads e.faults.whole sound) rest) m lag_invariant (Err Memory)
       (record { denied = rw e.stored refl; failed = failed; clean = clean }) (λ side. fails_not side (with_side s new now.reader side) (failed side))
       (λ four. (s, rw (put_same s new now.reader) (buffered_not_done e.left))) (order new e.piece e.faults.whole) (rw e.stored (fits e.piece))
   fails s cursor new after other gone all last sorted_up_to rest order roomy fits moves = absurd moves
@@ -256,14 +254,14 @@ next_keeps_slot_count key cmp cursor next was is before after (inr e) = rw (e.em
 
 -- after a failed read
 pub next_error_keeps_slot_count : (s : Side) (cursor : Sorted) (was is : Reader) (before after : Slots) (fault : MergeFault) → NextErrPost s cursor was is before after fault → length after.lines ≡ length before.lines
-next_error_keeps_slot_count s cursor was is before after (Read file) e = rw (e.0.stored, length-set)
-next_error_keeps_slot_count s cursor was is before after Memory e = rw (e.0.stored, length-set)
+next_error_keeps_slot_count s cursor was is before after (Read file) (e, _, _) = rw (e.stored, length-set)
+next_error_keeps_slot_count s cursor was is before after Memory (e, _) = rw (e.stored, length-set)
 next_error_keeps_slot_count s cursor was is before after other e = absurd e
 
 pub advance_keeps_slot_count : (key : Key) (cmp : Cmp) (s : Side) (cursor next : Sorted) (was is : Reader) (before after : Slots) (out : Output) (fault : MergeFault)
     → WriteThenNextPost key cmp s cursor next was is before after out (Err fault) → length after.lines ≡ length before.lines
-advance_keeps_slot_count key cmp s cursor next was is before after out fault (inl e) = rw e.1.store
-advance_keeps_slot_count key cmp s cursor next was is before after out fault (inr e) = next_error_keeps_slot_count s cursor was is before after fault e.1
+advance_keeps_slot_count key cmp s cursor next was is before after out fault (inl (_, e)) = rw e.store
+advance_keeps_slot_count key cmp s cursor next was is before after out fault (inr (_, e)) = next_error_keeps_slot_count s cursor was is before after fault e
 
 -- a write failed, or reading the next line did
 abbrev pub AdvanceErrPost : Side → Sorted → Reader → Reader → Slots → Slots → Output → MergeFault → Type 0
@@ -285,7 +283,7 @@ pub within_size : (tool : MergeTool) → HoldsTwoLines tool → {before store : 
     → FitsIn tool before (with_line store cursor.previous_slot piece) all
 within_size tool fits s cursor ls all piece slots k up fit =
     let kept = store_with_line s cursor (λ side. max_length (all side)) piece slots k up fit refl in
-    (omega (arith, kept.peak, (fits all).0), omega (arith, kept.slots, (fits all).1))
+    omega (arith, kept.peak, kept.slots, fits all)
 
 -- the conditions at the start
 pub record IsOpenMerge (tool : MergeTool) (old : MergeState) : Type 0 where
@@ -301,14 +299,14 @@ pub record IsOpenMerge (tool : MergeTool) (old : MergeState) : Type 0 where
 
 pub open_merge : {tool : MergeTool} {first second : Reader} {out : Output} {store : Slots} → IsKeyOrder tool.cmp → HoldsTwoLines tool → MergeRunPre tool.terminator first second out store
     → IsOpenMerge tool (merge_state first second out store)
-open_merge {tool} {first} {second} {store = store} o fits b = record {
+open_merge {tool} {first} {second} {store = store} o fits b = let (terminator1, terminator2) = b.terminator in let (sound1, sound2) = b.sound in record {
   o = o;
   fits = fits;
-  terminator = both_each (λ (side : Side) (r : Reader). r.terminator ≡ tool.terminator) first second b.terminator.0 b.terminator.1;
-  sound = both_each (λ (side : Side) (r : Reader). IsSound r) first second b.sound.0 b.sound.1;
+  terminator = both_each (λ (side : Side) (r : Reader). r.terminator ≡ tool.terminator) first second terminator1 terminator2;
+  sound = both_each (λ (side : Side) (r : Reader). IsSound r) first second sound1 sound2;
   readable = elim [ First ↦ b.ready.readable1 | Second ↦ b.ready.readable2 ];
   -- a sound reader has not failed
-  unfailed = elim [ First ↦ b.sound.0.unfailed b.ready.opened1 b.ready.readable1 | Second ↦ b.sound.1.unfailed b.ready.opened2 b.ready.readable2 ];
+  unfailed = elim [ First ↦ sound1.unfailed b.ready.opened1 b.ready.readable1 | Second ↦ sound2.unfailed b.ready.opened2 b.ready.readable2 ];
   writable = b.writable;
   allowed = b.ready.allowed;
   empty = b.ready.empty;
@@ -332,9 +330,9 @@ holds_two {tool} fits {store = store} {cursor = cursor} {ls} k slots = record {
   lines = k.lines;
   denied = k.denied;
   fits = λ after peak same all l.
-      let sum = (has_lines_total store.lines (λ side. max_length (ls side)) 0 k.lines).1 in
-      (omega (arith, peak, sum, k.peak, (fits all).0, (l First).1, (l Second).1), omega (arith, same, k.slots, (fits all).1));
-  line = λ s piece all l. within_size tool fits s (cursor s) ls all piece (slots s) k (λ side. omega (arith, (l side).1)) (omega (arith, (l s).1, ap length (put_same s piece (λ side. []))));
+      let sum = (has_lines_total store.lines (λ side. max_length (ls side)) 0 k.lines).most in
+      (omega (arith, peak, sum, k.peak, fits all, (l First).longest, (l Second).longest), omega (arith, same, k.slots, fits all));
+  line = λ s piece all l. within_size tool fits s (cursor s) ls all piece (slots s) k (λ side. omega (arith, (l side).longest)) (omega (arith, (l s).longest, ap length (put_same s piece (λ side. []))));
 }
 
 -- the cursors between two steps, for any output
@@ -343,14 +341,19 @@ pub record CursorsInvariant (tool : MergeTool) (old : MergeState) (reader : Side
   pub holds : StoreInvariant tool old.store reader cursor store ls
   pub slots : (side : Side) → HasSlots side (cursor side)
 
+-- the two slots change places
+other_slots : (s : Side) (cursor : Sorted) → HasSlots s cursor → HasSlots s (record cursor { current_slot = cursor.previous_slot; previous_slot = cursor.current_slot })
+other_slots s cursor (inl (current, previous)) = inr (previous, current)
+other_slots s cursor (inr (current, previous)) = inl (previous, current)
+
 pub slots_on : {key : Key} {cmp : Cmp} {cursor next : Sorted} {was is : Reader} {before after : Slots} (s : Side) → HasSlots s cursor → NextOkPost key cmp cursor next was is before after → HasSlots s next
-slots_on s h (inl e) = rw e.cursor (⊎_elim (λ k. inr (k.1, k.0)) (λ k. inl (k.1, k.0)) h)
-slots_on s h (inr e) = rw e.cursor (⊎_elim (λ k. inr (k.1, k.0)) (λ k. inl (k.1, k.0)) h)
+slots_on {cursor = cursor} s h (inl e) = rw e.cursor (other_slots s cursor h)
+slots_on {cursor = cursor} s h (inr e) = rw e.cursor (other_slots s cursor h)
 
 module _ {tool : MergeTool} {old : MergeState} (w : IsOpenMerge tool old) {reader : Side → Reader} {cursor : Side → Sorted} {store : Slots} {ls p : Side → Lines} {b : Side → Bound}
     (a : CursorsInvariant tool old reader cursor store ls p b) where
   four : 4 ≤ length store.lines
-  four = (has_lines_total store.lines (λ side. max_length (ls side)) 0 a.holds.lines).0
+  four = (has_lines_total store.lines (λ side. max_length (ls side)) 0 a.holds.lines).four
 
   pub none_failed : (side : Side) → (reader side).failed ≡ (old.reader side).failed
   none_failed side = (a.sides side).lines_read.advance_ok.failed
@@ -382,14 +385,14 @@ module _ {tool : MergeTool} {old : MergeState} (w : IsOpenMerge tool old) {reade
   -- the iteration failed, after the lines `q` were processed
   pub iteration_fails : (s : Side) → (cursor s).status ≡ Head → {q : Side → Lines} {out : Output} → MergeInvariant tool b q old.out out × LagInvariant tool b q old.out out → q s ≡ ls s → ReadFactsBy (other s) (q (other s))
       → {new : Reader} {after : Slots} {fault : MergeFault} → AdvanceErrPost s (cursor s) (reader s) new store after out fault → MergePost tool old (state_by_side (with_side s new reader) out after) (Err fault)
-  iteration_fails s head {q} {out} m same rest {new} {after} {fault} (inl e) = same_state tool old s (state_by_side reader out store) out new after fault e.0 e.1 (exit_is_merge_post _ w.o _ _ _ (λ side. []) _ q _
-      (side_case (λ side. ReadFactsBy side (q side)) s (rw same (passing_now s head)) rest) m.0 m.1 (Err Write) (record { write_failed = e.1.write_failed; failed = none_failed; denied = a.holds.denied })
+  iteration_fails s head {q} {out} (m, lag) same rest {new} {after} {fault} (inl (is_write, e)) = same_state tool old s (state_by_side reader out store) out new after fault is_write e (exit_is_merge_post _ w.o _ _ _ (λ side. []) _ q _
+      (side_case (λ side. ReadFactsBy side (q side)) s (rw same (passing_now s head)) rest) m lag (Err Write) (record { write_failed = e.write_failed; failed = none_failed; denied = a.holds.denied })
       (no_failure _) tt (both_begun begun) (a.holds.fits store (omega arith) refl))
-  iteration_fails s head {q} {out} m same rest {new} {after} {fault} (inr e) =
+  iteration_fails s head {q} {out} (m, _) same rest {new} {after} {fault} (inr (clean, e)) =
       let h = at_current_line head (a.sides s) in
-      fails tool w.o old (state_by_side reader out store) ls q b m.0 w.unfailed none_failed e.0 s (cursor s) new after fault
+      fails tool w.o old (state_by_side reader out store) ls q b m w.unfailed none_failed clean s (cursor s) new after fault
       (λ r piece reads free sound. rw same (passing s head r piece reads free sound)) (sym same) (Some (tool.key s (line store (cursor s).current_slot))) (rw same h.sorted_up_to) rest (λ r piece free. both_begun begun) a.holds.denied
-      (a.holds.line s) e.1
+      (a.holds.line s) e
 
   -- the slots are emptied at the end
   module _ {out : Output} (m : MergeInvariant tool b p old.out out) (clean : out.write_failed ≡ false) {after : Slots} (clear : ClearFourSlotsPost store after) where
@@ -398,7 +401,7 @@ module _ {tool : MergeTool} {old : MergeState} (w : IsOpenMerge tool old) {reade
         (a.holds.fits after clear.peak clear.slots)
 
     empty : total_bytes after.lines ≡ 0
-    empty = omega (arith, clear.emptied, (has_lines_total store.lines (λ side. max_length (ls side)) 0 a.holds.lines).2)
+    empty = omega (arith, clear.emptied, (has_lines_total store.lines (λ side. max_length (ls side)) 0 a.holds.lines).is)
 
     denied : after.denied ≡ false
     denied = clear.denied ∙ a.holds.denied
@@ -407,7 +410,7 @@ module _ {tool : MergeTool} {old : MergeState} (w : IsOpenMerge tool old) {reade
     ends_well step =
         let e = all_ended tool _ _ _ _ _ _ _ a.sides step in
         let short = λ (side : Side). (a.sides side).lines_read.advance_ok.short ((w.sound side).long (w.readable side)) in
-        concludes (Ok tt) (record { done = λ side. (e side).1; fault = fault; failed = none_failed; short = short; clean = clean; denied = denied; empty = empty }) (λ side. (e side).0)
+        concludes (Ok tt) (record { done = λ side. (let (_, done) = e side in done); fault = fault; failed = none_failed; short = short; clean = clean; denied = denied; empty = empty }) (λ side. (let (none, _) = e side in none))
 
     pub ends_fallen : {s : Side} {n : ℕ} → IsDisorderDecided tool.cmp tool.key cursor store s n → MergePost tool old (state_by_side reader out after) (Err (faults.Disorder s n))
     ends_fallen {s} {n} step =
@@ -441,7 +444,7 @@ module _ {tool : MergeTool} {old : MergeState} (w : IsOpenMerge tool old) {reade
 
 -- the fault of a call is returned
 pub err_is : {T E : Type 0} {r : Result T E} {fault : E} → (y : E) × (r ≡ Err y) × (y ≡ fault) → r ≡ Err fault
-err_is x = x.1 ∙ ap (λ y. Err y) x.2
+err_is (_, is, same) = is ∙ ap (λ y. Err y) same
 
 -- the remaining work
 abbrev pub reads_ahead : (Side → Reader) → Sorted → Sorted → ℕ
