@@ -119,10 +119,6 @@ pub first_word_span : (end : ℕ) (line : List ℕ) → IsFirstPieceEnd None lin
 first_word_span end line e some =
     front_span line (nth_field 1 (remaining_fields None (Some line))) end e.within (sym (ap (λ fs. get_or (filter is_nonempty fs) 0 []) e.is ∙ word_first line [] end e.remainder some e.within))
 
--- an empty span at index 0
-pub span_none : (line bytes : List ℕ) → bytes ≡ [] → IsKeySpan line bytes (record { start = 0; end = 0 })
-span_none line bytes none = record { ordered = omega arith; within = omega arith; bytes_are = sym none }
-
 -- ---- an empty word is skipped
 
 empty_word : (field : List ℕ) → (length field == 0) ≡ true → is_nonempty field ≡ false
@@ -336,10 +332,6 @@ after_piece separator line field (Some bytes) end p e even = by separator even p
     by None even test =
         let rest = spaced_suffix true front p.ends.0 bytes (ap (is_single_spaced true) (sym split) ∙ even) test in
         single_spaced_words true bytes rest.1 ∙ ap (λ (b : ℕ). b ∷ bytes) (sym rest.0)
-
-pub field_of : {separator : Option ℕ} {number : ℕ} {line : List ℕ} {span : Span} → IsFieldAt separator number line span
-    → slice_range line span.start span.end ≡ nth_field number (join_fields separator line)
-field_of {separator} {number} {line} f = ap (λ (l : Lines). get_or l 0 []) (sym f.is) ∙ get_or-drop (number - 1) (join_fields separator line) 0 [] ∙ ap (λ (n : ℕ). get_or (join_fields separator line) n []) (omega arith)
 
 remove_past : (fs : Lines) (i : ℕ) → drop i fs ≡ [] → remove fs i ≡ fs
 remove_past [] zero none = refl

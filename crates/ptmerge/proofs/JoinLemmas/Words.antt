@@ -296,9 +296,6 @@ length-after_run [] = omega arith
 length-after_run (true ∷ bits) = omega (arith, length-after_ones bits)
 length-after_run (false ∷ bits) = omega (arith, length-after_run bits)
 
-some_after_ones : (bits : List Bool) → 0 < mask_l (after_ones bits)
-some_after_ones bits = omega (arith, plus_one bits)
-
 some_after_run : (bits : List Bool) → 0 < mask_l bits → 0 < mask_l (after_run bits)
 some_after_run bits some = omega (arith, or_less bits some)
 

@@ -286,6 +286,8 @@ no_lines_left end done (x ∷ rest) same = absurd (omega (
 
 module _ (tool : MergeTool) (o : IsKeyOrder tool.cmp) (old new : MergeState) (now : Side → Reader) (piece : Side → List ℕ) (ls p : Side → Lines) (b : Side → Bound)
     (g : (side : Side) → ReadFacts tool.terminator tool.cmp (tool.key side) (old.reader side) (now side) (new.reader side) (piece side) (ls side) (p side) (b side)) where
+  open tool use {cmp, key}
+
   abbrev pub given : Side → Received
   given side = received_with ((g side).lines_read.given ++ piece side) (new.reader side)
 
@@ -294,7 +296,7 @@ module _ (tool : MergeTool) (o : IsKeyOrder tool.cmp) (old new : MergeState) (no
       let rest = λ (side : Side). (g side).processed_prefix.future (w side).more (is_continuation (b side) (w side).more (λ e. (w side).done ((g side).nothing_follows e))) in
       record {
         r = λ side. (rest side).rest;
-        parts = λ side. ap (sorted_prefix tool.cmp (tool.key side)) (w side).is ∙ (rest side).is;
+        parts = λ side. ap (sorted_prefix cmp (key side)) (w side).is ∙ (rest side).is;
         may_follow = λ side. (rest side).may_follow;
         may_disorder = λ side. rw (w side).is (rest side).may_disorder;
       }
@@ -314,8 +316,8 @@ module _ (tool : MergeTool) (o : IsKeyOrder tool.cmp) (old new : MergeState) (no
   -- The entries of the lines `front` were written by a time at which no write had failed, and then `bytes`; the
   -- processed lines are `front` followed by `tail`.
   module _ (front tail : Side → Lines) (bound : Side → Bound) (split : (side : Side) → p side ≡ front side ++ tail side)
-      (under : (of side : Side) → EachKey (IsUnder tool.cmp (bound of)) (tool.key side) (p side)) (before : (of side : Side) → EachKey (IsUnder tool.cmp (b of)) (tool.key side) (p side))
-      (may_follow : (side : Side) (r : Lines) → MayFollow tool.cmp (tool.key side) (b side) r → MayFollow tool.cmp (tool.key side) (bound side) (tail side ++ r))
+      (under : (of side : Side) → EachKey (IsUnder cmp (bound of)) (key side) (p side)) (before : (of side : Side) → EachKey (IsUnder cmp (b of)) (key side) (p side))
+      (may_follow : (side : Side) (r : Lines) → MayFollow cmp (key side) (b side) r → MayFollow cmp (key side) (bound side) (tail side ++ r))
       {mid : Output} (clean : mid.write_failed ≡ false) (wrote : PushEffect old.out mid (unlines tool.terminator (entries_by_key tool all_keys front))) {bytes : List ℕ} (more : PushEffect mid new.out bytes) where
     future : (side : Side) → LinesToCome tool side (known_lines tool.terminator (given side)) (p side) (tail side) (bound side)
     future side =
@@ -324,7 +326,7 @@ module _ (tool : MergeTool) (o : IsKeyOrder tool.cmp) (old new : MergeState) (no
 
     pub exit_facts : (done : Lines) → unlines tool.terminator (entries_by_key tool all_keys front) ++ bytes ≡ unlines tool.terminator done → {result : Result (Unit {0}) MergeFault} → MergeEndPost old new result
         → ((all : Side → Lines) → ((side : Side) → Continues (now side) (ls side) (all side)) → (rest : Lines) × (merged_entries tool all ≡ done ++ rest))
-        → ((side : Side) → (new.reader side).failed ≡ true → IsFailedRead tool.cmp (tool.key side) (new.reader side) (ls side) (p side))
+        → ((side : Side) → (new.reader side).failed ≡ true → IsFailedRead cmp (key side) (new.reader side) (ls side) (p side))
         → ((input : Side → List ℕ) → AreConsistent given input → IsExactMerge tool input (unlines tool.terminator done) result) → FirstReads tool.terminator old.reader now new.reader ls piece
         → LeavesWork tool new now ls done result → Fits tool old.store now ls piece new.store → MergePost tool old new result
     exit_facts done is ends all failed is_exact order left fits = record {
@@ -341,13 +343,13 @@ module _ (tool : MergeTool) (o : IsKeyOrder tool.cmp) (old new : MergeState) (no
           let f = failed side fail in
           let e = (known side).exact f.buffered f.eof ∙ f.all in
           let b = decided_of_passed tool o (λ s. (new.reader s).eof) (λ s. known_lines tool.terminator (given s)) side f.eof
-          (ap (first_disorder tool.cmp (tool.key side)) (e ∙ sym (append-nil (p side))) ∙ f.sorted_up_to.may_disorder []) front (λ s. record {
+          (ap (first_disorder cmp (key side)) (e ∙ sym (append-nil (p side))) ∙ f.sorted_up_to.may_disorder []) front (λ s. record {
             rest = [];
             tail = tail s ++ (future s).rest;
-            same = append-nil (sorted_prefix tool.cmp (tool.key s) (known_lines tool.terminator (given s))) ∙ (future s).is
+            same = append-nil (sorted_prefix cmp (key s) (known_lines tool.terminator (given s))) ∙ (future s).is
                 ∙ ap (λ (l : Lines). l ++ (future s).rest) (split s) ∙ append_assoc (front s) (tail s) (future s).rest;
             none_rest = tt;
-            none_tail = rw e (past_none tool.cmp o (tool.key side) (tool.key s) (bound s) (p side) (tail s ++ (future s).rest) (under s side) (future s).may_follow);
+            none_tail = rw e (past_none cmp o (key side) (key s) (bound s) (p side) (tail s ++ (future s).rest) (under s side) (future s).may_follow);
           }) in
           record { rest = b.rest ++ bytes; is = sym is ∙ ap (λ (l : List ℕ). l ++ bytes) b.is ∙ append_assoc (decided_output tool given) b.rest bytes };
       -- everything was written that was decided two blocks of an input earlier
@@ -355,9 +357,9 @@ module _ (tool : MergeTool) (o : IsKeyOrder tool.cmp) (old new : MergeState) (no
           (lag_bound tool o given front _ tail _ backs split under future of) wrote clean new.out bytes more);
       -- no disorder was decided then
       stops_at_disorder = λ of clean_then.
-          let f = first_disorder tool.cmp (tool.key (other of)) (known_lines tool.terminator (given (other of))) in
+          let f = first_disorder cmp (key (other of)) (known_lines tool.terminator (given (other of))) in
           unsettled tool o given front _ tail _ backs split under future of
-          (EachKey-weaker _ _ (λ k u. under_fall tool.cmp o (b (other of)) k f u (whole_input_split.may_disorder (other of))) _ _ (before (other of) of));
+          (EachKey-weaker _ _ (λ k u. under_fall cmp o (b (other of)) k f u (whole_input_split.may_disorder (other of))) _ _ (before (other of) of));
       first_reads = λ clean_then. record {
         second_unread = λ none. ⊎_elim (λ begun. absurd (has_line First begun none)) (λ same. same ∙ (λ i. record (old.reader Second) { terminator = terminator_is Second i })) order.first;
         first_waits = λ none. ⊎_elim (λ begun. absurd (has_line Second begun none))
@@ -386,10 +388,10 @@ module _ (tool : MergeTool) (o : IsKeyOrder tool.cmp) (old new : MergeState) (no
             is ∙ ap (λ (l : Lines). done ++ l) (no_lines_left tool.terminator done rest (same ∙ ap (unlines tool.terminator) is)) ∙ append-nil done
 
   pub exit_is_merge_post : MergeInvariant tool b p old.out new.out → LagInvariant tool b p old.out new.out → (result : Result (Unit {0}) MergeFault) → MergeEndPost old new result
-      → ((side : Side) → (new.reader side).failed ≡ true → IsFailedRead tool.cmp (tool.key side) (new.reader side) (ls side) (p side)) → IsExactExit tool new b result
+      → ((side : Side) → (new.reader side).failed ≡ true → IsFailedRead cmp (key side) (new.reader side) (ls side) (p side)) → IsExactExit tool new b result
       → FirstReads tool.terminator old.reader now new.reader ls piece → Fits tool old.store now ls piece new.store → MergePost tool old new result
   exit_is_merge_post m lag_invariant result ends failed concludes order fits = exit_facts lag_invariant.front lag_invariant.tail b lag_invariant.split m.under m.under lag_invariant.may_follow lag_invariant.clean lag_invariant.wrote lag_invariant.more _ lag_invariant.all ends
-      (λ all w. let s = input_split_of all w in (entries_by_key tool (is_up_to tool.cmp (disorder tool all)) s.r, input_split o m s))
+      (λ all w. let s = input_split_of all w in (entries_by_key tool (is_up_to cmp (disorder tool all)) s.r, input_split o m s))
       failed (by result concludes) order (left_by result concludes) fits
     where
       done : Lines
@@ -399,7 +401,7 @@ module _ (tool : MergeTool) (o : IsKeyOrder tool.cmp) (old new : MergeState) (no
       input_split_in input a = input_split_of (lines_of tool input) (λ side. (input_lines input a side).continues)
 
       later : (input : Side → List ℕ) → AreConsistent given input → Lines
-      later input a = entries_by_key tool (is_up_to tool.cmp (disorder tool (lines_of tool input))) (input_split_in input a).r
+      later input a = entries_by_key tool (is_up_to cmp (disorder tool (lines_of tool input))) (input_split_in input a).r
 
       all_of : (input : Side → List ℕ) (a : AreConsistent given input) → unlines tool.terminator (merged_entries tool (lines_of tool input)) ≡ unlines tool.terminator (done ++ later input a)
       all_of input a = ap (unlines tool.terminator) (input_split o m (input_split_in input a))
@@ -412,9 +414,9 @@ module _ (tool : MergeTool) (o : IsKeyOrder tool.cmp) (old new : MergeState) (no
       by (Ok u) nothing_follows input a =
           let s = input_split_in input a in
           let none : (side : Side) → s.r side ≡ [] = λ side. rw (nothing_follows side) at (s.may_follow side) in
-          let no_disorder : (side : Side) → first_disorder tool.cmp (tool.key side) (lines_of tool input side) ≡ None = λ side. rw (nothing_follows side) at (s.may_disorder side) in (
-            sym (all_of input a ∙ ap (unlines tool.terminator) ((λ i. done ++ entries_by_key tool (is_up_to tool.cmp (disorder tool (lines_of tool input))) (λ side. none side i)) ∙ append-nil done)),
-            λ i. earlier_disorder tool.cmp (no_disorder First i) (no_disorder Second i),
+          let no_disorder : (side : Side) → first_disorder cmp (key side) (lines_of tool input side) ≡ None = λ side. rw (nothing_follows side) at (s.may_disorder side) in (
+            sym (all_of input a ∙ ap (unlines tool.terminator) ((λ i. done ++ entries_by_key tool (is_up_to cmp (disorder tool (lines_of tool input))) (λ side. none side i)) ∙ append-nil done)),
+            λ i. earlier_disorder cmp (no_disorder First i) (no_disorder Second i),
           )
       by (Err (faults.Disorder side number)) stop input a =
           let s = input_split_in input a in

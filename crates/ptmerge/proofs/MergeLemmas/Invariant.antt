@@ -212,42 +212,44 @@ module _ (cmp : Cmp) (o : IsKeyOrder cmp) where
   written_is_wanted b1 b2 f1 f2 k h1 h2 u1 u2 = up_to_from k f1 f2 (under_fall b1 k f1 u1 h1) (under_fall b2 k f2 u2 h2)
 
 module _ (tool : MergeTool) where
-  pub all_wanted : (w : List ℕ → Bool) (p : Side → Lines) → ((side : Side) → EachKey (λ k. w k ≡ true) (tool.key side) (p side)) → entries_by_key tool w p ≡ entries_by_key tool all_keys p
+  open tool use {cmp, key}
+
+  pub all_wanted : (w : List ℕ → Bool) (p : Side → Lines) → ((side : Side) → EachKey (λ k. w k ≡ true) (key side) (p side)) → entries_by_key tool w p ≡ entries_by_key tool all_keys p
   all_wanted w p e =
-      let ks = distinct_keys tool.cmp (keys tool p) in
+      let ks = distinct_keys cmp (keys tool p) in
       let pass = filter_all w ks (Each-distinct _ _ _ (Each-append _ _ _ (e First) (e Second))) in
       ap (flat_map (entries_of_key tool p)) (pass ∙ sym (filter_all all_keys ks (Each-all _ (λ k. refl) ks)))
 
-  pub none_wanted : (w : List ℕ → Bool) (r : Side → Lines) → ((side : Side) → EachKey (λ k. w k ≡ false) (tool.key side) (r side)) → entries_by_key tool w r ≡ []
-  none_wanted w r e = ap (flat_map (entries_of_key tool r)) (filter_none w (distinct_keys tool.cmp (keys tool r)) (Each-distinct _ _ _ (Each-append _ _ _ (e First) (e Second))))
+  pub none_wanted : (w : List ℕ → Bool) (r : Side → Lines) → ((side : Side) → EachKey (λ k. w k ≡ false) (key side) (r side)) → entries_by_key tool w r ≡ []
+  none_wanted w r e = ap (flat_map (entries_of_key tool r)) (filter_none w (distinct_keys cmp (keys tool r)) (Each-distinct _ _ _ (Each-append _ _ _ (e First) (e Second))))
 
   -- the entries of the keys that pass the test come first
-  pub downward_splits : IsKeyOrder tool.cmp → (w p : List ℕ → Bool) → IsDownwardClosed tool.cmp p → (ls : Side → Lines)
+  pub downward_splits : IsKeyOrder cmp → (w p : List ℕ → Bool) → IsDownwardClosed cmp p → (ls : Side → Lines)
       → entries_by_key tool w ls ≡ entries_by_key tool (λ k. w k && p k) ls ++ entries_by_key tool (λ k. w k && not (p k)) ls
   downward_splits o w p down ls =
-      let ks = distinct_keys tool.cmp (keys tool ls) in
-      ap (flat_map (entries_of_key tool ls)) (downward_first tool.cmp o w p down ks (ascends_distinct tool.cmp o (keys tool ls)))
+      let ks = distinct_keys cmp (keys tool ls) in
+      ap (flat_map (entries_of_key tool ls)) (downward_first cmp o w p down ks (ascends_distinct cmp o (keys tool ls)))
       ∙ flat_map-append (entries_of_key tool ls) (filter (λ k. w k && p k) ks) (filter (λ k. w k && not (p k)) ks)
 
-  pub downward_is_prefix : IsKeyOrder tool.cmp → (w : List ℕ → Bool) → IsDownwardClosed tool.cmp w → (p : Side → Lines) → (rest : Lines) × (entries_by_key tool all_keys p ≡ entries_by_key tool w p ++ rest)
+  pub downward_is_prefix : IsKeyOrder cmp → (w : List ℕ → Bool) → IsDownwardClosed cmp w → (p : Side → Lines) → (rest : Lines) × (entries_by_key tool all_keys p ≡ entries_by_key tool w p ++ rest)
   downward_is_prefix o w down p = (entries_by_key tool (λ k. not (w k)) p, downward_splits o all_keys w down p)
 
   -- the lines that may follow in both inputs
   abbrev pub MayCome : (Side → Bound) → (Side → Lines) → Type 0
-  MayCome b r = (side : Side) → MayFollow tool.cmp (tool.key side) (b side) (r side)
+  MayCome b r = (side : Side) → MayFollow cmp (key side) (b side) (r side)
 
   -- For all lines that may follow, and for every choice of keys, the entries of the processed lines come first.
   pub record Splits (b : Side → Bound) (p : Side → Lines) : Type 0 where
-    pub split : (w : List ℕ → Bool) (r : Side → Lines) → ((side : Side) → MayFollow tool.cmp (tool.key side) (b side) (r side))
+    pub split : (w : List ℕ → Bool) (r : Side → Lines) → ((side : Side) → MayFollow cmp (key side) (b side) (r side))
         → entries_by_key tool w (λ side. p side ++ r side) ≡ entries_by_key tool w p ++ entries_by_key tool w r
 
   -- lines are processed whose entries precede those of all lines that may follow
   pub splits_step : (b d : Side → Bound) (p f : Side → Lines) → Splits b p
-      → ((side : Side) (r : Lines) → MayFollow tool.cmp (tool.key side) (d side) r → MayFollow tool.cmp (tool.key side) (b side) (f side ++ r))
+      → ((side : Side) (r : Lines) → MayFollow cmp (key side) (d side) r → MayFollow cmp (key side) (b side) (f side ++ r))
       → ((w : List ℕ → Bool) (r : Side → Lines) → MayCome d r → entries_by_key tool w (λ side. f side ++ r side) ≡ entries_by_key tool w f ++ entries_by_key tool w r) → Splits d (λ side. p side ++ f side)
   splits_step b d p f s u front = record {
     split = λ w r c.
-        let none = λ (side : Side). rw append-nil at (u side [] (may_follow_none tool.cmp (tool.key side) (d side))) in
+        let none = λ (side : Side). rw append-nil at (u side [] (may_follow_none cmp (key side) (d side))) in
         (λ i. entries_by_key tool w (λ side. append_assoc (p side) (f side) (r side) i)) ∙ s.split w (λ side. f side ++ r side) (λ side. u side (r side) (c side))
         ∙ ap (λ l. entries_by_key tool w p ++ l) (front w r c) ∙ sym (append_assoc (entries_by_key tool w p) (entries_by_key tool w f) (entries_by_key tool w r)) ∙ ap (λ l. l ++ entries_by_key tool w r) (sym (s.split w f none));
   }
@@ -407,15 +409,17 @@ and_false : (x y z : Bool) → (y ≡ false) ⊎ (z ≡ false) → (x && y && z)
 and_false x y z e = grind arith
 
 module _ (tool : MergeTool) (o : IsKeyOrder tool.cmp) (eof : Side → Bool) (ls : Side → Lines) where
-  pub downward_decided : IsDownwardClosed tool.cmp (is_decided tool eof ls)
+  open tool use {cmp}
+
+  pub downward_decided : IsDownwardClosed cmp (is_decided tool eof ls)
   downward_decided a b g h =
-      all_three _ _ _ _ _ _ (downward_up_to tool.cmp o (disorder tool ls) a b g) (downward_past tool.cmp o (tool.key First) (eof First) (ls First) a b g)
-      (downward_past tool.cmp o (tool.key Second) (eof Second) (ls Second) a b g) h
+      all_three _ _ _ _ _ _ (downward_up_to cmp o (disorder tool ls) a b g) (downward_past cmp o (tool.key First) (eof First) (ls First) a b g)
+      (downward_past cmp o (tool.key Second) (eof Second) (ls Second) a b g) h
 
   -- no key is decided unless it is past in this input
-  pub not_decided : (side : Side) (k : List ℕ) → is_past tool.cmp (tool.key side) (eof side) (ls side) k ≡ false → is_decided tool eof ls k ≡ false
+  pub not_decided : (side : Side) (k : List ℕ) → is_past cmp (tool.key side) (eof side) (ls side) k ≡ false → is_decided tool eof ls k ≡ false
   not_decided First k e = and_false _ _ _ (inl e)
-  not_decided Second k e = and_false (is_up_to tool.cmp (disorder tool ls) k) (is_past tool.cmp (tool.key First) (eof First) (ls First) k) _ (inr e)
+  not_decided Second k e = and_false (is_up_to cmp (disorder tool ls) k) (is_past cmp (tool.key First) (eof First) (ls First) k) _ (inr e)
 
 -- two lists that continue the lines read so far
 pub record InputSplit (tool : MergeTool) (b : Side → Bound) (p ls : Side → Lines) : Type 0 where

@@ -153,33 +153,35 @@ of_other cmp Second f test none calm some = rw none (elim (f First) as (λ g. f 
 
 -- one input is in order, and has not ended
 module _ (tool : MergeTool) (o : IsKeyOrder tool.cmp) (eof : Side → Bool) (ls : Side → Lines) (of : Side) (going : eof of ≡ false) (no_disorder : first_disorder tool.cmp (tool.key of) (ls of) ≡ None) where
+  open tool use {cmp, terminator}
+
   -- a key that is not below its last key is not decided
-  undecided : (k : List ℕ) → is_below tool.cmp k (last_or None (map (tool.key of) (ls of))) ≡ false → is_decided tool eof ls k ≡ false
+  undecided : (k : List ℕ) → is_below cmp k (last_or None (map (tool.key of) (ls of))) ≡ false → is_decided tool eof ls k ≡ false
   undecided k h = not_decided tool o eof ls of k (rw (going, no_disorder) h)
 
   -- only processed lines decide the output
-  pub decided_of_passed : (p : Side → Lines) → ((side : Side) → Differ tool (last_or None (map (tool.key of) (ls of))) (tool.key side) (sorted_prefix tool.cmp (tool.key side) (ls side)) (p side))
-      → IsPrefix (unlines tool.terminator (decided_entries tool eof ls)) (unlines tool.terminator (entries_by_key tool all_keys p))
+  pub decided_of_passed : (p : Side → Lines) → ((side : Side) → Differ tool (last_or None (map (tool.key of) (ls of))) (tool.key side) (sorted_prefix cmp (tool.key side) (ls side)) (p side))
+      → IsPrefix (unlines terminator (decided_entries tool eof ls)) (unlines terminator (entries_by_key tool all_keys p))
   decided_of_passed p differ =
       let dec = is_decided tool eof ls in
       let (rest, is) = downward_is_prefix tool o dec (downward_decided tool o eof ls) p in
       let known : decided_entries tool eof ls ≡ entries_by_key tool dec p =
-      sym (by_keys_kept dec tool o (λ side. sorted_prefix tool.cmp (tool.key side) (ls side)) all_keys) ∙ (λ i. entries_by_key tool all_keys (λ side. kept side i)) ∙ by_keys_kept dec tool o p all_keys in
-      record { rest = unlines tool.terminator rest; is = ap (unlines tool.terminator) (is ∙ ap (λ (l : Lines). l ++ rest) (sym known)) ∙ unlines-append tool.terminator (decided_entries tool eof ls) rest }
+      sym (by_keys_kept dec tool o (λ side. sorted_prefix cmp (tool.key side) (ls side)) all_keys) ∙ (λ i. entries_by_key tool all_keys (λ side. kept side i)) ∙ by_keys_kept dec tool o p all_keys in
+      record { rest = unlines terminator rest; is = ap (unlines terminator) (is ∙ ap (λ (l : Lines). l ++ rest) (sym known)) ∙ unlines-append terminator (decided_entries tool eof ls) rest }
     where
-      kept : (side : Side) → filter (λ line. is_decided tool eof ls (tool.key side line)) (sorted_prefix tool.cmp (tool.key side) (ls side))
+      kept : (side : Side) → filter (λ line. is_decided tool eof ls (tool.key side line)) (sorted_prefix cmp (tool.key side) (ls side))
           ≡ filter (λ line. is_decided tool eof ls (tool.key side line)) (p side)
       kept side =
           let d = differ side in
           kept_same (is_decided tool eof ls) (tool.key side) _ _ d.rest d.tail d.same (EachKey-weaker _ _ undecided _ _ d.none_rest) (EachKey-weaker _ _ undecided _ _ d.none_tail)
 
   -- the disorder of the other input comes after its keys, so no disorder is decided
-  not_settled : EachKey (λ k. IsDisorderFrom tool.cmp k (first_disorder tool.cmp (tool.key (other of)) (ls (other of)))) (tool.key of) (ls of) → lines_decide_disorder tool eof ls (disorder tool ls) ≡ false
+  not_settled : EachKey (λ k. IsDisorderFrom cmp k (first_disorder cmp (tool.key (other of)) (ls (other of)))) (tool.key of) (ls of) → lines_decide_disorder tool eof ls (disorder tool ls) ≡ false
   not_settled up =
       -- a bound of all keys is not below the last one
-      let above = λ (e : List ℕ) (most : EachKey (λ k. AtMost tool.cmp k e) (tool.key of) (ls of)).
-      (let (below, _) = past_none tool.cmp o (tool.key of) (λ k. k) (AtLeast e) (ls of) (e ∷ []) most (self_at_most tool.cmp o e, tt) in undecided e below) in
-      of_other tool.cmp of (λ side. first_disorder tool.cmp (tool.key side) (ls side)) (lines_decide_disorder tool eof ls) no_disorder refl (λ d is. above d.last_key (rw is at up))
+      let above = λ (e : List ℕ) (most : EachKey (λ k. AtMost cmp k e) (tool.key of) (ls of)).
+      (let (below, _) = past_none cmp o (tool.key of) (λ k. k) (AtLeast e) (ls of) (e ∷ []) most (self_at_most cmp o e, tt) in undecided e below) in
+      of_other cmp of (λ side. first_disorder cmp (tool.key side) (ls side)) (lines_decide_disorder tool eof ls) no_disorder refl (λ d is. above d.last_key (rw is at up))
 
 -- ---- the output decided two blocks earlier
 
@@ -197,6 +199,8 @@ module _ (tool : MergeTool) (o : IsKeyOrder tool.cmp) (given : Side → Received
     (backs : (side : Side) → LagPoint tool.terminator (given side) (q side)) (split : (side : Side) → q side ≡ p side ++ tail side)
     (under : (of side : Side) → EachKey (IsUnder tool.cmp (bound of)) (tool.key side) (q side))
     (future : (side : Side) → LinesToCome tool side (known_lines tool.terminator (given side)) (q side) (tail side) (bound side)) where
+  open tool use {cmp, terminator}
+
   module _ (of : Side) where
     abbrev whole : Lines
     whole = (backs of).whole
@@ -205,41 +209,41 @@ module _ (tool : MergeTool) (o : IsKeyOrder tool.cmp) (given : Side → Received
     abbrev last : Option (List ℕ)
     last = last_or None (map (tool.key of) whole)
 
-    in_order : IsSortedFrom tool.cmp (tool.key of) None (whole ++ (backs of).rest)
+    in_order : IsSortedFrom cmp (tool.key of) None (whole ++ (backs of).rest)
     in_order =
-        let (own, _) = sorted_from_parts tool.cmp (tool.key of) None (q of) (future of).rest (rw (future of).is at (sorted_from_prefix tool.cmp (tool.key of) (known_lines tool.terminator (given of)))) in
+        let (own, _) = sorted_from_parts cmp (tool.key of) None (q of) (future of).rest (rw (future of).is at (sorted_from_prefix cmp (tool.key of) (known_lines terminator (given of)))) in
         rw (backs of).split at own
 
-    ordered : (sorted_prefix tool.cmp (tool.key of) whole ≡ whole) × (first_disorder tool.cmp (tool.key of) whole ≡ None)
-    ordered = let (own, _) = sorted_from_parts tool.cmp (tool.key of) None whole (backs of).rest in_order in sorted_from_start tool.cmp (tool.key of) whole own
+    ordered : (sorted_prefix cmp (tool.key of) whole ≡ whole) × (first_disorder cmp (tool.key of) whole ≡ None)
+    ordered = let (own, _) = sorted_from_parts cmp (tool.key of) None whole (backs of).rest in_order in sorted_from_start cmp (tool.key of) whole own
 
-    no_disorder : first_disorder tool.cmp (tool.key of) whole ≡ None
+    no_disorder : first_disorder cmp (tool.key of) whole ≡ None
     no_disorder = let (_, none) = ordered in none
 
     -- no line that follows is below that key
-    above : (side : Side) → EachKey (λ k. is_below tool.cmp k last ≡ false) (tool.key side) (tail side ++ (future side).rest)
+    above : (side : Side) → EachKey (λ k. is_below cmp k last ≡ false) (tool.key side) (tail side ++ (future side).rest)
     above side =
-        past_none tool.cmp o (tool.key of) (tool.key side) (bound side) whole (tail side ++ (future side).rest)
-        (front_has (IsUnder tool.cmp (bound side)) (tool.key of) whole (backs of).rest (rw (backs of).split at (under side of))) (future side).may_follow
+        past_none cmp o (tool.key of) (tool.key side) (bound side) whole (tail side ++ (future side).rest)
+        (front_has (IsUnder cmp (bound side)) (tool.key of) whole (backs of).rest (rw (backs of).split at (under side of))) (future side).may_follow
 
     -- the lines of an input are the processed ones, except for lines that are not below that key
     abbrev Differs : Side → Received → Type 0
-    Differs side g = Differ tool last (tool.key side) (sorted_prefix tool.cmp (tool.key side) (known_lines tool.terminator g)) (p side)
+    Differs side g = Differ tool last (tool.key side) (sorted_prefix cmp (tool.key side) (known_lines terminator g)) (p side)
 
     mine : Differs of (backs of).before.earlier
     mine = let (own, _) = ordered in rw ((backs of).whole_is, own) (record {
       rest = (backs of).rest;
       tail = tail of;
       same = sym (backs of).split ∙ split of;
-      none_rest = none_below tool.cmp o (tool.key of) whole (backs of).rest in_order;
-      none_tail = front_has (λ k. is_below tool.cmp k last ≡ false) (tool.key of) (tail of) (future of).rest (above of);
+      none_rest = none_below cmp o (tool.key of) whole (backs of).rest in_order;
+      none_tail = front_has (λ k. is_below cmp k last ≡ false) (tool.key of) (tail of) (future of).rest (above of);
     })
 
     others : (side : Side) → Differs side (given side)
     others side = record {
       rest = [];
       tail = tail side ++ (future side).rest;
-      same = append-nil (sorted_prefix tool.cmp (tool.key side) (known_lines tool.terminator (given side))) ∙ (future side).is
+      same = append-nil (sorted_prefix cmp (tool.key side) (known_lines terminator (given side))) ∙ (future side).is
           ∙ ap (λ (l : Lines). l ++ (future side).rest) (split side) ∙ append_assoc (p side) (tail side) (future side).rest;
       none_rest = tt;
       none_tail = above side;
@@ -251,22 +255,22 @@ module _ (tool : MergeTool) (o : IsKeyOrder tool.cmp) (given : Side → Received
     going : (mix of).eof ≡ false
     going = rw (put_same of (backs of).before.earlier given) (backs of).going
 
-    whole_now : known_lines tool.terminator (mix of) ≡ whole
+    whole_now : known_lines terminator (mix of) ≡ whole
     whole_now = rw (put_same of (backs of).before.earlier given) (backs of).whole_is
 
-    pub lag_bound : ProcessLag {I = Unit {0}} (λ came. decided_output tool (with_side of (came tt) given)) (λ u. given of) (unlines tool.terminator (entries_by_key tool all_keys p))
+    pub lag_bound : ProcessLag {I = Unit {0}} (λ came. decided_output tool (with_side of (came tt) given)) (λ u. given of) (unlines terminator (entries_by_key tool all_keys p))
     lag_bound = record {
       before = λ u. (backs of).before;
-      begins = decided_of_passed tool o (λ side. (mix side).eof) (λ side. known_lines tool.terminator (mix side)) of going (rw whole_now no_disorder) p
+      begins = decided_of_passed tool o (λ side. (mix side).eof) (λ side. known_lines terminator (mix side)) of going (rw whole_now no_disorder) p
           (rw whole_now (put_each Differs of (backs of).before.earlier given mine others));
     }
 
     -- no disorder was decided
-    pub unsettled : EachKey (λ k. IsDisorderFrom tool.cmp k (first_disorder tool.cmp (tool.key (other of)) (known_lines tool.terminator (given (other of))))) (tool.key of) (q of)
+    pub unsettled : EachKey (λ k. IsDisorderFrom cmp k (first_disorder cmp (tool.key (other of)) (known_lines terminator (given (other of))))) (tool.key of) (q of)
         → (before : LaggedInput (given of)) × (disorder_is_decided tool (with_side of before.earlier given) ≡ false)
     unsettled up = (
       (backs of).before,
-      not_settled tool o (λ side. (mix side).eof) (λ side. known_lines tool.terminator (mix side)) of going (rw whole_now no_disorder)
-          (rw (put_other of (backs of).before.earlier given, whole_now) (front_has (λ k. IsDisorderFrom tool.cmp k (first_disorder tool.cmp (tool.key (other of)) (known_lines tool.terminator (given (other of)))))
+      not_settled tool o (λ side. (mix side).eof) (λ side. known_lines terminator (mix side)) of going (rw whole_now no_disorder)
+          (rw (put_other of (backs of).before.earlier given, whole_now) (front_has (λ k. IsDisorderFrom cmp k (first_disorder cmp (tool.key (other of)) (known_lines terminator (given (other of)))))
           (tool.key of) whole (backs of).rest (rw (backs of).split at up))),
     )

@@ -179,6 +179,8 @@ with_key_without key k q (x ∷ xs) n =
     grind (arith, ih, apart, bytes_decides (key x) k)
 
 module _ (tool : MergeTool) (o : IsKeyOrder tool.cmp) where
+  open tool use {cmp}
+
   abbrev nothing_follows : (List ℕ → Bool) → (Side → Lines) → Lines → Lines
   nothing_follows w ls ks = flat_map (entries_of_key tool ls) (filter w ks)
 
@@ -186,29 +188,29 @@ module _ (tool : MergeTool) (o : IsKeyOrder tool.cmp) where
   abbrev pub others_of : List ℕ → (Side → Lines) → Side → Lines
   others_of k ls side = without (tool.key side) k (ls side)
 
-  over_others : (w : List ℕ → Bool) (k : List ℕ) (ls : Side → Lines) (ks : Lines) → Each (Above tool.cmp k) ks → nothing_follows w ls ks ≡ nothing_follows w (others_of k ls) ks
+  over_others : (w : List ℕ → Bool) (k : List ℕ) (ls : Side → Lines) (ks : Lines) → Each (Above cmp k) ks → nothing_follows w ls ks ≡ nothing_follows w (others_of k ls) ks
   over_others w k ls [] e = refl
   over_others w k ls (q ∷ ks) (here, more) =
       let ih = over_others w k ls ks more in
-      let n = above_not_same tool.cmp o k q here in
+      let n = above_not_same cmp o k q here in
       grind (arith, ih, with_key_without (tool.key First) k q (ls First) n, with_key_without (tool.key Second) k q (ls Second) n)
 
   -- The entries of a key that is at most all others come first, followed by those of the lines with other keys.
-  pub least_first : (w : List ℕ → Bool) (k : List ℕ) (ls : Side → Lines) → ((side : Side) → EachKey (AtMost tool.cmp k) (tool.key side) (ls side)) → tool.entries k [] [] ≡ []
+  pub least_first : (w : List ℕ → Bool) (k : List ℕ) (ls : Side → Lines) → ((side : Side) → EachKey (AtMost cmp k) (tool.key side) (ls side)) → tool.entries k [] [] ≡ []
       → entries_by_key tool w ls ≡ cond (w k) (entries_of_key tool ls k) [] ++ entries_by_key tool w (others_of k ls)
-  least_first w k ls e none = by (distinct_least tool.cmp o k (keys tool ls) all)
+  least_first w k ls e none = by (distinct_least cmp o k (keys tool ls) all)
     where
-      all : Each (AtMost tool.cmp k) (keys tool ls)
+      all : Each (AtMost cmp k) (keys tool ls)
       all = Each-append _ _ _ (e First) (e Second)
 
       ds : Lines
-      ds = distinct_keys tool.cmp (others k (keys tool ls))
+      ds = distinct_keys cmp (others k (keys tool ls))
 
       rest : nothing_follows w ls ds ≡ entries_by_key tool w (others_of k ls)
-      rest = over_others w k ls _ (Each-distinct _ _ _ (others_above tool.cmp o k (keys tool ls) all))
-          ∙ ap (λ l. nothing_follows w (others_of k ls) (distinct_keys tool.cmp l)) (others-keys (tool.key First) (tool.key Second) k (ls First) (ls Second))
+      rest = over_others w k ls _ (Each-distinct _ _ _ (others_above cmp o k (keys tool ls) all))
+          ∙ ap (λ l. nothing_follows w (others_of k ls) (distinct_keys cmp l)) (others-keys (tool.key First) (tool.key Second) k (ls First) (ls Second))
 
-      by : (distinct_keys tool.cmp (keys tool ls) ≡ k ∷ ds) ⊎ ((distinct_keys tool.cmp (keys tool ls) ≡ ds) × Each (λ y. bytes_eq y k ≡ false) (keys tool ls))
+      by : (distinct_keys cmp (keys tool ls) ≡ k ∷ ds) ⊎ ((distinct_keys cmp (keys tool ls) ≡ ds) × Each (λ y. bytes_eq y k ≡ false) (keys tool ls))
           → entries_by_key tool w ls ≡ cond (w k) (entries_of_key tool ls k) [] ++ entries_by_key tool w (others_of k ls)
       by (inl d) = rw (d, ← rest) (grind arith)
       by (inr (without_k, absent)) =
@@ -220,15 +222,15 @@ module _ (tool : MergeTool) (o : IsKeyOrder tool.cmp) where
   lines_with_key-front key k [] r e = (refl, refl)
   lines_with_key-front key k (x ∷ f) r (here, more) = let (ih, others) = lines_with_key-front key k f r more in rw (same_bytes here) (ap (λ l. x ∷ l) ih, others)
 
-  pub at_most-same : (key : Key) (k : List ℕ) (f r : Lines) → EachKey (λ x. x ≡ k) key f → EachKey (AtMost tool.cmp k) key r → EachKey (AtMost tool.cmp k) key (f ++ r)
-  at_most-same key k f r e h = EachKey-append _ key f r (EachKey-weaker _ _ (λ x is. rw is (self_at_most tool.cmp o k)) key f e) h
+  pub at_most-same : (key : Key) (k : List ℕ) (f r : Lines) → EachKey (λ x. x ≡ k) key f → EachKey (AtMost cmp k) key r → EachKey (AtMost cmp k) key (f ++ r)
+  at_most-same key k f r e h = EachKey-append _ key f r (EachKey-weaker _ _ (λ x is. rw is (self_at_most cmp o k)) key f e) h
 
   glued : (t : Bool) (all a b rest : Lines) → all ≡ a ++ b → cond t all [] ++ rest ≡ cond t a [] ++ (cond t b [] ++ rest)
   glued t all a b rest e = grind (arith, append_assoc a b rest)
 
   -- Lines of the least key, followed by lines with no lesser keys.
   module _ (w : List ℕ → Bool) (k : List ℕ) (f r : Side → Lines) (s : (side : Side) → EachKey (λ x. x ≡ k) (tool.key side) (f side))
-      (a : (side : Side) → EachKey (AtMost tool.cmp k) (tool.key side) (r side)) (none : tool.entries k [] [] ≡ []) where
+      (a : (side : Side) → EachKey (AtMost cmp k) (tool.key side) (r side)) (none : tool.entries k [] [] ≡ []) where
     pub front_is : entries_by_key tool w (λ side. f side ++ r side)
         ≡ cond (w k) (tool.entries k (f First ++ lines_with_key (tool.key First) (r First) k) (f Second ++ lines_with_key (tool.key Second) (r Second) k)) [] ++ entries_by_key tool w (others_of k r)
     front_is =
@@ -237,7 +239,7 @@ module _ (tool : MergeTool) (o : IsKeyOrder tool.cmp) where
         ∙ (λ i. cond (w k) (tool.entries k ((in_front First).0 i) ((in_front Second).0 i)) [] ++ entries_by_key tool w (λ side. (in_front side).1 i))
 
   pub front_first : (w : List ℕ → Bool) (k : List ℕ) (f r : Side → Lines) → ((side : Side) → EachKey (λ x. x ≡ k) (tool.key side) (f side))
-      → ((side : Side) → EachKey (AtMost tool.cmp k) (tool.key side) (r side)) → tool.entries k [] [] ≡ []
+      → ((side : Side) → EachKey (AtMost cmp k) (tool.key side) (r side)) → tool.entries k [] [] ≡ []
       → tool.entries k (f First ++ lines_with_key (tool.key First) (r First) k) (f Second ++ lines_with_key (tool.key Second) (r Second) k) ≡ tool.entries k (f First) (f Second) ++ entries_of_key tool r k
       → entries_by_key tool w (λ side. f side ++ r side) ≡ entries_by_key tool w f ++ entries_by_key tool w r
   front_first w k f r s a none law =
@@ -246,5 +248,5 @@ module _ (tool : MergeTool) (o : IsKeyOrder tool.cmp) where
       ∙ (λ i. sym first i ++ sym (least_first w k r a none) i)
 
   -- no line with a greater key has the key
-  pub lines_with_key-above : (key : Key) (k : List ℕ) (r : Lines) → EachKey (Above tool.cmp k) key r → lines_with_key key r k ≡ []
-  lines_with_key-above key k r a = kept_none (λ y. bytes_eq y k) key r (EachKey-weaker _ _ (λ y g. above_not_same tool.cmp o k y g) _ _ a)
+  pub lines_with_key-above : (key : Key) (k : List ℕ) (r : Lines) → EachKey (Above cmp k) key r → lines_with_key key r k ≡ []
+  lines_with_key-above key k r a = kept_none (λ y. bytes_eq y k) key r (EachKey-weaker _ _ (λ y g. above_not_same cmp o k y g) _ _ a)

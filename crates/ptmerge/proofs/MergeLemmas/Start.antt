@@ -13,25 +13,27 @@ fresh_slots : (s : Side) → HasSlots s (initial_cursor s)
 fresh_slots s = inr (refl, refl)
 
 module _ {tool : MergeTool} {old : MergeState} (w : IsOpenMerge tool old) where
+  open tool use {cmp, key, terminator}
+
   abbrev unstarted : MergeInputs
   unstarted = record { reader = old.reader; store = old.store }
 
   -- an input was advanced to its first line
-  first_line : (side : Side) {new : Reader} {cursor : Sorted} {before after : Slots} → 4 ≤ length before.lines → NextOkPost (tool.key side) tool.cmp (initial_cursor side) cursor (old.reader side) new before after
-      → SideAfterNext tool.terminator tool.cmp (tool.key side) (old.reader side) new cursor (base_slot side) before after [] None
+  first_line : (side : Side) {new : Reader} {cursor : Sorted} {before after : Slots} → 4 ≤ length before.lines → NextOkPost (key side) cmp (initial_cursor side) cursor (old.reader side) new before after
+      → SideAfterNext terminator cmp (key side) (old.reader side) new cursor (base_slot side) before after [] None
   first_line side four comes =
       let (apart, low, _, _, _) = own_slots side (initial_cursor side) (fresh_slots side) in
       next_invariant _ _ w.o _ _ _ _ _ _ _ _ _ (omega (arith, low, slot_low side)) apart (lines_read_none (w.readable side) (w.terminator side)) refl sorted_up_to_none refl comes
 
-  unread_side : (side : Side) → ReadFacts tool.terminator tool.cmp (tool.key side) (old.reader side) (old.reader side) (old.reader side) [] [] [] NoBound
+  unread_side : (side : Side) → ReadFacts terminator cmp (key side) (old.reader side) (old.reader side) (old.reader side) [] [] [] NoBound
   unread_side side = read_facts_at_start (w.readable side) (w.terminator side) (reads_nothing (old.reader side)) tt (w.sound side)
 
   abbrev no_lines : Side → Lines
   no_lines side = []
 
   -- the first input was advanced to its first line
-  module _ {first : Sorted} {new : MergeInputs} {Then : Slots → Type 0} (s : StartFirstPost tool.key tool.cmp first unstarted new Then) where
-    n : SideAfterNext tool.terminator tool.cmp (tool.key First) (old.reader First) (new.reader First) first (base_slot First) s.made s.mid [] None
+  module _ {first : Sorted} {new : MergeInputs} {Then : Slots → Type 0} (s : StartFirstPost key cmp first unstarted new Then) where
+    n : SideAfterNext terminator cmp (key First) (old.reader First) (new.reader First) first (base_slot First) s.made s.mid [] None
     n = first_line First (omega (arith, s.four.slots)) s.came
 
     half_store : StoreOfLines old.store s.mid (λ side. max_length (both n.now_ls [] side))
@@ -48,7 +50,7 @@ module _ {tool : MergeTool} {old : MergeState} (w : IsOpenMerge tool old) where
     mid_four : 4 ≤ length s.mid.lines
     mid_four = (has_lines_total s.mid.lines (λ side. max_length (both n.now_ls [] side)) 0 half_store.lines).four
 
-  pub start_ok : (new : MergeInputs) (cursor : Side → Sorted) → HasSlots First (cursor First) → StartOkPost tool.key tool.cmp cursor unstarted new
+  pub start_ok : (new : MergeInputs) (cursor : Side → Sorted) → HasSlots First (cursor First) → StartOkPost key cmp cursor unstarted new
       → LoopInvariant tool (StoreHoldsTwoLines old.store) old (state_by_side (both (new.reader First) (new.reader Second)) old.out new.store) (both (cursor First) (cursor Second))
   start_ok new cursor slots s =
       let f = n s in
@@ -69,7 +71,7 @@ module _ {tool : MergeTool} {old : MergeState} (w : IsOpenMerge tool old) where
 
   -- the merge could not start
   abbrev StartErr : Reader → Reader → Slots → MergeFault → Type 0
-  StartErr new1 new2 after fault = StartErrPost tool.key tool.cmp unstarted (record { reader = both new1 new2; store = after }) fault
+  StartErr new1 new2 after fault = StartErrPost key cmp unstarted (record { reader = both new1 new2; store = after }) fault
 
   module _ {new1 new2 : Reader} {after : Slots} {fault : MergeFault} where
     pub start_fault : StartErr new1 new2 after fault → MergePost tool old (state_by_side (both new1 new2) old.out after) (Err fault)
@@ -84,7 +86,7 @@ module _ {tool : MergeTool} {old : MergeState} (w : IsOpenMerge tool old) where
         let kept = store_of_no_lines f.four w.allowed w.empty in
         rw f.unread (fails tool w.o old (state_by_side old.reader old.out f.made) no_lines no_lines (λ side. NoBound) (merge_invariant_starts tool old.out) w.unfailed (λ side. refl) w.writable
         First (initial_cursor First) new1 after fault (λ r piece. read_facts_at_start (w.readable First) (w.terminator First)) refl None sorted_up_to_none (unread_side Second)
-        (λ r piece free. record { first = inr refl; second = inr (omega (arith, one_line_at_most tool.terminator piece (rw (w.terminator First) at free))) }) kept.denied
+        (λ r piece free. record { first = inr refl; second = inr (omega (arith, one_line_at_most terminator piece (rw (w.terminator First) at free))) }) kept.denied
         (λ piece all l. within_size tool w.fits First (initial_cursor First) no_lines all piece (fresh_slots First) kept (λ side. omega (arith, (l side).longest)) (omega (arith, (l First).longest))) f.fails)
     start_fault (inr (inr f)) =
         let s = f.begins in

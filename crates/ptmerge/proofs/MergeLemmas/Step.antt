@@ -86,28 +86,30 @@ SidesInvariant tool old now cursor store ls p b = (side : Side) → SideInvarian
 module _ (tool : MergeTool) (o : IsKeyOrder tool.cmp) (old now : Side → Reader) (cursor : Side → Sorted) (store : Slots) (ls p : Side → Lines) (b : Side → Bound)
     (sides : SidesInvariant tool old now cursor store ls p b)
     (slots : (side : Side) → HasSlots side (cursor side)) (four : 4 ≤ length store.lines) (s : Side) (head : (cursor s).status ≡ Head) where
-  pub passed_at : IsAtCurrentLine tool.cmp (tool.key s) (cursor s) store (ls s) (p s) (b s)
+  open tool use {cmp, key, terminator}
+
+  pub passed_at : IsAtCurrentLine cmp (key s) (cursor s) store (ls s) (p s) (b s)
   passed_at = at_current_line head (sides s)
 
   abbrev NextOf : Reader → Sorted → Slots → Type 0
-  NextOf new next after = SideAfterNext tool.terminator tool.cmp (tool.key s) (old s) new next (cursor s).previous_slot store after (ls s) (Some (tool.key s (line store (cursor s).current_slot)))
+  NextOf new next after = SideAfterNext terminator cmp (key s) (old s) new next (cursor s).previous_slot store after (ls s) (Some (key s (line store (cursor s).current_slot)))
 
-  pub next_at : (new : Reader) (next : Sorted) (after : Slots) → NextOkPost (tool.key s) tool.cmp (cursor s) next (now s) new store after → NextOf new next after
+  pub next_at : (new : Reader) (next : Sorted) (after : Slots) → NextOkPost (key s) cmp (cursor s) next (now s) new store after → NextOf new next after
   next_at new next after comes =
       let (apart, low, _, _, _) = own_slots s (cursor s) (slots s) in
       next_invariant _ _ o _ _ _ _ _ _ _ _ _ (omega (arith, low, slot_low s)) apart (sides s).lines_read (sides s).number passed_at.sorted_up_to (passed_at.some, refl) comes
 
   module _ (new : Reader) (next : Sorted) (after : Slots) (n : NextOf new next after) where
     -- the other input is unchanged
-    other_stays : SideInvariant tool.terminator tool.cmp (tool.key (other s)) (old (other s)) (now (other s)) (cursor (other s)) after (ls (other s)) (p (other s)) (b (other s))
+    other_stays : SideInvariant terminator cmp (key (other s)) (old (other s)) (now (other s)) (cursor (other s)) after (ls (other s)) (p (other s)) (b (other s))
     other_stays =
         let (apart, apart_previous) = slots_apart s (cursor s) (cursor (other s)) (slots s) (slots (other s)) in
         side_invariant_kept (sides (other s)) (rw n.stored (line_other store (cursor s).previous_slot (cursor (other s)).current_slot n.bytes apart))
         (rw n.stored (line_other store (cursor s).previous_slot (cursor (other s)).previous_slot n.bytes apart_previous))
 
     pub sides_invariant_continues : SidesInvariant tool old (with_side s new now) (with_side s next cursor) after (with_side s n.now_ls ls) (with_side s (ls s) p) (with_side s n.bound b)
-    sides_invariant_continues = elim s as (λ t. SideInvariant tool.terminator tool.cmp (tool.key t) (old t) new next after n.now_ls (ls t) n.bound
-        → SideInvariant tool.terminator tool.cmp (tool.key (other t)) (old (other t)) (now (other t)) (cursor (other t)) after (ls (other t)) (p (other t)) (b (other t))
+    sides_invariant_continues = elim s as (λ t. SideInvariant terminator cmp (key t) (old t) new next after n.now_ls (ls t) n.bound
+        → SideInvariant terminator cmp (key (other t)) (old (other t)) (now (other t)) (cursor (other t)) after (ls (other t)) (p (other t)) (b (other t))
         → SidesInvariant tool old (with_side t new now) (with_side t next cursor) after (with_side t n.now_ls ls) (with_side t (ls t) p) (with_side t n.bound b)) [
           | First ↦ λ x y. elim [ First ↦ x | Second ↦ y ]
           | Second ↦ λ x y. elim [ First ↦ y | Second ↦ x ]
@@ -180,10 +182,12 @@ buffered_not_done some done = absurd (omega (arith, some, ap length done.buffere
 module _ (tool : MergeTool) (o : IsKeyOrder tool.cmp) (old now : MergeState) (ls q : Side → Lines) (b : Side → Bound) (m : MergeInvariant tool b q old.out now.out)
     (unfailed : (side : Side) → (old.reader side).failed ≡ false)
     (none_failed : (side : Side) → (now.reader side).failed ≡ (old.reader side).failed) (clean : now.out.write_failed ≡ false) where
-  abbrev pub ReadFactsOf : Side → Reader → List ℕ → Type 0
-  ReadFactsOf side new piece = ReadFacts tool.terminator tool.cmp (tool.key side) (old.reader side) (now.reader side) new piece (ls side) (q side) (b side)
+  open tool use {cmp, key}
 
-  fails_not : (side : Side) (r : Reader) → r.failed ≡ (old.reader side).failed → r.failed ≡ true → IsFailedRead tool.cmp (tool.key side) r (ls side) (q side)
+  abbrev pub ReadFactsOf : Side → Reader → List ℕ → Type 0
+  ReadFactsOf side new piece = ReadFacts tool.terminator cmp (key side) (old.reader side) (now.reader side) new piece (ls side) (q side) (b side)
+
+  fails_not : (side : Side) (r : Reader) → r.failed ≡ (old.reader side).failed → r.failed ≡ true → IsFailedRead cmp (key side) r (ls side) (q side)
   fails_not side r same fail = absurd (false≢true (sym (same ∙ unfailed side) ∙ fail))
 
   lag_invariant : LagInvariant tool b q old.out now.out
@@ -196,7 +200,7 @@ module _ (tool : MergeTool) (o : IsKeyOrder tool.cmp) (old now : MergeState) (ls
   -- reading the next line of an input failed
   pub fails : (s : Side) (cursor : Sorted) (new : Reader) (after : Slots) (fault : MergeFault)
       → ((r : Reader) (piece : List ℕ) → ReaderAdvance (now.reader s) r piece → IsLine (now.reader s).terminator piece → IsSound r → ReadFactsOf s r piece) → ls s ≡ q s
-      → (last : Option (List ℕ)) → IsSortedUpTo tool.cmp (tool.key s) (q s) last → ReadFactsOf (other s) (now.reader (other s)) []
+      → (last : Option (List ℕ)) → IsSortedUpTo cmp (key s) (q s) last → ReadFactsOf (other s) (now.reader (other s)) []
       → ((r : Reader) (piece : List ℕ) → IsLine (now.reader s).terminator piece → FirstReadsOf s r piece) → now.store.denied ≡ false
       → ((piece : List ℕ) → Fits tool old.store now.reader ls (with_side s piece (λ side. [])) (with_line now.store cursor.previous_slot piece)) → NextErrPost s cursor (now.reader s) new now.store after fault
       → MergePost tool old (record { reader = with_side s new now.reader; out = now.out; store = after }) (Err fault)
@@ -209,7 +213,7 @@ module _ (tool : MergeTool) (o : IsKeyOrder tool.cmp) (old now : MergeState) (ls
         clean = clean;
         denied = rw e.stored roomy;
       })
-      (put_each (λ side (r : Reader). r.failed ≡ true → IsFailedRead tool.cmp (tool.key side) r (ls side) (q side)) s new now.reader
+      (put_each (λ side (r : Reader). r.failed ≡ true → IsFailedRead cmp (key side) r (ls side) (q side)) s new now.reader
       (λ fail. ⊎_elim (λ (_, buffered, eof). record { buffered = buffered; eof = eof; all = all; last = last; sorted_up_to = sorted_up_to }) (λ (_, same). fails_not s new (same ∙ none_failed s) fail) e.cause)
       (λ side. fails_not side (now.reader side) (none_failed side))) tt (order new e.piece e.faults.whole) (rw e.stored (fits e.piece)))
   fails s cursor new after Memory gone all last sorted_up_to rest order roomy fits (e, sound) =
@@ -352,6 +356,8 @@ slots_on {cursor = cursor} s h (inr e) = rw e.cursor (other_slots s cursor h)
 
 module _ {tool : MergeTool} {old : MergeState} (w : IsOpenMerge tool old) {reader : Side → Reader} {cursor : Side → Sorted} {store : Slots} {ls p : Side → Lines} {b : Side → Bound}
     (a : CursorsInvariant tool old reader cursor store ls p b) where
+  open tool use {cmp, key}
+
   four : 4 ≤ length store.lines
   four = (has_lines_total store.lines (λ side. max_length (ls side)) 0 a.holds.lines).four
 
@@ -369,14 +375,14 @@ module _ {tool : MergeTool} {old : MergeState} (w : IsOpenMerge tool old) {reade
 
   -- an input of which the lines `q` are processed
   abbrev ReadFactsBy : Side → Lines → Type 0
-  ReadFactsBy side q = ReadFacts tool.terminator tool.cmp (tool.key side) (old.reader side) (reader side) (reader side) [] (ls side) q (b side)
+  ReadFactsBy side q = ReadFacts tool.terminator cmp (key side) (old.reader side) (reader side) (reader side) [] (ls side) q (b side)
 
   -- an input at its current line, and one whose current line is processed
   pub read_facts_current : (side : Side) → ReadFactsBy side (p side)
   read_facts_current side = read_facts_at_line (a.sides side)
 
   passing : (s : Side) → (cursor s).status ≡ Head → (new : Reader) (piece : List ℕ) → ReaderAdvance (reader s) new piece → IsLine (reader s).terminator piece → IsSound new
-      → ReadFacts tool.terminator tool.cmp (tool.key s) (old.reader s) (reader s) new piece (ls s) (ls s) (b s)
+      → ReadFacts tool.terminator cmp (key s) (old.reader s) (reader s) new piece (ls s) (ls s) (b s)
   passing s head new piece reads free sound = let h = at_current_line head (a.sides s) in rw h.bound (read_facts_after_line w.o (a.sides s).lines_read reads free sound h.sorted_up_to)
 
   pub passing_now : (s : Side) → (cursor s).status ≡ Head → ReadFactsBy s (ls s)
@@ -391,7 +397,7 @@ module _ {tool : MergeTool} {old : MergeState} (w : IsOpenMerge tool old) {reade
   iteration_fails s head {q} {out} (m, _) same rest {new} {after} {fault} (inr (clean, e)) =
       let h = at_current_line head (a.sides s) in
       fails tool w.o old (state_by_side reader out store) ls q b m w.unfailed none_failed clean s (cursor s) new after fault
-      (λ r piece reads free sound. rw same (passing s head r piece reads free sound)) (sym same) (Some (tool.key s (line store (cursor s).current_slot))) (rw same h.sorted_up_to) rest (λ r piece free. both_begun begun) a.holds.denied
+      (λ r piece reads free sound. rw same (passing s head r piece reads free sound)) (sym same) (Some (key s (line store (cursor s).current_slot))) (rw same h.sorted_up_to) rest (λ r piece free. both_begun begun) a.holds.denied
       (a.holds.line s) e
 
   -- the slots are emptied at the end
@@ -412,14 +418,14 @@ module _ {tool : MergeTool} {old : MergeState} (w : IsOpenMerge tool old) {reade
         let short = λ (side : Side). (a.sides side).lines_read.advance_ok.short ((w.sound side).long (w.readable side)) in
         concludes (Ok tt) (record { done = λ side. (let (_, done) = e side in done); fault = fault; failed = none_failed; short = short; clean = clean; denied = denied; empty = empty }) (λ side. (let (none, _) = e side in none))
 
-    pub ends_fallen : {s : Side} {n : ℕ} → IsDisorderDecided tool.cmp tool.key cursor store s n → MergePost tool old (state_by_side reader out after) (Err (faults.Disorder s n))
+    pub ends_fallen : {s : Side} {n : ℕ} → IsDisorderDecided cmp key cursor store s n → MergePost tool old (state_by_side reader out after) (Err (faults.Disorder s n))
     ends_fallen {s} {n} step =
         concludes (Err (faults.Disorder s n)) (record { fault = fault; failed = none_failed; clean = clean; denied = denied; empty = empty }) (stops_at tool w.o _ _ _ _ _ _ _ a.sides s n step)
 
   -- an input advances
   module _ (s : Side) (head : (cursor s).status ≡ Head) {next : Sorted} {new : Reader} {after : Slots}
-      (comes : NextOkPost (tool.key s) tool.cmp (cursor s) next (reader s) new store after) where
-    pub n : SideAfterNext tool.terminator tool.cmp (tool.key s) (old.reader s) new next (cursor s).previous_slot store after (ls s) (Some (tool.key s (line store (cursor s).current_slot)))
+      (comes : NextOkPost (key s) cmp (cursor s) next (reader s) new store after) where
+    pub n : SideAfterNext tool.terminator cmp (key s) (old.reader s) new next (cursor s).previous_slot store after (ls s) (Some (key s (line store (cursor s).current_slot)))
     n = next_at tool w.o _ _ _ _ _ _ _ a.sides a.slots four s head _ _ _ comes
 
     pub keeps_two : StoreHoldsTwoLines old.store store ls → StoreHoldsTwoLines old.store after (with_side s n.now_ls ls)
