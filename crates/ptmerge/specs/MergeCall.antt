@@ -111,7 +111,8 @@ with_terminator end s = record s { reader = λ side. record (s.reader side) { te
 -- If one of the first four slots is missing after the call, since it could not be added, nothing was read or written;
 -- the terminator of both readers was set.
 abbrev pub IsUnreadWithoutSlots : ℕ → MergeState → MergeState → Type 0
-IsUnreadWithoutSlots end old new = old.out.write_failed ≡ false → length new.store.lines < 4 → IsMergeUnread (with_terminator end old) new
+IsUnreadWithoutSlots end old new =
+    old.out.write_failed ≡ false → length new.store.lines < 4 → IsMergeUnread (with_terminator end old) new
 
 -- ---- the order of the first reads
 
@@ -157,7 +158,8 @@ IsExactMerge tool input pushed (Err Memory) = Unit {0}
 abbrev pub IsUnfinished : MergeTool → MergeState → (Side → Received) → List ℕ → Type 0
 IsUnfinished tool new given pushed =
     ((side : Side) × ¬ IsDone (new.reader side))
-    ⊎ ((tool.keeps_groups ≡ true) × ((input : Side → List ℕ) → AreConsistent given input → pushed ≢ merge_output tool input))
+    ⊎ ((tool.keeps_groups ≡ true) × ((input : Side → List ℕ) → AreConsistent given input
+    → pushed ≢ merge_output tool input))
 
 -- The postcondition of a call, given the bytes that it received from each input.
 pub record MergePost (tool : MergeTool) (old new : MergeState) (result : Result (Unit {0}) MergeFault) : Type 0 where
