@@ -109,8 +109,8 @@ abbrev pub ReadGroupLinePost : Bool → Key → Cmp → Sorted → Sorted → Re
 ReadGroupLinePost keep key cmp old new was is before after out end (Ok next) =
     ReadGroupLineOkPost keep key cmp old new was is before after end next
 ReadGroupLinePost keep key cmp old new was is before after out end (Err fault) =
-    ((fault ≡ Write) × WriteFaultPost was is before after out) ⊎ ((out.write_failed ≡ false)
-    × ReadGroupLineErrPost keep key cmp old new was is before after end fault)
+    ((fault ≡ Write) × WriteFaultPost was is before after out)
+    ⊎ ((out.write_failed ≡ false) × ReadGroupLineErrPost keep key cmp old new was is before after end fault)
 
 -- The slots from `from` to before `end` exist, and their lines have the key `k`.
 pub record SlotsHaveKey (key : Key) (store : Slots) (from end : ℕ) (k : List ℕ) : Type 0 where

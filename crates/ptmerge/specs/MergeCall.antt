@@ -158,8 +158,8 @@ IsExactMerge tool input pushed (Err Memory) = Unit {0}
 abbrev pub IsUnfinished : MergeTool → MergeState → (Side → Received) → List ℕ → Type 0
 IsUnfinished tool new given pushed =
     ((side : Side) × ¬ IsDone (new.reader side))
-    ⊎ ((tool.keeps_groups ≡ true) × ((input : Side → List ℕ) → AreConsistent given input
-    → pushed ≢ merge_output tool input))
+    ⊎ ((tool.keeps_groups ≡ true)
+    × ((input : Side → List ℕ) → AreConsistent given input → pushed ≢ merge_output tool input))
 
 -- The postcondition of a call, given the bytes that it received from each input.
 pub record MergePost (tool : MergeTool) (old new : MergeState) (result : Result (Unit {0}) MergeFault) : Type 0 where

@@ -6,9 +6,9 @@ use Rattle.std.proofs.lemmas.Bool.{false_from_ne_true}
 use Rattle.ptmerge.proofs.Common.{nil_from_length, drop_more, length-drop, length-append, ◌≡◌, ℕ, suc, ◌+◌, ◌-◌, ◌≤◌, Bool, true, false, ltb, List, [], ◌∷◌, Option, None, Some, length, drop, get_or}
 use Rattle.ptmerge.proofs.Common.{refl, sym, ◌∙◌, ap, arith, zero, ◌<◌, ◌==◌, cond, ◌++◌, take, append_assoc, position, IfSome, MatchOption, filter, is_some, position_or_len, slice_split, nat_tests}
 use Rattle.ptmerge.proofs.Common.{drop-drop, take-append-drop, take_all, position_or_len_is, IsFirstByte, nth_field, is_nonempty, is_blank, Lines, false≢true, split_around, split_whole}
-use Rattle.ptmerge.proofs.Common.{IsFirstPieceEnd, IsFieldIn, IsPiece, is_separator, entry_with_list, remaining_fields, IsKeySpan, IsFieldAt, IsFieldFound, is_evenly_separated, around, ◌||◌, ◌&&◌, map, remove, unwrap_or, onto_first, join_with_byte, eqb-true}
+use Rattle.ptmerge.proofs.Common.{IsFirstPieceEnd, IsFieldIn, IsPiece, is_separator, entry_with_list, remaining_fields, IsKeySpan, IsFieldFound, is_evenly_separated, around, ◌||◌, ◌&&◌, map, remove, unwrap_or, onto_first, join_with_byte, eqb-true}
 use Rattle.ptmerge.proofs.Common.{append-nil, flat_map-append, Join, output_separator, entry, join_fields, or_filler, field_named, other_fields, output_fields, IsCanonical, is_single_spaced, with_prefix, ◌%◌, ◌^◌, eqb}
-use Rattle.ptmerge.proofs.Common.{replicate, bit_or, length-map, drop-append_seam, get_or-drop, take_at, nat_tests}
+use Rattle.ptmerge.proofs.Common.{replicate, bit_or, length-map, drop-append_seam, take_at, nat_tests}
 use Rattle.std.proofs.lemmas.List.{length-take-le}
 use Rattle.std.proofs.lemmas.List.Quantifiers.{position-Some}
 use Rattle.ptlangs.specs.declared.outlist.OutField.{OutField}
