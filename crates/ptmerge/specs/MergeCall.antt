@@ -37,8 +37,10 @@ pub record MergePre (first second : Reader) (store : Slots) : Type 0 where
 -- The precondition of the engine in one order: besides, the terminator of both readers is set, and no write has failed.
 pub record MergeRunPre (end : ℕ) (first second : Reader) (out : Output) (store : Slots) : Type 0 where
   pub ready : MergePre first second store
-  pub sound : IsSound first × IsSound second
-  pub terminator : (first.terminator ≡ end) × (second.terminator ≡ end)
+  pub sound1 : IsSound first
+  pub sound2 : IsSound second
+  pub terminator1 : first.terminator ≡ end
+  pub terminator2 : second.terminator ≡ end
   pub writable : out.write_failed ≡ false
 
 -- ---- results

@@ -25,10 +25,10 @@ first_is_position test bytes None none =
     (λ k lt. false_from_ne_true (test (get_or bytes k 0)) (none k (omega arith) lt)) (λ bad. absurd (omega (arith, bad))) in
     let past : ltb (length bytes) (length bytes) ≡ false = grind (arith, nat_tests) in
     rw (is, past) refl
-first_is_position test bytes (Some at) first =
-    let is : position_or_len test bytes ≡ at = position_or_len_is test bytes at 0 (omega (arith, first.0.high))
-    (λ k lt. false_from_ne_true (test (get_or bytes k 0)) (first.0.before k (omega arith) lt)) (λ _. first.1) in
-    let within : ltb at (length bytes) ≡ true = grind (arith, nat_tests, first.0.high) in
+first_is_position test bytes (Some at) (range, found) =
+    let is : position_or_len test bytes ≡ at = position_or_len_is test bytes at 0 (omega (arith, range.high))
+    (λ k lt. false_from_ne_true (test (get_or bytes k 0)) (range.before k (omega arith) lt)) (λ _. found) in
+    let within : ltb at (length bytes) ≡ true = grind (arith, nat_tests, range.high) in
     rw (is, within) refl
 
 -- ---- the field with a number
@@ -62,8 +62,8 @@ pub field_in : (separator : Option ℕ) (line left : Option (List ℕ)) (field :
     → IsRemainderOf line left → IsFieldIn separator left field remainder → IsFieldIn separator line field remainder
 field_in separator line None field remainder e p = absurd p
 field_in separator None (Some b) field remainder e p = absurd e
-field_in separator (Some l) (Some b) field remainder e p =
-    record { front = e.0 ++ p.front; tail = p.tail; is = rw (e.1, p.is) (simp append_assoc); ends = p.ends }
+field_in separator (Some l) (Some b) field remainder (front, is) p =
+    record { front = front ++ p.front; tail = p.tail; is = rw (is, p.is) (simp append_assoc); ends = p.ends }
 
 -- the rest after that field is a suffix of the line, too
 pub remaining_after : (separator : Option ℕ) (line left : Option (List ℕ)) (field : List ℕ)
@@ -72,8 +72,9 @@ pub remaining_after : (separator : Option ℕ) (line left : Option (List ℕ)) (
 remaining_after separator line left field None e p = tt
 remaining_after separator line None field (Some b) e p = absurd p
 remaining_after separator None (Some l) field (Some b) e p = absurd e
-remaining_after separator (Some line) (Some l) field (Some b) e p =
-    (e.0 ++ (p.front ++ (field ++ (p.ends.0 ∷ []))), rw (e.1, p.is, p.ends.1) (simp append_assoc))
+remaining_after separator (Some line) (Some l) field (Some b) (front, is) p =
+    let (end, ends, _) = p.ends in
+    (front ++ (p.front ++ (field ++ (end ∷ []))), rw (is, p.is, ends) (simp append_assoc))
 
 -- ---- the first field
 
@@ -81,15 +82,15 @@ remaining_after separator (Some line) (Some l) field (Some b) e p =
 pub piece_at : (separator : Option ℕ) (bytes : List ℕ) (at : ℕ)
     → position (is_separator separator) bytes ≡ Some at → IsPiece separator bytes (take at bytes)
     (Some (take (length bytes - (at + 1)) (drop (at + 1) bytes)))
-piece_at separator bytes at is = let found = position-Some (is_separator separator) bytes at 0 is in record {
+piece_at separator bytes at is = let (within, found, _) = position-Some (is_separator separator) bytes at 0 is in record {
   front = [];
   tail = drop at bytes;
   is = sym (take-append-drop at bytes);
   ends = (
     get_or bytes at 0,
-    drop_more bytes at 0 found.0 ∙ ap (λ (l : List ℕ). get_or bytes at 0 ∷ l)
+    drop_more bytes at 0 within ∙ ap (λ (l : List ℕ). get_or bytes at 0 ∷ l)
         (sym (take_all _ (drop (at + 1) bytes) (omega (arith, length-drop (at + 1) bytes)))),
-    found.1,
+    found,
   );
 }
 
@@ -373,8 +374,8 @@ after_piece separator line field (Some bytes) end p e even = by separator even p
         → with_prefix (output_separator separator) (join_fields separator bytes) ≡ p.ends.0 ∷ bytes
     by (Some c) even test = prefixed_fields c bytes ∙ ap (λ (b : ℕ). b ∷ bytes) (sym (eqb-true p.ends.0 c test))
     by None even test =
-        let rest = spaced_suffix true front p.ends.0 bytes (ap (is_single_spaced true) (sym split) ∙ even) test in
-        single_spaced_words true bytes rest.1 ∙ ap (λ (b : ℕ). b ∷ bytes) (sym rest.0)
+        let (is_space, spaced) = spaced_suffix true front p.ends.0 bytes (ap (is_single_spaced true) (sym split) ∙ even) test in
+        single_spaced_words true bytes spaced ∙ ap (λ (b : ℕ). b ∷ bytes) (sym is_space)
 
 remove_past : (fs : Lines) (i : ℕ) → drop i fs ≡ [] → remove fs i ≡ fs
 remove_past [] zero none = refl

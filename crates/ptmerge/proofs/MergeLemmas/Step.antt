@@ -381,23 +381,21 @@ pub record IsOpenMerge (tool : MergeTool) (old : MergeState) : Type 0 where
 pub open_merge : {tool : MergeTool} {first second : Reader} {out : Output} {store : Slots} → IsKeyOrder tool.cmp
     → HoldsTwoLines tool → MergeRunPre tool.terminator first second out store
     → IsOpenMerge tool (merge_state first second out store)
-open_merge {tool} {first} {second} {store = store} o fits b = let (terminator1, terminator2) = b.terminator in
-    let (sound1, sound2) = b.sound in record {
-      o = o;
-      fits = fits;
-      terminator =
-          both_each (λ (side : Side) (r : Reader). r.terminator ≡ tool.terminator) first second terminator1 terminator2;
-      sound = both_each (λ (side : Side) (r : Reader). IsSound r) first second sound1 sound2;
-      readable = elim [ First ↦ b.ready.readable1 | Second ↦ b.ready.readable2 ];
-      -- a sound reader has not failed
-      unfailed = elim [
-        | First ↦ sound1.unfailed b.ready.opened1 b.ready.readable1
-        | Second ↦ sound2.unfailed b.ready.opened2 b.ready.readable2
-      ];
-      writable = b.writable;
-      allowed = b.ready.allowed;
-      empty = b.ready.empty;
-    }
+open_merge {tool} {first} {second} {store = store} o fits b = record {
+  o = o;
+  fits = fits;
+  terminator = both_each (λ (side : Side) (r : Reader). r.terminator ≡ tool.terminator) first second b.terminator1 b.terminator2;
+  sound = both_each (λ (side : Side) (r : Reader). IsSound r) first second b.sound1 b.sound2;
+  readable = elim [ First ↦ b.ready.readable1 | Second ↦ b.ready.readable2 ];
+  -- a sound reader has not failed
+  unfailed = elim [
+    | First ↦ b.sound1.unfailed b.ready.opened1 b.ready.readable1
+    | Second ↦ b.sound2.unfailed b.ready.opened2 b.ready.readable2
+  ];
+  writable = b.writable;
+  allowed = b.ready.allowed;
+  empty = b.ready.empty;
+}
 
 -- The store between two steps: it holds two lines of each input, and is within the measure for all lists that continue
 -- these lines, also when it is emptied and when it holds a piece of a further line.

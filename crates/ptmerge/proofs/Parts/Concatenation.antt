@@ -14,16 +14,16 @@ use Rattle.ptmerge.proofs.MergeLemmas.Orders.{Each, Each-weaker, EachKey, Each-a
 module _ (p : List ℕ → Bool) where
   each_kept : (P : List ℕ → Type 0) (ks : Lines) → Each P ks → Each P (filter p ks)
   each_kept P [] e = tt
-  each_kept P (k ∷ ks) e = grind (arith, each_kept P ks e.1)
+  each_kept P (k ∷ ks) (here, more) = grind (arith, each_kept P ks more)
 
   module _ (cmp : Cmp) (o : IsKeyOrder cmp) where
     insert_kept : (k : List ℕ) (xs : Lines) → Ascends cmp xs → filter p (insert_key cmp k xs) ≡ cond (p k) (insert_key cmp k (filter p xs)) (filter p xs)
     insert_kept k [] a = refl
-    insert_kept k (x ∷ xs) a =
+    insert_kept k (x ∷ xs) (above, more) =
         let least : cmp k x ≡ Less → insert_key cmp k (filter p xs) ≡ k ∷ filter p xs =
-        λ e. insert_least cmp o k (filter p xs) (each_kept _ xs (Each-weaker _ _ (λ y g. above_trans cmp o k x y (ap is_gt e) g) xs a.0)) in
+        λ e. insert_least cmp o k (filter p xs) (each_kept _ xs (Each-weaker _ _ (λ y g. above_trans cmp o k x y (ap is_gt e) g) xs above)) in
         let same : cmp k x ≡ Equal → p k ≡ p x = λ e. ap p (o.exact k x e) in
-        grind (arith, insert_kept k xs a.1, least, same)
+        grind (arith, insert_kept k xs more, least, same)
 
     -- filtering and computing the distinct keys commute
     distinct_kept : (ks : Lines) → filter p (distinct_keys cmp ks) ≡ distinct_keys cmp (filter p ks)
@@ -42,8 +42,8 @@ module _ (p : List ℕ → Bool) where
   kept_parts : (key : Key) (xs ys : Lines) → EachKey (λ k. p k ≡ true) key xs → EachKey (λ k. p k ≡ false) key ys
       → (kept key (xs ++ ys) ≡ xs) × (filter (λ line. not (p (key line))) (xs ++ ys) ≡ ys)
   kept_parts key [] [] e f = (refl, refl)
-  kept_parts key [] (y ∷ ys) e f = let ih = kept_parts key [] ys tt f.1 in rw f.0 (ih.0, ap (λ l. y ∷ l) ih.1)
-  kept_parts key (x ∷ xs) ys e f = let ih = kept_parts key xs ys e.1 f in rw e.0 (ap (λ l. x ∷ l) ih.0, ih.1)
+  kept_parts key [] (y ∷ ys) e (here, more) = let (none, all) = kept_parts key [] ys tt more in rw here (none, ap (λ l. y ∷ l) all)
+  kept_parts key (x ∷ xs) ys (here, more) f = let (all, none) = kept_parts key xs ys more f in rw here (ap (λ l. x ∷ l) all, none)
 
   -- all lines of a key pass the test if the key does
   with_key_kept : (key : Key) (k : List ℕ) (ls : Lines) → p k ≡ true → lines_with_key key (kept key ls) k ≡ lines_with_key key ls k
@@ -89,7 +89,7 @@ is_under cmp (x ∷ ls) k = is_lt (cmp k x) && is_under cmp ls k
 module _ (cmp : Cmp) (o : IsKeyOrder cmp) where
   below_under : (ls : Lines) (k : List ℕ) → Each (λ l. cmp k l ≡ Less) ls → is_under cmp ls k ≡ true
   below_under [] k e = refl
-  below_under (x ∷ ls) k e = rw e.0 (below_under ls k e.1)
+  below_under (x ∷ ls) k (here, more) = rw here (below_under ls k more)
 
   downward_under : (ls : Lines) → IsDownwardClosed cmp (is_under cmp ls)
   downward_under [] a b g h = refl
@@ -135,11 +135,11 @@ module _ (cmp : Cmp) (o : IsKeyOrder cmp) (key : Key) where
       × (without_line_number (disorder_after cmp key last n (xs ++ ys)) ≡ without_line_number
       (disorder_after cmp key None 0 ys))
   appended last n [] [] e h b = (refl, refl)
-  appended last n [] (y ∷ ys) e h b = rw h.0 (refl, uncounted (Some (key y)) (n + 1) 1 ys)
-  appended last n (x ∷ xs) ys e h b =
-      let r = no_disorder (is_disordered cmp last (key x)) (disorder_at last n) (disorder_after cmp key (Some (key x)) (n + 1) xs) e in
-      let more = appended (Some (key x)) (n + 1) xs ys r.1 b.0 b.1 in
-      rw r.0 (ap (λ l. x ∷ l) more.0, more.1)
+  appended last n [] (y ∷ ys) e (here, _) b = rw here (refl, uncounted (Some (key y)) (n + 1) 1 ys)
+  appended last n (x ∷ xs) ys e h (below, below_all) =
+      let (calm, later) = no_disorder (is_disordered cmp last (key x)) (disorder_at last n) (disorder_after cmp key (Some (key x)) (n + 1) xs) e in
+      let (is, without) = appended (Some (key x)) (n + 1) xs ys later below below_all in
+      rw calm (ap (λ l. x ∷ l) is, without)
 
   together : (xs ys : Lines) → first_disorder cmp key xs ≡ None → EachKey (λ k. EachKey (AtMost cmp k) key ys) key xs
       → (sorted_prefix cmp key (xs ++ ys) ≡ xs ++ sorted_prefix cmp key ys)
@@ -156,12 +156,12 @@ module _ (cmp : Cmp) (o : IsKeyOrder cmp) (key : Key) where
   each_ordered : (P : List ℕ → Type 0) (ys : Lines) → EachKey P key ys → EachKey P key (sorted_prefix cmp key ys)
   each_ordered P [] e = tt
   each_ordered P (x ∷ []) e = e
-  each_ordered P (x ∷ y ∷ ys) e = grind (arith, each_ordered P (y ∷ ys) e.1)
+  each_ordered P (x ∷ y ∷ ys) (here, more) = grind (arith, each_ordered P (y ∷ ys) more)
 
   -- the last key in order is at least a lower bound of all keys
   from_below : (k : List ℕ) (ys : Lines) → EachKey (AtMost cmp k) key ys → IsDisorderFrom cmp k (first_disorder cmp key ys)
   from_below k [] e = tt
-  from_below k (y ∷ ys) e = rw (first_disorder_is cmp key (y ∷ ys)) (rw e.0 at (after_from cmp o key k 0 (y ∷ ys)).1)
+  from_below k (y ∷ ys) (here, _) = rw (first_disorder_is cmp key (y ∷ ys)) (rw here at (after_from cmp o key k 0 (y ∷ ys)).1)
 
   kept_after : (p : List ℕ → Bool) (last from : Option (List ℕ)) (n m : ℕ) (xs : Lines)
       → ((k : List ℕ) → is_disordered cmp last k ≡ false → is_disordered cmp from k ≡ false)
@@ -169,10 +169,10 @@ module _ (cmp : Cmp) (o : IsKeyOrder cmp) (key : Key) where
       → disorder_after cmp key from m (filter p xs) ≡ None
   kept_after p last from n m [] up e = refl
   kept_after p last from n m (x ∷ xs) up e =
-      let r = no_disorder (is_disordered cmp last (key x)) (disorder_at last n) (disorder_after cmp key (Some (key x)) (n + 1) xs) e in
-      let rise = up (key x) r.0 in
-      let left_out = kept_after p (Some (key x)) from (n + 1) m xs (λ k g. grind (arith, at_most_trans, rise, g)) r.1 in
-      grind (arith, rise, left_out, kept_after p (Some (key x)) (Some (key x)) (n + 1) (m + 1) xs (λ k g. g) r.1)
+      let (calm, later) = no_disorder (is_disordered cmp last (key x)) (disorder_at last n) (disorder_after cmp key (Some (key x)) (n + 1) xs) e in
+      let rise = up (key x) calm in
+      let left_out = kept_after p (Some (key x)) from (n + 1) m xs (λ k g. grind (arith, at_most_trans, rise, g)) later in
+      grind (arith, rise, left_out, kept_after p (Some (key x)) (Some (key x)) (n + 1) (m + 1) xs (λ k g. g) later)
 
   -- a sublist of a sorted list is sorted
   in_order_kept : (p : List ℕ → Bool) (xs : Lines) → first_disorder cmp key xs ≡ None → first_disorder cmp key (filter p xs) ≡ None
