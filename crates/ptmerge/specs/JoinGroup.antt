@@ -123,14 +123,16 @@ pub record JoinStepPre (job : Join) (key : Side → Key) (out : Output) : Type 0
   pub clean : out.write_failed ≡ false
 
 -- The precondition of a step of `join` that advances the input `side`.
-pub record JoinLinePre (job : Join) (key : Side → Key) (side : Side) (one two : Sorted) (reader : Reader) (store : Slots) (out : Output) : Type 0 where
+pub record JoinLinePre (job : Join) (key : Side → Key) (side : Side) (one two : Sorted) (reader : Reader)
+    (store : Slots) (out : Output) : Type 0 where
   pub status_is : AdvancePre key side one two reader store
   pub joins : JoinStepPre job key out
 
 -- The slots of the group exist, and its lines have the key `k`.
 pub record IsGroup (key : Key) (second : Sorted) (store : Slots) (end : ℕ) (k : List ℕ) : Type 0 where
   pub within : (4 ≤ end) × (end ≤ length store.lines)
-  pub keyed : (slot : ℕ) → group_first_slot second end ≤ slot → slot < group_end_slot second end → key (line store slot) ≡ k
+  pub keyed : (slot : ℕ) → group_first_slot second end ≤ slot → slot < group_end_slot second end
+      → key (line store slot) ≡ k
 
 -- Slots were added until there are at least `slots` of them, or until the store could not grow.
 pub record AddedAtLeast (before after : Slots) (slots : ℕ) : Type 0 where

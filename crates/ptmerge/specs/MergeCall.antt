@@ -149,8 +149,10 @@ IsDisorderAt (Some d) side number = (d.file ≡ side) × (d.first_disorder.line 
 
 -- The result and the output are those of two whole texts. After a read, write or memory fault nothing is stated.
 abbrev pub IsExactMerge : MergeTool → (Side → List ℕ) → List ℕ → Result (Unit {0}) MergeFault → Type 0
-IsExactMerge tool input pushed (Ok u) = (pushed ≡ merge_output tool input) × (disorder tool (lines_of tool input) ≡ None)
-IsExactMerge tool input pushed (Err (faults.Disorder side number)) = (pushed ≡ merge_output tool input) × IsDisorderAt (disorder tool (lines_of tool input)) side number
+IsExactMerge tool input pushed (Ok u) =
+    (pushed ≡ merge_output tool input) × (disorder tool (lines_of tool input) ≡ None)
+IsExactMerge tool input pushed (Err (faults.Disorder side number)) =
+    (pushed ≡ merge_output tool input) × IsDisorderAt (disorder tool (lines_of tool input)) side number
 IsExactMerge tool input pushed (Err (Read side)) = Unit {0}
 IsExactMerge tool input pushed (Err Write) = Unit {0}
 IsExactMerge tool input pushed (Err Memory) = Unit {0}
@@ -178,7 +180,8 @@ pub record MergePost (tool : MergeTool) (old new : MergeState) (result : Result 
   -- the output contains everything that was decided two blocks of the input `side` earlier, and all of it except at
   -- most one block is written out, for every result and every state of the other input
   pub bounded_lag : (side : Side) → old.out.write_failed ≡ false
-      → BoundedLag {I = Unit {0}} (λ came. decided_output tool (with_side side (came tt) given)) (λ u. given side) old.out new.out pushed
+      → BoundedLag {I = Unit {0}} (λ came. decided_output tool (with_side side (came tt) given)) (λ u. given side)
+      old.out new.out pushed
   -- reading stops after a disorder: two blocks of the input `side` earlier, the disorder was not yet decided
   pub stops_at_disorder : (side : Side) → old.out.write_failed ≡ false
       → (before : LaggedInput (given side)) × (disorder_is_decided tool (with_side side before.earlier given) ≡ false)
