@@ -27,12 +27,20 @@ empty_span = record { start = 0; end = 0 }
 
 -- The cursor before anything was read.
 abbrev pub initial_cursor : Side → Sorted
-initial_cursor side = record { current_slot = base_slot side + 1; previous_slot = base_slot side; number = 0; status = Ended; same = false; key = empty_span }
+initial_cursor side = record {
+  current_slot = base_slot side + 1;
+  previous_slot = base_slot side;
+  number = 0;
+  status = Ended;
+  same = false;
+  key = empty_span;
+}
 
 -- The cursor uses the two slots of its input, in either order.
 abbrev pub HasSlots : Side → Sorted → Type 0
 HasSlots side cursor =
-    ((cursor.current_slot ≡ base_slot side) × (cursor.previous_slot ≡ base_slot side + 1)) ⊎ ((cursor.current_slot ≡ base_slot side + 1) × (cursor.previous_slot ≡ base_slot side))
+    ((cursor.current_slot ≡ base_slot side) × (cursor.previous_slot ≡ base_slot side + 1))
+    ⊎ ((cursor.current_slot ≡ base_slot side + 1) × (cursor.previous_slot ≡ base_slot side))
 
 -- The cursor's two slots exist and are distinct.
 pub record HasDistinctSlots (cursor : Sorted) (store : Slots) : Type 0 where
@@ -42,14 +50,16 @@ pub record HasDistinctSlots (cursor : Sorted) (store : Slots) : Type 0 where
 
 -- The status after reading the line `next`, if `number` lines were read before and the last of them is `last`.
 abbrev pub status_at : Key → Cmp → ℕ → List ℕ → List ℕ → CursorStatus
-status_at key cmp number last next = if nat_lt 0 number && is_gt (cmp (key last) (key next)) then Disorder (number + 1) else Head
+status_at key cmp number last next =
+    if nat_lt 0 number && is_gt (cmp (key last) (key next)) then Disorder (number + 1) else Head
 
 -- The line `next` has the key of the line `last` before it; false for the first line.
 abbrev pub same_key_at : Key → Cmp → ℕ → List ℕ → List ℕ → Bool
 same_key_at key cmp number last next = nat_lt 0 number && is_eq (cmp (key last) (key next))
 
 -- The postcondition of `next` if there is a next line.
-pub record NextLinePost (key : Key) (cmp : Cmp) (old new : Sorted) (was is : Reader) (before after : Slots) : Type 0 where
+pub record NextLinePost (key : Key) (cmp : Cmp) (old new : Sorted) (was is : Reader)
+    (before after : Slots) : Type 0 where
   pub next_line : FillLine was is before after old.previous_slot
   pub cursor : new ≡ record {
     current_slot = old.previous_slot;
@@ -66,21 +76,31 @@ pub record NextEofPost (old new : Sorted) (was is : Reader) (before after : Slot
   pub advance_ok : AdvanceOk was is []
   pub done : IsDone is
   pub empty : after ≡ with_line before old.previous_slot []
-  pub cursor : new ≡ record { current_slot = old.previous_slot; previous_slot = old.current_slot; number = old.number; status = Ended; same = false; key = new.key }
+  pub cursor : new ≡ record {
+    current_slot = old.previous_slot;
+    previous_slot = old.current_slot;
+    number = old.number;
+    status = Ended;
+    same = false;
+    key = new.key;
+  }
   pub sound : IsSound is
 
 -- The postcondition of `next` if it succeeds.
 abbrev pub NextOkPost : Key → Cmp → Sorted → Sorted → Reader → Reader → Slots → Slots → Type 0
-NextOkPost key cmp old new was is before after = NextLinePost key cmp old new was is before after ⊎ NextEofPost old new was is before after
+NextOkPost key cmp old new was is before after =
+    NextLinePost key cmp old new was is before after ⊎ NextEofPost old new was is before after
 
 -- The postcondition of `next` if it fails.
 abbrev pub NextErrPost : Side → Sorted → Reader → Reader → Slots → Slots → MergeFault → Type 0
-NextErrPost side old was is before after (Read file) = FillReadErr was is before after old.previous_slot × (file ≡ side) × IsSound is
+NextErrPost side old was is before after (Read file) =
+    FillReadErr was is before after old.previous_slot × (file ≡ side) × IsSound is
 NextErrPost side old was is before after Write = ⊥
 NextErrPost side old was is before after Memory = FillMemoryErr was is before after old.previous_slot × IsSound is
 NextErrPost side old was is before after (faults.Disorder file number) = ⊥
 
 -- The postcondition of `next`.
-abbrev pub NextPost : Key → Cmp → Side → Sorted → Sorted → Reader → Reader → Slots → Slots → Result (Unit {0}) MergeFault → Type 0
+abbrev pub NextPost : Key → Cmp → Side → Sorted → Sorted → Reader → Reader → Slots → Slots
+    → Result (Unit {0}) MergeFault → Type 0
 NextPost key cmp side old new was is before after (Ok u) = NextOkPost key cmp old new was is before after
 NextPost key cmp side old new was is before after (Err fault) = NextErrPost side old was is before after fault

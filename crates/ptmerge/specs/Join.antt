@@ -117,7 +117,8 @@ join_with job cmp key = record {
   cmp = cmp;
   key = key;
   entries = join_entries job;
-  size = λ ls. 2 * max_length (ls First) + 2 * max_length (ls Second) + (if job.pairs then max_group_bytes (key Second) (ls Second) else 0);
+  size = λ ls. 2 * max_length (ls First) + 2 * max_length (ls Second)
+      + (if job.pairs then max_group_bytes (key Second) (ls Second) else 0);
   slots = λ ls. 4 + (if job.pairs then max_group_lines (key Second) (ls Second) else 0);
   keeps_groups = job.pairs;
 }

@@ -34,7 +34,8 @@ with_prefix byte fs = flat_map (λ f. byte ∷ f) fs
 -- The output line, without its terminator, of the join field `k` and one or two lines, by the output list `list`.
 abbrev pub entry_with_list : Join → Option (List OutField) → List ℕ → Option (List ℕ) → Option (List ℕ) → List ℕ
 entry_with_list job list k one two =
-    join_with_byte (output_separator job.separator) (output_fields job k (remaining_fields job.separator one) (remaining_fields job.separator two) list)
+    join_with_byte (output_separator job.separator)
+    (output_fields job k (remaining_fields job.separator one) (remaining_fields job.separator two) list)
 
 -- A line that equals the output of its own fields, with the field of this number first, so that it can be written
 -- unchanged.
@@ -46,12 +47,14 @@ pub record IsCanonical (separator : Option ℕ) (number : ℕ) (line : List ℕ)
 -- precedes the bytes.
 abbrev pub is_single_spaced : Bool → List ℕ → Bool
 is_single_spaced blank [] = not blank
-is_single_spaced blank (b ∷ bytes) = if (b == 9) || (blank && (b == 32)) then false else is_single_spaced (b == 32) bytes
+is_single_spaced blank (b ∷ bytes) =
+    if (b == 9) || (blank && (b == 32)) then false else is_single_spaced (b == 32) bytes
 
 -- None of the bytes is a tab, or a space after a blank. `blank` is true if a blank precedes the bytes.
 abbrev pub has_single_spaces : Bool → List ℕ → Bool
 has_single_spaces blank [] = true
-has_single_spaces blank (b ∷ bytes) = if (b == 9) || (blank && (b == 32)) then false else has_single_spaces (b == 32) bytes
+has_single_spaces blank (b ∷ bytes) =
+    if (b == 9) || (blank && (b == 32)) then false else has_single_spaces (b == 32) bytes
 
 -- The masks of the blanks and of the tabs among these bytes.
 pub record AreBlanks (bytes : List ℕ) (blanks : Blanks) : Type 0 where
@@ -69,16 +72,19 @@ pub record IsFieldAt (separator : Option ℕ) (number : ℕ) (line : List ℕ) (
   pub is : drop (number - 1) (join_fields separator line) ≡ slice_range line span.start span.end ∷ more
   pub ordered : span.start ≤ span.end
   pub within : span.end ≤ length line
-  pub after : is_evenly_separated separator line ≡ true → with_prefix (output_separator separator) more ≡ drop span.end line
+  pub after : is_evenly_separated separator line ≡ true
+      → with_prefix (output_separator separator) more ≡ drop span.end line
 
 -- The field with this number is at the span, or it does not exist and there is no span.
 abbrev pub IsFieldFound : Option ℕ → ℕ → List ℕ → Option Span → Type 0
-IsFieldFound separator number line found = MatchOption found (drop (number - 1) (join_fields separator line) ≡ []) (IsFieldAt separator number line)
+IsFieldFound separator number line found =
+    MatchOption found (drop (number - 1) (join_fields separator line) ≡ []) (IsFieldAt separator number line)
 
 -- The line without the span and the separator before it, if there is a span, each field after a separator.
 abbrev pub around : ℕ → List ℕ → Option Span → List ℕ
 around prefix line None = prefix ∷ line
-around prefix line (Some span) = if span.start == 0 then drop span.end line else prefix ∷ take (span.start - 1) line ++ drop span.end line
+around prefix line (Some span) =
+    if span.start == 0 then drop span.end line else prefix ∷ take (span.start - 1) line ++ drop span.end line
 
 -- `field` is part of `line`, and `remainder` is the rest of the line after it: the field is followed by one separator
 -- and the rest, or it ends the line and there is no rest.
@@ -86,7 +92,8 @@ pub record IsPiece (separator : Option ℕ) (line field : List ℕ) (remainder :
   pub front : List ℕ
   pub tail : List ℕ
   pub is : line ≡ front ++ (field ++ tail)
-  pub ends : MatchOption remainder (tail ≡ []) (λ left. (byte : ℕ) × (tail ≡ byte ∷ left) × (is_separator separator byte ≡ true))
+  pub ends : MatchOption remainder (tail ≡ []) (λ left. (byte : ℕ) × (tail ≡ byte ∷ left)
+      × (is_separator separator byte ≡ true))
 
 -- Like `IsPiece`, for a field in the rest of a line.
 abbrev pub IsFieldIn : Option ℕ → Option (List ℕ) → List ℕ → Option (List ℕ) → Type 0

@@ -82,13 +82,15 @@ pub record IsCopiedToGroup (keep : Bool) (new : Sorted) (made after : Slots) (en
 
 -- The postcondition of `read_group_line` if it succeeds: the second input advanced, and its previous line was copied if
 -- needed.
-pub record ReadGroupLineOkPost (keep : Bool) (key : Key) (cmp : Cmp) (old new : Sorted) (was is : Reader) (before after : Slots) (end next : ℕ) : Type 0 where
+pub record ReadGroupLineOkPost (keep : Bool) (key : Key) (cmp : Cmp) (old new : Sorted) (was is : Reader)
+    (before after : Slots) (end next : ℕ) : Type 0 where
   pub made : Slots
   pub came : NextOkPost key cmp old new was is before made
   pub kept : IsInItsSlot keep new made after end next ⊎ IsCopiedToGroup keep new made after end next
 
 -- The postcondition of `read_group_line` if the second input advanced, and its previous line could not be copied.
-pub record CopyFaultPost (keep : Bool) (key : Key) (cmp : Cmp) (old new : Sorted) (was is : Reader) (before after : Slots) (end : ℕ) (fault : MergeFault) : Type 0 where
+pub record CopyFaultPost (keep : Bool) (key : Key) (cmp : Cmp) (old new : Sorted) (was is : Reader)
+    (before after : Slots) (end : ℕ) (fault : MergeFault) : Type 0 where
   pub keeps : keep ≡ true
   pub made : Slots
   pub came : NextOkPost key cmp old new was is before made
@@ -96,14 +98,19 @@ pub record CopyFaultPost (keep : Bool) (key : Key) (cmp : Cmp) (old new : Sorted
   pub copy_failed : CopyToGroupErrPost made after end
 
 -- The postcondition of `read_group_line` if a read failed or the store could not grow.
-abbrev pub ReadGroupLineErrPost : Bool → Key → Cmp → Sorted → Sorted → Reader → Reader → Slots → Slots → ℕ → MergeFault → Type 0
-ReadGroupLineErrPost keep key cmp old new was is before after end fault = CopyFaultPost keep key cmp old new was is before after end fault ⊎ NextErrPost Second old was is before after fault
+abbrev pub ReadGroupLineErrPost : Bool → Key → Cmp → Sorted → Sorted → Reader → Reader → Slots → Slots → ℕ → MergeFault
+    → Type 0
+ReadGroupLineErrPost keep key cmp old new was is before after end fault =
+    CopyFaultPost keep key cmp old new was is before after end fault ⊎ NextErrPost Second old was is before after fault
 
 -- The postcondition of `read_group_line`. A failed write means that nothing was read.
-abbrev pub ReadGroupLinePost : Bool → Key → Cmp → Sorted → Sorted → Reader → Reader → Slots → Slots → Output → ℕ → Result ℕ MergeFault → Type 0
-ReadGroupLinePost keep key cmp old new was is before after out end (Ok next) = ReadGroupLineOkPost keep key cmp old new was is before after end next
+abbrev pub ReadGroupLinePost : Bool → Key → Cmp → Sorted → Sorted → Reader → Reader → Slots → Slots → Output → ℕ
+    → Result ℕ MergeFault → Type 0
+ReadGroupLinePost keep key cmp old new was is before after out end (Ok next) =
+    ReadGroupLineOkPost keep key cmp old new was is before after end next
 ReadGroupLinePost keep key cmp old new was is before after out end (Err fault) =
-    ((fault ≡ Write) × WriteFaultPost was is before after out) ⊎ ((out.write_failed ≡ false) × ReadGroupLineErrPost keep key cmp old new was is before after end fault)
+    ((fault ≡ Write) × WriteFaultPost was is before after out)
+    ⊎ ((out.write_failed ≡ false) × ReadGroupLineErrPost keep key cmp old new was is before after end fault)
 
 -- The slots from `from` to before `end` exist, and their lines have the key `k`.
 pub record SlotsHaveKey (key : Key) (store : Slots) (from end : ℕ) (k : List ℕ) : Type 0 where
@@ -116,14 +123,16 @@ pub record JoinStepPre (job : Join) (key : Side → Key) (out : Output) : Type 0
   pub clean : out.write_failed ≡ false
 
 -- The precondition of a step of `join` that advances the input `side`.
-pub record JoinLinePre (job : Join) (key : Side → Key) (side : Side) (one two : Sorted) (reader : Reader) (store : Slots) (out : Output) : Type 0 where
+pub record JoinLinePre (job : Join) (key : Side → Key) (side : Side) (one two : Sorted) (reader : Reader)
+    (store : Slots) (out : Output) : Type 0 where
   pub status_is : AdvancePre key side one two reader store
   pub joins : JoinStepPre job key out
 
 -- The slots of the group exist, and its lines have the key `k`.
 pub record IsGroup (key : Key) (second : Sorted) (store : Slots) (end : ℕ) (k : List ℕ) : Type 0 where
   pub within : (4 ≤ end) × (end ≤ length store.lines)
-  pub keyed : (slot : ℕ) → group_first_slot second end ≤ slot → slot < group_end_slot second end → key (line store slot) ≡ k
+  pub keyed : (slot : ℕ) → group_first_slot second end ≤ slot → slot < group_end_slot second end
+      → key (line store slot) ≡ k
 
 -- Slots were added until there are at least `slots` of them, or until the store could not grow.
 pub record AddedAtLeast (before after : Slots) (slots : ℕ) : Type 0 where

@@ -16,5 +16,6 @@ pub record IsKeySpan (line bytes : List ℕ) (span : Span) : Type 0 where
 -- The cursor's stored values are correct: the span of the key in the current line, and the number of a line out of
 -- order.
 pub record IsValidCursor (key : Key) (cursor : Sorted) (store : Slots) : Type 0 where
-  pub head : cursor.status ≡ Head → IsKeySpan (line store cursor.current_slot) (key (line store cursor.current_slot)) cursor.key
+  pub head : cursor.status ≡ Head
+      → IsKeySpan (line store cursor.current_slot) (key (line store cursor.current_slot)) cursor.key
   pub broken : (number : ℕ) → cursor.status ≡ Disorder number → number ≡ cursor.number

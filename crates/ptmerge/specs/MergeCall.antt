@@ -37,8 +37,10 @@ pub record MergePre (first second : Reader) (store : Slots) : Type 0 where
 -- The precondition of the engine in one order: besides, the terminator of both readers is set, and no write has failed.
 pub record MergeRunPre (end : ℕ) (first second : Reader) (out : Output) (store : Slots) : Type 0 where
   pub ready : MergePre first second store
-  pub sound : IsSound first × IsSound second
-  pub terminator : (first.terminator ≡ end) × (second.terminator ≡ end)
+  pub sound1 : IsSound first
+  pub sound2 : IsSound second
+  pub terminator1 : first.terminator ≡ end
+  pub terminator2 : second.terminator ≡ end
   pub writable : out.write_failed ≡ false
 
 -- ---- results
@@ -111,7 +113,8 @@ with_terminator end s = record s { reader = λ side. record (s.reader side) { te
 -- If one of the first four slots is missing after the call, since it could not be added, nothing was read or written;
 -- the terminator of both readers was set.
 abbrev pub IsUnreadWithoutSlots : ℕ → MergeState → MergeState → Type 0
-IsUnreadWithoutSlots end old new = old.out.write_failed ≡ false → length new.store.lines < 4 → IsMergeUnread (with_terminator end old) new
+IsUnreadWithoutSlots end old new =
+    old.out.write_failed ≡ false → length new.store.lines < 4 → IsMergeUnread (with_terminator end old) new
 
 -- ---- the order of the first reads
 
@@ -146,8 +149,10 @@ IsDisorderAt (Some d) side number = (d.file ≡ side) × (d.first_disorder.line 
 
 -- The result and the output are those of two whole texts. After a read, write or memory fault nothing is stated.
 abbrev pub IsExactMerge : MergeTool → (Side → List ℕ) → List ℕ → Result (Unit {0}) MergeFault → Type 0
-IsExactMerge tool input pushed (Ok u) = (pushed ≡ merge_output tool input) × (disorder tool (lines_of tool input) ≡ None)
-IsExactMerge tool input pushed (Err (faults.Disorder side number)) = (pushed ≡ merge_output tool input) × IsDisorderAt (disorder tool (lines_of tool input)) side number
+IsExactMerge tool input pushed (Ok u) =
+    (pushed ≡ merge_output tool input) × (disorder tool (lines_of tool input) ≡ None)
+IsExactMerge tool input pushed (Err (faults.Disorder side number)) =
+    (pushed ≡ merge_output tool input) × IsDisorderAt (disorder tool (lines_of tool input)) side number
 IsExactMerge tool input pushed (Err (Read side)) = Unit {0}
 IsExactMerge tool input pushed (Err Write) = Unit {0}
 IsExactMerge tool input pushed (Err Memory) = Unit {0}
@@ -157,7 +162,8 @@ IsExactMerge tool input pushed (Err Memory) = Unit {0}
 abbrev pub IsUnfinished : MergeTool → MergeState → (Side → Received) → List ℕ → Type 0
 IsUnfinished tool new given pushed =
     ((side : Side) × ¬ IsDone (new.reader side))
-    ⊎ ((tool.keeps_groups ≡ true) × ((input : Side → List ℕ) → AreConsistent given input → pushed ≢ merge_output tool input))
+    ⊎ ((tool.keeps_groups ≡ true)
+    × ((input : Side → List ℕ) → AreConsistent given input → pushed ≢ merge_output tool input))
 
 -- The postcondition of a call, given the bytes that it received from each input.
 pub record MergePost (tool : MergeTool) (old new : MergeState) (result : Result (Unit {0}) MergeFault) : Type 0 where
@@ -174,7 +180,8 @@ pub record MergePost (tool : MergeTool) (old new : MergeState) (result : Result 
   -- the output contains everything that was decided two blocks of the input `side` earlier, and all of it except at
   -- most one block is written out, for every result and every state of the other input
   pub bounded_lag : (side : Side) → old.out.write_failed ≡ false
-      → BoundedLag {I = Unit {0}} (λ came. decided_output tool (with_side side (came tt) given)) (λ u. given side) old.out new.out pushed
+      → BoundedLag {I = Unit {0}} (λ came. decided_output tool (with_side side (came tt) given)) (λ u. given side)
+      old.out new.out pushed
   -- reading stops after a disorder: two blocks of the input `side` earlier, the disorder was not yet decided
   pub stops_at_disorder : (side : Side) → old.out.write_failed ≡ false
       → (before : LaggedInput (given side)) × (disorder_is_decided tool (with_side side before.earlier given) ≡ false)

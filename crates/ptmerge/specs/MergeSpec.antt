@@ -52,11 +52,13 @@ lines_with_key key ls k = filter (λ line. bytes_eq (key line) k) ls
 
 -- The output lines for one key.
 abbrev pub entries_of_key : MergeTool → (Side → Lines) → List ℕ → Lines
-entries_of_key tool ls k = tool.entries k (lines_with_key (tool.key First) (ls First) k) (lines_with_key (tool.key Second) (ls Second) k)
+entries_of_key tool ls k =
+    tool.entries k (lines_with_key (tool.key First) (ls First) k) (lines_with_key (tool.key Second) (ls Second) k)
 
 -- The output lines for each distinct key that is `wanted`, in the order of the keys.
 abbrev pub entries_by_key : MergeTool → (List ℕ → Bool) → (Side → Lines) → Lines
-entries_by_key tool wanted ls = flat_map (entries_of_key tool ls) (filter wanted (distinct_keys tool.cmp (keys tool ls)))
+entries_by_key tool wanted ls =
+    flat_map (entries_of_key tool ls) (filter wanted (distinct_keys tool.cmp (keys tool ls)))
 
 -- ---- lines out of order
 
@@ -64,7 +66,8 @@ entries_by_key tool wanted ls = flat_map (entries_of_key tool ls) (filter wanted
 abbrev pub sorted_prefix : Cmp → Key → Lines → Lines
 sorted_prefix cmp key [] = []
 sorted_prefix cmp key (x ∷ []) = x ∷ []
-sorted_prefix cmp key (x ∷ y ∷ more) = cond (is_gt (cmp (key x) (key y))) (x ∷ []) (x ∷ sorted_prefix cmp key (y ∷ more))
+sorted_prefix cmp key (x ∷ y ∷ more) =
+    cond (is_gt (cmp (key x) (key y))) (x ∷ []) (x ∷ sorted_prefix cmp key (y ∷ more))
 
 -- The first line that is out of order, counted from 1, and the key of the line before it.
 pub record FirstDisorder : Type 0 where
@@ -90,7 +93,10 @@ abbrev pub earlier_disorder : Cmp → Option FirstDisorder → Option FirstDisor
 earlier_disorder cmp None None = None
 earlier_disorder cmp None (Some b) = Some (record { file = Second; first_disorder = b })
 earlier_disorder cmp (Some a) None = Some (record { file = First; first_disorder = a })
-earlier_disorder cmp (Some a) (Some b) = if is_lt (cmp b.last_key a.last_key) then Some (record { file = Second; first_disorder = b }) else Some (record { file = First; first_disorder = a })
+earlier_disorder cmp (Some a) (Some b) =
+    if is_lt (cmp b.last_key a.last_key)
+    then Some (record { file = Second; first_disorder = b })
+    else Some (record { file = First; first_disorder = a })
 
 -- The key is at most the last key in order before the reported disorder.
 abbrev pub is_up_to : Cmp → Option MergeDisorder → List ℕ → Bool
@@ -101,7 +107,9 @@ is_up_to cmp (Some d) k = is_le (cmp k d.first_disorder.last_key)
 
 -- The disorder that is reported for two lists, if one of them is not sorted.
 abbrev pub disorder : MergeTool → (Side → Lines) → Option MergeDisorder
-disorder tool ls = earlier_disorder tool.cmp (first_disorder tool.cmp (tool.key First) (ls First)) (first_disorder tool.cmp (tool.key Second) (ls Second))
+disorder tool ls =
+    earlier_disorder tool.cmp (first_disorder tool.cmp (tool.key First) (ls First))
+    (first_disorder tool.cmp (tool.key Second) (ls Second))
 
 -- The longest prefix of each list that is in order.
 abbrev pub sorted_prefixes : MergeTool → (Side → Lines) → Side → Lines
@@ -129,12 +137,14 @@ is_below cmp k (Some last) = is_lt (cmp k last)
 -- After the complete lines `ls`, no further line of the input can have the key `k`: a later key is known, or the input
 -- has ended or is out of order.
 abbrev pub is_past : Cmp → Key → Bool → Lines → List ℕ → Bool
-is_past cmp key eof ls k = if eof || is_some (first_disorder cmp key ls) then true else is_below cmp k (last_or None (map key ls))
+is_past cmp key eof ls k =
+    if eof || is_some (first_disorder cmp key ls) then true else is_below cmp k (last_or None (map key ls))
 
 -- The output for the key is decided: no further line of either input can change it.
 abbrev pub is_decided : MergeTool → (Side → Bool) → (Side → Lines) → List ℕ → Bool
 is_decided tool eof ls k =
-    is_up_to tool.cmp (disorder tool ls) k && is_past tool.cmp (tool.key First) (eof First) (ls First) k && is_past tool.cmp (tool.key Second) (eof Second) (ls Second) k
+    is_up_to tool.cmp (disorder tool ls) k && is_past tool.cmp (tool.key First) (eof First) (ls First) k
+    && is_past tool.cmp (tool.key Second) (eof Second) (ls Second) k
 
 -- The output lines that are decided by the complete lines received so far.
 abbrev pub decided_entries : MergeTool → (Side → Bool) → (Side → Lines) → Lines
@@ -142,7 +152,8 @@ decided_entries tool eof ls = entries_by_key tool (is_decided tool eof ls) (sort
 
 -- The output that is decided by the bytes received so far.
 abbrev pub decided_output : MergeTool → (Side → Received) → List ℕ
-decided_output tool given = unlines tool.terminator (decided_entries tool (λ side. (given side).eof) (λ side. known_lines tool.terminator (given side)))
+decided_output tool given = unlines tool.terminator (decided_entries tool (λ side. (given side).eof)
+    (λ side. known_lines tool.terminator (given side)))
 
 -- A disorder is decided once the output up to its last key is.
 abbrev pub lines_decide_disorder : MergeTool → (Side → Bool) → (Side → Lines) → Option MergeDisorder → Bool

@@ -46,7 +46,8 @@ pub record IsReaderOf (cursor : Sorted) (reader : Reader) : Type 0 where
 pub record NextPre (key : Key) (cursor : Sorted) (reader : Reader) (store : Slots) : Type 0 where
   pub distinct_slots : HasDistinctSlots cursor store
   pub own_reader : IsReaderOf cursor reader
-  pub cursor_valid : 0 < cursor.number → IsKeySpan (line store cursor.current_slot) (key (line store cursor.current_slot)) cursor.key
+  pub cursor_valid : 0 < cursor.number
+      → IsKeySpan (line store cursor.current_slot) (key (line store cursor.current_slot)) cursor.key
 
 -- ---- the next step
 
@@ -78,7 +79,8 @@ module _ (cmp : Cmp) (key : Side → Key) (cursor : Side → Sorted) (store : Sl
   -- Only this input's current line has the least key.
   pub record HasOnlyLeastKey (side : Side) : Type 0 where
     pub status_is : (cursor side).status ≡ Head
-    pub before : PrecedesInput cmp (current_key key cursor store side) (cursor (other side)).status (current_key key cursor store (other side)) (previous_key key cursor store (other side))
+    pub before : PrecedesInput cmp (current_key key cursor store side) (cursor (other side)).status
+        (current_key key cursor store (other side)) (previous_key key cursor store (other side))
 
   -- The current lines of both inputs have the same key.
   pub record HaveEqualKeys : Type 0 where
@@ -89,7 +91,8 @@ module _ (cmp : Cmp) (key : Side → Key) (cursor : Side → Sorted) (store : Sl
   -- The input `side` is out of order at the line `number`, and no further output is decided.
   pub record IsDisorderDecided (side : Side) (number : ℕ) : Type 0 where
     pub status_is : (cursor side).status ≡ Disorder number
-    pub named : IsReportable cmp side (previous_key key cursor store side) (cursor (other side)).status (current_key key cursor store (other side)) (previous_key key cursor store (other side))
+    pub named : IsReportable cmp side (previous_key key cursor store side) (cursor (other side)).status
+        (current_key key cursor store (other side)) (previous_key key cursor store (other side))
 
   -- The postcondition of `step`.
   abbrev pub StepPost : Step → Type 0
@@ -102,7 +105,8 @@ module _ (cmp : Cmp) (key : Side → Key) (cursor : Side → Sorted) (store : Sl
 -- ---- the start
 
 -- Slots were added, the first input was advanced to its first line, and then `Then` holds of the store.
-pub record StartFirstPost (key : Side → Key) (cmp : Cmp) (first : Sorted) (old new : MergeInputs) (Then : Slots → Type 0) : Type 0 where
+pub record StartFirstPost (key : Side → Key) (cmp : Cmp) (first : Sorted) (old new : MergeInputs)
+    (Then : Slots → Type 0) : Type 0 where
   pub made : Slots
   pub mid : Slots
   pub four : EnsureFourSlotsPost old.store made
@@ -111,7 +115,9 @@ pub record StartFirstPost (key : Side → Key) (cmp : Cmp) (first : Sorted) (old
 
 -- The postcondition of `start` if it succeeds: both inputs are at their first lines, or at their ends.
 abbrev pub StartOkPost : (Side → Key) → Cmp → (Side → Sorted) → MergeInputs → MergeInputs → Type 0
-StartOkPost key cmp cursor old new = StartFirstPost key cmp (cursor First) old new (λ mid. NextOkPost (key Second) cmp (initial_cursor Second) (cursor Second) (old.reader Second) (new.reader Second) mid new.store)
+StartOkPost key cmp cursor old new = StartFirstPost key cmp (cursor First) old new
+    (λ mid. NextOkPost (key Second) cmp (initial_cursor Second) (cursor Second) (old.reader Second) (new.reader Second)
+    mid new.store)
 
 -- The postcondition of `start` if a slot could not be added: nothing was read.
 pub record StartSlotFaultPost (old new : MergeInputs) (fault : MergeFault) : Type 0 where
@@ -127,11 +133,13 @@ pub record StartFirstFaultPost (old new : MergeInputs) (fault : MergeFault) : Ty
   pub unread : new.reader Second ≡ old.reader Second
 
 -- The postcondition of `start` if reading the second input failed.
-pub record StartSecondFaultPost (key : Side → Key) (cmp : Cmp) (old new : MergeInputs) (fault : MergeFault) : Type 0 where
+pub record StartSecondFaultPost (key : Side → Key) (cmp : Cmp) (old new : MergeInputs)
+    (fault : MergeFault) : Type 0 where
   pub first : Sorted
   pub begins : StartFirstPost key cmp first old new
       (λ mid. NextErrPost Second (initial_cursor Second) (old.reader Second) (new.reader Second) mid new.store fault)
 
 -- The postcondition of `start` if it fails.
 abbrev pub StartErrPost : (Side → Key) → Cmp → MergeInputs → MergeInputs → MergeFault → Type 0
-StartErrPost key cmp old new fault = StartSlotFaultPost old new fault ⊎ (StartFirstFaultPost old new fault ⊎ StartSecondFaultPost key cmp old new fault)
+StartErrPost key cmp old new fault =
+    StartSlotFaultPost old new fault ⊎ (StartFirstFaultPost old new fault ⊎ StartSecondFaultPost key cmp old new fault)

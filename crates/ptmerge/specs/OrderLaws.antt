@@ -7,5 +7,6 @@ pub use Rattle.ptlines.specs.ByteOrder.{byte_cmp_equal}
 use Rattle.ptmerge.specs.Orders.{Cmp}
 
 -- If the law holds for `cmp`, it holds for its reverse.
-pub reversed_same_bytes : (cmp : Cmp) → ((a b : List ℕ) → cmp a b ≡ Equal → a ≡ b) → (a b : List ℕ) → flip_args cmp a b ≡ Equal → a ≡ b
+pub reversed_same_bytes : (cmp : Cmp) → ((a b : List ℕ) → cmp a b ≡ Equal → a ≡ b) → (a b : List ℕ)
+    → flip_args cmp a b ≡ Equal → a ≡ b
 reversed_same_bytes cmp exact a b e = sym (exact b a e)

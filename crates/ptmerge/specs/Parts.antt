@@ -31,7 +31,8 @@ pub record AreSplitByKey (tool : MergeTool) (first second : Side → List ℕ) :
 
 -- The output for two inputs is the output for their first parts followed by the output for their second parts.
 abbrev pub IsConcatOfParts : MergeTool → Type 0
-IsConcatOfParts tool = (first second : Side → List ℕ) → AreSplitByKey tool first second → merge_output tool (λ side. first side ++ second side) ≡ merge_output tool first ++ merge_output tool second
+IsConcatOfParts tool = (first second : Side → List ℕ) → AreSplitByKey tool first second
+    → merge_output tool (λ side. first side ++ second side) ≡ merge_output tool first ++ merge_output tool second
 
 -- The law for `comm`.
 abbrev pub CommOfParts : Type 0
@@ -45,7 +46,8 @@ JoinOfParts = (job : Join) → IsConcatOfParts (join_tool job)
 
 -- The lines of each text whose keys belong to the part `i`.
 abbrev pub text_of_part : MergeTool → (List ℕ → ℕ) → (Side → List ℕ) → ℕ → Side → List ℕ
-text_of_part tool part_of inputs i side = unlines tool.terminator (filter (λ line. part_of (tool.key side line) == i) (lines_of tool inputs side))
+text_of_part tool part_of inputs i side =
+    unlines tool.terminator (filter (λ line. part_of (tool.key side line) == i) (lines_of tool inputs side))
 
 -- The output for two texts, as lines.
 abbrev pub output_lines : MergeTool → (Side → List ℕ) → Lines
@@ -54,8 +56,10 @@ output_lines tool inputs = lines tool.terminator (merge_output tool inputs)
 -- If the lines of two sorted inputs are distributed over parts by a function of their keys, the output lines for the
 -- parts together are the output lines for the inputs, in some order.
 abbrev pub IsSplittableByKey : MergeTool → Type 0
-IsSplittableByKey tool = (inputs : Side → List ℕ) (part_of : List ℕ → ℕ) (parts : ℕ) → AreInputsSorted tool inputs → ((key : List ℕ) → part_of key < parts)
-    → IsPermutation (output_lines tool inputs) (flat_map (λ i. output_lines tool (text_of_part tool part_of inputs i)) (range_with_len 0 parts))
+IsSplittableByKey tool = (inputs : Side → List ℕ) (part_of : List ℕ → ℕ) (parts : ℕ) → AreInputsSorted tool inputs
+    → ((key : List ℕ) → part_of key < parts)
+    → IsPermutation (output_lines tool inputs) (flat_map (λ i. output_lines tool (text_of_part tool part_of inputs i))
+    (range_with_len 0 parts))
 
 -- The law for `comm`.
 abbrev pub CommByKey : Type 0

@@ -3,11 +3,11 @@
 -- over.
 use Rattle.ptmerge.proofs.Common.{◌≡◌, ℕ, ◌<◌, false, List, [], ◌∷◌, ◌++◌, Result, Ok, Err, length, refl, sym, ◌∙◌, ap, arith, Comm, Output, PushEffect, Reader, Slots, line, unlines, MergeFault, Side, First}
 use Rattle.ptmerge.proofs.Common.{Second, Sorted, Head, Ended, comm_with, column_entries, tab_if_shown, Lines, MergeTool, entries_by_key, lines_with_key, AdvanceOkPost, AdvancePre, MergeState, MergePost, IsMergeUnread, merge_state, Cmp, Key, both}
-use Rattle.ptmerge.proofs.Common.{with_side, other, HaveEqualKeys, StartErrPost, HasOnlyLeastKey, IsDisorderDecided, IsReaderOf, AreValidCursors, StartOkPost, merge_inputs, AddedSlots, ClearFourSlotsPost, suc, ◌-◌, min, append_assoc, append-nil, bytes_decides}
+use Rattle.ptmerge.proofs.Common.{with_side, other, HaveEqualKeys, StartErrPost, HasOnlyLeastKey, IsDisorderDecided, IsReaderOf, AreValidCursors, StartOkPost, merge_inputs, AddedSlots, ClearFourSlotsPost, suc, ◌-◌, min, append_assoc, append-nil}
 use Rattle.ptmerge.proofs.Common.{tied_itself, entries, Bool}
 use Rattle.ptmerge.proofs.MergeLemmas.Step.{AdvanceErrPost, IsOpenMerge, CursorsInvariant, LoopInvariant, adds_of, next_keeps_slot_count, advance_ok, goes_merging, advance_keeps_slot_count, passing_now, runs_on, slots_of, read_facts_current, iteration_fails}
 use Rattle.ptmerge.proofs.MergeLemmas.Step.{IsLineByLine, current_key_is_above, alone, write_one_line, reads_ahead, measure_less, own_reader_kept, place_is, wrote_and_sent, StoreHoldsTwoLines, holds_two, keeps_two, ends_well, ends_fallen}
-use Rattle.ptmerge.proofs.MergeLemmas.Orders.{IsKeyOrder}
+use Rattle.ptmerge.proofs.MergeLemmas.Orders.{IsKeyOrder, same_bytes}
 use Rattle.ptmerge.proofs.MergeLemmas.Slots.{put_other, put_same}
 use Rattle.ptmerge.proofs.MergeLemmas.Invariant.{LagInvariant, MergeInvariant, line_is_least_run, lag_invariant_starts, write_least_run, all_keys}
 use Rattle.ptmerge.proofs.MergeLemmas.Exits.{at_current_line, state_by_side}
@@ -19,7 +19,8 @@ use Rattle.ptmerge.specs.declared.faults.MergeFault.TheVariants as faults
 no_entries : (hidden : Bool) (tabs line : List ℕ) → column_entries hidden tabs 0 line ≡ []
 no_entries hidden tabs line = grind arith
 
-one_more_entry : (hidden : Bool) (tabs line : List ℕ) (n : ℕ) → column_entries hidden tabs (suc n) line ≡ column_entries hidden tabs 1 line ++ column_entries hidden tabs n line
+one_more_entry : (hidden : Bool) (tabs line : List ℕ) (n : ℕ)
+    → column_entries hidden tabs (suc n) line ≡ column_entries hidden tabs 1 line ++ column_entries hidden tabs n line
 one_more_entry hidden tabs line n = grind arith
 
 -- whether the column of a line of one input alone is hidden
@@ -51,25 +52,38 @@ module _ (job : Comm) (x : List ℕ) where
   entries_both n k =
       let least : min (suc n) (suc k) ≡ suc (min n k) = omega arith in
       let nothing_follows : (i j : ℕ) → suc i - suc j ≡ i - j = λ i j. omega arith in
-      rw (one_common_entry, least, nothing_follows n k, nothing_follows k n, one_more_entry job.hide3 (tab_if_shown job.hide1 ++ tab_if_shown job.hide2) x (min n k)) (simp append_assoc)
+      rw (
+        one_common_entry,
+        least,
+        nothing_follows n k,
+        nothing_follows k n,
+        one_more_entry job.hide3 (tab_if_shown job.hide1 ++ tab_if_shown job.hide2) x (min n k),
+      ) (simp append_assoc)
 
 module _ (job : Comm) (cmp : Cmp) (key : Side → Key) where
   is_line_by_line : IsLineByLine (comm_with job cmp key)
   is_line_by_line = record {
     none = entries_none job;
     first = λ k x g. rw (only_first job k (suc (length g)), only_first job k 1, only_first job k (length g)) (one_more_entry job.hide1 [] k (length g));
-    second = λ k x g. rw (only_second job k (suc (length g)), only_second job k 1, only_second job k (length g)) (one_more_entry job.hide2 (tab_if_shown job.hide1) k (length g));
+    second = λ k x g. rw (only_second job k (suc (length g)), only_second job k 1, only_second job k (length g))
+        (one_more_entry job.hide2 (tab_if_shown job.hide1) k (length g));
   }
 
   -- the entries of one line of one input alone, if the key is the line
-  entries_alone : (s : Side) (x : List ℕ) → key s x ≡ x → entries_by_key (comm_with job cmp key) all_keys (alone s x) ≡ column_entries (hidden_of job s) (tabs_of job s) 1 x
-  entries_alone First x whole_line_keys = rw (whole_line_keys, (bytes_decides x x).1 refl, append-nil) (only_first job x 1)
-  entries_alone Second x whole_line_keys = simp (whole_line_keys, (bytes_decides x x).1 refl, append-nil) (only_second job x 1)
+  entries_alone : (s : Side) (x : List ℕ) → key s x ≡ x → entries_by_key (comm_with job cmp key) all_keys
+      (alone s x) ≡ column_entries (hidden_of job s) (tabs_of job s) 1 x
+  entries_alone First x whole_line_keys =
+      rw (whole_line_keys, same_bytes (refl {a = x}), append-nil) (only_first job x 1)
+  entries_alone Second x whole_line_keys =
+      simp (whole_line_keys, same_bytes (refl {a = x}), append-nil) (only_second job x 1)
 
   -- the entries of one line of both inputs
   entries_of_pair : IsKeyOrder cmp → (x y : List ℕ) → key First x ≡ x → key Second y ≡ key First x
-      → entries_by_key (comm_with job cmp key) all_keys (both (x ∷ []) (y ∷ [])) ≡ column_entries job.hide3 (tab_if_shown job.hide1 ++ tab_if_shown job.hide2) 1 x
-  entries_of_pair o x y whole_line_keys same = simp (same ∙ whole_line_keys, whole_line_keys, tied_itself o.total x, (bytes_decides x x).1 refl, append-nil) (one_common_entry job x)
+      → entries_by_key (comm_with job cmp key) all_keys (both (x ∷ []) (y ∷ [])) ≡ column_entries job.hide3
+      (tab_if_shown job.hide1 ++ tab_if_shown job.hide2) 1 x
+  entries_of_pair o x y whole_line_keys same = simp
+      (same ∙ whole_line_keys, whole_line_keys, tied_itself o.total x, same_bytes (refl {a = x}), append-nil)
+      (one_common_entry job x)
 
 -- ---- the loop invariant
 
@@ -84,7 +98,11 @@ pub record IterationInvariant (job : Comm) (cmp : Cmp) (key : Side → Key) (old
 
 -- the postconditions of a call that ends with this result
 abbrev pub ExitPost : MergeTool → MergeState → MergeState → Result (Unit {0}) MergeFault → Type 0
-ExitPost tool old new result = record { merged : MergePost tool old new result; unread_without_slots : length new.store.lines < 4 → IsMergeUnread old new; slots : AddedSlots old.store new.store 4 }
+ExitPost tool old new result = record {
+  merged : MergePost tool old new result;
+  unread_without_slots : length new.store.lines < 4 → IsMergeUnread old new;
+  slots : AddedSlots old.store new.store 4;
+}
 
 -- the invariant and the postconditions depend only on the order, and a call leaves the order of a merge unchanged
 pub iteration_as : {K : Type 0} (order : K → Cmp) (key_of : K → Side → Key) {a b : K} {job : Comm} {old now : MergeState} {one two : Sorted}
@@ -105,13 +123,14 @@ module _ (job : Comm) {cmp : Cmp} {key : Side → Key} {old : MergeState} (w : I
 
   pub starts : ((side : Side) (x : List ℕ) → key side x ≡ x) → {first second : Reader} {store : Slots} {one two : Sorted}
       → StartOkPost key cmp (both one two) (record { reader = old.reader; store = old.store }) (merge_inputs first second store)
-      → AreValidCursors key one two store → IsReaderOf one first × IsReaderOf two second → IterationInvariant job cmp key old (merge_state first second old.out store) one two
-  starts whole_line_keys {first} {second} {store} {one} {two} h valid_cursors own_reader = record {
+      → AreValidCursors key one two store → IsReaderOf one first × IsReaderOf two second
+      → IterationInvariant job cmp key old (merge_state first second old.out store) one two
+  starts whole_line_keys {first} {second} {store} {one} {two} h valid_cursors (reader1, reader2) = record {
     opened = w;
     whole_line_keys = whole_line_keys;
     loop_invariant = start_ok w (merge_inputs first second store) (both one two) valid_cursors.first h;
     valid_cursors = valid_cursors;
-    own_reader = elim [ First ↦ own_reader.0 | Second ↦ own_reader.1 ];
+    own_reader = elim [ First ↦ reader1 | Second ↦ reader2 ];
     clean = w.writable;
   }
 
@@ -129,8 +148,13 @@ module _ {job : Comm} {cmp : Cmp} {key : Side → Key} {old now : MergeState} {o
   abbrev head : Side → List ℕ
   head s = line now.store (both one two s).current_slot
 
-  exit_post : {new : MergeState} {r : Result (Unit {0}) MergeFault} → length new.store.lines ≡ length now.store.lines → MergePost tool old new r → ExitPost tool old new r
-  exit_post same merged = record { merged = merged; unread_without_slots = λ few. absurd (omega (arith, few, same, valid_cursors.slots)); slots = adds_of (same ∙ keeps.slots) }
+  exit_post : {new : MergeState} {r : Result (Unit {0}) MergeFault} → length new.store.lines ≡ length now.store.lines
+      → MergePost tool old new r → ExitPost tool old new r
+  exit_post same merged = record {
+    merged = merged;
+    unread_without_slots = λ few. absurd (omega (arith, few, same, valid_cursors.slots));
+    slots = adds_of (same ∙ keeps.slots);
+  }
 
   pub advance_pre : (s : Side) → (both one two s).status ≡ Head → AdvancePre key s one two (now.reader s) now.store
   advance_pre s head = record { valid_cursors = valid_cursors; head = head; own_reader = own_reader s }
@@ -138,47 +162,61 @@ module _ {job : Comm} {cmp : Cmp} {key : Side → Key} {old now : MergeState} {o
   -- a step for a line of one input alone
   module _ {s : Side} (step : HasOnlyLeastKey cmp key (both one two) now.store s) where
     pub alone_decreases : {one2 two2 : Sorted} {reader : Reader} {after : Slots} {new : Output}
-        → AdvanceOkPost key cmp s one two one2 two2 (now.reader s) reader now.store after new → reads_ahead (with_side s reader now.reader) one2 two2 < reads_ahead now.reader one two
-    alone_decreases {one2} {two2} {reader} {after} h = measure_less (key s) cmp s one two one2 two2 now.reader reader now.store after step.status_is h.continues.others h.came
+        → AdvanceOkPost key cmp s one two one2 two2 (now.reader s) reader now.store after new
+        → reads_ahead (with_side s reader now.reader) one2 two2 < reads_ahead now.reader one two
+    alone_decreases {one2} {two2} {reader} {after} h = measure_less (key s) cmp s one two one2 two2 now.reader reader
+        now.store after step.status_is h.continues.others h.came
 
     module _ {new : Output} {e : ℕ} (ends : e ≡ job.terminator) {tabs : List ℕ} (led : tabs ≡ tabs_of job s)
         (pushed : PushEffect now.out new (unlines e (column_entries (hidden_of job s) tabs 1 (head s)))) where
       wrote_line : MergeInvariant tool b (with_side s (ls s) p) old.out new × LagInvariant tool b (with_side s (ls s) p) old.out new
       wrote_line =
           let h = at_current_line step.status_is (sides s) in
-          let a = current_key_is_above _ w.o _ _ _ _ _ _ _ _ _ step.before (sides (other s)).status_is in
-          rw h.all (write_one_line _ w.o (is_line_by_line job cmp key) s (head s) _ _ _ _ _ clean merge_invariant h.bound a.0 a.1
+          let (above, under) = current_key_is_above _ w.o _ _ _ _ _ _ _ _ _ step.before (sides (other s)).status_is in
+          rw h.all (write_one_line _ w.o (is_line_by_line job cmp key) s (head s) _ _ _ _ _ clean merge_invariant
+          h.bound above under
           (rw (entries_alone job cmp key s (head s) (whole_line_keys s (head s))) (rw (ends, led) at pushed)))
 
-      pub alone_continues : {one2 two2 : Sorted} {reader : Reader} {after : Slots} → AdvanceOkPost key cmp s one two one2 two2 (now.reader s) reader now.store after new
+      pub alone_continues : {one2 two2 : Sorted} {reader : Reader} {after : Slots}
+          → AdvanceOkPost key cmp s one two one2 two2 (now.reader s) reader now.store after new
           → IterationInvariant job cmp key old (state_by_side (with_side s reader now.reader) new after) one2 two2
       alone_continues {one2} {two2} {reader} h = record {
         opened = w;
         whole_line_keys = whole_line_keys;
-        loop_invariant = rw (← place_is s one two one2 two2 h.continues.others) (runs_on w stood_at s step.status_is h.came (keeps_two w stood_at s step.status_is h.came keeps) wrote_line.0);
+        loop_invariant = rw (← place_is s one two one2 two2 h.continues.others)
+            (runs_on w stood_at s step.status_is h.came (keeps_two w stood_at s step.status_is h.came keeps)
+            (let (m, _) = wrote_line in m));
         valid_cursors = h.continues.valid_cursors;
         own_reader = own_reader_kept s one two one2 two2 now.reader reader h.continues.others h.continues.own_reader own_reader;
         clean = h.continues.clean;
       }
 
       pub alone_fails : {reader : Reader} {after : Slots} {fault : MergeFault} {r : Result (Unit {0}) MergeFault} → r ≡ Err fault
-          → AdvanceErrPost s (both one two s) (now.reader s) reader now.store after new fault → ExitPost tool old (state_by_side (with_side s reader now.reader) new after) r
+          → AdvanceErrPost s (both one two s) (now.reader s) reader now.store after new fault
+          → ExitPost tool old (state_by_side (with_side s reader now.reader) new after) r
       alone_fails {fault = fault} is h = rw is (exit_post (advance_keeps_slot_count (key s) cmp s (both one two s) (both one two s) _ _ _ _ _ fault h)
-          (iteration_fails w stood_at s step.status_is wrote_line (put_same s (ls s) p) (rw (put_other s (ls s) p) (read_facts_current w stood_at (other s))) h))
+          (iteration_fails w stood_at s step.status_is wrote_line (put_same s (ls s) p)
+          (rw (put_other s (ls s) p) (read_facts_current w stood_at (other s))) h))
 
   -- a step for a line of both inputs, after the first input advanced: the second one is still at the line
   pub second_advance_pre : HaveEqualKeys cmp key (both one two) now.store → {one2 two2 : Sorted} {reader : Reader} {after : Slots} {mid : Output}
       → AdvanceOkPost key cmp First one two one2 two2 (now.reader First) reader now.store after mid → AdvancePre key Second one2 two2 (now.reader Second) after
-  second_advance_pre step h = record { valid_cursors = h.continues.valid_cursors; head = ap (λ (q : Sorted). q.status) h.continues.others ∙ step.second; own_reader = rw h.continues.others (own_reader Second) }
+  second_advance_pre step h = record {
+    valid_cursors = h.continues.valid_cursors;
+    head = ap (λ (q : Sorted). q.status) h.continues.others ∙ step.second;
+    own_reader = rw h.continues.others (own_reader Second);
+  }
 
   module _ (step : HaveEqualKeys cmp key (both one two) now.store) where
     pub pair_decreases : {one2 two2 one3 two3 : Sorted} {reader reader2 : Reader} {after last : Slots} {mid new : Output}
-        → AdvanceOkPost key cmp First one two one2 two2 (now.reader First) reader now.store after mid → AdvanceOkPost key cmp Second one2 two2 one3 two3 (now.reader Second) reader2 after last new
+        → AdvanceOkPost key cmp First one two one2 two2 (now.reader First) reader now.store after mid
+        → AdvanceOkPost key cmp Second one2 two2 one3 two3 (now.reader Second) reader2 after last new
         → reads_ahead (both reader reader2) one3 two3 < reads_ahead now.reader one two
     pair_decreases {one2} {two2} {one3} {two3} {reader} {reader2} {after} {last} h k = omega (
       arith,
       measure_less (key First) cmp First one two one2 two2 now.reader reader now.store after step.first h.continues.others h.came,
-      measure_less (key Second) cmp Second one2 two2 one3 two3 (with_side First reader now.reader) reader2 after last (second_advance_pre step h).head k.continues.others k.came,
+      measure_less (key Second) cmp Second one2 two2 one3 two3 (with_side First reader now.reader) reader2 after last
+          (second_advance_pre step h).head k.continues.others k.came,
     )
 
     abbrev both_written : Side → Lines
@@ -190,35 +228,44 @@ module _ {job : Comm} {cmp : Cmp} {key : Side → Key} {old now : MergeState} {o
         let h1 = at_current_line step.first (sides First) in
         let h2 = at_current_line step.second (sides Second) in
         let x = head First in
-        write_least_run w.o (key First x) both_written (both (x ∷ []) (head Second ∷ [])) (elim [ First ↦ line_is_least_run w.o h1.bound refl | Second ↦ line_is_least_run w.o h2.bound (sym step.same) ])
+        write_least_run w.o (key First x) both_written (both (x ∷ []) (head Second ∷ []))
+        (elim [ First ↦ line_is_least_run w.o h1.bound refl | Second ↦ line_is_least_run w.o h2.bound (sym step.same) ])
         (elim [ First ↦ h1.all | Second ↦ h2.all ]) (entries_none job (key First x))
-        (λ r c. entries_both job (key First x) (length (lines_with_key (key First) (r First) (key First x))) (length (lines_with_key (key Second) (r Second) (key First x)))) clean merge_invariant wrote
+        (λ r c. entries_both job (key First x) (length (lines_with_key (key First) (r First) (key First x)))
+        (length (lines_with_key (key Second) (r Second) (key First x)))) clean merge_invariant wrote
 
     module _ {mid : Output} {e : ℕ} (ends : e ≡ job.terminator) {tabs : List ℕ} (led : tabs ≡ tab_if_shown job.hide1 ++ tab_if_shown job.hide2)
         (pushed : PushEffect now.out mid (unlines e (column_entries job.hide3 tabs 1 (head First)))) where
       wrote_pair : PushEffect now.out mid (unlines job.terminator (entries_by_key tool all_keys (both (head First ∷ []) (head Second ∷ []))))
-      wrote_pair = rw (entries_of_pair job cmp key w.o (head First) (head Second) (whole_line_keys First (head First)) (sym step.same)) (rw (ends, led) at pushed)
+      wrote_pair = rw (entries_of_pair job cmp key w.o (head First) (head Second) (whole_line_keys First (head First))
+          (sym step.same)) (rw (ends, led) at pushed)
 
       pub pair_fails : {reader : Reader} {after : Slots} {fault : MergeFault} {r : Result (Unit {0}) MergeFault} → r ≡ Err fault
-          → AdvanceErrPost First one (now.reader First) reader now.store after mid fault → ExitPost tool old (state_by_side (with_side First reader now.reader) mid after) r
+          → AdvanceErrPost First one (now.reader First) reader now.store after mid fault
+          → ExitPost tool old (state_by_side (with_side First reader now.reader) mid after) r
       pair_fails {fault = fault} is h = rw is (exit_post (advance_keeps_slot_count (key First) cmp First one one _ _ _ _ _ fault h)
           (iteration_fails w stood_at First step.first (wrote_both wrote_pair) refl (passing_now w stood_at Second step.second) h))
 
       -- the first input advanced, and the output was written out
-      module _ {one2 two2 : Sorted} {reader : Reader} {after : Slots} (h : AdvanceOkPost key cmp First one two one2 two2 (now.reader First) reader now.store after mid)
+      module _ {one2 two2 : Sorted} {reader : Reader} {after : Slots}
+          (h : AdvanceOkPost key cmp First one two one2 two2 (now.reader First) reader now.store after mid)
           {new : Output} (written_out : PushEffect mid new []) where
         wrote_line_out : MergeInvariant tool b both_written old.out new
-        wrote_line_out = (wrote_both (wrote_and_sent _ _ _ _ h.continues.clean wrote_pair written_out)).0
+        wrote_line_out = let (m, _) = wrote_both (wrote_and_sent _ _ _ _ h.continues.clean wrote_pair written_out) in m
 
         pub second_fails : {reader2 : Reader} {last : Slots} {fault : MergeFault} {r : Result (Unit {0}) MergeFault} → r ≡ Err fault
             → AdvanceErrPost Second two2 (now.reader Second) reader2 after last new fault → ExitPost tool old (state_by_side (both reader reader2) new last) r
         second_fails {fault = fault} is k =
             let g = advance_ok w stood_at First step.first h.came w.fits keeps in
             let m = goes_merging w stood_at First step.first h.came wrote_line_out in
+            let (before, _) = wrote_both wrote_pair in
             rw is (exit_post (advance_keeps_slot_count (key Second) cmp Second two2 two2 _ _ _ _ _ fault k ∙ next_keeps_slot_count _ _ _ _ _ _ _ _ h.came)
-            (iteration_fails w g Second step.second (m, lag_invariant_starts _ _ _ _ _ _ h.continues.clean (wrote_both wrote_pair).0.wrote written_out) refl (read_facts_current w g First) (rw h.continues.others at k)))
+            (iteration_fails w g Second step.second
+            (m, lag_invariant_starts _ _ _ _ _ _ h.continues.clean before.wrote written_out) refl
+            (read_facts_current w g First) (rw h.continues.others at k)))
 
-        pub pair_continues : {one3 two3 : Sorted} {reader2 : Reader} {last : Slots} → AdvanceOkPost key cmp Second one2 two2 one3 two3 (now.reader Second) reader2 after last new
+        pub pair_continues : {one3 two3 : Sorted} {reader2 : Reader} {last : Slots}
+            → AdvanceOkPost key cmp Second one2 two2 one3 two3 (now.reader Second) reader2 after last new
             → IterationInvariant job cmp key old (state_by_side (both reader reader2) new last) one3 two3
         pair_continues k =
             let g = advance_ok w stood_at First step.first h.came w.fits keeps in
@@ -227,7 +274,8 @@ module _ {job : Comm} {cmp : Cmp} {key : Side → Key} {old now : MergeState} {o
             record {
               opened = w;
               whole_line_keys = whole_line_keys;
-              loop_invariant = rw k.continues.others (runs_on w g Second step.second came kept (goes_merging w stood_at First step.first h.came wrote_line_out));
+              loop_invariant = rw k.continues.others (runs_on w g Second step.second came kept
+                  (goes_merging w stood_at First step.first h.came wrote_line_out));
               valid_cursors = k.continues.valid_cursors;
               own_reader = elim [ First ↦ rw k.continues.others h.continues.own_reader | Second ↦ k.continues.own_reader ];
               clean = k.continues.clean;
@@ -239,5 +287,6 @@ module _ {job : Comm} {cmp : Cmp} {key : Side → Key} {old now : MergeState} {o
     pub eof : ((side : Side) → (both one two side).status ≡ Ended) → ExitPost tool old (state_by_side now.reader now.out after) (Ok tt)
     eof step = exit_post clear.slots (ends_well w stood_at merge_invariant clean clear step)
 
-    pub disordered : {s : Side} {n : ℕ} → IsDisorderDecided cmp key (both one two) now.store s n → ExitPost tool old (state_by_side now.reader now.out after) (Err (faults.Disorder s n))
+    pub disordered : {s : Side} {n : ℕ} → IsDisorderDecided cmp key (both one two) now.store s n
+        → ExitPost tool old (state_by_side now.reader now.out after) (Err (faults.Disorder s n))
     disordered step = exit_post clear.slots (ends_fallen w stood_at merge_invariant clean clear step)

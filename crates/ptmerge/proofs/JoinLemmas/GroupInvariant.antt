@@ -8,12 +8,12 @@ use Rattle.ptmerge.proofs.Common.{entries_by_key, entries_of_key, lines_with_key
 use Rattle.ptmerge.proofs.Common.{Write}
 use Rattle.ptmerge.proofs.MergeLemmas.Step.{slots_on, SidesInvariant, IsAbove, IsLineByLine, current_key_is_above, next_at, own_slots, passed_at, sides_invariant_continues, slots_apart, StoreInvariant, buffered_not_done}
 use Rattle.ptmerge.proofs.MergeLemmas.Invariant.{Bound, AtLeast, MayFollow, IsUnder, MergeInvariant, InputSplit, MayCome, all_keys, splits_step, all_wanted, written_is_wanted}
-use Rattle.ptmerge.proofs.JoinLemmas.GroupSlots.{AllSlots, GroupBounds, InGroup, largest_group, GroupStore, group_store_line, group_store_next, low_slot, put_more}
+use Rattle.ptmerge.proofs.JoinLemmas.GroupSlots.{AllSlots, Extends, GroupBounds, InGroup, largest_group, GroupStore, group_store_line, group_store_next, low_slot, put_more}
 use Rattle.ptmerge.proofs.MergeLemmas.Orders.{EachKey, EachKey-append, EachKey-weaker, at_most-same, front_first, front_is, others_of, lines_with_key-above, IsKeyOrder, AtMost, least_or_above, self_at_most}
-use Rattle.ptmerge.proofs.MergeLemmas.Orders.{at_most_trans}
+use Rattle.ptmerge.proofs.MergeLemmas.Orders.{at_most_trans, same_bytes}
 use Rattle.ptmerge.proofs.MergeLemmas.Slots.{put_both, put_each, put_other, put_same, side_case, has_lines_total, line_other}
 use Rattle.ptmerge.proofs.MergeLemmas.Exits.{SideAfterNext, IsAtCurrentLine, MatchesStatus, next_same_key, side_invariant_kept, IsFailedRead, Fits, ReadFacts, read_facts_after_line, read_facts_at_line, exit_facts, input_split_of, LeavesWork, both_begun}
-use Rattle.ptmerge.proofs.MergeLemmas.LinesRead.{Continues, HasBegun}
+use Rattle.ptmerge.proofs.MergeLemmas.LinesRead.{Continues, HasBegun, HoldsLines}
 use Rattle.ptmerge.specs.declared.faults.MergeFault.TheVariants as faults
 
 -- ---- a fault within a group
@@ -39,15 +39,19 @@ pub record OutputInGroup (tool : MergeTool) (was mid : Output) (p g : Side → L
 
 -- the entries `extra` are a prefix of the group's output, for all lines that may follow
 pub record OutputStartsWith (tool : MergeTool) (g : Side → Lines) (d : Side → Bound) (k : List ℕ) (extra : Lines) : Type 0 where
-  pub rest : (w : List ℕ → Bool) (r : Side → Lines) → MayCome tool d r → w k ≡ true → (rest : Lines) × (entries_by_key tool w (λ side. g side ++ r side) ≡ extra ++ rest)
+  pub rest : (w : List ℕ → Bool) (r : Side → Lines) → MayCome tool d r → w k ≡ true → (rest : Lines)
+      × (entries_by_key tool w (λ side. g side ++ r side) ≡ extra ++ rest)
 
 -- the group has entries, for all lines that may follow
 pub record HasEntries (tool : MergeTool) (g : Side → Lines) (d : Side → Bound) (k : List ℕ) : Type 0 where
-  pub some : (w : List ℕ → Bool) (r : Side → Lines) → MayCome tool d r → w k ≡ true → 0 < length (entries_by_key tool w (λ side. g side ++ r side))
+  pub some : (w : List ℕ → Bool) (r : Side → Lines) → MayCome tool d r → w k ≡ true
+      → 0 < length (entries_by_key tool w (λ side. g side ++ r side))
 
-module _ {tool : MergeTool} (o : IsKeyOrder tool.cmp) (old new : MergeState) {now : Side → Reader} {piece : Side → List ℕ} {mid : Output} {ls p g : Side → Lines} {d : Side → Bound} {k : List ℕ}
+module _ {tool : MergeTool} (o : IsKeyOrder tool.cmp) (old new : MergeState) {now : Side → Reader}
+    {piece : Side → List ℕ} {mid : Output} {ls p g : Side → Lines} {d : Side → Bound} {k : List ℕ}
     (m : OutputInGroup tool old.out mid p g d k)
-    (gone : (side : Side) → ReadFacts tool.terminator tool.cmp (tool.key side) (old.reader side) (now side) (new.reader side) (piece side) (ls side) (p side ++ g side) (d side)) where
+    (gone : (side : Side) → ReadFacts tool.terminator tool.cmp (tool.key side) (old.reader side) (now side)
+    (new.reader side) (piece side) (ls side) (p side ++ g side) (d side)) where
   open tool use {cmp, terminator, key}
 
   abbrev front : Lines
@@ -61,7 +65,8 @@ module _ {tool : MergeTool} (o : IsKeyOrder tool.cmp) (old new : MergeState) {no
     seen : InputSplit tool d (λ side. p side ++ g side) all
     seen = input_split_of tool o old new now piece ls (λ side. p side ++ g side) d gone all more
 
-    parts : (w : List ℕ → Bool) → entries_by_key tool w (sorted_prefixes tool all) ≡ entries_by_key tool w p ++ entries_by_key tool w (λ side. g side ++ seen.r side)
+    parts : (w : List ℕ → Bool) → entries_by_key tool w (sorted_prefixes tool all) ≡ entries_by_key tool w
+        p ++ entries_by_key tool w (λ side. g side ++ seen.r side)
     parts w = (λ i. entries_by_key tool w (λ side. (seen.parts side ∙ append_assoc (p side) (g side) (seen.r side)) i))
         ∙ m.merge_invariant.splits.split w (λ side. g side ++ seen.r side) (λ side. rest_not_less side (seen.r side) (seen.may_follow side))
 
@@ -74,32 +79,47 @@ module _ {tool : MergeTool} (o : IsKeyOrder tool.cmp) (old new : MergeState) {no
 
     -- the entries of all lesser keys come first
     front_is_first : entries_by_key tool is_wanted p ≡ front
-    front_is_first = all_wanted tool is_wanted p (λ side. EachKey-weaker (λ x. AtMost cmp x k) (λ x. is_wanted x ≡ true) wanted (key side) (p side) (m.merge_invariant.under First side))
+    front_is_first = all_wanted tool is_wanted p (λ side. EachKey-weaker (λ x. AtMost cmp x k) (λ x. is_wanted x ≡ true)
+        wanted (key side) (p side) (m.merge_invariant.under First side))
 
-    all_is : {extra : Lines} → OutputStartsWith tool g d k extra → (rest : Lines) × (merged_entries tool all ≡ (front ++ extra) ++ rest)
+    all_is : {extra : Lines} → OutputStartsWith tool g d k extra → (rest : Lines)
+        × (merged_entries tool all ≡ (front ++ extra) ++ rest)
     all_is {extra} starts =
-        let s = starts.rest is_wanted seen.r seen.may_follow (wanted k (self_at_most cmp o k)) in
-        (s.0, parts is_wanted ∙ (λ i. front_is_first i ++ s.1 i) ∙ sym (append_assoc front extra s.0))
+        let (rest, is) = starts.rest is_wanted seen.r seen.may_follow (wanted k (self_at_most cmp o k)) in
+        (rest, parts is_wanted ∙ (λ i. front_is_first i ++ is i) ∙ sym (append_assoc front extra rest))
 
     -- the entries of lesser keys are not all, if the group has entries
     pub front_is_not_all : HasEntries tool g d k → ¬ (merged_entries tool all ≡ front ++ [])
     front_is_not_all has same =
         let some = has.some is_wanted seen.r seen.may_follow (wanted k (self_at_most cmp o k)) in
         let own = entries_by_key tool is_wanted (λ side. g side ++ seen.r side) in
-        absurd (omega (arith, some, ap length (sym (parts is_wanted ∙ (λ i. front_is_first i ++ own)) ∙ same ∙ append-nil front), length-append front own))
+        absurd (omega (
+          arith,
+          some,
+          ap length (sym (parts is_wanted ∙ (λ i. front_is_first i ++ own)) ∙ same ∙ append-nil front),
+          length-append front own,
+        ))
 
   -- the keys of the processed lines and of the group
   passed_keys : (of side : Side) → EachKey (λ x. AtMost cmp x k) (key side) (p side ++ g side)
   passed_keys of side = EachKey-append (λ x. AtMost cmp x k) (key side) (p side) (g side) (m.merge_invariant.under of side)
       (all_own_keys (λ x. AtMost cmp x k) (key side) k (g side) (self_at_most cmp o k) (m.own side))
 
-  pub group_exit : {extra : Lines} → OutputStartsWith tool g d k extra → PushEffect mid new.out (unlines tool.terminator extra) → ((side : Side) → HasBegun (now side) (ls side)) → {fault : MergeFault}
-      → MergeEndPost old new (Err fault) → ((side : Side) → (new.reader side).failed ≡ true → IsFailedRead cmp (key side) (new.reader side) (ls side) (p side ++ g side))
-      → ((input : Side → List ℕ) (pushed : List ℕ) → IsExactMerge tool input pushed (Err fault)) → LeavesWork tool new now ls (front ++ extra) (Err fault)
+  pub group_exit : {extra : Lines} → OutputStartsWith tool g d k extra
+      → PushEffect mid new.out (unlines tool.terminator extra) → ((side : Side) → HasBegun (now side) (ls side))
+      → {fault : MergeFault}
+      → MergeEndPost old new (Err fault) → ((side : Side) → (new.reader side).failed ≡ true
+      → IsFailedRead cmp (key side) (new.reader side) (ls side) (p side ++ g side))
+      → ((input : Side → List ℕ) (pushed : List ℕ) → IsExactMerge tool input pushed (Err fault))
+      → LeavesWork tool new now ls (front ++ extra) (Err fault)
       → Fits tool old.store now ls piece new.store → MergePost tool old new (Err fault)
-  group_exit {extra} starts wrote begun ends failed is_whole left fits = exit_facts tool o old new now piece ls (λ side. p side ++ g side) d gone p g (λ side. AtLeast k) (λ side. refl) passed_keys
-      (λ of side. EachKey-weaker (λ x. AtMost cmp x k) (IsUnder cmp (d of)) (λ x h. under_lower o (d of) x k h (m.under of)) (key side) (p side ++ g side) (passed_keys of side))
-      rest_not_less m.clean m.merge_invariant.wrote wrote _ (sym (unlines-append terminator front extra)) ends (λ all more. all_is all more starts) failed (λ input a. is_whole input (unlines terminator (front ++ extra))) (both_begun begun) left fits
+  group_exit {extra} starts wrote begun ends failed is_whole left fits = exit_facts tool o old new now piece ls
+      (λ side. p side ++ g side) d gone p g (λ side. AtLeast k) (λ side. refl) passed_keys
+      (λ of side. EachKey-weaker (λ x. AtMost cmp x k) (IsUnder cmp (d of))
+      (λ x h. under_lower o (d of) x k h (m.under of)) (key side) (p side ++ g side) (passed_keys of side))
+      rest_not_less m.clean m.merge_invariant.wrote wrote _ (sym (unlines-append terminator front extra)) ends
+      (λ all more. all_is all more starts) failed (λ input a. is_whole input (unlines terminator (front ++ extra)))
+      (both_begun begun) left fits
 
 -- ---- tools that write pairs
 
@@ -111,9 +131,11 @@ pub record IsPairTool (tool : MergeTool) (most : GroupBounds) (pairs : List ℕ 
   pub whole : (k a b : List ℕ) (f g : Lines) → tool.entries k (a ∷ f) (b ∷ g) ≡ pairs k (a ∷ f) (b ∷ g)
   pub written : tool.keeps_groups ≡ true → (k a b : List ℕ) (f g : Lines) → 0 < length (pairs k (a ∷ f) (b ∷ g))
   pub unwritten : tool.keeps_groups ≡ false → (k : List ℕ) (f g : Lines) → pairs k f g ≡ []
-  pub size : (ls : Side → Lines) → tool.size ls ≡ (2 * max_length (ls First) + 2 * max_length (ls Second)) + most.bytes (ls Second)
+  pub size : (ls : Side → Lines) → tool.size ls ≡ (2 * max_length (ls First) + 2 * max_length (ls Second)) + most.bytes
+      (ls Second)
   pub slots : (ls : Side → Lines) → tool.slots ls ≡ 4 + most.lines (ls Second)
-  pub largest : tool.keeps_groups ≡ true → (g ls : Lines) → InGroup (largest_group (tool.key Second)) g ls → InGroup most g ls
+  pub largest : tool.keeps_groups ≡ true → (g ls : Lines) → InGroup (largest_group (tool.key Second)) g ls
+      → InGroup most g ls
 
 -- a call of such a tool, with its initial state
 pub record JoinCall : Type 0 where
@@ -144,38 +166,61 @@ not_failed call side same fail = absurd (false≢true (sym (same ∙ call.unfail
 
 -- ---- the bytes in the store
 
--- the measure of `join` for inputs that begin with these lines
-pub size_of : (call : JoinCall) {store : Slots} {ls : Side → Lines} {g : Lines} (h : GroupStore call.most call.old.store store ls g) (all : Side → Lines)
-    → ((side : Side) → max_length (ls side) ≤ max_length (all side)) → (more : Lines) × (all Second ≡ ls Second ++ more)
-    → (store.peak ≤ max call.old.store.peak (call.size all)) × (length store.lines ≤ max (length call.old.store.lines) (call.slots all)) × (total_bytes store.lines ≤ call.size all)
-size_of call {store} {ls} {g} h all up more =
-    let bounds = h.bounds (all Second) more.0 more.1 in
-    omega (arith, bounds, call.laws.size all, call.laws.slots all, up First, up Second, (has_lines_total store.lines (λ side. max_length (ls side)) (total_bytes g) h.lines).1)
+pub extends : {now : Reader} {ls all : Lines} {piece : List ℕ} → HoldsLines now ls piece all → Extends ls all
+extends w = record { more = w.continues.more; is = w.continues.is }
 
-module _ (call : JoinCall) {store : Slots} {ls : Side → Lines} {g : Lines} (h : GroupStore call.most call.old.store store ls g) {now : Side → Reader} where
+-- the measure of `join` for inputs that begin with these lines
+pub size_of : (call : JoinCall) {store : Slots} {ls : Side → Lines} {g : Lines}
+    (h : GroupStore call.most call.old.store store ls g) (all : Side → Lines)
+    → ((side : Side) → max_length (ls side) ≤ max_length (all side)) → Extends (ls Second) (all Second)
+    → (store.peak ≤ max call.old.store.peak (call.size all))
+    × (length store.lines ≤ max (length call.old.store.lines) (call.slots all))
+    × (total_bytes store.lines ≤ call.size all)
+size_of call {store} {ls} {g} h all up more =
+    let bounds = h.bounds (all Second) more.more more.is in
+    omega (
+      arith,
+      bounds,
+      call.laws.size all,
+      call.laws.slots all,
+      up First,
+      up Second,
+      (has_lines_total store.lines (λ side. max_length (ls side)) (total_bytes g) h.lines).most,
+    )
+
+module _ (call : JoinCall) {store : Slots} {ls : Side → Lines} {g : Lines}
+    (h : GroupStore call.most call.old.store store ls g) {now : Side → Reader} where
   -- a piece of a further line stays within the measure
-  pub peak_line : (s : Side) (cursor : Sorted) → HasSlots s cursor → (piece : List ℕ) → Fits call.tool call.old.store now ls (with_side s piece (λ t. [])) (with_line store cursor.previous_slot piece)
+  pub peak_line : (s : Side) (cursor : Sorted) → HasSlots s cursor → (piece : List ℕ)
+      → Fits call.tool call.old.store now ls (with_side s piece (λ t. [])) (with_line store cursor.previous_slot piece)
   peak_line s cursor slots piece all w =
-      let k : GroupStore call.most call.old.store (with_line store cursor.previous_slot piece) all g = group_store_line s cursor slots piece h (λ side. omega (arith, (w side).1))
-      (omega (arith, (w s).1, ap length (put_same s piece (λ t. [])))) ((w Second).0.more, (w Second).0.is) refl in
-      let size = size_of call k all (λ side. omega arith) ([], sym (append-nil (all Second))) in
-      (size.0, size.1)
+      let k : GroupStore call.most call.old.store (with_line store cursor.previous_slot piece) all g = group_store_line
+      s cursor slots piece h (λ side. omega (arith, (w side).longest))
+      (omega (arith, (w s).longest, ap length (put_same s piece (λ t. [])))) (extends (w Second)) refl in
+      let (peak, slots, _) = size_of call k all (λ side. omega arith)
+      (record { more = []; is = sym (append-nil (all Second)) }) in
+      (peak, slots)
 
   -- a store with no more bytes and no more slots stays within the measure
-  pub fits_kept : (after : Slots) → after.peak ≤ max store.peak (total_bytes store.lines) → length after.lines ≡ length store.lines → Fits call.tool call.old.store now ls (λ side. []) after
-  fits_kept after peak same all w = omega (arith, peak, same, size_of call h all (λ side. omega (arith, (w side).1)) ((w Second).0.more, (w Second).0.is))
+  pub fits_kept : (after : Slots) → after.peak ≤ max store.peak (total_bytes store.lines)
+      → length after.lines ≡ length store.lines → Fits call.tool call.old.store now ls (λ side. []) after
+  fits_kept after peak same all w =
+      omega (arith, peak, same, size_of call h all (λ side. omega (arith, (w side).longest)) (extends (w Second)))
 
-pub store_between_groups : (call : JoinCall) {reader : Side → Reader} {cursor : Side → Sorted} {store : Slots} {ls : Side → Lines} → GroupStore call.most call.old.store store ls [] → AllSlots cursor
+pub store_between_groups : (call : JoinCall) {reader : Side → Reader} {cursor : Side → Sorted} {store : Slots}
+    {ls : Side → Lines} → GroupStore call.most call.old.store store ls [] → AllSlots cursor
     → StoreInvariant call.tool call.old.store reader cursor store ls
 store_between_groups call {cursor = cursor} h slots =
     record { lines = h.lines; denied = h.denied; fits = fits_kept call h; line = λ s. peak_line call h s (cursor s) (slots s) }
 
 -- the invariant of both inputs depends only on the first four slots
-pub same_cursors : (tool : MergeTool) {old now : Side → Reader} {cursor : Side → Sorted} {before after : Slots} {ls p : Side → Lines} {b : Side → Bound} → SidesInvariant tool old now cursor before ls p b
+pub same_cursors : (tool : MergeTool) {old now : Side → Reader} {cursor : Side → Sorted} {before after : Slots}
+    {ls p : Side → Lines} {b : Side → Bound} → SidesInvariant tool old now cursor before ls p b
     → AllSlots cursor → ((i : ℕ) → i < 4 → line after i ≡ line before i) → SidesInvariant tool old now cursor after ls p b
 same_cursors tool {old} {now} {cursor} {before} {after} {ls} {p} {b} sides slots same side =
     let low = low_slot side (cursor side) (slots side) in
-    side_invariant_kept (sides side) (same (cursor side).current_slot low.0) (same (cursor side).previous_slot low.1)
+    side_invariant_kept (sides side) (same (cursor side).current_slot low.current)
+    (same (cursor side).previous_slot low.previous)
 
 -- ---- the output of a group
 
@@ -195,10 +240,11 @@ module _ (call : JoinCall) {was mid : Output} {p g : Side → Lines} {d : Side �
   starts some above = record {
     rest = λ w r c wanted.
         let none : lines_with_key (key Second) (r Second) k ≡ [] = lines_with_key-above tool o (key Second) k (r Second) (above (r Second) (c Second)) in
-        let s = starts_pairs (g First) (lines_with_key (key First) (r First) k) (g Second) some in (
-          s.0 ++ entries_by_key tool w (others_of tool o k r),
+        let (rest, is) = starts_pairs (g First) (lines_with_key (key First) (r First) k) (g Second) some in (
+          rest ++ entries_by_key tool w (others_of tool o k r),
           front_is tool o w k g r m.own (λ side. m.beyond side (r side) (c side)) (laws.alone.none k)
-              ∙ (rw (wanted, none, append-nil (g Second), s.1) (append_assoc (pairs k (g First) (g Second)) s.0 (entries_by_key tool w (others_of tool o k r)))),
+              ∙ (rw (wanted, none, append-nil (g Second), is)
+              (append_assoc (pairs k (g First) (g Second)) rest (entries_by_key tool w (others_of tool o k r)))),
         );
   }
 
@@ -212,9 +258,12 @@ module _ (call : JoinCall) {was mid : Output} {p g : Side → Lines} {d : Side �
     some = λ w r c wanted.
         let f = g First ++ lines_with_key (key First) (r First) k in
         let s = g Second ++ lines_with_key (key Second) (r Second) k in
-        let own = some_entries keeps f s (omega (arith, some First, length-append (g First) (lines_with_key (key First) (r First) k))) (omega (arith, some Second, length-append (g Second) (lines_with_key (key Second) (r Second) k))) in
+        let own = some_entries keeps f s
+        (omega (arith, some First, length-append (g First) (lines_with_key (key First) (r First) k)))
+        (omega (arith, some Second, length-append (g Second) (lines_with_key (key Second) (r Second) k))) in
         let rest = entries_by_key tool w (others_of tool o k r) in
-        rw (front_is tool o w k g r m.own (λ side. m.beyond side (r side) (c side)) (laws.alone.none k), wanted) (omega (arith, own, length-append (entries k f s) rest));
+        rw (front_is tool o w k g r m.own (λ side. m.beyond side (r side) (c side)) (laws.alone.none k), wanted)
+        (omega (arith, own, length-append (entries k f s) rest));
   }
 
   own_entries : (f s : Lines) → 0 < length f → 0 < length s → entries k f s ≡ pairs k f s
@@ -226,18 +275,22 @@ module _ (call : JoinCall) {was mid : Output} {p g : Side → Lines} {d : Side �
       → PushEffect mid is (unlines call.terminator (pairs k (g First) (g Second))) → MergeInvariant tool d (λ side. p side ++ g side) was is
   closes {is} some above wrote =
       record {
-        splits = splits_step tool (λ side. AtLeast k) d p g m.merge_invariant.splits (λ side r c. at_most-same tool o (key side) k (g side) r (m.own side) (m.beyond side r c)) splits_off;
+        splits = splits_step tool (λ side. AtLeast k) d p g m.merge_invariant.splits
+            (λ side r c. at_most-same tool o (key side) k (g side) r (m.own side) (m.beyond side r c)) splits_off;
         under = λ of side. EachKey-append (IsUnder cmp (d of)) (key side) (p side) (g side)
-            (EachKey-weaker (λ x. AtMost cmp x k) (IsUnder cmp (d of)) (λ x h. under_lower o (d of) x k h (m.under of)) (key side) (p side) (m.merge_invariant.under First side))
+            (EachKey-weaker (λ x. AtMost cmp x k) (IsUnder cmp (d of)) (λ x h. under_lower o (d of) x k h (m.under of))
+            (key side) (p side) (m.merge_invariant.under First side))
             (all_own_keys (IsUnder cmp (d of)) (key side) k (g side) (m.under of) (m.own side));
-        wrote = rw (all, unlines-append call.terminator (entries_by_key tool all_keys p) (pairs k (g First) (g Second))) (push_trans _ _ _ _ _ m.clean m.merge_invariant.wrote wrote);
+        wrote = rw (all, unlines-append call.terminator (entries_by_key tool all_keys p) (pairs k (g First) (g Second)))
+            (push_trans _ _ _ _ _ m.clean m.merge_invariant.wrote wrote);
       }
     where
       -- the output of the group alone
       alone_is : entries_by_key tool all_keys g ≡ entries k (g First) (g Second)
       alone_is = simp append-nil at (front_is tool o all_keys k g (λ side. []) m.own (λ side. tt) (laws.alone.none k))
 
-      splits_off : (w : List ℕ → Bool) (r : Side → Lines) → MayCome tool d r → entries_by_key tool w (λ side. g side ++ r side) ≡ entries_by_key tool w g ++ entries_by_key tool w r
+      splits_off : (w : List ℕ → Bool) (r : Side → Lines) → MayCome tool d r
+          → entries_by_key tool w (λ side. g side ++ r side) ≡ entries_by_key tool w g ++ entries_by_key tool w r
       splits_off w r c =
           let none = λ (side : Side). lines_with_key-above tool o (key side) k (r side) (above side (r side) (c side)) in
           let nothing : entries_of_key tool r k ≡ [] = (λ i. entries k (none First i) (none Second i)) ∙ laws.alone.none k in
@@ -257,6 +310,11 @@ has_key s a b h = grind (arith, bytes_decides a b)
 abbrev pub with_added_line : MergeState → (Side → Sorted) → Side → (Side → Lines) → Side → Lines
 with_added_line now cursor s g = with_side s (g s ++ head_of now cursor s ∷ []) g
 
+-- the input `s` is at a line with the key `k`
+pub record IsAtKey (call : JoinCall) (now : MergeState) (cursor : Side → Sorted) (k : List ℕ) (s : Side) : Type 0 where
+  pub head : (cursor s).status ≡ Head
+  pub is : call.key s (head_of now cursor s) ≡ k
+
 -- the invariant during a group `g` of the key `k`: its output so far is written, and its copied lines end before slot
 -- `end`
 pub record GroupState (call : JoinCall) (now : MergeState) (cursor : Side → Sorted) (end : ℕ) (k : List ℕ) (g : Side → Lines) (kept : Lines) : Type 0 where
@@ -270,16 +328,23 @@ pub record GroupState (call : JoinCall) (now : MergeState) (cursor : Side → So
   pub wrote : PushEffect mid now.out (unlines call.terminator (call.pairs k (g First) (g Second)))
   pub at : end ≡ 4 + length kept
 
-module _ {call : JoinCall} {now : MergeState} {cursor : Side → Sorted} {end : ℕ} {k : List ℕ} {g : Side → Lines} {kept : Lines} (q : GroupState call now cursor end k g kept) where
+module _ {call : JoinCall} {now : MergeState} {cursor : Side → Sorted} {end : ℕ} {k : List ℕ} {g : Side → Lines}
+    {kept : Lines} (q : GroupState call now cursor end k g kept) where
   open call use {cmp, key, o, old, tool}
 
   -- an input is past a key if its current line does not have it
   pub is_past : (s : Side) → ((cursor s).status ≡ Head → ¬ (key s (head_of now cursor s) ≡ k)) → IsAbove cmp (key s) k (q.d s)
-  is_past s other = (current_key_is_above cmp o (key s) k (cursor s).status (cursor s) now.store (now.reader s) (q.ls s) (q.p s ++ g s) (q.d s) (by (cursor s).status (q.sides s).status_is other) (q.sides s).status_is).0
+  is_past s other =
+      let (above, _) = current_key_is_above cmp o (key s) k _ (cursor s) now.store (now.reader s) (q.ls s)
+      (q.p s ++ g s) (q.d s) (by (cursor s).status (q.sides s).status_is other) (q.sides s).status_is in
+      above
     where
-      by : (t : CursorStatus) → MatchesStatus cmp (key s) t (cursor s) now.store (now.reader s) (q.ls s) (q.p s ++ g s) (q.d s) → (t ≡ Head → ¬ (key s (head_of now cursor s) ≡ k))
+      by : (t : CursorStatus) → MatchesStatus cmp (key s) t (cursor s) now.store (now.reader s) (q.ls s) (q.p s ++ g s)
+          (q.d s) → (t ≡ Head → ¬ (key s (head_of now cursor s) ≡ k))
           → PrecedesInput cmp k t (key s (head_of now cursor s)) (key s (line now.store (cursor s).previous_slot))
-      by Head st other = ap is_gt (⊎_elim (λ same. absurd (other refl same.1)) (λ h. h.1) (least_or_above cmp o k (key s (head_of now cursor s)) (subst (λ b. IsUnder cmp b k) st.2 (q.within.under s))))
+      by Head (_, _, bound) other = ap is_gt (⊎_elim (λ (_, same). absurd (other refl same)) (λ (_, greater). greater)
+          (least_or_above cmp o k (key s (head_of now cursor s))
+          (subst (λ b. IsUnder cmp b k) bound (q.within.under s))))
       by Ended st other = tt
       by (Disorder n) st other = subst (λ b. IsUnder cmp b k) st (q.within.under s)
 
@@ -294,17 +359,19 @@ module _ {call : JoinCall} {now : MergeState} {cursor : Side → Sorted} {end : 
 
   -- the group after other lines were stored for it
   pub group_kept : AllSlots cursor → {after : Slots} → ((i : ℕ) → i < 4 → line after i ≡ line now.store i) → {lines : Lines}
-      → GroupStore call.most old.store after q.ls lines → {to : ℕ} → to ≡ 4 + length lines → GroupState call (record now { store = after }) cursor to k g lines
+      → GroupStore call.most old.store after q.ls lines → {to : ℕ} → to ≡ 4 + length lines
+      → GroupState call (record now { store = after }) cursor to k g lines
   group_kept slots same keeps at = record
       { ls = q.ls; p = q.p; d = q.d; mid = q.mid; sides = same_cursors tool q.sides slots same; within = q.within; keeps = keeps; wrote = q.wrote; at = at }
 
   -- the input `s` is at a further line of the group
   pub record IsAtGroupLine (s : Side) : Type 0 where
     pub slots : AllSlots cursor
-    pub head : (cursor s).status ≡ Head
-    pub is : key s (head_of now cursor s) ≡ k
+    pub at_key : IsAtKey call now cursor k s
+    pub open at_key use *
 
-module _ {call : JoinCall} {now : MergeState} {cursor : Side → Sorted} {end : ℕ} {k : List ℕ} {g : Side → Lines} {kept : Lines} {q : GroupState call now cursor end k g kept} {s : Side} (l : IsAtGroupLine q s) where
+module _ {call : JoinCall} {now : MergeState} {cursor : Side → Sorted} {end : ℕ} {k : List ℕ} {g : Side → Lines}
+    {kept : Lines} {q : GroupState call now cursor end k g kept} {s : Side} (l : IsAtGroupLine q s) where
   open call use {cmp, key, o, old, pairs, tool}
 
   abbrev x : List ℕ
@@ -318,70 +385,93 @@ module _ {call : JoinCall} {now : MergeState} {cursor : Side → Sorted} {end : 
   with_head = at_head.all ∙ append_assoc (q.p s) (g s) (x ∷ [])
 
   pub own_more : (side : Side) → EachKey (λ z. z ≡ k) (key side) (with_added_line now cursor s g side)
-  own_more = put_each (λ side (l : Lines). EachKey (λ z. z ≡ k) (key side) l) s (g s ++ x ∷ []) g (EachKey-append (λ z. z ≡ k) (key s) (g s) (x ∷ []) (q.within.own s) (l.is, tt)) q.within.own
+  own_more = put_each (λ side (l : Lines). EachKey (λ z. z ≡ k) (key side) l) s (g s ++ x ∷ []) g
+      (EachKey-append (λ z. z ≡ k) (key s) (g s) (x ∷ []) (q.within.own s) (l.is, tt)) q.within.own
 
   pub within_more : OutputInGroup tool old.out q.mid q.p (with_added_line now cursor s g) q.d k
   within_more = record { merge_invariant = q.within.merge_invariant; clean = q.within.clean; own = own_more; beyond = q.within.beyond; under = q.within.under }
 
   fails_in : (new : Reader) → new.buffered ≡ [] → new.eof ≡ false → IsFailedRead cmp (key s) new (q.ls s) (q.p s ++ with_added_line now cursor s g s)
-  fails_in new buffered eof = record
-      { buffered = buffered; eof = eof; all = with_head ∙ sym (ap (λ (l : Lines). q.p s ++ l) (put_same s (g s ++ x ∷ []) g)); last = Some (key s x); sorted_up_to = rw put_same (rw with_head at at_head.sorted_up_to) }
+  fails_in new buffered eof = record {
+    buffered = buffered;
+    eof = eof;
+    all = with_head ∙ sym (ap (λ (l : Lines). q.p s ++ l) (put_same s (g s ++ x ∷ []) g));
+    last = Some (key s x);
+    sorted_up_to = rw put_same (rw with_head at at_head.sorted_up_to);
+  }
 
   pub passing : (new : Reader) (piece : List ℕ) → ReaderAdvance (now.reader s) new piece → IsLine (now.reader s).terminator piece → IsSound new
-      → (side : Side) → ReadFactsOf call now side (with_side s new now.reader side) (with_side s piece (λ t. []) side) (q.ls side) (q.p side ++ with_added_line now cursor s g side) (q.d side)
-  passing new piece reads free sound = side_case (λ side. ReadFactsOf call now side (with_side s new now.reader side) (with_side s piece (λ t. []) side) (q.ls side) (q.p side ++ with_added_line now cursor s g side) (q.d side)) s
+      → (side : Side) → ReadFactsOf call now side (with_side s new now.reader side) (with_side s piece (λ t. []) side)
+      (q.ls side) (q.p side ++ with_added_line now cursor s g side) (q.d side)
+  passing new piece reads free sound = side_case (λ side. ReadFactsOf call now side (with_side s new now.reader side)
+      (with_side s piece (λ t. []) side) (q.ls side) (q.p side ++ with_added_line now cursor s g side) (q.d side)) s
       (simp put_same (subst (λ (l : Lines). ReadFactsOf call now s new piece (q.ls s) l (q.d s)) with_head
-      (rw at_head.bound (read_facts_after_line o (q.sides s).lines_read reads free sound at_head.sorted_up_to)))) (simp put_other (group_read_facts q (other s)))
+      (rw at_head.bound (read_facts_after_line o (q.sides s).lines_read reads free sound at_head.sorted_up_to))))
+      (simp put_other (group_read_facts q (other s)))
 
   -- reading the next line failed, after a prefix of the group's output was written
   module _ {out : Output} (clean : out.write_failed ≡ false) {extra : Lines} (begins : OutputStartsWith tool (with_added_line now cursor s g) q.d k extra)
       (wrote : PushEffect q.mid out (unlines call.terminator extra)) (new : Reader) where
-    pub group_breaks : {after : Slots} (fault : MergeFault) → NextErrPost s (cursor s) (now.reader s) new now.store after fault → MergePost tool old (state_after_read now s new out after) (Err fault)
-    group_breaks {after} (Read file) moves =
-        let e = moves.0 in
-        rw moves.1 (group_exit o _ _ within_more (passing new e.piece e.faults.reads e.faults.whole moves.2) begins wrote (group_begun q) (record {
-          cause = rw (put_same s new now.reader) (⊎_elim (λ h. inl h) (λ h. inr (h.0, h.1 ∙ none_failed q s)) e.cause);
+    pub group_breaks : {after : Slots} (fault : MergeFault) → NextErrPost s (cursor s) (now.reader s) new now.store
+        after fault → MergePost tool old (state_after_read now s new out after) (Err fault)
+    group_breaks {after} (Read file) (e, file_is, sound) =
+        rw file_is (group_exit o _ _ within_more (passing new e.piece e.faults.reads e.faults.whole sound) begins wrote
+        (group_begun q) (record {
+          cause = rw (put_same s new now.reader) (⊎_elim (λ h. inl h) (λ (long, same). inr
+              (long, same ∙ none_failed q s)) e.cause);
           others = rw (put_other s new now.reader) (none_failed q (other s));
           clean = clean;
           denied = rw e.stored q.keeps.denied;
-        }) (put_each (λ side (r : Reader). r.failed ≡ true → IsFailedRead cmp (key side) r (q.ls side) (q.p side ++ with_added_line now cursor s g side)) s new now.reader
-        (λ fail. ⊎_elim (λ h. fails_in new h.1 h.2) (λ h. not_failed call s (h.1 ∙ none_failed q s) fail) e.cause) (λ side. not_failed call side (none_failed q side)))
+        }) (put_each (λ side (r : Reader). r.failed ≡ true → IsFailedRead cmp (key side) r (q.ls side)
+        (q.p side ++ with_added_line now cursor s g side)) s new now.reader
+        (λ fail. ⊎_elim (λ (_, buffered, eof). fails_in new buffered eof)
+        (λ (_, same). not_failed call s (same ∙ none_failed q s) fail) e.cause)
+        (λ side. not_failed call side (none_failed q side)))
         (λ input pushed. tt) tt (rw e.stored (peak_line call q.keeps s (cursor s) (l.slots s) e.piece)))
     group_breaks Write moves = absurd moves
-    group_breaks {after} Memory moves =
-        let e = moves.0 in
+    group_breaks {after} Memory (e, sound) =
         let failed = put_each (λ side (r : Reader). r.failed ≡ (old.reader side).failed) s new now.reader (e.failed ∙ none_failed q s) (none_failed q) in
-        group_exit o _ _ within_more (passing new e.piece e.faults.reads e.faults.whole moves.1) begins wrote (group_begun q)
+        group_exit o _ _ within_more (passing new e.piece e.faults.reads e.faults.whole sound) begins wrote
+        (group_begun q)
         (record { denied = ap (λ (t : Slots). t.denied) e.stored; failed = failed; clean = clean }) (λ side. not_failed call side (failed side))
-        (λ input pushed. tt) (λ four. inl (s, rw (put_same s new now.reader) (buffered_not_done e.left))) (rw e.stored (peak_line call q.keeps s (cursor s) (l.slots s) e.piece))
+        (λ input pushed. tt) (λ four. inl (s, rw (put_same s new now.reader) (buffered_not_done e.left)))
+        (rw e.stored (peak_line call q.keeps s (cursor s) (l.slots s) e.piece))
     group_breaks (faults.Disorder file number) moves = absurd moves
 
   -- the input advances
   module _ {reader : Reader} {next : Sorted} {after : Slots} (comes : NextOkPost (key s) cmp (cursor s) next (now.reader s) reader now.store after) where
-    gone_to : SideAfterNext call.terminator cmp (key s) (old.reader s) reader next (cursor s).previous_slot now.store after (q.ls s) (Some (key s (head_of now cursor s)))
+    gone_to : SideAfterNext call.terminator cmp (key s) (old.reader s) reader next (cursor s).previous_slot now.store
+        after (q.ls s) (Some (key s (head_of now cursor s)))
     gone_to = next_at tool o _ _ _ _ _ _ _ q.sides l.slots q.keeps.four s l.head reader next after comes
 
     pub next_slots : AllSlots (with_side s next cursor)
     next_slots = put_each HasSlots s next cursor (slots_on s (l.slots s) comes) l.slots
 
     -- the lines of the other input, and the previous line, keep their slots
-    pub others_stay : (line after (cursor (other s)).current_slot ≡ line now.store (cursor (other s)).current_slot) × (line after (cursor (other s)).previous_slot ≡ line now.store (cursor (other s)).previous_slot)
+    pub others_stay : (line after (cursor (other s)).current_slot ≡ line now.store (cursor (other s)).current_slot)
+        × (line after (cursor (other s)).previous_slot ≡ line now.store (cursor (other s)).previous_slot)
     others_stay =
         let n = gone_to in
-        let apart = slots_apart s (cursor s) (cursor (other s)) (l.slots s) (l.slots (other s)) in (
-          rw n.stored (line_other now.store (cursor s).previous_slot (cursor (other s)).current_slot n.bytes apart.0),
-          rw n.stored (line_other now.store (cursor s).previous_slot (cursor (other s)).previous_slot n.bytes apart.1),
+        let (apart, apart_previous) = slots_apart s (cursor s) (cursor (other s)) (l.slots s) (l.slots (other s)) in (
+          rw n.stored (line_other now.store (cursor s).previous_slot (cursor (other s)).current_slot n.bytes apart),
+          rw n.stored (line_other now.store (cursor s).previous_slot (cursor (other s)).previous_slot n.bytes
+              apart_previous),
         )
 
     pub last_stays : line after next.previous_slot ≡ head_of now cursor s
     last_stays =
         let n = gone_to in
-        let at : next.previous_slot ≡ (cursor s).current_slot = ⊎_elim (λ e. ap (λ (p : Sorted). p.previous_slot) e.cursor) (λ e. ap (λ (p : Sorted). p.previous_slot) e.cursor) comes in
-        rw (at, n.stored) (line_other now.store (cursor s).previous_slot (cursor s).current_slot n.bytes (λ e. (own_slots s (cursor s) (l.slots s)).0 (sym e)))
+        let at : next.previous_slot ≡ (cursor s).current_slot = ⊎_elim
+        (λ e. ap (λ (p : Sorted). p.previous_slot) e.cursor) (λ e. ap (λ (p : Sorted). p.previous_slot) e.cursor) comes
+        in
+        let (apart, _, _, _, _) = own_slots s (cursor s) (l.slots s) in
+        rw (at, n.stored) (line_other now.store (cursor s).previous_slot (cursor s).current_slot n.bytes
+        (λ e. apart (sym e)))
 
     says : next.same ≡ (is_head next.status && bytes_eq k (key s (line after next.current_slot)))
     says =
-        next_same_key cmp o (key s) (cursor s) next (now.reader s) reader now.store after at_head.some (omega (arith, q.keeps.four, (low_slot s (cursor s) (l.slots s)).1)) comes
+        next_same_key cmp o (key s) (cursor s) next (now.reader s) reader now.store after at_head.some
+        (omega (arith, q.keeps.four, (low_slot s (cursor s) (l.slots s)).previous)) comes
         ∙ ap (λ (z : List ℕ). is_head next.status && bytes_eq z (key s (line after next.current_slot))) l.is
 
     -- whether the next line has the key of the group, too
@@ -389,15 +479,16 @@ module _ {call : JoinCall} {now : MergeState} {cursor : Side → Sorted} {end : 
     continues_key same = has_key next.status k (key s (line after next.current_slot)) (sym says ∙ same)
 
     pub leaves_key : next.same ≡ false → next.status ≡ Head → ¬ (key s (line after next.current_slot) ≡ k)
-    leaves_key same head is = false≢true (sym same ∙ says ∙ (rw (head, is, (bytes_decides k k).1 refl) refl))
+    leaves_key same head is = false≢true (sym same ∙ says ∙ (rw (head, is, same_bytes (refl {a = k})) refl))
 
     -- the previous line belongs to the group
     pub record AdvancedGroup (new : Output) : Type 0 where
       pub group : GroupState call (state_after_read now s reader new after) (with_side s next cursor) end k (with_added_line now cursor s g) kept
       pub bound : group.d (other s) ≡ q.d (other s)
-      pub more : (l : Lines) × (group.ls Second ≡ q.ls Second ++ l)
+      pub more : Extends (q.ls Second) (group.ls Second)
 
-    pub advanced_group : {new : Output} → PushEffect q.mid new (unlines call.terminator (pairs k (with_added_line now cursor s g First) (with_added_line now cursor s g Second))) → AdvancedGroup new
+    pub advanced_group : {new : Output} → PushEffect q.mid new (unlines call.terminator
+        (pairs k (with_added_line now cursor s g First) (with_added_line now cursor s g Second))) → AdvancedGroup new
     advanced_group wrote =
         let n = gone_to in
         record {
@@ -406,7 +497,8 @@ module _ {call : JoinCall} {now : MergeState} {cursor : Side → Sorted} {end : 
             p = q.p;
             d = with_side s n.bound q.d;
             mid = q.mid;
-            sides = subst (λ (f : Side → Lines). SidesInvariant tool old.reader (with_side s reader now.reader) (with_side s next cursor) after (with_side s n.now_ls q.ls) f (with_side s n.bound q.d))
+            sides = subst (λ (f : Side → Lines). SidesInvariant tool old.reader (with_side s reader now.reader)
+                (with_side s next cursor) after (with_side s n.now_ls q.ls) f (with_side s n.bound q.d))
                 (λ i side. put_both (λ side (l m : Lines). l ≡ q.p side ++ m) s (q.ls s) (λ side. q.p side ++ g side) (g s ++ x ∷ []) g with_head refl side i)
                 (sides_invariant_continues tool o _ _ _ _ _ _ _ q.sides l.slots q.keeps.four s l.head reader next after n);
             within = record {

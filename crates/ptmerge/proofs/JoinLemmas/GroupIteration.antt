@@ -7,7 +7,7 @@ use Rattle.ptmerge.proofs.Common.{Bool, cond, entries_by_key, merged_entries, ni
 use Rattle.ptmerge.proofs.JoinLemmas.Iteration.{ReadGroup, IsGroupIn, IsOneForAll, IterationInvariant, ExitPost, WritePairs, join_call_of, end_in, joins, exit_post, slots, advance_pre, iteration_continues}
 use Rattle.ptmerge.proofs.MergeLemmas.Step.{next_keeps_slot_count, same_state, wrote_as, next_error_keeps_slot_count, IsAbove, valid_cursors_kept, wrote_and_sent, AdvanceErrPost}
 use Rattle.ptmerge.proofs.JoinLemmas.GroupInvariant.{JoinCall, state_after_read, fits_kept, not_failed, IsAtGroupLine, AdvancedGroup, GroupState, closes, continues_key, leaves_key, advanced_group, group_breaks, with_added_line, is_past, next_slots, others_stay}
-use Rattle.ptmerge.proofs.JoinLemmas.GroupInvariant.{passing, front_is_not_all, has_entries, group_begun, same_cursors, group_read_facts, starts, none_failed, within_more, group_kept, last_stays, own_more, size_of, starts_none, with_head, OutputStartsWith, group_exit}
+use Rattle.ptmerge.proofs.JoinLemmas.GroupInvariant.{passing, extends, front_is_not_all, has_entries, group_begun, same_cursors, group_read_facts, starts, none_failed, within_more, group_kept, last_stays, own_more, size_of, starts_none, with_head, OutputStartsWith, group_exit}
 use Rattle.ptmerge.specs.declared.tools.join.JoinPhase.{JoinPhase}
 use Rattle.ptmerge.proofs.JoinLemmas.GroupSlots.{group_is, kept_line, group_store_cleared, low_slot, group_one, InGroup, largest_group, CopiedLine, group_in, group_store_copied}
 use Rattle.ptmerge.proofs.MergeLemmas.Invariant.{all_keys}
@@ -16,10 +16,13 @@ use Rattle.ptmerge.proofs.MergeLemmas.Orders.{EachKey-at}
 use Rattle.ptmerge.specs.declared.tools.join.JoinPhase.TheVariants as phases
 
 -- the number of slots after the group could not be extended
-pub read_group_slots : {keep : Bool} {key : Key} {cmp : Cmp} {cursor next : Sorted} {was is : Reader} {before after : Slots} {end : ℕ} (fault : MergeFault)
-    → ReadGroupLineErrPost keep key cmp cursor next was is before after end fault → length before.lines ≤ length after.lines
+pub read_group_slots : {keep : Bool} {key : Key} {cmp : Cmp} {cursor next : Sorted} {was is : Reader}
+    {before after : Slots} {end : ℕ} (fault : MergeFault)
+    → ReadGroupLineErrPost keep key cmp cursor next was is before after end fault
+    → length before.lines ≤ length after.lines
 read_group_slots fault (inl e) = omega (arith, next_keeps_slot_count _ _ _ _ _ _ _ _ e.came, e.copy_failed.slots)
-read_group_slots {cursor = cursor} {was = was} {is = is} {before = before} {after = after} fault (inr e) = omega (arith, next_error_keeps_slot_count Second cursor was is before after fault e)
+read_group_slots {cursor = cursor} {was = was} {is = is} {before = before} {after = after} fault (inr e) =
+    omega (arith, next_error_keeps_slot_count Second cursor was is before after fault e)
 
 module _ {job : Join} {cmp : Cmp} {key : Side → Key} {old : MergeState} {phase : JoinPhase} {now : MergeState} {one two : Sorted} {end : ℕ}
     (t : IterationInvariant job cmp key old phase now one two end) where
@@ -35,7 +38,7 @@ module _ {job : Join} {cmp : Cmp} {key : Side → Key} {old : MergeState} {phase
     a = rw is at t.phased
 
     pub read_group_pre : AdvancePre key Second one two (now.reader Second) now.store
-    read_group_pre = advance_pre t Second (a.heads Second).0
+    read_group_pre = advance_pre t Second (a.heads Second).head
 
     -- the copied lines are all lines read, or none
     all_copied : call.keeps_groups ≡ true → a.kept ≡ a.g
@@ -48,7 +51,7 @@ module _ {job : Join} {cmp : Cmp} {key : Side → Key} {old : MergeState} {phase
     y = line now.store two.current_slot
 
     at_second : IsAtGroupLine a.q Second
-    at_second = record { slots = slots t; head = (a.heads Second).0; is = (a.heads Second).1 }
+    at_second = record { slots = slots t; at_key = a.heads Second }
 
     -- the output buffered before the group was written out
     module _ {out : Output} (written_out : PushEffect now.out out []) where
@@ -62,19 +65,28 @@ module _ {job : Join} {cmp : Cmp} {key : Side → Key} {old : MergeState} {phase
         on_second = advanced_group at_second comes (rw (call.laws.none a.k (a.g ++ y ∷ [])) wrote_none)
 
         inside : (l : Lines) → InGroup (largest_group (key Second)) (a.g ++ y ∷ []) (on_second.group.ls Second ++ l)
-        inside l = rw (on_second.more.1, append_assoc (a.q.ls Second) on_second.more.0 l, with_head at_second, ← append_assoc (a.q.p Second) a.g (y ∷ []))
-            (group_in (key Second) a.k (a.q.p Second) a.g y (on_second.more.0 ++ l) (own_more at_second Second) (a.heads Second).1)
+        inside l = rw (
+          on_second.more.is,
+          append_assoc (a.q.ls Second) on_second.more.more l,
+          with_head at_second,
+          ← append_assoc (a.q.p Second) a.g (y ∷ []),
+        )
+            (group_in (key Second) a.k (a.q.p Second) a.g y (on_second.more.more ++ l) (own_more at_second Second)
+            (a.heads Second).is)
 
         -- the first four slots are unchanged
         module _ (after : Slots) (same : (i : ℕ) → i < 4 → line after i ≡ line made i) where
           key1_on : key First (line after one.current_slot) ≡ a.k
-          key1_on = rw (same one.current_slot (low_slot First one (slots t First)).0, (others_stay at_second comes).0) (a.heads First).1
+          key1_on = let (stays, _) = others_stay at_second comes in
+              rw (same one.current_slot (low_slot First one (slots t First)).current, stays) (a.heads First).is
 
           stays : line after two2.current_slot ≡ line made two2.current_slot
-          stays = same two2.current_slot (low_slot Second two2 (next_slots at_second comes Second)).0
+          stays = same two2.current_slot (low_slot Second two2 (next_slots at_second comes Second)).current
 
-          pairs_by : {to : ℕ} {kept : Lines} → GroupState call (state_after_read now Second reader out after) (with_side Second two2 (both one two)) to a.k (both [] (a.g ++ y ∷ [])) kept → two2.same ≡ false
-              → IsGroupIn call a.k (line after two2.previous_slot) kept (a.g ++ y ∷ []) → WritePairs call (state_after_read now Second reader out after) (with_side Second two2 (both one two)) to
+          pairs_by : {to : ℕ} {kept : Lines} → GroupState call (state_after_read now Second reader out after)
+              (with_side Second two2 (both one two)) to a.k (both [] (a.g ++ y ∷ [])) kept → two2.same ≡ false
+              → IsGroupIn call a.k (line after two2.previous_slot) kept (a.g ++ y ∷ [])
+              → WritePairs call (state_after_read now Second reader out after) (with_side Second two2 (both one two)) to
           pairs_by {kept = kept} q other lines_in = record {
             k = a.k;
             g = both [] (a.g ++ y ∷ []);
@@ -83,93 +95,143 @@ module _ {job : Join} {cmp : Cmp} {key : Side → Key} {old : MergeState} {phase
             lines_in = lines_in;
             some = omega (arith, length_push a.g y);
             above = is_past q Second (λ e is. leaves_key at_second comes other e (rw stays at is));
-            head = ((a.heads First).0, key1_on);
+            head = record { head = (a.heads First).head; is = key1_on };
           }
 
-          reads_by : {to : ℕ} {kept : Lines} → GroupState call (state_after_read now Second reader out after) (with_side Second two2 (both one two)) to a.k (both [] (a.g ++ y ∷ [])) kept → two2.same ≡ true
-              → kept ≡ cond call.keeps_groups (a.g ++ y ∷ []) [] → ReadGroup call (state_after_read now Second reader out after) (with_side Second two2 (both one two)) to
+          reads_by : {to : ℕ} {kept : Lines} → GroupState call (state_after_read now Second reader out after)
+              (with_side Second two2 (both one two)) to a.k (both [] (a.g ++ y ∷ [])) kept → two2.same ≡ true
+              → kept ≡ cond call.keeps_groups (a.g ++ y ∷ []) []
+              → ReadGroup call (state_after_read now Second reader out after) (with_side Second two2 (both one two)) to
           reads_by {kept = kept} q more copied = record {
             k = a.k;
             g = a.g ++ y ∷ [];
             kept = kept;
             q = q;
             copied = copied;
-            heads = let h = continues_key at_second comes more in elim [ First ↦ ((a.heads First).0, key1_on) | Second ↦ (h.0, rw stays h.1) ];
+            heads = elim [
+              | First ↦ record { head = (a.heads First).head; is = key1_on }
+              | Second ↦ (let (head, is) = continues_key at_second comes more in
+                  record { head = head; is = rw stays is })
+            ];
           }
 
         -- the previous line stands for the group, if none is copied
         one_for_all : a.kept ≡ [] → IsOneForAll call a.k (line made two2.previous_slot) a.kept (a.g ++ y ∷ [])
         one_for_all none = record {
           none = none;
-          own = rw (last_stays at_second comes) (a.heads Second).1;
+          own = rw (last_stays at_second comes) (a.heads Second).is;
           same_pairs = rw (last_stays at_second comes) (by call.keeps_groups refl);
         }
           where
-            by : (t : Bool) → call.keeps_groups ≡ t → (f : Lines) → call.pairs a.k f (y ∷ []) ≡ call.pairs a.k f (a.g ++ y ∷ [])
+            by : (t : Bool) → call.keeps_groups ≡ t → (f : Lines)
+                → call.pairs a.k f (y ∷ []) ≡ call.pairs a.k f (a.g ++ y ∷ [])
             by true keeps f = ap (λ (l : Lines). call.pairs a.k f (l ++ y ∷ [])) (sym none ∙ all_copied keeps)
-            by false without f = call.laws.unwritten without a.k f (y ∷ []) ∙ sym (call.laws.unwritten without a.k f (a.g ++ y ∷ []))
+            by false without f =
+                call.laws.unwritten without a.k f (y ∷ []) ∙ sym (call.laws.unwritten without a.k f (a.g ++ y ∷ []))
 
         -- the previous line was copied, too
-        module _ {after : Slots} (keeps : call.keeps_groups ≡ true) (kept : CopyToGroupPost made after two2.previous_slot end) where
+        module _ {after : Slots} (keeps : call.keeps_groups ≡ true)
+            (kept : CopyToGroupPost made after two2.previous_slot end) where
           kept_too : CopiedLine on_second.group.keeps after y
-          kept_too = group_store_copied on_second.group.keeps on_second.group.at (low_slot Second two2 (next_slots at_second comes Second)).1 kept (last_stays at_second comes)
+          kept_too = group_store_copied on_second.group.keeps
+              on_second.group.at (low_slot Second two2 (next_slots at_second comes Second)).previous kept
+              (last_stays at_second comes)
               (λ l. rw (all_copied keeps) (call.laws.largest keeps _ _ (inside l)))
 
-          group_on : GroupState call (state_after_read now Second reader out after) (with_side Second two2 (both one two)) (end + 1) a.k (both [] (a.g ++ y ∷ [])) (a.kept ++ y ∷ [])
-          group_on = group_kept on_second.group (next_slots at_second comes) kept_too.same kept_too.store_holds (omega (arith, a.q.at, length_push a.kept y))
+          group_on : GroupState call (state_after_read now Second reader out after)
+              (with_side Second two2 (both one two)) (end + 1) a.k (both [] (a.g ++ y ∷ [])) (a.kept ++ y ∷ [])
+          group_on = group_kept on_second.group (next_slots at_second comes) kept_too.same kept_too.store_holds
+              (omega (arith, a.q.at, length_push a.kept y))
 
           all_copied_too : a.kept ++ y ∷ [] ≡ a.g ++ y ∷ []
           all_copied_too = ap (λ (l : Lines). l ++ y ∷ []) (all_copied keeps)
 
           reads_more : two2.same ≡ true → ReadGroup call (state_after_read now Second reader out after) (with_side Second two2 (both one two)) (end + 1)
-          reads_more more = reads_by after kept_too.same group_on more (all_copied_too ∙ sym (λ i. cond (keeps i) (a.g ++ y ∷ []) []))
+          reads_more more =
+              reads_by after kept_too.same group_on more (all_copied_too ∙ sym (λ i. cond (keeps i) (a.g ++ y ∷ []) []))
 
       module _ {one2 two2 : Sorted} {reader : Reader} {after : Slots} {to : ℕ}
-          (h : ReadGroupLineOkPost call.keeps_groups (key Second) cmp two two2 (now.reader Second) reader now.store after end to) (continues : IsReadyToContinue key Second one two one2 two2 reader after out) where
+          (h : ReadGroupLineOkPost call.keeps_groups (key Second) cmp two two2 (now.reader Second) reader now.store
+          after end to) (continues : IsReadyToContinue key Second one two one2 two2 reader after out) where
         pub read_group_continues : two2.same ≡ true → IterationInvariant job cmp key old phase (state_after_read now Second reader out after) one2 two2 to
         read_group_continues same = iteration_continues t {next = phase} Second continues (rw is (⊎_elim (λ e.
-            let without = ⊎_elim (λ none. none) (λ alone. absurd (false≢true (sym alone.0 ∙ same))) e.alone in
-            rw (e.end_is, e.store_is) (reads_by h.came _ (λ i low. refl) (on_second h.came).group same (none_copied without ∙ sym (λ i. cond (without i) (a.g ++ y ∷ []) []))))
+            let without = ⊎_elim (λ none. none) (λ (differs, _). absurd (false≢true (sym differs ∙ same))) e.alone in
+            rw (e.end_is, e.store_is) (reads_by h.came _ (λ i low. refl) (on_second h.came).group same
+            (none_copied without ∙ sym (λ i. cond (without i) (a.g ++ y ∷ []) []))))
             (λ e. rw e.end_is (reads_more h.came e.keeps e.copied same)) h.kept))
 
-        pub write_pairs_next : two2.same ≡ false → IterationInvariant job cmp key old phases.WritePairs (state_after_read now Second reader out after) one2 two2 to
+        pub write_pairs_next : two2.same ≡ false → IterationInvariant job cmp key old phases.WritePairs
+            (state_after_read now Second reader out after) one2 two2 to
         write_pairs_next same = iteration_continues t {next = phases.WritePairs} Second continues (⊎_elim (λ e.
-            let none = ⊎_elim none_copied (λ alone. nil_from_length a.kept (omega (arith, alone.1, a.q.at))) e.alone in
-            rw (e.end_is, e.store_is) (pairs_by h.came _ (λ i low. refl) (on_second h.came).group same (inr (one_for_all h.came none))))
-            (λ e. rw e.end_is (pairs_by h.came _ (kept_too h.came e.keeps e.copied).same (group_on h.came e.keeps e.copied) same (inl (all_copied_too h.came e.keeps e.copied)))) h.kept)
+            let none = ⊎_elim none_copied (λ (_, four). nil_from_length a.kept (omega (arith, four, a.q.at))) e.alone in
+            rw (e.end_is, e.store_is) (pairs_by h.came _ (λ i low. refl) (on_second h.came).group same
+            (inr (one_for_all h.came none))))
+            (λ e. rw e.end_is (pairs_by h.came _ (kept_too h.came e.keeps e.copied).same
+            (group_on h.came e.keeps e.copied) same (inl (all_copied_too h.came e.keeps e.copied)))) h.kept)
 
       -- the pairs of the first input's current line and the group are not written yet
-      pairs_are_missing : {reader : Reader} {two2 : Sorted} {made : Slots} (comes : NextOkPost (key Second) cmp two two2 (now.reader Second) reader now.store made) → call.keeps_groups ≡ true
-          → (all : Side → Lines) → ((side : Side) → Continues (with_side Second reader now.reader side) ((on_second comes).group.ls side) (all side))
+      pairs_are_missing : {reader : Reader} {two2 : Sorted} {made : Slots}
+          (comes : NextOkPost (key Second) cmp two two2 (now.reader Second) reader now.store made)
+          → call.keeps_groups ≡ true
+          → (all : Side → Lines) → ((side : Side) → Continues (with_side Second reader now.reader side)
+          ((on_second comes).group.ls side) (all side))
           → ¬ (merged_entries call.tool all ≡ entries_by_key call.tool all_keys (on_second comes).group.p ++ [])
       pairs_are_missing {reader} {two2} {made} comes keeps all w =
           let q = (on_second comes).group in
-          let first : IsAtGroupLine q First = record { slots = next_slots at_second comes; head = (a.heads First).0; is = key1_on comes made (λ i low. refl) } in
-          front_is_not_all o old (state_after_read now Second reader out made) {now = with_side Second reader now.reader} {piece = λ side. []} {ls = q.ls} (within_more first)
-          (elim [ First ↦ passing first (now.reader First) [] (reads_nothing (now.reader First)) tt (q.sides First).sound First | Second ↦ group_read_facts q Second ])
-          all w (has_entries call (within_more first) keeps (elim [ First ↦ omega arith | Second ↦ omega (arith, length_push a.g y) ]))
+          let first : IsAtGroupLine q First = record {
+            slots = next_slots at_second comes;
+            at_key = record { head = (a.heads First).head; is = key1_on comes made (λ i low. refl) };
+          } in
+          front_is_not_all o old (state_after_read now Second reader out made)
+          {now = with_side Second reader now.reader} {piece = λ side. []} {ls = q.ls} (within_more first)
+          (elim [
+            | First ↦ passing first (now.reader First) [] (reads_nothing (now.reader First)) tt
+                (q.sides First).sound First
+            | Second ↦ group_read_facts q Second
+          ])
+          all w (has_entries call (within_more first) keeps
+          (elim [ First ↦ omega arith | Second ↦ omega (arith, length_push a.g y) ]))
 
       -- a line could not be copied, or the next one could not be read
       read_group_fault : {two2 : Sorted} {reader : Reader} {after : Slots} → out.write_failed ≡ false → (fault : MergeFault)
-          → ReadGroupLineErrPost call.keeps_groups (key Second) cmp two two2 (now.reader Second) reader now.store after end fault → MergePost (join_with job cmp key) old (state_after_read now Second reader out after) (Err fault)
+          → ReadGroupLineErrPost call.keeps_groups (key Second) cmp two two2 (now.reader Second) reader now.store after
+          end fault → MergePost (join_with job cmp key) old (state_after_read now Second reader out after) (Err fault)
       read_group_fault fine fault (inl e) =
           let q = (on_second e.came).group in
-          rw e.memory (group_exit o _ _ q.within (group_read_facts q) (starts_none call q.within) (rw (call.laws.none a.k (a.g ++ y ∷ [])) at q.wrote) (group_begun q)
-          (record { denied = e.copy_failed.denied; failed = none_failed q; clean = fine }) (λ side. not_failed call side (none_failed q side)) (λ input pushed. tt)
-          (λ four. inr (e.keeps, λ all w. pairs_are_missing e.came e.keeps all w)) (λ all w.
-          let size = size_of call q.keeps all (λ side. omega (arith, (w side).1)) ((w Second).0.more, (w Second).0.is) in
-          let many : length (a.g ++ y ∷ []) ≤ call.most.lines (all Second) = rw (w Second).0.is (call.laws.largest e.keeps _ _ (inside e.came (w Second).0.more)).1 in (
+          rw e.memory (group_exit o _ _ q.within (group_read_facts q) (starts_none call q.within)
+          (rw (call.laws.none a.k (a.g ++ y ∷ [])) at q.wrote) (group_begun q)
+          (record { denied = e.copy_failed.denied; failed = none_failed q; clean = fine })
+          (λ side. not_failed call side (none_failed q side)) (λ input pushed. tt)
+          (λ four. inr (e.keeps, pairs_are_missing e.came e.keeps)) (λ all w.
+          let size = size_of call q.keeps all (λ side. omega (arith, (w side).longest)) (extends (w Second)) in
+          let (_, many) = call.laws.largest e.keeps _ _ (inside e.came (w Second).continues.more) in
+          let all_is = ap call.most.lines (w Second).continues.is in (
             omega (arith, e.copy_failed.peak, size),
-            omega (arith, e.copy_failed.most, q.at, ap length (all_copied e.keeps), size, many, call.laws.slots all, length_push a.g y),
+            omega (
+              arith,
+              e.copy_failed.most,
+              q.at,
+              ap length (all_copied e.keeps),
+              size,
+              many,
+              all_is,
+              call.laws.slots all,
+              length_push a.g y,
+            ),
           )))
       read_group_fault {reader = reader} fine fault (inr e) = group_breaks at_second fine (starts_none call (within_more at_second)) wrote_none reader fault e
 
       pub read_group_fails : {two2 : Sorted} {reader : Reader} {after : Slots} {fault : MergeFault} {r : Result (Unit {0}) MergeFault} → r ≡ Err fault
-          → ReadGroupLinePost call.keeps_groups (key Second) cmp two two2 (now.reader Second) reader now.store after out end (Err fault) → ExitPost job cmp key old (state_after_read now Second reader out after) r
-      read_group_fails {reader = reader} is_fault (inl e) = exit_post t is_fault (omega (arith, ap (λ (z : Slots). length z.lines) e.1.store)) (same_state _ _ Second now _ reader _ _ e.0 e.1
-          (group_exit o _ _ a.q.within (group_read_facts a.q) (starts_none call a.q.within) wrote_none (group_begun a.q) (record { write_failed = e.1.write_failed; failed = none_failed a.q; denied = a.q.keeps.denied })
-          (λ side. not_failed call side (none_failed a.q side)) (λ input pushed. tt) tt (fits_kept call a.q.keeps now.store (omega arith) refl)))
-      read_group_fails {fault = fault} is_fault (inr e) = exit_post t is_fault (read_group_slots fault e.1) (read_group_fault e.0 fault e.1)
+          → ReadGroupLinePost call.keeps_groups (key Second) cmp two two2 (now.reader Second) reader now.store after out
+          end (Err fault) → ExitPost job cmp key old (state_after_read now Second reader out after) r
+      read_group_fails {reader = reader} is_fault (inl (is_write, e)) = exit_post t is_fault
+          (omega (arith, ap (λ (z : Slots). length z.lines) e.store)) (same_state _ _ Second now _ reader _ _ is_write e
+          (group_exit o _ _ a.q.within (group_read_facts a.q) (starts_none call a.q.within) wrote_none (group_begun a.q)
+          (record { write_failed = e.write_failed; failed = none_failed a.q; denied = a.q.keeps.denied })
+          (λ side. not_failed call side (none_failed a.q side)) (λ input pushed. tt) tt
+          (fits_kept call a.q.keeps now.store (omega arith) refl)))
+      read_group_fails {fault = fault} is_fault (inr (fine, e)) =
+          exit_post t is_fault (read_group_slots fault e) (read_group_fault fine fault e)
 
   -- ---- writing pairs
 
@@ -178,7 +240,7 @@ module _ {job : Join} {cmp : Cmp} {key : Side → Key} {old : MergeState} {phase
     r = rw is at t.phased
 
     pub write_pairs_pre : JoinLinePre job key First one two (now.reader First) now.store now.out
-    write_pairs_pre = record { status_is = advance_pre t First r.head.0; joins = joins t }
+    write_pairs_pre = record { status_is = advance_pre t First r.head.head; joins = joins t }
 
     is_kept : r.kept ≡ r.g Second → (end == 4) ≡ false
     is_kept same = let more : 4 < end = omega (arith, r.q.at, ap length same, r.some) in grind (arith, nat_tests)
@@ -200,42 +262,69 @@ module _ {job : Join} {cmp : Cmp} {key : Side → Key} {old : MergeState} {phase
         rw is h.own) r.lines_in
 
     -- the lines in the slots of the group have the pairs of the group
-    group_pairs_are : (f : Lines) → pair_entries job r.k f (group now.store (group_first_slot two end) (group_end_slot two end)) ≡ pair_entries job r.k f (r.g Second)
-    group_pairs_are f = ⊎_elim (λ same. ap (λ (l : Lines). pair_entries job r.k f l) (rw (is_kept same) (group_is r.q.keeps r.q.at ∙ same)))
+    group_pairs_are : (f : Lines) → pair_entries job r.k f (group now.store (group_first_slot two end)
+        (group_end_slot two end)) ≡ pair_entries job r.k f (r.g Second)
+    group_pairs_are f = ⊎_elim (λ same. ap (λ (l : Lines). pair_entries job r.k f l)
+        (rw (is_kept same) (group_is r.q.keeps r.q.at ∙ same)))
         (λ h.
-        let one : group now.store (group_first_slot two end) (group_end_slot two end) ≡ line now.store two.previous_slot ∷ []
-        = rw (is_alone h.none) (group_one now.store two.previous_slot (omega (arith, r.q.keeps.four, (low_slot Second two (slots t Second)).1))) in
+        let one : group now.store (group_first_slot two end) (group_end_slot two end) ≡ line now.store
+        two.previous_slot ∷ []
+        = rw (is_alone h.none) (group_one now.store two.previous_slot
+        (omega (arith, r.q.keeps.four, (low_slot Second two (slots t Second)).previous))) in
         ap (λ (l : Lines). pair_entries job r.k f l) one ∙ h.same_pairs f) r.lines_in
 
     pub write_pairs_group : IsGroup (join_key job Second) two now.store end (key First (line now.store one.current_slot))
-    write_pairs_group = record { within = end_in t; keyed = λ slot from low. sym (t.opened.keys Second (line now.store slot)) ∙ keyed_slot slot from low ∙ sym r.head.1 }
+    write_pairs_group = record {
+      within = end_in t;
+      keyed = λ slot from low. sym
+          (t.opened.keys Second (line now.store slot)) ∙ keyed_slot slot from low ∙ sym r.head.is;
+    }
 
     abbrev z : Lines
     z = line now.store one.current_slot ∷ []
 
     at_first : IsAtGroupLine r.q First
-    at_first = record { slots = slots t; head = r.head.0; is = r.head.1 }
+    at_first = record { slots = slots t; at_key = r.head }
 
     module _ {new : Output} {e : ℕ} (ends : e ≡ (old.reader First).terminator)
-        (pushed : PushEffect now.out new (unlines e (pair_entries job (key First (line now.store one.current_slot)) z (group now.store (group_first_slot two end) (group_end_slot two end))))) where
+        (pushed : PushEffect now.out new (unlines e (pair_entries job (key First (line now.store one.current_slot)) z
+        (group now.store (group_first_slot two end) (group_end_slot two end))))) where
       wrote_more : PushEffect r.q.mid new (unlines job.terminator (pair_entries job r.k (r.g First ++ z) (r.g Second)))
-      wrote_more = rw (call.laws.more r.k (r.g First) z (r.g Second), unlines-append job.terminator (pair_entries job r.k (r.g First) (r.g Second)) (pair_entries job r.k z (r.g Second)))
-          (push_trans _ _ _ _ _ t.clean r.q.wrote (wrote_as _ _ _ _ _ _ (ends ∙ t.opened.w.terminator First) (sym (group_pairs_are z) ∙ (λ j. pair_entries job (sym r.head.1 j) z (group now.store (group_first_slot two end) (group_end_slot two end)))) pushed))
+      wrote_more = rw (
+        call.laws.more r.k (r.g First) z (r.g Second),
+        unlines-append job.terminator
+            (pair_entries job r.k (r.g First) (r.g Second)) (pair_entries job r.k z (r.g Second)),
+      )
+          (push_trans _ _ _ _ _ t.clean r.q.wrote (wrote_as _ _ _ _ _ _ (ends ∙ t.opened.w.terminator First)
+          (sym (group_pairs_are z) ∙ (λ j. pair_entries job (sym r.head.is j) z
+          (group now.store (group_first_slot two end) (group_end_slot two end)))) pushed))
 
-      begins : OutputStartsWith (join_with job cmp key) (with_added_line now (both one two) First r.g) r.q.d r.k (pair_entries job r.k (r.g First ++ z) (r.g Second))
+      begins : OutputStartsWith (join_with job cmp key) (with_added_line now (both one two) First r.g) r.q.d r.k
+          (pair_entries job r.k (r.g First ++ z) (r.g Second))
       begins = starts call (within_more at_first) r.some r.above
 
       pub pair_fails : {reader : Reader} {after : Slots} {fault : MergeFault} {r : Result (Unit {0}) MergeFault} → r ≡ Err fault
-          → AdvanceErrPost First one (now.reader First) reader now.store after new fault → ExitPost job cmp key old (state_after_read now First reader new after) r
-      pair_fails {reader} is_fault (inl e) = exit_post t is_fault (omega (arith, ap (λ (z : Slots). length z.lines) e.1.store)) (same_state _ _ First now _ reader _ _ e.0 e.1
-          (group_exit o old (record now { out = new }) {now = now.reader} {piece = λ side. []} {ls = r.q.ls} (within_more at_first)
-          (elim [ First ↦ passing at_first (now.reader First) [] (reads_nothing (now.reader First)) tt (r.q.sides First).sound First | Second ↦ group_read_facts r.q Second ])
+          → AdvanceErrPost First one (now.reader First) reader now.store after new fault
+          → ExitPost job cmp key old (state_after_read now First reader new after) r
+      pair_fails {reader} is_fault (inl (is_write, e)) = exit_post t is_fault
+          (omega (arith, ap (λ (z : Slots). length z.lines) e.store)) (same_state _ _ First now _ reader _ _ is_write e
+          (group_exit o old (record now { out = new }) {now = now.reader} {piece = λ side. []} {ls = r.q.ls}
+          (within_more at_first)
+          (elim [
+            | First ↦ passing at_first (now.reader First) [] (reads_nothing (now.reader First)) tt
+                (r.q.sides First).sound First
+            | Second ↦ group_read_facts r.q Second
+          ])
           begins wrote_more (group_begun r.q)
-          (record { write_failed = e.1.write_failed; failed = none_failed r.q; denied = r.q.keeps.denied }) (λ side. not_failed call side (none_failed r.q side)) (λ input pushed. tt) tt
+          (record { write_failed = e.write_failed; failed = none_failed r.q; denied = r.q.keeps.denied })
+          (λ side. not_failed call side (none_failed r.q side)) (λ input pushed. tt) tt
           (fits_kept call r.q.keeps now.store (omega arith) refl)))
-      pair_fails {reader} {fault = fault} is_fault (inr e) = exit_post t is_fault (omega (arith, next_error_keeps_slot_count First one _ _ _ _ fault e.1)) (group_breaks at_first e.0 begins wrote_more reader fault e.1)
+      pair_fails {reader} {fault = fault} is_fault (inr (fine, e)) = exit_post t is_fault
+          (omega (arith, next_error_keeps_slot_count First one _ _ _ _ fault e))
+          (group_breaks at_first fine begins wrote_more reader fault e)
 
-      module _ {one2 two2 : Sorted} {reader : Reader} {after : Slots} (h : AdvanceOkPost key cmp First one two one2 two2 (now.reader First) reader now.store after new) where
+      module _ {one2 two2 : Sorted} {reader : Reader} {after : Slots}
+          (h : AdvanceOkPost key cmp First one two one2 two2 (now.reader First) reader now.store after new) where
         on_first : AdvancedGroup at_first h.came new
         on_first = advanced_group at_first h.came wrote_more
 
@@ -243,7 +332,7 @@ module _ {job : Join} {cmp : Cmp} {key : Side → Key} {old : MergeState} {phase
         above_on = rw on_first.bound r.above
 
         pub group_there : (4 ≤ end) × (end ≤ length after.lines)
-        group_there = ((end_in t).0, omega (arith, (end_in t).1, next_keeps_slot_count _ _ _ _ _ _ _ _ h.came))
+        group_there = omega (arith, end_in t, next_keeps_slot_count _ _ _ _ _ _ _ _ h.came)
 
         pub write_pairs_continues : one2.same ≡ true → IterationInvariant job cmp key old phase (state_after_read now First reader new after) one2 two2 end
         write_pairs_continues same = iteration_continues t {next = phase} First h.continues (rw is (record {
@@ -251,23 +340,34 @@ module _ {job : Join} {cmp : Cmp} {key : Side → Key} {old : MergeState} {phase
           g = with_added_line now (both one two) First r.g;
           kept = r.kept;
           q = on_first.group;
-          lines_in = rw (others_stay at_first h.came).1 r.lines_in;
+          lines_in = let (_, stays) = others_stay at_first h.came in rw stays r.lines_in;
           some = r.some;
           above = above_on;
-          head = continues_key at_first h.came same;
+          head = let (head, is) = continues_key at_first h.came same in record { head = head; is = is };
         }))
 
-        pub group_closed : {cleared : Slots} → ClearGroupPost after cleared end → one2.same ≡ false → IterationInvariant job cmp key old phases.BetweenGroups (state_after_read now First reader new cleared) one2 two2 4
+        pub group_closed : {cleared : Slots} → ClearGroupPost after cleared end → one2.same ≡ false
+            → IterationInvariant job cmp key old phases.BetweenGroups (state_after_read now First reader new cleared)
+            one2 two2 4
         group_closed {cleared} clear same =
             let q = on_first.group in
             iteration_continues t {next = phases.BetweenGroups} First
-            (record { clean = h.continues.clean; others = h.continues.others; own_reader = h.continues.own_reader; valid_cursors = valid_cursors_kept _ _ _ _ _ h.continues.valid_cursors (omega (arith, clear.slots)) (λ i low. clear.others i (inl low)) }) (
+            (record {
+              clean = h.continues.clean;
+              others = h.continues.others;
+              own_reader = h.continues.own_reader;
+              valid_cursors = valid_cursors_kept _ _ _ _ _ h.continues.valid_cursors (omega (arith, clear.slots))
+                  (λ i low. clear.others i (inl low));
+            }) (
               record {
                 ls = q.ls;
                 p = λ side. q.p side ++ with_added_line now (both one two) First r.g side;
                 b = q.d;
                 sides = same_cursors call.tool q.sides (next_slots at_first h.came) (λ i low. clear.others i (inl low));
-                merge_invariant = closes call q.within (elim [ First ↦ omega (arith, length_push (r.g First) (line now.store one.current_slot)) | Second ↦ r.some ])
+                merge_invariant = closes call q.within (elim [
+                  | First ↦ omega (arith, length_push (r.g First) (line now.store one.current_slot))
+                  | Second ↦ r.some
+                ])
                     (elim [ First ↦ is_past q First (leaves_key at_first h.came same) | Second ↦ above_on ]) q.wrote;
                 keeps = group_store_cleared q.keeps q.at clear;
               },

@@ -4,11 +4,11 @@
 use Rattle.ptmerge.proofs.Common.{◌≡◌, ⊎_elim, inl, inr, ℕ, ◌+◌, ◌-◌, ◌≤◌, ◌<◌, suc, true, false, length-drop, List, [], ◌∷◌, ◌++◌, length, map, take, drop, get_or, set, max, refl, sym, ap, ◌∙◌}
 use Rattle.ptmerge.proofs.Common.{subst, arith, ◌*◌, cond, Option, append_assoc, length-append, append-nil, length-set, drop_more, get_or-drop, drop-set-add, take_more, length_push, drop-append-le}
 use Rattle.ptmerge.proofs.Common.{drop-set-lt, set_at, take_at, bytes_eq, sum_by_push, sum_by-append, sum_by-cons, Slots, line, total_bytes, with_line, with_denied, unlines, max_length, total_bytes_set, Join}
-use Rattle.ptmerge.proofs.Common.{ClearGroupPost, EnsureSlotPost, CopyToGroupErrPost, group, CopyToGroupPost, entry, join_fields, pair_entries, max_over_keys, max_group_bytes, max_group_lines, Lines, lines_with_key, bytes_decides, Reader, Side}
+use Rattle.ptmerge.proofs.Common.{ClearGroupPost, EnsureSlotPost, CopyToGroupErrPost, group, CopyToGroupPost, entry, join_fields, pair_entries, max_over_keys, max_group_bytes, max_group_lines, Lines, lines_with_key, Reader, Side}
 use Rattle.ptmerge.proofs.Common.{First, Second, Sorted, Cmp, Key, HasSlots, with_side}
 use Rattle.ptmerge.proofs.MergeLemmas.Slots.{line_other, HasLines, StoreOfLines, has_lines_total, set_line, put_each, put_same}
 use Rattle.std.proofs.Math.ListN.{get_or-append}
-use Rattle.ptmerge.proofs.MergeLemmas.Orders.{EachKey}
+use Rattle.ptmerge.proofs.MergeLemmas.Orders.{EachKey, same_bytes}
 use Rattle.ptmerge.proofs.MergeLemmas.Exits.{SideAfterNext}
 use Rattle.ptmerge.proofs.MergeLemmas.Step.{own_slots, slot_low}
 
@@ -21,7 +21,8 @@ group_from store end slot fits low =
 pub group_end : (store : Slots) (end slot : ℕ) → end ≤ slot → group store slot end ≡ []
 group_end store end slot past = let none : end - slot ≡ 0 = omega arith in rw none refl
 
-pub group_more : (store : Slots) (from end : ℕ) → from ≤ end → end < length store.lines → group store from (end + 1) ≡ group store from end ++ line store end ∷ []
+pub group_more : (store : Slots) (from end : ℕ) → from ≤ end → end < length store.lines
+    → group store from (end + 1) ≡ group store from end ++ line store end ∷ []
 group_more store from end least within =
     let rest = drop from store.lines in
     let next : (end + 1) - from ≡ (end - from) + 1 = omega arith in
@@ -31,7 +32,9 @@ group_more store from end least within =
 
 -- the lines of one slot
 pub group_one : (store : Slots) (slot : ℕ) → slot < length store.lines → group store slot (slot + 1) ≡ line store slot ∷ []
-group_one store slot within = let none : slot - slot ≡ 0 = omega arith in group_more store slot slot (omega arith) within ∙ ap (λ n. take n (drop slot store.lines) ++ line store slot ∷ []) none
+group_one store slot within = let none : slot - slot ≡ 0 = omega arith in
+    group_more store slot slot (omega arith) within ∙ ap (λ n. take n (drop slot store.lines) ++ line store slot ∷ [])
+    none
 
 -- ---- the output
 
@@ -39,7 +42,8 @@ group_one store slot within = let none : slot - slot ≡ 0 = omega arith in grou
 abbrev pub pair_of : Join → List ℕ → List ℕ → List ℕ → List ℕ
 pair_of job k first second = entry job k (join_fields job.separator first) (join_fields job.separator second)
 
-pub pairs_text : (job : Join) (end : ℕ) (x k : List ℕ) (g : Lines) → job.pairs ≡ true → unlines end (pair_entries job k (x ∷ []) g) ≡ unlines end (map (pair_of job k x) g)
+pub pairs_text : (job : Join) (end : ℕ) (x k : List ℕ) (g : Lines) → job.pairs ≡ true
+    → unlines end (pair_entries job k (x ∷ []) g) ≡ unlines end (map (pair_of job k x) g)
 pairs_text job end x k g asked = rw asked (ap (unlines end) (append-nil (map (pair_of job k x) g)))
 
 -- ---- emptying the group
@@ -47,12 +51,14 @@ pairs_text job end x k g asked = rw asked (ap (unlines end) (append-nil (map (pa
 pub clears_none : (s : Slots) → ClearGroupPost s s 4
 clears_none s = record { slots = refl; others = λ i _. refl; emptied = omega arith; less = omega arith; peak = omega arith; denied = refl }
 
-pub clears_more : (a s t : Slots) (slot : ℕ) → 4 ≤ slot → slot < length a.lines → ClearGroupPost a s slot → t ≡ with_line s slot [] → ClearGroupPost a t (slot + 1)
+pub clears_more : (a s t : Slots) (slot : ℕ) → 4 ≤ slot → slot < length a.lines → ClearGroupPost a s slot
+    → t ≡ with_line s slot [] → ClearGroupPost a t (slot + 1)
 clears_more a s t slot from within c is =
     let rest = drop 4 s.lines in
     let all = total_bytes_set s.lines slot [] (omega (arith, c.slots)) in
     let back : 4 + (slot - 4) ≡ slot = omega arith in
-    let at : get_or rest (slot - 4) [] ≡ line a slot = get_or-drop 4 s.lines (slot - 4) [] ∙ ap (λ i. get_or s.lines i []) back ∙ c.others slot (inr (omega arith)) in
+    let at : get_or rest (slot - 4) [] ≡ line a slot = get_or-drop 4 s.lines (slot - 4) []
+    ∙ ap (λ i. get_or s.lines i []) back ∙ c.others slot (inr (omega arith)) in
     let d : drop 4 (set s.lines slot []) ≡ set rest (slot - 4) [] = ap (λ i. drop 4 (set s.lines i [])) (sym back) ∙ drop-set-add 4 s.lines (slot - 4) [] in
     let here = total_bytes_set rest (slot - 4) [] (omega (arith, c.slots, length-drop 4 s.lines)) in
     let grows = ap total_bytes (group_more a 4 slot from within) ∙ sum_by_push length (group a 4 slot) (line a slot) in
@@ -81,10 +87,24 @@ ensured_slot before made slot g =
     let kept : slot < length before.lines → length made.lines ≡ length before.lines = λ low. ap (λ (s : Slots). length s.lines) (g.there low) in
     ⊎_elim (λ e.
     let same = ap (λ (s : Slots). length s.lines) e in
-    record { more = []; lines = ap (λ (s : Slots). s.lines) e ∙ sym (append-nil before.lines); empty = refl; slots = omega (arith, same); peak = rw e refl; denied = rw e refl })
+    record {
+      more = [];
+      lines = ap (λ (s : Slots). s.lines) e ∙ sym (append-nil before.lines);
+      empty = refl;
+      slots = omega (arith, same);
+      peak = rw e refl;
+      denied = rw e refl;
+    })
     (λ e.
     let more = ap (λ (s : Slots). length s.lines) e ∙ length_push before.lines [] in
-    record { more = [] ∷ []; lines = rw e refl; empty = refl; slots = (omega (arith, more), grind (arith, more, kept)); peak = rw e refl; denied = rw e refl }) g.grown
+    record {
+      more = [] ∷ [];
+      lines = rw e refl;
+      empty = refl;
+      slots = (omega (arith, more), grind (arith, more, kept));
+      peak = rw e refl;
+      denied = rw e refl;
+    }) g.grown
 
 pub failed_copy : (before made : Slots) (to : ℕ) → EnsureSlotPost before made to → CopyToGroupErrPost before (with_denied (with_line made to [])) to
 failed_copy before made to g =
@@ -109,7 +129,8 @@ module _ (m : Lines → ℕ) (laws : IsLineMeasure m) (key : Key) where
   -- lines of one key are at most all lines with this key
   group_measure_max : (k : List ℕ) (p g c : Lines) → EachKey (λ x. x ≡ k) key g → m g ≤ m (lines_with_key key (p ++ (g ++ c)) k)
   group_measure_max k [] [] c e = omega (arith, laws.none)
-  group_measure_max k [] (x ∷ g) c e = rw ((bytes_decides (key x) k).1 e.0) (omega (arith, laws.more x g, laws.more x (lines_with_key key (g ++ c) k), group_measure_max k [] g c e.1))
+  group_measure_max k [] (x ∷ g) c (here, more) = rw (same_bytes here)
+      (omega (arith, laws.more x g, laws.more x (lines_with_key key (g ++ c) k), group_measure_max k [] g c more))
   group_measure_max k (x ∷ p) g c e =
       let ih = group_measure_max k p g c e in
       let ls : Lines = lines_with_key key (p ++ (g ++ c)) k in
@@ -123,7 +144,8 @@ module _ (m : Lines → ℕ) (laws : IsLineMeasure m) (key : Key) where
   measure_in : (k : List ℕ) (p g : Lines) (y : List ℕ) (w : Lines) → EachKey (λ x. x ≡ k) key (g ++ y ∷ []) → key y ≡ k → m (g ++ y ∷ [])
       ≤ max_over_keys m key (((p ++ g) ++ y ∷ []) ++ w) (((p ++ g) ++ y ∷ []) ++ w)
   measure_in k p g y w own is =
-      let in_group : m (g ++ y ∷ []) ≤ m (lines_with_key key ((p ++ g) ++ y ∷ w) (key y)) = rw (is, append_assoc p g (y ∷ w), ← append_assoc g (y ∷ []) w) (group_measure_max k p (g ++ y ∷ []) w own) in
+      let in_group : m (g ++ y ∷ []) ≤ m (lines_with_key key ((p ++ g) ++ y ∷ w) (key y)) = rw
+      (is, append_assoc p g (y ∷ w), ← append_assoc g (y ∷ []) w) (group_measure_max k p (g ++ y ∷ []) w own) in
       rw (append_assoc (p ++ g) (y ∷ []) w) (omega (arith, in_group, greatest_has ((p ++ g) ++ y ∷ w) (p ++ g) y w))
 
 -- the most bytes and the most lines of a group, by the lines of the second input
@@ -139,7 +161,8 @@ largest_group key = record { bytes = max_group_bytes key; lines = max_group_line
 abbrev pub InGroup : GroupBounds → Lines → Lines → Type 0
 InGroup most g ls = (total_bytes g ≤ most.bytes ls) × (length g ≤ most.lines ls)
 
-pub group_in : (key : Key) (k : List ℕ) (p g : Lines) (y : List ℕ) (w : Lines) → EachKey (λ x. x ≡ k) key (g ++ y ∷ []) → key y ≡ k
+pub group_in : (key : Key) (k : List ℕ) (p g : Lines) (y : List ℕ) (w : Lines) → EachKey (λ x. x ≡ k) key (g ++ y ∷ [])
+    → key y ≡ k
     → InGroup (largest_group key) (g ++ y ∷ []) (((p ++ g) ++ y ∷ []) ++ w)
 group_in key k p g y w own is = (
   measure_in total_bytes (record { weight = length; none = refl; more = λ x xs. sum_by-cons length x xs }) key k p g y w own is,
@@ -153,10 +176,16 @@ drop_total (a ∷ b ∷ c ∷ d ∷ rest) m more h = h.4
 drop_total xs m more h = absurd h
 
 -- the first four slots are unchanged, and the others hold `now` bytes
-same_lines : (xs ys : Lines) (m : Side → ℕ) (more now : ℕ) → HasLines m more xs → 4 ≤ length ys → ((i : ℕ) → i < 4 → get_or ys i [] ≡ get_or xs i []) → total_bytes (drop 4 ys) ≡ now → HasLines m now ys
+same_lines : (xs ys : Lines) (m : Side → ℕ) (more now : ℕ) → HasLines m more xs → 4 ≤ length ys
+    → ((i : ℕ) → i < 4 → get_or ys i [] ≡ get_or xs i []) → total_bytes (drop 4 ys) ≡ now → HasLines m now ys
 same_lines (a ∷ b ∷ c ∷ d ∷ rest) (s ∷ t ∷ u ∷ v ∷ end) m more now h four same is =
-    let at = λ (i : ℕ) (low : i < 4). ap length (same i low) in
-    (omega (arith, h.0, at 0 (omega arith)), omega (arith, h.1, at 1 (omega arith)), omega (arith, h.2, at 2 (omega arith)), omega (arith, h.3, at 3 (omega arith)), is)
+    let at = λ (i : ℕ) (low : i < 4). ap length (same i low) in (
+      omega (arith, h.0, at 0 (omega arith)),
+      omega (arith, h.1, at 1 (omega arith)),
+      omega (arith, h.2, at 2 (omega arith)),
+      omega (arith, h.3, at 3 (omega arith)),
+      is,
+    )
 same_lines (a ∷ b ∷ c ∷ d ∷ rest) ys m more now h four same is = absurd (omega (arith, four))
 same_lines xs ys m more now h four same is = absurd h
 
@@ -167,13 +196,15 @@ pub record GroupStore (most : GroupBounds) (before store : Slots) (ls : Side →
   pub empty : total_bytes tail ≡ 0
   pub lines : HasLines (λ side. max_length (ls side)) (total_bytes g) store.lines
   -- for all lines that the second input may continue with
-  pub bounds : (all more : Lines) → all ≡ ls Second ++ more → InGroup most g all × (store.peak ≤ max before.peak (2 * max_length (ls First) + 2 * max_length (ls Second) + most.bytes all))
+  pub bounds : (all more : Lines) → all ≡ ls Second ++ more → InGroup most g all
+      × (store.peak ≤ max before.peak (2 * max_length (ls First) + 2 * max_length (ls Second) + most.bytes all))
       × (length store.lines ≤ max (length before.lines) (4 + most.lines all))
   pub least : length before.lines ≤ length store.lines
   pub four : 4 ≤ length store.lines
   pub denied : store.denied ≡ false
 
-pub group_store_starts : {most : GroupBounds} {before store : Slots} {ls : Side → Lines} → StoreOfLines before store (λ side. max_length (ls side)) → GroupStore most before store ls []
+pub group_store_starts : {most : GroupBounds} {before store : Slots} {ls : Side → Lines}
+    → StoreOfLines before store (λ side. max_length (ls side)) → GroupStore most before store ls []
 group_store_starts {before = before} {store} {ls} k = record {
   tail = drop 4 store.lines;
   split = refl;
@@ -190,12 +221,25 @@ abbrev pub AllSlots : (Side → Sorted) → Type 0
 AllSlots cursor = (side : Side) → HasSlots side (cursor side)
 
 -- the slots of an input are among the first four
-pub low_slot : (s : Side) (cursor : Sorted) → HasSlots s cursor → (cursor.current_slot < 4) × (cursor.previous_slot < 4)
-low_slot s cursor h = omega (arith, own_slots s cursor h, slot_low s)
+pub record AreLow (cursor : Sorted) : Type 0 where
+  pub current : cursor.current_slot < 4
+  pub previous : cursor.previous_slot < 4
+
+pub low_slot : (s : Side) (cursor : Sorted) → HasSlots s cursor → AreLow cursor
+low_slot s cursor h =
+    let own = own_slots s cursor h in
+    record { current = omega (arith, own, slot_low s); previous = omega (arith, own, slot_low s) }
+
+-- the list `now` continues the list `was`
+pub record Extends (was now : Lines) : Type 0 where
+  pub more : Lines
+  pub is : now ≡ was ++ more
 
 -- the next line of an input replaces its previous line
-pub group_store_line : {most : GroupBounds} {before store after : Slots} {ls now : Side → Lines} {g : Lines} (s : Side) (cursor : Sorted) → HasSlots s cursor → (x : List ℕ) → GroupStore most before store ls g
-    → ((side : Side) → max_length (ls side) ≤ max_length (now side)) → length x ≤ max_length (now s) → (more : Lines) × (now Second ≡ ls Second ++ more) → after ≡ with_line store cursor.previous_slot x
+pub group_store_line : {most : GroupBounds} {before store after : Slots} {ls now : Side → Lines} {g : Lines} (s : Side)
+    (cursor : Sorted) → HasSlots s cursor → (x : List ℕ) → GroupStore most before store ls g
+    → ((side : Side) → max_length (ls side) ≤ max_length (now side)) → length x ≤ max_length (now s)
+    → Extends (ls Second) (now Second) → after ≡ with_line store cursor.previous_slot x
     → GroupStore most before after now g
 group_store_line {store = store} {after} {ls} {now} {g} s cursor slots x k up fit continues_key is =
     let inside = set_line s cursor store.lines (λ side. max_length (ls side)) (λ side. max_length (now side)) (total_bytes g) x slots k.lines up fit in
@@ -203,11 +247,12 @@ group_store_line {store = store} {after} {ls} {now} {g} s cursor slots x k up fi
     let size = length-set store.lines cursor.previous_slot x in
     rw is (record {
       tail = k.tail;
-      split = drop-set-lt 4 store.lines cursor.previous_slot x (low_slot s cursor slots).1 ∙ k.split;
+      split = drop-set-lt 4 store.lines cursor.previous_slot x (low_slot s cursor slots).previous ∙ k.split;
       empty = k.empty;
       lines = inside;
       bounds = λ all more e.
-          let bounds = k.bounds all (continues_key.0 ++ more) (e ∙ ap (λ (l : Lines). l ++ more) continues_key.1 ∙ append_assoc (ls Second) continues_key.0 more) in
+          let bounds = k.bounds all (continues_key.more ++ more)
+          (e ∙ ap (λ (l : Lines). l ++ more) continues_key.is ∙ append_assoc (ls Second) continues_key.more more) in
           omega (arith, bounds, up First, up Second, sum, size);
       least = omega (arith, k.least, size);
       four = omega (arith, k.four, size);
@@ -215,19 +260,23 @@ group_store_line {store = store} {after} {ls} {now} {g} s cursor slots x k up fi
     })
 
 -- the lines that an input continues with, after one input advanced
-pub put_more : (s : Side) (ls : Side → Lines) (now more : Lines) → now ≡ ls s ++ more → (m : Lines) × (with_side s now ls Second ≡ ls Second ++ m)
-put_more First ls now more e = ([], sym (append-nil (ls Second)))
-put_more Second ls now more e = (more, e)
+pub put_more : (s : Side) (ls : Side → Lines) (now more : Lines) → now ≡ ls s ++ more
+    → Extends (ls Second) (with_side s now ls Second)
+put_more First ls now more e = record { more = []; is = sym (append-nil (ls Second)) }
+put_more Second ls now more e = record { more = more; is = e }
 
 -- an input advances
-pub group_store_next : {most : GroupBounds} {own : Key} {before store after : Slots} {ls : Side → Lines} {g : Lines} {cmp : Cmp} {end : ℕ} {old new : Reader} {next : Sorted}
+pub group_store_next : {most : GroupBounds} {own : Key} {before store after : Slots} {ls : Side → Lines} {g : Lines}
+    {cmp : Cmp} {end : ℕ} {old new : Reader} {next : Sorted}
     {last : Option (List ℕ)} (s : Side) (cursor : Sorted)
-    → HasSlots s cursor → GroupStore most before store ls g → (n : SideAfterNext end cmp own old new next cursor.previous_slot store after (ls s) last) → GroupStore most before after (with_side s n.now_ls ls) g
+    → HasSlots s cursor → GroupStore most before store ls g → (n : SideAfterNext end cmp own old new next
+    cursor.previous_slot store after (ls s) last) → GroupStore most before after (with_side s n.now_ls ls) g
 group_store_next {ls = ls} s cursor slots k n = group_store_line s cursor slots n.bytes k
     (put_each (λ side (l : Lines). max_length (ls side) ≤ max_length l) s n.now_ls ls n.longer (λ side. omega arith))
     (subst (λ (l : Lines). length n.bytes ≤ max_length l) (sym (put_same s n.now_ls ls)) n.fits) (put_more s ls n.now_ls n.more n.continues_key) n.stored
 
-module _ {most : GroupBounds} {before store : Slots} {ls : Side → Lines} {g : Lines} (k : GroupStore most before store ls g) where
+module _ {most : GroupBounds} {before store : Slots} {ls : Side → Lines} {g : Lines}
+    (k : GroupStore most before store ls g) where
   -- the result of copying a line to the end of the group
   pub record CopiedLine (after : Slots) (y : List ℕ) : Type 0 where
     pub store_holds : GroupStore most before after ls (g ++ y ∷ [])
@@ -237,19 +286,24 @@ module _ {most : GroupBounds} {before store : Slots} {ls : Side → Lines} {g : 
     made_same : (i : ℕ) → i < 4 → line made i ≡ line store i
     made_same i low = ap (λ (l : Lines). get_or l i []) w.lines ∙ get_or-append store.lines w.more [] i (omega (arith, k.four, low))
 
-    module _ (y : List ℕ) (at : to ≡ 4 + length g) (within : to < length made.lines) (largest : (l : Lines) → InGroup most (g ++ y ∷ []) (ls Second ++ l)) where
+    module _ (y : List ℕ) (at : to ≡ 4 + length g) (within : to < length made.lines)
+        (largest : (l : Lines) → InGroup most (g ++ y ∷ []) (ls Second ++ l)) where
       first_same : (i : ℕ) → i < 4 → get_or (set made.lines to y) i [] ≡ get_or store.lines i []
       first_same i low = line_other made to i y (λ e. absurd (omega (arith, at, e))) ∙ made_same i low
 
-      by_tail : (t : Lines) → total_bytes t ≡ 0 → length g + 1 ≤ length (g ++ t) → drop 4 (set made.lines to y) ≡ set (g ++ t) (length g) y → GroupStore most before (with_line made to y) ls (g ++ y ∷ [])
+      by_tail : (t : Lines) → total_bytes t ≡ 0 → length g + 1 ≤ length (g ++ t)
+          → drop 4 (set made.lines to y) ≡ set (g ++ t) (length g) y
+          → GroupStore most before (with_line made to y) ls (g ++ y ∷ [])
       by_tail [] none some is = absurd (omega (arith, some, length-append g []))
       by_tail (z ∷ t) none some is =
           let split : drop 4 (set made.lines to y) ≡ (g ++ y ∷ []) ++ t = is ∙ set_at g z t y (length g) refl ∙ sym (append_assoc g (y ∷ []) t) in
           let empty : total_bytes t ≡ 0 = omega (arith, none, sum_by-cons length z t) in
-          let sum : total_bytes (drop 4 (set made.lines to y)) ≡ total_bytes (g ++ y ∷ []) = omega (arith, ap total_bytes split, sum_by-append length (g ++ y ∷ []) t, empty) in
+          let sum : total_bytes (drop 4 (set made.lines to y)) ≡ total_bytes (g ++ y ∷ []) = omega
+          (arith, ap total_bytes split, sum_by-append length (g ++ y ∷ []) t, empty) in
           let size = length-set made.lines to y in
           let four : 4 ≤ length (set made.lines to y) = omega (arith, k.four, w.slots, size) in
-          let inside = same_lines store.lines (set made.lines to y) (λ side. max_length (ls side)) (total_bytes g) (total_bytes (g ++ y ∷ [])) k.lines four first_same sum in
+          let inside = same_lines store.lines (set made.lines to y) (λ side. max_length (ls side)) (total_bytes g)
+          (total_bytes (g ++ y ∷ [])) k.lines four first_same sum in
           record {
             tail = t;
             split = split;
@@ -258,7 +312,7 @@ module _ {most : GroupBounds} {before store : Slots} {ls : Side → Lines} {g : 
             bounds = λ all more e.
                 let within : InGroup most (g ++ y ∷ []) all = rw e (largest more) in
                 let all_lines = has_lines_total (set made.lines to y) (λ side. max_length (ls side)) (total_bytes (g ++ y ∷ [])) inside in
-                omega (arith, within, at, k.bounds all more e, w.peak, w.slots, all_lines.1, size, length_push g y);
+                omega (arith, within, at, k.bounds all more e, w.peak, w.slots, all_lines.most, size, length_push g y);
             least = omega (arith, k.least, w.slots, size);
             four = four;
             denied = w.denied ∙ k.denied;
@@ -267,16 +321,21 @@ module _ {most : GroupBounds} {before store : Slots} {ls : Side → Lines} {g : 
       kept : CopiedLine (with_line made to y) y
       kept =
           let split : drop 4 made.lines ≡ g ++ (k.tail ++ w.more)
-          = ap (λ (l : Lines). drop 4 l) w.lines ∙ drop-append-le 4 store.lines w.more k.four ∙ ap (λ (l : Lines). l ++ w.more) k.split ∙ append_assoc g k.tail w.more in
+          = ap (λ (l : Lines). drop 4 l) w.lines ∙ drop-append-le 4 store.lines w.more k.four
+          ∙ ap (λ (l : Lines). l ++ w.more) k.split ∙ append_assoc g k.tail w.more in
           record {
-            store_holds = by_tail (k.tail ++ w.more) (omega (arith, sum_by-append length k.tail w.more, k.empty, w.empty)) (omega (arith, within, at, ap length split, length-drop 4 made.lines))
+            store_holds = by_tail (k.tail ++ w.more)
+                (omega (arith, sum_by-append length k.tail w.more, k.empty, w.empty))
+                (omega (arith, within, at, ap length split, length-drop 4 made.lines))
                 (rw at (drop-set-add 4 made.lines (length g) y) ∙ ap (λ (l : Lines). set l (length g) y) split);
             same = first_same;
           }
 
-  pub group_store_copied : {after : Slots} {from to : ℕ} → to ≡ 4 + length g → from < 4 → CopyToGroupPost store after from to → {y : List ℕ} → line store from ≡ y
+  pub group_store_copied : {after : Slots} {from to : ℕ} → to ≡ 4 + length g → from < 4
+      → CopyToGroupPost store after from to → {y : List ℕ} → line store from ≡ y
       → ((l : Lines) → InGroup most (g ++ y ∷ []) (ls Second ++ l)) → CopiedLine after y
-  group_store_copied {after} {from} {to} at low e {y} is largest = let w = ensured_slot store e.made to e.grown in rw (e.copied, made_same w from low, is) (kept w y at e.grown.within largest)
+  group_store_copied {after} {from} {to} at low e {y} is largest = let w = ensured_slot store e.made to e.grown in
+      rw (e.copied, made_same w from low, is) (kept w y at e.grown.within largest)
 
   -- the lines of the group are in its slots
   pub kept_line : (slot : ℕ) → 4 ≤ slot → slot < 4 + length g → line store slot ≡ get_or g (slot - 4) []
@@ -292,16 +351,25 @@ module _ {most : GroupBounds} {before store : Slots} {ls : Side → Lines} {g : 
   end_within at = omega (arith, at, k.four, ap length k.split, length-append g k.tail, length-drop 4 store.lines)
 
   -- the group is emptied
-  pub group_store_cleared : {after : Slots} {end : ℕ} → end ≡ 4 + length g → ClearGroupPost store after end → GroupStore most before after ls []
+  pub group_store_cleared : {after : Slots} {end : ℕ} → end ≡ 4 + length g → ClearGroupPost store after end
+      → GroupStore most before after ls []
   group_store_cleared {after} at c =
-      let none : total_bytes (drop 4 after.lines) ≡ 0 = omega (arith, c.emptied, ap total_bytes (group_is at), ap total_bytes k.split, sum_by-append length g k.tail, k.empty) in
+      let none : total_bytes (drop 4 after.lines) ≡ 0 = omega
+      (arith, c.emptied, ap total_bytes (group_is at), ap total_bytes k.split, sum_by-append length g k.tail, k.empty)
+      in
       let four : 4 ≤ length after.lines = omega (arith, k.four, c.slots) in
       record {
         tail = drop 4 after.lines;
         split = refl;
         empty = none;
         lines = same_lines store.lines after.lines (λ side. max_length (ls side)) (total_bytes g) 0 k.lines four (λ i low. c.others i (inl low)) none;
-        bounds = λ all more e. omega (arith, c.peak, c.slots, k.bounds all more e, (has_lines_total store.lines (λ side. max_length (ls side)) (total_bytes g) k.lines).1);
+        bounds = λ all more e. omega (
+          arith,
+          c.peak,
+          c.slots,
+          k.bounds all more e,
+          (has_lines_total store.lines (λ side. max_length (ls side)) (total_bytes g) k.lines).most,
+        );
         least = omega (arith, k.least, c.slots);
         four = four;
         denied = c.denied ∙ k.denied;

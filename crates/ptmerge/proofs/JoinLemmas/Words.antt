@@ -67,11 +67,13 @@ or_ends (suc last) (suc n) (b ∷ bits) le =
     let double : 2 ^ suc last ≡ 2 * 2 ^ last = omega (arith, two-pow-succ last) in
     let twice : 2 ^ suc last * mask_l (drop last bits) ≡ bit false + 2 * (2 ^ last * mask_l (drop last bits)) =
     ap (λ (p : ℕ). p * mask_l (drop last bits)) double ∙ mul_assoc 2 (2 ^ last) (mask_l (drop last bits)) ∙ omega arith in
-    ap (bit_or (mask_l (b ∷ take n bits))) twice ∙ or_bits b false (mask_l (take n bits)) (2 ^ last * mask_l (drop last bits)) ∙ rw (or_false b, or_ends last n bits (omega (arith, le))) refl
+    ap (bit_or (mask_l (b ∷ take n bits))) twice ∙ or_bits b false (mask_l (take n bits))
+    (2 ^ last * mask_l (drop last bits)) ∙ rw (or_false b, or_ends last n bits (omega (arith, le))) refl
 
 -- the mask of n to 2 n bytes, from those of the first n and of the last n
 pub ends_mask : (test : ℕ → Bool) (bytes : List ℕ) (n : ℕ) → n ≤ length bytes → length bytes ≤ n + n → n ≤ 32
-    → bit_or (mask_l (map test (chunk 0 n bytes))) (mask_l (map test (chunk (length bytes - n) n bytes)) * 2 ^ (length bytes - n) % 2 ^ 64) ≡ mask_l (map test bytes)
+    → bit_or (mask_l (map test (chunk 0 n bytes))) (mask_l (map test (chunk (length bytes - n) n bytes)) * 2 ^
+    (length bytes - n) % 2 ^ 64) ≡ mask_l (map test bytes)
 ends_mask test bytes n first all few =
     let last = length bytes - n in
     let bits = map test bytes in
@@ -79,9 +81,12 @@ ends_mask test bytes n first all few =
     let tail : map test (chunk last n bytes) ≡ drop last bits =
     ap (map test) (take_all n (drop last bytes) (omega (arith, length-drop last bytes, first))) ∙ sym (drop-map test last bytes) in
     let front : map test (chunk 0 n bytes) ≡ take n bits = sym (take-map test n bytes) in
-    let small : mask_l (drop last bits) * 2 ^ last < 2 ^ 64 = fits (mask_l (drop last bits)) n last (rw size at (mask_l-lt (drop last bits))) (omega (arith, all, first, few)) in
-    let whole : mask_l (drop last bits) * 2 ^ last % 2 ^ 64 ≡ 2 ^ last * mask_l (drop last bits) = omega (arith, small, mul_comm (mask_l (drop last bits)) (2 ^ last), mod-eq_of_lt small) in
-    (λ i. bit_or (mask_l (front i)) (mask_l (tail i) * 2 ^ last % 2 ^ 64)) ∙ ap (bit_or (mask_l (take n bits))) whole ∙ or_ends last n bits (omega (arith, all, first))
+    let small : mask_l (drop last bits) * 2 ^ last < 2 ^ 64 = fits (mask_l (drop last bits)) n last
+    (rw size at (mask_l-lt (drop last bits))) (omega (arith, all, first, few)) in
+    let whole : mask_l (drop last bits) * 2 ^ last % 2 ^ 64 ≡ 2 ^ last * mask_l (drop last bits) = omega
+    (arith, small, mul_comm (mask_l (drop last bits)) (2 ^ last), mod-eq_of_lt small) in
+    (λ i. bit_or (mask_l (front i)) (mask_l (tail i) * 2 ^ last % 2 ^ 64)) ∙ ap (bit_or (mask_l (take n bits))) whole
+    ∙ or_ends last n bits (omega (arith, all, first))
   where
     fits : (m n last : ℕ) → m < 2 ^ n → n + last ≤ 64 → m * 2 ^ last < 2 ^ 64
     fits m n last low le = omega (arith, mul-lt-mul_of_pos_right {k = 2 ^ last} low (one-le-pow last 2 (omega arith)), pow-add 2 n last, pow_mono {j = 64} le)
@@ -94,7 +99,8 @@ zero_bits false zero = grind (arith, nat_tests)
 zero_bits false (suc x) = grind (arith, nat_tests)
 
 no_misplaced : (blank : Bool) (bytes : List ℕ)
-    → eqb (bit_or (mask_l (map (is_byte 9) bytes)) (bit_and (mask_l (map is_blank bytes)) (bit blank + 2 * mask_l (map is_blank bytes)))) 0 ≡ has_single_spaces blank bytes
+    → eqb (bit_or (mask_l (map (is_byte 9) bytes)) (bit_and (mask_l (map is_blank bytes))
+    (bit blank + 2 * mask_l (map is_blank bytes)))) 0 ≡ has_single_spaces blank bytes
 no_misplaced blank [] = ap (λ (x : ℕ). eqb (bit_or 0 x) 0) (and_zero_l (bit blank + 2 * 0)) ∙ ap (λ (x : ℕ). eqb x 0) (or_zero_l 0)
 no_misplaced blank (b ∷ bytes) =
     let m = mask_l (map is_blank bytes) in
@@ -105,7 +111,8 @@ no_misplaced blank (b ∷ bytes) =
     ∙ ap (λ (x : Bool). cond (b == 9 || (is_blank b && blank)) false x) (no_misplaced (is_blank b) bytes)
     ∙ by (b == 9) (b == 32) blank
   where
-    by : (tab space blank : Bool) → cond (tab || ((space || tab) && blank)) false (has_single_spaces (space || tab) bytes) ≡ cond (tab || (blank && space)) false (has_single_spaces space bytes)
+    by : (tab space blank : Bool) → cond (tab || ((space || tab) && blank)) false
+        (has_single_spaces (space || tab) bytes) ≡ cond (tab || (blank && space)) false (has_single_spaces space bytes)
     by true space blank = refl
     by false true true = refl
     by false true false = refl
@@ -175,17 +182,20 @@ abbrev pub last_blank : Bool → List ℕ → Bool
 last_blank blank [] = blank
 last_blank blank (b ∷ bytes) = last_blank (b == 32) bytes
 
-pub spaced_append : (blank : Bool) (v back : List ℕ) → is_single_spaced blank (v ++ back) ≡ cond (has_single_spaces blank v) (is_single_spaced (last_blank blank v) back) false
+pub spaced_append : (blank : Bool) (v back : List ℕ) → is_single_spaced blank (v ++ back) ≡ cond
+    (has_single_spaces blank v) (is_single_spaced (last_blank blank v) back) false
 spaced_append blank [] back = refl
 spaced_append blank (b ∷ v) back = by (b == 9 || (blank && (b == 32))) (spaced_append (b == 32) v back)
   where
     by : (t : Bool) → is_single_spaced (b == 32) (v ++ back) ≡ cond (has_single_spaces (b == 32) v) (is_single_spaced (last_blank (b == 32) v) back) false
-        → cond t false (is_single_spaced (b == 32) (v ++ back)) ≡ cond (cond t false (has_single_spaces (b == 32) v)) (is_single_spaced (last_blank (b == 32) v) back) false
+        → cond t false (is_single_spaced (b == 32) (v ++ back)) ≡ cond (cond t false (has_single_spaces (b == 32) v))
+        (is_single_spaced (last_blank (b == 32) v) back) false
     by true e = refl
     by false e = e
 
 -- the highest bit says whether the last byte is a blank
-pub top_bit : (n : ℕ) (blank : Bool) (v : List ℕ) → length v ≡ suc n → has_single_spaces blank v ≡ true → mask_l (map is_blank v) / 2 ^ n ≡ bit (last_blank blank v)
+pub top_bit : (n : ℕ) (blank : Bool) (v : List ℕ) → length v ≡ suc n → has_single_spaces blank v ≡ true
+    → mask_l (map is_blank v) / 2 ^ n ≡ bit (last_blank blank v)
 top_bit n blank [] size spaced = absurd (omega (arith, size))
 top_bit zero blank (b ∷ []) size spaced = by (b == 9) (b == 32) blank spaced
   where
@@ -199,7 +209,8 @@ top_bit (suc n) blank (b ∷ v) size spaced =
     let m = mask_l (map is_blank v) in
     let twice : 2 ^ suc n ≡ 2 * 2 ^ n = omega (arith, two-pow-succ n) in
     let half : (bit (is_blank b) + 2 * m) / 2 ^ suc n ≡ m / 2 ^ n =
-    ap (λ (p : ℕ). (bit (is_blank b) + 2 * m) / p) twice ∙ sym (div-div-eq-div-mul (bit (is_blank b) + 2 * m) 2 (2 ^ n)) ∙ ap (λ (x : ℕ). x / 2 ^ n) (halves (is_blank b) m).0 in
+    ap (λ (p : ℕ). (bit (is_blank b) + 2 * m) / p) twice ∙ sym (div-div-eq-div-mul (bit (is_blank b) + 2 * m) 2 (2 ^ n))
+    ∙ ap (λ (x : ℕ). x / 2 ^ n) (halves (is_blank b) m).0 in
     half ∙ top_bit n (b == 32) v (omega (arith, size)) rest
   where
     by : (t : Bool) → cond t false (has_single_spaces (b == 32) v) ≡ true → has_single_spaces (b == 32) v ≡ true
@@ -207,9 +218,12 @@ top_bit (suc n) blank (b ∷ v) size spaced =
     by false h = h
 
 pub chunk_spaced : (blank : Bool) (bytes : List ℕ) (at : ℕ) → at + 64 ≤ length bytes
-    → is_single_spaced blank (drop at bytes) ≡ cond (has_single_spaces blank (chunk at 64 bytes)) (is_single_spaced (last_blank blank (chunk at 64 bytes)) (drop (at + 64) bytes)) false
+    → is_single_spaced blank (drop at bytes) ≡ cond (has_single_spaces blank (chunk at 64 bytes))
+    (is_single_spaced (last_blank blank (chunk at 64 bytes)) (drop (at + 64) bytes)) false
 chunk_spaced blank bytes at room =
-    ap (is_single_spaced blank) (sym (take-append-drop 64 (drop at bytes)) ∙ ap (λ (l : List ℕ). chunk at 64 bytes ++ l) (drop-drop 64 at bytes)) ∙ spaced_append blank (chunk at 64 bytes) (drop (at + 64) bytes)
+    ap (is_single_spaced blank) (sym (take-append-drop 64 (drop at bytes))
+    ∙ ap (λ (l : List ℕ). chunk at 64 bytes ++ l) (drop-drop 64 at bytes))
+    ∙ spaced_append blank (chunk at 64 bytes) (drop (at + 64) bytes)
 
 pub bit_is : (b : Bool) → (bit b == 1) ≡ b
 bit_is true = refl
@@ -268,12 +282,14 @@ or_less [] some = absurd (omega (arith, some))
 or_less (true ∷ bits) some =
     let m = mask_l bits in
     let less : bit true + 2 * m - 1 ≡ bit false + 2 * m = omega arith in
-    let or_is : bit_or (bit true + 2 * m) (bit true + 2 * m - 1) ≡ bit true + 2 * m = ap (bit_or (bit true + 2 * m)) less ∙ or_bits true false m m ∙ ap (λ (x : ℕ). bit true + 2 * x) (or_self m) in
+    let or_is : bit_or (bit true + 2 * m) (bit true + 2 * m - 1) ≡ bit true + 2 * m = ap (bit_or (bit true + 2 * m))
+    less ∙ or_bits true false m m ∙ ap (λ (x : ℕ). bit true + 2 * x) (or_self m) in
     omega (arith, or_is, plus_one bits)
 or_less (false ∷ bits) some =
     let m = mask_l bits in
     let less : bit false + 2 * m - 1 ≡ bit true + 2 * (m - 1) = omega (arith, some) in
-    let or_is : bit_or (bit false + 2 * m) (bit false + 2 * m - 1) ≡ bit true + 2 * bit_or m (m - 1) = ap (bit_or (bit false + 2 * m)) less ∙ or_bits false true m (m - 1) in
+    let or_is : bit_or (bit false + 2 * m) (bit false + 2 * m - 1) ≡ bit true + 2 * bit_or m (m - 1) = ap
+    (bit_or (bit false + 2 * m)) less ∙ or_bits false true m (m - 1) in
     omega (arith, or_is, or_less bits (omega (arith, some)))
 
 and_ones : (bits : List Bool) → bit_and (mask_l bits) (mask_l (after_ones bits)) ≡ mask_l (clear_ones bits)
@@ -296,9 +312,6 @@ length-after_run [] = omega arith
 length-after_run (true ∷ bits) = omega (arith, length-after_ones bits)
 length-after_run (false ∷ bits) = omega (arith, length-after_run bits)
 
-some_after_ones : (bits : List Bool) → 0 < mask_l (after_ones bits)
-some_after_ones bits = omega (arith, plus_one bits)
-
 some_after_run : (bits : List Bool) → 0 < mask_l bits → 0 < mask_l (after_run bits)
 some_after_run bits some = omega (arith, or_less bits some)
 
@@ -318,7 +331,8 @@ word_start v = prefix_len not (marks v)
 abbrev word_end : List ℕ → ℕ
 word_end v = prefix_len not (after_run (marks v))
 
-split_byte : (b : ℕ) (v : List ℕ) {t : Bool} → is_blank b ≡ t → slice_split is_blank (b ∷ v) ≡ cond t ([] ∷ slice_split is_blank v) (onto_first b (slice_split is_blank v))
+split_byte : (b : ℕ) (v : List ℕ) {t : Bool} → is_blank b ≡ t
+    → slice_split is_blank (b ∷ v) ≡ cond t ([] ∷ slice_split is_blank v) (onto_first b (slice_split is_blank v))
 split_byte b v e = ap (λ (t : Bool). cond t ([] ∷ slice_split is_blank v) (onto_first b (slice_split is_blank v))) e
 
 -- the bytes continue a word for `size` bytes
@@ -335,7 +349,8 @@ record InWord (v : List ℕ) (size : ℕ) (cleared : List Bool) : Type 0 where
 letter_is : (blank : Bool) (b : ℕ) (v : List ℕ) → is_blank b ≡ false → is_single_spaced blank (b ∷ v) ≡ true → is_single_spaced false v ≡ true
 letter_is blank b v here spaced = by (b == 9) (b == 32) blank here spaced
   where
-    by : (tab space blank : Bool) → (space || tab) ≡ false → cond (tab || (blank && space)) false (is_single_spaced space v) ≡ true → is_single_spaced false v ≡ true
+    by : (tab space blank : Bool) → (space || tab) ≡ false → cond (tab || (blank && space)) false
+        (is_single_spaced space v) ≡ true → is_single_spaced false v ≡ true
     by true true blank h s = absurd (false≢true (sym h))
     by true false blank h s = absurd (false≢true (sym h))
     by false true blank h s = absurd (false≢true (sym h))
@@ -346,7 +361,8 @@ in_word : (v : List ℕ) → InWord v (prefix_len not (after_ones (marks v))) (c
 in_word [] = record { high = omega arith; more = []; split = refl; words = refl; rest = refl; next = λ s. s; spaced = λ s. refl }
 in_word (b ∷ v) = by (in_word v) (is_blank b) refl
   where
-    by : InWord v (prefix_len not (after_ones (marks v))) (clear_ones (marks v)) → (t : Bool) → is_blank b ≡ t → InWord (b ∷ v) (prefix_len not (after_ones (not t ∷ marks v))) (clear_ones (not t ∷ marks v))
+    by : InWord v (prefix_len not (after_ones (marks v))) (clear_ones (marks v)) → (t : Bool) → is_blank b ≡ t
+        → InWord (b ∷ v) (prefix_len not (after_ones (not t ∷ marks v))) (clear_ones (not t ∷ marks v))
     by w true e =
         let split = split_byte b v e in
         record {
@@ -393,7 +409,8 @@ word_at (b ∷ v) some = by (word_at v) (is_blank b) refl some
         let size : suc end - suc start ≡ end - start = omega arith in
         let one : suc start ≡ 1 + start = omega arith in
         let one_end : suc end ≡ 1 + end = omega arith in
-        subst (λ (k : ℕ). WordAt (b ∷ v) k (1 + end) (false ∷ clear_run (marks v))) one (subst (λ (k : ℕ). WordAt (b ∷ v) (suc start) k (false ∷ clear_run (marks v))) one_end (record {
+        subst (λ (k : ℕ). WordAt (b ∷ v) k (1 + end) (false ∷ clear_run (marks v))) one
+        (subst (λ (k : ℕ). WordAt (b ∷ v) (suc start) k (false ∷ clear_run (marks v))) one_end (record {
           low = omega (arith, w.low);
           high = omega (arith, w.high);
           is = ap (filter is_nonempty) (split_byte b v e) ∙ w.is ∙ ap (λ (n : ℕ). take n (drop start v) ∷ join_fields None (drop end v)) (sym size);
@@ -443,7 +460,8 @@ from_clear (suc n) bits = ap (λ (l : List Bool). false ∷ l) (from_clear n bit
 
 from_from : (m n : ℕ) (bits : List Bool) → from m (from n bits) ≡ from (m + n) bits
 from_from zero n bits = ap (λ (k : ℕ). from k bits) (omega arith)
-from_from (suc m) n bits = let more : suc (m + n) ≡ suc m + n = omega arith in ap (λ (l : List Bool). false ∷ l) (from_from m n bits) ∙ ap (λ (k : ℕ). from k bits) more
+from_from (suc m) n bits = let more : suc (m + n) ≡ suc m + n =
+    omega arith in ap (λ (l : List Bool). false ∷ l) (from_from m n bits) ∙ ap (λ (k : ℕ). from k bits) more
 
 from_some : (n : ℕ) (bits : List Bool) → 0 < mask_l (from n bits) → 0 < mask_l bits
 from_some zero bits some = some
@@ -492,7 +510,8 @@ module _ {line : List ℕ} {passed words : ℕ} (short : length line < 64) (left
 
   -- no words are left
   pub none_left : (number : ℕ) → words ≡ 0 → passed ≤ number - 1 → drop (number - 1) (join_fields None line) ≡ []
-  none_left number none le = none_past (join_fields None line) passed (number - 1) (left.fields ∙ no_words rest (from_none left.at (marks rest) (sym left.mask ∙ none))) le
+  none_left number none le = none_past (join_fields None line) passed (number - 1)
+      (left.fields ∙ no_words rest (from_none left.at (marks rest) (sym left.mask ∙ none))) le
 
   module _ (some : words ≢ 0) where
     some_bits : 0 < mask_l bits
@@ -511,7 +530,8 @@ module _ {line : List ℕ} {passed words : ℕ} (short : length line < 64) (left
     start_is = ap (count_trailing_zeros 64) left.mask ∙ lowest bits (omega (arith, bits_long, short)) some_bits ∙ from_prefix_len left.at (marks rest)
 
     end_is : count_trailing_zeros 64 after ≡ left.at + word_end rest
-    end_is = ap (count_trailing_zeros 64) after_is ∙ lowest (after_run bits) (omega (arith, length-after_run bits, bits_long, short)) (some_after_run bits some_bits)
+    end_is = ap (count_trailing_zeros 64) after_is ∙ lowest (after_run bits)
+        (omega (arith, length-after_run bits, bits_long, short)) (some_after_run bits some_bits)
         ∙ ap (prefix_len not) (from_after left.at (marks rest)) ∙ from_prefix_len left.at (after_run (marks rest))
 
     -- the first of them is passed
@@ -523,20 +543,25 @@ module _ {line : List ℕ} {passed words : ℕ} (short : length line < 64) (left
         record {
           at = left.at + end;
           within = omega (arith, w.high, length-drop left.at line, left.within);
-          mask = (λ i. bit_and (left.mask i) (after_is i)) ∙ and_run bits ∙ ap mask_l (from_clear left.at (marks rest) ∙ ap (from left.at) w.rest ∙ from_from left.at end (marks (drop end rest))
+          mask = (λ i. bit_and (left.mask i) (after_is i)) ∙ and_run bits
+              ∙ ap mask_l (from_clear left.at (marks rest) ∙ ap (from left.at) w.rest
+              ∙ from_from left.at end (marks (drop end rest))
               ∙ ap (λ (l : List ℕ). from (left.at + end) (marks l)) there);
           fields = sym (drop-drop 1 passed (join_fields None line)) ∙ ap (drop 1) (left.fields ∙ w.is) ∙ ap (join_fields None) there;
           spaced = λ s. (false, rw there at (w.next (left.spaced s).0 (left.spaced s).1));
         }
 
     -- the span of the first of them
-    pub word_found : (number : ℕ) → passed ≡ number - 1 → IsFieldAt None number line (record { start = count_trailing_zeros 64 words; end = count_trailing_zeros 64 after })
+    pub word_found : (number : ℕ) → passed ≡ number - 1 → IsFieldAt None number line
+        (record { start = count_trailing_zeros 64 words; end = count_trailing_zeros 64 after })
     word_found number is =
         let w = first_word in
         let start = word_start rest in
         let end = word_end rest in
-        let there : drop end rest ≡ drop (count_trailing_zeros 64 after) line = drop-drop end left.at line ∙ ap (λ (n : ℕ). drop n line) (omega (arith, end_is)) in
-        let here : drop start rest ≡ drop (count_trailing_zeros 64 words) line = drop-drop start left.at line ∙ ap (λ (n : ℕ). drop n line) (omega (arith, start_is)) in
+        let there : drop end rest ≡ drop (count_trailing_zeros 64 after) line = drop-drop end left.at line
+        ∙ ap (λ (n : ℕ). drop n line) (omega (arith, end_is)) in
+        let here : drop start rest ≡ drop (count_trailing_zeros 64 words) line = drop-drop start left.at line
+        ∙ ap (λ (n : ℕ). drop n line) (omega (arith, start_is)) in
         let size : end - start ≡ count_trailing_zeros 64 after - count_trailing_zeros 64 words = omega (arith, start_is, end_is) in
         record {
           more = join_fields None (drop end rest);

@@ -33,9 +33,11 @@ sorted_prefix_is cmp key (x ∷ y ∷ more) = let ih = sorted_prefix_is cmp key 
 
 -- the first disorder, by the length of the sorted prefix
 abbrev by_length : Cmp → Key → Option (List ℕ) → ℕ → Lines → Lines → Option FirstDisorder
-by_length cmp key last n part ls = if nat_lt (length part) (length ls) then Some (record { last_key = unwrap_or (last_or last (map key part)) []; line = (n + length part) + 1 }) else None
+by_length cmp key last n part ls = if nat_lt (length part) (length ls) then Some
+    (record { last_key = unwrap_or (last_or last (map key part)) []; line = (n + length part) + 1 }) else None
 
-by_length_is : (cmp : Cmp) (key : Key) (last : Option (List ℕ)) (n : ℕ) (ls : Lines) → by_length cmp key last n (sorted_after cmp key last ls) ls ≡ disorder_after cmp key last n ls
+by_length_is : (cmp : Cmp) (key : Key) (last : Option (List ℕ)) (n : ℕ) (ls : Lines)
+    → by_length cmp key last n (sorted_after cmp key last ls) ls ≡ disorder_after cmp key last n ls
 by_length_is cmp key last n [] = refl
 by_length_is cmp key last n (x ∷ w) = let ih = by_length_is cmp key (Some (key x)) (n + 1) w in grind (arith, nat_tests, ih)
 
@@ -50,7 +52,9 @@ pub record IsSortedUpTo (cmp : Cmp) (key : Key) (q : Lines) (last : Option (List
 pub sorted_up_to_none : {cmp : Cmp} {key : Key} → IsSortedUpTo cmp key [] None
 sorted_up_to_none {cmp} {key} = record { ordered = sorted_prefix_is cmp key; may_disorder = first_disorder_is cmp key }
 
-pub sorted_up_to_more : {cmp : Cmp} {key : Key} {q : Lines} {last : Option (List ℕ)} (x : List ℕ) → IsSortedUpTo cmp key q last → is_disordered cmp last (key x) ≡ false → IsSortedUpTo cmp key (q ++ x ∷ []) (Some (key x))
+pub sorted_up_to_more : {cmp : Cmp} {key : Key} {q : Lines} {last : Option (List ℕ)} (x : List ℕ)
+    → IsSortedUpTo cmp key q last → is_disordered cmp last (key x) ≡ false
+    → IsSortedUpTo cmp key (q ++ x ∷ []) (Some (key x))
 sorted_up_to_more {cmp} {key} {q} x b no_disorder = record {
   ordered = λ w. rw (append_assoc q (x ∷ []) w, b.ordered (x ∷ w), no_disorder, append_assoc q (x ∷ []) (sorted_after cmp key (Some (key x)) w));
   may_disorder = λ w. rw (append_assoc q (x ∷ []) w, b.may_disorder (x ∷ w), no_disorder, length_push q x);
@@ -66,8 +70,9 @@ pub after_from : (cmp : Cmp) (o : IsKeyOrder cmp) (key : Key) (k : List ℕ) (n 
 after_from cmp o key k n [] = (tt, tt)
 after_from cmp o key k n (x ∷ w) =
     let ih = after_from cmp o key (key x) (n + 1) w in
+    let (more, _) = ih in
     let weaker : is_gt (cmp k (key x)) ≡ false → EachKey (AtMost cmp k) key (sorted_after cmp key (Some (key x)) w) =
-    λ h. EachKey-weaker _ _ (λ y a. at_most_trans cmp o k (key x) y h a) _ _ ih.0 in
+    λ h. EachKey-weaker _ _ (λ y a. at_most_trans cmp o k (key x) y h a) _ _ more in
     grind (arith, ih, weaker, at_most_trans, self_at_most cmp o k)
 
 -- The lines that may follow in an input: any lines; lines with keys of at least k; none, since the input is out of
@@ -107,37 +112,62 @@ IsContinuation b w = Unit {0}
 pub may_follow_none : (cmp : Cmp) (key : Key) (b : Bound) → MayFollow cmp key b []
 may_follow_none cmp key b = grind arith
 
--- The lines `ls` are read, and `p` of them are processed: the sorted prefix of every list that continues `ls` is `p`,
--- followed by lines that the bound allows.
+-- the sorted prefix of the lines `all` is `p`, followed by lines that the bound allows, and so is their disorder
+pub record IsFuture (cmp : Cmp) (key : Key) (all p : Lines) (b : Bound) : Type 0 where
+  pub rest : Lines
+  pub is : sorted_prefix cmp key all ≡ p ++ rest
+  pub may_follow : MayFollow cmp key b rest
+  pub may_disorder : MayDisorder cmp b (first_disorder cmp key all)
+
+-- The lines `ls` are read, and `p` of them are processed: so it is for every list that continues `ls`.
 pub record IsProcessedPrefix (cmp : Cmp) (key : Key) (ls p : Lines) (b : Bound) : Type 0 where
-  pub future : (w : Lines) → IsContinuation b w → (r : Lines) × (sorted_prefix cmp key (ls ++ w) ≡ p ++ r) × MayFollow cmp key b r × MayDisorder cmp b (first_disorder cmp key (ls ++ w))
+  pub future : (w : Lines) → IsContinuation b w → IsFuture cmp key (ls ++ w) p b
 
 -- all lines read are processed
-pub processed_to_line : {cmp : Cmp} (o : IsKeyOrder cmp) {key : Key} {ls : Lines} {k : List ℕ} → IsSortedUpTo cmp key ls (Some k) → IsProcessedPrefix cmp key ls ls (AtLeast k)
+pub processed_to_line : {cmp : Cmp} (o : IsKeyOrder cmp) {key : Key} {ls : Lines} {k : List ℕ}
+    → IsSortedUpTo cmp key ls (Some k) → IsProcessedPrefix cmp key ls ls (AtLeast k)
 processed_to_line {cmp} o {key} {ls} {k} g = record {
   future = λ w _.
-      let a = after_from cmp o key k (length ls) w in (sorted_after cmp key (Some k) w, g.ordered w, a.0, rw (g.may_disorder w) a.1);
+      let (more, later) = after_from cmp o key k (length ls) w in
+      record {
+        rest = sorted_after cmp key (Some k) w;
+        is = g.ordered w;
+        may_follow = more;
+        may_disorder = rw (g.may_disorder w) later;
+      };
 }
 
 pub processed_all : {cmp : Cmp} {key : Key} {ls : Lines} {last : Option (List ℕ)} → IsSortedUpTo cmp key ls last → IsProcessedPrefix cmp key ls ls NothingMore
-processed_all g = record { future = λ w none. rw none ([], g.ordered [], refl, g.may_disorder []) }
+processed_all g = record {
+  future = λ w none. rw none
+      (record { rest = []; is = g.ordered []; may_follow = refl; may_disorder = g.may_disorder [] });
+}
 
 -- the current line is not yet processed
-pub processed_before_line : {cmp : Cmp} (o : IsKeyOrder cmp) {key : Key} {p : Lines} {x : List ℕ} → IsSortedUpTo cmp key (p ++ x ∷ []) (Some (key x)) → IsProcessedPrefix cmp key (p ++ x ∷ []) p (AtLeast (key x))
+pub processed_before_line : {cmp : Cmp} (o : IsKeyOrder cmp) {key : Key} {p : Lines} {x : List ℕ}
+    → IsSortedUpTo cmp key (p ++ x ∷ []) (Some (key x)) → IsProcessedPrefix cmp key (p ++ x ∷ []) p (AtLeast (key x))
 processed_before_line {cmp} o {key} {p} {x} g = record {
   future = λ w _.
-      let a = after_from cmp o key (key x) (length (p ++ x ∷ [])) w in (
-        x ∷ sorted_after cmp key (Some (key x)) w,
-        g.ordered w ∙ append_assoc p (x ∷ []) (sorted_after cmp key (Some (key x)) w),
-        (self_at_most cmp o (key x), a.0),
-        rw (g.may_disorder w) a.1,
-      );
+      let (more, later) = after_from cmp o key (key x) (length (p ++ x ∷ [])) w in
+      record {
+        rest = x ∷ sorted_after cmp key (Some (key x)) w;
+        is = g.ordered w ∙ append_assoc p (x ∷ []) (sorted_after cmp key (Some (key x)) w);
+        may_follow = (self_at_most cmp o (key x), more);
+        may_disorder = rw (g.may_disorder w) later;
+      };
 }
 
 -- the current line is out of order
 pub processed_to_disorder : {cmp : Cmp} {key : Key} {p : Lines} {k : List ℕ} (x : List ℕ) → IsSortedUpTo cmp key p (Some k) → is_gt (cmp k (key x)) ≡ true
     → IsProcessedPrefix cmp key (p ++ x ∷ []) p (AfterDisorder (record { last_key = k; line = length p + 1 }))
-processed_to_disorder {p = p} x g fell = record { future = λ w _. ([], rw (append_assoc p (x ∷ []) w, g.ordered (x ∷ w), fell), refl, rw (append_assoc p (x ∷ []) w, g.may_disorder (x ∷ w), fell)) }
+processed_to_disorder {p = p} x g fell = record {
+  future = λ w _. record {
+    rest = [];
+    is = rw (append_assoc p (x ∷ []) w, g.ordered (x ∷ w), fell);
+    may_follow = refl;
+    may_disorder = rw (append_assoc p (x ∷ []) w, g.may_disorder (x ∷ w), fell);
+  };
+}
 
 -- ---- the output
 
@@ -146,11 +176,11 @@ all_keys k = true
 
 filter_all : (w : List ℕ → Bool) (ks : Lines) → Each (λ k. w k ≡ true) ks → filter w ks ≡ ks
 filter_all w [] e = refl
-filter_all w (k ∷ ks) e = rw e.0 (ap (λ l. k ∷ l) (filter_all w ks e.1))
+filter_all w (k ∷ ks) (here, more) = rw here (ap (λ l. k ∷ l) (filter_all w ks more))
 
 filter_none : (w : List ℕ → Bool) (ks : Lines) → Each (λ k. w k ≡ false) ks → filter w ks ≡ []
 filter_none w [] e = refl
-filter_none w (k ∷ ks) e = rw e.0 (filter_none w ks e.1)
+filter_none w (k ∷ ks) (here, more) = rw here (filter_none w ks more)
 
 -- keys in order, without repetition
 abbrev pub Ascends : Cmp → Lines → Type 0
@@ -164,22 +194,28 @@ IsDownwardClosed cmp w = (a b : List ℕ) → cmp b a ≡ Greater → w b ≡ tr
 module _ (cmp : Cmp) (o : IsKeyOrder cmp) where
   ascends_insert : (k : List ℕ) (ks : Lines) → Ascends cmp ks → Ascends cmp (insert_key cmp k ks)
   ascends_insert k [] a = (tt, tt)
-  ascends_insert k (x ∷ ks) a = elim (cmp k x) as (λ r. cmp k x ≡ r → Ascends cmp (match_ordering r (k ∷ x ∷ ks) (x ∷ ks) (x ∷ insert_key cmp k ks))) [
-    | Less ↦ λ e. ((less_flips cmp o k x e, Each-weaker _ _ (λ y h. above_trans cmp o k x y (ap is_gt e) h) _ a.0), a)
-    | Equal ↦ λ e. a
-    | Greater ↦ λ e. (Each-insert cmp (Above cmp x) k ks e a.0, ascends_insert k ks a.1)
-  ] refl
+  ascends_insert k (x ∷ ks) (above, more) = elim (cmp k x) as (λ r. cmp k x ≡ r
+      → Ascends cmp (match_ordering r (k ∷ x ∷ ks) (x ∷ ks) (x ∷ insert_key cmp k ks))) [
+        | Less ↦ λ e. (
+          (less_flips cmp o k x e, Each-weaker _ _ (λ y h. above_trans cmp o k x y (ap is_gt e) h) _ above),
+          (above, more),
+        )
+        | Equal ↦ λ e. (above, more)
+        | Greater ↦ λ e. (Each-insert cmp (Above cmp x) k ks e above, ascends_insert k ks more)
+      ] refl
 
   pub ascends_distinct : (ks : Lines) → Ascends cmp (distinct_keys cmp ks)
   ascends_distinct [] = tt
   ascends_distinct (k ∷ ks) = ascends_insert k (distinct_keys cmp ks) (ascends_distinct ks)
 
   -- the keys that pass the test come first
-  downward_first : (w p : List ℕ → Bool) → IsDownwardClosed cmp p → (ks : Lines) → Ascends cmp ks → filter w ks ≡ filter (λ k. w k && p k) ks ++ filter (λ k. w k && not (p k)) ks
+  downward_first : (w p : List ℕ → Bool) → IsDownwardClosed cmp p → (ks : Lines) → Ascends cmp ks
+      → filter w ks ≡ filter (λ k. w k && p k) ks ++ filter (λ k. w k && not (p k)) ks
   downward_first w p down [] a = refl
-  downward_first w p down (k ∷ ks) a =
-      let ih = downward_first w p down ks a.1 in
-      let none : p k ≡ false → filter (λ y. w y && p y) ks ≡ [] = λ h. filter_none _ ks (Each-weaker _ _ (not_above h) _ a.0) in
+  downward_first w p down (k ∷ ks) (above, more) =
+      let ih = downward_first w p down ks more in
+      let none : p k ≡ false → filter (λ y. w y && p y) ks ≡ [] = λ h. filter_none _ ks
+      (Each-weaker _ _ (not_above h) _ above) in
       grind (arith, ih, none)
     where
       not_above : p k ≡ false → (y : List ℕ) → cmp y k ≡ Greater → (w y && p y) ≡ false
@@ -189,51 +225,65 @@ module _ (cmp : Cmp) (o : IsKeyOrder cmp) where
   pub under_fall : (b : Bound) (k : List ℕ) (f : Option FirstDisorder) → IsUnder cmp b k → MayDisorder cmp b f → IsDisorderFrom cmp k f
   under_fall b k f u h = grind (arith, at_most_trans)
 
-  pub up_to_from : (k : List ℕ) (f1 f2 : Option FirstDisorder) → IsDisorderFrom cmp k f1 → IsDisorderFrom cmp k f2 → is_up_to cmp (earlier_disorder cmp f1 f2) k ≡ true
+  pub up_to_from : (k : List ℕ) (f1 f2 : Option FirstDisorder) → IsDisorderFrom cmp k f1 → IsDisorderFrom cmp k f2
+      → is_up_to cmp (earlier_disorder cmp f1 f2) k ≡ true
   up_to_from k f1 f2 h1 h2 = grind (arith, at_most_is_le)
 
-  pub written_is_wanted : (b1 b2 : Bound) (f1 f2 : Option FirstDisorder) (k : List ℕ) → MayDisorder cmp b1 f1 → MayDisorder cmp b2 f2 → IsUnder cmp b1 k → IsUnder cmp b2 k → is_up_to cmp (earlier_disorder cmp f1 f2) k ≡ true
+  pub written_is_wanted : (b1 b2 : Bound) (f1 f2 : Option FirstDisorder) (k : List ℕ) → MayDisorder cmp b1 f1
+      → MayDisorder cmp b2 f2 → IsUnder cmp b1 k → IsUnder cmp b2 k → is_up_to cmp (earlier_disorder cmp f1 f2) k ≡ true
   written_is_wanted b1 b2 f1 f2 k h1 h2 u1 u2 = up_to_from k f1 f2 (under_fall b1 k f1 u1 h1) (under_fall b2 k f2 u2 h2)
 
 module _ (tool : MergeTool) where
-  pub all_wanted : (w : List ℕ → Bool) (p : Side → Lines) → ((side : Side) → EachKey (λ k. w k ≡ true) (tool.key side) (p side)) → entries_by_key tool w p ≡ entries_by_key tool all_keys p
+  open tool use {cmp, key}
+
+  pub all_wanted : (w : List ℕ → Bool) (p : Side → Lines) → ((side : Side)
+      → EachKey (λ k. w k ≡ true) (key side) (p side)) → entries_by_key tool w p ≡ entries_by_key tool all_keys p
   all_wanted w p e =
-      let ks = distinct_keys tool.cmp (keys tool p) in
+      let ks = distinct_keys cmp (keys tool p) in
       let pass = filter_all w ks (Each-distinct _ _ _ (Each-append _ _ _ (e First) (e Second))) in
       ap (flat_map (entries_of_key tool p)) (pass ∙ sym (filter_all all_keys ks (Each-all _ (λ k. refl) ks)))
 
-  pub none_wanted : (w : List ℕ → Bool) (r : Side → Lines) → ((side : Side) → EachKey (λ k. w k ≡ false) (tool.key side) (r side)) → entries_by_key tool w r ≡ []
-  none_wanted w r e = ap (flat_map (entries_of_key tool r)) (filter_none w (distinct_keys tool.cmp (keys tool r)) (Each-distinct _ _ _ (Each-append _ _ _ (e First) (e Second))))
+  pub none_wanted : (w : List ℕ → Bool) (r : Side → Lines) → ((side : Side)
+      → EachKey (λ k. w k ≡ false) (key side) (r side)) → entries_by_key tool w r ≡ []
+  none_wanted w r e = ap (flat_map (entries_of_key tool r)) (filter_none w (distinct_keys cmp (keys tool r))
+      (Each-distinct _ _ _ (Each-append _ _ _ (e First) (e Second))))
 
   -- the entries of the keys that pass the test come first
-  pub downward_splits : IsKeyOrder tool.cmp → (w p : List ℕ → Bool) → IsDownwardClosed tool.cmp p → (ls : Side → Lines)
+  pub downward_splits : IsKeyOrder cmp → (w p : List ℕ → Bool) → IsDownwardClosed cmp p → (ls : Side → Lines)
       → entries_by_key tool w ls ≡ entries_by_key tool (λ k. w k && p k) ls ++ entries_by_key tool (λ k. w k && not (p k)) ls
   downward_splits o w p down ls =
-      let ks = distinct_keys tool.cmp (keys tool ls) in
-      ap (flat_map (entries_of_key tool ls)) (downward_first tool.cmp o w p down ks (ascends_distinct tool.cmp o (keys tool ls)))
+      let ks = distinct_keys cmp (keys tool ls) in
+      ap (flat_map (entries_of_key tool ls)) (downward_first cmp o w p down ks (ascends_distinct cmp o (keys tool ls)))
       ∙ flat_map-append (entries_of_key tool ls) (filter (λ k. w k && p k) ks) (filter (λ k. w k && not (p k)) ks)
 
-  pub downward_is_prefix : IsKeyOrder tool.cmp → (w : List ℕ → Bool) → IsDownwardClosed tool.cmp w → (p : Side → Lines) → (rest : Lines) × (entries_by_key tool all_keys p ≡ entries_by_key tool w p ++ rest)
+  pub downward_is_prefix : IsKeyOrder cmp → (w : List ℕ → Bool) → IsDownwardClosed cmp w → (p : Side → Lines)
+      → (rest : Lines) × (entries_by_key tool all_keys p ≡ entries_by_key tool w p ++ rest)
   downward_is_prefix o w down p = (entries_by_key tool (λ k. not (w k)) p, downward_splits o all_keys w down p)
 
   -- the lines that may follow in both inputs
   abbrev pub MayCome : (Side → Bound) → (Side → Lines) → Type 0
-  MayCome b r = (side : Side) → MayFollow tool.cmp (tool.key side) (b side) (r side)
+  MayCome b r = (side : Side) → MayFollow cmp (key side) (b side) (r side)
 
   -- For all lines that may follow, and for every choice of keys, the entries of the processed lines come first.
   pub record Splits (b : Side → Bound) (p : Side → Lines) : Type 0 where
-    pub split : (w : List ℕ → Bool) (r : Side → Lines) → ((side : Side) → MayFollow tool.cmp (tool.key side) (b side) (r side))
+    pub split : (w : List ℕ → Bool) (r : Side → Lines) → ((side : Side) → MayFollow cmp (key side) (b side) (r side))
         → entries_by_key tool w (λ side. p side ++ r side) ≡ entries_by_key tool w p ++ entries_by_key tool w r
 
   -- lines are processed whose entries precede those of all lines that may follow
   pub splits_step : (b d : Side → Bound) (p f : Side → Lines) → Splits b p
-      → ((side : Side) (r : Lines) → MayFollow tool.cmp (tool.key side) (d side) r → MayFollow tool.cmp (tool.key side) (b side) (f side ++ r))
-      → ((w : List ℕ → Bool) (r : Side → Lines) → MayCome d r → entries_by_key tool w (λ side. f side ++ r side) ≡ entries_by_key tool w f ++ entries_by_key tool w r) → Splits d (λ side. p side ++ f side)
+      → ((side : Side) (r : Lines) → MayFollow cmp (key side) (d side) r
+      → MayFollow cmp (key side) (b side) (f side ++ r))
+      → ((w : List ℕ → Bool) (r : Side → Lines) → MayCome d r
+      → entries_by_key tool w (λ side. f side ++ r side) ≡ entries_by_key tool w f ++ entries_by_key tool w r)
+      → Splits d (λ side. p side ++ f side)
   splits_step b d p f s u front = record {
     split = λ w r c.
-        let none = λ (side : Side). rw append-nil at (u side [] (may_follow_none tool.cmp (tool.key side) (d side))) in
-        (λ i. entries_by_key tool w (λ side. append_assoc (p side) (f side) (r side) i)) ∙ s.split w (λ side. f side ++ r side) (λ side. u side (r side) (c side))
-        ∙ ap (λ l. entries_by_key tool w p ++ l) (front w r c) ∙ sym (append_assoc (entries_by_key tool w p) (entries_by_key tool w f) (entries_by_key tool w r)) ∙ ap (λ l. l ++ entries_by_key tool w r) (sym (s.split w f none));
+        let none = λ (side : Side). rw append-nil at (u side [] (may_follow_none cmp (key side) (d side))) in
+        (λ i. entries_by_key tool w (λ side. append_assoc (p side) (f side) (r side) i))
+        ∙ s.split w (λ side. f side ++ r side) (λ side. u side (r side) (c side))
+        ∙ ap (λ l. entries_by_key tool w p ++ l) (front w r c)
+        ∙ sym (append_assoc (entries_by_key tool w p) (entries_by_key tool w f) (entries_by_key tool w r))
+        ∙ ap (λ l. l ++ entries_by_key tool w r) (sym (s.split w f none));
   }
 
 -- ---- the bytes written
@@ -286,18 +336,30 @@ pub record IsLeastKeyRun (cmp : Cmp) (key : Key) (b : Bound) (k : List ℕ) (f :
   pub under : IsUnder cmp b k
 
 -- the current line, or no line
-pub line_is_least_run : {cmp : Cmp} (o : IsKeyOrder cmp) {key : Key} {b : Bound} {k x : List ℕ} → b ≡ AtLeast (key x) → key x ≡ k → IsLeastKeyRun cmp key b k (x ∷ [])
-line_is_least_run {cmp} o {key} {x = x} is same = rw (is, ← same) (record { own = (refl, tt); may_follow = λ r c. (self_at_most cmp o (key x), c); bound_after = λ r c. c; under = self_at_most cmp o (key x) })
+pub line_is_least_run : {cmp : Cmp} (o : IsKeyOrder cmp) {key : Key} {b : Bound} {k x : List ℕ} → b ≡ AtLeast (key x)
+    → key x ≡ k → IsLeastKeyRun cmp key b k (x ∷ [])
+line_is_least_run {cmp} o {key} {x = x} is same = rw (is, ← same)
+    (record {
+      own = (refl, tt);
+      may_follow = λ r c. (self_at_most cmp o (key x), c);
+      bound_after = λ r c. c;
+      under = self_at_most cmp o (key x);
+    })
 
 -- such lines are processed
 pub write_least_run : {tool : MergeTool} (o : IsKeyOrder tool.cmp) (k : List ℕ) (q f : Side → Lines) {b : Side → Bound} {p : Side → Lines} {was is new : Output}
     → ((side : Side) → IsLeastKeyRun tool.cmp (tool.key side) (b side) k (f side)) → ((side : Side) → q side ≡ p side ++ f side) → tool.entries k [] [] ≡ []
     → ((r : Side → Lines) → ((side : Side) → MayFollow tool.cmp (tool.key side) (b side) (r side))
-    → tool.entries k (f First ++ lines_with_key (tool.key First) (r First) k) (f Second ++ lines_with_key (tool.key Second) (r Second) k) ≡ tool.entries k (f First) (f Second) ++ entries_of_key tool r k)
-    → is.write_failed ≡ false → MergeInvariant tool b p was is → PushEffect is new (unlines tool.terminator (entries_by_key tool all_keys f)) → MergeInvariant tool b q was new × LagInvariant tool b q was new
+    → tool.entries k (f First ++ lines_with_key (tool.key First) (r First) k)
+    (f Second ++ lines_with_key (tool.key Second) (r Second) k) ≡ tool.entries k (f First) (f Second) ++ entries_of_key
+    tool r k)
+    → is.write_failed ≡ false → MergeInvariant tool b p was is
+    → PushEffect is new (unlines tool.terminator (entries_by_key tool all_keys f)) → MergeInvariant tool b q was new
+    × LagInvariant tool b q was new
 write_least_run {tool} o k q f {b} {p} {was} {is} {new} front all none law clean m wrote =
     let nothing = λ (side : Side). rw append-nil at ((front side).may_follow [] (may_follow_none tool.cmp (tool.key side) (b side))) in
-    let texts = ap (unlines tool.terminator) (m.splits.split all_keys f nothing) ∙ unlines-append tool.terminator (entries_by_key tool all_keys p) (entries_by_key tool all_keys f) in
+    let texts = ap (unlines tool.terminator) (m.splits.split all_keys f nothing)
+    ∙ unlines-append tool.terminator (entries_by_key tool all_keys p) (entries_by_key tool all_keys f) in
     subst (λ (l : Side → Lines). MergeInvariant tool b l was new × LagInvariant tool b l was new) (λ i side. sym (all side) i) (
       record {
         splits = splits_step tool b b p f m.splits (λ side. (front side).may_follow)
@@ -322,19 +384,23 @@ write_least_run {tool} o k q f {b} {p} {was} {is} {new} front all none law clean
 
 -- an input advanced
 pub bound_changes : {tool : MergeTool} {b : Side → Bound} {p : Side → Lines} {was is : Output} (s : Side) (d : Bound) → MergeInvariant tool b p was is
-    → ((r : Lines) → MayFollow tool.cmp (tool.key s) d r → MayFollow tool.cmp (tool.key s) (b s) r) → ((k : List ℕ) → IsUnder tool.cmp (b s) k → IsUnder tool.cmp d k) → MergeInvariant tool (with_side s d b) p was is
+    → ((r : Lines) → MayFollow tool.cmp (tool.key s) d r → MayFollow tool.cmp (tool.key s) (b s) r)
+    → ((k : List ℕ) → IsUnder tool.cmp (b s) k → IsUnder tool.cmp d k) → MergeInvariant tool (with_side s d b) p was is
 bound_changes {tool} {b} {p} s d m may_follow under = record {
   splits = record {
     split = λ w r c.
-        m.splits.split w r (λ side. put_each (λ t e. MayFollow tool.cmp (tool.key t) e (r t) → MayFollow tool.cmp (tool.key t) (b t) (r t)) s d b (may_follow (r s)) (λ t h. h) side (c side));
+        m.splits.split w r (λ side. put_each (λ t e. MayFollow tool.cmp (tool.key t) e (r t)
+        → MayFollow tool.cmp (tool.key t) (b t) (r t)) s d b (may_follow (r s)) (λ t h. h) side (c side));
   };
-  under = λ of side. put_each (λ t e. EachKey (IsUnder tool.cmp e) (tool.key side) (p side)) s d b (EachKey-weaker _ _ under _ _ (m.under s side)) (λ t. m.under t side) of;
+  under = λ of side. put_each (λ t e. EachKey (IsUnder tool.cmp e) (tool.key side) (p side)) s d b
+      (EachKey-weaker _ _ under _ _ (m.under s side)) (λ t. m.under t side) of;
   wrote = m.wrote;
 }
 
 -- the merge is at its end: the disorder is the reported one, and no line that may follow changes the output
 abbrev pub IsExactStop : MergeTool → (Side → Bound) → Side → ℕ → Type 0
-IsExactStop tool b side number = (ls r : Side → Lines) → ((s : Side) → MayFollow tool.cmp (tool.key s) (b s) (r s)) → ((s : Side) → MayDisorder tool.cmp (b s) (first_disorder tool.cmp (tool.key s) (ls s)))
+IsExactStop tool b side number = (ls r : Side → Lines) → ((s : Side) → MayFollow tool.cmp (tool.key s) (b s) (r s))
+    → ((s : Side) → MayDisorder tool.cmp (b s) (first_disorder tool.cmp (tool.key s) (ls s)))
     → (entries_by_key tool (is_up_to tool.cmp (disorder tool ls)) r ≡ []) × IsDisorderAt (disorder tool ls) side number
 
 -- ---- the decided output
@@ -342,14 +408,17 @@ IsExactStop tool b side number = (ls r : Side → Lines) → ((s : Side) → May
 pub is_continuation : (b : Bound) (w : Lines) → (b ≡ NothingMore → w ≡ []) → IsContinuation b w
 is_continuation b w h = grind arith
 
-pub both_under : (key : Key) (P Q R : List ℕ → Type 0) → ((k : List ℕ) → P k → Q k → R k) → (xs : Lines) → EachKey P key xs → EachKey Q key xs → EachKey R key xs
+pub both_under : (key : Key) (P Q R : List ℕ → Type 0) → ((k : List ℕ) → P k → Q k → R k) → (xs : Lines)
+    → EachKey P key xs → EachKey Q key xs → EachKey R key xs
 both_under key P Q R f [] p q = tt
-both_under key P Q R f (x ∷ xs) p q = (f (key x) p.0 q.0, both_under key P Q R f xs p.1 q.1)
+both_under key P Q R f (x ∷ xs) (p, more1) (q, more2) = (f (key x) p q, both_under key P Q R f xs more1 more2)
 
 -- a property of each key holds for the last key
-pub last_has : (key : Key) (P : List ℕ → Type 0) (last : Option (List ℕ)) (xs : Lines) (x : List ℕ) → last_or last (map key xs) ≡ Some x → ((y : List ℕ) → last ≡ Some y → P y) → EachKey P key xs → P x
+pub last_has : (key : Key) (P : List ℕ → Type 0) (last : Option (List ℕ)) (xs : Lines) (x : List ℕ)
+    → last_or last (map key xs) ≡ Some x → ((y : List ℕ) → last ≡ Some y → P y) → EachKey P key xs → P x
 last_has key P last [] x e f h = f x e
-last_has key P last (y ∷ xs) x e f h = last_has key P (Some (key y)) xs x e (λ z same. (let is : key y ≡ z = cc in subst P is h.0)) h.1
+last_has key P last (y ∷ xs) x e f (here, more) =
+    last_has key P (Some (key y)) xs x e (λ z same. (let is : key y ≡ z = cc in subst P is here)) more
 
 module _ (cmp : Cmp) (o : IsKeyOrder cmp) where
   pub not_below : (k x : List ℕ) → AtMost cmp x k → is_lt (cmp k x) ≡ false
@@ -365,13 +434,14 @@ module _ (cmp : Cmp) (o : IsKeyOrder cmp) where
   -- no line that may follow in one input is below the last processed key of the other
   pub past_none : (key other_key : Key) (b : Bound) (p r : Lines) → EachKey (IsUnder cmp b) key p → MayFollow cmp other_key b r
       → EachKey (λ k. is_below cmp k (last_or None (map key p)) ≡ false) other_key r
-  past_none key other_key b p r u c = elim (last_or None (map key p)) as (λ l. last_or None (map key p) ≡ l → EachKey (λ k. is_below cmp k l ≡ false) other_key r) [
-    | None ↦ λ e. Each-all (λ k. false ≡ false) (λ k. refl) (map other_key r)
-    | Some x ↦ λ e. (
-        let ux = last_has key (IsUnder cmp b) None p x e (λ y bad. cc) u in
-        EachKey-weaker _ _ (λ k h. not_below k x h) _ _ (coming_under other_key b x r ux c)
-        )
-  ] refl
+  past_none key other_key b p r u c = elim (last_or None (map key p)) as (λ l. last_or None (map key p) ≡ l
+      → EachKey (λ k. is_below cmp k l ≡ false) other_key r) [
+        | None ↦ λ e. Each-all (λ k. false ≡ false) (λ k. refl) (map other_key r)
+        | Some x ↦ λ e. (
+            let ux = last_has key (IsUnder cmp b) None p x e (λ y bad. cc) u in
+            EachKey-weaker _ _ (λ k h. not_below k x h) _ _ (coming_under other_key b x r ux c)
+            )
+      ] refl
 
   -- the tests of `is_decided` hold for all keys below a key for which they hold
   downward_lt : (l a b : List ℕ) → cmp b a ≡ Greater → is_lt (cmp b l) ≡ true → is_lt (cmp a l) ≡ true
@@ -391,15 +461,20 @@ and_false : (x y z : Bool) → (y ≡ false) ⊎ (z ≡ false) → (x && y && z)
 and_false x y z e = grind arith
 
 module _ (tool : MergeTool) (o : IsKeyOrder tool.cmp) (eof : Side → Bool) (ls : Side → Lines) where
-  pub downward_decided : IsDownwardClosed tool.cmp (is_decided tool eof ls)
+  open tool use {cmp}
+
+  pub downward_decided : IsDownwardClosed cmp (is_decided tool eof ls)
   downward_decided a b g h =
-      all_three _ _ _ _ _ _ (downward_up_to tool.cmp o (disorder tool ls) a b g) (downward_past tool.cmp o (tool.key First) (eof First) (ls First) a b g)
-      (downward_past tool.cmp o (tool.key Second) (eof Second) (ls Second) a b g) h
+      all_three _ _ _ _ _ _ (downward_up_to cmp o (disorder tool ls) a b g)
+      (downward_past cmp o (tool.key First) (eof First) (ls First) a b g)
+      (downward_past cmp o (tool.key Second) (eof Second) (ls Second) a b g) h
 
   -- no key is decided unless it is past in this input
-  pub not_decided : (side : Side) (k : List ℕ) → is_past tool.cmp (tool.key side) (eof side) (ls side) k ≡ false → is_decided tool eof ls k ≡ false
+  pub not_decided : (side : Side) (k : List ℕ) → is_past cmp (tool.key side) (eof side) (ls side) k ≡ false
+      → is_decided tool eof ls k ≡ false
   not_decided First k e = and_false _ _ _ (inl e)
-  not_decided Second k e = and_false (is_up_to tool.cmp (disorder tool ls) k) (is_past tool.cmp (tool.key First) (eof First) (ls First) k) _ (inr e)
+  not_decided Second k e =
+      and_false (is_up_to cmp (disorder tool ls) k) (is_past cmp (tool.key First) (eof First) (ls First) k) _ (inr e)
 
 -- two lists that continue the lines read so far
 pub record InputSplit (tool : MergeTool) (b : Side → Bound) (p ls : Side → Lines) : Type 0 where
@@ -409,11 +484,13 @@ pub record InputSplit (tool : MergeTool) (b : Side → Bound) (p ls : Side → L
   pub may_disorder : (side : Side) → MayDisorder tool.cmp (b side) (first_disorder tool.cmp (tool.key side) (ls side))
 
 -- the entries of the processed lines come first, for all such lists
-pub input_split : {tool : MergeTool} (o : IsKeyOrder tool.cmp) {b : Side → Bound} {p ls : Side → Lines} {was is : Output} → MergeInvariant tool b p was is → (s : InputSplit tool b p ls)
+pub input_split : {tool : MergeTool} (o : IsKeyOrder tool.cmp) {b : Side → Bound} {p ls : Side → Lines}
+    {was is : Output} → MergeInvariant tool b p was is → (s : InputSplit tool b p ls)
     → merged_entries tool ls ≡ entries_by_key tool all_keys p ++ entries_by_key tool (is_up_to tool.cmp (disorder tool ls)) s.r
 input_split {tool} o {b} {p} {ls} m s =
     let w = is_up_to tool.cmp (disorder tool ls) in
     let first = all_wanted tool w p (λ side. both_under (tool.key side) (IsUnder tool.cmp (b First)) (IsUnder tool.cmp (b Second)) (λ k. w k ≡ true)
-    (λ k u1 u2. written_is_wanted tool.cmp o (b First) (b Second) (first_disorder tool.cmp (tool.key First) (ls First)) (first_disorder tool.cmp (tool.key Second) (ls Second)) k
+    (λ k u1 u2. written_is_wanted tool.cmp o (b First) (b Second) (first_disorder tool.cmp (tool.key First) (ls First))
+    (first_disorder tool.cmp (tool.key Second) (ls Second)) k
     (s.may_disorder First) (s.may_disorder Second) u1 u2) (p side) (m.under First side) (m.under Second side)) in
     (λ i. entries_by_key tool w (λ side. s.parts side i)) ∙ m.splits.split w s.r s.may_follow ∙ ap (λ l. l ++ entries_by_key tool w s.r) first

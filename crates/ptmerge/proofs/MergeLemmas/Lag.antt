@@ -28,29 +28,36 @@ sorted_from_after cmp key last (x ∷ ls) = let ih = sorted_from_after cmp key (
 sorted_from_prefix : (cmp : Cmp) (key : Key) (ls : Lines) → IsSortedFrom cmp key None (sorted_prefix cmp key ls)
 sorted_from_prefix cmp key ls = rw (sorted_prefix_is cmp key ls) (sorted_from_after cmp key None ls)
 
-sorted_from_parts : (cmp : Cmp) (key : Key) (last : Option (List ℕ)) (xs ys : Lines) → IsSortedFrom cmp key last (xs ++ ys) → IsSortedFrom cmp key last xs × IsSortedFrom cmp key (last_or last (map key xs)) ys
+sorted_from_parts : (cmp : Cmp) (key : Key) (last : Option (List ℕ)) (xs ys : Lines)
+    → IsSortedFrom cmp key last (xs ++ ys) → IsSortedFrom cmp key last xs
+    × IsSortedFrom cmp key (last_or last (map key xs)) ys
 sorted_from_parts cmp key last [] ys r = (tt, r)
-sorted_from_parts cmp key last (x ∷ xs) ys r = let ih = sorted_from_parts cmp key (Some (key x)) xs ys r.1 in ((r.0, ih.0), ih.1)
+sorted_from_parts cmp key last (x ∷ xs) ys (here, more) =
+    let (front, rest) = sorted_from_parts cmp key (Some (key x)) xs ys more in ((here, front), rest)
 
 -- such lines are their own sorted prefix, without a disorder
-sorted_from_whole : (cmp : Cmp) (key : Key) (last : Option (List ℕ)) (n : ℕ) (ls : Lines) → IsSortedFrom cmp key last ls → (sorted_after cmp key last ls ≡ ls) × (disorder_after cmp key last n ls ≡ None)
+sorted_from_whole : (cmp : Cmp) (key : Key) (last : Option (List ℕ)) (n : ℕ) (ls : Lines) → IsSortedFrom cmp key last ls
+    → (sorted_after cmp key last ls ≡ ls) × (disorder_after cmp key last n ls ≡ None)
 sorted_from_whole cmp key last n [] r = (refl, refl)
-sorted_from_whole cmp key last n (x ∷ ls) r = let ih = sorted_from_whole cmp key (Some (key x)) (n + 1) ls r.1 in rw r.0 (ap (λ (l : Lines). x ∷ l) ih.0, ih.1)
+sorted_from_whole cmp key last n (x ∷ ls) (here, more) = let (whole, none) =
+    sorted_from_whole cmp key (Some (key x)) (n + 1) ls more in rw here (ap (λ (l : Lines). x ∷ l) whole, none)
 
 sorted_from_start : (cmp : Cmp) (key : Key) (ls : Lines) → IsSortedFrom cmp key None ls → (sorted_prefix cmp key ls ≡ ls) × (first_disorder cmp key ls ≡ None)
-sorted_from_start cmp key ls r = let h = sorted_from_whole cmp key None 0 ls r in (sorted_prefix_is cmp key ls ∙ h.0, first_disorder_is cmp key ls ∙ h.1)
+sorted_from_start cmp key ls r = let (whole, none) =
+    sorted_from_whole cmp key None 0 ls r in (sorted_prefix_is cmp key ls ∙ whole, first_disorder_is cmp key ls ∙ none)
 
 module _ (cmp : Cmp) (o : IsKeyOrder cmp) (key : Key) where
   from_key : (k : List ℕ) (ls : Lines) → IsSortedFrom cmp key (Some k) ls → EachKey (AtMost cmp k) key ls
   from_key k [] r = tt
-  from_key k (x ∷ ls) r = (r.0, EachKey-weaker _ _ (λ y h. at_most_trans cmp o k (key x) y r.0 h) _ _ (from_key (key x) ls r.1))
+  from_key k (x ∷ ls) (here, more) =
+      (here, EachKey-weaker _ _ (λ y h. at_most_trans cmp o k (key x) y here h) _ _ (from_key (key x) ls more))
 
   -- no later key is below the last one
   none_below : (xs ys : Lines) → IsSortedFrom cmp key None (xs ++ ys) → EachKey (λ k. is_below cmp k (last_or None (map key xs)) ≡ false) key ys
   none_below xs ys r = elim (last_or None (map key xs)) as (λ l. IsSortedFrom cmp key l ys → EachKey (λ k. is_below cmp k l ≡ false) key ys) [
     | None ↦ λ h. Each-all (λ k. false ≡ false) (λ k. refl) (map key ys)
     | Some x ↦ λ h. EachKey-weaker _ _ (λ k a. not_below cmp o k x a) _ _ (from_key x ys h)
-  ] (sorted_from_parts cmp key None xs ys r).1
+  ] (let (_, rest) = sorted_from_parts cmp key None xs ys r in rest)
 
 -- ---- the bytes received
 
@@ -59,16 +66,18 @@ abbrev Shape : ℕ → List ℕ → Lines → Type 0
 Shape end given ls = AreLines end ls × ((given ≡ unlines end ls) ⊎ (given ++ end ∷ [] ≡ unlines end ls))
 
 shape_of : (end : ℕ) (given : List ℕ) (ls : Lines) (now : Reader) → IsReadAs end given ls now → Shape end given ls
-shape_of end given ls now (inl o) = (o.1, inl o.0)
-shape_of end given ls now (inr c) = let a = rw c.0 at (the_lines end given).0 in (a.0, ⊎_elim (λ e. inl (sym e)) (λ e. inr (sym e.2)) a.1)
+shape_of end given ls now (inl (is, all)) = (all, inl is)
+shape_of end given ls now (inr (is, _)) = let (all, ends) =
+    rw is at (the_lines end given).0 in (all, ⊎_elim (λ e. inl (sym e)) (λ (_, _, is). inr (sym is)) ends)
 
 last_of : {A : Type 0} (xs : List A) → (xs ≡ []) ⊎ ((front : List A) × (x : A) × (xs ≡ front ++ x ∷ []))
 last_of [] = inl refl
-last_of (x ∷ xs) = ⊎_elim (λ e. inr ([], x, ap (λ l. x ∷ l) e)) (λ e. inr (x ∷ e.0, e.1, ap (λ l. x ∷ l) e.2)) (last_of xs)
+last_of (x ∷ xs) = ⊎_elim (λ none. inr ([], x, ap (λ l. x ∷ l) none))
+    (λ (front, y, is). inr (x ∷ front, y, ap (λ l. x ∷ l) is)) (last_of xs)
 
 are_split : (end : ℕ) (xs : Lines) (x : List ℕ) → AreLines end (xs ++ x ∷ []) → AreLines end xs × IsLine end x
-are_split end [] x a = (tt, a.0)
-are_split end (y ∷ xs) x a = let t = are_split end xs x a.1 in ((a.0, t.0), t.1)
+are_split end [] x (line, _) = (tt, line)
+are_split end (y ∷ xs) x (line, more) = let (front, last) = are_split end xs x more in ((line, front), last)
 
 -- the input as it was at most two blocks earlier: all its complete lines are processed, and it has not ended
 pub record LagPoint (end : ℕ) (given : Received) (p : Lines) : Type 0 where
@@ -83,7 +92,8 @@ pub record LagPoint (end : ℕ) (given : Received) (p : Lines) : Type 0 where
 abbrev pub ProcessedNearly : Lines → Lines → List ℕ → Type 0
 ProcessedNearly ls p piece = (ls ≡ p) ⊎ ((x : List ℕ) × (ls ≡ p ++ x ∷ []) × (piece ≡ []))
 
-module _ (end : ℕ) (given piece : List ℕ) (ls p : Lines) (now new : Reader) (far : IsReadAs end given ls now) (free : IsLine end piece) (few : length new.buffered ≤ 8192) where
+module _ (end : ℕ) (given piece : List ℕ) (ls p : Lines) (now new : Reader) (far : IsReadAs end given ls now)
+    (free : IsLine end piece) (few : length new.buffered ≤ 8192) where
   -- the buffered bytes are left out
   unheld : (whole : Lines) (tail : List ℕ) → given ++ piece ≡ unlines end whole ++ tail → AreLines end whole → IsLine end tail → (rest : Lines) → p ≡ whole
       ++ rest → LagPoint end (received_with (given ++ piece) new) p
@@ -97,12 +107,14 @@ module _ (end : ℕ) (given piece : List ℕ) (ls p : Lines) (now new : Reader) 
   }
 
   -- the last line lacks its terminator
-  open_line : (w : Lines) (y : List ℕ) → ls ≡ w ++ y ∷ [] → AreLines end ls → given ++ end ∷ [] ≡ unlines end ls → (rest : Lines) → p ≡ w ++ rest → LagPoint end (received_with (given ++ piece) new) p
+  open_line : (w : Lines) (y : List ℕ) → ls ≡ w ++ y ∷ [] → AreLines end ls → given ++ end ∷ [] ≡ unlines end ls
+      → (rest : Lines) → p ≡ w ++ rest → LagPoint end (received_with (given ++ piece) new) p
   open_line w y last all is rest split =
-      let s = are_split end w y (rw last at all) in
+      let (lines, line) = are_split end w y (rw last at all) in
       let same : given ++ end ∷ [] ≡ (unlines end w ++ y) ++ end ∷ [] = is ∙ (rw (last, unlines_push end w y, append_assoc (unlines end w) y (end ∷ []))) in
       let ends : given ≡ unlines end w ++ y = append_cancel_right given (unlines end w ++ y) (end ∷ []) same in
-      unheld w (y ++ piece) (rw (ends, append_assoc (unlines end w) y piece)) s.0 (IsLine-append end y piece s.1 free) rest split
+      unheld w (y ++ piece) (rw (ends, append_assoc (unlines end w) y piece)) lines
+      (IsLine-append end y piece line free) rest split
 
   pub back : ProcessedNearly ls p piece → LagPoint end (received_with (given ++ piece) new) p
   back processed_nearly = by processed_nearly (shape_of end given ls now far)
@@ -111,21 +123,21 @@ module _ (end : ℕ) (given piece : List ℕ) (ls p : Lines) (now new : Reader) 
       by (inl e) (all, inl is) = unheld ls piece (rw is) all free [] (sym e ∙ sym (append-nil ls))
       by (inl e) (all, inr is) =
           ⊎_elim (λ none. (let bad : [] ≡ given ++ end ∷ [] = rw none at (sym is) in absurd (omega (arith, ap length bad, length-append given (end ∷ [])))))
-          (λ l. open_line l.0 l.1 l.2 all is (l.1 ∷ []) (sym e ∙ l.2)) (last_of ls)
-      by (inr e) (all, inr is) = open_line p e.0 e.1 all is [] (sym (append-nil p))
-      by (inr e) (all, inl is) =
-          let s = are_split end p e.0 (rw e.1 at all) in
+          (λ (w, y, last). open_line w y last all is (y ∷ []) (sym e ∙ last)) (last_of ls)
+      by (inr (y, split, _)) (all, inr is) = open_line p y split all is [] (sym (append-nil p))
+      by (inr (y, split, none)) (all, inl is) =
+          let (lines, line) = are_split end p y (rw split at all) in
           record {
             before = record {
-              earlier = record { bytes = unlines end p ++ e.0; eof = false };
+              earlier = record { bytes = unlines end p ++ y; eof = false };
               last = end ∷ new.buffered;
-              split = rw (e.2, append-nil given, is, e.1, unlines_push end p e.0) (simp append_assoc);
+              split = rw (none, append-nil given, is, split, unlines_push end p y) (simp append_assoc);
               short = omega (arith, few);
               eof = λ e. cc;
             };
             going = refl;
             whole = p;
-            whole_is = complete_lines_of_unlines end p e.0 s.0 s.1;
+            whole_is = complete_lines_of_unlines end p y lines line;
             rest = [];
             split = sym (append-nil p);
           }
@@ -135,7 +147,9 @@ module _ (end : ℕ) (given piece : List ℕ) (ls p : Lines) (now new : Reader) 
 -- two lists that differ only in lines that are left out
 kept_same : (w : List ℕ → Bool) (key : Key) (xs ys rest tail : Lines) → xs ++ rest ≡ ys ++ tail → EachKey (λ k. w k ≡ false) key rest
     → EachKey (λ k. w k ≡ false) key tail → filter (λ line. w (key line)) xs ≡ filter (λ line. w (key line)) ys
-kept_same w key xs ys rest tail same none1 none2 = simp (filter-append, kept_none w key rest none1, kept_none w key tail none2, append-nil) at (ap (filter (λ line. w (key line))) same)
+kept_same w key xs ys rest tail same none1 none2 = simp
+    (filter-append, kept_none w key rest none1, kept_none w key tail none2, append-nil) at (ap
+    (filter (λ line. w (key line))) same)
 
 -- two lists that differ only in lines whose keys are not below this one
 pub record Differ (tool : MergeTool) (last : Option (List ℕ)) (key : Key) (xs ys : Lines) : Type 0 where
@@ -147,51 +161,79 @@ pub record Differ (tool : MergeTool) (last : Option (List ℕ)) (key : Key) (xs 
 
 -- if one list is in order, a property of the reported disorder is one of the other list's disorder
 of_other : (cmp : Cmp) (s : Side) (f : Side → Option FirstDisorder) (test : Option MergeDisorder → Bool) → f s ≡ None → test None ≡ false
-    → ((d : FirstDisorder) → f (other s) ≡ Some d → test (Some (record { file = other s; first_disorder = d })) ≡ false) → test (earlier_disorder cmp (f First) (f Second)) ≡ false
-of_other cmp First f test none calm some = rw none (elim (f Second) as (λ g. f Second ≡ g → test (earlier_disorder cmp None g) ≡ false) [ None ↦ λ e. calm | Some d ↦ λ e. some d e ] refl)
-of_other cmp Second f test none calm some = rw none (elim (f First) as (λ g. f First ≡ g → test (earlier_disorder cmp g None) ≡ false) [ None ↦ λ e. calm | Some d ↦ λ e. some d e ] refl)
+    → ((d : FirstDisorder) → f (other s) ≡ Some d → test (Some (record { file = other s; first_disorder = d })) ≡ false)
+    → test (earlier_disorder cmp (f First) (f Second)) ≡ false
+of_other cmp First f test none calm some = rw none (elim (f Second) as (λ g. f Second ≡ g
+    → test (earlier_disorder cmp None g) ≡ false) [ None ↦ λ e. calm | Some d ↦ λ e. some d e ] refl)
+of_other cmp Second f test none calm some = rw none (elim (f First) as (λ g. f First ≡ g
+    → test (earlier_disorder cmp g None) ≡ false) [ None ↦ λ e. calm | Some d ↦ λ e. some d e ] refl)
 
 -- one input is in order, and has not ended
-module _ (tool : MergeTool) (o : IsKeyOrder tool.cmp) (eof : Side → Bool) (ls : Side → Lines) (of : Side) (going : eof of ≡ false) (no_disorder : first_disorder tool.cmp (tool.key of) (ls of) ≡ None) where
+module _ (tool : MergeTool) (o : IsKeyOrder tool.cmp) (eof : Side → Bool) (ls : Side → Lines) (of : Side)
+    (going : eof of ≡ false) (no_disorder : first_disorder tool.cmp (tool.key of) (ls of) ≡ None) where
+  open tool use {cmp, terminator}
+
   -- a key that is not below its last key is not decided
-  undecided : (k : List ℕ) → is_below tool.cmp k (last_or None (map (tool.key of) (ls of))) ≡ false → is_decided tool eof ls k ≡ false
+  undecided : (k : List ℕ) → is_below cmp k (last_or None (map (tool.key of) (ls of))) ≡ false
+      → is_decided tool eof ls k ≡ false
   undecided k h = not_decided tool o eof ls of k (rw (going, no_disorder) h)
 
   -- only processed lines decide the output
-  pub decided_of_passed : (p : Side → Lines) → ((side : Side) → Differ tool (last_or None (map (tool.key of) (ls of))) (tool.key side) (sorted_prefix tool.cmp (tool.key side) (ls side)) (p side))
-      → IsPrefix (unlines tool.terminator (decided_entries tool eof ls)) (unlines tool.terminator (entries_by_key tool all_keys p))
+  pub decided_of_passed : (p : Side → Lines) → ((side : Side) → Differ tool (last_or None (map (tool.key of) (ls of)))
+      (tool.key side) (sorted_prefix cmp (tool.key side) (ls side)) (p side))
+      → IsPrefix (unlines terminator (decided_entries tool eof ls))
+      (unlines terminator (entries_by_key tool all_keys p))
   decided_of_passed p differ =
       let dec = is_decided tool eof ls in
-      let first = downward_is_prefix tool o dec (downward_decided tool o eof ls) p in
+      let (rest, is) = downward_is_prefix tool o dec (downward_decided tool o eof ls) p in
       let known : decided_entries tool eof ls ≡ entries_by_key tool dec p =
-      sym (by_keys_kept dec tool o (λ side. sorted_prefix tool.cmp (tool.key side) (ls side)) all_keys) ∙ (λ i. entries_by_key tool all_keys (λ side. kept side i)) ∙ by_keys_kept dec tool o p all_keys in
-      record { rest = unlines tool.terminator first.0; is = ap (unlines tool.terminator) (first.1 ∙ ap (λ (l : Lines). l ++ first.0) (sym known)) ∙ unlines-append tool.terminator (decided_entries tool eof ls) first.0 }
+      sym (by_keys_kept dec tool o (λ side. sorted_prefix cmp (tool.key side) (ls side)) all_keys)
+      ∙ (λ i. entries_by_key tool all_keys (λ side. kept side i)) ∙ by_keys_kept dec tool o p all_keys in
+      record {
+        rest = unlines terminator rest;
+        is = ap (unlines terminator)
+            (is ∙ ap (λ (l : Lines). l ++ rest) (sym known)) ∙ unlines-append terminator (decided_entries tool eof ls)
+            rest;
+      }
     where
-      kept : (side : Side) → filter (λ line. is_decided tool eof ls (tool.key side line)) (sorted_prefix tool.cmp (tool.key side) (ls side))
+      kept : (side : Side) → filter (λ line. is_decided tool eof ls (tool.key side line))
+          (sorted_prefix cmp (tool.key side) (ls side))
           ≡ filter (λ line. is_decided tool eof ls (tool.key side line)) (p side)
       kept side =
           let d = differ side in
-          kept_same (is_decided tool eof ls) (tool.key side) _ _ d.rest d.tail d.same (EachKey-weaker _ _ undecided _ _ d.none_rest) (EachKey-weaker _ _ undecided _ _ d.none_tail)
+          kept_same (is_decided tool eof ls) (tool.key side) _ _ d.rest d.tail d.same
+          (EachKey-weaker _ _ undecided _ _ d.none_rest) (EachKey-weaker _ _ undecided _ _ d.none_tail)
 
   -- the disorder of the other input comes after its keys, so no disorder is decided
-  not_settled : EachKey (λ k. IsDisorderFrom tool.cmp k (first_disorder tool.cmp (tool.key (other of)) (ls (other of)))) (tool.key of) (ls of) → lines_decide_disorder tool eof ls (disorder tool ls) ≡ false
+  not_settled : EachKey (λ k. IsDisorderFrom cmp k (first_disorder cmp (tool.key (other of)) (ls (other of))))
+      (tool.key of) (ls of) → lines_decide_disorder tool eof ls (disorder tool ls) ≡ false
   not_settled up =
       -- a bound of all keys is not below the last one
-      let above = λ (e : List ℕ) (most : EachKey (λ k. AtMost tool.cmp k e) (tool.key of) (ls of)).
-      undecided e (past_none tool.cmp o (tool.key of) (λ k. k) (AtLeast e) (ls of) (e ∷ []) most (self_at_most tool.cmp o e, tt)).0 in
-      of_other tool.cmp of (λ side. first_disorder tool.cmp (tool.key side) (ls side)) (lines_decide_disorder tool eof ls) no_disorder refl (λ d is. above d.last_key (rw is at up))
+      let above = λ (e : List ℕ) (most : EachKey (λ k. AtMost cmp k e) (tool.key of) (ls of)).
+      (let (below, _) = past_none cmp o (tool.key of) (λ k. k) (AtLeast e) (ls of) (e ∷ []) most
+      (self_at_most cmp o e, tt) in undecided e below) in
+      of_other cmp of (λ side. first_disorder cmp (tool.key side) (ls side)) (lines_decide_disorder tool eof ls)
+      no_disorder refl (λ d is. above d.last_key (rw is at up))
 
 -- ---- the output decided two blocks earlier
 
 front_has : (P : List ℕ → Type 0) (key : Key) (xs ys : Lines) → EachKey P key (xs ++ ys) → EachKey P key xs
-front_has P key xs ys e = (Each-parts P (map key xs) (map key ys) (rw map-append at e)).0
+front_has P key xs ys e = let (front, _) = Each-parts P (map key xs) (map key ys) (rw map-append at e) in front
+
+-- the sorted prefix of the lines `ls` is `q`, whose last lines are `tail`, and then lines that may follow
+pub record LinesToCome (tool : MergeTool) (side : Side) (ls q tail : Lines) (bound : Bound) : Type 0 where
+  pub rest : Lines
+  pub is : sorted_prefix tool.cmp (tool.key side) ls ≡ q ++ rest
+  pub may_follow : MayFollow tool.cmp (tool.key side) bound (tail ++ rest)
 
 -- `q` are the processed lines; the output for `p` is complete, and the rest of `q` follows it
 module _ (tool : MergeTool) (o : IsKeyOrder tool.cmp) (given : Side → Received) (p q tail : Side → Lines) (bound : Side → Bound)
     (backs : (side : Side) → LagPoint tool.terminator (given side) (q side)) (split : (side : Side) → q side ≡ p side ++ tail side)
     (under : (of side : Side) → EachKey (IsUnder tool.cmp (bound of)) (tool.key side) (q side))
-    (future : (side : Side) → (r : Lines) × (sorted_prefix tool.cmp (tool.key side) (known_lines tool.terminator (given side)) ≡ q side ++ r)
-    × MayFollow tool.cmp (tool.key side) (bound side) (tail side ++ r)) where
+    (future : (side : Side) → LinesToCome tool side (known_lines tool.terminator (given side)) (q side) (tail side)
+    (bound side)) where
+  open tool use {cmp, terminator}
+
   module _ (of : Side) where
     abbrev whole : Lines
     whole = (backs of).whole
@@ -200,37 +242,47 @@ module _ (tool : MergeTool) (o : IsKeyOrder tool.cmp) (given : Side → Received
     abbrev last : Option (List ℕ)
     last = last_or None (map (tool.key of) whole)
 
-    in_order : IsSortedFrom tool.cmp (tool.key of) None (whole ++ (backs of).rest)
-    in_order = rw (backs of).split at ((sorted_from_parts tool.cmp (tool.key of) None (q of) (future of).0 (rw (future of).1 at (sorted_from_prefix tool.cmp (tool.key of) (known_lines tool.terminator (given of))))).0)
+    in_order : IsSortedFrom cmp (tool.key of) None (whole ++ (backs of).rest)
+    in_order =
+        let (own, _) = sorted_from_parts cmp (tool.key of) None (q of) (future of).rest
+        (rw (future of).is at (sorted_from_prefix cmp (tool.key of) (known_lines terminator (given of)))) in
+        rw (backs of).split at own
 
-    ordered : (sorted_prefix tool.cmp (tool.key of) whole ≡ whole) × (first_disorder tool.cmp (tool.key of) whole ≡ None)
-    ordered = sorted_from_start tool.cmp (tool.key of) whole (sorted_from_parts tool.cmp (tool.key of) None whole (backs of).rest in_order).0
+    ordered : (sorted_prefix cmp (tool.key of) whole ≡ whole) × (first_disorder cmp (tool.key of) whole ≡ None)
+    ordered = let (own, _) = sorted_from_parts cmp (tool.key of) None whole (backs of).rest in_order in
+        sorted_from_start cmp (tool.key of) whole own
+
+    no_disorder : first_disorder cmp (tool.key of) whole ≡ None
+    no_disorder = let (_, none) = ordered in none
 
     -- no line that follows is below that key
-    above : (side : Side) → EachKey (λ k. is_below tool.cmp k last ≡ false) (tool.key side) (tail side ++ (future side).0)
+    above : (side : Side) → EachKey (λ k. is_below cmp k last ≡ false) (tool.key side) (tail side ++ (future side).rest)
     above side =
-        past_none tool.cmp o (tool.key of) (tool.key side) (bound side) whole (tail side ++ (future side).0)
-        (front_has (IsUnder tool.cmp (bound side)) (tool.key of) whole (backs of).rest (rw (backs of).split at (under side of))) (future side).2
+        past_none cmp o (tool.key of) (tool.key side) (bound side) whole (tail side ++ (future side).rest)
+        (front_has (IsUnder cmp (bound side)) (tool.key of) whole (backs of).rest
+        (rw (backs of).split at (under side of))) (future side).may_follow
 
     -- the lines of an input are the processed ones, except for lines that are not below that key
     abbrev Differs : Side → Received → Type 0
-    Differs side g = Differ tool last (tool.key side) (sorted_prefix tool.cmp (tool.key side) (known_lines tool.terminator g)) (p side)
+    Differs side g =
+        Differ tool last (tool.key side) (sorted_prefix cmp (tool.key side) (known_lines terminator g)) (p side)
 
     mine : Differs of (backs of).before.earlier
-    mine = rw ((backs of).whole_is, ordered.0) (record {
+    mine = let (own, _) = ordered in rw ((backs of).whole_is, own) (record {
       rest = (backs of).rest;
       tail = tail of;
       same = sym (backs of).split ∙ split of;
-      none_rest = none_below tool.cmp o (tool.key of) whole (backs of).rest in_order;
-      none_tail = front_has (λ k. is_below tool.cmp k last ≡ false) (tool.key of) (tail of) (future of).0 (above of);
+      none_rest = none_below cmp o (tool.key of) whole (backs of).rest in_order;
+      none_tail = front_has (λ k. is_below cmp k last ≡ false) (tool.key of) (tail of) (future of).rest (above of);
     })
 
     others : (side : Side) → Differs side (given side)
     others side = record {
       rest = [];
-      tail = tail side ++ (future side).0;
-      same = append-nil (sorted_prefix tool.cmp (tool.key side) (known_lines tool.terminator (given side))) ∙ (future side).1
-          ∙ ap (λ (l : Lines). l ++ (future side).0) (split side) ∙ append_assoc (p side) (tail side) (future side).0;
+      tail = tail side ++ (future side).rest;
+      same = append-nil (sorted_prefix cmp (tool.key side) (known_lines terminator (given side))) ∙ (future side).is
+          ∙ ap (λ (l : Lines). l ++ (future side).rest) (split side)
+          ∙ append_assoc (p side) (tail side) (future side).rest;
       none_rest = tt;
       none_tail = above side;
     }
@@ -241,22 +293,28 @@ module _ (tool : MergeTool) (o : IsKeyOrder tool.cmp) (given : Side → Received
     going : (mix of).eof ≡ false
     going = rw (put_same of (backs of).before.earlier given) (backs of).going
 
-    whole_now : known_lines tool.terminator (mix of) ≡ whole
+    whole_now : known_lines terminator (mix of) ≡ whole
     whole_now = rw (put_same of (backs of).before.earlier given) (backs of).whole_is
 
-    pub lag_bound : ProcessLag {I = Unit {0}} (λ came. decided_output tool (with_side of (came tt) given)) (λ u. given of) (unlines tool.terminator (entries_by_key tool all_keys p))
+    pub lag_bound : ProcessLag {I = Unit {0}} (λ came. decided_output tool (with_side of (came tt) given))
+        (λ u. given of) (unlines terminator (entries_by_key tool all_keys p))
     lag_bound = record {
       before = λ u. (backs of).before;
-      begins = decided_of_passed tool o (λ side. (mix side).eof) (λ side. known_lines tool.terminator (mix side)) of going (rw whole_now ordered.1) p
+      begins = decided_of_passed tool o (λ side. (mix side).eof) (λ side. known_lines terminator (mix side)) of going
+          (rw whole_now no_disorder) p
           (rw whole_now (put_each Differs of (backs of).before.earlier given mine others));
     }
 
     -- no disorder was decided
-    pub unsettled : EachKey (λ k. IsDisorderFrom tool.cmp k (first_disorder tool.cmp (tool.key (other of)) (known_lines tool.terminator (given (other of))))) (tool.key of) (q of)
+    pub unsettled : EachKey (λ k. IsDisorderFrom cmp k (first_disorder cmp (tool.key (other of))
+        (known_lines terminator (given (other of))))) (tool.key of) (q of)
         → (before : LaggedInput (given of)) × (disorder_is_decided tool (with_side of before.earlier given) ≡ false)
     unsettled up = (
       (backs of).before,
-      not_settled tool o (λ side. (mix side).eof) (λ side. known_lines tool.terminator (mix side)) of going (rw whole_now ordered.1)
-          (rw (put_other of (backs of).before.earlier given, whole_now) (front_has (λ k. IsDisorderFrom tool.cmp k (first_disorder tool.cmp (tool.key (other of)) (known_lines tool.terminator (given (other of)))))
+      not_settled tool o (λ side. (mix side).eof) (λ side. known_lines terminator (mix side)) of going
+          (rw whole_now no_disorder)
+          (rw (put_other of (backs of).before.earlier given, whole_now)
+          (front_has (λ k. IsDisorderFrom cmp k (first_disorder cmp (tool.key (other of))
+          (known_lines terminator (given (other of)))))
           (tool.key of) whole (backs of).rest (rw (backs of).split at up))),
     )

@@ -9,9 +9,11 @@ use Rattle.ptlines.proofs.MaxLength.{max_length-append, piece_le_max_length}
 -- complete lines, and then the complete lines of the rest
 ended_more : (end : ℕ) (ls : List (List ℕ)) (bytes : List ℕ) → AreLines end ls → complete_lines end (unlines end ls ++ bytes) ≡ ls ++ complete_lines end bytes
 ended_more end [] bytes w = refl
-ended_more end (line ∷ ls) bytes w =
-    ap (complete_lines end) (append_assoc (line ++ end ∷ []) (unlines end ls) bytes ∙ append_assoc line (end ∷ []) (unlines end ls ++ bytes)) ∙ complete_lines_cons end line (unlines end ls ++ bytes) w.0
-    ∙ ap (λ (l : List (List ℕ)). line ∷ l) (ended_more end ls bytes w.1)
+ended_more end (line ∷ ls) bytes (free, more) =
+    ap (complete_lines end) (append_assoc (line ++ end ∷ []) (unlines end ls) bytes
+    ∙ append_assoc line (end ∷ []) (unlines end ls ++ bytes))
+    ∙ complete_lines_cons end line (unlines end ls ++ bytes) free
+    ∙ ap (λ (l : List (List ℕ)). line ∷ l) (ended_more end ls bytes more)
 
 -- `ls` are the lines of the bytes `given`: all of them have their terminator, or the last one lacks it at the end of
 -- the source
@@ -26,17 +28,40 @@ pub record LinesRead (end : ℕ) (old now : Reader) (ls : List (List ℕ)) : Typ
   pub terminator : now.terminator ≡ end
 
 pub reads_nothing : (r : Reader) → ReaderAdvance r r []
-reads_nothing r = record { moved = sym (prepend_known-nil (remaining_bytes r)); count = omega arith; refused = refl; terminator = refl; still = λ eof. (refl, eof); end = λ h. h }
+reads_nothing r = record {
+  moved = sym (prepend_known-nil (remaining_bytes r));
+  count = omega arith;
+  refused = refl;
+  terminator = refl;
+  still = λ eof. (refl, eof);
+  end = λ h. h;
+}
 
 pub lines_read_none : {end : ℕ} {old : Reader} → old.fault ≡ None → old.terminator ≡ end → LinesRead end old old []
-lines_read_none {old = old} clean terminator = record { given = []; so_far = inl (refl, tt); advance_ok = record { reads = reads_nothing old; fault = clean; failed = refl; short = λ h. h }; terminator = terminator }
+lines_read_none {old = old} clean terminator = record {
+  given = [];
+  so_far = inl (refl, tt);
+  advance_ok = record { reads = reads_nothing old; fault = clean; failed = refl; short = λ h. h };
+  terminator = terminator;
+}
+
+-- nothing was read, and the end of the source was reached
+pub record GivesNothing (new : Reader) (bytes : List ℕ) : Type 0 where
+  pub bytes_are : bytes ≡ []
+  pub buffered : new.buffered ≡ []
+  pub eof : new.eof ≡ true
 
 -- at the end of a source nothing more is read
-pub done_gives_nothing : {now new : Reader} {bytes : List ℕ} → IsDone now → ReaderAdvance now new bytes → (bytes ≡ []) × (new.buffered ≡ []) × (new.eof ≡ true)
+pub done_gives_nothing : {now new : Reader} {bytes : List ℕ} → IsDone now → ReaderAdvance now new bytes
+    → GivesNothing new bytes
 done_gives_nothing {now} {new} {bytes} done reads =
-    let still = reads.still done.eof in
-    let none : length bytes + length new.buffered ≡ 0 = omega (arith, reads.count, still.0, ap length done.buffered) in
-    (nil_from_length bytes (omega (arith, none)), nil_from_length new.buffered (omega (arith, none)), still.1)
+    let (pulled, eof) = reads.still done.eof in
+    let none : length bytes + length new.buffered ≡ 0 = omega (arith, reads.count, pulled, ap length done.buffered) in
+    record {
+      bytes_are = nil_from_length bytes (omega (arith, none));
+      buffered = nil_from_length new.buffered (omega (arith, none));
+      eof = eof;
+    }
 
 -- a line was read, or the end of the source
 abbrev pub HasBegun : Reader → List (List ℕ) → Type 0
@@ -51,7 +76,8 @@ pub lines_read_more : {end : ℕ} {old now new : Reader} {ls : List (List ℕ)} 
     → (e : FillLine now new before after slot) → LinesRead end old new (ls ++ e.line ∷ [])
 lines_read_more {end} {old} {now} {new} {ls} c e = record {
   given = c.given ++ (e.line ++ e.terminator);
-  so_far = ⊎_elim opened (λ k. absurd (omega (arith, some_came, ap length (done_gives_nothing k.1 e.advance_ok.reads).0))) c.so_far;
+  so_far = ⊎_elim opened (λ (_, done). absurd
+      (omega (arith, some_came, ap length (done_gives_nothing done e.advance_ok.reads).bytes_are))) c.so_far;
   advance_ok = advance_ok_trans old now new c.given (e.line ++ e.terminator) c.advance_ok e.advance_ok;
   terminator = e.advance_ok.reads.terminator ∙ c.terminator;
 }
@@ -60,18 +86,24 @@ lines_read_more {end} {old} {now} {new} {ls} c e = record {
     free = rw c.terminator at e.whole
 
     opened : (c.given ≡ unlines end ls) × AreLines end ls → IsReadAs end (c.given ++ (e.line ++ e.terminator)) (ls ++ e.line ∷ []) new
-    opened o = elim e.ends [
-      | inl ends ↦ inl (rw (o.0, ends, c.terminator, unlines_push end ls e.line), AreLines_push end ls e.line o.1 free)
-      | inr last ↦ inr (rw (o.0, last.0, append-nil e.line, lines_of_unlines end ls e.line o.1, lines_of_last end e.line free last.1), last.2)
+    opened (is, all) = elim e.ends [
+      | inl ends ↦ inl (rw (is, ends, c.terminator, unlines_push end ls e.line), AreLines_push end ls e.line all free)
+      | inr last ↦ (let (ends, some, done) = last in
+          inr (
+            rw (is, ends, append-nil e.line, lines_of_unlines end ls e.line all, lines_of_last end e.line free some),
+            done,
+          ))
     ]
 
     some_came : 0 < length (e.line ++ e.terminator)
     some_came = grind (arith, length-append e.line e.terminator)
 
-pub lines_read_eof : {end : ℕ} {old now new : Reader} {ls : List (List ℕ)} → LinesRead end old now ls → AdvanceOk now new [] → IsDone new → LinesRead end old new ls
+pub lines_read_eof : {end : ℕ} {old now new : Reader} {ls : List (List ℕ)} → LinesRead end old now ls
+    → AdvanceOk now new [] → IsDone new → LinesRead end old new ls
 lines_read_eof {end} {old} {now} {new} c g done = record {
   given = c.given ++ [];
-  so_far = ⊎_elim (λ o. inl (rw (append-nil c.given) o.0, o.1)) (λ k. inr (rw (append-nil c.given) k.0, done)) c.so_far;
+  so_far = ⊎_elim (λ (is, all). inl (rw (append-nil c.given) is, all))
+      (λ (is, _). inr (rw (append-nil c.given) is, done)) c.so_far;
   advance_ok = advance_ok_trans old now new c.given [] c.advance_ok g;
   terminator = g.reads.terminator ∙ c.terminator;
 }
@@ -82,7 +114,13 @@ pub record Continues (now : Reader) (ls all : List (List ℕ)) : Type 0 where
   pub is : all ≡ ls ++ more
   pub done : IsDone now → more ≡ []
 
-module _ (end : ℕ) (old now new : Reader) (ls : List (List ℕ)) (piece : List ℕ) (c : LinesRead end old now ls) (reads : ReaderAdvance now new piece) (line : IsLine now.terminator piece) where
+-- such a list, in which neither the lines `ls` nor this piece of a further line are longer than the longest line
+pub record HoldsLines (now : Reader) (ls : List (List ℕ)) (piece : List ℕ) (all : List (List ℕ)) : Type 0 where
+  pub continues : Continues now ls all
+  pub longest : max (max_length ls) (length piece) ≤ max_length all
+
+module _ (end : ℕ) (old now new : Reader) (ls : List (List ℕ)) (piece : List ℕ) (c : LinesRead end old now ls)
+    (reads : ReaderAdvance now new piece) (line : IsLine now.terminator piece) where
   abbrev came : Received
   came = received_with (c.given ++ piece) new
 
@@ -94,16 +132,32 @@ module _ (end : ℕ) (old now new : Reader) (ls : List (List ℕ)) (piece : List
   front_of is rest = rw is (simp append_assoc)
 
   -- the lines of an input that is consistent with the bytes received
-  pub lines_read_of_input : (input : List ℕ) → IsConsistent (received_with (c.given ++ piece) new) input → Continues now ls (lines end input) × (max (max_length ls) (length piece) ≤ max_length (lines end input))
-  lines_read_of_input input a = ⊎_elim (λ o.
+  pub lines_read_of_input : (input : List ℕ) → IsConsistent (received_with (c.given ++ piece) new) input
+      → HoldsLines now ls piece (lines end input)
+  lines_read_of_input input a = ⊎_elim (λ (is, lines_are).
       let more = lines end (piece ++ (new.buffered ++ a.rest)) in
-      let all : lines end input ≡ ls ++ more = ap (lines end) (a.is ∙ front_of o.0 a.rest) ∙ lines_of_unlines end ls (piece ++ (new.buffered ++ a.rest)) o.1 in (
-        record { more = more; is = all; done = λ d. (let none = done_gives_nothing d reads in rw (none.0, none.1, a.whole none.2)) },
-        omega (arith, ap max_length all, max_length-append ls more, piece_le_max_length end piece (new.buffered ++ a.rest) free),
-      )) (λ k.
-      let none = done_gives_nothing k.1 reads in
-      let same : lines end input ≡ ls = rw (a.is, none.0, none.1, a.whole none.2) (simp append-nil k.0) in
-      (record { more = []; is = same ∙ sym (append-nil ls); done = λ _. refl }, omega (arith, ap max_length same, ap length none.0))) c.so_far
+      let all : lines end input ≡ ls ++ more = ap (lines end) (a.is ∙ front_of is a.rest)
+      ∙ lines_of_unlines end ls (piece ++ (new.buffered ++ a.rest)) lines_are in
+      record {
+        continues = record {
+          more = more;
+          is = all;
+          done = λ d. (let none = done_gives_nothing d reads in rw (none.bytes_are, none.buffered, a.whole none.eof));
+        };
+        longest = omega (
+          arith,
+          ap max_length all,
+          max_length-append ls more,
+          piece_le_max_length end piece (new.buffered ++ a.rest) free,
+        );
+      }) (λ (is, done).
+      let none = done_gives_nothing done reads in
+      let same : lines end input ≡ ls = rw (a.is, none.bytes_are, none.buffered, a.whole none.eof) (simp append-nil is)
+      in
+      record {
+        continues = record { more = []; is = same ∙ sym (append-nil ls); done = λ _. refl };
+        longest = omega (arith, ap max_length same, ap length none.bytes_are);
+      }) c.so_far
 
   -- the lines that are known to be complete: `ls` and, if a read failed, no more
   pub record KnownLines (ws : List (List ℕ)) : Type 0 where
@@ -116,31 +170,45 @@ module _ (end : ℕ) (old now new : Reader) (ls : List (List ℕ)) (piece : List
       by_end : (t : Bool) → new.eof ≡ t → KnownLines (known_lines end (received_with (c.given ++ piece) new))
       by_end true e =
           let all : known_lines end (received_with (c.given ++ piece) new) ≡ lines end ((c.given ++ piece) ++ new.buffered) = rw e in
-          let w = (lines_read_of_input ((c.given ++ piece) ++ new.buffered) (record { rest = []; is = sym (append-nil ((c.given ++ piece) ++ new.buffered)); whole = λ _. refl })).0 in
+          let w = (lines_read_of_input ((c.given ++ piece) ++ new.buffered)
+          (record {
+            rest = [];
+            is = sym (append-nil ((c.given ++ piece) ++ new.buffered));
+            whole = λ _. refl;
+          })).continues in
           record { known = record { more = w.more; is = all ∙ w.is; done = w.done }; exact = λ _ going. absurd (false≢true (sym going ∙ e)) }
-      by_end false e = ⊎_elim (λ o.
+      by_end false e = ⊎_elim (λ (given_is, all).
           let is : known_lines end (received_with (c.given ++ piece) new) ≡ ls ++ complete_lines end (piece ++ (new.buffered ++ [])) =
-          rw e (ap (complete_lines end) (sym (append-nil ((c.given ++ piece) ++ new.buffered)) ∙ front_of o.0 []) ∙ ended_more end ls (piece ++ (new.buffered ++ [])) o.1) in
+          rw e (ap (complete_lines end) (sym (append-nil ((c.given ++ piece) ++ new.buffered)) ∙ front_of given_is [])
+          ∙ ended_more end ls (piece ++ (new.buffered ++ [])) all) in
           record {
-            known = record { more = complete_lines end (piece ++ (new.buffered ++ [])); is = is; done = λ d. absurd (false≢true (sym e ∙ (done_gives_nothing d reads).2)) };
+            known = record {
+              more = complete_lines end (piece ++ (new.buffered ++ []));
+              is = is;
+              done = λ d. absurd (false≢true (sym e ∙ (done_gives_nothing d reads).eof));
+            };
             exact = λ empty _. is ∙ (rw (empty, append-nil piece, complete_lines_none end piece free) (append-nil ls));
-          }) (λ k. absurd (false≢true (sym e ∙ (done_gives_nothing k.1 reads).2))) c.so_far
+          }) (λ (_, done). absurd (false≢true (sym e ∙ (done_gives_nothing done reads).eof))) c.so_far
 
   -- after the first line or the end was read, one of both was received
   pub begun_gives_line : HasBegun now ls → ¬ HasNoLine end (received_with (c.given ++ piece) new)
-  begun_gives_line begun none = ⊎_elim (λ done. false≢true (sym none.eof ∙ (done_gives_nothing done reads).2)) (λ some.
-      let nothing : known_lines end (received_with (c.given ++ piece) new) ≡ [] = rw none.eof (complete_lines_none end ((c.given ++ piece) ++ new.buffered) none.line) in
+  begun_gives_line begun none =
+      ⊎_elim (λ done. false≢true (sym none.eof ∙ (done_gives_nothing done reads).eof)) (λ some.
+      let nothing : known_lines end (received_with (c.given ++ piece) new) ≡ [] = rw none.eof
+      (complete_lines_none end ((c.given ++ piece) ++ new.buffered) none.line) in
       let known = lines_read_known.known in
       absurd (omega (arith, some, ap length (sym nothing ∙ known.is), length-append ls known.more))) begun
 
   -- at most one line was read, or a part of it
-  pub one_line_and_block : IsSound new → length ls + length (lines end piece) ≤ 1 → HasOneLineAndBlock end (received_with (c.given ++ piece) new)
+  pub one_line_and_block : IsSound new → length ls + length (lines end piece) ≤ 1
+      → HasOneLineAndBlock end (received_with (c.given ++ piece) new)
   one_line_and_block sound few = record {
     first = c.given ++ piece;
     rest = new.buffered;
     split = refl;
-    one_line = ⊎_elim (λ o. rw (o.0, lines_of_unlines end ls piece o.1) (omega (arith, few, length-append ls (lines end piece)))) (λ k.
-        let none = done_gives_nothing k.1 reads in
-        rw (none.0, append-nil c.given, k.0) (omega (arith, few))) c.so_far;
+    one_line = ⊎_elim (λ (is, all). rw (is, lines_of_unlines end ls piece all)
+        (omega (arith, few, length-append ls (lines end piece))))
+        (λ (is, done). rw ((done_gives_nothing done reads).bytes_are, append-nil c.given, is) (omega (arith, few)))
+        c.so_far;
     block = sound.buffered;
   }

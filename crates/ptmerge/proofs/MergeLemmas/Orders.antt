@@ -21,6 +21,10 @@ Above cmp k y = cmp y k ≡ Greater
 pub is_greater : (r : Ordering) → is_gt r ≡ true → r ≡ Greater
 is_greater r h = grind arith
 
+-- equal keys have the same bytes
+pub same_bytes : {a b : List ℕ} → a ≡ b → bytes_eq a b ≡ true
+same_bytes {a} {b} e = let (_, same) = bytes_decides a b in same e
+
 pub not_same : (a b : List ℕ) → (a ≡ b → ⊥) → bytes_eq a b ≡ false
 not_same a b n = grind (arith, bytes_decides a b)
 
@@ -52,19 +56,23 @@ module _ (cmp : Cmp) (o : IsKeyOrder cmp) where
 
   -- k equals y, or is less
   pub least_or_above : (k y : List ℕ) → AtMost cmp k y → ((bytes_eq y k ≡ true) × (y ≡ k)) ⊎ ((bytes_eq y k ≡ false) × (cmp y k ≡ Greater))
-  least_or_above k y h = elim (cmp k y) as (λ r. cmp k y ≡ r → is_gt r ≡ false → ((bytes_eq y k ≡ true) × (y ≡ k)) ⊎ ((bytes_eq y k ≡ false) × (cmp y k ≡ Greater))) [
-    | Less ↦ λ l g. inr (above_not_same k y (less_flips k y l), less_flips k y l)
-    | Equal ↦ λ e g. (let same = sym (o.exact k y e) in inl ((bytes_decides y k).1 same, same))
-    | Greater ↦ λ l g. cc
-  ] refl h
+  least_or_above k y h = elim (cmp k y) as (λ r. cmp k y ≡ r → is_gt r ≡ false → ((bytes_eq y k ≡ true) × (y ≡ k))
+      ⊎ ((bytes_eq y k ≡ false) × (cmp y k ≡ Greater))) [
+        | Less ↦ λ l g. inr (above_not_same k y (less_flips k y l), less_flips k y l)
+        | Equal ↦ λ e g. (let same = sym (o.exact k y e) in inl (same_bytes same, same))
+        | Greater ↦ λ l g. cc
+      ] refl h
 
   -- a ≤ b < c
   pub above_trans : (a b c : List ℕ) → AtMost cmp a b → cmp c b ≡ Greater → cmp c a ≡ Greater
-  above_trans a b c p g = ⊎_elim (λ e. rw e.1 at g) (λ h. less_flips a c (o.total.trans a b c (greater_flips b a h.1) (greater_flips c b g))) (least_or_above a b p)
+  above_trans a b c p g = ⊎_elim (λ (_, same). rw same at g)
+      (λ (_, greater). less_flips a c (o.total.trans a b c (greater_flips b a greater) (greater_flips c b g)))
+      (least_or_above a b p)
 
   -- a < b ≤ c
   pub above_up : (a b c : List ℕ) → cmp b a ≡ Greater → AtMost cmp b c → cmp c a ≡ Greater
-  above_up a b c g p = ⊎_elim (λ e. rw e.1 g) (λ h. less_flips a c (o.total.trans a b c (greater_flips b a g) (greater_flips c b h.1))) (least_or_above b c p)
+  above_up a b c g p = ⊎_elim (λ (_, same). rw same g) (λ (_, greater). less_flips a c
+      (o.total.trans a b c (greater_flips b a g) (greater_flips c b greater))) (least_or_above b c p)
 
   pub at_most_is_le : (a b : List ℕ) → AtMost cmp a b → is_le (cmp a b) ≡ true
   at_most_is_le a b h = grind arith
@@ -86,12 +94,12 @@ EachKey P key xs = Each P (map key xs)
 
 pub Each-weaker : (P Q : List ℕ → Type 0) → ((x : List ℕ) → P x → Q x) → (xs : Lines) → Each P xs → Each Q xs
 Each-weaker P Q f [] e = tt
-Each-weaker P Q f (x ∷ xs) e = (f x e.0, Each-weaker P Q f xs e.1)
+Each-weaker P Q f (x ∷ xs) (here, more) = (f x here, Each-weaker P Q f xs more)
 
 pub EachKey-at : (P : List ℕ → Type 0) (key : Key) (xs : Lines) (i : ℕ) → i < length xs → EachKey P key xs → P (key (get_or xs i []))
 EachKey-at P key [] i low e = absurd (omega (arith, low))
-EachKey-at P key (x ∷ xs) zero low e = e.0
-EachKey-at P key (x ∷ xs) (suc i) low e = EachKey-at P key xs i (omega (arith, low)) e.1
+EachKey-at P key (x ∷ xs) zero low (here, _) = here
+EachKey-at P key (x ∷ xs) (suc i) low (_, more) = EachKey-at P key xs i (omega (arith, low)) more
 
 pub EachKey-weaker : (P Q : List ℕ → Type 0) → ((x : List ℕ) → P x → Q x) → (key : Key) (xs : Lines) → EachKey P key xs → EachKey Q key xs
 EachKey-weaker P Q f key xs e = Each-weaker P Q f (map key xs) e
@@ -102,22 +110,23 @@ Each-all P f (x ∷ xs) = (f x, Each-all P f xs)
 
 pub Each-append : (P : List ℕ → Type 0) (xs ys : Lines) → Each P xs → Each P ys → Each P (xs ++ ys)
 Each-append P [] ys e h = h
-Each-append P (x ∷ xs) ys e h = (e.0, Each-append P xs ys e.1 h)
+Each-append P (x ∷ xs) ys (here, more) h = (here, Each-append P xs ys more h)
 
 pub Each-parts : (P : List ℕ → Type 0) (xs ys : Lines) → Each P (xs ++ ys) → Each P xs × Each P ys
 Each-parts P [] ys e = (tt, e)
-Each-parts P (x ∷ xs) ys e = let r = Each-parts P xs ys e.1 in ((e.0, r.0), r.1)
+Each-parts P (x ∷ xs) ys (here, more) = let (front, rest) = Each-parts P xs ys more in ((here, front), rest)
 
 pub EachKey-append : (P : List ℕ → Type 0) (key : Key) (xs ys : Lines) → EachKey P key xs → EachKey P key ys → EachKey P key (xs ++ ys)
 EachKey-append P key xs ys e h = rw (map-append key xs ys) (Each-append P (map key xs) (map key ys) e h)
 
 pub Each-insert : (cmp : Cmp) (P : List ℕ → Type 0) (k : List ℕ) (xs : Lines) → P k → Each P xs → Each P (insert_key cmp k xs)
 Each-insert cmp P k [] h e = (h, tt)
-Each-insert cmp P k (x ∷ xs) h e = let ih = Each-insert cmp P k xs h e.1 in grind (arith, ih)
+Each-insert cmp P k (x ∷ xs) h (here, more) = let ih = Each-insert cmp P k xs h more in grind (arith, ih)
 
 pub Each-distinct : (cmp : Cmp) (P : List ℕ → Type 0) (xs : Lines) → Each P xs → Each P (distinct_keys cmp xs)
 Each-distinct cmp P [] e = tt
-Each-distinct cmp P (x ∷ xs) e = Each-insert cmp P x (distinct_keys cmp xs) e.0 (Each-distinct cmp P xs e.1)
+Each-distinct cmp P (x ∷ xs) (here, more) =
+    Each-insert cmp P x (distinct_keys cmp xs) here (Each-distinct cmp P xs more)
 
 -- the keys other than k
 abbrev others : List ℕ → Lines → Lines
@@ -132,31 +141,36 @@ without key k (x ∷ xs) = cond (bytes_eq (key x) k) (without key k xs) (x ∷ w
 module _ (cmp : Cmp) (o : IsKeyOrder cmp) where
   pub insert_least : (k : List ℕ) (ds : Lines) → Each (Above cmp k) ds → insert_key cmp k ds ≡ k ∷ ds
   insert_least k [] a = refl
-  insert_least k (d ∷ ds) a = rw (greater_flips cmp o d k a.0) refl
+  insert_least k (d ∷ ds) (here, _) = rw (greater_flips cmp o d k here) refl
 
   others_above : (k : List ℕ) (ks : Lines) → Each (AtMost cmp k) ks → Each (Above cmp k) (others k ks)
   others_above k [] e = tt
-  others_above k (y ∷ ks) e = let ih = others_above k ks e.1 in grind (arith, ih, least_or_above cmp o k y e.0)
+  others_above k (y ∷ ks) (here, more) =
+      let ih = others_above k ks more in grind (arith, ih, least_or_above cmp o k y here)
 
   -- the least key, if it occurs, comes first
   distinct_least : (k : List ℕ) (ks : Lines) → Each (AtMost cmp k) ks
-      → (distinct_keys cmp ks ≡ k ∷ distinct_keys cmp (others k ks)) ⊎ ((distinct_keys cmp ks ≡ distinct_keys cmp (others k ks)) × Each (λ y. bytes_eq y k ≡ false) ks)
+      → (distinct_keys cmp ks ≡ k ∷ distinct_keys cmp (others k ks))
+      ⊎ ((distinct_keys cmp ks ≡ distinct_keys cmp (others k ks)) × Each (λ y. bytes_eq y k ≡ false) ks)
   distinct_least k [] e = inr (refl, tt)
-  distinct_least k (y ∷ ks) e = by (least_or_above cmp o k y e.0) (distinct_least k ks e.1)
+  distinct_least k (y ∷ ks) (here, more) = by (least_or_above cmp o k y here) (distinct_least k ks more)
     where
       above : Each (Above cmp k) (distinct_keys cmp (others k ks))
-      above = Each-distinct _ _ _ (others_above k ks e.1)
+      above = Each-distinct _ _ _ (others_above k ks more)
 
       by : ((bytes_eq y k ≡ true) × (y ≡ k)) ⊎ ((bytes_eq y k ≡ false) × (cmp y k ≡ Greater))
-          → (distinct_keys cmp ks ≡ k ∷ distinct_keys cmp (others k ks)) ⊎ ((distinct_keys cmp ks ≡ distinct_keys cmp (others k ks)) × Each (λ z. bytes_eq z k ≡ false) ks)
+          → (distinct_keys cmp ks ≡ k ∷ distinct_keys cmp (others k ks))
+          ⊎ ((distinct_keys cmp ks ≡ distinct_keys cmp (others k ks)) × Each (λ z. bytes_eq z k ≡ false) ks)
           → (insert_key cmp y (distinct_keys cmp ks) ≡ k ∷ distinct_keys cmp (others k (y ∷ ks)))
           ⊎ ((insert_key cmp y (distinct_keys cmp ks) ≡ distinct_keys cmp (others k (y ∷ ks))) × Each (λ z. bytes_eq z k ≡ false) (y ∷ ks))
-      by (inl h) (inl d) = inl (rw (h.0, h.1, d, tied_itself o.total k))
-      by (inl h) (inr d) = inl (rw (h.0, h.1, d.0, insert_least k (distinct_keys cmp (others k ks)) above))
-      by (inr h) (inl d) = inl (rw (h.0, d, h.1))
-      by (inr h) (inr d) = inr (rw (h.0, d.0), (h.0, d.1))
+      by (inl (is, same)) (inl d) = inl (rw (is, same, d, tied_itself o.total k))
+      by (inl (is, same)) (inr (without_k, _)) =
+          inl (rw (is, same, without_k, insert_least k (distinct_keys cmp (others k ks)) above))
+      by (inr (apart, greater)) (inl d) = inl (rw (apart, d, greater))
+      by (inr (apart, _)) (inr (without_k, none)) = inr (rw (apart, without_k), (apart, none))
 
-others-keys : (key1 key2 : Key) (k : List ℕ) (xs ys : Lines) → others k (map key1 xs ++ map key2 ys) ≡ map key1 (without key1 k xs) ++ map key2 (without key2 k ys)
+others-keys : (key1 key2 : Key) (k : List ℕ) (xs ys : Lines)
+    → others k (map key1 xs ++ map key2 ys) ≡ map key1 (without key1 k xs) ++ map key2 (without key2 k ys)
 others-keys key1 key2 k [] [] = refl
 others-keys key1 key2 k [] (y ∷ ys) = let ih = others-keys key1 key2 k [] ys in grind (arith, ih)
 others-keys key1 key2 k (x ∷ xs) ys = let ih = others-keys key1 key2 k xs ys in grind (arith, ih)
@@ -164,17 +178,20 @@ others-keys key1 key2 k (x ∷ xs) ys = let ih = others-keys key1 key2 k xs ys i
 -- a test that no key passes keeps no line
 pub kept_none : (w : List ℕ → Bool) (key : Key) (ls : Lines) → EachKey (λ k. w k ≡ false) key ls → filter (λ line. w (key line)) ls ≡ []
 kept_none w key [] e = refl
-kept_none w key (x ∷ ls) e = rw e.0 (kept_none w key ls e.1)
+kept_none w key (x ∷ ls) (here, more) = rw here (kept_none w key ls more)
 
 -- the lines with another key
 with_key_without : (key : Key) (k q : List ℕ) (xs : Lines) → bytes_eq q k ≡ false → lines_with_key key (without key k xs) q ≡ lines_with_key key xs q
 with_key_without key k q [] n = refl
 with_key_without key k q (x ∷ xs) n =
     let ih = with_key_without key k q xs n in
-    let apart : key x ≡ k → bytes_eq (key x) q ≡ false = λ e. not_same (key x) q (λ f. (let bad : true ≡ false = sym ((bytes_decides q k).1 (sym f ∙ e)) ∙ n in cc)) in
+    let apart : key x ≡ k → bytes_eq (key x) q ≡ false = λ e. not_same (key x) q
+    (λ f. (let bad : true ≡ false = sym (same_bytes (sym f ∙ e)) ∙ n in cc)) in
     grind (arith, ih, apart, bytes_decides (key x) k)
 
 module _ (tool : MergeTool) (o : IsKeyOrder tool.cmp) where
+  open tool use {cmp}
+
   abbrev nothing_follows : (List ℕ → Bool) → (Side → Lines) → Lines → Lines
   nothing_follows w ls ks = flat_map (entries_of_key tool ls) (filter w ks)
 
@@ -182,59 +199,76 @@ module _ (tool : MergeTool) (o : IsKeyOrder tool.cmp) where
   abbrev pub others_of : List ℕ → (Side → Lines) → Side → Lines
   others_of k ls side = without (tool.key side) k (ls side)
 
-  over_others : (w : List ℕ → Bool) (k : List ℕ) (ls : Side → Lines) (ks : Lines) → Each (Above tool.cmp k) ks → nothing_follows w ls ks ≡ nothing_follows w (others_of k ls) ks
+  over_others : (w : List ℕ → Bool) (k : List ℕ) (ls : Side → Lines) (ks : Lines) → Each (Above cmp k) ks
+      → nothing_follows w ls ks ≡ nothing_follows w (others_of k ls) ks
   over_others w k ls [] e = refl
-  over_others w k ls (q ∷ ks) e =
-      let ih = over_others w k ls ks e.1 in
-      let n = above_not_same tool.cmp o k q e.0 in
+  over_others w k ls (q ∷ ks) (here, more) =
+      let ih = over_others w k ls ks more in
+      let n = above_not_same cmp o k q here in
       grind (arith, ih, with_key_without (tool.key First) k q (ls First) n, with_key_without (tool.key Second) k q (ls Second) n)
 
   -- The entries of a key that is at most all others come first, followed by those of the lines with other keys.
-  pub least_first : (w : List ℕ → Bool) (k : List ℕ) (ls : Side → Lines) → ((side : Side) → EachKey (AtMost tool.cmp k) (tool.key side) (ls side)) → tool.entries k [] [] ≡ []
+  pub least_first : (w : List ℕ → Bool) (k : List ℕ) (ls : Side → Lines)
+      → ((side : Side) → EachKey (AtMost cmp k) (tool.key side) (ls side)) → tool.entries k [] [] ≡ []
       → entries_by_key tool w ls ≡ cond (w k) (entries_of_key tool ls k) [] ++ entries_by_key tool w (others_of k ls)
-  least_first w k ls e none = by (distinct_least tool.cmp o k (keys tool ls) all)
+  least_first w k ls e none = by (distinct_least cmp o k (keys tool ls) all)
     where
-      all : Each (AtMost tool.cmp k) (keys tool ls)
+      all : Each (AtMost cmp k) (keys tool ls)
       all = Each-append _ _ _ (e First) (e Second)
 
       ds : Lines
-      ds = distinct_keys tool.cmp (others k (keys tool ls))
+      ds = distinct_keys cmp (others k (keys tool ls))
 
       rest : nothing_follows w ls ds ≡ entries_by_key tool w (others_of k ls)
-      rest = over_others w k ls _ (Each-distinct _ _ _ (others_above tool.cmp o k (keys tool ls) all))
-          ∙ ap (λ l. nothing_follows w (others_of k ls) (distinct_keys tool.cmp l)) (others-keys (tool.key First) (tool.key Second) k (ls First) (ls Second))
+      rest = over_others w k ls _ (Each-distinct _ _ _ (others_above cmp o k (keys tool ls) all))
+          ∙ ap (λ l. nothing_follows w (others_of k ls) (distinct_keys cmp l))
+          (others-keys (tool.key First) (tool.key Second) k (ls First) (ls Second))
 
-      by : (distinct_keys tool.cmp (keys tool ls) ≡ k ∷ ds) ⊎ ((distinct_keys tool.cmp (keys tool ls) ≡ ds) × Each (λ y. bytes_eq y k ≡ false) (keys tool ls))
+      by : (distinct_keys cmp (keys tool ls) ≡ k ∷ ds) ⊎ ((distinct_keys cmp (keys tool ls) ≡ ds)
+          × Each (λ y. bytes_eq y k ≡ false) (keys tool ls))
           → entries_by_key tool w ls ≡ cond (w k) (entries_of_key tool ls k) [] ++ entries_by_key tool w (others_of k ls)
       by (inl d) = rw (d, ← rest) (grind arith)
-      by (inr d) =
-          let n = Each-parts (λ y. bytes_eq y k ≡ false) (map (tool.key First) (ls First)) (map (tool.key Second) (ls Second)) d.1 in
-          rw (d.0, ← rest) (grind (arith, none, kept_none (λ y. bytes_eq y k) (tool.key First) (ls First) n.0, kept_none (λ y. bytes_eq y k) (tool.key Second) (ls Second) n.1))
+      by (inr (without_k, absent)) =
+          let (absent1, absent2) = Each-parts (λ y. bytes_eq y k ≡ false) (map (tool.key First) (ls First))
+          (map (tool.key Second) (ls Second)) absent in
+          rw (without_k, ← rest) (grind (
+            arith,
+            none,
+            kept_none (λ y. bytes_eq y k) (tool.key First) (ls First) absent1,
+            kept_none (λ y. bytes_eq y k) (tool.key Second) (ls Second) absent2,
+          ))
 
   -- lines of one key, followed by lines with no lesser keys
-  pub lines_with_key-front : (key : Key) (k : List ℕ) (f r : Lines) → EachKey (λ x. x ≡ k) key f → (lines_with_key key (f ++ r) k ≡ f ++ lines_with_key key r k) × (without key k (f ++ r) ≡ without key k r)
+  pub lines_with_key-front : (key : Key) (k : List ℕ) (f r : Lines) → EachKey (λ x. x ≡ k) key f
+      → (lines_with_key key (f ++ r) k ≡ f ++ lines_with_key key r k) × (without key k (f ++ r) ≡ without key k r)
   lines_with_key-front key k [] r e = (refl, refl)
-  lines_with_key-front key k (x ∷ f) r e = let ih = lines_with_key-front key k f r e.1 in rw ((bytes_decides (key x) k).1 e.0) (ap (λ l. x ∷ l) ih.0, ih.1)
+  lines_with_key-front key k (x ∷ f) r (here, more) =
+      let (ih, others) = lines_with_key-front key k f r more in rw (same_bytes here) (ap (λ l. x ∷ l) ih, others)
 
-  pub at_most-same : (key : Key) (k : List ℕ) (f r : Lines) → EachKey (λ x. x ≡ k) key f → EachKey (AtMost tool.cmp k) key r → EachKey (AtMost tool.cmp k) key (f ++ r)
-  at_most-same key k f r e h = EachKey-append _ key f r (EachKey-weaker _ _ (λ x is. rw is (self_at_most tool.cmp o k)) key f e) h
+  pub at_most-same : (key : Key) (k : List ℕ) (f r : Lines) → EachKey (λ x. x ≡ k) key f → EachKey (AtMost cmp k) key r
+      → EachKey (AtMost cmp k) key (f ++ r)
+  at_most-same key k f r e h =
+      EachKey-append _ key f r (EachKey-weaker _ _ (λ x is. rw is (self_at_most cmp o k)) key f e) h
 
   glued : (t : Bool) (all a b rest : Lines) → all ≡ a ++ b → cond t all [] ++ rest ≡ cond t a [] ++ (cond t b [] ++ rest)
   glued t all a b rest e = grind (arith, append_assoc a b rest)
 
   -- Lines of the least key, followed by lines with no lesser keys.
   module _ (w : List ℕ → Bool) (k : List ℕ) (f r : Side → Lines) (s : (side : Side) → EachKey (λ x. x ≡ k) (tool.key side) (f side))
-      (a : (side : Side) → EachKey (AtMost tool.cmp k) (tool.key side) (r side)) (none : tool.entries k [] [] ≡ []) where
+      (a : (side : Side) → EachKey (AtMost cmp k) (tool.key side) (r side)) (none : tool.entries k [] [] ≡ []) where
     pub front_is : entries_by_key tool w (λ side. f side ++ r side)
-        ≡ cond (w k) (tool.entries k (f First ++ lines_with_key (tool.key First) (r First) k) (f Second ++ lines_with_key (tool.key Second) (r Second) k)) [] ++ entries_by_key tool w (others_of k r)
+        ≡ cond (w k) (tool.entries k (f First ++ lines_with_key (tool.key First) (r First) k)
+        (f Second ++ lines_with_key (tool.key Second) (r Second) k)) [] ++ entries_by_key tool w (others_of k r)
     front_is =
         let in_front = λ (side : Side). lines_with_key-front (tool.key side) k (f side) (r side) (s side) in
         least_first w k (λ side. f side ++ r side) (λ side. at_most-same (tool.key side) k (f side) (r side) (s side) (a side)) none
         ∙ (λ i. cond (w k) (tool.entries k ((in_front First).0 i) ((in_front Second).0 i)) [] ++ entries_by_key tool w (λ side. (in_front side).1 i))
 
   pub front_first : (w : List ℕ → Bool) (k : List ℕ) (f r : Side → Lines) → ((side : Side) → EachKey (λ x. x ≡ k) (tool.key side) (f side))
-      → ((side : Side) → EachKey (AtMost tool.cmp k) (tool.key side) (r side)) → tool.entries k [] [] ≡ []
-      → tool.entries k (f First ++ lines_with_key (tool.key First) (r First) k) (f Second ++ lines_with_key (tool.key Second) (r Second) k) ≡ tool.entries k (f First) (f Second) ++ entries_of_key tool r k
+      → ((side : Side) → EachKey (AtMost cmp k) (tool.key side) (r side)) → tool.entries k [] [] ≡ []
+      → tool.entries k (f First ++ lines_with_key (tool.key First) (r First) k)
+      (f Second ++ lines_with_key (tool.key Second) (r Second) k) ≡ tool.entries k (f First)
+      (f Second) ++ entries_of_key tool r k
       → entries_by_key tool w (λ side. f side ++ r side) ≡ entries_by_key tool w f ++ entries_by_key tool w r
   front_first w k f r s a none law =
       let first = simp append-nil at (front_is w k f (λ side. []) s (λ side. tt) none) in
@@ -242,5 +276,7 @@ module _ (tool : MergeTool) (o : IsKeyOrder tool.cmp) where
       ∙ (λ i. sym first i ++ sym (least_first w k r a none) i)
 
   -- no line with a greater key has the key
-  pub lines_with_key-above : (key : Key) (k : List ℕ) (r : Lines) → EachKey (Above tool.cmp k) key r → lines_with_key key r k ≡ []
-  lines_with_key-above key k r a = kept_none (λ y. bytes_eq y k) key r (EachKey-weaker _ _ (λ y g. above_not_same tool.cmp o k y g) _ _ a)
+  pub lines_with_key-above : (key : Key) (k : List ℕ) (r : Lines) → EachKey (Above cmp k) key r
+      → lines_with_key key r k ≡ []
+  lines_with_key-above key k r a =
+      kept_none (λ y. bytes_eq y k) key r (EachKey-weaker _ _ (λ y g. above_not_same cmp o k y g) _ _ a)

@@ -4,7 +4,8 @@ use Rattle.ptmerge.proofs.Common.{◌≡◌, ◌≢◌, inl, inr, ℕ, zero, suc
 use Rattle.ptmerge.proofs.Common.{sum_by-cons, Slots, line, total_bytes, with_new_slot, with_line, Side, First, Second, Sorted, HasSlots, EnsureFourSlotsPost, ClearFourSlotsPost, Bool, both, with_side, other}
 
 -- two functions of the side, each changed at the same side
-pub put_both : {X Y : Type 0} (P : Side → X → Y → Type 0) (s : Side) (x : X) (f : Side → X) (y : Y) (g : Side → Y) → P s x y → P (other s) (f (other s)) (g (other s))
+pub put_both : {X Y : Type 0} (P : Side → X → Y → Type 0) (s : Side) (x : X) (f : Side → X) (y : Y) (g : Side → Y)
+    → P s x y → P (other s) (f (other s)) (g (other s))
     → (side : Side) → P side (with_side s x f side) (with_side s y g side)
 put_both P First x f y g p q First = p
 put_both P First x f y g p q Second = q
@@ -48,15 +49,30 @@ HasLines m more (a ∷ b ∷ c ∷ d ∷ rest) = (length a ≤ m First) × (leng
 HasLines m more few = ⊥
 
 four_total : (a b c d : List ℕ) (rest : List (List ℕ)) → total_bytes (a ∷ b ∷ c ∷ d ∷ rest) ≡ ((length a + length b) + length c) + length d + total_bytes rest
-four_total a b c d rest = omega (arith, sum_by-cons length a (b ∷ c ∷ d ∷ rest), sum_by-cons length b (c ∷ d ∷ rest), sum_by-cons length c (d ∷ rest), sum_by-cons length d rest)
+four_total a b c d rest = omega (
+  arith,
+  sum_by-cons length a (b ∷ c ∷ d ∷ rest),
+  sum_by-cons length b (c ∷ d ∷ rest),
+  sum_by-cons length c (d ∷ rest),
+  sum_by-cons length d rest,
+)
 
 pub has_lines_none : (xs : List (List ℕ)) → 4 ≤ length xs → total_bytes xs ≡ 0 → HasLines (λ side. 0) 0 xs
 has_lines_none (a ∷ b ∷ c ∷ d ∷ rest) four none = omega (arith, four_total a b c d rest)
 has_lines_none few four none = absurd (omega arith)
 
+-- the number of slots, and the bytes in all of them
+pub record LinesTotal (xs : List (List ℕ)) (m : Side → ℕ) (more : ℕ) : Type 0 where
+  pub four : 4 ≤ length xs
+  pub most : total_bytes xs ≤ 2 * m First + 2 * m Second + more
+  pub is : total_bytes xs ≡ ((length (get_or xs 0 []) + length (get_or xs 1 [])) + length (get_or xs 2 [])) + length
+      (get_or xs 3 []) + more
+
 pub has_lines_total : (xs : List (List ℕ)) (m : Side → ℕ) (more : ℕ) → HasLines m more xs
-    → (4 ≤ length xs) × (total_bytes xs ≤ 2 * m First + 2 * m Second + more) × (total_bytes xs ≡ ((length (get_or xs 0 []) + length (get_or xs 1 [])) + length (get_or xs 2 [])) + length (get_or xs 3 []) + more)
-has_lines_total (a ∷ b ∷ c ∷ d ∷ rest) m more h = omega (arith, four_total a b c d rest)
+    → LinesTotal xs m more
+has_lines_total (a ∷ b ∷ c ∷ d ∷ rest) m more h =
+    let sum = four_total a b c d rest in
+    record { four = omega arith; most = omega (arith, sum, h); is = omega (arith, sum, h) }
 has_lines_total few m more h = absurd h
 
 -- the next line of an input replaces its previous line
@@ -71,10 +87,10 @@ set_line s cursor (a ∷ b ∷ c ∷ d ∷ rest) m k more x slots h up l = by s 
     second = omega (arith, h, up Second)
 
     by : (t : Side) → HasSlots t cursor → length x ≤ k t → HasLines k more (set (a ∷ b ∷ c ∷ d ∷ rest) cursor.previous_slot x)
-    by First (inl e) l = rw e.1 (first.0, l, second.0, second.1, h.4)
-    by First (inr e) l = rw e.1 (l, first.1, second.0, second.1, h.4)
-    by Second (inl e) l = rw e.1 (first.0, first.1, second.0, l, h.4)
-    by Second (inr e) l = rw e.1 (first.0, first.1, l, second.1, h.4)
+    by First (inl (_, is)) l = rw is (first.0, l, second.0, second.1, h.4)
+    by First (inr (_, is)) l = rw is (l, first.1, second.0, second.1, h.4)
+    by Second (inl (_, is)) l = rw is (first.0, first.1, second.0, l, h.4)
+    by Second (inr (_, is)) l = rw is (first.0, first.1, l, second.1, h.4)
 set_line s cursor few m k more x slots h up l = absurd h
 
 -- The invariant of the store of a merge: two lines of each input, of at most `m` bytes each.
@@ -84,24 +100,37 @@ pub record StoreOfLines (before store : Slots) (m : Side → ℕ) : Type 0 where
   pub slots : length store.lines ≡ max (length before.lines) 4
   pub denied : store.denied ≡ false
 
-pub store_of_no_lines : {before store : Slots} → EnsureFourSlotsPost before store → before.denied ≡ false → total_bytes before.lines ≡ 0 → StoreOfLines before store (λ side. 0)
-store_of_no_lines {store = store} four allowed empty = record
-    { lines = has_lines_none store.lines (omega (arith, four.slots)) (four.total_bytes ∙ empty); peak = omega (arith, four.peak); slots = four.slots; denied = four.denied ∙ allowed }
+pub store_of_no_lines : {before store : Slots} → EnsureFourSlotsPost before store → before.denied ≡ false
+    → total_bytes before.lines ≡ 0 → StoreOfLines before store (λ side. 0)
+store_of_no_lines {store = store} four allowed empty = record {
+  lines = has_lines_none store.lines (omega (arith, four.slots)) (four.total_bytes ∙ empty);
+  peak = omega (arith, four.peak);
+  slots = four.slots;
+  denied = four.denied ∙ allowed;
+}
 
-pub store_with_line : {before store after : Slots} (s : Side) (cursor : Sorted) {m : Side → ℕ} (k : Side → ℕ) (x : List ℕ) → HasSlots s cursor → StoreOfLines before store m
+pub store_with_line : {before store after : Slots} (s : Side) (cursor : Sorted) {m : Side → ℕ} (k : Side → ℕ)
+    (x : List ℕ) → HasSlots s cursor → StoreOfLines before store m
     → ((side : Side) → m side ≤ k side) → length x ≤ k s → after ≡ with_line store cursor.previous_slot x → StoreOfLines before after k
 store_with_line {store = store} s cursor {m} k x slots kept up fits is =
     let inside = set_line s cursor store.lines m k 0 x slots kept.lines up fits in
     rw is (record {
       lines = inside;
-      peak = omega (arith, kept.peak, up First, up Second, (has_lines_total (set store.lines cursor.previous_slot x) k 0 inside).1);
+      peak = omega (
+        arith,
+        kept.peak,
+        up First,
+        up Second,
+        (has_lines_total (set store.lines cursor.previous_slot x) k 0 inside).most,
+      );
       slots = length-set store.lines cursor.previous_slot x ∙ kept.slots;
       denied = kept.denied;
     })
 
 -- the first four slots were emptied
 cleared : (lines : List (List ℕ)) (peak : ℕ) (denied : Bool) → 4 ≤ length lines
-    → let s : Slots = record { lines = lines; peak = peak; denied = denied } in ClearFourSlotsPost s (with_line (with_line (with_line (with_line s 0 []) 1 []) 2 []) 3 [])
+    → let s : Slots = record { lines = lines; peak = peak; denied = denied } in
+    ClearFourSlotsPost s (with_line (with_line (with_line (with_line s 0 []) 1 []) 2 []) 3 [])
 cleared (a ∷ b ∷ c ∷ d ∷ rest) peak denied four = record {
   slots = refl;
   emptied = omega (arith, four_total a b c d rest, four_total [] [] [] [] rest);
@@ -110,5 +139,6 @@ cleared (a ∷ b ∷ c ∷ d ∷ rest) peak denied four = record {
 }
 cleared few peak denied four = absurd (omega arith)
 
-pub four_cleared : (s a b c d : Slots) → 4 ≤ length s.lines → a ≡ with_line s 0 [] → b ≡ with_line a 1 [] → c ≡ with_line b 2 [] → d ≡ with_line c 3 [] → ClearFourSlotsPost s d
+pub four_cleared : (s a b c d : Slots) → 4 ≤ length s.lines → a ≡ with_line s 0 [] → b ≡ with_line a 1 []
+    → c ≡ with_line b 2 [] → d ≡ with_line c 3 [] → ClearFourSlotsPost s d
 four_cleared s a b c d four is0 is1 is2 is3 = rw (is3, is2, is1, is0) (cleared s.lines s.peak s.denied four)

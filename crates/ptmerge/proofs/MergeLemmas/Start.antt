@@ -13,29 +13,37 @@ fresh_slots : (s : Side) → HasSlots s (initial_cursor s)
 fresh_slots s = inr (refl, refl)
 
 module _ {tool : MergeTool} {old : MergeState} (w : IsOpenMerge tool old) where
+  open tool use {cmp, key, terminator}
+
   abbrev unstarted : MergeInputs
   unstarted = record { reader = old.reader; store = old.store }
 
   -- an input was advanced to its first line
-  first_line : (side : Side) {new : Reader} {cursor : Sorted} {before after : Slots} → 4 ≤ length before.lines → NextOkPost (tool.key side) tool.cmp (initial_cursor side) cursor (old.reader side) new before after
-      → SideAfterNext tool.terminator tool.cmp (tool.key side) (old.reader side) new cursor (base_slot side) before after [] None
+  first_line : (side : Side) {new : Reader} {cursor : Sorted} {before after : Slots} → 4 ≤ length before.lines
+      → NextOkPost (key side) cmp (initial_cursor side) cursor (old.reader side) new before after
+      → SideAfterNext terminator cmp (key side) (old.reader side) new cursor (base_slot side) before after [] None
   first_line side four comes =
-      let own = own_slots side (initial_cursor side) (fresh_slots side) in
-      next_invariant _ _ w.o _ _ _ _ _ _ _ _ _ (omega (arith, own.1, slot_low side)) own.0 (lines_read_none (w.readable side) (w.terminator side)) refl sorted_up_to_none refl comes
+      let (apart, low, _, _, _) = own_slots side (initial_cursor side) (fresh_slots side) in
+      next_invariant _ _ w.o _ _ _ _ _ _ _ _ _ (omega (arith, low, slot_low side)) apart
+      (lines_read_none (w.readable side) (w.terminator side)) refl sorted_up_to_none refl comes
 
-  unread_side : (side : Side) → ReadFacts tool.terminator tool.cmp (tool.key side) (old.reader side) (old.reader side) (old.reader side) [] [] [] NoBound
+  unread_side : (side : Side) → ReadFacts terminator cmp (key side) (old.reader side) (old.reader side)
+      (old.reader side) [] [] [] NoBound
   unread_side side = read_facts_at_start (w.readable side) (w.terminator side) (reads_nothing (old.reader side)) tt (w.sound side)
 
   abbrev no_lines : Side → Lines
   no_lines side = []
 
   -- the first input was advanced to its first line
-  module _ {first : Sorted} {new : MergeInputs} {Then : Slots → Type 0} (s : StartFirstPost tool.key tool.cmp first unstarted new Then) where
-    n : SideAfterNext tool.terminator tool.cmp (tool.key First) (old.reader First) (new.reader First) first (base_slot First) s.made s.mid [] None
+  module _ {first : Sorted} {new : MergeInputs} {Then : Slots → Type 0}
+      (s : StartFirstPost key cmp first unstarted new Then) where
+    n : SideAfterNext terminator cmp (key First) (old.reader First) (new.reader First) first (base_slot First) s.made
+        s.mid [] None
     n = first_line First (omega (arith, s.four.slots)) s.came
 
     half_store : StoreOfLines old.store s.mid (λ side. max_length (both n.now_ls [] side))
-    half_store = store_with_line First (initial_cursor First) (λ side. max_length (both n.now_ls [] side)) n.bytes (fresh_slots First) (store_of_no_lines s.four w.allowed w.empty)
+    half_store = store_with_line First (initial_cursor First) (λ side. max_length (both n.now_ls [] side)) n.bytes
+        (fresh_slots First) (store_of_no_lines s.four w.allowed w.empty)
         (elim [ First ↦ omega arith | Second ↦ omega arith ]) n.fits n.stored
 
     half_invariant : MergeInvariant tool (both n.bound NoBound) no_lines old.out old.out
@@ -43,23 +51,29 @@ module _ {tool : MergeTool} {old : MergeState} (w : IsOpenMerge tool old) where
 
     -- at most one line of it was read
     first_line_only : length n.now_ls + 0 ≤ 1
-    first_line_only = ⊎_elim (λ e. omega (arith, n.side_invariant.number, ap (λ (c : Sorted). c.number) e.cursor)) (λ e. omega (arith, n.side_invariant.number, ap (λ (c : Sorted). c.number) e.cursor)) s.came
+    first_line_only = ⊎_elim (λ e. omega (arith, n.side_invariant.number, ap (λ (c : Sorted). c.number) e.cursor))
+        (λ e. omega (arith, n.side_invariant.number, ap (λ (c : Sorted). c.number) e.cursor)) s.came
 
     mid_four : 4 ≤ length s.mid.lines
-    mid_four = (has_lines_total s.mid.lines (λ side. max_length (both n.now_ls [] side)) 0 half_store.lines).0
+    mid_four = (has_lines_total s.mid.lines (λ side. max_length (both n.now_ls [] side)) 0 half_store.lines).four
 
-  pub start_ok : (new : MergeInputs) (cursor : Side → Sorted) → HasSlots First (cursor First) → StartOkPost tool.key tool.cmp cursor unstarted new
-      → LoopInvariant tool (StoreHoldsTwoLines old.store) old (state_by_side (both (new.reader First) (new.reader Second)) old.out new.store) (both (cursor First) (cursor Second))
+  pub start_ok : (new : MergeInputs) (cursor : Side → Sorted) → HasSlots First (cursor First)
+      → StartOkPost key cmp cursor unstarted new
+      → LoopInvariant tool (StoreHoldsTwoLines old.store) old
+      (state_by_side (both (new.reader First) (new.reader Second)) old.out new.store)
+      (both (cursor First) (cursor Second))
   start_ok new cursor slots s =
       let f = n s in
       let k = first_line Second (mid_four s) s.later in
-      let apart = slots_apart Second (initial_cursor Second) (cursor First) (fresh_slots Second) slots in
+      let (apart, apart_previous) = slots_apart Second (initial_cursor Second) (cursor First) (fresh_slots Second) slots
+      in
       record {
         ls = both f.now_ls k.now_ls;
         p = no_lines;
         b = both f.bound k.bound;
         sides = elim [
-          | First ↦ side_invariant_kept f.side_invariant (rw k.stored (line_other s.mid 2 (cursor First).current_slot k.bytes apart.0)) (rw k.stored (line_other s.mid 2 (cursor First).previous_slot k.bytes apart.1))
+          | First ↦ side_invariant_kept f.side_invariant (rw k.stored (line_other s.mid 2 (cursor First).current_slot
+              k.bytes apart)) (rw k.stored (line_other s.mid 2 (cursor First).previous_slot k.bytes apart_previous))
           | Second ↦ k.side_invariant
         ];
         merge_invariant = bound_changes Second k.bound (half_invariant s) k.may_follow k.under;
@@ -69,7 +83,8 @@ module _ {tool : MergeTool} {old : MergeState} (w : IsOpenMerge tool old) where
 
   -- the merge could not start
   abbrev StartErr : Reader → Reader → Slots → MergeFault → Type 0
-  StartErr new1 new2 after fault = StartErrPost tool.key tool.cmp unstarted (record { reader = both new1 new2; store = after }) fault
+  StartErr new1 new2 after fault =
+      StartErrPost key cmp unstarted (record { reader = both new1 new2; store = after }) fault
 
   module _ {new1 new2 : Reader} {after : Slots} {fault : MergeFault} where
     pub start_fault : StartErr new1 new2 after fault → MergePost tool old (state_by_side (both new1 new2) old.out after) (Err fault)
@@ -78,32 +93,50 @@ module _ {tool : MergeTool} {old : MergeState} (w : IsOpenMerge tool old) where
         rw u.memory (exit_is_merge_post _ w.o _ _ old.reader (λ side. []) no_lines no_lines (λ side. NoBound) (λ side. rw (u.unread side) (unread_side side))
         (merge_invariant_starts tool old.out) (lag_invariant_starts _ _ _ _ _ _ w.writable (push_nothing old.out) (push_nothing old.out))
         (Err Memory) (record { denied = u.slots.denied; failed = same; clean = w.writable })
-        (λ side fail. absurd (false≢true (sym (same side ∙ w.unfailed side) ∙ fail))) (λ four. absurd (omega (arith, four, u.slots.few)))
-        (record { first = inr (u.unread Second); second = inr (omega arith) }) (λ all l. (omega (arith, u.slots.peak), omega (arith, u.slots.few, (w.fits all).1))))
+        (λ side fail. absurd (false≢true (sym (same side ∙ w.unfailed side) ∙ fail)))
+        (λ four. absurd (omega (arith, four, u.slots.few)))
+        (record { first = inr (u.unread Second); second = inr (omega arith) })
+        (λ all l. omega (arith, u.slots.peak, u.slots.few, w.fits all)))
     start_fault (inr (inl f)) =
         let kept = store_of_no_lines f.four w.allowed w.empty in
-        rw f.unread (fails tool w.o old (state_by_side old.reader old.out f.made) no_lines no_lines (λ side. NoBound) (merge_invariant_starts tool old.out) w.unfailed (λ side. refl) w.writable
-        First (initial_cursor First) new1 after fault (λ r piece. read_facts_at_start (w.readable First) (w.terminator First)) refl None sorted_up_to_none (unread_side Second)
-        (λ r piece free. record { first = inr refl; second = inr (omega (arith, one_line_at_most tool.terminator piece (rw (w.terminator First) at free))) }) kept.denied
-        (λ piece all l. within_size tool w.fits First (initial_cursor First) no_lines all piece (fresh_slots First) kept (λ side. omega (arith, (l side).1)) (omega (arith, (l First).1))) f.fails)
+        rw f.unread (fails tool w.o old (state_by_side old.reader old.out f.made) no_lines no_lines (λ side. NoBound)
+        (merge_invariant_starts tool old.out) w.unfailed (λ side. refl) w.writable
+        First (initial_cursor First) new1 after fault (λ r piece. read_facts_at_start (w.readable First)
+        (w.terminator First)) refl None sorted_up_to_none (unread_side Second)
+        (λ r piece free. record {
+          first = inr refl;
+          second = inr (omega (arith, one_line_at_most terminator piece (rw (w.terminator First) at free)));
+        }) kept.denied
+        (λ piece all l. within_size tool w.fits First (initial_cursor First) no_lines all piece (fresh_slots First) kept
+        (λ side. omega (arith, (l side).longest)) (omega (arith, (l First).longest))) f.fails)
     start_fault (inr (inr f)) =
         let s = f.begins in
         let g = n s in
-        fails tool w.o old (state_by_side (both new1 (old.reader Second)) old.out s.mid) (both g.now_ls []) no_lines (both g.bound NoBound) (half_invariant s) w.unfailed
+        fails tool w.o old (state_by_side (both new1 (old.reader Second)) old.out s.mid) (both g.now_ls []) no_lines
+        (both g.bound NoBound) (half_invariant s) w.unfailed
         (elim [ First ↦ g.side_invariant.lines_read.advance_ok.failed | Second ↦ refl ]) w.writable
-        Second (initial_cursor Second) new2 after fault (λ r piece. read_facts_at_start (w.readable Second) (w.terminator Second)) refl None sorted_up_to_none (read_facts_at_line g.side_invariant)
-        (λ r piece free. record { first = inl g.side_invariant.begun; second = inr (first_line_only s) }) (half_store s).denied
+        Second (initial_cursor Second) new2 after fault (λ r piece. read_facts_at_start (w.readable Second)
+        (w.terminator Second)) refl None sorted_up_to_none (read_facts_at_line g.side_invariant)
+        (λ r piece free. record { first = inl g.side_invariant.begun; second = inr (first_line_only s) })
+        (half_store s).denied
         (λ piece all l. within_size tool w.fits Second (initial_cursor Second) (both g.now_ls []) all piece (fresh_slots Second) (half_store s)
-        (λ side. omega (arith, (l side).1)) (omega (arith, (l Second).1))) s.later
+        (λ side. omega (arith, (l side).longest)) (omega (arith, (l Second).longest))) s.later
 
     -- the number of slots after such a start: fewer than four, or all
-    slots_then : StartErr new1 new2 after fault → StartSlotFaultPost unstarted (record { reader = both new1 new2; store = after }) fault ⊎ (length after.lines ≡ max (length old.store.lines) 4)
+    slots_then : StartErr new1 new2 after fault → StartSlotFaultPost unstarted
+        (record { reader = both new1 new2; store = after }) fault
+        ⊎ (length after.lines ≡ max (length old.store.lines) 4)
     slots_then (inl u) = inl u
     slots_then (inr (inl f)) = inr (next_error_keeps_slot_count First (initial_cursor First) (old.reader First) new1 f.made after fault f.fails ∙ f.four.slots)
-    slots_then (inr (inr f)) = let s = f.begins in inr (next_error_keeps_slot_count Second (initial_cursor Second) (old.reader Second) new2 s.mid after fault s.later ∙ (half_store s).slots)
+    slots_then (inr (inr f)) = let s = f.begins in inr (next_error_keeps_slot_count Second (initial_cursor Second)
+        (old.reader Second) new2 s.mid after fault s.later ∙ (half_store s).slots)
 
     pub start_slots : StartErr new1 new2 after fault → AddedSlots old.store after 4
-    start_slots c = ⊎_elim (λ u. record { least = u.slots.least; most = omega (arith, u.slots.few); all = λ allowed. absurd (false≢true (sym allowed ∙ u.slots.denied)) }) adds_of (slots_then c)
+    start_slots c = ⊎_elim (λ u. record {
+      least = u.slots.least;
+      most = omega (arith, u.slots.few);
+      all = λ allowed. absurd (false≢true (sym allowed ∙ u.slots.denied));
+    }) adds_of (slots_then c)
 
     -- nothing was read if one of the first four slots could not be added
     pub start_unread : StartErr new1 new2 after fault → length after.lines < 4 → IsMergeUnread old (state_by_side (both new1 new2) old.out after)

@@ -18,7 +18,9 @@ use Rattle.ptmerge.specs.declared.faults.MergeFault.TheVariants as faults
 
 -- ---- slots
 
-pub own_slots : (s : Side) (a : Sorted) → HasSlots s a → (a.current_slot ≢ a.previous_slot) × (a.previous_slot ≤ base_slot s + 1) × (a.current_slot ≤ base_slot s + 1) × (base_slot s ≤ a.previous_slot) × (base_slot s ≤ a.current_slot)
+pub own_slots : (s : Side) (a : Sorted) → HasSlots s a → (a.current_slot ≢ a.previous_slot)
+    × (a.previous_slot ≤ base_slot s + 1) × (a.current_slot ≤ base_slot s + 1) × (base_slot s ≤ a.previous_slot)
+    × (base_slot s ≤ a.current_slot)
 own_slots s a h = omega arith
 
 pub slot_low : (s : Side) → base_slot s ≤ 2
@@ -36,13 +38,18 @@ abbrev pub IsAbove : Cmp → Key → List ℕ → Bound → Type 0
 IsAbove cmp key x b = (r : Lines) → MayFollow cmp key b r → EachKey (Above cmp x) key r
 
 -- a key that precedes an input's current line precedes all lines that may follow
-pub current_key_is_above : (cmp : Cmp) (o : IsKeyOrder cmp) (key : Key) (x : List ℕ) (status : CursorStatus) (cursor : Sorted) (store : Slots) (now : Reader) (ls p : Lines) (b : Bound)
-    → PrecedesInput cmp x status (key (line store cursor.current_slot)) (key (line store cursor.previous_slot)) → MatchesStatus cmp key status cursor store now ls p b → IsAbove cmp key x b × IsUnder cmp b x
-current_key_is_above cmp o key x Head cursor store now ls p b before st =
+pub current_key_is_above : (cmp : Cmp) (o : IsKeyOrder cmp) (key : Key) (x : List ℕ) (status : CursorStatus)
+    (cursor : Sorted) (store : Slots) (now : Reader) (ls p : Lines) (b : Bound)
+    → PrecedesInput cmp x status (key (line store cursor.current_slot)) (key (line store cursor.previous_slot))
+    → MatchesStatus cmp key status cursor store now ls p b → IsAbove cmp key x b × IsUnder cmp b x
+current_key_is_above cmp o key x Head cursor store now ls p b before (_, _, bound) =
     let head = key (line store cursor.current_slot) in
     let above : Above cmp x head = is_greater (cmp head x) before in
-    rw st.2 (λ r c. EachKey-weaker _ _ (λ k h. above_up cmp o x head k above h) _ _ c, above_at_most cmp o x head above)
-current_key_is_above cmp o key x Ended cursor store now ls p b before st = rw st.0 (λ r none. rw none tt, tt)
+    rw bound (
+      λ r c. EachKey-weaker _ _ (λ k h. above_up cmp o x head k above h) _ _ c,
+      above_at_most cmp o x head above,
+    )
+current_key_is_above cmp o key x Ended cursor store now ls p b before (bound, _) = rw bound (λ r none. rw none tt, tt)
 current_key_is_above cmp o key x (Disorder n) cursor store now ls p b before st = rw st (λ r none. rw none tt, before)
 
 -- ---- one line
@@ -59,56 +66,83 @@ alone s x = with_side s (x ∷ []) (λ side. [])
 
 -- an input without lines of the key, in which only greater keys follow
 front_none : {cmp : Cmp} (o : IsKeyOrder cmp) {key : Key} {b : Bound} {k : List ℕ} → IsAbove cmp key k b → IsUnder cmp b k → IsLeastKeyRun cmp key b k []
-front_none {cmp} o {key} {k = k} above under = record { own = tt; may_follow = λ r c. c; bound_after = λ r c. EachKey-weaker _ _ (λ y g. above_at_most cmp o k y g) _ _ (above r c); under = under }
+front_none {cmp} o {key} {k = k} above under = record {
+  own = tt;
+  may_follow = λ r c. c;
+  bound_after = λ r c. EachKey-weaker _ _ (λ y g. above_at_most cmp o k y g) _ _ (above r c);
+  under = under;
+}
 
 -- a line is processed whose key precedes all lines that may follow in the other input
 pub write_one_line : (tool : MergeTool) (o : IsKeyOrder tool.cmp) → IsLineByLine tool
-    → (s : Side) (x : List ℕ) (b : Side → Bound) (p : Side → Lines) (was is new : Output) → is.write_failed ≡ false → MergeInvariant tool b p was is → b s ≡ AtLeast (tool.key s x)
+    → (s : Side) (x : List ℕ) (b : Side → Bound) (p : Side → Lines) (was is new : Output) → is.write_failed ≡ false
+    → MergeInvariant tool b p was is → b s ≡ AtLeast (tool.key s x)
     → IsAbove tool.cmp (tool.key (other s)) (tool.key s x) (b (other s)) → IsUnder tool.cmp (b (other s)) (tool.key s x)
-    → PushEffect is new (unlines tool.terminator (entries_by_key tool all_keys (alone s x))) → MergeInvariant tool b (with_side s (p s ++ x ∷ []) p) was new × LagInvariant tool b (with_side s (p s ++ x ∷ []) p) was new
+    → PushEffect is new (unlines tool.terminator (entries_by_key tool all_keys (alone s x)))
+    → MergeInvariant tool b (with_side s (p s ++ x ∷ []) p) was new
+    × LagInvariant tool b (with_side s (p s ++ x ∷ []) p) was new
 write_one_line tool o laws First x b p was is new clean m is_from above under wrote =
     let k = tool.key First x in
-    write_least_run o k (with_side First (p First ++ x ∷ []) p) (alone First x) (elim [ First ↦ line_is_least_run o is_from refl | Second ↦ front_none o above under ])
+    write_least_run o k (with_side First (p First ++ x ∷ []) p) (alone First x)
+    (elim [ First ↦ line_is_least_run o is_from refl | Second ↦ front_none o above under ])
     (elim [ First ↦ refl | Second ↦ sym (append-nil (p Second)) ]) (laws.none k)
-    (λ r c. rw (lines_with_key-above tool o (tool.key Second) k (r Second) (above (r Second) (c Second))) (laws.first k x (lines_with_key (tool.key First) (r First) k))) clean m wrote
+    (λ r c. rw (lines_with_key-above tool o (tool.key Second) k (r Second) (above (r Second) (c Second)))
+    (laws.first k x (lines_with_key (tool.key First) (r First) k))) clean m wrote
 write_one_line tool o laws Second x b p was is new clean m is_from above under wrote =
     let k = tool.key Second x in
-    write_least_run o k (with_side Second (p Second ++ x ∷ []) p) (alone Second x) (elim [ First ↦ front_none o above under | Second ↦ line_is_least_run o is_from refl ])
+    write_least_run o k (with_side Second (p Second ++ x ∷ []) p) (alone Second x)
+    (elim [ First ↦ front_none o above under | Second ↦ line_is_least_run o is_from refl ])
     (elim [ First ↦ sym (append-nil (p First)) | Second ↦ refl ]) (laws.none k)
-    (λ r c. rw (lines_with_key-above tool o (tool.key First) k (r First) (above (r First) (c First))) (laws.second k x (lines_with_key (tool.key Second) (r Second) k))) clean m wrote
+    (λ r c. rw (lines_with_key-above tool o (tool.key First) k (r First) (above (r First) (c First)))
+    (laws.second k x (lines_with_key (tool.key Second) (r Second) k))) clean m wrote
 
 -- ---- the invariant of both inputs
 
 -- the invariant of both inputs
 abbrev pub SidesInvariant : MergeTool → (Side → Reader) → (Side → Reader) → (Side → Sorted) → Slots → (Side → Lines) → (Side → Lines) → (Side → Bound) → Type 0
-SidesInvariant tool old now cursor store ls p b = (side : Side) → SideInvariant tool.terminator tool.cmp (tool.key side) (old side) (now side) (cursor side) store (ls side) (p side) (b side)
+SidesInvariant tool old now cursor store ls p b = (side : Side)
+    → SideInvariant tool.terminator tool.cmp (tool.key side) (old side) (now side) (cursor side) store (ls side)
+    (p side) (b side)
 
-module _ (tool : MergeTool) (o : IsKeyOrder tool.cmp) (old now : Side → Reader) (cursor : Side → Sorted) (store : Slots) (ls p : Side → Lines) (b : Side → Bound)
+module _ (tool : MergeTool) (o : IsKeyOrder tool.cmp) (old now : Side → Reader) (cursor : Side → Sorted) (store : Slots)
+    (ls p : Side → Lines) (b : Side → Bound)
     (sides : SidesInvariant tool old now cursor store ls p b)
     (slots : (side : Side) → HasSlots side (cursor side)) (four : 4 ≤ length store.lines) (s : Side) (head : (cursor s).status ≡ Head) where
-  pub passed_at : IsAtCurrentLine tool.cmp (tool.key s) (cursor s) store (ls s) (p s) (b s)
+  open tool use {cmp, key, terminator}
+
+  pub passed_at : IsAtCurrentLine cmp (key s) (cursor s) store (ls s) (p s) (b s)
   passed_at = at_current_line head (sides s)
 
   abbrev NextOf : Reader → Sorted → Slots → Type 0
-  NextOf new next after = SideAfterNext tool.terminator tool.cmp (tool.key s) (old s) new next (cursor s).previous_slot store after (ls s) (Some (tool.key s (line store (cursor s).current_slot)))
+  NextOf new next after = SideAfterNext terminator cmp (key s) (old s) new next (cursor s).previous_slot store after
+      (ls s) (Some (key s (line store (cursor s).current_slot)))
 
-  pub next_at : (new : Reader) (next : Sorted) (after : Slots) → NextOkPost (tool.key s) tool.cmp (cursor s) next (now s) new store after → NextOf new next after
+  pub next_at : (new : Reader) (next : Sorted) (after : Slots)
+      → NextOkPost (key s) cmp (cursor s) next (now s) new store after → NextOf new next after
   next_at new next after comes =
-      let own = own_slots s (cursor s) (slots s) in
-      next_invariant _ _ o _ _ _ _ _ _ _ _ _ (omega (arith, own.1, slot_low s)) own.0 (sides s).lines_read (sides s).number passed_at.sorted_up_to (passed_at.some, refl) comes
+      let (apart, low, _, _, _) = own_slots s (cursor s) (slots s) in
+      next_invariant _ _ o _ _ _ _ _ _ _ _ _ (omega (arith, low, slot_low s)) apart (sides s).lines_read
+      (sides s).number passed_at.sorted_up_to (passed_at.some, refl) comes
 
   module _ (new : Reader) (next : Sorted) (after : Slots) (n : NextOf new next after) where
     -- the other input is unchanged
-    other_stays : SideInvariant tool.terminator tool.cmp (tool.key (other s)) (old (other s)) (now (other s)) (cursor (other s)) after (ls (other s)) (p (other s)) (b (other s))
+    other_stays : SideInvariant terminator cmp (key (other s)) (old (other s)) (now (other s)) (cursor (other s)) after
+        (ls (other s)) (p (other s)) (b (other s))
     other_stays =
-        let apart = slots_apart s (cursor s) (cursor (other s)) (slots s) (slots (other s)) in
-        side_invariant_kept (sides (other s)) (rw n.stored (line_other store (cursor s).previous_slot (cursor (other s)).current_slot n.bytes apart.0))
-        (rw n.stored (line_other store (cursor s).previous_slot (cursor (other s)).previous_slot n.bytes apart.1))
+        let (apart, apart_previous) = slots_apart s (cursor s) (cursor (other s)) (slots s) (slots (other s)) in
+        side_invariant_kept (sides (other s)) (rw n.stored (line_other store (cursor s).previous_slot
+        (cursor (other s)).current_slot n.bytes apart))
+        (rw n.stored (line_other store (cursor s).previous_slot (cursor (other s)).previous_slot n.bytes
+        apart_previous))
 
-    pub sides_invariant_continues : SidesInvariant tool old (with_side s new now) (with_side s next cursor) after (with_side s n.now_ls ls) (with_side s (ls s) p) (with_side s n.bound b)
-    sides_invariant_continues = elim s as (λ t. SideInvariant tool.terminator tool.cmp (tool.key t) (old t) new next after n.now_ls (ls t) n.bound
-        → SideInvariant tool.terminator tool.cmp (tool.key (other t)) (old (other t)) (now (other t)) (cursor (other t)) after (ls (other t)) (p (other t)) (b (other t))
-        → SidesInvariant tool old (with_side t new now) (with_side t next cursor) after (with_side t n.now_ls ls) (with_side t (ls t) p) (with_side t n.bound b)) [
+    pub sides_invariant_continues : SidesInvariant tool old (with_side s new now) (with_side s next cursor) after
+        (with_side s n.now_ls ls) (with_side s (ls s) p) (with_side s n.bound b)
+    sides_invariant_continues =
+        elim s as (λ t. SideInvariant terminator cmp (key t) (old t) new next after n.now_ls (ls t) n.bound
+        → SideInvariant terminator cmp (key (other t)) (old (other t)) (now (other t)) (cursor (other t)) after
+        (ls (other t)) (p (other t)) (b (other t))
+        → SidesInvariant tool old (with_side t new now) (with_side t next cursor) after (with_side t n.now_ls ls)
+        (with_side t (ls t) p) (with_side t n.bound b)) [
           | First ↦ λ x y. elim [ First ↦ x | Second ↦ y ]
           | Second ↦ λ x y. elim [ First ↦ y | Second ↦ x ]
         ] n.side_invariant other_stays
@@ -121,7 +155,8 @@ module _ (tool : MergeTool) (o : IsKeyOrder tool.cmp) (old now : Side → Reader
 
 -- both inputs are at their ends
 pub all_ended : (tool : MergeTool) (old now : Side → Reader) (cursor : Side → Sorted) (store : Slots) (ls p : Side → Lines) (b : Side → Bound)
-    → SidesInvariant tool old now cursor store ls p b → ((side : Side) → (cursor side).status ≡ Ended) → (side : Side) → (b side ≡ NothingMore) × IsDone (now side)
+    → SidesInvariant tool old now cursor store ls p b → ((side : Side) → (cursor side).status ≡ Ended) → (side : Side)
+    → (b side ≡ NothingMore) × IsDone (now side)
 all_ended tool old now cursor store ls p b sides eof side = rw (eof side) at (sides side).status_is
 
 -- of two inputs out of order, the input `s` is reported, since its last key l is less or it is the first
@@ -134,7 +169,9 @@ abbrev IsReportedOver : Cmp → Side → FirstDisorder → Option FirstDisorder 
 IsReportedOver cmp s d None = Unit {0}
 IsReportedOver cmp s d (Some e) = Precedes cmp s d.last_key e.last_key
 
-named_is : (cmp : Cmp) (s : Side) (f : Side → Option FirstDisorder) (d : FirstDisorder) → f s ≡ Some d → IsReportedOver cmp s d (f (other s)) → earlier_disorder cmp (f First) (f Second) ≡ Some (record { file = s; first_disorder = d })
+named_is : (cmp : Cmp) (s : Side) (f : Side → Option FirstDisorder) (d : FirstDisorder) → f s ≡ Some d
+    → IsReportedOver cmp s d (f (other s)) → earlier_disorder cmp (f First) (f Second) ≡ Some
+    (record { file = s; first_disorder = d })
 named_is cmp s f d e u = grind arith
 
 module _ (cmp : Cmp) (o : IsKeyOrder cmp) where
@@ -146,28 +183,42 @@ module _ (cmp : Cmp) (o : IsKeyOrder cmp) where
 
   -- the other input, if this one is reported
   named_other : (key : Key) (s : Side) (d : FirstDisorder) (status : CursorStatus) (cursor : Sorted) (store : Slots) (now : Reader) (ls p : Lines) (b : Bound)
-      → IsReportable cmp s d.last_key status (key (line store cursor.current_slot)) (key (line store cursor.previous_slot)) → MatchesStatus cmp key status cursor store now ls p b
-      → (f : Option FirstDisorder) (r : Lines) → MayFollow cmp key b r → MayDisorder cmp b f → IsReportedOver cmp s d f × EachKey (λ k. is_le (cmp k d.last_key) ≡ false) key r
-  named_other key s d Head cursor store now ls p b named st f r c is_disordered =
+      → IsReportable cmp s d.last_key status (key (line store cursor.current_slot))
+      (key (line store cursor.previous_slot)) → MatchesStatus cmp key status cursor store now ls p b
+      → (f : Option FirstDisorder) (r : Lines) → MayFollow cmp key b r → MayDisorder cmp b f → IsReportedOver cmp s d f
+      × EachKey (λ k. is_le (cmp k d.last_key) ≡ false) key r
+  named_other key s d Head cursor store now ls p b named (_, _, bound) f r c is_disordered =
       let l = d.last_key in
       let head = key (line store cursor.current_slot) in
       let above : Above cmp l head = is_greater (cmp head l) named in (
-        elim f as (λ g. IsDisorderFrom cmp head g → IsReportedOver cmp s d g) [ None ↦ λ u. tt | Some e ↦ λ u. precedes_above s l e.last_key (above_up cmp o l head e.last_key above u) ] (rw st.2 at is_disordered),
-        EachKey-weaker _ _ (λ k h. ap is_le (above_up cmp o l head k above h)) _ _ (rw st.2 at c),
+        elim f as (λ g. IsDisorderFrom cmp head g → IsReportedOver cmp s d
+            g) [ None ↦ λ u. tt | Some e ↦ λ u. precedes_above s l e.last_key (above_up cmp o l head e.last_key above u) ]
+            (rw bound at is_disordered),
+        EachKey-weaker _ _ (λ k h. ap is_le (above_up cmp o l head k above h)) _ _ (rw bound at c),
       )
-  named_other key s d Ended cursor store now ls p b named st f r c is_disordered = rw (rw st.0 at is_disordered, rw st.0 at c) (tt, tt)
+  named_other key s d Ended cursor store now ls p b named (bound, _) f r c is_disordered =
+      rw (rw bound at is_disordered, rw bound at c) (tt, tt)
   named_other key s d (Disorder m) cursor store now ls p b named st f r c is_disordered =
-      rw (rw st at is_disordered, rw st at c) (named_precedes s d.last_key (key (line store cursor.current_slot)) (key (line store cursor.previous_slot)) m named, tt)
+      rw (rw st at is_disordered, rw st at c) (
+        named_precedes s d.last_key (key (line store cursor.current_slot)) (key (line store cursor.previous_slot)) m
+            named,
+        tt,
+      )
 
 -- an input is out of order, and no key that may follow is up to its last key
 pub stops_at : (tool : MergeTool) (o : IsKeyOrder tool.cmp) (old now : Side → Reader) (cursor : Side → Sorted) (store : Slots) (ls p : Side → Lines)
-    (b : Side → Bound) → SidesInvariant tool old now cursor store ls p b → (s : Side) (n : ℕ) → IsDisorderDecided tool.cmp tool.key cursor store s n → IsExactStop tool b s n
+    (b : Side → Bound) → SidesInvariant tool old now cursor store ls p b → (s : Side) (n : ℕ)
+    → IsDisorderDecided tool.cmp tool.key cursor store s n → IsExactStop tool b s n
 stops_at tool o old now cursor store ls p b sides s n dec l r c f =
     let d : FirstDisorder = record { last_key = previous_key tool.key cursor store s; line = n } in
     let disordered : b s ≡ AfterDisorder d = rw dec.status_is at (sides s).status_is in
-    let rest = named_other _ o _ s d _ _ _ _ _ _ _ dec.named (sides (other s)).status_is _ _ (c (other s)) (f (other s)) in
-    rw (named_is tool.cmp s (λ side. first_disorder tool.cmp (tool.key side) (l side)) d (rw disordered at (f s)) rest.0) (
-      none_wanted tool (λ k. is_le (tool.cmp k d.last_key)) r (side_case (λ side. EachKey (λ k. is_le (tool.cmp k d.last_key) ≡ false) (tool.key side) (r side)) s (rw (rw disordered at (c s)) tt) rest.1),
+    let (reported, above) = named_other _ o _ s d _ _ _ _ _ _ _ dec.named (sides (other s)).status_is _ _ (c (other s))
+    (f (other s)) in
+    rw (named_is tool.cmp s (λ side. first_disorder tool.cmp (tool.key side) (l side)) d (rw disordered at (f s))
+    reported) (
+      none_wanted tool (λ k. is_le (tool.cmp k d.last_key)) r
+          (side_case (λ side. EachKey (λ k. is_le (tool.cmp k d.last_key) ≡ false) (tool.key side) (r side)) s
+          (rw (rw disordered at (c s)) tt) above),
       (refl, refl),
     )
 
@@ -177,13 +228,18 @@ stops_at tool o old now cursor store ls p b sides s n dec l r c f =
 pub buffered_not_done : {r : Reader} → 0 < length r.buffered → ¬ IsDone r
 buffered_not_done some done = absurd (omega (arith, some, ap length done.buffered))
 
-module _ (tool : MergeTool) (o : IsKeyOrder tool.cmp) (old now : MergeState) (ls q : Side → Lines) (b : Side → Bound) (m : MergeInvariant tool b q old.out now.out)
+module _ (tool : MergeTool) (o : IsKeyOrder tool.cmp) (old now : MergeState) (ls q : Side → Lines) (b : Side → Bound)
+    (m : MergeInvariant tool b q old.out now.out)
     (unfailed : (side : Side) → (old.reader side).failed ≡ false)
     (none_failed : (side : Side) → (now.reader side).failed ≡ (old.reader side).failed) (clean : now.out.write_failed ≡ false) where
-  abbrev pub ReadFactsOf : Side → Reader → List ℕ → Type 0
-  ReadFactsOf side new piece = ReadFacts tool.terminator tool.cmp (tool.key side) (old.reader side) (now.reader side) new piece (ls side) (q side) (b side)
+  open tool use {cmp, key}
 
-  fails_not : (side : Side) (r : Reader) → r.failed ≡ (old.reader side).failed → r.failed ≡ true → IsFailedRead tool.cmp (tool.key side) r (ls side) (q side)
+  abbrev pub ReadFactsOf : Side → Reader → List ℕ → Type 0
+  ReadFactsOf side new piece =
+      ReadFacts tool.terminator cmp (key side) (old.reader side) (now.reader side) new piece (ls side) (q side) (b side)
+
+  fails_not : (side : Side) (r : Reader) → r.failed ≡ (old.reader side).failed → r.failed ≡ true
+      → IsFailedRead cmp (key side) r (ls side) (q side)
   fails_not side r same fail = absurd (false≢true (sym (same ∙ unfailed side) ∙ fail))
 
   lag_invariant : LagInvariant tool b q old.out now.out
@@ -191,35 +247,47 @@ module _ (tool : MergeTool) (o : IsKeyOrder tool.cmp) (old now : MergeState) (ls
 
   -- the order of the first reads, if reading the next line of the input `s` failed
   abbrev pub FirstReadsOf : Side → Reader → List ℕ → Type 0
-  FirstReadsOf s r piece = FirstReads tool.terminator old.reader now.reader (with_side s r now.reader) ls (with_side s piece (λ side. []))
+  FirstReadsOf s r piece =
+      FirstReads tool.terminator old.reader now.reader (with_side s r now.reader) ls (with_side s piece (λ side. []))
 
   -- reading the next line of an input failed
   pub fails : (s : Side) (cursor : Sorted) (new : Reader) (after : Slots) (fault : MergeFault)
-      → ((r : Reader) (piece : List ℕ) → ReaderAdvance (now.reader s) r piece → IsLine (now.reader s).terminator piece → IsSound r → ReadFactsOf s r piece) → ls s ≡ q s
-      → (last : Option (List ℕ)) → IsSortedUpTo tool.cmp (tool.key s) (q s) last → ReadFactsOf (other s) (now.reader (other s)) []
-      → ((r : Reader) (piece : List ℕ) → IsLine (now.reader s).terminator piece → FirstReadsOf s r piece) → now.store.denied ≡ false
-      → ((piece : List ℕ) → Fits tool old.store now.reader ls (with_side s piece (λ side. [])) (with_line now.store cursor.previous_slot piece)) → NextErrPost s cursor (now.reader s) new now.store after fault
+      → ((r : Reader) (piece : List ℕ) → ReaderAdvance (now.reader s) r piece → IsLine (now.reader s).terminator piece
+      → IsSound r → ReadFactsOf s r piece) → ls s ≡ q s
+      → (last : Option (List ℕ)) → IsSortedUpTo cmp (key s) (q s) last → ReadFactsOf (other s) (now.reader (other s)) []
+      → ((r : Reader) (piece : List ℕ) → IsLine (now.reader s).terminator piece → FirstReadsOf s r piece)
+      → now.store.denied ≡ false
+      → ((piece : List ℕ) → Fits tool old.store now.reader ls (with_side s piece (λ side. []))
+      (with_line now.store cursor.previous_slot piece)) → NextErrPost s cursor (now.reader s) new now.store after fault
       → MergePost tool old (record { reader = with_side s new now.reader; out = now.out; store = after }) (Err fault)
-  fails s cursor new after (Read file) gone all last sorted_up_to rest order roomy fits moves =
-      let e = moves.0 in
-      rw moves.1 (exit_is_merge_post tool o old (state_by_side (with_side s new now.reader) now.out after) now.reader (with_side s e.piece (λ side. [])) ls q b
-      (put_both ReadFactsOf s new now.reader e.piece (λ side. []) (gone new e.piece e.faults.reads e.faults.whole moves.2) rest) m lag_invariant (Err (Read s))
+  fails s cursor new after (Read file) gone all last sorted_up_to rest order roomy fits (e, file_is, sound) =
+      rw file_is (exit_is_merge_post tool o old (state_by_side (with_side s new now.reader) now.out after) now.reader
+      (with_side s e.piece (λ side. [])) ls q b
+      (put_both ReadFactsOf s new now.reader e.piece (λ side. []) (gone new e.piece e.faults.reads e.faults.whole sound)
+      rest) m lag_invariant (Err (Read s))
       (record {
-        cause = rw (put_same s new now.reader) (⊎_elim (λ h. inl h) (λ h. inr (h.0, h.1 ∙ none_failed s)) e.cause);
+        cause = rw (put_same s new now.reader) (⊎_elim (λ h. inl h) (λ (long, same). inr (long, same ∙ none_failed s))
+            e.cause);
         others = rw (put_other s new now.reader) (none_failed (other s));
         clean = clean;
         denied = rw e.stored roomy;
       })
-      (put_each (λ side (r : Reader). r.failed ≡ true → IsFailedRead tool.cmp (tool.key side) r (ls side) (q side)) s new now.reader
-      (λ fail. ⊎_elim (λ h. record { buffered = h.1; eof = h.2; all = all; last = last; sorted_up_to = sorted_up_to }) (λ h. fails_not s new (h.1 ∙ none_failed s) fail) e.cause)
-      (λ side. fails_not side (now.reader side) (none_failed side))) tt (order new e.piece e.faults.whole) (rw e.stored (fits e.piece)))
-  fails s cursor new after Memory gone all last sorted_up_to rest order roomy fits moves =
-      let e = moves.0 in
+      (put_each (λ side (r : Reader). r.failed ≡ true → IsFailedRead cmp (key side) r (ls side) (q side)) s new
+      now.reader
+      (λ fail. ⊎_elim (λ (_, buffered, eof). record
+      { buffered = buffered; eof = eof; all = all; last = last; sorted_up_to = sorted_up_to })
+      (λ (_, same). fails_not s new (same ∙ none_failed s) fail) e.cause)
+      (λ side. fails_not side (now.reader side) (none_failed side))) tt (order new e.piece e.faults.whole)
+      (rw e.stored (fits e.piece)))
+  fails s cursor new after Memory gone all last sorted_up_to rest order roomy fits (e, sound) =
       let failed = put_each (λ side (r : Reader). r.failed ≡ (old.reader side).failed) s new now.reader (e.failed ∙ none_failed s) none_failed in
       exit_is_merge_post tool o old (state_by_side (with_side s new now.reader) now.out after) now.reader (with_side s e.piece (λ side. [])) ls q b
-      (put_both ReadFactsOf s new now.reader e.piece (λ side. []) (gone new e.piece e.faults.reads e.faults.whole moves.1) rest) m lag_invariant (Err Memory)
-      (record { denied = rw e.stored refl; failed = failed; clean = clean }) (λ side. fails_not side (with_side s new now.reader side) (failed side))
-      (λ four. (s, rw (put_same s new now.reader) (buffered_not_done e.left))) (order new e.piece e.faults.whole) (rw e.stored (fits e.piece))
+      (put_both ReadFactsOf s new now.reader e.piece (λ side. []) (gone new e.piece e.faults.reads e.faults.whole sound)
+      rest) m lag_invariant (Err Memory)
+      (record { denied = rw e.stored refl; failed = failed; clean = clean })
+      (λ side. fails_not side (with_side s new now.reader side) (failed side))
+      (λ four. (s, rw (put_same s new now.reader) (buffered_not_done e.left))) (order new e.piece e.faults.whole)
+      (rw e.stored (fits e.piece))
   fails s cursor new after other gone all last sorted_up_to rest order roomy fits moves = absurd moves
 
 -- ---- between two steps
@@ -234,10 +302,14 @@ pub record LoopInvariant (tool : MergeTool) (Keep : Slots → (Side → Lines) �
   pub keeps : Keep now.store ls
 
 -- a write failed, and nothing was read after it
-pub same_state : (tool : MergeTool) (old : MergeState) (s : Side) (now : MergeState) (out : Output) (reader : Reader) (after : Slots) (fault : MergeFault) → fault ≡ Write
-    → WriteFaultPost (now.reader s) reader now.store after out → MergePost tool old (state_by_side now.reader out now.store) (Err Write) → MergePost tool old (state_by_side (with_side s reader now.reader) out after) (Err fault)
+pub same_state : (tool : MergeTool) (old : MergeState) (s : Side) (now : MergeState) (out : Output) (reader : Reader)
+    (after : Slots) (fault : MergeFault) → fault ≡ Write
+    → WriteFaultPost (now.reader s) reader now.store after out
+    → MergePost tool old (state_by_side now.reader out now.store) (Err Write)
+    → MergePost tool old (state_by_side (with_side s reader now.reader) out after) (Err fault)
 same_state tool old s now out reader after fault is e m =
-    let unread_side : with_side s (now.reader s) now.reader ≡ now.reader = λ i side. put_each (λ (t : Side) (r : Reader). r ≡ now.reader t) s (now.reader s) now.reader refl (λ t. refl) side i in
+    let unread_side : with_side s (now.reader s) now.reader ≡ now.reader = λ i side. put_each
+    (λ (t : Side) (r : Reader). r ≡ now.reader t) s (now.reader s) now.reader refl (λ t. refl) side i in
     rw (is, e.unread, e.store, unread_side) m
 
 pub slots_of : {key : Side → Key} (one two : Sorted) (store : Slots) → AreValidCursors key one two store → (side : Side) → HasSlots side (both one two side)
@@ -250,24 +322,29 @@ wrote_as end e xs ys was is same list wrote = rw (list, ← same) wrote
 -- ---- the number of slots
 
 -- after advancing
-pub next_keeps_slot_count : (key : Key) (cmp : Cmp) (cursor next : Sorted) (was is : Reader) (before after : Slots) → NextOkPost key cmp cursor next was is before after → length after.lines ≡ length before.lines
+pub next_keeps_slot_count : (key : Key) (cmp : Cmp) (cursor next : Sorted) (was is : Reader) (before after : Slots)
+    → NextOkPost key cmp cursor next was is before after → length after.lines ≡ length before.lines
 next_keeps_slot_count key cmp cursor next was is before after (inl e) = rw (e.next_line.stored, length-set)
 next_keeps_slot_count key cmp cursor next was is before after (inr e) = rw (e.empty, length-set)
 
 -- after a failed read
-pub next_error_keeps_slot_count : (s : Side) (cursor : Sorted) (was is : Reader) (before after : Slots) (fault : MergeFault) → NextErrPost s cursor was is before after fault → length after.lines ≡ length before.lines
-next_error_keeps_slot_count s cursor was is before after (Read file) e = rw (e.0.stored, length-set)
-next_error_keeps_slot_count s cursor was is before after Memory e = rw (e.0.stored, length-set)
+pub next_error_keeps_slot_count : (s : Side) (cursor : Sorted) (was is : Reader) (before after : Slots)
+    (fault : MergeFault) → NextErrPost s cursor was is before after fault → length after.lines ≡ length before.lines
+next_error_keeps_slot_count s cursor was is before after (Read file) (e, _, _) = rw (e.stored, length-set)
+next_error_keeps_slot_count s cursor was is before after Memory (e, _) = rw (e.stored, length-set)
 next_error_keeps_slot_count s cursor was is before after other e = absurd e
 
-pub advance_keeps_slot_count : (key : Key) (cmp : Cmp) (s : Side) (cursor next : Sorted) (was is : Reader) (before after : Slots) (out : Output) (fault : MergeFault)
+pub advance_keeps_slot_count : (key : Key) (cmp : Cmp) (s : Side) (cursor next : Sorted) (was is : Reader)
+    (before after : Slots) (out : Output) (fault : MergeFault)
     → WriteThenNextPost key cmp s cursor next was is before after out (Err fault) → length after.lines ≡ length before.lines
-advance_keeps_slot_count key cmp s cursor next was is before after out fault (inl e) = rw e.1.store
-advance_keeps_slot_count key cmp s cursor next was is before after out fault (inr e) = next_error_keeps_slot_count s cursor was is before after fault e.1
+advance_keeps_slot_count key cmp s cursor next was is before after out fault (inl (_, e)) = rw e.store
+advance_keeps_slot_count key cmp s cursor next was is before after out fault (inr (_, e)) =
+    next_error_keeps_slot_count s cursor was is before after fault e
 
 -- a write failed, or reading the next line did
 abbrev pub AdvanceErrPost : Side → Sorted → Reader → Reader → Slots → Slots → Output → MergeFault → Type 0
-AdvanceErrPost s cursor was is before after out fault = ((fault ≡ Write) × WriteFaultPost was is before after out) ⊎ ((out.write_failed ≡ false) × NextErrPost s cursor was is before after fault)
+AdvanceErrPost s cursor was is before after out fault = ((fault ≡ Write) × WriteFaultPost was is before after out)
+    ⊎ ((out.write_failed ≡ false) × NextErrPost s cursor was is before after fault)
 
 -- all missing slots were added
 pub adds_of : {before after : Slots} → length after.lines ≡ max (length before.lines) 4 → AddedSlots before after 4
@@ -280,12 +357,14 @@ abbrev pub HoldsTwoLines : MergeTool → Type 0
 HoldsTwoLines tool = (ls : Side → Lines) → (2 * max_length (ls First) + 2 * max_length (ls Second) ≤ tool.size ls) × (4 ≤ tool.slots ls)
 
 -- a line is no longer than the longest line
-pub within_size : (tool : MergeTool) → HoldsTwoLines tool → {before store : Slots} (s : Side) (cursor : Sorted) (ls all : Side → Lines) (piece : List ℕ) → HasSlots s cursor
-    → StoreOfLines before store (λ side. max_length (ls side)) → ((side : Side) → max_length (ls side) ≤ max_length (all side)) → length piece ≤ max_length (all s)
+pub within_size : (tool : MergeTool) → HoldsTwoLines tool → {before store : Slots} (s : Side) (cursor : Sorted)
+    (ls all : Side → Lines) (piece : List ℕ) → HasSlots s cursor
+    → StoreOfLines before store (λ side. max_length (ls side))
+    → ((side : Side) → max_length (ls side) ≤ max_length (all side)) → length piece ≤ max_length (all s)
     → FitsIn tool before (with_line store cursor.previous_slot piece) all
 within_size tool fits s cursor ls all piece slots k up fit =
     let kept = store_with_line s cursor (λ side. max_length (all side)) piece slots k up fit refl in
-    (omega (arith, kept.peak, (fits all).0), omega (arith, kept.slots, (fits all).1))
+    omega (arith, kept.peak, kept.slots, fits all)
 
 -- the conditions at the start
 pub record IsOpenMerge (tool : MergeTool) (old : MergeState) : Type 0 where
@@ -299,16 +378,20 @@ pub record IsOpenMerge (tool : MergeTool) (old : MergeState) : Type 0 where
   pub allowed : old.store.denied ≡ false
   pub empty : total_bytes old.store.lines ≡ 0
 
-pub open_merge : {tool : MergeTool} {first second : Reader} {out : Output} {store : Slots} → IsKeyOrder tool.cmp → HoldsTwoLines tool → MergeRunPre tool.terminator first second out store
+pub open_merge : {tool : MergeTool} {first second : Reader} {out : Output} {store : Slots} → IsKeyOrder tool.cmp
+    → HoldsTwoLines tool → MergeRunPre tool.terminator first second out store
     → IsOpenMerge tool (merge_state first second out store)
 open_merge {tool} {first} {second} {store = store} o fits b = record {
   o = o;
   fits = fits;
-  terminator = both_each (λ (side : Side) (r : Reader). r.terminator ≡ tool.terminator) first second b.terminator.0 b.terminator.1;
-  sound = both_each (λ (side : Side) (r : Reader). IsSound r) first second b.sound.0 b.sound.1;
+  terminator = both_each (λ (side : Side) (r : Reader). r.terminator ≡ tool.terminator) first second b.terminator1 b.terminator2;
+  sound = both_each (λ (side : Side) (r : Reader). IsSound r) first second b.sound1 b.sound2;
   readable = elim [ First ↦ b.ready.readable1 | Second ↦ b.ready.readable2 ];
   -- a sound reader has not failed
-  unfailed = elim [ First ↦ b.sound.0.unfailed b.ready.opened1 b.ready.readable1 | Second ↦ b.sound.1.unfailed b.ready.opened2 b.ready.readable2 ];
+  unfailed = elim [
+    | First ↦ b.sound1.unfailed b.ready.opened1 b.ready.readable1
+    | Second ↦ b.sound2.unfailed b.ready.opened2 b.ready.readable2
+  ];
   writable = b.writable;
   allowed = b.ready.allowed;
   empty = b.ready.empty;
@@ -316,41 +399,59 @@ open_merge {tool} {first} {second} {store = store} o fits b = record {
 
 -- The store between two steps: it holds two lines of each input, and is within the measure for all lists that continue
 -- these lines, also when it is emptied and when it holds a piece of a further line.
-pub record StoreInvariant (tool : MergeTool) (before : Slots) (reader : Side → Reader) (cursor : Side → Sorted) (store : Slots) (ls : Side → Lines) : Type 0 where
+pub record StoreInvariant (tool : MergeTool) (before : Slots) (reader : Side → Reader) (cursor : Side → Sorted)
+    (store : Slots) (ls : Side → Lines) : Type 0 where
   pub lines : HasLines (λ side. max_length (ls side)) 0 store.lines
   pub denied : store.denied ≡ false
-  pub fits : (after : Slots) → after.peak ≤ max store.peak (total_bytes store.lines) → length after.lines ≡ length store.lines → Fits tool before reader ls (λ side. []) after
+  pub fits : (after : Slots) → after.peak ≤ max store.peak (total_bytes store.lines)
+      → length after.lines ≡ length store.lines → Fits tool before reader ls (λ side. []) after
   pub line : (s : Side) (piece : List ℕ) → Fits tool before reader ls (with_side s piece (λ side. [])) (with_line store (cursor s).previous_slot piece)
 
 -- the store holds two lines of each input and nothing else
 abbrev pub StoreHoldsTwoLines : Slots → Slots → (Side → Lines) → Type 0
 StoreHoldsTwoLines before store ls = StoreOfLines before store (λ side. max_length (ls side))
 
-pub holds_two : {tool : MergeTool} (fits : HoldsTwoLines tool) {before store : Slots} {reader : Side → Reader} {cursor : Side → Sorted} {ls : Side → Lines} → StoreHoldsTwoLines before store ls
+pub holds_two : {tool : MergeTool} (fits : HoldsTwoLines tool) {before store : Slots} {reader : Side → Reader}
+    {cursor : Side → Sorted} {ls : Side → Lines} → StoreHoldsTwoLines before store ls
     → ((side : Side) → HasSlots side (cursor side)) → StoreInvariant tool before reader cursor store ls
 holds_two {tool} fits {store = store} {cursor = cursor} {ls} k slots = record {
   lines = k.lines;
   denied = k.denied;
   fits = λ after peak same all l.
-      let sum = (has_lines_total store.lines (λ side. max_length (ls side)) 0 k.lines).1 in
-      (omega (arith, peak, sum, k.peak, (fits all).0, (l First).1, (l Second).1), omega (arith, same, k.slots, (fits all).1));
-  line = λ s piece all l. within_size tool fits s (cursor s) ls all piece (slots s) k (λ side. omega (arith, (l side).1)) (omega (arith, (l s).1, ap length (put_same s piece (λ side. []))));
+      let sum = (has_lines_total store.lines (λ side. max_length (ls side)) 0 k.lines).most in (
+        omega (arith, peak, sum, k.peak, fits all, (l First).longest, (l Second).longest),
+        omega (arith, same, k.slots, fits all),
+      );
+  line = λ s piece all l. within_size tool fits s (cursor s) ls all piece (slots s) k
+      (λ side. omega (arith, (l side).longest))
+      (omega (arith, (l s).longest, ap length (put_same s piece (λ side. []))));
 }
 
 -- the cursors between two steps, for any output
-pub record CursorsInvariant (tool : MergeTool) (old : MergeState) (reader : Side → Reader) (cursor : Side → Sorted) (store : Slots) (ls p : Side → Lines) (b : Side → Bound) : Type 0 where
+pub record CursorsInvariant (tool : MergeTool) (old : MergeState) (reader : Side → Reader) (cursor : Side → Sorted)
+    (store : Slots) (ls p : Side → Lines) (b : Side → Bound) : Type 0 where
   pub sides : SidesInvariant tool old.reader reader cursor store ls p b
   pub holds : StoreInvariant tool old.store reader cursor store ls
   pub slots : (side : Side) → HasSlots side (cursor side)
 
-pub slots_on : {key : Key} {cmp : Cmp} {cursor next : Sorted} {was is : Reader} {before after : Slots} (s : Side) → HasSlots s cursor → NextOkPost key cmp cursor next was is before after → HasSlots s next
-slots_on s h (inl e) = rw e.cursor (⊎_elim (λ k. inr (k.1, k.0)) (λ k. inl (k.1, k.0)) h)
-slots_on s h (inr e) = rw e.cursor (⊎_elim (λ k. inr (k.1, k.0)) (λ k. inl (k.1, k.0)) h)
+-- the two slots change places
+other_slots : (s : Side) (cursor : Sorted) → HasSlots s cursor
+    → HasSlots s (record cursor { current_slot = cursor.previous_slot; previous_slot = cursor.current_slot })
+other_slots s cursor (inl (current, previous)) = inr (previous, current)
+other_slots s cursor (inr (current, previous)) = inl (previous, current)
 
-module _ {tool : MergeTool} {old : MergeState} (w : IsOpenMerge tool old) {reader : Side → Reader} {cursor : Side → Sorted} {store : Slots} {ls p : Side → Lines} {b : Side → Bound}
+pub slots_on : {key : Key} {cmp : Cmp} {cursor next : Sorted} {was is : Reader} {before after : Slots} (s : Side)
+    → HasSlots s cursor → NextOkPost key cmp cursor next was is before after → HasSlots s next
+slots_on {cursor = cursor} s h (inl e) = rw e.cursor (other_slots s cursor h)
+slots_on {cursor = cursor} s h (inr e) = rw e.cursor (other_slots s cursor h)
+
+module _ {tool : MergeTool} {old : MergeState} (w : IsOpenMerge tool old) {reader : Side → Reader}
+    {cursor : Side → Sorted} {store : Slots} {ls p : Side → Lines} {b : Side → Bound}
     (a : CursorsInvariant tool old reader cursor store ls p b) where
+  open tool use {cmp, key}
+
   four : 4 ≤ length store.lines
-  four = (has_lines_total store.lines (λ side. max_length (ls side)) 0 a.holds.lines).0
+  four = (has_lines_total store.lines (λ side. max_length (ls side)) 0 a.holds.lines).four
 
   pub none_failed : (side : Side) → (reader side).failed ≡ (old.reader side).failed
   none_failed side = (a.sides side).lines_read.advance_ok.failed
@@ -366,39 +467,56 @@ module _ {tool : MergeTool} {old : MergeState} (w : IsOpenMerge tool old) {reade
 
   -- an input of which the lines `q` are processed
   abbrev ReadFactsBy : Side → Lines → Type 0
-  ReadFactsBy side q = ReadFacts tool.terminator tool.cmp (tool.key side) (old.reader side) (reader side) (reader side) [] (ls side) q (b side)
+  ReadFactsBy side q =
+      ReadFacts tool.terminator cmp (key side) (old.reader side) (reader side) (reader side) [] (ls side) q (b side)
 
   -- an input at its current line, and one whose current line is processed
   pub read_facts_current : (side : Side) → ReadFactsBy side (p side)
   read_facts_current side = read_facts_at_line (a.sides side)
 
-  passing : (s : Side) → (cursor s).status ≡ Head → (new : Reader) (piece : List ℕ) → ReaderAdvance (reader s) new piece → IsLine (reader s).terminator piece → IsSound new
-      → ReadFacts tool.terminator tool.cmp (tool.key s) (old.reader s) (reader s) new piece (ls s) (ls s) (b s)
-  passing s head new piece reads free sound = let h = at_current_line head (a.sides s) in rw h.bound (read_facts_after_line w.o (a.sides s).lines_read reads free sound h.sorted_up_to)
+  passing : (s : Side) → (cursor s).status ≡ Head → (new : Reader) (piece : List ℕ) → ReaderAdvance (reader s) new piece
+      → IsLine (reader s).terminator piece → IsSound new
+      → ReadFacts tool.terminator cmp (key s) (old.reader s) (reader s) new piece (ls s) (ls s) (b s)
+  passing s head new piece reads free sound = let h = at_current_line head (a.sides s) in
+      rw h.bound (read_facts_after_line w.o (a.sides s).lines_read reads free sound h.sorted_up_to)
 
   pub passing_now : (s : Side) → (cursor s).status ≡ Head → ReadFactsBy s (ls s)
   passing_now s head = passing s head (reader s) [] (reads_nothing (reader s)) tt (a.sides s).sound
 
   -- the iteration failed, after the lines `q` were processed
-  pub iteration_fails : (s : Side) → (cursor s).status ≡ Head → {q : Side → Lines} {out : Output} → MergeInvariant tool b q old.out out × LagInvariant tool b q old.out out → q s ≡ ls s → ReadFactsBy (other s) (q (other s))
-      → {new : Reader} {after : Slots} {fault : MergeFault} → AdvanceErrPost s (cursor s) (reader s) new store after out fault → MergePost tool old (state_by_side (with_side s new reader) out after) (Err fault)
-  iteration_fails s head {q} {out} m same rest {new} {after} {fault} (inl e) = same_state tool old s (state_by_side reader out store) out new after fault e.0 e.1 (exit_is_merge_post _ w.o _ _ _ (λ side. []) _ q _
-      (side_case (λ side. ReadFactsBy side (q side)) s (rw same (passing_now s head)) rest) m.0 m.1 (Err Write) (record { write_failed = e.1.write_failed; failed = none_failed; denied = a.holds.denied })
+  pub iteration_fails : (s : Side) → (cursor s).status ≡ Head → {q : Side → Lines} {out : Output}
+      → MergeInvariant tool b q old.out out × LagInvariant tool b q old.out out → q s ≡ ls s
+      → ReadFactsBy (other s) (q (other s))
+      → {new : Reader} {after : Slots} {fault : MergeFault} → AdvanceErrPost s (cursor s) (reader s) new store after out
+      fault → MergePost tool old (state_by_side (with_side s new reader) out after) (Err fault)
+  iteration_fails s head {q} {out} (m, lag) same rest {new} {after} {fault} (inl (is_write, e)) = same_state tool old s
+      (state_by_side reader out store) out new after fault is_write e (exit_is_merge_post _ w.o _ _ _ (λ side. []) _ q _
+      (side_case (λ side. ReadFactsBy side (q side)) s (rw same (passing_now s head)) rest) m lag (Err Write)
+      (record { write_failed = e.write_failed; failed = none_failed; denied = a.holds.denied })
       (no_failure _) tt (both_begun begun) (a.holds.fits store (omega arith) refl))
-  iteration_fails s head {q} {out} m same rest {new} {after} {fault} (inr e) =
+  iteration_fails s head {q} {out} (m, _) same rest {new} {after} {fault} (inr (clean, e)) =
       let h = at_current_line head (a.sides s) in
-      fails tool w.o old (state_by_side reader out store) ls q b m.0 w.unfailed none_failed e.0 s (cursor s) new after fault
-      (λ r piece reads free sound. rw same (passing s head r piece reads free sound)) (sym same) (Some (tool.key s (line store (cursor s).current_slot))) (rw same h.sorted_up_to) rest (λ r piece free. both_begun begun) a.holds.denied
-      (a.holds.line s) e.1
+      fails tool w.o old (state_by_side reader out store) ls q b m w.unfailed none_failed clean s (cursor s) new after
+      fault
+      (λ r piece reads free sound. rw same (passing s head r piece reads free sound)) (sym same)
+      (Some (key s (line store (cursor s).current_slot))) (rw same h.sorted_up_to) rest
+      (λ r piece free. both_begun begun) a.holds.denied
+      (a.holds.line s) e
 
   -- the slots are emptied at the end
-  module _ {out : Output} (m : MergeInvariant tool b p old.out out) (clean : out.write_failed ≡ false) {after : Slots} (clear : ClearFourSlotsPost store after) where
-    concludes : (result : Result (Unit {0}) MergeFault) → MergeEndPost old (state_by_side reader out after) result → IsExactExit tool (state_by_side reader out after) b result → MergePost tool old (state_by_side reader out after) result
-    concludes result ends conclusion = exit_is_merge_post _ w.o _ _ _ (λ side. []) _ _ _ read_facts_current m (lag_invariant_starts _ _ _ _ _ _ clean m.wrote (push_nothing out)) result ends (no_failure _) conclusion (both_begun begun)
+  module _ {out : Output} (m : MergeInvariant tool b p old.out out) (clean : out.write_failed ≡ false) {after : Slots}
+      (clear : ClearFourSlotsPost store after) where
+    concludes : (result : Result (Unit {0}) MergeFault) → MergeEndPost old (state_by_side reader out after) result
+        → IsExactExit tool (state_by_side reader out after) b result
+        → MergePost tool old (state_by_side reader out after) result
+    concludes result ends conclusion = exit_is_merge_post _ w.o _ _ _ (λ side. []) _ _ _ read_facts_current m
+        (lag_invariant_starts _ _ _ _ _ _ clean m.wrote (push_nothing out)) result ends (no_failure _) conclusion
+        (both_begun begun)
         (a.holds.fits after clear.peak clear.slots)
 
     empty : total_bytes after.lines ≡ 0
-    empty = omega (arith, clear.emptied, (has_lines_total store.lines (λ side. max_length (ls side)) 0 a.holds.lines).2)
+    empty =
+        omega (arith, clear.emptied, (has_lines_total store.lines (λ side. max_length (ls side)) 0 a.holds.lines).is)
 
     denied : after.denied ≡ false
     denied = clear.denied ∙ a.holds.denied
@@ -407,64 +525,99 @@ module _ {tool : MergeTool} {old : MergeState} (w : IsOpenMerge tool old) {reade
     ends_well step =
         let e = all_ended tool _ _ _ _ _ _ _ a.sides step in
         let short = λ (side : Side). (a.sides side).lines_read.advance_ok.short ((w.sound side).long (w.readable side)) in
-        concludes (Ok tt) (record { done = λ side. (e side).1; fault = fault; failed = none_failed; short = short; clean = clean; denied = denied; empty = empty }) (λ side. (e side).0)
+        concludes (Ok tt) (record {
+          done = λ side. (let (_, done) = e side in done);
+          fault = fault;
+          failed = none_failed;
+          short = short;
+          clean = clean;
+          denied = denied;
+          empty = empty;
+        })
+        (λ side. (let (none, _) = e side in none))
 
-    pub ends_fallen : {s : Side} {n : ℕ} → IsDisorderDecided tool.cmp tool.key cursor store s n → MergePost tool old (state_by_side reader out after) (Err (faults.Disorder s n))
+    pub ends_fallen : {s : Side} {n : ℕ} → IsDisorderDecided cmp key cursor store s n
+        → MergePost tool old (state_by_side reader out after) (Err (faults.Disorder s n))
     ends_fallen {s} {n} step =
-        concludes (Err (faults.Disorder s n)) (record { fault = fault; failed = none_failed; clean = clean; denied = denied; empty = empty }) (stops_at tool w.o _ _ _ _ _ _ _ a.sides s n step)
+        concludes (Err (faults.Disorder s n))
+        (record { fault = fault; failed = none_failed; clean = clean; denied = denied; empty = empty })
+        (stops_at tool w.o _ _ _ _ _ _ _ a.sides s n step)
 
   -- an input advances
   module _ (s : Side) (head : (cursor s).status ≡ Head) {next : Sorted} {new : Reader} {after : Slots}
-      (comes : NextOkPost (tool.key s) tool.cmp (cursor s) next (reader s) new store after) where
-    pub n : SideAfterNext tool.terminator tool.cmp (tool.key s) (old.reader s) new next (cursor s).previous_slot store after (ls s) (Some (tool.key s (line store (cursor s).current_slot)))
+      (comes : NextOkPost (key s) cmp (cursor s) next (reader s) new store after) where
+    pub n : SideAfterNext tool.terminator cmp (key s) (old.reader s) new next (cursor s).previous_slot store after
+        (ls s) (Some (key s (line store (cursor s).current_slot)))
     n = next_at tool w.o _ _ _ _ _ _ _ a.sides a.slots four s head _ _ _ comes
 
     pub keeps_two : StoreHoldsTwoLines old.store store ls → StoreHoldsTwoLines old.store after (with_side s n.now_ls ls)
     keeps_two keeps = store_with_line s (cursor s) (λ side. max_length (with_side s n.now_ls ls side)) n.bytes (a.slots s) keeps
-        (put_each (λ side (l : Lines). max_length (ls side) ≤ max_length l) s n.now_ls ls n.longer (λ side. omega arith)) (rw (put_same s n.now_ls ls) n.fits) n.stored
+        (put_each (λ side (l : Lines). max_length (ls side) ≤ max_length l) s n.now_ls ls n.longer
+        (λ side. omega arith)) (rw (put_same s n.now_ls ls) n.fits) n.stored
 
-    sides_next : SidesInvariant tool old.reader (with_side s new reader) (with_side s next cursor) after (with_side s n.now_ls ls) (with_side s (ls s) p) (with_side s n.bound b)
+    sides_next : SidesInvariant tool old.reader (with_side s new reader) (with_side s next cursor) after
+        (with_side s n.now_ls ls) (with_side s (ls s) p) (with_side s n.bound b)
     sides_next = sides_invariant_continues tool w.o _ _ _ _ _ _ _ a.sides a.slots four s head _ _ _ n
 
-    pub advance_ok : HoldsTwoLines tool → StoreHoldsTwoLines old.store store ls → CursorsInvariant tool old (with_side s new reader) (with_side s next cursor) after (with_side s n.now_ls ls) (with_side s (ls s) p) (with_side s n.bound b)
-    advance_ok fits keeps = let slots = put_each HasSlots s next cursor (slots_on s (a.slots s) comes) a.slots in record { sides = sides_next; holds = holds_two fits (keeps_two keeps) slots; slots = slots }
+    pub advance_ok : HoldsTwoLines tool → StoreHoldsTwoLines old.store store ls
+        → CursorsInvariant tool old (with_side s new reader) (with_side s next cursor) after (with_side s n.now_ls ls)
+        (with_side s (ls s) p) (with_side s n.bound b)
+    advance_ok fits keeps = let slots = put_each HasSlots s next cursor (slots_on s (a.slots s) comes) a.slots in
+        record { sides = sides_next; holds = holds_two fits (keeps_two keeps) slots; slots = slots }
 
     -- the output comes first, as before
     pub goes_merging : {q : Side → Lines} {out : Output} → MergeInvariant tool b q old.out out → MergeInvariant tool (with_side s n.bound b) q old.out out
     goes_merging m = merge_invariant_continues tool w.o _ _ _ _ _ _ _ a.sides a.slots four s head _ _ _ n _ _ _ m
 
-    pub runs_on : {Keep : Slots → (Side → Lines) → Type 0} {out : Output} → Keep after (with_side s n.now_ls ls) → MergeInvariant tool b (with_side s (ls s) p) old.out out
+    pub runs_on : {Keep : Slots → (Side → Lines) → Type 0} {out : Output} → Keep after (with_side s n.now_ls ls)
+        → MergeInvariant tool b (with_side s (ls s) p) old.out out
         → LoopInvariant tool Keep old (state_by_side (with_side s new reader) out after) (with_side s next cursor)
-    runs_on keeps m = record { ls = with_side s n.now_ls ls; p = with_side s (ls s) p; b = with_side s n.bound b; sides = sides_next; merge_invariant = goes_merging m; keeps = keeps }
+    runs_on keeps m = record {
+      ls = with_side s n.now_ls ls;
+      p = with_side s (ls s) p;
+      b = with_side s n.bound b;
+      sides = sides_next;
+      merge_invariant = goes_merging m;
+      keeps = keeps;
+    }
 
 -- ---- after one input advanced
 
 -- the fault of a call is returned
 pub err_is : {T E : Type 0} {r : Result T E} {fault : E} → (y : E) × (r ≡ Err y) × (y ≡ fault) → r ≡ Err fault
-err_is x = x.1 ∙ ap (λ y. Err y) x.2
+err_is (_, is, same) = is ∙ ap (λ y. Err y) same
 
 -- the remaining work
 abbrev pub reads_ahead : (Side → Reader) → Sorted → Sorted → ℕ
 reads_ahead reader one two = (budget (reader First) + reads_left one.status) + (budget (reader Second) + reads_left two.status)
 
-pub measure_less : (key : Key) (cmp : Cmp) (s : Side) (one two one2 two2 : Sorted) (f : Side → Reader) (reader : Reader) (before after : Slots) → (both one two s).status ≡ Head
-    → both one2 two2 (other s) ≡ both one two (other s) → NextOkPost key cmp (both one two s) (both one2 two2 s) (f s) reader before after → reads_ahead (with_side s reader f) one2 two2 < reads_ahead f one two
-measure_less key cmp First one two one2 two2 f reader before after head same came = omega (arith, next_decreases head came, ap (λ (q : Sorted). reads_left q.status) same)
-measure_less key cmp Second one two one2 two2 f reader before after head same came = omega (arith, next_decreases head came, ap (λ (q : Sorted). reads_left q.status) same)
+pub measure_less : (key : Key) (cmp : Cmp) (s : Side) (one two one2 two2 : Sorted) (f : Side → Reader) (reader : Reader)
+    (before after : Slots) → (both one two s).status ≡ Head
+    → both one2 two2 (other s) ≡ both one two (other s) → NextOkPost key cmp (both one two s) (both one2 two2 s) (f s)
+    reader before after → reads_ahead (with_side s reader f) one2 two2 < reads_ahead f one two
+measure_less key cmp First one two one2 two2 f reader before after head same came =
+    omega (arith, next_decreases head came, ap (λ (q : Sorted). reads_left q.status) same)
+measure_less key cmp Second one two one2 two2 f reader before after head same came =
+    omega (arith, next_decreases head came, ap (λ (q : Sorted). reads_left q.status) same)
 
 -- the cursors after this input advanced
-pub place_is : (s : Side) (one two one2 two2 : Sorted) → both one2 two2 (other s) ≡ both one two (other s) → with_side s (both one2 two2 s) (both one two) ≡ both one2 two2
+pub place_is : (s : Side) (one two one2 two2 : Sorted) → both one2 two2 (other s) ≡ both one two (other s)
+    → with_side s (both one2 two2 s) (both one two) ≡ both one2 two2
 place_is First one two one2 two2 same = λ i. both one2 (sym same i)
 place_is Second one two one2 two2 same = λ i. both (sym same i) two2
 
 pub own_reader_kept : (s : Side) (one two one2 two2 : Sorted) (f : Side → Reader) (reader : Reader) → both one2 two2 (other s) ≡ both one two (other s)
-    → IsReaderOf (both one2 two2 s) reader → ((side : Side) → IsReaderOf (both one two side) (f side)) → (side : Side) → IsReaderOf (both one2 two2 side) (with_side s reader f side)
+    → IsReaderOf (both one2 two2 s) reader → ((side : Side) → IsReaderOf (both one two side) (f side)) → (side : Side)
+    → IsReaderOf (both one2 two2 side) (with_side s reader f side)
 own_reader_kept s one two one2 two2 f reader same h all =
-    side_case (λ side. IsReaderOf (both one2 two2 side) (with_side s reader f side)) s (rw (put_same s reader f) h) (rw (put_other s reader f, same) (all (other s)))
+    side_case (λ side. IsReaderOf (both one2 two2 side) (with_side s reader f side)) s (rw (put_same s reader f) h)
+    (rw (put_other s reader f, same) (all (other s)))
 
 -- writing out buffered output does not change what was pushed
-pub wrote_and_sent : (was mid is : Output) (pushed : List ℕ) → mid.write_failed ≡ false → PushEffect was mid pushed → PushEffect mid is [] → PushEffect was is pushed
-wrote_and_sent was mid is pushed clean wrote written_out = subst (λ (bytes : List ℕ). PushEffect was is bytes) (append-nil pushed) (push_trans was mid is pushed [] clean wrote written_out)
+pub wrote_and_sent : (was mid is : Output) (pushed : List ℕ) → mid.write_failed ≡ false → PushEffect was mid pushed
+    → PushEffect mid is [] → PushEffect was is pushed
+wrote_and_sent was mid is pushed clean wrote written_out = subst (λ (bytes : List ℕ). PushEffect was is bytes)
+    (append-nil pushed) (push_trans was mid is pushed [] clean wrote written_out)
 
 -- ---- keys in slots
 
@@ -476,11 +629,14 @@ later_status key cmp number last next r some is =
     (λ i. cond (sym t i && is_gt (is i)) (Disorder (number + 1)) Head, λ i. sym t i && is_eq (is i))
 
 -- the stored span belongs to the current line, for all contents of other slots
-pub cursor_valid_kept : (key : Key) (cursor : Sorted) (before after : Slots) → line after cursor.current_slot ≡ line before cursor.current_slot → IsValidCursor key cursor before → IsValidCursor key cursor after
+pub cursor_valid_kept : (key : Key) (cursor : Sorted) (before after : Slots)
+    → line after cursor.current_slot ≡ line before cursor.current_slot → IsValidCursor key cursor before
+    → IsValidCursor key cursor after
 cursor_valid_kept key cursor before after same cursor_valid = record { head = λ status_is. rw same (cursor_valid.head status_is); broken = cursor_valid.broken }
 
 -- the slots after the first four may change
-pub valid_cursors_kept : (key : Side → Key) (one two : Sorted) (before after : Slots) → AreValidCursors key one two before → length before.lines ≤ length after.lines
+pub valid_cursors_kept : (key : Side → Key) (one two : Sorted) (before after : Slots)
+    → AreValidCursors key one two before → length before.lines ≤ length after.lines
     → ((slot : ℕ) → slot < 4 → line after slot ≡ line before slot) → AreValidCursors key one two after
 valid_cursors_kept key one two before after p least same = record {
   first = p.first;
@@ -497,4 +653,5 @@ kept_line before after from to slot low e =
     rw e.copied (line_other e.made to slot (line e.made from) (λ is. absurd (omega (arith, is, low))) ∙ grown)
 
 pub kept_least : (before after : Slots) (from to : ℕ) → CopyToGroupPost before after from to → length before.lines ≤ length after.lines
-kept_least before after from to e = rw (e.copied, length-set) (⊎_elim (λ h. rw h (omega arith)) (λ h. rw h (omega (arith, length_push before.lines []))) e.grown.grown)
+kept_least before after from to e = rw (e.copied, length-set)
+    (⊎_elim (λ h. rw h (omega arith)) (λ h. rw h (omega (arith, length_push before.lines []))) e.grown.grown)

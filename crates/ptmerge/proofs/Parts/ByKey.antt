@@ -32,18 +32,21 @@ module _ {A : Type 0} where
       grind (arith, all k, of_some f p q all ks, first, second)
 
   -- The keys of each part from `a` on.
-  of_each : (f : List ℕ → List A) (part_of : List ℕ → ℕ) (w : List ℕ → Bool) (a n : ℕ) → ((k : List ℕ) → (w k ≡ not (nat_lt (part_of k) a)) × part_of k < a + n) → (ks : Lines)
+  of_each : (f : List ℕ → List A) (part_of : List ℕ → ℕ) (w : List ℕ → Bool) (a n : ℕ)
+      → ((k : List ℕ) → (w k ≡ not (nat_lt (part_of k) a)) × part_of k < a + n) → (ks : Lines)
       → IsPermutation (flat_map f (filter w ks)) (flat_map (λ i. flat_map f (filter (λ k. part_of k == i) ks)) (range_with_len a n))
   of_each f part_of w a zero h [] = IsPermutation-refl []
   of_each f part_of w a zero h (k ∷ ks) = let out : w k ≡ false = grind (arith, nat_tests, h k) in rw out (of_each f part_of w a zero h ks)
   of_each f part_of w a (suc n) h ks = IsPermutation-trans _ _ _ (of_some f w (λ k. part_of k == a) (λ k here. grind (arith, nat_tests, h k, here)) ks)
-      (IsPermutation-append_right _ _ _ (of_each f part_of (λ k. w k && not (part_of k == a)) (a + 1) n (λ k. (grind (arith, nat_tests, h k), omega (arith, h k))) ks))
+      (IsPermutation-append_right _ _ _ (of_each f part_of (λ k. w k && not (part_of k == a)) (a + 1) n
+      (λ k. (grind (arith, nat_tests, h k), omega (arith, h k))) ks))
 
 -- ---- texts
 
 -- the lines of the output: of some entries, followed by those of each key
 lines_of_each : (end : ℕ) (f : List ℕ → Lines) (ks es : Lines)
-    → lines end (unlines end (es ++ flat_map f ks)) ≡ flat_map (λ e. lines end (e ++ end ∷ [])) es ++ flat_map (λ k. flat_map (λ e. lines end (e ++ end ∷ [])) (f k)) ks
+    → lines end (unlines end (es ++ flat_map f ks)) ≡ flat_map (λ e. lines end (e ++ end ∷ [])) es ++ flat_map
+    (λ k. flat_map (λ e. lines end (e ++ end ∷ [])) (f k)) ks
 lines_of_each end f [] [] = refl
 lines_of_each end f (k ∷ ks) [] = lines_of_each end f ks (f k)
 lines_of_each end f ks (e ∷ es) = the_lines_of_parts end (e ++ end ∷ []) (unlines end (es ++ flat_map f ks)) (inr (e, refl))
@@ -51,10 +54,13 @@ lines_of_each end f ks (e ∷ es) = the_lines_of_parts end (e ++ end ∷ []) (un
 
 -- a text made of lines of another text has these lines
 lines_dealt : (end : ℕ) (q : List ℕ → Bool) (bytes : List ℕ) → lines end (unlines end (filter q (lines end bytes))) ≡ filter q (lines end bytes)
-lines_dealt end q bytes = lines-unlines end (filter q (lines end bytes)) (recursion_from_All (IsLine end) _ (All-filter q (IsLine end) _ (All-from_recursion (IsLine end) _ (lines_are end bytes))))
+lines_dealt end q bytes = lines-unlines end (filter q (lines end bytes))
+    (recursion_from_All (IsLine end) _ (All-filter q (IsLine end) _ (All-from_recursion (IsLine end) _
+    (lines_are end bytes))))
 
 pub key_split : (tool : MergeTool) → IsKeyOrder tool.cmp → IsSplittableByKey tool
-key_split tool o inputs part_of parts in_order below = simp (whole, of_part) (of_each each part_of all_keys 0 parts (λ k. (grind (arith, nat_tests), omega (arith, below k))) ds)
+key_split tool o inputs part_of parts in_order below = simp (whole, of_part)
+    (of_each each part_of all_keys 0 parts (λ k. (grind (arith, nat_tests), omega (arith, below k))) ds)
   where
     ls : Side → Lines
     ls = lines_of tool inputs
@@ -69,12 +75,17 @@ key_split tool o inputs part_of parts in_order below = simp (whole, of_part) (of
     of_part i =
         let advance_ok : List ℕ → Bool = λ k. part_of k == i in
         let part : Side → Lines = λ side. filter (λ line. advance_ok (tool.key side line)) (ls side) in
-        let in_part = merged_in_order tool o part (kept_in_order tool o (λ side line. advance_ok (tool.key side line)) ls in_order) ∙ by_keys_kept advance_ok tool o ls all_keys in
-        (λ t. lines tool.terminator (unlines tool.terminator (merged_entries tool (λ side. lines_dealt tool.terminator (λ line. advance_ok (tool.key side line)) (inputs side) t))))
-        ∙ ap (λ es. lines tool.terminator (unlines tool.terminator es)) in_part ∙ lines_of_each tool.terminator (entries_of_key tool ls) (filter advance_ok ds) []
+        let in_part = merged_in_order tool o part (kept_in_order tool o (λ side line. advance_ok (tool.key side line))
+        ls in_order) ∙ by_keys_kept advance_ok tool o ls all_keys in
+        (λ t. lines tool.terminator (unlines tool.terminator
+        (merged_entries tool (λ side. lines_dealt tool.terminator (λ line. advance_ok (tool.key side line))
+        (inputs side) t))))
+        ∙ ap (λ es. lines tool.terminator (unlines tool.terminator es)) in_part
+        ∙ lines_of_each tool.terminator (entries_of_key tool ls) (filter advance_ok ds) []
 
     whole : output_lines tool inputs ≡ flat_map each (filter all_keys ds)
-    whole = ap (λ es. lines tool.terminator (unlines tool.terminator es)) (merged_in_order tool o ls in_order) ∙ lines_of_each tool.terminator (entries_of_key tool ls) (filter all_keys ds) []
+    whole = ap (λ es. lines tool.terminator (unlines tool.terminator es)) (merged_in_order tool o ls in_order)
+        ∙ lines_of_each tool.terminator (entries_of_key tool ls) (filter all_keys ds) []
 
 pub comm_of_keys : CommByKey
 comm_of_keys job = key_split (comm_tool job) (line_order job.descending)

@@ -14,16 +14,16 @@ use Rattle.ptmerge.proofs.MergeLemmas.Orders.{Each, Each-weaker, EachKey, Each-a
 module _ (p : List ℕ → Bool) where
   each_kept : (P : List ℕ → Type 0) (ks : Lines) → Each P ks → Each P (filter p ks)
   each_kept P [] e = tt
-  each_kept P (k ∷ ks) e = grind (arith, each_kept P ks e.1)
+  each_kept P (k ∷ ks) (here, more) = grind (arith, each_kept P ks more)
 
   module _ (cmp : Cmp) (o : IsKeyOrder cmp) where
     insert_kept : (k : List ℕ) (xs : Lines) → Ascends cmp xs → filter p (insert_key cmp k xs) ≡ cond (p k) (insert_key cmp k (filter p xs)) (filter p xs)
     insert_kept k [] a = refl
-    insert_kept k (x ∷ xs) a =
+    insert_kept k (x ∷ xs) (above, more) =
         let least : cmp k x ≡ Less → insert_key cmp k (filter p xs) ≡ k ∷ filter p xs =
-        λ e. insert_least cmp o k (filter p xs) (each_kept _ xs (Each-weaker _ _ (λ y g. above_trans cmp o k x y (ap is_gt e) g) xs a.0)) in
+        λ e. insert_least cmp o k (filter p xs) (each_kept _ xs (Each-weaker _ _ (λ y g. above_trans cmp o k x y (ap is_gt e) g) xs above)) in
         let same : cmp k x ≡ Equal → p k ≡ p x = λ e. ap p (o.exact k x e) in
-        grind (arith, insert_kept k xs a.1, least, same)
+        grind (arith, insert_kept k xs more, least, same)
 
     -- filtering and computing the distinct keys commute
     distinct_kept : (ks : Lines) → filter p (distinct_keys cmp ks) ≡ distinct_keys cmp (filter p ks)
@@ -39,15 +39,17 @@ module _ (p : List ℕ → Bool) where
   keys_kept key (x ∷ ls) = grind (arith, keys_kept key ls)
 
   -- two lists, appended, of which the first passes the test and the second does not
-  kept_parts : (key : Key) (xs ys : Lines) → EachKey (λ k. p k ≡ true) key xs → EachKey (λ k. p k ≡ false) key ys → (kept key (xs ++ ys) ≡ xs) × (filter (λ line. not (p (key line))) (xs ++ ys) ≡ ys)
+  kept_parts : (key : Key) (xs ys : Lines) → EachKey (λ k. p k ≡ true) key xs → EachKey (λ k. p k ≡ false) key ys
+      → (kept key (xs ++ ys) ≡ xs) × (filter (λ line. not (p (key line))) (xs ++ ys) ≡ ys)
   kept_parts key [] [] e f = (refl, refl)
-  kept_parts key [] (y ∷ ys) e f = let ih = kept_parts key [] ys tt f.1 in rw f.0 (ih.0, ap (λ l. y ∷ l) ih.1)
-  kept_parts key (x ∷ xs) ys e f = let ih = kept_parts key xs ys e.1 f in rw e.0 (ap (λ l. x ∷ l) ih.0, ih.1)
+  kept_parts key [] (y ∷ ys) e (here, more) = let (none, all) = kept_parts key [] ys tt more in rw here (none, ap (λ l. y ∷ l) all)
+  kept_parts key (x ∷ xs) ys (here, more) f = let (all, none) = kept_parts key xs ys more f in rw here (ap (λ l. x ∷ l) all, none)
 
   -- all lines of a key pass the test if the key does
   with_key_kept : (key : Key) (k : List ℕ) (ls : Lines) → p k ≡ true → lines_with_key key (kept key ls) k ≡ lines_with_key key ls k
   with_key_kept key k [] h = refl
-  with_key_kept key k (x ∷ ls) h = let same : bytes_eq (key x) k ≡ true → p (key x) ≡ true = λ e. ap p ((bytes_decides (key x) k).0 e) ∙ h in grind (arith, with_key_kept key k ls h, same)
+  with_key_kept key k (x ∷ ls) h = let same : bytes_eq (key x) k ≡ true → p (key x) ≡ true =
+      λ e. ap p ((bytes_decides (key x) k).0 e) ∙ h in grind (arith, with_key_kept key k ls h, same)
 
   module _ (tool : MergeTool) (o : IsKeyOrder tool.cmp) (ls : Side → Lines) where
     open tool use {cmp, entries, key}
@@ -59,8 +61,11 @@ module _ (p : List ℕ → Bool) where
     keys_of_part = simp (keys_kept, filter-append)
 
     -- the entries of the lines that pass the test are those of the keys that pass it
-    pub by_keys_kept : (w : List ℕ → Bool) → entries_by_key tool w (λ side. filter (λ line. p (key side line)) (ls side)) ≡ entries_by_key tool (λ k. w k && p k) ls
-    by_keys_kept w = (λ i. flat_map (entries_of_key tool part) (filter w ((ap (distinct_keys cmp) keys_of_part ∙ sym (distinct_kept cmp o (keys tool ls))) i))) ∙ each_of (distinct_keys cmp (keys tool ls))
+    pub by_keys_kept : (w : List ℕ → Bool) → entries_by_key tool w (λ side. filter (λ line. p (key side line))
+        (ls side)) ≡ entries_by_key tool (λ k. w k && p k) ls
+    by_keys_kept w = (λ i. flat_map (entries_of_key tool part)
+        (filter w ((ap (distinct_keys cmp) keys_of_part ∙ sym (distinct_kept cmp o (keys tool ls))) i)))
+        ∙ each_of (distinct_keys cmp (keys tool ls))
       where
         each_of : (ds : Lines) → flat_map (entries_of_key tool part) (filter w (filter p ds)) ≡ flat_map (entries_of_key tool ls) (filter (λ k. w k && p k) ds)
         each_of [] = refl
@@ -84,11 +89,12 @@ is_under cmp (x ∷ ls) k = is_lt (cmp k x) && is_under cmp ls k
 module _ (cmp : Cmp) (o : IsKeyOrder cmp) where
   below_under : (ls : Lines) (k : List ℕ) → Each (λ l. cmp k l ≡ Less) ls → is_under cmp ls k ≡ true
   below_under [] k e = refl
-  below_under (x ∷ ls) k e = rw e.0 (below_under ls k e.1)
+  below_under (x ∷ ls) k (here, more) = rw here (below_under ls k more)
 
   downward_under : (ls : Lines) → IsDownwardClosed cmp (is_under cmp ls)
   downward_under [] a b g h = refl
-  downward_under (x ∷ ls) a b g h = let less : cmp b x ≡ Less → cmp a x ≡ Less = λ l. o.total.trans a b x (greater_flips cmp o b a g) l in grind (arith, downward_under ls a b g, less)
+  downward_under (x ∷ ls) a b g h = let less : cmp b x ≡ Less → cmp a x ≡ Less =
+      λ l. o.total.trans a b x (greater_flips cmp o b a g) l in grind (arith, downward_under ls a b g, less)
 
   none_under : (ls : Lines) → Each (λ l. is_under cmp ls l ≡ false) ls
   none_under [] = tt
@@ -106,7 +112,9 @@ without_line_number None = None
 without_line_number (Some d) = Some (record { last_key = d.last_key; line = 0 })
 
 -- the keys up to a disorder do not depend on its line number
-by_limits : (cmp : Cmp) (f g : Option FirstDisorder) (k : List ℕ) → is_up_to cmp (earlier_disorder cmp f g) k ≡ is_up_to cmp (earlier_disorder cmp (without_line_number f) (without_line_number g)) k
+by_limits : (cmp : Cmp) (f g : Option FirstDisorder) (k : List ℕ)
+    → is_up_to cmp (earlier_disorder cmp f g) k ≡ is_up_to cmp
+    (earlier_disorder cmp (without_line_number f) (without_line_number g)) k
 by_limits cmp f g k = grind arith
 
 -- the first line is in order, and so are those after it
@@ -115,23 +123,27 @@ no_disorder b d f e = grind arith
 
 module _ (cmp : Cmp) (o : IsKeyOrder cmp) (key : Key) where
   -- the last key in order does not depend on the number of lines before
-  uncounted : (last : Option (List ℕ)) (n m : ℕ) (ys : Lines) → without_line_number (disorder_after cmp key last n ys) ≡ without_line_number (disorder_after cmp key last m ys)
+  uncounted : (last : Option (List ℕ)) (n m : ℕ) (ys : Lines)
+      → without_line_number (disorder_after cmp key last n ys) ≡ without_line_number (disorder_after cmp key last m ys)
   uncounted last n m [] = refl
   uncounted last n m (y ∷ ys) = grind (arith, uncounted (Some (key y)) (n + 1) (m + 1) ys)
 
   -- A list appended to a sorted list with keys of at most its own has its own disorder.
   appended : (last : Option (List ℕ)) (n : ℕ) (xs ys : Lines) → disorder_after cmp key last n xs ≡ None → EachKey (λ k. is_disordered cmp last k ≡ false) key ys
       → EachKey (λ k. EachKey (AtMost cmp k) key ys) key xs
-      → (sorted_after cmp key last (xs ++ ys) ≡ xs ++ sorted_after cmp key None ys) × (without_line_number (disorder_after cmp key last n (xs ++ ys)) ≡ without_line_number (disorder_after cmp key None 0 ys))
+      → (sorted_after cmp key last (xs ++ ys) ≡ xs ++ sorted_after cmp key None ys)
+      × (without_line_number (disorder_after cmp key last n (xs ++ ys)) ≡ without_line_number
+      (disorder_after cmp key None 0 ys))
   appended last n [] [] e h b = (refl, refl)
-  appended last n [] (y ∷ ys) e h b = rw h.0 (refl, uncounted (Some (key y)) (n + 1) 1 ys)
-  appended last n (x ∷ xs) ys e h b =
-      let r = no_disorder (is_disordered cmp last (key x)) (disorder_at last n) (disorder_after cmp key (Some (key x)) (n + 1) xs) e in
-      let more = appended (Some (key x)) (n + 1) xs ys r.1 b.0 b.1 in
-      rw r.0 (ap (λ l. x ∷ l) more.0, more.1)
+  appended last n [] (y ∷ ys) e (here, _) b = rw here (refl, uncounted (Some (key y)) (n + 1) 1 ys)
+  appended last n (x ∷ xs) ys e h (below, below_all) =
+      let (calm, later) = no_disorder (is_disordered cmp last (key x)) (disorder_at last n) (disorder_after cmp key (Some (key x)) (n + 1) xs) e in
+      let (is, without) = appended (Some (key x)) (n + 1) xs ys later below below_all in
+      rw calm (ap (λ l. x ∷ l) is, without)
 
   together : (xs ys : Lines) → first_disorder cmp key xs ≡ None → EachKey (λ k. EachKey (AtMost cmp k) key ys) key xs
-      → (sorted_prefix cmp key (xs ++ ys) ≡ xs ++ sorted_prefix cmp key ys) × (without_line_number (first_disorder cmp key (xs ++ ys)) ≡ without_line_number (first_disorder cmp key ys))
+      → (sorted_prefix cmp key (xs ++ ys) ≡ xs ++ sorted_prefix cmp key ys)
+      × (without_line_number (first_disorder cmp key (xs ++ ys)) ≡ without_line_number (first_disorder cmp key ys))
   together xs ys e b =
       let all = appended None 0 xs ys (sym (first_disorder_is cmp key xs) ∙ e) (Each-all (λ k. is_disordered cmp None k ≡ false) (λ k. refl) (map key ys)) b in
       rw (first_disorder_is cmp key (xs ++ ys), first_disorder_is cmp key ys, sorted_prefix_is cmp key (xs ++ ys), sorted_prefix_is cmp key ys) all
@@ -144,21 +156,23 @@ module _ (cmp : Cmp) (o : IsKeyOrder cmp) (key : Key) where
   each_ordered : (P : List ℕ → Type 0) (ys : Lines) → EachKey P key ys → EachKey P key (sorted_prefix cmp key ys)
   each_ordered P [] e = tt
   each_ordered P (x ∷ []) e = e
-  each_ordered P (x ∷ y ∷ ys) e = grind (arith, each_ordered P (y ∷ ys) e.1)
+  each_ordered P (x ∷ y ∷ ys) (here, more) = grind (arith, each_ordered P (y ∷ ys) more)
 
   -- the last key in order is at least a lower bound of all keys
   from_below : (k : List ℕ) (ys : Lines) → EachKey (AtMost cmp k) key ys → IsDisorderFrom cmp k (first_disorder cmp key ys)
   from_below k [] e = tt
-  from_below k (y ∷ ys) e = rw (first_disorder_is cmp key (y ∷ ys)) (rw e.0 at (after_from cmp o key k 0 (y ∷ ys)).1)
+  from_below k (y ∷ ys) (here, _) = rw (first_disorder_is cmp key (y ∷ ys)) (rw here at (after_from cmp o key k 0 (y ∷ ys)).1)
 
-  kept_after : (p : List ℕ → Bool) (last from : Option (List ℕ)) (n m : ℕ) (xs : Lines) → ((k : List ℕ) → is_disordered cmp last k ≡ false → is_disordered cmp from k ≡ false) → disorder_after cmp key last n xs ≡ None
+  kept_after : (p : List ℕ → Bool) (last from : Option (List ℕ)) (n m : ℕ) (xs : Lines)
+      → ((k : List ℕ) → is_disordered cmp last k ≡ false → is_disordered cmp from k ≡ false)
+      → disorder_after cmp key last n xs ≡ None
       → disorder_after cmp key from m (filter p xs) ≡ None
   kept_after p last from n m [] up e = refl
   kept_after p last from n m (x ∷ xs) up e =
-      let r = no_disorder (is_disordered cmp last (key x)) (disorder_at last n) (disorder_after cmp key (Some (key x)) (n + 1) xs) e in
-      let rise = up (key x) r.0 in
-      let left_out = kept_after p (Some (key x)) from (n + 1) m xs (λ k g. grind (arith, at_most_trans, rise, g)) r.1 in
-      grind (arith, rise, left_out, kept_after p (Some (key x)) (Some (key x)) (n + 1) (m + 1) xs (λ k g. g) r.1)
+      let (calm, later) = no_disorder (is_disordered cmp last (key x)) (disorder_at last n) (disorder_after cmp key (Some (key x)) (n + 1) xs) e in
+      let rise = up (key x) calm in
+      let left_out = kept_after p (Some (key x)) from (n + 1) m xs (λ k g. grind (arith, at_most_trans, rise, g)) later in
+      grind (arith, rise, left_out, kept_after p (Some (key x)) (Some (key x)) (n + 1) (m + 1) xs (λ k g. g) later)
 
   -- a sublist of a sorted list is sorted
   in_order_kept : (p : List ℕ → Bool) (xs : Lines) → first_disorder cmp key xs ≡ None → first_disorder cmp key (filter p xs) ≡ None
@@ -173,7 +187,8 @@ module _ (tool : MergeTool) (o : IsKeyOrder tool.cmp) where
 
   -- sublists of sorted lists are sorted
   pub kept_in_order : (p : Side → List ℕ → Bool) (ls : Side → Lines) → disorder tool ls ≡ None → disorder tool (λ side. filter (p side) (ls side)) ≡ None
-  kept_in_order p ls e = let none = λ (side : Side). in_order_kept cmp o (key side) (p side) (ls side) (none_disordered ls e side) in λ i. earlier_disorder cmp (none First i) (none Second i)
+  kept_in_order p ls e = let none = λ (side : Side). in_order_kept cmp o (key side) (p side) (ls side)
+      (none_disordered ls e side) in λ i. earlier_disorder cmp (none First i) (none Second i)
 
   -- the output for sorted lists is that of all their keys
   pub merged_in_order : (ls : Side → Lines) → disorder tool ls ≡ None → merged_entries tool ls ≡ entries_by_key tool all_keys ls
@@ -187,15 +202,18 @@ module _ (tool : MergeTool) (o : IsKeyOrder tool.cmp) where
 
     both_go_on : (side : Side) → (sorted_prefix cmp (key side) (a side ++ b side) ≡ a side ++ sorted_prefix cmp (key side) (b side))
         × (without_line_number (first_disorder cmp (key side) (a side ++ b side)) ≡ without_line_number (first_disorder cmp (key side) (b side)))
-    both_go_on side = together cmp o (key side) (a side) (b side) (none_disordered a in_order side) (EachKey-weaker _ _ (at_most_high side) (key side) (a side) (low side))
+    both_go_on side = together cmp o (key side) (a side) (b side) (none_disordered a in_order side)
+        (EachKey-weaker _ _ (at_most_high side) (key side) (a side) (low side))
 
     -- the same keys are wanted
     same_wanted : (k : List ℕ) → is_up_to cmp (disorder tool (λ side. a side ++ b side)) k ≡ is_up_to cmp (disorder tool b) k
-    same_wanted k = by_limits cmp _ _ k ∙ (λ i. is_up_to cmp (earlier_disorder cmp ((both_go_on First).1 i) ((both_go_on Second).1 i)) k) ∙ sym (by_limits cmp _ _ k)
+    same_wanted k = by_limits cmp _ _ k ∙ (λ i. is_up_to cmp (earlier_disorder cmp ((both_go_on First).1 i)
+        ((both_go_on Second).1 i)) k) ∙ sym (by_limits cmp _ _ k)
 
     -- all keys of the first lists are wanted
     low_wanted : (k : List ℕ) → p k ≡ true → is_up_to cmp (disorder tool b) k ≡ true
-    low_wanted k h = let from = λ (side : Side). from_below cmp o (key side) k (b side) (at_most_high side k h) in up_to_from cmp o k _ _ (from First) (from Second)
+    low_wanted k h = let from = λ (side : Side). from_below cmp o (key side) k (b side) (at_most_high side k h) in
+        up_to_from cmp o k _ _ (from First) (from Second)
 
     -- The entries of the appended lists are those of the first lists, followed by those of the second.
     entries_together : merged_entries tool (λ side. a side ++ b side) ≡ merged_entries tool a ++ merged_entries tool b
@@ -203,7 +221,8 @@ module _ (tool : MergeTool) (o : IsKeyOrder tool.cmp) where
         let w = is_up_to cmp (disorder tool b) in
         let first_wanted = λ (side : Side). EachKey-weaker _ (λ k. w k ≡ true) low_wanted (key side) (a side) (low side) in
         let all : Side → Lines = λ side. a side ++ sorted_prefixes tool b side in
-        let parts = λ (side : Side). kept_parts p (key side) (a side) (sorted_prefixes tool b side) (low side) (each_ordered cmp o (key side) (λ k. p k ≡ false) (b side) (high side)) in
+        let parts = λ (side : Side). kept_parts p (key side) (a side) (sorted_prefixes tool b side) (low side)
+        (each_ordered cmp o (key side) (λ k. p k ≡ false) (b side) (high side)) in
         (λ i. entries_by_key tool (λ k. same_wanted k i) (λ side. (both_go_on side).0 i)) ∙ downward_splits tool o w p down all
         ∙ (λ i. sym (by_keys_kept p tool o all w) i ++ sym (by_keys_kept (λ k. not (p k)) tool o all w) i)
         ∙ (λ i. entries_by_key tool w (λ side. (parts side).0 i) ++ entries_by_key tool w (λ side. (parts side).1 i))
@@ -216,10 +235,12 @@ of_parts tool o first second cut =
     let a : Side → Lines = lines_of tool first in
     let b : Side → Lines = lines_of tool second in
     let p : List ℕ → Bool = is_under tool.cmp (keys tool b) in
-    let low = λ (side : Side). key_split tool side (λ k. p k ≡ true) a (Each-weaker _ (λ k. p k ≡ true) (below_under tool.cmp o (keys tool b)) (keys tool a) cut.below) in
+    let low = λ (side : Side). key_split tool side (λ k. p k ≡ true) a
+    (Each-weaker _ (λ k. p k ≡ true) (below_under tool.cmp o (keys tool b)) (keys tool a) cut.below) in
     let high = λ (side : Side). key_split tool side (λ k. p k ≡ false) b (none_under tool.cmp o (keys tool b)) in
     ap (unlines tool.terminator) ((λ i. merged_entries tool (λ side. the_lines_of_parts tool.terminator (first side) (second side) (cut.whole side) i))
-    ∙ entries_together tool o p (downward_under tool.cmp o (keys tool b)) a b cut.in_order low high) ∙ unlines-append tool.terminator (merged_entries tool a) (merged_entries tool b)
+    ∙ entries_together tool o p (downward_under tool.cmp o (keys tool b)) a b cut.in_order low high)
+    ∙ unlines-append tool.terminator (merged_entries tool a) (merged_entries tool b)
 
 pub comm_of_parts : CommOfParts
 comm_of_parts job = of_parts (comm_tool job) (line_order job.descending)

@@ -81,8 +81,9 @@ fn span_of_field(separator: Option<u8>, line: &[u8], field: &[u8], remainder: Op
     }
 }
 
-// Returns the span of the field with this number, counted from 1, or `None` if there is none.
-#[inline(always)]
+// Returns the span of the field with this number, counted from 1, or `None` if there is none. Not inlined, so that
+// finding a word of a short line stays small.
+#[inline(never)]
 fn find_by_pieces(separator: Option<u8>, number: u64, line: &[u8]) -> Option<Span>
     ensures { IsFieldFound separator number line.now result }
 {
@@ -97,22 +98,6 @@ fn find_by_pieces(separator: Option<u8>, number: u64, line: &[u8]) -> Option<Spa
         Some((field, remainder)) => Some(span_of_field(separator, line, field, remainder)),
         None => None,
     }
-}
-
-// Like `find_by_pieces`, with a separator.
-#[inline(never)]
-fn find_piece(separator: u8, number: u64, line: &[u8]) -> Option<Span>
-    ensures { IsFieldFound (Some separator) number line.now result }
-{
-    find_by_pieces(Some(separator), number, line)
-}
-
-// Like `find_by_pieces`, for a long line without separators.
-#[inline(never)]
-fn find_word_long(number: u64, line: &[u8]) -> Option<Span>
-    ensures { IsFieldFound None number line.now result }
-{
-    find_by_pieces(None, number, line)
 }
 
 // Returns the blanks of a short line without separators. The result for others does not matter.
@@ -153,9 +138,8 @@ impl<'a> SplitLine<'a> {
         ensures { IsFieldFound self.now.separator number self.now.line.now result }
     {
         match self.separator {
-            Some(byte) => find_piece(byte, number, self.line),
             None if self.line.len() < 64 => find_word(number, self.line, self.blanks),
-            None => find_word_long(number, self.line),
+            separator => find_by_pieces(separator, number, self.line),
         }
     }
 

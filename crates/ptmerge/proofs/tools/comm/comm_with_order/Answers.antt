@@ -8,21 +8,27 @@ use Rattle.ptmerge.specs.declared.key_order.Side.TheVariants as sides
 use Rattle.ptmerge.proofs.tools.comm.comm_with_order.Given as given
 use Rattle.ptmerge.proofs.tools.comm.comm_with_order.Goals as goal
 
-opened : (g : given.Over) (c : After-start g) → IsOpenMerge (comm_with (comm_job c.args.job.now) (g.K.KeyOrder.order c.args.order) (g.K.KeyOrder.key_of c.args.order))
+opened : (g : given.Over) (c : After-start g) → IsOpenMerge (comm_with (comm_job c.args.job.now)
+    (g.K.KeyOrder.order c.args.order) (g.K.KeyOrder.key_of c.args.order))
     (merge_state c.args.first.now c.args.second.now c.args.out.now c.args.store.now)
-opened g c = open_merge (record { total = g.met.K.KeyOrder.total c.args.order; exact = g.met.K.KeyOrder.exact c.args.order }) (λ ls. (omega arith, omega arith)) c.requires.begins
+opened g c = open_merge (record
+    { total = g.met.K.KeyOrder.total c.args.order; exact = g.met.K.KeyOrder.exact c.args.order })
+    (λ ls. (omega arith, omega arith)) c.requires.begins
 
 -- the fault of a call is returned
 is_told : {r : Result (Unit {0}) MergeFault} {fault : MergeFault} → IsErrAnd r (λ y. y ≡ fault) → r ≡ Err fault
 is_told {r} h = err_is (err_from_is_err_and r h)
 
 pub returns-in_err-merge : goal.returns-in_err-merge
-returns-in_err-merge g c = start_fails (comm_job c.args.job.now) (opened g (goal.at.returns-in_err-merge g c).After-start) (is_told c.from_residual.ensures.1) c.in_err-merge.ensures.fails
+returns-in_err-merge g c = start_fails (comm_job c.args.job.now)
+    (opened g (goal.at.returns-in_err-merge g c).After-start) (is_told c.from_residual.ensures.1)
+    c.in_err-merge.ensures.fails
 
 pub steps-init : goal.steps-init
 steps-init g c =
     let p = c.in_ok-merge.ensures in
-    let iteration = starts (comm_job c.args.job.now) (opened g (goal.at.steps-init g c).After-start) c.requires.whole_line_keys p.starts (rw p.order at p.valid_cursors) p.own_reader in
+    let iteration = starts (comm_job c.args.job.now) (opened g (goal.at.steps-init g c).After-start)
+    c.requires.whole_line_keys p.starts (rw p.order at p.valid_cursors) p.own_reader in
     record { iteration = iteration_as g.K.KeyOrder.order g.K.KeyOrder.key_of p.order iteration; order = p.order }
 
 pub write_head-requires-clause-status_is : goal.write_head-requires-clause-status_is
@@ -35,19 +41,24 @@ pub write_head-requires-in-Both-clause-status_is : goal.write_head-requires-in-B
 write_head-requires-in-Both-clause-status_is g c = advance_pre c.steps.invariant.iteration sides.First c.in-Both.ensures.first
 
 pub write_out_and_advance-requires-clause-status_is : goal.write_out_and_advance-requires-clause-status_is
-write_out_and_advance-requires-clause-status_is g c = rw c.write_head-in-Both.ensures.order (second_advance_pre c.steps.invariant.iteration c.in-Both.ensures c.in_ok-write_head-in-Both.ensures.advances)
+write_out_and_advance-requires-clause-status_is g c = rw c.write_head-in-Both.ensures.order
+    (second_advance_pre c.steps.invariant.iteration c.in-Both.ensures c.in_ok-write_head-in-Both.ensures.advances)
 
 pub steps-preserved-in-Continue-branch-2 : goal.steps-preserved-in-Continue-branch-2
 steps-preserved-in-Continue-branch-2 g c =
     let p = c.write_head.ensures in
-    let iteration = alone_continues c.steps.invariant.iteration c.in-First.ensures (c.terminator-terminator.ensures ∙ c.requires.begins.terminator.0) refl p.wrote c.in_ok-write_head-in-First.ensures.advances in
+    let iteration = alone_continues c.steps.invariant.iteration c.in-First.ensures
+    (c.terminator-terminator.ensures ∙ c.requires.begins.terminator1) refl p.wrote
+    c.in_ok-write_head-in-First.ensures.advances in
     record { iteration = iteration_as g.K.KeyOrder.order g.K.KeyOrder.key_of p.order iteration; order = p.order ∙ c.steps.invariant.order }
 
 pub steps-preserved-in-Continue-branch-3 : goal.steps-preserved-in-Continue-branch-3
 steps-preserved-in-Continue-branch-3 g c =
     let i = c.steps.invariant in
     let p = c.write_head-in-Second.ensures in
-    let iteration = alone_continues i.iteration c.in-Second.ensures (c.terminator-terminator.ensures ∙ c.requires.begins.terminator.0) c.tabs-tabs2.ensures p.wrote c.in_ok-write_head-in-Second.ensures.advances in
+    let iteration = alone_continues i.iteration c.in-Second.ensures
+    (c.terminator-terminator.ensures ∙ c.requires.begins.terminator1) c.tabs-tabs2.ensures p.wrote
+    c.in_ok-write_head-in-Second.ensures.advances in
     record { iteration = iteration_as g.K.KeyOrder.order g.K.KeyOrder.key_of p.order iteration; order = p.order ∙ i.order }
 
 pub steps-preserved : goal.steps-preserved
@@ -56,7 +67,9 @@ steps-preserved g c =
     let p = c.write_head-in-Both.ensures in
     let q = c.write_out_and_advance.ensures in
     let continues = rw p.order at c.in_ok-write_out_and_advance-in-Both.ensures.advances in
-    let iteration = pair_continues i.iteration c.in-Both.ensures (c.terminator-terminator.ensures ∙ c.requires.begins.terminator.0) c.tabs-tabs3.ensures p.wrote c.in_ok-write_head-in-Both.ensures.advances q.written_out continues in
+    let iteration = pair_continues i.iteration c.in-Both.ensures
+    (c.terminator-terminator.ensures ∙ c.requires.begins.terminator1) c.tabs-tabs3.ensures p.wrote
+    c.in_ok-write_head-in-Both.ensures.advances q.written_out continues in
     record { iteration = iteration_as g.K.KeyOrder.order g.K.KeyOrder.key_of (q.order ∙ p.order) iteration; order = q.order ∙ p.order ∙ i.order }
 
 pub steps-smaller-in-Continue-branch-2 : goal.steps-smaller-in-Continue-branch-2
@@ -66,32 +79,42 @@ pub steps-smaller-in-Continue-branch-3 : goal.steps-smaller-in-Continue-branch-3
 steps-smaller-in-Continue-branch-3 g c = alone_decreases c.steps.invariant.iteration c.in-Second.ensures c.in_ok-write_head-in-Second.ensures.advances
 
 pub steps-smaller : goal.steps-smaller
-steps-smaller g c = pair_decreases c.steps.invariant.iteration c.in-Both.ensures c.in_ok-write_head-in-Both.ensures.advances (rw c.write_head-in-Both.ensures.order at c.in_ok-write_out_and_advance-in-Both.ensures.advances)
+steps-smaller g c = pair_decreases c.steps.invariant.iteration c.in-Both.ensures
+    c.in_ok-write_head-in-Both.ensures.advances
+    (rw c.write_head-in-Both.ensures.order at c.in_ok-write_out_and_advance-in-Both.ensures.advances)
 
 pub returns-in_err-write_head-in-First : goal.returns-in_err-write_head-in-First
 returns-in_err-write_head-in-First g c =
     exit_as g.K.KeyOrder.order g.K.KeyOrder.key_of (comm_job c.args.job.now) c.steps.invariant.order
-    (alone_fails c.steps.invariant.iteration c.in-First.ensures (c.terminator-terminator.ensures ∙ c.requires.begins.terminator.0) refl c.write_head.ensures.wrote
+    (alone_fails c.steps.invariant.iteration c.in-First.ensures
+    (c.terminator-terminator.ensures ∙ c.requires.begins.terminator1) refl c.write_head.ensures.wrote
     (is_told c.from_residual-in_err-write_head-in-First.ensures.1) c.in_err-write_head-in-First.ensures.advances)
 
 pub returns-in_err-write_head-in-Second : goal.returns-in_err-write_head-in-Second
 returns-in_err-write_head-in-Second g c =
     exit_as g.K.KeyOrder.order g.K.KeyOrder.key_of (comm_job c.args.job.now) c.steps.invariant.order
-    (alone_fails c.steps.invariant.iteration c.in-Second.ensures (c.terminator-terminator.ensures ∙ c.requires.begins.terminator.0) c.tabs-tabs2.ensures c.write_head-in-Second.ensures.wrote
+    (alone_fails c.steps.invariant.iteration c.in-Second.ensures
+    (c.terminator-terminator.ensures ∙ c.requires.begins.terminator1) c.tabs-tabs2.ensures
+    c.write_head-in-Second.ensures.wrote
     (is_told c.from_residual-in_err-write_head-in-Second.ensures.1) c.in_err-write_head-in-Second.ensures.advances)
 
 pub returns-in_err-write_head-in-Both : goal.returns-in_err-write_head-in-Both
 returns-in_err-write_head-in-Both g c =
     exit_as g.K.KeyOrder.order g.K.KeyOrder.key_of (comm_job c.args.job.now) c.steps.invariant.order
-    (pair_fails c.steps.invariant.iteration c.in-Both.ensures (c.terminator-terminator.ensures ∙ c.requires.begins.terminator.0) c.tabs-tabs3.ensures c.write_head-in-Both.ensures.wrote
+    (pair_fails c.steps.invariant.iteration c.in-Both.ensures
+    (c.terminator-terminator.ensures ∙ c.requires.begins.terminator1) c.tabs-tabs3.ensures
+    c.write_head-in-Both.ensures.wrote
     (is_told c.from_residual-in_err-write_head-in-Both.ensures.1) c.in_err-write_head-in-Both.ensures.advances)
 
 pub returns-in_err-write_out_and_advance-in-Both : goal.returns-in_err-write_out_and_advance-in-Both
 returns-in_err-write_out_and_advance-in-Both g c =
     let i = c.steps.invariant in
     exit_as g.K.KeyOrder.order g.K.KeyOrder.key_of (comm_job c.args.job.now) i.order
-    (second_fails i.iteration c.in-Both.ensures (c.terminator-terminator.ensures ∙ c.requires.begins.terminator.0) c.tabs-tabs3.ensures c.write_head-in-Both.ensures.wrote
-    c.in_ok-write_head-in-Both.ensures.advances c.write_out_and_advance.ensures.written_out (is_told c.from_residual-in_err-write_out_and_advance-in-Both.ensures.1) c.in_err-write_out_and_advance-in-Both.ensures.advances)
+    (second_fails i.iteration c.in-Both.ensures (c.terminator-terminator.ensures ∙ c.requires.begins.terminator1)
+    c.tabs-tabs3.ensures c.write_head-in-Both.ensures.wrote
+    c.in_ok-write_head-in-Both.ensures.advances c.write_out_and_advance.ensures.written_out
+    (is_told c.from_residual-in_err-write_out_and_advance-in-Both.ensures.1)
+    c.in_err-write_out_and_advance-in-Both.ensures.advances)
 
 pub returns-in-End : goal.returns-in-End
 returns-in-End g c =

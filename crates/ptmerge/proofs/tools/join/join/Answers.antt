@@ -10,15 +10,21 @@ returns-then-has_failed-clause-merged g c =
     c.requires.allowed (sym c.has_failed.ensures ∙ c.if-has_failed.true)
 
 pub returns-then-job-clause-merged : goal.returns-then-job-clause-merged
-returns-then-job-clause-merged g c = merge_set _ _ _ _ (set_is _ _ _ _ _ c.set_ending.ensures.set c.set_ending-2.ensures.set) _ _ (rw c.if-job.true c.join_with_order.ensures.merged)
+returns-then-job-clause-merged g c = merge_set _ _ _ _ (set_is _ _ _ _ _ c.set_ending.ensures.set
+    c.set_ending-2.ensures.set) _ _ (rw c.if-job.true c.join_with_order.ensures.merged)
 
 pub returns-clause-merged : goal.returns-clause-merged
-returns-clause-merged g c = merge_set _ _ _ _ (set_is _ _ _ _ _ c.set_ending.ensures.set c.set_ending-2.ensures.set) _ _ (rw c.if-job.false c.join_with_order-2.ensures.merged)
+returns-clause-merged g c = merge_set _ _ _ _ (set_is _ _ _ _ _ c.set_ending.ensures.set c.set_ending-2.ensures.set) _ _
+    (rw c.if-job.false c.join_with_order-2.ensures.merged)
 
 pub returns-then-job-clause-unread_without_slots : goal.returns-then-job-clause-unread_without_slots
-returns-then-job-clause-unread_without_slots g c = unread_set (merge_state c.args.first.now c.args.second.now c.args.out.now c.args.store.now) _ _ _
-    (set_is _ _ _ _ _ c.set_ending.ensures.set c.set_ending-2.ensures.set) c.join_with_order.ensures.unread_without_slots
+returns-then-job-clause-unread_without_slots g c =
+    unread_set (merge_state c.args.first.now c.args.second.now c.args.out.now c.args.store.now) _ _ _
+    (set_is _ _ _ _ _ c.set_ending.ensures.set c.set_ending-2.ensures.set)
+    c.join_with_order.ensures.unread_without_slots
 
 pub returns-clause-unread_without_slots : goal.returns-clause-unread_without_slots
-returns-clause-unread_without_slots g c = unread_set (merge_state c.args.first.now c.args.second.now c.args.out.now c.args.store.now) _ _ _
-    (set_is _ _ _ _ _ c.set_ending.ensures.set c.set_ending-2.ensures.set) c.join_with_order-2.ensures.unread_without_slots
+returns-clause-unread_without_slots g c =
+    unread_set (merge_state c.args.first.now c.args.second.now c.args.out.now c.args.store.now) _ _ _
+    (set_is _ _ _ _ _ c.set_ending.ensures.set c.set_ending-2.ensures.set)
+    c.join_with_order-2.ensures.unread_without_slots

@@ -38,21 +38,27 @@ pub steps-preserved-in-Continue-branch-2 : goal.steps-preserved-in-Continue-bran
 steps-preserved-in-Continue-branch-2 g c =
     let i = c.steps.invariant in
     let p = c.write_unpaired.ensures in
-    let iteration = alone_continues i.iteration c.in-BetweenGroups.is c.in-First.ensures c.terminator-terminator.ensures p.wrote c.in_ok-write_unpaired-in-First.ensures.advances in
+    let iteration = alone_continues i.iteration c.in-BetweenGroups.is c.in-First.ensures c.terminator-terminator.ensures
+    p.wrote c.in_ok-write_unpaired-in-First.ensures.advances in
     record { order = p.order ∙ i.order; iteration = iteration_as g.K.KeyOrder.order g.K.KeyOrder.key_of p.order iteration }
 
 pub steps-preserved-in-Continue-branch-3 : goal.steps-preserved-in-Continue-branch-3
 steps-preserved-in-Continue-branch-3 g c =
     let i = c.steps.invariant in
     let p = c.write_unpaired-in-Second.ensures in
-    let iteration = alone_continues i.iteration c.in-BetweenGroups.is c.in-Second.ensures c.terminator-terminator.ensures p.wrote c.in_ok-write_unpaired-in-Second.ensures.advances in
+    let iteration = alone_continues i.iteration c.in-BetweenGroups.is c.in-Second.ensures
+    c.terminator-terminator.ensures p.wrote c.in_ok-write_unpaired-in-Second.ensures.advances in
     record { order = p.order ∙ i.order; iteration = iteration_as g.K.KeyOrder.order g.K.KeyOrder.key_of p.order iteration }
 
 pub steps-smaller-in-Continue-branch-2 : goal.steps-smaller-in-Continue-branch-2
-steps-smaller-in-Continue-branch-2 g c = let h = c.in_ok-write_unpaired-in-First.ensures.advances in measure_decreases c.steps.invariant.iteration sides.First c.steps.phase c.in-First.ensures.status_is h.came h.continues
+steps-smaller-in-Continue-branch-2 g c = let h = c.in_ok-write_unpaired-in-First.ensures.advances in
+    measure_decreases c.steps.invariant.iteration sides.First c.steps.phase c.in-First.ensures.status_is h.came
+    h.continues
 
 pub steps-smaller-in-Continue-branch-3 : goal.steps-smaller-in-Continue-branch-3
-steps-smaller-in-Continue-branch-3 g c = let h = c.in_ok-write_unpaired-in-Second.ensures.advances in measure_decreases c.steps.invariant.iteration sides.Second c.steps.phase c.in-Second.ensures.status_is h.came h.continues
+steps-smaller-in-Continue-branch-3 g c = let h = c.in_ok-write_unpaired-in-Second.ensures.advances in
+    measure_decreases c.steps.invariant.iteration sides.Second c.steps.phase c.in-Second.ensures.status_is h.came
+    h.continues
 
 pub returns-in_err-write_unpaired-in-First : goal.returns-in_err-write_unpaired-in-First
 returns-in_err-write_unpaired-in-First g c =
@@ -67,7 +73,10 @@ returns-in_err-write_unpaired-in-Second g c =
     (err_is (err_from_is_err_and _ c.from_residual-in_err-write_unpaired-in-Second.ensures.1)) c.in_err-write_unpaired-in-Second.ensures.advances)
 
 pub steps-preserved-in-Both : goal.steps-preserved-in-Both
-steps-preserved-in-Both g c = record { iteration = group_opens c.steps.invariant.iteration c.in-BetweenGroups.is c.in-Both.ensures; order = c.steps.invariant.order }
+steps-preserved-in-Both g c = record {
+  iteration = group_opens c.steps.invariant.iteration c.in-BetweenGroups.is c.in-Both.ensures;
+  order = c.steps.invariant.order;
+}
 
 pub steps-smaller-in-Both : goal.steps-smaller-in-Both
 steps-smaller-in-Both g c = group_opens_decreases c.steps.invariant.iteration c.in-BetweenGroups.is
@@ -75,12 +84,14 @@ steps-smaller-in-Both g c = group_opens_decreases c.steps.invariant.iteration c.
 pub returns-in-End : goal.returns-in-End
 returns-in-End g c =
     let i = c.steps.invariant in
-    exit_as g.K.KeyOrder.order g.K.KeyOrder.key_of (join_job c.args.job.now) i.order (eof i.iteration c.in-BetweenGroups.is c.clear_four_slots.ensures c.in-End.ensures)
+    exit_as g.K.KeyOrder.order g.K.KeyOrder.key_of (join_job c.args.job.now) i.order
+    (eof i.iteration c.in-BetweenGroups.is c.clear_four_slots.ensures c.in-End.ensures)
 
 pub returns-in-Stop : goal.returns-in-Stop
 returns-in-Stop g c =
     let i = c.steps.invariant in
-    exit_as g.K.KeyOrder.order g.K.KeyOrder.key_of (join_job c.args.job.now) i.order (disordered i.iteration c.in-BetweenGroups.is c.clear_four_slots-in-Stop.ensures c.in-Stop.ensures)
+    exit_as g.K.KeyOrder.order g.K.KeyOrder.key_of (join_job c.args.job.now) i.order
+    (disordered i.iteration c.in-BetweenGroups.is c.clear_four_slots-in-Stop.ensures c.in-Stop.ensures)
 
 pub read_group_line-requires-clause-group : goal.read_group_line-requires-clause-group
 read_group_line-requires-clause-group g c = end_in c.steps.invariant.iteration
@@ -99,7 +110,8 @@ steps-preserved-then-not-has_same_key g c =
     let i = c.steps.invariant in
     let p = c.read_group_line.ensures in
     let ok = c.in_ok-end-in-ReadGroup.ensures in
-    let iteration = write_pairs_next i.iteration c.in-ReadGroup.is p.written_out ok.reads_line ok.continues (sym c.has_same_key.ensures ∙ c.if-not-has_same_key.true) in
+    let iteration = write_pairs_next i.iteration c.in-ReadGroup.is p.written_out ok.reads_line ok.continues
+    (sym c.has_same_key.ensures ∙ c.if-not-has_same_key.true) in
     record { order = p.order ∙ i.order; iteration = iteration_as g.K.KeyOrder.order g.K.KeyOrder.key_of p.order iteration }
 
 pub steps-preserved-else-not-has_same_key : goal.steps-preserved-else-not-has_same_key
@@ -107,28 +119,33 @@ steps-preserved-else-not-has_same_key g c =
     let i = c.steps.invariant in
     let p = c.read_group_line.ensures in
     let ok = c.in_ok-end-in-ReadGroup.ensures in
-    let iteration = read_group_continues i.iteration c.in-ReadGroup.is p.written_out ok.reads_line ok.continues (sym c.has_same_key.ensures ∙ c.if-not-has_same_key.false) in
+    let iteration = read_group_continues i.iteration c.in-ReadGroup.is p.written_out ok.reads_line ok.continues
+    (sym c.has_same_key.ensures ∙ c.if-not-has_same_key.false) in
     record { order = p.order ∙ i.order; iteration = iteration_as g.K.KeyOrder.order g.K.KeyOrder.key_of p.order iteration }
 
 pub steps-smaller-else-not-has_same_key : goal.steps-smaller-else-not-has_same_key
 steps-smaller-else-not-has_same_key g c =
     let ok = c.in_ok-end-in-ReadGroup.ensures in
-    measure_decreases c.steps.invariant.iteration sides.Second c.steps.phase (read_group_pre c.steps.invariant.iteration c.in-ReadGroup.is).head ok.reads_line.came ok.continues
+    measure_decreases c.steps.invariant.iteration sides.Second c.steps.phase
+    (read_group_pre c.steps.invariant.iteration c.in-ReadGroup.is).head ok.reads_line.came ok.continues
 
 pub steps-smaller-then-not-has_same_key : goal.steps-smaller-then-not-has_same_key
 steps-smaller-then-not-has_same_key g c =
     let ok = c.in_ok-end-in-ReadGroup.ensures in
-    measure_decreases c.steps.invariant.iteration sides.Second phases.WritePairs (read_group_pre c.steps.invariant.iteration c.in-ReadGroup.is).head ok.reads_line.came ok.continues
+    measure_decreases c.steps.invariant.iteration sides.Second phases.WritePairs
+    (read_group_pre c.steps.invariant.iteration c.in-ReadGroup.is).head ok.reads_line.came ok.continues
 
 pub steps-smaller-then-not-has_same_key-2 : goal.steps-smaller-then-not-has_same_key-2
 steps-smaller-then-not-has_same_key-2 g c =
     let h = c.in_ok-write_pairs-in-WritePairs.ensures.advances in
-    measure_decreases c.steps.invariant.iteration sides.First phases.BetweenGroups (write_pairs_pre c.steps.invariant.iteration c.in-WritePairs.is).status_is.head h.came h.continues
+    measure_decreases c.steps.invariant.iteration sides.First phases.BetweenGroups
+    (write_pairs_pre c.steps.invariant.iteration c.in-WritePairs.is).status_is.head h.came h.continues
 
 pub steps-smaller : goal.steps-smaller
 steps-smaller g c =
     let h = c.in_ok-write_pairs-in-WritePairs.ensures.advances in
-    measure_decreases c.steps.invariant.iteration sides.First c.steps.phase (write_pairs_pre c.steps.invariant.iteration c.in-WritePairs.is).status_is.head h.came h.continues
+    measure_decreases c.steps.invariant.iteration sides.First c.steps.phase
+    (write_pairs_pre c.steps.invariant.iteration c.in-WritePairs.is).status_is.head h.came h.continues
 
 pub write_pairs-requires-clause-joins : goal.write_pairs-requires-clause-joins
 write_pairs-requires-clause-joins g c = write_pairs_pre c.steps.invariant.iteration c.in-WritePairs.is
@@ -143,7 +160,8 @@ returns-in_err-write_pairs-in-WritePairs g c =
     (err_is (err_from_is_err_and _ c.from_residual-in_err-write_pairs-in-WritePairs.ensures.1)) c.in_err-write_pairs-in-WritePairs.ensures.advances)
 
 pub clear_group-requires : goal.clear_group-requires
-clear_group-requires g c = group_there c.steps.invariant.iteration c.in-WritePairs.is c.terminator-terminator.ensures c.write_pairs.ensures.wrote c.in_ok-write_pairs-in-WritePairs.ensures.advances
+clear_group-requires g c = group_there c.steps.invariant.iteration c.in-WritePairs.is c.terminator-terminator.ensures
+    c.write_pairs.ensures.wrote c.in_ok-write_pairs-in-WritePairs.ensures.advances
 
 pub steps-preserved-then-not-has_same_key-2 : goal.steps-preserved-then-not-has_same_key-2
 steps-preserved-then-not-has_same_key-2 g c =
@@ -157,5 +175,10 @@ pub steps-preserved : goal.steps-preserved
 steps-preserved g c =
     let i = c.steps.invariant in
     let p = c.write_pairs.ensures in
-    let continues = write_pairs_continues i.iteration c.in-WritePairs.is c.terminator-terminator.ensures p.wrote c.in_ok-write_pairs-in-WritePairs.ensures.advances in
-    record { order = p.order ∙ i.order; iteration = iteration_as g.K.KeyOrder.order g.K.KeyOrder.key_of p.order (continues (sym c.has_same_key-in-WritePairs.ensures ∙ c.if-not-has_same_key-2.false)) }
+    let continues = write_pairs_continues i.iteration c.in-WritePairs.is c.terminator-terminator.ensures p.wrote
+    c.in_ok-write_pairs-in-WritePairs.ensures.advances in
+    record {
+      order = p.order ∙ i.order;
+      iteration = iteration_as g.K.KeyOrder.order g.K.KeyOrder.key_of p.order
+          (continues (sym c.has_same_key-in-WritePairs.ensures ∙ c.if-not-has_same_key-2.false));
+    }

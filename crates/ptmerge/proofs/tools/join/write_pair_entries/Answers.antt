@@ -6,7 +6,8 @@ use Rattle.ptmerge.proofs.tools.join.write_pair_entries.Goals as goal
 
 pub loop-slot-init : goal.loop-slot-init
 loop-slot-init g c = record {
-  amid = partial_starts (pairs_text (join_job c.args.job.now) c.args.terminator c.args.line.now c.args.key.now (group c.args.store.now c.args.from c.args.end) c.if-not-job.false);
+  amid = partial_starts (pairs_text (join_job c.args.job.now) c.args.terminator c.args.line.now c.args.key.now
+      (group c.args.store.now c.args.from c.args.end) c.if-not-job.false);
   from = omega arith;
 }
 

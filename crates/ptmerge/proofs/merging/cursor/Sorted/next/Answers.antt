@@ -15,8 +15,10 @@ returns-clause-moves g c =
     let span = c.span-self.result in
     let some : 0 < old.number = grind (arith, nat_tests, c.if-number-eq0.false) in
     let e = rw c.in-Ok-true.field-0-test at (c.in-Ok-true.ensures.fills c.requires.own_reader.clean) in
-    let last_is : line after old.current_slot ≡ line before old.current_slot = rw e.stored (line_other before old.previous_slot old.current_slot e.line (λ is. c.requires.distinct_slots.apart (sym is))) in
-    let next_is : line after old.previous_slot ≡ e.line = rw e.stored (line_of_with_line before old.previous_slot e.line c.requires.distinct_slots.previous_slot) in
+    let last_is : line after old.current_slot ≡ line before old.current_slot = rw e.stored
+    (line_other before old.previous_slot old.current_slot e.line (λ is. c.requires.distinct_slots.apart (sym is))) in
+    let next_is : line after old.previous_slot ≡ e.line = rw e.stored
+    (line_of_with_line before old.previous_slot e.line c.requires.distinct_slots.previous_slot) in
     let last : c.key-last.result.now ≡ key (line before old.current_slot) = c.key-last.ensures ∙ ap key (c.line-2.ensures ∙ last_is) in
     let next : c.key-head.result.now ≡ key e.line = c.key-head.ensures ∙ ap key (c.line-3.ensures ∙ next_is) in
     let is : c.cmp-ordering.result ≡ cmp (key (line before old.current_slot)) (key e.line) = c.cmp-ordering.ensures ∙ (λ i. cmp (last i) (next i)) in
@@ -25,6 +27,13 @@ returns-clause-moves g c =
     let same = c.is_eq-self.ensures ∙ status_is.1 in
     inl (record {
       next_line = e;
-      cursor = λ i. record { current_slot = old.previous_slot; previous_slot = old.current_slot; number = old.number + 1; status = status i; same = same i; key = span };
+      cursor = λ i. record {
+        current_slot = old.previous_slot;
+        previous_slot = old.current_slot;
+        number = old.number + 1;
+        status = status i;
+        same = same i;
+        key = span;
+      };
       sound = c.fill.ensures.is_sound;
     })

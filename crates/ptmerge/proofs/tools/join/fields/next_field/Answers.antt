@@ -7,7 +7,8 @@ use Rattle.ptmerge.proofs.tools.join.fields.next_field.Goals as goal
 pub returns-then-is_some-clause-is_piece : goal.returns-then-is_some-clause-is_piece
 returns-then-is_some-clause-is_piece c =
     let ends = subst (λ o. IsRemainderOf (option_copied c.args.line) (option_copied o)) c.in-Some.is c.pieces.invariant.ends in
-    field_in c.args.separator (option_copied c.args.line) (Some c.in-Some.bytes.now) c.first_piece.result.0.now (option_copied c.first_piece.result.1) ends c.first_piece.ensures.is_piece
+    field_in c.args.separator (option_copied c.args.line) (Some c.in-Some.bytes.now) c.first_piece.result.0.now
+    (option_copied c.first_piece.result.1) ends c.first_piece.ensures.is_piece
 
 pub pieces-preserved : goal.pieces-preserved
 pieces-preserved c =
@@ -17,11 +18,14 @@ pieces-preserved c =
     let none = sym c.is_some.ensures ∙ c.if-is_some.false in
     let empty = sym c.is_empty.ensures ∙ c.if-not-is_empty.false in
     let word = elim c.first_piece.result.1 as (λ o. MatchOption o (splits c.in-Some.bytes.now ≡ field ∷ [])
-    (λ b. splits c.in-Some.bytes.now ≡ field ∷ splits b.now) → remaining_fields c.args.separator (option_copied o) ≡ remaining_fields c.args.separator (Some c.in-Some.bytes.now)) [
+    (λ b. splits c.in-Some.bytes.now ≡ field ∷ splits b.now)
+    → remaining_fields c.args.separator (option_copied o) ≡ remaining_fields c.args.separator
+    (Some c.in-Some.bytes.now)) [
       | None ↦ λ m. skip_empty_word c.args.separator c.in-Some.bytes.now field None none empty m
       | Some b ↦ λ m. skip_empty_word c.args.separator c.in-Some.bytes.now field (Some b.now) none empty m
     ] in
     record {
       same = word c.first_piece.ensures.first ∙ ap (λ o. remaining_fields c.args.separator (option_copied o)) (sym c.in-Some.is) ∙ c.pieces.invariant.same;
-      ends = remaining_after c.args.separator (option_copied c.args.line) (Some c.in-Some.bytes.now) field (option_copied c.first_piece.result.1) ends c.first_piece.ensures.is_piece;
+      ends = remaining_after c.args.separator (option_copied c.args.line) (Some c.in-Some.bytes.now) field
+          (option_copied c.first_piece.result.1) ends c.first_piece.ensures.is_piece;
     }

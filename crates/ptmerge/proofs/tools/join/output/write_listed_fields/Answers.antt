@@ -14,7 +14,8 @@ returns-in_err-push g c =
 pub items-init : goal.items-init
 items-init g c =
     let e = c.args.entry.now in
-    partial_first (entry_listed (join_job e.job.now) e.key.now (option_copied e.one) (option_copied e.two) c.args.items.now _ c.in-len1-up.len_at_least c.item_or_filler.ensures)
+    partial_first (entry_listed (join_job e.job.now) e.key.now (option_copied e.one) (option_copied e.two)
+    c.args.items.now _ c.in-len1-up.len_at_least c.item_or_filler.ensures)
     c.push.ensures.pushed.wrote c.in_ok-push.ensures.pushed.clean
 
 pub returns-in_err-write_prefixed_field : goal.returns-in_err-write_prefixed_field
@@ -23,7 +24,9 @@ returns-in_err-write_prefixed_field g c =
     each_fails (λ (l : List ℕ). output_separator (join_job e.job.now).separator ∷ l)
     (first_then_rest (output_item (join_job e.job.now) e.key.now (option_copied e.one) (option_copied e.two)) c.items.rest.now _ c.in-len1-up-rest.len_at_least
     c.item_or_filler-in-len1-up-rest.ensures) c.items.invariant
-    (rw (c.unwrap_or-prefix.ensures ∙ sym (between_is (join_job e.job.now).separator)) at c.write_prefixed_field.ensures.wrote) c.in_err-write_prefixed_field.ensures.fault _ c.from_residual-in_err-write_prefixed_field.ensures.1
+    (rw (c.unwrap_or-prefix.ensures
+    ∙ sym (between_is (join_job e.job.now).separator)) at c.write_prefixed_field.ensures.wrote)
+    c.in_err-write_prefixed_field.ensures.fault _ c.from_residual-in_err-write_prefixed_field.ensures.1
 
 pub items-preserved : goal.items-preserved
 items-preserved g c =
@@ -31,4 +34,6 @@ items-preserved g c =
     each_more (λ (l : List ℕ). output_separator (join_job e.job.now).separator ∷ l)
     (first_then_rest (output_item (join_job e.job.now) e.key.now (option_copied e.one) (option_copied e.two)) c.items.rest.now _ c.in-len1-up-rest.len_at_least
     c.item_or_filler-in-len1-up-rest.ensures) c.items.invariant
-    (rw (c.unwrap_or-prefix.ensures ∙ sym (between_is (join_job e.job.now).separator)) at c.write_prefixed_field.ensures.wrote) c.in_ok-write_prefixed_field.ensures.clean
+    (rw (c.unwrap_or-prefix.ensures
+    ∙ sym (between_is (join_job e.job.now).separator)) at c.write_prefixed_field.ensures.wrote)
+    c.in_ok-write_prefixed_field.ensures.clean

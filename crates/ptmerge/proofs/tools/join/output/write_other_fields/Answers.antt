@@ -12,5 +12,6 @@ returns g c =
     let even = (λ i. is_evenly_separated (sym new.0 i) (sym new.1 i)) ∙ sym c.is_single_spaced.ensures ∙ c.if-not-is_single_spaced.false in
     let found : IsFieldFound separator c.args.number bytes c.find.result = rw (new.0, new.1) at c.find.ensures in
     let all = ap (λ line. with_prefix (output_separator separator) (other_fields c.args.number (remaining_fields separator (option_copied line)))) c.in-Some.is
-    ∙ around_is separator c.args.number bytes c.find.result found even ∙ ap (λ prefix. around prefix bytes c.find.result) (between_is separator ∙ sym c.unwrap_or.ensures) in
+    ∙ around_is separator c.args.number bytes c.find.result found even
+    ∙ ap (λ prefix. around prefix bytes c.find.result) (between_is separator ∙ sym c.unwrap_or.ensures) in
     push_is_write (subst (λ written. PushPost c.args.out.now c.write_around.new.out written c.write_around.result) (sym all) c.write_around.ensures)

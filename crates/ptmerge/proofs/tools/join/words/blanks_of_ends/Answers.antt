@@ -10,6 +10,8 @@ returns g c =
     let back = c.blanks_in-back.ensures in
     let ends = c.requires.ends in
     record {
-      any = (λ i. bit_or (front.any i) (back.any i * 2 ^ (length bytes - g.row.N) % 2 ^ 64)) ∙ ends_mask is_blank bytes g.row.N ends.first ends.all c.requires.few;
-      tabs = (λ i. bit_or (front.tabs i) (back.tabs i * 2 ^ (length bytes - g.row.N) % 2 ^ 64)) ∙ ends_mask (is_byte 9) bytes g.row.N ends.first ends.all c.requires.few;
+      any = (λ i. bit_or (front.any i) (back.any i * 2 ^ (length bytes - g.row.N) % 2 ^ 64))
+          ∙ ends_mask is_blank bytes g.row.N ends.first ends.all c.requires.few;
+      tabs = (λ i. bit_or (front.tabs i) (back.tabs i * 2 ^ (length bytes - g.row.N) % 2 ^ 64))
+          ∙ ends_mask (is_byte 9) bytes g.row.N ends.first ends.all c.requires.few;
     }

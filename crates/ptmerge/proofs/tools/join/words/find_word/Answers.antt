@@ -11,7 +11,8 @@ pub loop-passed-init : goal.loop-passed-init
 loop-passed-init c = words_start c.args.line.now c.args.blanks.any c.requires.short c.requires.blanks.any
 
 pub returns-then-words-eq0 : goal.returns-then-words-eq0
-returns-then-words-eq0 c = none_left c.requires.short c.loop-passed.invariant c.args.number c.if-words-eq0.true (omega (arith, c.loop-passed-test.true, c.saturating_sub-passed-end.ensures))
+returns-then-words-eq0 c = none_left c.requires.short c.loop-passed.invariant c.args.number c.if-words-eq0.true
+    (omega (arith, c.loop-passed-test.true, c.saturating_sub-passed-end.ensures))
 
 pub after_first_run-words-requires : goal.after_first_run-words-requires
 after_first_run-words-requires c = (c.if-words-eq0.false, words_small c.requires.short c.loop-passed.invariant)
@@ -22,12 +23,16 @@ loop-passed-preserved c =
     (word_passed c.requires.short c.loop-passed.invariant c.if-words-eq0.false)
 
 pub returns-then-words-eq0-2 : goal.returns-then-words-eq0-2
-returns-then-words-eq0-2 c = none_left c.requires.short c.loop-passed.invariant c.args.number c.if-words-eq0-2.true (omega (arith, c.loop-passed-test.false, c.saturating_sub-passed-end.ensures))
+returns-then-words-eq0-2 c = none_left c.requires.short c.loop-passed.invariant c.args.number c.if-words-eq0-2.true
+    (omega (arith, c.loop-passed-test.false, c.saturating_sub-passed-end.ensures))
 
 pub after_first_run-requires : goal.after_first_run-requires
 after_first_run-requires c = (c.if-words-eq0-2.false, words_small c.requires.short c.loop-passed.invariant)
 
 pub returns : goal.returns
 returns c =
-    subst (λ (x : ℕ). IsFieldAt None c.args.number c.args.line.now (record { start = count_trailing_zeros 64 c.loop-passed.words; end = count_trailing_zeros 64 x })) (sym c.after_first_run.ensures)
-    (word_found c.requires.short c.loop-passed.invariant c.if-words-eq0-2.false c.args.number (omega (arith, c.loop-passed-test.false, c.loop-passed.auto._passed-end, c.saturating_sub-passed-end.ensures)))
+    subst (λ (x : ℕ). IsFieldAt None c.args.number c.args.line.now
+    (record { start = count_trailing_zeros 64 c.loop-passed.words; end = count_trailing_zeros 64 x }))
+    (sym c.after_first_run.ensures)
+    (word_found c.requires.short c.loop-passed.invariant c.if-words-eq0-2.false c.args.number
+    (omega (arith, c.loop-passed-test.false, c.loop-passed.auto._passed-end, c.saturating_sub-passed-end.ensures)))

@@ -14,7 +14,8 @@ returns-then-not-are_single_spaces c =
     let room : at + 64 ≤ length bytes = omega (arith, c.loop-at.invariant.within, c.loop-at-test.true) in
     let few : length v ≤ 64 = omega (arith, length-chunk at 64 bytes room) in
     let misplaced = sym (c.are_single_spaces.ensures v few c.blanks_in-blanks.ensures) ∙ c.if-not-are_single_spaces.true in
-    sym (c.loop-at.invariant.same ∙ chunk_spaced blank bytes at room ∙ ap (λ (t : Bool). cond t (is_single_spaced (last_blank blank v) (drop (at + 64) bytes)) false) misplaced)
+    sym (c.loop-at.invariant.same ∙ chunk_spaced blank bytes at room
+    ∙ ap (λ (t : Bool). cond t (is_single_spaced (last_blank blank v) (drop (at + 64) bytes)) false) misplaced)
 
 pub loop-at-preserved : goal.loop-at-preserved
 loop-at-preserved c =
@@ -29,6 +30,7 @@ loop-at-preserved c =
     record {
       within = room;
       bit = omega (arith, before, bit_low (last_blank blank v));
-      same = c.loop-at.invariant.same ∙ chunk_spaced blank bytes at room ∙ ap (λ (t : Bool). cond t (is_single_spaced (last_blank blank v) (drop (at + 64) bytes)) false) spaced
+      same = c.loop-at.invariant.same ∙ chunk_spaced blank bytes at room
+          ∙ ap (λ (t : Bool). cond t (is_single_spaced (last_blank blank v) (drop (at + 64) bytes)) false) spaced
           ∙ ap (λ (b : Bool). is_single_spaced b (drop (at + 64) bytes)) (sym (ap (λ x. x == 1) before ∙ bit_is (last_blank blank v)));
     }
