@@ -6,9 +6,8 @@ use Rattle.ptflow.proofs.Common.{append_assoc, length-append, length-drop, cases
 use Rattle.ptflow.proofs.Common.{take-append-le, length-take-le, length-set, drop-drop, drop_at, IsFirstByte, is_byte}
 use Rattle.ptflow.proofs.Common.{Reader, AdvanceOk, IsSound, Slots, with_line, FillLine, FillPost}
 use Rattle.ptflow.proofs.Common.{line_before_terminator, take_with_terminator, advance_ok_take, reader_at, uses_of}
-use Rattle.ptflow.proofs.Common.{CellsFilled, after_cell, cells_text, RowShape, BegunText, BufferedRowsPre}
-use Rattle.ptflow.proofs.Common.{IsConsumed, AreConsumed}
-use Rattle.ptflow.proofs.Common.{IsFieldCopied, CopyColumnsPost, CopyRowsPost, RowsTaken}
+use Rattle.ptflow.proofs.Common.{CellsFilled, after_cell, cells_text, RowShape, BegunText, BufferedRowsPre, IsConsumed}
+use Rattle.ptflow.proofs.Common.{AreConsumed, IsFieldCopied, CopyColumnsPost, CopyRowsPost, RowsTaken}
 use Rattle.ptflow.proofs.PasteLemmas.RowsTaken.{cells_text-push, rows_taken_trans, row_taken}
 use Rattle.ptflow.proofs.PasteLemmas.FillRow.{at_same, at_other, fill_starts, fill_next}
 
