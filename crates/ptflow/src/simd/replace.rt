@@ -53,18 +53,6 @@ pub(crate) struct CyclePos {
 }
 
 impl CyclePos {
-    // The position after `number` terminators.
-    fn of(number: u64, delims: &[Option<u8>]) -> CyclePos
-        requires { 0 < length delims.now }
-        ensures number { result.number ≡ number }
-        ensures index { result.index ≡ number % length delims.now }
-    {
-        CyclePos {
-            number,
-            index: (number % delims.len() as u64) as usize,
-        }
-    }
-
     // The position after one more terminator.
     #[inline(always)]
     fn next(self, delims: &[Option<u8>]) -> CyclePos
@@ -121,7 +109,10 @@ fn replace_chunks(
     requires { ReplacePre delims.now number from.now to.old }
     ensures { IsReplacedTo terminator delims.now number result.0 result.1 from.now to.new }
 {
-    let mut cycle_pos = CyclePos::of(number, delims);
+    let mut cycle_pos = CyclePos {
+        number,
+        index: (number % delims.len() as u64) as usize,
+    };
     let mut at = 0;
     while from.len() - at >= 64 {
         cycle_pos = replace_chunk(delims, terminator, cycle_pos, from, at, to);
