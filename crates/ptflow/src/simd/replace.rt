@@ -4,7 +4,8 @@ ghost use Rattle.std.specs.Prelude.{◌≡◌, ◌<◌, ◌+◌, ◌%◌, ◌++�
 ghost use Rattle.std.specs.List.{count_by};
 ghost use Rattle.std.specs.Simd.Lanes.{chunk};
 ghost use Rattle.memchr.specs.Find.{is_byte};
-ghost use Rattle.ptflow.specs.Private.Paste.SerialRest.{with_delimiter, with_cycle, ReplaceChunkPre, ReplacePre, CyclePosPre, IsCyclePosAfter, IsReplacedTo};
+ghost use Rattle.ptflow.specs.Private.Paste.SerialRest.{with_delimiter, with_cycle, ReplaceChunkPre, ReplacePre};
+ghost use Rattle.ptflow.specs.Private.Paste.SerialRest.{CyclePosPre, IsCyclePosAfter, IsReplacedTo};
 
 use crate::simd::find_nth::match_mask;
 use crate::simd::shift::{ByteMap, map_chunks};
