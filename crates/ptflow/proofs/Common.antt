@@ -78,7 +78,7 @@ pub use Rattle.ptflow.specs.Private.Paste.FillRow.{SetTerminatorsPost, FillCellP
 pub use Rattle.ptflow.specs.Private.Paste.RowCells.{RowShape, BegunText, CellsFilled, CellsTaken, after_cell, begun_after, begun_in, cells_text, job_shape, shape_of, slots_text}
 pub use Rattle.ptflow.specs.Private.Paste.SerialRest.{IsOnlyDelimiter, IsReplacedTo, CopyCellsPost, CopyBlockPost, next_position, leading_delimiter, row_from, row_rest, serial_rest, with_delimiter, with_cycle}
 pub use Rattle.ptflow.specs.Private.Paste.TakenLines.{AreReceivedLines, LinesTaken}
-pub use Rattle.ptflow.specs.Private.Paste.BufferedRows.{BufferedRowsPre, AreConsumed, AreFirstRows, RowsTaken, IsFieldCopied, LineCopied, EofCopied, CopyColumnsPost, CopyRowsPost}
+pub use Rattle.ptflow.specs.Private.Paste.BufferedRows.{BufferedRowsPre, IsConsumed, AreConsumed, AreFirstRows, RowsTaken, IsFieldCopied, LineCopied, EofCopied, CopyColumnsPost, CopyRowsPost}
 pub use Rattle.ptflow.specs.Private.Tr.TrFrom.{squeeze_from, tr_from}
 pub use Rattle.ptflow.specs.Private.Uniq.BlockRuns.{CountRepeatsPost, IsSpan, RunsFailed, RunsWritten, IsPending, span_of}
 pub use Rattle.ptflow.specs.Private.Uniq.FirstLine.{first_line, current_run_of}

@@ -6,8 +6,8 @@ use Rattle.ptflow.proofs.Common.{append_assoc, length-append, length-drop, cases
 use Rattle.ptflow.proofs.Common.{take-append-le, length-take-le, length-set, drop-drop, drop_at, IsFirstByte, is_byte}
 use Rattle.ptflow.proofs.Common.{Reader, AdvanceOk, IsSound, Slots, with_line, FillLine, FillPost}
 use Rattle.ptflow.proofs.Common.{line_before_terminator, take_with_terminator, advance_ok_take, reader_at, uses_of}
-use Rattle.ptflow.proofs.Common.{CellsFilled, after_cell, cells_text, RowShape, BegunText, BufferedRowsPre, AreConsumed}
-use Rattle.ptflow.proofs.Common.{IsFieldCopied, CopyColumnsPost, CopyRowsPost, RowsTaken}
+use Rattle.ptflow.proofs.Common.{CellsFilled, after_cell, cells_text, RowShape, BegunText, BufferedRowsPre, IsConsumed}
+use Rattle.ptflow.proofs.Common.{AreConsumed, IsFieldCopied, CopyColumnsPost, CopyRowsPost, RowsTaken}
 use Rattle.ptflow.proofs.PasteLemmas.RowsTaken.{cells_text-push, rows_taken_trans, row_taken}
 use Rattle.ptflow.proofs.PasteLemmas.FillRow.{at_same, at_other, fill_starts, fill_next}
 
@@ -17,8 +17,9 @@ buffered_line : (b r : Reader) (at : ℕ) (store : Slots) (slot : ℕ) → b.fau
     → r ≡ record b { buffered = drop (at + 1) b.buffered } → FillLine b r store
     (with_line store slot (take at b.buffered)) slot
 buffered_line b r at store slot clean short first step =
+    let (found, here) = first in
     let advance_ok = subst (λ (x : List ℕ). AdvanceOk b r x) (take_with_terminator b.terminator b.buffered at first)
-    (advance_ok_take b r (at + 1) clean (omega (arith, first.0.high)) step) in
+    (advance_ok_take b r (at + 1) clean (omega (arith, found.high)) step) in
     let new_short : r.pulled < 2 ^ 63 = advance_ok.short short in
     record {
       line = take at b.buffered;
@@ -37,10 +38,10 @@ buffered_line b r at store slot clean short first step =
       );
     }
 
-sound_after_consume : (b r : Reader) (n : ℕ) → IsSound b → r ≡ record b { buffered = drop n b.buffered } → IsSound r
-sound_after_consume b r n s step = subst IsSound (sym step) (record {
-  buffered = omega (arith, length-drop n b.buffered, s.buffered);
-  count = omega (arith, length-drop n b.buffered, s.count);
+sound_after_consume : {b r : Reader} → IsSound b → IsConsumed b r → IsSound r
+sound_after_consume {b} s step = subst IsSound (sym step.is) (record {
+  buffered = omega (arith, length-drop step.size b.buffered, s.buffered);
+  count = omega (arith, length-drop step.size b.buffered, s.count);
   end = s.end;
   long = s.long;
   unfailed = s.unfailed;
@@ -57,8 +58,7 @@ record FieldCopied (old new : Reader) (before after : List ℕ) (has : Bool) : T
   field : List ℕ
   fills : FillPost old new no_slots (with_line no_slots 0 field) 0 (Ok has)
   is : after ≡ before ++ field
-  count : ℕ
-  consumed : new ≡ record old { buffered = drop count old.buffered }
+  consumed : IsConsumed old new
 
 field_copied : {end : ℕ} {b r : Reader} {before after : List ℕ} (has : Bool) → b.fault ≡ None → b.terminator ≡ end
     → IsSound b → IsFieldCopied end b r before after has → FieldCopied b r before after has
@@ -66,8 +66,7 @@ field_copied {b = b} {r = r} true clean ends sound p = record {
   field = take p.at b.buffered;
   fills = buffered_line b r p.at no_slots 0 clean (sound.long clean) (rw ends p.found) p.consumed;
   is = p.is;
-  count = p.at + 1;
-  consumed = p.consumed;
+  consumed = record { size = p.at + 1; is = p.consumed };
 }
 field_copied {b = b} {r = r} {before = before} false clean ends sound p = record {
   field = [];
@@ -77,39 +76,34 @@ field_copied {b = b} {r = r} {before = before} false clean ends sound p = record
     refl,
   );
   is = p.is ∙ sym (append-nil before);
-  count = 0;
-  consumed = p.same;
+  consumed = record { size = 0; is = p.same };
 }
 
 pub consumed_none : {old : List Reader} → AreConsumed old old
-consumed_none = record { count = refl; buffered = λ p. (0, refl) }
+consumed_none = record { count = refl; buffered = λ p. record { size = 0; is = refl } }
 
-pub consumed_more : {old now : List Reader} {input : ℕ} {b r : Reader} (n : ℕ) → AreConsumed old now
-    → input < length now → b ≡ reader_at now input → r ≡ record b { buffered = drop n b.buffered }
-    → AreConsumed old (set now input r)
-consumed_more {old} {now} {input} {b} {r} n c low is_read step = record {
+-- Some bytes were consumed, and then more.
+both_consumed : {a b c : Reader} → IsConsumed a b → IsConsumed b c → IsConsumed a c
+both_consumed {a} p q = record {
+  size = p.size + q.size;
+  is = q.is ∙ ap (λ (x : Reader). record x { buffered = drop q.size x.buffered }) p.is
+      ∙ ap (λ (l : List ℕ). record a { buffered = l }) (drop-drop q.size p.size a.buffered);
+}
+
+consumed_more : {old now : List Reader} {input : ℕ} {b r : Reader} → AreConsumed old now → input < length now
+    → b ≡ reader_at now input → IsConsumed b r → AreConsumed old (set now input r)
+consumed_more {old} {now} {input} {b} {r} c low is_read step = record {
   count = length-set now input r ∙ c.count;
   buffered = λ p. ⊎_elim
-      (λ same. rw same (rw (at_same now input r low) (
-        (c.buffered input).0 + n,
-        step ∙ ap (λ (x : Reader). record x { buffered = drop n x.buffered }) (is_read ∙ (c.buffered input).1)
-            ∙ ap (λ (l : List ℕ). record (reader_at old input) { buffered = l })
-            (drop-drop n (c.buffered input).0 (reader_at old input).buffered),
-      )))
+      (λ same. rw same (rw (at_same now input r low) (both_consumed (c.buffered input) (rw is_read at step))))
       (λ differ. rw (at_other now input p r differ) (c.buffered p))
       (cases_eq p input);
 }
 
 pub consumed_trans : {a b c : List Reader} → AreConsumed a b → AreConsumed b c → AreConsumed a c
-consumed_trans {a} {b} {c} p q = record {
+consumed_trans p q = record {
   count = q.count ∙ p.count;
-  buffered = λ input. (
-    (p.buffered input).0 + (q.buffered input).0,
-    (q.buffered input).1 ∙ ap (λ (x : Reader). record x { buffered = drop (q.buffered input).0 x.buffered })
-        (p.buffered input).1
-        ∙ ap (λ (l : List ℕ). record (reader_at a input) { buffered = l })
-        (drop-drop (q.buffered input).0 (p.buffered input).0 (reader_at a input).buffered),
-  );
+  buffered = λ input. both_consumed (p.buffered input) (q.buffered input);
 }
 
 -- The readers are still readable.
@@ -117,13 +111,13 @@ pub still_readable : {row : RowShape} {old new : List Reader} → AreConsumed ol
     → BufferedRowsPre row new
 still_readable c ready = record {
   within = λ k d low. omega (arith, ready.within k d low, c.count);
-  unfailed = λ p some. ap (λ (r : Reader). r.fault) (c.buffered p).1 ∙ ready.unfailed p some;
-  same_end = λ p some. ap (λ (r : Reader). r.terminator) (c.buffered p).1 ∙ ready.same_end p some;
+  unfailed = λ p some. ap (λ (r : Reader). r.fault) (c.buffered p).is ∙ ready.unfailed p some;
+  same_end = λ p some. ap (λ (r : Reader). r.terminator) (c.buffered p).is ∙ ready.same_end p some;
 }
 
 pub still_pulled : {old new : List Reader} → AreConsumed old new → (p : ℕ)
     → (reader_at new p).pulled ≡ (reader_at old p).pulled
-still_pulled c p = ap (λ (r : Reader). r.pulled) (c.buffered p).1
+still_pulled c p = ap (λ (r : Reader). r.pulled) (c.buffered p).is
 
 -- The bytes before the copy do not change.
 pub prefix_is_kept : (at end : ℕ) (now old written : List ℕ) → at ≤ end → at ≤ length old
@@ -182,7 +176,7 @@ module _ {row : RowShape} where
           (front ++ (s.fields ++ f.field ∷ [])) (now.any_line || has)
       filled_more from front given =
           let (field, stored, filled) = fill_next (s.filled from front given) low within is_read clean
-          (sound_after_consume b r f.count sound f.consumed) no_slots (with_line no_slots 0 f.field) 0 has f.fills in
+          (sound_after_consume sound f.consumed) no_slots (with_line no_slots 0 f.field) 0 has f.fills in
           let same : field ≡ f.field = sym (ap (λ (x : Slots). get_or x.lines 0 []) stored) in
           subst (λ (l : List (List ℕ)). CellsFilled row.cells (now.count + 1) from (set now.readers input r) l
           (now.any_line || has))
@@ -195,7 +189,7 @@ module _ {row : RowShape} where
         fields = s.fields ++ f.field ∷ [];
         is = columns_text begun.text (cells_text row begun.count s.fields) f.field (after_cell row now.count) s.is f.is
             after (cells_text-push row begun.count s.fields f.field s.width);
-        consumed = consumed_more f.count s.consumed within is_read f.consumed;
+        consumed = consumed_more s.consumed within is_read f.consumed;
         width = omega (arith, s.width, length-append s.fields (f.field ∷ []));
         filled = filled_more;
       }

@@ -9,15 +9,15 @@ use Rattle.ptflow.proofs.Common.{received_with, has_received, advance_trans, pus
 use Rattle.ptflow.proofs.Common.{bounded_lag_after, Paste, AddedSlots, reader_at, update_at, PastePre, IsReadToEnd}
 use Rattle.ptflow.proofs.Common.{PasteOutcome, PastePost, IsColumnUnended, uses_of, columns, rows, rows_text, paste}
 use Rattle.ptflow.proofs.Common.{paste_decided, paste_size, SlotsBound, SlotsKept, CellsFilled, RowFilled, RowFailed}
-use Rattle.ptflow.proofs.Common.{ClearSlotsPost, CopyRowsPost, BegunText, AreConsumed, job_shape, is_write_fault}
-use Rattle.ptflow.proofs.Common.{AreReceivedLines, LinesTaken, AreFirstRows, FlowFault, Read, Write, Memory}
+use Rattle.ptflow.proofs.Common.{ClearSlotsPost, CopyRowsPost, BegunText, job_shape, is_write_fault, AreReceivedLines}
+use Rattle.ptflow.proofs.Common.{LinesTaken, AreFirstRows, FlowFault, Read, Write, Memory}
 use Rattle.ptflow.proofs.PasteLemmas.CellSlots.{slots_bound_line, cells_total, sum_of_zeros}
 use Rattle.ptflow.proofs.PasteLemmas.RowsTaken.{first_rows_trans, lines_taken_by_cells, lines_taken_by_row}
 use Rattle.ptflow.proofs.PasteLemmas.Grid.{Column, uses_before_lt, uses_before, grid_none, rows_text-append}
 use Rattle.ptflow.proofs.Passes.LinesRead.{received_longest, piece_longest}
 use Rattle.ptflow.proofs.PasteLemmas.Lag.{EarlierPart, earlier_partial, earlier_before, earlier_buffered, earlier_lines}
 use Rattle.ptflow.proofs.PasteLemmas.Lag.{none_received, lags_here}
-use Rattle.ptflow.proofs.Passes.Readers.{eof_gives_nothing}
+use Rattle.ptflow.proofs.Passes.Readers.{eof_gives_nothing, stays_at_eof}
 use Rattle.ptflow.proofs.Passes.Lines.{max_length-append}
 use Rattle.ptflow.proofs.PasteLemmas.LinesTaken.{reads_nothing, lines_trans, taken_at_most, taken_more, nothing_taken}
 use Rattle.ptflow.proofs.PasteLemmas.BufferedRows.{still_pulled}
@@ -80,51 +80,74 @@ paste_without_slots {job} {cells} {old} {set} {was} s adds same denied missing =
 
 module _ {job : Paste} {cells : List ℕ} {old set now : List Reader} {was is : Output} {first store : Slots}
     (s : PasteInvariant job cells old set now was is first store) where
+  -- The lines that were taken from each reader so far.
+  abbrev so_far : (p : ℕ) → LinesTaken job.terminator (reader_at set p) (reader_at now p)
+      (length s.taken_rows * uses_of cells p) (s.ls p)
+  so_far = s.first_rows.lines_taken
+
   -- The readers were read further, and `pushed` was pushed after the rows so far.
   module _ {new : List Reader} (r : ReadMore now new) {is' : Output} {pushed : List ℕ}
       (wrote : PushEffect is is' pushed) where
-    ends_by : {after : Slots} (result : Result (Unit {0}) FlowFault) → PasteOutcome cells old new is' after result
-        → ((texts : ℕ → List ℕ) → ((p : ℕ) → IsConsistent (given_by job s.first_rows r p) (texts p))
-        → IsPrefix (rows_text job s.taken_rows ++ pushed) (paste job cells texts)
-        × (after.peak ≤ max first.peak (paste_size job cells texts)))
-        → ((p : ℕ) → 0 < uses_of cells p → (reader_at new p).failed ≡ true → is'.write_failed ≡ false
-        → IsPrefix (paste_decided job cells (given_by job s.first_rows r)) (rows_text job s.taken_rows ++ pushed))
-        → (result ≡ Ok tt → rows_text job s.taken_rows ++ pushed ≡ paste job cells
-        (λ p. (given_by job s.first_rows r p).bytes))
-        → ((p : ℕ) → 0 < uses_of cells p → LagsBy job s.first_rows r p) → AddedSlots first after (length cells)
-        → length cells ≤ length after.lines
-        → (result ≡ Err Memory → IsColumnUnended cells new)
-        → ((p : ℕ) → uses_of cells p ≡ 0 → reader_at new p ≡ reader_at now p)
+    abbrev given : ℕ → Received
+    given = given_by job s.first_rows r
+
+    abbrev written : List ℕ
+    written = rows_text job s.taken_rows ++ pushed
+
+    -- What is to be shown of an exit with this result.
+    record IsExit (after : Slots) (result : Result (Unit {0}) FlowFault) : Type 0 where
+      ends : PasteOutcome cells old new is' after result
+      begins : (texts : ℕ → List ℕ) → ((p : ℕ) → IsConsistent (given p) (texts p))
+          → IsPrefix written (paste job cells texts)
+      peak : (texts : ℕ → List ℕ) → ((p : ℕ) → IsConsistent (given p) (texts p))
+          → after.peak ≤ max first.peak (paste_size job cells texts)
+      decided : (p : ℕ) → 0 < uses_of cells p → (reader_at new p).failed ≡ true → is'.write_failed ≡ false
+          → IsPrefix (paste_decided job cells given) written
+      whole : result ≡ Ok tt → written ≡ paste job cells (λ p. (given p).bytes)
+      lags : (p : ℕ) → 0 < uses_of cells p → LagsBy job s.first_rows r p
+      adds : AddedSlots first after (length cells)
+      room : length cells ≤ length after.lines
+      unended : result ≡ Err Memory → IsColumnUnended cells new
+      left : (p : ℕ) → uses_of cells p ≡ 0 → reader_at new p ≡ reader_at now p
+
+    exit : {after : Slots} {result : Result (Unit {0}) FlowFault} → IsExit after result
         → PastePost job cells old new was is' first after result
-    ends_by result ends begins decided_is_written whole processing adds room unended left = record {
-      given = given_by job s.first_rows r;
-      came = λ p. received_since s.starts p
-          (advance_trans (reader_at set p) (reader_at now p) (reader_at new p) (s.first_rows.lines_taken p).bytes
-          (r.extra p) (s.first_rows.lines_taken p).reads (r.reads p));
-      pushed = rows_text job s.taken_rows ++ pushed;
+    exit k = record {
+      given = given;
+      came = λ p. received_since s.starts p (advance_trans (reader_at set p) (reader_at now p) (reader_at new p)
+          (so_far p).bytes (r.extra p) (so_far p).reads (r.reads p));
+      pushed = written;
       wrote = push_trans was is is' (rows_text job s.taken_rows) pushed s.clean s.wrote wrote;
-      ends = ends;
-      is_prefix = λ texts a. (begins texts a).0;
-      decided_is_written = decided_is_written;
-      bounded_lag = λ p some clean. bounded_lag_after (λ g. paste_decided job cells
-          (update_at p (g tt) (given_by job s.first_rows r))) (λ u. given_by job s.first_rows r p) was is
-          (rows_text job s.taken_rows)
-          (processing p some) s.wrote s.clean is' pushed wrote;
-      is_exact = whole;
-      peak = λ texts a. (begins texts a).1;
-      slots = λ clean. adds;
-      line_left = λ memory there. unended memory;
-      refused = λ clean few. absurd (omega (arith, few, room));
-      untouched = λ p none. left p none ∙ (s.first_rows.lines_taken p).none (ap (λ (k : ℕ). length s.taken_rows * k)
-          none ∙ omega arith) ∙ (s.starts.are_set p).left none;
+      ends = k.ends;
+      is_prefix = k.begins;
+      decided_is_written = k.decided;
+      bounded_lag = λ p some clean. bounded_lag_after (λ g. paste_decided job cells (update_at p (g tt) given))
+          (λ u. given p) was is (rows_text job s.taken_rows) (k.lags p some) s.wrote s.clean is' pushed wrote;
+      is_exact = k.whole;
+      peak = k.peak;
+      slots = λ clean. k.adds;
+      line_left = λ memory there. k.unended memory;
+      refused = λ clean few. absurd (omega (arith, few, k.room));
+      untouched = λ p none.
+          let nothing : length s.taken_rows * uses_of cells p ≡ 0 =
+          ap (λ (n : ℕ). length s.taken_rows * n) none ∙ omega arith in
+          k.left p none ∙ (so_far p).none nothing ∙ (s.starts.are_set p).left none;
       unchanged_if_failed = λ fault. cc (s.starts.writable);
     }
 
   -- Nothing was pushed since.
   begins_without_more : {new : List Reader} (r : ReadMore now new) (texts : ℕ → List ℕ)
-      → ((p : ℕ) → IsConsistent (given_by job s.first_rows r p) (texts p)) → IsPrefix (rows_text job s.taken_rows ++ [])
-      (paste job cells texts)
+      → ((p : ℕ) → IsConsistent (given_by job s.first_rows r p) (texts p))
+      → IsPrefix (rows_text job s.taken_rows ++ []) (paste job cells texts)
   begins_without_more r texts a = rw (append-nil (rows_text job s.taken_rows)) (begins_by job s.first_rows r texts a)
+
+  -- No line that was taken is longer than the longest line of its input.
+  longest : {new : Reader} {n : ℕ} {ls : Column} (p : ℕ) (t : LinesTaken job.terminator (reader_at now p) new n ls)
+      {text : List ℕ} → IsConsistent (received_with ((so_far p).bytes ++ t.bytes) new) text
+      → max_length (s.ls p ++ ls) ≤ max_line_length job.terminator text
+  longest {new} {ls = ls} p t {text} a = received_longest job.terminator new ((so_far p).bytes ++ t.bytes)
+      (s.ls p ++ ls)
+      (lines_trans (so_far p).came t.reads t.came) text a
 
   -- Rows were taken, and the first columns of a row after them. A write of these rows failed.
   module _ {mid : List Reader} (new : List Reader) {ls taken : ℕ → Column} {more : List (List (List ℕ))} (n : ℕ)
@@ -145,36 +168,36 @@ module _ {job : Paste} {cells : List ℕ} {old set now : List Reader} {was is : 
           → PastePost job cells old new was is' first after (Err Write)
       paste_write wrote fault kept cut =
           let k = kept (λ p. max_length (s.ls p ++ ls p)) (λ p. omega arith) in
-          ends_by read_on wrote (Err Write) (record {
-            write_failed = fault;
-            failed = λ p. (all_taken p).failed
-                ∙ now_failed s p;
-            denied = k.denied;
-          })
-          (λ texts a. (
-            subst (λ (x : List ℕ). IsPrefix x (paste job cells texts))
+          exit read_on wrote (record {
+            ends = record {
+              write_failed = fault;
+              failed = λ p. (all_taken p).failed ∙ now_failed s p;
+              denied = k.denied;
+            };
+            begins = λ texts a. subst (λ (x : List ℕ). IsPrefix x (paste job cells texts))
                 (rows_text-append job.terminator job.delimiters s.taken_rows more)
                 (begins_by job (first_rows_trans s.first_rows g)
                 (record { extra = λ p. (b p).bytes; reads = λ p. (b p).reads }) texts
-                (λ p. rw (append_assoc (s.first_rows.lines_taken p).bytes (g.lines_taken p).bytes (b p).bytes) (a p))),
-            (kept (λ p. max_line_length job.terminator (texts p)) (λ p. omega (
+                (λ p. rw (append_assoc (so_far p).bytes (g.lines_taken p).bytes (b p).bytes) (a p)));
+            peak = λ texts a. (kept (λ p. max_line_length job.terminator (texts p)) (λ p. omega (
               arith,
-              received_longest job.terminator (reader_at new p)
-                  ((s.first_rows.lines_taken p).bytes ++ (all_taken p).bytes) (s.ls p ++ (ls p ++ taken p))
-                  (lines_trans (s.first_rows.lines_taken p).came (all_taken p).reads (all_taken p).came) (texts p)
-                  (a p),
+              longest p (all_taken p) (a p),
               max_length-append (s.ls p) (ls p ++ taken p),
               max_length-append (ls p) (taken p),
               max_length-append (s.ls p) (ls p),
-            ))).peak,
-          ))
-          (λ p some failed clean. cc) (λ ok. cc) (λ p some. lags_by job s.first_rows read_on p some (cut p some)) k.adds
-          (omega (arith, k.adds.all k.denied)) (λ memory. cc)
-          (λ p none. (all_taken p).none (ap (λ (k : ℕ). length more * k + uses_of (take n cells) p) none
-          ∙ omega (arith, none, uses_before cells n p)))
+            ))).peak;
+            decided = λ p some failed clean. cc;
+            whole = λ ok. cc;
+            lags = λ p some. lags_by job s.first_rows read_on p some (cut p some);
+            adds = k.adds;
+            room = omega (arith, k.adds.all k.denied);
+            unended = λ memory. cc;
+            left = λ p none. (all_taken p).none (ap (λ (k : ℕ). length more * k + uses_of (take n cells) p) none
+                ∙ omega (arith, none, uses_before cells n p));
+          })
 
-  more_count : (p : ℕ) → (length s.taken_rows + 1) * uses_of cells p ≡ length s.taken_rows * uses_of cells p
-      + uses_of cells p
+  more_count : (p : ℕ) → (length s.taken_rows + 1) * uses_of cells p
+      ≡ length s.taken_rows * uses_of cells p + uses_of cells p
   more_count p = omega arith
 
   -- An input without its last line, if it gave no more lines than one row takes: it has fewer lines than the rows so
@@ -182,28 +205,17 @@ module _ {job : Paste} {cells : List ℕ} {old set now : List Reader} {was is : 
   earlier_of_taken : (p : ℕ) {q : Reader} {n : ℕ} {ls : Column} → 0 < uses_of cells p
       → (t : LinesTaken job.terminator (reader_at now p) q n ls) → n ≤ uses_of cells p
       → EarlierPart job.terminator ((length s.taken_rows + 1) * uses_of cells p)
-      (received_with ((s.first_rows.lines_taken p).bytes ++ t.bytes) q)
-  earlier_of_taken p {q} {n} {ls} some t few = earlier_lines job.terminator q ((s.first_rows.lines_taken p).bytes
-      ++ t.bytes) (t.buffered (now_buffered s p some)) ((length s.taken_rows + 1) * uses_of cells p) (s.ls p ++ ls)
-      (lines_trans (s.first_rows.lines_taken p).came t.reads t.came) (omega (arith, some, more_count p))
-      (omega (
+      (received_with ((so_far p).bytes ++ t.bytes) q)
+  earlier_of_taken p {q} {n} {ls} some t few = earlier_lines job.terminator q ((so_far p).bytes ++ t.bytes)
+      (t.buffered (now_buffered s p some)) ((length s.taken_rows + 1) * uses_of cells p) (s.ls p ++ ls)
+      (lines_trans (so_far p).came t.reads t.came) (omega (arith, some, more_count p)) (omega (
         arith,
         few,
         more_count p,
         length-append (s.ls p) ls,
-        taken_at_most (s.first_rows.lines_taken p),
+        taken_at_most (so_far p),
         taken_at_most t,
       ))
-
-  -- An input without what was consumed of its buffer.
-  earlier_of_buffered : {mid : List Reader} (new : List Reader) {ls taken : ℕ → Column} {more : List (List (List ℕ))}
-      (n : ℕ) (g : AreFirstRows (job_shape job cells) now mid ls more)
-      (b : (p : ℕ) → LinesTaken job.terminator (reader_at mid p) (reader_at new p) (uses_of (take n cells) p) (taken p))
-      → AreConsumed now new
-      → (p : ℕ) → 0 < uses_of cells p → EarlierBy job s.first_rows (read_on new n g b) p
-  earlier_of_buffered new n g b consumed p some =
-      earlier_before (s.first_rows.lines_taken p).came (all_taken new n g b p).reads (still_pulled consumed p)
-      (now_buffered s p some) (omega (arith, some, more_count p, taken_at_most (s.first_rows.lines_taken p)))
 
   -- A write of rows from the buffers failed, after the first columns of the next row were copied.
   pub paste_rows_write_failed : {copied : List ℕ} {begun : BegunText} {is' : Output}
@@ -211,11 +223,11 @@ module _ {job : Paste} {cells : List ℕ} {old set now : List Reader} {was is : 
       → PastePost job cells old begun.readers was is' first store (Err Write)
   paste_rows_write_failed {begun = begun} p wrote fault =
       let g = p.rows.first_rows in
-      let b = lines_taken_by_cells (job_shape job cells) (λ q some. (g.lines_taken q).reads.terminator
-      ∙ now_end s q some)
-      p.filled.consumed in
-      paste_write begun.readers begun.count g b (rows_wrote s p.rows wrote) fault (rows_kept s p.rows)
-      (earlier_of_buffered begun.readers begun.count g b p.consumed)
+      let b = lines_taken_by_cells (job_shape job cells)
+      (λ q some. (g.lines_taken q).reads.terminator ∙ now_end s q some) p.filled.consumed in
+      paste_write begun.readers begun.count g b (rows_wrote s p.rows wrote) fault (rows_kept s p.rows) (λ q some.
+      earlier_before (so_far q).came (all_taken begun.readers begun.count g b q).reads (still_pulled p.consumed q)
+      (now_buffered s q some) (omega (arith, some, more_count q, taken_at_most (so_far q))))
 
   -- A write of a row that was filled failed.
   pub paste_row_write_failed : {new : List Reader} {after : Slots} {fields : List (List ℕ)}
@@ -225,14 +237,15 @@ module _ {job : Paste} {cells : List ℕ} {old set now : List Reader} {was is : 
       → PastePost job cells old new was is' first after (Err Write)
   paste_row_write_failed {new} slots f wrote fault =
       let g = row_gives s slots f in
-      paste_write new 0 g (λ q. nothing_taken refl) wrote fault (row_kept s slots f.consumed)
-      (λ p some. earlier_of_taken p some (all_taken new 0 g (λ q. nothing_taken refl) p) (omega arith))
+      let b = λ (q : ℕ). nothing_taken {end = job.terminator} {r = reader_at new q} {n = 0} refl in
+      paste_write new 0 g b wrote fault (row_kept s slots f.consumed)
+      (λ p some. earlier_of_taken p some (all_taken new 0 g b p) (omega arith))
 
   -- No column has a line.
   module _ {new : List Reader} {after : Slots} {fields : List (List ℕ)} (slots : SlotsKept cells fields store after)
       (f : CellsFilled cells (length cells) now new fields false) where
-    lines_taken_by : (p : ℕ) → LinesTaken job.terminator (reader_at now p) (reader_at new p) (uses_of cells p)
-        (f.input_lines p)
+    lines_taken_by : (p : ℕ)
+        → LinesTaken job.terminator (reader_at now p) (reader_at new p) (uses_of cells p) (f.input_lines p)
     lines_taken_by = lines_taken_by_row (job_shape job cells) (now_end s) f.consumed
 
     abbrev read_by : ReadMore now new
@@ -242,7 +255,7 @@ module _ {job : Paste} {cells : List ℕ} {old set now : List Reader} {was is : 
     none = f.none refl
 
     done_by : (p : ℕ) → 0 < uses_of cells p → IsDone (reader_at new p)
-    done_by p some = ⊎_elim (λ same. absurd (omega (arith, same, some, ap length (none p)))) (λ few. few.0)
+    done_by p some = ⊎_elim (λ same. absurd (omega (arith, same, some, ap length (none p)))) (λ (done, few). done)
         (lines_taken_by p).enough
 
     nothing_by : (p : ℕ) → (lines_taken_by p).bytes ≡ []
@@ -254,11 +267,10 @@ module _ {job : Paste} {cells : List ℕ} {old set now : List Reader} {was is : 
         let texts : ℕ → List ℕ = λ p. (given_by job s.first_rows read_by p).bytes in
         let a : (p : ℕ) → IsConsistent (given_by job s.first_rows read_by p) (texts p) =
         λ p. record { rest = []; is = sym (append-nil (texts p)); whole = λ eof. refl } in
+        let more = grid_none cells (λ p. lines job.terminator (later job s.first_rows read_by texts a p))
+        (λ p some i. lines job.terminator (nothing_by p i ++ ((done_by p some).buffered i ++ []))) in
         sym (ap (rows_text job) (rows_by job s.first_rows read_by texts a
-        ∙ ap (λ (l : List (List (List ℕ))). s.taken_rows ++ l)
-        (grid_none cells (λ p. lines job.terminator (later job s.first_rows read_by texts a p))
-        (λ p some i. lines job.terminator (nothing_by p i ++ ((done_by p some).buffered i ++ []))))
-        ∙ append-nil s.taken_rows))
+        ∙ ap (λ (l : List (List (List ℕ))). s.taken_rows ++ l) more ∙ append-nil s.taken_rows))
 
     pub paste_done : {is' : Output} {cleared : Slots} → ClearSlotsPost cells after cleared → PushEffect is is' []
         → is'.write_failed ≡ false → PastePost job cells old new was is' first cleared (Ok tt)
@@ -266,38 +278,38 @@ module _ {job : Paste} {cells : List ℕ} {old set now : List Reader} {was is : 
         let kept = λ (top : ℕ → ℕ) (high : (p : ℕ) → max_length (s.ls p ++ f.input_lines p) ≤ top p). e.kept first top
         (row_kept s slots f.consumed top high) in
         let k = kept (λ p. max_length (s.ls p ++ f.input_lines p)) (λ p. omega arith) in
-        ends_by read_by wrote (Ok tt)
-        (record {
-          read = All-from_get_or (λ p. IsReadToEnd (reader_at old p) (reader_at new p)) cells 0 (λ c low.
-              let p = get_or cells c 0 in
-              let some : 0 < uses_of cells p = omega (arith, uses_before_lt cells c low) in
-              record {
-                done = done_by p some;
-                fault = (lines_taken_by p).fault ∙ now_fault s p some;
-                short = (lines_taken_by p).short (now_short s p some);
-              });
-          failed = λ p. (lines_taken_by p).failed ∙ now_failed s p;
-          clean = clean;
-          denied = k.denied;
-          empty = omega (
-            arith,
-            cells_total cells (λ p. 0) cleared.lines
-                (λ c low. omega (arith, ap length (e.empty c low))) k.others,
-            sum_of_zeros cells,
-          );
+        let failed = λ (p : ℕ). (lines_taken_by p).failed ∙ now_failed s p in
+        exit read_by wrote (record {
+          ends = record {
+            read = All-from_get_or (λ p. IsReadToEnd (reader_at old p) (reader_at new p)) cells 0 (λ c low.
+                let p = get_or cells c 0 in
+                let some : 0 < uses_of cells p = omega (arith, uses_before_lt cells c low) in
+                record {
+                  done = done_by p some;
+                  fault = (lines_taken_by p).fault ∙ now_fault s p some;
+                  short = (lines_taken_by p).short (now_short s p some);
+                });
+            failed = failed;
+            clean = clean;
+            denied = k.denied;
+            empty = omega (
+              arith,
+              cells_total cells (λ p. 0) cleared.lines (λ c low. omega (arith, ap length (e.empty c low))) k.others,
+              sum_of_zeros cells,
+            );
+          };
+          begins = begins_without_more read_by;
+          peak = λ texts a. (kept (λ p. max_line_length job.terminator (texts p))
+              (λ p. longest p (lines_taken_by p) (a p))).peak;
+          decided = λ p some broken fine. cc (failed p, never_failed s.starts p some);
+          whole = λ ok. append-nil (rows_text job s.taken_rows) ∙ text_is;
+          lags = λ p some. lags_by job s.first_rows read_by p some
+              (earlier_of_taken p some (lines_taken_by p) (omega arith));
+          adds = k.adds;
+          room = omega (arith, k.adds.all k.denied);
+          unended = λ memory. cc;
+          left = λ p none. (lines_taken_by p).none none;
         })
-        (λ texts a. (
-          begins_without_more read_by texts a,
-          (kept (λ p. max_line_length job.terminator (texts p))
-              (λ p. received_longest job.terminator (reader_at new p)
-              ((s.first_rows.lines_taken p).bytes ++ (lines_taken_by p).bytes) (s.ls p ++ f.input_lines p)
-              (lines_trans (s.first_rows.lines_taken p).came (lines_taken_by p).reads (lines_taken_by p).came) (texts p)
-              (a p))).peak,
-        ))
-        (λ p some failed fine. cc ((lines_taken_by p).failed, now_failed s p, never_failed s.starts p some))
-        (λ ok. append-nil (rows_text job s.taken_rows) ∙ text_is) (λ p some. lags_by job s.first_rows read_by p some
-        (earlier_of_taken p some (lines_taken_by p) (omega arith))) k.adds (omega (arith, k.adds.all k.denied))
-        (λ memory. cc) (λ p none. (lines_taken_by p).none none)
 
   -- A row could not be filled: the reader of a column gave only a part of a line.
   module _ {CellFailed : Reader → Reader → Slots → Slots → ℕ → Type 0} {new : List Reader} {after : Slots}
@@ -310,38 +322,53 @@ module _ {job : Paste} {cells : List ℕ} {old set now : List Reader} {was is : 
     here_used : 0 < uses_of cells here
     here_used = omega (arith, uses_before_lt cells b.column b.within)
 
-    lines_taken_to : (p : ℕ) → LinesTaken job.terminator (reader_at now p) (reader_at b.mid p)
-        (uses_of (take b.column cells) p) (b.input_lines p)
+    lines_taken_to : (p : ℕ)
+        → LinesTaken job.terminator (reader_at now p) (reader_at b.mid p) (uses_of (take b.column cells) p)
+        (b.input_lines p)
     lines_taken_to = lines_taken_by_cells (job_shape job cells) (now_end s) b.consumed
 
-    -- For each reader, the part of a line that it gave; only that reader gave one.
-    partial_line_of : (p : ℕ) → (x : List ℕ) × ReaderAdvance (reader_at b.mid p) (reader_at new p) x
-        × IsLine job.terminator x
-        × (((p ≡ here) × (x ≡ piece)) ⊎ ((p ≢ here) × (x ≡ []) × (reader_at new p ≡ reader_at b.mid p)))
-    partial_line_of p = ⊎_elim
-        (λ same. (
-          piece,
-          rw same piece_reads,
-          rw ((lines_taken_to here).reads.terminator ∙ now_end s here here_used) at free,
-          inl (same, refl),
-        ))
-        (λ differ. ([], rw (b.others p differ) reads_nothing, tt, inr (differ, refl, b.others p differ)))
+    failed_mid : (p : ℕ) → (reader_at b.mid p).failed ≡ (reader_at old p).failed
+    failed_mid p = (lines_taken_to p).failed ∙ now_failed s p
+
+    -- The part of a line that a reader gave. Only the reader of that column gave one.
+    record PartialLine (p : ℕ) : Type 0 where
+      part : List ℕ
+      reads : ReaderAdvance (reader_at b.mid p) (reader_at new p) part
+      is_line : IsLine job.terminator part
+      whose : ((p ≡ here) × (part ≡ piece)) ⊎ ((p ≢ here) × (part ≡ []) × (reader_at new p ≡ reader_at b.mid p))
+
+    last : (p : ℕ) → PartialLine p
+    last p = ⊎_elim
+        (λ same. record {
+          part = piece;
+          reads = rw same piece_reads;
+          is_line = rw ((lines_taken_to here).reads.terminator ∙ now_end s here here_used) at free;
+          whose = inl (same, refl);
+        })
+        (λ differ. record {
+          part = [];
+          reads = rw (b.others p differ) reads_nothing;
+          is_line = tt;
+          whose = inr (differ, refl, b.others p differ);
+        })
         (cases_eq p here)
 
     abbrev read_to : ReadMore now new
     read_to = record {
-      extra = λ p. (lines_taken_to p).bytes ++ (partial_line_of p).0;
+      extra = λ p. (lines_taken_to p).bytes ++ (last p).part;
       reads = λ p. advance_trans (reader_at now p) (reader_at b.mid p) (reader_at new p) (lines_taken_to p).bytes
-          (partial_line_of p).0 (lines_taken_to p).reads (partial_line_of p).1;
+          (last p).part (lines_taken_to p).reads (last p).reads;
     }
 
-    lines_to : (p : ℕ) → AreReceivedLines job.terminator (reader_at b.mid p) ((s.first_rows.lines_taken p).bytes
-        ++ (lines_taken_to p).bytes) (s.ls p ++ b.input_lines p)
-    lines_to p = lines_trans (s.first_rows.lines_taken p).came (lines_taken_to p).reads (lines_taken_to p).came
+    -- The complete lines that a reader gave, and their bytes.
+    abbrev given_to : ℕ → List ℕ
+    given_to p = (so_far p).bytes ++ (lines_taken_to p).bytes
 
-    given_is : (p : ℕ) → (s.first_rows.lines_taken p).bytes ++ ((lines_taken_to p).bytes ++ (partial_line_of p).0)
-        ≡ ((s.first_rows.lines_taken p).bytes ++ (lines_taken_to p).bytes) ++ (partial_line_of p).0
-    given_is p = sym (append_assoc (s.first_rows.lines_taken p).bytes (lines_taken_to p).bytes (partial_line_of p).0)
+    lines_to : (p : ℕ) → AreReceivedLines job.terminator (reader_at b.mid p) (given_to p) (s.ls p ++ b.input_lines p)
+    lines_to p = lines_trans (so_far p).came (lines_taken_to p).reads (lines_taken_to p).came
+
+    given_is : (p : ℕ) → (so_far p).bytes ++ read_to.extra p ≡ given_to p ++ (last p).part
+    given_is p = sym (append_assoc (so_far p).bytes (lines_taken_to p).bytes (last p).part)
 
     kept_to : (top : ℕ → ℕ) → ((p : ℕ) → max_length (s.ls p ++ b.input_lines p) ≤ top p) → length piece ≤ top here
         → SlotsBound cells top first (with_line b.buffered b.column piece)
@@ -352,26 +379,27 @@ module _ {job : Paste} {cells : List ℕ} {old set now : List Reader} {was is : 
     some_kept = kept_to (λ p. max_length (s.ls p ++ b.input_lines p) + length piece) (λ p. omega arith) (omega arith)
 
     module _ (texts : ℕ → List ℕ) (a : (p : ℕ) → IsConsistent (given_by job s.first_rows read_to p) (texts p)) where
-      long_to : (p : ℕ) → max (max_length (s.ls p ++ b.input_lines p)) (length (partial_line_of p).0) ≤ max_line_length
-          job.terminator (texts p)
-      long_to p =
-          piece_longest job.terminator (reader_at b.mid p) ((s.first_rows.lines_taken p).bytes
-          ++ (lines_taken_to p).bytes) (s.ls p ++ b.input_lines p) (lines_to p) (reader_at new p) (partial_line_of p).0
-          (partial_line_of p).1
-          (partial_line_of p).2 (texts p)
-          (rw (given_is p) at (a p))
+      long_to : (p : ℕ) → max (max_length (s.ls p ++ b.input_lines p)) (length (last p).part)
+          ≤ max_line_length job.terminator (texts p)
+      long_to p = piece_longest job.terminator (reader_at b.mid p) (given_to p) (s.ls p ++ b.input_lines p) (lines_to p)
+          (reader_at new p) (last p).part (last p).reads (last p).is_line (texts p) (rw (given_is p) at (a p))
+
+      piece_fits : length piece ≤ max_line_length job.terminator (texts here)
+      piece_fits = ⊎_elim
+          (λ (same, is). omega (arith, ap length is, long_to here))
+          (λ (other, none, kept). absurd (other refl))
+          (last here).whose
 
       peak_to : (with_line b.buffered b.column piece).peak ≤ max first.peak (paste_size job cells texts)
       peak_to = (kept_to (λ p. max_line_length job.terminator (texts p)) (λ p. omega (arith, long_to p))
-          (⊎_elim (λ k. omega (arith, ap length k.1, long_to here)) (λ k. absurd (k.0 refl))
-          (partial_line_of here).3)).peak
+          piece_fits).peak
 
-    failed_to : (reader_at new here).failed ≡ (reader_at b.mid here).failed → (p : ℕ) → (reader_at new p).failed
-        ≡ (reader_at old p).failed
+    failed_to : (reader_at new here).failed ≡ (reader_at b.mid here).failed
+        → (p : ℕ) → (reader_at new p).failed ≡ (reader_at old p).failed
     failed_to same p = ⊎_elim
-        (λ k. rw k.0 same)
-        (λ k. ap (λ (r : Reader). r.failed) k.2)
-        (partial_line_of p).3 ∙ (lines_taken_to p).failed ∙ now_failed s p
+        (λ (is, whole). rw is same)
+        (λ (other, none, kept). ap (λ (r : Reader). r.failed) kept)
+        (last p).whose ∙ failed_mid p
 
     left_to : (p : ℕ) → uses_of cells p ≡ 0 → reader_at new p ≡ reader_at now p
     left_to p none = b.others p (λ same. absurd (omega (arith, none, here_used, ap (uses_of cells) same)))
@@ -380,15 +408,12 @@ module _ {job : Paste} {cells : List ℕ} {old set now : List Reader} {was is : 
     -- If that reader is not at the end of its input, it is the one that limits the rows.
     module _ (going : IsDone (reader_at b.mid here) → ⊥) where
       abbrev earlier_here : EarlierBy job s.first_rows read_to here
-      earlier_here =
-          earlier_partial (reader_at new here) (lines_to here) going (partial_line_of here).0 (given_is here)
-          (partial_line_of here).2 (b.few (now_buffered s here here_used))
-          (omega (
+      earlier_here = earlier_partial (reader_at new here) (lines_to here) going (last here).part (given_is here)
+          (last here).is_line (b.few (now_buffered s here here_used)) (omega (
             arith,
             more_count here,
             length-append (s.ls here) (b.input_lines here),
-            taken_at_most
-                (s.first_rows.lines_taken here),
+            taken_at_most (so_far here),
             taken_at_most (lines_taken_to here),
             uses_before_lt cells b.column b.within,
           ))
@@ -396,62 +421,62 @@ module _ {job : Paste} {cells : List ℕ} {old set now : List Reader} {was is : 
       -- Another reader, without the last line that it gave.
       lag_to : (p : ℕ) → 0 < uses_of cells p → LagsBy job s.first_rows read_to p
       lag_to p some = lags_by job s.first_rows read_to p some (⊎_elim
-          (λ k. subst (EarlierBy job s.first_rows read_to) (sym k.0) earlier_here)
-          (λ k. subst (EarlierPart job.terminator ((length s.taken_rows + 1) * uses_of cells p))
-          (λ i. received_with ((s.first_rows.lines_taken p).bytes ++ (sym (append-nil (lines_taken_to p).bytes)
-          ∙ ap (λ (x : List ℕ). (lines_taken_to p).bytes ++ x) (sym k.1)) i) (sym k.2 i))
+          (λ (is, whole). subst (EarlierBy job s.first_rows read_to) (sym is) earlier_here)
+          (λ (other, none, kept).
+          let bytes = (lines_taken_to p).bytes in
+          let same = sym (append-nil bytes) ∙ ap (λ (x : List ℕ). bytes ++ x) (sym none) in
+          subst (EarlierPart job.terminator ((length s.taken_rows + 1) * uses_of cells p))
+          (λ i. received_with ((so_far p).bytes ++ same i) (sym kept i))
           (earlier_of_taken p some (lines_taken_to p) (uses_before cells b.column p)))
-          (partial_line_of p).3)
+          (last p).whose)
 
     -- The buffered output could not be written.
-    paste_send_failed : {is' : Output} → PushEffect is is' [] → is'.write_failed ≡ true → (reader_at new here).failed
-        ≡ (reader_at b.mid here).failed → (reader_at b.mid here).eof ≡ false
+    paste_send_failed : {is' : Output} → PushEffect is is' [] → is'.write_failed ≡ true
+        → (reader_at new here).failed ≡ (reader_at b.mid here).failed → (reader_at b.mid here).eof ≡ false
         → PastePost job cells old new was is' first b.buffered (Err Write)
     paste_send_failed wrote fault same going =
-        let buffered = row_kept s b.slots b.consumed (λ p. max_length (s.ls p ++ b.input_lines p)) (λ p. omega arith) in
-        ends_by read_to wrote (Err Write) (record {
-          write_failed = fault;
-          failed = failed_to same;
-          denied = buffered.denied;
+        let kept = row_kept s b.slots b.consumed in
+        let k = kept (λ p. max_length (s.ls p ++ b.input_lines p)) (λ p. omega arith) in
+        exit read_to wrote (record {
+          ends = record { write_failed = fault; failed = failed_to same; denied = k.denied };
+          begins = begins_without_more read_to;
+          peak = λ texts a. (kept (λ p. max_line_length job.terminator (texts p))
+              (λ p. omega (arith, long_to texts a p))).peak;
+          decided = λ p some failed clean. cc;
+          whole = λ ok. cc;
+          lags = lag_to (λ done. cc (done.eof));
+          adds = k.adds;
+          room = omega (arith, k.adds.all k.denied);
+          unended = λ memory. cc;
+          left = left_to;
         })
-        (λ texts a. (
-          begins_without_more read_to texts a,
-          (row_kept s b.slots b.consumed
-              (λ p. max_line_length job.terminator (texts p)) (λ p. omega (arith, long_to texts a p))).peak,
-        ))
-        (λ p some failed clean. cc) (λ ok. cc) (lag_to (λ done. cc (done.eof))) buffered.adds
-        (omega (arith, buffered.adds.all buffered.denied))
-        (λ memory. cc) left_to
 
-    -- A growth of a slot failed.
+    -- A growth of a slot failed. That reader has bytes left.
     paste_memory_failed : {is' : Output} → PushEffect is is' [] → is'.write_failed ≡ false
         → after ≡ with_denied (with_line b.buffered b.column piece)
         → (reader_at new here).failed ≡ (reader_at b.mid here).failed → 0 < length (reader_at new here).buffered
         → PastePost job cells old new was is' first after (Err Memory)
     paste_memory_failed wrote clean stored same left =
-        ends_by read_to wrote (Err Memory) (record { denied = denied; failed = failed_to same; clean = clean })
-        (λ texts a. (
-          begins_without_more read_to texts a,
-          omega (
-            arith,
-            ap (λ (x : Slots). x.peak) stored,
-            peak_to texts a,
-          ),
-        ))
-        (λ p some failed fine. cc (failed_to same p, never_failed s.starts p some)) (λ ok. cc)
-        (lag_to (λ done. absurd (omega (
-          arith,
-          left,
-          ap length (eof_gives_nothing (reader_at b.mid here)
-              (reader_at new here) piece done piece_reads).1,
-        ))))
-        (record {
-          least = omega (arith, size, some_kept.adds.least);
-          most = omega (arith, size, some_kept.adds.most);
-          all = λ allowed. cc;
+        exit read_to wrote (record {
+          ends = record { denied = denied; failed = failed_to same; clean = clean };
+          begins = begins_without_more read_to;
+          peak = λ texts a. omega (arith, ap (λ (x : Slots). x.peak) stored, peak_to texts a);
+          decided = λ p some failed fine. cc (failed_to same p, never_failed s.starts p some);
+          whole = λ ok. cc;
+          lags = lag_to (λ done.
+              let (none, empty, eof) = eof_gives_nothing (reader_at b.mid here) (reader_at new here) piece done
+              piece_reads
+              in
+              absurd (omega (arith, left, ap length empty)));
+          adds = record {
+            least = omega (arith, size, some_kept.adds.least);
+            most = omega (arith, size, some_kept.adds.most);
+            all = λ allowed. cc;
+          };
+          room = omega (arith, size, some_kept.adds.all some_kept.denied);
+          unended = λ memory. (here, here_used, λ done. absurd (omega (arith, left, ap length done.buffered)));
+          left = left_to;
         })
-        (omega (arith, size, some_kept.adds.all some_kept.denied))
-        (λ memory. (here, here_used, λ done. absurd (omega (arith, left, ap length done.buffered)))) left_to
       where
         denied : after.denied ≡ true
         denied = ap (λ (x : Slots). x.denied) stored
@@ -464,57 +489,62 @@ module _ {job : Paste} {cells : List ℕ} {old set now : List Reader} {was is : 
         → after ≡ with_line b.buffered b.column piece → HasReadCause (reader_at b.mid here) (reader_at new here)
         → PastePost job cells old new was is' first after (Err (Read here))
     paste_read_failed wrote clean stored cause =
-        ends_by read_to wrote (Err (Read here))
-        (record {
-          named = here_used;
-          unfailed = never_failed s.starts here here_used;
-          cause = ⊎_elim inl (λ k. inr (k.0, k.1 ∙ failed_mid here)) cause;
-          others = λ q differ. ap (λ (r : Reader). r.failed) (b.others q differ) ∙ failed_mid q;
-          clean = clean;
-          denied = ap (λ (x : Slots). x.denied) stored ∙ some_kept.denied;
+        exit read_to wrote (record {
+          ends = record {
+            named = here_used;
+            unfailed = never_failed s.starts here here_used;
+            cause = ⊎_elim inl (λ (long, same). inr (long, same ∙ failed_mid here)) cause;
+            others = λ q differ. ap (λ (r : Reader). r.failed) (b.others q differ) ∙ failed_mid q;
+            clean = clean;
+            denied = ap (λ (x : Slots). x.denied) stored ∙ some_kept.denied;
+          };
+          begins = begins_without_more read_to;
+          peak = λ texts a. omega (arith, ap (λ (x : Slots). x.peak) stored, peak_to texts a);
+          decided = λ p some failed fine. ⊎_elim
+              (λ (is, whole). ⊎_elim decided_here
+              (λ (long, same). cc (
+                same,
+                failed_mid here,
+                never_failed s.starts here here_used,
+                ap (λ (q : ℕ).
+                    (reader_at new q).failed) is,
+              ))
+              cause)
+              (λ (other, none, kept). cc (
+                ap (λ (r : Reader). r.failed) kept,
+                failed_mid p,
+                never_failed s.starts p some,
+              ))
+              (last p).whose;
+          whole = λ ok. cc;
+          lags = lag_to may_have_more;
+          adds = rw stored some_kept.adds;
+          room = omega (arith, ap (λ (x : Slots). length x.lines) stored, some_kept.adds.all some_kept.denied);
+          unended = λ memory. cc;
+          left = left_to;
         })
-        (λ texts a. (
-          begins_without_more read_to texts a,
-          omega (
-            arith,
-            ap (λ (x : Slots). x.peak) stored,
-            peak_to texts a,
-          ),
-        ))
-        (λ p some failed fine. ⊎_elim
-        (λ k. ⊎_elim
-        (λ c. rw (append-nil (rows_text job s.taken_rows)) (begins_by_earlier job s.first_rows read_to here here_used
-        (earlier_here may_have_more)
-        (sym (append-nil ((s.first_rows.lines_taken here).bytes ++ read_to.extra here))
-        ∙ ap (λ (x : List ℕ). ((s.first_rows.lines_taken here).bytes ++ read_to.extra here) ++ x) (sym c.1)) c.2))
-        (λ c. cc (
-          c.1,
-          failed_mid here,
-          never_failed s.starts here here_used,
-          ap (λ (q : ℕ). (reader_at new q).failed)
-              k.0,
-        ))
-        cause)
-        (λ k. cc (ap (λ (r : Reader). r.failed) k.2, failed_mid p, never_failed s.starts p some))
-        (partial_line_of p).3)
-        (λ ok. cc) (lag_to may_have_more) (rw stored some_kept.adds)
-        (omega (arith, ap (λ (x : Slots). length x.lines) stored, some_kept.adds.all some_kept.denied))
-        (λ memory. cc) left_to
       where
-        failed_mid : (p : ℕ) → (reader_at b.mid p).failed ≡ (reader_at old p).failed
-        failed_mid p = (lines_taken_to p).failed ∙ now_failed s p
-
         may_have_more : IsDone (reader_at b.mid here) → ⊥
         may_have_more done = ⊎_elim
-            (λ k. cc (k.2, (eof_gives_nothing (reader_at b.mid here) (reader_at new here) piece done piece_reads).2))
-            (λ k. absurd (omega (
-              arith,
-              k.0,
-              (piece_reads.still done.eof).0,
-              (lines_taken_to here).short
-                  (now_short s here here_used),
-            )))
+            (λ (failed, empty, going). cc (
+              going,
+              (stays_at_eof (reader_at b.mid here) (reader_at new here) piece done
+                  piece_reads).eof,
+            ))
+            (λ (long, same).
+            let (pulled, eof) = piece_reads.still done.eof in
+            absurd (omega (arith, long, pulled, (lines_taken_to here).short (now_short s here here_used))))
             cause
+
+        -- Nothing is buffered, so all that was given decided the rows that were pushed.
+        decided_here : ((reader_at new here).failed ≡ true) × ((reader_at new here).buffered ≡ [])
+            × ((reader_at new here).eof ≡ false)
+            → IsPrefix (paste_decided job cells (given_by job s.first_rows read_to)) (rows_text job s.taken_rows ++ [])
+        decided_here (failed, empty, going) =
+            let bytes = (so_far here).bytes ++ read_to.extra here in
+            rw (append-nil (rows_text job s.taken_rows)) (begins_by_earlier job s.first_rows read_to here here_used
+            (earlier_here may_have_more)
+            (sym (append-nil bytes) ∙ ap (λ (x : List ℕ). bytes ++ x) (sym empty)) going)
 
   -- A row could not be filled, for each fault.
   pub paste_fill_failed : {new : List Reader} {after : Slots} (into : List ℕ) {is' : Output} (e : FlowFault)

@@ -129,9 +129,9 @@ module _ {cells : List ℕ} {n : ℕ} {old now : List Reader} {fields : List (Li
       ∙ get_or_append_left (input_lines p) ls [] j under)
       (λ differ. ap (λ (l : List (List ℕ)). slice_index_or l j []) (lines_at_other input ls input_lines p differ))
       (cases_eq p input))
-      (λ few. ⊎_elim
+      (λ (done, few). ⊎_elim
       (λ same. ap (λ (l : List (List ℕ)). slice_index_or l j []) (lines_at_none input ls input_lines p
-      (none_at_eof lines_taken (subst (λ (q : ℕ). IsDone (reader_at now q)) same few.0))))
+      (none_at_eof lines_taken (subst (λ (q : ℕ). IsDone (reader_at now q)) same done))))
       (λ differ. ap (λ (l : List (List ℕ)). slice_index_or l j []) (lines_at_other input ls input_lines p differ))
       (cases_eq p input))
       (t.lines_taken p).enough
@@ -195,7 +195,7 @@ module _ {cells : List ℕ} {n : ℕ} {old now : List Reader} {fields : List (Li
         (λ (x : Reader). LinesTaken (reader_at old p).terminator x r 1 (e.line ∷ [])) is_read
         (taken_line e same_end clean sound) in
         let all : length (f.input_lines p) ≡ uses_of (take n cells) p =
-        ⊎_elim (λ same. same) (λ few. absurd (omega (arith, ap length (none_at_eof lines_taken few.0))))
+        ⊎_elim (λ same. same) (λ (done, few). absurd (omega (arith, ap length (none_at_eof lines_taken done))))
         (f.consumed.lines_taken p).enough in
         let less : sum_by budget (set now p r) < sum_by budget old = omega (arith, f.least, e.less, all_budgets) in
         record {
@@ -228,12 +228,9 @@ module _ {cells : List ℕ} {n : ℕ} {old now : List Reader} {fields : List (Li
           (sym (ap (λ (l : List (List ℕ)). slice_index_or l (uses_of (take n cells) p) [])
           (append-nil (f.input_lines p)) ∙ get_or_past (f.input_lines p) (uses_of (take n cells) p) []
           (taken_at_most (f.consumed.lines_taken p))));
-      some = λ h. let s = f.some h in (
-        s.0,
-        omega (arith, s.1),
-        ap length (lines_at_none p [] f.input_lines
-            (get_or cells s.0 0) refl) ∙ s.2,
-      );
+      some = λ h.
+          let (c, below, one) = f.some h in
+          (c, omega (arith, below), ap length (lines_at_none p [] f.input_lines (get_or cells c 0) refl) ∙ one);
       none = λ h q. lines_at_none p [] f.input_lines q refl ∙ f.none h q;
       least = omega (arith, f.least, advance_ok.reads.count, all_budgets);
       less = λ h. omega (arith, f.less h, advance_ok.reads.count, all_budgets);
@@ -244,7 +241,7 @@ module _ {cells : List ℕ} {n : ℕ} {old now : List Reader} {fields : List (Li
         → (field : List ℕ) × (after ≡ with_line before slot field) × CellsFilled cells (n + 1) old (set now p r)
         (fields ++ field ∷ []) (any_line || has)
     fill_next before after slot true e = (e.line, e.stored, rw or-true (fill_line e))
-    fill_next before after slot false e = ([], e.2, rw or-false (fill_eof e.0 e.1))
+    fill_next before after slot false (advance_ok, done, kept) = ([], kept, rw or-false (fill_eof advance_ok done))
 
   -- The step for this column failed.
   abbrev pub fill_failed : {CellFailed : Reader → Reader → Slots → Slots → ℕ → Type 0} {before store : Slots}

@@ -59,30 +59,32 @@ module _ {k j : ℕ} (low : j < k) where
     omega arith,
   )
   chosen_before n (suc a) (suc b) (x ∷ xs) here all = rw (is_kth_not n (omega arith) (omega arith)) (⊎_elim
-      (λ is. inl (is.0, omega (arith, is.1)))
-      (λ is. inr (is.0, omega (arith, is.1), is.2))
+      (λ (is, some). inl (is, omega (arith, some)))
+      (λ (none, few, rest). inr (none, omega (arith, few), rest))
       (chosen_before (n + 1) a b xs (omega arith) (omega arith)))
 
   -- The first line of a column, and then the rest of it.
   every_kth_first : (ls : Column) → slice_index_or (every_kth k j ls) 0 [] ≡ slice_index_or ls j []
   every_kth_first ls = ⊎_elim
-      (λ is. ap (λ (l : Column). slice_index_or l 0 []) is.0)
-      (λ is. ap (λ (l : Column). slice_index_or l 0 []) is.0 ∙ sym (get_or_past ls j [] is.1))
+      (λ (is, some). ap (λ (l : Column). slice_index_or l 0 []) is)
+      (λ (none, few, rest). ap (λ (l : Column). slice_index_or l 0 []) none ∙ sym (get_or_past ls j [] few))
       (chosen_before 0 j k ls (omega arith) (omega arith))
 
   pub every_kth_rest : (ls : Column) → drop 1 (every_kth k j ls) ≡ every_kth k j (drop k ls)
   every_kth_rest ls = ⊎_elim
-      (λ is. ap (drop 1) is.0)
-      (λ is. ap (drop 1) is.0 ∙ ap (every_kth k j) (sym is.2))
+      (λ (is, some). ap (drop 1) is)
+      (λ (none, few, rest). ap (drop 1) none ∙ ap (every_kth k j) (sym rest))
       (chosen_before 0 j k ls (omega arith) (omega arith))
 
   every_kth_some : (ls : Column) → j < length ls → 0 < length (every_kth k j ls)
-  every_kth_some ls some = ⊎_elim (λ is. omega (arith, ap length is.0)) (λ is. absurd (omega (arith, is.1)))
+  every_kth_some ls some = ⊎_elim (λ (is, low). omega (arith, ap length is))
+      (λ (none, few, rest). absurd (omega (arith, few)))
       (chosen_before 0 j k ls (omega arith) (omega arith))
 
   -- A bound on the length of a column.
   pub every_kth_short : (r : ℕ) (ls : Column) → length ls ≤ j + r * k → length (every_kth k j ls) ≤ r
-  every_kth_short zero ls few = ⊎_elim (λ is. absurd (omega (arith, is.1, few))) (λ is. omega (arith, ap length is.0))
+  every_kth_short zero ls few = ⊎_elim (λ (is, low). absurd (omega (arith, low, few)))
+      (λ (none, past, rest). omega (arith, ap length none))
       (chosen_before 0 j k ls (omega arith) (omega arith))
   every_kth_short (suc r) ls few =
       let more : suc r * k ≡ k + r * k = omega arith in
@@ -183,17 +185,9 @@ pub last_use : (cells : List ℕ) (p : ℕ) → 0 < uses_of cells p → (c : ℕ
     × (uses_of cells p ≡ uses_of (take c cells) p + 1)
 last_use [] p some = absurd (omega arith)
 last_use (x ∷ cells) p some = ⊎_elim
-    (λ more. let l = last_use cells p more in (
-      suc l.0,
-      omega (arith, l.1),
-      l.2,
-      omega (
-        arith,
-        l.3,
-        uses_first cells,
-        uses_first (take l.0 cells),
-      ),
-    ))
+    (λ more.
+    let (c, low, is, count) = last_use cells p more in
+    (suc c, omega (arith, low), is, omega (arith, count, uses_first cells, uses_first (take c cells))))
     (λ none. ⊎_elim
     (λ same. (
       0,
@@ -265,19 +259,19 @@ module _ (cells : List ℕ) where
     rest_is : (p : ℕ) → drop (uses_of cells p) (input_lines p ++ more p) ≡ more p
     rest_is p = ⊎_elim
         (λ same. drop_at (input_lines p) (more p) (uses_of cells p) same)
-        (λ few. drop_all (uses_of cells p) (input_lines p ++ more p) (omega (
+        (λ (none, few). drop_all (uses_of cells p) (input_lines p ++ more p) (omega (
           arith,
-          few.1,
-          ap length few.0,
+          few,
+          ap length none,
           length-append (input_lines p) (more p),
-        )) ∙ sym few.0)
+        )) ∙ sym none)
         (t.all p)
 
     input_lines_at : (p j : ℕ) → j < uses_of cells p → slice_index_or (input_lines p ++ more p) j [] ≡ slice_index_or
         (input_lines p) j []
     input_lines_at p j low = ⊎_elim
         (λ same. get_or_append_left (input_lines p) (more p) [] j (omega (arith, same)))
-        (λ few. ap (λ (l : Column). slice_index_or l j []) (ap (λ (l : Column). input_lines p ++ l) few.0
+        (λ (none, few). ap (λ (l : Column). slice_index_or l j []) (ap (λ (l : Column). input_lines p ++ l) none
         ∙ append-nil (input_lines p)))
         (t.all p)
 

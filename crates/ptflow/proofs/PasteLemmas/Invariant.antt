@@ -2,14 +2,14 @@
 -- were pushed, and the slots hold at most one line for each column. From it follow the clauses of the contract once the
 -- readers were read further.
 use Rattle.ptflow.proofs.Common.{◌≡◌, ⊎_elim, ℕ, ◌+◌, ◌*◌, ◌<◌, ◌≤◌, ◌^◌, Bool, true, false, List, [], ◌∷◌, ◌++◌, None}
-use Rattle.ptflow.proofs.Common.{length, get_or, refl, sym, ◌∙◌, ap, subst, arith, append_assoc, All, cases_lt}
-use Rattle.ptflow.proofs.Common.{append-nil, All-get_or, unlines, lines, complete_lines, AreLines, max_length, Received}
-use Rattle.ptflow.proofs.Common.{IsPrefix, IsConsistent, HasReceived, known_lines, Output, PushEffect, Reader}
-use Rattle.ptflow.proofs.Common.{ReaderAdvance, IsDone, Slots, total_bytes, received_with, has_received}
-use Rattle.ptflow.proofs.Common.{has_received_of_set, push_nothing, push_trans, complete_lines_cons, Paste, AddedSlots}
-use Rattle.ptflow.proofs.Common.{reader_at, IsReadable, PastePre, uses_of, columns, rows, rows_text, paste}
-use Rattle.ptflow.proofs.Common.{paste_decided, SetTerminatorsPost, SlotsBound, SlotsKept, CellsTaken, CellsFilled}
-use Rattle.ptflow.proofs.Common.{AreReceivedLines, AreFirstRows, RowsTaken, cells_text, job_shape, BufferedRowsPre}
+use Rattle.ptflow.proofs.Common.{length, refl, sym, ◌∙◌, ap, subst, arith, append_assoc, All, cases_lt, append-nil}
+use Rattle.ptflow.proofs.Common.{All-get_or, unlines, lines, complete_lines, AreLines, max_length, Received, IsPrefix}
+use Rattle.ptflow.proofs.Common.{IsConsistent, HasReceived, known_lines, Output, PushEffect, Reader, ReaderAdvance}
+use Rattle.ptflow.proofs.Common.{IsDone, Slots, total_bytes, received_with, has_received, has_received_of_set}
+use Rattle.ptflow.proofs.Common.{push_nothing, push_trans, complete_lines_cons, Paste, AddedSlots, reader_at}
+use Rattle.ptflow.proofs.Common.{IsReadable, PastePre, uses_of, columns, rows, rows_text, paste, paste_decided}
+use Rattle.ptflow.proofs.Common.{SetTerminatorsPost, SlotsBound, SlotsKept, CellsTaken, CellsFilled, AreReceivedLines}
+use Rattle.ptflow.proofs.Common.{AreFirstRows, RowsTaken, cells_text, job_shape, BufferedRowsPre}
 use Rattle.ptflow.proofs.PasteLemmas.CellSlots.{slots_bound_start, slots_kept_by_lines}
 use Rattle.ptflow.proofs.PasteLemmas.RowsTaken.{first_rows_trans, filled_row_is_first, filled_row_text}
 use Rattle.ptflow.proofs.PasteLemmas.Grid.{Column, last_use, rows_text-append}
@@ -21,31 +21,30 @@ use Rattle.ptflow.proofs.PasteLemmas.LinesTaken.{nothing_taken}
 
 -- ---- inputs that columns use
 
-pub used_at : (cells : List ℕ) (p : ℕ) → 0 < uses_of cells p → (c : ℕ) × (c < length cells) × (get_or cells c 0 ≡ p)
-used_at cells p some = let l = last_use cells p some in (l.0, l.1, l.2)
-
 pub all_used : (P : ℕ → Type 0) (cells : List ℕ) → All P cells → (p : ℕ) → 0 < uses_of cells p → P p
-all_used P cells all p some = let n = used_at cells p some in subst P n.2 (All-get_or P cells n.0 0 n.1 all)
+all_used P cells all p some = let (c, low, is, last) = last_use cells p some in
+    subst P is (All-get_or P cells c 0 low all)
 
 -- ---- the complete lines that were received
 
 ended_more : (end : ℕ) (ls : Column) (bytes : List ℕ) → AreLines end ls → complete_lines end (unlines end ls ++ bytes)
     ≡ ls ++ complete_lines end bytes
 ended_more end [] bytes w = refl
-ended_more end (line ∷ ls) bytes w =
+ended_more end (line ∷ ls) bytes (whole, more) =
     ap (complete_lines end) (append_assoc (line ++ end ∷ []) (unlines end ls) bytes ∙ append_assoc line (end ∷ [])
-    (unlines end ls ++ bytes)) ∙ complete_lines_cons end line (unlines end ls ++ bytes) w.0
-    ∙ ap (λ (l : Column). line ∷ l) (ended_more end ls bytes w.1)
+    (unlines end ls ++ bytes)) ∙ complete_lines_cons end line (unlines end ls ++ bytes) whole
+    ∙ ap (λ (l : Column). line ∷ l) (ended_more end ls bytes more)
 
 -- The known lines of all received bytes, if `ls` were received first.
 whole_lines_after : (end : ℕ) (now : Reader) (given : List ℕ) (ls : Column) → AreReceivedLines end now given ls
     → (rest : List ℕ) (eof : Bool) → (IsDone now → (rest ≡ []) × (eof ≡ true))
     → known_lines end (record { bytes = given ++ rest; eof = eof }) ≡ ls ++ known_lines end
     (record { bytes = rest; eof = eof })
-whole_lines_after end now given ls k rest true may = lines_on end now given ls k rest (λ done. (may done).0)
+whole_lines_after end now given ls k rest true may = lines_on end now given ls k rest
+    (λ done. let (none, eof) = may done in none)
 whole_lines_after end now given ls k rest false may = ⊎_elim
-    (λ o. rw o.0 (ended_more end ls rest o.1))
-    (λ c. cc ((may c.1).1))
+    (λ (is, are). rw is (ended_more end ls rest are))
+    (λ (is, done). let (none, eof) = may done in cc eof)
     k.so_far
 
 -- ---- readers that were read further after some rows
@@ -55,8 +54,8 @@ pub record ReadMore (now new : List Reader) : Type 0 where
   pub extra : ℕ → List ℕ
   pub reads : (p : ℕ) → ReaderAdvance (reader_at now p) (reader_at new p) (extra p)
 
-module _ (job : Paste) {cells : List ℕ} {set now new : List Reader} {ls : ℕ
-    → Column} {taken_rows : List (List (List ℕ))} (g : AreFirstRows (job_shape job cells) set now ls taken_rows)
+module _ (job : Paste) {cells : List ℕ} {set now new : List Reader} {ls : ℕ → Column}
+    {taken_rows : List (List (List ℕ))} (g : AreFirstRows (job_shape job cells) set now ls taken_rows)
     (r : ReadMore now new) where
   abbrev pub given_by : ℕ → Received
   given_by p = received_with ((g.lines_taken p).bytes ++ r.extra p) (reader_at new p)
@@ -97,8 +96,9 @@ module _ (job : Paste) {cells : List ℕ} {set now new : List Reader} {ls : ℕ
 
   none_more : (p : ℕ) → IsDone (reader_at now p) → (r.extra p ++ (reader_at new p).buffered ≡ [])
       × ((reader_at new p).eof ≡ true)
-  none_more p done = let k = eof_gives_nothing (reader_at now p) (reader_at new p) (r.extra p) done (r.reads p) in
-      ((λ i. k.0 i ++ k.1 i), k.2)
+  none_more p done =
+      let (none, empty, eof) = eof_gives_nothing (reader_at now p) (reader_at new p) (r.extra p) done (r.reads p) in
+      ((λ i. none i ++ empty i), eof)
 
   whole_more : (p : ℕ) → known_lines job.terminator (given_by p) ≡ ls p ++ more_by p
   whole_more p =
@@ -111,10 +111,9 @@ module _ (job : Paste) {cells : List ℕ} {set now new : List Reader} {ls : ℕ
       (columns cells more_by)
   rows_whole =
       (λ i. rows (columns cells (λ p. whole_more p i)))
-      ∙ g.on more_by (λ p done i. known_lines job.terminator (record {
-        bytes = (none_more p done).0 i;
-        eof = (none_more p done).1 i;
-      }))
+      ∙ g.on more_by (λ p done.
+      let (none, eof) = none_more p done in
+      λ i. known_lines job.terminator (record { bytes = none i; eof = eof i }))
 
   -- Without the last bytes of this input alone, no more output is determined than was pushed.
   abbrev pub LagsBy : ℕ → Type 0

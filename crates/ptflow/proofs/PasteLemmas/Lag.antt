@@ -40,8 +40,10 @@ earlier_partial {end} new {given} {ls} k going piece {bytes} is free buffered fe
   split = refl;
   short = omega (arith, buffered);
   few = let lines_are : complete_lines end (given ++ piece) ≡ ls =
-      ⊎_elim (λ o. ap (λ (b : List ℕ). complete_lines end (b ++ piece)) o.0 ∙ complete_lines_of_unlines end ls piece o.1
-      free) (λ c. absurd (going c.1)) k.so_far in
+      ⊎_elim
+      (λ (whole, are). ap (λ (b : List ℕ). complete_lines end (b ++ piece)) whole
+      ∙ complete_lines_of_unlines end ls piece are free)
+      (λ (whole, done). absurd (going done)) k.so_far in
       omega (arith, few, ap length (ap (complete_lines end) is ∙ lines_are));
 }
 
@@ -57,17 +59,21 @@ earlier_buffered end most reader buffered some = record {
 }
 
 are_split : (end : ℕ) (xs : Column) (l : List ℕ) → AreLines end (xs ++ l ∷ []) → AreLines end xs × IsLine end l
-are_split end [] l are = (tt, are.0)
-are_split end (x ∷ xs) l are = let more = are_split end xs l are.1 in ((are.0, more.0), more.1)
+are_split end [] l (last, none) = (tt, last)
+are_split end (x ∷ xs) l (first, are) = let (more, last) = are_split end xs l are in ((first, more), last)
 
 -- If there are no lines, nothing was given.
 pub none_received : {end : ℕ} {reader : Reader} {given : List ℕ} → AreReceivedLines end reader given [] → given ≡ []
 none_received {end} {reader} {given} k = ⊎_elim
-    (λ o. o.0)
-    (λ c. ⊎_elim
-    (λ same. sym same ∙ ap (unlines end) c.0)
-    (λ more. absurd (omega (arith, ap length (sym more.2 ∙ ap (unlines end) c.0), length-append given (end ∷ []))))
-    (the_lines end given).0.1)
+    (λ (is, are). is)
+    (λ (none, done).
+    let (exists, unique) = the_lines end given in
+    let (are, whole) = exists in
+    ⊎_elim
+    (λ same. sym same ∙ ap (unlines end) none)
+    (λ (some, other, is).
+    absurd (omega (arith, ap length (sym is ∙ ap (unlines end) none), length-append given (end ∷ []))))
+    whole)
     k.so_far
 
 module _ (end : ℕ) (reader : Reader) (given : List ℕ) (buffered : length reader.buffered ≤ 8192) where
@@ -75,7 +81,7 @@ module _ (end : ℕ) (reader : Reader) (given : List ℕ) (buffered : length rea
     -- The given bytes are fewer than `most` lines and one more, perhaps with its terminator.
     earlier_line : (suffix : List ℕ) → length suffix ≤ 1 → given ≡ unlines end xs ++ (l ++ suffix)
         → AreLines end xs × IsLine end l → EarlierPart end most (received_with given reader)
-    earlier_line suffix one is are = let n = length l - 8191 in record {
+    earlier_line suffix one is (are, line) = let n = length l - 8191 in record {
       front = unlines end xs ++ take n l;
       last = drop n l ++ (suffix ++ reader.buffered);
       split = ap (λ (b : List ℕ). b ++ reader.buffered) (is ∙ ap (λ (b : List ℕ). unlines end xs ++ (b ++ suffix))
@@ -88,22 +94,24 @@ module _ (end : ℕ) (reader : Reader) (given : List ℕ) (buffered : length rea
         length-append suffix reader.buffered,
         length-drop n l,
       );
-      few = omega (arith, few, ap length (complete_lines_of_unlines end xs (take n l) are.0 (line_take end n l are.1)));
+      few = omega (arith, few, ap length (complete_lines_of_unlines end xs (take n l) are (line_take end n l line)));
     }
 
     -- Without the last line that was given.
     earlier_last : AreReceivedLines end reader given (xs ++ l ∷ []) → EarlierPart end most (received_with given reader)
     earlier_last k = ⊎_elim
-        (λ o. earlier_line (end ∷ []) (omega arith) (o.0 ∙ unlines_push end xs l) (are_split end xs l o.1))
-        (λ c. let all = (the_lines end given).0 in
-        let are = are_split end xs l (subst (AreLines end) c.0 all.0) in
-        let put : unlines end (lines end given) ≡ unlines end xs ++ (l ++ end ∷ []) = ap (unlines end) c.0
+        (λ (is, are). earlier_line (end ∷ []) (omega arith) (is ∙ unlines_push end xs l) (are_split end xs l are))
+        (λ (last, done).
+        let (exists, unique) = the_lines end given in
+        let (all, whole) = exists in
+        let are = are_split end xs l (subst (AreLines end) last all) in
+        let put : unlines end (lines end given) ≡ unlines end xs ++ (l ++ end ∷ []) = ap (unlines end) last
         ∙ unlines_push end xs l in
         ⊎_elim
         (λ same. earlier_line (end ∷ []) (omega arith) (sym same ∙ put) are)
-        (λ more. earlier_line [] (omega arith) (rw (append-nil l) (append_cancel_right given (unlines end xs ++ l)
-        (end ∷ []) (sym more.2 ∙ put ∙ sym (append_assoc (unlines end xs) l (end ∷ []))))) are)
-        all.1)
+        (λ (some, other, is). earlier_line [] (omega arith) (rw (append-nil l) (append_cancel_right given
+        (unlines end xs ++ l) (end ∷ []) (sym is ∙ put ∙ sym (append_assoc (unlines end xs) l (end ∷ []))))) are)
+        whole)
         k.so_far
 
   -- Without the last line, or if there are no lines without the buffer.
@@ -136,19 +144,19 @@ whole_lines_prefix end eof (b ∷ front) last = by_test eof (b == end) (complete
         → (more : Column) × (cond e (cond t ([] ∷ lines end (front ++ last)) (onto_first b (lines end (front ++ last))))
         (cond t ([] ∷ complete_lines end (front ++ last)) (onto_first_if_any b (complete_lines end (front ++ last))))
         ≡ cond t ([] ∷ xs) (onto_first_if_any b xs) ++ more)
-    by_test true true xs later = (later.0, ap (λ (l : Column). [] ∷ l) later.1)
-    by_test false true xs later = (later.0, ap (λ (l : Column). [] ∷ l) later.1)
-    by_test true false [] later = (onto_first b (lines end (front ++ last)), refl)
-    by_test false false [] later = (onto_first_if_any b (complete_lines end (front ++ last)), refl)
-    by_test true false (x ∷ xs) later = (later.0, ap (onto_first b) later.1)
-    by_test false false (x ∷ xs) later = (later.0, ap (onto_first_if_any b) later.1)
+    by_test true true xs (more, is) = (more, ap (λ (l : Column). [] ∷ l) is)
+    by_test false true xs (more, is) = (more, ap (λ (l : Column). [] ∷ l) is)
+    by_test true false [] (more, is) = (onto_first b (lines end (front ++ last)), refl)
+    by_test false false [] (more, is) = (onto_first_if_any b (complete_lines end (front ++ last)), refl)
+    by_test true false (x ∷ xs) (more, is) = (more, ap (onto_first b) is)
+    by_test false false (x ∷ xs) (more, is) = (more, ap (onto_first_if_any b) is)
 
 -- Without the last bytes that were given, if these came from the buffer.
 pub earlier_before : {end most : ℕ} {now new : Reader} {given more : List ℕ} {ls : Column}
     → AreReceivedLines end now given ls → ReaderAdvance now new more → new.pulled ≡ now.pulled
     → length now.buffered ≤ 8192 → length ls < most → EarlierPart end most (received_with (given ++ more) new)
 earlier_before {end} {now = now} {new = new} {given = given} {more = more} {ls = ls} came reads still buffered few =
-    let f = whole_lines_prefix end true given [] in record {
+    let (rest, is) = whole_lines_prefix end true given [] in record {
       front = given;
       last = more ++ new.buffered;
       split = append_assoc given more new.buffered;
@@ -157,8 +165,8 @@ earlier_before {end} {now = now} {new = new} {given = given} {more = more} {ls =
         arith,
         few,
         ap length (sym (lines_are_given end now given ls came)
-            ∙ ap (lines end) (sym (append-nil given)) ∙ f.1),
-        length-append (complete_lines end given) f.0,
+            ∙ ap (lines end) (sym (append-nil given)) ∙ is),
+        length-append (complete_lines end given) rest,
       );
     }
 
@@ -174,12 +182,12 @@ filter_first : (f : ℕ → Bool) → ((r : ℕ) → f r ≡ false → f (r + 1)
     ≡ range_with_len a m)
 filter_first f down a zero = (0, omega arith, (λ n high none. omega (arith, high)), refl)
 filter_first f down a (suc h) = ⊎_elim
-    (λ is. let later = filter_first f down (a + 1) h in (
-      suc later.0,
-      omega (arith, later.1),
+    (λ is. let (m, few, past, later) = filter_first f down (a + 1) h in (
+      suc m,
+      omega (arith, few),
       (λ n high none. ⊎_elim (λ same. cc (none, ap f same, is))
-          (λ differ. omega (arith, later.2 n (omega (arith, high, differ)) none)) (cases_eq n a)),
-      rw is (ap (λ (l : List ℕ). a ∷ l) later.3),
+          (λ differ. omega (arith, past n (omega (arith, high, differ)) none)) (cases_eq n a)),
+      rw is (ap (λ (l : List ℕ). a ∷ l) later),
     ))
     (λ is. (0, omega arith, (λ n high none. omega (arith, high)), rw is (none_known f down (a + 1) h (down a is))))
     (cases_Bool (f a))
@@ -194,8 +202,8 @@ known_first : (cols : List Column) (eof : List Bool)
     → (m : ℕ) × (m ≤ row_count cols) × ((n : ℕ) → is_row_known cols eof n ≡ false → m ≤ n) × (known_rows cols eof
     ≡ map (row_at cols) (range_with_len 0 m))
 known_first cols eof =
-    let f = filter_first (is_row_known cols eof) (known_down cols eof) 0 (row_count cols) in
-    (f.0, f.1, (λ n none. omega (arith, f.2 n (omega arith) none)), ap (map (row_at cols)) f.3)
+    let (m, few, past, is) = filter_first (is_row_known cols eof) (known_down cols eof) 0 (row_count cols) in
+    (m, few, (λ n none. omega (arith, past n (omega arith) none)), ap (map (row_at cols)) is)
 
 -- ---- two grids with the same rows
 
@@ -268,18 +276,18 @@ module _ (job : Paste) (cells : List ℕ) (came : ℕ → Received) where
     -- The last column of the input has no line in the next row.
     next_unknown : is_row_known (grid earlier) ends (length taken_rows) ≡ false
     next_unknown =
-        let l = last_use cells here named in
+        let (c, low, is, count) = last_use cells here named in
         let more : (length taken_rows + 1) * uses_of cells here ≡ length taken_rows * uses_of cells here
         + uses_of cells here = omega arith in
-        unknown (length taken_rows) l.0 l.1 l.2 (every_kth_short (uses_before_lt cells l.0 l.1) (length taken_rows)
-        (known_of earlier (get_or cells l.0 0)) (omega (
+        unknown (length taken_rows) c low is (every_kth_short (uses_before_lt cells c low) (length taken_rows)
+        (known_of earlier (get_or cells c 0)) (omega (
           arith,
           cut.few,
-          ap (λ (g : Received). length (known_lines job.terminator g)) (update_here here front came (get_or cells l.0 0)
-              l.2),
-          l.3,
-          ap (uses_of (take l.0 cells)) l.2,
-          ap (λ (q : ℕ). length taken_rows * uses_of cells q) l.2,
+          ap (λ (g : Received). length (known_lines job.terminator g)) (update_here here front came (get_or cells c 0)
+              is),
+          count,
+          ap (uses_of (take c cells)) is,
+          ap (λ (q : ℕ). length taken_rows * uses_of cells q) is,
           more,
         )))
 
@@ -288,16 +296,16 @@ module _ (job : Paste) (cells : List ℕ) (came : ℕ → Received) where
         (column_of cells (known_of came) c (get_or cells c 0)) r []
     cell_same r known c low = ⊎_elim
         (λ is.
-        let f = whole_lines_prefix job.terminator (came here).eof cut.front cut.last in
+        let (more, is_known) = whole_lines_prefix job.terminator (came here).eof cut.front cut.last in
         let is_front = update_here here front came p is in
         let there : r < length (every_kth k j (known_of earlier p)) =
         ⊎_elim (λ there. there) (λ past. cc (unknown r c low is past, known))
         (cases_lt r (length (every_kth k j (known_of earlier p)))) in
         ap (λ (g : Received). slice_index_or (every_kth k j (known_lines job.terminator g)) r []) is_front
-        ∙ every_kth_more k j r (complete_lines job.terminator cut.front) f.0
+        ∙ every_kth_more k j r (complete_lines job.terminator cut.front) more
         (omega (arith, there, ap (λ (g : Received). length (every_kth k j (known_lines job.terminator g))) is_front))
         ∙ ap (λ (l : Column). slice_index_or (every_kth k j l) r [])
-        (sym ((λ i. known_lines job.terminator (record { bytes = cut.split i; eof = (came here).eof })) ∙ f.1))
+        (sym ((λ i. known_lines job.terminator (record { bytes = cut.split i; eof = (came here).eof })) ∙ is_known))
         ∙ ap (λ (q : ℕ). slice_index_or (every_kth k j (known_of came q)) r []) (sym is))
         (λ other. ap (λ (g : Received). slice_index_or (every_kth k j (known_lines job.terminator g)) r [])
         (update_there here front came p other))
@@ -321,27 +329,26 @@ module _ (job : Paste) (cells : List ℕ) (came : ℕ → Received) where
       where
         row_each : (ins : ℕ → Column) → row_at (columns cells ins) r ≡ for_each_cell (λ c p. slice_index_or
             (column_of cells ins c p) r []) cells
-        row_each ins = map-map (λ (col : Column). slice_index_or col r []) (λ (cell : ℕ × ℕ). column_of cells ins cell.0
-            cell.1) (enumerate_from 0 cells)
+        row_each ins = map-map (λ (col : Column). slice_index_or col r [])
+            (λ (c, p). column_of cells ins c p) (enumerate_from 0 cells)
 
     begins_then : IsPrefix (paste_decided job cells earlier) (rows_text job taken_rows)
     begins_then =
-        let k = known_first (grid earlier) ends in
-        let few : k.0 ≤ length taken_rows = k.2 (length taken_rows) next_unknown in
-        let high : k.0 ≤ row_count (grid came) = omega (
+        let (m, within, past, known) = known_first (grid earlier) ends in
+        let few : m ≤ length taken_rows = past (length taken_rows) next_unknown in
+        let high : m ≤ row_count (grid came) = omega (
           arith,
           few,
           ap length all,
           length-append taken_rows more,
           length-map-range_with_len (row_at (grid came)) 0 (row_count (grid came)),
         ) in
-        first_rows_prefix job k.0 taken_rows (
-        k.3
-        ∙ same_rows (row_at (grid earlier)) (row_at (grid came)) 0 k.0
-        (λ r low. row_same r (⊎_elim (λ is. is) (λ not. absurd (omega (arith, low, k.2 r not)))
+        first_rows_prefix job m taken_rows (known
+        ∙ same_rows (row_at (grid earlier)) (row_at (grid came)) 0 m
+        (λ r low. row_same r (⊎_elim (λ is. is) (λ not. absurd (omega (arith, low, past r not)))
         (cases_Bool (is_row_known (grid earlier) ends r))))
-        ∙ sym (take-map-range_with_len (row_at (grid came)) 0 (row_count (grid came)) k.0 high)
-        ∙ ap (take k.0) all ∙ take-append-le k.0 taken_rows more few)
+        ∙ sym (take-map-range_with_len (row_at (grid came)) 0 (row_count (grid came)) m high)
+        ∙ ap (take m) all ∙ take-append-le m taken_rows more few)
 
     pub lags_here : LagsAt job cells came (rows_text job taken_rows) here
     lags_here = record {

@@ -9,13 +9,14 @@ use Rattle.ptflow.proofs.Passes.Readers.{eof_gives_nothing, stays_at_eof}
 
 AreLines-append : (end : ℕ) (xs ys : List (List ℕ)) → AreLines end xs → AreLines end ys → AreLines end (xs ++ ys)
 AreLines-append end [] ys p q = q
-AreLines-append end (x ∷ xs) ys p q = (p.0, AreLines-append end xs ys p.1 q)
+AreLines-append end (x ∷ xs) ys (line, more) q = (line, AreLines-append end xs ys more q)
 
 -- A reader at the end of its input gives no lines.
 none_received : {end : ℕ} {b c : Reader} {bytes : List ℕ} {ls : List (List ℕ)} → IsDone b → ReaderAdvance b c bytes
     → AreReceivedLines end c bytes ls → ls ≡ []
-none_received {end} {b} {c} {bytes} {ls} done reads k = sym (lines_are_given end c bytes ls k)
-    ∙ ap (lines end) (eof_gives_nothing b c bytes done reads).0
+none_received {end} {b} {c} {bytes} {ls} done reads k =
+    let (none, empty, eof) = eof_gives_nothing b c bytes done reads in
+    sym (lines_are_given end c bytes ls k) ∙ ap (lines end) none
 
 -- Lines were received, and then more.
 pub lines_trans : {end : ℕ} {b c : Reader} {bs cs : List ℕ} {xs ys : List (List ℕ)} → AreReceivedLines end b bs xs
@@ -23,14 +24,13 @@ pub lines_trans : {end : ℕ} {b c : Reader} {bs cs : List ℕ} {xs ys : List (L
     → AreReceivedLines end c (bs ++ cs) (xs ++ ys)
 lines_trans {end} {b} {c} {bs} {cs} {xs} {ys} p reads q = record {
   so_far = ⊎_elim
-      (λ o. ⊎_elim
-      (λ q. inl (rw (o.0, q.0, unlines-append end xs ys) refl, AreLines-append end xs ys o.1 q.1))
-      (λ q. inr (rw (o.0, lines_of_unlines end xs cs o.1, q.0) refl, q.1))
+      (λ (first, are). ⊎_elim
+      (λ (then, more). inl (rw (first, then, unlines-append end xs ys) refl, AreLines-append end xs ys are more))
+      (λ (then, done). inr (rw (first, lines_of_unlines end xs cs are, then) refl, done))
       q.so_far)
-      (λ k. inr (
-        rw ((eof_gives_nothing b c cs k.1 reads).0, none_received k.1 reads q) (simp append-nil k.0),
-        stays_at_eof b c cs k.1 reads,
-      ))
+      (λ (is, done).
+      let (none, empty, eof) = eof_gives_nothing b c cs done reads in
+      inr (rw (none, none_received done reads q) (simp append-nil is), stays_at_eof b c cs done reads))
       p.so_far;
 }
 
@@ -46,7 +46,7 @@ reads_nothing {r} = record {
 
 -- At most the requested number of lines is taken.
 pub taken_at_most : {end : ℕ} {b c : Reader} {n : ℕ} {ys : List (List ℕ)} → LinesTaken end b c n ys → length ys ≤ n
-taken_at_most t = ⊎_elim (λ same. omega (arith, same)) (λ few. few.1) t.enough
+taken_at_most t = ⊎_elim (λ same. omega (arith, same)) (λ (done, few). few) t.enough
 
 -- Nothing is taken from a reader at the end of its input.
 pub none_at_eof : {end : ℕ} {b c : Reader} {n : ℕ} {ys : List (List ℕ)} → LinesTaken end b c n ys → IsDone b → ys ≡ []
@@ -78,15 +78,10 @@ taken_more {end} {a} {b} {c} {k} {m} {n} {xs} {ys} all p q = record {
   came = lines_trans p.came q.reads q.came;
   enough = ⊎_elim
       (λ same. ⊎_elim (λ every. inl (omega (arith, same, every, length-append xs ys)))
-      (λ few. inr (few.0, omega (arith, same, few.1, length-append xs ys))) q.enough)
-      (λ few. inr (
-        stays_at_eof b c q.bytes few.0 q.reads,
-        omega (
-          arith,
-          few.1,
-          ap length (none_at_eof q few.0),
-          length-append xs ys,
-        ),
+      (λ (done, few). inr (done, omega (arith, same, few, length-append xs ys))) q.enough)
+      (λ (done, few). inr (
+        stays_at_eof b c q.bytes done q.reads,
+        omega (arith, few, ap length (none_at_eof q done), length-append xs ys),
       ))
       p.enough;
 }

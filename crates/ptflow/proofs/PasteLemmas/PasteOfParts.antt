@@ -89,14 +89,14 @@ module _ (cells : List ℕ) where
   more_is_empty n ins more reach p few = ⊎_elim
       (λ all. let size : suc n * uses_of cells p ≡ uses_of cells p + n * uses_of cells p = omega arith in
       absurd (omega (arith, all, size, few)))
-      (λ none. none.0)
+      (λ (none, few). none)
       (reach p (omega (arith, few)))
 
   later : (n : ℕ) (ins more : ℕ → Column) → TakesAll (suc n) ins more → TakesAll n (rest ins) more
   later n ins more reach p some =
       let size : suc n * uses_of cells p ≡ uses_of cells p + n * uses_of cells p = omega arith in
       let long = length-drop (uses_of cells p) (ins p) in
-      ⊎_elim (λ all. inl (omega (arith, all, size, long))) (λ few. inr (few.0, omega (arith, few.1, size, long)))
+      ⊎_elim (λ all. inl (omega (arith, all, size, long))) (λ (none, few). inr (none, omega (arith, few, size, long)))
       (reach p some)
 
   abbrev Append : (ℕ → Column) → (ℕ → Column) → Type 0
@@ -139,10 +139,10 @@ module _ (cells : List ℕ) where
   rows-append : (n : ℕ) (ins more : ℕ → Column) → TakesAll n ins more → Append ins more
   rows-append zero ins more reach =
       append_none ins more (λ c low. nil_from_length (ins (get_or cells c 0)) (⊎_elim (λ all. omega (arith, all))
-      (λ few. omega (arith, few.1))
+      (λ (none, few). omega (arith, few))
       (reach (get_or cells c 0) (omega (arith, uses_before_lt cells c low)))))
   rows-append (suc n) ins more reach = ⊎_elim
-      (λ here. append_row n ins more reach here.0 here.1 here.2 (rows-append n (rest ins) more
+      (λ (c, low, some). append_row n ins more reach c low some (rows-append n (rest ins) more
       (later n ins more reach)))
       (append_last n ins more reach)
       (some_cell ins (length cells) (omega arith))
@@ -159,11 +159,11 @@ paste_of_parts job cells n a b cut =
   where
     both : (p : ℕ) → IsRowSplit job.terminator n (uses_of cells p) (a p) (b p) → lines job.terminator (a p ++ b p)
         ≡ lines job.terminator (a p) ++ lines job.terminator (b p)
-    both p (inl is) = the_lines_of_parts job.terminator (a p) (b p) is.0
-    both p (inr is) = rw is.0 (simp append-nil)
+    both p (inl (whole, count)) = the_lines_of_parts job.terminator (a p) (b p) whole
+    both p (inr (none, few)) = rw none (simp append-nil)
 
     reach : (p : ℕ) → IsRowSplit job.terminator n (uses_of cells p) (a p) (b p)
         → (length (lines job.terminator (a p)) ≡ n * uses_of cells p)
         ⊎ ((lines job.terminator (b p) ≡ []) × (length (lines job.terminator (a p)) ≤ n * uses_of cells p))
-    reach p (inl is) = inl is.1
-    reach p (inr is) = inr (ap (lines job.terminator) is.0, is.1)
+    reach p (inl (whole, count)) = inl count
+    reach p (inr (none, few)) = inr (ap (lines job.terminator) none, few)

@@ -4,7 +4,8 @@ ghost use Rattle.std.specs.Prelude.{◌≡◌, ◌<◌, ◌+◌, ◌%◌, ◌++�
 ghost use Rattle.std.specs.List.{count_by};
 ghost use Rattle.std.specs.Simd.Lanes.{chunk};
 ghost use Rattle.memchr.specs.Find.{is_byte};
-ghost use Rattle.ptflow.specs.Private.Paste.SerialRest.{with_delimiter, with_cycle, ReplaceChunkPre, ReplacePre, CyclePosPre, IsCyclePosAfter, IsReplacedTo};
+ghost use Rattle.ptflow.specs.Private.Paste.SerialRest.{with_delimiter, with_cycle, ReplaceChunkPre, ReplacePre};
+ghost use Rattle.ptflow.specs.Private.Paste.SerialRest.{CyclePosPre, IsCyclePosAfter, IsReplacedTo};
 
 use crate::simd::find_nth::match_mask;
 use crate::simd::shift::{ByteMap, map_bytes};
@@ -44,18 +45,6 @@ pub(crate) struct CyclePos {
 }
 
 impl CyclePos {
-    // The position after `number` terminators.
-    fn of(number: u64, delims: &[Option<u8>]) -> CyclePos
-        requires { 0 < length delims.now }
-        ensures number { result.number ≡ number }
-        ensures index { result.index ≡ number % length delims.now }
-    {
-        CyclePos {
-            number,
-            index: (number % delims.len() as u64) as usize,
-        }
-    }
-
     // The position after one more terminator.
     #[inline(always)]
     fn next(self, delims: &[Option<u8>]) -> CyclePos
@@ -112,7 +101,10 @@ fn replace_chunks(
     requires { ReplacePre delims.now number from.now to.old }
     ensures { IsReplacedTo terminator delims.now number result.0 result.1 from.now to.new }
 {
-    let mut cycle_pos = CyclePos::of(number, delims);
+    let mut cycle_pos = CyclePos {
+        number,
+        index: (number % delims.len() as u64) as usize,
+    };
     let mut at = 0;
     while from.len() - at >= 64 {
         cycle_pos = replace_chunk(delims, terminator, cycle_pos, from, at, to);

@@ -15,11 +15,15 @@ pub record BufferedRowsPre (row : RowShape) (readers : List Reader) : Type 0 whe
   pub unfailed : (input : ℕ) → 0 < uses_of row.cells input → (reader_at readers input).fault ≡ None
   pub same_end : (input : ℕ) → 0 < uses_of row.cells input → (reader_at readers input).terminator ≡ row.terminator
 
+-- The first `size` buffered bytes of a reader were consumed, and nothing else has changed.
+pub record IsConsumed (old new : Reader) : Type 0 where
+  pub size : ℕ
+  pub is : new ≡ record old { buffered = drop size old.buffered }
+
 -- From each reader some of the buffered bytes were consumed, and nothing else has changed.
 pub record AreConsumed (old new : List Reader) : Type 0 where
   pub count : length new ≡ length old
-  pub buffered : (input : ℕ) → (n : ℕ) × (reader_at new input ≡ record (reader_at old input)
-      { buffered = drop n (reader_at old input).buffered })
+  pub buffered : (input : ℕ) → IsConsumed (reader_at old input) (reader_at new input)
 
 -- `taken_rows` are the next rows, for each continuation of the inputs, and their lines were taken from the readers.
 pub record AreFirstRows (row : RowShape) (old new : List Reader) (ls : ℕ → List (List ℕ))

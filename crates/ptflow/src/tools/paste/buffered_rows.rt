@@ -9,7 +9,7 @@ ghost use Rattle.ptflow.specs.Private.Paste.RowCells.{after_cell, begun_after, b
 ghost use Rattle.ptflow.specs.Private.Paste.BufferedRows.{BufferedRowsPre, CopyCellPost, CopyColumnsPost, CopyRowsPost};
 
 use crate::tools::paste::row::{BegunRow, CopiedField, CopiedRows, RowFormat};
-use crate::tools::paste::serial::OutBuf;
+use crate::tools::paste::serial::{OutBuf, copy_option};
 use ptlines::{LineReader, Source, copy_short, find_byte, find_in_chunk};
 use std::simd::prelude::*;
 
@@ -24,30 +24,6 @@ pub(crate) fn byte_after(row: RowFormat, column: usize, index: usize) -> Option<
         return Some(row.terminator);
     }
     row.delims[index]
-}
-
-// Copies the byte after a column to `at`. Returns the offset after it.
-#[inline(always)]
-fn copy_byte_after(
-    row: RowFormat,
-    column: usize,
-    index: usize,
-    into: &mut OutBuf,
-    at: usize,
-) -> usize
-    requires low { column < length row.cells.now }
-    requires index { index ≡ column % length row.delims.now }
-    requires room { at < 8192 }
-    ensures copied { take result into.new ≡ take at into.old ++ after_cell (shape_of row.entry) column }
-    ensures size_bound { (at ≤ result) × (result ≤ 8192) }
-{
-    match byte_after(row, column, index) {
-        Some(byte) => {
-            into[at] = byte;
-            at + 1
-        }
-        None => at,
-    }
 }
 
 // The index of the next delimiter in a list of `count`.
@@ -186,7 +162,7 @@ pub(crate) fn copy_columns<S: Source, R: Source>(
         match copy_cell(terminator, &mut readers[input], into, end) {
             Some(field) => {
                 any_line |= field.is_line;
-                end = copy_byte_after(row, column, index, into, field.end);
+                end = copy_option(byte_after(row, column, index), into, field.end);
             }
             None => {
                 return BegunRow {
@@ -270,7 +246,7 @@ pub(crate) fn copy_slot(
     let index = column % row.delims.len();
     Some(BegunRow {
         count: column + 1,
-        end: copy_byte_after(row, column, index, into, end),
+        end: copy_option(byte_after(row, column, index), into, end),
         any_line: begun.any_line,
     })
 }

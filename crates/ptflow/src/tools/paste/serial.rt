@@ -1,7 +1,7 @@
 //! `paste -s`: the engine that writes all lines of one input in one row, block by block. `ptrun` runs it over one input
 //! after the other.
 ghost use Rattle.std.specs.Prelude.{◌≡◌, ◌<◌, ◌≤◌, ◌+◌, ◌^◌, ◌++◌, ◌∷◌, [], true, false, OnOk, OnErr, IfOk, IfSome};
-ghost use Rattle.std.specs.Prelude.{length, take};
+ghost use Rattle.std.specs.Prelude.{length, option_to_list, take};
 ghost use Rattle.ptlines.specs.Outputs.{PushEffect, PushPost};
 ghost use Rattle.ptlangs.specs.Jobs.{paste_job};
 ghost use Rattle.ptflow.specs.Passes.{PassPre, PassPost};
@@ -66,25 +66,18 @@ fn start_cell<A: Allocator, W: Sink>(
 // The output of one block, and 16 bytes more that a copy may overwrite.
 pub(crate) type OutBuf = [u8; 8208];
 
-// Copies the delimiter after column `number` to `at`. Returns the offset after it.
+// Copies a byte, if there is one, to `at`. Returns the offset after it.
 #[inline(always)]
-fn copy_delimiter<A: Allocator>(
-    delims: &Delims<A>,
-    number: u64,
-    into: &mut OutBuf,
-    at: usize,
-) -> usize
-    requires room { at < 8192 }
-    ensures copied { take result into.new ≡ take at into.old ++ delimiter delims.now number }
-    ensures size_bound { result ≤ at + 1 }
+pub(crate) fn copy_option(byte: Option<u8>, into: &mut OutBuf, at: usize) -> usize
+    requires { at < 8192 }
+    ensures copied { take result into.new ≡ take at into.old ++ option_to_list byte }
+    ensures size_bound { (at ≤ result) × (result ≤ at + 1) }
 {
-    match delims.at(number) {
-        Some(byte) => {
-            into[at] = byte;
-            at + 1
-        }
-        None => at,
-    }
+    let Some(byte) = byte else {
+        return at;
+    };
+    into[at] = byte;
+    at + 1
 }
 
 // The delimiter of a list that has only one element; `None` if it has more, or if the element is empty.
@@ -116,7 +109,7 @@ fn copy_cells_slow<A: Allocator>(
     let mut at = 0;
     'pieces: while let Some(count) = find_byte(terminator, rest) {
         copy_short(rest, 0, count, into, at);
-        at = copy_delimiter(delims, number, into, at + count);
+        at = copy_option(delims.at(number), into, at + count);
         number += 1;
         rest = &rest[count + 1..];
     }

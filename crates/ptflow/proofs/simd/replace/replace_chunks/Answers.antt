@@ -1,6 +1,5 @@
 use Rattle.std.proofs.Common.{arith}
-use Rattle.ptflow.proofs.PasteLemmas.Cycle.{replaced_more}
-use Rattle.ptflow.proofs.PasteLemmas.Cycle.{chunk_is_in_text}
+use Rattle.ptflow.proofs.PasteLemmas.Cycle.{replaced_more, chunk_is_in_text}
 use Rattle.ptflow.proofs.simd.replace.replace_chunks.Goals as goal
 
 pub loop-at-preserved : goal.loop-at-preserved

@@ -1,7 +1,7 @@
 -- Each step copies the field of one more column and the byte after it. It ends at a field that cannot be copied, and
 -- then nothing was consumed.
 use Rattle.ptflow.proofs.Common.{◌≡◌, ◌+◌, ◌%◌, ℕ, length, take, set, get_or, refl, ◌∙◌, ap, arith, set-get_or}
-use Rattle.ptflow.proofs.Common.{mod-add-mod}
+use Rattle.ptflow.proofs.Common.{◌++◌, List, mod-add-mod}
 use borrow.Author.Rules.{scaled_Fits}
 use Rattle.ptflow.proofs.PasteLemmas.FillRow.{at_index}
 use Rattle.ptflow.proofs.PasteLemmas.Grid.{uses_before_lt}
@@ -42,10 +42,12 @@ loop-column-preserved g c =
           (omega (arith, uses_before_lt cells n c.loop-column-test.true)) c.copy_cell.new.reader
           (at_index c.loop-column.readers input c.index-readers-input.result (ready.within n 0 c.loop-column-test.true))
           c.in-Some.ensures.was_sound c.in-Some.field.is_line
-          (take c.in-Some.field.end c.copy_cell.new.into) c.in-Some.ensures.cell c.copy_byte_after-end.ensures.copied;
+          (take c.in-Some.field.end c.copy_cell.new.into) c.in-Some.ensures.cell
+          (c.copy_option-end.ensures.copied ∙ ap (λ (l : List ℕ). take c.in-Some.field.end c.copy_cell.new.into ++ l)
+          c.byte_after.ensures);
       within = omega (arith, c.loop-column-test.true);
-      grows = omega (arith, inv.grows, c.in-Some.ensures.size_bound, c.copy_byte_after-end.ensures.size_bound);
-      size_bound = c.copy_byte_after-end.ensures.size_bound.1;
+      grows = omega (arith, inv.grows, c.in-Some.ensures.size_bound, c.copy_option-end.ensures.size_bound);
+      size_bound = omega (arith, c.in-Some.ensures.size_bound, c.copy_option-end.ensures.size_bound);
       at = c.next_index-index.ensures ∙ ap (λ (k : ℕ). (k + 1) % length c.args.row.delims.now) inv.at
           ∙ mod-add-mod n (length c.args.row.delims.now) 1;
     }

@@ -17,14 +17,15 @@ pieces-preserved g c =
     rw take_rest (record {
       copied_as = copied_line c.args.terminator c.args.delims.now c.args.number c.pieces.number c.args.bytes.now rest
           (take c.pieces.at c.pieces.into) _ next count c.pieces.invariant.copied_as c.in-Some.ensures
-          (c.copy_delimiter-at.ensures.copied ∙ ap (λ (l : List ℕ). l ++ next) (rw all at c.copy_short.ensures.copied))
+          (rw c.at.ensures at c.copy_option-at.ensures.copied ∙ ap (λ (l : List ℕ). l ++ next)
+          (rw all at c.copy_short.ensures.copied))
           refl;
       size_bound = omega (
         arith,
         length-drop (count + 1) rest,
         c.in-Some.ensures.0.high,
         c.pieces.invariant.size_bound,
-        c.copy_delimiter-at.ensures.size_bound,
+        c.copy_option-at.ensures.size_bound,
       );
       bound = omega (arith, length-drop (count + 1) rest, c.in-Some.ensures.0.high, c.pieces.invariant.bound);
     })
