@@ -3,7 +3,7 @@
 -- read.
 use Rattle.std.specs.List.{list_any}
 use Rattle.std.proofs.Common.{◌≡◌, ℕ, zero, suc, ◌+◌, ◌==◌, ◌∙◌, ◌||◌, ⊎_elim, Bool, true, false, List, [], ◌∷◌, Option}
-use Rattle.std.proofs.Common.{Some, None, refl, sym, ap, arith, codes, map, take}
+use Rattle.std.proofs.Common.{Some, None, refl, sym, ap, subst, arith, codes, map, take}
 use Rattle.std.proofs.lemmas.Bool.{false≢true}
 use Rattle.std.proofs.lemmas.Bool.Decides.{eqb_tells}
 use Rattle.std.proofs.lemmas.List.{take_all}
@@ -14,6 +14,12 @@ use Rattle.ptfakes.proofs.SplitWords.{words}
 use Rattle.ptrun.specs.Files.{InputBytes, AreInputsConsistent, AreReadToEnd}
 use Rattle.ptrun.specs.Runs.{IsRun, RunEnd, Sinks, Outcome}
 use Rattle.ptrun.specs.SpecOfArgs.{spec_of_args}
+
+-- What holds of the positions 1 and 2 holds of each that is one of the two.
+one_of_two : (P : ℕ → Type 0) (p : ℕ) → ((1 == p) || ((2 == p) || false)) ≡ true → P 1 → P 2 → P p
+one_of_two P p named first second = ⊎_elim (λ (is, same). subst P same first)
+    (λ (not_first, differs). ⊎_elim (λ (is, same). subst P same second)
+    (λ (not_second, differ). absurd (false≢true (sym (λ i. not_first i || (not_second i || false)) ∙ named))) (eqb_tells 2 p)) (eqb_tells 1 p)
 
 module _ {old new : List Reader} {before : Sinks} {o : Outcome} where
   -- The end of `f` was not reached, for example because a write failed. Then no operand is done: no message is about
@@ -64,22 +70,16 @@ module _ {old new : List Reader} {before : Sinks} {o : Outcome} where
       by_position p is unended = unended (rw is ended)
 
   -- Nor does it for `paste` and `comm` once both files have ended.
-  one_of_two : (p : ℕ) → ((1 == p) || ((2 == p) || false)) ≡ true → IsDone (reader_at new 1) → IsDone (reader_at new 2)
-      → IsDone (reader_at new p)
-  one_of_two p named first second = ⊎_elim (λ same. rw (sym same.1) first)
-      (λ other. ⊎_elim (λ same. rw (sym same.1) second)
-      (λ neither. absurd (false≢true (sym (λ i. other.0 i || (neither.0 i || false)) ∙ named))) (eqb_tells 2 p)) (eqb_tells 1 p)
-
   paste_needs_no_memory_at_the_end : (k : IsRun (spec_of_args (words "paste f g")) old new before o)
       → IsDone (reader_at new 1) → IsDone (reader_at new 2) → k.fault ≡ Some Memory → ⊥
   paste_needs_no_memory_at_the_end k first second memory = ⊎_elim
-      (λ (p, named, opened, unended). unended (one_of_two p named first second))
+      (λ (p, named, opened, unended). unended (one_of_two (λ q. IsDone (reader_at new q)) p named first second))
       (λ (keeps, unwritten). false≢true keeps) (k.left memory)
 
   comm_needs_no_memory_at_the_end : (k : IsRun (spec_of_args (words "comm f g")) old new before o)
       → IsDone (reader_at new 1) → IsDone (reader_at new 2) → k.fault ≡ Some Memory → ⊥
   comm_needs_no_memory_at_the_end k first second memory = ⊎_elim
-      (λ (p, named, opened, unended). unended (one_of_two p named first second))
+      (λ (p, named, opened, unended). unended (one_of_two (λ q. IsDone (reader_at new q)) p named first second))
       (λ (keeps, unwritten). false≢true keeps) (k.left memory)
 
   -- `join` may run out of memory then, but not once its output is written, for example if it has nothing to write.
@@ -88,7 +88,7 @@ module _ {old new : List Reader} {before : Sinks} {o : Outcome} where
       → (w : InputBytes) → AreInputsConsistent k.received w → k.written ≡ (spec_of_args (words "join f g")).out w
       → k.fault ≡ Some Memory → ⊥
   join_needs_no_memory_for_nothing k first second w agrees written memory = ⊎_elim
-      (λ (p, named, opened, unended). unended (one_of_two p named first second))
+      (λ (p, named, opened, unended). unended (one_of_two (λ q. IsDone (reader_at new q)) p named first second))
       (λ (keeps, unwritten). unwritten w agrees written) (k.left memory)
 
 -- The slots that commands need: none for `tr`, for `cut` by bytes, and if no operand was opened.
