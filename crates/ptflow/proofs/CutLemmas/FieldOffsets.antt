@@ -1,7 +1,7 @@
 -- The fields of a line, and where they start. Each delimiter ends one field, so the rest of the fields, after the first
 -- n, starts after the n-th delimiter.
 use Rattle.ptflow.proofs.Common.{◌≡◌, ℕ, ◌+◌, ◌<◌, ◌==◌, ◌-◌, ◌≤◌, Bool, true, false, cond, Option, None, Some, MatchOption, ◌⊎◌, inl, inr, List, [], ◌∷◌, ◌++◌, length, take, drop, get_or, slice_set}
-use Rattle.ptflow.proofs.Common.{refl, sym, ap, arith, length-drop, IfSome, onto_first, join_with_byte, take-add, append-nil, drop-drop, drop_more, take-take, take_more_set, length-take-le}
+use Rattle.ptflow.proofs.Common.{refl, sym, ap, arith, length-drop, IfSome, onto_first, join_with_byte, take-add, append-nil, drop-drop, drop_more, take-take, take_more_set, length-take-le, drop-append-le}
 use Rattle.ptflow.proofs.Common.{flat_map-append, length-slice_split, byte_eq, fields, prefixed_fields, IsFieldStart, zero, suc}
 use lib.Seq.{take-nil}
 
@@ -79,3 +79,13 @@ slice_of from size {to} bytes le = cc (rest_of from to bytes, take-take size (to
 -- one byte is appended
 pub put_byte : (room bytes : List ℕ) (end : ℕ) {to : ℕ} → end < length room → to < length bytes → take (end + 1) (slice_set room end (get_or bytes to 0)) ≡ take end room ++ take 1 (drop to bytes)
 put_byte room bytes end {to} in_room within = cc (take_more_set room end (get_or bytes to 0) in_room, drop_more bytes to 0 within)
+
+-- the end of a line, and the byte after it
+pub rest_with_end : (from to : ℕ) (bytes : List ℕ) → from ≤ length (take to bytes)
+    → drop from (take to bytes) ++ take 1 (drop to bytes) ≡ take (to + 1 - from) (drop from bytes)
+rest_with_end from to bytes le =
+    cc (
+      rest_of from (to + 1) bytes,
+      take-add to 1 bytes,
+      drop-append-le from (take to bytes) (take 1 (drop to bytes)) le,
+    )

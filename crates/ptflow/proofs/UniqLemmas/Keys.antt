@@ -1,7 +1,7 @@
 -- The key of a line, in one pass. Skipping a field is skipping blanks and then other bytes; doing so n times leads to
 -- the byte after the n-th field end.
 use Rattle.ptflow.proofs.Common.{◌≡◌, ℕ, zero, suc, ◌+◌, ◌<◌, ◌≤◌, Bool, true, false, cond, min, ltb, List, [], ◌∷◌, None, Some, length, drop, get_or, refl, sym, ◌∙◌, arith, common_steps, slice_get}
-use Rattle.ptflow.proofs.Common.{Option, option_map_or, unwrap_or, drop-drop, nat_tests, IsFirstByte, Nowhere, Passes, is_byte, is_byte2, is_blank, ends_word, word_ends, after_fields, after_nonblanks}
+use Rattle.ptflow.proofs.Common.{⊎_elim, cases_eq, ap, drop_all, Option, option_map_or, unwrap_or, drop-drop, nat_tests, IsFirstByte, Nowhere, Passes, is_byte, is_byte2, is_blank, ends_word, word_ends, after_fields, after_nonblanks}
 use Rattle.std.specs.Prelude.{◌==◌}
 use Rattle.memchr.specs.Find.{IsFirst}
 
@@ -160,3 +160,17 @@ module _ (line : List ℕ) (n : ℕ) (space tab : Option ℕ) (first_space : IsF
       by false e =
           let is : min a b ≡ a = grind (arith, nat_tests) in
           is_space (get_or line (min a b) 0) (cc (found_at _ n space first_space (omega (arith, near))))
+
+-- by a search in the whole line
+pub first_blank : (line : List ℕ) (space tab : Option ℕ) → IsFirstByte (is_byte 32) line space → IsFirstByte (is_byte 9) line tab
+    → after_nonblanks line ≡ drop (min (unwrap_or space (length line)) (unwrap_or tab (length line))) line
+first_blank line space tab first_space first_tab = ⊎_elim
+    (λ all. both_later line (length line) space tab first_space first_tab (omega (arith, all))
+    ∙ ap after_nonblanks (none all) ∙ sym (none all))
+    (λ some. both_near line (length line) space tab first_space first_tab (omega arith) some) (cases_eq at (length line))
+  where
+    at : ℕ
+    at = min (unwrap_or space (length line)) (unwrap_or tab (length line))
+
+    none : at ≡ length line → drop at line ≡ []
+    none all = drop_all at line (omega (arith, all))

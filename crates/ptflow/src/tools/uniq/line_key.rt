@@ -8,7 +8,7 @@ ghost use Rattle.ptflow.specs.Private.Uniq.Blanks.{after_nonblanks};
 
 use memchr::memchr2;
 use ptlangs::jobs::UniqJob;
-use ptlines::find_in_chunk;
+use ptlines::{find_byte, find_in_chunk};
 
 fn is_blank(byte: u8) -> bool
     ensures { result ≡ is_blank byte }
@@ -33,7 +33,8 @@ fn skip_nonblanks(line: &[u8]) -> &[u8]
     ensures { result.now ≡ after_nonblanks line.now }
 {
     if line.len() < 16 {
-        return skip_nonblanks_cold(line);
+        let tab = find_byte(b'\t', line).unwrap_or(line.len());
+        return &line[find_byte(b' ', line).unwrap_or(line.len()).min(tab)..];
     }
     let tab = find_in_chunk::<16>(b'\t', line, 0).unwrap_or(16);
     let at = find_in_chunk::<16>(b' ', line, 0).unwrap_or(16).min(tab);
