@@ -1,9 +1,11 @@
 -- The selected fields of a line, in one pass. The fields of an interval, with the delimiter before each, are one slice
 -- of the line; so the output is these slices, the first without the delimiter before it.
-use Rattle.ptflow.proofs.Common.{◌≡◌, ℕ, zero, suc, Bool, true, false, cond, ◌+◌, ◌-◌, ◌<◌, ◌≤◌, List, [], ◌∷◌, ◌++◌, length, take, drop, get_or}
+use Rattle.ptflow.proofs.Common.{◌≡◌, ℕ, zero, suc, Bool, true, false, cond, ◌+◌, ◌-◌, ◌<◌, ◌≤◌, List, [], ◌∷◌, ◌++◌}
+use Rattle.ptflow.proofs.Common.{length, take, drop, get_or}
 use Rattle.ptflow.proofs.Common.{refl, sym, ◌∙◌, ap, arith, append_assoc, length-append, length-drop, append-nil}
 use Rattle.ptflow.proofs.Common.{take_all, drop_all, drop_more, drop-drop, drop-take, drop-append-le, length-take-le}
-use Rattle.ptflow.proofs.Common.{Cut, cut_fields, join_with_byte, is_selected, AreSeparated, Interval, select_from, fields, prefixed_fields}
+use Rattle.ptflow.proofs.Common.{Cut, cut_fields, join_with_byte, is_selected, AreSeparated, Interval, select_from}
+use Rattle.ptflow.proofs.Common.{fields, prefixed_fields}
 use Rattle.ptflow.proofs.Common.{IsFieldStart, IsFieldCursor, IsNextSlice, IsRest, remaining_fields}
 use Rattle.ptflow.specs.declared.tools.cut.fields.FieldCursor.{FieldCursor}
 use Rattle.ptflow.proofs.Vectors.Select.{not_selected, select_none, select_first, select_slice, select_skip}
@@ -167,7 +169,8 @@ module _ (d : ℕ) (all : List Interval) {line : List ℕ} {first : ℕ} {cursor
           )
 
       pub next_slice : (from + passed ≤ first → from + passed ≡ 0)
-          → IsNextSlice d all line first cursor (record { start = from - cursor.sep; end = from + passed - 1; next = next })
+          → IsNextSlice d all line first cursor
+          (record { start = from - cursor.sep; end = from + passed - 1; next = next })
       next_slice known = record {
         output = output;
         order = omega (arith, p.count);
@@ -242,7 +245,8 @@ output_is_short job line =
     )
 
 -- the copied output and the next part of it are not longer than all of it
-pub output_is_near : (start end : ℕ) (was now out part rest : List ℕ) → take start was ++ out ≡ take end now ++ (part ++ rest)
+pub output_is_near : (start end : ℕ) (was now out part rest : List ℕ) → take start was ++ out ≡ take end now
+    ++ (part ++ rest)
     → start ≤ length was → end ≤ length now → end + length part ≤ start + length out
 output_is_near start end was now out part rest copied room place =
     omega (

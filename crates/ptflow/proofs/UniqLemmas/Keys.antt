@@ -1,7 +1,10 @@
 -- The key of a line, in one pass. Skipping a field is skipping blanks and then other bytes; doing so n times leads to
 -- the byte after the n-th field end.
-use Rattle.ptflow.proofs.Common.{◌≡◌, ℕ, zero, suc, ◌+◌, ◌<◌, ◌≤◌, Bool, true, false, cond, min, ltb, List, [], ◌∷◌, None, Some, length, drop, get_or, refl, sym, ◌∙◌, arith, common_steps, slice_get}
-use Rattle.ptflow.proofs.Common.{⊎_elim, cases_eq, ap, drop_all, Option, option_map_or, unwrap_or, drop-drop, nat_tests, IsFirstByte, Nowhere, Passes, is_byte, is_byte2, is_blank, ends_word, word_ends, after_fields, after_nonblanks}
+use Rattle.ptflow.proofs.Common.{◌≡◌, ℕ, zero, suc, ◌+◌, ◌<◌, ◌≤◌, Bool, true, false, cond, min, ltb, List, [], ◌∷◌}
+use Rattle.ptflow.proofs.Common.{None, Some, length, drop, get_or, refl, sym, ◌∙◌, arith, common_steps, slice_get}
+use Rattle.ptflow.proofs.Common.{⊎_elim, cases_eq, ap, drop_all, Option, option_map_or, unwrap_or, drop-drop, nat_tests}
+use Rattle.ptflow.proofs.Common.{IsFirstByte, Nowhere, Passes, is_byte, is_byte2, is_blank, ends_word, word_ends}
+use Rattle.ptflow.proofs.Common.{after_fields, after_nonblanks}
 use Rattle.std.specs.Prelude.{◌==◌}
 use Rattle.memchr.specs.Find.{IsFirst}
 
@@ -32,7 +35,9 @@ from_end_is line (b ∷ bytes) i n is = by_test (ends_word b bytes) n (λ m. fro
     next = cc (drop-drop 1 i line)
 
     by_test : (t : Bool) (n : ℕ) → ((m : ℕ) → from_end line bytes (i + 1) m ≡ suffix_at (suc m) bytes)
-        → option_map_or (λ end. drop (end + 1) line) (slice_get (cond t (i ∷ word_ends (i + 1) bytes) (word_ends (i + 1) bytes)) n) [] ≡ cond t (suffix_at n bytes) (suffix_at (suc n) bytes)
+        → option_map_or (λ end. drop (end + 1) line)
+        (slice_get (cond t (i ∷ word_ends (i + 1) bytes) (word_ends (i + 1) bytes)) n) []
+        ≡ cond t (suffix_at n bytes) (suffix_at (suc n) bytes)
     by_test true zero later = next ∙ sym (suffix_zero bytes)
     by_test true (suc n) later = later n
     by_test false n later = later n
@@ -71,11 +76,13 @@ suffix_step n m rest is =
     cc (suffix_add m rest, after_one rest)
 
 -- for a list that is not empty
-pub blank_first : (rest : List ℕ) {behind_it : List ℕ} → 0 < length rest → behind_it ≡ drop 1 rest → is_blank (get_or rest 0 0) ≡ true → suffix_at 1 rest ≡ suffix_at 1 behind_it
+pub blank_first : (rest : List ℕ) {behind_it : List ℕ} → 0 < length rest → behind_it ≡ drop 1 rest
+    → is_blank (get_or rest 0 0) ≡ true → suffix_at 1 rest ≡ suffix_at 1 behind_it
 blank_first [] long is blank = absurd (omega arith)
 blank_first (b ∷ bytes) long is blank = cc (suffix_blank b bytes blank)
 
-pub other_first : (rest : List ℕ) → 0 < length rest → is_blank (get_or rest 0 0) ≡ false → suffix_at 1 rest ≡ after_nonblanks rest
+pub other_first : (rest : List ℕ) → 0 < length rest → is_blank (get_or rest 0 0) ≡ false → suffix_at 1 rest
+    ≡ after_nonblanks rest
 other_first [] long other = absurd (omega arith)
 other_first (b ∷ bytes) long other = cc (suffix_other b bytes other)
 
@@ -86,26 +93,33 @@ blank_here b bytes blank = cc
 other_here : (b : ℕ) (bytes : List ℕ) → (is_blank b ≡ true → ⊥) → after_nonblanks (b ∷ bytes) ≡ after_nonblanks bytes
 other_here b bytes other = grind arith
 
-after_at : (line : List ℕ) (at : ℕ) → at < length line → ((k : ℕ) → k < at → is_blank (get_or line k 0) ≡ true → ⊥) → is_blank (get_or line at 0) ≡ true → after_nonblanks line ≡ drop at line
+after_at : (line : List ℕ) (at : ℕ) → at < length line → ((k : ℕ) → k < at → is_blank (get_or line k 0) ≡ true → ⊥)
+    → is_blank (get_or line at 0) ≡ true → after_nonblanks line ≡ drop at line
 after_at [] at high none blank = absurd (omega arith)
 after_at (b ∷ bytes) zero high none blank = blank_here b bytes blank
-after_at (b ∷ bytes) (suc at) high none blank = other_here b bytes (none 0 (omega arith)) ∙ after_at bytes at (omega arith) (λ k lt. none (suc k) (omega arith)) blank
+after_at (b ∷ bytes) (suc at) high none blank = other_here b bytes (none 0 (omega arith))
+    ∙ after_at bytes at (omega arith) (λ k lt. none (suc k) (omega arith)) blank
 
-after_none : (line : List ℕ) → ((k : ℕ) → k < length line → is_blank (get_or line k 0) ≡ true → ⊥) → after_nonblanks line ≡ []
+after_none : (line : List ℕ) → ((k : ℕ) → k < length line → is_blank (get_or line k 0) ≡ true → ⊥)
+    → after_nonblanks line ≡ []
 after_none [] none = refl
-after_none (b ∷ bytes) none = other_here b bytes (none 0 (omega arith)) ∙ after_none bytes (λ k lt. none (suc k) (omega arith))
+after_none (b ∷ bytes) none = other_here b bytes (none 0 (omega arith))
+    ∙ after_none bytes (λ k lt. none (suc k) (omega arith))
 
-pub after_found : (line : List ℕ) (at : ℕ) → IsFirstByte (is_byte2 32 9) line (Some at) → after_nonblanks line ≡ drop at line
+pub after_found : (line : List ℕ) (at : ℕ) → IsFirstByte (is_byte2 32 9) line (Some at) → after_nonblanks line
+    ≡ drop at line
 after_found line at first = after_at line _ first.0.high (λ k lt. first.0.before k (omega arith) lt) first.1
 
 pub after_not_found : (line : List ℕ) → IsFirstByte (is_byte2 32 9) line None → after_nonblanks line ≡ []
 after_not_found line none = after_none line (λ k lt. none k (omega arith) lt)
 
 -- the bytes before an index at which there are no blanks are skipped
-pub blanks_later : (line : List ℕ) (at : ℕ) → at ≤ length line → ((k : ℕ) → k < at → is_blank (get_or line k 0) ≡ true → ⊥) → after_nonblanks line ≡ after_nonblanks (drop at line)
+pub blanks_later : (line : List ℕ) (at : ℕ) → at ≤ length line
+    → ((k : ℕ) → k < at → is_blank (get_or line k 0) ≡ true → ⊥) → after_nonblanks line ≡ after_nonblanks (drop at line)
 blanks_later line zero high none = refl
 blanks_later [] (suc at) high none = refl
-blanks_later (b ∷ bytes) (suc at) high none = other_here b bytes (none 0 (omega arith)) ∙ blanks_later bytes at (omega arith) (λ k lt. none (suc k) (omega arith))
+blanks_later (b ∷ bytes) (suc at) high none = other_here b bytes (none 0 (omega arith))
+    ∙ blanks_later bytes at (omega arith) (λ k lt. none (suc k) (omega arith))
 
 neither : (b : ℕ) → ((b == 32) ≡ true → ⊥) → ((b == 9) ≡ true → ⊥) → is_blank b ≡ true → ⊥
 neither b space tab = grind arith
@@ -162,12 +176,14 @@ module _ (line : List ℕ) (n : ℕ) (space tab : Option ℕ) (first_space : IsF
           is_space (get_or line (min a b) 0) (cc (found_at _ n space first_space (omega (arith, near))))
 
 -- by a search in the whole line
-pub first_blank : (line : List ℕ) (space tab : Option ℕ) → IsFirstByte (is_byte 32) line space → IsFirstByte (is_byte 9) line tab
+pub first_blank : (line : List ℕ) (space tab : Option ℕ) → IsFirstByte (is_byte 32) line space
+    → IsFirstByte (is_byte 9) line tab
     → after_nonblanks line ≡ drop (min (unwrap_or space (length line)) (unwrap_or tab (length line))) line
 first_blank line space tab first_space first_tab = ⊎_elim
     (λ all. both_later line (length line) space tab first_space first_tab (omega (arith, all))
     ∙ ap after_nonblanks (none all) ∙ sym (none all))
-    (λ some. both_near line (length line) space tab first_space first_tab (omega arith) some) (cases_eq at (length line))
+    (λ some. both_near line (length line) space tab first_space first_tab (omega arith) some)
+    (cases_eq at (length line))
   where
     at : ℕ
     at = min (unwrap_or space (length line)) (unwrap_or tab (length line))

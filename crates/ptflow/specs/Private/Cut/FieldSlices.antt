@@ -28,7 +28,8 @@ pub record IsFieldCursor (all : List Interval) (line : List ℕ) (first : ℕ) (
   pub low_is : low + 1 ≡ cursor.number + cursor.sep
 
 -- the output that is left begins with this slice
-pub record IsNextSlice (delimiter : ℕ) (all : List Interval) (line : List ℕ) (first : ℕ) (cursor : FieldCursor) (slice : FieldSlice) : Type 0 where
+pub record IsNextSlice (delimiter : ℕ) (all : List Interval) (line : List ℕ) (first : ℕ) (cursor : FieldCursor)
+    (slice : FieldSlice) : Type 0 where
   pub output : remaining_fields delimiter all line cursor
       ≡ take (slice.end - slice.start) (drop slice.start line) ++ remaining_fields delimiter all line slice.next
   pub order : slice.start ≤ slice.end
@@ -38,9 +39,10 @@ pub record IsNextSlice (delimiter : ℕ) (all : List Interval) (line : List ℕ)
   pub bound : slice.next.index ≤ length all
 
 -- the output that is left is the line from an index on
-pub record IsRest (delimiter : ℕ) (all : List Interval) (line : List ℕ) (cursor : FieldCursor) (start : ℕ) : Type 0 where
-  pub output : remaining_fields delimiter all line cursor ≡ drop start line
-  pub within : start ≤ length line
+pub record IsRest (delimiter : ℕ) (all : List Interval) (line : List ℕ) (cursor : FieldCursor) (start : ℕ) : Type 0
+  where
+    pub output : remaining_fields delimiter all line cursor ≡ drop start line
+    pub within : start ≤ length line
 
 -- the next part of the output that is left
 abbrev pub IsNextStep : ℕ → List Interval → List ℕ → ℕ → FieldCursor → FieldStep → Type 0

@@ -14,4 +14,5 @@ loop-at-preserved c =
 pub returns-clause-kept : goal.returns-clause-kept
 returns-clause-kept c =
     (filter_keeps_all c.loop-at.invariant c.loop-at-test.false).0
-    ∙ filter_same _ _ (λ b byte. ap not (c.args.by.same b byte)) c.args.from.now (bytes_fit c.args.from.now c.type_inv.from)
+    ∙ filter_same _ _ (λ b byte. ap not (c.args.by.same b byte)) c.args.from.now
+    (bytes_fit c.args.from.now c.type_inv.from)

@@ -6,7 +6,8 @@ use Rattle.ptflow.proofs.simd.squeeze.squeeze_tail.Given as goal
 abbrev pub invariant-loop-at : goal.invariant-loop-at
 invariant-loop-at l =
     Squeezing (set_has l.by.set) l.from l.into l.at l.count
-    (take l.fn.count l.fn.into ++ squeeze_after (set_has l.by.set) (slice_index l.from (l.start - 1)) (drop l.start l.from))
+    (take l.fn.count l.fn.into ++ squeeze_after (set_has l.by.set) (slice_index l.from (l.start - 1))
+    (drop l.start l.from))
 
 abbrev pub decreases-loop-at : goal.decreases-loop-at
 decreases-loop-at l = length l.from - l.at

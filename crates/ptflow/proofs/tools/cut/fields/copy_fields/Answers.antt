@@ -1,5 +1,7 @@
 -- Each iteration copies the next slice. The copied bytes are not longer than the line, so there is room for the rest.
-use Rattle.ptflow.proofs.Common.{◌≡◌, ◌+◌, ◌-◌, ◌≤◌, ◌++◌, [], length, take, drop, refl, ap, arith, append_assoc, append-nil, length-take-le, length-drop, is_selected, cut_job, cut_fields, remaining_fields}
+use Rattle.ptflow.proofs.Common.{◌≡◌, ◌+◌, ◌-◌, ◌≤◌, ◌++◌, [], length, take, drop, refl, ap, arith, append_assoc}
+use Rattle.ptflow.proofs.Common.{append-nil, length-take-le, length-drop, is_selected, cut_job, cut_fields}
+use Rattle.ptflow.proofs.Common.{remaining_fields}
 use Rattle.ptflow.proofs.CutLemmas.FieldLoop.{cursor_starts, selected_remaining, output_is_short, output_is_near}
 use Rattle.ptflow.proofs.CutLemmas.FieldOffsets.{slice_of, put_byte, rest_with_end}
 use Rattle.ptflow.proofs.tools.cut.fields.copy_fields.Given as given
@@ -37,7 +39,8 @@ slice_near g c =
     (cc (loop.invariant.copied, next.output)) (omega arith) (omega arith) in
     omega (arith, long, size, near, output_is_short job line)
 
-rest_near : (g : given.Over) (c : In-Rest g) → c.slices.end + (c.args.line.to - c.in-Rest.from) ≤ c.args.start + c.args.line.to
+rest_near : (g : given.Over) (c : In-Rest g) → c.slices.end + (c.args.line.to - c.in-Rest.from) ≤ c.args.start +
+    c.args.line.to
 rest_near g c =
     let job = cut_job c.args.job.now in
     let line = take c.args.line.to c.args.line.bytes.now in

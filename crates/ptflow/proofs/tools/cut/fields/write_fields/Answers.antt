@@ -1,5 +1,6 @@
 -- Each iteration pushes the next slice. A push may fail: then the pushed bytes are a prefix of the selected fields.
-use Rattle.ptflow.proofs.Common.{◌≡◌, ◌+◌, ◌-◌, ◌≤◌, ◌++◌, take, drop, length, refl, ◌∙◌, ap, arith, take_all, take_rest, is_selected, cut_job, cut_fields, remaining_fields}
+use Rattle.ptflow.proofs.Common.{◌≡◌, ◌+◌, ◌-◌, ◌≤◌, ◌++◌, take, drop, length, refl, ◌∙◌, ap, arith, take_all}
+use Rattle.ptflow.proofs.Common.{take_rest, is_selected, cut_job, cut_fields, remaining_fields}
 use Rattle.ptflow.proofs.Passes.Prefix.{prefix_starts, front_more, front_fails, front_ends}
 use Rattle.ptflow.proofs.CutLemmas.FieldLoop.{cursor_starts, selected_remaining}
 use Rattle.ptflow.proofs.CutLemmas.FieldOffsets.{slice_of}
@@ -21,9 +22,11 @@ slices-init g c =
 
 -- the output that is left is the next slice, and then the rest
 next : (g : given.Over) (c : In-Slice g)
-    → remaining_fields c.args.job.now.delim c.intervals-selected.result.now (take (length c.args.line.now) c.args.line.now) c.slices.cursor
+    → remaining_fields c.args.job.now.delim c.intervals-selected.result.now
+    (take (length c.args.line.now) c.args.line.now) c.slices.cursor
     ≡ take (c.in-Slice.slice.end - c.in-Slice.slice.start) (drop c.in-Slice.slice.start c.args.line.now)
-    ++ remaining_fields c.args.job.now.delim c.intervals-selected.result.now (take (length c.args.line.now) c.args.line.now) c.in-Slice.slice.next
+    ++ remaining_fields c.args.job.now.delim c.intervals-selected.result.now
+    (take (length c.args.line.now) c.args.line.now) c.in-Slice.slice.next
 next g c =
     let line = c.args.line.now in
     let slice = c.in-Slice.slice in
@@ -53,4 +56,5 @@ pub returns-in-Rest-clause-wrote : goal.returns-in-Rest-clause-wrote
 returns-in-Rest-clause-wrote g c =
     let line = c.args.line.now in
     let all = ap (drop c.in-Rest.start) (take_all (length line) line (omega arith)) in
-    front_ends c.slices.invariant.front (c.in-Rest.ensures.output ∙ all) (rw take_rest at c.push-in-Rest.ensures.pushed.wrote)
+    front_ends c.slices.invariant.front (c.in-Rest.ensures.output ∙ all)
+    (rw take_rest at c.push-in-Rest.ensures.pushed.wrote)
