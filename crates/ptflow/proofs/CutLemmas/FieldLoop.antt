@@ -2,7 +2,7 @@
 -- of the line; so the output is these slices, the first without the delimiter before it.
 use Rattle.ptflow.proofs.Common.{◌≡◌, ℕ, zero, suc, Bool, true, false, cond, ◌+◌, ◌-◌, ◌<◌, ◌≤◌, List, [], ◌∷◌, ◌++◌}
 use Rattle.ptflow.proofs.Common.{length, take, drop, get_or}
-use Rattle.ptflow.proofs.Common.{refl, sym, ◌∙◌, ap, arith, append_assoc, length-append, length-drop, append-nil}
+use Rattle.ptflow.proofs.Common.{refl, sym, ◌∙◌, ap, arith, length-append, length-drop, append-nil}
 use Rattle.ptflow.proofs.Common.{take_all, drop_all, drop_more, drop-drop, drop-take, drop-append-le, length-take-le}
 use Rattle.ptflow.proofs.Common.{Cut, cut_fields, join_with_byte, is_selected, AreSeparated, Interval, select_from}
 use Rattle.ptflow.proofs.Common.{fields, prefixed_fields}

@@ -1,8 +1,8 @@
 -- The shuffles of `cut`. A row has the selected indices in order, so a shuffle moves the selected bytes of 16 bytes to
 -- the front; the counts are how many of them a piece of each length has. A line is cut piece by piece.
 use Rattle.ptflow.proofs.Common.{◌≡◌, ℕ, zero, suc, ◌+◌, ◌-◌, ◌<◌, ◌≤◌, Bool, true, false, cond, List, [], ◌∷◌, ◌++◌}
-use Rattle.ptflow.proofs.Common.{map, length, take, drop, set, min, ⊎_elim, ◌&&◌, get_or, length-append}
-use Rattle.ptflow.proofs.Common.{append_assoc, refl, sym, ◌∙◌, ap, arith, w8, All, nat_le, cases_order, false≢true}
+use Rattle.ptflow.proofs.Common.{map, length, take, drop, set, ⊎_elim, ◌&&◌, get_or, length-append}
+use Rattle.ptflow.proofs.Common.{append_assoc, refl, sym, ◌∙◌, ap, arith, w8, All, nat_le, false≢true}
 use Rattle.ptflow.proofs.Common.{range_with_len, list_all, nat_tests, take-add, pick_l, Each1, Each1-from_get_or}
 use Rattle.ptflow.proofs.Common.{swz_l, pick_l-range_with_len, take_more, take_at, drop_at, take-map, take-take}
 use Rattle.ptflow.proofs.Common.{take-append-le, take_all, take_more_set, length-take-le, append-nil, All-set}

@@ -1,13 +1,12 @@
 -- Columns that are copied from the buffers of the readers. A line that is complete in a buffer is the line that `fill`
 -- would return, so a column is filled by it in the same way.
-use Rattle.ptflow.proofs.Common.{◌≡◌, ◌≢◌, ⊎_elim, inl, ℕ, ◌+◌, ◌-◌, ◌<◌, ◌≤◌, ◌^◌, ◌||◌, Bool, true, false, List, [], ◌∷◌, ◌++◌, Option, None, Some, Ok, length, take, drop, set, get_or, refl}
+use Rattle.ptflow.proofs.Common.{◌≡◌, ⊎_elim, inl, ℕ, ◌+◌, ◌<◌, ◌≤◌, ◌^◌, ◌||◌, Bool, true, false, List, [], ◌∷◌, ◌++◌, Option, None, Some, Ok, length, take, drop, set, get_or, refl}
 use Rattle.ptflow.proofs.Common.{sym, ◌∙◌, ap, subst, arith, append_assoc, length-append, length-drop, cases_eq, append-nil, take-take, take-append-le}
 use Rattle.ptflow.proofs.Common.{length-take-le, length-set, drop-drop, drop_at, IsFirstByte, is_byte, Reader, AdvanceOk}
-use Rattle.ptflow.proofs.Common.{IsSound, IsDone, Slots, with_line, FillLine, FillPost, line_before_terminator, take_with_terminator, advance_ok_take, reader_at, uses_of, CellsFilled, after_cell, cells_text}
-use Rattle.ptflow.proofs.Common.{AreReadable, BufferedRowsPre, AreConsumed, CopyCellPost, LineCopied, EofCopied, CopyColumnsPost, CopyRowsPost, RowsTaken}
-use Rattle.std.proofs.Common.{All}
+use Rattle.ptflow.proofs.Common.{IsSound, Slots, with_line, FillLine, FillPost, line_before_terminator, take_with_terminator, advance_ok_take, reader_at, uses_of, CellsFilled, after_cell, cells_text}
+use Rattle.ptflow.proofs.Common.{BufferedRowsPre, AreConsumed, CopyCellPost, CopyColumnsPost, CopyRowsPost, RowsTaken}
 use Rattle.ptflow.proofs.PasteLemmas.RowCells.{cells_text-push}
-use Rattle.ptflow.proofs.PasteLemmas.RowsTaken.{rows_taken_none, rows_taken_trans, row_taken}
+use Rattle.ptflow.proofs.PasteLemmas.RowsTaken.{rows_taken_trans, row_taken}
 use Rattle.ptflow.proofs.PasteLemmas.FillRow.{at_same, at_other, fill_starts, fill_next}
 
 -- A line that is complete in a buffer is the line that `fill` would return.

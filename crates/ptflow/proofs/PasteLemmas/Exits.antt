@@ -15,7 +15,7 @@ use Rattle.ptflow.proofs.Passes.Lines.{max_length-append}
 use Rattle.ptflow.proofs.PasteLemmas.LinesTaken.{reads_nothing, lines_trans, taken_at_most, taken_more, nothing_taken}
 use Rattle.ptflow.proofs.PasteLemmas.BufferedRows.{still_pulled}
 use Rattle.ptflow.proofs.PasteLemmas.Invariant.{PasteInvariant, HasStarted, ReadMore, never_failed, set_failed, received_since, now_end, now_fault, now_failed, now_short, now_buffered}
-use Rattle.ptflow.proofs.PasteLemmas.Invariant.{given_by, later, rows_by, begins_by, LagsBy, EarlierBy, lags_by, begins_by_earlier, longest_of_rows}
+use Rattle.ptflow.proofs.PasteLemmas.Invariant.{given_by, later, rows_by, begins_by, LagsBy, EarlierBy, lags_by, begins_by_earlier}
 use Rattle.ptflow.proofs.PasteLemmas.Invariant.{rows_first, rows_wrote, rows_kept, row_kept, row_gives}
 
 -- Nothing was done.

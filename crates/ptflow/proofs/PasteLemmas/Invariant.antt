@@ -1,7 +1,7 @@
 -- The loop invariant of `paste`: the rows taken so far are the first rows of the inputs for every continuation, they
 -- were pushed, and the slots hold at most one line for each column. From it follow the clauses of the contract once the
 -- readers were read further.
-use Rattle.ptflow.proofs.Common.{◌≡◌, ⊎_elim, ℕ, ◌+◌, ◌*◌, ◌<◌, ◌≤◌, ◌^◌, Bool, true, false, List, [], ◌∷◌, ◌++◌, None, length, take, get_or, refl, sym, ◌∙◌, ap, subst, arith, append_assoc, All}
+use Rattle.ptflow.proofs.Common.{◌≡◌, ⊎_elim, ℕ, ◌+◌, ◌*◌, ◌<◌, ◌≤◌, ◌^◌, Bool, true, false, List, [], ◌∷◌, ◌++◌, None, length, get_or, refl, sym, ◌∙◌, ap, subst, arith, append_assoc, All}
 use Rattle.ptflow.proofs.Common.{cases_lt, append-nil, All-get_or, unlines, lines, complete_lines, AreLines, max_length, max_line_length, Received, IsPrefix, IsConsistent, HasReceived, known_lines, Output, PushEffect, Reader, ReaderAdvance}
 use Rattle.ptflow.proofs.Common.{IsDone, Slots, total_bytes, received_with, has_received, has_received_of_set, push_nothing, push_trans, complete_lines_cons, Paste, AddedSlots, reader_at, IsReadable, PastePre, join_with_cycle, uses_of}
 use Rattle.ptflow.proofs.Common.{columns, rows, rows_text, paste, paste_decided, SetTerminatorsPost, SlotsBound, SlotsKept, CellsTaken, CellsFilled, AreReceivedLines, AreFirstRows, RowsTaken, cells_text, map}

@@ -1,7 +1,7 @@
 -- A row that is being filled: a field comes from the slot of its column, or from the buffer of its reader. The text of
 -- the first fields was copied, and the slots hold the others.
-use Rattle.ptflow.proofs.Common.{◌≡◌, ⊎_elim, ℕ, ◌+◌, ◌<◌, ◌≤◌, ◌||◌, Bool, true, false, List, [], ◌∷◌, ◌++◌, None, Option, Ok, Err, length, take, drop, set, get_or, ext_get_or, get_or-drop, length-drop, take-append-drop, refl, sym, ◌∙◌, ap, arith, length-append, append-nil, cases_eq}
-use Rattle.ptflow.proofs.Common.{take_all, take_more, take-append-le, length-take-le, get_or-set_same, get_or-set_other, get_or_append_left, get_or_push, Reader, IsSound, Slots, with_line, line, FillPost, reader_at}
+use Rattle.ptflow.proofs.Common.{◌≡◌, ⊎_elim, ℕ, ◌+◌, ◌<◌, ◌≤◌, ◌||◌, Bool, true, false, List, [], ◌∷◌, ◌++◌, None, Option, Ok, Err, length, take, drop, set, get_or, ext_get_or, get_or-drop, length-drop, take-append-drop, sym, ◌∙◌, ap, arith, length-append, cases_eq}
+use Rattle.ptflow.proofs.Common.{take_all, take_more, take-append-le, length-take-le, get_or-set_same, get_or-set_other, get_or_append_left, get_or_push, Reader, IsSound, Slots, line, FillPost, reader_at}
 use Rattle.ptflow.proofs.Common.{CellsFilled, after_cell, cells_text, CopyColumnsPost, BufferedRowsPre, uses_of, length-set, RowAmid, RowFilled, FillCellPost, NotRead, FillReadErr, FillMemoryErr, FlowFault, Read, Write, Memory}
 use Rattle.std.proofs.lemmas.List.{get_or-take}
 use Rattle.ptflow.proofs.PasteLemmas.CellSlots.{slots_kept_start, slots_kept_more, slots_kept_line}

@@ -1,6 +1,6 @@
 -- Rows that are the next rows of the inputs, and whose lines were taken from the readers. They compose: if rows are
 -- taken and then more, the concatenation is taken. One filled row is such a row, since each column takes one line.
-use Rattle.ptflow.proofs.Common.{◌≡◌, ⊎_elim, inl, inr, ℕ, ◌*◌, ◌<◌, ◌≤◌, true, List, [], ◌∷◌, ◌++◌, Option, length, take, map, false, refl, sym, ◌∙◌, ap, subst, arith, append_assoc, length-append}
+use Rattle.ptflow.proofs.Common.{◌≡◌, ⊎_elim, inl, inr, ℕ, ◌*◌, ◌<◌, ◌≤◌, true, List, [], ◌∷◌, ◌++◌, Option, length, take, map, refl, sym, ◌∙◌, ap, subst, arith, append_assoc, length-append}
 use Rattle.ptflow.proofs.Common.{cases_lt, append-nil, nil_from_length, take_all, Reader, reader_at, join_with_cycle, uses_of, columns, rows, CellsTaken, CellsFilled, LinesTaken, cells_text}
 use Rattle.ptflow.proofs.Common.{AreFirstRows, RowsTaken, unlines}
 use Rattle.std.specs.Prelude.{slice_index_or}

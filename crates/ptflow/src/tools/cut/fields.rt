@@ -1,6 +1,7 @@
 //! `cut -f`: selects fields of each line, line by line. `cut` calls it.
 
-ghost use Rattle.std.specs.Prelude.{◌≡◌, ◌+◌, ◌-◌, ◌<◌, ◌≤◌, ◌++◌, ◌⊎◌, length, take, drop, slice_index, true, false, [], ◌∷◌, Some, IfSome, OnOk, OnErr, MatchOption};
+ghost use Rattle.std.specs.Prelude.{◌≡◌, ◌+◌, ◌-◌, ◌<◌, ◌≤◌, ◌++◌, ◌⊎◌, length, take, drop, slice_index, true, false};
+ghost use Rattle.std.specs.Prelude.{[], ◌∷◌, Some, IfSome, OnOk, OnErr, MatchOption};
 ghost use Rattle.memchr.specs.Find.{IsFirstByte, is_byte};
 ghost use Rattle.ptlines.specs.Outputs.{PushEffect};
 ghost use Rattle.ptlangs.specs.Jobs.{cut_job};
@@ -217,7 +218,8 @@ fn copy_fields<A: Allocator + Copy>(
     requires room { (line.to < length line.bytes.now) × (start + line.to + 17 ≤ length room.old) }
     ensures long { length room.new ≡ length room.old }
     ensures put { take result room.new ≡ take start room.old
-        ++ (cut_fields (cut_job job.now) (take line.entry.to line.entry.bytes.now) ++ take 1 (drop line.entry.to line.entry.bytes.now)) }
+        ++ (cut_fields (cut_job job.now) (take line.entry.to line.entry.bytes.now)
+        ++ take 1 (drop line.entry.to line.entry.bytes.now)) }
     ensures end { (start ≤ result) × (result ≤ start + line.entry.to + 1) }
 {
     let selected = job.list.intervals();

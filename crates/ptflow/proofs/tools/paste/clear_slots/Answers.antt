@@ -1,4 +1,4 @@
-use Rattle.ptflow.proofs.Common.{◌≡◌, ◌<◌, ⊎_elim, ℕ, [], get_or-set_same, get_or-set_other, cases_eq, length-set, length, set, ◌∙◌, arith, line}
+use Rattle.ptflow.proofs.Common.{⊎_elim, [], get_or-set_same, get_or-set_other, cases_eq, length-set, ◌∙◌, arith}
 use Rattle.ptflow.proofs.PasteLemmas.CellSlots.{slots_bound_line}
 use Rattle.ptflow.proofs.tools.paste.clear_slots.Goals as goal
 

@@ -1,7 +1,6 @@
 -- Each step reads the line of the next column into its slot. If the columns before it were all copied, it is copied from
 -- there, and the further columns are from the buffers. A failed write, read or growth stops the row; nothing was pushed.
-use Rattle.ptflow.proofs.Common.{◌≡◌, ◌+◌, ◌<◌, ◌≤◌, ℕ, Bool, List, [], None, length, get_or, set, refl, ◌∙◌, ap, arith, err_from_is_err_and, Output, PushEffect, Reader, Slots, push_nothing, push_trans, reader_at, uses_of, ◌||◌, Ok, take, BufferedRowsPre, RowAmid, FillCellPost}
-use borrow.Author.Rules.{scaled_Fits}
+use Rattle.ptflow.proofs.Common.{◌≡◌, ◌+◌, ◌<◌, Bool, List, [], length, get_or, set, ◌∙◌, ap, arith, err_from_is_err_and, Reader, Slots, push_nothing, push_trans, uses_of, ◌||◌, Ok, take, BufferedRowsPre, RowAmid, FillCellPost}
 use Rattle.ptflow.proofs.PasteLemmas.Grid.{uses_before_lt}
 use Rattle.ptflow.proofs.PasteLemmas.FillRow.{at_index}
 use Rattle.ptflow.proofs.PasteLemmas.BufferedRows.{still_readable}

@@ -1,6 +1,6 @@
 -- Each iteration takes the rows that are complete in the buffers, and finishes the next row; then the invariant holds
 -- again. If that row has no line, all readers are at the end of their inputs.
-use Rattle.ptflow.proofs.Common.{take, Bool, not, false, true, refl, RowAmid, CellsFilled, PushEffect, ◌≡◌, ◌<◌, ◌≤◌, ◌++◌, ◌∷◌, ℕ, [], List, All, sym, ◌∙◌, ap, subst, arith, err_from_is_err_and, sum_by, Reader, Output, Slots, Paste, length, budget, terminator, paste_job, BufferedRowsPre}
+use Rattle.ptflow.proofs.Common.{take, Bool, not, false, true, refl, RowAmid, CellsFilled, PushEffect, ◌≡◌, ◌≤◌, ℕ, List, sym, ◌∙◌, ap, subst, arith, err_from_is_err_and, sum_by, Reader, Output, Slots, Paste, length, budget, terminator, paste_job, BufferedRowsPre}
 use Rattle.ptflow.proofs.PasteLemmas.Exits.{paste_on_failed_output, paste_without_slots, paste_shared_write_failed, paste_rows_write_failed, paste_fill_failed, paste_done, paste_row_write_failed}
 use Rattle.ptflow.proofs.PasteLemmas.Invariant.{PasteInvariant, invariant_starts, invariant_rows, invariant_sent, invariant_slots, invariant_more, row_wrote, now_end, now_fault}
 use Rattle.ptflow.proofs.PasteLemmas.BufferedRows.{still_readable}

@@ -1,6 +1,6 @@
 -- Each step writes the field of one more column. A failed write leaves a prefix of the row.
 use Rattle.ptflow.proofs.Common.{◌≡◌, ℕ, ◌+◌, ◌<◌, ◌≤◌, List, [], ◌∷◌, ◌++◌, Option, length, take, drop, get_or, sym, ◌∙◌, ap, subst, arith, length-take-le, length-drop, take_more, take-append-drop, take-take, drop_all, append-nil, append_assoc}
-use Rattle.ptflow.proofs.Common.{drop-append-le, err_from_is_err_and, Output, PushEffect, push_past_failure, push_trans, after_cell, cells_text}
+use Rattle.ptflow.proofs.Common.{drop-append-le, err_from_is_err_and, PushEffect, push_past_failure, push_trans, after_cell, cells_text}
 use Rattle.std.proofs.lemmas.List.{length-take}
 use Rattle.ptflow.proofs.Passes.Prefix.{push_failed}
 use Rattle.ptflow.proofs.PasteLemmas.RowCells.{cells_text-append, cells_text-push}

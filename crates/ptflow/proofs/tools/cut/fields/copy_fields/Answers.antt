@@ -3,7 +3,7 @@ use Rattle.ptflow.proofs.Common.{◌≡◌, ◌+◌, ◌-◌, ◌≤◌, ◌++�
 use Rattle.ptflow.proofs.Common.{append-nil, length-take-le, length-drop, is_selected, cut_job, cut_fields}
 use Rattle.ptflow.proofs.Common.{remaining_fields}
 use Rattle.ptflow.proofs.CutLemmas.FieldLoop.{cursor_starts, selected_remaining, output_is_short, output_is_near}
-use Rattle.ptflow.proofs.CutLemmas.FieldOffsets.{slice_of, put_byte, rest_with_end}
+use Rattle.ptflow.proofs.CutLemmas.FieldOffsets.{slice_of, rest_with_end}
 use Rattle.ptflow.proofs.tools.cut.fields.copy_fields.Given as given
 use Rattle.ptflow.proofs.tools.cut.fields.copy_fields.Goals as goal
 use Rattle.ptflow.proofs.tools.cut.fields.copy_fields.Goals.{In-Slice, In-Rest}

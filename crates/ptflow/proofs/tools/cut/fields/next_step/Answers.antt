@@ -1,5 +1,6 @@
 -- An interval takes two steps: to the start of its first field, and to the end of its last one. The bytes between are
--- the slice, with a delimiter before it if it is not the first. A step that reaches the end of the line leaves no field.
+-- the slice, with a delimiter before it if it is not the first. A step that reaches the end of the line leaves no
+-- field.
 use Rattle.ptflow.proofs.Common.{arith, take}
 use Rattle.ptflow.proofs.CutLemmas.FieldLoop.{none_remaining, ends_before, next_slice, last_fields}
 use Rattle.ptflow.proofs.tools.cut.fields.next_step.Goals as goal

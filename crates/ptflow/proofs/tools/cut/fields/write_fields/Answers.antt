@@ -1,6 +1,6 @@
 -- Each iteration pushes the next slice. A push may fail: then the pushed bytes are a prefix of the selected fields.
 use Rattle.ptflow.proofs.Common.{◌≡◌, ◌+◌, ◌-◌, ◌≤◌, ◌++◌, take, drop, length, refl, ◌∙◌, ap, arith, take_all}
-use Rattle.ptflow.proofs.Common.{take_rest, is_selected, cut_job, cut_fields, remaining_fields}
+use Rattle.ptflow.proofs.Common.{take_rest, is_selected, cut_job, remaining_fields}
 use Rattle.ptflow.proofs.Passes.Prefix.{prefix_starts, front_more, front_fails, front_ends}
 use Rattle.ptflow.proofs.CutLemmas.FieldLoop.{cursor_starts, selected_remaining}
 use Rattle.ptflow.proofs.CutLemmas.FieldOffsets.{slice_of}

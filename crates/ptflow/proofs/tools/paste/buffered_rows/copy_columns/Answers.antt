@@ -1,8 +1,7 @@
 -- Each step copies the field of one more column and the byte after it. It ends at a field that cannot be copied, and
 -- then nothing was consumed.
-use Rattle.ptflow.proofs.Common.{◌≡◌, ◌+◌, ◌<◌, ◌≤◌, ◌%◌, ℕ, List, length, take, set, get_or, refl, sym, ◌∙◌, ap, subst, arith, CopyColumnsPost, Reader, reader_at, set-get_or, mod-add-mod}
+use Rattle.ptflow.proofs.Common.{◌≡◌, ◌+◌, ◌%◌, ℕ, length, take, set, get_or, refl, ◌∙◌, ap, arith, set-get_or, mod-add-mod}
 use borrow.Author.Rules.{scaled_Fits}
-use Rattle.ptflow.proofs.PasteLemmas.Cycle.{next_index}
 use Rattle.ptflow.proofs.PasteLemmas.FillRow.{at_index}
 use Rattle.ptflow.proofs.PasteLemmas.Grid.{uses_before_lt}
 use Rattle.ptflow.proofs.PasteLemmas.BufferedRows.{columns_start, columns_more, still_readable}

@@ -1,5 +1,5 @@
 -- Each step copies one more row. The loop ends at a row that is not complete.
-use Rattle.ptflow.proofs.Common.{◌≡◌, ◌<◌, ◌≤◌, Bool, true, false, not, [], length, refl, sym, arith}
+use Rattle.ptflow.proofs.Common.{◌≡◌, Bool, true, false, not, [], refl, sym, arith}
 use Rattle.ptflow.proofs.PasteLemmas.FillRow.{fill_starts}
 use Rattle.ptflow.proofs.PasteLemmas.RowsTaken.{rows_taken_none}
 use Rattle.ptflow.proofs.PasteLemmas.BufferedRows.{consumed_none, consumed_trans, still_readable, rows_and_begun, rows_more}

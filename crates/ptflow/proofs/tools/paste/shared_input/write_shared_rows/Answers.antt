@@ -1,5 +1,5 @@
 -- The buffer of the only reader begins with complete rows, and their copy is pushed.
-use Rattle.ptflow.proofs.Common.{ℕ, ◌<◌, length, set, get_or, sym, ◌∙◌, ap, arith, All-get_or, Reader, RowsWritten}
+use Rattle.ptflow.proofs.Common.{ℕ, ◌<◌, length, get_or, sym, ◌∙◌, ap, arith, All-get_or, Reader}
 use borrow.Author.Rules.{scaled_Fits}
 use Rattle.ptflow.proofs.PasteLemmas.SharedInput.{copied_rows, no_rows_written}
 use Rattle.ptflow.proofs.PasteLemmas.FillRow.{at_index}

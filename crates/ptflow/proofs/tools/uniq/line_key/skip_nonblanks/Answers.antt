@@ -1,6 +1,6 @@
 -- The first blank is the first space or the first tab, whichever is earlier. If neither is among the first bytes, the
 -- search continues after them.
-use Rattle.ptflow.proofs.Common.{◌≡◌, drop, min, ◌∙◌, sym, ap, arith, take_rest, unwrap_or, after_nonblanks}
+use Rattle.ptflow.proofs.Common.{◌≡◌, min, ◌∙◌, sym, ap, arith, take_rest, unwrap_or, after_nonblanks}
 use Rattle.ptflow.proofs.UniqLemmas.Keys.{both_later, both_near, first_blank}
 use Rattle.ptflow.proofs.tools.uniq.line_key.skip_nonblanks.Goals as goal
 
