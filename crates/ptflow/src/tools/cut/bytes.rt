@@ -100,8 +100,8 @@ fn copy_piece(
 }
 
 // Copies the selected bytes of a line, which is the first `count` bytes, piece by piece. Returns the index after the
-// copied bytes.
-#[inline(always)]
+// copied bytes. Out of line, to keep registers free in the copy of short lines.
+#[inline(never)]
 fn copy_pieces(by: &Selection, line: &[u8], count: usize, into: &mut OutBuf, at: usize) -> usize
     requires few { count ≤ by.now.shuffles.max_len }
     requires within { count + 16 ≤ length line.now }
