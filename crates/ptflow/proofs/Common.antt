@@ -71,7 +71,7 @@ pub use Rattle.ptflow.specs.Private.Vectors.Compress.{IsCompressTable, IsCompres
 pub use Rattle.ptflow.specs.Private.Vectors.Tables.{entry_of, image_in, image_by_window, IsSameOutside}
 pub use Rattle.ptflow.specs.Private.Cut.CutFrom.{ExtendsCut, CutChunkPost, HasTerminators, IsCutPart, IsSameLine, CopyLinesPost, cut_piece, cut_fields_from, cut_bytes_from, cut_list_from, cut_lines_from}
 pub use Rattle.ptflow.specs.Private.Cut.FieldOffsets.{IsFieldStart, fields, prefixed_fields}
-pub use Rattle.ptflow.specs.Private.Cut.FieldSlices.{IsFieldCursor, IsNextSlice, remaining_fields}
+pub use Rattle.ptflow.specs.Private.Cut.FieldSlices.{IsFieldCursor, IsNextSlice, IsRest, remaining_fields}
 pub use Rattle.ptflow.specs.Private.Passes.StepOutput.{OutputPart, OutputFailed}
 pub use Rattle.ptflow.specs.Private.Passes.LineLoop.{SlotsCleared, IsLineFilter, IsSwapped, LinesFailed, LinesWritten, IsLinesLength}
 pub use Rattle.ptflow.specs.Private.Paste.FillRow.{SetTerminatorsPost, FillCellPost, FillRowPost, SlotsBound, SlotsKept, NotRead, RowAmid, RowFailed, RowFilled, ClearSlotsPost, is_write_fault}

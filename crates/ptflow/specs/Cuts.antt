@@ -21,13 +21,15 @@ is_field_delimiter job b = b == job.delimiter
 
 -- the fields whose numbers, counted from 1, are selected, joined by the delimiter
 abbrev pub cut_fields : Cut → List ℕ → List ℕ
-cut_fields job line = join_with_byte job.delimiter (select_from job.selected 1 (slice_split (is_field_delimiter job) line))
+cut_fields job line = join_with_byte job.delimiter
+    (select_from job.selected 1 (slice_split (is_field_delimiter job) line))
 
 -- the output lines for a line: one, or none
 abbrev pub cut_line : Cut → List ℕ → List (List ℕ)
 cut_line job line =
     if job.fields
-    then (if list_any (is_field_delimiter job) line then cut_fields job line ∷ [] else (if job.only then [] else line ∷ []))
+    then (if list_any (is_field_delimiter job) line then cut_fields job line ∷ [] else
+    (if job.only then [] else line ∷ []))
     else cut_bytes job line ∷ []
 
 -- the output for some lines
@@ -45,4 +47,11 @@ cut_decided job given = cut_lines job (known_lines job.terminator given)
 -- A line that is cut by fields is kept in a slot; for bytes nothing is kept.
 abbrev pub cut_tool : Cut → ToolSpec
 cut_tool job =
-    record { text = cut job; decided = cut_decided job; size = max_line_length job.terminator; slots = if job.fields then 1 else 0; end = job.terminator }
+    record {
+      text = cut job;
+      decided = cut_decided job;
+      size = max_line_length job.terminator;
+      slots = if job.fields
+          then 1 else 0;
+      end = job.terminator;
+    }

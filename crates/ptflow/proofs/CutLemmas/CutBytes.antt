@@ -1,8 +1,12 @@
 -- The output of `cut` by bytes for the rest of a text. A piece of a line adds to the line offset, and a terminator
 -- resets it; at offset 0 the output is that of complete lines.
-use Rattle.ptflow.proofs.Common.{◌≡◌, ℕ, ◌+◌, ◌-◌, ◌≤◌, ◌^◌, ◌==◌, Bool, false, List, [], ◌∷◌, ◌++◌, map, length, take, drop, Some, refl, sym, ◌∙◌, ap, arith, append_assoc, common_steps, onto_first}
-use Rattle.ptflow.proofs.Common.{flat_map, mask_l, chunk, length-chunk, chunk-drop, nat_tests, append-nil, take_all, drop_all, append_cancel_right, map-append, IsFirstByte, is_byte, unlines, lines}
-use Rattle.ptflow.proofs.Common.{IsLine, complete_lines, lines_cons, byte_ne, lines_of_unlines, unlines-append, line_before_terminator, select_from, cut_line, cut, cut_decided, cut_lines_from, cut_bytes_from, cut_list_from}
+use Rattle.ptflow.proofs.Common.{◌≡◌, ℕ, ◌+◌, ◌-◌, ◌≤◌, ◌^◌, ◌==◌, Bool, false, List, [], ◌∷◌, ◌++◌, map, length, take}
+use Rattle.ptflow.proofs.Common.{drop, Some, refl, sym, ◌∙◌, ap, arith, append_assoc, common_steps, onto_first}
+use Rattle.ptflow.proofs.Common.{flat_map, mask_l, chunk, length-chunk, chunk-drop, nat_tests, append-nil, take_all}
+use Rattle.ptflow.proofs.Common.{drop_all, append_cancel_right, map-append, IsFirstByte, is_byte, unlines, lines}
+use Rattle.ptflow.proofs.Common.{IsLine, complete_lines, lines_cons, byte_ne, lines_of_unlines, unlines-append}
+use Rattle.ptflow.proofs.Common.{line_before_terminator, select_from, cut_line, cut, cut_decided, cut_lines_from}
+use Rattle.ptflow.proofs.Common.{cut_bytes_from, cut_list_from}
 use Rattle.ptflow.proofs.Common.{IsPrefix, Cut, Interval, ExtendsCut}
 use Rattle.ptflow.proofs.Passes.Lines.{split_of, line_of, end_of, LineSplit, line_split}
 
@@ -16,75 +20,109 @@ module _ (end : ℕ) (selected : ℕ → Bool) where
   rest_of_all [] = refl
   rest_of_all (line ∷ ls) = sym (append_assoc (select_from selected 1 line) (end ∷ []) (cut_text ls))
 
-  pub rest_line : (line_offset : ℕ) (line rest : List ℕ) → IsLine end line → cut_bytes_from end selected line_offset (line ++ end ∷ rest)
+  pub rest_line : (line_offset : ℕ) (line rest : List ℕ) → IsLine end line
+      → cut_bytes_from end selected line_offset (line ++ end ∷ rest)
       ≡ (select_from selected (line_offset + 1) line ++ end ∷ []) ++ cut_bytes_from end selected 0 rest
   rest_line line_offset line rest whole =
-      cc (lines_cons end line rest whole, append_assoc (select_from selected (line_offset + 1) line) (end ∷ []) (cut_text (lines end rest)), rest_of_all (lines end rest))
+      cc (
+        lines_cons end line rest whole,
+        append_assoc (select_from selected (line_offset + 1) line) (end ∷ [])
+            (cut_text (lines end rest)),
+        rest_of_all (lines end rest),
+      )
 
   -- one byte of a line
-  rest_onto : (line_offset b : ℕ) (ls : List (List ℕ)) → cut_lines_from end selected line_offset (onto_first b ls) ≡ select_from selected (line_offset + 1) (b ∷ []) ++ cut_lines_from end selected (line_offset + 1) ls
+  rest_onto : (line_offset b : ℕ) (ls : List (List ℕ)) → cut_lines_from end selected line_offset (onto_first b ls)
+      ≡ select_from selected (line_offset + 1) (b ∷ []) ++ cut_lines_from end selected (line_offset + 1) ls
   rest_onto line_offset b [] = let some : (line_offset + 1 == 0) ≡ false = grind (arith, nat_tests) in rw some refl
   rest_onto line_offset b (line ∷ ls) = grind arith
 
-  select_onto : (n b : ℕ) (xs : List ℕ) → select_from selected n (b ∷ []) ++ select_from selected (n + 1) xs ≡ select_from selected n (b ∷ xs)
+  select_onto : (n b : ℕ) (xs : List ℕ) → select_from selected n (b ∷ []) ++ select_from selected (n + 1) xs
+      ≡ select_from selected n (b ∷ xs)
   select_onto n b xs = grind arith
 
   -- a piece of a line
-  pub rest_piece : (line_offset : ℕ) (piece rest : List ℕ) → IsLine end piece → cut_bytes_from end selected line_offset (piece ++ rest)
+  pub rest_piece : (line_offset : ℕ) (piece rest : List ℕ) → IsLine end piece
+      → cut_bytes_from end selected line_offset (piece ++ rest)
       ≡ select_from selected (line_offset + 1) piece ++ cut_bytes_from end selected (line_offset + length piece) rest
   rest_piece line_offset [] rest whole = let same : line_offset + 0 ≡ line_offset = omega arith in cc
   rest_piece line_offset (b ∷ piece) rest whole =
       let same : line_offset + 1 + length piece ≡ line_offset + length (b ∷ piece) = omega arith in
-      let first : cut_bytes_from end selected line_offset ((b ∷ piece) ++ rest) ≡ select_from selected (line_offset + 1) (b ∷ []) ++ cut_bytes_from end selected (line_offset + 1) (piece ++ rest) =
+      let first : cut_bytes_from end selected line_offset ((b ∷ piece) ++ rest)
+      ≡ select_from selected (line_offset + 1) (b ∷ [])
+      ++ cut_bytes_from end selected (line_offset + 1) (piece ++ rest) =
       cc (byte_ne end b whole.0, rest_onto line_offset b (lines end (piece ++ rest))) in
       cc (
         rest_piece (line_offset + 1) piece rest whole.1,
-        append_assoc (select_from selected (line_offset + 1) (b ∷ [])) (select_from selected (line_offset + 1 + 1) piece) (cut_bytes_from end selected (line_offset + 1 + length piece) rest),
+        append_assoc (select_from selected (line_offset + 1) (b ∷ []))
+            (select_from selected (line_offset + 1 + 1) piece)
+            (cut_bytes_from end selected (line_offset + 1 + length piece) rest),
         select_onto (line_offset + 1) b piece,
       )
 
 -- the selected bytes of the first line, and its terminator
 module _ (end : ℕ) (bytes : List ℕ) (at : ℕ) (first : IsFirstByte (is_byte end) bytes (Some at)) where
   pub line_on : (selected : ℕ → Bool) (line_offset : ℕ) (more : List ℕ)
-      → cut_bytes_from end selected line_offset (bytes ++ more) ≡ (select_from selected (line_offset + 1) (take at (take (at + 1) bytes)) ++ drop at (take (at + 1) bytes))
+      → cut_bytes_from end selected line_offset (bytes ++ more)
+      ≡ (select_from selected (line_offset + 1) (take at (take (at + 1) bytes)) ++ drop at (take (at + 1) bytes))
       ++ cut_bytes_from end selected 0 (drop (at + 1) bytes ++ more)
   line_on selected line_offset more =
       cc (
         split_of end bytes at first,
         append_assoc (take at bytes) (end ∷ drop (at + 1) bytes) more,
-        rest_line end selected line_offset (take at bytes) (drop (at + 1) bytes ++ more) (line_before_terminator end bytes at first),
+        rest_line end selected line_offset (take at bytes) (drop (at + 1) bytes ++ more)
+            (line_before_terminator end bytes at first),
         line_of end bytes at first,
         end_of end bytes at first,
       )
 
 -- empty lines
-pub empty_lines : (end : ℕ) (selected : ℕ → Bool) (ends more : List ℕ) → mask_l (map (is_byte end) ends) + 1 ≡ 2 ^ length ends
+pub empty_lines : (end : ℕ) (selected : ℕ → Bool) (ends more : List ℕ) → mask_l (map (is_byte end) ends) + 1
+    ≡ 2 ^ length ends
     → cut_bytes_from end selected 0 (ends ++ more) ≡ ends ++ cut_bytes_from end selected 0 more
 empty_lines end selected [] more all = refl
 empty_lines end selected (b ∷ ends) more all = grind (arith, common_steps, empty_lines end selected ends more)
 
 -- 64 empty lines at an index of a block, at offset 0
-pub terminators_next : (end : ℕ) (selected : ℕ → Bool) (block : List ℕ) {from start now marked : ℕ} → from + 64 ≤ length block → start ≡ from → now ≡ 0 → marked
+pub terminators_next : (end : ℕ) (selected : ℕ → Bool) (block : List ℕ) {from start now marked : ℕ}
+    → from + 64 ≤ length block → start ≡ from → now ≡ 0 → marked
     ≡ mask_l (map (is_byte end) (chunk from 64 block)) → marked ≡ 2 ^ 64 - 1
-    → (more : List ℕ) → cut_bytes_from end selected now (drop start block ++ more) ≡ chunk start 64 block ++ cut_bytes_from end selected now (drop (start + 64) block ++ more)
+    → (more : List ℕ) → cut_bytes_from end selected now (drop start block ++ more) ≡ chunk start 64 block
+    ++ cut_bytes_from end selected now (drop (start + 64) block ++ more)
 terminators_next end selected block {start} room here none is all more =
     let ends = chunk start 64 block in
     let left = drop (start + 64) block ++ more in
     let long : length ends ≡ 64 = length-chunk start 64 block (omega arith) in
-    let every : mask_l (map (is_byte end) ends) + 1 ≡ 2 ^ length ends = omega (arith, ap (λ (k : ℕ). mask_l (map (is_byte end) (chunk k 64 block))) here, is, all, ap (λ (k : ℕ). 2 ^ k) long) in
-    cc (chunk-drop start 64 block, append_assoc ends (drop (start + 64) block) more, empty_lines end selected ends left every)
+    let every : mask_l (map (is_byte end) ends) + 1
+    ≡ 2 ^ length ends = omega (
+      arith,
+      ap (λ (k : ℕ). mask_l (map (is_byte end) (chunk k 64 block))) here,
+      is,
+      all,
+      ap (λ (k : ℕ). 2 ^ k) long,
+    ) in
+    cc (
+      chunk-drop start 64 block,
+      append_assoc ends (drop (start + 64) block) more,
+      empty_lines end selected ends left
+          every,
+    )
 
 -- the selected bytes of a piece of a line
 pub piece_next : (end : ℕ) (selected : ℕ → Bool) (line_offset : ℕ) (bytes : List ℕ) → IsLine end bytes → (more : List ℕ)
-    → cut_bytes_from end selected line_offset (bytes ++ more) ≡ (select_from selected (line_offset + 1) (take (length bytes) bytes) ++ drop (length bytes) bytes) ++ cut_bytes_from end selected (line_offset + length bytes) more
+    → cut_bytes_from end selected line_offset (bytes ++ more)
+    ≡ (select_from selected (line_offset + 1) (take (length bytes) bytes) ++ drop (length bytes) bytes)
+    ++ cut_bytes_from end selected (line_offset + length bytes) more
 piece_next end selected line_offset bytes whole more =
     let all : take (length bytes) bytes ≡ bytes = take_all (length bytes) bytes (omega arith) in
     let none : drop (length bytes) bytes ≡ [] = drop_all (length bytes) bytes (omega arith) in
     cc (rest_piece end selected line_offset bytes more whole, append-nil (select_from selected (line_offset + 1) bytes))
 
 -- output that is extended by one step
-pub cut_next : (end : ℕ) (list : List Interval) (line_offset now next : ℕ) (from rest rest' old was : List ℕ) {is : List ℕ} (bytes : List ℕ) → ExtendsCut end list line_offset from old now rest was → is ≡ was ++ bytes
-    → ((more : List ℕ) → cut_list_from end list now (rest ++ more) ≡ bytes ++ cut_list_from end list next (rest' ++ more)) → ExtendsCut end list line_offset from old next rest' is
+pub cut_next : (end : ℕ) (list : List Interval) (line_offset now next : ℕ) (from rest rest' old was : List ℕ)
+    {is : List ℕ} (bytes : List ℕ) → ExtendsCut end list line_offset from old now rest was → is ≡ was ++ bytes
+    → ((more : List ℕ) → cut_list_from end list now (rest ++ more) ≡ bytes
+    ++ cut_list_from end list next (rest' ++ more)) → ExtendsCut end list line_offset from old next rest' is
 cut_next end list line_offset now next from rest rest' old was bytes cut copied on start block so_far more =
     cc (cut start block so_far more, on more, append_assoc was bytes (cut_list_from end list next (rest' ++ more)))
 
@@ -104,17 +142,25 @@ module _ (job : Cut) (by_bytes : job.fields ≡ false) where
   rest_is_cut bytes = rest_of_all end job.selected (lines end bytes) ∙ sym (made_is (lines end bytes))
 
   -- the output that was pushed for these bytes begins with the output for their complete lines
-  pub rest_is_decided : (given pushed : List ℕ) (now : ℕ) → ((rest : List ℕ) → cut_bytes_from end job.selected 0 (given ++ rest) ≡ pushed ++ cut_bytes_from end job.selected now rest)
+  pub rest_is_decided : (given pushed : List ℕ) (now : ℕ)
+      → ((rest : List ℕ) → cut_bytes_from end job.selected 0 (given ++ rest) ≡ pushed
+      ++ cut_bytes_from end job.selected now rest)
       → IsPrefix (cut_decided job (record { bytes = given; eof = false })) pushed
   rest_is_decided given pushed now on =
       let p : LineSplit end given = line_split end given in
       let ls = complete_lines end given in
       -- with one terminator more, the piece is a line too
       let all_lines : lines end (given ++ end ∷ []) ≡ ls ++ p.piece ∷ [] =
-      cc (p.is, append_assoc (unlines end ls) p.piece (end ∷ []), lines_of_unlines end ls (p.piece ++ end ∷ []) p.whole, lines_cons end p.piece [] p.line) in
+      cc (
+        p.is,
+        append_assoc (unlines end ls) p.piece (end ∷ []),
+        lines_of_unlines end ls (p.piece ++ end ∷ []) p.whole,
+        lines_cons end p.piece [] p.line,
+      ) in
       record {
         rest = select_from job.selected 1 p.piece;
-        is = append_cancel_right pushed (unlines end (flat_map (cut_line job) ls) ++ select_from job.selected 1 p.piece) (end ∷ []) (
+        is = append_cancel_right pushed (unlines end (flat_map (cut_line job) ls) ++ select_from job.selected 1 p.piece)
+            (end ∷ []) (
             cc (
               on (end ∷ []),
               rest_line end job.selected now [] [] tt,

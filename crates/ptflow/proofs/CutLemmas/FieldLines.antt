@@ -1,10 +1,17 @@
 -- The output of `cut` by fields for a line, with or without the delimiter, and for the first lines of a block: the
 -- fields of a line with the delimiter, and lines without it unchanged, or nothing with `-s`. No state is carried, so
 -- the output for two lists of lines is the output for each, one after the other.
-use Rattle.ptflow.proofs.Common.{◌≡◌, ℕ, ◌==◌, true, false, arith, List, [], ◌∷◌, ◌++◌, refl, ◌∙◌, ap, Option, None, Some, is_some, flat_map, list_any, list_any_at, IsFirstByte, is_byte, line_if_not_found}
-use Rattle.ptflow.proofs.Common.{append-nil, flat_map-append, unlines, IsLine, byte_ne, unlines-append, Cut, is_field_delimiter, cut_fields, cut_line, cut_lines, cut_tool, cut_fields_from, IsPrefix, known_lines}
-use Rattle.ptflow.proofs.Common.{IsLineFilter, zero, suc, ◌+◌, ◌-◌, ◌<◌, ◌≤◌, ◌⊎◌, inl, inr, length, take, drop, common_steps, get_or, sym, ap₂, subst, append_assoc, get_or-take, take-append-drop}
-use Rattle.ptflow.proofs.Common.{unwrap_or, take-take, take_more, take_all, length-take-le, complete_lines, AreLines, line_before_terminator, take_with_terminator, drop_at_terminator, complete_lines_cons, the_lines, the_complete_lines, CopyLinesPost}
+use Rattle.ptflow.proofs.Common.{◌≡◌, ℕ, ◌==◌, true, false, arith, List, [], ◌∷◌, ◌++◌, refl, ◌∙◌, ap, Option, None}
+use Rattle.ptflow.proofs.Common.{Some, is_some, flat_map, list_any, list_any_at, IsFirstByte, is_byte}
+use Rattle.ptflow.proofs.Common.{line_if_not_found}
+use Rattle.ptflow.proofs.Common.{append-nil, flat_map-append, unlines, IsLine, byte_ne, unlines-append, Cut}
+use Rattle.ptflow.proofs.Common.{is_field_delimiter, cut_fields, cut_line, cut_lines, cut_tool, cut_fields_from}
+use Rattle.ptflow.proofs.Common.{IsPrefix, known_lines}
+use Rattle.ptflow.proofs.Common.{IsLineFilter, zero, suc, ◌+◌, ◌-◌, ◌<◌, ◌≤◌, ◌⊎◌, inl, inr, length, take, drop}
+use Rattle.ptflow.proofs.Common.{common_steps, get_or, sym, ap₂, subst, append_assoc, get_or-take, take-append-drop}
+use Rattle.ptflow.proofs.Common.{unwrap_or, take-take, take_more, take_all, length-take-le, complete_lines, AreLines}
+use Rattle.ptflow.proofs.Common.{line_before_terminator, take_with_terminator, drop_at_terminator, complete_lines_cons}
+use Rattle.ptflow.proofs.Common.{the_lines, the_complete_lines, CopyLinesPost}
 use Rattle.ptflow.proofs.Common.{lines, the_lines_of_parts, CutOfParts}
 use Rattle.ptflow.proofs.Passes.Lines.{ended_next, line_split}
 
@@ -13,7 +20,8 @@ none_of d [] free = refl
 none_of d (b ∷ line) free = rw (byte_ne d b free.0) (none_of d line free.1)
 
 -- the delimiter is in a line, by a search
-pub found : (d : ℕ) (line : List ℕ) (r : Option ℕ) → IsFirstByte (is_byte d) line r → list_any (λ b. b == d) line ≡ is_some r
+pub found : (d : ℕ) (line : List ℕ) (r : Option ℕ) → IsFirstByte (is_byte d) line r → list_any (λ b. b == d) line
+    ≡ is_some r
 found d line None first = none_of d line (line_if_not_found d line first)
 found d line (Some at) first = list_any_at (λ b. b == d) line at 0 first.0.high first.1
 
@@ -29,7 +37,8 @@ module _ (job : Cut) (by_fields : job.fields ≡ true) (line : List ℕ) where
   of_none none only = rw (by_fields, none, only) refl
 
 module _ (job : Cut) (line : List ℕ) where
-  pub line_written : (bytes : List ℕ) → cut_line job line ≡ bytes ∷ [] → cut_lines job (line ∷ []) ≡ bytes ++ job.terminator ∷ []
+  pub line_written : (bytes : List ℕ) → cut_line job line ≡ bytes ∷ [] → cut_lines job (line ∷ []) ≡ bytes
+      ++ job.terminator ∷ []
   line_written bytes is = cc (append-nil (cut_line job line), append-nil (bytes ++ job.terminator ∷ []))
 
   pub line_dropped : cut_line job line ≡ [] → cut_lines job (line ∷ []) ≡ []
@@ -37,14 +46,23 @@ module _ (job : Cut) (line : List ℕ) where
 
 module _ (job : Cut) where
   pub cut_lines-append : (xs ys : List (List ℕ)) → cut_lines job (xs ++ ys) ≡ cut_lines job xs ++ cut_lines job ys
-  cut_lines-append xs ys = cc (flat_map-append (cut_line job) xs ys, unlines-append job.terminator (flat_map (cut_line job) xs) (flat_map (cut_line job) ys))
+  cut_lines-append xs ys = cc (
+    flat_map-append (cut_line job) xs ys,
+    unlines-append job.terminator (flat_map (cut_line job) xs)
+        (flat_map (cut_line job) ys),
+  )
 
   -- all output that was pushed is decided
-  cut_sure : (ls : List (List ℕ)) (pushed : List ℕ) → cut_lines job (ls ++ []) ≡ pushed ++ cut_lines job [] → IsPrefix (cut_lines job ls) pushed
-  cut_sure ls pushed on = record { rest = []; is = cc (append-nil pushed, append-nil ls, append-nil (cut_lines job ls)) }
+  cut_sure : (ls : List (List ℕ)) (pushed : List ℕ) → cut_lines job (ls ++ []) ≡ pushed ++ cut_lines job []
+      → IsPrefix (cut_lines job ls) pushed
+  cut_sure ls pushed on = record {
+    rest = [];
+    is = cc (append-nil pushed, append-nil ls, append-nil (cut_lines job ls));
+  }
 
   pub cut_line_tool : {S : Type 0} (start : S) → job.fields ≡ true
-      → IsLineFilter {S = S} {X = Unit {0}} {E = ℕ} (cut_tool job) (λ room store. tt) (cut_fields_from job) (λ bytes. bytes) (λ u. 1) 1 start
+      → IsLineFilter {S = S} {X = Unit {0}} {E = ℕ} (cut_tool job) (λ room store. tt) (cut_fields_from job)
+      (λ bytes. bytes) (λ u. 1) 1 start
   cut_line_tool start by_fields = record {
     apart = λ xs ys. refl;
     stays = λ now store bytes room. refl;
@@ -58,10 +76,17 @@ module _ (job : Cut) where
 
 -- ---- lines before others
 
-eof-append : (end : ℕ) (ls : List (List ℕ)) (bytes : List ℕ) → AreLines end ls → complete_lines end (unlines end ls ++ bytes) ≡ ls ++ complete_lines end bytes
+eof-append : (end : ℕ) (ls : List (List ℕ)) (bytes : List ℕ) → AreLines end ls
+    → complete_lines end (unlines end ls ++ bytes) ≡ ls ++ complete_lines end bytes
 eof-append end [] bytes whole = refl
 eof-append end (l ∷ ls) bytes whole =
-    cc (append_assoc l (end ∷ []) (unlines end ls), append_assoc l (end ∷ unlines end ls) bytes, complete_lines_cons end l (unlines end ls ++ bytes) whole.0, eof-append end ls bytes whole.1)
+    cc (
+      append_assoc l (end ∷ []) (unlines end ls),
+      append_assoc l (end ∷ unlines end ls) bytes,
+      complete_lines_cons end
+          l (unlines end ls ++ bytes) whole.0,
+      eof-append end ls bytes whole.1,
+    )
 
 -- bytes that end with a terminator are the text of their lines
 text_of_ended : (end : ℕ) (front : List ℕ) → unlines end (complete_lines end (front ++ end ∷ [])) ≡ front ++ end ∷ []
@@ -81,15 +106,18 @@ free_lines d end (b ∷ bytes) free = grind (arith, free_lines d end bytes free.
 module _ (job : Cut) (by_fields : job.fields ≡ true) where
   lines_kept : job.only ≡ false → (ls : List (List ℕ)) → AreLines job.delimiter ls → flat_map (cut_line job) ls ≡ ls
   lines_kept keeps [] free = refl
-  lines_kept keeps (l ∷ ls) free = ap₂ (λ (a b : List (List ℕ)). a ++ b) (of_line job by_fields l (none_of job.delimiter l free.0) keeps) (lines_kept keeps ls free.1)
+  lines_kept keeps (l ∷ ls) free = ap₂ (λ (a b : List (List ℕ)). a ++ b)
+      (of_line job by_fields l (none_of job.delimiter l free.0) keeps) (lines_kept keeps ls free.1)
 
   lines_dropped : job.only ≡ true → (ls : List (List ℕ)) → AreLines job.delimiter ls → flat_map (cut_line job) ls ≡ []
   lines_dropped only [] free = refl
-  lines_dropped only (l ∷ ls) free = ap₂ (λ (a b : List (List ℕ)). a ++ b) (of_none job by_fields l (none_of job.delimiter l free.0) only) (lines_dropped only ls free.1)
+  lines_dropped only (l ∷ ls) free = ap₂ (λ (a b : List (List ℕ)). a ++ b)
+      (of_none job by_fields l (none_of job.delimiter l free.0) only) (lines_dropped only ls free.1)
 
 -- ---- the first lines of a block
 
-module _ {job : Cut} {end : ℕ} {bytes : List ℕ} {size : ℕ} (some : 0 < size) (fits : size ≤ length bytes) (front : List (List ℕ)) (texts : unlines end front ≡ take size bytes)
+module _ {job : Cut} {end : ℕ} {bytes : List ℕ} {size : ℕ} (some : 0 < size) (fits : size ≤ length bytes)
+    (front : List (List ℕ)) (texts : unlines end front ≡ take size bytes)
     (lines_are : complete_lines end bytes ≡ front ++ complete_lines end (drop size bytes)) where
   puts : {old new : List ℕ} → new ≡ old ++ cut_lines job front → CopyLinesPost job end bytes size old new
   puts {old} is = record {
@@ -98,19 +126,28 @@ module _ {job : Cut} {end : ℕ} {bytes : List ℕ} {size : ℕ} (some : 0 < siz
     taken = cc (lines_are, unlines-append end front (complete_lines end (drop size bytes)), texts);
     on = λ more.
         let rest = complete_lines end (drop size bytes) ++ more in
-        cc (lines_are, append_assoc front (complete_lines end (drop size bytes)) more, cut_lines-append job front rest, append_assoc old (cut_lines job front) (cut_lines job rest));
+        cc (
+          lines_are,
+          append_assoc front (complete_lines end (drop size bytes)) more,
+          cut_lines-append job front rest,
+          append_assoc old (cut_lines job front) (cut_lines job rest),
+        );
   }
 
-module _ (job : Cut) (by_fields : job.fields ≡ true) {end : ℕ} (same : end ≡ job.terminator) (bytes : List ℕ) (to : ℕ) (first : IsFirstByte (is_byte end) bytes (Some to)) where
+module _ (job : Cut) (by_fields : job.fields ≡ true) {end : ℕ} (same : end ≡ job.terminator) (bytes : List ℕ) (to : ℕ)
+    (first : IsFirstByte (is_byte end) bytes (Some to)) where
   -- one line, with this output
-  pub puts_line : (out : List ℕ) {old new : List ℕ} → cut_line job (take to bytes) ≡ out ∷ [] → new ≡ old ++ (out ++ take 1 (drop to bytes)) → CopyLinesPost job end bytes (to + 1) old new
+  pub puts_line : (out : List ℕ) {old new : List ℕ} → cut_line job (take to bytes) ≡ out ∷ [] → new ≡ old
+      ++ (out ++ take 1 (drop to bytes)) → CopyLinesPost job end bytes (to + 1) old new
   puts_line out is put =
       puts (omega arith) (omega arith) (take to bytes ∷ [])
-      (append-nil (take to bytes ++ end ∷ []) ∙ sym (take_with_terminator end bytes to first)) (ended_next end bytes to first)
+      (append-nil (take to bytes ++ end ∷ []) ∙ sym (take_with_terminator end bytes to first))
+      (ended_next end bytes to first)
       (cc (drop_at_terminator end bytes to first, line_written job (take to bytes) out is))
 
   -- all complete lines before an index, none of which has the delimiter
-  module _ {size up_to : ℕ} (high : to < size) (fits : size ≤ length bytes) (eof : get_or bytes (size - 1) 0 ≡ end) (near : (size ≡ to + 1) ⊎ (size ≤ up_to)) (past : to ≤ up_to)
+  module _ {size up_to : ℕ} (high : to < size) (fits : size ≤ length bytes) (eof : get_or bytes (size - 1) 0 ≡ end)
+      (near : (size ≡ to + 1) ⊎ (size ≤ up_to)) (past : to ≤ up_to)
       (free : IsLine job.delimiter (take up_to bytes)) where
     abbrev front : List (List ℕ)
     front = complete_lines end (take size bytes)
@@ -125,7 +162,12 @@ module _ (job : Cut) (by_fields : job.fields ≡ true) {end : ℕ} (same : end �
 
     lines_are : complete_lines end bytes ≡ front ++ complete_lines end (drop size bytes)
     lines_are =
-        cc (take-append-drop size bytes, texts, eof-append end front (drop size bytes) (line_split end (take size bytes)).whole)
+        cc (
+          take-append-drop size bytes,
+          texts,
+          eof-append end front (drop size bytes)
+              (line_split end (take size bytes)).whole,
+        )
 
     free_up_to : {n : ℕ} → n ≤ up_to → IsLine job.delimiter (take n bytes)
     free_up_to {n} le = rw (take-take n up_to bytes le) at (free_prefix job.delimiter n (take up_to bytes) free)
@@ -133,11 +175,16 @@ module _ (job : Cut) (by_fields : job.fields ≡ true) {end : ℕ} (same : end �
     are_free : ((size ≡ to + 1) ⊎ (size ≤ up_to)) → AreLines job.delimiter front
     are_free (inl one) =
         let is : front ≡ take to bytes ∷ [] =
-        cc (take_with_terminator end bytes to first, complete_lines_cons end (take to bytes) [] (line_before_terminator end bytes to first)) in
+        cc (
+          take_with_terminator end bytes to first,
+          complete_lines_cons end (take to bytes) []
+              (line_before_terminator end bytes to first),
+        ) in
         subst (AreLines job.delimiter) (sym is) (free_up_to past, tt)
     are_free (inr le) = free_lines job.delimiter end (take size bytes) (free_up_to le)
 
-    pub puts_kept : {old new : List ℕ} → job.only ≡ false → new ≡ old ++ take size bytes → CopyLinesPost job end bytes size old new
+    pub puts_kept : {old new : List ℕ} → job.only ≡ false → new ≡ old ++ take size bytes
+        → CopyLinesPost job end bytes size old new
     puts_kept keeps put =
         puts (omega arith) fits front texts lines_are (cc (texts, lines_kept job by_fields keeps front (are_free near)))
 
@@ -147,12 +194,15 @@ module _ (job : Cut) (by_fields : job.fields ≡ true) {end : ℕ} (same : end �
         (sym (cc (lines_dropped job by_fields only front (are_free near), append-nil old)))
 
 -- before the first delimiter there is none
-pub free_before : (d : ℕ) (bytes : List ℕ) (r : Option ℕ) → IsFirstByte (is_byte d) bytes r → IsLine d (take (unwrap_or r (length bytes)) bytes)
-free_before d bytes None none = subst (IsLine d) (sym (take_all (length bytes) bytes (omega arith))) (line_if_not_found d bytes none)
+pub free_before : (d : ℕ) (bytes : List ℕ) (r : Option ℕ) → IsFirstByte (is_byte d) bytes r
+    → IsLine d (take (unwrap_or r (length bytes)) bytes)
+free_before d bytes None none = subst (IsLine d) (sym (take_all (length bytes) bytes (omega arith)))
+    (line_if_not_found d bytes none)
 free_before d bytes (Some at) first = line_before_terminator d bytes at first
 
 -- the first delimiter of some bytes is the first one of the first line if it is in that line
-pub first_within : (d : ℕ) (bytes : List ℕ) (r : Option ℕ) (to : ℕ) → IsFirstByte (is_byte d) bytes r → unwrap_or r (length bytes) < to → to ≤ length bytes
+pub first_within : (d : ℕ) (bytes : List ℕ) (r : Option ℕ) (to : ℕ) → IsFirstByte (is_byte d) bytes r
+    → unwrap_or r (length bytes) < to → to ≤ length bytes
     → IsFirstByte (is_byte d) (take to bytes) (Some (unwrap_or r (length bytes)))
 first_within d bytes None to none lt le = absurd (omega arith)
 first_within d bytes (Some at) to first lt le = (
@@ -166,4 +216,8 @@ first_within d bytes (Some at) to first lt le = (
 
 -- a text that is cut after a line
 pub cut_of_parts : CutOfParts
-cut_of_parts job a b whole = cc (the_lines_of_parts job.terminator a b whole, cut_lines-append job (lines job.terminator a) (lines job.terminator b))
+cut_of_parts job a b whole = cc (
+  the_lines_of_parts job.terminator a b whole,
+  cut_lines-append job (lines job.terminator a)
+      (lines job.terminator b),
+)

@@ -1,27 +1,28 @@
 -- The selected fields of a line, in one pass. The fields of an interval, with the delimiter before each, are one slice
 -- of the line; so the output is these slices, the first without the delimiter before it.
-use Rattle.ptflow.proofs.Common.{◌≡◌, ℕ, zero, suc, Bool, true, false, cond, ◌+◌, ◌-◌, ◌<◌, ◌≤◌, List, [], ◌∷◌, ◌++◌, length, take, drop, get_or}
-use Rattle.ptflow.proofs.Common.{refl, sym, ◌∙◌, ap, arith, append_assoc, length-append, length-drop, append-nil}
+use Rattle.ptflow.proofs.Common.{◌≡◌, ℕ, zero, suc, Bool, true, false, cond, ◌+◌, ◌-◌, ◌<◌, ◌≤◌, List, [], ◌∷◌, ◌++◌}
+use Rattle.ptflow.proofs.Common.{length, take, drop, get_or}
+use Rattle.ptflow.proofs.Common.{refl, sym, ◌∙◌, ap, arith, length-append, length-drop, append-nil}
 use Rattle.ptflow.proofs.Common.{take_all, drop_all, drop_more, drop-drop, drop-take, drop-append-le, length-take-le}
-use Rattle.ptflow.proofs.Common.{Cut, cut_fields, join_with_byte, is_selected, AreSeparated, Interval, select_from, fields, prefixed_fields}
-use Rattle.ptflow.proofs.Common.{IsFieldStart, IsFieldCursor, IsNextSlice, remaining_fields}
+use Rattle.ptflow.proofs.Common.{Cut, cut_fields, join_with_byte, is_selected, AreSeparated, Interval, select_from}
+use Rattle.ptflow.proofs.Common.{fields, prefixed_fields}
+use Rattle.ptflow.proofs.Common.{IsFieldStart, IsFieldCursor, IsNextSlice, IsRest, remaining_fields}
 use Rattle.ptflow.specs.declared.tools.cut.fields.FieldCursor.{FieldCursor}
-use Rattle.ptflow.specs.declared.tools.cut.fields.FieldSlice.{FieldSlice}
 use Rattle.ptflow.proofs.Vectors.Select.{not_selected, select_none, select_first, select_slice, select_skip}
 use Rattle.ptflow.proofs.CutLemmas.FieldOffsets.{prefixed_fields-append, prefixed_of_fields, join_prefixed}
 
--- the cursor before all intervals from an index on, at the start of a line
-abbrev pub cursor_from : ℕ → FieldCursor
-cursor_from i = record { index = i; number = 1; at = 0; sep = 0 }
+-- the cursor at the start of a line
+abbrev pub line_start : FieldCursor
+line_start = record { index = 0; number = 1; at = 0; sep = 0 }
 
 -- all selected fields of a line are left
 pub all_remaining : (d : ℕ) (all : List Interval) (line : List ℕ)
-    → join_with_byte d (select_from (is_selected all) 1 (fields d line)) ≡ remaining_fields d all line (cursor_from 0)
+    → join_with_byte d (select_from (is_selected all) 1 (fields d line)) ≡ remaining_fields d all line line_start
 all_remaining d all line = cc (join_prefixed d (select_from (is_selected all) 1 (fields d line)))
 
-pub cursor_starts : {all : List Interval} {line : List ℕ} {first : ℕ} (i : ℕ) → AreSeparated 0 (drop i all)
-    → IsFieldCursor all line first (cursor_from i)
-cursor_starts i apart = record {
+pub cursor_starts : {all : List Interval} {line : List ℕ} {first : ℕ} → AreSeparated 0 all
+    → IsFieldCursor all line first line_start
+cursor_starts apart = record {
   known = λ le. refl;
   fits = omega arith;
   begun = omega arith;
@@ -168,7 +169,8 @@ module _ (d : ℕ) (all : List Interval) {line : List ℕ} {first : ℕ} {cursor
           )
 
       pub next_slice : (from + passed ≤ first → from + passed ≡ 0)
-          → IsNextSlice d all line first cursor (record { start = from - cursor.sep; end = from + passed - 1; next = next })
+          → IsNextSlice d all line first cursor
+          (record { start = from - cursor.sep; end = from + passed - 1; next = next })
       next_slice known = record {
         output = output;
         order = omega (arith, p.count);
@@ -183,14 +185,13 @@ module _ (d : ℕ) (all : List Interval) {line : List ℕ} {first : ℕ} {cursor
           apart = apart.2;
           low_is = refl;
         };
-        later = omega arith;
+        later = refl;
         bound = omega arith;
       }
 
     -- the interval reaches the end of the line
-    pub last_slice : length (fields d rest) ≤ size → IsNextSlice d all line first cursor
-        (record { start = from - cursor.sep; end = length line; next = cursor_from (length all) })
-    last_slice few =
+    pub last_fields : length (fields d rest) ≤ size → IsRest d all line cursor (from - cursor.sep)
+    last_fields few =
         let number_of : length here ≤ skip + size =
         omega (
           arith,
@@ -200,10 +201,6 @@ module _ (d : ℕ) (all : List Interval) {line : List ℕ} {first : ℕ} {cursor
         ) in
         let none = λ (m : ℕ) (low : cursor.number ≤ m) (high : m < cursor.number + length here).
         not_selected rs (r.last + 1) m apart.2 (omega (arith, number_of, not_past, apart.1)) in
-        let long : length line - (from - cursor.sep) ≡ length (drop (from - cursor.sep) line) =
-        sym (length-drop (from - cursor.sep) line) in
-        let whole = take_all (length line - (from - cursor.sep)) (drop (from - cursor.sep) line) (omega (arith, long)) in
-        let past : drop (length all) all ≡ [] = drop_all (length all) all (omega arith) in
         record {
           output =
               cc (
@@ -212,17 +209,10 @@ module _ (d : ℕ) (all : List Interval) {line : List ℕ} {first : ℕ} {cursor
                 take_all size (fields d rest) few,
                 select_none (is_selected rs) cursor.number here none,
                 append-nil (fields d rest),
-                whole,
                 sep_drop,
                 prefixed_of_fields d rest,
-                none_remaining d all line (cursor_from (length all)) (omega arith),
-                append-nil (drop (from - cursor.sep) line),
               );
-          order = omega (arith, from_fits);
-          within = omega arith;
-          next = cursor_starts (length all) (rw past tt);
-          later = within;
-          bound = omega arith;
+          within = omega (arith, from_fits);
         }
 
 -- ---- the output of a line is not longer than the line
@@ -254,33 +244,24 @@ output_is_short job line =
       ap length (prefixed_of_fields d line),
     )
 
--- the copied output and the next slice are not longer than the line
-pub slice_is_near : {d first : ℕ} {all : List Interval} {line : List ℕ} {cursor : FieldCursor} {slice : FieldSlice}
-    (start end : ℕ) (was now out : List ℕ) → IsNextSlice d all line first cursor slice
-    → take start was ++ out ≡ take end now ++ remaining_fields d all line cursor
-    → start ≤ length was → end ≤ length now → length out ≤ length line
-    → end + (slice.end - slice.start) ≤ start + length line
-slice_is_near {d} {all = all} {line} {cursor} {slice} start end was now out next copied room place short =
-    let part = take (slice.end - slice.start) (drop slice.start line) in
-    let long : length part ≡ slice.end - slice.start =
-    length-take-le (slice.end - slice.start) (drop slice.start line)
-    (omega (arith, next.within, next.order, length-drop slice.start line)) in
+-- the copied output and the next part of it are not longer than all of it
+pub output_is_near : (start end : ℕ) (was now out part rest : List ℕ) → take start was ++ out ≡ take end now
+    ++ (part ++ rest)
+    → start ≤ length was → end ≤ length now → end + length part ≤ start + length out
+output_is_near start end was now out part rest copied room place =
     omega (
       arith,
-      short,
-      long,
       ap length copied,
-      ap length next.output,
       length-append (take start was) out,
-      length-append (take end now) (remaining_fields d all line cursor),
-      length-append part (remaining_fields d all line slice.next),
+      length-append (take end now) (part ++ rest),
+      length-append part rest,
       length-take-le start was room,
       length-take-le end now place,
     )
 
 -- all selected fields of a line are left, by the list of a job
 pub selected_remaining : (job : Cut) (list : List Interval) {d : ℕ} (line : List ℕ) → d ≡ job.delimiter
-    → is_selected list ≡ job.selected → cut_fields job line ≡ remaining_fields d list line (cursor_from 0)
+    → is_selected list ≡ job.selected → cut_fields job line ≡ remaining_fields d list line line_start
 selected_remaining job list {d} line same selected =
     (λ i. join_with_byte (sym same i) (select_from (sym selected i) 1 (fields (sym same i) line)))
     ∙ all_remaining d list line

@@ -1,23 +1,30 @@
 -- The fields of a line, and where they start. Each delimiter ends one field, so the rest of the fields, after the first
 -- n, starts after the n-th delimiter.
-use Rattle.ptflow.proofs.Common.{◌≡◌, ℕ, ◌+◌, ◌<◌, ◌==◌, ◌-◌, ◌≤◌, Bool, true, false, cond, Option, None, Some, MatchOption, ◌⊎◌, inl, inr, List, [], ◌∷◌, ◌++◌, length, take, drop, get_or, slice_set}
-use Rattle.ptflow.proofs.Common.{refl, sym, ap, arith, length-drop, IfSome, onto_first, join_with_byte, take-add, append-nil, drop-drop, drop_more, take-take, take_more_set, length-take-le}
-use Rattle.ptflow.proofs.Common.{flat_map-append, length-slice_split, byte_eq, fields, prefixed_fields, IsFieldStart, zero, suc}
+use Rattle.ptflow.proofs.Common.{◌≡◌, ℕ, ◌+◌, ◌<◌, ◌==◌, ◌-◌, ◌≤◌, Bool, true, false, cond, Option, None, Some}
+use Rattle.ptflow.proofs.Common.{MatchOption, ◌⊎◌, inl, inr, List, [], ◌∷◌, ◌++◌, length, take, drop, get_or, slice_set}
+use Rattle.ptflow.proofs.Common.{refl, sym, ap, arith, length-drop, IfSome, onto_first, join_with_byte, take-add}
+use Rattle.ptflow.proofs.Common.{append-nil, drop-drop, drop_more, take-take, take_more_set, length-take-le}
+use Rattle.ptflow.proofs.Common.{drop-append-le}
+use Rattle.ptflow.proofs.Common.{flat_map-append, length-slice_split, byte_eq, fields, prefixed_fields, IsFieldStart}
+use Rattle.ptflow.proofs.Common.{zero, suc}
 use lib.Seq.{take-nil}
 
 module _ (d : ℕ) where
   -- the fields before a delimiter, and those after it
   pub fields-append : (xs ys : List ℕ) → fields d (xs ++ d ∷ ys) ≡ fields d xs ++ fields d ys
   fields-append [] ys = rw (byte_eq d) refl
-  fields-append (x ∷ xs) ys = by_test (x == d) (fields d xs) (omega (arith, length-slice_split (λ b. b == d) xs)) (fields-append xs ys)
+  fields-append (x ∷ xs) ys = by_test (x == d) (fields d xs) (omega (arith, length-slice_split (λ b. b == d) xs))
+      (fields-append xs ys)
     where
       by_test : (t : Bool) (fs : List (List ℕ)) → 0 < length fs → fields d (xs ++ d ∷ ys) ≡ fs ++ fields d ys
-          → cond t ([] ∷ fields d (xs ++ d ∷ ys)) (onto_first x (fields d (xs ++ d ∷ ys))) ≡ cond t ([] ∷ fs) (onto_first x fs) ++ fields d ys
+          → cond t ([] ∷ fields d (xs ++ d ∷ ys)) (onto_first x (fields d (xs ++ d ∷ ys)))
+          ≡ cond t ([] ∷ fs) (onto_first x fs) ++ fields d ys
       by_test true fs some more = ap (◌∷◌ []) more
       by_test false [] some more = absurd (omega arith)
       by_test false (f ∷ fs) some more = ap (onto_first x) more
 
-  pub prefixed_fields-append : (fs gs : List (List ℕ)) → prefixed_fields d (fs ++ gs) ≡ prefixed_fields d fs ++ prefixed_fields d gs
+  pub prefixed_fields-append : (fs gs : List (List ℕ)) → prefixed_fields d (fs ++ gs) ≡ prefixed_fields d fs
+      ++ prefixed_fields d gs
   prefixed_fields-append fs gs = flat_map-append (◌∷◌ d) fs gs
 
   -- with one more delimiter before it, a line is its fields with a delimiter before each
@@ -43,13 +50,19 @@ module _ (d : ℕ) where
       fits = omega (arith, length-drop a line);
       count = omega arith;
       front =
-          cc (take-add a p (d ∷ line), prefixed_fields-append (take m (fields d line)) (take n (drop m (fields d line))), take-add m n (fields d line));
+          cc (
+            take-add a p (d ∷ line),
+            prefixed_fields-append (take m (fields d line))
+                (take n (drop m (fields d line))),
+            take-add m n (fields d line),
+          );
       behind = cc (drop-drop p a (d ∷ line), drop-drop p a line);
       later = cc (drop-drop n m (fields d line), drop-drop p a line);
     }
 
   -- few fields are left after a start
-  pub few_left : {m n a : ℕ} {line : List ℕ} → IsFieldStart d m line a → length (fields d (drop a line)) ≤ n → length (fields d line) ≤ m + n
+  pub few_left : {m n a : ℕ} {line : List ℕ} → IsFieldStart d m line a → length (fields d (drop a line)) ≤ n
+      → length (fields d line) ≤ m + n
   few_left {m} {line} s few = omega (arith, ap length s.later, length-drop m (fields d line))
 
   -- no field is skipped
@@ -57,7 +70,8 @@ module _ (d : ℕ) where
   starts_at_zero {line} {at} s = omega (arith, ap length s.front, length-take-le at (d ∷ line) (omega (arith, s.fits)))
 
   -- the index is still the start of the line, or after its first delimiter
-  pub start_kept : (few : Type 0) (line : List ℕ) (o : Option ℕ) (from first count : ℕ) → (from ≤ first → from ≡ 0) → ((count ≡ 0) ⊎ (first < from)) → MatchOption o few (IsFieldStart d count line)
+  pub start_kept : (few : Type 0) (line : List ℕ) (o : Option ℕ) (from first count : ℕ) → (from ≤ first → from ≡ 0)
+      → ((count ≡ 0) ⊎ (first < from)) → MatchOption o few (IsFieldStart d count line)
       → IfSome o (λ passed. from + passed ≤ first → from + passed ≡ 0)
   start_kept few line None from first count start how found = tt
   start_kept few line (Some passed) from first count start (inl none) found = λ le.
@@ -73,9 +87,23 @@ rest_of (suc n) (suc to) [] = sym (take-nil (suc to - suc n))
 rest_of (suc n) (suc to) (b ∷ bytes) = let less : suc to - suc n ≡ to - n = omega arith in cc (rest_of n to bytes)
 
 -- a slice of a line
-pub slice_of : (from size : ℕ) {to : ℕ} (bytes : List ℕ) → from + size ≤ to → take size (drop from (take to bytes)) ≡ take size (drop from bytes)
-slice_of from size {to} bytes le = cc (rest_of from to bytes, take-take size (to - from) (drop from bytes) (omega arith))
+pub slice_of : (from size : ℕ) {to : ℕ} (bytes : List ℕ) → from + size ≤ to → take size (drop from (take to bytes))
+    ≡ take size (drop from bytes)
+slice_of from size {to} bytes le = cc
+    (rest_of from to bytes, take-take size (to - from) (drop from bytes) (omega arith))
 
 -- one byte is appended
-pub put_byte : (room bytes : List ℕ) (end : ℕ) {to : ℕ} → end < length room → to < length bytes → take (end + 1) (slice_set room end (get_or bytes to 0)) ≡ take end room ++ take 1 (drop to bytes)
-put_byte room bytes end {to} in_room within = cc (take_more_set room end (get_or bytes to 0) in_room, drop_more bytes to 0 within)
+pub put_byte : (room bytes : List ℕ) (end : ℕ) {to : ℕ} → end < length room → to < length bytes
+    → take (end + 1) (slice_set room end (get_or bytes to 0)) ≡ take end room ++ take 1 (drop to bytes)
+put_byte room bytes end {to} in_room within = cc
+    (take_more_set room end (get_or bytes to 0) in_room, drop_more bytes to 0 within)
+
+-- the end of a line, and the byte after it
+pub rest_with_end : (from to : ℕ) (bytes : List ℕ) → from ≤ length (take to bytes)
+    → drop from (take to bytes) ++ take 1 (drop to bytes) ≡ take (to + 1 - from) (drop from bytes)
+rest_with_end from to bytes le =
+    cc (
+      rest_of from (to + 1) bytes,
+      take-add to 1 bytes,
+      drop-append-le from (take to bytes) (take 1 (drop to bytes)) le,
+    )

@@ -1,8 +1,11 @@
 -- The shuffles of `cut`. A row has the selected indices in order, so a shuffle moves the selected bytes of 16 bytes to
 -- the front; the counts are how many of them a piece of each length has. A line is cut piece by piece.
-use Rattle.ptflow.proofs.Common.{◌≡◌, ℕ, zero, suc, ◌+◌, ◌-◌, ◌<◌, ◌≤◌, Bool, true, false, cond, List, [], ◌∷◌, ◌++◌, map, length, take, drop, set, min, ⊎_elim, ◌&&◌, get_or, length-append}
-use Rattle.ptflow.proofs.Common.{append_assoc, refl, sym, ◌∙◌, ap, arith, w8, All, nat_le, cases_order, false≢true, range_with_len, list_all, nat_tests, take-add, pick_l, Each1, Each1-from_get_or}
-use Rattle.ptflow.proofs.Common.{swz_l, pick_l-range_with_len, take_more, take_at, drop_at, take-map, take-take, take-append-le, take_all, take_more_set, length-take-le, append-nil, All-set}
+use Rattle.ptflow.proofs.Common.{◌≡◌, ℕ, zero, suc, ◌+◌, ◌-◌, ◌<◌, ◌≤◌, Bool, true, false, cond, List, [], ◌∷◌, ◌++◌}
+use Rattle.ptflow.proofs.Common.{map, length, take, drop, set, ⊎_elim, ◌&&◌, get_or, length-append}
+use Rattle.ptflow.proofs.Common.{append_assoc, refl, sym, ◌∙◌, ap, arith, w8, All, nat_le, false≢true}
+use Rattle.ptflow.proofs.Common.{range_with_len, list_all, nat_tests, take-add, pick_l, Each1, Each1-from_get_or}
+use Rattle.ptflow.proofs.Common.{swz_l, pick_l-range_with_len, take_more, take_at, drop_at, take-map, take-take}
+use Rattle.ptflow.proofs.Common.{take-append-le, take_all, take_more_set, length-take-le, append-nil, All-set}
 use Rattle.ptflow.proofs.Common.{length-range_with_len, select_from, is_selected, Interval, cut_piece, cases_eq}
 use Rattle.std.proofs.Common.{get_or-set_same, get_or-set_other, length-set}
 use Rattle.ptflow.proofs.Vectors.Select.{above, select_none}
@@ -22,7 +25,8 @@ length-take-le' (suc n) [] = omega arith
 length-take-le' (suc n) (x ∷ xs) = omega (arith, length-take-le' n xs)
 
 module _ (selected : ℕ → Bool) where
-  pub select_append : {X : Type 0} (n : ℕ) (xs ys : List X) → select_from selected n (xs ++ ys) ≡ select_from selected n xs ++ select_from selected (n + length xs) ys
+  pub select_append : {X : Type 0} (n : ℕ) (xs ys : List X) → select_from selected n (xs ++ ys)
+      ≡ select_from selected n xs ++ select_from selected (n + length xs) ys
   select_append n [] ys = let same : n ≡ n + 0 = omega arith in cc
   select_append n (x ∷ xs) ys = grind (arith, select_append (n + 1) xs ys)
 
@@ -35,14 +39,16 @@ module _ (selected : ℕ → Bool) where
   few_selected n (x ∷ xs) = grind (arith, few_selected (n + 1) xs)
 
   range_parts : (a n m : ℕ) → range_with_len a (n + m) ≡ range_with_len a n ++ range_with_len (a + n) m
-  range_parts a zero m = let same : a ≡ a + 0 = omega arith in let none : 0 + m ≡ m = omega arith in ap (range_with_len a) none ∙ ap (λ k. range_with_len k m) same
+  range_parts a zero m = let same : a ≡ a + 0 = omega arith in let none : 0 + m
+      ≡ m = omega arith in ap (range_with_len a) none ∙ ap (λ k. range_with_len k m) same
   range_parts a (suc n) m =
       let next : suc n + m ≡ suc (n + m) = omega arith in
       let there : a + 1 + n ≡ a + suc n = omega arith in
       cc (next, range_parts (a + 1) n m)
 
   -- the selected indices of a line begin with those of a shorter one
-  picked_parts : (n m : ℕ) → selected_indices selected (n + m) ≡ selected_indices selected n ++ select_from selected (1 + n) (range_with_len n m)
+  picked_parts : (n m : ℕ) → selected_indices selected (n + m) ≡ selected_indices selected n
+      ++ select_from selected (1 + n) (range_with_len n m)
   picked_parts n m =
       let here : 0 + n ≡ n = omega arith in
       cc (range_parts 0 n m, select_append 1 (range_with_len 0 n) (range_with_len n m), length-range_with_len 0 n)
@@ -61,10 +67,12 @@ module _ (selected : ℕ → Bool) where
     pub indices : take count row ≡ selected_indices selected index
     pub counted : (k : ℕ) → k ≤ index → get_or counts k 0 ≡ length (selected_indices selected k)
 
-  one_index : (index : ℕ) → selected_indices selected (index + 1) ≡ selected_indices selected index ++ cond (selected (index + 1)) (index ∷ []) []
+  one_index : (index : ℕ) → selected_indices selected (index + 1) ≡ selected_indices selected index
+      ++ cond (selected (index + 1)) (index ∷ []) []
   one_index index = let next : 1 + index ≡ index + 1 = omega arith in cc (picked_parts index 1, next)
 
-  pub shuffle_next : {index count : ℕ} {row counts after : List ℕ} {one : ℕ} → index < 16 → PickBegun index count row counts → one ≡ bool_byte (selected (index + 1))
+  pub shuffle_next : {index count : ℕ} {row counts after : List ℕ} {one : ℕ} → index < 16
+      → PickBegun index count row counts → one ≡ bool_byte (selected (index + 1))
       → after ≡ set counts (index + 1) (count + one) → PickBegun (index + 1) (count + one) (set row count index) after
   shuffle_next {index} {count} {row} {counts} {after} {one} low begun told after_is = record {
     is = whole;
@@ -72,55 +80,86 @@ module _ (selected : ℕ → Bool) where
     lanes = All-set (λ p. p < 16) row count index (omega arith) begun.lanes;
     long = cc (length-set row count index);
     all_counts = cc (length-set counts (index + 1) (count + one));
-    indices = cc ((bit (selected (index + 1))).0, stored_more (selected (index + 1)) row count index (omega arith), one_index index);
+    indices = cc (
+      (bit (selected (index + 1))).0,
+      stored_more (selected (index + 1)) row count index (omega arith),
+      one_index index,
+    );
     counted = λ k upto. ⊎_elim
         (λ same. cc (get_or-set_same counts (index + 1) (count + one) 0 (omega arith), whole))
-        (λ other. cc (get_or-set_other counts (index + 1) k (count + one) 0 (λ e. other (omega (arith, e))), begun.counted k (omega (arith, other)))) (cases_eq k (index + 1));
+        (λ other. cc (
+          get_or-set_other counts (index + 1) k (count + one) 0 (λ e. other (omega (arith, e))),
+          begun.counted k (omega (arith, other)),
+        )) (cases_eq k (index + 1));
   }
     where
-      bit : (t : Bool) → (bool_byte t ≡ cond t 1 0) × (length (cond t (index ∷ []) []) ≡ bool_byte t) × (bool_byte t ≤ 1)
+      bit : (t : Bool) → (bool_byte t ≡ cond t 1 0) × (length (cond t (index ∷ []) []) ≡ bool_byte t) ×
+          (bool_byte t ≤ 1)
       bit true = (refl, refl, omega arith)
       bit false = (refl, refl, omega arith)
 
       whole : count + one ≡ length (selected_indices selected (index + 1))
-      whole = omega (arith, told, ap length (one_index index), length-append (selected_indices selected index) (cond (selected (index + 1)) (index ∷ []) []), (bit (selected (index + 1))).1)
+      whole = omega (
+        arith,
+        told,
+        ap length (one_index index),
+        length-append (selected_indices selected index)
+            (cond (selected (index + 1)) (index ∷ []) []),
+        (bit (selected (index + 1))).1,
+      )
 
-  pub shuffle_done : {count : ℕ} {row counts : List ℕ} → PickBegun 16 count row counts → IsPieceShuffle selected (record { row = row; counts = counts })
+  pub shuffle_done : {count : ℕ} {row counts : List ℕ} → PickBegun 16 count row counts
+      → IsPieceShuffle selected (record { row = row; counts = counts })
   shuffle_done begun = record { indices = cc; long = begun.long; lanes = begun.lanes; counts = begun.counted }
 
   -- no byte of a line after its first `start` bytes is selected
-  pub none_later : {X : Type 0} {max_len start count : ℕ} (xs : List X) → ((index : ℕ) → start < index → index ≤ max_len → selected index ≡ false)
-      → start ≤ count → count ≤ max_len → count ≤ length xs → select_from selected 1 (take start xs) ≡ select_from selected 1 (take count xs)
+  pub none_later : {X : Type 0} {max_len start count : ℕ} (xs : List X)
+      → ((index : ℕ) → start < index → index ≤ max_len → selected index ≡ false)
+      → start ≤ count → count ≤ max_len → count ≤ length xs → select_from selected 1 (take start xs)
+      ≡ select_from selected 1 (take count xs)
   none_later {start} {count} xs past later upto within =
       let whole : start + (count - start) ≡ count = omega arith in
       let others = take (count - start) (drop start xs) in
       let front : length (take start xs) ≡ start = length-take-le start xs (omega arith) in
       let long : length others ≤ count - start = length-take-le' (count - start) (drop start xs) in
       let none : select_from selected (1 + length (take start xs)) others ≡ [] =
-      select_none selected (1 + length (take start xs)) others (λ k low upper. past k (omega (arith, front)) (omega (arith, long, whole, front))) in
-      cc (append-nil (select_from selected 1 (take start xs)), select_append 1 (take start xs) others, take-add start (count - start) xs, whole)
+      select_none selected (1 + length (take start xs)) others
+      (λ k low upper. past k (omega (arith, front)) (omega (arith, long, whole, front))) in
+      cc (
+        append-nil (select_from selected 1 (take start xs)),
+        select_append 1 (take start xs) others,
+        take-add start
+            (count - start) xs,
+        whole,
+      )
 
   -- ---- the bytes of a line that the row moves to the front
 
   module _ {piece : PieceShuffle} (is : IsPieceShuffle selected piece) where
-    prefix_indices : {count : ℕ} → count ≤ 16 → take (length (selected_indices selected count)) piece.row ≡ selected_indices selected count
+    prefix_indices : {count : ℕ} → count ≤ 16 → take (length (selected_indices selected count)) piece.row
+        ≡ selected_indices selected count
     prefix_indices {count} short =
         let all : count + (16 - count) ≡ 16 = omega arith in
         let parts = ap (selected_indices selected) (sym all) ∙ picked_parts count (16 - count) in
         let later = select_from selected (1 + count) (range_with_len count (16 - count)) in
-        let few : length (selected_indices selected count) ≤ length (selected_indices selected 16) = omega (arith, ap length parts, length-append (selected_indices selected count) later) in
+        let few : length (selected_indices selected count) ≤ length (selected_indices selected 16) = omega
+        (arith, ap length parts, length-append (selected_indices selected count) later) in
         cc (
           take-take (length (selected_indices selected count)) (length (selected_indices selected 16)) piece.row few,
-          take-append-le (length (selected_indices selected count)) (selected_indices selected count) later (omega arith),
+          take-append-le (length (selected_indices selected count)) (selected_indices selected count) later
+              (omega arith),
           take_all (length (selected_indices selected count)) (selected_indices selected count) (omega arith),
         )
 
-    pub pick_line : {count : ℕ} (v : List ℕ) → count ≤ 16 → length v ≡ 16 → take (get_or piece.counts count 0) (swz_l w8 16 v 0 piece.row) ≡ select_from selected 1 (take count v)
+    pub pick_line : {count : ℕ} (v : List ℕ) → count ≤ 16 → length v ≡ 16
+        → take (get_or piece.counts count 0) (swz_l w8 16 v 0 piece.row) ≡ select_from selected 1 (take count v)
     pick_line {count} v short long =
         let indices = selected_indices selected count in
         let n = length indices in
         ap (λ k. take k (swz_l w8 16 v 0 piece.row)) (is.counts count short)
-        ∙ ap (take n) (shuffle_result v 0 piece.row (omega (arith, is.long)) (Each1-from_get_or (λ index. index < 16) piece.row 0 (λ i low. is.lanes i 0 low)))
+        ∙ ap (take n)
+        (shuffle_result v 0 piece.row (omega (arith, is.long))
+        (Each1-from_get_or (λ index. index < 16) piece.row 0 (λ i low. is.lanes i 0 low)))
         ∙ take-map (λ k. get_or v k 0) n piece.row ∙ ap (pick_l 0 v) (prefix_indices short)
         ∙ map_select (λ k. get_or v k 0) 1 (range_with_len 0 count)
         ∙ ap (select_from selected 1) (pick_l-range_with_len 0 v 0 count (omega (arith, short, long)))
@@ -132,28 +171,35 @@ module _ (selected : ℕ → Bool) where
     shuffle_lanes = Each1-from_get_or (λ index. index < 16) piece.row 0 (λ i low. is.lanes i 0 low)
 
 -- positions after a limit, if no interval includes them
-pub none_after : (rs : List Interval) {limit index : ℕ} → list_all (λ r. nat_le r.last limit) rs ≡ true → limit < index → is_selected rs index ≡ false
+pub none_after : (rs : List Interval) {limit index : ℕ} → list_all (λ r. nat_le r.last limit) rs ≡ true → limit < index
+    → is_selected rs index ≡ false
 none_after [] all later = refl
-none_after (r ∷ rs) {limit} {index} all later = by_test (nat_le r.last limit) refl all (λ more. none_after rs more later)
+none_after (r ∷ rs) {limit} {index} all later = by_test (nat_le r.last limit) refl all
+    (λ more. none_after rs more later)
   where
     by_test : (t : Bool) → nat_le r.last limit ≡ t → (t && list_all (λ x. nat_le x.last limit) rs) ≡ true
-        → (list_all (λ x. nat_le x.last limit) rs ≡ true → is_selected rs index ≡ false) → is_selected (r ∷ rs) index ≡ false
+        → (list_all (λ x. nat_le x.last limit) rs ≡ true → is_selected rs index ≡ false) → is_selected (r ∷ rs) index
+        ≡ false
     by_test true low more next = rw (above r _ (last_low r low later)) (next more)
     by_test false low more next = absurd (false≢true more)
 
 -- ---- a line, piece by piece
 
 -- positions that are counted from a later byte on
-select_later : (selected : ℕ → Bool) (start n : ℕ) (xs : List ℕ) → select_from (selected_after selected start) n xs ≡ select_from selected (start + n) xs
+select_later : (selected : ℕ → Bool) (start n : ℕ) (xs : List ℕ) → select_from (selected_after selected start) n xs
+    ≡ select_from selected (start + n) xs
 select_later selected start n [] = refl
 select_later selected start n (x ∷ xs) =
     let next : start + (n + 1) ≡ start + n + 1 = omega arith in
     cc (select_later selected start (n + 1) xs, next)
 
 -- the selected bytes of the next piece are stored after those of the bytes before
-pub piece_copied : (selected : ℕ → Bool) (start m at : ℕ) (bytes was into : List ℕ) {piece : PieceShuffle} {size : ℕ} → IsPieceShuffle (selected_after selected start) piece
-    → size ≡ get_or piece.counts m 0 → m ≤ 16 → start + 16 ≤ length bytes → at + 16 ≤ length into → take at into ≡ was ++ select_from selected 1 (take start bytes)
-    → take (at + size) (put_chunk at into (swz_l w8 16 (take 16 (drop start bytes)) 0 piece.row)) ≡ was ++ select_from selected 1 (take (start + m) bytes)
+pub piece_copied : (selected : ℕ → Bool) (start m at : ℕ) (bytes was into : List ℕ) {piece : PieceShuffle} {size : ℕ}
+    → IsPieceShuffle (selected_after selected start) piece
+    → size ≡ get_or piece.counts m 0 → m ≤ 16 → start + 16 ≤ length bytes → at + 16 ≤ length into → take at into ≡ was
+    ++ select_from selected 1 (take start bytes)
+    → take (at + size) (put_chunk at into (swz_l w8 16 (take 16 (drop start bytes)) 0 piece.row)) ≡ was
+    ++ select_from selected 1 (take (start + m) bytes)
 piece_copied selected start m at bytes was into {piece} {size} is counted short within room before =
     let v = take 16 (drop start bytes) in
     let long : length v ≡ 16 = length-take-le 16 (drop start bytes) (omega (arith, length-drop start bytes)) in
@@ -162,23 +208,34 @@ piece_copied selected start m at bytes was into {piece} {size} is counted short 
     let first : start + 1 ≡ 1 + length (take start bytes) = omega (arith, front) in
     cc (
       counted,
-      selected_stored at (get_or piece.counts m 0) into (swz_l w8 16 v 0 piece.row) (length-swz_l w8 16 v 0 piece.row ∙ is.long) (omega (arith, few)) room,
+      selected_stored at (get_or piece.counts m 0) into (swz_l w8 16 v 0 piece.row) (length-swz_l w8 16 v 0 piece.row
+          ∙ is.long) (omega (arith, few)) room,
       pick_line (selected_after selected start) is v short long,
       take-take m 16 (drop start bytes) short,
       select_later selected start 1 (take m (drop start bytes)),
       first,
       take-add start m bytes,
       select_append selected 1 (take start bytes) (take m (drop start bytes)),
-      append_assoc was (select_from selected 1 (take start bytes)) (select_from selected (1 + length (take start bytes)) (take m (drop start bytes))),
+      append_assoc was (select_from selected 1 (take start bytes))
+          (select_from selected (1 + length (take start bytes)) (take m (drop start bytes))),
     )
 
 -- the selected bytes of a complete line, and the terminator
-pub line_copied : (list : List Interval) {before count : ℕ} (end : ℕ) (bytes was into : List ℕ) → before ≡ 0 → count < length bytes → end < length into
-    → take end into ≡ was ++ select_from (is_selected list) 1 (take count bytes) → take (end + 1) (set into end (get_or bytes count 0)) ≡ was ++ cut_piece list before count (take (count + 1) bytes)
+pub line_copied : (list : List Interval) {before count : ℕ} (end : ℕ) (bytes was into : List ℕ) → before ≡ 0
+    → count < length bytes → end < length into
+    → take end into ≡ was ++ select_from (is_selected list) 1 (take count bytes)
+    → take (end + 1) (set into end (get_or bytes count 0)) ≡ was
+    ++ cut_piece list before count (take (count + 1) bytes)
 line_copied list {count} end bytes was into none within room put =
     let x = get_or bytes count 0 in
     let selected = is_selected list in
     let front = take count bytes in
     let long : length front ≡ count = length-take-le count bytes (omega arith) in
     let more : take (count + 1) bytes ≡ front ++ x ∷ [] = take_more bytes count 0 within in
-    cc (take_more_set into end x room, append_assoc was (select_from selected 1 front) (x ∷ []), take_at front (x ∷ []) count long, drop_at front (x ∷ []) count long)
+    cc (
+      take_more_set into end x room,
+      append_assoc was (select_from selected 1 front) (x ∷ []),
+      take_at front (x ∷ [])
+          count long,
+      drop_at front (x ∷ []) count long,
+    )

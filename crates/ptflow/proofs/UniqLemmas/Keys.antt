@@ -1,9 +1,8 @@
 -- The key of a line, in one pass. Skipping a field is skipping blanks and then other bytes; doing so n times leads to
 -- the byte after the n-th field end.
 use Rattle.ptflow.proofs.Common.{◌≡◌, ℕ, zero, suc, ◌+◌, ◌<◌, ◌≤◌, Bool, true, false, cond, min, ltb, List, [], ◌∷◌, None, Some, length, drop, get_or, refl, sym, ◌∙◌, arith, common_steps, slice_get}
-use Rattle.ptflow.proofs.Common.{Option, option_map_or, unwrap_or, drop-drop, nat_tests, IsFirstByte, Nowhere, Passes, is_byte, is_byte2, is_blank, ends_word, word_ends, after_fields, after_nonblanks}
+use Rattle.ptflow.proofs.Common.{option_map_or, drop-drop, nat_tests, IsFirstByte, Nowhere, Passes, is_byte, is_byte2, is_blank, ends_word, word_ends, after_fields, after_nonblanks}
 use Rattle.std.specs.Prelude.{◌==◌}
-use Rattle.memchr.specs.Find.{IsFirst}
 
 -- the rest of these bytes after n more field ends
 abbrev pub suffix_at : ℕ → List ℕ → List ℕ
@@ -101,6 +100,17 @@ after_found line at (none, found) = after_at line _ none.high (λ k lt. none.bef
 pub after_not_found : (line : List ℕ) → IsFirstByte (is_byte2 32 9) line None → after_nonblanks line ≡ []
 after_not_found line none = after_none line (λ k lt. none k (omega arith) lt)
 
+-- byte by byte
+pub blank_prefix : (line : List ℕ) (at : ℕ) → at < length line → is_blank (get_or line at 0) ≡ true → after_nonblanks (drop at line) ≡ drop at line
+blank_prefix [] at high blank = absurd (omega arith)
+blank_prefix (b ∷ bytes) zero high blank = blank_here b bytes blank
+blank_prefix (b ∷ bytes) (suc at) high blank = blank_prefix bytes at (omega arith) blank
+
+pub other_prefix : (line : List ℕ) (at : ℕ) → at < length line → is_blank (get_or line at 0) ≡ false → after_nonblanks (drop at line) ≡ after_nonblanks (drop (suc at) line)
+other_prefix [] at high other = absurd (omega arith)
+other_prefix (b ∷ bytes) zero high other = cc
+other_prefix (b ∷ bytes) (suc at) high other = other_prefix bytes at (omega arith) other
+
 -- the bytes before an index at which there are no blanks are skipped
 pub blanks_later : (line : List ℕ) (at : ℕ) → at ≤ length line → ((k : ℕ) → k < at → is_blank (get_or line k 0) ≡ true → ⊥) → after_nonblanks line ≡ after_nonblanks (drop at line)
 blanks_later line zero high none = refl
@@ -116,47 +126,17 @@ is_space b e = cc
 is_tab : (b : ℕ) → (b == 9) ≡ true → is_blank b ≡ true
 is_tab b e = grind arith
 
--- by a search among the first n bytes
-none_before : (P : ℕ → Type 0) (n : ℕ) (found : Option ℕ) → IsFirst P 0 n found → Nowhere P 0 (unwrap_or found n)
-none_before P n None none = none
-none_before P n (Some at) (first, is) = first.before
-
-at_most : (P : ℕ → Type 0) (n : ℕ) (found : Option ℕ) → IsFirst P 0 n found → unwrap_or found n ≤ n
-at_most P n None none = omega arith
-at_most P n (Some at) (first, is) = omega (arith, first.high)
-
-found_at : (P : ℕ → Type 0) (n : ℕ) (found : Option ℕ) → IsFirst P 0 n found → unwrap_or found n < n
-    → P (unwrap_or found n)
-found_at P n None none near = absurd (omega arith)
-found_at P n (Some at) (first, is) near = is
-
 -- by a search for a space and one for a tab
-module _ (line : List ℕ) (n : ℕ) (space tab : Option ℕ) (first_space : IsFirst (Passes (is_byte 32) line) 0 n space)
-    (first_tab : IsFirst (Passes (is_byte 9) line) 0 n tab) where
-  abbrev a : ℕ
-  a = unwrap_or space n
-
-  abbrev b : ℕ
-  b = unwrap_or tab n
-
+module _ (line : List ℕ) (a b : ℕ) (no_space : Nowhere (Passes (is_byte 32) line) 0 a) (no_tab : Nowhere (Passes (is_byte 9) line) 0 b) where
   none_here : (k : ℕ) → k < min a b → is_blank (get_or line k 0) ≡ true → ⊥
-  none_here k lt =
-      neither (get_or line k 0) (none_before _ n space first_space k (omega arith) (omega arith))
-      (none_before _ n tab first_tab k (omega arith) (omega arith))
+  none_here k lt = neither (get_or line k 0) (no_space k (omega arith) (omega arith)) (no_tab k (omega arith) (omega arith))
 
   pub both_later : min a b ≤ length line → after_nonblanks line ≡ after_nonblanks (drop (min a b) line)
   both_later high = blanks_later line _ high none_here
 
-  pub both_near : n ≤ length line → (min a b ≡ n → ⊥) → after_nonblanks line ≡ drop (min a b) line
-  both_near high some = after_at line (min a b) (omega (arith, near)) none_here (by (ltb b a) refl)
+  pub both_near : {n : ℕ} → (a < n → Passes (is_byte 32) line a) → (b < n → Passes (is_byte 9) line b) → n ≤ length line → min a b < n → after_nonblanks line ≡ drop (min a b) line
+  both_near space tab high near = after_at line (min a b) (omega arith) none_here (by (ltb b a) refl)
     where
-      near : min a b < n
-      near = omega (arith, some, at_most _ n space first_space)
-
       by : (u : Bool) → ltb b a ≡ u → is_blank (get_or line (min a b) 0) ≡ true
-      by true e =
-          let is : min a b ≡ b = grind (arith, nat_tests) in
-          is_tab (get_or line (min a b) 0) (cc (found_at _ n tab first_tab (omega (arith, near))))
-      by false e =
-          let is : min a b ≡ a = grind (arith, nat_tests) in
-          is_space (get_or line (min a b) 0) (cc (found_at _ n space first_space (omega (arith, near))))
+      by true e = let is : min a b ≡ b = grind (arith, nat_tests) in is_tab (get_or line (min a b) 0) (cc (tab (omega arith)))
+      by false e = let is : min a b ≡ a = grind (arith, nat_tests) in is_space (get_or line (min a b) 0) (cc (space (omega arith)))

@@ -2,7 +2,7 @@
 -- after the n-th delimiter. Then the terminators in 64 bytes, which are processed in order by clearing the lowest bit.
 use Rattle.ptflow.proofs.Common.{◌≡◌, ⊎_elim, ℕ, zero, suc, ◌+◌, ◌-◌, ◌*◌, ◌/◌, ◌%◌, ◌^◌, ◌<◌, ◌≤◌, min, Bool, true, false, cond, not, Option, Some, List, [], ◌∷◌, ◌++◌, length, map, take, drop}
 use Rattle.ptflow.proofs.Common.{get_or, refl, sym, ◌∙◌, ap, subst, arith, get_or-take, take-append-drop, length-drop, count_ones, count_by, prefix_len, mask_l, chunk, take-add, eqb-true, take-take}
-use Rattle.ptflow.proofs.Common.{take_all, drop_more, take_at, drop_at, length-take-le, length-slice_split, get_or-le-sum_by, sum_by-cons, sum_by-append, sum_by-take-le, count_by-le-length}
+use Rattle.ptflow.proofs.Common.{drop_more, take_at, drop_at, length-take-le, length-slice_split, get_or-le-sum_by, sum_by-cons, sum_by-append, sum_by-take-le, count_by-le-length}
 use Rattle.ptflow.proofs.Common.{trailing_mask_l, ones-mask_l, get_or-chunk, length-chunk, IsFirstByte, NoneBefore, Passes, is_byte, IsLine, line_before_terminator, byte_ne, IsNth, HasTerminators, fields}
 use Rattle.ptflow.proofs.Common.{IsFieldStart, put_chunk, take_more_put_chunk, length-put_chunk, length-set, unwrap_or, delim_at, with_cycle, slice_set, count_by_more_yes, cases_lt, length-map}
 use Rattle.std.proofs.lemmas.List.{get_or-drop}

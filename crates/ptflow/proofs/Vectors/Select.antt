@@ -1,7 +1,10 @@
 -- The items of a list that intervals select. Disjoint ascending intervals select one after another, and each selects a
 -- slice; so the selected items are these slices in order.
-use Rattle.ptflow.proofs.Common.{◌≡◌, ⊎_elim, ℕ, zero, suc, ◌+◌, ◌-◌, ◌<◌, ◌≤◌, Bool, true, false, cond, ◌&&◌, ◌||◌, List, [], ◌∷◌, ◌++◌, length, take, drop, get_or, min, append_assoc, length-drop}
-use Rattle.ptflow.proofs.Common.{refl, sym, ◌∙◌, ap, arith, nat_le, false≢true, nat_tests, take_all, drop_all, take-take, drop_more, length-take-le, drop-append-le, is_selected, AreSeparated, Interval}
+use Rattle.ptflow.proofs.Common.{◌≡◌, ⊎_elim, ℕ, zero, suc, ◌+◌, ◌-◌, ◌<◌, ◌≤◌, Bool, true, false, cond, ◌&&◌, ◌||◌}
+use Rattle.ptflow.proofs.Common.{List, [], ◌∷◌, ◌++◌, length, take, drop, get_or, min, append_assoc, length-drop}
+use Rattle.ptflow.proofs.Common.{refl, sym, ◌∙◌, ap, arith, nat_le, false≢true, nat_tests, take_all, drop_all}
+use Rattle.ptflow.proofs.Common.{take-take, drop_more, length-take-le, drop-append-le, is_selected, AreSeparated}
+use Rattle.ptflow.proofs.Common.{Interval}
 use Rattle.ptflow.proofs.Common.{select_from, cases_lt}
 use Rattle.std.proofs.lemmas.List.{take-append-drop}
 use Rattle.ptflow.proofs.CutLemmas.FieldOffsets.{rest_of}
@@ -30,16 +33,19 @@ not_selected (r ∷ rs) low n (from, order, apart) out =
     rw (below r n (omega (arith, from))) (not_selected rs (r.last + 1) n apart (omega (arith, from, order)))
 
 -- no item is selected
-pub select_none : {X : Type 0} (test : ℕ → Bool) (n : ℕ) (xs : List X) → ((k : ℕ) → n ≤ k → k < n + length xs → test k ≡ false) → select_from test n xs ≡ []
+pub select_none : {X : Type 0} (test : ℕ → Bool) (n : ℕ) (xs : List X)
+    → ((k : ℕ) → n ≤ k → k < n + length xs → test k ≡ false) → select_from test n xs ≡ []
 select_none test n [] out = refl
-select_none test n (x ∷ xs) out = rw (out n (omega arith) (omega arith)) (select_none test (n + 1) xs (λ k low high. out k (omega arith) (omega arith)))
+select_none test n (x ∷ xs) out = rw (out n (omega arith) (omega arith))
+    (select_none test (n + 1) xs (λ k low high. out k (omega arith) (omega arith)))
 
 pub select_past : {X : Type 0} (r : Interval) (n : ℕ) (xs : List X) → r.last < n → select_from (is_within r) n xs ≡ []
 select_past r n xs past = select_none (is_within r) n xs (λ k low high. above r k (omega arith))
 
 -- one item more: if the first test selects it, the other does not, and if the other does, the first selects nothing
 -- later
-select_step : {X : Type 0} (x : X) {all : List X} (first others : List X) (a b : Bool) → (a ≡ true → b ≡ false) → (b ≡ true → first ≡ []) → all ≡ first ++ others
+select_step : {X : Type 0} (x : X) {all : List X} (first others : List X) (a b : Bool) → (a ≡ true → b ≡ false)
+    → (b ≡ true → first ≡ []) → all ≡ first ++ others
     → cond (a || b) (x ∷ all) all ≡ cond a (x ∷ first) first ++ cond b (x ∷ others) others
 select_step x first others true true apart none more = absurd (false≢true (sym (apart refl)))
 select_step x first others true false apart none more = ap (◌∷◌ x) more
@@ -48,11 +54,13 @@ select_step x first others false true apart none more = ap (◌∷◌ x) (more �
 select_step x first others false false apart none more = more
 
 -- the items of the first interval, and then those of the others
-pub select_first : {X : Type 0} (r : Interval) (rs : List Interval) (n : ℕ) (xs : List X) → AreSeparated (r.last + 1) rs → select_from (is_selected (r ∷ rs)) n xs
+pub select_first : {X : Type 0} (r : Interval) (rs : List Interval) (n : ℕ) (xs : List X) → AreSeparated (r.last + 1) rs
+    → select_from (is_selected (r ∷ rs)) n xs
     ≡ select_from (is_within r) n xs ++ select_from (is_selected rs) n xs
 select_first r rs n [] apart = refl
 select_first r rs n (x ∷ xs) apart = select_step x (select_from (is_within r) (n + 1) xs)
-    (select_from (is_selected rs) (n + 1) xs) (is_within r n) (is_selected rs n) here there (select_first r rs (n + 1) xs apart)
+    (select_from (is_selected rs) (n + 1) xs) (is_within r n) (is_selected rs n) here there
+    (select_first r rs (n + 1) xs apart)
   where
     here : is_within r n ≡ true → is_selected rs n ≡ false
     here inside = not_selected rs (r.last + 1) n apart (omega (arith, last_of r n inside))
@@ -60,21 +68,27 @@ select_first r rs n (x ∷ xs) apart = select_step x (select_from (is_within r) 
     there : is_selected rs n ≡ true → select_from (is_within r) (n + 1) xs ≡ []
     there other = ⊎_elim
         (λ high. select_past r (n + 1) xs (omega (arith, high)))
-        (λ low. absurd (false≢true (cc (not_selected rs (r.last + 1) n apart (omega (arith, low)))))) (cases_lt r.last n)
+        (λ low. absurd (false≢true (cc (not_selected rs (r.last + 1) n apart (omega (arith, low))))))
+        (cases_lt r.last n)
 
 -- the first items are not selected
-pub select_skip : {X : Type 0} (test : ℕ → Bool) (n count : ℕ) (xs : List X) → ((k : ℕ) → n ≤ k → k < n + count → test k ≡ false) → select_from test n xs ≡ select_from test (n + count) (drop count xs)
+pub select_skip : {X : Type 0} (test : ℕ → Bool) (n count : ℕ) (xs : List X)
+    → ((k : ℕ) → n ≤ k → k < n + count → test k ≡ false) → select_from test n xs
+    ≡ select_from test (n + count) (drop count xs)
 select_skip test n zero xs out = let same : n + 0 ≡ n = omega arith in rw same refl
 select_skip test n (suc count) [] out = refl
 select_skip test n (suc count) (x ∷ xs) out =
     let same : n + suc count ≡ (n + 1) + count = omega arith in
-    rw (out n (omega arith) (omega arith), same) (select_skip test (n + 1) count xs (λ k low high. out k (omega arith) (omega arith)))
+    rw (out n (omega arith) (omega arith), same)
+    (select_skip test (n + 1) count xs (λ k low high. out k (omega arith) (omega arith)))
 
 -- the items of one interval are a slice, from index i to index j
-pub select_slice : {X : Type 0} (r : Interval) (n : ℕ) (xs : List X) (i j : ℕ) → i ≡ r.first - n → j ≡ r.last + 1 - n → select_from (is_within r) n xs ≡ take (j - i) (drop i xs)
+pub select_slice : {X : Type 0} (r : Interval) (n : ℕ) (xs : List X) (i j : ℕ) → i ≡ r.first - n → j ≡ r.last + 1 - n
+    → select_from (is_within r) n xs ≡ take (j - i) (drop i xs)
 select_slice r n [] zero j is js = sym (take-nil (j - 0))
 select_slice r n [] (suc i) j is js = sym (take-nil (j - suc i))
-select_slice r n (x ∷ xs) i zero is js = select_past r n (x ∷ xs) (omega arith) ∙ (let none : 0 - i ≡ 0 = omega arith in rw none refl)
+select_slice r n (x ∷ xs) i zero is js = select_past r n (x ∷ xs) (omega arith)
+    ∙ (let none : 0 - i ≡ 0 = omega arith in rw none refl)
 select_slice r n (x ∷ xs) zero (suc j) is js =
     let whole : suc j - 0 ≡ suc j = omega arith in
     let rest : j - 0 ≡ j = omega arith in
@@ -88,16 +102,19 @@ select_slice r n (x ∷ xs) (suc i) (suc j) is js =
 -- rest of the piece; then comes the tail. The copied bytes are no longer than the part of the piece that the intervals
 -- so far cover.
 pub record CopyInvariant (all : List Interval) (i before : ℕ) (piece tail was is : List ℕ) (start at : ℕ) : Type 0 where
-  pub front : is ++ (select_from (is_selected (drop i all)) (before + 1) piece ++ tail) ≡ was ++ (select_from (is_selected all) (before + 1) piece ++ tail)
+  pub front : is ++ (select_from (is_selected (drop i all)) (before + 1) piece ++ tail) ≡ was
+      ++ (select_from (is_selected all) (before + 1) piece ++ tail)
   pub low : ℕ
   pub apart : AreSeparated low (drop i all)
   pub near : at ≤ start + (low - (before + 1))
   pub within : at ≤ start + length piece
 
-pub copy_starts : {all : List Interval} {before : ℕ} {piece tail was : List ℕ} {start : ℕ} → AreSeparated 0 all → CopyInvariant all 0 before piece tail was was start start
+pub copy_starts : {all : List Interval} {before : ℕ} {piece tail was : List ℕ} {start : ℕ} → AreSeparated 0 all
+    → CopyInvariant all 0 before piece tail was was start start
 copy_starts apart = record { front = refl; low = 0; apart = apart; near = omega arith; within = omega arith }
 
-pub copy_order : {all : List Interval} {i before : ℕ} {piece tail was is : List ℕ} {start at : ℕ} → CopyInvariant all i before piece tail was is start at → i < length all
+pub copy_order : {all : List Interval} {i before : ℕ} {piece tail was is : List ℕ} {start at : ℕ}
+    → CopyInvariant all i before piece tail was is start at → i < length all
     → (get_or all i (record { first = 0; last = 0 })).first ≤ (get_or all i (record { first = 0; last = 0 })).last
 copy_order {all} {i} k within =
     let (_, order, _) = rw (drop_more all i (record { first = 0; last = 0 }) within) at k.apart in order
@@ -118,11 +135,15 @@ module _ {all : List Interval} {before : ℕ} {piece tail was : List ℕ} {start
       apart : AreSeparated k.low (r ∷ rs)
       apart = rw (drop_more all i (record { first = 0; last = 0 }) within) at k.apart
 
-      next : (is ++ select_from (is_within r) (before + 1) piece) ++ (select_from (is_selected rs) (before + 1) piece ++ tail) ≡ was ++ (select_from (is_selected all) (before + 1) piece ++ tail)
+      next : (is ++ select_from (is_within r) (before + 1) piece)
+          ++ (select_from (is_selected rs) (before + 1) piece ++ tail) ≡ was
+          ++ (select_from (is_selected all) (before + 1) piece ++ tail)
       next =
           cc (
-            append_assoc is (select_from (is_within r) (before + 1) piece) (select_from (is_selected rs) (before + 1) piece ++ tail),
-            append_assoc (select_from (is_within r) (before + 1) piece) (select_from (is_selected rs) (before + 1) piece) tail,
+            append_assoc is (select_from (is_within r) (before + 1) piece)
+                (select_from (is_selected rs) (before + 1) piece ++ tail),
+            append_assoc (select_from (is_within r) (before + 1) piece)
+                (select_from (is_selected rs) (before + 1) piece) tail,
             select_first r rs (before + 1) piece apart.2,
             drop_more all i (record { first = 0; last = 0 }) within,
           )
@@ -132,72 +153,110 @@ module _ {all : List Interval} {before : ℕ} {piece tail was : List ℕ} {start
       copy_room = let (from, order, _) = apart in omega (arith, from, order)
 
       -- the bytes of one interval were copied
-      pub copy_next : {is' : List ℕ} {at' : ℕ} → is' ≡ is ++ select_from (is_within r) (before + 1) piece → at' ≡ at + ((r.last - before) - (r.first - (before + 1)))
+      pub copy_next : {is' : List ℕ} {at' : ℕ} → is' ≡ is ++ select_from (is_within r) (before + 1) piece → at'
+          ≡ at + ((r.last - before) - (r.first - (before + 1)))
           → r.last < before + 1 + length piece → CopyInvariant all (i + 1) before piece tail was is' start at'
-      copy_next is_is at_is short = record { front = cc (next); low = r.last + 1; apart = apart.2; near = omega (arith, copy_room); within = omega (arith, copy_room) }
+      copy_next is_is at_is short = record {
+        front = cc (next);
+        low = r.last + 1;
+        apart = apart.2;
+        near = omega (arith, copy_room);
+        within = omega
+            (arith, copy_room);
+      }
 
-      pub copy_ends : before + length piece ≤ r.last → is ++ (select_from (is_within r) (before + 1) piece ++ tail) ≡ was ++ (select_from (is_selected all) (before + 1) piece ++ tail)
+      pub copy_ends : before + length piece ≤ r.last → is ++ (select_from (is_within r) (before + 1) piece ++ tail)
+          ≡ was ++ (select_from (is_selected all) (before + 1) piece ++ tail)
       copy_ends reaches =
           cc (
-            select_none (is_selected rs) (before + 1) piece (λ m low high. not_selected rs (r.last + 1) m apart.2 (omega arith)),
-            append_assoc is (select_from (is_within r) (before + 1) piece) (select_from (is_selected rs) (before + 1) piece ++ tail),
+            select_none (is_selected rs) (before + 1) piece
+                (λ m low high. not_selected rs (r.last + 1) m apart.2 (omega arith)),
+            append_assoc is (select_from (is_within r) (before + 1) piece)
+                (select_from (is_selected rs) (before + 1) piece ++ tail),
             next,
           )
 
 -- a slice of the bytes that is in the piece at their start
 pub slice_is : (r : Interval) (before count : ℕ) (bytes : List ℕ) → count ≤ length bytes → r.last < before + count
-    → take ((r.last - before) - (r.first - (before + 1))) (drop (r.first - (before + 1)) bytes) ≡ select_from (is_within r) (before + 1) (take count bytes)
+    → take ((r.last - before) - (r.first - (before + 1))) (drop (r.first - (before + 1)) bytes)
+    ≡ select_from (is_within r) (before + 1) (take count bytes)
 slice_is r before count bytes within short =
     let i = r.first - (before + 1) in
     let j = r.last - before in
     let j_is : j ≡ r.last + 1 - (before + 1) = omega arith in
-    cc (select_slice r (before + 1) (take count bytes) i j refl j_is, rest_of i count bytes, take-take (j - i) (count - i) (drop i bytes) (omega arith))
+    cc (
+      select_slice r (before + 1) (take count bytes) i j refl j_is,
+      rest_of i count bytes,
+      take-take (j - i)
+          (count - i) (drop i bytes) (omega arith),
+    )
 
 drop_min : (i : ℕ) (xs : List ℕ) → drop (min i (length xs)) xs ≡ drop i xs
 drop_min zero xs = let least : min 0 (length xs) ≡ 0 = omega arith in cc
 drop_min (suc i) [] = let least : min (suc i) 0 ≡ 0 = omega arith in cc
-drop_min (suc i) (x ∷ xs) = let least : min (suc i) (suc (length xs)) ≡ suc (min i (length xs)) = omega arith in cc (drop_min i xs)
+drop_min (suc i) (x ∷ xs) = let least : min (suc i) (suc (length xs))
+    ≡ suc (min i (length xs)) = omega arith in cc (drop_min i xs)
 
 -- the rest of the bytes, if the interval reaches the end of the piece at their start
 pub rest_is : (r : Interval) (before count : ℕ) (bytes : List ℕ) → count ≤ length bytes → before + count ≤ r.last
-    → drop (min (r.first - (before + 1)) count) bytes ≡ select_from (is_within r) (before + 1) (take count bytes) ++ drop count bytes
+    → drop (min (r.first - (before + 1)) count) bytes ≡ select_from (is_within r) (before + 1) (take count bytes)
+    ++ drop count bytes
 rest_is r before count bytes within reaches =
     let i = r.first - (before + 1) in
     let long : length (take count bytes) ≡ count = length-take-le count bytes within in
     let piece : select_from (is_within r) (before + 1) (take count bytes) ≡ drop i (take count bytes) =
     select_slice r (before + 1) (take count bytes) i (r.last + 1 - (before + 1)) refl refl
-    ∙ take_all (r.last + 1 - (before + 1) - i) (drop i (take count bytes)) (omega (arith, long, length-drop i (take count bytes))) in
-    cc (take-append-drop count bytes, drop-append-le (min i count) (take count bytes) (drop count bytes) (omega (arith, long)), piece, drop_min i (take count bytes))
+    ∙ take_all (r.last + 1 - (before + 1) - i) (drop i (take count bytes))
+    (omega (arith, long, length-drop i (take count bytes))) in
+    cc (
+      take-append-drop count bytes,
+      drop-append-le (min i count) (take count bytes) (drop count bytes)
+          (omega (arith, long)),
+      piece,
+      drop_min i (take count bytes),
+    )
 
 -- ---- a copy of selected bytes out of the first `end`
 
-module _ {all : List Interval} {before count end : ℕ} (bytes : List ℕ) {was : List ℕ} {start : ℕ} (in_piece : count ≤ end) (in_bytes : end ≤ length bytes)
-    {i : ℕ} {is : List ℕ} {at : ℕ} (k : CopyInvariant all i before (take count (take end bytes)) (drop count (take end bytes)) was is start at) where
-  abbrev piece : List ℕ
-  piece = take count (take end bytes)
+module _ {all : List Interval} {before count end : ℕ} (bytes : List ℕ) {was : List ℕ} {start : ℕ}
+    (in_piece : count ≤ end) (in_bytes : end ≤ length bytes)
+    {i : ℕ} {is : List ℕ} {at : ℕ}
+    (k : CopyInvariant all i before (take count (take end bytes)) (drop count (take end bytes)) was is start at)
+  where
+    abbrev piece : List ℕ
+    piece = take count (take end bytes)
 
-  abbrev tail : List ℕ
-  tail = drop count (take end bytes)
+    abbrev tail : List ℕ
+    tail = drop count (take end bytes)
 
-  long : length (take end bytes) ≡ end
-  long = length-take-le end bytes in_bytes
+    long : length (take end bytes) ≡ end
+    long = length-take-le end bytes in_bytes
 
-  piece_long : length piece ≡ count
-  piece_long = length-take-le count (take end bytes) (omega (arith, long, in_piece))
+    piece_long : length piece ≡ count
+    piece_long = length-take-le count (take end bytes) (omega (arith, long, in_piece))
 
-  pub copied_done : {is' : List ℕ} → length all ≤ i → is' ≡ is ++ take (end - count) (drop count bytes) → is' ≡ was ++ (select_from (is_selected all) (before + 1) piece ++ tail)
-  copied_done past copied = cc (rest_of count end bytes, copy_done k past)
+    pub copied_done : {is' : List ℕ} → length all ≤ i → is' ≡ is ++ take (end - count) (drop count bytes) → is' ≡ was
+        ++ (select_from (is_selected all) (before + 1) piece ++ tail)
+    copied_done past copied = cc (rest_of count end bytes, copy_done k past)
 
-  module _ (within : i < length all) (is' : List ℕ) where
-    abbrev at_i : Interval
-    at_i = get_or all i (record { first = 0; last = 0 })
+    module _ (within : i < length all) (is' : List ℕ) where
+      abbrev at_i : Interval
+      at_i = get_or all i (record { first = 0; last = 0 })
 
-    pub copied_ends : {from : ℕ} → from ≡ min (at_i.first - (before + 1)) count → before + count ≤ at_i.last → is' ≡ is ++ take (end - from) (drop from bytes)
-        → is' ≡ was ++ (select_from (is_selected all) (before + 1) piece ++ tail)
-    copied_ends {from} from_is reaches copied =
-        cc (rest_of from end bytes, rest_is at_i before count (take end bytes) (omega (arith, long, in_piece)) reaches, copy_ends k within (omega (arith, piece_long)))
+      pub copied_ends : {from : ℕ} → from ≡ min (at_i.first - (before + 1)) count → before + count ≤ at_i.last → is' ≡ is
+          ++ take (end - from) (drop from bytes)
+          → is' ≡ was ++ (select_from (is_selected all) (before + 1) piece ++ tail)
+      copied_ends {from} from_is reaches copied =
+          cc (
+            rest_of from end bytes,
+            rest_is at_i before count (take end bytes) (omega (arith, long, in_piece)) reaches,
+            copy_ends k within (omega (arith, piece_long)),
+          )
 
-    pub copied_more : {from to : ℕ} → from ≡ at_i.first - (before + 1) → to ≡ at_i.last - before → at_i.last < before + count → is' ≡ is ++ take (to - from) (drop from bytes)
-        → CopyInvariant all (i + 1) before piece tail was is' start (at + (to - from))
-    copied_more {from} {to} from_is to_is short copied =
-        copy_next k within (cc (slice_is at_i before count bytes (omega (arith, in_piece)) short, take-take count end bytes in_piece)) (omega arith) (omega (arith, piece_long, short))
+      pub copied_more : {from to : ℕ} → from ≡ at_i.first - (before + 1) → to ≡ at_i.last - before
+          → at_i.last < before + count → is' ≡ is ++ take (to - from) (drop from bytes)
+          → CopyInvariant all (i + 1) before piece tail was is' start (at + (to - from))
+      copied_more {from} {to} from_is to_is short copied =
+          copy_next k within
+          (cc (slice_is at_i before count bytes (omega (arith, in_piece)) short, take-take count end bytes in_piece))
+          (omega arith) (omega (arith, piece_long, short))

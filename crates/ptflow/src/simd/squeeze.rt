@@ -1,6 +1,7 @@
 //! Squeezes repeats of the bytes of a set: of a run of one such byte only the first is kept. `tr -s` uses it.
 
-ghost use Rattle.std.specs.Prelude.{◌≡◌, ◌<◌, ◌≤◌, ◌+◌, ◌-◌, ◌++◌, ◌==◌, ◌&&◌, not, false, length, take, drop, slice_index, slice_index_or};
+ghost use Rattle.std.specs.Prelude.{◌≡◌, ◌<◌, ◌≤◌, ◌+◌, ◌-◌, ◌++◌, ◌==◌, ◌&&◌, not, false, length, take, drop};
+ghost use Rattle.std.specs.Prelude.{slice_index, slice_index_or};
 ghost use Rattle.std.specs.Simd.Lanes.{zip2};
 ghost use Rattle.ptflow.specs.TrOutput.{squeeze_after};
 ghost use Rattle.ptflow.specs.Private.Vectors.ByteSets.{set_has};

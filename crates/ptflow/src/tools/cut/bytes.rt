@@ -5,7 +5,8 @@ ghost use Rattle.ptlangs.specs.CutLists.{AreSeparated, is_selected};
 ghost use Rattle.ptlangs.specs.Jobs.{cut_job};
 ghost use Rattle.ptflow.specs.Cuts.{cut_tool};
 ghost use Rattle.ptflow.specs.Passes.{StorelessPost};
-ghost use Rattle.ptflow.specs.Private.Cut.CutFrom.{cut_list_from, cut_piece, IsCutPart, ExtendsCut, HasTerminators, IsCursorAt, CutChunkPost};
+ghost use Rattle.ptflow.specs.Private.Cut.CutFrom.{cut_list_from, cut_piece, IsCutPart, ExtendsCut};
+ghost use Rattle.ptflow.specs.Private.Cut.CutFrom.{HasTerminators, IsCursorAt, CutChunkPost};
 ghost use Rattle.ptflow.specs.Private.Passes.BlockLoop.{HasRoom, RunBlocksPre};
 ghost use Rattle.ptflow.specs.Private.Cut.ShortLines.{AreLineShuffles, AreSeparated-prop};
 ghost use Rattle.ptflow.specs.Cuts.{select_from};
@@ -49,7 +50,8 @@ fn copy_selected(by: &Selection, part: LinePart, end: usize, into: &mut OutBuf, 
     requires within { (part.count ≤ end) × (end ≤ length part.bytes.now) }
     requires room { HasRoom part.line_offset at end }
     ensures copied { take result into.new
-        ≡ take at into.old ++ cut_piece by.now.selected.now part.entry.line_offset part.entry.count (take end part.entry.bytes.now) }
+        ≡ take at into.old
+        ++ cut_piece by.now.selected.now part.entry.line_offset part.entry.count (take end part.entry.bytes.now) }
     ensures near { result ≤ at + end }
 {
     let last = part.line_offset + part.count as u64;
@@ -69,8 +71,8 @@ fn copy_selected(by: &Selection, part: LinePart, end: usize, into: &mut OutBuf, 
     at + (end - part.count)
 }
 
-// Copies the selected bytes of piece `index` of a line by one shuffle. The piece is the first `count` of 16 bytes. Returns
-// the index after the copied bytes.
+// Copies the selected bytes of piece `index` of a line by one shuffle. The piece is the first `count` of 16 bytes.
+// Returns the index after the copied bytes.
 #[inline(always)]
 fn copy_piece(
     by: &Selection,
@@ -128,7 +130,8 @@ fn copy_line(by: &Selection, part: LinePart, into: &mut OutBuf, at: usize) -> us
     requires room { HasRoom part.line_offset at (part.count + 1) }
     ensures copied { take result into.new
         ≡ take at into.old
-        ++ cut_piece by.now.selected.now part.entry.line_offset part.entry.count (take (part.entry.count + 1) part.entry.bytes.now) }
+        ++ cut_piece by.now.selected.now part.entry.line_offset part.entry.count
+        (take (part.entry.count + 1) part.entry.bytes.now) }
     ensures near { result ≤ at + part.entry.count + 1 }
 {
     let is_short = part.count <= 16;
@@ -237,7 +240,8 @@ fn cut_tail(by: &Selection, block: &[u8], cursor: LineCursor, into: &mut OutBuf)
 #[inline(never)]
 fn cut_block(by: &Selection, line_offset: u64, block: &[u8], into: &mut OutBuf) -> (usize, u64)
     requires { HasRoom line_offset 0 (length block.now) }
-    ensures cut { IsCutPart by.now.terminator by.now.selected.now line_offset block.now result.1 [] (take result.0 into.new) }
+    ensures cut { IsCutPart by.now.terminator by.now.selected.now line_offset block.now result.1 []
+        (take result.0 into.new) }
     ensures near { result.0 ≤ length block.now }
     ensures bound { result.1 ≤ line_offset + length block.now }
 {

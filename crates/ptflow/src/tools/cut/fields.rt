@@ -1,6 +1,7 @@
 //! `cut -f`: selects fields of each line, line by line. `cut` calls it.
 
-ghost use Rattle.std.specs.Prelude.{◌≡◌, ◌+◌, ◌-◌, ◌<◌, ◌≤◌, ◌++◌, ◌⊎◌, length, take, drop, slice_index, true, false, [], ◌∷◌, Some, IfSome, OnOk, OnErr, MatchOption};
+ghost use Rattle.std.specs.Prelude.{◌≡◌, ◌+◌, ◌-◌, ◌<◌, ◌≤◌, ◌++◌, ◌⊎◌, length, take, drop, slice_index, true, false};
+ghost use Rattle.std.specs.Prelude.{[], ◌∷◌, Some, IfSome, OnOk, OnErr, MatchOption};
 ghost use Rattle.memchr.specs.Find.{IsFirstByte, is_byte};
 ghost use Rattle.ptlines.specs.Outputs.{PushEffect};
 ghost use Rattle.ptlangs.specs.Jobs.{cut_job};
@@ -8,7 +9,7 @@ ghost use Rattle.ptflow.specs.Cuts.{cut_fields, cut_lines, cut_tool};
 ghost use Rattle.ptflow.specs.Passes.{PassPost};
 ghost use Rattle.ptflow.specs.Private.Passes.LineLoop.{RunLinesPre};
 ghost use Rattle.ptflow.specs.Private.Cut.FieldOffsets.{fields, IsFieldStart, HasFirstDelimiter, FieldStartPre};
-ghost use Rattle.ptflow.specs.Private.Cut.FieldSlices.{remaining_fields, IsFieldCursor, IsNextSlice};
+ghost use Rattle.ptflow.specs.Private.Cut.FieldSlices.{IsFieldCursor, IsNextStep};
 ghost use Rattle.ptflow.specs.Private.Cut.CutFrom.{CopyLinesPost};
 
 use crate::faults::FlowFault;
@@ -99,46 +100,45 @@ struct FieldSlice {
     next: FieldCursor,
 }
 
-// The next slice of the output for a line: adjacent fields, with the delimiter before them if they are not the first.
+// The next part of the output for a line.
+#[derive(Clone, Copy)]
+enum FieldStep {
+    // Adjacent fields, with the delimiter before them if they are not the first.
+    Slice(FieldSlice),
+    // The line from this index on, which is the last part.
+    Rest(usize),
+    // No field is left.
+    End,
+}
+
+// The next part of the output for a line, from the cursor on.
 #[inline(always)]
-fn next_slice(
-    line: &DelimitedLine,
-    selected: &[Interval],
-    cursor: FieldCursor,
-) -> Option<FieldSlice>
+fn next_step(line: &DelimitedLine, selected: &[Interval], cursor: FieldCursor) -> FieldStep
     requires line { HasFirstDelimiter line.now.delimiter line.now.bytes.now line.now.to line.now.first }
     requires cursor { IsFieldCursor selected.now (take line.now.to line.now.bytes.now) line.now.first cursor }
-    ensures { MatchOption result
-        (remaining_fields line.now.delimiter selected.now (take line.now.to line.now.bytes.now) cursor ≡ [])
-        (IsNextSlice line.now.delimiter selected.now (take line.now.to line.now.bytes.now) line.now.first cursor) }
+    ensures { IsNextStep line.now.delimiter selected.now (take line.now.to line.now.bytes.now) line.now.first cursor
+        result }
 {
     if cursor.index >= selected.len() {
-        return None;
+        return FieldStep::End;
     }
     let Interval { first, last } = selected[cursor.index];
-    let from = cursor.at + field_start_after(line, cursor.at, first - cursor.number)?;
-    let start = from - cursor.sep;
-    let slice = match field_start_after(line, from, last - first + 1) {
-        Some(passed) => FieldSlice {
-            start,
-            end: from + passed - 1,
-            next: FieldCursor {
-                index: cursor.index + 1,
-                number: last + 1,
-                at: from + passed,
-                sep: 1,
-            },
-        },
-        None => FieldSlice {
-            start,
-            end: line.to,
-            next: FieldCursor {
-                index: selected.len(),
-                ..LINE_START
-            },
-        },
+    let Some(skipped) = field_start_after(line, cursor.at, first - cursor.number) else {
+        return FieldStep::End;
     };
-    Some(slice)
+    let from = cursor.at + skipped;
+    let start = from - cursor.sep;
+    let Some(passed) = field_start_after(line, from, last - first + 1) else {
+        return FieldStep::Rest(start);
+    };
+    let next = FieldCursor {
+        index: cursor.index + 1,
+        number: last + 1,
+        at: from + passed,
+        sep: 1,
+    };
+    let end = next.at - 1;
+    FieldStep::Slice(FieldSlice { start, end, next })
 }
 
 // Pushes the selected fields of a line of any length.
@@ -161,11 +161,16 @@ fn write_fields<A: Allocator + Copy, W: Sink>(
         to: line.len(),
     };
     let mut cursor = LINE_START;
-    'slices: while let Some(slice) = next_slice(&fields, selected, cursor) {
-        out.push(&line[slice.start..slice.end])?;
-        cursor = slice.next;
+    'slices: loop {
+        match next_step(&fields, selected, cursor) {
+            FieldStep::Slice(slice) => {
+                out.push(&line[slice.start..slice.end])?;
+                cursor = slice.next;
+            }
+            FieldStep::Rest(start) => return out.push(&line[start..]),
+            FieldStep::End => return Ok(()),
+        }
     }
-    Ok(())
 }
 
 // A job that selects fields, and the terminator.
@@ -213,19 +218,30 @@ fn copy_fields<A: Allocator + Copy>(
     requires room { (line.to < length line.bytes.now) × (start + line.to + 17 ≤ length room.old) }
     ensures long { length room.new ≡ length room.old }
     ensures put { take result room.new ≡ take start room.old
-        ++ (cut_fields (cut_job job.now) (take line.entry.to line.entry.bytes.now) ++ take 1 (drop line.entry.to line.entry.bytes.now)) }
+        ++ (cut_fields (cut_job job.now) (take line.entry.to line.entry.bytes.now)
+        ++ take 1 (drop line.entry.to line.entry.bytes.now)) }
     ensures end { (start ≤ result) × (result ≤ start + line.entry.to + 1) }
 {
     let selected = job.list.intervals();
     let mut cursor = LINE_START;
     let mut end = start;
-    'slices: while let Some(slice) = next_slice(&line, selected, cursor) {
-        copy_short(line.bytes, slice.start, slice.end, room, end);
-        end += slice.end - slice.start;
-        cursor = slice.next;
+    'slices: loop {
+        match next_step(&line, selected, cursor) {
+            FieldStep::Slice(slice) => {
+                copy_short(line.bytes, slice.start, slice.end, room, end);
+                end += slice.end - slice.start;
+                cursor = slice.next;
+            }
+            FieldStep::Rest(from) => {
+                copy_short(line.bytes, from, line.to + 1, room, end);
+                return end + (line.to + 1 - from);
+            }
+            FieldStep::End => {
+                room[end] = line.bytes[line.to];
+                return end + 1;
+            }
+        }
     }
-    room[end] = line.bytes[line.to];
-    end + 1
 }
 
 // The length of the complete lines before index `up_to`, or of the first line, which ends at `to`, if that is longer.

@@ -81,7 +81,7 @@ impl MapKind {
         }
     }
 
-    /// Stores the images of the bytes of `from` in `to`. `images` is the plan's table. Both slices have the same length.
+    /// Stores the images of the bytes of `from` in `to`, which is as long. `images` is the plan's table.
     pub(crate) fn store_images(&self, images: &[u8; 256], from: &[u8], to: &mut [u8])
         requires { length to.old ≡ length from.now }
         ensures { to.new ≡ map (image_of_kind self.now images.now) from.now }

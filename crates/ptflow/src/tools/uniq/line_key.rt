@@ -1,10 +1,12 @@
 //! The key of a line: the part that `uniq` compares.
 
-ghost use Rattle.std.specs.Prelude.{◌≡◌};
+ghost use Rattle.std.specs.Prelude.{◌≡◌, ◌<◌, ◌≤◌};
+ghost use Rattle.memchr.specs.Find.{Nowhere, Passes, is_byte};
 ghost use Rattle.ptlangs.specs.Jobs.{uniq_job};
 ghost use Rattle.ptflow.specs.Uniqs.{after_fields, key};
 ghost use Rattle.ptlines.specs.Text.{is_blank};
 ghost use Rattle.ptflow.specs.Private.Uniq.Blanks.{after_nonblanks};
+ghost use Rattle.ptlines.specs.Bounds.{HasChunk};
 
 use memchr::memchr2;
 use ptlangs::jobs::UniqJob;
@@ -16,7 +18,7 @@ fn is_blank(byte: u8) -> bool
     byte == b' ' || byte == b'\t'
 }
 
-// Skips the bytes before the first blank. Out of line, so that a blank among 16 bytes is found without a call.
+// Skips the bytes before the first blank. Out of line, so that a blank near the start is found without a call.
 #[inline(never)]
 fn skip_nonblanks_cold(line: &[u8]) -> &[u8]
     ensures { result.now ≡ after_nonblanks line.now }
@@ -27,20 +29,58 @@ fn skip_nonblanks_cold(line: &[u8]) -> &[u8]
     }
 }
 
+// The index of the first match among the first `N` bytes, or `N`.
+#[inline(always)]
+fn find_or_n<const N: usize>(byte: u8, line: &[u8]) -> usize
+    requires { HasChunk N 0 line.now }
+    ensures before { Nowhere (Passes (is_byte byte) line.now) 0 result }
+    ensures found { result < N → Passes (is_byte byte) line.now result }
+    ensures within { result ≤ N }
+{
+    match find_in_chunk::<N>(byte, line, 0) {
+        Some(at) => at,
+        None => N,
+    }
+}
+
+// Like `skip_nonblanks_cold`, but tests the first `N` bytes inline.
+#[inline(always)]
+fn skip_nonblanks_long<const N: usize>(line: &[u8]) -> &[u8]
+    requires { HasChunk N 0 line.now }
+    ensures { result.now ≡ after_nonblanks line.now }
+{
+    let at = find_or_n::<N>(b' ', line).min(find_or_n::<N>(b'\t', line));
+    if at < N {
+        return &line[at..];
+    }
+    skip_nonblanks_cold(&line[N..])
+}
+
+// Like `skip_nonblanks_cold`, byte by byte, for few bytes.
+#[inline(always)]
+fn skip_nonblanks_short(line: &[u8]) -> &[u8]
+    ensures { result.now ≡ after_nonblanks line.now }
+{
+    for at in 0..line.len() {
+        if is_blank(line[at]) {
+            return &line[at..];
+        }
+    }
+    &line[line.len()..]
+}
+
 // Skips the bytes before the first blank.
 #[inline(always)]
 fn skip_nonblanks(line: &[u8]) -> &[u8]
     ensures { result.now ≡ after_nonblanks line.now }
 {
-    if line.len() < 16 {
-        return skip_nonblanks_cold(line);
+    if line.len() >= 16 {
+        return skip_nonblanks_long::<16>(line);
     }
-    let tab = find_in_chunk::<16>(b'\t', line, 0).unwrap_or(16);
-    let at = find_in_chunk::<16>(b' ', line, 0).unwrap_or(16).min(tab);
-    if at == 16 {
-        return skip_nonblanks_cold(&line[16..]);
+    if line.len() >= 8 {
+        return skip_nonblanks_long::<8>(line);
     }
-    &line[at..]
+    skip_nonblanks_short(line)
 }
 
 // Skips one field, which is blanks and then other bytes.

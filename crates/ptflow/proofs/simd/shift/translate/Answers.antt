@@ -1,5 +1,5 @@
 -- As many ranges as there are stretches, or more, have the images of the shifts.
-use Rattle.ptflow.proofs.Common.{◌∙◌, ap, arith, image_of_shifts, is_some, not, shift_by_ranges, sym}
+use Rattle.ptflow.proofs.Common.{◌∙◌, ap, arith, is_some, not, sym}
 use Rattle.ptflow.proofs.Vectors.Lanes.{all_stretches, images_same}
 use Rattle.ptflow.proofs.simd.shift.translate.Goals as goal
 

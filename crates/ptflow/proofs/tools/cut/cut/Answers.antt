@@ -5,7 +5,8 @@ use Rattle.ptflow.proofs.Passes.Exits.{pass_unchanged, pass_set, storeless_set}
 use Rattle.ptflow.proofs.tools.cut.cut.Goals as goal
 
 pub returns-then-has_failed : goal.returns-then-has_failed
-returns-then-has_failed g c = pass_unchanged (cut_tool (cut_job c.args.job.now)) _ c.args.out.now _ c.requires (sym c.has_failed.ensures ∙ c.if-has_failed.true)
+returns-then-has_failed g c = pass_unchanged (cut_tool (cut_job c.args.job.now)) _ c.args.out.now _ c.requires
+    (sym c.has_failed.ensures ∙ c.if-has_failed.true)
 
 pub returns-then-job : goal.returns-then-job
 returns-then-job g c =
@@ -14,5 +15,7 @@ returns-then-job g c =
 
 pub returns : goal.returns
 returns g c =
-    storeless_set (cut_tool (cut_job c.args.job.now)) (cond c.args.job.now.zero 0 10) _ _ c.cut_by_bytes.new.reader c.args.out.now c.cut_by_bytes.new.out
-    _ c.set_ending.ensures.set c.cut_by_bytes.result (sym c.has_failed.ensures ∙ c.if-has_failed.false) c.requires c.cut_by_bytes.ensures
+    storeless_set (cut_tool (cut_job c.args.job.now)) (cond c.args.job.now.zero 0 10) _ _ c.cut_by_bytes.new.reader
+    c.args.out.now c.cut_by_bytes.new.out
+    _ c.set_ending.ensures.set c.cut_by_bytes.result (sym c.has_failed.ensures ∙ c.if-has_failed.false) c.requires
+    c.cut_by_bytes.ensures

@@ -12,7 +12,8 @@ returns-clause-copied c =
     let list = c.args.by.now.selected.now in
     let end = c.if-is_short.end in
     let one : 16 * 0 + part.count ≡ part.count = omega arith in
-    let copied : take end c.if-is_short.into ≡ was ++ select_from (is_selected list) 1 (take part.count part.bytes.now) =
+    let copied : take end c.if-is_short.into ≡ was
+    ++ select_from (is_selected list) 1 (take part.count part.bytes.now) =
     elim c.if-is_short.branch [
       | then-is_short w ↦ cc (w.copy_piece-end.ensures.copied was (sym (append-nil was)), one)
       | else-is_short w ↦ cc (w.copy_pieces-end.ensures.copied)

@@ -1,6 +1,6 @@
 -- A shuffle moves the selected bytes of a piece to the front, and they are stored after those of the pieces before.
 use Rattle.ptflow.proofs.Common.{◌*◌, refl, arith, w8, SwzOk-from_below, is_selected}
-use Rattle.ptflow.specs.Private.Cut.ShortLines.{piece_at, selected_after, IsPieceShuffle}
+use Rattle.ptflow.specs.Private.Cut.ShortLines.{piece_at}
 use Rattle.ptflow.proofs.CutLemmas.ShortLines.{piece_copied, shuffle_few, shuffle_lanes}
 use Rattle.ptflow.proofs.tools.cut.bytes.copy_piece.Goals as goal
 

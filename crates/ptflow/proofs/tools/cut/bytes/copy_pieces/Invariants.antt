@@ -6,5 +6,6 @@ abbrev pub invariant-loop-index : goal.invariant-loop-index
 invariant-loop-index l = record {
   within : 16 * l.index ≤ l.count;
   near : l.at ≤ l.fn.at + 16 * l.index;
-  copied : take l.at l.into ≡ take l.fn.at l.fn.into ++ select_from (is_selected l.by.selected.now) 1 (take (16 * l.index) l.line);
+  copied : take l.at l.into ≡ take l.fn.at l.fn.into
+      ++ select_from (is_selected l.by.selected.now) 1 (take (16 * l.index) l.line);
 }

@@ -8,7 +8,8 @@ loop-from-preserved-then-mask-eq0 c =
     let p = is_byte c.args.by.now.terminator in
     let loop = c.loop-from in
     let none = ap count_ones c.if-mask-eq0.true ∙ ones-mask_l p [] in
-    let counted = ap count_ones c.match_mask-mask.ensures ∙ ones-mask_l p (chunk loop.from 64 c.args.block.now) in record {
+    let counted = ap count_ones c.match_mask-mask.ensures
+    ∙ ones-mask_l p (chunk loop.from 64 c.args.block.now) in record {
       within = omega arith;
       line = (omega arith, omega (arith, count_chunk p c.args.block.now loop.from));
       cut = loop.invariant.cut;

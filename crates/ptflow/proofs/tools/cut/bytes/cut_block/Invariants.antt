@@ -6,7 +6,8 @@ abbrev pub invariant-loop-from : goal.invariant-loop-from
 invariant-loop-from l = record {
   within : l.from ≤ length l.block;
   line : IsSameLine l.by.terminator l.block l.from l.cursor.start;
-  cut : IsCutPart l.by.terminator l.by.selected.now l.line_offset l.block l.cursor.line_offset (drop l.cursor.start l.block) (take l.cursor.at l.into);
+  cut : IsCutPart l.by.terminator l.by.selected.now l.line_offset l.block l.cursor.line_offset
+      (drop l.cursor.start l.block) (take l.cursor.at l.into);
   bound : l.cursor.line_offset ≤ l.line_offset;
   near : l.cursor.at ≤ l.cursor.start;
 }

@@ -8,7 +8,12 @@ use Rattle.ptflow.proofs.tools.cut.bytes.cut_by_bytes.Goals.{then-job, else-job}
 pub returns : goal.returns
 returns g c =
     let job = cut_job c.args.job.now in
-    let end : c.if-job.terminator ≡ job.terminator = elim c.if-job.branch [ then-job w ↦ w.terminator-is ∙ sym (ap terminator w.if-job.true) | else-job w ↦ w.terminator-is ∙ sym (ap terminator w.if-job.false) ] in
+    let end : c.if-job.terminator
+    ≡ job.terminator = elim c.if-job.branch [
+      | then-job w ↦ w.terminator-is
+          ∙ sym (ap terminator w.if-job.true)
+      | else-job w ↦ w.terminator-is ∙ sym (ap terminator w.if-job.false)
+    ] in
     let list = c.intervals.ensures.kept in
     λ store ready.
     c.run_blocks.ensures (cut_tool job)
@@ -16,7 +21,8 @@ returns g c =
       text = λ bytes. (λ i. cut_list_from (end i) (list i) 0 bytes) ∙ rest_is_cut job c.requires.by_bytes bytes;
       decided = λ given pushed now holds on.
           rest_is_decided job c.requires.by_bytes given pushed now.line_offset
-          (λ rest. (λ i. cut_list_from (sym end i) (sym list i) 0 (given ++ rest)) ∙ on rest ∙ (λ i. pushed ++ cut_list_from ((holds.1 ∙ end) i) ((holds.0 ∙ list) i) now.line_offset rest));
+          (λ rest. (λ i. cut_list_from (sym end i) (sym list i) 0 (given ++ rest)) ∙ on rest
+          ∙ (λ i. pushed ++ cut_list_from ((holds.1 ∙ end) i) ((holds.0 ∙ list) i) now.line_offset rest));
       holds = (refl, refl);
       slots = ap (λ b. cond b 1 0) c.requires.by_bytes;
     })

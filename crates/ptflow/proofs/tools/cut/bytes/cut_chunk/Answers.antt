@@ -1,6 +1,7 @@
 -- The lowest bit that is left is the next terminator. The line up to it is cut, the next line begins after it, and the
 -- bit is cleared. Each set bit of the mask has one iteration, so no bit is left at the end.
-use Rattle.ptflow.proofs.Common.{◌≡◌, ◌+◌, ◌-◌, suc, map, take, drop, ◌∙◌, ap, arith, count_ones, chunk, length-chunk, take_more_put_chunk, take_rest, drop-drop, length-drop, ones-mask_l}
+use Rattle.ptflow.proofs.Common.{◌≡◌, ◌+◌, ◌-◌, suc, map, take, drop, ◌∙◌, ap, arith, count_ones, chunk, length-chunk}
+use Rattle.ptflow.proofs.Common.{take_more_put_chunk, take_rest, drop-drop, length-drop, ones-mask_l}
 use Rattle.ptflow.proofs.Common.{is_byte, is_selected, cut_piece}
 use lib.Count.{count_trailing_zeros}
 use Rattle.ptflow.proofs.CutLemmas.CutBytes.{line_on, terminators_next, cut_next}
@@ -16,28 +17,34 @@ returns-then-cursor-eq0-clause-on c =
     let cursor = c.args.cursor in
     let ends = chunk cursor.start 64 block in
     record {
-      cut = cut_next end list _ cursor.line_offset cursor.line_offset _ (drop cursor.start block) (drop (cursor.start + 64) block) _ (take cursor.at c.args.into.now)
+      cut = cut_next end list _ cursor.line_offset cursor.line_offset _ (drop cursor.start block)
+          (drop (cursor.start + 64) block) _ (take cursor.at c.args.into.now)
           ends (λ start bytes so_far. so_far)
-          (take_more_put_chunk cursor.at c.args.into.now ends (cursor.at + 64) (omega (arith, length-chunk cursor.start 64 block (omega arith))) (omega arith))
+          (take_more_put_chunk cursor.at c.args.into.now ends (cursor.at + 64)
+          (omega (arith, length-chunk cursor.start 64 block (omega arith))) (omega arith))
           (terminators_next end (is_selected list) block (omega arith) c.if-cursor-from.true c.if-cursor-eq0.true
           c.requires.ends.is c.if-mask-eq18446744073709551615.true);
       bound = omega arith;
       near = omega arith;
     }
 
-next : (c : In-loop-end) → NextTerminator c.args.by.now.terminator c.args.block.now c.args.from c.loop-end._end (count_trailing_zeros 64 c.loop-end.mask) c.loop-end.cursor.start
-next c = next_terminator c.loop-end._end c.loop-end.cursor.start c.requires.ends (omega arith) c.loop-end.invariant.bits c.loop-end.invariant.ends
+next : (c : In-loop-end) → NextTerminator c.args.by.now.terminator c.args.block.now c.args.from c.loop-end._end
+    (count_trailing_zeros 64 c.loop-end.mask) c.loop-end.cursor.start
+next c = next_terminator c.loop-end._end c.loop-end.cursor.start c.requires.ends (omega arith) c.loop-end.invariant.bits
+    c.loop-end.invariant.ends
 
 pub overflow_sub-part : goal.overflow_sub-part
 overflow_sub-part c = (next (goal.at.overflow_sub-part c).In-loop-end).order
 
 pub copy_line-requires-clause-within : goal.copy_line-requires-clause-within
 copy_line-requires-clause-within c =
-    let e = next (goal.at.copy_line-requires-clause-within c).In-loop-end in omega (arith, length-drop c.loop-end.cursor.start c.args.block.now)
+    let e = next (goal.at.copy_line-requires-clause-within c).In-loop-end in omega
+    (arith, length-drop c.loop-end.cursor.start c.args.block.now)
 
 pub copy_line-requires-clause-room : goal.copy_line-requires-clause-room
 copy_line-requires-clause-room c =
-    let e = next (goal.at.copy_line-requires-clause-room c).In-loop-end in record { short = omega arith; small = omega arith }
+    let e = next (goal.at.copy_line-requires-clause-room c).In-loop-end in record
+    { short = omega arith; small = omega arith }
 
 pub loop-end-preserved : goal.loop-end-preserved
 loop-end-preserved c =
@@ -51,13 +58,17 @@ loop-end-preserved c =
     let behind : s + (at - s + 1) ≡ at + 1 = omega arith in
     let left : drop (at - s + 1) (drop s block) ≡ drop (at + 1) block = cc (drop-drop (at - s + 1) s block) in
     record {
-      bits = rw (← turn) (cleared l._end (map (is_byte c.args.by.now.terminator) (chunk c.args.from 64 block)) l.auto.mask-fits.fits l.invariant.bits);
+      bits = rw (← turn) (cleared l._end (map (is_byte c.args.by.now.terminator) (chunk c.args.from 64 block))
+          l.auto.mask-fits.fits l.invariant.bits);
       within = omega arith;
       ends = e.counted;
       on = record {
-        cut = cut_next c.args.by.now.terminator list _ l.cursor.line_offset 0 _ (drop s block) (drop (at + 1) block) _ (take l.cursor.at l.into)
-            (cut_piece list l.cursor.line_offset (at - s) (take (at - s + 1) (drop s block))) l.invariant.on.cut (rw take_rest at c.copy_line.ensures.copied)
-            (rw (← left) (line_on c.args.by.now.terminator (drop s block) (at - s) e.first (is_selected list) l.cursor.line_offset));
+        cut = cut_next c.args.by.now.terminator list _ l.cursor.line_offset 0 _ (drop s block) (drop (at + 1) block) _
+            (take l.cursor.at l.into)
+            (cut_piece list l.cursor.line_offset (at - s) (take (at - s + 1) (drop s block))) l.invariant.on.cut
+            (rw take_rest at c.copy_line.ensures.copied)
+            (rw (← left) (line_on c.args.by.now.terminator (drop s block) (at - s) e.first (is_selected list)
+            l.cursor.line_offset));
         bound = omega arith;
         near = omega arith;
       };
@@ -68,5 +79,6 @@ pub returns-clause-passed : goal.returns-clause-passed
 returns-clause-passed c =
     let bytes = chunk c.args.from 64 c.args.block.now in
     let counted = ap count_ones c.requires.ends.is ∙ ones-mask_l (is_byte c.args.by.now.terminator) bytes in
-    let some = some_counted (is_byte c.args.by.now.terminator) bytes bytes (rw c.requires.ends.is at c.requires.ends.some) in
+    let some = some_counted (is_byte c.args.by.now.terminator) bytes bytes
+    (rw c.requires.ends.is at c.requires.ends.some) in
     (c.loop-end.invariant.passed (omega arith), c.loop-end.invariant.within)

@@ -1,5 +1,6 @@
 -- The copied bytes, and then the output that is left, are the selected fields of the line.
-use Rattle.ptflow.proofs.Common.{◌≡◌, ◌+◌, ◌≤◌, ◌-◌, ◌++◌, length, take, cut_job, cut_fields, IsFieldCursor, remaining_fields}
+use Rattle.ptflow.proofs.Common.{◌≡◌, ◌+◌, ◌≤◌, ◌-◌, ◌++◌, length, take, cut_job, cut_fields, IsFieldCursor}
+use Rattle.ptflow.proofs.Common.{remaining_fields}
 use Rattle.ptflow.proofs.tools.cut.fields.copy_fields.Given as goal
 
 abbrev pub invariant-slices : goal.invariant-slices

@@ -1,6 +1,7 @@
 -- For a line with the delimiter its fields are copied. Adjacent lines without it are copied at once, or skipped.
 use Rattle.ptflow.proofs.Common.{◌≡◌, ◌-◌, Some, take, arith, cut_job, cut_fields}
-use Rattle.ptflow.proofs.CutLemmas.FieldLines.{found, of_fields, puts_line, puts_kept, puts_dropped, free_before, first_within}
+use Rattle.ptflow.proofs.CutLemmas.FieldLines.{found, of_fields, puts_line, puts_kept, puts_dropped, free_before}
+use Rattle.ptflow.proofs.CutLemmas.FieldLines.{first_within}
 use Rattle.ptflow.proofs.tools.cut.fields.copy_lines.Goals as goal
 
 pub returns-then-first-to-clause-put : goal.returns-then-first-to-clause-put
@@ -17,15 +18,18 @@ pub returns-then-job-clause-put : goal.returns-then-job-clause-put
 returns-then-job-clause-put g c =
     let bytes = c.args.bytes.now in
     let size = c.whole_lines_len-size in
-    let free = rw (← c.unwrap_or-first.ensures) at (free_before c.args.by.now.job.now.delim bytes c.find_byte.result c.find_byte.ensures) in
+    let free = rw (← c.unwrap_or-first.ensures)
+    at (free_before c.args.by.now.job.now.delim bytes c.find_byte.result c.find_byte.ensures) in
     puts_dropped (cut_job c.args.by.now.job.now) c.args.by.now.by_fields c.args.by.now.ends bytes _ c.requires.first
-    size.ensures.within.0 size.ensures.within.1 size.ensures.eof size.ensures.up_to c.if-first-to.false free c.if-job.true
+    size.ensures.within.0 size.ensures.within.1 size.ensures.eof size.ensures.up_to c.if-first-to.false free
+    c.if-job.true
 
 pub returns-clause-put : goal.returns-clause-put
 returns-clause-put g c =
     let bytes = c.args.bytes.now in
     let size = c.whole_lines_len-size in
-    let free = rw (← c.unwrap_or-first.ensures) at (free_before c.args.by.now.job.now.delim bytes c.find_byte.result c.find_byte.ensures) in
+    let free = rw (← c.unwrap_or-first.ensures)
+    at (free_before c.args.by.now.job.now.delim bytes c.find_byte.result c.find_byte.ensures) in
     let whole : size.result - 0 ≡ size.result = omega arith in
     let copied = rw whole at c.copy_short.ensures.copied in
     puts_kept (cut_job c.args.by.now.job.now) c.args.by.now.by_fields c.args.by.now.ends bytes _ c.requires.first
@@ -34,6 +38,7 @@ returns-clause-put g c =
 
 pub copy_fields-requires-clause-line : goal.copy_fields-requires-clause-line
 copy_fields-requires-clause-line g c = record {
-  found = rw c.unwrap_or-first.ensures (first_within c.args.by.now.job.now.delim c.args.bytes.now c.find_byte.result c.args.to c.find_byte.ensures (omega arith) (omega arith));
+  found = rw c.unwrap_or-first.ensures (first_within c.args.by.now.job.now.delim c.args.bytes.now c.find_byte.result
+      c.args.to c.find_byte.ensures (omega arith) (omega arith));
   within = omega arith;
 }

@@ -1,6 +1,5 @@
 -- The map kind has the images of the plan.
-use Rattle.ptflow.proofs.Common.{◌≡◌, length, image, sym, ◌∙◌, arith}
-use Rattle.ptflow.specs.Private.Tr.MapKinds.{image_of_kind}
+use Rattle.ptflow.proofs.Common.{sym, ◌∙◌}
 use Rattle.ptflow.proofs.Vectors.Lanes.{map-id, images_same}
 use Rattle.ptflow.proofs.tools.tr.Translation.mapped.Goals as goal
 

@@ -1,10 +1,12 @@
 -- Each iteration copies the output of the first lines of the rest to the buffer, which is pushed at the end.
-use Rattle.ptflow.proofs.Common.{ℕ, List, ◌+◌, ◌≤◌, length, drop, ◌++◌, take, ◌∙◌, ap, arith, length-drop, take_rest, complete_lines, line_if_not_found, complete_lines_none, cut_job, cut_lines}
+use Rattle.ptflow.proofs.Common.{ℕ, List, ◌+◌, ◌≤◌, length, drop, ◌++◌, take, ◌∙◌, ap, arith, length-drop, take_rest}
+use Rattle.ptflow.proofs.Common.{complete_lines, line_if_not_found, complete_lines_none, cut_job, cut_lines}
 use Rattle.ptflow.proofs.Passes.StepOutput.{on_err}
 use Rattle.ptflow.proofs.Passes.Lines.{taken_more, taken_all}
 use Rattle.ptflow.proofs.tools.cut.fields.FieldCutLineFilter.process_lines.Goals as goal
 
-less_left : (start size : ℕ) (rest : List ℕ) {end all : ℕ} → size ≤ length rest → end ≤ start + size → start + length rest ≤ all → end + length (drop size rest) ≤ all
+less_left : (start size : ℕ) (rest : List ℕ) {end all : ℕ} → size ≤ length rest → end ≤ start + size
+    → start + length rest ≤ all → end + length (drop size rest) ≤ all
 less_left start size rest fits near space = omega (arith, length-drop size rest)
 
 pub lines-preserved : goal.lines-preserved
@@ -26,14 +28,19 @@ returns-in_err-push-clause-halts g c =
       passed = take l.end l.room;
       wrote = c.push.ensures.pushed.wrote;
       fault = c.in_err-push.ensures.pushed.fault;
-      is_prefix = λ more. (cut_lines (cut_job c.args.self.now.job.now) (complete_lines (cut_job c.args.self.now.job.now).terminator l.rest.now ++ more), l.invariant.on more);
+      is_prefix = λ more. (
+        cut_lines (cut_job c.args.self.now.job.now)
+            (complete_lines (cut_job c.args.self.now.job.now).terminator l.rest.now ++ more),
+        l.invariant.on more,
+      );
     })
 
 pub returns-clause-continues : goal.returns-clause-continues
 returns-clause-continues g c =
     let l = c.lines in
     let job = cut_job c.args.self.now.job.now in
-    let none = complete_lines_none _ l.rest.now (line_if_not_found _ l.rest.now (rw c.args.self.now.ends at c.in_default.ensures)) in record {
+    let none = complete_lines_none _ l.rest.now
+    (line_if_not_found _ l.rest.now (rw c.args.self.now.ends at c.in_default.ensures)) in record {
       passed = take l.end l.room;
       wrote = c.in_ok-push.ensures.pushed.wrote;
       clean = λ was_clean. c.in_ok-push.ensures.pushed.clean;
@@ -43,5 +50,8 @@ returns-clause-continues g c =
     }
 
 pub returns-clause-passed : goal.returns-clause-passed
-returns-clause-passed g c =
-    (omega arith, taken_all _ (line_if_not_found _ c.lines.rest.now (rw c.args.self.now.ends at c.in_default.ensures)) c.lines.invariant.taken)
+returns-clause-passed g c = (
+  omega arith,
+  taken_all _ (line_if_not_found _ c.lines.rest.now (rw c.args.self.now.ends at c.in_default.ensures))
+      c.lines.invariant.taken,
+)

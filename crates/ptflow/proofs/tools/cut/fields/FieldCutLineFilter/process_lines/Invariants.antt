@@ -6,8 +6,10 @@ use Rattle.ptflow.proofs.tools.cut.fields.FieldCutLineFilter.process_lines.Given
 abbrev pub invariant-lines : goal.invariant-lines
 invariant-lines g l = record {
   taken : TakenLines (cut_job l.self.job.now).terminator l.block l.rest;
-  on : (more : List (List ℕ)) → cut_lines (cut_job l.self.job.now) (complete_lines (cut_job l.self.job.now).terminator l.block ++ more)
-      ≡ take l.end l.room ++ cut_lines (cut_job l.self.job.now) (complete_lines (cut_job l.self.job.now).terminator l.rest ++ more);
+  on : (more : List (List ℕ))
+      → cut_lines (cut_job l.self.job.now) (complete_lines (cut_job l.self.job.now).terminator l.block ++ more)
+      ≡ take l.end l.room
+      ++ cut_lines (cut_job l.self.job.now) (complete_lines (cut_job l.self.job.now).terminator l.rest ++ more);
   space : l.end + length l.rest ≤ length l.block;
   long : length l.room ≡ 8208;
 }

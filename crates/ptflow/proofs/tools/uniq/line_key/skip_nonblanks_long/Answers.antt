@@ -1,0 +1,22 @@
+-- The first blank is the first space or the first tab, whichever is earlier. If neither is among the first bytes, the
+-- search continues after them.
+use Rattle.ptflow.proofs.Common.{◌≡◌, ◌<◌, drop, min, sym, ◌∙◌, ap, arith, take_rest, after_nonblanks}
+use Rattle.ptflow.proofs.UniqLemmas.Keys.{both_later, both_near}
+use Rattle.ptflow.proofs.tools.uniq.line_key.skip_nonblanks_long.Goals as goal
+
+pub returns-then-at : goal.returns-then-at
+returns-then-at g c =
+    let line = c.args.line.now in
+    let space = c.find_or_n.ensures in
+    let tab = c.find_or_n-2.ensures in
+    let near : min c.find_or_n.result c.find_or_n-2.result < g.row.N = omega (arith, c.min-at.ensures, c.if-at.true) in
+    cc (take_rest line c.min-at.result, both_near line c.find_or_n.result c.find_or_n-2.result space.before tab.before space.found tab.found (omega (arith, c.requires.within)) near)
+
+pub returns : goal.returns
+returns g c =
+    let line = c.args.line.now in
+    let space = c.find_or_n.ensures in
+    let tab = c.find_or_n-2.ensures in
+    let all : min c.find_or_n.result c.find_or_n-2.result ≡ g.row.N = omega (arith, c.min-at.ensures, c.if-at.false, space.within, tab.within) in
+    c.skip_nonblanks_cold.ensures ∙ ap after_nonblanks (take_rest line g.row.N ∙ ap (λ at. drop at line) (sym all))
+    ∙ sym (both_later line c.find_or_n.result c.find_or_n-2.result space.before tab.before (omega (arith, all, c.requires.within)))
