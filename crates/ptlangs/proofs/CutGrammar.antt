@@ -85,18 +85,21 @@ checked_proper (Some s) r h =
     (λ large. cond_both (eqb s.first 0 || eqb s.last 0) _ _ (Proper s r) (λ t h. cc)
     (λ zero. cond_both (ltb s.last s.first) _ _ (Proper s r) (λ t h. cc)
     (λ falls h.
-    let is : s ≡ r = cc in (
+    let is : s ≡ r = cc in
+    let (some, _) = or_parts (eqb s.first 0) (eqb s.last 0) zero in
+    let (_, small) = or_parts (ltb max_u64 s.first) (ltb max_u64 s.last) large in (
       ap Some is,
       subst IsValidInterval is (record {
-        positive = omega (arith, eqb-false s.first 0 (or_parts (eqb s.first 0) (eqb s.last 0) zero).0);
+        positive = omega (arith, eqb-false s.first 0 some);
         ascending = ltb-false s.last s.first falls;
-        fits = ltb-false max_u64 s.last (or_parts (ltb max_u64 s.first) (ltb max_u64 s.last) large).1;
+        fits = ltb-false max_u64 s.last small;
       }),
     )))) h
 
 element_proper : (bs : List ℕ) (r : Interval) → element_interval bs ≡ Ok r → IsValidInterval r
 element_proper [] r h = cc
-element_proper (b ∷ bs) r h = (checked_proper (interval_of_parts (slice_split is_dash (b ∷ bs))) r h).1
+element_proper (b ∷ bs) r h =
+    let (_, valid) = checked_proper (interval_of_parts (slice_split is_dash (b ∷ bs))) r h in valid
 
 pub each_proper : (all : List (List ℕ)) (rs : List Interval) → traverse element_interval all ≡ Ok rs
     → All IsValidInterval rs
@@ -167,8 +170,8 @@ parts_of_element bs r (From (b ∷ n) h) = (
 
 accepts_element : (bs : List ℕ) (r : Interval) → SpellsInterval bs r → IsValidInterval r → element_interval bs ≡ Ok r
 accepts_element bs r e proper =
-    let s = parts_of_element bs r e in
-    rw (s.0, s.1) (checked_ok r proper)
+    let (some, parts) = parts_of_element bs r e in
+    rw (some, parts) (checked_ok r proper)
 
 no_separator : (bs : List ℕ) (r : Interval) → SpellsInterval bs r → All (λ b. is_list_separator b ≡ false) bs
 no_separator bs r (One n h) = digits_fail is_list_separator digit_no_list_separator n h
@@ -187,23 +190,24 @@ no_separator bs r (From n h) =
 spelled_one : (bs : List ℕ) (r : Interval)
     → cond (is_number bs) (Some (record { first = value bs; last = value bs })) None ≡ Some r → SpellsInterval bs r
 spelled_one bs r e =
-    let s = some_since (is_number bs) (record { first = value bs; last = value bs }) r e in
-    subst (SpellsInterval bs) s.1 (One bs s.0)
+    let (number, is) = some_since (is_number bs) (record { first = value bs; last = value bs }) r e in
+    subst (SpellsInterval bs) is (One bs number)
 
 spelled_ends : (n m : List ℕ) (r : Interval) → interval_of_bounds n m ≡ Some r → SpellsInterval (n ++ 45 ∷ m) r
 spelled_ends [] [] r e = cc
 spelled_ends [] (c ∷ m) r e =
-    let s = some_since ((true && is_number (c ∷ m)) && true) _ r e in
-    subst (SpellsInterval (45 ∷ c ∷ m)) s.1 (UpTo (c ∷ m) (and_parts (is_number (c ∷ m)) true s.0).0)
+    let (bounds, is) = some_since ((true && is_number (c ∷ m)) && true) _ r e in
+    subst (SpellsInterval (45 ∷ c ∷ m)) is (UpTo (c ∷ m) (let (digits, _) = and_parts (is_number (c ∷ m)) true bounds in digits))
 spelled_ends (b ∷ n) [] r e =
-    let s = some_since ((is_number (b ∷ n) && true) && true) _ r e in
-    subst (SpellsInterval ((b ∷ n) ++ 45 ∷ [])) s.1
-    (From (b ∷ n) (and_parts (is_number (b ∷ n)) true (and_parts (is_number (b ∷ n) && true) true s.0).0).0)
+    let (bounds, is) = some_since ((is_number (b ∷ n) && true) && true) _ r e in
+    let (number, _) = and_parts (is_number (b ∷ n) && true) true bounds in
+    let (digits, _) = and_parts (is_number (b ∷ n)) true number in
+    subst (SpellsInterval ((b ∷ n) ++ 45 ∷ [])) is (From (b ∷ n) digits)
 spelled_ends (b ∷ n) (c ∷ m) r e =
-    let s = some_since ((is_number (b ∷ n) && is_number (c ∷ m)) && true) _ r e in
-    let both = and_parts (is_number (b ∷ n)) (is_number (c ∷ m))
-    (and_parts (is_number (b ∷ n) && is_number (c ∷ m)) true s.0).0 in
-    subst (SpellsInterval ((b ∷ n) ++ 45 ∷ c ∷ m)) s.1 (FromTo (b ∷ n) (c ∷ m) both.0 both.1)
+    let (bounds, is) = some_since ((is_number (b ∷ n) && is_number (c ∷ m)) && true) _ r e in
+    let (both, _) = and_parts (is_number (b ∷ n) && is_number (c ∷ m)) true bounds in
+    let (first, last) = and_parts (is_number (b ∷ n)) (is_number (c ∷ m)) both in
+    subst (SpellsInterval ((b ∷ n) ++ 45 ∷ c ∷ m)) is (FromTo (b ∷ n) (c ∷ m) first last)
 
 three_parts : (n m bs : List ℕ) (rest : List (List ℕ)) → IsSplit is_dash bs rest
     → interval_of_parts (n ∷ m ∷ rest) ≡ None
@@ -225,14 +229,14 @@ spelled bs parts r (Cut n s xs rest cut split) e = spelled_cut n s xs rest r (eq
 reads_element : (bs : List ℕ) (r : Interval) → element_interval bs ≡ Ok r → IsIntervalElement bs r
 reads_element [] r h = cc
 reads_element (b ∷ bs) r h =
-    let j = checked_proper (interval_of_parts (slice_split is_dash (b ∷ bs))) r h in
-    (spelled (b ∷ bs) (slice_split is_dash (b ∷ bs)) r (splits is_dash (b ∷ bs)) j.0, j.1)
+    let (parts, valid) = checked_proper (interval_of_parts (slice_split is_dash (b ∷ bs))) r h in
+    (spelled (b ∷ bs) (slice_split is_dash (b ∷ bs)) r (splits is_dash (b ∷ bs)) parts, valid)
 
 accepts_elements : Accepts element_interval IsIntervalElement
 accepts_elements = record {
-  from = λ e r h. accepts_element e r h.0 h.1;
+  from = λ e r (spells, valid). accepts_element e r spells valid;
   to = reads_element;
-  whole = λ e r h. no_separator e r h.0;
+  whole = λ e r (spells, _). no_separator e r spells;
 }
 
 pub accepts_the_grammar : CutListMatchesGrammar
@@ -253,23 +257,28 @@ pub record Merges (sorted kept : List Interval) (current : Interval) (rest : Lis
 -- the last interval may be extended
 AreSeparated-longer : (low : ℕ) (kept : List Interval) (r s : Interval) → s.first ≡ r.first → r.last ≤ s.last
     → AreSeparated low (kept ++ r ∷ []) → AreSeparated low (kept ++ s ∷ [])
-AreSeparated-longer low [] r s e h separated = (omega (arith, separated.0), omega (arith, separated.1), tt)
+AreSeparated-longer low [] r s e h separated =
+    let (above, ascending, _) = separated in (omega (arith, above), omega (arith, ascending), tt)
 AreSeparated-longer low (k ∷ kept) r s e h separated =
-    (separated.0, separated.1, AreSeparated-longer (k.last + 1) kept r s e h separated.2)
+    let (above, ascending, others) = separated in
+    (above, ascending, AreSeparated-longer (k.last + 1) kept r s e h others)
 
 -- an interval after a gap may be appended
 AreSeparated-more : (low : ℕ) (kept : List Interval) (r s : Interval) → r.last + 1 < s.first → s.first ≤ s.last
     → AreSeparated low (kept ++ r ∷ []) → AreSeparated low ((kept ++ r ∷ []) ++ s ∷ [])
-AreSeparated-more low [] r s gap proper separated = (separated.0, separated.1, (gap, proper, tt))
+AreSeparated-more low [] r s gap proper separated =
+    let (above, ascending, _) = separated in (above, ascending, (gap, proper, tt))
 AreSeparated-more low (k ∷ kept) r s gap proper separated =
-    (separated.0, separated.1, AreSeparated-more (k.last + 1) kept r s gap proper separated.2)
+    let (above, ascending, others) = separated in
+    (above, ascending, AreSeparated-more (k.last + 1) kept r s gap proper others)
 
 abbrev holds : ℕ → Interval → Bool
 holds n r = leb r.first n && leb n r.last
 
 InOrder-lower : (low high : ℕ) (rest : List Interval) → low ≤ high → AreSortedFrom high rest → AreSortedFrom low rest
 InOrder-lower low high [] h ordered = tt
-InOrder-lower low high (r ∷ rest) h ordered = (omega (arith, ordered.0), ordered.1, ordered.2)
+InOrder-lower low high (r ∷ rest) h ordered =
+    let (above, ascending, others) = ordered in (omega (arith, above), ascending, others)
 
 -- two intervals that overlap or are adjacent select the numbers of their union
 union_of_touching : (a b c d n : ℕ) → a ≤ c → c - 1 ≤ b → c ≤ d
@@ -283,37 +292,41 @@ or_first false q m x e = ap (λ v. v || x) e
 pub absorbs : (sorted kept : List Interval) (r s t : Interval) (rest : List Interval) → t.first ≡ r.first
     → t.last ≡ max r.last s.last → s.first - 1 ≤ r.last → Merges sorted kept r (s ∷ rest) → Merges sorted kept t rest
 absorbs sorted kept r s t rest e e' touch m =
+    let (above, ascending, others) = m.ordered in
     let step : (n : ℕ) → is_selected (t ∷ rest) n ≡ is_selected (r ∷ s ∷ rest) n = λ n. sym
     (or_first (holds n r) (holds n s) (holds n t) (list_any (holds n) rest)
-    (rw (e, e') (union_of_touching r.first r.last s.first s.last n m.ordered.0 touch m.ordered.1))) in
+    (rw (e, e') (union_of_touching r.first r.last s.first s.last n above touch ascending))) in
     record {
       positive = omega (arith, m.positive);
       separated = AreSeparated-longer 0 kept r t e (omega arith) m.separated;
-      ordered = InOrder-lower t.first s.first rest (omega (arith, m.ordered.0)) m.ordered.2;
+      ordered = InOrder-lower t.first s.first rest (omega (arith, above)) others;
       same = λ n. list_any-append (holds n) kept (t ∷ rest) ∙ ap (λ x. list_any (holds n) kept || x) (step n)
           ∙ sym (list_any-append (holds n) kept (r ∷ s ∷ rest)) ∙ m.same n;
     }
 
 pub starts_next : (sorted kept : List Interval) (r s : Interval) (rest : List Interval) → r.last < s.first - 1
     → Merges sorted kept r (s ∷ rest) → Merges sorted (kept ++ r ∷ []) s rest
-starts_next sorted kept r s rest gap m = record {
-  positive = omega (arith, m.ordered.0);
-  separated = AreSeparated-more 0 kept r s (omega arith) m.ordered.1 m.separated;
-  ordered = m.ordered.2;
-  same = λ n. ap (λ xs. is_selected xs n) (append_assoc kept (r ∷ []) (s ∷ rest)) ∙ m.same n;
-}
+starts_next sorted kept r s rest gap m =
+    let (above, ascending, others) = m.ordered in
+    record {
+      positive = omega (arith, above, m.positive);
+      separated = AreSeparated-more 0 kept r s (omega arith) ascending m.separated;
+      ordered = others;
+      same = λ n. ap (λ xs. is_selected xs n) (append_assoc kept (r ∷ []) (s ∷ rest)) ∙ m.same n;
+    }
 
 pub starts : (first : Interval) (others sorted : List Interval) → sorted ≡ first ∷ others → AreSortedFrom 1 sorted
     → Merges sorted [] first others
 starts first others sorted e ordered =
-    let o : AreSortedFrom 1 (first ∷ others) = subst (AreSortedFrom 1) e ordered in
+    let all : AreSortedFrom 1 (first ∷ others) = subst (AreSortedFrom 1) e ordered in
+    let (positive, ascending, rest) = all in
     record {
-      positive = o.0;
-      separated = (o.0, o.1, tt);
-      ordered = o.2;
+      positive = positive;
+      separated = (positive, ascending, tt);
+      ordered = rest;
       same = λ n. ap (λ xs. is_selected xs n) (sym e);
     }
 
 pub next_positive : {sorted kept : List Interval} {r s : Interval} {rest : List Interval}
     → Merges sorted kept r (s ∷ rest) → 1 ≤ s.first
-next_positive m = omega (arith, m.positive, m.ordered.0)
+next_positive m = let (above, _, _) = m.ordered in omega (arith, m.positive, above)

@@ -24,8 +24,10 @@ field_accepted file n h positive fits =
 
 accepts_element : (e : List ℕ) (f : OutField) → SpellsField e f → IsValidField f → element_field e ≡ Ok f
 accepts_element e f JoinField proper = refl
-accepts_element e f (FirstFileField n h) proper = field_accepted First n h proper.0 proper.1
-accepts_element e f (SecondFileField n h) proper = field_accepted Second n h proper.0 proper.1
+accepts_element e f (FirstFileField n h) proper =
+    let (positive, fits) = proper in field_accepted First n h positive fits
+accepts_element e f (SecondFileField n h) proper =
+    let (positive, fits) = proper in field_accepted Second n h positive fits
 
 after_file_number : (name : ℕ) (n : List ℕ) → is_list_separator name ≡ false → is_number n ≡ true
     → All (λ b. is_list_separator b ≡ false) (name ∷ 46 ∷ n)
@@ -75,9 +77,9 @@ reads_element (b ∷ c ∷ n) f =
 
 accepts_elements : Accepts element_field IsFieldElement
 accepts_elements = record {
-  from = λ e f h. accepts_element e f h.0 h.1;
+  from = λ e f (spells, valid). accepts_element e f spells valid;
   to = reads_element;
-  whole = λ e f h. no_separator e f h.0;
+  whole = λ e f (spells, _). no_separator e f spells;
 }
 
 pub accepts_the_grammar : OutListMatchesGrammar

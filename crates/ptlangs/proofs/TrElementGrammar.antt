@@ -61,7 +61,7 @@ after_two_cases Q c d us none some =
 -- the characters start with the bracketed form that is found
 abbrev StartsFound : List SetChar → Option (SetElement × List SetChar) → Type 0
 StartsFound us None = Unit {0}
-StartsFound us (Some found) = StartsBracketed us found.0 found.1
+StartsFound us (Some (p, rest)) = StartsBracketed us p rest
 
 repeat_found : (u : SetChar) (v : ℕ) (us : List SetChar) → DenotesByte u v
     → StartsFound (Plain 91 ∷ u ∷ us) (option_and_then (repeat_after_star v) (after_plain 42 us))
@@ -135,10 +135,8 @@ pub plain_run-map : (test : ℕ → Bool) (bs : List ℕ) (c : ℕ) (rest : List
     → test c ≡ false → plain_run test (map Plain bs ++ Plain c ∷ rest) ≡ bs
 plain_run-map test [] c rest t n = rw n refl
 plain_run-map test (b ∷ bs) c rest t n =
-    rw (
-      (and_parts (test b) (list_all test bs) t).0,
-      plain_run-map test bs c rest (and_parts (test b) (list_all test bs) t).1 n,
-    ) refl
+    let (first, others) = and_parts (test b) (list_all test bs) t in
+    rw (first, plain_run-map test bs c rest others n) refl
 
 pub after_run-map : (test : ℕ → Bool) (bs : List ℕ) (c : ℕ) (rest : List SetChar) → list_all test bs ≡ true
     → test c ≡ false → after_run test (map Plain bs ++ Plain c ∷ rest) ≡ Plain c ∷ rest
@@ -154,8 +152,7 @@ bracketed_at-StartsBracketed us p rest (ARepeat u v digits more m t) =
       plain_run-map is_ascii_digit digits 93 more t refl,
     ) refl
 bracketed_at-StartsBracketed us p rest (AClass c name more t) =
-    let lower : is_ascii_lowercase c ≡ true =
-    (and_parts (is_ascii_lowercase c) (list_all is_ascii_lowercase name) t).0 in
+    let (lower, _) = and_parts (is_ascii_lowercase c) (list_all is_ascii_lowercase name) t in
     let no_star : eqb c 42 ≡ false = ne_eqb c 42 (λ e. cc (ap is_ascii_lowercase e)) in
     rw (
       no_star,
@@ -175,13 +172,13 @@ bracketed_at-unless us n = by_form (bracketed_at us) refl
   where
     by_form : (o : Option (SetElement × List SetChar)) → bracketed_at us ≡ o → o ≡ None
     by_form None e = refl
-    by_form (Some found) e = absurd (n (found.0, found.1, subst (StartsFound us) e (bracketed_starts us)))
+    by_form (Some (p, rest)) e = absurd (n (p, rest, subst (StartsFound us) e (bracketed_starts us)))
 
 -- ---- the first element
 
 -- the characters start with the element that is found, or with none because of this fault
 abbrev StartsAs : List SetChar → Result (SetElement × List SetChar) SetFaultKind → Type 0
-StartsAs us (Ok found) = StartsElement us found.0 found.1
+StartsAs us (Ok (p, rest)) = StartsElement us p rest
 StartsAs us (Err k) = StartsInvalid us k
 
 range_starts : (u v : SetChar) (a b : ℕ) (more : List SetChar) → ¬ HasBracketed (u ∷ Plain 45 ∷ v ∷ more)
@@ -202,12 +199,11 @@ byte_starts u a us n m = by_dash (after_plain 45 us) refl
     by_dash : (o : Option (List SetChar)) → after_plain 45 us ≡ o → StartsAs (u ∷ us) (single_or_range a us o)
     by_dash None d =
         Alone u a us n
-        (λ follows. let unlike : None ≡ Some (follows.0 ∷ follows.1) = sym d ∙ ap (after_plain 45) follows.2 in cc)
+        (λ (v, more, is). let unlike : None ≡ Some (v ∷ more) = sym d ∙ ap (after_plain 45) is in cc)
         m
     by_dash (Some []) d =
         Alone u a us n
-        (λ follows. let unlike : Some [] ≡ Some (follows.0 ∷ follows.1) = sym d ∙ ap (after_plain
-        45) follows.2 in cc) m
+        (λ (v, more, is). let unlike : Some [] ≡ Some (v ∷ more) = sym d ∙ ap (after_plain 45) is in cc) m
     by_dash (Some (v ∷ more)) d =
         let all : us ≡ Plain 45 ∷ v ∷ more = after_plain_is 45 us (v ∷ more) d in
         let closed : ¬ HasBracketed (u ∷ Plain 45 ∷ v ∷ more) =
@@ -227,8 +223,8 @@ starts_as u us r e = subst (StartsAs (u ∷ us)) e (by_form (bracketed_at (u ∷
   where
     by_form : (o : Option (SetElement × List SetChar)) → bracketed_at (u ∷ us) ≡ o → StartsAs (u ∷ us) (or_char o u us)
     by_form None f = char_starts u us (bracketed_at-none (u ∷ us) f)
-    by_form (Some found) f =
-        InBrackets (u ∷ us) found.0 found.1 (subst (StartsFound (u ∷ us)) f (bracketed_starts (u ∷ us)))
+    by_form (Some (p, rest)) f =
+        InBrackets (u ∷ us) p rest (subst (StartsFound (u ∷ us)) f (bracketed_starts (u ∷ us)))
 
 first_set_element-found : (us : List SetChar) (p : SetElement) (rest : List SetChar) → bracketed_at us ≡ Some (p, rest)
     → first_set_element us ≡ Ok (p, rest)
@@ -318,7 +314,7 @@ by_first : {P : Type 0} (u : SetChar) (us : List SetChar)
     → set_elements (u ∷ us) ≡ Ok p ∷ set_elements rest → P)
     → ((k : SetFaultKind) → StartsInvalid (u ∷ us) k → set_elements (u ∷ us) ≡ Err k ∷ [] → P) → P
 by_first u us element fault = by_result (first_set_element (u ∷ us))
-    (λ found e. element found.0 found.1 (starts_as u us (Ok found) e) (set_elements-first (u ∷ us) found.0 found.1 e))
+    (λ (p, rest) e. element p rest (starts_as u us (Ok (p, rest)) e) (set_elements-first (u ∷ us) p rest e))
     (λ k e. fault k (starts_as u us (Err k) e) (set_elements-fault (u ∷ us) k (omega arith) e))
 
 -- the computed elements are those of the grammar
@@ -408,8 +404,8 @@ module _ (role : SetRole) where
   fault_is : (has_fill : Bool) (us : List SetChar) (k : SetFaultKind) → FirstFault role has_fill us k
       → sequence (segments role has_fill (set_elements us)) ≡ Err k
   fault_is has_fill us k (NoElement f vs j b) =
-      let first = first_set_element-faulty vs j b in
-      rw (set_elements-fault vs j first.1 first.0) refl
+      let (fault, some) = first_set_element-faulty vs j b in
+      rw (set_elements-fault vs j some fault) refl
   fault_is has_fill us k (NoSegment f vs rest p j b e) =
       rw (set_elements-first vs p rest (first_set_element-StartsElement vs p rest b), e) refl
   fault_is has_fill us k (LaterFault f vs rest p x j b e later) =

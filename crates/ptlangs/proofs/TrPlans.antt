@@ -142,25 +142,31 @@ all_not_memory bs us (AChar all rest u more first later) =
 
 not_memory_after : (us rest : List SetChar) → AreNotMemory (us ++ rest) → AreNotMemory rest
 not_memory_after [] rest fine = fine
-not_memory_after (u ∷ us) rest fine = not_memory_after us rest fine.1
+not_memory_after (u ∷ us) rest fine = let (_, others) = fine in not_memory_after us rest others
 
 bracketed_not_memory : (us : List SetChar) (p : SetElement) (rest : List SetChar) → StartsBracketed us p rest
     → AreNotMemory us → AreNotMemory rest
-bracketed_not_memory us p rest (ARepeat u v digits r m d) fine = (not_memory_after (map Plain digits) _ fine.1.1.1).1
-bracketed_not_memory us p rest (AClass c name r l) fine = (not_memory_after (map Plain (c ∷ name)) _ fine.1.1).1.1
-bracketed_not_memory us p rest (AnEquivalence u v r m) fine = fine.1.1.1.1.1
+bracketed_not_memory us p rest (ARepeat u v digits r m d) fine =
+    not_memory_after (Plain 93 ∷ []) r (not_memory_after (map Plain digits) (Plain 93 ∷ r)
+    (not_memory_after (Plain 91 ∷ u ∷ Plain 42 ∷ []) (map Plain digits ++ Plain 93 ∷ r) fine))
+bracketed_not_memory us p rest (AClass c name r l) fine =
+    not_memory_after (Plain 58 ∷ Plain 93 ∷ []) r (not_memory_after (map Plain (c ∷ name)) (Plain 58 ∷ Plain 93 ∷ r)
+    (not_memory_after (Plain 91 ∷ Plain 58 ∷ []) (map Plain (c ∷ name) ++ Plain 58 ∷ Plain 93 ∷ r) fine))
+bracketed_not_memory us p rest (AnEquivalence u v r m) fine =
+    not_memory_after (Plain 91 ∷ Plain 61 ∷ u ∷ Plain 61 ∷ Plain 93 ∷ []) r fine
 
 element_not_memory : (us : List SetChar) (p : SetElement) (rest : List SetChar) → StartsElement us p rest
     → AreNotMemory us → AreNotMemory rest
 element_not_memory us p rest (InBrackets all q r o) fine = bracketed_not_memory all q r o fine
-element_not_memory us p rest (ARange u v a b r n m w h) fine = fine.1.1.1
-element_not_memory us p rest (Alone u a r n d m) fine = fine.1
+element_not_memory us p rest (ARange u v a b r n m w h) fine = not_memory_after (u ∷ Plain 45 ∷ v ∷ []) r fine
+element_not_memory us p rest (Alone u a r n d m) fine = not_memory_after (u ∷ []) r fine
 
 -- ---- neither have segments
 
 element_fault : (us : List SetChar) (k : SetFaultKind) → StartsInvalid us k → AreNotMemory us → k ≢ Memory
-element_fault us k (AnInvalidChar j rest) fine = fine.0
-element_fault us k (AnInvalidEnd u a j rest n m) fine = fine.1.1.0
+element_fault us k (AnInvalidChar j rest) fine = let (first, _) = fine in first
+element_fault us k (AnInvalidEnd u a j rest n m) fine =
+    let (end, _) = not_memory_after (u ∷ Plain 45 ∷ []) (Invalid j ∷ rest) fine in end
 element_fault us k (ADescendingRange u v a b rest n m w h) fine = λ e. cc
 
 -- the fault of the result, if there is one, is not `Memory`
@@ -207,8 +213,9 @@ string_not_memory role text (Ok ps) e = tt
 string_not_memory role [] (Err k) e = fault_not_memory (string_segments role []) k (λ memory. cc) e
 string_not_memory role (b ∷ text) (Err k) e =
     let us = chars (b ∷ text) in
-    first_not_memory role false us k ((faults_are_first role b text k).1 e)
-    (all_not_memory (b ∷ text) us ((chars_are_spelled (b ∷ text) us).1 refl))
+    let (_, first) = faults_are_first role b text k in
+    let (_, spelled) = chars_are_spelled (b ∷ text) us in
+    first_not_memory role false us k (first e) (all_not_memory (b ∷ text) us (spelled refl))
 
 second_not_memory : (form : Form) (complement : Bool) (firsts : List Segment) (r : Result (List Segment) SetFaultKind)
     → FaultIsNotMemory r

@@ -22,14 +22,15 @@ AreFrom b (s ∷ ss) = ((b ≤ s.first) × (s.first ≤ s.last)) × AreFrom b ss
 
 none_below : (b x : ℕ) (ss : List Stretch) → AreFrom b ss → x < b → moved ss x ≡ 0
 none_below b x [] from low = refl
-none_below b x (s ∷ ss) from low = sum_by-cons (λ s. shift_at s x) s ss ∙ (λ i. out i + none_below b x ss from.1 low i)
-  where
-    out : shift_at s x ≡ 0
-    out = grind (arith, nat_tests, from.0.0)
+none_below b x (s ∷ ss) from low =
+    let ((above, _), others) = from in
+    let out : shift_at s x ≡ 0 = grind (arith, nat_tests, above) in
+    sum_by-cons (λ s. shift_at s x) s ss ∙ (λ i. out i + none_below b x ss others low i)
 
 weaker : (b : ℕ) (ss : List Stretch) → AreFrom (b + 1) ss → AreFrom b ss
 weaker b [] from = tt
-weaker b (s ∷ ss) from = ((omega (arith, from.0.0), from.0.1), weaker b ss from.1)
+weaker b (s ∷ ss) from =
+    let ((above, ascending), others) = from in ((omega (arith, above), ascending), weaker b ss others)
 
 module _ (b by : ℕ) where
   -- the byte extends the stretch after it
@@ -42,8 +43,9 @@ module _ (b by : ℕ) where
   front_from : (ss : List Stretch) → AreFrom (b + 1) ss → AreFrom b (prepend_shift b by ss)
   front_from [] from = ((omega arith, omega arith), tt)
   front_from (s ∷ ss) from =
+      let ((above, ascending), others) = from in
       cond_both (goes_on s) _ _ (AreFrom b)
-      (λ is. ((omega arith, omega (arith, from.0.0, from.0.1)), weaker b ss from.1))
+      (λ is. ((omega arith, omega (arith, above, ascending)), weaker b ss others))
       (λ is. ((omega arith, omega arith), weaker b (s ∷ ss) from))
 
   alone : (last : ℕ) (more : List Stretch) → b ≤ last → AreFrom (b + 1) more
@@ -57,8 +59,9 @@ module _ (b by : ℕ) where
   at_front : (ss : List Stretch) → AreFrom (b + 1) ss → moved (prepend_shift b by ss) b ≡ by
   at_front [] from = alone b [] (omega arith) tt
   at_front (s ∷ ss) from =
+      let ((above, ascending), others) = from in
       cond_both (goes_on s) _ _ (λ (all : List Stretch). moved all b ≡ by)
-      (λ is. alone s.last ss (omega (arith, from.0.0, from.0.1)) from.1) (λ is. alone b (s ∷ ss) (omega arith) from)
+      (λ is. alone s.last ss (omega (arith, above, ascending)) others) (λ is. alone b (s ∷ ss) (omega arith) from)
 
   past : (x : ℕ) → b < x → shift_at (record { first = b; last = b; by = by }) x ≡ 0
   past x high = grind (arith, nat_tests, high)
