@@ -1,16 +1,24 @@
 -- The lists of `cut`. An element is split at its dashes, which digits do not contain, so that the split gives its
 -- bounds back; this makes `cut_list` agree with the grammar in both directions. Merging sorted intervals keeps the set
 -- that they select.
-use Rattle.ptlangs.proofs.Common.{Result, ◌≡◌, Bool, List, None, Ok, Option, Some, [], ap, arith, cond, drop, eqb, false, get_or, inl, inr, leb, length, ltb, not, refl, subst, suc, sym, take, true, ℕ}
-use Rattle.ptlangs.proofs.Common.{◌&&◌, ◌++◌, ◌+◌, ◌-◌, ◌<◌, ◌||◌, ◌∙◌, ◌∷◌, and_left, and_parts, and_right, cases_Bool, cond-false, cond-true, eqb-false, eqb-true, le-ltb, ltb-false, ne_eqb, or_from}
-use Rattle.ptlangs.proofs.Common.{or_parts, nat_tests, All-append, All-cons, list_any-IsPermutation, join_with_byte-slice_split, length-slice_split, slice_split_at, slice_split_none}
-use Rattle.ptlangs.proofs.Common.{AllPass-from_list_all, is_ascii_digit, All, join_with_byte, list_all, position, slice_split, CutListMatchesGrammar, AreSortedFrom, From, FromTo, SpellsInterval, IsValidInterval}
-use Rattle.ptlangs.proofs.Common.{IsIntervalElement, One, UpTo, checked_interval, cut_list, element_interval, interval_of_bounds, is_dash, is_bound, is_selected, interval_of_parts, selection, and_then, traverse, max_u64, is_empty, is_number}
-use Rattle.ptlangs.proofs.Common.{is_list_separator, value, Interval, max, ◌≤◌, append_assoc, list_any-append, list_any, AreSeparated}
+use Rattle.ptlangs.proofs.Common.{Result, ◌≡◌, Bool, List, None, Ok, Option, Some, [], ap, arith, cond, drop, eqb}
+use Rattle.ptlangs.proofs.Common.{false, get_or, inl, inr, leb, length, ltb, not, refl, subst, suc, sym, take, true, ℕ}
+use Rattle.ptlangs.proofs.Common.{◌&&◌, ◌++◌, ◌+◌, ◌-◌, ◌<◌, ◌||◌, ◌∙◌, ◌∷◌, and_left, and_parts, and_right, cases_Bool}
+use Rattle.ptlangs.proofs.Common.{cond-false, cond-true, eqb-false, eqb-true, le-ltb, ltb-false, ne_eqb, or_from}
+use Rattle.ptlangs.proofs.Common.{or_parts, nat_tests, All-append, All-cons, list_any-IsPermutation}
+use Rattle.ptlangs.proofs.Common.{join_with_byte-slice_split, length-slice_split, slice_split_at, slice_split_none}
+use Rattle.ptlangs.proofs.Common.{AllPass-from_list_all, is_ascii_digit, All, join_with_byte, list_all, position}
+use Rattle.ptlangs.proofs.Common.{slice_split, CutListMatchesGrammar, AreSortedFrom, From, FromTo, SpellsInterval}
+use Rattle.ptlangs.proofs.Common.{IsValidInterval, IsIntervalElement, One, UpTo, checked_interval, cut_list}
+use Rattle.ptlangs.proofs.Common.{element_interval, interval_of_bounds, is_dash, is_bound, is_selected}
+use Rattle.ptlangs.proofs.Common.{interval_of_parts, selection, and_then, traverse, max_u64, is_empty, is_number}
+use Rattle.ptlangs.proofs.Common.{is_list_separator, value, Interval, max, ◌≤◌, append_assoc, list_any-append, list_any}
+use Rattle.ptlangs.proofs.Common.{AreSeparated}
 use Rattle.std.specs.List.Sorted.{IsNonDecreasingBy, IsPermutation}
 use Rattle.std.proofs.lemmas.Bool.{cond_both}
 use Rattle.ptlangs.specs.declared.ranges.ListFault.{ListFault}
-use Rattle.ptlangs.proofs.ListElements.{split_whole, split_around, some_since, digits_fail, digit_no_list_separator, IsSplit, Whole, Cut, splits, reads_first, Accepts, from_grammar, to_grammar}
+use Rattle.ptlangs.proofs.ListElements.{split_whole, split_around, some_since, digits_fail, digit_no_list_separator}
+use Rattle.ptlangs.proofs.ListElements.{IsSplit, Whole, Cut, splits, reads_first, Accepts, from_grammar, to_grammar}
 
 -- ---- the elements, split at dashes
 
@@ -21,14 +29,17 @@ digit_no_dash b h = grind (arith, nat_tests)
 bound_is_one_part : (m : List ℕ) → is_bound m ≡ true → slice_split is_dash m ≡ m ∷ []
 bound_is_one_part [] h = refl
 bound_is_one_part (b ∷ bs) h =
-    slice_split_none is_dash (b ∷ bs) (λ k d below. digit_no_dash (get_or (b ∷ bs) k d) (AllPass-from_list_all is_ascii_digit (b ∷ bs) h k d below))
+    slice_split_none is_dash (b ∷ bs) (λ k d below. digit_no_dash (get_or (b ∷ bs) k d)
+    (AllPass-from_list_all is_ascii_digit (b ∷ bs) h k d below))
 
 bounds_rejected : (n m : List ℕ) → is_bound m ≡ false → interval_of_bounds n m ≡ None
 bounds_rejected n m h =
     let some = not (is_empty n && is_empty m) in
-    cond-false (is_bound n && is_bound m && some) _ None (and_left (is_bound n && is_bound m) some (and_right (is_bound n) (is_bound m) h))
+    cond-false (is_bound n && is_bound m && some) _ None
+    (and_left (is_bound n && is_bound m) some (and_right (is_bound n) (is_bound m) h))
 
-rejected : (n m : List ℕ) → (parts : List (List ℕ)) → 0 < length parts → join_with_byte 45 parts ≡ m → is_bound m ≡ false → interval_of_parts (n ∷ parts) ≡ None
+rejected : (n m : List ℕ) → (parts : List (List ℕ)) → 0 < length parts → join_with_byte 45 parts ≡ m
+    → is_bound m ≡ false → interval_of_parts (n ∷ parts) ≡ None
 rejected n m [] some union_of_touching h = absurd (omega arith)
 rejected n m (p ∷ []) some union_of_touching h =
     let e : is_bound p ≡ false = ap is_bound union_of_touching ∙ h in
@@ -39,7 +50,8 @@ rejected n m (p ∷ q ∷ rest) some union_of_touching h = refl
 parts_after_dash : (n m : List ℕ) → interval_of_parts (n ∷ slice_split is_dash m) ≡ interval_of_bounds n m
 parts_after_dash n m = elim (cases_Bool (is_bound m)) [
   | inl e ↦ ap (λ parts. interval_of_parts (n ∷ parts)) (bound_is_one_part m e)
-  | inr e ↦ rejected n m (slice_split is_dash m) (omega (arith, length-slice_split is_dash m)) (join_with_byte-slice_split 45 m) e ∙ sym (bounds_rejected n m e)
+  | inr e ↦ rejected n m (slice_split is_dash m) (omega (arith, length-slice_split is_dash m))
+      (join_with_byte-slice_split 45 m) e ∙ sym (bounds_rejected n m e)
 ]
 
 twice : {X : Type 0} (b : Bool) (x y : X) → cond b x y ≡ cond ((b && b) && true) x y
@@ -47,12 +59,17 @@ twice true x y = refl
 twice false x y = refl
 
 -- an element without a dash is both of its bounds
-pub parts_without_dash : (bs : List ℕ) → position is_dash bs ≡ None → is_empty bs ≡ false → interval_of_parts (slice_split is_dash bs) ≡ interval_of_bounds bs bs
+pub parts_without_dash : (bs : List ℕ) → position is_dash bs ≡ None → is_empty bs ≡ false
+    → interval_of_parts (slice_split is_dash bs) ≡ interval_of_bounds bs bs
 parts_without_dash [] h some = cc
-parts_without_dash (b ∷ bs) h some = ap interval_of_parts (split_whole is_dash (b ∷ bs) h) ∙ twice (list_all is_ascii_digit (b ∷ bs)) _ _
+parts_without_dash (b ∷ bs) h some = ap interval_of_parts (split_whole is_dash (b ∷ bs) h)
+    ∙ twice (list_all is_ascii_digit (b ∷ bs)) _ _
 
-pub parts_around_dash : (bs : List ℕ) (i : ℕ) → position is_dash bs ≡ Some i → interval_of_parts (slice_split is_dash bs) ≡ interval_of_bounds (take i bs) (take (length bs - (i + 1)) (drop (i + 1) bs))
-parts_around_dash bs i h = ap interval_of_parts (split_around is_dash bs i h) ∙ parts_after_dash (take i bs) (take (length bs - (i + 1)) (drop (i + 1) bs))
+pub parts_around_dash : (bs : List ℕ) (i : ℕ) → position is_dash bs ≡ Some i
+    → interval_of_parts (slice_split is_dash bs)
+    ≡ interval_of_bounds (take i bs) (take (length bs - (i + 1)) (drop (i + 1) bs))
+parts_around_dash bs i h = ap interval_of_parts (split_around is_dash bs i h)
+    ∙ parts_after_dash (take i bs) (take (length bs - (i + 1)) (drop (i + 1) bs))
 
 -- ---- from the intervals in the order of the list to the merged intervals
 
@@ -60,34 +77,41 @@ parts_around_dash bs i h = ap interval_of_parts (split_around is_dash bs i h) �
 abbrev Proper : Interval → Interval → Result Interval ListFault → Type 0
 Proper s r checked_interval = checked_interval ≡ Ok r → (Some s ≡ Some r) × IsValidInterval r
 
-checked_proper : (interval_of_parts : Option Interval) (r : Interval) → checked_interval interval_of_parts ≡ Ok r → (interval_of_parts ≡ Some r) × IsValidInterval r
+checked_proper : (interval_of_parts : Option Interval) (r : Interval) → checked_interval interval_of_parts ≡ Ok r
+    → (interval_of_parts ≡ Some r) × IsValidInterval r
 checked_proper None r h = cc
 checked_proper (Some s) r h =
     cond_both (ltb max_u64 s.first || ltb max_u64 s.last) _ _ (Proper s r) (λ t h. cc)
     (λ large. cond_both (eqb s.first 0 || eqb s.last 0) _ _ (Proper s r) (λ t h. cc)
     (λ zero. cond_both (ltb s.last s.first) _ _ (Proper s r) (λ t h. cc)
     (λ falls h.
-    let is : s ≡ r = cc in (
+    let is : s ≡ r = cc in
+    let (some, _) = or_parts (eqb s.first 0) (eqb s.last 0) zero in
+    let (_, small) = or_parts (ltb max_u64 s.first) (ltb max_u64 s.last) large in (
       ap Some is,
       subst IsValidInterval is (record {
-        positive = omega (arith, eqb-false s.first 0 (or_parts (eqb s.first 0) (eqb s.last 0) zero).0);
+        positive = omega (arith, eqb-false s.first 0 some);
         ascending = ltb-false s.last s.first falls;
-        fits = ltb-false max_u64 s.last (or_parts (ltb max_u64 s.first) (ltb max_u64 s.last) large).1;
+        fits = ltb-false max_u64 s.last small;
       }),
     )))) h
 
 element_proper : (bs : List ℕ) (r : Interval) → element_interval bs ≡ Ok r → IsValidInterval r
 element_proper [] r h = cc
-element_proper (b ∷ bs) r h = (checked_proper (interval_of_parts (slice_split is_dash (b ∷ bs))) r h).1
+element_proper (b ∷ bs) r h =
+    let (_, valid) = checked_proper (interval_of_parts (slice_split is_dash (b ∷ bs))) r h in valid
 
-pub each_proper : (all : List (List ℕ)) (rs : List Interval) → traverse element_interval all ≡ Ok rs → All IsValidInterval rs
+pub each_proper : (all : List (List ℕ)) (rs : List Interval) → traverse element_interval all ≡ Ok rs
+    → All IsValidInterval rs
 each_proper [] [] h = λ k d below. absurd (omega arith)
 each_proper [] (r ∷ rs) h = cc
 each_proper (x ∷ all) rs h =
     let f = reads_first (element_interval x) (traverse element_interval all) rs h in
-    subst (All IsValidInterval) f.is (All-cons IsValidInterval f.head f.tail (element_proper x f.head f.read) (each_proper all f.tail f.rest))
+    subst (All IsValidInterval) f.is (All-cons IsValidInterval f.head f.tail (element_proper x f.head f.read)
+    (each_proper all f.tail f.rest))
 
-sorted_after : (x : Interval) (xs : List Interval) → All IsValidInterval (x ∷ xs) → IsNonDecreasingBy (λ (r : Interval). r.first) (x ∷ xs) → AreSortedFrom x.first xs
+sorted_after : (x : Interval) (xs : List Interval) → All IsValidInterval (x ∷ xs)
+    → IsNonDecreasingBy (λ (r : Interval). r.first) (x ∷ xs) → AreSortedFrom x.first xs
 sorted_after x [] proper up = tt
 sorted_after x (y ∷ xs) proper up = (
   up 0 1 x (omega arith) (omega arith),
@@ -96,105 +120,130 @@ sorted_after x (y ∷ xs) proper up = (
       (λ i j d le below. up (suc i) (suc j) d (omega arith) (omega arith)),
 )
 
-pub in_order : (xs : List Interval) → All IsValidInterval xs → IsNonDecreasingBy (λ (r : Interval). r.first) xs → AreSortedFrom 1 xs
+pub in_order : (xs : List Interval) → All IsValidInterval xs → IsNonDecreasingBy (λ (r : Interval). r.first) xs
+    → AreSortedFrom 1 xs
 in_order [] proper up = tt
 in_order (x ∷ xs) proper up =
     let p = proper 0 x (omega arith) in
     (p.positive, p.ascending, sorted_after x xs proper up)
 
 -- the set does not depend on the order of the intervals
-pub selection_is_kept : (bs : List ℕ) (listed sorted kept : List Interval) → cut_list bs ≡ Ok listed → IsPermutation listed sorted → is_selected kept
-    ≡ is_selected sorted → selection bs ≡ Ok (is_selected kept)
+pub selection_is_kept : (bs : List ℕ) (listed sorted kept : List Interval) → cut_list bs ≡ Ok listed
+    → IsPermutation listed sorted → is_selected kept ≡ is_selected sorted → selection bs ≡ Ok (is_selected kept)
 selection_is_kept bs listed sorted kept e p same =
-    let moved : is_selected listed ≡ is_selected sorted = λ i n. list_any-IsPermutation (λ (r : Interval). leb r.first n && leb n r.last) listed sorted p i in
+    let moved : is_selected listed ≡ is_selected sorted =
+    λ i n. list_any-IsPermutation (λ (r : Interval). leb r.first n && leb n r.last) listed sorted p i in
     ap (λ v. and_then v (λ rs. Ok (is_selected rs))) e ∙ ap Ok (moved ∙ sym same)
 
 -- ---- from the grammar to `cut_list`
 
 checked_ok : (r : Interval) → IsValidInterval r → checked_interval (Some r) ≡ Ok r
 checked_ok r proper =
-    let large : (ltb max_u64 r.first || ltb max_u64 r.last) ≡ false = or_from _ _ (le-ltb max_u64 r.first (omega (arith, proper.ascending, proper.fits))) (le-ltb max_u64 r.last proper.fits) in
-    let zero : (eqb r.first 0 || eqb r.last 0) ≡ false = or_from _ _ (ne_eqb r.first 0 (λ e. omega (arith, proper.positive, e)))
+    let large : (ltb max_u64 r.first || ltb max_u64 r.last) ≡ false =
+    or_from _ _ (le-ltb max_u64 r.first (omega (arith, proper.ascending, proper.fits)))
+    (le-ltb max_u64 r.last proper.fits) in
+    let zero : (eqb r.first 0 || eqb r.last 0) ≡ false =
+    or_from _ _ (ne_eqb r.first 0 (λ e. omega (arith, proper.positive, e)))
     (ne_eqb r.last 0 (λ e. omega (arith, proper.positive, proper.ascending, e))) in
     let falls : ltb r.last r.first ≡ false = le-ltb r.last r.first proper.ascending in
     rw (large, zero, falls) refl
 
-parts_of_element : (bs : List ℕ) (r : Interval) → SpellsInterval bs r → (is_empty bs ≡ false) × (interval_of_parts (slice_split is_dash bs) ≡ Some r)
+parts_of_element : (bs : List ℕ) (r : Interval) → SpellsInterval bs r
+    → (is_empty bs ≡ false) × (interval_of_parts (slice_split is_dash bs) ≡ Some r)
 parts_of_element bs r (One [] h) = cc
 parts_of_element bs r (One (b ∷ n) h) = (refl, ap interval_of_parts (bound_is_one_part (b ∷ n) h) ∙ cond-true _ _ _ h)
 parts_of_element bs r (FromTo [] m h k) = cc
 parts_of_element bs r (FromTo (b ∷ n) [] h k) = cc
-parts_of_element bs r (FromTo (b ∷ n) (c ∷ m) h k) =
-    (refl, ap interval_of_parts (slice_split_at is_dash (b ∷ n) 45 (c ∷ m) (digits_fail is_dash digit_no_dash (b ∷ n) h) refl) ∙ parts_after_dash (b ∷ n) (c ∷ m) ∙ rw (h, k) refl)
+parts_of_element bs r (FromTo (b ∷ n) (c ∷ m) h k) = (
+  refl,
+  ap interval_of_parts (slice_split_at is_dash (b ∷ n) 45 (c ∷ m) (digits_fail is_dash digit_no_dash (b ∷ n) h) refl)
+      ∙ parts_after_dash (b ∷ n) (c ∷ m) ∙ rw (h, k) refl,
+)
 parts_of_element bs r (UpTo [] h) = cc
 parts_of_element bs r (UpTo (c ∷ m) h) = (refl, parts_after_dash [] (c ∷ m) ∙ rw h refl)
 parts_of_element bs r (From [] h) = cc
-parts_of_element bs r (From (b ∷ n) h) =
-    (refl, ap interval_of_parts (slice_split_at is_dash (b ∷ n) 45 [] (digits_fail is_dash digit_no_dash (b ∷ n) h) refl) ∙ rw h refl)
+parts_of_element bs r (From (b ∷ n) h) = (
+  refl,
+  ap interval_of_parts (slice_split_at is_dash (b ∷ n) 45 [] (digits_fail is_dash digit_no_dash (b ∷ n) h) refl)
+      ∙ rw h refl,
+)
 
 accepts_element : (bs : List ℕ) (r : Interval) → SpellsInterval bs r → IsValidInterval r → element_interval bs ≡ Ok r
 accepts_element bs r e proper =
-    let s = parts_of_element bs r e in
-    rw (s.0, s.1) (checked_ok r proper)
+    let (some, parts) = parts_of_element bs r e in
+    rw (some, parts) (checked_ok r proper)
 
 no_separator : (bs : List ℕ) (r : Interval) → SpellsInterval bs r → All (λ b. is_list_separator b ≡ false) bs
 no_separator bs r (One n h) = digits_fail is_list_separator digit_no_list_separator n h
 no_separator bs r (FromTo n m h k) =
     All-append (λ b. is_list_separator b ≡ false) n (45 ∷ m) (digits_fail is_list_separator digit_no_list_separator n h)
     (All-cons (λ b. is_list_separator b ≡ false) 45 m refl (digits_fail is_list_separator digit_no_list_separator m k))
-no_separator bs r (UpTo m h) = All-cons (λ b. is_list_separator b ≡ false) 45 m refl (digits_fail is_list_separator digit_no_list_separator m h)
+no_separator bs r (UpTo m h) =
+    All-cons (λ b. is_list_separator b ≡ false) 45 m refl (digits_fail is_list_separator digit_no_list_separator m h)
 no_separator bs r (From n h) =
-    All-append (λ b. is_list_separator b ≡ false) n (45 ∷ []) (digits_fail is_list_separator digit_no_list_separator n h) (All-cons (λ b. is_list_separator b ≡ false) 45 [] refl (λ k d below. absurd (omega arith)))
+    All-append (λ b. is_list_separator b ≡ false) n (45 ∷ [])
+    (digits_fail is_list_separator digit_no_list_separator n h)
+    (All-cons (λ b. is_list_separator b ≡ false) 45 [] refl (λ k d below. absurd (omega arith)))
 
 -- ---- from `cut_list` to the grammar
 
-spelled_one : (bs : List ℕ) (r : Interval) → cond (is_number bs) (Some (record { first = value bs; last = value bs })) None ≡ Some r → SpellsInterval bs r
+spelled_one : (bs : List ℕ) (r : Interval)
+    → cond (is_number bs) (Some (record { first = value bs; last = value bs })) None ≡ Some r → SpellsInterval bs r
 spelled_one bs r e =
-    let s = some_since (is_number bs) (record { first = value bs; last = value bs }) r e in
-    subst (SpellsInterval bs) s.1 (One bs s.0)
+    let (number, is) = some_since (is_number bs) (record { first = value bs; last = value bs }) r e in
+    subst (SpellsInterval bs) is (One bs number)
 
 spelled_ends : (n m : List ℕ) (r : Interval) → interval_of_bounds n m ≡ Some r → SpellsInterval (n ++ 45 ∷ m) r
 spelled_ends [] [] r e = cc
 spelled_ends [] (c ∷ m) r e =
-    let s = some_since ((true && is_number (c ∷ m)) && true) _ r e in
-    subst (SpellsInterval (45 ∷ c ∷ m)) s.1 (UpTo (c ∷ m) (and_parts (is_number (c ∷ m)) true s.0).0)
+    let (bounds, is) = some_since ((true && is_number (c ∷ m)) && true) _ r e in
+    subst (SpellsInterval (45 ∷ c ∷ m)) is (UpTo (c ∷ m) (let (digits, _) = and_parts (is_number (c ∷ m)) true bounds in digits))
 spelled_ends (b ∷ n) [] r e =
-    let s = some_since ((is_number (b ∷ n) && true) && true) _ r e in
-    subst (SpellsInterval ((b ∷ n) ++ 45 ∷ [])) s.1 (From (b ∷ n) (and_parts (is_number (b ∷ n)) true (and_parts (is_number (b ∷ n) && true) true s.0).0).0)
+    let (bounds, is) = some_since ((is_number (b ∷ n) && true) && true) _ r e in
+    let (number, _) = and_parts (is_number (b ∷ n) && true) true bounds in
+    let (digits, _) = and_parts (is_number (b ∷ n)) true number in
+    subst (SpellsInterval ((b ∷ n) ++ 45 ∷ [])) is (From (b ∷ n) digits)
 spelled_ends (b ∷ n) (c ∷ m) r e =
-    let s = some_since ((is_number (b ∷ n) && is_number (c ∷ m)) && true) _ r e in
-    let both = and_parts (is_number (b ∷ n)) (is_number (c ∷ m)) (and_parts (is_number (b ∷ n) && is_number (c ∷ m)) true s.0).0 in
-    subst (SpellsInterval ((b ∷ n) ++ 45 ∷ c ∷ m)) s.1 (FromTo (b ∷ n) (c ∷ m) both.0 both.1)
+    let (bounds, is) = some_since ((is_number (b ∷ n) && is_number (c ∷ m)) && true) _ r e in
+    let (both, _) = and_parts (is_number (b ∷ n) && is_number (c ∷ m)) true bounds in
+    let (first, last) = and_parts (is_number (b ∷ n)) (is_number (c ∷ m)) both in
+    subst (SpellsInterval ((b ∷ n) ++ 45 ∷ c ∷ m)) is (FromTo (b ∷ n) (c ∷ m) first last)
 
-three_parts : (n m bs : List ℕ) (rest : List (List ℕ)) → IsSplit is_dash bs rest → interval_of_parts (n ∷ m ∷ rest) ≡ None
+three_parts : (n m bs : List ℕ) (rest : List (List ℕ)) → IsSplit is_dash bs rest
+    → interval_of_parts (n ∷ m ∷ rest) ≡ None
 three_parts n m bs rest (Whole xs) = refl
 three_parts n m bs rest (Cut e s xs others cut split) = refl
 
-spelled_cut : (n : List ℕ) (s : ℕ) (bs : List ℕ) (rest : List (List ℕ)) (r : Interval) → s ≡ 45 → IsSplit is_dash bs rest → interval_of_parts (n ∷ rest) ≡ Some r → SpellsInterval (n ++ s ∷ bs) r
+spelled_cut : (n : List ℕ) (s : ℕ) (bs : List ℕ) (rest : List (List ℕ)) (r : Interval) → s ≡ 45
+    → IsSplit is_dash bs rest → interval_of_parts (n ∷ rest) ≡ Some r → SpellsInterval (n ++ s ∷ bs) r
 spelled_cut n s bs rest r at (Whole xs) e =
     subst (λ (d : ℕ). SpellsInterval (n ++ d ∷ xs) r) (sym at) (spelled_ends n xs r e)
 spelled_cut n s bs rest r at (Cut m d xs others cut split) e =
     let none : None ≡ Some r = sym (three_parts n m xs others split) ∙ e in cc
 
-spelled : (bs : List ℕ) (parts : List (List ℕ)) (r : Interval) → IsSplit is_dash bs parts → interval_of_parts parts ≡ Some r → SpellsInterval bs r
+spelled : (bs : List ℕ) (parts : List (List ℕ)) (r : Interval) → IsSplit is_dash bs parts
+    → interval_of_parts parts ≡ Some r → SpellsInterval bs r
 spelled bs parts r (Whole xs) e = spelled_one xs r e
 spelled bs parts r (Cut n s xs rest cut split) e = spelled_cut n s xs rest r (eqb-true s 45 cut) split e
 
 reads_element : (bs : List ℕ) (r : Interval) → element_interval bs ≡ Ok r → IsIntervalElement bs r
 reads_element [] r h = cc
 reads_element (b ∷ bs) r h =
-    let j = checked_proper (interval_of_parts (slice_split is_dash (b ∷ bs))) r h in
-    (spelled (b ∷ bs) (slice_split is_dash (b ∷ bs)) r (splits is_dash (b ∷ bs)) j.0, j.1)
+    let (parts, valid) = checked_proper (interval_of_parts (slice_split is_dash (b ∷ bs))) r h in
+    (spelled (b ∷ bs) (slice_split is_dash (b ∷ bs)) r (splits is_dash (b ∷ bs)) parts, valid)
 
 accepts_elements : Accepts element_interval IsIntervalElement
 accepts_elements = record {
-  from = λ e r h. accepts_element e r h.0 h.1;
+  from = λ e r (spells, valid). accepts_element e r spells valid;
   to = reads_element;
-  whole = λ e r h. no_separator e r h.0;
+  whole = λ e r (spells, _). no_separator e r spells;
 }
 
 pub accepts_the_grammar : CutListMatchesGrammar
-accepts_the_grammar bs rs = (from_grammar element_interval IsIntervalElement accepts_elements bs rs, to_grammar element_interval IsIntervalElement accepts_elements bs rs)
+accepts_the_grammar bs rs = (
+  from_grammar element_interval IsIntervalElement accepts_elements bs rs,
+  to_grammar element_interval IsIntervalElement accepts_elements bs rs,
+)
 
 -- ---- merging sorted intervals
 
@@ -206,59 +255,78 @@ pub record Merges (sorted kept : List Interval) (current : Interval) (rest : Lis
   pub same : (n : ℕ) → is_selected (kept ++ current ∷ rest) n ≡ is_selected sorted n
 
 -- the last interval may be extended
-AreSeparated-longer : (low : ℕ) (kept : List Interval) (r s : Interval) → s.first ≡ r.first → r.last ≤ s.last → AreSeparated low (kept ++ r ∷ []) → AreSeparated low (kept ++ s ∷ [])
-AreSeparated-longer low [] r s e h separated = (omega (arith, separated.0), omega (arith, separated.1), tt)
-AreSeparated-longer low (k ∷ kept) r s e h separated = (separated.0, separated.1, AreSeparated-longer (k.last + 1) kept r s e h separated.2)
+AreSeparated-longer : (low : ℕ) (kept : List Interval) (r s : Interval) → s.first ≡ r.first → r.last ≤ s.last
+    → AreSeparated low (kept ++ r ∷ []) → AreSeparated low (kept ++ s ∷ [])
+AreSeparated-longer low [] r s e h separated =
+    let (above, ascending, _) = separated in (omega (arith, above), omega (arith, ascending), tt)
+AreSeparated-longer low (k ∷ kept) r s e h separated =
+    let (above, ascending, others) = separated in
+    (above, ascending, AreSeparated-longer (k.last + 1) kept r s e h others)
 
 -- an interval after a gap may be appended
-AreSeparated-more : (low : ℕ) (kept : List Interval) (r s : Interval) → r.last + 1 < s.first → s.first ≤ s.last → AreSeparated low (kept ++ r ∷ []) → AreSeparated low ((kept ++ r ∷ []) ++ s ∷ [])
-AreSeparated-more low [] r s gap proper separated = (separated.0, separated.1, (gap, proper, tt))
-AreSeparated-more low (k ∷ kept) r s gap proper separated = (separated.0, separated.1, AreSeparated-more (k.last + 1) kept r s gap proper separated.2)
+AreSeparated-more : (low : ℕ) (kept : List Interval) (r s : Interval) → r.last + 1 < s.first → s.first ≤ s.last
+    → AreSeparated low (kept ++ r ∷ []) → AreSeparated low ((kept ++ r ∷ []) ++ s ∷ [])
+AreSeparated-more low [] r s gap proper separated =
+    let (above, ascending, _) = separated in (above, ascending, (gap, proper, tt))
+AreSeparated-more low (k ∷ kept) r s gap proper separated =
+    let (above, ascending, others) = separated in
+    (above, ascending, AreSeparated-more (k.last + 1) kept r s gap proper others)
 
 abbrev holds : ℕ → Interval → Bool
 holds n r = leb r.first n && leb n r.last
 
 InOrder-lower : (low high : ℕ) (rest : List Interval) → low ≤ high → AreSortedFrom high rest → AreSortedFrom low rest
 InOrder-lower low high [] h ordered = tt
-InOrder-lower low high (r ∷ rest) h ordered = (omega (arith, ordered.0), ordered.1, ordered.2)
+InOrder-lower low high (r ∷ rest) h ordered =
+    let (above, ascending, others) = ordered in (omega (arith, above), ascending, others)
 
 -- two intervals that overlap or are adjacent select the numbers of their union
-union_of_touching : (a b c d n : ℕ) → a ≤ c → c - 1 ≤ b → c ≤ d → ((leb a n && leb n b) || (leb c n && leb n d)) ≡ (leb a n && leb n (max b d))
+union_of_touching : (a b c d n : ℕ) → a ≤ c → c - 1 ≤ b → c ≤ d
+    → ((leb a n && leb n b) || (leb c n && leb n d)) ≡ (leb a n && leb n (max b d))
 union_of_touching a b c d n h1 h2 h3 = grind (arith, nat_tests)
 
 or_first : (p q m x : Bool) → (p || q) ≡ m → (p || (q || x)) ≡ (m || x)
 or_first true q m x e = ap (λ v. v || x) e
 or_first false q m x e = ap (λ v. v || x) e
 
-pub absorbs : (sorted kept : List Interval) (r s t : Interval) (rest : List Interval) → t.first ≡ r.first → t.last ≡ max r.last s.last → s.first - 1 ≤ r.last
-    → Merges sorted kept r (s ∷ rest) → Merges sorted kept t rest
+pub absorbs : (sorted kept : List Interval) (r s t : Interval) (rest : List Interval) → t.first ≡ r.first
+    → t.last ≡ max r.last s.last → s.first - 1 ≤ r.last → Merges sorted kept r (s ∷ rest) → Merges sorted kept t rest
 absorbs sorted kept r s t rest e e' touch m =
+    let (above, ascending, others) = m.ordered in
     let step : (n : ℕ) → is_selected (t ∷ rest) n ≡ is_selected (r ∷ s ∷ rest) n = λ n. sym
-    (or_first (holds n r) (holds n s) (holds n t) (list_any (holds n) rest) (rw (e, e') (union_of_touching r.first r.last s.first s.last n m.ordered.0 touch m.ordered.1))) in
+    (or_first (holds n r) (holds n s) (holds n t) (list_any (holds n) rest)
+    (rw (e, e') (union_of_touching r.first r.last s.first s.last n above touch ascending))) in
     record {
       positive = omega (arith, m.positive);
       separated = AreSeparated-longer 0 kept r t e (omega arith) m.separated;
-      ordered = InOrder-lower t.first s.first rest (omega (arith, m.ordered.0)) m.ordered.2;
-      same = λ n. list_any-append (holds n) kept (t ∷ rest) ∙ ap (λ x. list_any (holds n) kept || x) (step n) ∙ sym (list_any-append (holds n) kept (r ∷ s ∷ rest)) ∙ m.same n;
+      ordered = InOrder-lower t.first s.first rest (omega (arith, above)) others;
+      same = λ n. list_any-append (holds n) kept (t ∷ rest) ∙ ap (λ x. list_any (holds n) kept || x) (step n)
+          ∙ sym (list_any-append (holds n) kept (r ∷ s ∷ rest)) ∙ m.same n;
     }
 
-pub starts_next : (sorted kept : List Interval) (r s : Interval) (rest : List Interval) → r.last < s.first - 1 → Merges sorted kept r (s ∷ rest) → Merges sorted (kept ++ r ∷ []) s rest
-starts_next sorted kept r s rest gap m = record {
-  positive = omega (arith, m.ordered.0);
-  separated = AreSeparated-more 0 kept r s (omega arith) m.ordered.1 m.separated;
-  ordered = m.ordered.2;
-  same = λ n. ap (λ xs. is_selected xs n) (append_assoc kept (r ∷ []) (s ∷ rest)) ∙ m.same n;
-}
-
-pub starts : (first : Interval) (others sorted : List Interval) → sorted ≡ first ∷ others → AreSortedFrom 1 sorted → Merges sorted [] first others
-starts first others sorted e ordered =
-    let o : AreSortedFrom 1 (first ∷ others) = subst (AreSortedFrom 1) e ordered in
+pub starts_next : (sorted kept : List Interval) (r s : Interval) (rest : List Interval) → r.last < s.first - 1
+    → Merges sorted kept r (s ∷ rest) → Merges sorted (kept ++ r ∷ []) s rest
+starts_next sorted kept r s rest gap m =
+    let (above, ascending, others) = m.ordered in
     record {
-      positive = o.0;
-      separated = (o.0, o.1, tt);
-      ordered = o.2;
+      positive = omega (arith, above, m.positive);
+      separated = AreSeparated-more 0 kept r s (omega arith) ascending m.separated;
+      ordered = others;
+      same = λ n. ap (λ xs. is_selected xs n) (append_assoc kept (r ∷ []) (s ∷ rest)) ∙ m.same n;
+    }
+
+pub starts : (first : Interval) (others sorted : List Interval) → sorted ≡ first ∷ others → AreSortedFrom 1 sorted
+    → Merges sorted [] first others
+starts first others sorted e ordered =
+    let all : AreSortedFrom 1 (first ∷ others) = subst (AreSortedFrom 1) e ordered in
+    let (positive, ascending, rest) = all in
+    record {
+      positive = positive;
+      separated = (positive, ascending, tt);
+      ordered = rest;
       same = λ n. ap (λ xs. is_selected xs n) (sym e);
     }
 
-pub next_positive : {sorted kept : List Interval} {r s : Interval} {rest : List Interval} → Merges sorted kept r (s ∷ rest) → 1 ≤ s.first
-next_positive m = omega (arith, m.positive, m.ordered.0)
+pub next_positive : {sorted kept : List Interval} {r s : Interval} {rest : List Interval}
+    → Merges sorted kept r (s ∷ rest) → 1 ≤ s.first
+next_positive m = let (above, _, _) = m.ordered in omega (arith, m.positive, above)

@@ -1,7 +1,10 @@
 -- The lists of `paste`: each escape is one case of the grammar, so `delim_list` agrees with the grammar in both
 -- directions. The fault of a list is the first one found from left to right, and is never an allocation failure.
-use Rattle.ptlangs.proofs.Common.{◌≡◌, Bool, Err, List, None, Ok, Option, Result, Some, [], ap, arith, cond, eqb, false, length, refl, subst, sym, true, ℕ, ◌++◌, ◌<◌, ◌∙◌, ◌∷◌, eqb-true, append-nil}
-use Rattle.ptlangs.proofs.Common.{result_err, Backslash, IsDelim, IsDelimList, Last, More, Newline, Nothing, Tab, backslash, delim_list, delims, escape, delim_list_fault, and_then, cons_ok, DelimFault}
+use Rattle.ptlangs.proofs.Common.{◌≡◌, Bool, Err, List, None, Ok, Option, Result, Some, [], ap, arith, cond, eqb, false}
+use Rattle.ptlangs.proofs.Common.{length, refl, subst, sym, true, ℕ, ◌++◌, ◌<◌, ◌∙◌, ◌∷◌, eqb-true, append-nil}
+use Rattle.ptlangs.proofs.Common.{result_err, Backslash, IsDelim, IsDelimList, Last, More, Newline, Nothing, Tab}
+use Rattle.ptlangs.proofs.Common.{backslash, delim_list, delims, escape, delim_list_fault, and_then, cons_ok}
+use Rattle.ptlangs.proofs.Common.{DelimFault}
 use Rattle.std.proofs.lemmas.Bool.{cond_both}
 use Rattle.ptlangs.proofs.ListElements.{reads_first}
 use Rattle.ptlangs.specs.DelimLists.{Plain, DelimListMatchesGrammar}
@@ -26,7 +29,8 @@ is_some (b ∷ bs) ds h = h
 
 accepts : (bs : List ℕ) (ds : List (Option ℕ)) → IsDelimList bs ds → delim_list bs ≡ Ok ds
 accepts bs ds (Last e d is) = ap delim_list (sym (append-nil e)) ∙ element_is_read e [] d is
-accepts bs ds (More e rest d others is list) = element_is_read e rest d is ∙ ap (cons_ok d) (is_some rest others (accepts rest others list))
+accepts bs ds (More e rest d others is list) = element_is_read e rest d is
+    ∙ ap (cons_ok d) (is_some rest others (accepts rest others list))
 
 -- ---- from `delim_list` to the grammar
 
@@ -52,16 +56,24 @@ more_delims e (b ∷ bs) d ds is h list = More e (b ∷ bs) d ds is (list ds h)
 
 list_is_spelled : (bs : List ℕ) (ds : List (Option ℕ)) → delim_list bs ≡ Ok ds → IsDelimList bs ds
 list_is_spelled [] ds h = cc
-list_is_spelled (b ∷ []) ds h = cond_both (eqb b backslash) _ _ (λ (r : Result (List (Option ℕ)) DelimFault). r ≡ Ok ds → IsDelimList (b ∷ []) ds) (λ t e. cc)
+list_is_spelled (b ∷ []) ds h =
+    cond_both (eqb b backslash) _ _ (λ (r : Result (List (Option ℕ)) DelimFault). r ≡ Ok ds → IsDelimList (b ∷ []) ds)
+    (λ t e. cc)
     (λ n e. let one : Some b ∷ [] ≡ ds = cc in subst (IsDelimList (b ∷ [])) one (Last (b ∷ []) (Some b) (Plain b n))) h
-list_is_spelled (b ∷ c ∷ more) ds h = cond_both (eqb b backslash) _ _ (λ (r : Result (List (Option ℕ)) DelimFault). r ≡ Ok ds → IsDelimList (b ∷ c ∷ more) ds)
+list_is_spelled (b ∷ c ∷ more) ds h =
+    cond_both (eqb b backslash) _ _ (λ (r : Result (List (Option ℕ)) DelimFault). r ≡ Ok ds
+    → IsDelimList (b ∷ c ∷ more) ds)
     (λ t e.
     let f = reads_first (escape c) (delims more) ds e in
-    rw (eqb-true b backslash t) (subst (IsDelimList (backslash ∷ c ∷ more)) f.is (more_delims (backslash ∷ c ∷ []) more f.head f.tail (escape_is_spelled c f.head f.read) f.rest (λ xs. list_is_spelled more xs))))
+    rw (eqb-true b backslash t) (subst (IsDelimList (backslash ∷ c ∷ more)) f.is
+    (more_delims (backslash ∷ c ∷ []) more f.head f.tail (escape_is_spelled c f.head f.read) f.rest
+    (λ xs. list_is_spelled more xs))))
     (λ n e.
     let f = reads_first (Ok (Some b)) (delims (c ∷ more)) ds e in
     let first : Some b ≡ f.head = cc in
-    subst (IsDelimList (b ∷ c ∷ more)) f.is (more_delims (b ∷ []) (c ∷ more) f.head f.tail (subst (IsDelim (b ∷ [])) first (Plain b n)) f.rest (λ xs. list_is_spelled (c ∷ more) xs)))
+    subst (IsDelimList (b ∷ c ∷ more)) f.is
+    (more_delims (b ∷ []) (c ∷ more) f.head f.tail (subst (IsDelim (b ∷ [])) first (Plain b n)) f.rest
+    (λ xs. list_is_spelled (c ∷ more) xs)))
     h
 
 pub accepts_the_grammar : DelimListMatchesGrammar
@@ -82,20 +94,23 @@ after_first : (d : Option ℕ) (r : Result (List (Option ℕ)) DelimFault) → I
 after_first d (Ok ds) of_text = tt
 after_first d (Err e) of_text = of_text
 
-after_escape : (e : Result (Option ℕ) DelimFault) (r : Result (List (Option ℕ)) DelimFault) → IsOfText e → IsOfText r → IsOfText (and_then e (λ d. cons_ok d r))
+after_escape : (e : Result (Option ℕ) DelimFault) (r : Result (List (Option ℕ)) DelimFault) → IsOfText e → IsOfText r
+    → IsOfText (and_then e (λ d. cons_ok d r))
 after_escape (Ok d) r of_e of_r = after_first d r of_r
 after_escape (Err k) r of_e of_r = of_e
 
 escape_fault : (b : ℕ) → IsOfText (escape b)
 escape_fault b =
     fault_of_either (eqb b 110) _ _ tt
-    (fault_of_either (eqb b 116) _ _ tt (fault_of_either (eqb b backslash) _ _ tt (fault_of_either (eqb b 48) _ _ tt refl)))
+    (fault_of_either (eqb b 116) _ _ tt
+    (fault_of_either (eqb b backslash) _ _ tt (fault_of_either (eqb b 48) _ _ tt refl)))
 
 delims_fault : (bs : List ℕ) → IsOfText (delims bs)
 delims_fault [] = tt
 delims_fault (b ∷ []) = fault_of_either (eqb b backslash) _ _ refl tt
 delims_fault (b ∷ c ∷ more) =
-    fault_of_either (eqb b backslash) _ _ (after_escape (escape c) (delims more) (escape_fault c) (delims_fault more)) (after_first (Some b) (delims (c ∷ more)) (delims_fault (c ∷ more)))
+    fault_of_either (eqb b backslash) _ _ (after_escape (escape c) (delims more) (escape_fault c) (delims_fault more))
+    (after_first (Some b) (delims (c ∷ more)) (delims_fault (c ∷ more)))
 
 delim_fault : (bs : List ℕ) → IsOfText (delim_list bs)
 delim_fault [] = refl
@@ -109,5 +124,8 @@ module _ (text left : List ℕ) (so_far : result_err (delim_list text) ≡ resul
   pub left_fault : (e : DelimFault) → delim_list left ≡ Err e → result_err (delim_list text) ≡ delim_list_fault e
   left_fault e bad = so_far ∙ ap result_err bad ∙ sym (subst IsOfText bad (delim_fault left))
 
-  pub left_without_fault : (d : Option ℕ) (remaining : List ℕ) → 0 < length remaining → delim_list left ≡ cons_ok d (delims remaining) → result_err (delim_list text) ≡ result_err (delim_list remaining)
-  left_without_fault d remaining some is = so_far ∙ ap result_err is ∙ keeps_fault d (delims remaining) ∙ ap result_err (delims_of_some remaining some)
+  pub left_without_fault : (d : Option ℕ) (remaining : List ℕ) → 0 < length remaining
+      → delim_list left ≡ cons_ok d (delims remaining)
+      → result_err (delim_list text) ≡ result_err (delim_list remaining)
+  left_without_fault d remaining some is = so_far ∙ ap result_err is ∙ keeps_fault d (delims remaining)
+      ∙ ap result_err (delims_of_some remaining some)

@@ -1,10 +1,14 @@
 -- Lists of elements between separators, and decimal numbers. An element contains no separator, so splitting at
 -- separators gives the elements of the grammar back. A number that is too large stays so with further digits.
-use Rattle.ptlangs.proofs.Common.{◌≡◌, Bool, Err, List, None, Ok, Result, Some, [], ap, arith, cond, drop, false, get_or, length, ltb, refl, subst, sym, take, true, ℕ, ◌++◌, ◌+◌, ◌-◌, ◌∙◌, ◌∷◌}
-use Rattle.ptlangs.proofs.Common.{ltb-false, ltb-true, nat_tests, append_assoc, length-drop, take_all, slice_split_at, slice_split_first, slice_split_none, AllPass-from_list_all, fails_before_first}
-use Rattle.ptlangs.proofs.Common.{is_ascii_digit, All, onto_first, position, position_or_len, slice_split, IsListOf, and_then, traverse, elements, is_number, is_list_separator, cons_ok, eqb, leb, not, ◌&&◌}
-use Rattle.ptlangs.proofs.Common.{◌*◌, ◌<◌, ◌≤◌, and_from, and_right, cond-false, cond-true, le-leb, lt-leb, ne_eqb, not_from_false, drop_all, drop_more, digit_value, list_all, digits_value_after}
-use Rattle.ptlangs.proofs.Common.{max_u64, is_empty, number, value}
+use Rattle.ptlangs.proofs.Common.{◌≡◌, Bool, Err, List, None, Ok, Result, Some, [], ap, arith, cond, drop, false}
+use Rattle.ptlangs.proofs.Common.{get_or, length, ltb, refl, subst, sym, take, true, ℕ, ◌++◌, ◌+◌, ◌-◌, ◌∙◌, ◌∷◌}
+use Rattle.ptlangs.proofs.Common.{ltb-false, ltb-true, nat_tests, append_assoc, length-drop, take_all, slice_split_at}
+use Rattle.ptlangs.proofs.Common.{slice_split_first, slice_split_none, AllPass-from_list_all, fails_before_first}
+use Rattle.ptlangs.proofs.Common.{is_ascii_digit, All, onto_first, position, position_or_len, slice_split, IsListOf}
+use Rattle.ptlangs.proofs.Common.{and_then, traverse, elements, is_number, is_list_separator, cons_ok, eqb, leb, not}
+use Rattle.ptlangs.proofs.Common.{◌&&◌, ◌*◌, ◌<◌, ◌≤◌, and_from, and_right, cond-false, cond-true, le-leb, lt-leb}
+use Rattle.ptlangs.proofs.Common.{ne_eqb, not_from_false, drop_all, drop_more, digit_value, list_all}
+use Rattle.ptlangs.proofs.Common.{digits_value_after, max_u64, is_empty, number, value}
 use Rattle.std.proofs.lemmas.Bool.{cond_both}
 use Rattle.ptlangs.specs.Numbers.{Last, More}
 
@@ -20,18 +24,21 @@ some_since false x y h = cc
 
 pub split_whole : {X : Type 0} (p : X → Bool) (xs : List X) → position p xs ≡ None → slice_split p xs ≡ xs ∷ []
 split_whole p xs h =
-    let none = ltb-false (position_or_len p xs) (length xs) (none_since (ltb (position_or_len p xs) (length xs)) (position_or_len p xs) h) in
+    let none = ltb-false (position_or_len p xs) (length xs)
+    (none_since (ltb (position_or_len p xs) (length xs)) (position_or_len p xs) h) in
     slice_split_none p xs (λ k d below. fails_before_first p xs k d (omega (arith, none)))
 
 -- the last argument is the value of `&xs[i + 1..]`
-pub split_around : {X : Type 0} (p : X → Bool) (xs : List X) (i : ℕ) → position p xs ≡ Some i → slice_split p xs ≡ take i xs ∷ slice_split p (take (length xs - (i + 1)) (drop (i + 1) xs))
+pub split_around : {X : Type 0} (p : X → Bool) (xs : List X) (i : ℕ) → position p xs ≡ Some i
+    → slice_split p xs ≡ take i xs ∷ slice_split p (take (length xs - (i + 1)) (drop (i + 1) xs))
 split_around p [] i h = cc
 split_around p (x ∷ xs) i h =
-    let since = some_since (ltb (position_or_len p (x ∷ xs)) (length (x ∷ xs))) (position_or_len p (x ∷ xs)) i h in
-    let first = slice_split_first p (x ∷ xs) x (ltb-true _ _ since.0) in
-    let rest : take (length (x ∷ xs) - (i + 1)) (drop (i + 1) (x ∷ xs)) ≡ drop (i + 1) (x ∷ xs) = take_all (length (x ∷ xs) - (i + 1)) (drop (i + 1) (x ∷ xs))
+    let (below, at) = some_since (ltb (position_or_len p (x ∷ xs)) (length (x ∷ xs))) (position_or_len p (x ∷ xs)) i h in
+    let first = slice_split_first p (x ∷ xs) x (ltb-true _ _ below) in
+    let rest : take (length (x ∷ xs) - (i + 1)) (drop (i + 1) (x ∷ xs)) ≡ drop (i + 1) (x ∷ xs) =
+    take_all (length (x ∷ xs) - (i + 1)) (drop (i + 1) (x ∷ xs))
     (omega (arith, length-drop (i + 1) (x ∷ xs))) in
-    rw rest (first ∙ ap (λ k. take k (x ∷ xs) ∷ slice_split p (drop (k + 1) (x ∷ xs))) since.1)
+    rw rest (first ∙ ap (λ k. take k (x ∷ xs) ∷ slice_split p (drop (k + 1) (x ∷ xs))) at)
 
 -- ---- reading the elements from left to right
 
@@ -44,26 +51,34 @@ pub append_ok-nil : {A E : Type 0} (r : Result (List A) E) → append_ok [] r �
 append_ok-nil (Ok ys) = refl
 append_ok-nil (Err e) = refl
 
-pub append_ok-cons_ok : {A E : Type 0} (xs : List A) (y : A) (r : Result (List A) E) → append_ok xs (cons_ok y r) ≡ append_ok (xs ++ y ∷ []) r
+pub append_ok-cons_ok : {A E : Type 0} (xs : List A) (y : A) (r : Result (List A) E)
+    → append_ok xs (cons_ok y r) ≡ append_ok (xs ++ y ∷ []) r
 append_ok-cons_ok xs y (Ok ys) = ap Ok (sym (append_assoc xs (y ∷ []) ys))
 append_ok-cons_ok xs y (Err e) = refl
 
-pub cons_ok-append_ok : {A E : Type 0} (x : A) (xs : List A) (r : Result (List A) E) → cons_ok x (append_ok xs r) ≡ append_ok (x ∷ xs) r
+pub cons_ok-append_ok : {A E : Type 0} (x : A) (xs : List A) (r : Result (List A) E)
+    → cons_ok x (append_ok xs r) ≡ append_ok (x ∷ xs) r
 cons_ok-append_ok x xs (Ok ys) = refl
 cons_ok-append_ok x xs (Err e) = refl
 
 -- one more element is read
-pub each_more : {A B E : Type 0} (read : A → Result B E) (x : A) (y : B) (all rest : List A) (xs : List B) (r : Result (List B) E) → r
-    ≡ append_ok xs (traverse read all) → all ≡ x ∷ rest → read x ≡ Ok y → r ≡ append_ok (xs ++ y ∷ []) (traverse read rest)
+pub each_more : {A B E : Type 0} (read : A → Result B E) (x : A) (y : B) (all rest : List A) (xs : List B)
+    (r : Result (List B) E)
+    → r ≡ append_ok xs (traverse read all) → all ≡ x ∷ rest → read x ≡ Ok y
+    → r ≡ append_ok (xs ++ y ∷ []) (traverse read rest)
 each_more read x y all rest xs r e at ok =
-    e ∙ ap (λ l. append_ok xs (traverse read l)) at ∙ ap (λ v. append_ok xs (and_then v (λ y'. cons_ok y' (traverse read rest)))) ok ∙ append_ok-cons_ok xs y (traverse read rest)
+    e ∙ ap (λ l. append_ok xs (traverse read l)) at
+    ∙ ap (λ v. append_ok xs (and_then v (λ y'. cons_ok y' (traverse read rest)))) ok
+    ∙ append_ok-cons_ok xs y (traverse read rest)
 
 -- ---- the elements that are accepted are those of the grammar
 
 -- the digits of a number all fail a test that every digit fails
-pub digits_fail : (p : ℕ → Bool) → ((b : ℕ) → is_ascii_digit b ≡ true → p b ≡ false) → (n : List ℕ) → is_number n ≡ true → All (λ b. p b ≡ false) n
+pub digits_fail : (p : ℕ → Bool) → ((b : ℕ) → is_ascii_digit b ≡ true → p b ≡ false) → (n : List ℕ) → is_number n ≡ true
+    → All (λ b. p b ≡ false) n
 digits_fail p fails [] h = cc
-digits_fail p fails (b ∷ bs) h = λ k d below. fails (get_or (b ∷ bs) k d) (AllPass-from_list_all is_ascii_digit (b ∷ bs) h k d below)
+digits_fail p fails (b ∷ bs) h =
+    λ k d below. fails (get_or (b ∷ bs) k d) (AllPass-from_list_all is_ascii_digit (b ∷ bs) h k d below)
 
 pub digit_no_list_separator : (b : ℕ) → is_ascii_digit b ≡ true → is_list_separator b ≡ false
 digit_no_list_separator b h = grind (arith, nat_tests)
@@ -71,15 +86,18 @@ digit_no_list_separator b h = grind (arith, nat_tests)
 -- a list split at separators: one part, or a part, a separator and the split of the rest
 pub data IsSplit (p : ℕ → Bool) : List ℕ → List (List ℕ) → Type 0 where
   Whole : (bs : List ℕ) → IsSplit p bs (bs ∷ [])
-  Cut : (e : List ℕ) (s : ℕ) (bs : List ℕ) (parts : List (List ℕ)) → p s ≡ true → IsSplit p bs parts → IsSplit p (e ++ s ∷ bs) (e ∷ parts)
+  Cut : (e : List ℕ) (s : ℕ) (bs : List ℕ) (parts : List (List ℕ)) → p s ≡ true → IsSplit p bs parts
+      → IsSplit p (e ++ s ∷ bs) (e ∷ parts)
 
-onto : (p : ℕ → Bool) (b : ℕ) (bs : List ℕ) (parts : List (List ℕ)) → IsSplit p bs parts → IsSplit p (b ∷ bs) (onto_first b parts)
+onto : (p : ℕ → Bool) (b : ℕ) (bs : List ℕ) (parts : List (List ℕ)) → IsSplit p bs parts
+    → IsSplit p (b ∷ bs) (onto_first b parts)
 onto p b bs parts (Whole xs) = Whole (b ∷ xs)
 onto p b bs parts (Cut e s xs rest cut split) = Cut (b ∷ e) s xs rest cut split
 
 pub splits : (p : ℕ → Bool) (bs : List ℕ) → IsSplit p bs (slice_split p bs)
 splits p [] = Whole []
-splits p (b ∷ bs) = cond_both (p b) _ _ (IsSplit p (b ∷ bs)) (λ e. Cut [] b bs (slice_split p bs) e (splits p bs)) (λ e. onto p b bs (slice_split p bs) (splits p bs))
+splits p (b ∷ bs) = cond_both (p b) _ _ (IsSplit p (b ∷ bs)) (λ e. Cut [] b bs (slice_split p bs) e (splits p bs))
+    (λ e. onto p b bs (slice_split p bs) (splits p bs))
 
 -- the first element has a value, and so have the others
 pub record ReadsFirst {A E : Type 0} (first : Result A E) (others : Result (List A) E) (all : List A) : Type 0 where
@@ -89,7 +107,8 @@ pub record ReadsFirst {A E : Type 0} (first : Result A E) (others : Result (List
   pub rest : others ≡ Ok tail
   pub is : head ∷ tail ≡ all
 
-pub reads_first : {A E : Type 0} (first : Result A E) (others : Result (List A) E) (all : List A) → and_then first (λ y. cons_ok y others) ≡ Ok all → ReadsFirst first others all
+pub reads_first : {A E : Type 0} (first : Result A E) (others : Result (List A) E) (all : List A)
+    → and_then first (λ y. cons_ok y others) ≡ Ok all → ReadsFirst first others all
 reads_first (Err f) others all h = cc
 reads_first (Ok y) (Err f) all h = cc
 reads_first (Ok y) (Ok ys) all h = record { head = y; tail = ys; read = refl; rest = refl; is = cc }
@@ -100,22 +119,31 @@ pub record Accepts {A E : Type 0} (read : List ℕ → Result A E) (Spells : Lis
   pub to : (e : List ℕ) (x : A) → read e ≡ Ok x → Spells e x
   pub whole : (e : List ℕ) (x : A) → Spells e x → All (λ b. is_list_separator b ≡ false) e
 
-pub from_grammar : {A E : Type 0} (read : List ℕ → Result A E) (Spells : List ℕ → A → Type 0) → Accepts read Spells → (bs : List ℕ) (xs : List A) → IsListOf Spells bs xs → traverse read (elements bs) ≡ Ok xs
-from_grammar read Spells a bs xs (Last e x says) = rw (slice_split_none is_list_separator e (a.whole e x says), a.from e x says) refl
+pub from_grammar : {A E : Type 0} (read : List ℕ → Result A E) (Spells : List ℕ → A → Type 0) → Accepts read Spells
+    → (bs : List ℕ) (xs : List A) → IsListOf Spells bs xs → traverse read (elements bs) ≡ Ok xs
+from_grammar read Spells a bs xs (Last e x says) =
+    rw (slice_split_none is_list_separator e (a.whole e x says), a.from e x says) refl
 from_grammar read Spells a bs xs (More e s others x xs' says sep list) =
-    rw (slice_split_at is_list_separator e s others (a.whole e x says) sep, a.from e x says, from_grammar read Spells a others xs' list) refl
+    rw (
+      slice_split_at is_list_separator e s others (a.whole e x says) sep,
+      a.from e x says,
+      from_grammar read Spells a others xs' list,
+    ) refl
 
 reads_parts : {A E : Type 0} (read : List ℕ → Result A E) (Spells : List ℕ → A → Type 0) → Accepts read Spells
-    → (bs : List ℕ) (parts : List (List ℕ)) (xs : List A) → IsSplit is_list_separator bs parts → traverse read parts ≡ Ok xs → IsListOf Spells bs xs
+    → (bs : List ℕ) (parts : List (List ℕ)) (xs : List A) → IsSplit is_list_separator bs parts
+    → traverse read parts ≡ Ok xs → IsListOf Spells bs xs
 reads_parts read Spells a bs parts xs (Whole ys) h =
     let f = reads_first (read ys) (Ok []) xs h in
     let one : f.head ∷ [] ≡ xs = cc in
     subst (IsListOf Spells ys) one (Last ys f.head (a.to ys f.head f.read))
 reads_parts read Spells a bs parts xs (Cut e s ys rest cut split) h =
     let f = reads_first (read e) (traverse read rest) xs h in
-    subst (IsListOf Spells (e ++ s ∷ ys)) f.is (More e s ys f.head f.tail (a.to e f.head f.read) cut (reads_parts read Spells a ys rest f.tail split f.rest))
+    subst (IsListOf Spells (e ++ s ∷ ys)) f.is
+    (More e s ys f.head f.tail (a.to e f.head f.read) cut (reads_parts read Spells a ys rest f.tail split f.rest))
 
-pub to_grammar : {A E : Type 0} (read : List ℕ → Result A E) (Spells : List ℕ → A → Type 0) → Accepts read Spells → (bs : List ℕ) (xs : List A) → traverse read (elements bs) ≡ Ok xs → IsListOf Spells bs xs
+pub to_grammar : {A E : Type 0} (read : List ℕ → Result A E) (Spells : List ℕ → A → Type 0) → Accepts read Spells
+    → (bs : List ℕ) (xs : List A) → traverse read (elements bs) ≡ Ok xs → IsListOf Spells bs xs
 to_grammar read Spells a bs xs h = reads_parts read Spells a bs (elements bs) xs (splits is_list_separator bs) h
 
 -- ---- reading decimal digits from left to right
@@ -127,23 +155,30 @@ after-ge n (d ∷ ds) = omega (arith, after-ge (n * 10 + digit_value d) ds)
 
 pub too_large : (bs : List ℕ) → max_u64 < value bs → None ≡ number bs
 too_large bs h =
-    sym (cond-false (is_number bs && leb (value bs) max_u64) (Some (value bs)) None (and_right (is_number bs) (leb (value bs) max_u64) (lt-leb (value bs) max_u64 h)))
+    sym (cond-false (is_number bs && leb (value bs) max_u64) (Some (value bs)) None
+    (and_right (is_number bs) (leb (value bs) max_u64) (lt-leb (value bs) max_u64 h)))
 
 -- if the number is too large at digit `i`, it is too large
-pub too_large_at : (bs : List ℕ) (i n : ℕ) → i < length bs → value bs ≡ digits_value_after 10 n (drop i bs) → max_u64 < n * 10 + digit_value (get_or bs i 0) → None ≡ number bs
+pub too_large_at : (bs : List ℕ) (i n : ℕ) → i < length bs → value bs ≡ digits_value_after 10 n (drop i bs)
+    → max_u64 < n * 10 + digit_value (get_or bs i 0) → None ≡ number bs
 too_large_at bs i n below e h =
-    let is : value bs ≡ digits_value_after 10 (n * 10 + digit_value (get_or bs i 0)) (drop (i + 1) bs) = e ∙ ap (digits_value_after 10 n) (drop_more bs i 0 below) in
+    let is : value bs ≡ digits_value_after 10 (n * 10 + digit_value (get_or bs i 0)) (drop (i + 1) bs) =
+    e ∙ ap (digits_value_after 10 n) (drop_more bs i 0 below) in
     too_large bs (omega (arith, is, after-ge (n * 10 + digit_value (get_or bs i 0)) (drop (i + 1) bs)))
 
 -- the value, once all digits are read
-pub is_its_value : (bs : List ℕ) (i n : ℕ) → is_empty bs ≡ false → length bs ≤ i → value bs ≡ digits_value_after 10 n (drop i bs) → list_all is_ascii_digit bs
-    ≡ list_all is_ascii_digit (drop i bs) → n ≤ max_u64 → Some n ≡ number bs
+pub is_its_value : (bs : List ℕ) (i n : ℕ) → is_empty bs ≡ false → length bs ≤ i
+    → value bs ≡ digits_value_after 10 n (drop i bs) → list_all is_ascii_digit bs ≡ list_all is_ascii_digit (drop i bs)
+    → n ≤ max_u64 → Some n ≡ number bs
 is_its_value bs i n some end e digits fits =
     let v : value bs ≡ n = e ∙ ap (digits_value_after 10 n) (drop_all i bs end) in
     let d : list_all is_ascii_digit bs ≡ true = digits ∙ ap (list_all is_ascii_digit) (drop_all i bs end) in
-    let whole : is_number bs ≡ true = and_from (not (is_empty bs)) (list_all is_ascii_digit bs) (not_from_false (is_empty bs) some) d in
+    let whole : is_number bs ≡ true =
+    and_from (not (is_empty bs)) (list_all is_ascii_digit bs) (not_from_false (is_empty bs) some) d in
     let small : leb (value bs) max_u64 ≡ true = le-leb (value bs) max_u64 (omega (arith, v)) in
-    ap Some (sym v) ∙ sym (cond-true (is_number bs && leb (value bs) max_u64) (Some (value bs)) None (and_from (is_number bs) (leb (value bs) max_u64) whole small))
+    ap Some (sym v)
+    ∙ sym (cond-true (is_number bs && leb (value bs) max_u64) (Some (value bs)) None
+    (and_from (is_number bs) (leb (value bs) max_u64) whole small))
 
 pub is_empty_by_length : {X : Type 0} (xs : List X) → is_empty xs ≡ eqb (length xs) 0
 is_empty_by_length [] = refl

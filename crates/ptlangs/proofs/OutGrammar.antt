@@ -1,7 +1,9 @@
 -- The output lists of `join`: an element is `0`, or the number of a file, a point and a number, and `element_field`
 -- tests exactly this. So `out_list` agrees with the grammar in both directions.
-use Rattle.ptlangs.proofs.Common.{Result, ◌≡◌, ℕ, ◌≤◌, true, false, not, ltb, eqb, List, [], ◌∷◌, Ok, refl, subst, arith, All, le-ltb, ltb-false, ne_eqb, eqb-true, eqb-false, All-cons, max_u64}
-use Rattle.ptlangs.proofs.Common.{is_number, value, is_list_separator, field_of, JoinField, FirstFileField, SecondFileField}
+use Rattle.ptlangs.proofs.Common.{Result, ◌≡◌, ℕ, ◌≤◌, true, false, not, ltb, eqb, List, [], ◌∷◌, Ok, refl, subst}
+use Rattle.ptlangs.proofs.Common.{arith, All, le-ltb, ltb-false, ne_eqb, eqb-true, eqb-false, All-cons, max_u64}
+use Rattle.ptlangs.proofs.Common.{is_number, value, is_list_separator, field_of, JoinField, FirstFileField}
+use Rattle.ptlangs.proofs.Common.{SecondFileField}
 use Rattle.std.proofs.lemmas.Bool.{cond_both, not-false}
 use Rattle.ptlangs.proofs.ListElements.{digits_fail, digit_no_list_separator, Accepts, from_grammar, to_grammar}
 use Rattle.ptlangs.specs.declared.outlist.OutFault.{OutFault}
@@ -13,7 +15,8 @@ use Rattle.ptlangs.specs.declared.outlist.OutField.TheVariants.{Join, Field}
 
 -- ---- from the grammar to `out_list`
 
-field_accepted : (file : File) (n : List ℕ) → is_number n ≡ true → 1 ≤ value n → value n ≤ max_u64 → field_of file n ≡ Ok (Field file (value n))
+field_accepted : (file : File) (n : List ℕ) → is_number n ≡ true → 1 ≤ value n → value n ≤ max_u64
+    → field_of file n ≡ Ok (Field file (value n))
 field_accepted file n h positive fits =
     let small : ltb max_u64 (value n) ≡ false = le-ltb max_u64 (value n) fits in
     let some : eqb (value n) 0 ≡ false = ne_eqb (value n) 0 (λ e. omega (arith, positive, e)) in
@@ -21,12 +24,17 @@ field_accepted file n h positive fits =
 
 accepts_element : (e : List ℕ) (f : OutField) → SpellsField e f → IsValidField f → element_field e ≡ Ok f
 accepts_element e f JoinField proper = refl
-accepts_element e f (FirstFileField n h) proper = field_accepted First n h proper.0 proper.1
-accepts_element e f (SecondFileField n h) proper = field_accepted Second n h proper.0 proper.1
+accepts_element e f (FirstFileField n h) proper =
+    let (positive, fits) = proper in field_accepted First n h positive fits
+accepts_element e f (SecondFileField n h) proper =
+    let (positive, fits) = proper in field_accepted Second n h positive fits
 
-after_file_number : (name : ℕ) (n : List ℕ) → is_list_separator name ≡ false → is_number n ≡ true → All (λ b. is_list_separator b ≡ false) (name ∷ 46 ∷ n)
+after_file_number : (name : ℕ) (n : List ℕ) → is_list_separator name ≡ false → is_number n ≡ true
+    → All (λ b. is_list_separator b ≡ false) (name ∷ 46 ∷ n)
 after_file_number name n plain h =
-    All-cons (λ b. is_list_separator b ≡ false) name (46 ∷ n) plain (All-cons (λ b. is_list_separator b ≡ false) 46 n refl (digits_fail is_list_separator digit_no_list_separator n h))
+    All-cons (λ b. is_list_separator b ≡ false) name (46 ∷ n) plain
+    (All-cons (λ b. is_list_separator b ≡ false) 46 n refl
+    (digits_fail is_list_separator digit_no_list_separator n h))
 
 no_separator : (e : List ℕ) (f : OutField) → SpellsField e f → All (λ b. is_list_separator b ≡ false) e
 no_separator e f JoinField = All-cons (λ b. is_list_separator b ≡ false) 48 [] refl (λ k d below. absurd (omega arith))
@@ -39,30 +47,43 @@ no_separator e f (SecondFileField n h) = after_file_number 50 n refl h
 abbrev Spelled : List ℕ → OutField → Result OutField OutFault → Type 0
 Spelled e f r = r ≡ Ok f → IsFieldElement e f
 
-spelled_field : (file : File) (name : ℕ) (n : List ℕ) (f : OutField) → (is_number n ≡ true → SpellsField (name ∷ 46 ∷ n) (Field file (value n))) → Spelled (name ∷ 46 ∷ n) f (field_of file n)
+spelled_field : (file : File) (name : ℕ) (n : List ℕ) (f : OutField)
+    → (is_number n ≡ true → SpellsField (name ∷ 46 ∷ n) (Field file (value n)))
+    → Spelled (name ∷ 46 ∷ n) f (field_of file n)
 spelled_field file name n f says =
     cond_both (not (is_number n)) _ _ (Spelled (name ∷ 46 ∷ n) f) (λ t h. cc)
     (λ number. cond_both (ltb max_u64 (value n)) _ _ (Spelled (name ∷ 46 ∷ n) f) (λ t h. cc)
     (λ fits. cond_both (eqb (value n) 0) _ _ (Spelled (name ∷ 46 ∷ n) f) (λ t h. cc)
     (λ some h.
     let is : Field file (value n) ≡ f = cc in
-    subst (IsFieldElement (name ∷ 46 ∷ n)) is (says (not-false (is_number n) number), (omega (arith, eqb-false (value n) 0 some), ltb-false max_u64 (value n) fits)))))
+    subst (IsFieldElement (name ∷ 46 ∷ n)) is (
+      says (not-false (is_number n) number),
+      (omega (arith, eqb-false (value n) 0 some), ltb-false max_u64 (value n) fits),
+    ))))
 
 reads_element : (e : List ℕ) (f : OutField) → Spelled e f (element_field e)
 reads_element [] f = λ h. cc
 reads_element (b ∷ []) f = cond_both (eqb b 48) _ _ (Spelled (b ∷ []) f)
-    (λ t h. let is : Join ≡ f = cc in rw (eqb-true b 48 t) (subst (IsFieldElement (48 ∷ [])) is (JoinField, tt))) (λ t h. cc)
+    (λ t h. let is : Join ≡ f = cc in rw (eqb-true b 48 t) (subst (IsFieldElement (48 ∷ [])) is (JoinField, tt)))
+    (λ t h. cc)
 reads_element (b ∷ c ∷ n) f =
     cond_both (not (eqb c 46)) _ _ (Spelled (b ∷ c ∷ n) f) (λ t h. cc)
-    (λ point. cond_both (eqb b 49) _ _ (Spelled (b ∷ c ∷ n) f) (λ t. rw (eqb-true b 49 t, eqb-true c 46 (not-false (eqb c 46) point)) (spelled_field First 49 n f (FirstFileField n)))
-    (λ other. cond_both (eqb b 50) _ _ (Spelled (b ∷ c ∷ n) f) (λ t. rw (eqb-true b 50 t, eqb-true c 46 (not-false (eqb c 46) point)) (spelled_field Second 50 n f (SecondFileField n))) (λ t h. cc)))
+    (λ point. cond_both (eqb b 49) _ _ (Spelled (b ∷ c ∷ n) f)
+    (λ t. rw (eqb-true b 49 t, eqb-true c 46 (not-false (eqb c 46) point))
+    (spelled_field First 49 n f (FirstFileField n)))
+    (λ other. cond_both (eqb b 50) _ _ (Spelled (b ∷ c ∷ n) f)
+    (λ t. rw (eqb-true b 50 t, eqb-true c 46 (not-false (eqb c 46) point))
+    (spelled_field Second 50 n f (SecondFileField n))) (λ t h. cc)))
 
 accepts_elements : Accepts element_field IsFieldElement
 accepts_elements = record {
-  from = λ e f h. accepts_element e f h.0 h.1;
+  from = λ e f (spells, valid). accepts_element e f spells valid;
   to = reads_element;
-  whole = λ e f h. no_separator e f h.0;
+  whole = λ e f (spells, _). no_separator e f spells;
 }
 
 pub accepts_the_grammar : OutListMatchesGrammar
-accepts_the_grammar bs fs = (from_grammar element_field IsFieldElement accepts_elements bs fs, to_grammar element_field IsFieldElement accepts_elements bs fs)
+accepts_the_grammar bs fs = (
+  from_grammar element_field IsFieldElement accepts_elements bs fs,
+  to_grammar element_field IsFieldElement accepts_elements bs fs,
+)

@@ -1,15 +1,19 @@
 -- The bytes of a string of `tr`, read one after another: the bytes so far and those that are left are together all bytes
 -- of the string. And the classes that start in two arrays, compared byte by byte as the arrays are paired.
-use Rattle.ptlangs.proofs.Common.{◌≡◌, Bool, Err, List, None, Ok, Option, Result, Some, [], ap, arith, cond, drop, eqb, false, length, map, refl, suc, sym, true, zero, ℕ, ◌&&◌, ◌++◌, ◌+◌, ◌||◌, ◌∙◌, ◌∷◌, ◌≤◌, ◌<◌}
-use Rattle.ptlangs.proofs.Common.{append-nil, append_assoc, length-map, length-replicate, map-append, slice_get, cons_ok, are_opposite_cases, array, class_offsets, class_bytes, sequence, is_fill, are_paired, members, segment, result_map_both}
-use Rattle.ptlangs.proofs.Common.{has_other_case_at, CharClass, SetFaultKind, SetElement, Segment, Fill, Repeat, SetRole, First, Images, Squeezed, eq-eqb, ne_eqb}
-use Rattle.ptlangs.proofs.Common.{drop_all, subst, replicate, span, segments_of, string_segments}
+use Rattle.ptlangs.proofs.Common.{◌≡◌, Bool, Err, List, None, Ok, Option, Result, Some, [], ap, arith, cond, drop, eqb}
+use Rattle.ptlangs.proofs.Common.{false, length, map, refl, suc, sym, true, zero, ℕ, ◌&&◌, ◌++◌, ◌+◌, ◌||◌, ◌∙◌, ◌∷◌}
+use Rattle.ptlangs.proofs.Common.{◌≤◌, ◌<◌, append-nil, append_assoc, length-map, length-replicate, map-append}
+use Rattle.ptlangs.proofs.Common.{slice_get, cons_ok, are_opposite_cases, array, class_offsets, class_bytes, sequence}
+use Rattle.ptlangs.proofs.Common.{is_fill, are_paired, members, segment, result_map_both, has_other_case_at, CharClass}
+use Rattle.ptlangs.proofs.Common.{SetFaultKind, SetElement, Segment, Fill, Repeat, SetRole, First, Images, Squeezed}
+use Rattle.ptlangs.proofs.Common.{eq-eqb, ne_eqb, drop_all, subst, replicate, span, segments_of, string_segments}
 use Rattle.std.specs.Prelude.{IfSome}
 use Rattle.std.specs.Result.{IsErrAnd}
 use Rattle.ptlangs.specs.declared.tr.elements.SetElement.TheVariants as element
 use Rattle.ptlangs.specs.declared.tr.segments.Member.{Member}
 use Rattle.ptlangs.specs.declared.tr.segments.Segment.TheVariants.{Range, Class}
-use Rattle.ptlangs.specs.TrParsing.{NextPost, all_paired, bytes_of, classes_match, class_of, marked_array, marked_members, member_results, members_from, plain_members}
+use Rattle.ptlangs.specs.TrParsing.{NextPost, all_paired, bytes_of, classes_match, class_of, marked_array}
+use Rattle.ptlangs.specs.TrParsing.{marked_members, member_results, members_from, plain_members}
 use Rattle.ptlangs.proofs.ListElements.{append_ok as onto, append_ok-nil, cons_ok-append_ok, reads_first}
 use Rattle.ptlangs.proofs.TrByteRanges.{slice_get-none, class_bytes-some}
 
@@ -19,56 +23,67 @@ pub record ItemsRead {A : Type 0} (all rest : List (Result A SetFaultKind)) (P :
   pub so_far : all ≡ map Ok done ++ rest
   pub holds : P done
 
-pub items_start : {A : Type 0} (all : List (Result A SetFaultKind)) (P : List A → Type 0) → P [] → ItemsRead all all P
-items_start all P h = record { done = []; so_far = refl; holds = h }
-
 -- one more item was read
-pub items_more : {A : Type 0} {all rest after : List (Result A SetFaultKind)} {P : List A → Type 0} {x : A} (Q : List A → Type 0) (r : ItemsRead all rest P)
+pub items_more : {A : Type 0} {all rest after : List (Result A SetFaultKind)} {P : List A → Type 0} {x : A}
+    (Q : List A → Type 0) (r : ItemsRead all rest P)
     → rest ≡ Ok x ∷ after → (P r.done → Q (r.done ++ x ∷ [])) → ItemsRead all after Q
 items_more {after = after} {x = x} Q r s h = record {
   done = r.done ++ x ∷ [];
   so_far =
-      r.so_far ∙ ap (λ xs. map Ok r.done ++ xs) s ∙ sym (append_assoc (map Ok r.done) (Ok x ∷ []) after) ∙ ap (λ xs. xs ++ after) (sym (map-append Ok r.done (x ∷ [])));
+      r.so_far ∙ ap (λ xs. map Ok r.done ++ xs) s ∙ sym (append_assoc (map Ok r.done) (Ok x ∷ []) after)
+      ∙ ap (λ xs. xs ++ after) (sym (map-append Ok r.done (x ∷ [])));
   holds = h r.holds;
 }
 
-sequence-done : {A : Type 0} (done : List A) (rest : List (Result A SetFaultKind)) → sequence (map Ok done ++ rest) ≡ onto done (sequence rest)
+sequence-done : {A : Type 0} (done : List A) (rest : List (Result A SetFaultKind))
+    → sequence (map Ok done ++ rest) ≡ onto done (sequence rest)
 sequence-done [] rest = sym (append_ok-nil (sequence rest))
 sequence-done (x ∷ done) rest = ap (cons_ok x) (sequence-done done rest) ∙ cons_ok-append_ok x done (sequence rest)
 
-sequence-read : {A : Type 0} {all rest : List (Result A SetFaultKind)} {P : List A → Type 0} (r : ItemsRead all rest P) → sequence all ≡ onto r.done (sequence rest)
+sequence-read : {A : Type 0} {all rest : List (Result A SetFaultKind)} {P : List A → Type 0} (r : ItemsRead all rest P)
+    → sequence all ≡ onto r.done (sequence rest)
 sequence-read {rest = rest} r = ap sequence r.so_far ∙ sequence-done r.done rest
 
-pub items_end : {A : Type 0} {all rest : List (Result A SetFaultKind)} {P : List A → Type 0} (r : ItemsRead all rest P) → rest ≡ [] → sequence all ≡ Ok r.done
+pub items_end : {A : Type 0} {all rest : List (Result A SetFaultKind)} {P : List A → Type 0} (r : ItemsRead all rest P)
+    → rest ≡ [] → sequence all ≡ Ok r.done
 items_end r e = sequence-read r ∙ ap (λ xs. onto r.done (sequence xs)) e ∙ ap Ok (append-nil r.done)
 
-pub items_fault : {A : Type 0} {all rest : List (Result A SetFaultKind)} {P : List A → Type 0} {k : SetFaultKind} (r : ItemsRead all rest P) → sequence rest ≡ Err k → sequence all ≡ Err k
+pub items_fault : {A : Type 0} {all rest : List (Result A SetFaultKind)} {P : List A → Type 0} {k : SetFaultKind}
+    (r : ItemsRead all rest P)
+    → sequence rest ≡ Err k → sequence all ≡ Err k
 items_fault r e = sequence-read r ∙ ap (onto r.done) e
 
 -- the items before and after the current one, if none has a fault
-pub items_at : {A : Type 0} {all rest after : List (Result A SetFaultKind)} {P : List A → Type 0} {x : A} {xs : List A} (r : ItemsRead all rest P)
+pub items_at : {A : Type 0} {all rest after : List (Result A SetFaultKind)} {P : List A → Type 0} {x : A} {xs : List A}
+    (r : ItemsRead all rest P)
     → rest ≡ Ok x ∷ after → sequence all ≡ Ok xs → (more : List A) × (xs ≡ r.done ++ x ∷ more)
-items_at {A} {after = after} {x = x} {xs = xs} r s c = by_rest (sequence after) (sym (sequence-read r ∙ ap (λ ys. onto r.done (sequence ys)) s) ∙ c)
+items_at {A} {after = after} {x = x} {xs = xs} r s c = by_rest (sequence after)
+    (sym (sequence-read r ∙ ap (λ ys. onto r.done (sequence ys)) s) ∙ c)
   where
-    by_rest : (t : Result (List A) SetFaultKind) → onto r.done (cons_ok x t) ≡ Ok xs → (more : List A) × (xs ≡ r.done ++ x ∷ more)
+    by_rest : (t : Result (List A) SetFaultKind) → onto r.done (cons_ok x t) ≡ Ok xs
+        → (more : List A) × (xs ≡ r.done ++ x ∷ more)
     by_rest (Ok more) e = (more, cc)
     by_rest (Err k) e = absurd (let no : ⊥ = cc in no)
 
 -- ---- the bytes of segments
 
-pub sequence-members : (n : ℕ) (rs : List (Result Segment SetFaultKind)) → sequence (member_results n rs) ≡ result_map_both (marked_array n) (λ (k : SetFaultKind). k) (sequence rs)
+pub sequence-members : (n : ℕ) (rs : List (Result Segment SetFaultKind))
+    → sequence (member_results n rs) ≡ result_map_both (marked_array n) (λ (k : SetFaultKind). k) (sequence rs)
 sequence-members n [] = refl
 sequence-members n (Ok x ∷ rs) =
-    sequence-done (marked_members n x) (member_results n rs) ∙ ap (onto (marked_members n x)) (sequence-members n rs) ∙ by_rest (sequence rs)
+    sequence-done (marked_members n x) (member_results n rs) ∙ ap (onto (marked_members n x)) (sequence-members n rs)
+    ∙ by_rest (sequence rs)
   where
     by_rest : (t : Result (List Segment) SetFaultKind)
-        → onto (marked_members n x) (result_map_both (marked_array n) (λ (k : SetFaultKind). k) t) ≡ result_map_both (marked_array n) (λ (k : SetFaultKind). k) (cons_ok x t)
+        → onto (marked_members n x) (result_map_both (marked_array n) (λ (k : SetFaultKind). k) t)
+        ≡ result_map_both (marked_array n) (λ (k : SetFaultKind). k) (cons_ok x t)
     by_rest (Ok ps) = refl
     by_rest (Err k) = refl
 sequence-members n (Err k ∷ rs) = refl
 
 -- if no segment has a fault, all bytes are read
-pub members-ok : (n : ℕ) (rs : List (Result Segment SetFaultKind)) (ps : List Segment) → sequence rs ≡ Ok ps → member_results n rs ≡ map Ok (marked_array n ps)
+pub members-ok : (n : ℕ) (rs : List (Result Segment SetFaultKind)) (ps : List Segment) → sequence rs ≡ Ok ps
+    → member_results n rs ≡ map Ok (marked_array n ps)
 members-ok n [] [] e = refl
 members-ok n [] (p ∷ ps) e = absurd (let no : ⊥ = cc in no)
 members-ok n (Err k ∷ rs) ps e = absurd (let no : ⊥ = cc in no)
@@ -76,7 +91,8 @@ members-ok n (Ok x ∷ rs) ps e =
     let all = reads_first (Ok x) (sequence rs) ps e in
     let read = all.read in
     let first : all.head ≡ x = cc in
-    rw (← all.is, first) (ap (λ ys. map Ok (marked_members n x) ++ ys) (members-ok n rs all.tail all.rest) ∙ sym (map-append Ok (marked_members n x) (marked_array n all.tail)))
+    rw (← all.is, first) (ap (λ ys. map Ok (marked_members n x) ++ ys) (members-ok n rs all.tail all.rest)
+    ∙ sym (map-append Ok (marked_members n x) (marked_array n all.tail)))
 
 pub bytes_of-plain : (bytes : List ℕ) → bytes_of (plain_members bytes) ≡ bytes
 bytes_of-plain [] = refl
@@ -92,20 +108,9 @@ bytes_of-array n (p ∷ ps) =
     map-append (λ (m : Member). m.byte) (marked_members n p) (marked_array n ps)
     ∙ (λ i. bytes_of-members (class_of p) (members n p) i ++ bytes_of-array n ps i)
 
--- the member with an index in a segment
-pub get-member : (class : Option CharClass) (bytes : List ℕ) (i b : ℕ) → Some b ≡ slice_get bytes i
-    → Some (record { byte = b; class = cond (eqb i 0) class None }) ≡ slice_get (members_from class bytes) i
-get-member class [] i b e = absurd (let no : ⊥ = cc in no)
-get-member class (x ∷ bytes) zero b e = let same : b ≡ x = cc in ap (λ c. Some (record { byte = c; class = class })) same
-get-member class (x ∷ bytes) (suc i) b e = rw (ne_eqb (suc i) 0 (λ z. omega (arith, z))) (in_rest bytes i e)
-  where
-    in_rest : (bs : List ℕ) (j : ℕ) → Some b ≡ slice_get bs j → Some (record { byte = b; class = None }) ≡ slice_get (plain_members bs) j
-    in_rest [] j e = absurd (let no : ⊥ = cc in no)
-    in_rest (y ∷ bs) zero e = let same : b ≡ y = cc in ap (λ c. Some (record { byte = c; class = None })) same
-    in_rest (y ∷ bs) (suc j) e = in_rest bs j e
-
 pub length-marked : (n : ℕ) (x : Segment) → length (marked_members n x) ≡ length (members n x)
-length-marked n x = sym (length-map (marked_members n x) (λ (m : Member). m.byte)) ∙ ap length (bytes_of-members (class_of x) (members n x))
+length-marked n x = sym (length-map (marked_members n x) (λ (m : Member). m.byte))
+    ∙ ap length (bytes_of-members (class_of x) (members n x))
 
 pub drop-found : {X : Type 0} (xs : List X) (i : ℕ) (x : X) → Some x ≡ slice_get xs i → drop i xs ≡ x ∷ drop (i + 1) xs
 drop-found [] i x e = absurd (let no : ⊥ = cc in no)
@@ -117,42 +122,53 @@ drop-found (y ∷ xs) (suc i) x e =
 -- ---- the bytes after a segment that was passed
 
 -- no byte is left of a segment that ends before the index
-pub segment-passed : (n : ℕ) (x : Segment) (i : ℕ) (rs : List (Result Segment SetFaultKind)) → None ≡ slice_get (marked_members n x) i
+pub segment-passed : (n : ℕ) (x : Segment) (i : ℕ) (rs : List (Result Segment SetFaultKind))
+    → None ≡ slice_get (marked_members n x) i
     → map {B = Result Member SetFaultKind} Ok (drop i (marked_members n x)) ++ member_results n rs ≡ member_results n rs
 segment-passed n x i rs e = rw (drop_all i (marked_members n x) (slice_get-none (marked_members n x) i e)) refl
 
 -- ---- the string of the segments
 
 -- a string that is not empty has the fault of its bytes
-pub string-fault : (role : SetRole) (text : List ℕ) (n : ℕ) (k : SetFaultKind) → false ≡ eqb (length text) 0 → sequence (member_results n (segments_of role text)) ≡ Err k → string_segments role text ≡ Err k
+pub string-fault : (role : SetRole) (text : List ℕ) (n : ℕ) (k : SetFaultKind) → false ≡ eqb (length text) 0
+    → sequence (member_results n (segments_of role text)) ≡ Err k → string_segments role text ≡ Err k
 string-fault role [] n k some e = absurd (let no : ⊥ = cc in no)
-string-fault role (b ∷ text) n k some e = by_segments (sequence (segments_of role (b ∷ text))) (sym (sequence-members n (segments_of role (b ∷ text))) ∙ e)
+string-fault role (b ∷ text) n k some e =
+    by_segments (sequence (segments_of role (b ∷ text))) (sym (sequence-members n (segments_of role (b ∷ text))) ∙ e)
   where
-    by_segments : (r : Result (List Segment) SetFaultKind) → result_map_both (marked_array n) (λ (j : SetFaultKind). j) r ≡ Err k → r ≡ Err k
+    by_segments : (r : Result (List Segment) SetFaultKind)
+        → result_map_both (marked_array n) (λ (j : SetFaultKind). j) r ≡ Err k → r ≡ Err k
     by_segments (Ok ps) e = absurd (let no : ⊥ = cc in no)
     by_segments (Err j) e = cc
 
 -- or the segments that give these bytes
-pub string-read : (role : SetRole) (text : List ℕ) (n : ℕ) (ms : List Member) → false ≡ eqb (length text) 0 → sequence (member_results n (segments_of role text)) ≡ Ok ms
+pub string-read : (role : SetRole) (text : List ℕ) (n : ℕ) (ms : List Member) → false ≡ eqb (length text) 0
+    → sequence (member_results n (segments_of role text)) ≡ Ok ms
     → (ps : List Segment) × (string_segments role text ≡ Ok ps) × (marked_array n ps ≡ ms)
 string-read role [] n ms some e = absurd (let no : ⊥ = cc in no)
-string-read role (b ∷ text) n ms some e = by_segments (sequence (segments_of role (b ∷ text))) (sym (sequence-members n (segments_of role (b ∷ text))) ∙ e)
+string-read role (b ∷ text) n ms some e =
+    by_segments (sequence (segments_of role (b ∷ text))) (sym (sequence-members n (segments_of role (b ∷ text))) ∙ e)
   where
-    by_segments : (r : Result (List Segment) SetFaultKind) → result_map_both (marked_array n) (λ (j : SetFaultKind). j) r ≡ Ok ms → (ps : List Segment) × (r ≡ Ok ps) × (marked_array n ps ≡ ms)
+    by_segments : (r : Result (List Segment) SetFaultKind)
+        → result_map_both (marked_array n) (λ (j : SetFaultKind). j) r ≡ Ok ms
+        → (ps : List Segment) × (r ≡ Ok ps) × (marked_array n ps ≡ ms)
     by_segments (Ok ps) e = (ps, refl, cc)
     by_segments (Err j) e = absurd (let no : ⊥ = cc in no)
 
 -- a string without a fault gives its array
-pub string-ok : (role : SetRole) (text : List ℕ) (n : ℕ) (ps : List Segment) → string_segments role text ≡ Ok ps → member_results n (segments_of role text) ≡ map Ok (marked_array n ps)
+pub string-ok : (role : SetRole) (text : List ℕ) (n : ℕ) (ps : List Segment) → string_segments role text ≡ Ok ps
+    → member_results n (segments_of role text) ≡ map Ok (marked_array n ps)
 string-ok role [] n ps e = absurd (let no : ⊥ = cc in no)
 string-ok role (b ∷ text) n ps e = members-ok n (segments_of role (b ∷ text)) ps e
 
 -- ---- one step
 
-pub next_some : {A : Type 0} (old new : List (Result A SetFaultKind)) (o : Option A) (x : A) → o ≡ Some x → NextPost old new (Ok o) → old ≡ Ok x ∷ new
+pub next_some : {A : Type 0} (old new : List (Result A SetFaultKind)) (o : Option A) (x : A) → o ≡ Some x
+    → NextPost old new (Ok o) → old ≡ Ok x ∷ new
 next_some old new o x is h = subst (λ p. NextPost old new (Ok p)) is h
 
-pub next_none : {A : Type 0} (old new : List (Result A SetFaultKind)) (o : Option A) → o ≡ None → NextPost old new (Ok o) → (old ≡ []) × (new ≡ [])
+pub next_none : {A : Type 0} (old new : List (Result A SetFaultKind)) (o : Option A) → o ≡ None
+    → NextPost old new (Ok o) → (old ≡ []) × (new ≡ [])
 next_none old new o is h = subst (λ p. NextPost old new (Ok p)) is h
 
 pub some_then : {A : Type 0} (o : Option A) (x : A) (P : Type 0) → o ≡ Some x → IfSome o (λ _. P) → P
@@ -163,7 +179,8 @@ le_trans a b c h k = omega (arith, h, k)
 
 -- ---- a fault that is passed on
 
-pub on_fault : {T E : Type 0} (P : Result T E → Type 0) (r : Result T E) (k : E) → IsErrAnd r (λ e. e ≡ k) → P (Err k) → P r
+pub on_fault : {T E : Type 0} (P : Result T E → Type 0) (r : Result T E) (k : E) → IsErrAnd r (λ e. e ≡ k) → P (Err k)
+    → P r
 on_fault P (Ok x) k e h = absurd e
 on_fault P (Err j) k e h = subst (λ l. P (Err l)) (sym e) h
 
@@ -188,7 +205,8 @@ no_second_fill Squeezed (element.Repeat x (Some zero)) b e = cc
 no_second_fill Squeezed (element.Repeat x (Some (suc n))) b e = cc
 
 -- one more segment adds the length of a fill only if no fill came before it
-pub fill_step : (n : ℕ) (role : SetRole) (p : SetElement) (d : Segment) (has_fill : Bool) → segment role has_fill p ≡ Ok d
+pub fill_step : (n : ℕ) (role : SetRole) (p : SetElement) (d : Segment) (has_fill : Bool)
+    → segment role has_fill p ≡ Ok d
     → length (members n d) + cond (has_fill || is_fill (Ok d)) 0 n ≤ length (members 0 d) + cond has_fill 0 n
 fill_step n role p (Range a b) true e = omega arith
 fill_step n role p (Range a b) false e = omega arith
@@ -198,13 +216,6 @@ fill_step n role p (Repeat b count) true e = omega arith
 fill_step n role p (Repeat b count) false e = omega arith
 fill_step n role p (Fill b) true e = absurd (no_second_fill role p b e)
 fill_step n role p (Fill b) false e = omega (arith, length-replicate n b)
-
--- a segment is at most `n` longer than without a fill
-pub length-members : (n : ℕ) (x : Segment) → length (members n x) ≤ length (members 0 x) + n
-length-members n (Range a b) = omega arith
-length-members n (Class class) = omega arith
-length-members n (Repeat b count) = omega arith
-length-members n (Fill b) = omega (arith, length-replicate n b)
 
 -- ---- the classes that start in two arrays
 
@@ -223,38 +234,50 @@ abbrev pub offsets : ℕ → List Member → List (ℕ × CharClass)
 offsets at [] = []
 offsets at (m ∷ ms) = offset_of at m.class ++ offsets (suc at) ms
 
-offsets-plain : (at : ℕ) (bytes : List ℕ) (ms : List Member) → offsets at (plain_members bytes ++ ms) ≡ offsets (at + length bytes) ms
+offsets-plain : (at : ℕ) (bytes : List ℕ) (ms : List Member)
+    → offsets at (plain_members bytes ++ ms) ≡ offsets (at + length bytes) ms
 offsets-plain at [] ms = ap (λ k. offsets k ms) (omega arith)
 offsets-plain at (b ∷ bytes) ms = offsets-plain (suc at) bytes ms ∙ ap (λ k. offsets k ms) (omega arith)
 
-offsets-members : (at : ℕ) (bytes : List ℕ) (ms : List Member) → offsets at (members_from None bytes ++ ms) ≡ offsets (at + length bytes) ms
+offsets-members : (at : ℕ) (bytes : List ℕ) (ms : List Member)
+    → offsets at (members_from None bytes ++ ms) ≡ offsets (at + length bytes) ms
 offsets-members at [] ms = offsets-plain at [] ms
 offsets-members at (b ∷ bytes) ms = offsets-plain at (b ∷ bytes) ms
 
-offsets-class : (at : ℕ) (class : CharClass) (bytes : List ℕ) (ms : List Member) → 0 < length bytes → offsets at (members_from (Some class) bytes ++ ms) ≡ (at, class) ∷ offsets (at + length bytes) ms
+offsets-class : (at : ℕ) (class : CharClass) (bytes : List ℕ) (ms : List Member) → 0 < length bytes
+    → offsets at (members_from (Some class) bytes ++ ms) ≡ (at, class) ∷ offsets (at + length bytes) ms
 offsets-class at class [] ms some = absurd (omega (arith, some))
-offsets-class at class (b ∷ bytes) ms some = ap (λ os. (at, class) ∷ os) (offsets-plain (suc at) bytes ms ∙ ap (λ k. offsets k ms) (omega arith))
+offsets-class at class (b ∷ bytes) ms some =
+    ap (λ os. (at, class) ∷ os) (offsets-plain (suc at) bytes ms ∙ ap (λ k. offsets k ms) (omega arith))
 
 class_offsets-are : (n : ℕ) (ps : List Segment) (at : ℕ) → class_offsets n at ps ≡ offsets at (marked_array n ps)
 class_offsets-are n [] at = refl
-class_offsets-are n (Range a b ∷ ps) at = class_offsets-are n ps (at + length (span a b)) ∙ sym (offsets-members at (span a b) (marked_array n ps))
+class_offsets-are n (Range a b ∷ ps) at = class_offsets-are n ps (at + length (span a b))
+    ∙ sym (offsets-members at (span a b) (marked_array n ps))
 class_offsets-are n (Class class ∷ ps) at =
-    ap (λ os. (at, class) ∷ os) (class_offsets-are n ps (at + length (class_bytes class))) ∙ sym (offsets-class at class (class_bytes class) (marked_array n ps) (class_bytes-some class))
+    ap (λ os. (at, class) ∷ os) (class_offsets-are n ps (at + length (class_bytes class)))
+    ∙ sym (offsets-class at class (class_bytes class) (marked_array n ps) (class_bytes-some class))
 class_offsets-are n (Repeat b count ∷ ps) at =
-    class_offsets-are n ps (at + count) ∙ ap (λ m. offsets (at + m) (marked_array n ps)) (sym (length-replicate count b)) ∙ sym (offsets-members at (replicate count b) (marked_array n ps))
+    class_offsets-are n ps (at + count)
+    ∙ ap (λ m. offsets (at + m) (marked_array n ps)) (sym (length-replicate count b))
+    ∙ sym (offsets-members at (replicate count b) (marked_array n ps))
 class_offsets-are n (Fill b ∷ ps) at =
-    class_offsets-are n ps (at + n) ∙ ap (λ m. offsets (at + m) (marked_array n ps)) (sym (length-replicate n b)) ∙ sym (offsets-members at (replicate n b) (marked_array n ps))
+    class_offsets-are n ps (at + n) ∙ ap (λ m. offsets (at + m) (marked_array n ps)) (sym (length-replicate n b))
+    ∙ sym (offsets-members at (replicate n b) (marked_array n ps))
 
 -- no class starts before an array
-none_before : (ms : List Member) (at k : ℕ) (class : CharClass) → k < at → has_other_case_at (offsets at ms) k class ≡ false
+none_before : (ms : List Member) (at k : ℕ) (class : CharClass) → k < at
+    → has_other_case_at (offsets at ms) k class ≡ false
 none_before [] at k class low = refl
 none_before (m ∷ ms) at k class low = by_class m.class (none_before ms (suc at) k class (omega (arith, low)))
   where
-    by_class : (o : Option CharClass) → has_other_case_at (offsets (suc at) ms) k class ≡ false → has_other_case_at (offset_of at o ++ offsets (suc at) ms) k class ≡ false
+    by_class : (o : Option CharClass) → has_other_case_at (offsets (suc at) ms) k class ≡ false
+        → has_other_case_at (offset_of at o ++ offsets (suc at) ms) k class ≡ false
     by_class None later = later
     by_class (Some c) later = rw (ne_eqb at k (λ e. omega (arith, e, low))) later
 
-stands_here : (ms : List Member) (at i k : ℕ) (class : CharClass) → at + i ≡ k → has_other_case_at (offsets at ms) k class ≡ classes_match (class_here ms i) (Some class)
+stands_here : (ms : List Member) (at i k : ℕ) (class : CharClass) → at + i ≡ k
+    → has_other_case_at (offsets at ms) k class ≡ classes_match (class_here ms i) (Some class)
 stands_here [] at i k class e = refl
 stands_here (m ∷ ms) at zero k class e = by_class m.class
   where
@@ -265,13 +288,16 @@ stands_here (m ∷ ms) at zero k class e = by_class m.class
     or_false true = refl
     or_false false = refl
 
-    by_class : (o : Option CharClass) → has_other_case_at (offset_of at o ++ offsets (suc at) ms) k class ≡ classes_match o (Some class)
+    by_class : (o : Option CharClass)
+        → has_other_case_at (offset_of at o ++ offsets (suc at) ms) k class ≡ classes_match o (Some class)
     by_class None = later
     by_class (Some c) = rw (eq-eqb at k (omega (arith, e)), later) (or_false (are_opposite_cases c class))
 stands_here (m ∷ ms) at (suc i) k class e = by_class m.class (stands_here ms (suc at) i k class (omega (arith, e)))
   where
-    by_class : (o : Option CharClass) → has_other_case_at (offsets (suc at) ms) k class ≡ classes_match (class_here ms i) (Some class)
-        → has_other_case_at (offset_of at o ++ offsets (suc at) ms) k class ≡ classes_match (class_here ms i) (Some class)
+    by_class : (o : Option CharClass)
+        → has_other_case_at (offsets (suc at) ms) k class ≡ classes_match (class_here ms i) (Some class)
+        → has_other_case_at (offset_of at o ++ offsets (suc at) ms) k class
+        ≡ classes_match (class_here ms i) (Some class)
     by_class None later = later
     by_class (Some c) later = rw (ne_eqb at k (λ z. omega (arith, z, e))) later
 
@@ -281,7 +307,8 @@ matches_none (Some c) = refl
 
 -- one byte of the second array against the first array from the same index on
 pub all_paired-more : (i : ℕ) (from : List Member) (t : Member) (to : List Member)
-    → all_paired (drop i from) (t ∷ to) ≡ (classes_match (class_here from i) t.class && all_paired (drop (suc i) from) to)
+    → all_paired (drop i from) (t ∷ to)
+    ≡ (classes_match (class_here from i) t.class && all_paired (drop (suc i) from) to)
 all_paired-more zero [] t to = refl
 all_paired-more zero (f ∷ from) t to = refl
 all_paired-more (suc i) [] t to = refl
@@ -291,17 +318,26 @@ paired_from : (from to : List Member) (i : ℕ) → are_paired (offsets 0 from) 
 paired_from from [] i = refl
 paired_from from (t ∷ to) i = by_class t.class (paired_from from to (suc i)) ∙ sym (all_paired-more i from t to)
   where
-    by_class : (o : Option CharClass) → are_paired (offsets 0 from) (offsets (suc i) to) ≡ all_paired (drop (suc i) from) to
-        → are_paired (offsets 0 from) (offset_of i o ++ offsets (suc i) to) ≡ (classes_match (class_here from i) o && all_paired (drop (suc i) from) to)
-    by_class None later = later ∙ ap (λ t. t && all_paired (drop (suc i) from) to) (sym (matches_none (class_here from i)))
+    by_class : (o : Option CharClass)
+        → are_paired (offsets 0 from) (offsets (suc i) to) ≡ all_paired (drop (suc i) from) to
+        → are_paired (offsets 0 from) (offset_of i o ++ offsets (suc i) to)
+        ≡ (classes_match (class_here from i) o && all_paired (drop (suc i) from) to)
+    by_class None later =
+        later ∙ ap (λ t. t && all_paired (drop (suc i) from) to) (sym (matches_none (class_here from i)))
     by_class (Some c) later = (λ j. stands_here from 0 i i c (omega arith) j && later j)
 
 -- the classes are paired as the definition states it
-pub paired-arrays : (n : ℕ) (firsts seconds : List Segment) → are_paired (class_offsets 0 0 firsts) (class_offsets n 0 seconds) ≡ all_paired (marked_array 0 firsts) (marked_array n seconds)
+pub paired-arrays : (n : ℕ) (firsts seconds : List Segment)
+    → are_paired (class_offsets 0 0 firsts) (class_offsets n 0 seconds)
+    ≡ all_paired (marked_array 0 firsts) (marked_array n seconds)
 paired-arrays n firsts seconds =
-    (λ i. are_paired (class_offsets-are 0 firsts 0 i) (class_offsets-are n seconds 0 i)) ∙ paired_from (marked_array 0 firsts) (marked_array n seconds) 0
+    (λ i. are_paired (class_offsets-are 0 firsts 0 i) (class_offsets-are n seconds 0 i))
+    ∙ paired_from (marked_array 0 firsts) (marked_array n seconds) 0
 
-pub paired-plain : (n : ℕ) (bytes : List ℕ) (seconds : List Segment) → are_paired [] (class_offsets n 0 seconds) ≡ all_paired (plain_members bytes) (marked_array n seconds)
+pub paired-plain : (n : ℕ) (bytes : List ℕ) (seconds : List Segment)
+    → are_paired [] (class_offsets n 0 seconds) ≡ all_paired (plain_members bytes) (marked_array n seconds)
 paired-plain n bytes seconds =
-    let none : offsets 0 (plain_members bytes) ≡ [] = sym (ap (offsets 0) (append-nil (plain_members bytes))) ∙ offsets-plain 0 bytes [] in
-    (λ i. are_paired (sym none i) (class_offsets-are n seconds 0 i)) ∙ paired_from (plain_members bytes) (marked_array n seconds) 0
+    let none : offsets 0 (plain_members bytes) ≡ [] = sym (ap (offsets 0) (append-nil (plain_members bytes)))
+    ∙ offsets-plain 0 bytes [] in
+    (λ i. are_paired (sym none i) (class_offsets-are n seconds 0 i))
+    ∙ paired_from (plain_members bytes) (marked_array n seconds) 0

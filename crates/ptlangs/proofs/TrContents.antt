@@ -1,10 +1,14 @@
 -- What an array contains, read byte by byte, and the images of bytes. The image of a byte is the byte of the second
 -- array, extended by its last byte, at the index that was pushed last for it.
-use Rattle.ptlangs.proofs.Common.{◌≡◌, ◌≢◌, ◌⊎◌, inl, inr, ◌<◌, ◌≤◌, ◌+◌, ◌-◌, ℕ, zero, suc, Bool, true, false, cond, eqb, List, [], ◌∷◌, ◌++◌, length, take, map, replicate, arith, refl, sym, ap, ◌∙◌}
-use Rattle.ptlangs.proofs.Common.{Option, Some, None, range_with_len, flat_map, set, cases_eq, eq-eqb, ne_eqb, append_assoc, append-nil, map-id, same_lists, length-set, get_or-set_same}
-use Rattle.ptlangs.proofs.Common.{get_or-set_other, length-replicate, get_or-replicate, length-append, length-map-range_with_len, get_or-map-range_with_len}
-use Rattle.ptlangs.proofs.Common.{map-range_with_len_more, has_byte, last_position, next_index_or, min, not, ◌||◌, ◌&&◌, cases_lt, get_or_default, last_or, slice_get, option_and_then}
-use Rattle.ptlangs.proofs.Common.{option_to_list, filter, unwrap_or, complement_of, padded_to, image_by}
+use Rattle.ptlangs.proofs.Common.{◌≡◌, ◌≢◌, ◌⊎◌, inl, inr, ◌<◌, ◌≤◌, ◌+◌, ◌-◌, ℕ, zero, suc, Bool, true, false, cond}
+use Rattle.ptlangs.proofs.Common.{eqb, List, [], ◌∷◌, ◌++◌, length, take, map, replicate, arith, refl, sym, ap, ◌∙◌}
+use Rattle.ptlangs.proofs.Common.{Option, Some, None, range_with_len, flat_map, set, cases_eq, eq-eqb, ne_eqb}
+use Rattle.ptlangs.proofs.Common.{append_assoc, append-nil, map-id, same_lists, length-set, get_or-set_same}
+use Rattle.ptlangs.proofs.Common.{get_or-set_other, length-replicate, get_or-replicate, length-append}
+use Rattle.ptlangs.proofs.Common.{length-map-range_with_len, get_or-map-range_with_len, map-range_with_len_more}
+use Rattle.ptlangs.proofs.Common.{has_byte, last_position, next_index_or, min, not, ◌||◌, ◌&&◌, cases_lt}
+use Rattle.ptlangs.proofs.Common.{get_or_default, last_or, slice_get, option_and_then, option_to_list, filter}
+use Rattle.ptlangs.proofs.Common.{unwrap_or, complement_of, padded_to, image_by}
 use Rattle.std.proofs.Math.ListN.{get_or}
 use Rattle.std.proofs.lemmas.Bool.{or_right}
 use Rattle.std.proofs.lemmas.List.Elements.{filter-append}
@@ -23,23 +27,28 @@ unfolding all_bytes
 get_or-table f i d h = get_or-map-range_with_len f 0 256 i i d h (omega arith)
 
 -- a list of 256 entries that agrees with a function at each byte is the table of that function
-pub same_table : {X : Type 0} (xs : List X) (f : ℕ → X) (d : X) → length xs ≡ 256 → ((i : ℕ) → i < 256 → get_or xs i d ≡ f i) → xs ≡ map f all_bytes
+pub same_table : {X : Type 0} (xs : List X) (f : ℕ → X) (d : X) → length xs ≡ 256
+    → ((i : ℕ) → i < 256 → get_or xs i d ≡ f i) → xs ≡ map f all_bytes
 same_table xs f d n h =
     same_lists xs (map f all_bytes) (n ∙ sym (length-table f))
-    (λ k e below. let under : k < 256 = omega arith in get_or_default xs k e d below ∙ h k under ∙ sym (get_or-table f k e under))
+    (λ k e below. let under : k < 256 = omega arith in get_or_default xs k e d below ∙ h k under ∙ sym (get_or-table f k
+    e under))
 
 -- the table of a constant function
 replicate-table : {X : Type 0} (x : X) → replicate 256 x ≡ map (λ (b : ℕ). x) all_bytes
-replicate-table x = same_table (replicate 256 x) (λ b. x) x (length-replicate 256 x) (λ i h. get_or-replicate 256 i x x h)
+replicate-table x =
+    same_table (replicate 256 x) (λ b. x) x (length-replicate 256 x) (λ i h. get_or-replicate 256 i x x h)
 
 -- an empty array contains no byte
 pub none_contained : replicate 256 false ≡ map (λ b. has_byte b []) all_bytes
 none_contained = replicate-table false
 
 -- writing one entry of a table
-set-table : {X : Type 0} (f g : ℕ → X) (i : ℕ) (v : X) → i < 256 → g i ≡ v → ((k : ℕ) → k ≢ i → g k ≡ f k) → set (map f all_bytes) i v ≡ map g all_bytes
+set-table : {X : Type 0} (f g : ℕ → X) (i : ℕ) (v : X) → i < 256 → g i ≡ v → ((k : ℕ) → k ≢ i → g k ≡ f k)
+    → set (map f all_bytes) i v ≡ map g all_bytes
 set-table {X} f g i v h e others =
-    same_table (set (map f all_bytes) i v) g v (length-set (map f all_bytes) i v ∙ length-table f) (λ k under. by_cases k under (cases_eq k i))
+    same_table (set (map f all_bytes) i v) g v (length-set (map f all_bytes) i v ∙ length-table f)
+    (λ k under. by_cases k under (cases_eq k i))
   where
     by_cases : (k : ℕ) → k < 256 → ((k ≡ i) ⊎ (k ≡ i → ⊥)) → get_or (set (map f all_bytes) i v) k v ≡ g k
     by_cases k under (inl same) =
@@ -62,7 +71,8 @@ pub contents-push : (old : Contents) (bytes : List ℕ) (b : ℕ) → b < 256 �
     → record { has = set old.has b true; length = old.length + 1 } ≡ contents_of (bytes ++ b ∷ [])
 contents-push old bytes b h e =
     let table : set (map (λ c. has_byte c bytes) all_bytes) b true ≡ map (λ c. has_byte c (bytes ++ b ∷ [])) all_bytes =
-    set-table (λ c. has_byte c bytes) (λ c. has_byte c (bytes ++ b ∷ [])) b true h (has_byte-same b bytes) (λ k n. has_byte-other b k bytes n) in
+    set-table (λ c. has_byte c bytes) (λ c. has_byte c (bytes ++ b ∷ [])) b true h (has_byte-same b bytes)
+    (λ k n. has_byte-other b k bytes n) in
     let counted : length bytes + 1 ≡ length (bytes ++ b ∷ []) = omega (arith, length-append bytes (b ∷ [])) in
     rw (e, table, counted) refl
 
@@ -75,16 +85,19 @@ pub ruleset contents_steps = (contents-push, contents-new)
 
 pub range-more : (a n j : ℕ) → a + n ≡ j → range_with_len a (n + 1) ≡ range_with_len a n ++ j ∷ []
 range-more a n j e =
-    sym (map-id (range_with_len a (n + 1))) ∙ map-range_with_len_more (λ (x : ℕ). x) a n j e ∙ ap (λ xs. xs ++ j ∷ []) (map-id (range_with_len a n))
+    sym (map-id (range_with_len a (n + 1))) ∙ map-range_with_len_more (λ (x : ℕ). x) a n j e
+    ∙ ap (λ xs. xs ++ j ∷ []) (map-id (range_with_len a n))
 
 -- the bytes below `n` that the array does not contain
 
 abbrev pub others_below : List ℕ → ℕ → List ℕ
 others_below bytes n = filter (λ b. not (has_byte b bytes)) (range_with_len 0 n)
 
-pub others_below-more : (bytes : List ℕ) (n : ℕ) (t : Bool) → has_byte n bytes ≡ t → others_below bytes (n + 1) ≡ others_below bytes n ++ cond t [] (n ∷ [])
+pub others_below-more : (bytes : List ℕ) (n : ℕ) (t : Bool) → has_byte n bytes ≡ t
+    → others_below bytes (n + 1) ≡ others_below bytes n ++ cond t [] (n ∷ [])
 others_below-more bytes n t e =
-    ap (filter (λ b. not (has_byte b bytes))) (range-more 0 n n (omega arith)) ∙ filter-append (λ b. not (has_byte b bytes)) (range_with_len 0 n) (n ∷ [])
+    ap (filter (λ b. not (has_byte b bytes))) (range-more 0 n n (omega arith))
+    ∙ filter-append (λ b. not (has_byte b bytes)) (range_with_len 0 n) (n ∷ [])
     ∙ ap (λ xs. others_below bytes n ++ xs) (rw e (choose t))
   where
     choose : (t : Bool) → cond (not t) (n ∷ []) [] ≡ cond t [] (n ∷ [])
@@ -95,30 +108,42 @@ pub others_below-all : (bytes : List ℕ) (n : ℕ) → n ≡ 256 → others_bel
 unfolding all_bytes
 others_below-all bytes n e = ap (others_below bytes) e
 
-pub get_or-has : (contents : Contents) (bytes : List ℕ) (b : ℕ) (d : Bool) → b < 256 → contents ≡ contents_of bytes → get_or contents.has b d ≡ has_byte b bytes
+pub get_or-has : (contents : Contents) (bytes : List ℕ) (b : ℕ) (d : Bool) → b < 256 → contents ≡ contents_of bytes
+    → get_or contents.has b d ≡ has_byte b bytes
 get_or-has contents bytes b d h e = rw e (get_or-table (λ c. has_byte c bytes) b d h)
 
 -- the next byte belongs to the complement if the array does not contain it
-pub others-more : (start : Contents) (bytes : List ℕ) {b i : ℕ} (t : Bool) → i ≡ b → b < 256 → get_or start.has i false ≡ t → start ≡ contents_of bytes
+pub others-more : (start : Contents) (bytes : List ℕ) {b i : ℕ} (t : Bool) → i ≡ b → b < 256
+    → get_or start.has i false ≡ t → start ≡ contents_of bytes
     → others_below bytes (b + 1) ≡ others_below bytes b ++ cond t [] (b ∷ [])
 others-more start bytes {b} t j h s e =
-    others_below-more bytes b t (sym (get_or-has start bytes b false h e) ∙ ap (λ k. get_or start.has k false) (sym j) ∙ s)
+    others_below-more bytes b t (sym (get_or-has start bytes b false h e) ∙ ap (λ k. get_or start.has k false) (sym j)
+    ∙ s)
 
 -- the complement goes on after the bytes below `m`
-others-split : (bytes : List ℕ) (m k : ℕ) → (rest : List ℕ) × (others_below bytes (m + k) ≡ others_below bytes m ++ rest)
+others-split : (bytes : List ℕ) (m k : ℕ)
+    → (rest : List ℕ) × (others_below bytes (m + k) ≡ others_below bytes m ++ rest)
 others-split bytes m zero = ([], ap (others_below bytes) (omega arith) ∙ sym (append-nil (others_below bytes m)))
 others-split bytes m (suc k) =
     let (rest, is) = others-split bytes m k in
-    let more : others_below bytes (m + suc k) ≡ others_below bytes (m + k) ++ cond (has_byte (m + k) bytes) [] ((m + k) ∷ []) =
-    ap (others_below bytes) (omega arith) ∙ others_below-more bytes (m + k) (has_byte (m + k) bytes) refl in
-    (rest ++ cond (has_byte (m + k) bytes) [] ((m + k) ∷ []), more ∙ ap (λ xs. xs ++ cond (has_byte (m + k) bytes) [] ((m + k) ∷ [])) is ∙ append_assoc (others_below bytes m) rest _)
+    let more : others_below bytes (m + suc k) ≡ others_below bytes (m + k)
+    ++ cond (has_byte (m + k) bytes) [] ((m + k) ∷ []) =
+    ap (others_below bytes) (omega arith) ∙ others_below-more bytes (m + k) (has_byte (m + k) bytes) refl in (
+      rest ++ cond (has_byte (m + k) bytes) [] ((m + k) ∷ []),
+      more
+          ∙ ap (λ xs. xs ++ cond (has_byte (m + k) bytes) [] ((m + k) ∷ [])) is ∙ append_assoc (others_below bytes m) rest _,
+    )
 
 -- a byte of the complement, between those below it and the others
-pub complement-around : (bytes : List ℕ) (b : ℕ) → b < 256 → has_byte b bytes ≡ false → (rest : List ℕ) × (complement_of bytes ≡ others_below bytes b ++ b ∷ rest)
+pub complement-around : (bytes : List ℕ) (b : ℕ) → b < 256 → has_byte b bytes ≡ false
+    → (rest : List ℕ) × (complement_of bytes ≡ others_below bytes b ++ b ∷ rest)
 complement-around bytes b low h =
     let (rest, is) = others-split bytes (b + 1) (255 - b) in
-    let whole : b + 1 + (255 - b) ≡ 256 = omega (arith, low) in
-    (rest, sym (others_below-all bytes (b + 1 + (255 - b)) whole) ∙ is ∙ ap (λ xs. xs ++ rest) (others_below-more bytes b false h) ∙ append_assoc (others_below bytes b) (b ∷ []) rest)
+    let whole : b + 1 + (255 - b) ≡ 256 = omega (arith, low) in (
+      rest,
+      sym (others_below-all bytes (b + 1 + (255 - b)) whole) ∙ is
+          ∙ ap (λ xs. xs ++ rest) (others_below-more bytes b false h) ∙ append_assoc (others_below bytes b) (b ∷ []) rest,
+    )
 
 has_byte-filter : (p : ℕ → Bool) (b : ℕ) (xs : List ℕ) → has_byte b xs ≡ true → has_byte b (filter p xs) ≡ p b
 has_byte-filter p b xs h = all_of xs ∙ ap (λ t. p b && t) h ∙ and_true (p b)
@@ -127,15 +152,16 @@ has_byte-filter p b xs h = all_of xs ∙ ap (λ t. p b && t) h ∙ and_true (p b
     and_true true = refl
     and_true false = refl
 
-    choose : (x : ℕ) (t : Bool) (ys : List ℕ) → p x ≡ t → has_byte b (filter p ys) ≡ (p b && has_byte b ys) → has_byte b (cond t (x ∷ filter p ys) (filter p ys)) ≡ (p b && (eqb x b || has_byte b ys))
+    choose : (x : ℕ) (t : Bool) (ys : List ℕ) → p x ≡ t → has_byte b (filter p ys) ≡ (p b && has_byte b ys)
+        → has_byte b (cond t (x ∷ filter p ys) (filter p ys)) ≡ (p b && (eqb x b || has_byte b ys))
     choose x t ys e h = by_cases t e (cases_eq x b)
       where
-        or_and : (t s : Bool) → (t && s) ≡ (t && (false || s))
-        or_and t s = refl
-
-        by_cases : (t : Bool) → p x ≡ t → ((x ≡ b) ⊎ (x ≡ b → ⊥)) → has_byte b (cond t (x ∷ filter p ys) (filter p ys)) ≡ (p b && (eqb x b || has_byte b ys))
+        by_cases : (t : Bool) → p x ≡ t → ((x ≡ b) ⊎ (x ≡ b → ⊥))
+            → has_byte b (cond t (x ∷ filter p ys) (filter p ys)) ≡ (p b && (eqb x b || has_byte b ys))
         by_cases true e (inl same) = rw (eq-eqb x b same) (sym (ap (λ t. t && true) (ap p (sym same) ∙ e)))
-        by_cases false e (inl same) = rw (eq-eqb x b same, h) (ap (λ t. t && has_byte b ys) (ap p (sym same) ∙ e) ∙ sym (ap (λ t. t && true) (ap p (sym same) ∙ e)))
+        by_cases false e (inl same) =
+            rw (eq-eqb x b same, h) (ap (λ t. t && has_byte b ys) (ap p (sym same) ∙ e)
+            ∙ sym (ap (λ t. t && true) (ap p (sym same) ∙ e)))
         by_cases true e (inr other) = rw (ne_eqb x b other) h
         by_cases false e (inr other) = rw (ne_eqb x b other) h
 
@@ -151,10 +177,12 @@ has_byte-range : (n b : ℕ) → b < n → has_byte b (range_with_len 0 n) ≡ t
 has_byte-range zero b low = absurd (omega (arith, low))
 has_byte-range (suc n) b low =
     let next : suc n ≡ n + 1 = omega arith in
-    let longer : range_with_len 0 (suc n) ≡ range_with_len 0 n ++ n ∷ [] = ap (range_with_len 0) next ∙ range-more 0 n n (omega arith) in
+    let longer : range_with_len 0 (suc n) ≡ range_with_len 0 n ++ n ∷ [] = ap (range_with_len 0) next
+    ∙ range-more 0 n n (omega arith) in
     ap (has_byte b) longer ∙ by_cases (cases_eq b n) (λ below. has_byte-range n b below)
   where
-    by_cases : ((b ≡ n) ⊎ (b ≡ n → ⊥)) → (b < n → has_byte b (range_with_len 0 n) ≡ true) → has_byte b (range_with_len 0 n ++ n ∷ []) ≡ true
+    by_cases : ((b ≡ n) ⊎ (b ≡ n → ⊥)) → (b < n → has_byte b (range_with_len 0 n) ≡ true)
+        → has_byte b (range_with_len 0 n ++ n ∷ []) ≡ true
     by_cases (inl same) h = rw same (has_byte-same n (range_with_len 0 n))
     by_cases (inr other) h = has_byte-other n b (range_with_len 0 n) other ∙ h (omega (arith, low, other))
 
@@ -167,9 +195,11 @@ pub has_byte-complement : (bytes : List ℕ) (b : ℕ) → b < 256 → has_byte 
 has_byte-complement bytes b low = has_byte-filter (λ c. not (has_byte c bytes)) b all_bytes (has_byte-all b low)
 
 -- a byte is not in the array if it is in the complement, and the other way about
-pub is_kept : (first : Contents) (bytes : List ℕ) (b i : ℕ) (t : Bool) → i ≡ b → b < 256 → get_or first.has i false ≡ t → first ≡ contents_of (complement_of bytes) → has_byte b bytes ≡ not t
+pub is_kept : (first : Contents) (bytes : List ℕ) (b i : ℕ) (t : Bool) → i ≡ b → b < 256 → get_or first.has i false ≡ t
+    → first ≡ contents_of (complement_of bytes) → has_byte b bytes ≡ not t
 is_kept first bytes b i t j low h e =
-    opposite (has_byte b bytes) (sym (has_byte-complement bytes b low) ∙ sym (get_or-has first (complement_of bytes) b false low e) ∙ ap (λ k. get_or first.has k false) (sym j) ∙ h)
+    opposite (has_byte b bytes) (sym (has_byte-complement bytes b low)
+    ∙ sym (get_or-has first (complement_of bytes) b false low e) ∙ ap (λ k. get_or first.has k false) (sym j) ∙ h)
   where
     opposite : (s : Bool) → not s ≡ t → s ≡ not t
     opposite true e = ap not e
@@ -180,9 +210,11 @@ is_kept first bytes b i t j low h e =
 -- the last position is below the length
 last_position-lt : (c i : ℕ) (bytes : List ℕ) → last_position c bytes ≡ Some i → i < length bytes
 last_position-lt c i [] e = absurd (let no : ⊥ = cc in no)
-last_position-lt c i (b ∷ bytes) e = by_later (last_position c bytes) refl (eqb b c) e (λ j h. last_position-lt c j bytes h)
+last_position-lt c i (b ∷ bytes) e =
+    by_later (last_position c bytes) refl (eqb b c) e (λ j h. last_position-lt c j bytes h)
   where
-    by_later : (o : Option ℕ) → last_position c bytes ≡ o → (t : Bool) → next_index_or o t ≡ Some i → ((j : ℕ) → last_position c bytes ≡ Some j → j < length bytes) → i < suc (length bytes)
+    by_later : (o : Option ℕ) → last_position c bytes ≡ o → (t : Bool) → next_index_or o t ≡ Some i
+        → ((j : ℕ) → last_position c bytes ≡ Some j → j < length bytes) → i < suc (length bytes)
     by_later (Some j) l t e h = let same : j + 1 ≡ i = cc in omega (arith, h j l)
     by_later None l true e h = let same : 0 ≡ i = cc in omega arith
     by_later None l false e h = absurd (let no : ⊥ = cc in no)
@@ -198,7 +230,8 @@ last_or-is o b [] = refl
 last_or-is o b (x ∷ bytes) = last_or-is (Some b) x bytes
 
 -- the byte with an index of the padded array: past the end it is the last byte
-padded_to-get : (n i : ℕ) (bytes : List ℕ) → i < n → slice_get (padded_to n bytes) i ≡ slice_get bytes (min i (length bytes - 1))
+padded_to-get : (n i : ℕ) (bytes : List ℕ) → i < n
+    → slice_get (padded_to n bytes) i ≡ slice_get bytes (min i (length bytes - 1))
 padded_to-get n i [] h = slice_get-take n [] i h
 padded_to-get n i (b ∷ bytes) h = by_last (last_or None (b ∷ bytes)) refl
   where
@@ -215,20 +248,24 @@ padded_to-get n i (b ∷ bytes) h = by_last (last_or None (b ∷ bytes)) refl
         ∙ sym l ∙ last_or-is None b bytes ∙ ap (slice_get (b ∷ bytes)) index
 
     by_last : (o : Option ℕ) → last_or None (b ∷ bytes) ≡ o
-        → slice_get (take n ((b ∷ bytes) ++ flat_map (λ (z : ℕ). replicate n z) (option_to_list o))) i ≡ slice_get (b ∷ bytes) (min i (length (b ∷ bytes) - 1))
+        → slice_get (take n ((b ∷ bytes) ++ flat_map (λ (z : ℕ). replicate n z) (option_to_list o))) i
+        ≡ slice_get (b ∷ bytes) (min i (length (b ∷ bytes) - 1))
     by_last None l = absurd (omega (arith, slice_get-none (b ∷ bytes) (length bytes) (sym l ∙ last_or-is None b bytes)))
-    by_last (Some z) l = slice_get-take n ((b ∷ bytes) ++ (replicate n z ++ [])) i h ∙ beyond z l (cases_lt i (length (b ∷ bytes)))
+    by_last (Some z) l = slice_get-take n ((b ∷ bytes) ++ (replicate n z ++ [])) i h
+        ∙ beyond z l (cases_lt i (length (b ∷ bytes)))
 
 last_position-same : (b : ℕ) (bytes : List ℕ) → last_position b (bytes ++ b ∷ []) ≡ Some (length bytes)
 last_position-same b [] = rw (eq-eqb b b refl) refl
-last_position-same b (x ∷ bytes) = ap (λ o. next_index_or o (eqb x b)) (last_position-same b bytes) ∙ ap Some (omega arith)
+last_position-same b (x ∷ bytes) = ap (λ o. next_index_or o (eqb x b)) (last_position-same b bytes)
+    ∙ ap Some (omega arith)
 
 last_position-other : (b k : ℕ) (bytes : List ℕ) → k ≢ b → last_position k (bytes ++ b ∷ []) ≡ last_position k bytes
 last_position-other b k [] n = rw (ne_eqb b k (λ e. n (sym e))) refl
 last_position-other b k (x ∷ bytes) n = ap (λ o. next_index_or o (eqb x k)) (last_position-other b k bytes n)
 
 -- the last of the first `n + 1` bytes is the one with index `n`, or the last of all
-last_or-take : (o : Option ℕ) (b : ℕ) (bytes : List ℕ) (n : ℕ) → last_or o (take (suc n) (b ∷ bytes)) ≡ slice_get (b ∷ bytes) (min n (length bytes))
+last_or-take : (o : Option ℕ) (b : ℕ) (bytes : List ℕ) (n : ℕ)
+    → last_or o (take (suc n) (b ∷ bytes)) ≡ slice_get (b ∷ bytes) (min n (length bytes))
 last_or-take o b bytes zero = let first : min 0 (length bytes) ≡ 0 = omega arith in rw first refl
 last_or-take o b [] (suc n) = let first : min (suc n) 0 ≡ 0 = omega arith in rw first refl
 last_or-take o b (c ∷ bytes) (suc n) =
@@ -236,12 +273,15 @@ last_or-take o b (c ∷ bytes) (suc n) =
     rw next (last_or-take (Some b) c bytes n)
 
 -- the image that a byte gets when it is pushed
-image-same : (from to : List ℕ) (b : ℕ) → image_by (from ++ b ∷ []) to b ≡ unwrap_or (last_or None (take (suc (length from)) to)) b
+image-same : (from to : List ℕ) (b : ℕ)
+    → image_by (from ++ b ∷ []) to b ≡ unwrap_or (last_or None (take (suc (length from)) to)) b
 image-same from to b =
     let longer : length from < length (from ++ b ∷ []) = omega (arith, length-append from (b ∷ [])) in
     rw (last_position-same b from, padded_to-get (length (from ++ b ∷ [])) (length from) to longer) (by_list to)
   where
-    by_list : (to : List ℕ) → unwrap_or (slice_get to (min (length from) (length to - 1))) b ≡ unwrap_or (last_or None (take (suc (length from)) to)) b
+    by_list : (to : List ℕ)
+        → unwrap_or (slice_get to (min (length from) (length to - 1))) b
+        ≡ unwrap_or (last_or None (take (suc (length from)) to)) b
     by_list [] = refl
     by_list (t ∷ to) =
         let most : length (t ∷ to) - 1 ≡ length to = omega arith in
@@ -252,14 +292,18 @@ image-other : (from to : List ℕ) (b k : ℕ) → k ≢ b → image_by (from ++
 image-other from to b k n = rw (last_position-other b k from n) (by_last (last_position k from) refl)
   where
     by_last : (o : Option ℕ) → last_position k from ≡ o
-        → unwrap_or (option_and_then (slice_get (padded_to (length (from ++ b ∷ [])) to)) o) k ≡ unwrap_or (option_and_then (slice_get (padded_to (length from) to)) o) k
+        → unwrap_or (option_and_then (slice_get (padded_to (length (from ++ b ∷ [])) to)) o) k
+        ≡ unwrap_or (option_and_then (slice_get (padded_to (length from) to)) o) k
     by_last None e = refl
     by_last (Some i) e =
         let below : i < length from = last_position-lt k i from e in
         let longer : i < length (from ++ b ∷ []) = omega (arith, below, length-append from (b ∷ [])) in
-        ap (λ o. unwrap_or o k) (padded_to-get (length (from ++ b ∷ [])) i to longer ∙ sym (padded_to-get (length from) i to below))
+        ap (λ o. unwrap_or o k) (padded_to-get (length (from ++ b ∷ [])) i to longer
+        ∙ sym (padded_to-get (length from) i to below))
 
-pub images-push : (from to : List ℕ) (b : ℕ) (last : Option ℕ) → b < 256 → last ≡ last_or None (take (suc (length from)) to)
+pub images-push : (from to : List ℕ) (b : ℕ) (last : Option ℕ) → b < 256
+    → last ≡ last_or None (take (suc (length from)) to)
     → set (map (image_by from to) all_bytes) b (unwrap_or last b) ≡ map (image_by (from ++ b ∷ []) to) all_bytes
 images-push from to b last h e =
-    set-table (image_by from to) (image_by (from ++ b ∷ []) to) b (unwrap_or last b) h (image-same from to b ∙ ap (λ o. unwrap_or o b) (sym e)) (λ k n. image-other from to b k n)
+    set-table (image_by from to) (image_by (from ++ b ∷ []) to) b (unwrap_or last b) h
+    (image-same from to b ∙ ap (λ o. unwrap_or o b) (sym e)) (λ k n. image-other from to b k n)

@@ -1,7 +1,9 @@
 -- The pairs of two arrays, byte by byte: what one more byte of the first array adds, and what is left of the second one
 -- at its end.
-use Rattle.ptlangs.proofs.Common.{◌≡◌, ◌<◌, ℕ, zero, suc, Bool, true, false, List, [], ◌∷◌, ◌++◌, Option, Some, None, Result, Ok, Err, length, map, take, drop, arith, refl, sym, ap, ◌∙◌, unwrap_or, set, last_or, append_assoc, length-append, map-append}
-use Rattle.ptlangs.proofs.Common.{SetFaultKind, CharClass, sequence, image_by, append-nil, not, is_some}
+use Rattle.ptlangs.proofs.Common.{◌≡◌, ◌<◌, ℕ, zero, suc, Bool, true, false, List, [], ◌∷◌, ◌++◌, Option, Some, None}
+use Rattle.ptlangs.proofs.Common.{Result, Ok, Err, length, map, take, drop, arith, refl, sym, ap, ◌∙◌, unwrap_or, set}
+use Rattle.ptlangs.proofs.Common.{last_or, append_assoc, length-append, map-append, SetFaultKind, CharClass, sequence}
+use Rattle.ptlangs.proofs.Common.{image_by, not, is_some}
 use Rattle.ptlangs.specs.TrClasses.{all_bytes}
 use Rattle.ptlangs.specs.declared.tr.images.Images.{Images}
 use Rattle.ptlangs.specs.declared.tr.bytes.Bytes.{Bytes}
@@ -22,8 +24,10 @@ sequence-ok [] = refl
 sequence-ok (m ∷ ms) = rw (sequence-ok ms) refl
 
 -- the second array has no fault
-pub never_fault : {X : Type 0} (ms : List Member) (rs : List (Result Member SetFaultKind)) (k : SetFaultKind) → rs ≡ AllOk ms → sequence rs ≡ Err k → X
-never_fault ms rs k is e = let whole : sequence rs ≡ Ok ms = ap sequence is ∙ sequence-ok ms in absurd (let no : ⊥ = cc in no)
+pub never_fault : {X : Type 0} (ms : List Member) (rs : List (Result Member SetFaultKind)) (k : SetFaultKind)
+    → rs ≡ AllOk ms → sequence rs ≡ Err k → X
+never_fault ms rs k is e = let whole : sequence rs ≡ Ok ms = ap sequence is ∙ sequence-ok ms in
+    absurd (let no : ⊥ = cc in no)
 
 -- one byte of the second array is taken
 pub record TakesNext (n : ℕ) (to : List Member) (t : Member) (after : List (Result Member SetFaultKind)) : Type 0 where
@@ -31,15 +35,20 @@ pub record TakesNext (n : ℕ) (to : List Member) (t : Member) (after : List (Re
   pub left : after ≡ AllOk (drop (suc n) to)
   pub last : last_or None (bytes_of (take (suc n) to)) ≡ Some t.byte
 
-takes_next : (o : Option ℕ) (n : ℕ) (to : List Member) (t : Member) (after : List (Result Member SetFaultKind)) → AllOk (drop n to) ≡ Ok t ∷ after
-    → (drop n to ≡ t ∷ drop (suc n) to) × (after ≡ AllOk (drop (suc n) to)) × (last_or o (bytes_of (take (suc n) to)) ≡ Some t.byte)
+takes_next : (o : Option ℕ) (n : ℕ) (to : List Member) (t : Member) (after : List (Result Member SetFaultKind))
+    → AllOk (drop n to) ≡ Ok t ∷ after
+    → (drop n to ≡ t ∷ drop (suc n) to) × (after ≡ AllOk (drop (suc n) to))
+    × (last_or o (bytes_of (take (suc n) to)) ≡ Some t.byte)
 takes_next o zero [] t after e = absurd (let no : ⊥ = cc in no)
-takes_next o zero (x ∷ to) t after e = let same : x ≡ t = cc in (ap (λ y. y ∷ to) same, cc, ap (λ (y : Member). Some y.byte) same)
+takes_next o zero (x ∷ to) t after e = let same : x ≡ t = cc in
+    (ap (λ y. y ∷ to) same, cc, ap (λ (y : Member). Some y.byte) same)
 takes_next o (suc n) [] t after e = absurd (let no : ⊥ = cc in no)
 takes_next o (suc n) (x ∷ to) t after e = takes_next (Some x.byte) n to t after e
 
-pub next_taken : (n : ℕ) (to : List Member) (t : Member) (after : List (Result Member SetFaultKind)) → AllOk (drop n to) ≡ Ok t ∷ after → TakesNext n to t after
-next_taken n to t after e = let (at, left, last) = takes_next None n to t after e in record { at = at; left = left; last = last }
+pub next_taken : (n : ℕ) (to : List Member) (t : Member) (after : List (Result Member SetFaultKind))
+    → AllOk (drop n to) ≡ Ok t ∷ after → TakesNext n to t after
+next_taken n to t after e = let (at, left, last) = takes_next None n to t after e in
+    record { at = at; left = left; last = last }
 
 -- no byte of the second array is left
 pub record HasEnded (n : ℕ) (to : List Member) : Type 0 where
@@ -51,14 +60,16 @@ pub ended : (n : ℕ) (to : List Member) → AllOk (drop n to) ≡ [] → HasEnd
 ended zero [] e = record { now = refl; next = refl; taken = refl }
 ended zero (x ∷ to) e = absurd (let no : ⊥ = cc in no)
 ended (suc n) [] e = record { now = refl; next = refl; taken = refl }
-ended (suc n) (x ∷ to) e = let rest = ended n to e in record { now = rest.now; next = rest.next; taken = ap (λ ms. x ∷ ms) rest.taken }
+ended (suc n) (x ∷ to) e = let rest = ended n to e in
+    record { now = rest.now; next = rest.next; taken = ap (λ ms. x ∷ ms) rest.taken }
 
 bytes_of-take : (n : ℕ) (ms : List Member) → bytes_of (take n ms) ≡ take n (bytes_of ms)
 bytes_of-take zero ms = refl
 bytes_of-take (suc n) [] = refl
 bytes_of-take (suc n) (m ∷ ms) = ap (λ bs. m.byte ∷ bs) (bytes_of-take n ms)
 
-module _ (before to : List Member) (old : Images) (from : Member) (h : HasPaired before to old) (fits : from.byte < 256) where
+module _ (before to : List Member) (old : Images) (from : Member) (h : HasPaired before to old)
+    (fits : from.byte < 256) where
   count : length (before ++ from ∷ []) ≡ suc (length before)
   count = omega (arith, length-append before (from ∷ []))
 
@@ -66,14 +77,19 @@ module _ (before to : List Member) (old : Images) (from : Member) (h : HasPaired
   bytes = map-append (λ (m : Member). m.byte) before (from ∷ [])
 
   -- the byte is paired, if the table and the last byte are what the pairs give
-  paired : (second : Bytes) (last : Option ℕ) → bytes_left second ≡ AllOk (drop (suc (length before)) to) → last ≡ last_or None (bytes_of (take (suc (length before)) to))
-      → ((more : List Member) → all_paired (from ∷ more) (drop (length before) to) ≡ all_paired more (drop (suc (length before)) to))
-      → HasPaired (before ++ from ∷ []) to (record { table = set old.table from.byte (unwrap_or last from.byte); second = second; last = last })
+  paired : (second : Bytes) (last : Option ℕ) → bytes_left second ≡ AllOk (drop (suc (length before)) to)
+      → last ≡ last_or None (bytes_of (take (suc (length before)) to))
+      → ((more : List Member) → all_paired (from ∷ more) (drop (length before) to)
+      ≡ all_paired more (drop (suc (length before)) to))
+      → HasPaired (before ++ from ∷ []) to
+      (record { table = set old.table from.byte (unwrap_or last from.byte); second = second; last = last })
   paired second last left is decides = record {
     left = rw count left;
     last = rw count is;
     table =
-        rw (h.table, bytes) (images-push (bytes_of before) (bytes_of to) from.byte last fits (is ∙ ap (last_or None) (bytes_of-take (suc (length before)) to) ∙ ap (λ n. last_or None (take (suc n) (bytes_of to))) (sym (length-bytes before))));
+        rw (h.table, bytes) (images-push (bytes_of before) (bytes_of to) from.byte last fits
+        (is ∙ ap (last_or None) (bytes_of-take (suc (length before)) to)
+        ∙ ap (λ n. last_or None (take (suc n) (bytes_of to))) (sym (length-bytes before))));
     decides = λ more. rw (count, append_assoc before (from ∷ []) more) (h.decides (from ∷ more) ∙ decides more);
   }
     where
@@ -82,38 +98,44 @@ module _ (before to : List Member) (old : Images) (from : Member) (h : HasPaired
       length-bytes (m ∷ ms) = ap (λ n. suc n) (length-bytes ms)
 
   -- a byte of the second array is left
-  pub push-next : (second : Bytes) (t : Member) → bytes_left old.second ≡ Ok t ∷ bytes_left second → classes_match from.class t.class ≡ true
-      → HasPaired (before ++ from ∷ []) to (record { table = set old.table from.byte (unwrap_or (Some t.byte) from.byte); second = second; last = Some t.byte })
+  pub push-next : (second : Bytes) (t : Member) → bytes_left old.second ≡ Ok t ∷ bytes_left second
+      → classes_match from.class t.class ≡ true
+      → HasPaired (before ++ from ∷ []) to
+      (record {
+        table = set old.table from.byte (unwrap_or (Some t.byte) from.byte);
+        second = second;
+        last = Some t.byte;
+      })
   push-next second t s fine =
       let next = next_taken (length before) to t (bytes_left second) (sym h.left ∙ s) in
       paired second (Some t.byte) next.left (sym next.last) (λ more. rw (next.at, fine) refl)
 
   -- none is left: the last one stays
   pub push-last : (second : Bytes) → bytes_left old.second ≡ [] → bytes_left second ≡ []
-      → HasPaired (before ++ from ∷ []) to (record { table = set old.table from.byte (unwrap_or old.last from.byte); second = second; last = old.last })
+      → HasPaired (before ++ from ∷ []) to
+      (record { table = set old.table from.byte (unwrap_or old.last from.byte); second = second; last = old.last })
   push-last second s end =
       let no_more = ended (length before) to (sym h.left ∙ s) in
-      paired second old.last (end ∙ ap AllOk (sym no_more.next)) (h.last ∙ ap (λ ms. last_or None (bytes_of ms)) (sym no_more.taken)) (λ more. rw (no_more.now, no_more.next) refl)
+      paired second old.last (end ∙ ap AllOk (sym no_more.next))
+      (h.last ∙ ap (λ ms. last_or None (bytes_of ms)) (sym no_more.taken))
+      (λ more. rw (no_more.now, no_more.next) refl)
 
   -- a class without its other case
-  pub push-unpaired : (after : List (Result Member SetFaultKind)) (t : Member) → bytes_left old.second ≡ Ok t ∷ after → classes_match from.class t.class ≡ false
-      → (more : List Member) → all_paired (before ++ from ∷ more) to ≡ false
+  pub push-unpaired : (after : List (Result Member SetFaultKind)) (t : Member) → bytes_left old.second ≡ Ok t ∷ after
+      → classes_match from.class t.class ≡ false → (more : List Member) → all_paired (before ++ from ∷ more) to ≡ false
   push-unpaired after t s wrong more =
       let next = next_taken (length before) to t after (sym h.left ∙ s) in
       h.decides (from ∷ more) ∙ rw (next.at, wrong) refl
 
 -- the images and the table after a step, as the code writes them
-pub written : (before to : List Member) (m : Images) (i u byte : ℕ) (table : List ℕ) (second : Bytes) (last : Option ℕ) → m ≡ record { table = table; second = second; last = last } → i ≡ byte → u ≡ unwrap_or m.last byte
-    → HasPaired before to (record { table = set table byte (unwrap_or last byte); second = second; last = last }) → HasPaired before to (record { table = set m.table i u; second = m.second; last = m.last })
+pub written : (before to : List Member) (m : Images) (i u byte : ℕ) (table : List ℕ) (second : Bytes) (last : Option ℕ)
+    → m ≡ record { table = table; second = second; last = last } → i ≡ byte → u ≡ unwrap_or m.last byte
+    → HasPaired before to (record { table = set table byte (unwrap_or last byte); second = second; last = last })
+    → HasPaired before to (record { table = set m.table i u; second = m.second; last = m.last })
 written before to m i u byte table second last e f g h = rw (g, f, e) h
 
 pub paired_same : (ms ns to : List Member) (s t : Images) → ms ≡ ns → s ≡ t → HasPaired ns to t → HasPaired ms to s
 paired_same ms ns to s t e f h = rw (e, f) h
-
--- before the first byte
-pub paired-new : (to : List Member) (second : Bytes) (table : List ℕ) → bytes_left second ≡ AllOk to → table ≡ map (image_by [] (bytes_of to)) all_bytes
-    → HasPaired [] to (record { table = table; second = second; last = None })
-paired-new to second table left is = record { left = left; last = refl; table = is; decides = λ more. refl }
 
 -- ---- after the end of the first array
 
@@ -123,14 +145,6 @@ pub record IsPassing (from to : List Member) (images : Images) : Type 0 where
   pub left : bytes_left images.second ≡ AllOk rest
   pub decides : all_paired from to ≡ all_paired [] rest
   pub table : images.table ≡ map (image_by (bytes_of from) (bytes_of to)) all_bytes
-
-pub passing-first : (from to : List Member) (images : Images) → HasPaired from to images → IsPassing from to images
-passing-first from to images h = record {
-  rest = drop (length from) to;
-  left = h.left;
-  decides = ap (λ ms. all_paired ms to) (sym (append-nil from)) ∙ h.decides [];
-  table = h.table;
-}
 
 -- the next byte that is left
 split_ok : (rest : List Member) (t : Member) (after : List (Result Member SetFaultKind)) → AllOk rest ≡ Ok t ∷ after
@@ -142,19 +156,27 @@ unmatched : (class : Option CharClass) → classes_match None class ≡ not (is_
 unmatched None = refl
 unmatched (Some class) = refl
 
-pub passing-next : (from to : List Member) (old : Images) (second : Bytes) (t : Member) → IsPassing from to old → bytes_left old.second ≡ Ok t ∷ bytes_left second
-    → is_some t.class ≡ false → IsPassing from to (record { table = old.table; second = second; last = old.last })
+pub passing-next : (from to : List Member) (old : Images) (second : Bytes) (t : Member) → IsPassing from to old
+    → bytes_left old.second ≡ Ok t ∷ bytes_left second → is_some t.class ≡ false
+    → IsPassing from to (record { table = old.table; second = second; last = old.last })
 passing-next from to old second t p s plain =
     let (more, is, left) = split_ok p.rest t (bytes_left second) (sym p.left ∙ s) in
-    record { rest = more; left = left; decides = p.decides ∙ ap (all_paired []) is ∙ rw (unmatched t.class, plain) refl; table = p.table }
+    record {
+      rest = more;
+      left = left;
+      decides = p.decides ∙ ap (all_paired []) is
+          ∙ rw (unmatched t.class, plain) refl;
+      table = p.table;
+    }
 
-pub passing-unpaired : (from to : List Member) (old : Images) (after : List (Result Member SetFaultKind)) (t : Member) → IsPassing from to old → bytes_left old.second ≡ Ok t ∷ after
-    → is_some t.class ≡ true → all_paired from to ≡ false
+pub passing-unpaired : (from to : List Member) (old : Images) (after : List (Result Member SetFaultKind)) (t : Member)
+    → IsPassing from to old → bytes_left old.second ≡ Ok t ∷ after → is_some t.class ≡ true → all_paired from to ≡ false
 passing-unpaired from to old after t p s class =
     let (more, is, left) = split_ok p.rest t after (sym p.left ∙ s) in
     p.decides ∙ ap (all_paired []) is ∙ rw (unmatched t.class, class) refl
 
-pub passing-end : (from to : List Member) (old : Images) → IsPassing from to old → bytes_left old.second ≡ [] → all_paired from to ≡ true
+pub passing-end : (from to : List Member) (old : Images) → IsPassing from to old → bytes_left old.second ≡ []
+    → all_paired from to ≡ true
 passing-end from to old p s = p.decides ∙ by_rest p.rest (sym p.left ∙ s)
   where
     by_rest : (rest : List Member) → AllOk rest ≡ [] → all_paired [] rest ≡ true
@@ -166,17 +188,22 @@ passing-end from to old p s = p.decides ∙ by_rest p.rest (sym p.left ∙ s)
 abbrev pub answer_of : Bool → List ℕ → Result (List ℕ) SetFaultKind
 answer_of paired images = cond paired (Ok images) (Err ClassPlace)
 
-pub unpaired_answer : (paired : Bool) (images : List ℕ) (r : Result (List ℕ) SetFaultKind) (k : SetFaultKind) → IsErrAnd r (λ e. e ≡ k) → k ≡ ClassPlace → paired ≡ false → r ≡ answer_of paired images
-unpaired_answer paired images r k is kind wrong = on_fault (λ q. q ≡ answer_of paired images) r k is (rw (kind, wrong) refl)
+pub unpaired_answer : (paired : Bool) (images : List ℕ) (r : Result (List ℕ) SetFaultKind) (k : SetFaultKind)
+    → IsErrAnd r (λ e. e ≡ k) → k ≡ ClassPlace → paired ≡ false → r ≡ answer_of paired images
+unpaired_answer paired images r k is kind wrong =
+    on_fault (λ q. q ≡ answer_of paired images) r k is (rw (kind, wrong) refl)
 
-pub answer_ok : (paired : Bool) (images table : List ℕ) → Ok table ≡ answer_of paired images → (paired ≡ true) × (table ≡ images)
+pub answer_ok : (paired : Bool) (images table : List ℕ) → Ok table ≡ answer_of paired images
+    → (paired ≡ true) × (table ≡ images)
 answer_ok true images table e = (refl, cc)
 answer_ok false images table e = absurd (let no : ⊥ = cc in no)
 
-pub answer_fault : (paired : Bool) (images : List ℕ) (k : SetFaultKind) → Err k ≡ answer_of paired images → (paired ≡ false) × (k ≡ ClassPlace)
+pub answer_fault : (paired : Bool) (images : List ℕ) (k : SetFaultKind) → Err k ≡ answer_of paired images
+    → (paired ≡ false) × (k ≡ ClassPlace)
 answer_fault true images k e = absurd (let no : ⊥ = cc in no)
 answer_fault false images k e = (refl, cc)
 
-pub first-bytes : (complement : Bool) (ps : List Segment) → bytes_of (first_members complement ps) ≡ first_array complement ps
+pub first-bytes : (complement : Bool) (ps : List Segment)
+    → bytes_of (first_members complement ps) ≡ first_array complement ps
 first-bytes true ps = bytes_of-plain (complement_of (array 0 ps))
 first-bytes false ps = bytes_of-array 0 ps

@@ -1,8 +1,11 @@
 -- Plain bytes in the characters of a string: a byte other than a backslash is a character by itself, so the code may
 -- look at the bytes where the definition looks at characters.
-use Rattle.ptlangs.proofs.Common.{◌≡◌, ◌≢◌, ◌≤◌, ◌<◌, ◌+◌, ◌-◌, inl, inr, ℕ, suc, Bool, true, false, List, [], ◌∷◌, length, take, drop, get_or, arith, refl, sym, ap, ◌∙◌, Some, None, nat_le}
-use Rattle.ptlangs.proofs.Common.{prefix_len, slice_range, take_while, list_all, AllPass, digits_value, cases_eq, eq-eqb, ne_eqb, drop_all, drop-drop, take_rest, length-prefix_len, take_while-cons}
-use Rattle.ptlangs.proofs.Common.{AllPass-from_list_all, SetChar, Plain, Escaped, Invalid, is_octal_digit, octal, octal_run, chars, after_backslash, after_plain, plain_run, after_run, and_from}
+use Rattle.ptlangs.proofs.Common.{◌≡◌, ◌≢◌, ◌≤◌, ◌<◌, ◌+◌, ◌-◌, inl, inr, ℕ, suc, Bool, true, false, List, [], ◌∷◌}
+use Rattle.ptlangs.proofs.Common.{length, take, drop, get_or, arith, refl, sym, ap, ◌∙◌, Some, None, nat_le, prefix_len}
+use Rattle.ptlangs.proofs.Common.{slice_range, take_while, list_all, AllPass, digits_value, cases_eq, eq-eqb, ne_eqb}
+use Rattle.ptlangs.proofs.Common.{drop_all, drop-drop, take_rest, length-prefix_len, take_while-cons}
+use Rattle.ptlangs.proofs.Common.{AllPass-from_list_all, SetChar, Plain, Escaped, Invalid, is_octal_digit, octal}
+use Rattle.ptlangs.proofs.Common.{octal_run, chars, after_backslash, after_plain, plain_run, after_run, and_from}
 use Rattle.std.proofs.lemmas.Bool.{cond_both}
 use Rattle.ptlangs.proofs.TrCharGrammar.{chars_plain, chars_escape, chars-cons}
 
@@ -17,7 +20,9 @@ IsEscape-octal value = cond_both (nat_le value 255) _ _ IsEscape (λ e. tt) (λ 
 
 pub IsEscape-after_backslash : (bs : List ℕ) → IsEscape (after_backslash bs).0
 IsEscape-after_backslash [] = tt
-IsEscape-after_backslash (b ∷ bs) = cond_both (is_octal_digit b) _ _ (λ (u : SetChar × ℕ). IsEscape u.0) (λ e. IsEscape-octal (digits_value 8 (octal_run (b ∷ bs)))) (λ e. tt)
+IsEscape-after_backslash (b ∷ bs) =
+    cond_both (is_octal_digit b) _ _ (λ (u : SetChar × ℕ). IsEscape u.0)
+    (λ e. IsEscape-octal (digits_value 8 (octal_run (b ∷ bs)))) (λ e. tt)
 
 pub after_plain-escape : (c : ℕ) (u : SetChar) (us : List SetChar) → IsEscape u → after_plain c (u ∷ us) ≡ None
 after_plain-escape c (Plain b) us e = absurd e
@@ -31,10 +36,12 @@ plain_run-escape test (Invalid k) us e = refl
 
 -- ---- one plain byte
 
-pub after_plain-here : (bs : List ℕ) (i c : ℕ) → i < length bs → get_or bs i 0 ≡ c → c ≢ 92 → Some (chars (drop (i + 1) bs)) ≡ after_plain c (chars (drop i bs))
+pub after_plain-here : (bs : List ℕ) (i c : ℕ) → i < length bs → get_or bs i 0 ≡ c → c ≢ 92
+    → Some (chars (drop (i + 1) bs)) ≡ after_plain c (chars (drop i bs))
 after_plain-here bs i c h e n = rw (chars_plain bs i c h e n, eq-eqb c c refl) refl
 
-pub after_plain-other : (bs : List ℕ) (i c : ℕ) → i < length bs → get_or bs i 0 ≢ c → None ≡ after_plain c (chars (drop i bs))
+pub after_plain-other : (bs : List ℕ) (i c : ℕ) → i < length bs → get_or bs i 0 ≢ c
+    → None ≡ after_plain c (chars (drop i bs))
 after_plain-other bs i c h n = elim (cases_eq (get_or bs i 0) 92) [
   | inl e ↦ rw (chars_escape bs i h e) (sym (after_plain-escape c _ _ (IsEscape-after_backslash (drop (i + 1) bs))))
   | inr m ↦ rw (chars_plain bs i (get_or bs i 0) h refl m, ne_eqb (get_or bs i 0) c n) refl
@@ -50,42 +57,60 @@ pub ruleset after_plain_steps = (after_plain-here, after_plain-other, after_plai
 pub chars-plain : (b : ℕ) (bs : List ℕ) → b ≢ 92 → chars (b ∷ bs) ≡ Plain b ∷ chars bs
 chars-plain b bs n = rw (chars-cons b bs, ne_eqb b 92 n) refl
 
-pub plain_run-chars : (test : ℕ → Bool) → test 92 ≡ false → (bs : List ℕ) → plain_run test (chars bs) ≡ take_while test bs
+pub plain_run-chars : (test : ℕ → Bool) → test 92 ≡ false → (bs : List ℕ)
+    → plain_run test (chars bs) ≡ take_while test bs
 plain_run-chars test n [] = refl
 plain_run-chars test n (b ∷ bs) = elim (cases_eq b 92) [
-  | inl e ↦ rw (take_while-cons test b bs, e, n, chars-cons 92 bs) (plain_run-escape test _ _ (IsEscape-after_backslash bs))
+  | inl e ↦ rw (take_while-cons test b bs, e, n, chars-cons 92 bs)
+      (plain_run-escape test _ _ (IsEscape-after_backslash bs))
   | inr m ↦ rw (take_while-cons test b bs, chars-plain b bs m, plain_run-chars test n bs) refl
 ]
 
-pub drop-prefix_len : (test : ℕ → Bool) → test 92 ≡ false → (bs : List ℕ) → drop (prefix_len test bs) (chars bs) ≡ chars (drop (prefix_len test bs) bs)
+pub drop-prefix_len : (test : ℕ → Bool) → test 92 ≡ false → (bs : List ℕ)
+    → drop (prefix_len test bs) (chars bs) ≡ chars (drop (prefix_len test bs) bs)
 drop-prefix_len test n [] = refl
 drop-prefix_len test n (b ∷ bs) =
     let next : 1 + prefix_len test bs ≡ suc (prefix_len test bs) = omega arith in
     cond_both (test b) (1 + prefix_len test bs) 0 (λ (m : ℕ). drop m (chars (b ∷ bs)) ≡ chars (drop m (b ∷ bs)))
-    (λ e. let plain : b ≢ 92 = λ same. cc (ap test same) in rw (chars-plain b bs plain, next) (drop-prefix_len test n bs)) (λ e. refl)
+    (λ e. let plain : b ≢ 92 = λ same. cc (ap test same) in rw (
+      chars-plain b bs plain,
+      next,
+    ) (drop-prefix_len test n bs)) (λ e. refl)
 
 -- the length of the run from `i` on, counted in the slice from `i` on
 abbrev pub IsRunLength : (ℕ → Bool) → List ℕ → ℕ → ℕ → Type 0
 IsRunLength test bs i count = count ≡ length (take_while test (take (length bs - i) (drop i bs)))
 
-pub prefix_len-from_run : (test : ℕ → Bool) (bs : List ℕ) (i count : ℕ) → IsRunLength test bs i count → count ≡ prefix_len test (drop i bs)
-prefix_len-from_run test bs i count e = e ∙ ap (λ xs. length (take_while test xs)) (take_rest bs i) ∙ length-prefix_len test (drop i bs)
+pub prefix_len-from_run : (test : ℕ → Bool) (bs : List ℕ) (i count : ℕ) → IsRunLength test bs i count
+    → count ≡ prefix_len test (drop i bs)
+prefix_len-from_run test bs i count e = e ∙ ap (λ xs. length (take_while test xs)) (take_rest bs i)
+    ∙ length-prefix_len test (drop i bs)
 
 -- the bytes from `i` to the end of the run
-pub run_range : (test : ℕ → Bool) → test 92 ≡ false → (bs : List ℕ) (i count : ℕ) → IsRunLength test bs i count → slice_range bs i (i + count) ≡ plain_run test (chars (drop i bs))
+pub run_range : (test : ℕ → Bool) → test 92 ≡ false → (bs : List ℕ) (i count : ℕ) → IsRunLength test bs i count
+    → slice_range bs i (i + count) ≡ plain_run test (chars (drop i bs))
 run_range test n bs i count e =
     let same : i + count - i ≡ prefix_len test (drop i bs) = omega (arith, prefix_len-from_run test bs i count e) in
     rw (same, plain_run-chars test n (drop i bs)) refl
 
-pub run_rest : (test : ℕ → Bool) → test 92 ≡ false → (bs : List ℕ) (i count : ℕ) → IsRunLength test bs i count → chars (drop (i + count) bs) ≡ after_run test (chars (drop i bs))
+pub run_rest : (test : ℕ → Bool) → test 92 ≡ false → (bs : List ℕ) (i count : ℕ) → IsRunLength test bs i count
+    → chars (drop (i + count) bs) ≡ after_run test (chars (drop i bs))
 run_rest test n bs i count e =
-    let split : drop (i + count) bs ≡ drop (prefix_len test (drop i bs)) (drop i bs) = rw (drop-drop, prefix_len-from_run test bs i count e) refl in
-    rw (plain_run-chars test n (drop i bs), length-prefix_len test (drop i bs), drop-prefix_len test n (drop i bs), split) refl
+    let split : drop (i + count) bs ≡ drop (prefix_len test (drop i bs)) (drop i bs) =
+    rw (drop-drop, prefix_len-from_run test bs i count e) refl in
+    rw (
+      plain_run-chars test n (drop i bs),
+      length-prefix_len test (drop i bs),
+      drop-prefix_len test n (drop i bs),
+      split,
+    ) refl
 
 -- each byte of a run passes the test
 pub list_all-plain_run : (test : ℕ → Bool) (us : List SetChar) → list_all test (plain_run test us) ≡ true
 list_all-plain_run test [] = refl
-list_all-plain_run test (Plain b ∷ us) = cond_both (test b) _ _ (λ (bs : List ℕ). list_all test bs ≡ true) (λ e. and_from _ _ e (list_all-plain_run test us)) (λ e. refl)
+list_all-plain_run test (Plain b ∷ us) =
+    cond_both (test b) _ _ (λ (bs : List ℕ). list_all test bs ≡ true) (λ e. and_from _ _ e (list_all-plain_run test us))
+    (λ e. refl)
 list_all-plain_run test (Escaped b ∷ us) = refl
 list_all-plain_run test (Invalid k ∷ us) = refl
 

@@ -1,11 +1,17 @@
 -- The plan of two strings, step by step, and its tables. Reading never fails for lack of memory: no character, no
 -- element and no segment has that fault.
-use Rattle.ptlangs.proofs.Common.{◌≡◌, Bool, Err, List, None, Ok, Option, Result, Some, [], ap, arith, cond, false, length, map, refl, suc, sym, true, zero, ℕ, ◌++◌, ◌-◌, ◌∙◌, ◌∷◌, ◌≢◌}
-use Rattle.ptlangs.proofs.Common.{result_map_both, and_then, AClass, ADescendingRange, AnInvalidEnd, AnInvalidChar, ARange, ARepeat, Alone, AnEquivalence, StartsElement, StartsInvalid, InBrackets, StartsBracketed}
-use Rattle.ptlangs.proofs.Common.{FirstFault, LaterFault, NoMemoryFault, NoElement, NoSegment, Plan, array, class_offsets, sequence, fill_count, first_array, image_of, in_string, is_deleted, is_squeezed}
-use Rattle.ptlangs.proofs.Common.{has_valid_classes, segment, segments_of, plan, plan_from, plan_of, plan_with, repeat_segment, second_role, second_plan, string_segments, takes_second, tables, ALargeOctal}
-use Rattle.ptlangs.proofs.Common.{ALoneBackslash, APlainByte, AChar, AnEscape, AnOctal, NoChar, SpellsChar, SpellsChars, chars, SetFault, SetFaultKind, ClassPlace, Memory, SetElement, Segment, SetRole, First}
-use Rattle.ptlangs.proofs.Common.{Images, Squeezed, Form, Delete, DeleteSqueeze, Squeeze, Translate, TranslateSqueeze, SetChar, Escaped, Invalid, Plain}
+use Rattle.ptlangs.proofs.Common.{◌≡◌, Bool, Err, List, None, Ok, Option, Result, Some, [], ap, arith, cond, false}
+use Rattle.ptlangs.proofs.Common.{length, map, refl, suc, sym, true, zero, ℕ, ◌++◌, ◌-◌, ◌∙◌, ◌∷◌, ◌≢◌, result_map_both}
+use Rattle.ptlangs.proofs.Common.{and_then, AClass, ADescendingRange, AnInvalidEnd, AnInvalidChar, ARange, ARepeat}
+use Rattle.ptlangs.proofs.Common.{Alone, AnEquivalence, StartsElement, StartsInvalid, InBrackets, StartsBracketed}
+use Rattle.ptlangs.proofs.Common.{FirstFault, LaterFault, NoMemoryFault, NoElement, NoSegment, Plan, array}
+use Rattle.ptlangs.proofs.Common.{class_offsets, fill_count, first_array, image_of, in_string, is_deleted}
+use Rattle.ptlangs.proofs.Common.{is_squeezed, has_valid_classes, segment, plan, plan_from, plan_of}
+use Rattle.ptlangs.proofs.Common.{plan_with, repeat_segment, second_role, second_plan, string_segments, takes_second}
+use Rattle.ptlangs.proofs.Common.{tables, ALargeOctal, ALoneBackslash, APlainByte, AChar, AnEscape, AnOctal, NoChar}
+use Rattle.ptlangs.proofs.Common.{SpellsChar, SpellsChars, chars, SetFault, SetFaultKind, ClassPlace, Memory}
+use Rattle.ptlangs.proofs.Common.{SetElement, Segment, SetRole, First, Images, Squeezed, Form, Delete, DeleteSqueeze}
+use Rattle.ptlangs.proofs.Common.{Squeeze, Translate, TranslateSqueeze, SetChar, Escaped, Invalid, Plain}
 use Rattle.std.proofs.lemmas.Bool.{cond_both}
 use Rattle.ptlangs.specs.TrClasses.{all_bytes}
 use Rattle.ptlangs.specs.declared.tr.contents.Contents.{Contents}
@@ -24,43 +30,43 @@ use Rattle.ptlangs.proofs.TrCharGrammar.{chars_are_spelled}
 pub same_answer : {A E : Type 0} (r : Result A E) (x y : A) → r ≡ Ok x → r ≡ Ok y → x ≡ y
 same_answer r x y e f = cc
 
--- a result is not both a fault and a value
-pub no_answer : {A E B : Type 0} (r : Result A E) (k : E) (x : A) → r ≡ Err k → r ≡ Ok x → B
-no_answer r k x e f = absurd (let no : ⊥ = cc in no)
-
 -- ---- strings without a fault
 
--- a string without a fault is not empty
-pub sequence-string : (role : SetRole) (text : List ℕ) (ps : List Segment) → string_segments role text ≡ Ok ps → sequence (segments_of role text) ≡ Ok ps
-sequence-string role [] ps e = absurd (let no : ⊥ = cc in no)
-sequence-string role (b ∷ text) ps e = e
-
 -- a result that comes from segments, and these segments
-pub mapped_ok : (r : Result (List Segment) SetFaultKind) (f : List Segment → Contents) (y : Contents) → Ok y ≡ result_map_both f (λ (k : SetFaultKind). k) r
-    → (ps : List Segment) × (r ≡ Ok ps) × (y ≡ f ps)
+pub mapped_ok : (r : Result (List Segment) SetFaultKind) (f : List Segment → Contents) (y : Contents)
+    → Ok y ≡ result_map_both f (λ (k : SetFaultKind). k) r → (ps : List Segment) × (r ≡ Ok ps) × (y ≡ f ps)
 mapped_ok (Ok ps) f y e = (ps, refl, cc)
 mapped_ok (Err k) f y e = absurd (let no : ⊥ = cc in no)
 
-pub mapped_at : (r : Result (List Segment) SetFaultKind) (f : List Segment → Contents) (y : Contents) (ps : List Segment) → Ok y ≡ result_map_both f (λ (k : SetFaultKind). k) r → r ≡ Ok ps → y ≡ f ps
+pub mapped_at : (r : Result (List Segment) SetFaultKind) (f : List Segment → Contents) (y : Contents)
+    (ps : List Segment)
+    → Ok y ≡ result_map_both f (λ (k : SetFaultKind). k) r → r ≡ Ok ps → y ≡ f ps
 mapped_at (Ok qs) f y ps e h = let same : qs ≡ ps = cc in let value : y ≡ f qs = cc in value ∙ ap f same
 mapped_at (Err k) f y ps e h = absurd (let no : ⊥ = cc in no)
 
 -- the plan of two strings, after the second one was read without a fill
-pub second_plan-read : (form : Form) (complement : Bool) (firsts : List Segment) (text : List ℕ) (role : SetRole) (fill : ℕ) (first unfilled : Contents) → role ≡ second_role form
-    → Ok unfilled ≡ result_map_both (λ ps. contents_of (array 0 ps)) (λ (k : SetFaultKind). k) (string_segments role text) → fill ≡ first.length - unfilled.length
-    → first ≡ contents_of (first_array complement firsts)
+pub second_plan-read : (form : Form) (complement : Bool) (firsts : List Segment) (text : List ℕ) (role : SetRole)
+    (fill : ℕ) (first unfilled : Contents)
+    → role ≡ second_role form
+    → Ok unfilled ≡ result_map_both (λ ps. contents_of (array 0 ps)) (λ (k : SetFaultKind). k)
+    (string_segments role text)
+    → fill ≡ first.length - unfilled.length → first ≡ contents_of (first_array complement firsts)
     → (ps : List Segment) × (string_segments role text ≡ Ok ps)
     × ((valid : Bool) → has_valid_classes form complement (class_offsets 0 0 firsts) (class_offsets fill 0 ps) ≡ valid
-    → second_plan form complement firsts text ≡ cond {A = Result Plan SetFaultKind} valid (Ok (plan_of form (first_array complement firsts) (array fill ps))) (Err ClassPlace))
+    → second_plan form complement firsts text
+    ≡ cond {A = Result Plan SetFaultKind} valid (Ok (plan_of form (first_array complement firsts) (array fill ps)))
+    (Err ClassPlace))
 second_plan-read form complement firsts text role fill first unfilled at was e f =
     let (ps, read, is) = mapped_ok (string_segments role text) (λ ps. contents_of (array 0 ps)) unfilled was in
     let whole : string_segments (second_role form) text ≡ Ok ps = ap (λ q. string_segments q text) (sym at) ∙ read in
-    let has_fill : fill ≡ fill_count (length (first_array complement firsts)) ps = omega (arith, e, ap (λ (q : Contents). q.length) f, ap (λ (q : Contents). q.length) is) in
+    let has_fill : fill ≡ fill_count (length (first_array complement firsts)) ps =
+    omega (arith, e, ap (λ (q : Contents). q.length) f, ap (λ (q : Contents). q.length) is) in
     (ps, read, λ valid is. rw (whole, ← has_fill, is) refl)
 
 -- the classes of a second string that translates are valid if they are paired
 pub valid-paired : (form : Form) (complement : Bool) (firsts ps : List Segment) (n : ℕ) → (form ≡ DeleteSqueeze → ⊥)
-    → has_valid_classes form complement (class_offsets 0 0 firsts) (class_offsets n 0 ps) ≡ all_paired (first_members complement firsts) (marked_array n ps)
+    → has_valid_classes form complement (class_offsets 0 0 firsts) (class_offsets n 0 ps)
+    ≡ all_paired (first_members complement firsts) (marked_array n ps)
 valid-paired DeleteSqueeze complement firsts ps n other = absurd (other refl)
 valid-paired Translate true firsts ps n other = paired-plain n (complement_of (array 0 firsts)) ps
 valid-paired Translate false firsts ps n other = paired-arrays n firsts ps
@@ -72,20 +78,25 @@ valid-paired Delete true firsts ps n other = paired-plain n (complement_of (arra
 valid-paired Delete false firsts ps n other = paired-arrays n firsts ps
 
 -- the plan of two strings, the first of which has no fault
-pub plan_two : (form : Form) (complement : Bool) (s1 s2 : List ℕ) (firsts : List Segment) (k : SetFaultKind) → string_segments First s1 ≡ Ok firsts
+pub plan_two : (form : Form) (complement : Bool) (s1 s2 : List ℕ) (firsts : List Segment) (k : SetFaultKind)
+    → string_segments First s1 ≡ Ok firsts
     → Err k ≡ result_map_both tables (λ (kind : SetFaultKind). kind) (second_plan form complement firsts s2)
-    → result_map_both tables (λ (f : SetFault). f) (plan form complement s1 (Some s2)) ≡ Err (record { string = string.Second; kind = k })
+    → result_map_both tables (λ (f : SetFault). f) (plan form complement s1 (Some s2))
+    ≡ Err (record { string = string.Second; kind = k })
 plan_two form complement s1 s2 firsts k s e = rw s (choose (second_plan form complement firsts s2) e)
   where
     choose : (r : Result Plan SetFaultKind) → Err k ≡ result_map_both tables (λ (kind : SetFaultKind). kind) r
-        → result_map_both tables (λ (f : SetFault). f) (in_string string.Second r) ≡ Err (record { string = string.Second; kind = k })
+        → result_map_both tables (λ (f : SetFault). f) (in_string string.Second r)
+        ≡ Err (record { string = string.Second; kind = k })
     choose (Ok p) e = absurd (let no : ⊥ = cc in no)
-    choose (Err j) e = let same : k ≡ j = cc in ap (λ (kind : SetFaultKind). Err (record { string = string.Second; kind = kind })) (sym same)
+    choose (Err j) e = let same : k ≡ j = cc in
+        ap (λ (kind : SetFaultKind). Err (record { string = string.Second; kind = kind })) (sym same)
 
 -- ---- the three tables of a plan
 
 pub tables_are : (p : Plan) (deleted : List Bool) (images : List ℕ) (squeezed : List Bool)
-    → deleted ≡ map (is_deleted p) all_bytes → images ≡ map (image_of p) all_bytes → squeezed ≡ map (is_squeezed p) all_bytes
+    → deleted ≡ map (is_deleted p) all_bytes → images ≡ map (image_of p) all_bytes
+    → squeezed ≡ map (is_squeezed p) all_bytes
     → record { deleted = deleted; images = images; squeezed = squeezed } ≡ tables p
 tables_are p deleted images squeezed d i s = rw (d, i, s) refl
 
@@ -98,7 +109,8 @@ is_squeeze Squeeze e n = refl
 is_squeeze Delete e n = absurd (n refl)
 is_squeeze DeleteSqueeze e n = cc
 
-pub is_translate : (form : Form) → takes_second form ≡ true → (form ≡ DeleteSqueeze → ⊥) → (form ≡ TranslateSqueeze → ⊥) → form ≡ Translate
+pub is_translate : (form : Form) → takes_second form ≡ true → (form ≡ DeleteSqueeze → ⊥) → (form ≡ TranslateSqueeze → ⊥)
+    → form ≡ Translate
 is_translate Translate e n m = refl
 is_translate TranslateSqueeze e n m = absurd (m refl)
 is_translate Squeeze e n m = cc
@@ -125,27 +137,36 @@ spelled_not_memory bs rest u ALoneBackslash = λ e. cc
 
 all_not_memory : (bs : List ℕ) (us : List SetChar) → SpellsChars bs us → AreNotMemory us
 all_not_memory bs us NoChar = tt
-all_not_memory bs us (AChar all rest u more first later) = (spelled_not_memory all rest u first, all_not_memory rest more later)
+all_not_memory bs us (AChar all rest u more first later) =
+    (spelled_not_memory all rest u first, all_not_memory rest more later)
 
 not_memory_after : (us rest : List SetChar) → AreNotMemory (us ++ rest) → AreNotMemory rest
 not_memory_after [] rest fine = fine
-not_memory_after (u ∷ us) rest fine = not_memory_after us rest fine.1
+not_memory_after (u ∷ us) rest fine = let (_, others) = fine in not_memory_after us rest others
 
-bracketed_not_memory : (us : List SetChar) (p : SetElement) (rest : List SetChar) → StartsBracketed us p rest → AreNotMemory us → AreNotMemory rest
-bracketed_not_memory us p rest (ARepeat u v digits r m d) fine = (not_memory_after (map Plain digits) _ fine.1.1.1).1
-bracketed_not_memory us p rest (AClass c name r l) fine = (not_memory_after (map Plain (c ∷ name)) _ fine.1.1).1.1
-bracketed_not_memory us p rest (AnEquivalence u v r m) fine = fine.1.1.1.1.1
+bracketed_not_memory : (us : List SetChar) (p : SetElement) (rest : List SetChar) → StartsBracketed us p rest
+    → AreNotMemory us → AreNotMemory rest
+bracketed_not_memory us p rest (ARepeat u v digits r m d) fine =
+    not_memory_after (Plain 93 ∷ []) r (not_memory_after (map Plain digits) (Plain 93 ∷ r)
+    (not_memory_after (Plain 91 ∷ u ∷ Plain 42 ∷ []) (map Plain digits ++ Plain 93 ∷ r) fine))
+bracketed_not_memory us p rest (AClass c name r l) fine =
+    not_memory_after (Plain 58 ∷ Plain 93 ∷ []) r (not_memory_after (map Plain (c ∷ name)) (Plain 58 ∷ Plain 93 ∷ r)
+    (not_memory_after (Plain 91 ∷ Plain 58 ∷ []) (map Plain (c ∷ name) ++ Plain 58 ∷ Plain 93 ∷ r) fine))
+bracketed_not_memory us p rest (AnEquivalence u v r m) fine =
+    not_memory_after (Plain 91 ∷ Plain 61 ∷ u ∷ Plain 61 ∷ Plain 93 ∷ []) r fine
 
-element_not_memory : (us : List SetChar) (p : SetElement) (rest : List SetChar) → StartsElement us p rest → AreNotMemory us → AreNotMemory rest
+element_not_memory : (us : List SetChar) (p : SetElement) (rest : List SetChar) → StartsElement us p rest
+    → AreNotMemory us → AreNotMemory rest
 element_not_memory us p rest (InBrackets all q r o) fine = bracketed_not_memory all q r o fine
-element_not_memory us p rest (ARange u v a b r n m w h) fine = fine.1.1.1
-element_not_memory us p rest (Alone u a r n d m) fine = fine.1
+element_not_memory us p rest (ARange u v a b r n m w h) fine = not_memory_after (u ∷ Plain 45 ∷ v ∷ []) r fine
+element_not_memory us p rest (Alone u a r n d m) fine = not_memory_after (u ∷ []) r fine
 
 -- ---- neither have segments
 
 element_fault : (us : List SetChar) (k : SetFaultKind) → StartsInvalid us k → AreNotMemory us → k ≢ Memory
-element_fault us k (AnInvalidChar j rest) fine = fine.0
-element_fault us k (AnInvalidEnd u a j rest n m) fine = fine.1.1.0
+element_fault us k (AnInvalidChar j rest) fine = let (first, _) = fine in first
+element_fault us k (AnInvalidEnd u a j rest n m) fine =
+    let (end, _) = not_memory_after (u ∷ Plain 45 ∷ []) (Invalid j ∷ rest) fine in end
 element_fault us k (ADescendingRange u v a b rest n m w h) fine = λ e. cc
 
 -- the fault of the result, if there is one, is not `Memory`
@@ -171,43 +192,61 @@ segment_not_memory First has_fill (element.Repeat b count) = λ e. cc
 segment_not_memory Images has_fill (element.Repeat b count) = repeat_not_memory has_fill b count
 segment_not_memory Squeezed has_fill (element.Repeat b count) = repeat_not_memory has_fill b count
 
-fault_not_memory : {A : Type 0} (r : Result A SetFaultKind) (k : SetFaultKind) → FaultIsNotMemory r → r ≡ Err k → k ≢ Memory
+fault_not_memory : {A : Type 0} (r : Result A SetFaultKind) (k : SetFaultKind) → FaultIsNotMemory r → r ≡ Err k
+    → k ≢ Memory
 fault_not_memory (Ok x) k speaks e = cc
 fault_not_memory (Err j) k speaks e = let same : j ≡ k = cc in λ memory. speaks (cc)
 
-first_not_memory : (role : SetRole) (has_fill : Bool) (us : List SetChar) (k : SetFaultKind) → FirstFault role has_fill us k → AreNotMemory us → k ≢ Memory
+first_not_memory : (role : SetRole) (has_fill : Bool) (us : List SetChar) (k : SetFaultKind)
+    → FirstFault role has_fill us k → AreNotMemory us → k ≢ Memory
 first_not_memory role has_fill us k (NoElement f vs j b) fine = element_fault vs j b fine
-first_not_memory role has_fill us k (NoSegment f vs rest p j b e) fine = fault_not_memory (segment role f p) j (segment_not_memory role f p) e
-first_not_memory role has_fill us k (LaterFault f vs rest p x j b e later) fine = first_not_memory role _ rest j later (element_not_memory vs p rest b fine)
+first_not_memory role has_fill us k (NoSegment f vs rest p j b e) fine =
+    fault_not_memory (segment role f p) j (segment_not_memory role f p) e
+first_not_memory role has_fill us k (LaterFault f vs rest p x j b e later) fine =
+    first_not_memory role _ rest j later (element_not_memory vs p rest b fine)
 
 -- ---- neither have strings
 
-string_not_memory : (role : SetRole) (text : List ℕ) (r : Result (List Segment) SetFaultKind) → string_segments role text ≡ r → FaultIsNotMemory r
+string_not_memory : (role : SetRole) (text : List ℕ) (r : Result (List Segment) SetFaultKind)
+    → string_segments role text ≡ r → FaultIsNotMemory r
 string_not_memory role text (Ok ps) e = tt
 string_not_memory role [] (Err k) e = fault_not_memory (string_segments role []) k (λ memory. cc) e
 string_not_memory role (b ∷ text) (Err k) e =
     let us = chars (b ∷ text) in
-    first_not_memory role false us k ((faults_are_first role b text k).1 e) (all_not_memory (b ∷ text) us ((chars_are_spelled (b ∷ text) us).1 refl))
+    let (_, first) = faults_are_first role b text k in
+    let (_, spelled) = chars_are_spelled (b ∷ text) us in
+    first_not_memory role false us k (first e) (all_not_memory (b ∷ text) us (spelled refl))
 
-second_not_memory : (form : Form) (complement : Bool) (firsts : List Segment) (r : Result (List Segment) SetFaultKind) → FaultIsNotMemory r
-    → FaultIsNotMemory (and_then r (λ seconds. plan_with form complement firsts (first_array complement firsts) seconds))
-second_not_memory form complement firsts (Ok seconds) speaks = cond_both (has_valid_classes form complement _ _) _ _ (FaultIsNotMemory {A = Plan}) (λ t. tt) (λ t e. cc)
+second_not_memory : (form : Form) (complement : Bool) (firsts : List Segment) (r : Result (List Segment) SetFaultKind)
+    → FaultIsNotMemory r
+    → FaultIsNotMemory
+    (and_then r (λ seconds. plan_with form complement firsts (first_array complement firsts) seconds))
+second_not_memory form complement firsts (Ok seconds) speaks =
+    cond_both (has_valid_classes form complement _ _) _ _ (FaultIsNotMemory {A = Plan}) (λ t. tt) (λ t e. cc)
 second_not_memory form complement firsts (Err k) speaks = speaks
 
-of_string : {A : Type 0} (string : SetString) (r : Result A SetFaultKind) (fault : SetFault) → FaultIsNotMemory r → in_string string r ≡ Err fault → fault.kind ≢ Memory
+of_string : {A : Type 0} (string : SetString) (r : Result A SetFaultKind) (fault : SetFault) → FaultIsNotMemory r
+    → in_string string r ≡ Err fault → fault.kind ≢ Memory
 of_string string (Ok x) fault speaks e = cc
 of_string string (Err k) fault speaks e = let same : k ≡ fault.kind = cc in λ memory. speaks (cc)
 
-rest_not_memory : (form : Form) (complement : Bool) (firsts : List Segment) (s2 : Option (List ℕ)) (fault : SetFault) → plan_from form complement firsts s2 ≡ Err fault → fault.kind ≢ Memory
+rest_not_memory : (form : Form) (complement : Bool) (firsts : List Segment) (s2 : Option (List ℕ)) (fault : SetFault)
+    → plan_from form complement firsts s2 ≡ Err fault → fault.kind ≢ Memory
 rest_not_memory form complement firsts None fault e = cc
 rest_not_memory form complement firsts (Some text) fault e =
     of_string _ (second_plan form complement firsts text) fault
-    (second_not_memory form complement firsts (string_segments (second_role form) text) (string_not_memory (second_role form) text (string_segments (second_role form) text) refl)) e
+    (second_not_memory form complement firsts (string_segments (second_role form) text)
+    (string_not_memory (second_role form) text (string_segments (second_role form) text) refl)) e
 
-plan_not_memory : (string : SetString) (form : Form) (complement : Bool) (s2 : Option (List ℕ)) (r : Result (List Segment) SetFaultKind) (fault : SetFault) → FaultIsNotMemory r
-    → and_then (in_string string r) (λ firsts. plan_from form complement firsts s2) ≡ Err fault → fault.kind ≢ Memory
+plan_not_memory : (string : SetString) (form : Form) (complement : Bool) (s2 : Option (List ℕ))
+    (r : Result (List Segment) SetFaultKind) (fault : SetFault)
+    → FaultIsNotMemory r → and_then (in_string string r) (λ firsts. plan_from form complement firsts s2) ≡ Err fault
+    → fault.kind ≢ Memory
 plan_not_memory string form complement s2 (Ok firsts) fault speaks e = rest_not_memory form complement firsts s2 fault e
-plan_not_memory string form complement s2 (Err k) fault speaks e = let same : k ≡ fault.kind = cc in λ memory. speaks (cc)
+plan_not_memory string form complement s2 (Err k) fault speaks e = let same : k ≡ fault.kind = cc in
+    λ memory. speaks (cc)
 
 pub never_memory : NoMemoryFault
-never_memory form complement s1 s2 fault e = plan_not_memory _ form complement s2 (string_segments First s1) fault (string_not_memory First s1 (string_segments First s1) refl) e
+never_memory form complement s1 s2 fault e =
+    plan_not_memory _ form complement s2 (string_segments First s1) fault
+    (string_not_memory First s1 (string_segments First s1) refl) e

@@ -1,36 +1,45 @@
 -- The command after parsing: without a fault of parsing and of the constraints, `command_of_args` reduces to
 -- `checked_command`, and a fault of the constraints is the first fault.
-use Rattle.ptopts.proofs.Common.{◌≡◌, ℕ, List, [], ◌∷◌, Option, Some, None, Ok, Err, refl, ap, sym, ◌∙◌, Tool, IsFault, ParsedOption, tool_of_name, Fault, first_some, constraints_fault, values_fault}
-use Rattle.ptopts.proofs.Common.{operands_fault, strings_fault, Job, job, input_operands, output, checked_command, ok_unless, command, command_of_args, command_of_tool, with_inputs, AreInputs, ArgsPost}
+use Rattle.ptopts.proofs.Common.{◌≡◌, ℕ, List, [], ◌∷◌, Option, Some, None, Ok, Err, refl, ap, sym, ◌∙◌, Tool, IsFault}
+use Rattle.ptopts.proofs.Common.{ParsedOption, tool_of_name, Fault, first_some, constraints_fault, values_fault}
+use Rattle.ptopts.proofs.Common.{operands_fault, strings_fault, Job, job, input_operands, output, checked_command}
+use Rattle.ptopts.proofs.Common.{ok_unless, command, command_of_args, command_of_tool, with_inputs, AreInputs, ArgsPost}
 use Rattle.ptopts.specs.declared.inputs.Inputs.{Inputs}
 
-pub checked_command_ok : {A : Type 0} (tool : Tool) (os : List ParsedOption) (operands : List (List ℕ)) (i : Inputs A) {told : Job}
+pub checked_command_ok : {A : Type 0} (tool : Tool) (os : List ParsedOption) (operands : List (List ℕ))
+    (i : Inputs A) {told : Job}
     → values_fault tool os ≡ None → operands_fault tool os operands ≡ None → strings_fault tool os operands ≡ None
     → job tool os operands ≡ told → AreInputs (input_operands tool operands) (output tool operands) i
     → checked_command tool os operands ≡ Ok (with_inputs told i)
 checked_command_ok tool os operands i values number strings same are =
     rw (values, number, strings) (ap Ok (sym (are (job tool os operands)) ∙ ap (λ (j : Job). with_inputs j i) same))
 
-checked_command_is : (tool : Tool) (os os' : List ParsedOption) (operands operands' : List (List ℕ)) (read : Option Fault)
+checked_command_is : (tool : Tool) (os os' : List ParsedOption) (operands operands' : List (List ℕ))
+    (read : Option Fault)
     → os ≡ os' → operands ≡ operands' → read ≡ None → constraints_fault tool os ≡ None
-    → ok_unless (first_some (read ∷ constraints_fault tool os' ∷ values_fault tool os' ∷ operands_fault tool os' operands' ∷ strings_fault tool os' operands' ∷ []))
-    (command tool os' operands') ≡ checked_command tool os operands
+    → ok_unless
+    (first_some (read ∷ constraints_fault tool os' ∷ values_fault tool os' ∷ operands_fault tool os' operands'
+    ∷ strings_fault tool os' operands' ∷ [])) (command tool os' operands') ≡ checked_command tool os operands
 checked_command_is tool os os' operands operands' read same same' fine none = rw (fine, ← same, ← same', none) refl
 
-constraint_fault_is : (tool : Tool) (os os' : List ParsedOption) (operands operands' : List (List ℕ)) (read : Option Fault) (f : Fault)
+constraint_fault_is : (tool : Tool) (os os' : List ParsedOption) (operands operands' : List (List ℕ))
+    (read : Option Fault) (f : Fault)
     → os ≡ os' → read ≡ None → Some f ≡ constraints_fault tool os
-    → ok_unless (first_some (read ∷ constraints_fault tool os' ∷ values_fault tool os' ∷ operands_fault tool os' operands' ∷ strings_fault tool os' operands' ∷ []))
-    (command tool os' operands') ≡ Err f
+    → ok_unless
+    (first_some (read ∷ constraints_fault tool os' ∷ values_fault tool os' ∷ operands_fault tool os' operands'
+    ∷ strings_fault tool os' operands' ∷ [])) (command tool os' operands') ≡ Err f
 constraint_fault_is tool os os' operands operands' read f same fine is = rw (fine, ← same, ← is) refl
 
 module _ (name : List ℕ) (words : List (List ℕ)) (tool : Tool) (os : List ParsedOption) (operands : List (List ℕ)) where
   pub meaning_read : tool_of_name name ≡ Some tool → ArgsPost tool words os operands → constraints_fault tool os ≡ None
       → command_of_args (name ∷ words) ≡ checked_command tool os operands
   meaning_read named r none =
-      ap (λ (t : Option Tool). command_of_tool t words) named ∙ checked_command_is tool os _ operands _ _ r.options r.rest r.faultless none
+      ap (λ (t : Option Tool). command_of_tool t words) named
+      ∙ checked_command_is tool os _ operands _ _ r.options r.rest r.faultless none
 
   pub meaning_refused : (found : Option Fault) → tool_of_name name ≡ Some tool → ArgsPost tool words os operands
       → found ≡ constraints_fault tool os → IsFault found (command_of_args (name ∷ words))
   meaning_refused None named r is = tt
   meaning_refused (Some f) named r is =
-      ap (λ (t : Option Tool). command_of_tool t words) named ∙ constraint_fault_is tool os _ operands _ _ f r.options r.faultless is
+      ap (λ (t : Option Tool). command_of_tool t words) named
+      ∙ constraint_fault_is tool os _ operands _ _ f r.options r.faultless is

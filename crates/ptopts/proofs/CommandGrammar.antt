@@ -1,9 +1,12 @@
 -- Words specify a command if and only if the grammar gives them options and operands that the tool allows: no fault of
 -- parsing means that no option is repeated, and the other four faults are the other four conditions.
-use Rattle.ptopts.proofs.Common.{◌≡◌, ℕ, List, [], ◌∷◌, ◌++◌, Bool, true, false, refl, ap, sym, subst, map, append_assoc, append-nil, Option, Some, None, ◌&&◌, Ok, ⊎_elim, is_some, IsTrue}
-use Rattle.ptopts.proofs.Common.{if◌then◌else◌, cases_Bool, Tool, ParsedOption, Valid, Spells, ParsedArgs, parsed_args, options, tool_of_name, Fault, Twice, first_some, is_repeated, token_fault, parse_fault}
-use Rattle.ptopts.proofs.Common.{constraints_fault, values_fault, operands_fault, strings_fault, Command, command, ok_unless, first_fault, command_of_args, command_of_tool, AreAllowed, SpellsCommand, Spelled}
-use Rattle.ptopts.proofs.Common.{CommandsMatchGrammar}
+use Rattle.ptopts.proofs.Common.{◌≡◌, ℕ, List, [], ◌∷◌, ◌++◌, Bool, true, false, refl, ap, sym, subst, map}
+use Rattle.ptopts.proofs.Common.{append_assoc, append-nil, Option, Some, None, ◌&&◌, Ok, ⊎_elim, is_some, IsTrue}
+use Rattle.ptopts.proofs.Common.{if◌then◌else◌, cases_Bool, Tool, ParsedOption, Valid, Spells, ParsedArgs, parsed_args}
+use Rattle.ptopts.proofs.Common.{options, tool_of_name, Fault, Twice, first_some, is_repeated, token_fault, parse_fault}
+use Rattle.ptopts.proofs.Common.{constraints_fault, values_fault, operands_fault, strings_fault, Command, command}
+use Rattle.ptopts.proofs.Common.{ok_unless, first_fault, command_of_args, command_of_tool, AreAllowed, SpellsCommand}
+use Rattle.ptopts.proofs.Common.{Spelled, CommandsMatchGrammar}
 use Rattle.ptopts.proofs.SpelledIsParsed.{spelled}
 use Rattle.ptopts.proofs.ParsedIsSpelled.{options-map, option_or-none, spelled_unless_faulty}
 
@@ -12,71 +15,99 @@ abbrev AreGivenOnceAfter : Tool → List ParsedOption → List ParsedOption → 
 AreGivenOnceAfter tool first os = (before after : List ParsedOption) (o : ParsedOption)
     → os ≡ before ++ o ∷ after → IsTrue (is_some o.value) → is_repeated tool (first ++ before) o.letter ≡ false
 
-blamed : (some spent : Bool) (fault : Fault) → (if some && spent then Some fault else None) ≡ None → some ≡ true → spent ≡ false
+blamed : (some spent : Bool) (fault : Fault) → (if some && spent then Some fault else None) ≡ None → some ≡ true
+    → spent ≡ false
 blamed true true fault none is = cc
 blamed true false fault none is = refl
 blamed false spent fault none is = cc
 
-unspent : (tool : Tool) (first : List ParsedOption) (o : ParsedOption) → token_fault tool first (Valid o) ≡ None → is_some o.value ≡ true → is_repeated tool first o.letter ≡ false
+unspent : (tool : Tool) (first : List ParsedOption) (o : ParsedOption) → token_fault tool first (Valid o) ≡ None
+    → is_some o.value ≡ true → is_repeated tool first o.letter ≡ false
 unspent tool first o none some = blamed (is_some o.value) (is_repeated tool first o.letter) (Twice o.letter) none some
 
-once_from : (tool : Tool) (first os : List ParsedOption) → parse_fault tool first (map Valid os) ≡ None → AreGivenOnceAfter tool first os
+once_from : (tool : Tool) (first os : List ParsedOption) → parse_fault tool first (map Valid os) ≡ None
+    → AreGivenOnceAfter tool first os
 once_from tool first [] none [] after o is some = cc
 once_from tool first [] none (b ∷ before) after o is some = cc
 once_from tool first (x ∷ os) none [] after o is some =
-    let here : token_fault tool first (Valid x) ≡ None = (option_or-none (token_fault tool first (Valid x)) (parse_fault tool (first ++ x ∷ []) (map Valid os)) none).0 in
+    let (here, _) =
+    option_or-none (token_fault tool first (Valid x)) (parse_fault tool (first ++ x ∷ []) (map Valid os)) none in
     let same : x ≡ o = cc in
-    rw append-nil (unspent tool first o (subst (λ (y : ParsedOption). token_fault tool first (Valid y) ≡ None) same here) some)
+    rw append-nil
+    (unspent tool first o (subst (λ (y : ParsedOption). token_fault tool first (Valid y) ≡ None) same here) some)
 once_from tool first (x ∷ os) none (b ∷ before) after o is some =
-    let later = (option_or-none (token_fault tool first (Valid x)) (parse_fault tool (first ++ x ∷ []) (map Valid os)) none).1 in
+    let (_, later) =
+    option_or-none (token_fault tool first (Valid x)) (parse_fault tool (first ++ x ∷ []) (map Valid os)) none in
     let same : x ≡ b = cc in
     let rest : os ≡ before ++ o ∷ after = cc in
     subst (λ (y : ParsedOption). is_repeated tool (first ++ y ∷ before) o.letter ≡ false) same
-    (subst (λ (ys : List ParsedOption). is_repeated tool ys o.letter ≡ false) (append_assoc first (x ∷ []) before) (once_from tool (first ++ x ∷ []) os later before after o rest some))
+    (subst (λ (ys : List ParsedOption). is_repeated tool ys o.letter ≡ false) (append_assoc first (x ∷ []) before)
+    (once_from tool (first ++ x ∷ []) os later before after o rest some))
 
-fresh : (tool : Tool) (first : List ParsedOption) (o : ParsedOption) → (is_some o.value ≡ true → is_repeated tool first o.letter ≡ false) → token_fault tool first (Valid o) ≡ None
-fresh tool first o once = ⊎_elim (λ some. let unspent : is_repeated tool first o.letter ≡ false = once some in rw (some, unspent) refl) (λ none. rw none refl) (cases_Bool (is_some o.value))
+fresh : (tool : Tool) (first : List ParsedOption) (o : ParsedOption)
+    → (is_some o.value ≡ true → is_repeated tool first o.letter ≡ false) → token_fault tool first (Valid o) ≡ None
+fresh tool first o once =
+    ⊎_elim (λ some. let unspent : is_repeated tool first o.letter ≡ false = once some in rw (some, unspent) refl)
+    (λ none. rw none refl) (cases_Bool (is_some o.value))
 
-once_to : (tool : Tool) (first os : List ParsedOption) → AreGivenOnceAfter tool first os → parse_fault tool first (map Valid os) ≡ None
+once_to : (tool : Tool) (first os : List ParsedOption) → AreGivenOnceAfter tool first os
+    → parse_fault tool first (map Valid os) ≡ None
 once_to tool first [] once = refl
 once_to tool first (x ∷ os) once =
     let here : token_fault tool first (Valid x) ≡ None =
-    fresh tool first x (λ some. subst (λ (ys : List ParsedOption). is_repeated tool ys x.letter ≡ false) (append-nil first) (once [] os x refl some)) in
+    fresh tool first x (λ some. subst (λ (ys : List ParsedOption). is_repeated tool ys x.letter ≡ false)
+    (append-nil first) (once [] os x refl some)) in
     rw here (once_to tool (first ++ x ∷ []) os (λ before after o is some.
-    subst (λ (ys : List ParsedOption). is_repeated tool ys o.letter ≡ false) (sym (append_assoc first (x ∷ []) before)) (once (x ∷ before) after o (ap (λ (ys : List ParsedOption). x ∷ ys) is) some)))
+    subst (λ (ys : List ParsedOption). is_repeated tool ys o.letter ≡ false) (sym (append_assoc first (x ∷ []) before))
+    (once (x ∷ before) after o (ap (λ (ys : List ParsedOption). x ∷ ys) is) some)))
 
 -- none of the five faults is present
-none_of : {A : Type 0} (a b c d e : Option A) → first_some (a ∷ b ∷ c ∷ d ∷ e ∷ []) ≡ None → (a ≡ None) × (b ≡ None) × (c ≡ None) × (d ≡ None) × (e ≡ None)
+none_of : {A : Type 0} (a b c d e : Option A) → first_some (a ∷ b ∷ c ∷ d ∷ e ∷ []) ≡ None
+    → (a ≡ None) × (b ≡ None) × (c ≡ None) × (d ≡ None) × (e ≡ None)
 none_of a b c d e none =
-    let p = option_or-none a _ none in
-    let q = option_or-none b _ p.1 in
-    let r = option_or-none c _ q.1 in
-    let s = option_or-none d _ r.1 in
-    let t = option_or-none e None s.1 in
-    (p.0, q.0, r.0, s.0, t.0)
+    let (first, later) = option_or-none a _ none in
+    let (second, later) = option_or-none b _ later in
+    let (third, later) = option_or-none c _ later in
+    let (fourth, later) = option_or-none d _ later in
+    let (fifth, _) = option_or-none e None later in
+    (first, second, third, fourth, fifth)
 
 unless_ok : {A E : Type 0} (e : Option E) (x y : A) → ok_unless e x ≡ Ok y → (e ≡ None) × (x ≡ y)
 unless_ok None x y is = (refl, cc)
 unless_ok (Some e) x y is = cc
 
 meant_if_spelled : (tool : Tool) (words : List (List ℕ)) (os : List ParsedOption) (operands : List (List ℕ))
-    → Spells tool words os operands → AreAllowed tool os operands → command_of_tool (Some tool) words ≡ Ok (command tool os operands)
+    → Spells tool words os operands → AreAllowed tool os operands
+    → command_of_tool (Some tool) words ≡ Ok (command tool os operands)
 meant_if_spelled tool words os operands s a =
-    subst (λ (r : ParsedArgs). ok_unless (first_fault tool r) (command tool (options r) r.operands) ≡ Ok (command tool os operands)) (sym (spelled tool s))
+    subst (λ (r : ParsedArgs). ok_unless (first_fault tool r) (command tool (options r) r.operands)
+    ≡ Ok (command tool os operands)) (sym (spelled tool s))
     (rw (options-map os, once_to tool [] os a.once, a.together, a.values, a.inputs, a.strings) refl)
 
-spelled_if_meant : (name : List ℕ) (words : List (List ℕ)) (tool : Tool) (c : Command) → tool_of_name name ≡ Some tool → command_of_tool (Some tool) words ≡ Ok c → SpellsCommand (name ∷ words) c
+spelled_if_meant : (name : List ℕ) (words : List (List ℕ)) (tool : Tool) (c : Command) → tool_of_name name ≡ Some tool
+    → command_of_tool (Some tool) words ≡ Ok c → SpellsCommand (name ∷ words) c
 spelled_if_meant name words tool c named is =
     let r : ParsedArgs = parsed_args tool words in
     let os : List ParsedOption = options r in
-    let both = unless_ok (first_fault tool r) (command tool os r.operands) c is in
-    let none = none_of (parse_fault tool [] r.tokens) (constraints_fault tool os) (values_fault tool os) (operands_fault tool os r.operands) (strings_fault tool os r.operands) both.0 in
-    let s : Spells tool words os r.operands = spelled_unless_faulty tool words none.0 in
-    let tokens : parse_fault tool [] (map Valid os) ≡ None = subst (λ (q : ParsedArgs). parse_fault tool [] q.tokens ≡ None) (spelled tool s) none.0 in
-    subst (SpellsCommand (name ∷ words)) both.1
-    (Spelled name words tool os r.operands named s (record { once = once_from tool [] os tokens; together = none.1; values = none.2; inputs = none.3; strings = none.4 }))
+    let (faultless, same) = unless_ok (first_fault tool r) (command tool os r.operands) c is in
+    let (parses, together, values, inputs, strings) =
+    none_of (parse_fault tool [] r.tokens) (constraints_fault tool os) (values_fault tool os)
+    (operands_fault tool os r.operands) (strings_fault tool os r.operands) faultless in
+    let s : Spells tool words os r.operands = spelled_unless_faulty tool words parses in
+    let tokens : parse_fault tool [] (map Valid os) ≡ None =
+    subst (λ (q : ParsedArgs). parse_fault tool [] q.tokens ≡ None) (spelled tool s) parses in
+    subst (SpellsCommand (name ∷ words)) same
+    (Spelled name words tool os r.operands named s
+    (record {
+      once = once_from tool [] os tokens;
+      together = together;
+      values = values;
+      inputs = inputs;
+      strings = strings;
+    }))
 
-named_if_meant : (name : List ℕ) (words : List (List ℕ)) (c : Command) (found : Option Tool) → tool_of_name name ≡ found → command_of_tool found words ≡ Ok c → SpellsCommand (name ∷ words) c
+named_if_meant : (name : List ℕ) (words : List (List ℕ)) (c : Command) (found : Option Tool) → tool_of_name name ≡ found
+    → command_of_tool found words ≡ Ok c → SpellsCommand (name ∷ words) c
 named_if_meant name words c None named is = cc
 named_if_meant name words c (Some tool) named is = spelled_if_meant name words tool c named is
 

@@ -1,7 +1,8 @@
 -- One of the three lists of `cut` is present, by `-b` (98), `-c` (99) or `-f` (102). They conflict, so the other two
 -- are absent and have no fault.
-use Rattle.ptopts.proofs.Common.{◌≡◌, ℕ, ◌==◌, List, [], ◌∷◌, Bool, true, false, ◌&&◌, refl, ⊎_elim, cases_Bool, Some, None, IsSome, if◌then◌else◌}
-use Rattle.ptopts.proofs.Common.{Cut, Fault, ParsedOption, constraints_fault, constraint_fault, has_option, value_of}
+use Rattle.ptopts.proofs.Common.{◌≡◌, ℕ, ◌==◌, List, [], ◌∷◌, Bool, true, false, ◌&&◌, refl, ⊎_elim, cases_Bool, Some}
+use Rattle.ptopts.proofs.Common.{None, IsSome, if◌then◌else◌, Cut, Fault, ParsedOption, constraints_fault}
+use Rattle.ptopts.proofs.Common.{constraint_fault, has_option, value_of}
 use Rattle.ptopts.specs.declared.tool.Constraint.TheVariants.{Conflict}
 use Rattle.std.proofs.lemmas.List.Elements.{All-nil, All-cons}
 use Rattle.std.specs.Prelude.{All}
@@ -10,18 +11,23 @@ use Rattle.ptopts.proofs.ParsedIsSpelled.{option_or-none}
 
 valueless : (letter : ℕ) (os : List ParsedOption) → has_option letter os ≡ false → value_of letter os ≡ None
 valueless letter [] none = refl
-valueless letter (o ∷ os) none = ⊎_elim (λ is. let no = rw is at none in cc) (λ is. rw is (valueless letter os (rw is at none))) (cases_Bool (o.letter == letter))
+valueless letter (o ∷ os) none = ⊎_elim (λ is. let no = rw is at none in cc)
+    (λ is. rw is (valueless letter os (rw is at none))) (cases_Bool (o.letter == letter))
 
-not_both : (one other : Bool) (fault : Fault) → (if one && other then Some fault else None) ≡ None → one ≡ true → other ≡ false
+not_both : (one other : Bool) (fault : Fault) → (if one && other then Some fault else None) ≡ None → one ≡ true
+    → other ≡ false
 not_both true true fault none is = cc
 not_both true false fault none is = refl
 not_both false other fault none is = cc
 
 given : (letter : ℕ) (os : List ParsedOption) → IsSome (value_of letter os) → has_option letter os ≡ true
-given letter os some = ⊎_elim (λ is. is) (λ is. let no = rw (valueless letter os is) at some in search) (cases_Bool (has_option letter os))
+given letter os some = ⊎_elim (λ is. is) (λ is. let no = rw (valueless letter os is) at some in search)
+    (cases_Bool (has_option letter os))
 
-other_is_absent : (a b : ℕ) (os : List ParsedOption) → constraint_fault os (Conflict a b) ≡ None → IsSome (value_of a os) → value_of b os ≡ None
-other_is_absent a b os none some = valueless b os (not_both (has_option a os) (has_option b os) (Together a b) none (given a os some))
+other_is_absent : (a b : ℕ) (os : List ParsedOption) → constraint_fault os (Conflict a b) ≡ None
+    → IsSome (value_of a os) → value_of b os ≡ None
+other_is_absent a b os none some =
+    valueless b os (not_both (has_option a os) (has_option b os) (Together a b) none (given a os some))
 
 -- the list of this option has no fault
 abbrev pub HasNoFault : List ParsedOption → ℕ → Type 0
@@ -30,22 +36,29 @@ HasNoFault os letter = value_fault os (letter, is_cut_list) ≡ None
 has_no_fault : (letter : ℕ) (os : List ParsedOption) → value_of letter os ≡ None → HasNoFault os letter
 has_no_fault letter os none = rw none refl
 
-pub all_three : (os : List ParsedOption) (b c f : ℕ) → HasNoFault os b → HasNoFault os c → HasNoFault os f → All (HasNoFault os) (b ∷ c ∷ f ∷ [])
-all_three os b c f at_b at_c at_f = All-cons (HasNoFault os) b (c ∷ f ∷ []) at_b (All-cons (HasNoFault os) c (f ∷ []) at_c (All-cons (HasNoFault os) f [] at_f (All-nil (HasNoFault os))))
+pub all_three : (os : List ParsedOption) (b c f : ℕ) → HasNoFault os b → HasNoFault os c → HasNoFault os f
+    → All (HasNoFault os) (b ∷ c ∷ f ∷ [])
+all_three os b c f at_b at_c at_f =
+    All-cons (HasNoFault os) b (c ∷ f ∷ []) at_b
+    (All-cons (HasNoFault os) c (f ∷ []) at_c (All-cons (HasNoFault os) f [] at_f (All-nil (HasNoFault os))))
 
 all_apart : (os : List ParsedOption) → constraints_fault Cut os ≡ None
-    → (constraint_fault os (Conflict 98 99) ≡ None) × (constraint_fault os (Conflict 98 102) ≡ None) × (constraint_fault os (Conflict 99 102) ≡ None)
+    → (constraint_fault os (Conflict 98 99) ≡ None) × (constraint_fault os (Conflict 98 102) ≡ None)
+    × (constraint_fault os (Conflict 99 102) ≡ None)
 all_apart os none =
-    let p = option_or-none (constraint_fault os (Conflict 98 99)) _ none in
-    let q = option_or-none (constraint_fault os (Conflict 98 102)) _ p.1 in
-    let r = option_or-none (constraint_fault os (Conflict 99 102)) _ q.1 in
-    (p.0, q.0, r.0)
+    let (first, others) = option_or-none (constraint_fault os (Conflict 98 99)) _ none in
+    let (second, last) = option_or-none (constraint_fault os (Conflict 98 102)) _ others in
+    let (third, _) = option_or-none (constraint_fault os (Conflict 99 102)) _ last in
+    (first, second, third)
 
 module _ (os : List ParsedOption) (none : constraints_fault Cut os ≡ None) where
   pub no_fault_beside_b : IsSome (value_of 98 os) → HasNoFault os 98 → All (HasNoFault os) (98 ∷ 99 ∷ 102 ∷ [])
   no_fault_beside_b some at_b =
-      let p = all_apart os none in
-      all_three os 98 99 102 at_b (has_no_fault 99 os (other_is_absent 98 99 os p.0 some)) (has_no_fault 102 os (other_is_absent 98 102 os p.1 some))
+      let (first, second, _) = all_apart os none in
+      all_three os 98 99 102 at_b (has_no_fault 99 os (other_is_absent 98 99 os first some))
+      (has_no_fault 102 os (other_is_absent 98 102 os second some))
 
-  pub no_fault_beside_c : IsSome (value_of 99 os) → HasNoFault os 98 → HasNoFault os 99 → All (HasNoFault os) (98 ∷ 99 ∷ 102 ∷ [])
-  no_fault_beside_c some at_b at_c = all_three os 98 99 102 at_b at_c (has_no_fault 102 os (other_is_absent 99 102 os (all_apart os none).2 some))
+  pub no_fault_beside_c : IsSome (value_of 99 os) → HasNoFault os 98 → HasNoFault os 99
+      → All (HasNoFault os) (98 ∷ 99 ∷ 102 ∷ [])
+  no_fault_beside_c some at_b at_c =
+      all_three os 98 99 102 at_b at_c (has_no_fault 102 os (other_is_absent 99 102 os (all_apart os none).2 some))

@@ -1,6 +1,8 @@
 -- Facts about the syntax of each tool, by computation: one line for each tool.
-use Rattle.ptopts.proofs.Common.{◌≡◌, ℕ, true, false, List, None, length, refl, not, ⊤, nat_le, nat_lt, list_all, Tool, Cut, Paste, Uniq, Comm, Join, Tr, Input, syntax, ParsedOption, is_flag}
-use Rattle.ptopts.proofs.Common.{takes_value, operands_fault, Job, RunPaste, RunUniq, RunComm, RunJoin, job, input_operands, order_from}
+use Rattle.ptopts.proofs.Common.{◌≡◌, ℕ, true, false, List, None, length, refl, not, ⊤, nat_le, nat_lt, list_all, Tool}
+use Rattle.ptopts.proofs.Common.{Cut, Paste, Uniq, Comm, Join, Tr, Input, syntax, ParsedOption, is_flag, takes_value}
+use Rattle.ptopts.proofs.Common.{operands_fault, Job, RunPaste, RunUniq, RunComm, RunJoin, job, input_operands}
+use Rattle.ptopts.proofs.Common.{order_from}
 use Rattle.ptopts.proofs.InputCounts.{AreTwo, sole_input, few_inputs, two_inputs}
 
 -- no option is both with and without a value, a dash is not an option, and options with a value are ASCII
@@ -26,7 +28,8 @@ AreInputsOf (RunComm told) order = AreTwo order
 AreInputsOf (RunJoin told) order = AreTwo order
 AreInputsOf _ order = ⊤
 
-pub are_inputs : (tool : Tool) (os : List ParsedOption) (operands : List (List ℕ)) → operands_fault tool os operands ≡ None
+pub are_inputs : (tool : Tool) (os : List ParsedOption) (operands : List (List ℕ))
+    → operands_fault tool os operands ≡ None
     → AreInputsOf (job tool os operands) (order_from 0 (input_operands tool operands))
 are_inputs Cut os operands none = tt
 are_inputs Paste os operands none = few_inputs os operands none

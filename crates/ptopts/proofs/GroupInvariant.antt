@@ -1,17 +1,25 @@
 -- The loop over the letters of one word. The options so far and the tokens of the remaining letters are those of the
 -- whole word, and the first fault of later tokens is the same after either.
-use Rattle.ptopts.proofs.Common.{◌≡◌, ℕ, List, [], ◌∷◌, ◌++◌, true, false, refl, sym, ◌∙◌, append_assoc, Option, Some, None, drop, append-nil, length, length-drop, ◌<◌, ◌+◌, slice_index, nat_eq}
-use Rattle.ptopts.proofs.Common.{add-one, drop-cons, ⊎_elim, arith, OnSome, cases_Bool, cases_eq, eq-eqb, ne_eqb, map-append, Tool, is_empty, is_flag, takes_value, ParsedOption, flag, Token, Valid}
-use Rattle.ptopts.proofs.Common.{UnknownLetter, value_token, tokens_in, tokens_of, takes_next, Fault, token_fault, parse_fault, options_of_tokens, option_view, options_view, GroupPost}
+use Rattle.ptopts.proofs.Common.{◌≡◌, ℕ, List, [], ◌∷◌, ◌++◌, true, false, refl, sym, ◌∙◌, append_assoc, Option, Some}
+use Rattle.ptopts.proofs.Common.{None, drop, append-nil, length, length-drop, ◌<◌, ◌+◌, slice_index, nat_eq, add-one}
+use Rattle.ptopts.proofs.Common.{drop-cons, ⊎_elim, arith, OnSome, cases_Bool, cases_eq, eq-eqb, ne_eqb, map-append}
+use Rattle.ptopts.proofs.Common.{Tool, is_empty, is_flag, takes_value, ParsedOption, flag, Token, Valid, UnknownLetter}
+use Rattle.ptopts.proofs.Common.{value_token, tokens_in, tokens_of, takes_next, Fault, token_fault, parse_fault}
+use Rattle.ptopts.proofs.Common.{options_of_tokens, option_view, options_view, GroupPost}
 use Rattle.ptopts.specs.declared.parsing.ParsedOption as given
 
 -- the options so far and the tokens of the remaining letters are those of the word
-pub record GroupRead (tool : Tool) (word : List ℕ) (next : Option (List ℕ)) (before os : List ParsedOption) (letters : List ℕ) : Type 0 where
-  pub gathered : before ++ options_of_tokens (tokens_of tool word next) ≡ os ++ options_of_tokens (tokens_in tool word next letters)
+pub record GroupRead (tool : Tool) (word : List ℕ) (next : Option (List ℕ)) (before os : List ParsedOption)
+    (letters : List ℕ) : Type 0 where
+  pub gathered : before ++ options_of_tokens (tokens_of tool word next)
+      ≡ os ++ options_of_tokens (tokens_in tool word next letters)
   pub takes : takes_next tool (drop 1 word) ≡ takes_next tool letters
-  pub faults : (tokens : List Token) → parse_fault tool before (tokens_of tool word next ++ tokens) ≡ parse_fault tool os (tokens_in tool word next letters ++ tokens)
+  pub faults : (tokens : List Token)
+      → parse_fault tool before (tokens_of tool word next ++ tokens)
+      ≡ parse_fault tool os (tokens_in tool word next letters ++ tokens)
 
-letter_first : (word : List ℕ) (index : ℕ) → index < length word → drop index word ≡ slice_index word index ∷ drop (index + 1) word
+letter_first : (word : List ℕ) (index : ℕ) → index < length word
+    → drop index word ≡ slice_index word index ∷ drop (index + 1) word
 letter_first word index within = rw (add-one, drop-cons word index 0)
 
 is_empty-zero : (xs : List ℕ) → length xs ≡ 0 → is_empty xs ≡ true
@@ -22,73 +30,93 @@ is_empty-positive : (xs : List ℕ) → 0 < length xs → is_empty xs ≡ false
 is_empty-positive [] h = absurd (omega arith)
 is_empty-positive (x ∷ xs) h = refl
 
-is_empty-drop : (word : List ℕ) (index : ℕ) → index < length word → nat_eq (index + 1) (length word) ≡ is_empty (drop (index + 1) word)
+is_empty-drop : (word : List ℕ) (index : ℕ) → index < length word
+    → nat_eq (index + 1) (length word) ≡ is_empty (drop (index + 1) word)
 is_empty-drop word index within =
-    ⊎_elim (λ e. eq-eqb (index + 1) (length word) e ∙ sym (is_empty-zero (drop (index + 1) word) (simp length-drop (omega arith))))
-    (λ n. ne_eqb (index + 1) (length word) n ∙ sym (is_empty-positive (drop (index + 1) word) (simp length-drop (omega arith))))
+    ⊎_elim (λ e. eq-eqb (index + 1) (length word) e
+    ∙ sym (is_empty-zero (drop (index + 1) word) (simp length-drop (omega arith))))
+    (λ n. ne_eqb (index + 1) (length word) n
+    ∙ sym (is_empty-positive (drop (index + 1) word) (simp length-drop (omega arith))))
     (cases_eq (index + 1) (length word))
 
 valued_if_given : (tool : Tool) (word : List ℕ) (letter : ℕ) (rest : List ℕ) (next : Option (List ℕ)) (o : ParsedOption)
     → value_token tool word letter rest next ≡ Valid o → takes_value tool letter ≡ true
 valued_if_given tool word letter rest next o given =
-    ⊎_elim (λ t. t) (λ t. let bad : UnknownLetter word ≡ Valid o = rw t at given in cc) (cases_Bool (takes_value tool letter))
+    ⊎_elim (λ t. t) (λ t. let bad : UnknownLetter word ≡ Valid o = rw t at given in cc)
+    (cases_Bool (takes_value tool letter))
 
 module _ (tool : Tool) (word : List ℕ) (next : Option (List ℕ)) (before : List ParsedOption) where
   pub ahead_first : GroupRead tool word next before before (drop 1 word)
   ahead_first = record { gathered = refl; takes = refl; faults = λ tokens. refl }
 
   pub ahead_flag : (os : List ParsedOption) (letter : ℕ) (rest : List ℕ) → is_flag tool letter ≡ true
-      → GroupRead tool word next before os (letter ∷ rest) → GroupRead tool word next before (os ++ flag letter ∷ []) rest
+      → GroupRead tool word next before os (letter ∷ rest)
+      → GroupRead tool word next before (os ++ flag letter ∷ []) rest
   ahead_flag os letter rest is a = record {
-    gathered = a.gathered ∙ (rw is refl ∙ sym (append_assoc os (flag letter ∷ []) (options_of_tokens (tokens_in tool word next rest))));
+    gathered =
+        a.gathered
+        ∙ (rw is refl
+        ∙ sym (append_assoc os (flag letter ∷ []) (options_of_tokens (tokens_in tool word next rest))));
     takes = a.takes ∙ rw is refl;
     faults = λ tokens. a.faults tokens ∙ rw is refl;
   }
 
-  pub ahead_end : (os : List ParsedOption) → GroupRead tool word next before os [] → GroupPost tool word next before os false
+  pub ahead_end : (os : List ParsedOption) → GroupRead tool word next before os []
+      → GroupPost tool word next before os false
   ahead_end os a = record {
     options = sym (a.gathered ∙ append-nil os);
     takes = sym a.takes;
     faultless = a.faults;
   }
 
-  pub ahead_value : (os : List ParsedOption) (letter : ℕ) (rest : List ℕ) (o : ParsedOption) → is_flag tool letter ≡ false
-      → value_token tool word letter rest next ≡ Valid o → token_fault tool os (Valid o) ≡ None → takes_value tool letter ≡ true
-      → GroupRead tool word next before os (letter ∷ rest) → GroupPost tool word next before (os ++ o ∷ []) (is_empty rest)
+  pub ahead_value : (os : List ParsedOption) (letter : ℕ) (rest : List ℕ) (o : ParsedOption)
+      → is_flag tool letter ≡ false → value_token tool word letter rest next ≡ Valid o
+      → token_fault tool os (Valid o) ≡ None → takes_value tool letter ≡ true
+      → GroupRead tool word next before os (letter ∷ rest)
+      → GroupPost tool word next before (os ++ o ∷ []) (is_empty rest)
   ahead_value os letter rest o none given fine value_letters a = record {
     options = sym (a.gathered ∙ rw (none, given) refl);
     takes = sym (a.takes ∙ rw (none, value_letters) refl);
     faultless = λ tokens. a.faults tokens ∙ rw (none, given, fine) refl;
   }
 
-  pub ahead_fault : (os : List ParsedOption) (letter : ℕ) (rest : List ℕ) (found : Option Fault) → is_flag tool letter ≡ false
-      → found ≡ token_fault tool os (value_token tool word letter rest next)
+  pub ahead_fault : (os : List ParsedOption) (letter : ℕ) (rest : List ℕ) (found : Option Fault)
+      → is_flag tool letter ≡ false → found ≡ token_fault tool os (value_token tool word letter rest next)
       → GroupRead tool word next before os (letter ∷ rest)
       → OnSome found ((tokens : List Token) → parse_fault tool before (tokens_of tool word next ++ tokens) ≡ found)
   ahead_fault os letter rest None none is a = tt
   ahead_fault os letter rest (Some f) none is a = λ tokens. a.faults tokens ∙ rw (none, ← is) refl
 
   -- the three steps at an index of the word, for the options of the code
-  pub flag_read : (items new : List given.ParsedOption) (index : ℕ) (o : given.ParsedOption) → index < length word → is_flag tool (slice_index word index) ≡ true
-      → option_view o ≡ flag (slice_index word index) → new ≡ items ++ o ∷ []
-      → GroupRead tool word next before (options_view items) (drop index word) → GroupRead tool word next before (options_view new) (drop (index + 1) word)
+  pub flag_read : (items new : List given.ParsedOption) (index : ℕ) (o : given.ParsedOption) → index < length word
+      → is_flag tool (slice_index word index) ≡ true → option_view o ≡ flag (slice_index word index)
+      → new ≡ items ++ o ∷ [] → GroupRead tool word next before (options_view items) (drop index word)
+      → GroupRead tool word next before (options_view new) (drop (index + 1) word)
   flag_read items new index o within is seen pushed a =
-      rw (pushed, map-append option_view items (o ∷ []), seen) (ahead_flag (options_view items) (slice_index word index) (drop (index + 1) word) is (rw (letter_first word index within) at a))
+      rw (pushed, map-append option_view items (o ∷ []), seen)
+      (ahead_flag (options_view items) (slice_index word index) (drop (index + 1) word) is
+      (rw (letter_first word index within) at a))
 
-  pub value_read : (items new : List given.ParsedOption) (index : ℕ) (o : given.ParsedOption) → index < length word → is_flag tool (slice_index word index) ≡ false
+  pub value_read : (items new : List given.ParsedOption) (index : ℕ) (o : given.ParsedOption) → index < length word
+      → is_flag tool (slice_index word index) ≡ false
       → value_token tool word (slice_index word index) (drop (index + 1) word) next ≡ Valid (option_view o)
-      → token_fault tool (options_view items) (value_token tool word (slice_index word index) (drop (index + 1) word) next) ≡ None
-      → new ≡ items ++ o ∷ []
-      → GroupRead tool word next before (options_view items) (drop index word) → GroupPost tool word next before (options_view new) (nat_eq (index + 1) (length word))
+      → token_fault tool (options_view items)
+      (value_token tool word (slice_index word index) (drop (index + 1) word) next) ≡ None
+      → new ≡ items ++ o ∷ [] → GroupRead tool word next before (options_view items) (drop index word)
+      → GroupPost tool word next before (options_view new) (nat_eq (index + 1) (length word))
   value_read items new index o within none given fine pushed a =
       let rest : List ℕ = drop (index + 1) word in
       rw (pushed, map-append option_view items (o ∷ []), is_empty-drop word index within)
       (ahead_value (options_view items) (slice_index word index) rest (option_view o) none given (rw given at fine)
-      (valued_if_given tool word (slice_index word index) rest next (option_view o) given) (rw (letter_first word index within) at a))
+      (valued_if_given tool word (slice_index word index) rest next (option_view o) given)
+      (rw (letter_first word index within) at a))
 
-  pub fault_read : (items : List given.ParsedOption) (index : ℕ) (found : Option Fault) → index < length word → is_flag tool (slice_index word index) ≡ false
-      → found ≡ token_fault tool (options_view items) (value_token tool word (slice_index word index) (drop (index + 1) word) next)
+  pub fault_read : (items : List given.ParsedOption) (index : ℕ) (found : Option Fault) → index < length word
+      → is_flag tool (slice_index word index) ≡ false
+      → found ≡ token_fault tool (options_view items)
+      (value_token tool word (slice_index word index) (drop (index + 1) word) next)
       → GroupRead tool word next before (options_view items) (drop index word)
       → OnSome found ((tokens : List Token) → parse_fault tool before (tokens_of tool word next ++ tokens) ≡ found)
   fault_read items index found within none is a =
-      ahead_fault (options_view items) (slice_index word index) (drop (index + 1) word) found none is (rw (letter_first word index within) at a)
+      ahead_fault (options_view items) (slice_index word index) (drop (index + 1) word) found none is
+      (rw (letter_first word index within) at a)

@@ -1,16 +1,21 @@
 -- The number of inputs of a tool whose operands have no fault. Each operand is one input.
-use Rattle.ptopts.proofs.Common.{◌≡◌, ℕ, suc, ◌+◌, ◌&&◌, Bool, true, false, cond, List, [], ◌∷◌, Option, Some, None, length, take, refl, ◌∙◌, ap, arith, nat_le, list_all, Paste, Input, ParsedOption}
-use Rattle.ptopts.proofs.Common.{Fault, Operands, StandardTwice, is_within, is_standard, operands_fault, or_stdin, order_from}
+use Rattle.ptopts.proofs.Common.{◌≡◌, ℕ, suc, ◌+◌, ◌&&◌, Bool, true, false, cond, List, [], ◌∷◌, Option, Some, None}
+use Rattle.ptopts.proofs.Common.{length, take, refl, ◌∙◌, ap, arith, nat_le, list_all, Paste, Input, ParsedOption}
+use Rattle.ptopts.proofs.Common.{Fault, Operands, StandardTwice, is_within, is_standard, operands_fault, or_stdin}
+use Rattle.ptopts.proofs.Common.{order_from}
 use Rattle.std.specs.Prelude.{not}
 use Rattle.std.proofs.lemmas.Bool.Decides.{nat_tests}
 use Rattle.ptopts.specs.declared.inputs.Input.TheVariants.{Standard, File}
 
 order_length : (n : ℕ) (operands : List (List ℕ)) → length (order_from n operands) ≡ length operands
 order_length n [] = refl
-order_length n (operand ∷ operands) = by_test (is_standard operand) (order_length n operands) (order_length (n + 1) operands)
+order_length n (operand ∷ operands) =
+    by_test (is_standard operand) (order_length n operands) (order_length (n + 1) operands)
   where
-    by_test : (t : Bool) → length (order_from n operands) ≡ length operands → length (order_from (n + 1) operands) ≡ length operands
-        → length (cond t (Standard ∷ order_from n operands) (File n ∷ order_from (n + 1) operands)) ≡ length (operand ∷ operands)
+    by_test : (t : Bool) → length (order_from n operands) ≡ length operands
+        → length (order_from (n + 1) operands) ≡ length operands
+        → length (cond t (Standard ∷ order_from n operands) (File n ∷ order_from (n + 1) operands))
+        ≡ length (operand ∷ operands)
     by_test true here later = omega (arith, here)
     by_test false here later = omega (arith, later)
 
@@ -28,8 +33,10 @@ few_of true false none = cc
 few_of false few none = cc
 
 -- `paste` has at most 512 inputs
-pub few_inputs : (os : List ParsedOption) (operands : List (List ℕ)) → operands_fault Paste os operands ≡ None → nat_le (length (order_from 0 operands)) 512 ≡ true
-few_inputs os operands none = ap (λ (n : ℕ). nat_le n 512) (order_length 0 operands) ∙ few_of (nat_le 1 (length operands)) (nat_le (length operands) 512) none
+pub few_inputs : (os : List ParsedOption) (operands : List (List ℕ)) → operands_fault Paste os operands ≡ None
+    → nat_le (length (order_from 0 operands)) 512 ≡ true
+few_inputs os operands none = ap (λ (n : ℕ). nat_le n 512) (order_length 0 operands)
+    ∙ few_of (nat_le 1 (length operands)) (nat_le (length operands) 512) none
 
 -- two inputs that differ
 pub record AreTwo (order : List Input) : Type 0 where
@@ -38,7 +45,8 @@ pub record AreTwo (order : List Input) : Type 0 where
   pub are : order ≡ first ∷ second ∷ []
   pub differ : first ≡ second → ⊥
 
-two_of : (a b : Bool) → (a && (b && true)) ≡ false → AreTwo (cond a (Standard ∷ cond b (Standard ∷ []) (File 0 ∷ [])) (File 0 ∷ cond b (Standard ∷ []) (File 1 ∷ [])))
+two_of : (a b : Bool) → (a && (b && true)) ≡ false
+    → AreTwo (cond a (Standard ∷ cond b (Standard ∷ []) (File 0 ∷ [])) (File 0 ∷ cond b (Standard ∷ []) (File 1 ∷ [])))
 two_of true true once = cc
 two_of true false once = record { first = Standard; second = File 0; are = refl; differ = λ same. cc }
 two_of false true once = record { first = File 0; second = Standard; are = refl; differ = λ same. cc }
@@ -49,16 +57,19 @@ pub two_inputs : (operands : List (List ℕ)) → cond (not (is_within 2 2 (leng
     (cond (list_all is_standard operands) (Some StandardTwice) None) ≡ None → AreTwo (order_from 0 operands)
 two_inputs [] none = cc
 two_inputs (a ∷ []) none = cc
-two_inputs (a ∷ b ∷ []) none = two_of (is_standard a) (is_standard b) (unblamed (is_standard a && (is_standard b && true)) none)
+two_inputs (a ∷ b ∷ []) none =
+    two_of (is_standard a) (is_standard b) (unblamed (is_standard a && (is_standard b && true)) none)
   where
     unblamed : (twice : Bool) → cond twice (Some StandardTwice) None ≡ None → twice ≡ false
     unblamed true some = cc
     unblamed false some = refl
-two_inputs (a ∷ b ∷ c ∷ more) none = absurd (blamed (is_within 2 2 (length (a ∷ b ∷ c ∷ more))) _ (too_many (length more)) none)
+two_inputs (a ∷ b ∷ c ∷ more) none =
+    absurd (blamed (is_within 2 2 (length (a ∷ b ∷ c ∷ more))) _ (too_many (length more)) none)
   where
     too_many : (n : ℕ) → is_within 2 2 (suc (suc (suc n))) ≡ false
     too_many n = grind (arith, nat_tests)
 
-    blamed : (fits : Bool) (other : Option Fault) → fits ≡ false → cond (not (fits && true)) (Some Operands) other ≡ None → ⊥
+    blamed : (fits : Bool) (other : Option Fault) → fits ≡ false
+        → cond (not (fits && true)) (Some Operands) other ≡ None → ⊥
     blamed true other is some = cc
     blamed false other is some = cc

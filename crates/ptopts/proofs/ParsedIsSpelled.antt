@@ -1,11 +1,17 @@
 -- A parse without a faulty token is one of the grammar: each word of options is flags, perhaps with an option that
 -- takes the rest of the word or the next word as its value.
-use Rattle.ptopts.proofs.Common.{◌≡◌, ℕ, ◌==◌, List, [], ◌∷◌, ◌++◌, Bool, true, false, refl, ap, sym, ◌∙◌, subst, map, append_assoc, Option, Some, None, ◌&&◌, ⊎_elim, codes, slice_get, is_some}
-use Rattle.ptopts.proofs.Common.{filter_map, list_all, option_or, and_from, eqb-true, cases_Bool, not_from_false, Tool, is_empty, is_flag, takes_value, is_option_arg, is_end_of_options, ParsedOption, flag}
-use Rattle.ptopts.proofs.Common.{with_value, AreFlags, Spells, OperandsAlone, EndOfOptions, Flags, ValueAttached, ValueNext, Token, Valid, MissingValue, UnknownLetter, value_token, tokens_in, takes_next}
-use Rattle.ptopts.proofs.Common.{ParsedArgs, parsed_args_from, option_of_token, options, Twice, NeedsValue, is_repeated, token_fault, parse_fault, ParseMatchesGrammar, GrammarIsUnambiguous, FaultlessIsSpelled}
+use Rattle.ptopts.proofs.Common.{◌≡◌, ℕ, ◌==◌, List, [], ◌∷◌, ◌++◌, Bool, true, false, refl, ap, sym, ◌∙◌, subst, map}
+use Rattle.ptopts.proofs.Common.{append_assoc, Option, Some, None, ◌&&◌, ⊎_elim, codes, slice_get, is_some, filter_map}
+use Rattle.ptopts.proofs.Common.{list_all, option_or, and_from, eqb-true, cases_Bool, not_from_false, Tool, is_empty}
+use Rattle.ptopts.proofs.Common.{is_flag, takes_value, is_option_arg, is_end_of_options, ParsedOption, flag, with_value}
+use Rattle.ptopts.proofs.Common.{AreFlags, Spells, OperandsAlone, EndOfOptions, Flags, ValueAttached, ValueNext, Token}
+use Rattle.ptopts.proofs.Common.{Valid, MissingValue, UnknownLetter, value_token, tokens_in, takes_next, ParsedArgs}
+use Rattle.ptopts.proofs.Common.{parsed_args_from, option_of_token, options, Twice, NeedsValue, is_repeated}
+use Rattle.ptopts.proofs.Common.{token_fault, parse_fault, ParseMatchesGrammar, GrammarIsUnambiguous}
+use Rattle.ptopts.proofs.Common.{FaultlessIsSpelled}
 use Rattle.std.proofs.lemmas.Slice.Eq.{bytes_eq-Decides}
-use Rattle.ptopts.proofs.SpelledIsParsed.{spelled, args_of, tokens_in-flags, tokens_in-all_flags, takes_next-flags, takes_next-all_flags}
+use Rattle.ptopts.proofs.SpelledIsParsed.{spelled, args_of, tokens_in-flags, tokens_in-all_flags, takes_next-flags}
+use Rattle.ptopts.proofs.SpelledIsParsed.{takes_next-all_flags}
 
 -- each token is an option
 abbrev all_given : List Token → Bool
@@ -15,7 +21,8 @@ all_given-map : (os : List ParsedOption) → all_given (map Valid os) ≡ true
 all_given-map [] = refl
 all_given-map (o ∷ os) = all_given-map os
 
-all_given-prefixed : (os : List ParsedOption) (tokens : List Token) → all_given (map Valid os ++ tokens) ≡ all_given tokens
+all_given-prefixed : (os : List ParsedOption) (tokens : List Token)
+    → all_given (map Valid os ++ tokens) ≡ all_given tokens
 all_given-prefixed [] tokens = refl
 all_given-prefixed (o ∷ os) tokens = all_given-prefixed os tokens
 
@@ -23,22 +30,26 @@ pub options-map : (os : List ParsedOption) → filter_map option_of_token (map V
 options-map [] = refl
 options-map (o ∷ os) = ap (λ (xs : List ParsedOption). o ∷ xs) (options-map os)
 
-options-prefixed : (os : List ParsedOption) (tokens : List Token) → filter_map option_of_token (map Valid os ++ tokens) ≡ os ++ filter_map option_of_token tokens
+options-prefixed : (os : List ParsedOption) (tokens : List Token)
+    → filter_map option_of_token (map Valid os ++ tokens) ≡ os ++ filter_map option_of_token tokens
 options-prefixed [] tokens = refl
 options-prefixed (o ∷ os) tokens = ap (λ (xs : List ParsedOption). o ∷ xs) (options-prefixed os tokens)
 
 -- the letters are all flags, or flags and then a letter that is not a flag
 data Split (tool : Tool) : List ℕ → Type 0 where
   AllFlags : (fs : List ℕ) → AreFlags tool fs → Split tool fs
-  OneMore : (fs : List ℕ) (l : ℕ) (rest : List ℕ) → AreFlags tool fs → is_flag tool l ≡ false → Split tool (fs ++ l ∷ rest)
+  OneMore : (fs : List ℕ) (l : ℕ) (rest : List ℕ) → AreFlags tool fs → is_flag tool l ≡ false
+      → Split tool (fs ++ l ∷ rest)
 
 split_behind : (tool : Tool) (l : ℕ) {ls : List ℕ} → is_flag tool l ≡ true → Split tool ls → Split tool (l ∷ ls)
 split_behind tool l is (AllFlags fs a) = AllFlags (l ∷ fs) (and_from (is_flag tool l) (list_all (is_flag tool) fs) is a)
-split_behind tool l is (OneMore fs m rest a n) = OneMore (l ∷ fs) m rest (and_from (is_flag tool l) (list_all (is_flag tool) fs) is a) n
+split_behind tool l is (OneMore fs m rest a n) =
+    OneMore (l ∷ fs) m rest (and_from (is_flag tool l) (list_all (is_flag tool) fs) is a) n
 
 split : (tool : Tool) (letters : List ℕ) → Split tool letters
 split tool [] = AllFlags [] refl
-split tool (l ∷ ls) = ⊎_elim (λ is. split_behind tool l is (split tool ls)) (λ n. OneMore [] l ls refl n) (cases_Bool (is_flag tool l))
+split tool (l ∷ ls) = ⊎_elim (λ is. split_behind tool l is (split tool ls)) (λ n. OneMore [] l ls refl n)
+    (cases_Bool (is_flag tool l))
 
 -- the words without the first one if that is a value
 abbrev untaken : Bool → List (List ℕ) → List (List ℕ)
@@ -49,55 +60,77 @@ untaken false words = words
 abbrev IsSpelled : Tool → List (List ℕ) → Bool → Type 0
 IsSpelled tool ws taken =
     all_given (parsed_args_from tool taken ws).tokens ≡ true
-    → Spells tool (untaken taken ws) (options (parsed_args_from tool taken ws)) (parsed_args_from tool taken ws).operands
+    → Spells tool (untaken taken ws) (options (parsed_args_from tool taken ws))
+    (parsed_args_from tool taken ws).operands
 
 -- like `IsSpelled`, for a word with these tokens before the other words
 abbrev GroupIsSpelled : Tool → List ℕ → List (List ℕ) → List Token → Bool → Type 0
 GroupIsSpelled tool word ws tokens taken =
     all_given (tokens ++ (parsed_args_from tool taken ws).tokens) ≡ true
-    → Spells tool (word ∷ ws) (filter_map option_of_token (tokens ++ (parsed_args_from tool taken ws).tokens)) (parsed_args_from tool taken ws).operands
+    → Spells tool (word ∷ ws) (filter_map option_of_token (tokens ++ (parsed_args_from tool taken ws).tokens))
+    (parsed_args_from tool taken ws).operands
 
-flags_spelled : (tool : Tool) (f : ℕ) (fs : List ℕ) (ws : List (List ℕ)) → AreFlags tool (f ∷ fs) → IsSpelled tool ws false
-    → GroupIsSpelled tool (45 ∷ f ∷ fs) ws (map Valid (map flag (f ∷ fs))) false
+flags_spelled : (tool : Tool) (f : ℕ) (fs : List ℕ) (ws : List (List ℕ)) → AreFlags tool (f ∷ fs)
+    → IsSpelled tool ws false → GroupIsSpelled tool (45 ∷ f ∷ fs) ws (map Valid (map flag (f ∷ fs))) false
 flags_spelled tool f fs ws a more given =
     let r = parsed_args_from tool false ws in
-    let s : Spells tool ws (options r) r.operands = more (sym (all_given-prefixed (map flag (f ∷ fs)) r.tokens) ∙ given) in
-    subst (λ (os : List ParsedOption). Spells tool ((45 ∷ f ∷ fs) ∷ ws) os r.operands) (sym (options-prefixed (map flag (f ∷ fs)) r.tokens)) (Flags f fs ws (options r) r.operands a s)
+    let s : Spells tool ws (options r) r.operands =
+    more (sym (all_given-prefixed (map flag (f ∷ fs)) r.tokens) ∙ given) in
+    subst (λ (os : List ParsedOption). Spells tool ((45 ∷ f ∷ fs) ∷ ws) os r.operands)
+    (sym (options-prefixed (map flag (f ∷ fs)) r.tokens)) (Flags f fs ws (options r) r.operands a s)
 
-attached_spelled : (tool : Tool) (fs : List ℕ) (l b : ℕ) (bs : List ℕ) (ws : List (List ℕ)) → AreFlags tool fs → takes_value tool l ≡ true → IsSpelled tool ws false
-    → GroupIsSpelled tool (45 ∷ fs ++ l ∷ b ∷ bs) ws (map Valid (map flag fs) ++ Valid (with_value l (b ∷ bs)) ∷ []) false
+attached_spelled : (tool : Tool) (fs : List ℕ) (l b : ℕ) (bs : List ℕ) (ws : List (List ℕ)) → AreFlags tool fs
+    → takes_value tool l ≡ true → IsSpelled tool ws false
+    → GroupIsSpelled tool (45 ∷ fs ++ l ∷ b ∷ bs) ws (map Valid (map flag fs) ++ Valid (with_value l (b ∷ bs)) ∷ [])
+    false
 attached_spelled tool fs l b bs ws a t more given =
     let r = parsed_args_from tool false ws in
     let o : ParsedOption = with_value l (b ∷ bs) in
-    let e : (map Valid (map flag fs) ++ Valid o ∷ []) ++ r.tokens ≡ map Valid (map flag fs) ++ (Valid o ∷ r.tokens) = append_assoc (map Valid (map flag fs)) (Valid o ∷ []) r.tokens in
-    let g : all_given (map Valid (map flag fs) ++ (Valid o ∷ r.tokens)) ≡ true = subst (λ (es : List Token). all_given es ≡ true) e given in
-    let s : Spells tool ws (options r) r.operands = more (sym (all_given-prefixed (map flag fs) (Valid o ∷ r.tokens)) ∙ g) in
+    let e : (map Valid (map flag fs) ++ Valid o ∷ []) ++ r.tokens ≡ map Valid (map flag fs) ++ (Valid o ∷ r.tokens) =
+    append_assoc (map Valid (map flag fs)) (Valid o ∷ []) r.tokens in
+    let g : all_given (map Valid (map flag fs) ++ (Valid o ∷ r.tokens)) ≡ true =
+    subst (λ (es : List Token). all_given es ≡ true) e given in
+    let s : Spells tool ws (options r) r.operands =
+    more (sym (all_given-prefixed (map flag fs) (Valid o ∷ r.tokens)) ∙ g) in
     subst (λ (os : List ParsedOption). Spells tool ((45 ∷ fs ++ l ∷ b ∷ bs) ∷ ws) os r.operands)
-    (sym (ap (λ (es : List Token). filter_map option_of_token es) e ∙ options-prefixed (map flag fs) (Valid o ∷ r.tokens)))
+    (sym (ap (λ (es : List Token). filter_map option_of_token es) e
+    ∙ options-prefixed (map flag fs) (Valid o ∷ r.tokens)))
     (ValueAttached fs l b bs ws (options r) r.operands a t s)
 
-next_spelled : (tool : Tool) (fs : List ℕ) (l : ℕ) (value : List ℕ) (ws : List (List ℕ)) → AreFlags tool fs → takes_value tool l ≡ true → IsSpelled tool (value ∷ ws) true
-    → GroupIsSpelled tool (45 ∷ fs ++ l ∷ []) (value ∷ ws) (map Valid (map flag fs) ++ Valid (with_value l value) ∷ []) true
+next_spelled : (tool : Tool) (fs : List ℕ) (l : ℕ) (value : List ℕ) (ws : List (List ℕ)) → AreFlags tool fs
+    → takes_value tool l ≡ true → IsSpelled tool (value ∷ ws) true
+    → GroupIsSpelled tool (45 ∷ fs ++ l ∷ []) (value ∷ ws) (map Valid (map flag fs) ++ Valid (with_value l value) ∷ [])
+    true
 next_spelled tool fs l value ws a t more given =
     let r = parsed_args_from tool false ws in
     let o : ParsedOption = with_value l value in
-    let e : (map Valid (map flag fs) ++ Valid o ∷ []) ++ r.tokens ≡ map Valid (map flag fs) ++ (Valid o ∷ r.tokens) = append_assoc (map Valid (map flag fs)) (Valid o ∷ []) r.tokens in
-    let g : all_given (map Valid (map flag fs) ++ (Valid o ∷ r.tokens)) ≡ true = subst (λ (es : List Token). all_given es ≡ true) e given in
-    let s : Spells tool ws (options r) r.operands = more (sym (all_given-prefixed (map flag fs) (Valid o ∷ r.tokens)) ∙ g) in
+    let e : (map Valid (map flag fs) ++ Valid o ∷ []) ++ r.tokens ≡ map Valid (map flag fs) ++ (Valid o ∷ r.tokens) =
+    append_assoc (map Valid (map flag fs)) (Valid o ∷ []) r.tokens in
+    let g : all_given (map Valid (map flag fs) ++ (Valid o ∷ r.tokens)) ≡ true =
+    subst (λ (es : List Token). all_given es ≡ true) e given in
+    let s : Spells tool ws (options r) r.operands =
+    more (sym (all_given-prefixed (map flag fs) (Valid o ∷ r.tokens)) ∙ g) in
     subst (λ (os : List ParsedOption). Spells tool ((45 ∷ fs ++ l ∷ []) ∷ value ∷ ws) os r.operands)
-    (sym (ap (λ (es : List Token). filter_map option_of_token es) e ∙ options-prefixed (map flag fs) (Valid o ∷ r.tokens)))
+    (sym (ap (λ (es : List Token). filter_map option_of_token es) e
+    ∙ options-prefixed (map flag fs) (Valid o ∷ r.tokens)))
     (ValueNext fs l value ws (options r) r.operands a t s)
 
 -- one of the tokens is not an option
-not_all_given : (os : List ParsedOption) (token : Token) (tokens : List Token) → option_of_token token ≡ None → all_given ((map Valid os ++ token ∷ []) ++ tokens) ≡ true → ⊥
+not_all_given : (os : List ParsedOption) (token : Token) (tokens : List Token) → option_of_token token ≡ None
+    → all_given ((map Valid os ++ token ∷ []) ++ tokens) ≡ true → ⊥
 not_all_given [] token tokens n h = let bad : false ≡ true = rw n at h in cc
 not_all_given (o ∷ os) token tokens n h = not_all_given os token tokens n h
 
-valued_spelled : (tool : Tool) (fs : List ℕ) (l : ℕ) (rest : List ℕ) (ws : List (List ℕ)) → AreFlags tool fs → is_flag tool l ≡ false → ((taken : Bool) → IsSpelled tool ws taken)
-    → GroupIsSpelled tool (45 ∷ fs ++ l ∷ rest) ws (map Valid (map flag fs) ++ value_token tool (45 ∷ fs ++ l ∷ rest) l rest (slice_get ws 0) ∷ []) (takes_value tool l && is_empty rest)
+valued_spelled : (tool : Tool) (fs : List ℕ) (l : ℕ) (rest : List ℕ) (ws : List (List ℕ)) → AreFlags tool fs
+    → is_flag tool l ≡ false → ((taken : Bool) → IsSpelled tool ws taken)
+    → GroupIsSpelled tool (45 ∷ fs ++ l ∷ rest) ws
+    (map Valid (map flag fs) ++ value_token tool (45 ∷ fs ++ l ∷ rest) l rest (slice_get ws 0) ∷ [])
+    (takes_value tool l && is_empty rest)
 valued_spelled tool fs l (b ∷ bs) ws a n more =
     ⊎_elim (λ t. rw t (attached_spelled tool fs l b bs ws a t (more false)))
-    (λ t. rw t (λ given. absurd (not_all_given (map flag fs) (UnknownLetter (45 ∷ fs ++ l ∷ b ∷ bs)) (parsed_args_from tool false ws).tokens refl given)))
+    (λ t. rw t
+    (λ given. absurd (not_all_given (map flag fs) (UnknownLetter (45 ∷ fs ++ l ∷ b ∷ bs))
+    (parsed_args_from tool false ws).tokens refl given)))
     (cases_Bool (takes_value tool l))
 valued_spelled tool fs l [] [] a n more =
     ⊎_elim (λ t. rw t (λ given. absurd (not_all_given (map flag fs) (MissingValue l) [] refl given)))
@@ -105,59 +138,82 @@ valued_spelled tool fs l [] [] a n more =
     (cases_Bool (takes_value tool l))
 valued_spelled tool fs l [] (value ∷ ws) a n more =
     ⊎_elim (λ t. rw t (next_spelled tool fs l value ws a t (more true)))
-    (λ t. rw t (λ given. absurd (not_all_given (map flag fs) (UnknownLetter (45 ∷ fs ++ l ∷ [])) (parsed_args_from tool false (value ∷ ws)).tokens refl given)))
+    (λ t. rw t
+    (λ given. absurd (not_all_given (map flag fs) (UnknownLetter (45 ∷ fs ++ l ∷ []))
+    (parsed_args_from tool false (value ∷ ws)).tokens refl given)))
     (cases_Bool (takes_value tool l))
 
-group_spelled : (tool : Tool) {letters : List ℕ} (ws : List (List ℕ)) → is_empty letters ≡ false → Split tool letters → ((taken : Bool) → IsSpelled tool ws taken)
-    → GroupIsSpelled tool (45 ∷ letters) ws (tokens_in tool (45 ∷ letters) (slice_get ws 0) letters) (takes_next tool letters)
+group_spelled : (tool : Tool) {letters : List ℕ} (ws : List (List ℕ)) → is_empty letters ≡ false → Split tool letters
+    → ((taken : Bool) → IsSpelled tool ws taken)
+    → GroupIsSpelled tool (45 ∷ letters) ws (tokens_in tool (45 ∷ letters) (slice_get ws 0) letters)
+    (takes_next tool letters)
 group_spelled tool ws some (AllFlags [] a) more = cc
 group_spelled tool ws some (AllFlags (f ∷ fs) a) more =
-    subst (λ (es : List Token). GroupIsSpelled tool (45 ∷ f ∷ fs) ws es (takes_next tool (f ∷ fs))) (sym (tokens_in-all_flags tool (45 ∷ f ∷ fs) (slice_get ws 0) (f ∷ fs) a))
-    (subst (λ (t : Bool). GroupIsSpelled tool (45 ∷ f ∷ fs) ws (map Valid (map flag (f ∷ fs))) t) (sym (takes_next-all_flags tool (f ∷ fs) a)) (flags_spelled tool f fs ws a (more false)))
+    subst (λ (es : List Token). GroupIsSpelled tool (45 ∷ f ∷ fs) ws es (takes_next tool (f ∷ fs)))
+    (sym (tokens_in-all_flags tool (45 ∷ f ∷ fs) (slice_get ws 0) (f ∷ fs) a))
+    (subst (λ (t : Bool). GroupIsSpelled tool (45 ∷ f ∷ fs) ws (map Valid (map flag (f ∷ fs))) t)
+    (sym (takes_next-all_flags tool (f ∷ fs) a)) (flags_spelled tool f fs ws a (more false)))
 group_spelled tool ws some (OneMore fs l rest a n) more =
     let word : List ℕ = 45 ∷ fs ++ l ∷ rest in
-    let tokens : tokens_in tool word (slice_get ws 0) (fs ++ l ∷ rest) ≡ map Valid (map flag fs) ++ value_token tool word l rest (slice_get ws 0) ∷ [] =
+    let tokens : tokens_in tool word (slice_get ws 0) (fs ++ l ∷ rest) ≡ map Valid (map flag fs)
+    ++ value_token tool word l rest (slice_get ws 0) ∷ [] =
     tokens_in-flags tool word (slice_get ws 0) fs (l ∷ rest) a ∙ rw n refl in
-    let taken : takes_next tool (fs ++ l ∷ rest) ≡ (takes_value tool l && is_empty rest) = takes_next-flags tool fs (l ∷ rest) a ∙ rw n refl in
+    let taken : takes_next tool (fs ++ l ∷ rest) ≡ (takes_value tool l && is_empty rest) =
+    takes_next-flags tool fs (l ∷ rest) a ∙ rw n refl in
     subst (λ (es : List Token). GroupIsSpelled tool word ws es (takes_next tool (fs ++ l ∷ rest))) (sym tokens)
-    (subst (λ (t : Bool). GroupIsSpelled tool word ws (map Valid (map flag fs) ++ value_token tool word l rest (slice_get ws 0) ∷ []) t) (sym taken) (valued_spelled tool fs l rest ws a n more))
+    (subst (λ (t : Bool). GroupIsSpelled tool word ws
+    (map Valid (map flag fs) ++ value_token tool word l rest (slice_get ws 0) ∷ []) t) (sym taken)
+    (valued_spelled tool fs l rest ws a n more))
 
 -- a word that is not `--` and not a word of options is an operand
-operand_spelled : (tool : Tool) (word : List ℕ) (ws : List (List ℕ)) → is_end_of_options word ≡ false → is_option_arg word ≡ false → IsSpelled tool (word ∷ ws) false
-operand_spelled tool word ws ends plain = rw (ends, plain) (λ given. OperandsAlone (word ∷ ws) (not_from_false (is_option_arg word) plain))
+operand_spelled : (tool : Tool) (word : List ℕ) (ws : List (List ℕ)) → is_end_of_options word ≡ false
+    → is_option_arg word ≡ false → IsSpelled tool (word ∷ ws) false
+operand_spelled tool word ws ends plain =
+    rw (ends, plain) (λ given. OperandsAlone (word ∷ ws) (not_from_false (is_option_arg word) plain))
 
-dashed_spelled : (tool : Tool) (b l : ℕ) (ls : List ℕ) (ws : List (List ℕ)) → b ≡ 45 → is_end_of_options (b ∷ l ∷ ls) ≡ false
-    → ((taken : Bool) → IsSpelled tool ws taken) → IsSpelled tool ((b ∷ l ∷ ls) ∷ ws) false
+dashed_spelled : (tool : Tool) (b l : ℕ) (ls : List ℕ) (ws : List (List ℕ)) → b ≡ 45
+    → is_end_of_options (b ∷ l ∷ ls) ≡ false → ((taken : Bool) → IsSpelled tool ws taken)
+    → IsSpelled tool ((b ∷ l ∷ ls) ∷ ws) false
 dashed_spelled tool b l ls ws dash ends more =
-    let at_dash : is_end_of_options (45 ∷ l ∷ ls) ≡ false = subst (λ (d : ℕ). is_end_of_options (d ∷ l ∷ ls) ≡ false) dash ends in
-    subst (λ (d : ℕ). IsSpelled tool ((d ∷ l ∷ ls) ∷ ws) false) (sym dash) (rw at_dash (group_spelled tool ws refl (split tool (l ∷ ls)) more))
+    let at_dash : is_end_of_options (45 ∷ l ∷ ls) ≡ false =
+    subst (λ (d : ℕ). is_end_of_options (d ∷ l ∷ ls) ≡ false) dash ends in
+    subst (λ (d : ℕ). IsSpelled tool ((d ∷ l ∷ ls) ∷ ws) false) (sym dash)
+    (rw at_dash (group_spelled tool ws refl (split tool (l ∷ ls)) more))
 
 -- a word that is not `--` is an operand, or a dash and letters
-word_spelled : (tool : Tool) (word : List ℕ) (ws : List (List ℕ)) → is_end_of_options word ≡ false → ((taken : Bool) → IsSpelled tool ws taken) → IsSpelled tool (word ∷ ws) false
+word_spelled : (tool : Tool) (word : List ℕ) (ws : List (List ℕ)) → is_end_of_options word ≡ false
+    → ((taken : Bool) → IsSpelled tool ws taken) → IsSpelled tool (word ∷ ws) false
 word_spelled tool [] ws ends more = operand_spelled tool [] ws refl refl
 word_spelled tool (b ∷ []) ws ends more = operand_spelled tool (b ∷ []) ws ends ends
 word_spelled tool (b ∷ l ∷ ls) ws ends more =
     ⊎_elim (λ dash. dashed_spelled tool b l ls ws (eqb-true b 45 dash) ends more)
-    (λ none. let plain : is_option_arg (b ∷ l ∷ ls) ≡ false = rw none refl in operand_spelled tool (b ∷ l ∷ ls) ws ends plain)
+    (λ none. let plain : is_option_arg (b ∷ l ∷ ls) ≡ false = rw none refl in operand_spelled tool (b ∷ l
+    ∷ ls) ws ends plain)
     (cases_Bool (b == 45))
 
-end_spelled : (tool : Tool) (word : List ℕ) (ws : List (List ℕ)) → is_end_of_options word ≡ true → IsSpelled tool (word ∷ ws) false
+end_spelled : (tool : Tool) (word : List ℕ) (ws : List (List ℕ)) → is_end_of_options word ≡ true
+    → IsSpelled tool (word ∷ ws) false
 end_spelled tool word ws ends =
-    rw ends (λ given. subst (λ (w : List ℕ). Spells tool (w ∷ ws) [] ws) (sym ((bytes_eq-Decides word (codes "--")).0 ends)) (EndOfOptions ws))
+    let (same, _) = bytes_eq-Decides word (codes "--") in
+    rw ends (λ given. subst (λ (w : List ℕ). Spells tool (w ∷ ws) [] ws) (sym (same ends)) (EndOfOptions ws))
 
 built : (tool : Tool) (ws : List (List ℕ)) (taken : Bool) → IsSpelled tool ws taken
 built tool [] true = λ given. OperandsAlone [] refl
 built tool [] false = λ given. OperandsAlone [] refl
 built tool (word ∷ ws) true = built tool ws false
-built tool (word ∷ ws) false = ⊎_elim (end_spelled tool word ws) (λ ends. word_spelled tool word ws ends (built tool ws)) (cases_Bool (is_end_of_options word))
+built tool (word ∷ ws) false =
+    ⊎_elim (end_spelled tool word ws) (λ ends. word_spelled tool word ws ends (built tool ws))
+    (cases_Bool (is_end_of_options word))
 
 pub read_as_spelled : ParseMatchesGrammar
 read_as_spelled tool words os operands = (
   λ s. spelled tool s,
   λ is.
-      let s : Spells tool words (options (parsed_args_from tool false words)) (parsed_args_from tool false words).operands =
+      let s : Spells tool words (options (parsed_args_from tool false words))
+      (parsed_args_from tool false words).operands =
       built tool words false (ap (λ (r : ParsedArgs). all_given r.tokens) is ∙ all_given-map os) in
-      let t : Spells tool words (options (args_of os operands)) operands = subst (λ (r : ParsedArgs). Spells tool words (options r) r.operands) is s in
+      let t : Spells tool words (options (args_of os operands)) operands =
+      subst (λ (r : ParsedArgs). Spells tool words (options r) r.operands) is s in
       subst (λ (xs : List ParsedOption). Spells tool words xs operands) (options-map os) t,
 )
 
@@ -170,18 +226,25 @@ pub option_or-none : {A : Type 0} (o p : Option A) → option_or o p ≡ None �
 option_or-none None p none = (refl, none)
 option_or-none (Some x) p none = cc
 
-wanting_is_faulty : (tool : Tool) (before : List ParsedOption) (letter : ℕ) → token_fault tool before (MissingValue letter) ≡ None → ⊥
+wanting_is_faulty : (tool : Tool) (before : List ParsedOption) (letter : ℕ)
+    → token_fault tool before (MissingValue letter) ≡ None → ⊥
 wanting_is_faulty tool before letter none = ⊎_elim (λ t. let bad : Some (Twice letter) ≡ None = rw t at none in cc)
     (λ t. let bad : Some (NeedsValue letter) ≡ None = rw t at none in cc) (cases_Bool (is_repeated tool before letter))
 
 -- if no fault is found, each token is an option
-all_given_unless_faulty : (tool : Tool) (before : List ParsedOption) (tokens : List Token) → parse_fault tool before tokens ≡ None → all_given tokens ≡ true
+all_given_unless_faulty : (tool : Tool) (before : List ParsedOption) (tokens : List Token)
+    → parse_fault tool before tokens ≡ None → all_given tokens ≡ true
 all_given_unless_faulty tool before [] none = refl
 all_given_unless_faulty tool before (Valid o ∷ tokens) none =
-    all_given_unless_faulty tool (before ++ o ∷ []) tokens (option_or-none (token_fault tool before (Valid o)) (parse_fault tool (before ++ o ∷ []) tokens) none).1
+    let (_, later) = option_or-none (token_fault tool before (Valid o)) (parse_fault tool (before ++ o ∷ []) tokens)
+    none in
+    all_given_unless_faulty tool (before ++ o ∷ []) tokens later
 all_given_unless_faulty tool before (MissingValue letter ∷ tokens) none =
-    absurd (wanting_is_faulty tool before letter (option_or-none (token_fault tool before (MissingValue letter)) (parse_fault tool before tokens) none).0)
+    let (here, _) = option_or-none (token_fault tool before (MissingValue letter)) (parse_fault tool before tokens)
+    none in
+    absurd (wanting_is_faulty tool before letter here)
 all_given_unless_faulty tool before (UnknownLetter word ∷ tokens) none = cc
 
 pub spelled_unless_faulty : FaultlessIsSpelled
-spelled_unless_faulty tool words none = built tool words false (all_given_unless_faulty tool [] (parsed_args_from tool false words).tokens none)
+spelled_unless_faulty tool words none =
+    built tool words false (all_given_unless_faulty tool [] (parsed_args_from tool false words).tokens none)

@@ -1,9 +1,12 @@
 -- The parse of words that the grammar accepts gives the options and operands of the grammar. A dash is not an option,
 -- and no option is both with and without a value, so each case of the grammar is the only case of the parse that
 -- applies.
-use Rattle.ptopts.proofs.Common.{◌≡◌, ℕ, ◌==◌, List, [], ◌∷◌, ◌++◌, Bool, true, false, refl, ap, sym, ◌∙◌, subst, map, append_assoc, not, Option, Some, ⊎_elim, IsTrue, slice_get, nat_lt, list_all}
-use Rattle.ptopts.proofs.Common.{and_parts, eqb-true, or_cases, not-true, ne_eqb, cases_Bool, ltb-true, Tool, syntax, has_letter, is_flag, takes_value, ParsedOption, flag, with_value, AreFlags, Spells}
-use Rattle.ptopts.proofs.Common.{OperandsAlone, EndOfOptions, Flags, ValueAttached, ValueNext, Token, Valid, tokens_in, takes_next, ParsedArgs, parsed_args_from, prepend_tokens, starts_with_operand}
+use Rattle.ptopts.proofs.Common.{◌≡◌, ℕ, ◌==◌, List, [], ◌∷◌, ◌++◌, Bool, true, false, refl, ap, sym, ◌∙◌, subst, map}
+use Rattle.ptopts.proofs.Common.{append_assoc, not, Option, Some, ⊎_elim, IsTrue, slice_get, nat_lt, list_all}
+use Rattle.ptopts.proofs.Common.{and_parts, eqb-true, or_cases, not-true, ne_eqb, cases_Bool, ltb-true, Tool, syntax}
+use Rattle.ptopts.proofs.Common.{has_letter, is_flag, takes_value, ParsedOption, flag, with_value, AreFlags, Spells}
+use Rattle.ptopts.proofs.Common.{OperandsAlone, EndOfOptions, Flags, ValueAttached, ValueNext, Token, Valid, tokens_in}
+use Rattle.ptopts.proofs.Common.{takes_next, ParsedArgs, parsed_args_from, prepend_tokens, starts_with_operand}
 use Rattle.std.specs.Prelude.{◌<◌}
 use Rattle.ptopts.proofs.EachTool.{syntax_is}
 
@@ -11,12 +14,15 @@ use Rattle.ptopts.proofs.EachTool.{syntax_is}
 pub all_of : (p : ℕ → Bool) (cs : List ℕ) (l : ℕ) → list_all p cs ≡ true → has_letter l cs ≡ true → p l ≡ true
 all_of p [] l a h = cc
 all_of p (c ∷ cs) l a h =
-    let both = and_parts (p c) (list_all p cs) a in
-    ⊎_elim (λ e. subst (λ x. p x ≡ true) (eqb-true c l e) both.0) (all_of p cs l both.1) (or_cases (c == l) (has_letter l cs) h)
+    let (first, others) = and_parts (p c) (list_all p cs) a in
+    ⊎_elim (λ e. subst (λ x. p x ≡ true) (eqb-true c l e) first) (all_of p cs l others)
+    (or_cases (c == l) (has_letter l cs) h)
 
 -- no option with a value is a flag
 pub no_flag : (tool : Tool) (l : ℕ) → takes_value tool l ≡ true → is_flag tool l ≡ false
-no_flag tool l h = not-true (is_flag tool l) (all_of (λ x. not (is_flag tool x)) (syntax tool).value_letters l (syntax_is tool).disjoint h)
+no_flag tool l h =
+    not-true (is_flag tool l) (all_of (λ x. not (is_flag tool x)) (syntax tool).value_letters l
+    (syntax_is tool).disjoint h)
 
 not_dash : (l : ℕ) (cs : List ℕ) → has_letter l cs ≡ true → has_letter 45 cs ≡ false → (l ≡ 45) → ⊥
 not_dash l cs h n e = let bad : has_letter 45 cs ≡ true = subst (λ x. has_letter x cs ≡ true) e h in cc
@@ -26,40 +32,48 @@ pub tokens_in-flags : (tool : Tool) (word : List ℕ) (next : Option (List ℕ))
     → tokens_in tool word next (fs ++ rest) ≡ map Valid (map flag fs) ++ tokens_in tool word next rest
 tokens_in-flags tool word next [] rest a = refl
 tokens_in-flags tool word next (f ∷ fs) rest a =
-    let both = and_parts (is_flag tool f) (list_all (is_flag tool) fs) a in
-    rw both.0 (ap (λ (es : List Token). Valid (flag f) ∷ es) (tokens_in-flags tool word next fs rest both.1))
+    let (first, others) = and_parts (is_flag tool f) (list_all (is_flag tool) fs) a in
+    rw first (ap (λ (es : List Token). Valid (flag f) ∷ es) (tokens_in-flags tool word next fs rest others))
 
-pub takes_next-flags : (tool : Tool) (fs rest : List ℕ) → AreFlags tool fs → takes_next tool (fs ++ rest) ≡ takes_next tool rest
+pub takes_next-flags : (tool : Tool) (fs rest : List ℕ) → AreFlags tool fs
+    → takes_next tool (fs ++ rest) ≡ takes_next tool rest
 takes_next-flags tool [] rest a = refl
 takes_next-flags tool (f ∷ fs) rest a =
-    let both = and_parts (is_flag tool f) (list_all (is_flag tool) fs) a in
-    rw both.0 (takes_next-flags tool fs rest both.1)
+    let (first, others) = and_parts (is_flag tool f) (list_all (is_flag tool) fs) a in
+    rw first (takes_next-flags tool fs rest others)
 
-pub tokens_in-all_flags : (tool : Tool) (word : List ℕ) (next : Option (List ℕ)) (fs : List ℕ) → AreFlags tool fs → tokens_in tool word next fs ≡ map Valid (map flag fs)
+pub tokens_in-all_flags : (tool : Tool) (word : List ℕ) (next : Option (List ℕ)) (fs : List ℕ) → AreFlags tool fs
+    → tokens_in tool word next fs ≡ map Valid (map flag fs)
 tokens_in-all_flags tool word next [] a = refl
 tokens_in-all_flags tool word next (f ∷ fs) a =
-    let both = and_parts (is_flag tool f) (list_all (is_flag tool) fs) a in
-    rw both.0 (ap (λ (es : List Token). Valid (flag f) ∷ es) (tokens_in-all_flags tool word next fs both.1))
+    let (first, others) = and_parts (is_flag tool f) (list_all (is_flag tool) fs) a in
+    rw first (ap (λ (es : List Token). Valid (flag f) ∷ es) (tokens_in-all_flags tool word next fs others))
 
 pub takes_next-all_flags : (tool : Tool) (fs : List ℕ) → AreFlags tool fs → takes_next tool fs ≡ false
 takes_next-all_flags tool [] a = refl
 takes_next-all_flags tool (f ∷ fs) a =
-    let both = and_parts (is_flag tool f) (list_all (is_flag tool) fs) a in
-    rw both.0 (takes_next-all_flags tool fs both.1)
+    let (first, others) = and_parts (is_flag tool f) (list_all (is_flag tool) fs) a in
+    rw first (takes_next-all_flags tool fs others)
 
 -- a word of options is a dash and at least one letter
 group_is_read : (tool : Tool) (l : ℕ) (ls : List ℕ) (ws : List (List ℕ)) → ((l ≡ 45) → ⊥)
     → parsed_args_from tool false ((45 ∷ l ∷ ls) ∷ ws)
-    ≡ prepend_tokens (tokens_in tool (45 ∷ l ∷ ls) (slice_get ws 0) (l ∷ ls)) (parsed_args_from tool (takes_next tool (l ∷ ls)) ws)
+    ≡ prepend_tokens (tokens_in tool (45 ∷ l ∷ ls) (slice_get ws 0) (l ∷ ls))
+    (parsed_args_from tool (takes_next tool (l ∷ ls)) ws)
 group_is_read tool l ls ws n = rw (ne_eqb l 45 n) refl
 
 -- the parse of a word that is flags and an option with a value
-valued_group : (tool : Tool) (fs : List ℕ) (l : ℕ) (rest : List ℕ) (ws : List (List ℕ)) → AreFlags tool fs → takes_value tool l ≡ true
+valued_group : (tool : Tool) (fs : List ℕ) (l : ℕ) (rest : List ℕ) (ws : List (List ℕ)) → AreFlags tool fs
+    → takes_value tool l ≡ true
     → parsed_args_from tool false ((45 ∷ fs ++ l ∷ rest) ∷ ws)
-    ≡ prepend_tokens (tokens_in tool (45 ∷ fs ++ l ∷ rest) (slice_get ws 0) (fs ++ l ∷ rest)) (parsed_args_from tool (takes_next tool (fs ++ l ∷ rest)) ws)
-valued_group tool [] l rest ws a t = group_is_read tool l rest ws (not_dash l (syntax tool).value_letters t (syntax_is tool).dash_takes_no_value)
+    ≡ prepend_tokens (tokens_in tool (45 ∷ fs ++ l ∷ rest) (slice_get ws 0) (fs ++ l ∷ rest))
+    (parsed_args_from tool (takes_next tool (fs ++ l ∷ rest)) ws)
+valued_group tool [] l rest ws a t =
+    group_is_read tool l rest ws (not_dash l (syntax tool).value_letters t (syntax_is tool).dash_takes_no_value)
 valued_group tool (f ∷ fs) l rest ws a t =
-    group_is_read tool f (fs ++ l ∷ rest) ws (not_dash f (syntax tool).flags (and_parts (is_flag tool f) (list_all (is_flag tool) fs) a).0 (syntax_is tool).dash_is_no_flag)
+    let (first, _) = and_parts (is_flag tool f) (list_all (is_flag tool) fs) a in
+    group_is_read tool f (fs ++ l ∷ rest) ws
+    (not_dash f (syntax tool).flags first (syntax_is tool).dash_is_no_flag)
 
 -- the parse of a word of options, from its tokens and whether it takes the next word
 group_gives : (tool : Tool) (ws : List (List ℕ)) (es es' : List Token) (t t' : Bool) → es ≡ es' → t ≡ t'
@@ -76,13 +90,17 @@ args_of options operands = record { tokens = map Valid options; operands = opera
 
 join_flags : (fs : List ℕ) (options : List ParsedOption) (operands : List (List ℕ))
     → prepend_tokens (map Valid (map flag fs)) (args_of options operands) ≡ args_of (map flag fs ++ options) operands
-join_flags fs options operands = ap (λ (es : List Token). let r : ParsedArgs = record { tokens = es; operands = operands } in r) (sym (map-Valid-append (map flag fs) options))
+join_flags fs options operands =
+    ap (λ (es : List Token). let r : ParsedArgs = record { tokens = es; operands = operands } in r)
+    (sym (map-Valid-append (map flag fs) options))
 
 join_group : (fs : List ℕ) (o : ParsedOption) (options : List ParsedOption) (operands : List (List ℕ))
-    → prepend_tokens (map Valid (map flag fs) ++ Valid o ∷ []) (args_of options operands) ≡ args_of (map flag fs ++ o ∷ options) operands
+    → prepend_tokens (map Valid (map flag fs) ++ Valid o ∷ []) (args_of options operands)
+    ≡ args_of (map flag fs ++ o ∷ options) operands
 join_group fs o options operands =
     ap (λ (es : List Token). let r : ParsedArgs = record { tokens = es; operands = operands } in r)
-    (append_assoc (map Valid (map flag fs)) (Valid o ∷ []) (map Valid options) ∙ sym (map-Valid-append (map flag fs) (o ∷ options)))
+    (append_assoc (map Valid (map flag fs)) (Valid o ∷ []) (map Valid options)
+    ∙ sym (map-Valid-append (map flag fs) (o ∷ options)))
 
 value_here : (tool : Tool) (word : List ℕ) (next : Option (List ℕ)) (l b : ℕ) (bs : List ℕ) → takes_value tool l ≡ true
     → tokens_in tool word next (l ∷ b ∷ bs) ≡ Valid (with_value l (b ∷ bs)) ∷ []
@@ -98,35 +116,44 @@ takes_none tool l b bs t = rw (no_flag tool l t, t) refl
 takes_one : (tool : Tool) (l : ℕ) → takes_value tool l ≡ true → takes_next tool (l ∷ []) ≡ true
 takes_one tool l t = rw (no_flag tool l t, t) refl
 
-ends_here : (tool : Tool) (ws : List (List ℕ)) → IsTrue (starts_with_operand ws) → parsed_args_from tool false ws ≡ args_of [] ws
+ends_here : (tool : Tool) (ws : List (List ℕ)) → IsTrue (starts_with_operand ws)
+    → parsed_args_from tool false ws ≡ args_of [] ws
 ends_here tool [] first = refl
 ends_here tool ([] ∷ ws) first = refl
 ends_here tool ((b ∷ []) ∷ ws) first = ⊎_elim (λ e. rw e refl) (λ e. rw e refl) (cases_Bool (b == 45))
-ends_here tool ((b ∷ c ∷ bs) ∷ ws) first = ⊎_elim (λ e. let bad : false ≡ true = rw e at first in cc) (λ e. rw e refl) (cases_Bool (b == 45))
+ends_here tool ((b ∷ c ∷ bs) ∷ ws) first =
+    ⊎_elim (λ e. let bad : false ≡ true = rw e at first in cc) (λ e. rw e refl) (cases_Bool (b == 45))
 
-pub spelled : (tool : Tool) {ws : List (List ℕ)} {options : List ParsedOption} {operands : List (List ℕ)} → Spells tool ws options operands
-    → parsed_args_from tool false ws ≡ args_of options operands
+pub spelled : (tool : Tool) {ws : List (List ℕ)} {options : List ParsedOption} {operands : List (List ℕ)}
+    → Spells tool ws options operands → parsed_args_from tool false ws ≡ args_of options operands
 spelled tool (OperandsAlone operands first) = ends_here tool operands first
 spelled tool (EndOfOptions operands) = refl
 spelled tool (Flags f fs words options operands a s) =
-    group_is_read tool f fs words (not_dash f (syntax tool).flags (and_parts (is_flag tool f) (list_all (is_flag tool) fs) a).0 (syntax_is tool).dash_is_no_flag)
-    ∙ (group_gives tool words _ _ _ _ (tokens_in-all_flags tool (45 ∷ f ∷ fs) (slice_get words 0) (f ∷ fs) a) (takes_next-all_flags tool (f ∷ fs) a)
+    let (first, _) = and_parts (is_flag tool f) (list_all (is_flag tool) fs) a in
+    group_is_read tool f fs words (not_dash f (syntax tool).flags first (syntax_is tool).dash_is_no_flag)
+    ∙ (group_gives tool words _ _ _ _ (tokens_in-all_flags tool (45 ∷ f ∷ fs) (slice_get words 0) (f ∷ fs) a)
+    (takes_next-all_flags tool (f ∷ fs) a)
     ∙ (ap (prepend_tokens (map Valid (map flag (f ∷ fs)))) (spelled tool s) ∙ join_flags (f ∷ fs) options operands))
 spelled tool (ValueAttached fs l b bs words options operands a t s) =
     let word : List ℕ = 45 ∷ fs ++ l ∷ b ∷ bs in
     valued_group tool fs l (b ∷ bs) words a t
     ∙ (group_gives tool words _ _ _ _
-    (tokens_in-flags tool word (slice_get words 0) fs (l ∷ b ∷ bs) a ∙ ap (λ (es : List Token). map Valid (map flag fs) ++ es) (value_here tool word (slice_get words 0) l b bs t))
+    (tokens_in-flags tool word (slice_get words 0) fs (l ∷ b ∷ bs) a
+    ∙ ap (λ (es : List Token). map Valid (map flag fs) ++ es) (value_here tool word (slice_get words 0) l b bs t))
     (takes_next-flags tool fs (l ∷ b ∷ bs) a ∙ takes_none tool l b bs t)
-    ∙ (ap (prepend_tokens (map Valid (map flag fs) ++ Valid (with_value l (b ∷ bs)) ∷ [])) (spelled tool s) ∙ join_group fs (with_value l (b ∷ bs)) options operands))
+    ∙ (ap (prepend_tokens (map Valid (map flag fs) ++ Valid (with_value l (b ∷ bs)) ∷ [])) (spelled tool s)
+    ∙ join_group fs (with_value l (b ∷ bs)) options operands))
 spelled tool (ValueNext fs l value words options operands a t s) =
     let word : List ℕ = 45 ∷ fs ++ l ∷ [] in
     valued_group tool fs l [] (value ∷ words) a t
     ∙ (group_gives tool (value ∷ words) _ _ _ _
-    (tokens_in-flags tool word (Some value) fs (l ∷ []) a ∙ ap (λ (es : List Token). map Valid (map flag fs) ++ es) (value_next tool word value l t))
+    (tokens_in-flags tool word (Some value) fs (l ∷ []) a
+    ∙ ap (λ (es : List Token). map Valid (map flag fs) ++ es) (value_next tool word value l t))
     (takes_next-flags tool fs (l ∷ []) a ∙ takes_one tool l t)
-    ∙ (ap (prepend_tokens (map Valid (map flag fs) ++ Valid (with_value l value) ∷ [])) (spelled tool s) ∙ join_group fs (with_value l value) options operands))
+    ∙ (ap (prepend_tokens (map Valid (map flag fs) ++ Valid (with_value l value) ∷ [])) (spelled tool s)
+    ∙ join_group fs (with_value l value) options operands))
 
 -- options with a value are ASCII
 pub valued_is_ascii : (tool : Tool) (l : ℕ) → takes_value tool l ≡ true → l < 128
-valued_is_ascii tool l h = ltb-true l 128 (all_of (λ x. nat_lt x 128) (syntax tool).value_letters l (syntax_is tool).ascii h)
+valued_is_ascii tool l h =
+    ltb-true l 128 (all_of (λ x. nat_lt x 128) (syntax tool).value_letters l (syntax_is tool).ascii h)

@@ -39,10 +39,9 @@ fn after_byte(text: &[u8], at: usize, byte: u8) -> Option<usize>
     ensures next { IfSome result (λ i. i ≡ at + 1) }
     ensures within { IfSome result (λ i. i ≤ length text.now) }
 {
-    if at < text.len() && text[at] == byte {
-        Some(at + 1)
-    } else {
-        None
+    match text.get(at) {
+        Some(found) if *found == byte => Some(at + 1),
+        _ => None,
     }
 }
 

@@ -91,8 +91,8 @@ impl Segment {
         match self {
             Segment::Range(first, last) => span_get(first, last, index),
             Segment::Class(class) => class.get(index),
-            Segment::Repeat(byte, count) => repeat_get(byte, u128::from(count), index),
-            Segment::Fill(byte) => repeat_get(byte, fill, index),
+            Segment::Repeat(byte, count) => (index < u128::from(count)).then_some(byte),
+            Segment::Fill(byte) => (index < fill).then_some(byte),
         }
     }
 
@@ -105,12 +105,4 @@ impl Segment {
         let class = if index == 0 { self.class() } else { None };
         Some(Member { byte, class })
     }
-}
-
-/// `byte` if the index is below `count`.
-#[tactic(auto, using(crate::proofs::TrByteRanges::member_steps))]
-fn repeat_get(byte: u8, count: u128, index: u128) -> Option<u8>
-    ensures { result ≡ slice_get (replicate count byte) index }
-{
-    if index < count { Some(byte) } else { None }
 }

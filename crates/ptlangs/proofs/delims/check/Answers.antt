@@ -4,10 +4,12 @@ use Rattle.ptlangs.proofs.delims.check.Goals as goal
 
 pub returns-in_err-rest : goal.returns-in_err-rest
 returns-in_err-rest c =
-    let fault = left_fault c.args.text.now c.loop-rest.left.now c.loop-rest.invariant c.in_err-rest.field-0.0 c.in_err-rest.ensures.first in
+    let fault = left_fault c.args.text.now c.loop-rest.left.now c.loop-rest.invariant c.in_err-rest.field-0.0
+    c.in_err-rest.ensures.first in
     search (rules, fault)
 
 pub loop-rest-preserved : goal.loop-rest-preserved
 loop-rest-preserved c =
     let some : 0 < length c.in_ok-rest.rest.now = grind (arith, nat_tests) in
-    left_without_fault c.args.text.now c.loop-rest.left.now c.loop-rest.invariant _ c.in_ok-rest.rest.now some c.in_ok-rest.ensures.first
+    left_without_fault c.args.text.now c.loop-rest.left.now c.loop-rest.invariant _ c.in_ok-rest.rest.now some
+    c.in_ok-rest.ensures.first

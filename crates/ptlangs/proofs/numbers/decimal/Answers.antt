@@ -6,16 +6,20 @@ use Rattle.ptlangs.proofs.numbers.decimal.Goals as goal
 
 pub returns-in_err-checked_mul : goal.returns-in_err-checked_mul
 returns-in_err-checked_mul c =
-    rw c.from_residual.ensures (too_large_at c.args.text.now c.loop-byte.byte-index c.loop-byte.value (omega arith) c.loop-byte.invariant.number (omega (arith, c.in_err-checked_mul.ensures)))
+    rw c.from_residual.ensures (too_large_at c.args.text.now c.loop-byte.byte-index c.loop-byte.value
+    (omega arith) c.loop-byte.invariant.number (omega (arith, c.in_err-checked_mul.ensures)))
 
 pub returns-in_err-value : goal.returns-in_err-value
 returns-in_err-value c =
     let b = get_or c.args.text.now c.loop-byte.byte-index 0 in
     let d : digit_value b ≡ b - 48 = digit_is b (grind (arith, nat_tests)) (grind (arith, nat_tests)) in
-    rw c.from_residual-in_err-value.ensures (too_large_at c.args.text.now c.loop-byte.byte-index c.loop-byte.value (omega arith) c.loop-byte.invariant.number
+    rw c.from_residual-in_err-value.ensures
+    (too_large_at c.args.text.now c.loop-byte.byte-index c.loop-byte.value
+    (omega arith) c.loop-byte.invariant.number
     (omega (arith, d, c.in_err-value.ensures, c.in_ok-checked_mul.ensures)))
 
 pub returns : goal.returns
 returns c =
     is_its_value c.args.text.now c.loop-byte.byte-index c.loop-byte.value
-    (is_empty_by_length c.args.text.now ∙ sym c.is_empty.ensures ∙ c.if-is_empty.false) c.loop-byte-test.false c.loop-byte.invariant.number c.loop-byte.invariant.digits c.loop-byte.invariant.fits
+    (is_empty_by_length c.args.text.now ∙ sym c.is_empty.ensures ∙ c.if-is_empty.false)
+    c.loop-byte-test.false c.loop-byte.invariant.number c.loop-byte.invariant.digits c.loop-byte.invariant.fits

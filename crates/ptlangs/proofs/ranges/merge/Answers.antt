@@ -6,17 +6,26 @@ use Rattle.ptlangs.proofs.ranges.merge.Goals as goal
 use Rattle.ptlangs.proofs.ranges.merge.Goals.{then-next-current, else-next-current+in_ok-push}
 
 pub loop-next-init : goal.loop-next-init
-loop-next-init g c = rw c.new-kept.ensures.items (starts c.in-Some.first.now c.in-Some.others.now c.args.sorted.now c.in-Some.ensures.cases.0 c.requires)
+loop-next-init g c =
+    rw c.new-kept.ensures.items
+    (starts c.in-Some.first.now c.in-Some.others.now c.args.sorted.now c.in-Some.ensures.cases.0 c.requires)
 
 pub overflow_sub-next : goal.overflow_sub-next
-overflow_sub-next g c = next_positive (rw (drop_more c.in-Some.others.now c.loop-next.next-index (record { first = 0; last = 0 }) c.loop-next-test.true) at c.loop-next.invariant)
+overflow_sub-next g c =
+    next_positive
+    (rw (drop_more c.in-Some.others.now c.loop-next.next-index (record { first = 0; last = 0 })
+    c.loop-next-test.true) at c.loop-next.invariant)
 
 pub loop-next-preserved : goal.loop-next-preserved
 loop-next-preserved g c =
-    let before = rw (drop_more c.in-Some.others.now c.loop-next.next-index (record { first = 0; last = 0 }) c.loop-next-test.true) at c.loop-next.invariant in
+    let before =
+    rw (drop_more c.in-Some.others.now c.loop-next.next-index (record { first = 0; last = 0 }) c.loop-next-test.true)
+    at c.loop-next.invariant in
     elim c.if-next-current.branch [
-      | then-next-current w ↦ rw (w.kept-is, w.current-is) (absorbs _ _ _ _ _ _ refl w.max.ensures w.if-next-current.true before)
-      | else-next-current+in_ok-push w ↦ rw (w.kept-is, w.current-is, w.in_ok-push.ensures.items) (starts_next _ _ _ _ _ w.if-next-current.false before)
+      | then-next-current w ↦ rw (w.kept-is, w.current-is)
+          (absorbs _ _ _ _ _ _ refl w.max.ensures w.if-next-current.true before)
+      | else-next-current+in_ok-push w ↦ rw (w.kept-is, w.current-is, w.in_ok-push.ensures.items)
+          (starts_next _ _ _ _ _ w.if-next-current.false before)
     ]
 
 pub returns-clause-separated : goal.returns-clause-separated
@@ -24,5 +33,6 @@ returns-clause-separated g c = rw c.in_ok-push-2.ensures.items c.loop-next.invar
 
 pub returns-clause-same : goal.returns-clause-same
 returns-clause-same g c =
-    let before = rw (drop_all c.loop-next.next-index c.in-Some.others.now c.loop-next-test.false) at c.loop-next.invariant in
+    let before =
+    rw (drop_all c.loop-next.next-index c.in-Some.others.now c.loop-next-test.false) at c.loop-next.invariant in
     rw c.in_ok-push-2.ensures.items (λ i n. before.same n i)

@@ -1,5 +1,6 @@
 -- The constraints before this one are met, so the first fault is that of this one, or else that of the remaining ones.
-use Rattle.ptopts.proofs.Common.{◌≡◌, ◌<◌, ◌+◌, ℕ, List, Option, None, Some, length, drop, map, get_or, sym, ap, ◌∙◌, refl, IsSome, option_or, drop_more, err_from_is_err_and, Fault, first_some}
+use Rattle.ptopts.proofs.Common.{◌≡◌, ◌<◌, ◌+◌, ℕ, List, Option, None, Some, length, drop, map, get_or, sym, ap, ◌∙◌}
+use Rattle.ptopts.proofs.Common.{refl, IsSome, option_or, drop_more, err_from_is_err_and, Fault, first_some}
 use Rattle.ptopts.proofs.Common.{constraint_fault, options_view}
 use Rattle.ptopts.proofs.constraints.check_constraints.Goals as goal
 
@@ -12,23 +13,27 @@ or_found : {A : Type 0} (found rest : Option A) → IsSome found → option_or f
 or_found (Some x) rest h = refl
 or_found None rest h = cc
 
-first_found : {A : Type 0} (f : A → Option Fault) (xs : List A) (i : ℕ) (d : A) (m : Option Fault) → i < length xs → IsSome m → m ≡ f (get_or xs i d)
-    → m ≡ first_some (map f (drop i xs))
-first_found f xs i d m h some e = sym (first_from f xs i d h ∙ ap (λ o. option_or o (first_some (map f (drop (i + 1) xs)))) (sym e) ∙ or_found m _ some)
+first_found : {A : Type 0} (f : A → Option Fault) (xs : List A) (i : ℕ) (d : A) (m : Option Fault) → i < length xs
+    → IsSome m → m ≡ f (get_or xs i d) → m ≡ first_some (map f (drop i xs))
+first_found f xs i d m h some e =
+    sym (first_from f xs i d h ∙ ap (λ o. option_or o (first_some (map f (drop (i + 1) xs)))) (sym e)
+    ∙ or_found m _ some)
 
-none_found : {A : Type 0} (f : A → Option Fault) (xs : List A) (i : ℕ) (d : A) → i < length xs → f (get_or xs i d) ≡ None
-    → first_some (map f (drop i xs)) ≡ first_some (map f (drop (i + 1) xs))
+none_found : {A : Type 0} (f : A → Option Fault) (xs : List A) (i : ℕ) (d : A) → i < length xs
+    → f (get_or xs i d) ≡ None → first_some (map f (drop i xs)) ≡ first_some (map f (drop (i + 1) xs))
 none_found f xs i d h e = first_from f xs i d h ∙ ap (λ o. option_or o (first_some (map f (drop (i + 1) xs)))) e
 
 pub returns-in_err-check_constraint : goal.returns-in_err-check_constraint
 returns-in_err-check_constraint c =
-    let p = err_from_is_err_and c.from_residual.result c.from_residual.ensures.1 in
-    let found = c.in_err-check_constraint.ensures in
+    let (_, given) = c.from_residual.ensures in
+    let (_, is, kind) = err_from_is_err_and c.from_residual.result given in
+    let (found, fault) = c.in_err-check_constraint.ensures in
     let first = first_found (constraint_fault (options_view c.args.options.now)) c.syntax.result.constraints.now
-    c.loop-constraint.constraint-index _ _ c.loop-constraint-test.true found.0 found.1 in
-    rw (p.1, p.2) (found.0, first ∙ sym c.loop-constraint.invariant)
+    c.loop-constraint.constraint-index _ _ c.loop-constraint-test.true found fault in
+    rw (is, kind) (found, first ∙ sym c.loop-constraint.invariant)
 
 pub loop-constraint-preserved : goal.loop-constraint-preserved
 loop-constraint-preserved c =
-    c.loop-constraint.invariant ∙ none_found (constraint_fault (options_view c.args.options.now)) c.syntax.result.constraints.now
+    c.loop-constraint.invariant ∙ none_found (constraint_fault (options_view c.args.options.now))
+    c.syntax.result.constraints.now
     c.loop-constraint.constraint-index _ c.loop-constraint-test.true c.in_ok-check_constraint.ensures

@@ -4,4 +4,5 @@ use Rattle.ptopts.proofs.constraints.check_constraints.Given as goal
 
 abbrev pub invariant-loop-constraint : goal.invariant-loop-constraint
 invariant-loop-constraint l =
-    constraints_fault l.fn.tool (options_view l.options) ≡ first_some (map (constraint_fault (options_view l.options)) (drop l.constraint-index l.constraints))
+    constraints_fault l.fn.tool (options_view l.options)
+    ≡ first_some (map (constraint_fault (options_view l.options)) (drop l.constraint-index l.constraints))

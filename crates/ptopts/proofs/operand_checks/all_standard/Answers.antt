@@ -1,9 +1,11 @@
-use Rattle.ptopts.proofs.Common.{rules, ◌∙◌, tests, List, ℕ, sym, Bor, YieldsList-from_slice, all_from_yields_List, is_standard}
+use Rattle.ptopts.proofs.Common.{rules, ◌∙◌, tests, List, ℕ, sym, Bor, YieldsList-from_slice, all_from_yields_List}
+use Rattle.ptopts.proofs.Common.{is_standard}
 use Rattle.std.proofs.lemmas.List.Folds.{list_all-map}
 use Rattle.ptopts.proofs.operand_checks.all_standard.Goals as goal
 
 pub returns : goal.returns
 returns c =
     let all = c.args.operands.now in
-    all_from_yields_List (λ (w : Bor (List ℕ)). is_standard w.now) _ _ c.all.result c.all.ensures.ran (YieldsList-from_slice all cc) (λ x b q k. search (rules, tests))
+    all_from_yields_List (λ (w : Bor (List ℕ)). is_standard w.now) _ _ c.all.result c.all.ensures.ran
+    (YieldsList-from_slice all cc) (λ x b q k. search (rules, tests))
     ∙ sym (list_all-map is_standard (λ (w : Bor (List ℕ)). w.now) all)

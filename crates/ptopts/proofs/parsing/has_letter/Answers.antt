@@ -6,5 +6,6 @@ use Rattle.ptopts.proofs.parsing.has_letter.Goals as goal
 pub returns : goal.returns
 returns c =
     let all = c.args.options.now in
-    any_from_yields_List (λ (o : ParsedOption). o.letter == c.args.letter) _ _ c.any.result c.any.ensures.ran (YieldsList-from_slice all cc) (λ x b q k. search (rules, tests))
+    any_from_yields_List (λ (o : ParsedOption). o.letter == c.args.letter) _ _ c.any.result c.any.ensures.ran
+    (YieldsList-from_slice all cc) (λ x b q k. search (rules, tests))
     ∙ has_option-view c.args.letter all

@@ -5,4 +5,5 @@ use Rattle.ptopts.proofs.parsing.read_group.Given as goal
 
 abbrev pub invariant-loop-index : goal.invariant-loop-index
 invariant-loop-index g l =
-    GroupRead l.tool l.word (option_map (λ w. w.now) l.next) (options_view l.fn.options.items) (options_view l.options.items) (drop l.index l.word)
+    GroupRead l.tool l.word (option_map (λ w. w.now) l.next) (options_view l.fn.options.items)
+    (options_view l.options.items) (drop l.index l.word)

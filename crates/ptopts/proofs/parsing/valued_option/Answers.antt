@@ -8,5 +8,6 @@ pub range_from-attached-requires : goal.range_from-attached-requires
 range_from-attached-requires c =
     let word = c.args.word.now in
     let value_letters : takes_value c.args.tool (slice_index word c.args.index) ≡ true = cc in
-    let ascii : slice_index word c.args.index < 128 = valued_is_ascii c.args.tool (slice_index word c.args.index) value_letters in
+    let ascii : slice_index word c.args.index < 128 =
+    valued_is_ascii c.args.tool (slice_index word c.args.index) value_letters in
     λ _. IsCharBoundary-after_ascii word c.args.index c.utf8.word c.requires ascii

@@ -1,5 +1,6 @@
 -- The first option with the letter is the one that the definition finds, if there is one.
-use Rattle.ptopts.proofs.Common.{◌==◌, rules, ◌∙◌, tests, sym, option_map, List, ℕ, ap, option_and_then, Bor, YieldsList-from_slice, find_from_yields_List}
+use Rattle.ptopts.proofs.Common.{◌==◌, rules, ◌∙◌, tests, sym, option_map, List, ℕ, ap, option_and_then, Bor}
+use Rattle.ptopts.proofs.Common.{YieldsList-from_slice, find_from_yields_List}
 use Rattle.ptopts.specs.declared.parsing.ParsedOption.{ParsedOption}
 use Rattle.ptopts.proofs.OptionViews.{value_of-view}
 use Rattle.ptopts.proofs.values.value.Goals as goal
@@ -7,13 +8,18 @@ use Rattle.ptopts.proofs.values.value.Goals as goal
 pub returns-in_err-find : goal.returns-in_err-find
 returns-in_err-find c =
     let all = c.args.options.now in
-    let found = find_from_yields_List (λ (o : ParsedOption). o.letter == c.args.letter) _ _ c.find.result c.find.ensures.ran (YieldsList-from_slice all cc) (λ x b q k. search (rules, tests)) in
+    let found = find_from_yields_List (λ (o : ParsedOption). o.letter == c.args.letter)
+    _ _ c.find.result c.find.ensures.ran (YieldsList-from_slice all cc) (λ x b q k. search (rules, tests)) in
     let none = rw c.in_err-find.was at found in
-    rw c.from_residual.ensures (ap (option_and_then (λ (o : ParsedOption). option_map (λ (v : Bor (List ℕ)). v.now) o.value)) none ∙ sym (value_of-view c.args.letter all))
+    rw c.from_residual.ensures
+    (ap (option_and_then (λ (o : ParsedOption). option_map (λ (v : Bor (List ℕ)). v.now) o.value)) none
+    ∙ sym (value_of-view c.args.letter all))
 
 pub returns : goal.returns
 returns c =
     let all = c.args.options.now in
-    let found = find_from_yields_List (λ (o : ParsedOption). o.letter == c.args.letter) _ _ c.find.result c.find.ensures.ran (YieldsList-from_slice all cc) (λ x b q k. search (rules, tests)) in
+    let found = find_from_yields_List (λ (o : ParsedOption). o.letter == c.args.letter)
+    _ _ c.find.result c.find.ensures.ran (YieldsList-from_slice all cc) (λ x b q k. search (rules, tests)) in
     let some = rw c.in_ok-find.was at found in
-    ap (option_and_then (λ (o : ParsedOption). option_map (λ (v : Bor (List ℕ)). v.now) o.value)) some ∙ sym (value_of-view c.args.letter all)
+    ap (option_and_then (λ (o : ParsedOption). option_map (λ (v : Bor (List ℕ)). v.now) o.value)) some
+    ∙ sym (value_of-view c.args.letter all)

@@ -6,8 +6,10 @@ use Rattle.ptlangs.proofs.delims.Delims.read.Goals as goal
 pub loop-kept-preserved : goal.loop-kept-preserved
 loop-kept-preserved g c =
     let some : 0 < length c.in_ok-delim.rest.now = grind (arith, nat_tests) in
-    rw c.in_ok-push.ensures.items (c.loop-kept.invariant ∙ ap (append_ok c.loop-kept.kept.items) c.in_ok-delim.ensures.first
-    ∙ append_ok-cons_ok c.loop-kept.kept.items c.in_ok-delim.delim (delims c.in_ok-delim.rest.now) ∙ ap (append_ok _) (delims_of_some c.in_ok-delim.rest.now some))
+    rw c.in_ok-push.ensures.items (c.loop-kept.invariant
+    ∙ ap (append_ok c.loop-kept.kept.items) c.in_ok-delim.ensures.first
+    ∙ append_ok-cons_ok c.loop-kept.kept.items c.in_ok-delim.delim (delims c.in_ok-delim.rest.now)
+    ∙ ap (append_ok _) (delims_of_some c.in_ok-delim.rest.now some))
 
 pub loop-kept-init : goal.loop-kept-init
 loop-kept-init g c = rw c.new-kept.ensures.items (sym (append_ok-nil (delim_list c.args.text.now)))

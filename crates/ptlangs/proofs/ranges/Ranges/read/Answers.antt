@@ -1,13 +1,17 @@
-use Rattle.ptlangs.proofs.Common.{rules, tests, All-permutation, IsNonDecreasingBy-from_sort_by_key, IsValidInterval, Interval, elements}
+use Rattle.ptlangs.proofs.Common.{rules, tests, All-permutation, IsNonDecreasingBy-from_sort_by_key, IsValidInterval}
+use Rattle.ptlangs.proofs.Common.{Interval, elements}
 use Rattle.ptlangs.proofs.CutGrammar.{each_proper, in_order, selection_is_kept}
 use Rattle.ptlangs.proofs.ranges.Ranges.read.Goals as goal
 
 pub merge-requires : goal.merge-requires
 merge-requires g c =
     rw c.as_slice.ensures.value (in_order _
-    (All-permutation IsValidInterval _ _ c.sort_unstable_by_key.ensures.permutation (each_proper (elements c.args.text.now) _ c.in_ok-listed.ensures))
-    (IsNonDecreasingBy-from_sort_by_key (λ (r : Interval). r.first) _ c.sort_unstable_by_key.ensures.sorted (λ a r q k. search (rules, tests))))
+    (All-permutation IsValidInterval _ _ c.sort_unstable_by_key.ensures.permutation
+    (each_proper (elements c.args.text.now) _ c.in_ok-listed.ensures))
+    (IsNonDecreasingBy-from_sort_by_key (λ (r : Interval). r.first) _ c.sort_unstable_by_key.ensures.sorted
+    (λ a r q k. search (rules, tests))))
 
 pub returns : goal.returns
 returns g c =
-    selection_is_kept c.args.text.now _ _ _ c.in_ok-listed.ensures c.sort_unstable_by_key.ensures.permutation (rw c.as_slice.ensures.value at c.in_ok-kept.ensures.same)
+    selection_is_kept c.args.text.now _ _ _ c.in_ok-listed.ensures c.sort_unstable_by_key.ensures.permutation
+    (rw c.as_slice.ensures.value at c.in_ok-kept.ensures.same)

@@ -7,6 +7,8 @@ returns-then-value-limit c =
     let i = c.loop-digit.digit-index in
     let ds = c.args.digits.now in
     let below : digit_value (get_or ds i 0) < c.args.base = c.requires.digits i 0 c.loop-digit-test.true in
-    let more = number_step c.args.base ds i c.loop-digit.value c.from.result c.loop-digit-test.true (omega arith) below c.loop-digit.invariant.0 c.from.ensures in
-    let above : nat_le (digits_value c.args.base ds) c.args.limit ≡ false = too_large c.args.base c.args.limit ds (i + 1) (omega arith) (omega (arith, more)) in
+    let more = number_step c.args.base ds i c.loop-digit.value c.from.result c.loop-digit-test.true
+    (omega arith) below c.loop-digit.invariant.0 c.from.ensures in
+    let above : nat_le (digits_value c.args.base ds) c.args.limit ≡ false =
+    too_large c.args.base c.args.limit ds (i + 1) (omega arith) (omega (arith, more)) in
     rw above

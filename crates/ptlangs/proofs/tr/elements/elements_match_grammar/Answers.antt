@@ -3,4 +3,10 @@ use Rattle.ptlangs.proofs.TrCharGrammar.{chars_are_spelled}
 use Rattle.ptlangs.proofs.tr.elements.elements_match_grammar.Goals as goal
 
 pub returns : goal.returns
-returns c = record { chars = chars_are_spelled; elements = λ us ps. (set_elements-AreElements us ps, AreElements-set_elements ps us); faults = faults_are_first }
+returns c =
+    record {
+      chars = chars_are_spelled;
+      elements = λ us ps. (set_elements-AreElements us ps, AreElements-set_elements ps us);
+      faults =
+          faults_are_first;
+    }

@@ -2,10 +2,12 @@
 use Rattle.ptlangs.proofs.Common.{◌∙◌, Bool, ap, array, complement_of, first_array}
 use Rattle.ptlangs.specs.TrClasses.{all_bytes}
 use Rattle.ptlangs.proofs.Common.{image_by, map}
-use Rattle.ptlangs.specs.TrParsing.{HasPaired, all_paired, bytes_of, contents_of, first_members, marked_array, plain_members}
+use Rattle.ptlangs.specs.TrParsing.{HasPaired, all_paired, bytes_of, contents_of, first_members, marked_array}
+use Rattle.ptlangs.specs.TrParsing.{plain_members}
 use Rattle.ptlangs.proofs.TrImages.{answer_of, first-bytes, paired_same, unpaired_answer}
 use Rattle.ptlangs.proofs.tr.images.read_images.Goals as goal
-use Rattle.ptlangs.proofs.tr.images.read_images.Goals.{then-complement+in_ok-push_ascending, else-complement+in_ok-push_string}
+use Rattle.ptlangs.proofs.tr.images.read_images.Goals.{then-complement+in_ok-push_ascending}
+use Rattle.ptlangs.proofs.tr.images.read_images.Goals.{else-complement+in_ok-push_string}
 
 pub returns-in_err-push_ascending : goal.returns-in_err-push_ascending
 returns-in_err-push_ascending c = λ ps to e f l.
@@ -13,14 +15,16 @@ returns-in_err-push_ascending c = λ ps to e f l.
     let bytes = f ∙ ap (λ (t : Bool). contents_of (first_array t ps)) c.if-complement.true in
     let (kind, wrong) = c.in_err-push_ascending.ensures (array 0 ps) to bytes (c.new-images.ensures to l) in
     let (_, fault) = c.from_residual.ensures in
-    unpaired_answer (all_paired (first_members b ps) to) _ c.from_residual.result _ fault kind (ap (λ (t : Bool). all_paired (first_members t ps) to) c.if-complement.true ∙ wrong)
+    unpaired_answer (all_paired (first_members b ps) to) _ c.from_residual.result _ fault kind
+    (ap (λ (t : Bool). all_paired (first_members t ps) to) c.if-complement.true ∙ wrong)
 
 pub returns-in_err-push_string : goal.returns-in_err-push_string
 returns-in_err-push_string c = λ ps to e f l.
     let b = c.args.complement in
     let (kind, wrong) = c.in_err-push_string.ensures ps to e (c.new-images.ensures to l) in
     let (_, fault) = c.from_residual-in_err-push_string.ensures in
-    unpaired_answer (all_paired (first_members b ps) to) _ c.from_residual-in_err-push_string.result _ fault kind (ap (λ (t : Bool). all_paired (first_members t ps) to) c.if-complement.false ∙ wrong)
+    unpaired_answer (all_paired (first_members b ps) to) _ c.from_residual-in_err-push_string.result _ fault kind
+    (ap (λ (t : Bool). all_paired (first_members t ps) to) c.if-complement.false ∙ wrong)
 
 pub returns : goal.returns
 returns c = λ ps to e f l.
@@ -29,9 +33,15 @@ returns c = λ ps to e f l.
     let paired : HasPaired (first_members b ps) to c.if-complement.images =
     elim c.if-complement.branch [
       | then-complement+in_ok-push_ascending w ↦
-          paired_same (first_members b ps) (plain_members (complement_of (array 0 ps))) to _ _ (ap (λ (t : Bool). first_members t ps) w.if-complement.true) w.images-is
-          (w.in_ok-push_ascending.ensures (array 0 ps) to (f ∙ ap (λ (t : Bool). contents_of (first_array t ps)) w.if-complement.true) new)
+          paired_same (first_members b ps) (plain_members (complement_of (array 0 ps))) to _ _
+          (ap (λ (t : Bool). first_members t ps) w.if-complement.true) w.images-is
+          (w.in_ok-push_ascending.ensures (array 0 ps) to
+          (f ∙ ap (λ (t : Bool). contents_of (first_array t ps)) w.if-complement.true) new)
       | else-complement+in_ok-push_string w ↦
-          paired_same (first_members b ps) (marked_array 0 ps) to _ _ (ap (λ (t : Bool). first_members t ps) w.if-complement.false) w.images-is (w.in_ok-push_string.ensures ps to e new)
+          paired_same (first_members b ps) (marked_array 0 ps) to _ _
+          (ap (λ (t : Bool). first_members t ps) w.if-complement.false) w.images-is
+          (w.in_ok-push_string.ensures ps to e new)
     ] in
-    c.finish.ensures (first_members b ps) to paired ∙ ap (λ from. answer_of (all_paired (first_members b ps) to) (map (image_by from (bytes_of to)) all_bytes)) (first-bytes b ps)
+    c.finish.ensures (first_members b ps) to paired
+    ∙ ap (λ from. answer_of (all_paired (first_members b ps) to) (map (image_by from (bytes_of to)) all_bytes))
+    (first-bytes b ps)

@@ -3,7 +3,10 @@ use Rattle.ptlangs.proofs.Common.{◌≡◌, ◌≤◌, drop, stretches_from}
 use Rattle.ptlangs.proofs.tr.shifts.shifts_of.Given as goal
 
 abbrev pub invariant-loop-index : goal.invariant-loop-index
-invariant-loop-index l = (l.index ≤ 256) × (l.shifts ≡ stretches_from l.index (drop l.index l.fn.images))
+invariant-loop-index l = record {
+  within : l.index ≤ 256;
+  stretches : l.shifts ≡ stretches_from l.index (drop l.index l.fn.images);
+}
 
 abbrev pub decreases-loop-index : goal.decreases-loop-index
 decreases-loop-index l = l.index

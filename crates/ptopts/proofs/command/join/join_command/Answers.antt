@@ -5,4 +5,5 @@ use Rattle.ptopts.proofs.command.join.join_command.Goals as goal
 pub returns : goal.returns
 returns g c =
     checked_command_ok Join (options_view c.args.options.now) (words_view c.args.operands.now) c.in_ok-inputs.inputs
-    c.in_ok-job.ensures.fault c.in_ok-inputs.ensures.fault refl (ap RunJoin (sym c.in_ok-job.ensures.job)) c.in_ok-inputs.ensures.inputs
+    c.in_ok-job.ensures.fault c.in_ok-inputs.ensures.fault refl (ap RunJoin (sym c.in_ok-job.ensures.job))
+    c.in_ok-inputs.ensures.inputs

@@ -4,7 +4,10 @@ use Rattle.ptopts.proofs.command.join.selected_files.Given as goal
 
 abbrev pub invariant-loop-option : goal.invariant-loop-option
 invariant-loop-option l = record {
-  faults : each_value_fault (options_view l.options) (l.letter, is_file_number) ≡ each_value_fault (options_view (drop l.option-index l.options)) (l.letter, is_file_number);
-  named1 : names_file (codes "1") l.letter (options_view l.options) ≡ (l.first || names_file (codes "1") l.letter (options_view (drop l.option-index l.options)));
-  named2 : names_file (codes "2") l.letter (options_view l.options) ≡ (l.second || names_file (codes "2") l.letter (options_view (drop l.option-index l.options)));
+  faults : each_value_fault (options_view l.options) (l.letter, is_file_number)
+      ≡ each_value_fault (options_view (drop l.option-index l.options)) (l.letter, is_file_number);
+  named1 : names_file (codes "1") l.letter (options_view l.options)
+      ≡ (l.first || names_file (codes "1") l.letter (options_view (drop l.option-index l.options)));
+  named2 : names_file (codes "2") l.letter (options_view l.options)
+      ≡ (l.second || names_file (codes "2") l.letter (options_view (drop l.option-index l.options)));
 }

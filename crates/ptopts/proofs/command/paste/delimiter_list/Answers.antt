@@ -1,7 +1,7 @@
 -- A fault of `Delims::read` becomes the fault of the option, by cases on the three faults of a list and on the
 -- definition.
-use Rattle.ptopts.proofs.Common.{◌≡◌, ℕ, ◌∙◌, List, Option, Some, None, Result, Ok, Err, Bool, true, false, cond, refl, sym, ap, option_map, Bor, is_ok, result_err}
-use Rattle.ptopts.proofs.Common.{fault_view}
+use Rattle.ptopts.proofs.Common.{◌≡◌, ℕ, ◌∙◌, List, Option, Some, None, Result, Ok, Err, Bool, true, false, cond, refl}
+use Rattle.ptopts.proofs.Common.{sym, ap, option_map, Bor, is_ok, result_err, fault_view}
 use Rattle.ptlangs.specs.declared.delims.DelimFault.{DelimFault}
 use Rattle.ptlangs.specs.declared.delims.DelimFault.TheVariants.{Empty, Escape, Memory}
 use Rattle.ptlangs.specs.DelimLists.{delim_list_fault, delim_list}
@@ -11,9 +11,11 @@ use Rattle.ptopts.specs.declared.fault.UseFault.TheVariants as fault
 use Rattle.ptopts.specs.Faults as faults
 use Rattle.ptopts.proofs.command.paste.delimiter_list.Goals as goal
 
-module _ (letter : ℕ) (text : Bor (List ℕ)) (is_memory : DelimFault → Bool) (never : is_memory Memory ≡ true) (empty : is_memory Empty ≡ false) (escape : is_memory Escape ≡ false) where
+module _ (letter : ℕ) (text : Bor (List ℕ)) (is_memory : DelimFault → Bool) (never : is_memory Memory ≡ true)
+    (empty : is_memory Empty ≡ false) (escape : is_memory Escape ≡ false) where
   told : (e : DelimFault) (r : Result (List (Option ℕ)) DelimFault) → result_err r ≡ delim_list_fault e
-      → fault_view (cond (is_memory e) fault.Memory (fault.Value letter text)) ≡ cond (is_ok r) None (Some (faults.Value letter text.now))
+      → fault_view (cond (is_memory e) fault.Memory (fault.Value letter text))
+      ≡ cond (is_ok r) None (Some (faults.Value letter text.now))
   told Empty (Ok ds) e = cc
   told Escape (Ok ds) e = cc
   told Memory (Ok ds) e = rw never refl
@@ -24,5 +26,6 @@ module _ (letter : ℕ) (text : Bor (List ℕ)) (is_memory : DelimFault → Bool
 pub returns-in-Err-clause-fault : goal.returns-in-Err-clause-fault
 returns-in-Err-clause-fault g c =
     let given = sym c.value.ensures ∙ ap (option_map (λ (v : Bor (List ℕ)). v.now)) c.in-Some.is in
-    let fault = told 100 c.in-Some.text (λ e. sameb the_type e Memory) refl refl refl c.in-Err.fault (delim_list c.in-Some.text.now) (rw c.as_bytes.ensures.value at c.in-Err.ensures) in
+    let fault = told 100 c.in-Some.text (λ e. sameb the_type e Memory) refl refl refl c.in-Err.fault
+    (delim_list c.in-Some.text.now) (rw c.as_bytes.ensures.value at c.in-Err.ensures) in
     rw (c.list_fault.ensures, c.eq.ensures, given) fault

@@ -4,7 +4,8 @@ use Rattle.ptlangs.specs.TrParsing.{bytes_left, most_left}
 use Rattle.ptlangs.proofs.tr.bytes.Bytes.next.Given as goal
 
 abbrev pub invariant-loop-member : goal.invariant-loop-member
-invariant-loop-member l = record { left : bytes_left l.self ≡ bytes_left l.fn.self; most : most_left l.self ≤ most_left l.fn.self }
+invariant-loop-member l =
+    record { left : bytes_left l.self ≡ bytes_left l.fn.self; most : most_left l.self ≤ most_left l.fn.self }
 
 abbrev pub decreases-loop-member : goal.decreases-loop-member
 decreases-loop-member l = length l.self.text.now - l.self.at

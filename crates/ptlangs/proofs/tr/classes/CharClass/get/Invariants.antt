@@ -3,4 +3,6 @@ use Rattle.ptlangs.proofs.Common.{◌≡◌, drop, flat_map, slice_get, range_by
 use Rattle.ptlangs.proofs.tr.classes.CharClass.get.Given as goal
 
 abbrev pub invariant-loop-first : goal.invariant-loop-first
-invariant-loop-first l = slice_get (flat_map range_bytes (drop l.first-index l.ranges)) l.left ≡ slice_get (flat_map range_bytes l.ranges) l.index
+invariant-loop-first l =
+    slice_get (flat_map range_bytes (drop l.first-index l.ranges)) l.left
+    ≡ slice_get (flat_map range_bytes l.ranges) l.index

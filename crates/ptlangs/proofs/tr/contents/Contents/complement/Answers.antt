@@ -13,22 +13,35 @@ loop-byte-preserved c =
     let byte = c.loop-byte.byte in
     record {
       short = elim c.if-not-self-from.branch [
-        | then-not-self-from w ↦ omega (arith, ap (λ (q : Contents). q.length) w.others-is, w.push.ensures.length, c.loop-byte.invariant.short)
+        | then-not-self-from w ↦ omega (
+          arith,
+          ap (λ (q : Contents). q.length) w.others-is,
+          w.push.ensures.length,
+          c.loop-byte.invariant.short,
+        )
         | else-not-self-from w ↦ omega (arith, ap (λ (q : Contents). q.length) w.others-is, c.loop-byte.invariant.short)
       ];
       is = λ bytes e. elim c.if-not-self-from.branch [
         | then-not-self-from w ↦
             w.others-is ∙ w.push.ensures.is (others_below bytes byte) (c.loop-byte.invariant.is bytes e)
-            ∙ ap contents_of (sym (others-more start bytes false c.from.ensures (omega arith) w.if-not-self-from.true e))
+            ∙ ap contents_of
+            (sym (others-more start bytes false c.from.ensures (omega arith) w.if-not-self-from.true e))
         | else-not-self-from w ↦
             w.others-is ∙ c.loop-byte.invariant.is bytes e
-            ∙ ap contents_of (sym (others-more start bytes true c.from.ensures (omega arith) w.if-not-self-from.false e ∙ append-nil (others_below bytes byte)))
+            ∙ ap contents_of
+            (sym (others-more start bytes true c.from.ensures (omega arith) w.if-not-self-from.false e
+            ∙ append-nil (others_below bytes byte)))
       ];
     }
 
 pub returns-after-not-self-from-clause-bound : goal.returns-after-not-self-from-clause-bound
 returns-after-not-self-from-clause-bound c = elim c.if-not-self-from.branch [
-  | then-not-self-from w ↦ omega (arith, ap (λ (q : Contents). q.length) w.others-is, w.push.ensures.length, c.loop-byte.invariant.short)
+  | then-not-self-from w ↦ omega (
+    arith,
+    ap (λ (q : Contents). q.length) w.others-is,
+    w.push.ensures.length,
+    c.loop-byte.invariant.short,
+  )
   | else-not-self-from w ↦ omega (arith, ap (λ (q : Contents). q.length) w.others-is, c.loop-byte.invariant.short)
 ]
 
@@ -40,8 +53,11 @@ returns-after-not-self-from-clause-is c = λ bytes e.
     elim c.if-not-self-from.branch [
       | then-not-self-from w ↦
           w.others-is ∙ w.push.ensures.is (others_below bytes byte) (c.loop-byte.invariant.is bytes e)
-          ∙ ap contents_of (sym (others-more start bytes false c.from.ensures (omega arith) w.if-not-self-from.true e)) ∙ whole
+          ∙ ap contents_of (sym (others-more start bytes false c.from.ensures (omega arith) w.if-not-self-from.true e))
+          ∙ whole
       | else-not-self-from w ↦
           w.others-is ∙ c.loop-byte.invariant.is bytes e
-          ∙ ap contents_of (sym (others-more start bytes true c.from.ensures (omega arith) w.if-not-self-from.false e ∙ append-nil (others_below bytes byte))) ∙ whole
+          ∙ ap contents_of
+          (sym (others-more start bytes true c.from.ensures (omega arith) w.if-not-self-from.false e
+          ∙ append-nil (others_below bytes byte))) ∙ whole
     ]

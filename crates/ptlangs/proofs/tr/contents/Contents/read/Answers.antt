@@ -1,34 +1,44 @@
 -- The fault of a byte is the fault of the string. At the end all bytes are read.
-use Rattle.ptlangs.proofs.Common.{◌≡◌, ◌∙◌, [], ◌∷◌, List, Ok, ap, sym, refl, arith, array, ◌<◌, map-append, string_segments, Segment}
+use Rattle.ptlangs.proofs.Common.{◌≡◌, ◌∙◌, [], ◌∷◌, List, Ok, ap, sym, refl, arith, array, ◌<◌, map-append}
+use Rattle.ptlangs.proofs.Common.{string_segments, Segment}
 use Rattle.ptlangs.specs.declared.tr.segments.Member.{Member}
 use Rattle.ptlangs.specs.TrParsing.{bytes_left, bytes_of, contents_of, most_left, ok_map}
-use Rattle.ptlangs.proofs.TrByteWalk.{bytes_of-array, items_end, items_fault, items_more, next_none, next_some, on_fault, some_then, string-fault, string-read}
+use Rattle.ptlangs.proofs.TrByteWalk.{bytes_of-array, items_end, items_fault, items_more, next_none, next_some}
+use Rattle.ptlangs.proofs.TrByteWalk.{on_fault, some_then, string-fault, string-read}
 use Rattle.ptlangs.proofs.tr.contents.Contents.read.Goals as goal
 
 pub returns-in_err-member-clause-is : goal.returns-in_err-member-clause-is
 returns-in_err-member-clause-is c =
     let k = c.in_err-member.field-0.0 in
-    let fault = string-fault c.args.role c.args.text.now c.args.fill k c.if-is_empty.ensures (items_fault c.loop-member.invariant.read c.in_err-member.ensures.steps) in
+    let fault = string-fault c.args.role c.args.text.now c.args.fill k c.if-is_empty.ensures
+    (items_fault c.loop-member.invariant.read c.in_err-member.ensures.steps) in
     let (_, is) = c.from_residual.ensures in
-    on_fault (λ r. r ≡ ok_map (λ (ps : List Segment). contents_of (array c.args.fill ps)) (string_segments c.args.role c.args.text.now)) c.from_residual.result k is (rw fault refl)
+    on_fault
+    (λ r. r ≡ ok_map (λ (ps : List Segment). contents_of (array c.args.fill ps))
+    (string_segments c.args.role c.args.text.now)) c.from_residual.result k is (rw fault refl)
 
 pub loop-member-preserved : goal.loop-member-preserved
 loop-member-preserved c =
     let old = c.loop-member.bytes in
     let new = c.next.new.self in
     let read = c.loop-member.invariant.read in
-    let step = next_some (bytes_left old) (bytes_left new) c.in_ok-member.field-0 c.in-Some.member c.in-Some.is c.in_ok-member.ensures.steps in
-    let fewer = some_then c.in_ok-member.field-0 c.in-Some.member (most_left new < most_left old) c.in-Some.is c.in_ok-member.ensures.fewer in
+    let step = next_some (bytes_left old) (bytes_left new) c.in_ok-member.field-0 c.in-Some.member c.in-Some.is
+    c.in_ok-member.ensures.steps in
+    let fewer = some_then c.in_ok-member.field-0 c.in-Some.member (most_left new < most_left old)
+    c.in-Some.is c.in_ok-member.ensures.fewer in
     record {
       read =
           items_more (λ (ms : List Member). c.push.new.self ≡ contents_of (bytes_of ms)) read step
-          (λ h. c.push.ensures.is (bytes_of read.done) h ∙ ap contents_of (sym (map-append (λ (m : Member). m.byte) read.done (c.in-Some.member ∷ []))));
+          (λ h. c.push.ensures.is (bytes_of read.done) h
+          ∙ ap contents_of (sym (map-append (λ (m : Member). m.byte) read.done (c.in-Some.member ∷ []))));
       most = omega (arith, c.push.ensures.length, fewer, c.loop-member.invariant.most);
     }
 
 pub returns-clause-is : goal.returns-clause-is
 returns-clause-is c =
     let read = c.loop-member.invariant.read in
-    let (end, _) = next_none (bytes_left c.loop-member.bytes) (bytes_left c.next.new.self) c.in_ok-member.field-0 c.in_default.is c.in_ok-member.ensures.steps in
-    let (ps, whole, bytes) = string-read c.args.role c.args.text.now c.args.fill read.done c.if-is_empty.ensures (items_end read end) in
+    let (end, _) = next_none (bytes_left c.loop-member.bytes) (bytes_left c.next.new.self)
+    c.in_ok-member.field-0 c.in_default.is c.in_ok-member.ensures.steps in
+    let (ps, whole, bytes) = string-read c.args.role c.args.text.now c.args.fill read.done c.if-is_empty.ensures
+    (items_end read end) in
     rw whole (ap Ok (read.holds ∙ ap contents_of (ap bytes_of (sym bytes) ∙ bytes_of-array c.args.fill ps)))

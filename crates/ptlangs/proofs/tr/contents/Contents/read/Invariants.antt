@@ -7,7 +7,8 @@ use Rattle.ptlangs.proofs.tr.contents.Contents.read.Given as goal
 
 abbrev pub invariant-loop-member : goal.invariant-loop-member
 invariant-loop-member l = record {
-  read : ItemsRead (member_results l.fn.fill (segments_of l.fn.role l.fn.text)) (bytes_left l.bytes) (λ (ms : List Member). l.contents ≡ contents_of (bytes_of ms));
+  read : ItemsRead (member_results l.fn.fill (segments_of l.fn.role l.fn.text)) (bytes_left l.bytes)
+      (λ (ms : List Member). l.contents ≡ contents_of (bytes_of ms));
   most : l.contents.length + most_left l.bytes ≤ 65536 * length l.fn.text + l.fn.fill;
 }
 

@@ -13,19 +13,24 @@ returns-in_err-member c = λ from to h.
 pub returns-then-is_some : goal.returns-then-is_some
 returns-then-is_some c = λ from to h.
     let old = c.loop-member.self in
-    let step = next_some (bytes_left old.second) (bytes_left c.next.new.self) c.in_ok-member.field-0 c.in-Some.member c.in-Some.is c.in_ok-member.ensures.steps in
-    let unpaired = passing-unpaired from to old (bytes_left c.next.new.self) c.in-Some.member (c.loop-member.invariant from to h) step (sym c.is_some.ensures ∙ c.if-is_some.true) in
+    let step = next_some (bytes_left old.second) (bytes_left c.next.new.self) c.in_ok-member.field-0 c.in-Some.member
+    c.in-Some.is c.in_ok-member.ensures.steps in
+    let unpaired = passing-unpaired from to old (bytes_left c.next.new.self) c.in-Some.member
+    (c.loop-member.invariant from to h) step (sym c.is_some.ensures ∙ c.if-is_some.true) in
     rw unpaired refl
 
 pub loop-member-preserved : goal.loop-member-preserved
 loop-member-preserved c = λ from to h.
     let old = c.loop-member.self in
-    let step = next_some (bytes_left old.second) (bytes_left c.next.new.self) c.in_ok-member.field-0 c.in-Some.member c.in-Some.is c.in_ok-member.ensures.steps in
-    passing-next from to old c.next.new.self c.in-Some.member (c.loop-member.invariant from to h) step (sym c.is_some.ensures ∙ c.if-is_some.false)
+    let step = next_some (bytes_left old.second) (bytes_left c.next.new.self) c.in_ok-member.field-0 c.in-Some.member
+    c.in-Some.is c.in_ok-member.ensures.steps in
+    passing-next from to old c.next.new.self c.in-Some.member (c.loop-member.invariant from to h) step
+    (sym c.is_some.ensures ∙ c.if-is_some.false)
 
 pub returns : goal.returns
 returns c = λ from to h.
     let old = c.loop-member.self in
     let p = c.loop-member.invariant from to h in
-    let (end, _) = next_none (bytes_left old.second) (bytes_left c.next.new.self) c.in_ok-member.field-0 c.in_default.is c.in_ok-member.ensures.steps in
+    let (end, _) = next_none (bytes_left old.second) (bytes_left c.next.new.self) c.in_ok-member.field-0 c.in_default.is
+    c.in_ok-member.ensures.steps in
     rw (passing-end from to old p end) (ap Ok p.table)

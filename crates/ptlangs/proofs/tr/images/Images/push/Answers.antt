@@ -7,13 +7,18 @@ use Rattle.ptlangs.proofs.tr.images.Images.push.Goals as goal
 use Rattle.ptlangs.proofs.tr.images.Images.push.Goals.{in-Some+else-not-classes_match, in_default}
 
 pub returns-in_err-to : goal.returns-in_err-to
-returns-in_err-to c = λ before to h. never_fault (drop (length before) to) (bytes_left c.args.self.now.second) _ h.left c.in_err-to.ensures.steps
+returns-in_err-to c = λ before to h. never_fault (drop (length before) to) (bytes_left c.args.self.now.second)
+    _ h.left c.in_err-to.ensures.steps
 
 pub returns-then-not-classes_match : goal.returns-then-not-classes_match
 returns-then-not-classes_match c = λ before to h.
     let old = c.args.self.now in
-    let step = next_some (bytes_left old.second) (bytes_left c.next.new.self) c.in_ok-to.field-0 c.in-Some.to c.in-Some.is c.in_ok-to.ensures.steps in
-    (refl, push-unpaired before to old c.args.from h (omega arith) (bytes_left c.next.new.self) c.in-Some.to step (sym c.classes_match.ensures ∙ c.if-not-classes_match.true))
+    let step = next_some (bytes_left old.second) (bytes_left c.next.new.self)
+    c.in_ok-to.field-0 c.in-Some.to c.in-Some.is c.in_ok-to.ensures.steps in (
+      refl,
+      push-unpaired before to old c.args.from h (omega arith) (bytes_left c.next.new.self) c.in-Some.to step
+          (sym c.classes_match.ensures ∙ c.if-not-classes_match.true),
+    )
 
 pub returns : goal.returns
 returns c = λ before to h.
@@ -21,11 +26,16 @@ returns c = λ before to h.
     let from = c.args.from in
     elim c.match-branch-2.branch [
       | in-Some+else-not-classes_match w ↦
-          let step = next_some (bytes_left old.second) (bytes_left c.next.new.self) c.in_ok-to.field-0 w.in-Some.to w.in-Some.is c.in_ok-to.ensures.steps in
-          written _ to c.match-branch-2.self c.from.result c.unwrap_or.result from.byte old.table c.next.new.self (Some w.in-Some.to.byte) w.self-is c.from.ensures c.unwrap_or.ensures
-          (push-next before to old from h (omega arith) c.next.new.self w.in-Some.to step (sym w.classes_match.ensures ∙ w.if-not-classes_match.false))
+          let step = next_some (bytes_left old.second) (bytes_left c.next.new.self)
+          c.in_ok-to.field-0 w.in-Some.to w.in-Some.is c.in_ok-to.ensures.steps in
+          written _ to c.match-branch-2.self c.from.result c.unwrap_or.result from.byte old.table c.next.new.self
+          (Some w.in-Some.to.byte) w.self-is c.from.ensures c.unwrap_or.ensures
+          (push-next before to old from h (omega arith) c.next.new.self w.in-Some.to step
+          (sym w.classes_match.ensures ∙ w.if-not-classes_match.false))
       | in_default w ↦
-          let (now, end) = next_none (bytes_left old.second) (bytes_left c.next.new.self) c.in_ok-to.field-0 w.in_default.is c.in_ok-to.ensures.steps in
-          written _ to c.match-branch-2.self c.from.result c.unwrap_or.result from.byte old.table c.next.new.self old.last w.self-is c.from.ensures c.unwrap_or.ensures
+          let (now, end) = next_none (bytes_left old.second) (bytes_left c.next.new.self)
+          c.in_ok-to.field-0 w.in_default.is c.in_ok-to.ensures.steps in
+          written _ to c.match-branch-2.self c.from.result c.unwrap_or.result from.byte old.table c.next.new.self
+          old.last w.self-is c.from.ensures c.unwrap_or.ensures
           (push-last before to old from h (omega arith) c.next.new.self now end)
     ]

@@ -1,5 +1,6 @@
 -- A byte that the complement contains is paired after those below it.
-use Rattle.ptlangs.proofs.Common.{◌+◌, ◌∷◌, [], ◌∙◌, ℕ, None, ap, sym, arith, true, false, append-nil, map-append, complement_of}
+use Rattle.ptlangs.proofs.Common.{◌+◌, ◌∷◌, [], ◌∙◌, ℕ, None, ap, sym, arith, true, false, append-nil, map-append}
+use Rattle.ptlangs.proofs.Common.{complement_of}
 use Rattle.ptlangs.specs.TrParsing.{PairPost, all_paired, plain_members}
 use Rattle.ptlangs.proofs.TrByteWalk.{on_fault}
 use Rattle.ptlangs.proofs.TrContents.{complement-around, is_kept, others_below, others_below-all, others_below-more}
@@ -10,11 +11,16 @@ use Rattle.ptlangs.proofs.tr.images.Images.push_ascending.Goals.{then-first-from
 pub returns-in_err-push : goal.returns-in_err-push
 returns-in_err-push c = λ bytes to e h.
     let b = c.loop-byte.byte in
-    let (kind, wrong) = c.in_err-push.ensures (plain_members (others_below bytes b)) to (c.loop-byte.invariant bytes to e h) in
-    let (rest, is) = complement-around bytes b (omega arith) (is_kept c.args.first.now bytes b c.from.result true c.from.ensures (omega arith) c.if-first-from.true e) in
-    let around = ap plain_members is ∙ map-append (λ (n : ℕ). record { byte = n; class = None }) (others_below bytes b) (b ∷ rest) in
+    let (kind, wrong) =
+    c.in_err-push.ensures (plain_members (others_below bytes b)) to (c.loop-byte.invariant bytes to e h) in
+    let (rest, is) =
+    complement-around bytes b (omega arith)
+    (is_kept c.args.first.now bytes b c.from.result true c.from.ensures (omega arith) c.if-first-from.true e) in
+    let around = ap plain_members is ∙ map-append (λ (n : ℕ). record { byte = n; class = None }) (others_below bytes b)
+    (b ∷ rest) in
     let (_, fault) = c.from_residual.ensures in
-    on_fault (PairPost (plain_members (complement_of bytes)) to c.push.new.self) c.from_residual.result _ fault (kind, ap (λ ms. all_paired ms to) around ∙ wrong (plain_members rest))
+    on_fault (PairPost (plain_members (complement_of bytes)) to c.push.new.self) c.from_residual.result _ fault
+    (kind, ap (λ ms. all_paired ms to) around ∙ wrong (plain_members rest))
 
 pub loop-byte-preserved : goal.loop-byte-preserved
 loop-byte-preserved c = λ bytes to e h.
@@ -22,12 +28,18 @@ loop-byte-preserved c = λ bytes to e h.
     let before = others_below bytes b in
     elim c.if-first-from.branch [
       | then-first-from+in_ok-push w ↦
-          let more = others_below-more bytes b false (is_kept c.args.first.now bytes b c.from.result true c.from.ensures (omega arith) w.if-first-from.true e) in
-          paired_same _ _ to _ _ (ap plain_members more ∙ map-append (λ (n : ℕ). record { byte = n; class = None }) before (b ∷ [])) w.self-is
+          let more =
+          others_below-more bytes b false (is_kept c.args.first.now bytes b c.from.result true c.from.ensures
+          (omega arith) w.if-first-from.true e) in
+          paired_same _ _ to _ _ (ap plain_members more
+          ∙ map-append (λ (n : ℕ). record { byte = n; class = None }) before (b ∷ [])) w.self-is
           (w.in_ok-push.ensures (plain_members before) to (c.loop-byte.invariant bytes to e h))
       | else-first-from w ↦
-          let more = others_below-more bytes b true (is_kept c.args.first.now bytes b c.from.result false c.from.ensures (omega arith) w.if-first-from.false e) in
-          paired_same _ _ to _ _ (ap plain_members (more ∙ append-nil before)) w.self-is (c.loop-byte.invariant bytes to e h)
+          let more =
+          others_below-more bytes b true (is_kept c.args.first.now bytes b c.from.result false c.from.ensures
+          (omega arith) w.if-first-from.false e) in
+          paired_same _ _ to _ _ (ap plain_members (more ∙ append-nil before)) w.self-is
+          (c.loop-byte.invariant bytes to e h)
     ]
 
 pub returns-after-first-from : goal.returns-after-first-from
@@ -37,10 +49,16 @@ returns-after-first-from c = λ bytes to e h.
     let whole = sym (others_below-all bytes (b + 1) (omega arith)) in
     elim c.if-first-from.branch [
       | then-first-from+in_ok-push w ↦
-          let more = others_below-more bytes b false (is_kept c.args.first.now bytes b c.from.result true c.from.ensures (omega arith) w.if-first-from.true e) in
-          paired_same _ _ to _ _ (ap plain_members (whole ∙ more) ∙ map-append (λ (n : ℕ). record { byte = n; class = None }) before (b ∷ [])) w.self-is
+          let more =
+          others_below-more bytes b false (is_kept c.args.first.now bytes b c.from.result true c.from.ensures
+          (omega arith) w.if-first-from.true e) in
+          paired_same _ _ to _ _ (ap plain_members (whole ∙ more)
+          ∙ map-append (λ (n : ℕ). record { byte = n; class = None }) before (b ∷ [])) w.self-is
           (w.in_ok-push.ensures (plain_members before) to (c.loop-byte.invariant bytes to e h))
       | else-first-from w ↦
-          let more = others_below-more bytes b true (is_kept c.args.first.now bytes b c.from.result false c.from.ensures (omega arith) w.if-first-from.false e) in
-          paired_same _ _ to _ _ (ap plain_members (whole ∙ more ∙ append-nil before)) w.self-is (c.loop-byte.invariant bytes to e h)
+          let more =
+          others_below-more bytes b true (is_kept c.args.first.now bytes b c.from.result false c.from.ensures
+          (omega arith) w.if-first-from.false e) in
+          paired_same _ _ to _ _ (ap plain_members (whole ∙ more ∙ append-nil before)) w.self-is
+          (c.loop-byte.invariant bytes to e h)
     ]

@@ -7,7 +7,8 @@ use Rattle.ptlangs.proofs.tr.images.Images.push_string.Given as goal
 
 abbrev pub invariant-loop-member : goal.invariant-loop-member
 invariant-loop-member l =
-    ItemsRead (member_results 0 (segments_of First l.fn.text)) (bytes_left l.bytes) (λ (ms : List Member). (to : List Member) → HasPaired [] to l.fn.self → HasPaired ms to l.self)
+    ItemsRead (member_results 0 (segments_of First l.fn.text)) (bytes_left l.bytes)
+    (λ (ms : List Member). (to : List Member) → HasPaired [] to l.fn.self → HasPaired ms to l.self)
 
 abbrev pub decreases-loop-member : goal.decreases-loop-member
 decreases-loop-member l = most_left l.bytes

@@ -3,4 +3,5 @@ use Rattle.ptlangs.proofs.Common.{◌≡◌, ◌+◌, ◌%◌, take, sum_by, shi
 use Rattle.ptlangs.proofs.tr.shifts.Shifts.image.Given as goal
 
 abbrev pub invariant-loop-stretch : goal.invariant-loop-stretch
-invariant-loop-stretch l = l.image ≡ (l.byte + sum_by (λ s. shift_at s l.byte) (take l.stretch-index l.stretch-items)) % 256
+invariant-loop-stretch l =
+    l.image ≡ (l.byte + sum_by (λ s. shift_at s l.byte) (take l.stretch-index l.stretch-items)) % 256
