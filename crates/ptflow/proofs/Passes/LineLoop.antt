@@ -181,6 +181,10 @@ module _ {S X E : Type 0} {tool : ToolSpec} {state : S → Slots → X} {rest_fr
             );
       }
 
+      -- what was received once these bytes were read too
+      abbrev received : List ℕ → Reader → Received
+      received bytes new = received_with (run.given ++ bytes) new
+
       -- the output that the lines so far decide was pushed
       decided_so : (given : Received) → known_lines end given ≡ run.ls
           → IsPrefix (tool.decided given) (written run.passed)
@@ -189,13 +193,13 @@ module _ {S X E : Type 0} {tool : ToolSpec} {state : S → Slots → X} {rest_fr
       -- and after them at most a line and a block were read
       works_line : {new : Reader} {piece : List ℕ} → ReaderAdvance reader new piece → (line behind : List ℕ)
           → piece ++ new.buffered ≡ line ++ behind → IsLine end line → length behind ≤ 8193
-          → LaggedOutput tool (received_with (run.given ++ piece) new) (written run.passed)
+          → LaggedOutput tool (received piece new) (written run.passed)
       works_line reads line behind is_line whole short =
           let next_line = before_line run.came reads line behind is_line whole short in
           record { before = λ u. next_line.before; begins = decided_so next_line.before.earlier next_line.whole }
 
       works_piece : {new : Reader} {piece : List ℕ} → ReaderAdvance reader new piece → IsLine end piece → IsSound new
-          → LaggedOutput tool (received_with (run.given ++ piece) new) (written run.passed)
+          → LaggedOutput tool (received piece new) (written run.passed)
       works_piece {new} {piece} reads free is_sound = works_line reads piece new.buffered refl free (omega arith)
 
       -- the slots hold at most the maximum length of a line, for each consistent input
@@ -227,7 +231,7 @@ module _ {S X E : Type 0} {tool : ToolSpec} {state : S → Slots → X} {rest_fr
         -- the first part of a line was read
         module _ {new : Reader} {piece : List ℕ} (reads : ReaderAdvance reader new piece) (free : IsLine end piece)
             (is_sound : IsSound new) where
-          short_piece : (input : List ℕ) → IsConsistent (received_with (run.given ++ piece) new) input
+          short_piece : (input : List ℕ) → IsConsistent (received piece new) input
               → max (max_length run.ls) (length piece) ≤ max_line_length end input
           short_piece = piece_longest _ _ _ _ run.came _ _ reads free
 
@@ -237,9 +241,9 @@ module _ {S X E : Type 0} {tool : ToolSpec} {state : S → Slots → X} {rest_fr
           unfolding midway
           run_read bounds cause =
               pass_read (line_filter.tool_text run.first) midway ready sound reads
-              (kept (received_with (run.given ++ piece) new) bounds short_piece) (works_piece reads free is_sound)
+              (kept (received piece new) bounds short_piece) (works_piece reads free is_sound)
               cause bounds.denied
-              (λ empty going. decided_so (received_with (run.given ++ piece) new)
+              (λ empty going. decided_so (received piece new)
               (whole_before _ _ _ _ run.came _ _ reads free empty going))
 
           pub run_broken : {after : Slots} → after ≡ with_line store (width - 1) piece → HasReadCause reader new
@@ -256,7 +260,7 @@ module _ {S X E : Type 0} {tool : ToolSpec} {state : S → Slots → X} {rest_fr
               let denied : after.denied ≡ true = cc in
               let size : length after.lines ≡ length (with_line store (width - 1) piece).lines = cc in
               pass_memory (line_filter.tool_text run.first) midway ready sound reads
-              (stored after (max (max_length run.ls) (length piece)) (received_with (run.given ++ piece) new)
+              (stored after (max (max_length run.ls) (length piece)) (received piece new)
               (omega (arith, bounds.peak, ap (λ bounded. bounded.peak) told))
               (record {
                 least = omega (arith, bounds.adds.least);
@@ -274,8 +278,8 @@ module _ {S X E : Type 0} {tool : ToolSpec} {state : S → Slots → X} {rest_fr
 
         -- a write failed at some lines, which come before the continuation
         halts : {new : Reader} {piece : List ℕ} → ReaderAdvance reader new piece → {after : Slots}
-            → StoreBounds tool before after (received_with (run.given ++ piece) new)
-            → LaggedOutput tool (received_with (run.given ++ piece) new) (written run.passed)
+            → StoreBounds tool before after (received piece new)
+            → LaggedOutput tool (received piece new) (written run.passed)
             → new.failed ≡ reader.failed → after.denied ≡ false → {ls : List (List ℕ)} {is' : Output}
             → Halt now ls is is'
             → ((rest : List ℕ) → (new.eof ≡ true → rest ≡ [])
@@ -297,7 +301,7 @@ module _ {S X E : Type 0} {tool : ToolSpec} {state : S → Slots → X} {rest_fr
             → shown.buffered ≡ block → {is' : Output} → Halt now (complete_lines tool.end block) is is'
             → PassPost tool old shown was is' before store (Err Write)
         run_block_halts {shown} {block} is_sound advance_ok buffered {is'} halted =
-            halts advance_ok.reads (kept (received_with (run.given ++ []) shown)
+            halts advance_ok.reads (kept (received [] shown)
             (bounds_weaker (max (max_length run.ls) 0) run.keeps (omega arith))
             (short_piece advance_ok.reads tt is_sound))
             (works_piece advance_ok.reads tt is_sound) advance_ok.failed run.keeps.denied halted
@@ -357,7 +361,7 @@ module _ {S X E : Type 0} {tool : ToolSpec} {state : S → Slots → X} {rest_fr
             let ends = run.reached.advance_ok.reads.terminator ∙ run.terminator in
             let more = lines_more _ _ _ _ run.came _ _ _ _ next_line ends in
             let bounds = keeps_last run next_line.line next_line.stored in
-            halts run ready sound next_line.advance_ok.reads (kept run (received_with (run.given ++ came) new)
+            halts run ready sound next_line.advance_ok.reads (kept run (received run came new)
             (bounds_weaker (max_length (run.ls ++ next_line.line ∷ [])) bounds
             (omega (arith, max_length-append run.ls (next_line.line ∷ []))))
             (received_longest _ _ _ _ more))
@@ -388,7 +392,7 @@ module _ {S X E : Type 0} {tool : ToolSpec} {state : S → Slots → X} {rest_fr
         run_done empties clean =
             let (cleared, total) = bounds_cleared bounds line_filter.some (filled [] told) empties in
             pass_done (line_filter.tool_text run.first) (midway run) ready sound advance_ok.reads
-            (kept run (received_with (run.given ++ []) new) cleared
+            (kept run (received run [] new) cleared
             (short_piece run ready sound advance_ok.reads tt is_sound))
             (works_piece run advance_ok.reads tt is_sound)
             last done refl advance_ok.failed cleared.denied clean advance_ok.fault
@@ -398,7 +402,7 @@ module _ {S X E : Type 0} {tool : ToolSpec} {state : S → Slots → X} {rest_fr
         unfolding midway
         run_unended fault =
             pass_unended (line_filter.tool_text run.first) (midway run) ready sound advance_ok.reads
-            (kept run (received_with (run.given ++ []) new) bounds
+            (kept run (received run [] new) bounds
             (short_piece run ready sound advance_ok.reads tt is_sound))
             (works_piece run advance_ok.reads tt is_sound)
             last done refl advance_ok.failed bounds.denied fault
