@@ -277,9 +277,12 @@ module _ {job : Uniq} {block : List ℕ} {rest : List ℕ} {count : ℕ} {line p
             append_assoc so_far.passed (current_run (run_of so_far.first count)) (runs_after job (run_of next 1) more),
           )
 
-      -- the deferred output, and then that of the run, are the output of all runs but the next
-      all_entries : (pushed waiting' : List ℕ)
-          → pushed ++ waiting' ≡ span_of block pending ++ run_output job.show count (span_of block line)
+      -- the deferred output, and then that of the run
+      abbrev due : List ℕ
+      due = span_of block pending ++ run_output job.show count (span_of block line)
+
+      -- they are the output of all runs but the next
+      all_entries : (pushed waiting' : List ℕ) → pushed ++ waiting' ≡ due
           → (so_far.pushed ++ pushed) ++ waiting'
           ≡ output_of job (so_far.passed ++ current_run (run_of so_far.first count))
       all_entries pushed waiting' all =
@@ -291,7 +294,7 @@ module _ {job : Uniq} {block : List ℕ} {rest : List ℕ} {count : ℕ} {line p
           )
 
       pub runs_loop_next : {is' : Output} {now : Span}
-          → IsPending (span_of block pending ++ run_output job.show count (span_of block line)) block now is is'
+          → IsPending due block now is is'
           → (from to : ℕ) → from ≡ length block - length rest → to ≡ from + at + 1 → {own' : List ℕ}
           → own' ≡ key job next
           → RunsInvariant job block (drop (at + 1) rest) 1 (record { from = from; to = to }) now own' was is'
@@ -315,16 +318,16 @@ module _ {job : Uniq} {block : List ℕ} {rest : List ℕ} {count : ℕ} {line p
 
       -- a write failed
       pub runs_loop_failed : {is' : Output} → is'.write_failed ≡ true
-          → PushEffect is is' (span_of block pending ++ run_output job.show count (span_of block line))
+          → PushEffect is is' due
           → RunsFailed job (run_of [] 0) (complete_lines job.terminator block) was is'
       runs_loop_failed {is'} fault wrote = record {
         passed = so_far.passed ++ current_run (run_of so_far.first count);
         fault = fault;
         wrote = subst (PushEffect was is')
             (sym
-            (append-nil (so_far.pushed ++ (span_of block pending ++ run_output job.show count (span_of block line))))
-            ∙ all_entries (span_of block pending ++ run_output job.show count (span_of block line)) []
-            (append-nil (span_of block pending ++ run_output job.show count (span_of block line))))
+            (append-nil (so_far.pushed ++ due))
+            ∙ all_entries due []
+            (append-nil due))
             (wrote_then _ _ _ so_far.wrote wrote);
         is_prefix = λ more.
             let behind = complete_lines job.terminator (drop (at + 1) rest) ++ more in
