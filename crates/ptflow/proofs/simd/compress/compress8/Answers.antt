@@ -1,6 +1,5 @@
 -- The row of the mask has the indices of the set flags first, so the shuffle moves those lanes to the front.
-use Rattle.ptflow.proofs.Common.{◌∙◌, [], refl, sym, subst, slice_index_or, arith, w8, swz_l, length-swz_l}
-use Rattle.ptflow.proofs.Common.{SwzOk-from_below, ones-le, IsCompressRow}
+use Rattle.ptflow.proofs.Common.{◌∙◌, [], refl, sym, subst, slice_index_or, arith, w8, swz_l, length-swz_l, SwzOk-from_below, ones-le, IsCompressRow}
 use Rattle.std.specs.Prelude.{count_ones}
 use Rattle.ptflow.proofs.Vectors.Compress.{flags_of, row_lanes, row_of_mask, row_selects, selected_stored}
 use Rattle.ptflow.proofs.simd.compress.compress8.Goals as goal
@@ -9,8 +8,7 @@ pub swizzle : goal.swizzle
 swizzle c =
     let keep = c.from.result in
     let row = slice_index_or c.args.compress_table.now.rows keep [] in
-    let is : IsCompressRow (flags_of 8 keep) row =
-    row_of_mask c.args.compress_table.now.rows keep c.args.compress_table.now.is_table (omega arith) in
+    let is : IsCompressRow (flags_of 8 keep) row = row_of_mask c.args.compress_table.now.rows keep c.args.compress_table.now.is_table (omega arith) in
     SwzOk-from_below w8 16 1 16 0 row refl (omega arith) (row_lanes is)
 
 pub returns-clause-packed : goal.returns-clause-packed
@@ -18,14 +16,11 @@ returns-clause-packed c flags long masked =
     let at = c.args.at in
     let into = c.args.into.now in
     let v = c.args.v in
-    let (size, _) = c.fits-v in
     let row = slice_index_or c.args.compress_table.now.rows c.from.result [] in
-    let is : IsCompressRow flags row =
-    subst (λ m. IsCompressRow flags (slice_index_or c.args.compress_table.now.rows m [])) (sym (cc))
-    (c.args.compress_table.now.is_table flags long) in
+    let is : IsCompressRow flags row = subst (λ m. IsCompressRow flags (slice_index_or c.args.compress_table.now.rows m [])) (sym (cc)) (c.args.compress_table.now.is_table flags long) in
     let lanes = swz_l w8 16 v 0 row in
     cc (
       selected_stored at (count_ones c.args.keep) into lanes (length-swz_l w8 16 v 0 row ∙ is.long)
           (omega (arith, ones-le 8 c.args.keep c.ranges.keep.fits)) (omega (arith, c.requires)),
-      row_selects v (omega (arith, long, size)) is,
+      row_selects v (omega (arith, long, c.fits-v.0)) is,
     )

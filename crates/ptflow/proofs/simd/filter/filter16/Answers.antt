@@ -7,7 +7,5 @@ pub returns-clause-kept : goal.returns-clause-kept
 returns-clause-kept c =
     let keeps : ℕ → Bool = λ b. not (set_has c.args.set b) in
     let bytes = c.args.bytes in
-    let (long, _) = c.fits-bytes in
-    c.compress16.ensures.packed (map keeps bytes) (length-map bytes keeps ∙ long)
-    (mask_bits (set_has c.args.set) bytes long c.test-keep.ensures)
+    c.compress16.ensures.packed (map keeps bytes) (length-map bytes keeps ∙ c.fits-bytes.0) (mask_bits (set_has c.args.set) bytes c.fits-bytes.0 c.test-keep.ensures)
     ∙ ap (◌++◌ (take c.args.count c.args.into.now)) (select_by_test keeps bytes)

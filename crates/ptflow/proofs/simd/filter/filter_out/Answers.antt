@@ -13,6 +13,5 @@ loop-at-preserved c =
 
 pub returns-clause-kept : goal.returns-clause-kept
 returns-clause-kept c =
-    let (kept, _) = filter_keeps_all c.loop-at.invariant c.loop-at-test.false in
-    kept ∙ filter_same _ _ (λ b byte. ap not (c.args.removed.same b byte)) c.args.from.now
-    (bytes_fit c.args.from.now c.type_inv.from)
+    (filter_keeps_all c.loop-at.invariant c.loop-at-test.false).0
+    ∙ filter_same _ _ (λ b byte. ap not (c.args.removed.same b byte)) c.args.from.now (bytes_fit c.args.from.now c.type_inv.from)
