@@ -38,14 +38,10 @@ module _ (end : ℕ) (now : Reader) (given : List ℕ) (ls : List (List ℕ))
 
   -- for every continuation
   pub lines_on : (rest : List ℕ) → (IsDone now → rest ≡ []) → lines end (given ++ rest) ≡ ls ++ lines end rest
-  lines_on rest may = ⊎_elim opened closed received.so_far
-    where
-      opened : (given ≡ unlines end ls) × AreLines end ls → lines end (given ++ rest) ≡ ls ++ lines end rest
-      opened (text, are) = cc (lines_of_unlines end ls rest are)
-
-      closed : (lines end given ≡ ls) × IsDone now → lines end (given ++ rest) ≡ ls ++ lines end rest
-      closed (same, done) = let none = may done in
-          cc (append-nil given, append-nil ls)
+  lines_on rest may = elim received.so_far [
+    | inl (text, are) ↦ cc (lines_of_unlines end ls rest are)
+    | inr (same, done) ↦ let none = may done in cc (append-nil given, append-nil ls)
+  ]
 
   pub received_longest : (input : List ℕ) → IsConsistent (received_with given now) input
       → max_length ls ≤ max_line_length end input
@@ -61,27 +57,23 @@ module _ (end : ℕ) (now : Reader) (given : List ℕ) (ls : List (List ℕ))
   module _ (new : Reader) (piece : List ℕ) (reads : ReaderAdvance now new piece) (free : IsLine end piece) where
     pub piece_longest : (input : List ℕ) → IsConsistent (received_with (given ++ piece) new) input
         → max (max_length ls) (length piece) ≤ max_line_length end input
-    piece_longest input consistent = ⊎_elim opened closed received.so_far
-      where
-        opened : (given ≡ unlines end ls) × AreLines end ls
-            → max (max_length ls) (length piece) ≤ max_line_length end input
-        opened (text, are) =
-            let split : input ≡ unlines end ls ++ (piece ++ (new.buffered ++ consistent.rest)) =
-            cc (
-              consistent.is,
-              append_assoc given piece new.buffered,
-              append_assoc given (piece ++ new.buffered) consistent.rest,
-              text,
-              append_assoc piece new.buffered consistent.rest,
-            ) in
-            rw (← split) at (longest_prefix end ls piece (new.buffered ++ consistent.rest) are free)
-
-        closed : (lines end given ≡ ls) × IsDone now → max (max_length ls) (length piece) ≤ max_line_length end input
-        closed (same, done) =
-            let (no_piece, no_rest, eof) = eof_gives_nothing _ _ _ done reads in
-            let all : input ≡ given =
-            cc (consistent.whole eof, append-nil ((given ++ []) ++ []), append-nil (given ++ []), append-nil given) in
-            omega (arith, ap length no_piece, ap max_length (ap (lines end) all ∙ same))
+    piece_longest input consistent = elim received.so_far [
+      | inl (text, are) ↦
+          let split : input ≡ unlines end ls ++ (piece ++ (new.buffered ++ consistent.rest)) =
+          cc (
+            consistent.is,
+            append_assoc given piece new.buffered,
+            append_assoc given (piece ++ new.buffered) consistent.rest,
+            text,
+            append_assoc piece new.buffered consistent.rest,
+          ) in
+          rw (← split) at (longest_prefix end ls piece (new.buffered ++ consistent.rest) are free)
+      | inr (same, done) ↦
+          let (no_piece, no_rest, eof) = eof_gives_nothing _ _ _ done reads in
+          let all : input ≡ given =
+          cc (consistent.whole eof, append-nil ((given ++ []) ++ []), append-nil (given ++ []), append-nil given) in
+          omega (arith, ap length no_piece, ap max_length (ap (lines end) all ∙ same))
+    ]
 
     -- and the read of its rest failed
     pub whole_before : new.buffered ≡ [] → new.eof ≡ false → known_lines end (received_with (given ++ piece) new) ≡ ls
@@ -117,32 +109,26 @@ module _ (end : ℕ) (now : Reader) (given : List ℕ) (ls : List (List ℕ))
 
     pub lines_more : AreReceivedLines end new (given ++ (next_line.line ++ next_line.terminator))
         (ls ++ next_line.line ∷ [])
-    lines_more = ⊎_elim opened closed received.so_far
-      where
-        opened : (given ≡ unlines end ls) × AreLines end ls
-            → AreReceivedLines end new (given ++ (next_line.line ++ next_line.terminator)) (ls ++ next_line.line ∷ [])
-        opened (text, are) = elim next_line.ends [
-          | inl ends ↦ record {
-            so_far = inl
-                (cc (unlines_push end ls next_line.line), AreLines_push end ls next_line.line are free);
-          }
-          | inr (unended, some, done) ↦ record {
-            so_far = inr (
-              cc (
-                append-nil next_line.line,
-                lines_of_unlines end ls next_line.line are,
-                lines_of_last end next_line.line free some,
-              ),
-              done,
-            );
-          }
-        ]
-
-        closed : (lines end given ≡ ls) × IsDone now
-            → AreReceivedLines end new (given ++ (next_line.line ++ next_line.terminator)) (ls ++ next_line.line ∷ [])
-        closed (_, done) =
-            let (none, _, _) = eof_gives_nothing _ _ _ done next_line.advance_ok.reads in
-            absurd (omega (arith, some_received, ap length none))
+    lines_more = elim received.so_far [
+      | inl (text, are) ↦ elim next_line.ends [
+        | inl ends ↦ record {
+          so_far = inl (cc (unlines_push end ls next_line.line), AreLines_push end ls next_line.line are free);
+        }
+        | inr (unended, some, done) ↦ record {
+          so_far = inr (
+            cc (
+              append-nil next_line.line,
+              lines_of_unlines end ls next_line.line are,
+              lines_of_last end next_line.line free some,
+            ),
+            done,
+          );
+        }
+      ]
+      | inr (_, done) ↦
+          let (none, _, _) = eof_gives_nothing _ _ _ done next_line.advance_ok.reads in
+          absurd (omega (arith, some_received, ap length none))
+    ]
 
 are_append : (end : ℕ) (xs ys : List (List ℕ)) → AreLines end xs → AreLines end ys → AreLines end (xs ++ ys)
 are_append end [] ys a b = b
@@ -189,34 +175,31 @@ module _ {end : ℕ} {now new : Reader} {given : List ℕ} {ls : List (List ℕ)
     (is : piece ++ new.buffered ≡ line ++ behind) (whole : IsLine end line) (short : length behind ≤ 8193) where
   -- all but the terminator of a line that was read, and the bytes after it
   pub before_line : EarlierLines end ls (received_with (given ++ piece) new)
-  before_line = ⊎_elim opened closed received.so_far
-    where
-      opened : (given ≡ unlines end ls) × AreLines end ls → EarlierLines end ls (received_with (given ++ piece) new)
-      opened (text, are) = let n = length line - 8191 in record {
-        before = record {
-          earlier = record { bytes = given ++ take n line; eof = false };
-          last = drop n line ++ behind;
-          split =
-              cc (
-                append_assoc given piece new.buffered,
-                take-append-drop n line,
-                append_assoc (take n line) (drop n line) behind,
-                append_assoc given (take n line) (drop n line ++ behind),
-              );
-          short = omega (arith, length-append (drop n line) behind, length-drop n line);
-          eof = λ never. absurd (false≢true never);
-        };
-        whole = cc (complete_lines_of_unlines end ls (take n line) are (line_take end n line whole));
-      }
-
-      closed : (lines end given ≡ ls) × IsDone now → EarlierLines end ls (received_with (given ++ piece) new)
-      closed (same, done) = let none = eof_gives_nothing _ _ _ done reads in record {
-        before = record {
-          earlier = record { bytes = given; eof = true };
-          last = [];
-          split = cc (append-nil (given ++ []));
-          short = omega arith;
-          eof = λ e. (stays_at_eof _ _ _ done reads).eof;
-        };
-        whole = same;
-      }
+  before_line = elim received.so_far [
+    | inl (text, are) ↦ let n = length line - 8191 in record {
+      before = record {
+        earlier = record { bytes = given ++ take n line; eof = false };
+        last = drop n line ++ behind;
+        split =
+            cc (
+              append_assoc given piece new.buffered,
+              take-append-drop n line,
+              append_assoc (take n line) (drop n line) behind,
+              append_assoc given (take n line) (drop n line ++ behind),
+            );
+        short = omega (arith, length-append (drop n line) behind, length-drop n line);
+        eof = λ never. absurd (false≢true never);
+      };
+      whole = cc (complete_lines_of_unlines end ls (take n line) are (line_take end n line whole));
+    }
+    | inr (same, done) ↦ let none = eof_gives_nothing _ _ _ done reads in record {
+      before = record {
+        earlier = record { bytes = given; eof = true };
+        last = [];
+        split = cc (append-nil (given ++ []));
+        short = omega arith;
+        eof = λ e. (stays_at_eof _ _ _ done reads).eof;
+      };
+      whole = same;
+    }
+  ]

@@ -1,8 +1,8 @@
 -- The slots of a tool that works line by line: at most one line in each of its slots, and nothing in the others. So the
 -- store holds at most `width` times the maximum length of these lines.
 use Rattle.ptflow.proofs.Common.{◌≡◌, ℕ, zero, suc, ◌+◌, ◌-◌, ◌*◌, ◌<◌, ◌≤◌, false, List, [], ◌∷◌, length, take, drop}
-use Rattle.ptflow.proofs.Common.{set, get_or, max, refl, sym, ◌∙◌, ap, subst, arith, ⊎_elim, take-append-drop}
-use Rattle.ptflow.proofs.Common.{common_steps, swap, mul-le-mul_left, drop_more, length-set, drop-set-lt, sum_by-cons}
+use Rattle.ptflow.proofs.Common.{set, get_or, max, refl, sym, ◌∙◌, ap, subst, arith, inl, inr, take-append-drop}
+use Rattle.ptflow.proofs.Common.{common_steps, mul-le-mul_left, drop_more, length-set, drop-set-lt, sum_by-cons}
 use Rattle.ptflow.proofs.Common.{sum_by-append, get_or-le-sum_by, Slots, total_bytes, with_line, AddedSlots, IsSwapped}
 use Rattle.ptflow.proofs.Common.{SlotsCleared}
 use Rattle.std.proofs.lemmas.List.Edits.{swap_is}
@@ -93,24 +93,39 @@ bounds_line {width} {most} {store} new slot bytes bounds within fits is = record
 -- the first and the last slot may have been swapped
 pub swapped_room : {width : ℕ} {before after : Slots} → IsSwapped width before after → 0 < width
     → width ≤ length before.lines → width ≤ length after.lines
-swapped_room {width} {before} {after} either some room = ⊎_elim
-    (λ same. omega (arith, ap (λ s. length s.lines) same)) changed either
-  where
-    changed : after ≡ record before { lines = swap before.lines 0 (width - 1) } → width ≤ length after.lines
-    changed is =
-        let first = set before.lines 0 (get_or before.lines (width - 1) []) in
-        omega (
-          arith,
-          ap (λ s. length s.lines) is,
-          ap length (swap_is before.lines 0 (width - 1) [] (omega arith) (omega arith)),
-          length-set first (width - 1) (get_or before.lines 0 []),
-          length-set before.lines 0 (get_or before.lines (width - 1) []),
-        )
+swapped_room {width} {before} either some room = elim either [
+  | inl same ↦ omega (arith, ap (λ s. length s.lines) same)
+  | inr is ↦
+      let first = set before.lines 0 (get_or before.lines (width - 1) []) in
+      omega (
+        arith,
+        ap (λ s. length s.lines) is,
+        ap length (swap_is before.lines 0 (width - 1) [] (omega arith) (omega arith)),
+        length-set first (width - 1) (get_or before.lines 0 []),
+        length-set before.lines 0 (get_or before.lines (width - 1) []),
+      )
+]
 
 pub bounds_swapped : {width most : ℕ} {before store : Slots} (new : Slots) → 0 < width
     → SlotBounds width most before store → IsSwapped width store new → SlotBounds width most before new
-bounds_swapped {width} {most} {before} {store} new some bounds either = ⊎_elim
-    (λ same. subst (SlotBounds width most before) (sym same) bounds) changed either
+bounds_swapped {width} {most} {before} {store} new some bounds either = elim either [
+  | inl same ↦ subst (SlotBounds width most before) (sym same) bounds
+  | inr is ↦
+      let room : width ≤ length store.lines = omega (arith, bounds.adds.all bounds.denied) in
+      let swapped = swap_is store.lines 0 (width - 1) [] (omega arith) (omega arith) in
+      let same : new.lines ≡ set (set store.lines 0 last) (width - 1) first = cc in
+      record {
+        denied = cc;
+        adds = record {
+          least = omega (arith, ap length same, bounds_both.adds.least);
+          most = omega (arith, ap length same, bounds_both.adds.most);
+          all = λ allowed. cc (bounds_both.adds.all bounds_both.denied);
+        };
+        short = λ i low. rw same (bounds_both.short i low);
+        others = cc (same, bounds_both.others);
+        peak = omega (arith, ap (λ s. s.peak) is, bounds.peak);
+      }
+]
   where
     first : List ℕ
     first = get_or store.lines 0 []
@@ -122,25 +137,7 @@ bounds_swapped {width} {most} {before} {store} new some bounds either = ⊎_elim
     bounds_both =
         bounds_line (with_line (with_line store 0 last) (width - 1) first) (width - 1) first
         (bounds_line (with_line store 0 last) 0 last bounds some (bounds.short (width - 1) (omega arith)) refl)
-        (omega arith)
-        (bounds.short 0 some) refl
-
-    changed : new ≡ record store { lines = swap store.lines 0 (width - 1) } → SlotBounds width most before new
-    changed is =
-        let room : width ≤ length store.lines = omega (arith, bounds.adds.all bounds.denied) in
-        let swapped = swap_is store.lines 0 (width - 1) [] (omega arith) (omega arith) in
-        let same : new.lines ≡ set (set store.lines 0 last) (width - 1) first = cc in
-        record {
-          denied = cc;
-          adds = record {
-            least = omega (arith, ap length same, bounds_both.adds.least);
-            most = omega (arith, ap length same, bounds_both.adds.most);
-            all = λ allowed. cc (bounds_both.adds.all bounds_both.denied);
-          };
-          short = λ i low. rw same (bounds_both.short i low);
-          others = cc (same, bounds_both.others);
-          peak = omega (arith, ap (λ s. s.peak) is, bounds.peak);
-        }
+        (omega arith) (bounds.short 0 some) refl
 
 -- the last slot was empty, and the others were cleared
 pub bounds_cleared : {width most : ℕ} {before store new : Slots} → SlotBounds width most before store → 0 < width
