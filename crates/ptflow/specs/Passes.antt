@@ -57,7 +57,8 @@ PassOutcome old new out store (Err Write) = PassWriteFailed old new out store
 PassOutcome old new out store (Err Memory) = PassMemoryFailed old new out store
 
 -- the call returned `Write` at once, and nothing changed
-pub record PassUnchanged (old new : Reader) (was is : Output) (before store : Slots) (result : Result (Unit {0}) FlowFault) : Type 0 where
+pub record PassUnchanged (old new : Reader) (was is : Output) (before store : Slots)
+    (result : Result (Unit {0}) FlowFault) : Type 0 where
   pub write_fault : result ≡ Err Write
   pub same_reader : new ≡ old
   pub same_output : is ≡ was
@@ -69,7 +70,8 @@ pub record PassUnread (end : ℕ) (old new : Reader) (was is : Output) : Type 0 
   pub same_output : is ≡ was
 
 -- A call on one input: the received part of it, the pushed bytes, and their relation.
-pub record PassPost (tool : ToolSpec) (old new : Reader) (was is : Output) (before store : Slots) (result : Result (Unit {0}) FlowFault) : Type 0 where
+pub record PassPost (tool : ToolSpec) (old new : Reader) (was is : Output) (before store : Slots)
+    (result : Result (Unit {0}) FlowFault) : Type 0 where
   pub given : Received
   pub came : HasReceived old new given
   pub pushed : List ℕ
@@ -80,7 +82,8 @@ pub record PassPost (tool : ToolSpec) (old new : Reader) (was is : Output) (befo
   -- after a failed read, all output that the received part decides was pushed, unless a write failed too
   pub decided_is_written : new.failed ≡ true → is.write_failed ≡ false → IsPrefix (tool.decided given) pushed
   -- after any fault, the output that was decided two blocks earlier was pushed
-  pub bounded_lag : was.write_failed ≡ false → BoundedLag {I = Unit {0}} (λ came. tool.decided (came tt)) (λ u. given) was is pushed
+  pub bounded_lag : was.write_failed ≡ false
+      → BoundedLag {I = Unit {0}} (λ came. tool.decided (came tt)) (λ u. given) was is pushed
   -- if the call succeeds, the pushed bytes are exactly the output
   pub is_exact : result ≡ Ok tt → pushed ≡ tool.text given.bytes
   -- the store never held more bytes than the tool's bound for the input
@@ -99,4 +102,5 @@ pub record PassPost (tool : ToolSpec) (old new : Reader) (was is : Output) (befo
 
 -- A call of an engine that is given no store: it is `PassPost` for every store, which it leaves unchanged.
 abbrev pub StorelessPost : ToolSpec → Reader → Reader → Output → Output → Result (Unit {0}) FlowFault → Type 0
-StorelessPost tool old new was is result = (store : Slots) → PassPre old store → PassPost tool old new was is store store result
+StorelessPost tool old new was is result = (store : Slots) → PassPre old store
+    → PassPost tool old new was is store store result

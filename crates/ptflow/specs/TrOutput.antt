@@ -11,7 +11,8 @@ is_not_repeat squeezed pair = not ((pair.0 == pair.1) && squeezed pair.1)
 
 -- the bytes that are kept if `last` is the byte before them
 abbrev pub squeeze_after : (ℕ → Bool) → ℕ → List ℕ → List ℕ
-squeeze_after squeezed last bytes = map (λ (pair : ℕ × ℕ). pair.1) (filter (is_not_repeat squeezed) (zip (last ∷ bytes) bytes))
+squeeze_after squeezed last bytes =
+    map (λ (pair : ℕ × ℕ). pair.1) (filter (is_not_repeat squeezed) (zip (last ∷ bytes) bytes))
 
 -- the bytes that are kept
 abbrev pub squeeze : (ℕ → Bool) → List ℕ → List ℕ

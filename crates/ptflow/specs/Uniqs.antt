@@ -1,5 +1,6 @@
 -- The output of `uniq` (POSIX.1-2017, XCU, `uniq`).
-use Rattle.std.specs.Prelude.{ℕ, zero, suc, ◌+◌, ◌*◌, ◌==◌, ◌&&◌, List, [], ◌∷◌, ◌++◌, Bool, not, if◌then◌else◌, drop, slice_get, bytes_eq, decimal, nat_lt}
+use Rattle.std.specs.Prelude.{ℕ, zero, suc, ◌+◌, ◌*◌, ◌==◌, ◌&&◌, List, [], ◌∷◌, ◌++◌, Bool, not, if◌then◌else◌, drop}
+use Rattle.std.specs.Prelude.{slice_get, bytes_eq, decimal, nat_lt}
 use Rattle.std.specs.List.{flat_map}
 use Rattle.std.specs.Option.{option_map_or}
 use Rattle.ptlines.specs.Text.{unlines, lines, max_line_length, is_blank}
@@ -77,4 +78,10 @@ uniq_decided job given = output_of job (init (runs job (known_lines job.terminat
 -- The slots hold the first line of a run and the line after it.
 abbrev pub uniq_tool : Uniq → ToolSpec
 uniq_tool job =
-    record { text = uniq job; decided = uniq_decided job; size = λ bytes. 2 * max_line_length job.terminator bytes; slots = 2; end = job.terminator }
+    record {
+      text = uniq job;
+      decided = uniq_decided job;
+      size = λ bytes. 2 * max_line_length job.terminator bytes;
+      slots = 2;
+      end = job.terminator;
+    }

@@ -103,7 +103,8 @@ first_decides Greater o k is other = sym (ap (λ q. ordering_then q k) is)
 
 -- Two words of `n` bytes, read at the same index of two slices.
 module _ {n : ℕ} {read : List ℕ → ℕ} (is_number : (xs : List ℕ) → length xs ≡ n → read xs ≡ number 0 xs)
-    (at : ℕ) (a b : List ℕ) {x y : ℕ} (fits : at + n ≤ min (length a) (length b)) (fa : (k : ℕ) → Fits w8 (get_or a k 0))
+    (at : ℕ) (a b : List ℕ) {x y : ℕ} (fits : at + n ≤ min (length a) (length b))
+    (fa : (k : ℕ) → Fits w8 (get_or a k 0))
     (fb : (k : ℕ) → Fits w8 (get_or b k 0)) (same : take at a ≡ take at b)
     (first : x ≡ read (take n (drop at a))) (second : y ≡ read (take n (drop at b))) where
   abbrev xs : List ℕ

@@ -18,21 +18,21 @@ buffer_lag_bytes : (was mid is : Option (List ℕ)) (buffered waits bytes : List
     → (written_out : List ℕ) × (is ≡ append_known was written_out)
     × (length buffered + length bytes ≤ length written_out + max 8192 (length buffered))
 unfolding known_length
-buffer_lag_bytes None mid is buffered waits bytes p q all few = (
+buffer_lag_bytes None mid is buffered waits bytes first second all few = (
   buffered ++ bytes,
-  q.is ∙ ap (λ t. append_known t q.front) p.is,
+  second.is ∙ ap (λ t. append_known t second.front) first.is,
   omega (arith, length-append buffered bytes),
 )
-buffer_lag_bytes (Some t) mid is buffered waits bytes p q all few = (
-  p.front ++ q.front,
-  q.is ∙ ap (λ t. append_known t q.front) p.is ∙ append_known-append (Some t) p.front q.front,
+buffer_lag_bytes (Some t) mid is buffered waits bytes first second all few = (
+  first.front ++ second.front,
+  second.is ∙ ap (λ t. append_known t second.front) first.is ∙ append_known-append (Some t) first.front second.front,
   omega (
     arith,
     few,
-    ap known_length (sym (ap (λ m. append_known m waits) p.is) ∙ all),
-    length-append p.front q.front,
-    length-append t p.front,
-    length-append (t ++ p.front) waits,
+    ap known_length (sym (ap (λ m. append_known m waits) first.is) ∙ all),
+    length-append first.front second.front,
+    length-append t first.front,
+    length-append (t ++ first.front) waits,
     length-append t buffered,
     length-append (t ++ buffered) bytes,
   ),

@@ -15,14 +15,14 @@ pub known_prefix_by : (known : Option (List ℕ)) (bytes : List ℕ) → IsKnown
 known_prefix_by known bytes = record { front = bytes; is = refl }
 
 pub known_prefix_trans : {a b c : Option (List ℕ)} → IsKnownPrefix a b → IsKnownPrefix b c → IsKnownPrefix a c
-known_prefix_trans {a} p q = record {
-  front = p.front ++ q.front;
-  is = q.is ∙ ap (λ t. append_known t q.front) p.is ∙ append_known-append a p.front q.front;
+known_prefix_trans {a} first second = record {
+  front = first.front ++ second.front;
+  is = second.is ∙ ap (λ t. append_known t second.front) first.is ∙ append_known-append a first.front second.front;
 }
 
 known_prefix_append : {a b : Option (List ℕ)} (bytes : List ℕ) → IsKnownPrefix a b
     → IsKnownPrefix a (append_known b bytes)
-known_prefix_append {a} {b} bytes p = known_prefix_trans p (known_prefix_by b bytes)
+known_prefix_append {a} {b} bytes first = known_prefix_trans first (known_prefix_by b bytes)
 
 -- a push of nothing
 pub push_nothing : (o : Output) → PushEffect o o []
@@ -38,14 +38,14 @@ push_nothing o = record {
 -- after a failed write nothing more is written
 pub push_past_failure : (a b : Output) (xs ys : List ℕ) → b.write_failed ≡ true → PushEffect a b xs
     → PushEffect a b (xs ++ ys)
-push_past_failure a b xs ys fault w = record {
-  kept = w.kept;
+push_past_failure a b xs ys fault wrote = record {
+  kept = wrote.kept;
   beginning = subst (λ t. IsKnownPrefix (output_bytes b) t) (append_known-append (output_bytes a) xs ys)
-      (known_prefix_append ys w.beginning);
+      (known_prefix_append ys wrote.beginning);
   whole = λ clean. absurd (false≢true (sym clean ∙ fault));
-  stays = w.stays;
-  buffered = w.buffered;
-  flushes = w.flushes;
+  stays = wrote.stays;
+  buffered = wrote.buffered;
+  flushes = wrote.flushes;
 }
 
 pub push_after_failure : (o : Output) (bytes : List ℕ) → o.write_failed ≡ true → PushEffect o o bytes
@@ -54,16 +54,16 @@ push_after_failure o bytes fault = push_past_failure o o [] bytes fault (push_no
 -- two pushes in sequence
 pub push_trans : (a b c : Output) (xs ys : List ℕ) → b.write_failed ≡ false → PushEffect a b xs → PushEffect b c ys
     → PushEffect a c (xs ++ ys)
-push_trans a b c xs ys clean p q =
+push_trans a b c xs ys clean first second =
     let joined : append_known (output_bytes b) ys ≡ append_known (output_bytes a) (xs ++ ys) =
-    ap (λ t. append_known t ys) (p.whole clean) ∙ append_known-append (output_bytes a) xs ys in
+    ap (λ t. append_known t ys) (first.whole clean) ∙ append_known-append (output_bytes a) xs ys in
     record {
-      kept = known_prefix_trans p.kept q.kept;
-      beginning = subst (λ t. IsKnownPrefix (output_bytes c) t) joined q.beginning;
-      whole = λ still. q.whole still ∙ joined;
-      stays = λ fault. absurd (false≢true (sym clean ∙ ap (λ o. o.write_failed) (p.stays fault) ∙ fault));
-      buffered = omega (arith, p.buffered, q.buffered);
-      flushes = q.flushes ∙ p.flushes;
+      kept = known_prefix_trans first.kept second.kept;
+      beginning = subst (λ t. IsKnownPrefix (output_bytes c) t) joined second.beginning;
+      whole = λ still. second.whole still ∙ joined;
+      stays = λ fault. absurd (false≢true (sym clean ∙ ap (λ o. o.write_failed) (first.stays fault) ∙ fault));
+      buffered = omega (arith, first.buffered, second.buffered);
+      flushes = second.flushes ∙ first.flushes;
     }
 
 -- the bytes fit into the block
@@ -113,21 +113,22 @@ push_direct old new bytes clean empty is =
 -- a write failed while the block, and then some of the bytes, were written
 pub push_broken : (old new : Output) (written_out bytes more : List ℕ) → old.write_failed ≡ false
     → old.buffered ++ bytes ≡ written_out ++ more → OutputErr old new written_out → PushEffect old new bytes
-push_broken old new written_out bytes more clean is b =
-    let text_new : output_bytes new ≡ append_known old.accepted b.front =
-    ap (λ s. append_known new.accepted s) b.buffered ∙ append_known-nil new.accepted ∙ b.accepted in
-    let all : append_known (output_bytes old) bytes ≡ append_known (output_bytes new) (b.rest ++ more) =
+push_broken old new written_out bytes more clean is broken =
+    let text_new : output_bytes new ≡ append_known old.accepted broken.front =
+    ap (λ s. append_known new.accepted s) broken.buffered ∙ append_known-nil new.accepted ∙ broken.accepted in
+    let all : append_known (output_bytes old) bytes ≡ append_known (output_bytes new) (broken.rest ++ more) =
     append_known-append old.accepted old.buffered bytes
-    ∙ ap (λ s. append_known old.accepted s) (is ∙ ap (λ s. s ++ more) b.split ∙ append_assoc b.front b.rest more)
-    ∙ sym (append_known-append old.accepted b.front (b.rest ++ more))
-    ∙ ap (λ t. append_known t (b.rest ++ more)) (sym text_new) in
+    ∙ ap (λ s. append_known old.accepted s)
+    (is ∙ ap (λ s. s ++ more) broken.split ∙ append_assoc broken.front broken.rest more)
+    ∙ sym (append_known-append old.accepted broken.front (broken.rest ++ more))
+    ∙ ap (λ t. append_known t (broken.rest ++ more)) (sym text_new) in
     record {
-      kept = record { front = b.front; is = b.accepted };
-      beginning = record { front = b.rest ++ more; is = all };
-      whole = λ still. absurd (false≢true (sym still ∙ b.write_failed));
+      kept = record { front = broken.front; is = broken.accepted };
+      beginning = record { front = broken.rest ++ more; is = all };
+      whole = λ still. absurd (false≢true (sym still ∙ broken.write_failed));
       stays = λ fault. absurd (false≢true (sym clean ∙ fault));
-      buffered = omega (arith, ap length b.buffered);
-      flushes = b.flushes;
+      buffered = omega (arith, ap length broken.buffered);
+      flushes = broken.flushes;
     }
 
 -- the result of a direct write with an empty block
@@ -157,5 +158,5 @@ push_flush old new (Err e) clean empty ok err = push_broken old new [] [] [] cle
 -- a push after others, with its result
 pub push_post_trans : {E : Type 0} (a b c : Output) (xs ys : List ℕ) (r : Result (Unit {0}) E) → b.write_failed ≡ false
     → PushEffect a b xs → PushPost b c ys r → PushPost a c (xs ++ ys) r
-push_post_trans a b c xs ys r clean p q =
-    record { wrote = push_trans a b c xs ys clean p q.wrote; clean = q.clean; fault = q.fault }
+push_post_trans a b c xs ys r clean first second =
+    record { wrote = push_trans a b c xs ys clean first second.wrote; clean = second.clean; fault = second.fault }

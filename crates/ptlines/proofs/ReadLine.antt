@@ -14,63 +14,64 @@ use Rattle.ptlines.proofs.Consume.{length_range, rest_of_range}
 
 pub advance_trans : (a b c : Reader) (xs ys : List ℕ) → ReaderAdvance a b xs → ReaderAdvance b c ys
     → ReaderAdvance a c (xs ++ ys)
-advance_trans a b c xs ys p q = record {
-  moved = p.moved ∙ ap (λ t. prepend_known xs t) q.moved
+advance_trans a b c xs ys first second = record {
+  moved = first.moved ∙ ap (λ t. prepend_known xs t) second.moved
       ∙ prepend_known-append xs ys (remaining_bytes c);
-  terminator = q.terminator ∙ p.terminator;
-  count = omega (arith, p.count, q.count, length-append xs ys);
-  refused = q.refused ∙ p.refused;
-  still = λ eof. let (pulled, still_eof) = p.still eof in let (pulled_more, at_eof) = q.still still_eof in
+  terminator = second.terminator ∙ first.terminator;
+  count = omega (arith, first.count, second.count, length-append xs ys);
+  refused = second.refused ∙ first.refused;
+  still = λ eof. let (pulled, still_eof) = first.still eof in let (pulled_more, at_eof) = second.still still_eof in
       (pulled_more ∙ pulled, at_eof);
-  end = λ h. q.end (p.end h);
+  end = λ h. second.end (first.end h);
 }
 
 pub advance_ok_trans : (a b c : Reader) (xs ys : List ℕ) → AdvanceOk a b xs → AdvanceOk b c ys
     → AdvanceOk a c (xs ++ ys)
-advance_ok_trans a b c xs ys p q = record {
-  reads = advance_trans a b c xs ys p.reads q.reads;
-  fault = q.fault;
-  failed = q.failed ∙ p.failed;
-  short = λ h. q.short (p.short h);
+advance_ok_trans a b c xs ys first second = record {
+  reads = advance_trans a b c xs ys first.reads second.reads;
+  fault = second.fault;
+  failed = second.failed ∙ first.failed;
+  short = λ h. second.short (first.short h);
 }
 
 -- a piece that was moved after a refill that consumed nothing
 module _ (old now new : Reader) (before after : Slots) (slot : ℕ) (first : AdvanceOk old now []) where
   pub partial_after_refill : PiecePartial now new before after slot → PiecePartial old new before after slot
-  partial_after_refill p = record {
-    piece = p.piece;
-    advance_ok = advance_ok_trans _ _ _ _ _ first p.advance_ok;
-    whole = subst (λ end. IsLine end p.piece) first.reads.terminator p.whole;
-    some = p.some;
-    empty = p.empty;
-    appended = p.appended;
+  partial_after_refill partial = record {
+    piece = partial.piece;
+    advance_ok = advance_ok_trans _ _ _ _ _ first partial.advance_ok;
+    whole = subst (λ end. IsLine end partial.piece) first.reads.terminator partial.whole;
+    some = partial.some;
+    empty = partial.empty;
+    appended = partial.appended;
   }
 
   pub line_after_refill : PieceLine now new before after slot → PieceLine old new before after slot
-  line_after_refill e = record {
-    piece = e.piece;
-    advance_ok = subst (λ end. AdvanceOk old new (e.piece ++ end ∷ [])) first.reads.terminator
-        (advance_ok_trans _ _ _ _ _ first e.advance_ok);
-    whole = subst (λ end. IsLine end e.piece) first.reads.terminator e.whole;
-    appended = e.appended;
+  line_after_refill last = record {
+    piece = last.piece;
+    advance_ok = subst (λ end. AdvanceOk old new (last.piece ++ end ∷ [])) first.reads.terminator
+        (advance_ok_trans _ _ _ _ _ first last.advance_ok);
+    whole = subst (λ end. IsLine end last.piece) first.reads.terminator last.whole;
+    appended = last.appended;
   }
 
 -- setting a slot twice, the second time to a longer line, is the same as setting it once to that line
-pub with_line_twice : (s : Slots) (slot : ℕ) (xs ys : List ℕ) → slot < length s.lines → length xs ≤ length ys
-    → with_line (with_line s slot xs) slot ys ≡ with_line s slot ys
-with_line_twice s slot xs ys within longer =
-    let same = set-set s.lines slot xs ys in
-    let appended : total_bytes (set s.lines slot xs) ≤ total_bytes (set s.lines slot ys) =
-    omega (arith, total_bytes_set s.lines slot xs within, total_bytes_set s.lines slot ys within) in
-    let peak : max (max s.peak (total_bytes (set s.lines slot xs))) (total_bytes (set (set s.lines slot xs) slot ys))
-    ≡ max s.peak (total_bytes (set s.lines slot ys)) =
-    ap (λ l. max (max s.peak (total_bytes (set s.lines slot xs))) (total_bytes l)) same
+pub with_line_twice : (store : Slots) (slot : ℕ) (xs ys : List ℕ) → slot < length store.lines → length xs ≤ length ys
+    → with_line (with_line store slot xs) slot ys ≡ with_line store slot ys
+with_line_twice store slot xs ys within longer =
+    let same = set-set store.lines slot xs ys in
+    let appended : total_bytes (set store.lines slot xs) ≤ total_bytes (set store.lines slot ys) =
+    omega (arith, total_bytes_set store.lines slot xs within, total_bytes_set store.lines slot ys within) in
+    let peak : max (max store.peak (total_bytes (set store.lines slot xs)))
+    (total_bytes (set (set store.lines slot xs) slot ys))
+    ≡ max store.peak (total_bytes (set store.lines slot ys)) =
+    ap (λ l. max (max store.peak (total_bytes (set store.lines slot xs))) (total_bytes l)) same
     ∙ (omega arith) in
-    λ i. record { lines = same i; peak = peak i; denied = s.denied }
+    λ i. record { lines = same i; peak = peak i; denied = store.denied }
 
-pub line_of_with_line : (s : Slots) (slot : ℕ) (xs : List ℕ) → slot < length s.lines
-    → line (with_line s slot xs) slot ≡ xs
-line_of_with_line s slot xs within = get_or-set_same s.lines slot xs [] within
+pub line_of_with_line : (store : Slots) (slot : ℕ) (xs : List ℕ) → slot < length store.lines
+    → line (with_line store slot xs) slot ≡ xs
+line_of_with_line store slot xs within = get_or-set_same store.lines slot xs [] within
 
 pub appended_twice : (s t u : Slots) (slot : ℕ) (xs ys : List ℕ) → slot < length s.lines → t ≡ with_line s slot xs
     → IsAppended t u slot ys → u ≡ with_line s slot (xs ++ ys)
@@ -89,12 +90,12 @@ pub record LineSoFar (old now : Reader) (before so_far : Slots) (slot : ℕ) : T
 pub line_so_far_partial : (old now new : Reader) (before so_far after : Slots) (slot : ℕ) → slot < length before.lines
     → LineSoFar old now before so_far slot → PiecePartial now new so_far after slot
     → LineSoFar old new before after slot
-line_so_far_partial old now new before so_far after slot within f p = record {
-  piece = f.piece ++ p.piece;
-  advance_ok = advance_ok_trans _ _ _ _ _ f.advance_ok p.advance_ok;
-  whole = IsLine-append old.terminator f.piece p.piece f.whole
-      (subst (λ end. IsLine end p.piece) f.advance_ok.reads.terminator p.whole);
-  stored = appended_twice before so_far after slot f.piece p.piece within f.stored p.appended;
+line_so_far_partial old now new before so_far after slot within begun partial = record {
+  piece = begun.piece ++ partial.piece;
+  advance_ok = advance_ok_trans _ _ _ _ _ begun.advance_ok partial.advance_ok;
+  whole = IsLine-append old.terminator begun.piece partial.piece begun.whole
+      (subst (λ end. IsLine end partial.piece) begun.advance_ok.reads.terminator partial.whole);
+  stored = appended_twice before so_far after slot begun.piece partial.piece within begun.stored partial.appended;
 }
 
 budget_decreases : (old new : Reader) (bytes : List ℕ) → AdvanceOk old new bytes → 0 < length bytes
@@ -106,26 +107,27 @@ budget_decreases old new bytes advance_ok some short =
 pub fill_line : (old now new : Reader) (before so_far after : Slots) (slot : ℕ) → slot < length before.lines
     → old.pulled < 2 ^ 63 → LineSoFar old now before so_far slot → PieceLine now new so_far after slot
     → FillLine old new before after slot
-fill_line old now new before so_far after slot within short f e = record {
+fill_line old now new before so_far after slot within short begun last = record {
   less = budget_decreases _ _ _ all
-      (omega (arith, length-append (f.piece ++ e.piece) (old.terminator ∷ []))) short;
-  line = f.piece ++ e.piece;
+      (omega (arith, length-append (begun.piece ++ last.piece) (old.terminator ∷ []))) short;
+  line = begun.piece ++ last.piece;
   terminator = old.terminator ∷ [];
   advance_ok = all;
-  whole = IsLine-append old.terminator f.piece e.piece f.whole (subst (λ end. IsLine end e.piece) same e.whole);
+  whole = IsLine-append old.terminator begun.piece last.piece begun.whole
+      (subst (λ end. IsLine end last.piece) same last.whole);
   ends = inl refl;
-  stored = appended_twice before so_far after slot f.piece e.piece within f.stored e.appended;
+  stored = appended_twice before so_far after slot begun.piece last.piece within begun.stored last.appended;
 }
   where
     same : now.terminator ≡ old.terminator
-    same = f.advance_ok.reads.terminator
+    same = begun.advance_ok.reads.terminator
 
-    all : AdvanceOk old new ((f.piece ++ e.piece) ++ old.terminator ∷ [])
+    all : AdvanceOk old new ((begun.piece ++ last.piece) ++ old.terminator ∷ [])
     all =
         subst (λ b. AdvanceOk old new b)
-        (ap (λ end. f.piece ++ (e.piece ++ end ∷ [])) same
-        ∙ sym (append_assoc f.piece e.piece (old.terminator ∷ [])))
-        (advance_ok_trans _ _ _ _ _ f.advance_ok e.advance_ok)
+        (ap (λ end. begun.piece ++ (last.piece ++ end ∷ [])) same
+        ∙ sym (append_assoc begun.piece last.piece (old.terminator ∷ [])))
+        (advance_ok_trans _ _ _ _ _ begun.advance_ok last.advance_ok)
 
 not_empty : (n : ℕ) → 0 < n → (n == 0) ≡ false
 not_empty n some = grind (arith, nat_tests)
@@ -134,14 +136,14 @@ pub fill_eof : (old now new : Reader) (before so_far after : Slots) (slot : ℕ)
     → slot < length before.lines → old.pulled < 2 ^ 63 → LineSoFar old now before so_far slot → AdvanceOk now new []
     → IsDone new → after ≡ so_far → empty ≡ (length (line after slot) == 0)
     → FillPost old new before after slot (Ok (not empty))
-fill_eof old now new before so_far after slot empty within short f advance_ok done same is =
-    let whole : AdvanceOk old new f.piece =
-    subst (λ b. AdvanceOk old new b) (append-nil f.piece)
-    (advance_ok_trans _ _ _ _ _ f.advance_ok advance_ok) in
-    let buffered : line after slot ≡ f.piece = ap (λ s. line s slot) (same ∙ f.stored)
-    ∙ line_of_with_line before slot f.piece within in
-    let test : empty ≡ (length f.piece == 0) = is ∙ ap (λ l. length l == 0) buffered in
-    by_piece f.piece whole f.whole (same ∙ f.stored) test
+fill_eof old now new before so_far after slot empty within short begun advance_ok done same is =
+    let whole : AdvanceOk old new begun.piece =
+    subst (λ b. AdvanceOk old new b) (append-nil begun.piece)
+    (advance_ok_trans _ _ _ _ _ begun.advance_ok advance_ok) in
+    let buffered : line after slot ≡ begun.piece = ap (λ s. line s slot) (same ∙ begun.stored)
+    ∙ line_of_with_line before slot begun.piece within in
+    let test : empty ≡ (length begun.piece == 0) = is ∙ ap (λ l. length l == 0) buffered in
+    by_piece begun.piece whole begun.whole (same ∙ begun.stored) test
   where
     by_piece : (piece : List ℕ) → AdvanceOk old new piece → IsLine old.terminator piece
         → after ≡ with_line before slot piece → empty ≡ (length piece == 0)

@@ -22,13 +22,13 @@ has_received old new bytes reads = record {
 -- The reader `set` differs from `old` only in its terminator. What holds from `set` on holds from `old` on.
 module _ (old set : Reader) (end : ℕ) (is : set ≡ record old { terminator = end }) where
   pub has_received_set : (new : Reader) (given : Received) → HasReceived set new given → HasReceived old new given
-  has_received_set new given came = let c = subst (λ r. HasReceived r new given) is came in record {
-    moved = c.moved;
-    count = c.count;
-    eof = c.eof;
-    refused = c.refused;
-    still = c.still;
-    end = c.end;
+  has_received_set new given came = let all = subst (λ r. HasReceived r new given) is came in record {
+    moved = all.moved;
+    count = all.count;
+    eof = all.eof;
+    refused = all.refused;
+    still = all.still;
+    end = all.end;
   }
 
   pub has_received_of_set : (new : Reader) (bytes : List ℕ) → ReaderAdvance set new bytes
@@ -40,6 +40,12 @@ module _ (old set : Reader) (end : ℕ) (is : set ≡ record old { terminator = 
   cause_set new cause = subst (λ r. HasReadCause r new) is cause
 
   pub sound_set : IsSound old → IsSound set
-  sound_set s =
+  sound_set sound =
       subst IsSound (sym is)
-      (record { buffered = s.buffered; count = s.count; end = s.end; long = s.long; unfailed = s.unfailed })
+      (record {
+        buffered = sound.buffered;
+        count = sound.count;
+        end = sound.end;
+        long = sound.long;
+        unfailed = sound.unfailed;
+      })

@@ -6,6 +6,7 @@ use Rattle.ptlines.proofs.Common.{true, false, None, Some, Ok, Err, inl, inr, sl
 use Rattle.ptlines.proofs.Common.{LineFault, Read, Reader, reader_of, remaining_bytes, ReaderAdvance, RefillPost}
 use Rattle.ptlines.proofs.Common.{IsSound}
 use Rattle.std.proofs.lemmas.Slice.{between_from_start}
+use Rattle.ptlines.specs.Readers.{RefillPre}
 use Rattle.ptlines.proofs.KnownBytes.{prepend_known-nil}
 
 -- a reader with an empty block has only the bytes left in its source
@@ -55,8 +56,7 @@ at_end_if_eof was is into (suc n) gives going eof = absurd (false≢true (sym (g
 
 module _ {old : Reader} {was : SourceState} (is : SourceState) (block : List ℕ) {buffered : List ℕ} {p : ℕ} (n : ℕ)
     {q : Bool} (q' : Bool) {fault : Option LineFault} {end : ℕ}
-    (view : reader_of was buffered p fault q end ≡ old) (empty : old.buffered ≡ []) (kept : q' ≡ q)
-    (clean : old.fault ≡ None) (going : old.eof ≡ false) where
+    (view : reader_of was buffered p fault q end ≡ old) (pre : RefillPre old) (kept : q' ≡ q) where
   same_terminator : end ≡ old.terminator
   same_terminator = ap (λ r. r.terminator) view
 
@@ -71,9 +71,9 @@ module _ {old : Reader} {was : SourceState} (is : SourceState) (block : List ℕ
       → ReaderAdvance old (reader_of is (slice_range block 0 n) (p + n) new_fault q' end) []
   filled new_fault gives small =
       advance_by_pull old (reader_of is (slice_range block 0 n) (p + n) new_fault q' end) was is (take 8192 block)
-      n gives (ap (λ r. r.left) view) empty small
-      (front small) refl (ap (λ r. r.pulled + n) view) same_refused same_terminator going
-      (at_end_if_eof was is (take 8192 block) n gives (ap (λ r. r.eof) view ∙ going))
+      n gives (ap (λ r. r.left) view) pre.empty small
+      (front small) refl (ap (λ r. r.pulled + n) view) same_refused same_terminator pre.going
+      (at_end_if_eof was is (take 8192 block) n gives (ap (λ r. r.eof) view ∙ pre.going))
 
   -- a reader whose block was just filled is sound, whether or not it reports a fault
   pub filled_sound : (new_fault : Option LineFault) → PullOk was is (take 8192 block) n → n ≤ 8192 → 0 < n
@@ -82,7 +82,7 @@ module _ {old : Reader} {was : SourceState} (is : SourceState) (block : List ℕ
   filled_sound new_fault gives small some short unfailed = record {
     buffered = omega (arith, ap length (front small), length-take-le n (take 8192 block) gives.fits, small);
     count = omega (arith, ap length (front small), length-take-le n (take 8192 block) gives.fits);
-    end = at_end_if_eof was is (take 8192 block) n gives (ap (λ r. r.eof) view ∙ going);
+    end = at_end_if_eof was is (take 8192 block) n gives (ap (λ r. r.eof) view ∙ pre.going);
     long = short;
     unfailed = unfailed;
   }
@@ -96,7 +96,7 @@ module _ {old : Reader} {was : SourceState} (is : SourceState) (block : List ℕ
     record {
       reads = filled fault gives small;
       fault = ap (λ r. r.fault) view
-          ∙ clean;
+          ∙ pre.clean;
       failed = same_failed gives;
       short = λ _. short;
     },
@@ -115,10 +115,10 @@ module _ {old : Reader} {was : SourceState} (is : SourceState) (block : List ℕ
       let nothing : was.left ≡ is.left = gives.moved
       ∙ ap (λ k. prepend_known (take k (take 8192 block)) is.left) none ∙ prepend_known-nil is.left in (
         record {
-          reads = advance_without_bytes old (reader_of is (slice_range block 0 0) p fault q' end) empty still
+          reads = advance_without_bytes old (reader_of is (slice_range block 0 0) p fault q' end) pre.empty still
               (sym nothing ∙ ap (λ r. r.left) view) (ap (λ r. r.pulled) view)
-              same_refused same_terminator going (λ _. gives.at_end none);
-          fault = ap (λ r. r.fault) view ∙ clean;
+              same_refused same_terminator pre.going (λ _. gives.at_end none);
+          fault = ap (λ r. r.fault) view ∙ pre.clean;
           failed = gives.failed ∙ ap (λ r. r.failed) view;
           short = λ h. omega (arith, ap (λ r. r.pulled) view);
         },
@@ -130,11 +130,11 @@ module _ {old : Reader} {was : SourceState} (is : SourceState) (block : List ℕ
   refill_failed into' is_failed =
       let still : slice_range into' 0 0 ≡ [] = between_from_start into' 0 in (
         record {
-          reads = advance_without_bytes old (reader_of is (slice_range into' 0 0) p (Some Read) q' end) empty still
+          reads = advance_without_bytes old (reader_of is (slice_range into' 0 0) p (Some Read) q' end) pre.empty still
               (ap (λ s. s.left) is_failed ∙ ap (λ r. r.left) view)
-              (ap (λ r. r.pulled) view) same_refused same_terminator going
+              (ap (λ r. r.pulled) view) same_refused same_terminator pre.going
               (λ eof. absurd
-              (false≢true (sym (ap (λ s. s.eof) is_failed ∙ ap (λ r. r.eof) view ∙ going)
+              (false≢true (sym (ap (λ s. s.eof) is_failed ∙ ap (λ r. r.eof) view ∙ pre.going)
               ∙ eof)));
           whole = tt;
           is = refl;
@@ -143,7 +143,7 @@ module _ {old : Reader} {was : SourceState} (is : SourceState) (block : List ℕ
           ap (λ s. s.failed) is_failed,
           still,
           ap (λ s. s.eof) is_failed
-              ∙ ap (λ r. r.eof) view ∙ going,
+              ∙ ap (λ r. r.eof) view ∙ pre.going,
         ),
         refl,
       )

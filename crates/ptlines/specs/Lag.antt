@@ -14,7 +14,8 @@ pub record LaggedInput (came : Received) : Type 0 where
   pub eof : earlier.eof ≡ true → came.eof ≡ true
 
 -- At least the output that was decided by such prefixes was pushed.
-pub record ProcessLag {I : Type 0} (decided : (I → Received) → List ℕ) (came : I → Received) (pushed : List ℕ) : Type 0 where
+pub record ProcessLag {I : Type 0} (decided : (I → Received) → List ℕ) (came : I → Received)
+    (pushed : List ℕ) : Type 0 where
   pub before : (i : I) → LaggedInput (came i)
   pub begins : IsPrefix (decided (λ i. (before i).earlier)) pushed
 
@@ -26,6 +27,7 @@ pub record BufferLag (was is : Output) (bytes : List ℕ) : Type 0 where
   pub most : length was.buffered + length bytes ≤ length written_out + max 8192 (length was.buffered)
 
 -- The output decided by such prefixes was pushed, and written to the sink but for at most one block.
-pub record BoundedLag {I : Type 0} (decided : (I → Received) → List ℕ) (came : I → Received) (was is : Output) (pushed : List ℕ) : Type 0 where
+pub record BoundedLag {I : Type 0} (decided : (I → Received) → List ℕ) (came : I → Received) (was is : Output)
+    (pushed : List ℕ) : Type 0 where
   pub processing : ProcessLag decided came pushed
   pub buffering : BufferLag was is (decided (λ i. (processing.before i).earlier))

@@ -9,4 +9,5 @@ HasOnlyCompleteLines terminator bytes = (bytes ≡ []) ⊎ EndsWithByte terminat
 -- Theorem: if the first part has only complete lines, the lines of the whole text are those of the first part followed
 -- by those of the second.
 abbrev pub LinesOfParts : Type 0
-LinesOfParts = (terminator : ℕ) (a b : List ℕ) → HasOnlyCompleteLines terminator a → lines terminator (a ++ b) ≡ lines terminator a ++ lines terminator b
+LinesOfParts = (terminator : ℕ) (a b : List ℕ) → HasOnlyCompleteLines terminator a
+    → lines terminator (a ++ b) ≡ lines terminator a ++ lines terminator b

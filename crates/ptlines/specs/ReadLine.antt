@@ -1,5 +1,6 @@
 -- The effect of a reader's calls on the reader and on the store.
-use Rattle.std.specs.Prelude.{◌≡◌, ◌⊎◌, ℕ, ◌<◌, ◌≤◌, Bool, true, false, List, [], ◌∷◌, ◌++◌, length, take, drop, Option, Result, Ok, Err, None, Some}
+use Rattle.std.specs.Prelude.{◌≡◌, ◌⊎◌, ℕ, ◌<◌, ◌≤◌, Bool, true, false, List, [], ◌∷◌, ◌++◌, length, take, drop, Option}
+use Rattle.std.specs.Prelude.{Result, Ok, Err, None, Some}
 use Rattle.std.specs.Borrow.{Bor}
 use Rattle.ptlines.specs.Text.{IsLine}
 use Rattle.ptlines.specs.declared.store.LineFault.{LineFault}
@@ -23,8 +24,11 @@ pub record MoveToSlotPre (r : Reader) (s : Slots) (slot count : ℕ) : Type 0 wh
 -- The effect of `move_to_slot`: the first `count` buffered bytes were appended to the slot, or memory could not be
 -- allocated and nothing was moved.
 abbrev pub MoveToSlotPost : Reader → Reader → Slots → Slots → ℕ → ℕ → Result (Unit {0}) LineFault → Type 0
-MoveToSlotPost old new before after slot count (Ok u) = (new ≡ record old { buffered = drop count old.buffered }) × (after ≡ with_line before slot (line before slot ++ take count old.buffered))
-MoveToSlotPost old new before after slot count (Err fault) = (new ≡ record old { fault = Some Memory }) × (after ≡ with_denied before) × (fault ≡ Memory)
+MoveToSlotPost old new before after slot count (Ok u) =
+    (new ≡ record old { buffered = drop count old.buffered })
+    × (after ≡ with_line before slot (line before slot ++ take count old.buffered))
+MoveToSlotPost old new before after slot count (Err fault) =
+    (new ≡ record old { fault = Some Memory }) × (after ≡ with_denied before) × (fault ≡ Memory)
 
 -- these bytes were appended to the slot
 abbrev pub IsAppended : Slots → Slots → ℕ → List ℕ → Type 0
@@ -49,7 +53,8 @@ pub record PieceLine (old new : Reader) (before after : Slots) (slot : ℕ) : Ty
 -- `fill_piece` has reported a fault and moved nothing
 abbrev pub PieceErr : Reader → Reader → Slots → Slots → LineFault → Type 0
 PieceErr old new before after Read = AdvanceErr old new [] Read × HasReadCause old new × (after ≡ before)
-PieceErr old new before after Memory = AdvanceErr old new [] Memory × (new.failed ≡ old.failed) × (after ≡ with_denied before) × (0 < length new.buffered)
+PieceErr old new before after Memory =
+    AdvanceErr old new [] Memory × (new.failed ≡ old.failed) × (after ≡ with_denied before) × (0 < length new.buffered)
 
 -- the effect of `fill_piece`
 abbrev pub PiecePost : Reader → Reader → Slots → Slots → ℕ → Result Piece LineFault → Type 0

@@ -1,5 +1,6 @@
 -- The model of `LineReader`: a source with a block of buffered input.
-use Rattle.std.specs.Prelude.{◌≡◌, ℕ, ◌+◌, ◌-◌, ◌^◌, ◌<◌, ◌≤◌, ◌⊎◌, Bool, true, false, List, [], Option, None, Some, Result, Ok, Err, length, slice_index_or}
+use Rattle.std.specs.Prelude.{◌≡◌, ℕ, ◌+◌, ◌-◌, ◌^◌, ◌<◌, ◌≤◌, ◌⊎◌, Bool, true, false, List, [], Option, None, Some}
+use Rattle.std.specs.Prelude.{Result, Ok, Err, length, slice_index_or}
 use Rattle.std.specs.Io.KnownBytes.{prepend_known, IsAtEnd}
 use Rattle.ptlines.specs.Sources.{SourceState}
 use Rattle.ptlines.specs.Text.{IsLine}
@@ -75,7 +76,8 @@ pub record IsDone (r : Reader) : Type 0 where
 
 -- The reason for a `Read` fault: a read failed and nothing is buffered, or the source has given 2^63 bytes or more.
 abbrev pub HasReadCause : Reader → Reader → Type 0
-HasReadCause old new = ((new.failed ≡ true) × (new.buffered ≡ []) × (new.eof ≡ false)) ⊎ ((2 ^ 63 ≤ new.pulled) × (new.failed ≡ old.failed))
+HasReadCause old new = ((new.failed ≡ true) × (new.buffered ≡ []) × (new.eof ≡ false))
+    ⊎ ((2 ^ 63 ≤ new.pulled) × (new.failed ≡ old.failed))
 
 -- the reader has consumed these bytes, a part of one line, and then reported a fault for the first time
 pub record AdvanceErr (old new : Reader) (bytes : List ℕ) (fault : LineFault) : Type 0 where
@@ -108,7 +110,17 @@ RefillPost old new (Err fault) = AdvanceErr old new [] Read × HasReadCause old 
 
 -- The value of an index without a reader.
 abbrev pub no_reader : Reader
-no_reader = record { buffered = []; left = None; eof = false; failed = false; pulled = 0; fault = None; refused = true; terminator = 10 }
+no_reader =
+    record {
+      buffered = [];
+      left = None;
+      eof = false;
+      failed = false;
+      pulled = 0;
+      fault = None;
+      refused = true;
+      terminator = 10;
+    }
 
 -- The reader at an index.
 abbrev pub reader_at : List Reader → ℕ → Reader

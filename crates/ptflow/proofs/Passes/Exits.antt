@@ -26,9 +26,9 @@ progress_none old was readable clean =
 abbrev pub progress_flushed : {old reader : Reader} {was is is' : Output} {given pushed : List ℕ}
     → Progress old reader was is given pushed → PushEffect is is' [] → is'.write_failed ≡ false
     → Progress old reader was is' given pushed
-progress_flushed {pushed} r wrote clean = record {
-  advance_ok = r.advance_ok;
-  wrote = rw (append-nil pushed) at (push_trans _ _ _ _ _ r.clean r.wrote wrote);
+progress_flushed {pushed} reached wrote clean = record {
+  advance_ok = reached.advance_ok;
+  wrote = rw (append-nil pushed) at (push_trans _ _ _ _ _ reached.clean reached.wrote wrote);
   clean = clean;
 }
 
@@ -45,8 +45,12 @@ abbrev pub pass_state_flushed : {X : Type 0} {rest_from : X → List ℕ → Lis
     {was is is' : Output}
     → PassState rest_from start now old reader was is → PushEffect is is' [] → is'.write_failed ≡ false
     → PassState rest_from start now old reader was is'
-pass_state_flushed m wrote clean = record
-    { given = m.given; pushed = m.pushed; reached = progress_flushed m.reached wrote clean; on = m.on }
+pass_state_flushed midway wrote clean = record {
+  given = midway.given;
+  pushed = midway.pushed;
+  reached = progress_flushed midway.reached wrote clean;
+  on = midway.on;
+}
 
 -- the output that was decided two blocks earlier, or less, was pushed
 abbrev pub LaggedOutput : ToolSpec → Received → List ℕ → Type 0
@@ -96,44 +100,46 @@ module _ (tool : ToolSpec) (end : ℕ) (old : Reader) {set : Reader} (new : Read
     (before store : Slots) (same : set ≡ record old { terminator = end }) where
   ends_set : (result : Result (Unit {0}) FlowFault) → PassOutcome (record old { terminator = end }) new is store result
       → PassOutcome old new is store result
-  ends_set (Ok u) e =
+  ends_set (Ok u) outcome =
       record {
-        done = e.done;
-        fault = e.fault;
-        failed = e.failed;
-        clean = e.clean;
-        denied = e.denied;
-        empty = e.empty;
-        short = e.short;
+        done = outcome.done;
+        fault = outcome.fault;
+        failed = outcome.failed;
+        clean = outcome.clean;
+        denied = outcome.denied;
+        empty = outcome.empty;
+        short = outcome.short;
       }
-  ends_set (Err (Read place)) e = record { cause = e.cause; clean = e.clean; denied = e.denied; only = e.only }
-  ends_set (Err Write) e = record { write_failed = e.write_failed; failed = e.failed; denied = e.denied }
-  ends_set (Err Memory) e = record { denied = e.denied; failed = e.failed; clean = e.clean }
+  ends_set (Err (Read place)) outcome =
+      record { cause = outcome.cause; clean = outcome.clean; denied = outcome.denied; only = outcome.only }
+  ends_set (Err Write) outcome =
+      record { write_failed = outcome.write_failed; failed = outcome.failed; denied = outcome.denied }
+  ends_set (Err Memory) outcome = record { denied = outcome.denied; failed = outcome.failed; clean = outcome.clean }
 
   pub pass_set : {result : Result (Unit {0}) FlowFault} → was.write_failed ≡ false
       → PassPost tool set new was is before store result → PassPost tool old new was is before store result
   pass_set {result} clean pass =
-      let p = rw same at pass in
+      let post = rw same at pass in
       record {
-        given = p.given;
-        came = has_received_set old _ end refl _ _ p.came;
-        pushed = p.pushed;
-        wrote = p.wrote;
-        ends = ends_set result p.ends;
-        is_prefix = p.is_prefix;
-        decided_is_written = p.decided_is_written;
-        bounded_lag = p.bounded_lag;
-        is_exact = p.is_exact;
-        peak = p.peak;
-        slots = p.slots;
+        given = post.given;
+        came = has_received_set old _ end refl _ _ post.came;
+        pushed = post.pushed;
+        wrote = post.wrote;
+        ends = ends_set result post.ends;
+        is_prefix = post.is_prefix;
+        decided_is_written = post.decided_is_written;
+        bounded_lag = post.bounded_lag;
+        is_exact = post.is_exact;
+        peak = post.peak;
+        slots = post.slots;
         refused =
             λ fine few. record {
-              same_reader = (p.refused fine few).same_reader;
-              same_output = (p.refused fine few).same_output;
+              same_reader = (post.refused fine few).same_reader;
+              same_output = (post.refused fine few).same_output;
             };
-        keeps_store = p.keeps_store;
-        stays_done = λ done. p.stays_done (record { eof = done.eof; buffered = done.buffered; left = done.left });
-        line_left = p.line_left;
+        keeps_store = post.keeps_store;
+        stays_done = λ done. post.stays_done (record { eof = done.eof; buffered = done.buffered; left = done.left });
+        line_left = post.line_left;
         unchanged_if_failed = λ fault. absurd (false≢true (cc (clean)));
       }
 
@@ -193,47 +199,51 @@ module _ (tool : ToolSpec) {old : Reader} (was : Output) {before store : Slots} 
 pub never_memory : {tool : ToolSpec} {old new : Reader} {was is : Output} {store : Slots}
     {result : Result (Unit {0}) FlowFault}
     → store.denied ≡ false → PassPost tool old new was is store store result → result ≡ Err Memory → ⊥
-never_memory {old} {new} {is} {store} not_denied p e =
-    let ends : PassOutcome old new is store (Err Memory) = rw e at p.ends in
+never_memory {old} {new} {is} {store} not_denied post is_memory =
+    let ends : PassOutcome old new is store (Err Memory) = rw is_memory at post.ends in
     false≢true (cc)
 
 module _ {X : Type 0} {rest_from : X → List ℕ → List ℕ} {start : X} {tool : ToolSpec}
     (is_text : (bytes : List ℕ) → rest_from start bytes ≡ tool.text bytes)
     {now : X} {old reader new : Reader} {was is : Output} {before store : Slots}
-    (m : PassState rest_from start now old reader was is) (ready : PassPre old before) (sound : IsSound reader)
+    (midway : PassState rest_from start now old reader was is) (ready : PassPre old before) (sound : IsSound reader)
     {piece : List ℕ} (reads : ReaderAdvance reader new piece)
-    (stored : StoreBounds tool before store (received_with (m.given ++ piece) new))
-    (processing : LaggedOutput tool (received_with (m.given ++ piece) new) m.pushed) where
+    (stored : StoreBounds tool before store (received_with (midway.given ++ piece) new))
+    (processing : LaggedOutput tool (received_with (midway.given ++ piece) new) midway.pushed) where
+  -- what was received
+  abbrev received : Received
+  received = received_with (midway.given ++ piece) new
+
   same_failed : new.failed ≡ reader.failed → new.failed ≡ old.failed
   same_failed same = cc
 
   continued : new.failed ≡ reader.failed → new.failed ≡ false
-  continued same = same ∙ never_failed ready m.reached.advance_ok sound
+  continued same = same ∙ never_failed ready midway.reached.advance_ok sound
 
-  text_of : {input : List ℕ} (a : IsConsistent (received_with (m.given ++ piece) new) input)
-      → tool.text input ≡ m.pushed ++ rest_from now (piece ++ (new.buffered ++ a.rest))
-  text_of a = grind (arith, common_steps)
+  text_of : {input : List ℕ} (consistent : IsConsistent received input)
+      → tool.text input ≡ midway.pushed ++ rest_from now (piece ++ (new.buffered ++ consistent.rest))
+  text_of consistent = grind (arith, common_steps)
 
   abbrev bounded_lag : Output → List ℕ → Type 0
   bounded_lag is' pushed = BoundedLag {I = Unit {0}} (λ given. tool.decided (given tt))
-      (λ u. received_with (m.given ++ piece) new) was is' pushed
+      (λ u. received) was is' pushed
 
-  still : bounded_lag is m.pushed
-  still = bounded_lag_now _ _ _ _ _ processing m.reached.wrote m.reached.clean
+  still : bounded_lag is midway.pushed
+  still = bounded_lag_now _ _ _ _ _ processing midway.reached.wrote midway.reached.clean
 
-  more : (is' : Output) (bytes : List ℕ) → PushEffect is is' bytes → bounded_lag is' (m.pushed ++ bytes)
-  more = bounded_lag_after _ _ _ _ _ processing m.reached.wrote m.reached.clean
+  more : (is' : Output) (bytes : List ℕ) → PushEffect is is' bytes → bounded_lag is' (midway.pushed ++ bytes)
+  more = bounded_lag_after _ _ _ _ _ processing midway.reached.wrote midway.reached.clean
 
   pass : {is' : Output} {pushed : List ℕ} {result : Result (Unit {0}) FlowFault} → PushEffect was is' pushed
       → bounded_lag is' pushed → PassOutcome old new is' store result
-      → ((input : List ℕ) → IsConsistent (received_with (m.given ++ piece) new) input
+      → ((input : List ℕ) → IsConsistent received input
       → IsPrefix pushed (tool.text input))
       → (new.failed ≡ true → is'.write_failed ≡ false
-      → IsPrefix (tool.decided (received_with (m.given ++ piece) new)) pushed)
-      → (result ≡ Ok tt → pushed ≡ tool.text ((m.given ++ piece) ++ new.buffered))
+      → IsPrefix (tool.decided received) pushed)
+      → (result ≡ Ok tt → pushed ≡ tool.text ((midway.given ++ piece) ++ new.buffered))
       → (result ≡ Err Memory → IsDone new → ⊥) → PassPost tool old new was is' before store result
   pass {pushed} wrote keeps ends is_prefix decided_is_written whole left = record {
-    given = received_with (m.given ++ piece) new;
+    given = received;
     came = has_received _ _ _ advanced;
     pushed = pushed;
     wrote = wrote;
@@ -248,25 +258,26 @@ module _ {X : Type 0} {rest_from : X → List ℕ → List ℕ} {start : X} {too
     keeps_store = stored.keeps_store;
     stays_done = λ done. stays_at_eof _ _ _ done advanced;
     line_left = λ memory enough. left memory;
-    unchanged_if_failed = λ fault. absurd (false≢true (cc (m.reached.wrote.stays fault)));
+    unchanged_if_failed = λ fault. absurd (false≢true (cc (midway.reached.wrote.stays fault)));
   }
     where
-      advanced : ReaderAdvance old new (m.given ++ piece)
-      advanced = advance_trans _ _ _ _ _ m.reached.advance_ok.reads reads
+      advanced : ReaderAdvance old new (midway.given ++ piece)
+      advanced = advance_trans _ _ _ _ _ midway.reached.advance_ok.reads reads
 
-  begins : (input : List ℕ) → IsConsistent (received_with (m.given ++ piece) new) input
-      → IsPrefix m.pushed (tool.text input)
-  begins input a = record { rest = rest_from now (piece ++ (new.buffered ++ a.rest)); is = text_of a }
+  begins : (input : List ℕ) → IsConsistent received input
+      → IsPrefix midway.pushed (tool.text input)
+  begins input consistent =
+      record { rest = rest_from now (piece ++ (new.buffered ++ consistent.rest)); is = text_of consistent }
 
   -- a read failed
   pub pass_read : HasReadCause reader new → store.denied ≡ false
-      → (new.buffered ≡ [] → new.eof ≡ false → IsPrefix (tool.decided (received_with (m.given ++ piece) new)) m.pushed)
+      → (new.buffered ≡ [] → new.eof ≡ false → IsPrefix (tool.decided received) midway.pushed)
       → PassPost tool old new was is before store (Err (Read 0))
   pass_read cause not_denied decided =
-      pass m.reached.wrote still
+      pass midway.reached.wrote still
       (record {
         cause = ⊎_elim inl (λ (many, same). inr (many, same_failed same)) cause;
-        clean = m.reached.clean;
+        clean = midway.reached.clean;
         denied = not_denied;
         only = refl;
       })
@@ -277,7 +288,8 @@ module _ {X : Type 0} {rest_from : X → List ℕ → List ℕ} {start : X} {too
   pub pass_memory : new.failed ≡ reader.failed → store.denied ≡ true → 0 < length new.buffered
       → PassPost tool old new was is before store (Err Memory)
   pass_memory same denied left =
-      pass m.reached.wrote still (record { denied = denied; failed = same_failed same; clean = m.reached.clean })
+      pass midway.reached.wrote still
+      (record { denied = denied; failed = same_failed same; clean = midway.reached.clean })
       begins (λ failed fine. absurd (false≢true (cc (continued same)))) (λ ok. cc)
       (λ memory done. omega (arith, left, ap length done.buffered))
 
@@ -288,11 +300,11 @@ module _ {X : Type 0} {rest_from : X → List ℕ → List ℕ} {start : X} {too
       → IsPrefix bytes (rest_from now (piece ++ (new.buffered ++ rest))))
       → PassPost tool old new was is' before store (Err Write)
   pass_write {bytes} wrote fault same not_denied fronts =
-      pass (push_trans _ _ _ _ _ m.reached.clean m.reached.wrote wrote) (more _ _ wrote)
+      pass (push_trans _ _ _ _ _ midway.reached.clean midway.reached.wrote wrote) (more _ _ wrote)
       (record { write_failed = fault; failed = same_failed same; denied = not_denied })
-      (λ input a. let b = fronts a.rest a.whole in record {
-        rest = b.rest;
-        is = cc (text_of a, append_assoc m.pushed bytes b.rest);
+      (λ input consistent. let prefix = fronts consistent.rest consistent.whole in record {
+        rest = prefix.rest;
+        is = cc (text_of consistent, append_assoc midway.pushed bytes prefix.rest);
       })
       (λ failed fine. absurd (false≢true (cc))) (λ ok. cc) (λ memory. cc)
 
@@ -306,7 +318,7 @@ module _ {X : Type 0} {rest_from : X → List ℕ → List ℕ} {start : X} {too
     pub pass_done : is'.write_failed ≡ false → new.fault ≡ None → new.pulled < 2 ^ 63 → total_bytes store.lines ≡ 0
         → PassPost tool old new was is' before store (Ok tt)
     pass_done fine fault short empty =
-        pass (push_trans _ _ _ _ _ m.reached.clean m.reached.wrote wrote) (more _ _ wrote)
+        pass (push_trans _ _ _ _ _ midway.reached.clean midway.reached.wrote wrote) (more _ _ wrote)
         (record {
           done = done;
           fault = fault;
@@ -316,15 +328,19 @@ module _ {X : Type 0} {rest_from : X → List ℕ → List ℕ} {start : X} {too
           empty = empty;
           short = short;
         })
-        (λ input a. record { rest = []; is = all_of input a ∙ sym (append-nil (m.pushed ++ rest_from now [])) })
+        (λ input consistent. record {
+          rest = [];
+          is = all_of input consistent
+              ∙ sym (append-nil (midway.pushed ++ rest_from now []));
+        })
         (λ failed good. absurd (false≢true (cc (continued same))))
-        (λ ok. sym (all_of ((m.given ++ piece) ++ new.buffered)
-        (record { rest = []; is = sym (append-nil ((m.given ++ piece) ++ new.buffered)); whole = λ eof. refl })))
+        (λ ok. sym (all_of ((midway.given ++ piece) ++ new.buffered)
+        (record { rest = []; is = sym (append-nil ((midway.given ++ piece) ++ new.buffered)); whole = λ eof. refl })))
         (λ memory. cc)
       where
-        all_of : (input : List ℕ) → IsConsistent (received_with (m.given ++ piece) new) input
-            → tool.text input ≡ m.pushed ++ rest_from now []
-        all_of input a = cc (text_of a, nothing_left a.rest a.whole)
+        all_of : (input : List ℕ) → IsConsistent received input
+            → tool.text input ≡ midway.pushed ++ rest_from now []
+        all_of input consistent = cc (text_of consistent, nothing_left consistent.rest consistent.whole)
 
     -- and a write failed there
     pub pass_unended : is'.write_failed ≡ true → PassPost tool old new was is' before store (Err Write)

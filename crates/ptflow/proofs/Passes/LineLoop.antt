@@ -50,7 +50,7 @@ some_line = omega arith
 
 module _ {S X E : Type 0} {tool : ToolSpec} {state : S → Slots → X} {rest_from : X → List (List ℕ) → List E}
     {written : List E → List ℕ} {counted : X → ℕ} {width : ℕ} {start : S}
-    (t : IsLineFilter tool state rest_from written counted width start) where
+    (line_filter : IsLineFilter tool state rest_from written counted width start) where
   abbrev end : ℕ
   end = tool.end
 
@@ -68,7 +68,8 @@ module _ {S X E : Type 0} {tool : ToolSpec} {state : S → Slots → X} {rest_fr
 
   none_written : written [] ≡ []
   none_written =
-      nil_from_length (written []) (omega (arith, ap length (t.apart [] []), length-append (written []) (written [])))
+      nil_from_length (written [])
+      (omega (arith, ap length (line_filter.apart [] []), length-append (written []) (written [])))
 
   module _ {old : Reader} {was : Output} {before : Slots} where
     pub run_starts : {store : Slots} → old.terminator ≡ end → PassPre old before → was.write_failed ≡ false
@@ -82,7 +83,7 @@ module _ {S X E : Type 0} {tool : ToolSpec} {state : S → Slots → X} {rest_fr
       reached = rw none_written (progress_none old was ready.readable clean);
       first = store;
       on = λ more. refl;
-      count = omega (arith, t.fresh store);
+      count = omega (arith, line_filter.fresh store);
       keeps = keeps;
     }
 
@@ -92,60 +93,62 @@ module _ {S X E : Type 0} {tool : ToolSpec} {state : S → Slots → X} {rest_fr
         → store.peak ≡ before.peak → store.denied ≡ true → PassPost tool old old was was before store (Err Memory)
     run_unslotted {store} ends ready sound clean adds few same denied =
         let nothing : Received = record { bytes = []; eof = false } in
-        pass_unslotted tool was ready sound clean (rw t.slots adds) (rw t.slots few) same denied (omega arith) (cc)
-        (rw none_written at (t.decided store nothing [] (state start store) (λ more. refl)))
+        pass_unslotted tool was ready sound clean (rw line_filter.slots adds) (rw line_filter.slots few) same denied
+        (omega arith) (cc)
+        (rw none_written at (line_filter.decided store nothing [] (state start store) (λ more. refl)))
 
     module _ {now : X} {reader : Reader} {is : Output} {store : Slots}
-        (r : Run old reader was is before store now) where
+        (run : Run old reader was is before store now) where
       -- the buffered output was written
       pub run_sent : {is' : Output} → PushEffect is is' [] → is'.write_failed ≡ false
           → Run old reader was is' before store now
       run_sent wrote clean = record {
-        given = r.given;
-        ls = r.ls;
-        passed = r.passed;
-        terminator = r.terminator;
-        came = r.came;
-        reached = progress_flushed r.reached wrote clean;
-        first = r.first;
-        on = r.on;
-        count = r.count;
-        keeps = r.keeps;
+        given = run.given;
+        ls = run.ls;
+        passed = run.passed;
+        terminator = run.terminator;
+        came = run.came;
+        reached = progress_flushed run.reached wrote clean;
+        first = run.first;
+        on = run.on;
+        count = run.count;
+        keeps = run.keeps;
       }
 
       pub run_room : width ≤ length store.lines
-      run_room = omega (arith, r.keeps.adds.all r.keeps.denied)
+      run_room = omega (arith, run.keeps.adds.all run.keeps.denied)
 
       -- the lines with no output yet are at most the lines that were read
       pub run_count : IsSound old → IsSound reader → counted now ≤ 2 ^ 63
-      run_count sound is_sound = omega (arith, lines_few _ _ _ _ r.came, is_sound.long r.reached.advance_ok.fault)
+      run_count sound is_sound = omega (arith, lines_few _ _ _ _ run.came, is_sound.long run.reached.advance_ok.fault)
 
       -- some lines more were read
       run_more : {new : Reader} {bytes : List ℕ} (ls : List (List ℕ)) → AdvanceOk reader new bytes
-          → AreReceivedLines end new (r.given ++ bytes) (r.ls ++ ls) → {after : Slots}
-          → SlotBounds width (max (max_length r.ls) (max_length ls)) before after → {next : X} {is' : Output}
+          → AreReceivedLines end new (run.given ++ bytes) (run.ls ++ ls) → {after : Slots}
+          → SlotBounds width (max (max_length run.ls) (max_length ls)) before after → {next : X} {is' : Output}
           → On now next ls is is' → Run old new was is' before after next
-      run_more {bytes} ls advance_ok came keeps {next} c = record {
-        given = r.given ++ bytes;
-        ls = r.ls ++ ls;
-        passed = r.passed ++ c.passed;
-        terminator = r.terminator;
+      run_more {bytes} ls advance_ok came keeps {next} processed = record {
+        given = run.given ++ bytes;
+        ls = run.ls ++ ls;
+        passed = run.passed ++ processed.passed;
+        terminator = run.terminator;
         came = came;
         reached = record {
-          advance_ok = advance_ok_trans _ _ _ _ _ r.reached.advance_ok advance_ok;
-          wrote = rw (t.apart r.passed c.passed) (push_trans _ _ _ _ _ r.reached.clean r.reached.wrote c.wrote);
-          clean = c.clean r.reached.clean;
+          advance_ok = advance_ok_trans _ _ _ _ _ run.reached.advance_ok advance_ok;
+          wrote = rw (line_filter.apart run.passed processed.passed)
+              (push_trans _ _ _ _ _ run.reached.clean run.reached.wrote processed.wrote);
+          clean = processed.clean run.reached.clean;
         };
-        first = r.first;
+        first = run.first;
         on = λ more.
             cc (
-              append_assoc r.ls ls more,
-              r.on (ls ++ more),
-              c.on more,
-              append_assoc r.passed c.passed (rest_from next more),
+              append_assoc run.ls ls more,
+              run.on (ls ++ more),
+              processed.on more,
+              append_assoc run.passed processed.passed (rest_from next more),
             );
-        count = omega (arith, length-append r.ls ls);
-        keeps = bounds_weaker (max_length (r.ls ++ ls)) keeps (omega (arith, max_length-append r.ls ls));
+        count = omega (arith, length-append run.ls ls);
+        keeps = bounds_weaker (max_length (run.ls ++ ls)) keeps (omega (arith, max_length-append run.ls ls));
       }
 
       -- the lines of a block were read and consumed
@@ -153,45 +156,50 @@ module _ {S X E : Type 0} {tool : ToolSpec} {state : S → Slots → X} {rest_fr
           → shown.buffered ≡ block → IsLinesLength tool.end block count
           → new ≡ record shown { buffered = drop count shown.buffered } → {next : X} {is' : Output}
           → On now next (complete_lines tool.end block) is is' → Run old new was is' before store next
-      run_block {new} {block} advance_ok buffered passed consumed c =
+      run_block {new} {block} advance_ok buffered passed consumed processed =
           let ls = complete_lines end block in
           let (within, _) = passed in
           let front = subst (AdvanceOk reader new) (cc) (advance_past _ advance_ok buffered within consumed) in
-          run_more ls front (lines_block r.came ls front (line_split end block).whole)
-          (bounds_weaker (max (max_length r.ls) (max_length ls)) r.keeps (omega arith)) c
+          run_more ls front (lines_block run.came ls front (line_split end block).whole)
+          (bounds_weaker (max (max_length run.ls) (max_length ls)) run.keeps (omega arith)) processed
 
       -- ---- exits
 
       abbrev bytes_from : X → List ℕ → List ℕ
       bytes_from x bytes = written (rest_from x (lines end bytes))
 
-      unfoldable midway : PassState bytes_from (state start r.first) now old reader was is
+      unfoldable midway : PassState bytes_from (state start run.first) now old reader was is
       midway = record {
-        given = r.given;
-        pushed = written r.passed;
-        reached = r.reached;
+        given = run.given;
+        pushed = written run.passed;
+        reached = run.reached;
         on = λ rest may.
             cc (
-              lines_on _ _ _ _ r.came rest may,
-              r.on (lines end rest),
-              t.apart r.passed (rest_from now (lines end rest)),
+              lines_on _ _ _ _ run.came rest may,
+              run.on (lines end rest),
+              line_filter.apart run.passed (rest_from now (lines end rest)),
             );
       }
 
+      -- what was received once these bytes were read too
+      abbrev received : List ℕ → Reader → Received
+      received bytes new = received_with (run.given ++ bytes) new
+
       -- the output that the lines so far decide was pushed
-      decided_so : (given : Received) → known_lines end given ≡ r.ls → IsPrefix (tool.decided given) (written r.passed)
-      decided_so given are = t.decided r.first given r.passed now (λ more. cc (r.on more))
+      decided_so : (given : Received) → known_lines end given ≡ run.ls
+          → IsPrefix (tool.decided given) (written run.passed)
+      decided_so given are = line_filter.decided run.first given run.passed now (λ more. cc (run.on more))
 
       -- and after them at most a line and a block were read
       works_line : {new : Reader} {piece : List ℕ} → ReaderAdvance reader new piece → (line behind : List ℕ)
           → piece ++ new.buffered ≡ line ++ behind → IsLine end line → length behind ≤ 8193
-          → LaggedOutput tool (received_with (r.given ++ piece) new) (written r.passed)
+          → LaggedOutput tool (received piece new) (written run.passed)
       works_line reads line behind is_line whole short =
-          let e = before_line r.came reads line behind is_line whole short in
-          record { before = λ u. e.before; begins = decided_so e.before.earlier e.whole }
+          let next_line = before_line run.came reads line behind is_line whole short in
+          record { before = λ u. next_line.before; begins = decided_so next_line.before.earlier next_line.whole }
 
       works_piece : {new : Reader} {piece : List ℕ} → ReaderAdvance reader new piece → IsLine end piece → IsSound new
-          → LaggedOutput tool (received_with (r.given ++ piece) new) (written r.passed)
+          → LaggedOutput tool (received piece new) (written run.passed)
       works_piece {new} {piece} reads free is_sound = works_line reads piece new.buffered refl free (omega arith)
 
       -- the slots hold at most the maximum length of a line, for each consistent input
@@ -200,8 +208,8 @@ module _ {S X E : Type 0} {tool : ToolSpec} {state : S → Slots → X} {rest_fr
           → ((input : List ℕ) → IsConsistent given input → most ≤ max_line_length end input)
           → StoreBounds tool before after given
       stored after most given peak adds room short = record {
-        peak = λ input a. omega (arith, t.size input, mul-le-mul_left width (short input a));
-        adds = rw t.slots adds;
+        peak = λ input a. omega (arith, line_filter.size input, mul-le-mul_left width (short input a));
+        adds = rw line_filter.slots adds;
         room = omega arith;
         keeps_store = λ none. absurd (omega arith);
       }
@@ -209,33 +217,34 @@ module _ {S X E : Type 0} {tool : ToolSpec} {state : S → Slots → X} {rest_fr
       kept : {after : Slots} {most : ℕ} (given : Received) → SlotBounds width most before after
           → ((input : List ℕ) → IsConsistent given input → most ≤ max_line_length end input)
           → StoreBounds tool before after given
-      kept {most} given k = stored _ most given k.peak k.adds (omega (arith, k.adds.all k.denied))
+      kept {most} given bounds = stored _ most given bounds.peak bounds.adds
+          (omega (arith, bounds.adds.all bounds.denied))
 
       keeps_last : {after : Slots} (bytes : List ℕ) → after ≡ with_line store (width - 1) bytes
-          → SlotBounds width (max (max_length r.ls) (length bytes)) before after
+          → SlotBounds width (max (max_length run.ls) (length bytes)) before after
       keeps_last bytes told =
-          let most = max (max_length r.ls) (length bytes) in
-          bounds_line _ (width - 1) bytes (bounds_weaker most r.keeps (omega arith)) (omega (arith, t.some))
+          let most = max (max_length run.ls) (length bytes) in
+          bounds_line _ (width - 1) bytes (bounds_weaker most run.keeps (omega arith)) (omega (arith, line_filter.some))
           (omega arith) told
 
       module _ (ready : PassPre old before) (sound : IsSound reader) where
         -- the first part of a line was read
         module _ {new : Reader} {piece : List ℕ} (reads : ReaderAdvance reader new piece) (free : IsLine end piece)
             (is_sound : IsSound new) where
-          short_piece : (input : List ℕ) → IsConsistent (received_with (r.given ++ piece) new) input
-              → max (max_length r.ls) (length piece) ≤ max_line_length end input
-          short_piece = piece_longest _ _ _ _ r.came _ _ reads free
+          short_piece : (input : List ℕ) → IsConsistent (received piece new) input
+              → max (max_length run.ls) (length piece) ≤ max_line_length end input
+          short_piece = piece_longest _ _ _ _ run.came _ _ reads free
 
           -- and then a read failed
-          pub run_read : {after : Slots} → SlotBounds width (max (max_length r.ls) (length piece)) before after
+          pub run_read : {after : Slots} → SlotBounds width (max (max_length run.ls) (length piece)) before after
               → HasReadCause reader new → PassPost tool old new was is before after (Err (Read 0))
           unfolding midway
-          run_read k cause =
-              pass_read (t.tool_text r.first) midway ready sound reads
-              (kept (received_with (r.given ++ piece) new) k short_piece) (works_piece reads free is_sound)
-              cause k.denied
-              (λ empty going. decided_so (received_with (r.given ++ piece) new)
-              (whole_before _ _ _ _ r.came _ _ reads free empty going))
+          run_read bounds cause =
+              pass_read (line_filter.tool_text run.first) midway ready sound reads
+              (kept (received piece new) bounds short_piece) (works_piece reads free is_sound)
+              cause bounds.denied
+              (λ empty going. decided_so (received piece new)
+              (whole_before _ _ _ _ run.came _ _ reads free empty going))
 
           pub run_broken : {after : Slots} → after ≡ with_line store (width - 1) piece → HasReadCause reader new
               → PassPost tool old new was is before after (Err (Read 0))
@@ -247,59 +256,62 @@ module _ {S X E : Type 0} {tool : ToolSpec} {state : S → Slots → X} {rest_fr
               → PassPost tool old new was is before after (Err Memory)
           unfolding midway
           run_memory {after} told same left =
-              let k = keeps_last piece refl in
+              let bounds = keeps_last piece refl in
               let denied : after.denied ≡ true = cc in
               let size : length after.lines ≡ length (with_line store (width - 1) piece).lines = cc in
-              pass_memory (t.tool_text r.first) midway ready sound reads
-              (stored after (max (max_length r.ls) (length piece)) (received_with (r.given ++ piece) new)
-              (omega (arith, k.peak, ap (λ s. s.peak) told))
+              pass_memory (line_filter.tool_text run.first) midway ready sound reads
+              (stored after (max (max_length run.ls) (length piece)) (received piece new)
+              (omega (arith, bounds.peak, ap (λ bounded. bounded.peak) told))
               (record {
-                least = omega (arith, k.adds.least);
-                most = omega (arith, k.adds.most);
+                least = omega (arith, bounds.adds.least);
+                most = omega (arith, bounds.adds.most);
                 all = λ allowed. absurd (false≢true (cc));
               })
-              (omega (arith, k.adds.all k.denied)) short_piece) (works_piece reads free is_sound) same denied left
+              (omega (arith, bounds.adds.all bounds.denied)) short_piece) (works_piece reads free is_sound)
+              same denied left
 
         -- reading a block failed
         pub run_no_block : {new : Reader} → ReaderAdvance reader new [] → IsSound new → HasReadCause reader new
             → PassPost tool old new was is before store (Err (Read 0))
         run_no_block reads is_sound =
-            run_read reads tt is_sound (bounds_weaker (max (max_length r.ls) 0) r.keeps (omega arith))
+            run_read reads tt is_sound (bounds_weaker (max (max_length run.ls) 0) run.keeps (omega arith))
 
         -- a write failed at some lines, which come before the continuation
         halts : {new : Reader} {piece : List ℕ} → ReaderAdvance reader new piece → {after : Slots}
-            → StoreBounds tool before after (received_with (r.given ++ piece) new)
-            → LaggedOutput tool (received_with (r.given ++ piece) new) (written r.passed) → new.failed ≡ reader.failed
-            → after.denied ≡ false → {ls : List (List ℕ)} {is' : Output} → Halt now ls is is'
+            → StoreBounds tool before after (received piece new)
+            → LaggedOutput tool (received piece new) (written run.passed)
+            → new.failed ≡ reader.failed → after.denied ≡ false → {ls : List (List ℕ)} {is' : Output}
+            → Halt now ls is is'
             → ((rest : List ℕ) → (new.eof ≡ true → rest ≡ [])
             → (more : List (List ℕ)) × (lines end (piece ++ (new.buffered ++ rest)) ≡ ls ++ more))
             → PassPost tool old new was is' before after (Err Write)
         unfolding midway
-        halts reads s processing same not_denied h front =
-            pass_write (t.tool_text r.first) midway ready sound reads s processing h.wrote h.fault same not_denied
+        halts reads bounded processing same not_denied halted front =
+            pass_write (line_filter.tool_text run.first) midway ready sound reads bounded processing halted.wrote
+            halted.fault same not_denied
             (λ rest may.
             let (more, split) = front rest may in
-            let (later, on) = h.is_prefix more in record {
+            let (later, on) = halted.is_prefix more in record {
               rest = written later;
-              is = cc (t.apart h.passed later);
+              is = cc (line_filter.apart halted.passed later);
             })
 
         -- the lines of a block
         pub run_block_halts : {shown : Reader} {block : List ℕ} → IsSound shown → AdvanceOk reader shown []
             → shown.buffered ≡ block → {is' : Output} → Halt now (complete_lines tool.end block) is is'
             → PassPost tool old shown was is' before store (Err Write)
-        run_block_halts {shown} {block} is_sound advance_ok buffered {is'} h =
-            halts advance_ok.reads (kept (received_with (r.given ++ []) shown)
-            (bounds_weaker (max (max_length r.ls) 0) r.keeps (omega arith))
+        run_block_halts {shown} {block} is_sound advance_ok buffered {is'} halted =
+            halts advance_ok.reads (kept (received [] shown)
+            (bounds_weaker (max (max_length run.ls) 0) run.keeps (omega arith))
             (short_piece advance_ok.reads tt is_sound))
-            (works_piece advance_ok.reads tt is_sound) advance_ok.failed r.keeps.denied h
+            (works_piece advance_ok.reads tt is_sound) advance_ok.failed run.keeps.denied halted
             (λ rest may. (lines end ((line_split end block).piece ++ rest), cc (complete_prefix end block rest)))
 
         -- the buffered output could not be written
         pub run_flush_failed : {is' : Output} → PushEffect is is' [] → is'.write_failed ≡ true
             → PassPost tool old reader was is' before store (Err Write)
         run_flush_failed wrote fault =
-            run_block_halts sound (advance_none reader r.reached.advance_ok.fault) refl
+            run_block_halts sound (advance_none reader run.reached.advance_ok.fault) refl
             (record {
               passed = [];
               wrote = rw (← none_written) at wrote;
@@ -310,53 +322,56 @@ module _ {S X E : Type 0} {tool : ToolSpec} {state : S → Slots → X} {rest_fr
     -- ---- the line in the last slot
 
     module _ {now : S} {reader : Reader} {is : Output} {store : Slots}
-        (r : Run old reader was is before store (state now store)) where
+        (run : Run old reader was is before store (state now store)) where
       -- the slot has these bytes, and the state is unchanged
       filled : {after : Slots} (bytes : List ℕ) → after ≡ with_line store (width - 1) bytes
           → line after (width - 1) ≡ bytes
-      filled bytes told = cc (get_or-set_same store.lines (width - 1) bytes [] (omega (arith, run_room r)))
+      filled bytes told = cc (get_or-set_same store.lines (width - 1) bytes [] (omega (arith, run_room run)))
 
       same_state : {after : Slots} (bytes : List ℕ) → after ≡ with_line store (width - 1) bytes
           → state now after ≡ state now store
-      same_state bytes told = cc (t.stays now store bytes (run_room r))
+      same_state bytes told = cc (line_filter.stays now store bytes (run_room run))
 
       -- the number of lines with no output yet is unchanged
       pub filled_count : IsSound old → IsSound reader → {after : Slots} (bytes : List ℕ)
           → after ≡ with_line store (width - 1) bytes → counted (state now after) ≤ 2 ^ 63
       filled_count sound is_sound bytes told =
-          omega (arith, run_count r sound is_sound, ap counted (same_state bytes told))
+          omega (arith, run_count run sound is_sound, ap counted (same_state bytes told))
 
-      module _ {new : Reader} {after : Slots} (e : FillLine reader new store after (width - 1)) where
+      module _ {new : Reader} {after : Slots} (next_line : FillLine reader new store after (width - 1)) where
         -- one line more was read
         pub run_line : {next : X} {is' : Output} {after' : Slots}
             → On (state now after) next (line after (width - 1) ∷ []) is is' → IsSwapped width after after'
             → Run old new was is' before after' next
-        run_line {next} {is'} {after'} c swapped =
-            let most = max (max_length r.ls) (max_length (e.line ∷ [])) in
-            run_more r (e.line ∷ []) e.advance_ok
-            (lines_more _ _ _ _ r.came _ _ _ _ e (r.reached.advance_ok.reads.terminator ∙ r.terminator))
-            (bounds_swapped after' t.some (bounds_weaker most (keeps_last r e.line e.stored) (omega arith)) swapped)
-            (subst (λ x. On x next (e.line ∷ []) is is') (same_state e.line e.stored)
-            (subst (λ l. On (state now after) next (l ∷ []) is is') (filled e.line e.stored) c))
+        run_line {next} {is'} {after'} processed swapped =
+            let most = max (max_length run.ls) (max_length (next_line.line ∷ [])) in
+            run_more run (next_line.line ∷ []) next_line.advance_ok
+            (lines_more _ _ _ _ run.came _ _ _ _ next_line (run.reached.advance_ok.reads.terminator ∙ run.terminator))
+            (bounds_swapped after' line_filter.some
+            (bounds_weaker most (keeps_last run next_line.line next_line.stored) (omega arith)) swapped)
+            (subst (λ x. On x next (next_line.line ∷ []) is is') (same_state next_line.line next_line.stored)
+            (subst (λ l. On (state now after) next (l ∷ []) is is') (filled next_line.line next_line.stored) processed))
 
         -- a write failed
         pub run_line_halts : PassPre old before → IsSound reader → IsSound new → {is' : Output}
             → Halt (state now after) (line after (width - 1) ∷ []) is is'
             → PassPost tool old new was is' before after (Err Write)
-        run_line_halts ready sound is_sound h =
-            let came = e.line ++ e.terminator in
-            let ends = r.reached.advance_ok.reads.terminator ∙ r.terminator in
-            let more = lines_more _ _ _ _ r.came _ _ _ _ e ends in
-            let k = keeps_last r e.line e.stored in
-            halts r ready sound e.advance_ok.reads (kept r (received_with (r.given ++ came) new)
-            (bounds_weaker (max_length (r.ls ++ e.line ∷ [])) k (omega (arith, max_length-append r.ls (e.line ∷ []))))
+        run_line_halts ready sound is_sound halted =
+            let came = next_line.line ++ next_line.terminator in
+            let ends = run.reached.advance_ok.reads.terminator ∙ run.terminator in
+            let more = lines_more _ _ _ _ run.came _ _ _ _ next_line ends in
+            let bounds = keeps_last run next_line.line next_line.stored in
+            halts run ready sound next_line.advance_ok.reads (kept run (received run came new)
+            (bounds_weaker (max_length (run.ls ++ next_line.line ∷ [])) bounds
+            (omega (arith, max_length-append run.ls (next_line.line ∷ []))))
             (received_longest _ _ _ _ more))
-            (works_line r e.advance_ok.reads e.line (e.terminator ++ new.buffered)
-            (append_assoc e.line e.terminator new.buffered) (rw ends at e.whole)
-            (after_line e is_sound)) e.advance_ok.failed k.denied
-            (rw (same_state e.line e.stored) at (rw (filled e.line e.stored) at h)) (λ rest may. (
+            (works_line run next_line.advance_ok.reads next_line.line (next_line.terminator ++ new.buffered)
+            (append_assoc next_line.line next_line.terminator new.buffered) (rw ends at next_line.whole)
+            (after_line next_line is_sound)) next_line.advance_ok.failed bounds.denied
+            (rw (same_state next_line.line next_line.stored) at (rw (filled next_line.line next_line.stored) at halted))
+            (λ rest may. (
               lines end (new.buffered ++ rest),
-              line_prefix _ _ _ _ r.came _ _ _ _ e ends (new.buffered ++ rest)
+              line_prefix _ _ _ _ run.came _ _ _ _ next_line ends (new.buffered ++ rest)
                   (λ done. λ i. done.buffered i ++ may done.eof i),
             ))
 
@@ -365,27 +380,29 @@ module _ {S X E : Type 0} {tool : ToolSpec} {state : S → Slots → X} {rest_fr
           (advance_ok : AdvanceOk reader new []) (done : IsDone new)
           {after : Slots} (told : after ≡ with_line store (width - 1) [])
           {is' : Output} (wrote : PushEffect is is' (written (rest_from (state now after) []))) where
-        last : PushEffect is is' (bytes_from r (state now store) [])
+        last : PushEffect is is' (bytes_from run (state now store) [])
         last = rw (same_state [] told) at wrote
 
-        k : SlotBounds width (max (max_length r.ls) 0) before after
-        k = keeps_last r [] told
+        bounds : SlotBounds width (max (max_length run.ls) 0) before after
+        bounds = keeps_last run [] told
 
         pub run_done : {after' : Slots} → SlotsCleared (width - 1) after after' → is'.write_failed ≡ false
             → PassPost tool old new was is' before after' (Ok tt)
         unfolding midway
         run_done empties clean =
-            let (bounds, total) = bounds_cleared k t.some (filled [] told) empties in
-            pass_done (t.tool_text r.first) (midway r) ready sound advance_ok.reads
-            (kept r (received_with (r.given ++ []) new) bounds (short_piece r ready sound advance_ok.reads tt is_sound))
-            (works_piece r advance_ok.reads tt is_sound)
-            last done refl advance_ok.failed bounds.denied clean advance_ok.fault
-            (advance_ok.short (sound.long r.reached.advance_ok.fault)) total
+            let (cleared, total) = bounds_cleared bounds line_filter.some (filled [] told) empties in
+            pass_done (line_filter.tool_text run.first) (midway run) ready sound advance_ok.reads
+            (kept run (received run [] new) cleared
+            (short_piece run ready sound advance_ok.reads tt is_sound))
+            (works_piece run advance_ok.reads tt is_sound)
+            last done refl advance_ok.failed cleared.denied clean advance_ok.fault
+            (advance_ok.short (sound.long run.reached.advance_ok.fault)) total
 
         pub run_unended : is'.write_failed ≡ true → PassPost tool old new was is' before after (Err Write)
         unfolding midway
         run_unended fault =
-            pass_unended (t.tool_text r.first) (midway r) ready sound advance_ok.reads
-            (kept r (received_with (r.given ++ []) new) k (short_piece r ready sound advance_ok.reads tt is_sound))
-            (works_piece r advance_ok.reads tt is_sound)
-            last done refl advance_ok.failed k.denied fault
+            pass_unended (line_filter.tool_text run.first) (midway run) ready sound advance_ok.reads
+            (kept run (received run [] new) bounds
+            (short_piece run ready sound advance_ok.reads tt is_sound))
+            (works_piece run advance_ok.reads tt is_sound)
+            last done refl advance_ok.failed bounds.denied fault

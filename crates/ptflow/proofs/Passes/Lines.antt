@@ -18,8 +18,9 @@ pub record LineSplit (end : ℕ) (bytes : List ℕ) : Type 0 where
 pub line_split : (end : ℕ) (bytes : List ℕ) → LineSplit end bytes
 line_split end [] = record { piece = []; is = refl; whole = tt; line = tt }
 line_split end (b ∷ bytes) =
-    let p = line_split end bytes in
-    let (piece, is, whole, line) = put (b == end) (complete_lines end bytes) p.piece refl p.is p.whole p.line in
+    let split = line_split end bytes in
+    let (piece, is, whole, line) =
+    put (b == end) (complete_lines end bytes) split.piece refl split.is split.whole split.line in
     record { piece = piece; is = is; whole = whole; line = line }
   where
     put : (t : Bool) (ls : List (List ℕ)) (piece : List ℕ) → (b == end) ≡ t → bytes ≡ unlines end ls ++ piece
@@ -35,10 +36,10 @@ line_split end (b ∷ bytes) =
 pub complete_prefix : (end : ℕ) (bytes rest : List ℕ)
     → lines end (bytes ++ rest) ≡ complete_lines end bytes ++ lines end ((line_split end bytes).piece ++ rest)
 complete_prefix end bytes rest =
-    let p = line_split end bytes in
+    let split = line_split end bytes in
     cc (
-      append_assoc (unlines end (complete_lines end bytes)) p.piece rest,
-      lines_of_unlines end (complete_lines end bytes) (p.piece ++ rest) p.whole,
+      append_assoc (unlines end (complete_lines end bytes)) split.piece rest,
+      lines_of_unlines end (complete_lines end bytes) (split.piece ++ rest) split.whole,
     )
 
 -- the bytes before the first terminator, and those after it
@@ -84,17 +85,17 @@ module _ (end : ℕ) where
   pub taken_more : {block rest : List ℕ} (size : ℕ)
       → unlines end (complete_lines end rest) ≡ take size rest ++ unlines end (complete_lines end (drop size rest))
       → TakenLines end block rest → TakenLines end block (drop size rest)
-  taken_more {rest} size texts t =
+  taken_more {rest} size texts taken =
       let front = take size rest in record {
-        front = t.front ++ front;
-        split = cc (take-append-drop size rest, append_assoc t.front front (drop size rest));
-        texts = cc (texts, append_assoc t.front front (unlines end (complete_lines end (drop size rest))));
+        front = taken.front ++ front;
+        split = cc (take-append-drop size rest, append_assoc taken.front front (drop size rest));
+        texts = cc (texts, append_assoc taken.front front (unlines end (complete_lines end (drop size rest))));
       }
 
   -- no complete line is left
   pub taken_all : {block rest : List ℕ} → IsLine end rest → TakenLines end block rest
       → take (length block - length rest) block ≡ unlines end (complete_lines end block)
-  taken_all {block} {rest} none t =
-      let size : length block - length rest ≡ length t.front =
-      omega (arith, ap length t.split, length-append t.front rest) in
-      cc (take_at t.front rest (length t.front) refl, complete_lines_none end rest none, append-nil t.front)
+  taken_all {block} {rest} none taken =
+      let size : length block - length rest ≡ length taken.front =
+      omega (arith, ap length taken.split, length-append taken.front rest) in
+      cc (take_at taken.front rest (length taken.front) refl, complete_lines_none end rest none, append-nil taken.front)

@@ -28,59 +28,52 @@ lines_length : (end : ℕ) (bytes : List ℕ) → length (lines end bytes) ≤ l
 lines_length end [] = omega arith
 lines_length end (b ∷ bytes) = grind (arith, lines_length end bytes)
 
-module _ (end : ℕ) (now : Reader) (given : List ℕ) (ls : List (List ℕ)) (k : AreReceivedLines end now given ls) where
+module _ (end : ℕ) (now : Reader) (given : List ℕ) (ls : List (List ℕ))
+    (received : AreReceivedLines end now given ls) where
   pub lines_are_given : lines end given ≡ ls
-  lines_are_given = ⊎_elim (λ (text, are). cc (lines-unlines end ls are)) (λ (same, _). same) k.so_far
+  lines_are_given = ⊎_elim (λ (text, are). cc (lines-unlines end ls are)) (λ (same, _). same) received.so_far
 
   pub lines_few : length ls ≤ length given
   lines_few = rw lines_are_given at (lines_length end given)
 
   -- for every continuation
   pub lines_on : (rest : List ℕ) → (IsDone now → rest ≡ []) → lines end (given ++ rest) ≡ ls ++ lines end rest
-  lines_on rest may = ⊎_elim opened closed k.so_far
-    where
-      opened : (given ≡ unlines end ls) × AreLines end ls → lines end (given ++ rest) ≡ ls ++ lines end rest
-      opened (text, are) = cc (lines_of_unlines end ls rest are)
-
-      closed : (lines end given ≡ ls) × IsDone now → lines end (given ++ rest) ≡ ls ++ lines end rest
-      closed (same, done) = let none = may done in
-          cc (append-nil given, append-nil ls)
+  lines_on rest may = elim received.so_far [
+    | inl (text, are) ↦ cc (lines_of_unlines end ls rest are)
+    | inr (same, done) ↦ let none = may done in cc (append-nil given, append-nil ls)
+  ]
 
   pub received_longest : (input : List ℕ) → IsConsistent (received_with given now) input
       → max_length ls ≤ max_line_length end input
-  received_longest input a =
+  received_longest input consistent =
       omega (
         arith,
-        ap max_length (ap (lines end) (a.is ∙ append_assoc given now.buffered a.rest)
-            ∙ lines_on (now.buffered ++ a.rest) (λ done. λ i. done.buffered i ++ a.whole done.eof i))
-            ∙ max_length-append ls (lines end (now.buffered ++ a.rest)),
+        ap max_length (ap (lines end) (consistent.is ∙ append_assoc given now.buffered consistent.rest)
+            ∙ lines_on (now.buffered ++ consistent.rest) (λ done. λ i. done.buffered i ++ consistent.whole done.eof i))
+            ∙ max_length-append ls (lines end (now.buffered ++ consistent.rest)),
       )
 
   -- the first part of a line was read
   module _ (new : Reader) (piece : List ℕ) (reads : ReaderAdvance now new piece) (free : IsLine end piece) where
     pub piece_longest : (input : List ℕ) → IsConsistent (received_with (given ++ piece) new) input
         → max (max_length ls) (length piece) ≤ max_line_length end input
-    piece_longest input a = ⊎_elim opened closed k.so_far
-      where
-        opened : (given ≡ unlines end ls) × AreLines end ls
-            → max (max_length ls) (length piece) ≤ max_line_length end input
-        opened (text, are) =
-            let split : input ≡ unlines end ls ++ (piece ++ (new.buffered ++ a.rest)) =
-            cc (
-              a.is,
-              append_assoc given piece new.buffered,
-              append_assoc given (piece ++ new.buffered) a.rest,
-              text,
-              append_assoc piece new.buffered a.rest,
-            ) in
-            rw (← split) at (longest_prefix end ls piece (new.buffered ++ a.rest) are free)
-
-        closed : (lines end given ≡ ls) × IsDone now → max (max_length ls) (length piece) ≤ max_line_length end input
-        closed (same, done) =
-            let (no_piece, no_rest, eof) = eof_gives_nothing _ _ _ done reads in
-            let all : input ≡ given =
-            cc (a.whole eof, append-nil ((given ++ []) ++ []), append-nil (given ++ []), append-nil given) in
-            omega (arith, ap length no_piece, ap max_length (ap (lines end) all ∙ same))
+    piece_longest input consistent = elim received.so_far [
+      | inl (text, are) ↦
+          let split : input ≡ unlines end ls ++ (piece ++ (new.buffered ++ consistent.rest)) =
+          cc (
+            consistent.is,
+            append_assoc given piece new.buffered,
+            append_assoc given (piece ++ new.buffered) consistent.rest,
+            text,
+            append_assoc piece new.buffered consistent.rest,
+          ) in
+          rw (← split) at (longest_prefix end ls piece (new.buffered ++ consistent.rest) are free)
+      | inr (same, done) ↦
+          let (no_piece, no_rest, eof) = eof_gives_nothing _ _ _ done reads in
+          let all : input ≡ given =
+          cc (consistent.whole eof, append-nil ((given ++ []) ++ []), append-nil (given ++ []), append-nil given) in
+          omega (arith, ap length no_piece, ap max_length (ap (lines end) all ∙ same))
+    ]
 
     -- and the read of its rest failed
     pub whole_before : new.buffered ≡ [] → new.eof ≡ false → known_lines end (received_with (given ++ piece) new) ≡ ls
@@ -89,51 +82,53 @@ module _ (end : ℕ) (now : Reader) (given : List ℕ) (ls : List (List ℕ)) (k
         (λ (text, are). (λ i. known_lines end (record { bytes = (text i ++ piece) ++ empty i; eof = going i }))
         ∙ ap (complete_lines end) (append-nil (unlines end ls ++ piece))
         ∙ complete_lines_of_unlines end ls piece are free)
-        (λ (_, done). absurd (false≢true (cc ((stays_at_eof _ _ _ done reads).eof)))) k.so_far
+        (λ (_, done). absurd (false≢true (cc ((stays_at_eof _ _ _ done reads).eof)))) received.so_far
 
   -- one line was read
-  module _ (new : Reader) (before after : Slots) (slot : ℕ) (e : FillLine now new before after slot)
+  module _ (new : Reader) (before after : Slots) (slot : ℕ) (next_line : FillLine now new before after slot)
       (same : now.terminator ≡ end) where
-    free : IsLine end e.line
-    free = rw same at e.whole
+    free : IsLine end next_line.line
+    free = rw same at next_line.whole
 
-    some_received : 0 < length (e.line ++ e.terminator)
-    some_received = elim e.ends [
-      | inl ends ↦ omega (arith, ap length ends, length-append e.line e.terminator)
-      | inr last ↦ omega (arith, length-append e.line e.terminator)
+    some_received : 0 < length (next_line.line ++ next_line.terminator)
+    some_received = elim next_line.ends [
+      | inl ends ↦ omega (arith, ap length ends, length-append next_line.line next_line.terminator)
+      | inr last ↦ omega (arith, length-append next_line.line next_line.terminator)
     ]
 
     -- its bytes are a line for every continuation
     pub line_prefix : (rest : List ℕ) → (IsDone new → rest ≡ [])
-        → lines end ((e.line ++ e.terminator) ++ rest) ≡ e.line ∷ lines end rest
-    line_prefix rest may = elim e.ends [
-      | inl ends ↦ (λ i. lines end (append_assoc e.line ((ends ∙ ap (λ b. b ∷ []) same) i) rest i))
-          ∙ lines_cons end e.line rest free
+        → lines end ((next_line.line ++ next_line.terminator) ++ rest) ≡ next_line.line ∷ lines end rest
+    line_prefix rest may = elim next_line.ends [
+      | inl ends ↦ (λ i. lines end (append_assoc next_line.line ((ends ∙ ap (λ b. b ∷ []) same) i) rest i))
+          ∙ lines_cons end next_line.line rest free
       | inr (unended, some, done) ↦
           let none = may done in
-          cc (append-nil (e.line ++ []), append-nil e.line, lines_of_last end e.line free some)
+          cc (append-nil (next_line.line ++ []), append-nil next_line.line, lines_of_last end next_line.line free some)
     ]
 
-    pub lines_more : AreReceivedLines end new (given ++ (e.line ++ e.terminator)) (ls ++ e.line ∷ [])
-    lines_more = ⊎_elim opened closed k.so_far
-      where
-        opened : (given ≡ unlines end ls) × AreLines end ls
-            → AreReceivedLines end new (given ++ (e.line ++ e.terminator)) (ls ++ e.line ∷ [])
-        opened (text, are) = elim e.ends [
-          | inl ends ↦ record { so_far = inl (cc (unlines_push end ls e.line), AreLines_push end ls e.line are free) }
-          | inr (unended, some, done) ↦ record {
-            so_far = inr (
-              cc (append-nil e.line, lines_of_unlines end ls e.line are, lines_of_last end e.line free some),
-              done,
-            );
-          }
-        ]
-
-        closed : (lines end given ≡ ls) × IsDone now
-            → AreReceivedLines end new (given ++ (e.line ++ e.terminator)) (ls ++ e.line ∷ [])
-        closed (_, done) =
-            let (none, _, _) = eof_gives_nothing _ _ _ done e.advance_ok.reads in
-            absurd (omega (arith, some_received, ap length none))
+    pub lines_more : AreReceivedLines end new (given ++ (next_line.line ++ next_line.terminator))
+        (ls ++ next_line.line ∷ [])
+    lines_more = elim received.so_far [
+      | inl (text, are) ↦ elim next_line.ends [
+        | inl ends ↦ record {
+          so_far = inl (cc (unlines_push end ls next_line.line), AreLines_push end ls next_line.line are free);
+        }
+        | inr (unended, some, done) ↦ record {
+          so_far = inr (
+            cc (
+              append-nil next_line.line,
+              lines_of_unlines end ls next_line.line are,
+              lines_of_last end next_line.line free some,
+            ),
+            done,
+          );
+        }
+      ]
+      | inr (_, done) ↦
+          let (none, _, _) = eof_gives_nothing _ _ _ done next_line.advance_ok.reads in
+          absurd (omega (arith, some_received, ap length none))
+    ]
 
 are_append : (end : ℕ) (xs ys : List (List ℕ)) → AreLines end xs → AreLines end ys → AreLines end (xs ++ ys)
 are_append end [] ys a b = b
@@ -144,14 +139,14 @@ pub lines_block : {end : ℕ} {reader : Reader} {given : List ℕ} {ls : List (L
     → AreReceivedLines end reader given ls → {new : Reader} (more : List (List ℕ))
     → AdvanceOk reader new (unlines end more) → AreLines end more
     → AreReceivedLines end new (given ++ unlines end more) (ls ++ more)
-lines_block {end} {ls} k more advance_ok are = record {
+lines_block {end} {ls} received more advance_ok are = record {
   so_far = ⊎_elim (λ (text, before). inl (cc (unlines-append end ls more), are_append end ls more before are))
       (λ (_, done).
       let (none, _, _) = eof_gives_nothing _ _ _ done advance_ok.reads in
       inr (
-        cc (lines_on _ _ _ _ k (unlines end more) (λ _. none), lines-unlines end more are),
+        cc (lines_on _ _ _ _ received (unlines end more) (λ _. none), lines-unlines end more are),
         stays_at_eof _ _ _ done advance_ok.reads,
-      )) k.so_far;
+      )) received.so_far;
 }
 
 -- ---- the input two blocks earlier
@@ -167,46 +162,44 @@ line_take end (suc n) [] are = tt
 line_take end (suc n) (b ∷ bytes) (differs, are) = (differs, line_take end n bytes are)
 
 -- the terminator of a line and the buffered bytes after it are at most 8,193 bytes
-pub after_line : {now new : Reader} {before after : Slots} {slot : ℕ} (e : FillLine now new before after slot)
-    → IsSound new → length (e.terminator ++ new.buffered) ≤ 8193
-after_line {new} e sound = elim e.ends [
-  | inl ends ↦ omega (arith, ap length ends, length-append e.terminator new.buffered)
-  | inr (none, _, _) ↦ omega (arith, ap length none, length-append e.terminator new.buffered)
+pub after_line : {now new : Reader} {before after : Slots} {slot : ℕ} (next_line : FillLine now new before after slot)
+    → IsSound new → length (next_line.terminator ++ new.buffered) ≤ 8193
+after_line {new} next_line sound = elim next_line.ends [
+  | inl ends ↦ omega (arith, ap length ends, length-append next_line.terminator new.buffered)
+  | inr (none, _, _) ↦ omega (arith, ap length none, length-append next_line.terminator new.buffered)
 ]
 
-module _ {end : ℕ} {now new : Reader} {given : List ℕ} {ls : List (List ℕ)} (k : AreReceivedLines end now given ls)
+module _ {end : ℕ} {now new : Reader} {given : List ℕ} {ls : List (List ℕ)}
+    (received : AreReceivedLines end now given ls)
     {piece : List ℕ} (reads : ReaderAdvance now new piece) (line behind : List ℕ)
     (is : piece ++ new.buffered ≡ line ++ behind) (whole : IsLine end line) (short : length behind ≤ 8193) where
   -- all but the terminator of a line that was read, and the bytes after it
   pub before_line : EarlierLines end ls (received_with (given ++ piece) new)
-  before_line = ⊎_elim opened closed k.so_far
-    where
-      opened : (given ≡ unlines end ls) × AreLines end ls → EarlierLines end ls (received_with (given ++ piece) new)
-      opened (text, are) = let n = length line - 8191 in record {
-        before = record {
-          earlier = record { bytes = given ++ take n line; eof = false };
-          last = drop n line ++ behind;
-          split =
-              cc (
-                append_assoc given piece new.buffered,
-                take-append-drop n line,
-                append_assoc (take n line) (drop n line) behind,
-                append_assoc given (take n line) (drop n line ++ behind),
-              );
-          short = omega (arith, length-append (drop n line) behind, length-drop n line);
-          eof = λ never. absurd (false≢true never);
-        };
-        whole = cc (complete_lines_of_unlines end ls (take n line) are (line_take end n line whole));
-      }
-
-      closed : (lines end given ≡ ls) × IsDone now → EarlierLines end ls (received_with (given ++ piece) new)
-      closed (same, done) = let none = eof_gives_nothing _ _ _ done reads in record {
-        before = record {
-          earlier = record { bytes = given; eof = true };
-          last = [];
-          split = cc (append-nil (given ++ []));
-          short = omega arith;
-          eof = λ e. (stays_at_eof _ _ _ done reads).eof;
-        };
-        whole = same;
-      }
+  before_line = elim received.so_far [
+    | inl (text, are) ↦ let n = length line - 8191 in record {
+      before = record {
+        earlier = record { bytes = given ++ take n line; eof = false };
+        last = drop n line ++ behind;
+        split =
+            cc (
+              append_assoc given piece new.buffered,
+              take-append-drop n line,
+              append_assoc (take n line) (drop n line) behind,
+              append_assoc given (take n line) (drop n line ++ behind),
+            );
+        short = omega (arith, length-append (drop n line) behind, length-drop n line);
+        eof = λ never. absurd (false≢true never);
+      };
+      whole = cc (complete_lines_of_unlines end ls (take n line) are (line_take end n line whole));
+    }
+    | inr (same, done) ↦ let none = eof_gives_nothing _ _ _ done reads in record {
+      before = record {
+        earlier = record { bytes = given; eof = true };
+        last = [];
+        split = cc (append-nil (given ++ []));
+        short = omega arith;
+        eof = λ e. (stays_at_eof _ _ _ done reads).eof;
+      };
+      whole = same;
+    }
+  ]

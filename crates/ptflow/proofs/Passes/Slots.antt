@@ -1,8 +1,8 @@
 -- The slots of a tool that works line by line: at most one line in each of its slots, and nothing in the others. So the
 -- store holds at most `width` times the maximum length of these lines.
 use Rattle.ptflow.proofs.Common.{◌≡◌, ℕ, zero, suc, ◌+◌, ◌-◌, ◌*◌, ◌<◌, ◌≤◌, false, List, [], ◌∷◌, length, take, drop}
-use Rattle.ptflow.proofs.Common.{set, get_or, max, refl, sym, ◌∙◌, ap, subst, arith, ⊎_elim, take-append-drop}
-use Rattle.ptflow.proofs.Common.{common_steps, swap, mul-le-mul_left, drop_more, length-set, drop-set-lt, sum_by-cons}
+use Rattle.ptflow.proofs.Common.{set, get_or, max, refl, sym, ◌∙◌, ap, subst, arith, inl, inr, take-append-drop}
+use Rattle.ptflow.proofs.Common.{common_steps, mul-le-mul_left, drop_more, length-set, drop-set-lt, sum_by-cons}
 use Rattle.ptflow.proofs.Common.{sum_by-append, get_or-le-sum_by, Slots, total_bytes, with_line, AddedSlots, IsSwapped}
 use Rattle.ptflow.proofs.Common.{SlotsCleared}
 use Rattle.std.proofs.lemmas.List.Edits.{swap_is}
@@ -50,11 +50,11 @@ bounds_start {width} {store} adds denied empty peak = record {
 
 pub bounds_weaker : {width most : ℕ} (more : ℕ) {before store : Slots} → SlotBounds width most before store
     → most ≤ more → SlotBounds width more before store
-bounds_weaker {width} more k high = record {
-  denied = k.denied;
-  adds = k.adds;
-  short = λ i low. omega (arith, k.short i low);
-  others = k.others;
+bounds_weaker {width} more bounds high = record {
+  denied = bounds.denied;
+  adds = bounds.adds;
+  short = λ i low. omega (arith, bounds.short i low);
+  others = bounds.others;
   peak = omega (arith, mul-le-mul_left width high);
 }
 
@@ -62,12 +62,12 @@ bounds_weaker {width} more k high = record {
 pub bounds_line : {width most : ℕ} {before store : Slots} (new : Slots) (slot : ℕ) (bytes : List ℕ)
     → SlotBounds width most before store → slot < width → length bytes ≤ most → new ≡ with_line store slot bytes
     → SlotBounds width most before new
-bounds_line {width} {most} {store} new slot bytes k within fits is = record {
+bounds_line {width} {most} {store} new slot bytes bounds within fits is = record {
   denied = cc;
   adds = record {
     least = omega (arith, same_length);
     most = omega (arith, same_length);
-    all = λ allowed. same_length ∙ k.adds.all k.denied;
+    all = λ allowed. same_length ∙ bounds.adds.all bounds.denied;
   };
   short = short;
   others = others;
@@ -75,7 +75,7 @@ bounds_line {width} {most} {store} new slot bytes k within fits is = record {
       omega (
         arith,
         ap (λ s. s.peak) is,
-        k.peak,
+        bounds.peak,
         ap (λ s. total_bytes s.lines) is,
         bounded_total width most new.lines short others,
       );
@@ -93,24 +93,39 @@ bounds_line {width} {most} {store} new slot bytes k within fits is = record {
 -- the first and the last slot may have been swapped
 pub swapped_room : {width : ℕ} {before after : Slots} → IsSwapped width before after → 0 < width
     → width ≤ length before.lines → width ≤ length after.lines
-swapped_room {width} {before} {after} either some room = ⊎_elim
-    (λ same. omega (arith, ap (λ s. length s.lines) same)) changed either
-  where
-    changed : after ≡ record before { lines = swap before.lines 0 (width - 1) } → width ≤ length after.lines
-    changed is =
-        let first = set before.lines 0 (get_or before.lines (width - 1) []) in
-        omega (
-          arith,
-          ap (λ s. length s.lines) is,
-          ap length (swap_is before.lines 0 (width - 1) [] (omega arith) (omega arith)),
-          length-set first (width - 1) (get_or before.lines 0 []),
-          length-set before.lines 0 (get_or before.lines (width - 1) []),
-        )
+swapped_room {width} {before} either some room = elim either [
+  | inl same ↦ omega (arith, ap (λ s. length s.lines) same)
+  | inr is ↦
+      let first = set before.lines 0 (get_or before.lines (width - 1) []) in
+      omega (
+        arith,
+        ap (λ s. length s.lines) is,
+        ap length (swap_is before.lines 0 (width - 1) [] (omega arith) (omega arith)),
+        length-set first (width - 1) (get_or before.lines 0 []),
+        length-set before.lines 0 (get_or before.lines (width - 1) []),
+      )
+]
 
 pub bounds_swapped : {width most : ℕ} {before store : Slots} (new : Slots) → 0 < width
     → SlotBounds width most before store → IsSwapped width store new → SlotBounds width most before new
-bounds_swapped {width} {most} {before} {store} new some k either = ⊎_elim
-    (λ same. subst (SlotBounds width most before) (sym same) k) changed either
+bounds_swapped {width} {most} {before} {store} new some bounds either = elim either [
+  | inl same ↦ subst (SlotBounds width most before) (sym same) bounds
+  | inr is ↦
+      let room : width ≤ length store.lines = omega (arith, bounds.adds.all bounds.denied) in
+      let swapped = swap_is store.lines 0 (width - 1) [] (omega arith) (omega arith) in
+      let same : new.lines ≡ set (set store.lines 0 last) (width - 1) first = cc in
+      record {
+        denied = cc;
+        adds = record {
+          least = omega (arith, ap length same, bounds_both.adds.least);
+          most = omega (arith, ap length same, bounds_both.adds.most);
+          all = λ allowed. cc (bounds_both.adds.all bounds_both.denied);
+        };
+        short = λ i low. rw same (bounds_both.short i low);
+        others = cc (same, bounds_both.others);
+        peak = omega (arith, ap (λ s. s.peak) is, bounds.peak);
+      }
+]
   where
     first : List ℕ
     first = get_or store.lines 0 []
@@ -121,41 +136,30 @@ bounds_swapped {width} {most} {before} {store} new some k either = ⊎_elim
     bounds_both : SlotBounds width most before (with_line (with_line store 0 last) (width - 1) first)
     bounds_both =
         bounds_line (with_line (with_line store 0 last) (width - 1) first) (width - 1) first
-        (bounds_line (with_line store 0 last) 0 last k some (k.short (width - 1) (omega arith)) refl) (omega arith)
-        (k.short 0 some) refl
-
-    changed : new ≡ record store { lines = swap store.lines 0 (width - 1) } → SlotBounds width most before new
-    changed is =
-        let room : width ≤ length store.lines = omega (arith, k.adds.all k.denied) in
-        let swapped = swap_is store.lines 0 (width - 1) [] (omega arith) (omega arith) in
-        let same : new.lines ≡ set (set store.lines 0 last) (width - 1) first = cc in
-        record {
-          denied = cc;
-          adds = record {
-            least = omega (arith, ap length same, bounds_both.adds.least);
-            most = omega (arith, ap length same, bounds_both.adds.most);
-            all = λ allowed. cc (bounds_both.adds.all bounds_both.denied);
-          };
-          short = λ i low. rw same (bounds_both.short i low);
-          others = cc (same, bounds_both.others);
-          peak = omega (arith, ap (λ s. s.peak) is, k.peak);
-        }
+        (bounds_line (with_line store 0 last) 0 last bounds some (bounds.short (width - 1) (omega arith)) refl)
+        (omega arith) (bounds.short 0 some) refl
 
 -- the last slot was empty, and the others were cleared
 pub bounds_cleared : {width most : ℕ} {before store new : Slots} → SlotBounds width most before store → 0 < width
     → get_or store.lines (width - 1) [] ≡ [] → SlotsCleared (width - 1) store new
     → SlotBounds width most before new × (total_bytes new.lines ≡ 0)
-bounds_cleared {width} {most} {store} {new} k some last e = (
+bounds_cleared {width} {most} {store} {new} bounds some last cleared = (
   record {
     denied = cc;
     adds = record {
       least = omega arith;
       most = omega arith;
-      all = λ allowed. e.size ∙ k.adds.all k.denied;
+      all = λ allowed. cleared.size ∙ bounds.adds.all bounds.denied;
     };
-    short = λ i low. omega (arith, none, get_or-le-sum_by length new.lines i [] (omega (arith, k.adds.all k.denied)));
+    short =
+        λ i low. omega (
+          arith,
+          none,
+          get_or-le-sum_by length new.lines i []
+              (omega (arith, bounds.adds.all bounds.denied)),
+        );
     others = omega (arith, none, total_split width new.lines);
-    peak = omega (arith, bounded_total width most store.lines k.short k.others);
+    peak = omega (arith, bounded_total width most store.lines bounds.short bounds.others);
   },
   none,
 )
@@ -163,7 +167,14 @@ bounds_cleared {width} {most} {store} {new} k some last e = (
     none : total_bytes new.lines ≡ 0
     none =
         let one : width - 1 + 1 ≡ width = omega arith in
-        let more = drop_more store.lines (width - 1) [] (omega (arith, k.adds.all k.denied)) in
+        let more = drop_more store.lines (width - 1) [] (omega (arith, bounds.adds.all bounds.denied)) in
         let behind = ap total_bytes more ∙ sum_by-cons length (get_or store.lines (width - 1) [])
         (drop (width - 1 + 1) store.lines) in
-        omega (arith, e.left, behind, ap length last, ap (λ n. total_bytes (drop n store.lines)) one, k.others)
+        omega (
+          arith,
+          cleared.left,
+          behind,
+          ap length last,
+          ap (λ n. total_bytes (drop n store.lines)) one,
+          bounds.others,
+        )

@@ -85,19 +85,19 @@ pub record CountInvariant (job : Uniq) (end : ℕ) (first block rest : List ℕ)
       → runs_after job (run_of first n) (front ++ more) ≡ runs_after job (run_of first (n + count)) more
 
 module _ {job : Uniq} {end : ℕ} {first block : List ℕ} {rest : List ℕ} {count : ℕ}
-    (c : CountInvariant job end first block rest count) where
+    (counted : CountInvariant job end first block rest count) where
   pub count_few : count + length rest ≤ length block
-  count_few = omega (arith, front_few c.lies)
+  count_few = omega (arith, front_few counted.lies)
 
   pub count_more : (at : ℕ) → IsFirstByte (is_byte end) rest (Some at) → is_same job first (take at rest) ≡ true
       → CountInvariant job end first block (drop (at + 1) rest) (count + 1)
   count_more at found same = record {
-    front = c.front ++ take at rest ∷ [];
-    lies = front_more c.lies at found;
-    number = omega (arith, length-append c.front (take at rest ∷ []));
+    front = counted.front ++ take at rest ∷ [];
+    lies = front_more counted.lies at found;
+    number = omega (arith, length-append counted.front (take at rest ∷ []));
     on = λ n some more.
-        ap (runs_after job (run_of first n)) (append_assoc c.front (take at rest ∷ []) more)
-        ∙ c.on n some (take at rest ∷ more)
+        ap (runs_after job (run_of first n)) (append_assoc counted.front (take at rest ∷ []) more)
+        ∙ counted.on n some (take at rest ∷ more)
         ∙ runs_after_more job (run_of first (n + count)) (take at rest) more (both (n + count) (omega (arith, some)))
         ∙ ap (λ m. runs_after job (run_of first m) more) (omega arith);
   }
@@ -109,13 +109,13 @@ module _ {job : Uniq} {end : ℕ} {first block : List ℕ} {rest : List ℕ} {co
       → is_same job first line ≡ false)
       → CountRepeatsPost job end first block (record { count = count; passed = length block - length rest })
   count_ends turns = record {
-    front = c.front;
-    number = c.number;
-    split = cc (front_drop c.lies);
+    front = counted.front;
+    number = counted.number;
+    split = cc (front_drop counted.lies);
     within = omega arith;
-    texts = front_take c.lies;
-    on = c.on;
-    turns = λ line more is. turns line more (cc (front_drop c.lies));
+    texts = front_take counted.lies;
+    on = counted.on;
+    turns = λ line more is. turns line more (cc (front_drop counted.lies));
   }
 
   -- no complete line is left
@@ -229,156 +229,166 @@ runs_loop_starts job block at first run_key_is was =
     }
 
 module _ {job : Uniq} {block : List ℕ} {rest : List ℕ} {count : ℕ} {line pending : Span} {run_key : List ℕ}
-    {was is : Output} (r : RunsInvariant job block rest count line pending run_key was is) where
+    {was is : Output} (so_far : RunsInvariant job block rest count line pending run_key was is) where
   pub runs_loop_few : count + length rest ≤ length block
-  runs_loop_few = omega (arith, front_few r.lies)
+  runs_loop_few = omega (arith, front_few so_far.lies)
 
   module _ (at : ℕ) (found : IsFirstByte (is_byte job.terminator) rest (Some at)) where
     abbrev next : List ℕ
     next = take at rest
 
     one_more : (more : List (List ℕ))
-        → runs_after job (run_of [] 0) ((r.front ++ next ∷ []) ++ more)
-        ≡ r.passed ++ runs_after job (run_of r.first count) (next ∷ more)
-    one_more more = cc (append_assoc r.front (next ∷ []) more, r.on (next ∷ more))
+        → runs_after job (run_of [] 0) ((so_far.front ++ next ∷ []) ++ more)
+        ≡ so_far.passed ++ runs_after job (run_of so_far.first count) (next ∷ more)
+    one_more more = cc (append_assoc so_far.front (next ∷ []) more, so_far.on (next ∷ more))
 
-    pub runs_loop_more : is_same job r.first next ≡ true
+    pub runs_loop_more : is_same job so_far.first next ≡ true
         → RunsInvariant job block (drop (at + 1) rest) (count + 1) line pending run_key was is
     runs_loop_more same = record {
-      front = r.front ++ next ∷ [];
-      lies = front_more r.lies at found;
-      passed = r.passed;
-      pushed = r.pushed;
-      wrote = r.wrote;
-      waits = r.waits;
-      first = r.first;
-      on = λ more. cc (one_more more, runs_after_more job (run_of r.first count) next more (some_count r.some same));
-      run_key_is = r.run_key_is;
-      whole = r.whole;
-      line_in = r.line_in;
-      waiting_in = r.waiting_in;
+      front = so_far.front ++ next ∷ [];
+      lies = front_more so_far.lies at found;
+      passed = so_far.passed;
+      pushed = so_far.pushed;
+      wrote = so_far.wrote;
+      waits = so_far.waits;
+      first = so_far.first;
+      on =
+          λ more. cc (
+            one_more more,
+            runs_after_more job (run_of so_far.first count) next more
+                (some_count so_far.some same),
+          );
+      run_key_is = so_far.run_key_is;
+      whole = so_far.whole;
+      line_in = so_far.line_in;
+      waiting_in = so_far.waiting_in;
       some = omega arith;
-      few = omega (arith, length-append r.front (next ∷ []));
+      few = omega (arith, length-append so_far.front (next ∷ []));
     }
 
-    module _ (other : is_same job r.first next ≡ false) where
+    module _ (other : is_same job so_far.first next ≡ false) where
       turned : (more : List (List ℕ))
-          → runs_after job (run_of [] 0) ((r.front ++ next ∷ []) ++ more)
-          ≡ (r.passed ++ current_run (run_of r.first count)) ++ runs_after job (run_of next 1) more
+          → runs_after job (run_of [] 0) ((so_far.front ++ next ∷ []) ++ more)
+          ≡ (so_far.passed ++ current_run (run_of so_far.first count)) ++ runs_after job (run_of next 1) more
       turned more =
           cc (
             one_more more,
-            runs_after_next job (run_of r.first count) next more (other_count count other),
-            append_assoc r.passed (current_run (run_of r.first count)) (runs_after job (run_of next 1) more),
+            runs_after_next job (run_of so_far.first count) next more (other_count count other),
+            append_assoc so_far.passed (current_run (run_of so_far.first count)) (runs_after job (run_of next 1) more),
           )
 
-      -- the deferred output, and then that of the run, are the output of all runs but the next
-      all_entries : (pushed waiting' : List ℕ)
-          → pushed ++ waiting' ≡ span_of block pending ++ run_output job.show count (span_of block line)
-          → (r.pushed ++ pushed) ++ waiting' ≡ output_of job (r.passed ++ current_run (run_of r.first count))
+      -- the deferred output, and then that of the run
+      abbrev due : List ℕ
+      due = span_of block pending ++ run_output job.show count (span_of block line)
+
+      -- they are the output of all runs but the next
+      all_entries : (pushed waiting' : List ℕ) → pushed ++ waiting' ≡ due
+          → (so_far.pushed ++ pushed) ++ waiting'
+          ≡ output_of job (so_far.passed ++ current_run (run_of so_far.first count))
       all_entries pushed waiting' all =
           cc (
-            append_assoc r.pushed pushed waiting',
-            append_assoc r.pushed (span_of block pending) (run_output job.show count (span_of block line)),
-            current_run_is job (run_of r.first count),
-            entries-append job r.passed (current_run (run_of r.first count)),
+            append_assoc so_far.pushed pushed waiting',
+            append_assoc so_far.pushed (span_of block pending) (run_output job.show count (span_of block line)),
+            current_run_is job (run_of so_far.first count),
+            entries-append job so_far.passed (current_run (run_of so_far.first count)),
           )
 
       pub runs_loop_next : {is' : Output} {now : Span}
-          → IsPending (span_of block pending ++ run_output job.show count (span_of block line)) block now is is'
+          → IsPending due block now is is'
           → (from to : ℕ) → from ≡ length block - length rest → to ≡ from + at + 1 → {own' : List ℕ}
           → own' ≡ key job next
           → RunsInvariant job block (drop (at + 1) rest) 1 (record { from = from; to = to }) now own' was is'
-      runs_loop_next {now} w from to from_is to_is own_is' =
-          let (whole, line_in) = line_in_block r.lies at found _ _ from_is to_is in record {
-            front = r.front ++ next ∷ [];
-            lies = front_more r.lies at found;
-            passed = r.passed ++ current_run (run_of r.first count);
-            pushed = r.pushed ++ w.pushed;
-            wrote = wrote_then _ _ _ r.wrote w.wrote;
-            waits = all_entries w.pushed (span_of block now) w.all;
+      runs_loop_next {now} waiting from to from_is to_is own_is' =
+          let (whole, line_in) = line_in_block so_far.lies at found _ _ from_is to_is in record {
+            front = so_far.front ++ next ∷ [];
+            lies = front_more so_far.lies at found;
+            passed = so_far.passed ++ current_run (run_of so_far.first count);
+            pushed = so_far.pushed ++ waiting.pushed;
+            wrote = wrote_then _ _ _ so_far.wrote waiting.wrote;
+            waits = all_entries waiting.pushed (span_of block now) waiting.all;
             first = next;
             on = turned;
             run_key_is = own_is';
             whole = whole;
             line_in = line_in;
-            waiting_in = w.span;
+            waiting_in = waiting.span;
             some = omega arith;
-            few = omega (arith, length-append r.front (next ∷ []));
+            few = omega (arith, length-append so_far.front (next ∷ []));
           }
 
       -- a write failed
       pub runs_loop_failed : {is' : Output} → is'.write_failed ≡ true
-          → PushEffect is is' (span_of block pending ++ run_output job.show count (span_of block line))
+          → PushEffect is is' due
           → RunsFailed job (run_of [] 0) (complete_lines job.terminator block) was is'
       runs_loop_failed {is'} fault wrote = record {
-        passed = r.passed ++ current_run (run_of r.first count);
+        passed = so_far.passed ++ current_run (run_of so_far.first count);
         fault = fault;
         wrote = subst (PushEffect was is')
-            (sym (append-nil (r.pushed ++ (span_of block pending ++ run_output job.show count (span_of block line))))
-            ∙ all_entries (span_of block pending ++ run_output job.show count (span_of block line)) []
-            (append-nil (span_of block pending ++ run_output job.show count (span_of block line))))
-            (wrote_then _ _ _ r.wrote wrote);
+            (sym
+            (append-nil (so_far.pushed ++ due))
+            ∙ all_entries due []
+            (append-nil due))
+            (wrote_then _ _ _ so_far.wrote wrote);
         is_prefix = λ more.
             let behind = complete_lines job.terminator (drop (at + 1) rest) ++ more in
             (runs_after job (run_of next 1) behind, cc (lines_on more, turned behind));
       }
         where
           lines_on : (more : List (List ℕ))
-              → complete_lines job.terminator block ++ more
-              ≡ (r.front ++ next ∷ []) ++ (complete_lines job.terminator (drop (at + 1) rest) ++ more)
+              → complete_lines job.terminator block ++ more ≡ (so_far.front ++ next ∷ [])
+              ++ (complete_lines job.terminator (drop (at + 1) rest) ++ more)
           lines_on more =
               cc (
-                (front_more r.lies at found).lines,
-                append_assoc (r.front ++ next ∷ []) (complete_lines job.terminator (drop (at + 1) rest)) more,
+                (front_more so_far.lies at found).lines,
+                append_assoc (so_far.front ++ next ∷ []) (complete_lines job.terminator (drop (at + 1) rest)) more,
               )
 
   -- no complete line is left
   module _ (none : IsLine job.terminator rest) {is' : Output} (wrote : PushEffect is is' (span_of block pending)) where
-    all_lines : complete_lines job.terminator block ≡ r.front
-    all_lines = front_all r.lies none
+    all_lines : complete_lines job.terminator block ≡ so_far.front
+    all_lines = front_all so_far.lies none
 
-    all_wrote : PushEffect was is' (output_of job r.passed)
-    all_wrote = rw r.waits at (wrote_then _ _ _ r.wrote wrote)
+    all_wrote : PushEffect was is' (output_of job so_far.passed)
+    all_wrote = rw so_far.waits at (wrote_then _ _ _ so_far.wrote wrote)
 
     pub running_done : is'.write_failed ≡ false
         → RunsWritten job (run_of [] 0) (run_of (slice_range block line.from (line.to - 1)) count)
         (complete_lines job.terminator block) was is'
     running_done clean = record {
-      passed = r.passed;
+      passed = so_far.passed;
       wrote = all_wrote;
       clean = λ _. clean;
-      on = λ more. cc (all_lines, r.on more, first_is);
+      on = λ more. cc (all_lines, so_far.on more, first_is);
       count = omega (arith, ap length all_lines);
       some = λ h. omega arith;
     }
       where
-        sizes : line.to - line.from ≡ length r.first + 1
-        sizes = let (some, within) = r.line_in in
+        sizes : line.to - line.from ≡ length so_far.first + 1
+        sizes = let (some, within) = so_far.line_in in
             omega (
               arith,
               length_range block line.from _ (omega (arith, some)) within,
-              ap length r.whole,
-              length-append r.first (job.terminator ∷ []),
+              ap length so_far.whole,
+              length-append so_far.first (job.terminator ∷ []),
             )
 
-        first_is : slice_range block line.from (line.to - 1) ≡ r.first
+        first_is : slice_range block line.from (line.to - 1) ≡ so_far.first
         first_is =
-            let short : line.to - 1 - line.from ≡ length r.first = omega (arith, sizes) in
+            let short : line.to - 1 - line.from ≡ length so_far.first = omega (arith, sizes) in
             cc (
-              take-take (length r.first) (line.to - line.from) (drop line.from block) (omega (arith, sizes)),
-              take_at r.first (job.terminator ∷ []) (length r.first) refl,
+              take-take (length so_far.first) (line.to - line.from) (drop line.from block) (omega (arith, sizes)),
+              take_at so_far.first (job.terminator ∷ []) (length so_far.first) refl,
             )
 
     pub running_unended : is'.write_failed ≡ true
         → RunsFailed job (run_of [] 0) (complete_lines job.terminator block) was is'
     running_unended fault = record {
-      passed = r.passed;
+      passed = so_far.passed;
       wrote = all_wrote;
       fault = fault;
-      is_prefix = λ more. (runs_after job (run_of r.first count) more, cc (all_lines, r.on more));
+      is_prefix = λ more. (runs_after job (run_of so_far.first count) more, cc (all_lines, so_far.on more));
     }
 
     pub runs_loop_passed : take (length block - length rest) block
         ≡ unlines job.terminator (complete_lines job.terminator block)
-    runs_loop_passed = cc (front_take r.lies, all_lines)
+    runs_loop_passed = cc (front_take so_far.lies, all_lines)

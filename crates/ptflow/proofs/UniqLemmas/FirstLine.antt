@@ -140,7 +140,7 @@ block_none job end run block was none = record {
 
 -- the current run continues for some lines of a block
 module _ {job : Uniq} {end : ℕ} {first block : List ℕ} {same : RepeatCount}
-    (g : CountRepeatsPost job end first block same) {count : ℕ} (some : 0 < count) where
+    (repeats : CountRepeatsPost job end first block same) {count : ℕ} (some : 0 < count) where
   abbrev rest : List ℕ
   rest = drop same.passed block
 
@@ -151,10 +151,13 @@ module _ {job : Uniq} {end : ℕ} {first block : List ℕ} {same : RepeatCount}
       → runs_after job (run_of first count) (complete_lines end block ++ more)
       ≡ runs_after job run (complete_lines end rest ++ more)
   continued more =
-      cc (append_assoc g.front (complete_lines end rest) more, g.on count some (complete_lines end rest ++ more))
+      cc (
+        append_assoc repeats.front (complete_lines end rest) more,
+        repeats.on count some (complete_lines end rest ++ more),
+      )
 
   many : length (complete_lines end block) ≡ same.count + length (complete_lines end rest)
-  many = omega (arith, ap length g.split, length-append g.front (complete_lines end rest))
+  many = omega (arith, ap length repeats.split, length-append repeats.front (complete_lines end rest))
 
   -- no other line is complete
   module _ (none : IsLine end rest) where
@@ -169,7 +172,7 @@ module _ {job : Uniq} {end : ℕ} {first block : List ℕ} {same : RepeatCount}
     }
 
     pub block_on_passed : take same.passed block ≡ unlines end (complete_lines end block)
-    block_on_passed = cc (complete_lines_none end rest none, append-nil g.front)
+    block_on_passed = cc (complete_lines_none end rest none, append-nil repeats.front)
 
   -- the next line has another key
   module _ (at : ℕ) (found : IsFirstByte (is_byte end) rest (Some at)) where
@@ -183,7 +186,7 @@ module _ {job : Uniq} {end : ℕ} {first block : List ℕ} {same : RepeatCount}
         cc (
           continued more,
           runs_after_next job run next behind
-              (other_count (count + same.count) (g.turns next (complete_lines end (drop (at + 1) rest))
+              (other_count (count + same.count) (repeats.turns next (complete_lines end (drop (at + 1) rest))
               (ended_next end rest at found))),
           runs_after_next job (run_of [] 0) next behind refl,
         )
@@ -206,23 +209,28 @@ module _ {job : Uniq} {end : ℕ} {first block : List ℕ} {same : RepeatCount}
       pub block_turns : is.write_failed ≡ false → (after : Run)
           → RunsWritten job (run_of [] 0) after (complete_lines end rest) is is'
           → RunsWritten job (run_of first count) after (complete_lines end block) was is'
-      block_turns clean after r = record {
-        passed = current_run run ++ r.passed;
-        wrote = both_wrote r.passed r.wrote;
-        clean = λ _. r.clean clean;
-        on = λ more. cc (turned more, r.on more, append_assoc (current_run run) r.passed (runs_after job after more));
+      block_turns clean after later = record {
+        passed = current_run run ++ later.passed;
+        wrote = both_wrote later.passed later.wrote;
+        clean = λ _. later.clean clean;
+        on =
+            λ more. cc (
+              turned more,
+              later.on more,
+              append_assoc (current_run run) later.passed (runs_after job after more),
+            );
         count = omega (arith, many);
-        some = λ h. r.some (omega (arith, ap length (ended_next end rest at found)));
+        some = λ h. later.some (omega (arith, ap length (ended_next end rest at found)));
       }
 
       pub block_halts : RunsFailed job (run_of [] 0) (complete_lines end rest) is is'
           → RunsFailed job (run_of first count) (complete_lines end block) was is'
-      block_halts h = record {
-        passed = current_run run ++ h.passed;
-        wrote = both_wrote h.passed h.wrote;
-        fault = h.fault;
-        is_prefix = λ more. let (rest, on) = h.is_prefix more in
-            (rest, cc (turned more, append_assoc (current_run run) h.passed rest));
+      block_halts failed = record {
+        passed = current_run run ++ failed.passed;
+        wrote = both_wrote failed.passed failed.wrote;
+        fault = failed.fault;
+        is_prefix = λ more. let (rest, on) = failed.is_prefix more in
+            (rest, cc (turned more, append_assoc (current_run run) failed.passed rest));
       }
 
   pub block_passed : (passed : ℕ) → take passed rest ≡ unlines end (complete_lines end rest)
@@ -230,8 +238,8 @@ module _ {job : Uniq} {end : ℕ} {first block : List ℕ} {same : RepeatCount}
   block_passed passed is =
       let front = take same.passed block in
       cc (
-        length-take-le same.passed block g.within,
+        length-take-le same.passed block repeats.within,
         take-append-drop same.passed block,
         take-append-add front rest passed,
-        unlines-append end g.front (complete_lines end rest),
+        unlines-append end repeats.front (complete_lines end rest),
       )

@@ -95,7 +95,7 @@ after_none [] none = refl
 after_none (b ∷ bytes) none = other_here b bytes (none 0 (omega arith)) ∙ after_none bytes (λ k lt. none (suc k) (omega arith))
 
 pub after_found : (line : List ℕ) (at : ℕ) → IsFirstByte (is_byte2 32 9) line (Some at) → after_nonblanks line ≡ drop at line
-after_found line at (none, found) = after_at line _ none.high (λ k lt. none.before k (omega arith) lt) found
+after_found line at first = after_at line _ first.0.high (λ k lt. first.0.before k (omega arith) lt) first.1
 
 pub after_not_found : (line : List ℕ) → IsFirstByte (is_byte2 32 9) line None → after_nonblanks line ≡ []
 after_not_found line none = after_none line (λ k lt. none k (omega arith) lt)

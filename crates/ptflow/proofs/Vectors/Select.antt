@@ -29,8 +29,7 @@ above r n high = grind (arith, nat_tests)
 -- intervals that begin after a position do not select it
 pub not_selected : (rs : List Interval) (low n : ℕ) → AreSeparated low rs → n ≤ low → is_selected rs n ≡ false
 not_selected [] low n apart out = refl
-not_selected (r ∷ rs) low n (from, order, apart) out =
-    rw (below r n (omega (arith, from))) (not_selected rs (r.last + 1) n apart (omega (arith, from, order)))
+not_selected (r ∷ rs) low n apart out = rw (below r n (omega (arith, apart.0))) (not_selected rs (r.last + 1) n apart.2 (omega (arith, apart.0, apart.1)))
 
 -- no item is selected
 pub select_none : {X : Type 0} (test : ℕ → Bool) (n : ℕ) (xs : List X)
@@ -116,8 +115,7 @@ copy_starts apart = record { front = refl; low = 0; apart = apart; near = omega 
 pub copy_order : {all : List Interval} {i before : ℕ} {piece tail was is : List ℕ} {start at : ℕ}
     → CopyInvariant all i before piece tail was is start at → i < length all
     → (get_or all i (record { first = 0; last = 0 })).first ≤ (get_or all i (record { first = 0; last = 0 })).last
-copy_order {all} {i} k within =
-    let (_, order, _) = rw (drop_more all i (record { first = 0; last = 0 }) within) at k.apart in order
+copy_order {all} {i} k within = (rw (drop_more all i (record { first = 0; last = 0 }) within) at k.apart).1
 
 module _ {all : List Interval} {before : ℕ} {piece tail was : List ℕ} {start : ℕ} where
   module _ {i : ℕ} {is : List ℕ} {at : ℕ} (k : CopyInvariant all i before piece tail was is start at) where
@@ -150,7 +148,7 @@ module _ {all : List Interval} {before : ℕ} {piece tail was : List ℕ} {start
 
       -- the bytes of the interval fit before the end of the part that it covers
       pub copy_room : at + ((r.last - before) - (r.first - (before + 1))) ≤ start + (r.last - before)
-      copy_room = let (from, order, _) = apart in omega (arith, from, order)
+      copy_room = omega (arith, apart.0, apart.1)
 
       -- the bytes of one interval were copied
       pub copy_next : {is' : List ℕ} {at' : ℕ} → is' ≡ is ++ select_from (is_within r) (before + 1) piece → at'

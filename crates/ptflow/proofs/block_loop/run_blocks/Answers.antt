@@ -4,10 +4,19 @@ use Rattle.ptflow.proofs.Common.{◌≡◌, [], ◌++◌, length, refl, sym, ◌
 use Rattle.ptflow.proofs.Common.{nil_from_length}
 use Rattle.ptflow.proofs.Passes.BlockLoop.{pass_state_starts, pass_state_more, block_room, not_empty, counted_more}
 use Rattle.ptflow.proofs.Passes.BlockLoop.{block_read, block_write, block_flush_failed, block_done, block_unended}
-use Rattle.ptflow.proofs.Passes.Exits.{pass_state_flushed}
+use Rattle.ptflow.proofs.Passes.Exits.{PassState, pass_state_flushed}
 use Rattle.ptflow.proofs.Passes.Readers.{advance_none, budget_of_block}
 use Rattle.ptflow.proofs.Passes.StepOutput.{returned_err}
+use Rattle.ptflow.proofs.block_loop.run_blocks.Given as given
 use Rattle.ptflow.proofs.block_loop.run_blocks.Goals as goal
+use Rattle.ptflow.proofs.block_loop.run_blocks.Goals.{In_ok-write_out_before_blocking}
+
+-- the state after the buffered output was written
+abbrev written_out : (g : given.Over) (c : In_ok-write_out_before_blocking g)
+    → PassState g.T.BlockFilter.rest c.args.tool.now c.reading.tool c.args.reader.now c.reading.reader c.args.out.now
+    c.write_out_before_blocking.new.out
+written_out g c = pass_state_flushed c.reading.invariant.midway c.write_out_before_blocking.ensures.pushed.wrote
+    c.in_ok-write_out_before_blocking.ensures.pushed.clean
 
 pub reading-init : goal.reading-init
 unfolding pass_state_starts
@@ -31,11 +40,10 @@ returns-in_err-write_out_before_blocking g c =
 pub returns-in-Err : goal.returns-in-Err
 returns-in-Err g c =
     let b = c.block.follows.holds-at-none in
-    let m = pass_state_flushed c.reading.invariant.midway c.write_out_before_blocking.ensures.pushed.wrote
-    c.in_ok-write_out_before_blocking.ensures.pushed.clean in
-    let (failed, cause, _) = (rw c.in-Err.is at b.shows) m.reached.advance_ok.fault in
+    let midway = written_out g (goal.at.returns-in-Err g c).In_ok-write_out_before_blocking in
+    let (failed, cause, _) = (rw c.in-Err.is at b.shows) midway.reached.advance_ok.fault in
     λ t tool store ready. block_read tool
-    m ready b.was_sound failed.reads b.is_sound c.reading.invariant.holds c.reading.invariant.all cause
+    midway ready b.was_sound failed.reads b.is_sound c.reading.invariant.holds c.reading.invariant.all cause
 
 pub process_block-requires-clause-some : goal.process_block-requires-clause-some
 process_block-requires-clause-some g c = not_empty c.in-Ok.block.now (sym c.is_empty.ensures ∙ c.if-is_empty.false)
@@ -50,35 +58,32 @@ process_block-requires-clause-room g c =
 pub returns-in_err-process_block-in-Ok : goal.returns-in_err-process_block-in-Ok
 returns-in_err-process_block-in-Ok g c =
     let b = c.block.follows.holds-at-none in
-    let m = pass_state_flushed c.reading.invariant.midway c.write_out_before_blocking.ensures.pushed.wrote
-    c.in_ok-write_out_before_blocking.ensures.pushed.clean in
-    let (refilled, shown, ended) = (rw c.in-Ok.is at b.shows) m.reached.advance_ok.fault in
+    let midway = written_out g (goal.at.returns-in_err-process_block-in-Ok g c).In_ok-write_out_before_blocking in
+    let (refilled, shown, ended) = (rw c.in-Ok.is at b.shows) midway.reached.advance_ok.fault in
     let (_, is_err, is_fault) =
     returned_err c.from_residual-in_err-process_block-in-Ok.result c.from_residual-in_err-process_block-in-Ok.ensures in
     λ t tool store ready. rw (is_err, is_fault) (block_write tool
-    m ready b.was_sound refilled.reads b.is_sound c.reading.invariant.holds c.reading.invariant.all
+    midway ready b.was_sound refilled.reads b.is_sound c.reading.invariant.holds c.reading.invariant.all
     shown c.in_err-process_block-in-Ok.ensures.halts refilled.failed)
 
 pub returns-then-is_empty : goal.returns-then-is_empty
 returns-then-is_empty g c =
     let b = c.block.follows.holds-at-none in
-    let m = pass_state_flushed c.reading.invariant.midway c.write_out_before_blocking.ensures.pushed.wrote
-    c.in_ok-write_out_before_blocking.ensures.pushed.clean in
-    let (refilled, shown, ended) = (rw c.in-Ok.is at b.shows) m.reached.advance_ok.fault in
+    let midway = written_out g (goal.at.returns-then-is_empty g c).In_ok-write_out_before_blocking in
+    let (refilled, shown, ended) = (rw c.in-Ok.is at b.shows) midway.reached.advance_ok.fault in
     let none : c.in-Ok.block.now ≡ [] =
     nil_from_length c.in-Ok.block.now
     (eqb-true (length c.in-Ok.block.now) 0 (sym c.is_empty.ensures ∙ c.if-is_empty.true)) in
     λ t tool store ready. block_done tool
-    m ready b.was_sound refilled.reads b.is_sound c.reading.invariant.holds c.reading.invariant.all
+    midway ready b.was_sound refilled.reads b.is_sound c.reading.invariant.holds c.reading.invariant.all
     c.finish.ensures.wrote (ended none) refilled.failed c.in_ok-finish-in-Ok.ensures.clean refilled.fault
     (b.is_sound.long refilled.fault)
 
 pub returns-in_err-finish-in-Ok : goal.returns-in_err-finish-in-Ok
 returns-in_err-finish-in-Ok g c =
     let b = c.block.follows.holds-at-none in
-    let m = pass_state_flushed c.reading.invariant.midway c.write_out_before_blocking.ensures.pushed.wrote
-    c.in_ok-write_out_before_blocking.ensures.pushed.clean in
-    let (refilled, shown, ended) = (rw c.in-Ok.is at b.shows) m.reached.advance_ok.fault in
+    let midway = written_out g (goal.at.returns-in_err-finish-in-Ok g c).In_ok-write_out_before_blocking in
+    let (refilled, shown, ended) = (rw c.in-Ok.is at b.shows) midway.reached.advance_ok.fault in
     let none : c.in-Ok.block.now ≡ [] =
     nil_from_length c.in-Ok.block.now
     (eqb-true (length c.in-Ok.block.now) 0 (sym c.is_empty.ensures ∙ c.if-is_empty.true)) in
@@ -86,7 +91,7 @@ returns-in_err-finish-in-Ok g c =
     returned_err c.from_residual-in_err-finish-in-Ok.result c.from_residual-in_err-finish-in-Ok.ensures in
     λ t tool store ready.
     rw (is_err, is_fault) (block_unended tool
-    m ready b.was_sound refilled.reads b.is_sound c.reading.invariant.holds c.reading.invariant.all
+    midway ready b.was_sound refilled.reads b.is_sound c.reading.invariant.holds c.reading.invariant.all
     c.finish.ensures.wrote (ended none) refilled.failed c.in_err-finish-in-Ok.ensures.fault)
 
 pub reading-preserved : goal.reading-preserved
@@ -94,13 +99,12 @@ unfolding pass_state_more
 reading-preserved g c =
     let b = c.block.follows.holds-at-none in
     let i = c.reading.invariant in
-    let m = pass_state_flushed c.reading.invariant.midway c.write_out_before_blocking.ensures.pushed.wrote
-    c.in_ok-write_out_before_blocking.ensures.pushed.clean in
+    let midway = written_out g (goal.at.reading-preserved g c).In_ok-write_out_before_blocking in
     let (refilled, shown, ended) = (rw c.in-Ok.is at b.shows) i.midway.reached.advance_ok.fault in
     let e = c.in_ok-process_block-in-Ok.ensures in
     let block = c.in-Ok.block.now in
     record {
-      midway = pass_state_more m refilled shown c.consume.ensures.consumed e.continues;
+      midway = pass_state_more midway refilled shown c.consume.ensures.consumed e.continues;
       all = λ rest.
           ap (g.T.BlockFilter.rest c.args.tool.now) (append_assoc i.midway.given block rest) ∙ i.all (block ++ rest)
           ∙ ap (◌++◌ i.midway.pushed) (e.continues.on rest)

@@ -19,7 +19,8 @@ pub record RunBlocksPre (counted : ℕ) (reader : Reader) (out : Output) : Type 
   pub clean : out.write_failed ≡ false
 
 -- A block tool that begins in the state `start`. In a state x the output for the rest of the input is `rest_from x`.
-pub record IsBlockFilter {X : Type 0} (tool : ToolSpec) (rest_from : X → List ℕ → List ℕ) (IsUnchanged : X → X → Type 0) (start : X) : Type 0 where
+pub record IsBlockFilter {X : Type 0} (tool : ToolSpec) (rest_from : X → List ℕ → List ℕ) (IsUnchanged : X → X → Type 0)
+    (start : X) : Type 0 where
   pub text : (bytes : List ℕ) → rest_from start bytes ≡ tool.text bytes
   pub decided : (given pushed : List ℕ) (now : X) → IsUnchanged start now
       → ((rest : List ℕ) → rest_from start (given ++ rest) ≡ pushed ++ rest_from now rest)
@@ -28,7 +29,7 @@ pub record IsBlockFilter {X : Type 0} (tool : ToolSpec) (rest_from : X → List 
   pub slots : tool.slots ≡ 0
 
 -- a call over the blocks of an input is a pass of every such tool
-abbrev pub RunBlocksPost : {X : Type 0} → (X → List ℕ → List ℕ) → (X → X → Type 0) → X → Reader → Reader → Output → Output
-    → Result (Unit {0}) FlowFault → Type 0
+abbrev pub RunBlocksPost : {X : Type 0} → (X → List ℕ → List ℕ) → (X → X → Type 0) → X → Reader → Reader → Output
+    → Output → Result (Unit {0}) FlowFault → Type 0
 RunBlocksPost rest_from IsUnchanged start old new was is result =
     (tool : ToolSpec) → IsBlockFilter tool rest_from IsUnchanged start → StorelessPost tool old new was is result

@@ -1,5 +1,6 @@
 -- Tools that work line by line. X is the state carried from line to line, and E the items that are made of lines.
-use Rattle.std.specs.Prelude.{◌≡◌, ◌⊎◌, ◌+◌, ◌-◌, ◌*◌, ◌<◌, ◌≤◌, ◌^◌, ℕ, List, ◌++◌, true, false, length, take, drop, max, swap}
+use Rattle.std.specs.Prelude.{◌≡◌, ◌⊎◌, ◌+◌, ◌-◌, ◌*◌, ◌<◌, ◌≤◌, ◌^◌, ℕ, List, ◌++◌, true, false, length, take, drop}
+use Rattle.std.specs.Prelude.{max, swap}
 use Rattle.ptlines.specs.Received.{Received, IsPrefix, known_lines}
 use Rattle.ptlines.specs.Outputs.{Output, PushEffect}
 use Rattle.ptlines.specs.Readers.{Reader, IsSound}
@@ -24,7 +25,8 @@ pub record ProcessLinesPre (buffered : ℕ) (block : List ℕ) : Type 0 where
 
 -- The lines were processed. The written items, and then those of the rest, are the items, for every continuation. At
 -- most the processed lines were added to those with no output yet.
-pub record LinesWritten {X E : Type 0} (rest_from : X → List (List ℕ) → List E) (written : List E → List ℕ) (counted : X → ℕ) (before after : X) (ls : List (List ℕ)) (was is : Output) : Type 0 where
+pub record LinesWritten {X E : Type 0} (rest_from : X → List (List ℕ) → List E) (written : List E → List ℕ)
+    (counted : X → ℕ) (before after : X) (ls : List (List ℕ)) (was is : Output) : Type 0 where
   pub passed : List E
   pub wrote : PushEffect was is (written passed)
   pub clean : was.write_failed ≡ false → is.write_failed ≡ false
@@ -33,7 +35,8 @@ pub record LinesWritten {X E : Type 0} (rest_from : X → List (List ℕ) → Li
   pub some : 0 < length ls → 0 < counted after
 
 -- A write failed at these lines: the written items are a prefix of all items for every continuation.
-pub record LinesFailed {X E : Type 0} (rest_from : X → List (List ℕ) → List E) (written : List E → List ℕ) (before : X) (ls : List (List ℕ)) (was is : Output) : Type 0 where
+pub record LinesFailed {X E : Type 0} (rest_from : X → List (List ℕ) → List E) (written : List E → List ℕ) (before : X)
+    (ls : List (List ℕ)) (was is : Output) : Type 0 where
   pub passed : List E
   pub wrote : PushEffect was is (written passed)
   pub fault : is.write_failed ≡ true
@@ -56,15 +59,19 @@ pub record SlotsCleared (count : ℕ) (before after : Slots) : Type 0 where
 
 -- A line tool that begins in the state `start`. In a state x the items of the rest are `rest_from x`, and `written` is
 -- their output. The last slot is for the next line.
-pub record IsLineFilter {S X E : Type 0} (tool : ToolSpec) (state : S → Slots → X) (rest_from : X → List (List ℕ) → List E) (written : List E → List ℕ) (counted : X → ℕ)
+pub record IsLineFilter {S X E : Type 0} (tool : ToolSpec) (state : S → Slots → X)
+    (rest_from : X → List (List ℕ) → List E) (written : List E → List ℕ) (counted : X → ℕ)
     (width : ℕ) (start : S) : Type 0 where
   pub apart : (xs ys : List E) → written (xs ++ ys) ≡ written xs ++ written ys
-  pub stays : (now : S) (store : Slots) (bytes : List ℕ) → width ≤ length store.lines → state now (with_line store (width - 1) bytes) ≡ state now store
+  pub stays : (now : S) (store : Slots) (bytes : List ℕ) → width ≤ length store.lines
+      → state now (with_line store (width - 1) bytes) ≡ state now store
   pub fresh : (store : Slots) → counted (state start store) ≤ 1
-  pub tool_text : (store : Slots) (bytes : List ℕ) → written (rest_from (state start store) (lines tool.end bytes)) ≡ tool.text bytes
+  pub tool_text : (store : Slots) (bytes : List ℕ)
+      → written (rest_from (state start store) (lines tool.end bytes)) ≡ tool.text bytes
   -- the output that some lines decide is written after them
   pub decided : (store : Slots) (given : Received) (passed : List E) (now : X)
-      → ((more : List (List ℕ)) → rest_from (state start store) (known_lines tool.end given ++ more) ≡ passed ++ rest_from now more)
+      → ((more : List (List ℕ)) → rest_from (state start store) (known_lines tool.end given ++ more)
+      ≡ passed ++ rest_from now more)
       → IsPrefix (tool.decided given) (written passed)
   pub size : (bytes : List ℕ) → tool.size bytes ≡ width * max_line_length tool.end bytes
   pub slots : tool.slots ≡ width

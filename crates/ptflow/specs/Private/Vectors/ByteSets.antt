@@ -1,5 +1,6 @@
 -- Sets of bytes as two bit tables.
-use Rattle.std.specs.Prelude.{◌≡◌, ◌<◌, ◌≤◌, ℕ, ◌/◌, ◌%◌, ◌==◌, Bool, false, List, nat_lt, length, map, filter, take, slice_index, slice_index_or, if◌then◌else◌, ℤ, pos, negsuc}
+use Rattle.std.specs.Prelude.{◌≡◌, ◌<◌, ◌≤◌, ℕ, ◌/◌, ◌%◌, ◌==◌, Bool, false, List, nat_lt, length, map, filter, take}
+use Rattle.std.specs.Prelude.{slice_index, slice_index_or, if◌then◌else◌, ℤ, pos, negsuc}
 use Rattle.std.specs.Int.{bit_at}
 use Rattle.ptflow.specs.declared.simd.byte_set.ByteSet.{ByteSet}
 

@@ -1,5 +1,6 @@
 -- Compression: the items whose flag is set are moved together.
-use Rattle.std.specs.Prelude.{◌≡◌, ◌<◌, ◌≤◌, ◌+◌, ℕ, List, [], ◌∷◌, Bool, All, length, take, slice_index_or, if◌then◌else◌}
+use Rattle.std.specs.Prelude.{◌≡◌, ◌<◌, ◌≤◌, ◌+◌, ℕ, List, [], ◌∷◌, Bool, All, length, take, slice_index_or}
+use Rattle.std.specs.Prelude.{if◌then◌else◌}
 use Rattle.std.specs.List.{range_with_len}
 use Rattle.std.specs.Simd.Lanes.{mask_l}
 
@@ -26,4 +27,5 @@ pub record ChunkPre (bytes : List ℕ) (at count : ℕ) : Type 0 where
 
 -- the table has the row of each mask of eight flags
 abbrev pub IsCompressTable : List (List ℕ) → Type 0
-IsCompressTable rows = (flags : List Bool) → length flags ≡ 8 → IsCompressRow flags (slice_index_or rows (mask_l flags) [])
+IsCompressTable rows = (flags : List Bool) → length flags ≡ 8
+    → IsCompressRow flags (slice_index_or rows (mask_l flags) [])

@@ -9,4 +9,5 @@ IsNth test default count items at =
 
 -- the index of the item that passes after `count` others, or nothing if no more pass
 abbrev pub IsNthResult : (ℕ → Bool) → ℕ → List ℕ → Option ℕ → Type 0
-IsNthResult test count bytes result = MatchOption result (count_by test bytes ≤ count) (λ at. IsNth test 0 count bytes at)
+IsNthResult test count bytes result =
+    MatchOption result (count_by test bytes ≤ count) (λ at. IsNth test 0 count bytes at)

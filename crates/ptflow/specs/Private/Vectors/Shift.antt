@@ -1,5 +1,6 @@
 -- Byte maps of at most four ranges, each with a shift.
-use Rattle.std.specs.Prelude.{◌≡◌, ◌≤◌, ℕ, ◌+◌, ◌-◌, ◌%◌, List, Option, None, Some, nat_le, length, map, take, sum_by, if◌then◌else◌}
+use Rattle.std.specs.Prelude.{◌≡◌, ◌≤◌, ℕ, ◌+◌, ◌-◌, ◌%◌, List, Option, None, Some, nat_le, length, map, take, sum_by}
+use Rattle.std.specs.Prelude.{if◌then◌else◌}
 use Rattle.ptlangs.specs.TrShifts.{shift_at}
 use Rattle.ptflow.specs.declared.simd.shift.ShiftRange.{ShiftRange}
 
@@ -18,4 +19,5 @@ shift_by_ranges ranges b = (b + sum_by (λ range. range_delta range b) ranges) %
 
 -- the first `at` bytes are mapped
 abbrev pub IsMappedTo : ℕ → (ℕ → ℕ) → List ℕ → List ℕ → Type 0
-IsMappedTo at map_byte from to = (at ≤ length from) × (length to ≡ length from) × (take at to ≡ map map_byte (take at from))
+IsMappedTo at map_byte from to =
+    (at ≤ length from) × (length to ≡ length from) × (take at to ≡ map map_byte (take at from))

@@ -6,27 +6,27 @@ use Rattle.ptlines.proofs.reader.LineReader.refill.Goals as goal
 pub returns-then-count-eq0-clause-refills : goal.returns-then-count-eq0-clause-refills
 returns-then-count-eq0-clause-refills g c =
     refill_end _ c.read_block.new.block c.in-Ok.count _ c.self.view_is
-    c.requires.empty c.in-Ok.ensures.refused c.requires.clean c.requires.going
+    c.requires c.in-Ok.ensures.refused
     c.in-Ok.ensures.pulled c.if-count-eq0.true
 
 pub returns-then-self-clause-refills : goal.returns-then-self-clause-refills
 returns-then-self-clause-refills g c =
     let small : c.in-Ok.count ≤ 8192 = c.in-Ok.ensures.few in
     refill_long _ c.read_block.new.block c.in-Ok.count _ c.self.view_is
-    c.requires.empty c.in-Ok.ensures.refused c.requires.clean c.requires.going
+    c.requires c.in-Ok.ensures.refused
     c.in-Ok.ensures.pulled small (omega arith)
 
 pub returns-else-self-clause-refills : goal.returns-else-self-clause-refills
 returns-else-self-clause-refills g c =
     let small : c.in-Ok.count ≤ 8192 = c.in-Ok.ensures.few in
     refill_more _ c.read_block.new.block c.in-Ok.count _ c.self.view_is
-    c.requires.empty c.in-Ok.ensures.refused c.requires.clean c.requires.going
+    c.requires c.in-Ok.ensures.refused
     c.in-Ok.ensures.pulled small (omega arith) (omega arith)
 
 pub returns-in-Err-clause-refills : goal.returns-in-Err-clause-refills
 returns-in-Err-clause-refills g c =
     refill_failed _ c.read_block.new.block 0 _ c.self.view_is
-    c.requires.empty c.in-Err.ensures.refused c.requires.clean c.requires.going c.read_block.new.block
+    c.requires c.in-Err.ensures.refused c.read_block.new.block
     c.in-Err.ensures.pulled
 
 -- the invariant holds after the block was filled
@@ -35,7 +35,7 @@ invariant_of-self-then-self g c =
     let small : c.in-Ok.count ≤ 8192 = c.in-Ok.ensures.few in
     let some : 0 < c.in-Ok.count = omega (arith, c.if-count-eq0.false) in
     let sound = filled_sound _ c.read_block.new.block c.in-Ok.count _ c.self.view_is
-    c.requires.empty c.in-Ok.ensures.refused c.requires.clean c.requires.going _ c.in-Ok.ensures.pulled small some
+    c.requires c.in-Ok.ensures.refused _ c.in-Ok.ensures.pulled small some
     (grind arith) (grind arith) in
     record {
       order = omega arith;
@@ -52,7 +52,7 @@ invariant_of-self-else-self g c =
     let small : c.in-Ok.count ≤ 8192 = c.in-Ok.ensures.few in
     let some : 0 < c.in-Ok.count = omega (arith, c.if-count-eq0.false) in
     let sound = filled_sound _ c.read_block.new.block c.in-Ok.count _ c.self.view_is
-    c.requires.empty c.in-Ok.ensures.refused c.requires.clean c.requires.going _ c.in-Ok.ensures.pulled small some
+    c.requires c.in-Ok.ensures.refused _ c.in-Ok.ensures.pulled small some
     (λ _. c.if-self.false)
     (λ there clean. c.in-Ok.ensures.pulled.failed
     ∙ c.self.invariant.sound.unfailed (sym c.in-Ok.ensures.refused ∙ there) clean) in
