@@ -183,7 +183,8 @@ impl<K: KeyOrder> Merge<K> {
         ensures others { let was = both self.old.first self.old.second (other side) in
             both self.new.first self.new.second (other side) ≡ was }
         ensures order { self.new.order ≡ self.old.order }
-        ensures valid_cursors { OnOk result (AreValidCursors (K.key_of self.new.order) self.new.first self.new.second store.new) }
+        ensures valid_cursors { let key = K.key_of self.new.order in
+            OnOk result (AreValidCursors key self.new.first self.new.second store.new) }
         ensures own_reader { OnOk result (IsReaderOf (both self.new.first self.new.second side) reader.new) }
     {
         match side {
@@ -263,8 +264,8 @@ impl<K: KeyOrder> Merge<K> {
         requires clean { out.old.write_failed ≡ false }
         ensures written_out { PushEffect out.old out.new [] }
         ensures advances { let key = K.key_of self.old.order in
-            WriteThenAdvancePost key (K.order self.old.order) side self.old.first self.old.second self.new.first self.new.second
-            reader.old reader.new store.old store.new out.new result }
+            WriteThenAdvancePost key (K.order self.old.order) side self.old.first self.old.second
+            self.new.first self.new.second reader.old reader.new store.old store.new out.new result }
         ensures order { self.new.order ≡ self.old.order }
     {
         reader.write_out_before_blocking(out)?;

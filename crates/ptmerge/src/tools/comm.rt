@@ -69,8 +69,8 @@ fn write_head<K: KeyOrder, A: Allocator + Copy, S: Source, R: Source, W: Sink>(
     ensures wrote { let current = line store.old (both merge.old.first merge.old.second side).current_slot in
         PushEffect out.old out.new (unlines terminator (column_entries hidden tabs.now 1 current)) }
     ensures advances { let key = K.key_of merge.old.order in
-        WriteThenAdvancePost key (K.order merge.old.order) side merge.old.first merge.old.second merge.new.first merge.new.second
-        reader.old reader.new store.old store.new out.new result }
+        WriteThenAdvancePost key (K.order merge.old.order) side merge.old.first merge.old.second
+        merge.new.first merge.new.second reader.old reader.new store.old store.new out.new result }
     ensures order { merge.new.order ≡ merge.old.order }
 {
     write_entry(hidden, tabs, merge.head(side, store), terminator, out)?;
@@ -133,13 +133,14 @@ fn comm_with_order<K: KeyOrder, A: Allocator + Copy, S: Source, R: Source, W: Si
 ///
 /// The slots 0 to 3 of the store are used, and added if they are missing. After `Ok` and `Disorder` they are empty. If
 /// one of them could not be added, nothing is read or written. If the output has failed before, the call does nothing.
-/// However the call ends, everything was pushed that was decided two blocks (16,384 bytes) of either input earlier,
-/// regardless of the content of the other input; and a disorder was not yet decided then. Tests check, but no clause
-/// states, that buffered output is written out before a read that may block.
+/// The second input is not read before the first one has given a line or its end, nor the first one further before the
+/// second one has. However the call ends, everything was pushed that was decided two blocks (16,384 bytes) of either
+/// input earlier, regardless of the content of the other input; and a disorder was not yet decided then. Tests check,
+/// but no clause states, that buffered output is written out before a read that may block.
 /// # Errors
-/// `Read`, with the input, if a read failed; `Write` if a write failed; `Memory` if the store could not grow, and
-/// `Store::denied` is then true; `Disorder`, with the input and the line, if an input is not sorted: all lines up to
-/// the last one in order are then written (POSIX leaves this unspecified).
+/// `Read`, with the input, if a read failed; `Write` if a write failed; `Memory` if the store could not grow while
+/// something was left to do, and `Store::denied` is then true; `Disorder`, with the input and the line, if an input is
+/// not sorted: all lines up to the last one in order are then written (POSIX leaves this unspecified).
 pub fn comm<A: Allocator + Copy, S: Source, R: Source, W: Sink>(
     job: &CommJob,
     first: &mut LineReader<S, R>,

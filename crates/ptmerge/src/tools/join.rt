@@ -44,7 +44,8 @@ fn write_unpaired_entry<B: Allocator, W: Sink>(
     out: &mut Out<W>,
 ) -> Result<(), WriteFault>
     requires { join_key (join_job job.now) side line.now ≡ key.now }
-    ensures { WriteBytesPost out.old out.new (unlines terminator (unpaired_entry (join_job job.now) side line.now)) result }
+    ensures { let entry = unpaired_entry (join_job job.now) side line.now in
+        WriteBytesPost out.old out.new (unlines terminator entry) result }
 {
     match side {
         First => {
@@ -112,8 +113,8 @@ fn write_unpaired<
     ensures wrote { let current = line store.old (both merge.old.first merge.old.second side).current_slot in
         PushEffect out.old out.new (unlines terminator (unpaired_entry (join_job job.now) side current)) }
     ensures advances { let key = K.key_of merge.old.order in
-        WriteThenAdvancePost key (K.order merge.old.order) side merge.old.first merge.old.second merge.new.first merge.new.second
-        reader.old reader.new store.old store.new out.new result }
+        WriteThenAdvancePost key (K.order merge.old.order) side merge.old.first merge.old.second
+        merge.new.first merge.new.second reader.old reader.new store.old store.new out.new result }
     ensures order { merge.new.order ≡ merge.old.order }
 {
     let key = merge.key(side, store);
@@ -147,8 +148,8 @@ fn write_pairs<
         let lines = group store.old (group_first_slot merge.old.second end) (group_end_slot merge.old.second end) in
         PushEffect out.old out.new (unlines terminator (pair_entries (join_job job.now) key (current ∷ []) lines)) }
     ensures advances { let key = K.key_of merge.old.order in
-        WriteThenAdvancePost key (K.order merge.old.order) sides.First merge.old.first merge.old.second merge.new.first merge.new.second
-        reader.old reader.new store.old store.new out.new result }
+        WriteThenAdvancePost key (K.order merge.old.order) sides.First merge.old.first merge.old.second
+        merge.new.first merge.new.second reader.old reader.new store.old store.new out.new result }
     ensures order { merge.new.order ≡ merge.old.order }
 {
     let key = merge.key(First, store);
@@ -241,17 +242,18 @@ fn join_with_order<
 /// lines end with byte 0.
 ///
 /// The slots 0 to 3 of the store are used, and added if they are missing; after them, if pairs are written, at most one
-/// slot is added for each of the second input's lines of one key. After `Ok` and `Disorder` all slots are empty. If one of the first four
-/// could not be added, nothing is read or written. If the output has failed before, the call does nothing. However the
-/// call ends, everything was pushed that was decided two blocks (16,384 bytes) of either input earlier, regardless of
-/// the content of the other input; and a disorder was not yet decided then. The pairs of a key are written once all
-/// lines of the second input with this key are read. A line that is the only one of its key takes no further slot: this
-/// is stated by the contract of the function that copies the lines of a key, not by this one. Tests check, but no
-/// clause states, that buffered output is written out before a read that may block.
+/// slot is added for each of the second input's lines of one key. After `Ok` and `Disorder` all slots are empty. If one
+/// of the first four could not be added, nothing is read or written. If the output has failed before, the call does
+/// nothing. The second input is not read before the first one has given a line or its end, nor the first one further
+/// before the second one has. However the call ends, everything was pushed that was decided two blocks (16,384 bytes)
+/// of either input earlier, regardless of the content of the other input; and a disorder was not yet decided then. The
+/// pairs of a key are written once all lines of the second input with this key are read. A line that is the only one of
+/// its key takes no further slot: this is stated by the contract of the function that copies the lines of a key, not by
+/// this one. Tests check, but no clause states, that buffered output is written out before a read that may block.
 /// # Errors
-/// `Read`, with the input, if a read failed; `Write` if a write failed; `Memory` if the store could not grow, and
-/// `Store::denied` is then true; `Disorder`, with the input and the line, if an input is not sorted: all output lines
-/// up to the last key in order are then written (POSIX leaves this unspecified).
+/// `Read`, with the input, if a read failed; `Write` if a write failed; `Memory` if the store could not grow while
+/// something was left to do, and `Store::denied` is then true; `Disorder`, with the input and the line, if an input is
+/// not sorted: all output lines up to the last key in order are then written (POSIX leaves this unspecified).
 pub fn join<A: Allocator + Copy, B: Allocator + Copy, S: Source, R: Source, W: Sink>(
     job: &JoinJob<B>,
     first: &mut LineReader<S, R>,

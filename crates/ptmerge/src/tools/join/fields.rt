@@ -32,7 +32,8 @@ fn first_piece(separator: Option<u8>, bytes: &[u8]) -> (&[u8], Option<&[u8]>)
         (slice_split (is_separator separator) bytes.now ≡ result.0.now ∷ [])
         (λ remainder. slice_split (is_separator separator) bytes.now
         ≡ result.0.now ∷ slice_split (is_separator separator) remainder.now) }
-    ensures shorter { MatchOption result.1 (result.0.now ≡ bytes.now) (λ remainder. length remainder.now < length bytes.now) }
+    ensures shorter { MatchOption result.1 (result.0.now ≡ bytes.now)
+        (λ remainder. length remainder.now < length bytes.now) }
     ensures is_piece { IsPiece separator bytes.now result.0.now (option_copied result.1) }
 {
     match field_end(separator, bytes) {
