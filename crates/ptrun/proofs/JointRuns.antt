@@ -109,7 +109,7 @@ module _ (word : List ℕ) {t : JointTool} (names : List (List ℕ)) {positions 
   complete w agrees = sym (any_same (is_reader_unopened old) (is_unopened w) positions (unopened_agrees old new received w came agrees)) ∙ start.complete
 
   agree : (w : InputBytes) → AreInputsConsistent received w → AreConsistentAt positions k.given (bytes_of w)
-  agree w agrees q named = let a = consistent_bytes (at received q) (at w q) (k.given q) (at_listed q named) (agrees q) in rw a.1 a.2
+  agree w agrees q named = let input = consistent_bytes (at received q) (at w q) (k.given q) (at_listed q named) (agrees q) in rw input.are input.agree
 
   -- ---- the decided output
 

@@ -43,15 +43,15 @@ receives_trans a b c g h p q empty = record {
   count = omega (arith, p.count, q.count, ap length empty, length-append g.bytes h.bytes);
   eof = q.eof;
   refused = q.refused ∙ p.refused;
-  still = λ eof. let first = p.still eof in let second = q.still first.1 in (second.0 ∙ first.0, second.1);
+  still = λ eof. let (same, at_eof) = p.still eof in let (still_same, still_eof) = q.still at_eof in (still_same ∙ same, still_eof);
   end = λ h. q.end (p.end h);
 }
 
 -- after the end nothing more is received
 pub ended_gives_nothing : (b c : Reader) (h : Received) → HasReceived b c h → b.buffered ≡ [] → b.eof ≡ true → (h.bytes ≡ []) × (h.eof ≡ true)
 ended_gives_nothing b c h q empty eof =
-    let still = q.still eof in
-    (nil_from_length h.bytes (omega (arith, q.count, still.0, ap length empty)), q.eof ∙ still.1)
+    let (same, at_eof) = q.still eof in
+    (nil_from_length h.bytes (omega (arith, q.count, same, ap length empty)), q.eof ∙ at_eof)
 
 -- what was received from a reader before it is read
 abbrev pub received_of : Reader → Option Received
@@ -65,36 +65,42 @@ pub never_long : (r : Reader) → IsTooLong (received_of r) → ⊥
 never_long r long = ⊎_elim (λ is. rw is at long) (λ is. omega (arith, rw is at long)) (cases_Bool r.refused)
 
 -- an opened reader has received something, possibly no bytes
-pub opened_receives : (old now : Reader) (o : Option Received) → old.refused ≡ false → HasReceivedAt old now o → (g : Received) × (o ≡ Some g) × HasReceived old now g
-opened_receives old now None opened k = absurd (false≢true (sym opened ∙ k.0))
-opened_receives old now (Some g) opened k = (g, refl, k.1)
+pub record OpenedInput (old now : Reader) (o : Option Received) : Type 0 where
+  pub given : Received
+  pub is : o ≡ Some given
+  pub received : HasReceived old now given
+
+pub opened_receives : (old now : Reader) (o : Option Received) → old.refused ≡ false → HasReceivedAt old now o → OpenedInput old now o
+opened_receives old now None opened (unopened, same) = absurd (false≢true (sym opened ∙ unopened))
+opened_receives old now (Some g) opened (_, received) = record { given = g; is = refl; received = received }
 
 pub still_unopened : (old now : Reader) (o : Option Received) → HasReceivedAt old now o → now.refused ≡ old.refused
-still_unopened old now None k = ap (λ (r : Reader). r.refused) k.1
-still_unopened old now (Some g) k = k.1.refused
+still_unopened old now None (unopened, same) = ap (λ (r : Reader). r.refused) same
+still_unopened old now (Some g) (opened, received) = received.refused
 
 -- fewer than 2^63 bytes were received
 pub not_long : (old now : Reader) (o : Option Received) → IsNewOrUnopened old → HasReceivedAt old now o → (old.refused ≡ false → now.pulled < 2 ^ 63) → IsTooLong o → ⊥
 not_long old now None fresh k short long = long
-not_long old now (Some g) fresh k short long = let new = fresh k.0 in omega (arith, k.1.count, short k.0, ap length new.buffered, new.pulled, long)
+not_long old now (Some g) fresh (opened, received) short long =
+    let new = fresh opened in omega (arith, received.count, short opened, ap length new.buffered, new.pulled, long)
 
 pub ended_at : (old now : Reader) (o : Option Received) → HasReceivedAt old now o → (old.refused ≡ false → IsAtEof now) → IsEndedAt o
 ended_at old now None k at_eof = tt
-ended_at old now (Some g) k at_eof = k.1.eof ∙ (at_eof k.0).done.eof
+ended_at old now (Some g) (opened, received) at_eof = received.eof ∙ (at_eof opened).done.eof
 
 -- the same files could not be opened
 pub unopened_at : (old now : Reader) (o : Option Received) (v : Option (List ℕ)) → HasReceivedAt old now o → IsConsistentAt o v → old.refused ≡ is_none v
-unopened_at old now None None k a = k.0
+unopened_at old now None None (unopened, same) a = unopened
 unopened_at old now None (Some b) k a = absurd a
 unopened_at old now (Some g) None k a = absurd a
-unopened_at old now (Some g) (Some b) k a = k.0
+unopened_at old now (Some g) (Some b) (opened, received) a = opened
 
 pub unopened_agrees : (old now : List Reader) (r : ReceivedInputs) (w : InputBytes) → HaveReceived old now r → AreInputsConsistent r w → (q : ℕ) → (reader_at old q).refused ≡ is_unopened w q
 unopened_agrees old now r w reading agrees q = unopened_at (reader_at old q) (reader_at now q) (at r q) (at w q) (reading q) (agrees q)
 
 pub unopened_received : (old now : Reader) (o : Option Received) → HasReceivedAt old now o → old.refused ≡ is_none o
-unopened_received old now None k = k.0
-unopened_received old now (Some g) k = k.0
+unopened_received old now None (unopened, same) = unopened
+unopened_received old now (Some g) (opened, received) = opened
 
 pub none_of : (v : Option (List ℕ)) → is_none v ≡ true → v ≡ None
 none_of None is = refl
@@ -102,16 +108,22 @@ none_of (Some b) is = absurd (false≢true is)
 
 -- ---- the input of an operand
 
-pub consistent_bytes : (o : Option Received) (v : Option (List ℕ)) (g : Received) → o ≡ Some g → IsConsistentAt o v → (b : List ℕ) × (v ≡ Some b) × IsConsistent g b
+-- the bytes of an input, consistent with what was received from it
+pub record ConsistentBytes (v : Option (List ℕ)) (g : Received) : Type 0 where
+  pub bytes : List ℕ
+  pub are : v ≡ Some bytes
+  pub agree : IsConsistent g bytes
+
+pub consistent_bytes : (o : Option Received) (v : Option (List ℕ)) (g : Received) → o ≡ Some g → IsConsistentAt o v → ConsistentBytes v g
 consistent_bytes None v g is a = cc
 consistent_bytes (Some h) None g is a = absurd a
-consistent_bytes (Some h) (Some b) g is a = let same : h ≡ g = cc in (b, refl, rw same at a)
+consistent_bytes (Some h) (Some b) g is a = let same : h ≡ g = cc in record { bytes = b; are = refl; agree = rw same at a }
 
 pub consistent_before : (g e : Received) (b : List ℕ) → (g.eof ≡ true → (e.bytes ≡ []) × (e.eof ≡ true)) → IsConsistent (record { bytes = g.bytes ++ e.bytes; eof = e.eof }) b → IsConsistent g b
 consistent_before g e b still a = record {
   rest = e.bytes ++ a.rest;
   is = a.is ∙ append_assoc g.bytes e.bytes a.rest;
-  whole = λ eof. let k = still eof in λ i. k.0 i ++ a.whole k.1 i;
+  whole = λ eof. let (none, at_eof) = still eof in λ i. none i ++ a.whole at_eof i;
 }
 
 -- all its bytes were received
@@ -157,7 +169,7 @@ all_earlier t came P holds done last is = (same_before last, subst (λ (l : List
 
 -- less of the last operand was received earlier
 pub last_earlier : (t : ToolSpec) (came : List Received) (g : Received) (b : LaggedInput g) (P : List ℕ → Type 0) → P (decided_in_order t (came ++ b.earlier ∷ [])) → LagOfLast t (came ++ g ∷ []) P
-last_earlier t came g b P holds done last is = let same = last_same came done g last is in rw (sym same.0, sym same.1) (b, holds)
+last_earlier t came g b P holds done last is = let (before, same) = last_same came done g last is in rw (sym before, sym same) (b, holds)
 
 -- a pass over one input has a bounded lag; its decided output may be given by either of two equal functions
 pub passed_on : (f g : Received → List ℕ) {came : Received} {was is : Output} {pushed : List ℕ} → ((e : Received) → f e ≡ g e)
@@ -199,8 +211,8 @@ pub earlier_map : (m : CommandSpec) (r : ReceivedInputs) (n : ℕ) (P Q : List �
 earlier_map m r n P Q follows = by_kind m.sequential
   where
     by_kind : (kind : Option ToolSpec) → BoundedLagAs m r n P kind → BoundedLagAs m r n Q kind
-    by_kind None k = λ position came named is. let b = k position came named is in (b.0, follows (m.decided (set r position (Some (b.0.earlier)))) b.1)
-    by_kind (Some t) k = λ done last is. let b = k done last is in (b.0, follows (decided_in_order t (done ++ b.0.earlier ∷ [])) b.1)
+    by_kind None k = λ position came named is. let (lagged, holds) = k position came named is in (lagged, follows (m.decided (set r position (Some lagged.earlier))) holds)
+    by_kind (Some t) k = λ done last is. let (lagged, holds) = k done last is in (lagged, follows (decided_in_order t (done ++ lagged.earlier ∷ [])) holds)
 
 -- bytes that were pushed before any write failed were sent on
 pub sends_now : (was mid : Output) (pushed bytes : List ℕ) → PushEffect was mid pushed → mid.write_failed ≡ false → IsPrefix bytes pushed → BufferLag was mid bytes
@@ -229,7 +241,7 @@ sends_after was mid is pushed bytes wrote clean s = by_known was.accepted refl
 take_front : (n : ℕ) (xs ys : List ℕ) → (rest : List ℕ) × (take n (xs ++ ys) ≡ take n xs ++ rest)
 take_front zero xs ys = ([], refl)
 take_front (suc n) [] ys = (take (suc n) ys, refl)
-take_front (suc n) (x ∷ xs) ys = let k = take_front n xs ys in (k.0, ap (λ (l : List ℕ). x ∷ l) k.1)
+take_front (suc n) (x ∷ xs) ys = let (rest, is) = take_front n xs ys in (rest, ap (λ (l : List ℕ). x ∷ l) is)
 
 module _ (bytes : List ℕ) (was is is' : Output) (pushed front rest : List ℕ) (k : IsPushedUpToBlock bytes was is pushed) (empty : was.buffered ≡ []) (split : pushed ≡ front ++ rest)
     (accepted : is'.accepted ≡ append_known was.accepted front) (kept : IsKnownPrefix is.accepted is'.accepted) (unknown : was.accepted ≡ None → rest ≡ []) where
@@ -248,12 +260,12 @@ module _ (bytes : List ℕ) (was is is' : Output) (pushed front rest : List ℕ)
 
   pub kept_up : (failed : Bool) → (failed ≡ false → rest ≡ []) → IsWrittenUpToBlock bytes front failed
   kept_up failed whole =
-      let f = take_front (length front) bytes k.begins.rest in
+      let (more, is) = take_front (length front) bytes k.begins.rest in
       record {
         front = take (length front) bytes;
         lost = drop (length front) bytes;
         split = sym (take-append-drop (length front) bytes);
-        begins = record { rest = f.0; is = sym (take-append_seam front rest) ∙ ap (take (length front)) (sym split ∙ k.begins.is) ∙ f.1 };
+        begins = record { rest = more; is = sym (take-append_seam front rest) ∙ ap (take (length front)) (sym split ∙ k.begins.is) ∙ is };
         few = few;
         none = λ clean. nil_from_length (drop (length front) bytes) (omega (arith, all_lengths, ap length (whole clean), length-drop (length front) bytes));
       }

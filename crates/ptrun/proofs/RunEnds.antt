@@ -70,18 +70,19 @@ reached_of was new pushed empty w = by_known was.accepted refl
 
 bytes_consistent_at : (old new : Reader) (o : Option Received) (v : Option (List ℕ)) → IsNewOrUnopened old → HasReceivedAt old new o → HasBytesAt old v → IsConsistentAt o v
 bytes_consistent_at old new None None fresh k bytes = tt
-bytes_consistent_at old new None (Some b) fresh k bytes = absurd (false≢true (sym bytes.0 ∙ k.0))
-bytes_consistent_at old new (Some g) None fresh k bytes = absurd (false≢true (sym k.0 ∙ bytes))
-bytes_consistent_at old new (Some g) (Some b) fresh k bytes = by_left new.left (sym bytes.1 ∙ k.1.moved) (k.1.end (λ eof. absurd (false≢true (sym (fresh k.0).eof ∙ eof))))
+bytes_consistent_at old new None (Some b) fresh (unopened, same) (opened, left, short) = absurd (false≢true (sym opened ∙ unopened))
+bytes_consistent_at old new (Some g) None fresh (opened, received) unopened = absurd (false≢true (sym opened ∙ unopened))
+bytes_consistent_at old new (Some g) (Some b) fresh (opened, received) (_, left, short) =
+    by_left new.left (sym left ∙ received.moved) (received.end (λ eof. absurd (false≢true (sym (fresh opened).eof ∙ eof))))
   where
     by_left : (left : Option (List ℕ)) → Some b ≡ prepend_known g.bytes left → (new.eof ≡ true → IsAtEnd left) → IsConsistent g b
     by_left None is end = cc
-    by_left (Some rest) is end = record { rest = rest; is = cc; whole = λ eof. end (sym k.1.eof ∙ eof) }
+    by_left (Some rest) is end = record { rest = rest; is = cc; whole = λ eof. end (sym received.eof ∙ eof) }
 
 not_too_long : (o : Option Received) (v : Option (List ℕ)) (old : Reader) → IsConsistentAt o v → HasBytesAt old v → IsTooLong o → ⊥
 not_too_long None v old a bytes long = long
 not_too_long (Some g) None old a bytes long = a
-not_too_long (Some g) (Some b) old a bytes long = omega (arith, long, bytes.2, ap length a.is, length-append g.bytes a.rest)
+not_too_long (Some g) (Some b) old a (opened, left, short) long = omega (arith, long, short, ap length a.is, length-append g.bytes a.rest)
 
 -- ---- no call failed
 
@@ -97,11 +98,11 @@ exact_of_run m old new before o fresh k w bytes none fine not_denied = by_fault 
     unfailed n Memory c = false≢true (sym not_denied ∙ c.0)
 
     by_fault : (fault : Option FlowFault) → RunEnd m k.received old new k.written k.message o k.operands_done fault → IsExact m w before o
-    by_fault None e = record {
-      out = k.output ∙ ap (λ (l : List ℕ). append_known before.out.accepted l) (e.0.out w agrees);
+    by_fault None (complete, says) = record {
+      out = k.output ∙ ap (λ (l : List ℕ). append_known before.out.accepted l) (complete.out w agrees);
       messages = λ all_said. k.has_said.accepted ∙ ap (λ (l : List ℕ). append_known before.messages.accepted l)
-          (sym (append-nil k.has_said.front) ∙ ap (λ (l : List ℕ). k.has_said.front ++ l) (sym (k.has_said.whole all_said)) ∙ sym k.has_said.split ∙ (e.1 w agrees).0);
-      status_is = (e.1 w agrees).1;
+          (sym (append-nil k.has_said.front) ∙ ap (λ (l : List ℕ). k.has_said.front ++ l) (sym (k.has_said.whole all_said)) ∙ sym k.has_said.split ∙ (let (message, status) = says w agrees in message));
+      status_is = let (message, status) = says w agrees in status;
       bounded = k.bounded w agrees;
     }
     by_fault (Some fault) e = absurd (unfailed k.operands_done fault e.cause)
@@ -189,7 +190,7 @@ ended_after_all m readers n r ended = ⊎_elim (λ together. rw together (λ q n
 -- an input that a result names has an index below the number of readers
 pub index_below : {m : CommandSpec} {old new : List Reader} {was is is' : Output} {messages_old messages_new : SinkState} {before store : Slots} {run_result final_result : Result Completion FlowFault}
     → RunInputsPost m old new was is messages_old messages_new before store run_result → FinishPost is is' run_result final_result → HasIndexBelow (length old) final_result
-index_below {is' = is'} k f = ⊎_elim (λ write_failed. rw (f.broken write_failed) tt) (λ clean. rw (f.clean clean).0 k.position) (cases_Bool is'.write_failed)
+index_below {is' = is'} k f = ⊎_elim (λ write_failed. rw (f.broken write_failed) tt) (λ clean. rw (f.same_result clean) k.position) (cases_Bool is'.write_failed)
 
 module _ {m : CommandSpec} {old new : List Reader} {was is is' : Output} {messages_first messages_old messages_new : SinkState} {before store : Slots} {run_result final_result : Result Completion FlowFault} (out : SinkState) (o : Outcome)
     (nothing_said : HasSaid messages_first messages_old []) (k : RunInputsPost m old new was is messages_old messages_new before store run_result) (f : FinishPost is is' run_result final_result)
@@ -223,18 +224,24 @@ module _ {m : CommandSpec} {old new : List Reader} {was is is' : Output} {messag
   }
 
   all_front : is'.write_failed ≡ false → reached.front ≡ k.pushed
-  all_front clean = sym (reached.split ∙ ap (λ (l : List ℕ). reached.front ++ l) (reached.whole clean (f.clean clean).1) ∙ append-nil reached.front)
+  all_front clean = sym (reached.split ∙ ap (λ (l : List ℕ). reached.front ++ l) (reached.whole clean (f.emptied clean)) ∙ append-nil reached.front)
 
   abbrev last : List ℕ
   last = result_message m.tool m.names final_result
 
   ends_as : (r : Result Completion FlowFault) → final_result ≡ r → RunInputsEnd m k.received old new k.pushed is'.write_failed store.denied k.operands_done r
       → RunEnd m k.received old new reached.front (k.message ++ last) o k.operands_done (fault_of r)
-  ends_as (Ok done) same e = (
-    record { all = e.0.all; out = λ w agrees. all_front e.0.no_write_failed ∙ e.0.out w agrees; no_write_failed = last_failed ∙ e.0.no_write_failed; not_denied = denied_is ∙ e.0.not_denied; read = e.0.read },
-    λ w agrees. (
-      (λ i. (k.names w agrees ∙ ap (λ (n : ℕ). operand_messages m w n) e.0.all) i ++ (ap (result_message m.tool m.names) same ∙ (e.1 w agrees).0) i),
-      status_is ∙ ap result_status same ∙ (e.1 w agrees).1,
+  ends_as (Ok done) same (complete, says) = (
+    record {
+      all = complete.all;
+      out = λ w agrees. all_front complete.no_write_failed ∙ complete.out w agrees;
+      no_write_failed = last_failed ∙ complete.no_write_failed;
+      not_denied = denied_is ∙ complete.not_denied;
+      read = complete.read;
+    },
+    λ w agrees. let (message, status) = says w agrees in (
+      (λ i. (k.names w agrees ∙ ap (λ (n : ℕ). operand_messages m w n) complete.all) i ++ (ap (result_message m.tool m.names) same ∙ message) i),
+      status_is ∙ ap result_status same ∙ status,
     ),
   )
   ends_as (Err fault) same e = record {
@@ -264,15 +271,15 @@ module _ {m : CommandSpec} {old new : List Reader} {was is is' : Output} {messag
     operands_done = k.operands_done;
     fault = fault_of final_result;
     ends = ends_as final_result refl (⊎_elim (λ write_failed. rw (f.broken write_failed) write_failed)
-        (λ (clean : is'.write_failed ≡ false). rw (clean, (f.clean clean).0) (rw (f.clean clean).2 at k.ends)) (cases_Bool is'.write_failed));
+        (λ (clean : is'.write_failed ≡ false). rw (clean, f.same_result clean) (rw (f.was_clean clean) at k.ends)) (cases_Bool is'.write_failed));
     untouched = k.untouched;
     ended = rw status_is (⊎_elim (λ write_failed. rw (f.broken write_failed) (ended_after_all m new k.operands_done run_result k.ended))
-        (λ clean. rw (f.clean clean).0 k.ended) (cases_Bool is'.write_failed));
+        (λ clean. rw (f.same_result clean) k.ended) (cases_Bool is'.write_failed));
     left = λ memory. ⊎_elim (λ write_failed. absurd (not_memory (f.broken write_failed) memory))
-        (λ clean. rw (all_front clean) (k.left (sym (f.clean clean).0 ∙ err_of final_result memory))) (cases_Bool is'.write_failed);
+        (λ clean. rw (all_front clean) (k.left (sym (f.same_result clean) ∙ err_of final_result memory))) (cases_Bool is'.write_failed);
     is_prefix = begins;
-    names_failed_read = λ position failed fine. let clean = sym last_failed ∙ fine in ap fault_of ((f.clean clean).0 ∙ k.names_failed_read position failed (f.clean clean).2);
-    decided_is_written = λ position failed fine. let clean = sym last_failed ∙ fine in let b = k.decided_is_written position failed (f.clean clean).2 in record { rest = b.rest; is = all_front clean ∙ b.is };
+    names_failed_read = λ position failed fine. let clean = sym last_failed ∙ fine in ap fault_of (f.same_result clean ∙ k.names_failed_read position failed (f.was_clean clean));
+    decided_is_written = λ position failed fine. let clean = sym last_failed ∙ fine in let b = k.decided_is_written position failed (f.was_clean clean) in record { rest = b.rest; is = all_front clean ∙ b.is };
     bounded_lag = earlier_map m k.received k.operands_done (λ decided. IsPushedUpToBlock decided was is k.pushed) (λ decided. IsWrittenUpToBlock decided reached.front o.out.failed) kept k.bounded_lag;
     bounded = λ w agrees. omega (arith, k.peak w agrees, low, peak_is);
   }
@@ -280,7 +287,7 @@ module _ {m : CommandSpec} {old new : List Reader} {was is is' : Output} {messag
       kept : (bytes : List ℕ) → IsPushedUpToBlock bytes was is k.pushed → IsWrittenUpToBlock bytes reached.front o.out.failed
       kept bytes up =
           kept_up bytes was is is' k.pushed reached.front reached.rest up (ap (λ (o : Output). o.buffered) made) reached.split reached.accepted f.wrote.kept reached.unknown o.out.failed
-          (λ fine. let clean = sym last_failed ∙ fine in reached.whole clean (f.clean clean).1)
+          (λ fine. let clean = sym last_failed ∙ fine in reached.whole clean (f.emptied clean))
 
   pub run_in_store : IsRunInStore m old new (sinks out messages_first) o before store
   unfolding run_of

@@ -8,7 +8,7 @@ use Rattle.ptrun.proofs.Common.{Slots, total_bytes, SinkState, push_trans, push_
 use Rattle.ptrun.proofs.Common.{ReceivedInputs, at, is_unopened, IsConsistentAt, AreInputsConsistent, is_in, input_of_operand, inputs_of_operands, opened_values, opened_inputs, reader_at, no_reader, is_reader_unopened, HasReceivedAt, HaveReceived, IsNewOrUnopened, HasReadFailed, IsTooLong}
 use Rattle.ptrun.proofs.Common.{HasSaid, unopened_messages, unopened_message, name_of, BoundedLag, IsPushedUpToBlock, decided_in_order, up_to_unended, sequential_output, sequential_bound, sequential_decided, sequential_spec, Completion, AllWritten, Unopened, HasCause, fault_at}
 use Rattle.ptrun.proofs.Common.{result_message, result_status, HasIndexBelow, RunInputsPost, get_or, get_or_default, All}
-use Rattle.ptrun.proofs.OneInput.{all_earlier, last_earlier, sends_now, sends_after, IsAtEof, none_received, completion_with, received_of, received_at, nothing_read, never_long, not_long, opened_receives}
+use Rattle.ptrun.proofs.OneInput.{all_earlier, last_earlier, sends_now, sends_after, IsAtEof, none_received, completion_with, received_of, received_at, nothing_read, never_long, not_long, OpenedInput, opened_receives}
 use Rattle.ptrun.proofs.OneInput.{still_unopened, receives_trans, ended_gives_nothing, unopened_agrees, none_of, consistent_bytes, consistent_before, consistent_whole, least_consistent, ended_at, nth_here}
 use Rattle.ptrun.proofs.MessageWrites.{said_nothing}
 use Rattle.ptrun.proofs.OperandInputs.{some_same, is_in-same, is_in-other, not_more, by_position, opened_inputs_some, opened_inputs_none, unopened_same, any_same, any_now, any_before, said_more, maximum-append, IsEndedAt, least_bytes}
@@ -22,7 +22,8 @@ pub record OperandsDone (word : List ℕ) (t : ToolSpec) (names : List (List ℕ
   pub long : length inputs_read ≡ length old
   pub came : HaveReceived old now inputs_read
   pub at_eof : (q : ℕ) → is_in done q ≡ true → is_reader_unopened old q ≡ false → IsAtEof (reader_at now q)
-  pub unread : (q : ℕ) → is_in done q ≡ false → (reader_at now q ≡ reader_at old q) × (at inputs_read q ≡ received_of (reader_at old q))
+  pub unread : (q : ℕ) → is_in done q ≡ false → reader_at now q ≡ reader_at old q
+  pub unreceived : (q : ℕ) → is_in done q ≡ false → at inputs_read q ≡ received_of (reader_at old q)
   pub pushed : List ℕ
   pub wrote : PushEffect was is pushed
   pub out : (w : InputBytes) → AreInputsConsistent inputs_read w → pushed ≡ sequential_output t w done
@@ -50,7 +51,8 @@ module _ {word : List ℕ} {t : ToolSpec} {names : List (List ℕ)} {old : List 
     long = length-map old received_of;
     came = nothing_read old (fresh_all old fresh);
     at_eof = λ q seen. absurd (false≢true seen);
-    unread = λ q unseen. (refl, received_at old q);
+    unread = λ q unseen. refl;
+    unreceived = λ q unseen. received_at old q;
     pushed = [];
     wrote = push_nothing was;
     out = λ w agrees. refl;
@@ -69,14 +71,14 @@ module _ {word : List ℕ} {t : ToolSpec} {names : List (List ℕ)} {old : List 
     was_unopened q = sym (still_unopened (reader_at old q) (reader_at now q) (at k.inputs_read q) (k.came q))
 
     not_failed_now : (q : ℕ) → is_reader_unopened old q ≡ false → (reader_at old q).failed ≡ false → (reader_at now q).failed ≡ false
-    not_failed_now q opened not_failed_before = ⊎_elim (λ seen. (k.at_eof q seen opened).failed) (λ unseen. ap (λ (r : Reader). r.failed) (k.unread q unseen).0 ∙ not_failed_before) (cases_Bool (is_in done q))
+    not_failed_now q opened not_failed_before = ⊎_elim (λ seen. (k.at_eof q seen opened).failed) (λ unseen. ap (λ (r : Reader). r.failed) (k.unread q unseen) ∙ not_failed_before) (cases_Bool (is_in done q))
 
     ended_now : (q : ℕ) → is_in done q ≡ true → IsEndedAt (at k.inputs_read q)
     ended_now q seen = ended_at (reader_at old q) (reader_at now q) (at k.inputs_read q) (k.came q) (k.at_eof q seen)
 
     can_read_now : (q : ℕ) → is_reader_unopened old q ≡ false → ((reader_at now q).buffered ≡ []) × ((reader_at now q).fault ≡ None)
     can_read_now q opened = ⊎_elim (λ seen. let s = k.at_eof q seen opened in (s.done.buffered, s.fault))
-        (λ unseen. let new = fresh_all old fresh q opened in rw (k.unread q unseen).0 (new.buffered, new.fault)) (cases_Bool (is_in done q))
+        (λ unseen. let new = fresh_all old fresh q opened in rw (k.unread q unseen) (new.buffered, new.fault)) (cases_Bool (is_in done q))
 
     -- ---- all operands are done
 
@@ -100,10 +102,10 @@ module _ {word : List ℕ} {t : ToolSpec} {names : List (List ℕ)} {old : List 
           read = λ q. ⊎_elim (none q) (short q);
         },
         λ w agrees. let same = any_same (is_reader_unopened old) (is_unopened w) done (unopened_agrees old now k.inputs_read w k.came agrees) in
-            let end = ends_with (list_any (is_unopened w) done) in rw (k.so_far_is, same) (end.0, end.1),
+            let (message, status, position) = ends_with (list_any (is_unopened w) done) in rw (k.so_far_is, same) (message, status),
       );
-      position = rw k.so_far_is (ends_with (list_any (is_reader_unopened old) done)).2;
-      untouched = λ q other. (k.unread q (rw all_taken at other)).0;
+      position = let (message, status, position) = ends_with (list_any (is_reader_unopened old) done) in rw k.so_far_is position;
+      untouched = λ q other. k.unread q (rw all_taken at other);
       ended = λ q named opened. (k.at_eof q (rw (take-length done) at named) (was_unopened q ∙ opened)).done;
       left = λ memory. cc;
       is_prefix = λ w agrees. record { rest = []; is = sym (k.out w agrees) ∙ sym (append-nil k.pushed) };
@@ -120,11 +122,11 @@ module _ {word : List ℕ} {t : ToolSpec} {names : List (List ℕ)} {old : List 
         all_taken = take_all (length done + 1) done (omega arith)
 
         none : (q : ℕ) → HasReadFailed old now q → ⊥
-        none q failed = false≢true (sym (not_failed_now q failed.0 failed.1) ∙ failed.2)
+        none q (opened, before, failed) = false≢true (sym (not_failed_now q opened before) ∙ failed)
 
         short : (q : ℕ) → IsTooLong (at k.inputs_read q) → ⊥
         short q long = ⊎_elim (λ seen. not_long (reader_at old q) (reader_at now q) (at k.inputs_read q) (fresh_all old fresh q) (k.came q) (λ opened. (k.at_eof q seen opened).short) long)
-            (λ unseen. never_long (reader_at old q) (rw (k.unread q unseen).1 at long)) (cases_Bool (is_in done q))
+            (λ unseen. never_long (reader_at old q) (rw (k.unreceived q unseen) at long)) (cases_Bool (is_in done q))
 
         ends_with : (b : Bool) → (result_message word names (Ok (completion_with b)) ≡ []) × (result_status (Ok (completion_with b)) ≡ cond b 1 0) × HasIndexBelow (length old) (Ok (completion_with b))
         ends_with true = (refl, refl, tt)
@@ -145,7 +147,7 @@ module _ {word : List ℕ} {t : ToolSpec} {names : List (List ℕ)} {old : List 
 
       -- an opened reader has no fault
       pub ready_here : (get_or now p d).refused ≡ false → (get_or now p d).fault ≡ None
-      ready_here opened = rw here (can_read_now p (was_unopened p ∙ ap (λ (r : Reader). r.refused) (sym here) ∙ opened)).1
+      ready_here opened = let (buffered, fault) = can_read_now p (was_unopened p ∙ ap (λ (r : Reader). r.refused) (sym here) ∙ opened) in rw here fault
 
       -- the next operand could not be opened
       pub done_unopened : {messages_new' : SinkState} → (get_or now p d).refused ≡ true → HasSaid messages_new messages_new' (unopened_message word (name_of names p))
@@ -157,7 +159,8 @@ module _ {word : List ℕ} {t : ToolSpec} {names : List (List ℕ)} {old : List 
         came = k.came;
         at_eof = λ q seen opened. ⊎_elim (λ same. absurd (false≢true (sym opened ∙ ap (is_reader_unopened old) (sym same) ∙ old_unopened)))
             (λ other. k.at_eof q (sym (is_in-other done p q other) ∙ seen) opened) (cases_eq p q);
-        unread = λ q unseen. k.unread q (not_more done p q unseen).1;
+        unread = λ q unseen. let (differs, before) = not_more done p q unseen in k.unread q before;
+        unreceived = λ q unseen. let (differs, before) = not_more done p q unseen in k.unreceived q before;
         pushed = k.pushed;
         wrote = k.wrote;
         out = λ w agrees. rw (nothing w agrees) (k.out w agrees);
@@ -194,17 +197,17 @@ module _ {word : List ℕ} {t : ToolSpec} {names : List (List ℕ)} {old : List 
       old_open = was_unopened p ∙ rw (here within d) at open_here
 
       -- what its input had received before
-      abbrev y : (g : Received) × (at k.inputs_read p ≡ Some g) × HasReceived (reader_at old p) (reader_at now p) g
+      abbrev y : OpenedInput (reader_at old p) (reader_at now p) (at k.inputs_read p)
       y = opened_receives (reader_at old p) (reader_at now p) (at k.inputs_read p) old_open (k.came p)
 
       buffered : (reader_at now p).buffered ≡ []
-      buffered = (can_read_now p old_open).0
+      buffered = let (buffered, fault) = can_read_now p old_open in buffered
 
       abbrev given_now : Received → Received
       given_now g = record { bytes = g.bytes ++ e.given.bytes; eof = e.given.eof }
 
       abbrev inputs_read' : ReceivedInputs
-      inputs_read' = set k.inputs_read p (Some (given_now y.0))
+      inputs_read' = set k.inputs_read p (Some (given_now y.given))
 
       abbrev pub now' : List Reader
       now' = set now p new
@@ -215,79 +218,86 @@ module _ {word : List ℕ} {t : ToolSpec} {names : List (List ℕ)} {old : List 
       reader_other : (q : ℕ) → p ≢ q → reader_at now' q ≡ reader_at now q
       reader_other q differs = get_or-set_other now p q new no_reader (λ is_p. differs (sym is_p))
 
-      read_here : at inputs_read' p ≡ Some (given_now y.0)
-      read_here = get_or-set_same k.inputs_read p (Some (given_now y.0)) None (omega (arith, within, k.long))
+      read_here : at inputs_read' p ≡ Some (given_now y.given)
+      read_here = get_or-set_same k.inputs_read p (Some (given_now y.given)) None (omega (arith, within, k.long))
 
       read_other : (q : ℕ) → p ≢ q → at inputs_read' q ≡ at k.inputs_read q
-      read_other q differs = get_or-set_other k.inputs_read p q (Some (given_now y.0)) None (λ is_p. differs (sym is_p))
+      read_other q differs = get_or-set_other k.inputs_read p q (Some (given_now y.given)) None (λ is_p. differs (sym is_p))
 
-      receives_here : HasReceived (reader_at old p) new (given_now y.0)
-      receives_here = receives_trans (reader_at old p) (reader_at now p) new y.0 e.given y.2 e.came buffered
+      receives_here : HasReceived (reader_at old p) new (given_now y.given)
+      receives_here = receives_trans (reader_at old p) (reader_at now p) new y.given e.given y.received e.came buffered
 
       received' : HaveReceived old now' inputs_read'
       received' = by_position (λ q. HasReceivedAt (reader_at old q) (reader_at now' q) (at inputs_read' q)) p (rw (reader_here, read_here) (old_open, receives_here))
           (λ q other. rw (reader_other q other, read_other q other) (k.came q))
 
-      still : y.0.eof ≡ true → (e.given.bytes ≡ []) × (e.given.eof ≡ true)
-      still eof = ended_gives_nothing (reader_at now p) new e.given e.came buffered (sym y.2.eof ∙ eof)
+      still : y.given.eof ≡ true → (e.given.bytes ≡ []) × (e.given.eof ≡ true)
+      still eof = ended_gives_nothing (reader_at now p) new e.given e.came buffered (sym y.received.eof ∙ eof)
 
       -- its input was read to its end before and gives nothing now, or it was not read before
-      turn : ((is_in done p ≡ true) × (e.given ≡ empty_input) × IsAtEof (reader_at now p)) ⊎ ((is_in done p ≡ false) × (y.0 ≡ none_received))
+      turn : ((is_in done p ≡ true) × (e.given ≡ empty_input) × IsAtEof (reader_at now p)) ⊎ ((is_in done p ≡ false) × (y.given ≡ none_received))
       turn = ⊎_elim
           (λ seen.
           let s = k.at_eof p seen old_open in
-          let none = still (y.2.eof ∙ s.done.eof) in
-          inl (seen, (λ i. record { bytes = none.0 i; eof = none.1 i }), s))
-          (λ unseen. inr (unseen, some_same (sym y.1 ∙ (k.unread p unseen).1 ∙ ap (λ (b : Bool). cond b None (Some none_received)) old_open))) (cases_Bool (is_in done p))
+          let (none, at_eof) = still (y.received.eof ∙ s.done.eof) in
+          inl (seen, (λ i. record { bytes = none i; eof = at_eof i }), s))
+          (λ unseen. inr (unseen, some_same (sym y.is ∙ k.unreceived p unseen ∙ ap (λ (b : Bool). cond b None (Some none_received)) old_open))) (cases_Bool (is_in done p))
 
       unseen : HasReadCause (reader_at now p) new → is_in done p ≡ false
       unseen cause = ⊎_elim
-          (λ s. absurd (⊎_elim (λ f. false≢true (sym (e.came.eof ∙ f.2) ∙ ap (λ (g : Received). g.eof) s.1)) (λ l. omega (arith, s.2.short, (e.came.still s.2.done.eof).0, l.0)) cause))
-          (λ u. u.0) turn
+          (λ (seen, none, at_eof). absurd (⊎_elim (λ (failed, fault, before). false≢true (sym (e.came.eof ∙ before) ∙ ap (λ (g : Received). g.eof) none))
+          (λ (long, same). let (pulled, still_eof) = e.came.still at_eof.done.eof in omega (arith, at_eof.short, pulled, long)) cause))
+          (λ (unseen, none). unseen) turn
 
-      consistent_here : (b : List ℕ) → IsConsistent (given_now y.0) b → IsConsistent e.given (cond (is_in done p) [] b)
+      consistent_here : (b : List ℕ) → IsConsistent (given_now y.given) b → IsConsistent e.given (cond (is_in done p) [] b)
       consistent_here b a = ⊎_elim
-          (λ s. rw (s.1, s.0) (record { rest = []; is = refl; whole = λ _. refl }))
-          (λ u. rw u.0 (rw u.1 at a)) turn
+          (λ (seen, none, at_eof). rw (none, seen) (record { rest = []; is = refl; whole = λ _. refl }))
+          (λ (unseen, none). rw unseen (rw none at a)) turn
 
       -- the bytes are consistent with what was received before
       back : (w : InputBytes) → AreInputsConsistent inputs_read' w → AreInputsConsistent k.inputs_read w
       back w agrees =
-          let here = consistent_bytes (at inputs_read' p) (at w p) (given_now y.0) read_here (agrees p) in
-          by_position (λ q. IsConsistentAt (at k.inputs_read q) (at w q)) p (rw (y.1, here.1) (consistent_before y.0 e.given here.0 still here.2))
+          let here = consistent_bytes (at inputs_read' p) (at w p) (given_now y.given) read_here (agrees p) in
+          by_position (λ q. IsConsistentAt (at k.inputs_read q) (at w q)) p (rw (y.is, here.are) (consistent_before y.given e.given here.bytes still here.agree))
           (λ q differs. rw (read_other q differs) at (agrees q))
 
       -- the bytes that are left for the operand, consistent with what this call received
-      abbrev OperandFinds : InputBytes → Type 0
-      OperandFinds w = (bytes : List ℕ) × (input_of_operand [] w done p ≡ Some bytes) × IsConsistent e.given bytes
+      record OperandFinds (w : InputBytes) : Type 0 where
+        bytes : List ℕ
+        are : input_of_operand [] w done p ≡ Some bytes
+        agree : IsConsistent e.given bytes
 
       operand_finds : (w : InputBytes) → AreInputsConsistent inputs_read' w → OperandFinds w
       operand_finds w agrees =
-          let here = consistent_bytes (at inputs_read' p) (at w p) (given_now y.0) read_here (agrees p) in
-          (cond (is_in done p) [] here.0, ap (λ (v : Option (List ℕ)). option_map (λ (b : List ℕ). cond (is_in done p) [] b) v) here.1, consistent_here here.0 here.2)
+          let here = consistent_bytes (at inputs_read' p) (at w p) (given_now y.given) read_here (agrees p) in
+          record {
+            bytes = cond (is_in done p) [] here.bytes;
+            are = ap (λ (v : Option (List ℕ)). option_map (λ (b : List ℕ). cond (is_in done p) [] b) v) here.are;
+            agree = consistent_here here.bytes here.agree;
+          }
 
       -- the inputs of the operands after it
       abbrev later : InputBytes → List ℕ → List (List ℕ)
       later w more = opened_values (inputs_of_operands [] w (done ++ p ∷ []) more)
 
-      out_here : (w : InputBytes) (more : List ℕ) (f : OperandFinds w) → sequential_output t w (done ++ p ∷ more) ≡ sequential_output t w done ++ (t.text f.0 ++ flat_map t.text (later w more))
-      out_here w more f = ap (λ (l : List (List ℕ)). flat_map t.text l) (opened_inputs_some [] w done p more f.0 f.1) ∙ flat_map-append t.text (opened_inputs [] w done) (f.0 ∷ later w more)
+      out_here : (w : InputBytes) (more : List ℕ) (f : OperandFinds w) → sequential_output t w (done ++ p ∷ more) ≡ sequential_output t w done ++ (t.text f.bytes ++ flat_map t.text (later w more))
+      out_here w more f = ap (λ (l : List (List ℕ)). flat_map t.text l) (opened_inputs_some [] w done p more f.bytes f.are) ∙ flat_map-append t.text (opened_inputs [] w done) (f.bytes ∷ later w more)
 
       peak_here : (w : InputBytes) (more : List ℕ) → AreInputsConsistent inputs_read' w → store'.peak ≤ max before.peak (sequential_bound t w (done ++ p ∷ more))
       peak_here w more agrees =
           let f = operand_finds w agrees in
-          rw (opened_inputs_some [] w done p more f.0 f.1, map-append t.size (opened_inputs [] w done) (f.0 ∷ later w more))
-          (omega (arith, maximum-append (map t.size (opened_inputs [] w done)) (map t.size (f.0 ∷ later w more)), e.peak f.0 f.2, k.peak w (back w agrees)))
+          rw (opened_inputs_some [] w done p more f.bytes f.are, map-append t.size (opened_inputs [] w done) (f.bytes ∷ later w more))
+          (omega (arith, maximum-append (map t.size (opened_inputs [] w done)) (map t.size (f.bytes ∷ later w more)), e.peak f.bytes f.agree, k.peak w (back w agrees)))
 
       slots_here : (w : InputBytes) (more : List ℕ) → AreInputsConsistent inputs_read' w
           → length store'.lines ≤ max (length before.lines) (sequential_slots t w (done ++ p ∷ more))
       slots_here w more agrees =
           let f = operand_finds w agrees in
           let slots_of : List ℕ → ℕ = λ input. t.slots in
-          rw (opened_inputs_some [] w done p more f.0 f.1, map-append slots_of (opened_inputs [] w done) (f.0 ∷ later w more))
+          rw (opened_inputs_some [] w done p more f.bytes f.are, map-append slots_of (opened_inputs [] w done) (f.bytes ∷ later w more))
           (omega (
             arith,
-            maximum-append (map slots_of (opened_inputs [] w done)) (map slots_of (f.0 ∷ later w more)),
+            maximum-append (map slots_of (opened_inputs [] w done)) (map slots_of (f.bytes ∷ later w more)),
             (e.slots k.clean).most,
             k.slots w (back w agrees),
           ))
@@ -297,15 +307,16 @@ module _ {word : List ℕ} {t : ToolSpec} {names : List (List ℕ)} {old : List 
       done_operand ok = record {
         inputs_read = inputs_read';
         same_length = length-set now p new ∙ k.same_length;
-        long = length-set k.inputs_read p (Some (given_now y.0)) ∙ k.long;
+        long = length-set k.inputs_read p (Some (given_now y.given)) ∙ k.long;
         came = received';
         at_eof = λ q seen opened. ⊎_elim (λ same. subst (λ (n : ℕ). IsAtEof (reader_at now' n)) same (rw reader_here at_eof))
             (λ other. rw (reader_other q other) (k.at_eof q (sym (is_in-other done p q other) ∙ seen) opened)) (cases_eq p q);
-        unread = λ q unseen. let other = not_more done p q unseen in let was = k.unread q other.1 in (reader_other q other.0 ∙ was.0, read_other q other.0 ∙ was.1);
+        unread = λ q unseen. let (differs, before) = not_more done p q unseen in reader_other q differs ∙ k.unread q before;
+        unreceived = λ q unseen. let (differs, before) = not_more done p q unseen in read_other q differs ∙ k.unreceived q before;
         pushed = k.pushed ++ e.pushed;
         wrote = push_trans was is is' k.pushed e.pushed k.clean k.wrote e.wrote;
         out = λ w agrees. let f = operand_finds w agrees in
-            (λ i. k.out w (back w agrees) i ++ (e.is_exact ok ∙ ap t.text (sym (consistent_whole e.given f.0 (e.came.eof ∙ end.done.eof) f.2)) ∙ sym (append-nil (t.text f.0))) i)
+            (λ i. k.out w (back w agrees) i ++ (e.is_exact ok ∙ ap t.text (sym (consistent_whole e.given f.bytes (e.came.eof ∙ end.done.eof) f.agree)) ∙ sym (append-nil (t.text f.bytes))) i)
             ∙ sym (out_here w [] f);
         has_said = said_more word names (is_reader_unopened old) done p k.has_said (rw old_open (said_nothing messages_new));
         so_far_is = k.so_far_is ∙ sym (ap completion_with (any_before (is_reader_unopened old) done p old_open));
@@ -330,8 +341,8 @@ module _ {word : List ℕ} {t : ToolSpec} {names : List (List ℕ)} {old : List 
       cause_of more (Read position) r = (
         nth_here done more p,
         rw (take-append_seam done (p ∷ more)) (unseen r.cause),
-        ⊎_elim (λ f. inl (old_open, ap (λ (r : Reader). r.failed) (sym (k.unread p (unseen r.cause)).0) ∙ not_failed_before, ap (λ (n : Reader). n.failed) reader_here ∙ f.0))
-            (λ l. inr (rw read_here (let first = fresh_all old fresh p old_open in omega (arith, l.0, receives_here.count, ap length first.buffered, first.pulled)))) r.cause,
+        ⊎_elim (λ (failed, empty, going). inl (old_open, ap (λ (r : Reader). r.failed) (sym (k.unread p (unseen r.cause))) ∙ not_failed_before, ap (λ (n : Reader). n.failed) reader_here ∙ failed))
+            (λ (long, same). inr (rw read_here (let first = fresh_all old fresh p old_open in omega (arith, long, receives_here.count, ap length first.buffered, first.pulled)))) r.cause,
         r.clean,
         r.denied,
       )
@@ -356,18 +367,18 @@ module _ {word : List ℕ} {t : ToolSpec} {names : List (List ℕ)} {old : List 
           (λ few.
           let unread = (e.refused k.clean few).same_reader in
           ⊎_elim (λ seen. omega (arith, few, k.room p seen old_open, (e.slots k.clean).least))
-          (λ unseen. false≢true (sym (fresh_all old fresh p old_open).eof ∙ ap (λ (r : Reader). r.eof) (sym (k.unread p unseen).0)
+          (λ unseen. false≢true (sym (fresh_all old fresh p old_open).eof ∙ ap (λ (r : Reader). r.eof) (sym (k.unread p unseen))
           ∙ ap (λ (r : Reader). r.eof) (sym unread) ∙ ended.eof)) (cases_Bool (is_in done p)))
           (λ enough. e.line_left memory enough ended) (cases_lt (length store'.lines) t.slots)
 
       failing : (fault : FlowFault) → PassOutcome (reader_at now p) new is' store' (Err fault) → new.failed ≡ true → (new.eof ≡ false) × (fault_at p fault ≡ Read p)
-      failing (Read position) r failed = ⊎_elim (λ f. (f.2, refl)) (λ l. absurd (false≢true (sym (l.1 ∙ not_failed_before) ∙ failed))) r.cause
+      failing (Read position) r failed = ⊎_elim (λ (now_failed, empty, going). (going, refl)) (λ (long, same). absurd (false≢true (sym (same ∙ not_failed_before) ∙ failed))) r.cause
       failing Write r failed = absurd (false≢true (sym (r.failed ∙ not_failed_before) ∙ failed))
       failing Memory r failed = absurd (false≢true (sym (r.failed ∙ not_failed_before) ∙ failed))
 
       ended_before : (q : ℕ) → is_in done q ≡ true → IsEndedAt (at inputs_read' q)
       ended_before = by_position (λ q. is_in done q ≡ true → IsEndedAt (at inputs_read' q)) p
-          (λ seen. rw read_here (⊎_elim (λ s. ap (λ (g : Received). g.eof) s.1) (λ u. absurd (false≢true (sym u.0 ∙ seen))) turn))
+          (λ seen. rw read_here (⊎_elim (λ (before, none, at_eof). ap (λ (g : Received). g.eof) none) (λ (unseen, none). absurd (false≢true (sym unseen ∙ seen))) turn))
           (λ q differs seen. rw (read_other q differs) (ended_now q seen))
 
       module _ (law : DecidesAll t) where
@@ -385,7 +396,8 @@ module _ {word : List ℕ} {t : ToolSpec} {names : List (List ℕ)} {old : List 
 
         input_given : input_of_operand empty_input inputs_read' done p ≡ Some (e.given)
         input_given = ap (λ (o : Option Received). option_map (λ (g : Received). cond (is_in done p) empty_input g) o) read_here
-            ∙ ⊎_elim (λ s. (λ i. Some (cond (s.0 i) empty_input (given_now y.0))) ∙ ap (λ (g : Received). Some g) (sym s.1)) (λ u i. Some (cond (u.0 i) empty_input (given_now (u.1 i)))) turn
+            ∙ ⊎_elim (λ (seen, none, at_eof). (λ i. Some (cond (seen i) empty_input (given_now y.given))) ∙ ap (λ (g : Received). Some g) (sym none))
+            (λ (unseen, none). λ i. Some (cond (unseen i) empty_input (given_now (none i)))) turn
 
         -- if its end was not reached, nothing after it is decided
         decided_open : (g : Received) (after : List Received) → (after ≡ []) ⊎ (g.eof ≡ false) → flat_map t.decided (up_to_unended (g ∷ after)) ≡ t.decided g
@@ -415,7 +427,7 @@ module _ {word : List ℕ} {t : ToolSpec} {names : List (List ℕ)} {old : List 
           names = λ w agrees. rw (take-append_seam done (p ∷ more)) (unopened_same word names (is_reader_unopened old) (is_unopened w) done (unopened_agrees old now' inputs_read' w received' agrees));
           ends = cause_of more fault end;
           position = index_within fault;
-          untouched = λ q other. let n = not_more done p q (rw (take-append-add done (p ∷ more) 1) at other) in reader_other q n.0 ∙ (k.unread q n.1).0;
+          untouched = λ q other. let (differs, before) = not_more done p q (rw (take-append-add done (p ∷ more) 1) at other) in reader_other q differs ∙ k.unread q before;
           ended = λ q named. ended_still q (rw (take-append_seam done (p ∷ more)) at named);
           left = λ memory. let same : fault_at p fault ≡ Memory = cc in inl (
             p,
@@ -423,7 +435,7 @@ module _ {word : List ℕ} {t : ToolSpec} {names : List (List ℕ)} {old : List 
             rw reader_here (e.came.refused ∙ sym (was_unopened p) ∙ old_open),
             rw reader_here (input_left (is_err ∙ ap (λ (f : FlowFault). Err f) (memory_is fault same))),
           );
-          is_prefix = λ w agrees. let f = operand_finds w agrees in let b = e.is_prefix f.0 f.2 in let rest = flat_map t.text (later w more) in record {
+          is_prefix = λ w agrees. let f = operand_finds w agrees in let b = e.is_prefix f.bytes f.agree in let rest = flat_map t.text (later w more) in record {
             rest = b.rest ++ rest;
             is = out_here w more f ∙ (λ i. sym (k.out w (back w agrees)) i ++ (b.is i ++ rest)) ∙ ap (λ (l : List ℕ). k.pushed ++ l) (append_assoc e.pushed b.rest rest)
                 ∙ sym (append_assoc k.pushed e.pushed (b.rest ++ rest));
@@ -445,11 +457,12 @@ module _ {word : List ℕ} {t : ToolSpec} {names : List (List ℕ)} {old : List 
             end = rw is_err at e.ends
 
             position_of : (q : ℕ) → HasReadFailed old now' q → p ≡ q
-            position_of q failed = ⊎_elim (λ same. same)
-                (λ other. absurd (false≢true (sym (not_failed_now q failed.0 failed.1) ∙ ap (λ (r : Reader). r.failed) (sym (reader_other q other)) ∙ failed.2))) (cases_eq p q)
+            position_of q (opened, before, failed) = ⊎_elim (λ same. same)
+                (λ other. absurd (false≢true (sym (not_failed_now q opened before) ∙ ap (λ (r : Reader). r.failed) (sym (reader_other q other)) ∙ failed))) (cases_eq p q)
 
             fails_here : (q : ℕ) → HasReadFailed old now' q → new.failed ≡ true
-            fails_here q failed = ap (λ (r : Reader). r.failed) (sym reader_here) ∙ ap (λ (n : ℕ). (reader_at now' n).failed) (position_of q failed) ∙ failed.2
+            fails_here q fails = let (opened, before, failed) = fails in
+                ap (λ (r : Reader). r.failed) (sym reader_here) ∙ ap (λ (n : ℕ). (reader_at now' n).failed) (position_of q fails) ∙ failed
 
             index_within : (f : FlowFault) → HasIndexBelow (length old) (Err (fault_at p f))
             index_within (Read position) = within

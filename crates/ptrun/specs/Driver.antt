@@ -76,7 +76,9 @@ HasIndexBelow count _ = Unit {0}
 -- that is the result, in place of any other, and nothing was flushed.
 pub record FinishPost (old new : Output) (run_result final_result : Result Completion FlowFault) : Type 0 where
   pub wrote : PushEffect old (record new { flushes = old.flushes }) []
-  pub clean : new.write_failed ≡ false → (final_result ≡ run_result) × (new.buffered ≡ []) × (old.write_failed ≡ false)
+  pub same_result : new.write_failed ≡ false → final_result ≡ run_result
+  pub emptied : new.write_failed ≡ false → new.buffered ≡ []
+  pub was_clean : new.write_failed ≡ false → old.write_failed ≡ false
   pub flushed : new.write_failed ≡ false → new.unflushed ≡ false
   pub flushes : new.write_failed ≡ false → new.flushes ≡ flushes_after old.flushes
   pub unfinished : new.write_failed ≡ true → new.flushes ≡ old.flushes
