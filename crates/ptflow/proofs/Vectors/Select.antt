@@ -41,7 +41,8 @@ select_past r n xs past = select_none (is_within r) n xs (λ k low high. above r
 
 -- one item more: if the first test selects it, the other does not, and if the other does, the first selects nothing
 -- later
-select_step : {X : Type 0} (x : X) {all : List X} (first others : List X) (a b : Bool) → (a ≡ true → b ≡ false) → (b ≡ true → first ≡ []) → all ≡ first ++ others
+select_step : {X : Type 0} (x : X) {all : List X} (first others : List X) (a b : Bool) → (a ≡ true → b ≡ false)
+    → (b ≡ true → first ≡ []) → all ≡ first ++ others
     → cond (a || b) (x ∷ all) all ≡ cond a (x ∷ first) first ++ cond b (x ∷ others) others
 select_step x first others true true apart none more = absurd (false≢true (sym (apart refl)))
 select_step x first others true false apart none more = ap (◌∷◌ x) more
@@ -62,7 +63,8 @@ select_first r rs n (x ∷ xs) apart = select_step x (selected_bytes (is_within 
     there : is_selected rs n ≡ true → selected_bytes (is_within r) (n + 1) xs ≡ []
     there other = ⊎_elim
         (λ high. select_past r (n + 1) xs (omega (arith, high)))
-        (λ low. absurd (false≢true (cc (not_selected rs (r.last + 1) n apart (omega (arith, low)))))) (cases_lt r.last n)
+        (λ low. absurd (false≢true (cc (not_selected rs (r.last + 1) n apart (omega (arith, low))))))
+        (cases_lt r.last n)
 
 -- the first items are not selected
 pub select_skip : {X : Type 0} (test : ℕ → Bool) (n count : ℕ) (xs : List X) → ((k : ℕ) → n ≤ k → k < n + count → test k ≡ false) → selected_bytes test n xs ≡ selected_bytes test (n + count) (drop count xs)
@@ -70,13 +72,15 @@ select_skip test n zero xs out = let same : n + 0 ≡ n = omega arith in rw same
 select_skip test n (suc count) [] out = refl
 select_skip test n (suc count) (x ∷ xs) out =
     let same : n + suc count ≡ (n + 1) + count = omega arith in
-    rw (out n (omega arith) (omega arith), same) (select_skip test (n + 1) count xs (λ k low high. out k (omega arith) (omega arith)))
+    rw (out n (omega arith) (omega arith), same)
+    (select_skip test (n + 1) count xs (λ k low high. out k (omega arith) (omega arith)))
 
 -- the items of one interval are a slice, from index i to index j
 pub select_slice : {X : Type 0} (r : Interval) (n : ℕ) (xs : List X) (i j : ℕ) → i ≡ r.first - n → j ≡ r.last + 1 - n → selected_bytes (is_within r) n xs ≡ take (j - i) (drop i xs)
 select_slice r n [] zero j is js = sym (take-nil (j - 0))
 select_slice r n [] (suc i) j is js = sym (take-nil (j - suc i))
-select_slice r n (x ∷ xs) i zero is js = select_past r n (x ∷ xs) (omega arith) ∙ (let none : 0 - i ≡ 0 = omega arith in rw none refl)
+select_slice r n (x ∷ xs) i zero is js = select_past r n (x ∷ xs) (omega arith)
+    ∙ (let none : 0 - i ≡ 0 = omega arith in rw none refl)
 select_slice r n (x ∷ xs) zero (suc j) is js =
     let whole : suc j - 0 ≡ suc j = omega arith in
     let rest : j - 0 ≡ j = omega arith in
@@ -96,10 +100,12 @@ pub record CopyInvariant (all : List Interval) (i before : ℕ) (piece tail was 
   pub near : at ≤ start + (low - (before + 1))
   pub within : at ≤ start + length piece
 
-pub copy_starts : {all : List Interval} {before : ℕ} {piece tail was : List ℕ} {start : ℕ} → AreSeparated 0 all → CopyInvariant all 0 before piece tail was was start start
+pub copy_starts : {all : List Interval} {before : ℕ} {piece tail was : List ℕ} {start : ℕ} → AreSeparated 0 all
+    → CopyInvariant all 0 before piece tail was was start start
 copy_starts apart = record { front = refl; low = 0; apart = apart; near = omega arith; within = omega arith }
 
-pub copy_order : {all : List Interval} {i before : ℕ} {piece tail was is : List ℕ} {start at : ℕ} → CopyInvariant all i before piece tail was is start at → i < length all
+pub copy_order : {all : List Interval} {i before : ℕ} {piece tail was is : List ℕ} {start at : ℕ}
+    → CopyInvariant all i before piece tail was is start at → i < length all
     → (get_or all i (record { first = 0; last = 0 })).first ≤ (get_or all i (record { first = 0; last = 0 })).last
 copy_order {all} {i} k within = (rw (drop_more all i (record { first = 0; last = 0 }) within) at k.apart).1
 
@@ -167,8 +173,15 @@ rest_is r before count bytes within reaches =
     let long : length (take count bytes) ≡ count = length-take-le count bytes within in
     let piece : selected_bytes (is_within r) (before + 1) (take count bytes) ≡ drop i (take count bytes) =
     select_slice r (before + 1) (take count bytes) i (r.last + 1 - (before + 1)) refl refl
-    ∙ take_all (r.last + 1 - (before + 1) - i) (drop i (take count bytes)) (omega (arith, long, length-drop i (take count bytes))) in
-    cc (take-append-drop count bytes, drop-append-le (min i count) (take count bytes) (drop count bytes) (omega (arith, long)), piece, drop_min i (take count bytes))
+    ∙ take_all (r.last + 1 - (before + 1) - i) (drop i (take count bytes))
+    (omega (arith, long, length-drop i (take count bytes))) in
+    cc (
+      take-append-drop count bytes,
+      drop-append-le (min i count) (take count bytes) (drop count bytes)
+          (omega (arith, long)),
+      piece,
+      drop_min i (take count bytes),
+    )
 
 -- ---- a copy of selected bytes out of the first `end`
 
