@@ -1,7 +1,9 @@
 -- The key of a line, in one pass. Skipping a field is skipping blanks and then other bytes; doing so n times leads to
 -- the byte after the n-th field end.
-use Rattle.ptflow.proofs.Common.{◌≡◌, ℕ, zero, suc, ◌+◌, ◌<◌, ◌≤◌, Bool, true, false, cond, min, ltb, List, [], ◌∷◌, None, Some, length, drop, get_or, refl, sym, ◌∙◌, arith, common_steps, slice_get}
-use Rattle.ptflow.proofs.Common.{option_map_or, drop-drop, nat_tests, IsFirstByte, Nowhere, Passes, is_byte, is_byte2, is_blank, ends_word, word_ends, after_fields, after_nonblanks}
+use Rattle.ptflow.proofs.Common.{◌≡◌, ℕ, zero, suc, ◌+◌, ◌<◌, ◌≤◌, Bool, true, false, cond, min, ltb, List, [], ◌∷◌}
+use Rattle.ptflow.proofs.Common.{None, Some, length, drop, get_or, refl, sym, ◌∙◌, arith, common_steps, slice_get}
+use Rattle.ptflow.proofs.Common.{option_map_or, drop-drop, nat_tests, IsFirstByte, Nowhere, Passes, is_byte, is_byte2}
+use Rattle.ptflow.proofs.Common.{is_blank, ends_word, word_ends, after_fields, after_nonblanks}
 use Rattle.std.specs.Prelude.{◌==◌}
 
 -- the rest of these bytes after n more field ends
@@ -31,7 +33,9 @@ from_end_is line (b ∷ bytes) i n is = by_test (ends_word b bytes) n (λ m. fro
     next = cc (drop-drop 1 i line)
 
     by_test : (t : Bool) (n : ℕ) → ((m : ℕ) → from_end line bytes (i + 1) m ≡ suffix_at (suc m) bytes)
-        → option_map_or (λ end. drop (end + 1) line) (slice_get (cond t (i ∷ word_ends (i + 1) bytes) (word_ends (i + 1) bytes)) n) [] ≡ cond t (suffix_at n bytes) (suffix_at (suc n) bytes)
+        → option_map_or (λ end. drop (end + 1) line)
+        (slice_get (cond t (i ∷ word_ends (i + 1) bytes) (word_ends (i + 1) bytes)) n) []
+        ≡ cond t (suffix_at n bytes) (suffix_at (suc n) bytes)
     by_test true zero later = next ∙ sym (suffix_zero bytes)
     by_test true (suc n) later = later n
     by_test false n later = later n
@@ -70,11 +74,13 @@ suffix_step n m rest is =
     cc (suffix_add m rest, after_one rest)
 
 -- for a list that is not empty
-pub blank_first : (rest : List ℕ) {behind_it : List ℕ} → 0 < length rest → behind_it ≡ drop 1 rest → is_blank (get_or rest 0 0) ≡ true → suffix_at 1 rest ≡ suffix_at 1 behind_it
+pub blank_first : (rest : List ℕ) {behind_it : List ℕ} → 0 < length rest → behind_it ≡ drop 1 rest
+    → is_blank (get_or rest 0 0) ≡ true → suffix_at 1 rest ≡ suffix_at 1 behind_it
 blank_first [] long is blank = absurd (omega arith)
 blank_first (b ∷ bytes) long is blank = cc (suffix_blank b bytes blank)
 
-pub other_first : (rest : List ℕ) → 0 < length rest → is_blank (get_or rest 0 0) ≡ false → suffix_at 1 rest ≡ after_nonblanks rest
+pub other_first : (rest : List ℕ) → 0 < length rest → is_blank (get_or rest 0 0) ≡ false
+    → suffix_at 1 rest ≡ after_nonblanks rest
 other_first [] long other = absurd (omega arith)
 other_first (b ∷ bytes) long other = cc (suffix_other b bytes other)
 
@@ -85,37 +91,46 @@ blank_here b bytes blank = cc
 other_here : (b : ℕ) (bytes : List ℕ) → (is_blank b ≡ true → ⊥) → after_nonblanks (b ∷ bytes) ≡ after_nonblanks bytes
 other_here b bytes other = grind arith
 
-after_at : (line : List ℕ) (at : ℕ) → at < length line → ((k : ℕ) → k < at → is_blank (get_or line k 0) ≡ true → ⊥) → is_blank (get_or line at 0) ≡ true → after_nonblanks line ≡ drop at line
+after_at : (line : List ℕ) (at : ℕ) → at < length line → ((k : ℕ) → k < at → is_blank (get_or line k 0) ≡ true → ⊥)
+    → is_blank (get_or line at 0) ≡ true → after_nonblanks line ≡ drop at line
 after_at [] at high none blank = absurd (omega arith)
 after_at (b ∷ bytes) zero high none blank = blank_here b bytes blank
-after_at (b ∷ bytes) (suc at) high none blank = other_here b bytes (none 0 (omega arith)) ∙ after_at bytes at (omega arith) (λ k lt. none (suc k) (omega arith)) blank
+after_at (b ∷ bytes) (suc at) high none blank = other_here b bytes (none 0 (omega arith))
+    ∙ after_at bytes at (omega arith) (λ k lt. none (suc k) (omega arith)) blank
 
-after_none : (line : List ℕ) → ((k : ℕ) → k < length line → is_blank (get_or line k 0) ≡ true → ⊥) → after_nonblanks line ≡ []
+after_none : (line : List ℕ) → ((k : ℕ) → k < length line → is_blank (get_or line k 0) ≡ true → ⊥)
+    → after_nonblanks line ≡ []
 after_none [] none = refl
-after_none (b ∷ bytes) none = other_here b bytes (none 0 (omega arith)) ∙ after_none bytes (λ k lt. none (suc k) (omega arith))
+after_none (b ∷ bytes) none = other_here b bytes (none 0 (omega arith))
+    ∙ after_none bytes (λ k lt. none (suc k) (omega arith))
 
-pub after_found : (line : List ℕ) (at : ℕ) → IsFirstByte (is_byte2 32 9) line (Some at) → after_nonblanks line ≡ drop at line
+pub after_found : (line : List ℕ) (at : ℕ) → IsFirstByte (is_byte2 32 9) line (Some at)
+    → after_nonblanks line ≡ drop at line
 after_found line at first = after_at line _ first.0.high (λ k lt. first.0.before k (omega arith) lt) first.1
 
 pub after_not_found : (line : List ℕ) → IsFirstByte (is_byte2 32 9) line None → after_nonblanks line ≡ []
 after_not_found line none = after_none line (λ k lt. none k (omega arith) lt)
 
 -- byte by byte
-pub blank_prefix : (line : List ℕ) (at : ℕ) → at < length line → is_blank (get_or line at 0) ≡ true → after_nonblanks (drop at line) ≡ drop at line
+pub blank_prefix : (line : List ℕ) (at : ℕ) → at < length line → is_blank (get_or line at 0) ≡ true
+    → after_nonblanks (drop at line) ≡ drop at line
 blank_prefix [] at high blank = absurd (omega arith)
 blank_prefix (b ∷ bytes) zero high blank = blank_here b bytes blank
 blank_prefix (b ∷ bytes) (suc at) high blank = blank_prefix bytes at (omega arith) blank
 
-pub other_prefix : (line : List ℕ) (at : ℕ) → at < length line → is_blank (get_or line at 0) ≡ false → after_nonblanks (drop at line) ≡ after_nonblanks (drop (suc at) line)
+pub other_prefix : (line : List ℕ) (at : ℕ) → at < length line → is_blank (get_or line at 0) ≡ false
+    → after_nonblanks (drop at line) ≡ after_nonblanks (drop (suc at) line)
 other_prefix [] at high other = absurd (omega arith)
 other_prefix (b ∷ bytes) zero high other = cc
 other_prefix (b ∷ bytes) (suc at) high other = other_prefix bytes at (omega arith) other
 
 -- the bytes before an index at which there are no blanks are skipped
-pub blanks_later : (line : List ℕ) (at : ℕ) → at ≤ length line → ((k : ℕ) → k < at → is_blank (get_or line k 0) ≡ true → ⊥) → after_nonblanks line ≡ after_nonblanks (drop at line)
+pub blanks_later : (line : List ℕ) (at : ℕ) → at ≤ length line
+    → ((k : ℕ) → k < at → is_blank (get_or line k 0) ≡ true → ⊥) → after_nonblanks line ≡ after_nonblanks (drop at line)
 blanks_later line zero high none = refl
 blanks_later [] (suc at) high none = refl
-blanks_later (b ∷ bytes) (suc at) high none = other_here b bytes (none 0 (omega arith)) ∙ blanks_later bytes at (omega arith) (λ k lt. none (suc k) (omega arith))
+blanks_later (b ∷ bytes) (suc at) high none = other_here b bytes (none 0 (omega arith))
+    ∙ blanks_later bytes at (omega arith) (λ k lt. none (suc k) (omega arith))
 
 neither : (b : ℕ) → ((b == 32) ≡ true → ⊥) → ((b == 9) ≡ true → ⊥) → is_blank b ≡ true → ⊥
 neither b space tab = grind arith
@@ -127,16 +142,21 @@ is_tab : (b : ℕ) → (b == 9) ≡ true → is_blank b ≡ true
 is_tab b e = grind arith
 
 -- by a search for a space and one for a tab
-module _ (line : List ℕ) (a b : ℕ) (no_space : Nowhere (Passes (is_byte 32) line) 0 a) (no_tab : Nowhere (Passes (is_byte 9) line) 0 b) where
+module _ (line : List ℕ) (a b : ℕ) (no_space : Nowhere (Passes (is_byte 32) line) 0 a)
+    (no_tab : Nowhere (Passes (is_byte 9) line) 0 b) where
   none_here : (k : ℕ) → k < min a b → is_blank (get_or line k 0) ≡ true → ⊥
-  none_here k lt = neither (get_or line k 0) (no_space k (omega arith) (omega arith)) (no_tab k (omega arith) (omega arith))
+  none_here k lt = neither (get_or line k 0) (no_space k (omega arith) (omega arith))
+      (no_tab k (omega arith) (omega arith))
 
   pub both_later : min a b ≤ length line → after_nonblanks line ≡ after_nonblanks (drop (min a b) line)
   both_later high = blanks_later line _ high none_here
 
-  pub both_near : {n : ℕ} → (a < n → Passes (is_byte 32) line a) → (b < n → Passes (is_byte 9) line b) → n ≤ length line → min a b < n → after_nonblanks line ≡ drop (min a b) line
+  pub both_near : {n : ℕ} → (a < n → Passes (is_byte 32) line a) → (b < n → Passes (is_byte 9) line b) → n ≤ length line
+      → min a b < n → after_nonblanks line ≡ drop (min a b) line
   both_near space tab high near = after_at line (min a b) (omega arith) none_here (by (ltb b a) refl)
     where
       by : (u : Bool) → ltb b a ≡ u → is_blank (get_or line (min a b) 0) ≡ true
-      by true e = let is : min a b ≡ b = grind (arith, nat_tests) in is_tab (get_or line (min a b) 0) (cc (tab (omega arith)))
-      by false e = let is : min a b ≡ a = grind (arith, nat_tests) in is_space (get_or line (min a b) 0) (cc (space (omega arith)))
+      by true e = let is : min a b ≡ b = grind (arith, nat_tests) in
+          is_tab (get_or line (min a b) 0) (cc (tab (omega arith)))
+      by false e = let is : min a b ≡ a = grind (arith, nat_tests) in
+          is_space (get_or line (min a b) 0) (cc (space (omega arith)))

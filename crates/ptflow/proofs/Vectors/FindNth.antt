@@ -61,7 +61,8 @@ and_less (false ∷ bits) =
     omega (arith, and_step x (x - 1))
 
 -- the lowest set bit is cleared
-pub cleared : (n : ℕ) {x : ℕ} (bits : List Bool) → x < 2 ^ 64 → x ≡ mask_l (without n bits) → bit_and x ((x + (2 ^ 64 - 1)) % 2 ^ 64) ≡ mask_l (without (suc n) bits)
+pub cleared : (n : ℕ) {x : ℕ} (bits : List Bool) → x < 2 ^ 64 → x ≡ mask_l (without n bits)
+    → bit_and x ((x + (2 ^ 64 - 1)) % 2 ^ 64) ≡ mask_l (without (suc n) bits)
 cleared n bits small is = grind (arith, and_less (without n bits))
 
 some_set : (bits : List Bool) → prefix_len not bits < length bits → 0 < mask_l bits
@@ -69,47 +70,57 @@ some_set [] lt = absurd (omega arith)
 some_set (true ∷ bits) lt = omega arith
 some_set (false ∷ bits) lt = let some = some_set bits (omega arith) in omega arith
 
-lowest_set : (bits : List Bool) → length bits ≤ 64 → prefix_len not bits < length bits → count_trailing_zeros 64 (mask_l bits) ≡ prefix_len not bits
+lowest_set : (bits : List Bool) → length bits ≤ 64 → prefix_len not bits < length bits
+    → count_trailing_zeros 64 (mask_l bits) ≡ prefix_len not bits
 lowest_set bits few some =
     cc (map-id bits, trailing_mask_l (λ b. b) 64 bits few (rw (map-id bits) (some_set bits some)))
 
 -- ---- the item that passes after n others
 
 module _ {X : Type 0} (p : X → Bool) (d : X) where
-  one_more : (x : X) (xs : List X) {t : Bool} {r : ℕ} (s n m : ℕ) → p x ≡ t → r ≡ suc s → n ≡ cond t 1 0 + m → IsNth p d m xs s → IsNth p d n (x ∷ xs) r
+  one_more : (x : X) (xs : List X) {t : Bool} {r : ℕ} (s n m : ℕ) → p x ≡ t → r ≡ suc s → n ≡ cond t 1 0 + m
+      → IsNth p d m xs s → IsNth p d n (x ∷ xs) r
   one_more x xs s n m e next count (within, passes, others) =
       rw next (omega (arith, within), passes, cc (sum_by-cons (λ b. cond (p b) 1 0) x (take s xs)))
 
   behind : (xs : List X) (n : ℕ) → n < count_by p xs → IsNth p d n xs (prefix_len not (without n (map p xs)))
   behind [] n lt = absurd (omega arith)
-  behind (x ∷ xs) n lt = by_test (λ m less. behind xs m less) (p x) refl n (omega (arith, sum_by-cons (λ b. cond (p b) 1 0) x xs))
+  behind (x ∷ xs) n lt =
+      by_test (λ m less. behind xs m less) (p x) refl n (omega (arith, sum_by-cons (λ b. cond (p b) 1 0) x xs))
     where
-      by_test : ((m : ℕ) → m < count_by p xs → IsNth p d m xs (prefix_len not (without m (map p xs)))) → (t : Bool) → p x ≡ t → (n : ℕ) → n < cond t 1 0 + count_by p xs
+      by_test : ((m : ℕ) → m < count_by p xs → IsNth p d m xs (prefix_len not (without m (map p xs)))) → (t : Bool)
+          → p x ≡ t → (n : ℕ) → n < cond t 1 0 + count_by p xs
           → IsNth p d n (x ∷ xs) (prefix_len not (without n (t ∷ map p xs)))
       by_test more true e zero lt = (omega arith, e, refl)
       by_test more true e (suc m) lt =
-          let next : prefix_len not (without (suc m) (true ∷ map p xs)) ≡ suc (prefix_len not (without m (map p xs))) = ap (prefix_len not) (without_set m (map p xs)) ∙ omega arith in
+          let next : prefix_len not (without (suc m) (true ∷ map p xs)) ≡ suc (prefix_len not (without m (map p xs))) =
+          ap (prefix_len not) (without_set m (map p xs)) ∙ omega arith in
           one_more x xs (prefix_len not (without m (map p xs))) (suc m) m e next (omega arith) (more m (omega arith))
       by_test more false e n lt =
-          let next : prefix_len not (without n (false ∷ map p xs)) ≡ suc (prefix_len not (without n (map p xs))) = ap (prefix_len not) (without_clear n (map p xs)) ∙ omega arith in
+          let next : prefix_len not (without n (false ∷ map p xs)) ≡ suc (prefix_len not (without n (map p xs))) =
+          ap (prefix_len not) (without_clear n (map p xs)) ∙ omega arith in
           one_more x xs (prefix_len not (without n (map p xs))) n n e next (omega arith) (more n (omega arith))
 
 -- the lowest set bit, after n bits were cleared
-pub after_set : (p : ℕ → Bool) (xs : List ℕ) (n : ℕ) {rest : ℕ} → length xs ≤ 64 → n < count_by p xs → rest ≡ mask_l (without n (map p xs)) → IsNth p 0 n xs (count_trailing_zeros 64 rest)
+pub after_set : (p : ℕ → Bool) (xs : List ℕ) (n : ℕ) {rest : ℕ} → length xs ≤ 64 → n < count_by p xs
+    → rest ≡ mask_l (without n (map p xs)) → IsNth p 0 n xs (count_trailing_zeros 64 rest)
 after_set p xs n few lt is =
     let bits = map p xs in
     let here = behind p 0 xs n lt in
     let (within, _, _) = here in
     let long : length (without n bits) ≡ length xs = length-without n bits ∙ length-map xs p in
-    subst (IsNth p 0 n xs) (sym (cc (is, lowest_set (without n bits) (omega (arith, long)) (omega (arith, long, within))))) here
+    subst (IsNth p 0 n xs)
+    (sym (cc (is, lowest_set (without n bits) (omega (arith, long)) (omega (arith, long, within))))) here
 
 -- ---- in a chunk of some bytes
 
 module _ (p : ℕ → Bool) (bytes : List ℕ) where
   pub count_up_to : (i j : ℕ) → i ≤ j → count_by p (take i bytes) ≤ count_by p (take j bytes)
-  count_up_to i j le = omega (arith, sum_by-take-le (λ b. cond (p b) 1 0) (take j bytes) i, ap (count_by p) (take-take i j bytes le))
+  count_up_to i j le =
+      omega (arith, sum_by-take-le (λ b. cond (p b) 1 0) (take j bytes) i, ap (count_by p) (take-take i j bytes le))
 
-  pub count_chunk : (at : ℕ) → count_by p (take (at + 64) bytes) ≡ count_by p (take at bytes) + count_by p (chunk at 64 bytes)
+  pub count_chunk : (at : ℕ)
+      → count_by p (take (at + 64) bytes) ≡ count_by p (take at bytes) + count_by p (chunk at 64 bytes)
   count_chunk at = cc (take-add at 64 bytes, sum_by-append (λ b. cond (p b) 1 0) (take at bytes) (chunk at 64 bytes))
 
   module _ (size at m k : ℕ) (room : at + size ≤ length bytes) (h : IsNth p 0 m (chunk at size bytes) k) where
@@ -118,9 +129,14 @@ module _ (p : ℕ → Bool) (bytes : List ℕ) where
 
     pub count_in_prefix : count_by p (take (at + k) bytes) ≡ count_by p (take at bytes) + m
     count_in_prefix =
-        cc (take-add at k bytes, sum_by-append (λ b. cond (p b) 1 0) (take at bytes) (take k (drop at bytes)), take-take k size (drop at bytes) (omega (arith, near)))
+        cc (
+          take-add at k bytes,
+          sum_by-append (λ b. cond (p b) 1 0) (take at bytes) (take k (drop at bytes)),
+          take-take k size (drop at bytes) (omega (arith, near)),
+        )
 
-    pub nth_in_prefix : {to : ℕ} → at + k < to → to ≤ length bytes → IsNth p 0 (count_by p (take at bytes) + m) (take to bytes) (at + k)
+    pub nth_in_prefix : {to : ℕ} → at + k < to → to ≤ length bytes
+        → IsNth p 0 (count_by p (take at bytes) + m) (take to bytes) (at + k)
     nth_in_prefix {to} lt le = (
       omega (arith, length-take-le to bytes le),
       cc (get_or-take to bytes (at + k) 0 lt, get_or-chunk at size bytes k 0 near),
@@ -136,7 +152,12 @@ module _ (p : ℕ → Bool) (bytes : List ℕ) where
       before = λ k low near passes.
           let here : p (get_or (take at bytes) k 0) ≡ true = cc (get_or-take at bytes k 0 near) in
           let one : cond {A = ℕ} (p (get_or (take at bytes) k 0)) 1 0 ≡ 1 = cc (here) in
-          omega (arith, one, get_or-le-sum_by (λ b. cond (p b) 1 0) (take at bytes) k 0 (omega (arith, near, within, length-take-le at bytes (omega (arith, within)))));
+          omega (
+            arith,
+            one,
+            get_or-le-sum_by (λ b. cond (p b) 1 0) (take at bytes) k 0
+                (omega (arith, near, within, length-take-le at bytes (omega (arith, within)))),
+          );
     },
     passes,
   )
@@ -201,20 +222,26 @@ module _ (d : ℕ) (line : List ℕ) where
     pub few_after_first : length (fields d (drop (first + 1) line)) ≤ n - 1 → length (fields d line) ≤ n
     few_after_first few = omega (arith, few_left d (starts_after_first first here) few)
 
-    pub starts_past_first : {passed : ℕ} → IsFieldStart d (n - 1) (drop (first + 1) line) passed → IsFieldStart d n line (first + 1 + passed)
+    pub starts_past_first : {passed : ℕ} → IsFieldStart d (n - 1) (drop (first + 1) line) passed
+        → IsFieldStart d n line (first + 1 + passed)
     starts_past_first s =
         let whole : 1 + (n - 1) ≡ n = omega arith in
         rw whole at (starts_more d (starts_after_first first here) s)
 
 -- the next item that passes, if no item between an earlier index and this one passes
-module _ (p : ℕ → Bool) (bytes : List ℕ) (start end : ℕ) (fits : end < length bytes) (is : p (get_or bytes end 0) ≡ true) (same : count_by p (take end bytes) ≡ count_by p (take start bytes)) where
+module _ (p : ℕ → Bool) (bytes : List ℕ) (start end : ℕ) (fits : end < length bytes)
+    (is : p (get_or bytes end 0) ≡ true) (same : count_by p (take end bytes) ≡ count_by p (take start bytes)) where
   pub one_after : count_by p (take (end + 1) bytes) ≡ count_by p (take end bytes) + 1
   one_after = count_by_more_yes p bytes end 0 fits is
 
   pub in_order : start ≤ end
-  in_order = ⊎_elim (λ less. absurd (omega (arith, less, same, one_after, count_up_to p bytes (end + 1) start (omega (arith, less))))) (λ le. le) (cases_lt end start)
+  in_order =
+      ⊎_elim
+      (λ less. absurd (omega (arith, less, same, one_after, count_up_to p bytes (end + 1) start (omega (arith, less)))))
+      (λ le. le) (cases_lt end start)
 
-  pub next_is : NoneBefore (Passes p (drop start bytes)) 0 (length (drop start bytes)) (end - start) × Passes p (drop start bytes) (end - start)
+  pub next_is : NoneBefore (Passes p (drop start bytes)) 0 (length (drop start bytes)) (end - start)
+      × Passes p (drop start bytes) (end - start)
   next_is =
       let whole : start + (end - start) ≡ end = omega (arith, in_order) in
       first_is p (drop start bytes) (end - start) (
@@ -237,20 +264,24 @@ pub record NextTerminator (d : ℕ) (block : List ℕ) (from n bit start : ℕ) 
   pub first : IsFirstByte (is_byte d) (drop start block) (Some (from + bit - start))
   pub counted : count_by (is_byte d) (take (from + bit + 1) block) ≡ count_by (is_byte d) (take from block) + (n + 1)
 
-module _ {d : ℕ} {block : List ℕ} {from all marked : ℕ} (n start : ℕ) (h : HasTerminators d block from all) (some : n < count_ones all)
-    (bits : marked ≡ mask_l (without n (map (is_byte d) (chunk from 64 block)))) (ends : count_by (is_byte d) (take start block) ≡ count_by (is_byte d) (take from block) + n) where
+module _ {d : ℕ} {block : List ℕ} {from all marked : ℕ} (n start : ℕ) (h : HasTerminators d block from all)
+    (some : n < count_ones all)
+    (bits : marked ≡ mask_l (without n (map (is_byte d) (chunk from 64 block))))
+    (ends : count_by (is_byte d) (take start block) ≡ count_by (is_byte d) (take from block) + n) where
   pub next_terminator : NextTerminator d block from n (count_trailing_zeros 64 marked) start
   next_terminator =
       let p = is_byte d in
       let v = chunk from 64 block in
       let bit = count_trailing_zeros 64 marked in
       let room : from + 64 ≤ length block = omega arith in
-      let stands : IsNth p 0 n v bit = after_set p v n (omega (arith, length-chunk from 64 block room)) (omega (arith, ap count_ones h.is, ones-mask_l p v)) bits in
+      let stands : IsNth p 0 n v bit = after_set p v n (omega (arith, length-chunk from 64 block room))
+      (omega (arith, ap count_ones h.is, ones-mask_l p v)) bits in
       let close : bit < 64 = near p block 64 from n bit room stands in
       let fits : from + bit < length block = omega (arith, close, room) in
       let (_, passes, _) = stands in
       let is : p (get_or block (from + bit) 0) ≡ true = cc (get_or-chunk from 64 block bit 0 close, passes) in
-      let as_many : count_by p (take (from + bit) block) ≡ count_by p (take start block) = count_in_prefix p block 64 from n bit room stands ∙ sym ends in
+      let as_many : count_by p (take (from + bit) block) ≡ count_by p (take start block) =
+      count_in_prefix p block 64 from n bit room stands ∙ sym ends in
       record {
         near = close;
         order = in_order p block start _ fits is as_many;
@@ -261,15 +292,17 @@ module _ {d : ℕ} {block : List ℕ} {from all marked : ℕ} (n start : ℕ) (h
 -- ---- the terminators of a chunk, replaced one after another
 
 -- n terminators of the 64 bytes at an index were replaced, and the mask has the others
-pub record ReplaceInvariant (end : ℕ) (delims : List (Option ℕ)) (first at : ℕ) (from was : List ℕ) (n marked : ℕ) (to : List ℕ) : Type 0 where
+pub record ReplaceInvariant (end : ℕ) (delims : List (Option ℕ)) (first at : ℕ) (from was : List ℕ) (n marked : ℕ)
+    (to : List ℕ) : Type 0 where
   pub room : at + 64 ≤ length from
   pub same : length was ≡ length from
   pub bits : marked ≡ mask_l (without n (map (is_byte end) (chunk at 64 from)))
   pub long : length to ≡ length from
   pub replaced : take (at + 64) to ≡ take at was ++ first_replaced end delims n first (chunk at 64 from)
 
-pub replace_starts : (end : ℕ) (delims : List (Option ℕ)) (first at : ℕ) (from was : List ℕ) {marked : ℕ} → at + 64 ≤ length from → length was ≡ length from
-    → marked ≡ mask_l (map (is_byte end) (chunk at 64 from)) → ReplaceInvariant end delims first at from was 0 marked (put_chunk at was (chunk at 64 from))
+pub replace_starts : (end : ℕ) (delims : List (Option ℕ)) (first at : ℕ) (from was : List ℕ) {marked : ℕ}
+    → at + 64 ≤ length from → length was ≡ length from → marked ≡ mask_l (map (is_byte end) (chunk at 64 from))
+    → ReplaceInvariant end delims first at from was 0 marked (put_chunk at was (chunk at 64 from))
 replace_starts end delims first at from was room same is =
     let ends = chunk at 64 from in
     let long : length ends ≡ 64 = length-chunk at 64 from room in
@@ -281,7 +314,8 @@ replace_starts end delims first at from was room same is =
       replaced = take_more_put_chunk at was ends (at + 64) (omega arith) (omega arith);
     }
 
-module _ {end : ℕ} {delims : List (Option ℕ)} {first at : ℕ} {from was : List ℕ} {n marked : ℕ} {to : List ℕ} (r : ReplaceInvariant end delims first at from was n marked to)
+module _ {end : ℕ} {delims : List (Option ℕ)} {first at : ℕ} {from was : List ℕ} {n marked : ℕ} {to : List ℕ}
+    (r : ReplaceInvariant end delims first at from was n marked to)
     {all : ℕ} (is : all ≡ mask_l (map (is_byte end) (chunk at 64 from))) where
   abbrev ends : List ℕ
   ends = chunk at 64 from
@@ -294,7 +328,8 @@ module _ {end : ℕ} {delims : List (Option ℕ)} {first at : ℕ} {from was : L
     bit_at = count_trailing_zeros 64 marked
 
     bit_at_index : IsNth (is_byte end) 0 n ends bit_at
-    bit_at_index = after_set (is_byte end) ends n (omega (arith, length-chunk at 64 from r.room)) (omega (arith, ends_counted)) r.bits
+    bit_at_index = after_set (is_byte end) ends n (omega (arith, length-chunk at 64 from r.room))
+        (omega (arith, ends_counted)) r.bits
 
     bit_at_low : bit_at < 64
     bit_at_low = let (within, _, _) = bit_at_index in omega (arith, within, length-chunk at 64 from r.room)
@@ -303,7 +338,8 @@ module _ {end : ℕ} {delims : List (Option ℕ)} {first at : ℕ} {from was : L
     end_within = omega (arith, bit_at_low, r.room, r.long)
 
     -- the lowest one is replaced by its delimiter
-    pub replace_next : {rest put : ℕ} {to' : List ℕ} → marked < 2 ^ 64 → put ≡ unwrap_or (delim_at delims (first + n)) end → rest ≡ bit_and marked ((marked + (2 ^ 64 - 1)) % 2 ^ 64)
+    pub replace_next : {rest put : ℕ} {to' : List ℕ} → marked < 2 ^ 64
+        → put ≡ unwrap_or (delim_at delims (first + n)) end → rest ≡ bit_and marked ((marked + (2 ^ 64 - 1)) % 2 ^ 64)
         → to' ≡ slice_set to (at + bit_at) put → ReplaceInvariant end delims first at from was (n + 1) rest to'
     replace_next {rest} {put} {to'} small put_is rest_is to_is =
         let next : suc n ≡ n + 1 = omega arith in
@@ -314,8 +350,13 @@ module _ {end : ℕ} {delims : List (Option ℕ)} {first at : ℕ} {from was : L
           bits = cc (cleared n (map (is_byte end) ends) small r.bits);
           long = cc (length-set to (at + bit_at) put, r.long);
           replaced =
-              cc (set_in_chunk to (take at was) (first_replaced end delims n first ends) at 64 bit_at put r.replaced front bit_at_low, replaced_next end delims n first ends bit_at bit_at_index);
+              cc (
+                set_in_chunk to (take at was) (first_replaced end delims n first ends) at 64 bit_at put r.replaced
+                    front bit_at_low,
+                replaced_next end delims n first ends bit_at bit_at_index,
+              );
         }
 
-  pub replace_end : n ≡ count_ones all → (n ≡ count_by (is_byte end) ends) × (take (at + 64) to ≡ take at was ++ with_cycle end delims first ends)
+  pub replace_end : n ≡ count_ones all
+      → (n ≡ count_by (is_byte end) ends) × (take (at + 64) to ≡ take at was ++ with_cycle end delims first ends)
   replace_end over = (over ∙ ends_counted, cc (all_replaced end delims first ends n (over ∙ ends_counted), r.replaced))

@@ -12,37 +12,45 @@ use Rattle.ptlangs.specs.declared.tr.shifts.Stretch.{Stretch}
 
 -- ---- lanes that are computed from bytes
 
-sel_map : (p : ℕ → Bool) (f g : ℕ → ℕ) (v : List ℕ) → sel_l (map p v) (map f v) (map g v) ≡ map (λ b. cond (p b) (f b) (g b)) v
+sel_map : (p : ℕ → Bool) (f g : ℕ → ℕ) (v : List ℕ)
+    → sel_l (map p v) (map f v) (map g v) ≡ map (λ b. cond (p b) (f b) (g b)) v
 sel_map p f g [] = refl
 sel_map p f g (x ∷ xs) = ap (◌∷◌ (cond (p x) (f x) (g x))) (sel_map p f g xs)
 
-pub sel_maps : (p : ℕ → Bool) (f g : ℕ → ℕ) (v : List ℕ) {ms : List Bool} {xs ys : List ℕ} → ms ≡ map p v → xs ≡ map f v → ys ≡ map g v → sel_l ms xs ys ≡ map (λ b. cond (p b) (f b) (g b)) v
+pub sel_maps : (p : ℕ → Bool) (f g : ℕ → ℕ) (v : List ℕ) {ms : List Bool} {xs ys : List ℕ} → ms ≡ map p v → xs ≡ map f v
+    → ys ≡ map g v → sel_l ms xs ys ≡ map (λ b. cond (p b) (f b) (g b)) v
 sel_maps p f g v em ex ey = cc (sel_map p f g v)
 
-pub mask_right : (t : ℕ → ℕ → Bool) {n : ℕ} (v : List ℕ) (y : ℕ) → length v ≡ n → map (top 7) (zip2 (λ a b. cond (t a b) 255 0) v (replicate n y)) ≡ map (λ b. t b y) v
+pub mask_right : (t : ℕ → ℕ → Bool) {n : ℕ} (v : List ℕ) (y : ℕ) → length v ≡ n
+    → map (top 7) (zip2 (λ a b. cond (t a b) 255 0) v (replicate n y)) ≡ map (λ b. t b y) v
 mask_right t {n} v y long = tops_compared w8 t v (replicate n y) ∙ zip2_splat t v n y long
 
 -- a value that is computed for each byte, compared with one byte
 pub tests_are : (t : ℕ → ℕ → Bool) (f : ℕ → ℕ) (v : List ℕ) {xs : List ℕ} {n : ℕ} (y : ℕ) → length v ≡ n → xs ≡ map f v
     → map (top 7) (zip2 (λ a b. cond (t a b) 255 0) xs (replicate n y)) ≡ map (λ b. t (f b) y) v
-tests_are t f v {xs} {n} y long is = tops_compared w8 t xs (replicate n y) ∙ zip2_of_maps t f (λ _. y) v is (splat_is_map v n y long)
+tests_are t f v {xs} {n} y long is = tops_compared w8 t xs (replicate n y)
+    ∙ zip2_of_maps t f (λ _. y) v is (splat_is_map v n y long)
 
-pub added_lanes : (f g : ℕ → ℕ) (v : List ℕ) {xs ys : List ℕ} → xs ≡ map f v → ys ≡ map g v → zip2 (λ a b. (a + b) % 256) xs ys ≡ map (λ b. (f b + g b) % 256) v
+pub added_lanes : (f g : ℕ → ℕ) (v : List ℕ) {xs ys : List ℕ} → xs ≡ map f v → ys ≡ map g v
+    → zip2 (λ a b. (a + b) % 256) xs ys ≡ map (λ b. (f b + g b) % 256) v
 added_lanes f g v ex ey = zip2_of_maps (λ a b. (a + b) % 256) f g v ex ey
 
 -- ---- the first bytes are mapped
 
-pub mapped_more : (map_byte : ℕ → ℕ) (at next n : ℕ) (from to new : List ℕ) → next ≡ at + n → take at to ≡ map map_byte (take at from)
-    → take (at + n) new ≡ take at to ++ map map_byte (take n (drop at from)) → take next new ≡ map map_byte (take next from)
+pub mapped_more : (map_byte : ℕ → ℕ) (at next n : ℕ) (from to new : List ℕ) → next ≡ at + n
+    → take at to ≡ map map_byte (take at from) → take (at + n) new ≡ take at to ++ map map_byte (take n (drop at from))
+    → take next new ≡ map map_byte (take next from)
 mapped_more map_byte at next n from to new is begun more =
     cc (map-append map_byte (take at from) (take n (drop at from)), take-add at n from)
 
 -- two functions that agree on bytes map lists of bytes to the same list
-pub bytes_same : {X : Type 0} (f g : ℕ → X) → ((b : ℕ) → b < 256 → f b ≡ g b) → (v : List ℕ) → Each1 (Fits w8) v → map f v ≡ map g v
+pub bytes_same : {X : Type 0} (f g : ℕ → X) → ((b : ℕ) → b < 256 → f b ≡ g b) → (v : List ℕ) → Each1 (Fits w8) v
+    → map f v ≡ map g v
 bytes_same f g same [] fit = refl
 bytes_same f g same (b ∷ v) (first, others) = λ i. same b first.fits i ∷ bytes_same f g same v others i
 
-pub filter_same : (p q : ℕ → Bool) → ((b : ℕ) → b < 256 → p b ≡ q b) → (v : List ℕ) → Each1 (Fits w8) v → filter p v ≡ filter q v
+pub filter_same : (p q : ℕ → Bool) → ((b : ℕ) → b < 256 → p b ≡ q b) → (v : List ℕ) → Each1 (Fits w8) v
+    → filter p v ≡ filter q v
 filter_same p q same [] fit = refl
 filter_same p q same (b ∷ v) (first, others) =
     λ i. cond (same b first.fits i) (b ∷ filter_same p q same v others i) (filter_same p q same v others i)
@@ -74,18 +82,21 @@ stretch_taken [] (suc i) b = omega arith
 stretch_taken (s ∷ ss) zero b = omega arith
 stretch_taken (s ∷ ss) (suc i) b =
     let after = λ (n : ℕ). sum_by-cons (λ s. shift_at s b) s (take n ss) in
-    let more : stretch_sum (take (suc (suc i)) (s ∷ ss)) b ≡ shift_at s b + stretch_sum (take (suc i) ss) b = after (suc i) in
+    let more : stretch_sum (take (suc (suc i)) (s ∷ ss)) b ≡ shift_at s b + stretch_sum (take (suc i) ss) b =
+    after (suc i) in
     let fewer : stretch_sum (take (suc i) (s ∷ ss)) b ≡ shift_at s b + stretch_sum (take i ss) b = after i in
     omega (arith, more, fewer, stretch_taken ss i b)
 
-range_added : (ranges : List ShiftRange) (last : ShiftRange) (b : ℕ) → range_sum (ranges ++ last ∷ []) b ≡ range_sum ranges b + range_delta last b
+range_added : (ranges : List ShiftRange) (last : ShiftRange) (b : ℕ)
+    → range_sum (ranges ++ last ∷ []) b ≡ range_sum ranges b + range_delta last b
 range_added ranges last b =
     let alone : range_sum (last ∷ []) b ≡ range_delta last b = omega arith in
     cc (sum_by-append (λ r. range_delta r b) ranges (last ∷ []), alone)
 
 -- one range more adds what its stretch adds
-pub one_stretch_more : (ranges : List ShiftRange) (ss : List Stretch) (i : ℕ) (range : ShiftRange) (b : ℕ) → i < length ranges
-    → range_sum (take i ranges) b ≡ stretch_sum (take i ss) b → range_delta range b ≡ stretch_delta (stretch_at ss i) b
+pub one_stretch_more : (ranges : List ShiftRange) (ss : List Stretch) (i : ℕ) (range : ShiftRange) (b : ℕ)
+    → i < length ranges → range_sum (take i ranges) b ≡ stretch_sum (take i ss) b
+    → range_delta range b ≡ stretch_delta (stretch_at ss i) b
     → range_sum (take (i + 1) (set ranges i range)) b ≡ stretch_sum (take (i + 1) ss) b
 one_stretch_more ranges ss i range b room before is =
     cc (take_more_set ranges i range room, range_added (take i ranges) range b, add-one i, stretch_taken ss i b)
@@ -107,7 +118,8 @@ one_range_more ranges i default v room before is =
     last : ShiftRange
     last = get_or ranges i default
 
-    more : (b : ℕ) → (shift_by_ranges (take i ranges) b + range_delta last b) % 256 ≡ shift_by_ranges (take (i + 1) ranges) b
+    more : (b : ℕ)
+        → (shift_by_ranges (take i ranges) b + range_delta last b) % 256 ≡ shift_by_ranges (take (i + 1) ranges) b
     more b =
         let sums : range_sum (take (i + 1) ranges) b ≡ range_sum (take i ranges) b + range_delta last b =
         cc (take_more ranges i default room, range_added (take i ranges) last b) in
@@ -141,7 +153,8 @@ tops_of_lanes (f ∷ fs) = λ i. lane f i ∷ tops_of_lanes fs i
     lane : (f : Bool) → top 7 (cond f 255 0) ≡ f
     lane f = grind arith
 
-none_of_two : (fs gs : List Bool) → length fs ≡ length gs → mask_l (zip2 ◌||◌ fs gs) ≡ 0 → (mask_l fs ≡ 0) × (mask_l gs ≡ 0)
+none_of_two : (fs gs : List Bool) → length fs ≡ length gs → mask_l (zip2 ◌||◌ fs gs) ≡ 0
+    → (mask_l fs ≡ 0) × (mask_l gs ≡ 0)
 none_of_two [] [] same none = (refl, refl)
 none_of_two [] (g ∷ gs) same none = absurd (omega arith)
 none_of_two (f ∷ fs) [] same none = absurd (omega arith)
@@ -156,8 +169,10 @@ module _ (flags : ℕ → List Bool) (at : ℕ) (long : (k : ℕ) → at ≤ k �
   long_or fs k same low high = length-zip2 ◌||◌ fs (flags k) (same ∙ sym (long k low high)) ∙ same
 
   -- if no lane is set in the union of four masks, none is set in each of them
-  pub none_of_four : {xa xb xc xd : List ℕ} → xa ≡ lanes_of (flags at) → xb ≡ lanes_of (flags (at + 16)) → xc ≡ lanes_of (flags (at + 32)) → xd ≡ lanes_of (flags (at + 48))
-      → mask_l (map (top 7) (zip2 bit_or (zip2 bit_or (zip2 bit_or xa xb) xc) xd)) % 2 ^ 64 ≡ 0 → InFour (λ k. mask_l (flags k) ≡ 0) at
+  pub none_of_four : {xa xb xc xd : List ℕ} → xa ≡ lanes_of (flags at) → xb ≡ lanes_of (flags (at + 16))
+      → xc ≡ lanes_of (flags (at + 32)) → xd ≡ lanes_of (flags (at + 48))
+      → mask_l (map (top 7) (zip2 bit_or (zip2 bit_or (zip2 bit_or xa xb) xc) xd)) % 2 ^ 64 ≡ 0
+      → InFour (λ k. mask_l (flags k) ≡ 0) at
   none_of_four ea eb ec ed none =
       let two = zip2 ◌||◌ (flags at) (flags (at + 16)) in
       let three = zip2 ◌||◌ two (flags (at + 32)) in
@@ -167,10 +182,19 @@ module _ (flags : ℕ → List Bool) (at : ℕ) (long : (k : ℕ) → at ≤ k �
       let long_three = long_or two (at + 32) long_two (omega arith) (omega arith) in
       let long_all = long_or three (at + 48) long_three (omega arith) (omega arith) in
       let nothing : mask_l all ≡ 0 =
-      cc (or_lanes (flags at) (flags (at + 16)), or_lanes two (flags (at + 32)), or_lanes three (flags (at + 48)), mask_l-mod all 64 (omega arith), tops_of_lanes all) in
-      let (no_three, no_last) = none_of_two three (flags (at + 48)) (long_three ∙ sym (long (at + 48) (omega arith) (omega arith))) nothing in
-      let (no_two, no_third) = none_of_two two (flags (at + 32)) (long_two ∙ sym (long (at + 32) (omega arith) (omega arith))) no_three in
-      let (no_first, no_second) = none_of_two (flags at) (flags (at + 16)) (long_a ∙ sym (long (at + 16) (omega arith) (omega arith))) no_two in
+      cc (
+        or_lanes (flags at) (flags (at + 16)),
+        or_lanes two (flags (at + 32)),
+        or_lanes three (flags (at + 48)),
+        mask_l-mod all 64 (omega arith),
+        tops_of_lanes all,
+      ) in
+      let (no_three, no_last) =
+      none_of_two three (flags (at + 48)) (long_three ∙ sym (long (at + 48) (omega arith) (omega arith))) nothing in
+      let (no_two, no_third) =
+      none_of_two two (flags (at + 32)) (long_two ∙ sym (long (at + 32) (omega arith) (omega arith))) no_three in
+      let (no_first, no_second) =
+      none_of_two (flags at) (flags (at + 16)) (long_a ∙ sym (long (at + 16) (omega arith) (omega arith))) no_two in
       (no_first, no_second, no_third, no_last)
 
 -- ---- chunks of 64 bytes
@@ -178,7 +202,9 @@ module _ (flags : ℕ → List Bool) (at : ℕ) (long : (k : ℕ) → at ≤ k �
 pub chunk_parts : (at n m : ℕ) (from : List ℕ) → chunk at (n + m) from ≡ chunk at n from ++ chunk (at + n) m from
 chunk_parts at n m from = cc (take-add n m (drop at from), drop-drop n at from)
 
-pub chunk_in_four : (at : ℕ) (from : List ℕ) → chunk at 64 from ≡ ((chunk at 16 from ++ chunk (at + 16) 16 from) ++ chunk (at + 32) 16 from) ++ chunk (at + 48) 16 from
+pub chunk_in_four : (at : ℕ) (from : List ℕ)
+    → chunk at 64 from ≡ ((chunk at 16 from ++ chunk (at + 16) 16 from) ++ chunk (at + 32) 16 from)
+    ++ chunk (at + 48) 16 from
 chunk_in_four at from = cc (chunk_parts at 48 16 from, chunk_parts at 32 16 from, chunk_parts at 16 16 from)
 
 module _ (test : ℕ → Bool) where
@@ -191,23 +217,39 @@ module _ (test : ℕ → Bool) where
   kept_on t xs ys = cc (append_assoc t (filter test xs) (filter test ys), filter-append test xs ys)
 
   pub kept_in_four : (t : List ℕ) (at : ℕ) (from : List ℕ)
-      → (((t ++ filter test (chunk at 16 from)) ++ filter test (chunk (at + 16) 16 from)) ++ filter test (chunk (at + 32) 16 from)) ++ filter test (chunk (at + 48) 16 from)
+      → (((t ++ filter test (chunk at 16 from)) ++ filter test (chunk (at + 16) 16 from))
+      ++ filter test (chunk (at + 32) 16 from)) ++ filter test (chunk (at + 48) 16 from)
       ≡ t ++ filter test (chunk at 64 from)
   kept_in_four t at from =
       let a = chunk at 16 from in
       let b = chunk (at + 16) 16 from in
       let c = chunk (at + 32) 16 from in
-      cc (kept_on t a b, kept_on t (a ++ b) c, kept_on t ((a ++ b) ++ c) (chunk (at + 48) 16 from), chunk_in_four at from)
+      cc (
+        kept_on t a b,
+        kept_on t (a ++ b) c,
+        kept_on t ((a ++ b) ++ c) (chunk (at + 48) 16 from),
+        chunk_in_four at from,
+      )
 
   -- the bytes kept of four vectors, one after another
-  pub kept_after : (t : List ℕ) (at : ℕ) (from : List ℕ) {a b c d : List ℕ} → a ≡ t ++ filter test (chunk at 16 from) → b ≡ a ++ filter test (chunk (at + 16) 16 from)
-      → c ≡ b ++ filter test (chunk (at + 32) 16 from) → d ≡ c ++ filter test (chunk (at + 48) 16 from) → d ≡ t ++ filter test (chunk at 64 from)
+  pub kept_after : (t : List ℕ) (at : ℕ) (from : List ℕ) {a b c d : List ℕ} → a ≡ t ++ filter test (chunk at 16 from)
+      → b ≡ a ++ filter test (chunk (at + 16) 16 from) → c ≡ b ++ filter test (chunk (at + 32) 16 from)
+      → d ≡ c ++ filter test (chunk (at + 48) 16 from) → d ≡ t ++ filter test (chunk at 64 from)
   kept_after t at from ea eb ec ed = cc (kept_in_four t at from)
 
 -- if no flag is set in four vectors, all of their 64 bytes are kept
-pub all_selected_in_four : (test : ℕ → Bool) (at : ℕ) (from : List ℕ) → InFour (λ k. mask_l (map test (chunk k 16 from)) ≡ 0) at → filter (λ b. not (test b)) (chunk at 64 from) ≡ chunk at 64 from
+pub all_selected_in_four : (test : ℕ → Bool) (at : ℕ) (from : List ℕ)
+    → InFour (λ k. mask_l (map test (chunk k 16 from)) ≡ 0) at
+    → filter (λ b. not (test b)) (chunk at 64 from) ≡ chunk at 64 from
 all_selected_in_four test at from (first, second, third, last) =
-    cc (kept_in_four (λ b. not (test b)) [] at from, all_kept test _ first, all_kept test _ second, all_kept test _ third, all_kept test _ last, chunk_in_four at from)
+    cc (
+      kept_in_four (λ b. not (test b)) [] at from,
+      all_kept test _ first,
+      all_kept test _ second,
+      all_kept test _ third,
+      all_kept test _ last,
+      chunk_in_four at from,
+    )
 
 -- ---- bytes that pass a test, moved to the front
 
@@ -221,19 +263,28 @@ not_lanes (f ∷ fs) = λ i. lane f i ∷ not_lanes fs i
 
 -- the mask of the bytes that are not in a set, from the mask of those that are
 pub mask_bits : (test : ℕ → Bool) (v : List ℕ) {lanes : List ℤ} → length v ≡ 16 → lanes ≡ mask_of test v
-    → mask_l (map (top 7) (map (bit_not w8) (map (cast_unsigned w8) lanes))) % 2 ^ 64 ≡ mask_l (map (λ b. not (test b)) v)
+    → mask_l (map (top 7) (map (bit_not w8) (map (cast_unsigned w8) lanes))) % 2 ^ 64
+    ≡ mask_l (map (λ b. not (test b)) v)
 mask_bits test v long is =
-    cc (lanes_of_mask test v, not_lanes (map test v), map-map not test v, mask_l-mod (map (λ b. not (test b)) v) 64 (omega (arith, length-map v (λ b. not (test b)))))
+    cc (
+      lanes_of_mask test v,
+      not_lanes (map test v),
+      map-map not test v,
+      mask_l-mod (map (λ b. not (test b)) v) 64 (omega (arith, length-map v (λ b. not (test b)))),
+    )
 
 -- a byte is stored, and counts if its flag is set
-pub stored_more : (flag : Bool) (row : List ℕ) (count place : ℕ) → count < length row → take (count + cond flag 1 0) (set row count place) ≡ take count row ++ cond flag (place ∷ []) []
+pub stored_more : (flag : Bool) (row : List ℕ) (count place : ℕ) → count < length row
+    → take (count + cond flag 1 0) (set row count place) ≡ take count row ++ cond flag (place ∷ []) []
 stored_more true row count place room = take_more_set row count place room
-stored_more false row count place room = ap (λ n. take n (set row count place)) (omega arith) ∙ take-set row count place ∙ sym (append-nil (take count row))
+stored_more false row count place room = ap (λ n. take n (set row count place)) (omega arith) ∙ take-set row count place
+    ∙ sym (append-nil (take count row))
 
 module _ {test : ℕ → Bool} {from into : List ℕ} {at count : ℕ} (before : IsFilteredTo test from at into count) where
   -- a vector or chunk more
-  pub filter_piece : (size : ℕ) {after : List ℕ} {end : ℕ} → at + size ≤ length from → end ≤ count + size → length after ≡ 8224
-      → take end after ≡ take count into ++ filter test (chunk at size from) → IsFilteredTo test from (at + size) after end
+  pub filter_piece : (size : ℕ) {after : List ℕ} {end : ℕ} → at + size ≤ length from → end ≤ count + size
+      → length after ≡ 8224 → take end after ≡ take count into ++ filter test (chunk at size from)
+      → IsFilteredTo test from (at + size) after end
   filter_piece size room few long put = record {
     within = room;
     few = omega arith;
@@ -242,13 +293,20 @@ module _ {test : ℕ → Bool} {from into : List ℕ} {at count : ℕ} (before :
   }
 
   -- one byte more
-  pub filter_byte : {after : List ℕ} {end : ℕ} → at < length from → at < 8224 → after ≡ set into count (get_or from at 0) → end
-      ≡ count + from_bool (test (get_or from at 0)) → IsFilteredTo test from (at + 1) after end
+  pub filter_byte : {after : List ℕ} {end : ℕ} → at < length from → at < 8224
+      → after ≡ set into count (get_or from at 0) → end ≡ count + from_bool (test (get_or from at 0))
+      → IsFilteredTo test from (at + 1) after end
   filter_byte room small is eof = record {
     within = omega arith;
     few = omega (arith, bit_small (test b));
     room = cc (length-set into count b);
-    kept = cc (bit (test b), stored_more (test b) into count b (omega arith), filter-append test (take at from) (b ∷ []), take_more from at 0 room);
+    kept =
+        cc (
+          bit (test b),
+          stored_more (test b) into count b (omega arith),
+          filter-append test (take at from) (b ∷ []),
+          take_more from at 0 room,
+        );
   }
     where
       b : ℕ
@@ -263,5 +321,6 @@ module _ {test : ℕ → Bool} {from into : List ℕ} {at count : ℕ} (before :
       bit_small false = omega arith
 
 -- all bytes
-pub filter_keeps_all : {test : ℕ → Bool} {from into : List ℕ} {at count : ℕ} → IsFilteredTo test from at into count → length from ≤ at → (take count into ≡ filter test from) × (count ≤ length from)
+pub filter_keeps_all : {test : ℕ → Bool} {from into : List ℕ} {at count : ℕ} → IsFilteredTo test from at into count
+    → length from ≤ at → (take count into ≡ filter test from) × (count ≤ length from)
 filter_keeps_all {from} {at} keeps all = (cc (take_all at from all), omega arith)

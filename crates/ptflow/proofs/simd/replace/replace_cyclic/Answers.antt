@@ -10,19 +10,15 @@ loop-at-preserved c =
     let end = c.args.terminator in
     let delims = c.args.delims.now in
     let from = c.args.from.now in
-    let (_, long, _, _, _) = loop.invariant in
     elim c.if-from-at.branch [
       | then-from-at w ↦
           let next = w.next-cycle_pos in
-          let (index, number) = next.ensures in
           rw w.cycle_pos-is (rw w.to-is (
-          replaced_terminator _ delims c.args.number loop.at loop.cycle_pos from loop.to loop.invariant
-          (omega (arith, c.loop-at-test.true)) next.result _ _ w.if-from-at.true w.unwrap_or.ensures
-          number index refl
-          (length-set _ loop.at w.unwrap_or.result ∙ length-set loop.to loop.at _ ∙ long)))
+          replaced_terminator _ delims c.args.number loop.at loop.cycle_pos from loop.to loop.invariant (omega (arith, c.loop-at-test.true)) next.result _ _ w.if-from-at.true w.unwrap_or.ensures
+          next.ensures.1 next.ensures.0 refl
+          (length-set _ loop.at w.unwrap_or.result ∙ length-set loop.to loop.at _ ∙ loop.invariant.1)))
       | else-from-at w ↦
           rw w.cycle_pos-is (rw w.to-is (
-          replaced_other end delims c.args.number loop.at loop.cycle_pos from loop.to loop.invariant
-          (omega (arith, c.loop-at-test.true))
-          _ w.if-from-at.false refl (length-set loop.to loop.at _ ∙ long)))
+          replaced_other end delims c.args.number loop.at loop.cycle_pos from loop.to loop.invariant (omega (arith, c.loop-at-test.true))
+          _ w.if-from-at.false refl (length-set loop.to loop.at _ ∙ loop.invariant.1)))
     ]

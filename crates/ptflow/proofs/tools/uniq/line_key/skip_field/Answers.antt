@@ -9,8 +9,11 @@ returns-then-not-is_blank c =
     (sym c.is_blank.ensures ∙ c.if-not-is_blank.true)) ∙ c.blanks.invariant ∙ sym (after_one c.args.line.now)
 
 pub blanks-preserved : goal.blanks-preserved
-blanks-preserved c = sym (blank_first c.blanks.rest.now c.in-len1-up.len_at_least (take_rest c.blanks.rest.now 1) (sym c.is_blank.ensures ∙ c.if-not-is_blank.false)) ∙ c.blanks.invariant
+blanks-preserved c =
+    sym (blank_first c.blanks.rest.now c.in-len1-up.len_at_least (take_rest c.blanks.rest.now 1)
+    (sym c.is_blank.ensures ∙ c.if-not-is_blank.false)) ∙ c.blanks.invariant
 
 pub returns : goal.returns
-returns c = let none : c.blanks.rest.now ≡ [] = nil_from_length c.blanks.rest.now (omega arith) in none ∙ sym (ap (suffix_at 1) none ∙ suffix_none 1)
+returns c = let none : c.blanks.rest.now ≡ [] = nil_from_length c.blanks.rest.now (omega arith) in
+    none ∙ sym (ap (suffix_at 1) none ∙ suffix_none 1)
     ∙ c.blanks.invariant ∙ sym (after_one c.args.line.now)

@@ -9,7 +9,8 @@ loop-field-init c = ap (λ n. suffix_at n c.args.line.now) (omega arith)
 pub returns-then-is_empty : goal.returns-then-is_empty
 returns-then-is_empty c =
     let rest = c.loop-field.rest.now in
-    let none : rest ≡ [] = nil_from_length rest (eqb-true (length rest) 0 (sym c.is_empty.ensures ∙ c.if-is_empty.true)) in
+    let none : rest ≡ [] =
+    nil_from_length rest (eqb-true (length rest) 0 (sym c.is_empty.ensures ∙ c.if-is_empty.true)) in
     cc (suffix_none (c.args.fields - c.loop-field._field), suffix_is c.args.fields c.args.line.now)
 
 pub loop-field-preserved : goal.loop-field-preserved
@@ -20,4 +21,5 @@ loop-field-preserved c =
 pub returns : goal.returns
 returns c =
     let none : c.args.fields - c.loop-field._field ≡ 0 = omega arith in
-    sym (ap (λ n. suffix_at n c.loop-field.rest.now) none ∙ suffix_zero c.loop-field.rest.now) ∙ c.loop-field.invariant ∙ suffix_is c.args.fields c.args.line.now
+    sym (ap (λ n. suffix_at n c.loop-field.rest.now) none ∙ suffix_zero c.loop-field.rest.now) ∙ c.loop-field.invariant
+    ∙ suffix_is c.args.fields c.args.line.now
