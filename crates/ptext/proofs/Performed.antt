@@ -1,6 +1,7 @@
 -- The meaning of the words and the parsed command agree on the number of files and on whether standard output is used,
 -- unless memory ran out. So a run over the parsed command is one that the words ask for.
-use Rattle.std.specs.Prelude.{◌≡◌, ℕ, Bool, true, false, List, Option, Some, None, Result, Ok, Err, codes, is_none, option_map, if◌then◌else◌}
+use Rattle.std.specs.Prelude.{◌≡◌, ℕ, Bool, true, false, List, Option, Some, None, Result, Ok, Err, codes, is_none}
+use Rattle.std.specs.Prelude.{option_map, if◌then◌else◌}
 use Rattle.std.proofs.Common.{sym, ◌∙◌, ap, refl, subst}
 use Rattle.std.specs.List.{list_any}
 use Rattle.std.proofs.lemmas.Bool.{false≢true}
@@ -21,7 +22,8 @@ use Rattle.ptext.specs.Perform.{HasRun, IsOutputUnopened}
 
 -- the number of files of a parsed command is that of the words
 pub files_of_parsed : {A : Type 0} (command : Result (code.Command A) UseFault) (meaning : Result Command Fault)
-    → CommandPost command meaning → file_count command ≡ (if is_memory_fault command then 0 else named_file_count meaning)
+    → CommandPost command meaning
+    → file_count command ≡ (if is_memory_fault command then 0 else named_file_count meaning)
 files_of_parsed (Ok command) meaning meant = ap named_file_count (sym meant)
 files_of_parsed (Err fault) meaning meant = by_view (fault_view fault) meant
   where
@@ -31,7 +33,8 @@ files_of_parsed (Err fault) meaning meant = by_view (fault_view fault) meant
 
 -- a parsed command writes to standard output if the words say so
 pub output_of_parsed : {A : Type 0} (command : Result (code.Command A) UseFault) (meaning : Result Command Fault)
-    → CommandPost command meaning → is_memory_fault command ≡ false → means_standard_output meaning ≡ true → has_standard_output command ≡ true
+    → CommandPost command meaning → is_memory_fault command ≡ false → means_standard_output meaning ≡ true
+    → has_standard_output command ≡ true
 output_of_parsed (Ok command) meaning meant parsed means = sym (ap means_standard_output meant) ∙ means
 output_of_parsed (Err fault) meaning meant parsed means = by_view (fault_view fault) meant parsed
   where
@@ -40,13 +43,14 @@ output_of_parsed (Err fault) meaning meant parsed means = by_view (fault_view fa
     by_view (Some e) meant parsed = sym (ap means_standard_output meant) ∙ means
 
 -- if memory ran out while the words were parsed, no command writes to standard output
-pub no_output_without_memory : {A : Type 0} (command : Result (code.Command A) UseFault) → is_memory_fault command ≡ true → has_standard_output command ≡ false
+pub no_output_without_memory : {A : Type 0} (command : Result (code.Command A) UseFault)
+    → is_memory_fault command ≡ true → has_standard_output command ≡ false
 no_output_without_memory (Ok command) failed = absurd (false≢true failed)
 no_output_without_memory (Err fault) failed = refl
 
 -- the outcome `o` with the sink of the outcome `ran` is `ran`, if they are the same otherwise
-pub with_sink : (o ran : Outcome) → o.messages ≡ ran.messages → o.status ≡ ran.status → o.peak ≡ ran.peak → o.denied ≡ ran.denied
-    → record o { out = ran.out } ≡ ran
+pub with_sink : (o ran : Outcome) → o.messages ≡ ran.messages → o.status ≡ ran.status → o.peak ≡ ran.peak
+    → o.denied ≡ ran.denied → record o { out = ran.out } ≡ ran
 with_sink o ran messages status peak denied =
     λ i. record { out = ran.out; messages = messages i; status = status i; peak = peak i; denied = denied i }
 
@@ -56,26 +60,34 @@ pub has_run : {A : Type 0} (command : Result (code.Command A) UseFault) (words :
     → CommandPost command (command_of_args words) → AreNewInputs (file_count command) old
     → IsRun (spec_of_parsed command words) old new (sinks sink messages) ran
     → IsUnchangedIfUnread (spec_of_parsed command words) old new sink ran
-    → (has_standard_output command ≡ true → (sink ≡ out) × (ran.out ≡ o.out)) → (has_standard_output command ≡ false → Unused)
+    → (has_standard_output command ≡ true → (sink ≡ out) × (ran.out ≡ o.out))
+    → (has_standard_output command ≡ false → Unused)
     → HasRun words old new out messages Unused o
-has_run command words {old} {new} {out} {messages} {sink} {Unused} {o} {ran} same meant fresh run unread standard unused = record {
-  out_of_memory = is_memory_fault command;
-  files = subst (λ (n : ℕ). AreNewInputs n old) (files_of_parsed command (command_of_args words) meant) fresh;
-  sink_old = sink;
-  sink_new = ran.out;
-  run = subst (λ (x : Outcome). IsRun (spec_of_parsed command words) old new (sinks sink messages) x) (sym same) run;
-  reads_nothing = subst (λ (x : Outcome). IsUnchangedIfUnread (spec_of_parsed command words) old new sink x) (sym same) unread;
-  standard_output = λ parsed means. standard (output_of_parsed command (command_of_args words) meant parsed means);
-  unused = λ failed. unused (no_output_without_memory command failed);
-}
+has_run command words {old} {new} {out} {messages} {sink} {Unused} {o} {ran} same meant fresh run unread standard
+    unused = record {
+      out_of_memory = is_memory_fault command;
+      files = subst (λ (n : ℕ). AreNewInputs n old) (files_of_parsed command (command_of_args words) meant) fresh;
+      sink_old = sink;
+      sink_new = ran.out;
+      run = subst (λ (x : Outcome). IsRun (spec_of_parsed command words) old new (sinks sink messages) x)
+          (sym same) run;
+      reads_nothing = subst (λ (x : Outcome). IsUnchangedIfUnread (spec_of_parsed command words) old new sink x)
+          (sym same) unread;
+      standard_output = λ parsed means. standard (output_of_parsed command (command_of_args words) meant parsed means);
+      unused = λ failed. unused (no_output_without_memory command failed);
+    }
 
 -- an output file that could not be created is the one that the words name
-pub names_output : {A : Type 0} (command : Result (code.Command A) UseFault) (meaning : Result Command Fault) (inputs : List Reader) (name : List ℕ)
-    → CommandPost command meaning → Some name ≡ output_file command inputs → IsOutputUnopened meaning (unopened_message (codes "uniq") name)
-names_output (Ok command) meaning inputs name meant is = rw meant (by_unopened (list_any (λ (r : Reader). r.refused) inputs) is)
+pub names_output : {A : Type 0} (command : Result (code.Command A) UseFault) (meaning : Result Command Fault)
+    (inputs : List Reader) (name : List ℕ)
+    → CommandPost command meaning → Some name ≡ output_file command inputs
+    → IsOutputUnopened meaning (unopened_message (codes "uniq") name)
+names_output (Ok command) meaning inputs name meant is =
+    rw meant (by_unopened (list_any (λ (r : Reader). r.refused) inputs) is)
   where
     by_unopened : (b : Bool) → Some name ≡ (if b then None else (command_view command).output)
-        → option_map (unopened_message (codes "uniq")) (command_view command).output ≡ Some (unopened_message (codes "uniq") name)
+        → option_map (unopened_message (codes "uniq")) (command_view command).output
+        ≡ Some (unopened_message (codes "uniq") name)
     by_unopened true is = cc
     by_unopened false is = ap (option_map (unopened_message (codes "uniq"))) (sym is)
 names_output (Err fault) meaning inputs name meant is = cc

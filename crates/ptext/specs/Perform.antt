@@ -1,5 +1,6 @@
 -- The postcondition of `perform`: the command was run over the inputs that the words name, or a message says why not.
-use Rattle.std.specs.Prelude.{◌≡◌, ◌⊎◌, ℕ, Bool, true, false, List, Some, Result, Ok, Err, codes, option_map, if◌then◌else◌}
+use Rattle.std.specs.Prelude.{◌≡◌, ◌⊎◌, ℕ, Bool, true, false, List, Some, Result, Ok, Err, codes, option_map}
+use Rattle.std.specs.Prelude.{if◌then◌else◌}
 use Rattle.ptlines.specs.Readers.{Reader, new_reader, reader_at}
 use Rattle.ptlines.specs.Sinks.{SinkState}
 use Rattle.ptlines.specs.Sources.{SourceState}
@@ -15,16 +16,19 @@ use Rattle.ptext.specs.CommandOutput.{means_standard_output}
 -- The command was run over these readers: standard input, and one for each file, in the order of the words. The state
 -- of standard output is `out` before, and that of the outcome after. `Unused` says that standard output was handed back
 -- as it came.
-pub record HasRun (words : List (List ℕ)) (old new : List Reader) (out messages : SinkState) (Unused : Type 0) (o : Outcome) : Type 0 where
+pub record HasRun (words : List (List ℕ)) (old new : List Reader) (out messages : SinkState) (Unused : Type 0)
+    (o : Outcome) : Type 0 where
   -- whether memory ran out while the words were parsed
   pub out_of_memory : Bool
   pub files : AreNewInputs (if out_of_memory then 0 else named_file_count (command_of_args words)) old
   -- the sink of the output, before and after: standard output, if the command writes to it
   pub sink_old : SinkState
   pub sink_new : SinkState
-  pub run : IsRun (spec_unless_memory words out_of_memory) old new (sinks sink_old messages) (record o { out = sink_new })
+  pub run : IsRun (spec_unless_memory words out_of_memory) old new (sinks sink_old messages)
+      (record o { out = sink_new })
   -- if the command is to read nothing, the inputs are unchanged, and nothing was written
-  pub reads_nothing : IsUnchangedIfUnread (spec_unless_memory words out_of_memory) old new sink_old (record o { out = sink_new })
+  pub reads_nothing : IsUnchangedIfUnread (spec_unless_memory words out_of_memory) old new sink_old
+      (record o { out = sink_new })
   pub standard_output : out_of_memory ≡ false → means_standard_output (command_of_args words) ≡ true
       → (sink_old ≡ out) × (sink_new ≡ o.out)
   pub unused : out_of_memory ≡ true → Unused
@@ -45,11 +49,14 @@ pub record HasNotRun (words : List (List ℕ)) (messages : SinkState) (Unused : 
   pub unused : Unused
 
 -- The postcondition over inputs that are opened already.
-abbrev pub RunOverInputsPost : List (List ℕ) → List Reader → List Reader → SinkState → SinkState → Type 0 → Outcome → Type 0
-RunOverInputsPost words old new out messages Unused o = HasRun words old new out messages Unused o ⊎ HasNotRun words messages Unused o
+abbrev pub RunOverInputsPost : List (List ℕ) → List Reader → List Reader → SinkState → SinkState → Type 0 → Outcome
+    → Type 0
+RunOverInputsPost words old new out messages Unused o =
+    HasRun words old new out messages Unused o ⊎ HasNotRun words messages Unused o
 
 -- The postcondition of `perform`. The first reader is that of standard input.
 abbrev pub PerformPost : List (List ℕ) → SourceState → SinkState → SinkState → Type 0 → Outcome → Type 0
 PerformPost words standard out messages Unused o =
-    ((old : List Reader) × (new : List Reader) × (reader_at old 0 ≡ new_reader standard false) × HasRun words old new out messages Unused o)
+    ((old : List Reader) × (new : List Reader) × (reader_at old 0 ≡ new_reader standard false)
+    × HasRun words old new out messages Unused o)
     ⊎ HasNotRun words messages Unused o

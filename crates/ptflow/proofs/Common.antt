@@ -79,7 +79,8 @@ pub use Rattle.ptflow.specs.Parts.{HasGroupedKeys, BeginsWith, CutOfParts, EndsW
 pub use Rattle.ptflow.specs.Parts.{TrAfterByte, TrMeetsTwice, TrOfAnyParts, TrOfParts, UniqByKey, UniqOfParts}
 pub use Rattle.ptflow.specs.Passes.{PassOutcome, StorelessPost, PassPost, PassPre, no_store}
 pub use Rattle.ptlines.specs.Slots.{AddedSlots}
-pub use Rattle.ptflow.specs.PasteCall.{PastePre, PastePost, IsColumnUnended, IsReadable, IsReadToEnd, PasteOutcome, update_at}
+pub use Rattle.ptflow.specs.PasteCall.{PastePre, PastePost, IsColumnUnended, IsReadable, IsReadToEnd, PasteOutcome}
+pub use Rattle.ptflow.specs.PasteCall.{update_at}
 pub use Rattle.ptlines.specs.Readers.{no_reader, reader_at}
 pub use Rattle.ptflow.specs.PasteText.{columns, delimiter, every_kth, join_with_cycle, row_count, is_row_known}
 pub use Rattle.ptflow.specs.PasteText.{known_rows, paste, paste_decided, paste_size, row_at, rows, paste_serial_decided}
@@ -100,12 +101,20 @@ pub use Rattle.ptflow.specs.Private.Cut.CutFrom.{cut_list_from, cut_lines_from}
 pub use Rattle.ptflow.specs.Private.Cut.FieldOffsets.{IsFieldStart, fields, prefixed_fields}
 pub use Rattle.ptflow.specs.Private.Cut.FieldSlices.{IsFieldCursor, IsNextSlice, IsRest, remaining_fields}
 pub use Rattle.ptflow.specs.Private.Passes.StepOutput.{OutputPart, OutputFailed}
-pub use Rattle.ptflow.specs.Private.Passes.LineLoop.{SlotsCleared, IsLineFilter, IsSwapped, LinesFailed, LinesWritten, IsLinesLength}
-pub use Rattle.ptflow.specs.Private.Paste.FillRow.{SetTerminatorsPost, FillCellPost, FillRowPost, SlotsBound, SlotsKept, NotRead, RowAmid, RowFailed, RowFilled, ClearSlotsPost, is_write_fault}
-pub use Rattle.ptflow.specs.Private.Paste.RowCells.{RowShape, BegunText, CellsFilled, CellsTaken, after_cell, begun_after, begun_in, cells_text, job_shape, shape_of, slots_text}
-pub use Rattle.ptflow.specs.Private.Paste.SerialRest.{IsOnlyDelimiter, IsReplacedTo, CopyCellsPost, CopyBlockPost, next_position, leading_delimiter, row_from, row_rest, serial_rest, with_delimiter, with_cycle}
+pub use Rattle.ptflow.specs.Private.Passes.LineLoop.{SlotsCleared, IsLineFilter, IsSwapped, LinesFailed, LinesWritten}
+pub use Rattle.ptflow.specs.Private.Passes.LineLoop.{IsLinesLength}
+pub use Rattle.ptflow.specs.Private.Paste.FillRow.{SetTerminatorsPost, FillCellPost, FillRowPost, SlotsBound, SlotsKept}
+pub use Rattle.ptflow.specs.Private.Paste.FillRow.{NotRead, RowAmid, RowFailed, RowFilled, ClearSlotsPost}
+pub use Rattle.ptflow.specs.Private.Paste.FillRow.{is_write_fault}
+pub use Rattle.ptflow.specs.Private.Paste.RowCells.{RowShape, BegunText, CellsFilled, CellsTaken, after_cell}
+pub use Rattle.ptflow.specs.Private.Paste.RowCells.{begun_after, begun_in, cells_text, job_shape, shape_of, slots_text}
+pub use Rattle.ptflow.specs.Private.Paste.SerialRest.{IsOnlyDelimiter, IsReplacedTo, CopyCellsPost, CopyBlockPost}
+pub use Rattle.ptflow.specs.Private.Paste.SerialRest.{next_position, leading_delimiter, row_from, row_rest, serial_rest}
+pub use Rattle.ptflow.specs.Private.Paste.SerialRest.{with_delimiter, with_cycle}
 pub use Rattle.ptflow.specs.Private.Paste.TakenLines.{AreReceivedLines, LinesTaken}
-pub use Rattle.ptflow.specs.Private.Paste.BufferedRows.{BufferedRowsPre, IsConsumed, AreConsumed, AreFirstRows, RowsTaken, IsFieldCopied, LineCopied, EofCopied, CopyColumnsPost, CopyRowsPost}
+pub use Rattle.ptflow.specs.Private.Paste.BufferedRows.{BufferedRowsPre, IsConsumed, AreConsumed, AreFirstRows}
+pub use Rattle.ptflow.specs.Private.Paste.BufferedRows.{RowsTaken, IsFieldCopied, LineCopied, EofCopied}
+pub use Rattle.ptflow.specs.Private.Paste.BufferedRows.{CopyColumnsPost, CopyRowsPost}
 pub use Rattle.ptflow.specs.Private.Tr.TrFrom.{squeeze_from, tr_from}
 pub use Rattle.ptflow.specs.Private.Uniq.BlockRuns.{CountRepeatsPost, IsSpan, RunsFailed, RunsWritten, IsPending}
 pub use Rattle.ptflow.specs.Private.Uniq.BlockRuns.{span_of}

@@ -197,7 +197,8 @@ spelled_ends : (n m : List ℕ) (r : Interval) → interval_of_bounds n m ≡ So
 spelled_ends [] [] r e = cc
 spelled_ends [] (c ∷ m) r e =
     let (bounds, is) = some_since ((true && is_number (c ∷ m)) && true) _ r e in
-    subst (SpellsInterval (45 ∷ c ∷ m)) is (UpTo (c ∷ m) (let (digits, _) = and_parts (is_number (c ∷ m)) true bounds in digits))
+    subst (SpellsInterval (45 ∷ c ∷ m)) is
+    (UpTo (c ∷ m) (let (digits, _) = and_parts (is_number (c ∷ m)) true bounds in digits))
 spelled_ends (b ∷ n) [] r e =
     let (bounds, is) = some_since ((is_number (b ∷ n) && true) && true) _ r e in
     let (number, _) = and_parts (is_number (b ∷ n) && true) true bounds in

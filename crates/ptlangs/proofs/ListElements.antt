@@ -33,7 +33,8 @@ pub split_around : {X : Type 0} (p : X → Bool) (xs : List X) (i : ℕ) → pos
     → slice_split p xs ≡ take i xs ∷ slice_split p (take (length xs - (i + 1)) (drop (i + 1) xs))
 split_around p [] i h = cc
 split_around p (x ∷ xs) i h =
-    let (below, at) = some_since (ltb (position_or_len p (x ∷ xs)) (length (x ∷ xs))) (position_or_len p (x ∷ xs)) i h in
+    let (below, at) = some_since (ltb (position_or_len p (x ∷ xs)) (length (x ∷ xs))) (position_or_len p (x ∷ xs))
+    i h in
     let first = slice_split_first p (x ∷ xs) x (ltb-true _ _ below) in
     let rest : take (length (x ∷ xs) - (i + 1)) (drop (i + 1) (x ∷ xs)) ≡ drop (i + 1) (x ∷ xs) =
     take_all (length (x ∷ xs) - (i + 1)) (drop (i + 1) (x ∷ xs))

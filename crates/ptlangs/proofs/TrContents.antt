@@ -131,7 +131,8 @@ others-split bytes m (suc k) =
     ap (others_below bytes) (omega arith) ∙ others_below-more bytes (m + k) (has_byte (m + k) bytes) refl in (
       rest ++ cond (has_byte (m + k) bytes) [] ((m + k) ∷ []),
       more
-          ∙ ap (λ xs. xs ++ cond (has_byte (m + k) bytes) [] ((m + k) ∷ [])) is ∙ append_assoc (others_below bytes m) rest _,
+          ∙ ap (λ xs. xs ++ cond (has_byte (m + k) bytes) [] ((m + k) ∷ [])) is
+          ∙ append_assoc (others_below bytes m) rest _,
     )
 
 -- a byte of the complement, between those below it and the others
@@ -142,7 +143,8 @@ complement-around bytes b low h =
     let whole : b + 1 + (255 - b) ≡ 256 = omega (arith, low) in (
       rest,
       sym (others_below-all bytes (b + 1 + (255 - b)) whole) ∙ is
-          ∙ ap (λ xs. xs ++ rest) (others_below-more bytes b false h) ∙ append_assoc (others_below bytes b) (b ∷ []) rest,
+          ∙ ap (λ xs. xs ++ rest) (others_below-more bytes b false h)
+          ∙ append_assoc (others_below bytes b) (b ∷ []) rest,
     )
 
 has_byte-filter : (p : ℕ → Bool) (b : ℕ) (xs : List ℕ) → has_byte b xs ≡ true → has_byte b (filter p xs) ≡ p b

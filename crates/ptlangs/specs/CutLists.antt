@@ -1,5 +1,6 @@
 -- The list of `cut`, options `-b`, `-c` and `-f` (POSIX.1-2017, XCU, `cut`).
-use Rattle.std.specs.Prelude.{ℕ, ◌+◌, ◌<◌, ◌≤◌, ◌==◌, ◌≡◌, ◌↔◌, ◌||◌, ◌&&◌, List, [], ◌∷◌, ◌++◌, Bool, true, not, Option, Some, None, Result, Ok, Err, if◌then◌else◌, nat_lt, nat_le}
+use Rattle.std.specs.Prelude.{ℕ, ◌+◌, ◌<◌, ◌≤◌, ◌==◌, ◌≡◌, ◌↔◌, ◌||◌, ◌&&◌, List, [], ◌∷◌, ◌++◌, Bool, true, not}
+use Rattle.std.specs.Prelude.{Option, Some, None, Result, Ok, Err, if◌then◌else◌, nat_lt, nat_le}
 use Rattle.std.specs.List.{slice_split, list_any}
 use Rattle.std.specs.Str.{byte}
 use Rattle.ptlangs.specs.Numbers.{max_u64, is_empty, is_number, value, elements, and_then, traverse, IsListOf}
@@ -82,9 +83,11 @@ AreSortedFrom low (r ∷ rs) = (low ≤ r.first) × (r.first ≤ r.last) × AreS
 -- The grammar of one element: its text, and the interval that it denotes. Numbers are not checked here.
 pub data SpellsInterval : List ℕ → Interval → Type 0 where
   One : (n : List ℕ) → is_number n ≡ true → SpellsInterval n (record { first = value n; last = value n })
-  FromTo : (n m : List ℕ) → is_number n ≡ true → is_number m ≡ true → SpellsInterval (n ++ byte "-" ∷ m) (record { first = value n; last = value m })
+  FromTo : (n m : List ℕ) → is_number n ≡ true → is_number m ≡ true
+      → SpellsInterval (n ++ byte "-" ∷ m) (record { first = value n; last = value m })
   UpTo : (m : List ℕ) → is_number m ≡ true → SpellsInterval (byte "-" ∷ m) (record { first = 1; last = value m })
-  From : (n : List ℕ) → is_number n ≡ true → SpellsInterval (n ++ byte "-" ∷ []) (record { first = value n; last = max_u64 })
+  From : (n : List ℕ) → is_number n ≡ true
+      → SpellsInterval (n ++ byte "-" ∷ []) (record { first = value n; last = max_u64 })
 
 -- an element whose interval is valid
 abbrev pub IsIntervalElement : List ℕ → Interval → Type 0

@@ -1,5 +1,6 @@
 -- The characters of a string of `tr`: plain bytes and escapes (POSIX.1-2017, XCU, `tr`, "EXTENDED DESCRIPTION").
-use Rattle.std.specs.Prelude.{◌≡◌, ◌≢◌, ◌↔◌, ◌≤◌, ◌<◌, ℕ, zero, suc, ◌==◌, List, [], ◌∷◌, ◌++◌, Bool, true, false, if◌then◌else◌, nat_le, take, take_while, length, Result, Ok, Err}
+use Rattle.std.specs.Prelude.{◌≡◌, ◌≢◌, ◌↔◌, ◌≤◌, ◌<◌, ℕ, zero, suc, ◌==◌, List, [], ◌∷◌, ◌++◌, Bool, true, false}
+use Rattle.std.specs.Prelude.{if◌then◌else◌, nat_le, take, take_while, length, Result, Ok, Err}
 use Rattle.std.specs.List.{find}
 use Rattle.std.specs.Option.{option_map_or}
 use Rattle.std.specs.Int.{is_in_range}
@@ -23,7 +24,8 @@ is_octal_digit b = is_in_range (byte "0") (byte "7") b
 -- the letters of the escapes that denote a control character, each with that character
 abbrev pub letter_escapes : List (ℕ × ℕ)
 letter_escapes =
-    (byte "a", 7) ∷ (byte "b", 8) ∷ (byte "f", 12) ∷ (byte "n", 10) ∷ (byte "r", 13) ∷ (byte "t", 9) ∷ (byte "v", 11) ∷ []
+    (byte "a", 7) ∷ (byte "b", 8) ∷ (byte "f", 12) ∷ (byte "n", 10) ∷ (byte "r", 13) ∷ (byte "t", 9) ∷ (byte "v", 11)
+    ∷ []
 
 -- the byte that a backslash before `c` denotes: `c` itself, unless `c` is one of `letter_escapes`
 abbrev pub byte_of_escape : ℕ → ℕ
@@ -41,8 +43,8 @@ pub data IsOctalRun : List ℕ → List ℕ → Type 0 where
   OneDigit : (a : ℕ) (rest : List ℕ) → is_octal_digit a ≡ true → starts_octal rest ≡ false → IsOctalRun (a ∷ []) rest
   TwoDigits : (a b : ℕ) (rest : List ℕ) → is_octal_digit a ≡ true → is_octal_digit b ≡ true → starts_octal rest ≡ false
       → IsOctalRun (a ∷ b ∷ []) rest
-  ThreeDigits : (a b c : ℕ) (rest : List ℕ) → is_octal_digit a ≡ true → is_octal_digit b ≡ true → is_octal_digit c ≡ true
-      → IsOctalRun (a ∷ b ∷ c ∷ []) rest
+  ThreeDigits : (a b c : ℕ) (rest : List ℕ) → is_octal_digit a ≡ true → is_octal_digit b ≡ true
+      → is_octal_digit c ≡ true → IsOctalRun (a ∷ b ∷ c ∷ []) rest
 
 -- the bytes start with the character, and the rest comes after it
 pub data SpellsChar : List ℕ → SetChar → List ℕ → Type 0 where
@@ -75,7 +77,8 @@ octal value = if nat_le value 255 then Escaped value else Invalid Octal
 abbrev pub after_backslash : List ℕ → SetChar × ℕ
 after_backslash [] = (Invalid Escape, 0)
 after_backslash (c ∷ bs) =
-    if is_octal_digit c then (octal (digits_value 8 (octal_run (c ∷ bs))), length (octal_run (c ∷ bs))) else (Escaped (byte_of_escape c), 1)
+    if is_octal_digit c then (octal (digits_value 8 (octal_run (c ∷ bs))), length (octal_run (c ∷ bs))) else
+    (Escaped (byte_of_escape c), 1)
 
 -- the character that starts with byte `b`, and the number of the bytes after `b` that it takes
 abbrev pub char_at : ℕ → List ℕ → SetChar × ℕ

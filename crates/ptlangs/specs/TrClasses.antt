@@ -4,7 +4,8 @@ use Rattle.std.specs.List.{find, range_with_len}
 use Rattle.std.specs.Option.{option_map}
 use Rattle.std.specs.Str.{byte}
 use Rattle.ptlangs.specs.declared.tr.classes.CharClass.{CharClass}
-use Rattle.ptlangs.specs.declared.tr.classes.CharClass.TheVariants.{Alnum, Alpha, Blank, Cntrl, Digit, Graph, Lower, Print, Punct, Space, Upper, Xdigit}
+use Rattle.ptlangs.specs.declared.tr.classes.CharClass.TheVariants.{Alnum, Alpha, Blank, Cntrl, Digit, Graph, Lower}
+use Rattle.ptlangs.specs.declared.tr.classes.CharClass.TheVariants.{Print, Punct, Space, Upper, Xdigit}
 
 -- the bytes from `a` to `b`, both included
 abbrev pub span : ℕ → ℕ → List ℕ
@@ -28,7 +29,8 @@ class_bytes Digit = span (byte "0") (byte "9")
 class_bytes Graph = span (byte "!") (byte "~")
 class_bytes Lower = span (byte "a") (byte "z")
 class_bytes Print = span (byte " ") (byte "~")
-class_bytes Punct = span (byte "!") (byte "/") ++ span (byte ":") (byte "@") ++ span (byte "[") (byte "`") ++ span (byte "{") (byte "~")
+class_bytes Punct =
+    span (byte "!") (byte "/") ++ span (byte ":") (byte "@") ++ span (byte "[") (byte "`") ++ span (byte "{") (byte "~")
 class_bytes Space = span 9 13 ++ byte " " ∷ []
 class_bytes Upper = span (byte "A") (byte "Z")
 class_bytes Xdigit = span (byte "0") (byte "9") ++ span (byte "A") (byte "F") ++ span (byte "a") (byte "f")
@@ -43,7 +45,8 @@ class_names =
 
 -- the class with this name; `None` if there is none
 abbrev pub class_named : List ℕ → Option CharClass
-class_named name = option_map (λ (c : List ℕ × CharClass). c.1) (find (λ (c : List ℕ × CharClass). bytes_eq name c.0) class_names)
+class_named name =
+    option_map (λ (c : List ℕ × CharClass). c.1) (find (λ (c : List ℕ × CharClass). bytes_eq name c.0) class_names)
 
 -- the two classes are `lower` and `upper`, in either order
 abbrev pub are_opposite_cases : CharClass → CharClass → Bool

@@ -1,7 +1,8 @@
 -- The elements of a string of `tr`, over its characters: single characters, ranges, and the three bracketed forms
 -- `[x*n]`, `[:class:]` and `[=x=]` (POSIX.1-2017, XCU, `tr`, "EXTENDED DESCRIPTION").
-use Rattle.std.specs.Prelude.{◌≡◌, ◌↔◌, ◌≤◌, ◌<◌, ℕ, zero, suc, ◌-◌, ◌==◌, List, [], ◌∷◌, ◌++◌, Bool, false, Option, Some, None, Result, Ok, Err, if◌then◌else◌}
-use Rattle.std.specs.Prelude.{nat_le, nat_lt, map, length, drop, option_map, IsTrue}
+use Rattle.std.specs.Prelude.{◌≡◌, ◌↔◌, ◌≤◌, ◌<◌, ℕ, zero, suc, ◌-◌, ◌==◌, List, [], ◌∷◌, ◌++◌, Bool, false, Option}
+use Rattle.std.specs.Prelude.{Some, None, Result, Ok, Err, if◌then◌else◌, nat_le, nat_lt, map, length, drop, option_map}
+use Rattle.std.specs.Prelude.{IsTrue}
 use Rattle.std.specs.List.{list_all}
 use Rattle.std.specs.Option.{option_and_then, option_or}
 use Rattle.std.specs.Char.{is_ascii_digit, is_ascii_lowercase}
@@ -23,7 +24,9 @@ count_in_base base digits = if nat_le (digits_value base digits) 65535 then Some
 -- the count of a repeat: octal after a leading zero, else decimal; 0 without digits; `None` if it is no valid count
 abbrev pub repeat_count : List ℕ → Option ℕ
 repeat_count [] = Some 0
-repeat_count (d ∷ ds) = if d == byte "0" then (if list_all is_octal_digit (d ∷ ds) then count_in_base 8 (d ∷ ds) else None) else count_in_base 10 (d ∷ ds)
+repeat_count (d ∷ ds) =
+    if d == byte "0" then (if list_all is_octal_digit (d ∷ ds) then count_in_base 8 (d ∷ ds) else None)
+    else count_in_base 10 (d ∷ ds)
 
 -- ---- the grammar
 
@@ -34,12 +37,17 @@ pub data DenotesByte : SetChar → ℕ → Type 0 where
 
 -- the characters start with a bracketed form, and the rest comes after it
 pub data StartsBracketed : List SetChar → SetElement → List SetChar → Type 0 where
-  ARepeat : (u : SetChar) (v : ℕ) (digits : List ℕ) (rest : List SetChar) → DenotesByte u v → IsTrue (list_all is_ascii_digit digits)
-      → StartsBracketed (Plain (byte "[") ∷ u ∷ Plain (byte "*") ∷ map Plain digits ++ Plain (byte "]") ∷ rest) (Repeat v (repeat_count digits)) rest
+  ARepeat : (u : SetChar) (v : ℕ) (digits : List ℕ) (rest : List SetChar) → DenotesByte u v
+      → IsTrue (list_all is_ascii_digit digits)
+      → StartsBracketed (Plain (byte "[") ∷ u ∷ Plain (byte "*") ∷ map Plain digits ++ Plain (byte "]") ∷ rest)
+      (Repeat v (repeat_count digits)) rest
   AClass : (c : ℕ) (name : List ℕ) (rest : List SetChar) → IsTrue (list_all is_ascii_lowercase (c ∷ name))
-      → StartsBracketed (Plain (byte "[") ∷ Plain (byte ":") ∷ map Plain (c ∷ name) ++ Plain (byte ":") ∷ Plain (byte "]") ∷ rest) (Class (class_named (c ∷ name))) rest
+      → StartsBracketed
+      (Plain (byte "[") ∷ Plain (byte ":") ∷ map Plain (c ∷ name) ++ Plain (byte ":") ∷ Plain (byte "]") ∷ rest)
+      (Class (class_named (c ∷ name))) rest
   AnEquivalence : (u : SetChar) (v : ℕ) (rest : List SetChar) → DenotesByte u v
-      → StartsBracketed (Plain (byte "[") ∷ Plain (byte "=") ∷ u ∷ Plain (byte "=") ∷ Plain (byte "]") ∷ rest) (Equivalence v) rest
+      → StartsBracketed (Plain (byte "[") ∷ Plain (byte "=") ∷ u ∷ Plain (byte "=") ∷ Plain (byte "]") ∷ rest)
+      (Equivalence v) rest
 
 -- the characters start with some bracketed form
 abbrev pub HasBracketed : List SetChar → Type 0
@@ -51,12 +59,13 @@ HasDashAndChar us = (u : SetChar) × (rest : List SetChar) × (us ≡ Plain (byt
 
 -- the characters start with the element, and the rest comes after it; a bracketed form has precedence
 pub data StartsElement : List SetChar → SetElement → List SetChar → Type 0 where
-  InBrackets : (us : List SetChar) (p : SetElement) (rest : List SetChar) → StartsBracketed us p rest → StartsElement us p rest
+  InBrackets : (us : List SetChar) (p : SetElement) (rest : List SetChar) → StartsBracketed us p rest
+      → StartsElement us p rest
   ARange : (u v : SetChar) (a b : ℕ) (rest : List SetChar) → ¬ HasBracketed (u ∷ Plain (byte "-") ∷ v ∷ rest)
       → DenotesByte u a → DenotesByte v b → a ≤ b
       → StartsElement (u ∷ Plain (byte "-") ∷ v ∷ rest) (Range a b) rest
-  Alone : (u : SetChar) (a : ℕ) (rest : List SetChar) → ¬ HasBracketed (u ∷ rest) → ¬ HasDashAndChar rest → DenotesByte u a
-      → StartsElement (u ∷ rest) (Single a) rest
+  Alone : (u : SetChar) (a : ℕ) (rest : List SetChar) → ¬ HasBracketed (u ∷ rest) → ¬ HasDashAndChar rest
+      → DenotesByte u a → StartsElement (u ∷ rest) (Single a) rest
 
 -- no element starts here, with the fault that is reported
 pub data StartsInvalid : List SetChar → SetFaultKind → Type 0 where
@@ -108,7 +117,8 @@ with_rest p rest = option_map (λ (us : List SetChar). (p, us)) rest
 -- The three bracketed forms, each from the character after its opening bracket. First `[x*n]`: after the star, after
 -- `x`, and from `x` on.
 abbrev pub repeat_after_star : ℕ → List SetChar → Option (SetElement × List SetChar)
-repeat_after_star v us = with_rest (Repeat v (repeat_count (plain_run is_ascii_digit us))) (after_plain (byte "]") (after_run is_ascii_digit us))
+repeat_after_star v us = with_rest (Repeat v (repeat_count (plain_run is_ascii_digit us))) (after_plain (byte "]")
+    (after_run is_ascii_digit us))
 
 abbrev pub repeat_after_byte : Result ℕ SetFaultKind → List SetChar → Option (SetElement × List SetChar)
 repeat_after_byte (Ok v) us = option_and_then (repeat_after_star v) (after_plain (byte "*") us)
@@ -170,7 +180,8 @@ char_or_range (Ok a) us = single_or_range a us (after_plain (byte "-") us)
 char_or_range (Err k) us = Err k
 
 -- the bracketed form, if there is one, else a character or a range
-abbrev pub or_char : Option (SetElement × List SetChar) → SetChar → List SetChar → Result (SetElement × List SetChar) SetFaultKind
+abbrev pub or_char : Option (SetElement × List SetChar) → SetChar → List SetChar
+    → Result (SetElement × List SetChar) SetFaultKind
 or_char (Some found) u us = Ok found
 or_char None u us = char_or_range (byte_of u) us
 
@@ -180,14 +191,16 @@ first_set_element [] = Err Empty
 first_set_element (u ∷ us) = or_char (bracketed_at (u ∷ us)) u us
 
 -- the first element and those of the rest; after a fault nothing is read
-abbrev pub elements_from : Result (SetElement × List SetChar) SetFaultKind → (List SetChar → List (Result SetElement SetFaultKind)) → List (Result SetElement SetFaultKind)
+abbrev pub elements_from : Result (SetElement × List SetChar) SetFaultKind
+    → (List SetChar → List (Result SetElement SetFaultKind)) → List (Result SetElement SetFaultKind)
 elements_from (Ok found) more = Ok found.0 ∷ more found.1
 elements_from (Err k) more = Err k ∷ []
 
 -- the elements of the characters after the first `skip` characters
 abbrev pub elements_after : List SetChar → ℕ → List (Result SetElement SetFaultKind)
 elements_after [] skip = []
-elements_after (u ∷ us) zero = elements_from (first_set_element (u ∷ us)) (λ rest. elements_after us (length us - length rest))
+elements_after (u ∷ us) zero =
+    elements_from (first_set_element (u ∷ us)) (λ rest. elements_after us (length us - length rest))
 elements_after (u ∷ us) (suc skip) = elements_after us skip
 
 -- the elements of the characters, in order, up to and including the first fault

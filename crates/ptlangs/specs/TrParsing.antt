@@ -1,6 +1,7 @@
 -- Definitions for the contracts of the private functions that read a string of `tr`: the characters after an index, the
 -- bytes still to be read, and the pairs of the two arrays.
-use Rattle.std.specs.Prelude.{◌≡◌, ◌-◌, ◌+◌, ◌*◌, ◌++◌, ◌&&◌, ℕ, Bool, true, false, List, [], ◌∷◌, Option, None, Some, Result, Ok, Err, drop, length, map, take, if◌then◌else◌}
+use Rattle.std.specs.Prelude.{◌≡◌, ◌-◌, ◌+◌, ◌*◌, ◌++◌, ◌&&◌, ℕ, Bool, true, false, List, [], ◌∷◌, Option, None, Some}
+use Rattle.std.specs.Prelude.{Result, Ok, Err, drop, length, map, take, if◌then◌else◌}
 use Rattle.std.specs.List.{flat_map, last_or}
 use Rattle.std.specs.Result.{result_map_both}
 use Rattle.ptlangs.specs.declared.faults.SetFaultKind.{SetFaultKind}
@@ -74,11 +75,14 @@ member_results n (Err k ∷ rs) = Err k ∷ member_results n rs
 -- the bytes that are left to read, and the faults between them
 abbrev pub bytes_left : Bytes → List (Result Member SetFaultKind)
 bytes_left b =
-    map Ok (drop b.index (marked_members b.fill b.segment)) ++ member_results b.fill (segments b.role b.has_fill (set_elements (chars_from b.text.now b.at)))
+    map Ok (drop b.index (marked_members b.fill b.segment))
+    ++ member_results b.fill (segments b.role b.has_fill (set_elements (chars_from b.text.now b.at)))
 
 -- a bound on the number of bytes that are left: each byte of the text gives at most 65,535, and one segment is a fill
 abbrev pub most_left : Bytes → ℕ
-most_left b = length (drop b.index (marked_members b.fill b.segment)) + 65536 * (length b.text.now - b.at) + (if b.has_fill then 0 else b.fill)
+most_left b =
+    length (drop b.index (marked_members b.fill b.segment)) + 65536 * (length b.text.now - b.at)
+    + (if b.has_fill then 0 else b.fill)
 
 -- one item of a list of results is read: `old` is the list before, `new` the rest after it; a fault ends the list
 abbrev pub NextPost : {A E : Type 0} → List (Result A E) → List (Result A E) → Result (Option A) E → Type 0

@@ -1,13 +1,15 @@
 -- The plan of `tr`: the array of bytes of each string, and which bytes are deleted, translated and squeezed
 -- (POSIX.1-2017, XCU, `tr`).
-use Rattle.std.specs.Prelude.{◌≡◌, ◌≢◌, ◌↔◌, ℕ, zero, suc, ◌+◌, ◌-◌, ◌==◌, ◌&&◌, ◌||◌, List, [], ◌∷◌, ◌++◌, Bool, true, false, not, Option, Some, None, Result}
-use Rattle.std.specs.Prelude.{Ok, Err, if◌then◌else◌, length, take, filter, replicate, unwrap_or, slice_get}
+use Rattle.std.specs.Prelude.{◌≡◌, ◌≢◌, ◌↔◌, ℕ, zero, suc, ◌+◌, ◌-◌, ◌==◌, ◌&&◌, ◌||◌, List, [], ◌∷◌, ◌++◌, Bool, true}
+use Rattle.std.specs.Prelude.{false, not, Option, Some, None, Result, Ok, Err, if◌then◌else◌, length, take, filter}
+use Rattle.std.specs.Prelude.{replicate, unwrap_or, slice_get}
 use Rattle.std.specs.List.{flat_map, list_all, list_any, last_or}
 use Rattle.std.specs.Option.{option_and_then, option_to_list}
 use Rattle.std.specs.Result.{result_map_both}
 use Rattle.ptlangs.specs.declared.tr.classes.CharClass.{CharClass}
 use Rattle.ptlangs.specs.declared.faults.SetFaultKind.{SetFaultKind}
-use Rattle.ptlangs.specs.declared.faults.SetFaultKind.TheVariants.{Empty, UnknownClass, ClassPlace, EquivPlace, RepeatPlace, RepeatSize, SecondFill, Memory}
+use Rattle.ptlangs.specs.declared.faults.SetFaultKind.TheVariants.{Empty, UnknownClass, ClassPlace, EquivPlace}
+use Rattle.ptlangs.specs.declared.faults.SetFaultKind.TheVariants.{RepeatPlace, RepeatSize, SecondFill, Memory}
 use Rattle.ptlangs.specs.declared.faults.SetString.TheVariants as string
 use Rattle.ptlangs.specs.declared.faults.SetString.{SetString}
 use Rattle.ptlangs.specs.declared.faults.SetFault.{SetFault}
@@ -67,7 +69,8 @@ is_fill (Err k) = false
 abbrev pub segments : SetRole → Bool → List (Result SetElement SetFaultKind) → List (Result Segment SetFaultKind)
 segments role has_fill [] = []
 segments role has_fill (Err k ∷ more) = Err k ∷ []
-segments role has_fill (Ok p ∷ more) = segment role has_fill p ∷ segments role (has_fill || is_fill (segment role has_fill p)) more
+segments role has_fill (Ok p ∷ more) =
+    segment role has_fill p ∷ segments role (has_fill || is_fill (segment role has_fill p)) more
 
 -- the segments of a string, or their faults
 abbrev pub segments_of : SetRole → List ℕ → List (Result Segment SetFaultKind)
@@ -84,11 +87,13 @@ string_segments role (b ∷ text) = sequence (segments_of role (b ∷ text))
 
 -- The first element of the characters that has no segment has this fault; `has_fill` says whether a fill came before.
 pub data FirstFault (role : SetRole) : Bool → List SetChar → SetFaultKind → Type 0 where
-  NoElement : (has_fill : Bool) (us : List SetChar) (k : SetFaultKind) → StartsInvalid us k → FirstFault role has_fill us k
+  NoElement : (has_fill : Bool) (us : List SetChar) (k : SetFaultKind) → StartsInvalid us k
+      → FirstFault role has_fill us k
   NoSegment : (has_fill : Bool) (us rest : List SetChar) (p : SetElement) (k : SetFaultKind) → StartsElement us p rest
       → segment role has_fill p ≡ Err k → FirstFault role has_fill us k
-  LaterFault : (has_fill : Bool) (us rest : List SetChar) (p : SetElement) (x : Segment) (k : SetFaultKind) → StartsElement us p rest
-      → segment role has_fill p ≡ Ok x → FirstFault role (has_fill || is_fill (Ok x)) rest k → FirstFault role has_fill us k
+  LaterFault : (has_fill : Bool) (us rest : List SetChar) (p : SetElement) (x : Segment) (k : SetFaultKind)
+      → StartsElement us p rest → segment role has_fill p ≡ Ok x → FirstFault role (has_fill || is_fill (Ok x)) rest k
+      → FirstFault role has_fill us k
 
 -- a string is rejected with the fault of its first faulty element
 abbrev pub FirstFaultIsReported : Type 0
@@ -220,12 +225,14 @@ has_valid_classes form false firsts seconds = are_paired firsts seconds
 abbrev pub plan_with : Form → Bool → List Segment → List ℕ → List Segment → Result Plan SetFaultKind
 plan_with form complement firsts first seconds =
     let n = fill_count (length first) seconds in
-    if has_valid_classes form complement (class_offsets 0 0 firsts) (class_offsets n 0 seconds) then Ok (plan_of form first (array n seconds)) else Err ClassPlace
+    if has_valid_classes form complement (class_offsets 0 0 firsts) (class_offsets n 0 seconds) then Ok
+    (plan_of form first (array n seconds)) else Err ClassPlace
 
 -- the plan of two strings, from the segments of the first and the text of the second
 abbrev pub second_plan : Form → Bool → List Segment → List ℕ → Result Plan SetFaultKind
 second_plan form complement firsts text =
-    and_then (string_segments (second_role form) text) (λ seconds. plan_with form complement firsts (first_array complement firsts) seconds)
+    and_then (string_segments (second_role form) text)
+    (λ seconds. plan_with form complement firsts (first_array complement firsts) seconds)
 
 -- the plan of one string or two, from the segments of the first
 abbrev pub plan_from : Form → Bool → List Segment → Option (List ℕ) → Result Plan SetFault
@@ -234,7 +241,8 @@ plan_from form complement firsts (Some text) = in_string string.Second (second_p
 
 -- the plan of a form, with or without a complement, of these strings; or the first fault
 abbrev pub plan : Form → Bool → List ℕ → Option (List ℕ) → Result Plan SetFault
-plan form complement s1 s2 = and_then (in_string string.First (string_segments First s1)) (λ firsts. plan_from form complement firsts s2)
+plan form complement s1 s2 =
+    and_then (in_string string.First (string_segments First s1)) (λ firsts. plan_from form complement firsts s2)
 
 -- reading a string never fails for lack of memory
 abbrev pub NoMemoryFault : Type 0

@@ -23,9 +23,15 @@ squeezes tables b = slice_index_or tables.squeezed b false
 
 -- the tables of a plan
 abbrev pub tables : Plan → Tables
-tables plan = record { deleted = map (is_deleted plan) all_bytes; images = map (image_of plan) all_bytes; squeezed = map (is_squeezed plan) all_bytes }
+tables plan =
+    record {
+      deleted = map (is_deleted plan) all_bytes;
+      images = map (image_of plan) all_bytes;
+      squeezed = map (is_squeezed plan) all_bytes;
+    }
 
 -- for every byte the tables of a plan agree with the plan
 abbrev pub TablesMatchPlan : Type 0
 TablesMatchPlan = (plan : Plan) (b : ℕ) → b < 2 ^ 8
-    → (deletes (tables plan) b ≡ is_deleted plan b) × (image (tables plan) b ≡ image_of plan b) × (squeezes (tables plan) b ≡ is_squeezed plan b)
+    → (deletes (tables plan) b ≡ is_deleted plan b) × (image (tables plan) b ≡ image_of plan b)
+    × (squeezes (tables plan) b ≡ is_squeezed plan b)

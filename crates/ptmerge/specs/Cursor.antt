@@ -1,6 +1,7 @@
 -- The cursor of one input of a merge: its state, and the contract of its call `next`. An input has two slots, for its
 -- current and its previous line, which are swapped for each line that is read.
-use Rattle.std.specs.Prelude.{◌≡◌, ◌≢◌, ◌⊎◌, ℕ, ◌+◌, ◌<◌, ◌&&◌, nat_lt, if◌then◌else◌, Bool, false, List, [], length, Result, Ok, Err}
+use Rattle.std.specs.Prelude.{◌≡◌, ◌≢◌, ◌⊎◌, ℕ, ◌+◌, ◌<◌, ◌&&◌, nat_lt, if◌then◌else◌, Bool, false, List, [], length}
+use Rattle.std.specs.Prelude.{Result, Ok, Err}
 use Rattle.std.specs.Ordering.{is_eq, is_gt}
 use Rattle.ptlines.specs.Readers.{Reader, AdvanceOk, IsDone, IsSound}
 use Rattle.ptlines.specs.Slots.{Slots, line, with_line}

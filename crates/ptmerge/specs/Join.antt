@@ -1,5 +1,6 @@
 -- The output of `join`, as an instance of a merge of two inputs by join fields.
-use Rattle.std.specs.Prelude.{ℕ, ◌-◌, ◌+◌, ◌*◌, ◌==◌, List, [], ◌∷◌, ◌++◌, length, map, filter, max, Option, Some, None, Bool, true, false, if◌then◌else◌, slice_index_or, remove}
+use Rattle.std.specs.Prelude.{ℕ, ◌-◌, ◌+◌, ◌*◌, ◌==◌, List, [], ◌∷◌, ◌++◌, length, map, filter, max, Option, Some, None}
+use Rattle.std.specs.Prelude.{Bool, true, false, if◌then◌else◌, slice_index_or, remove}
 use Rattle.std.specs.List.{flat_map, slice_split, join_with_byte}
 use Rattle.std.specs.Str.{byte}
 use Rattle.ptlines.specs.Slots.{total_bytes}

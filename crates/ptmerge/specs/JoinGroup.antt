@@ -1,7 +1,8 @@
 -- The group of `join`: the second input's lines of one key. Several are copied to the slots 4 and up; a single one
 -- stays in the slot into which it was read. The slot `end` is the one after the copied lines, and is 4 if there are
 -- none.
-use Rattle.std.specs.Prelude.{◌≡◌, ◌⊎◌, ℕ, ◌==◌, if◌then◌else◌, ◌+◌, ◌-◌, ◌≤◌, ◌<◌, true, false, Bool, List, length, take, drop, max, Result, Ok, Err}
+use Rattle.std.specs.Prelude.{◌≡◌, ◌⊎◌, ℕ, ◌==◌, if◌then◌else◌, ◌+◌, ◌-◌, ◌≤◌, ◌<◌, true, false, Bool, List, length}
+use Rattle.std.specs.Prelude.{take, drop, max, Result, Ok, Err}
 use Rattle.ptlangs.specs.Jobs.{Join}
 use Rattle.ptlines.specs.Outputs.{Output}
 use Rattle.ptlines.specs.Readers.{Reader}

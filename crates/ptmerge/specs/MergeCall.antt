@@ -1,5 +1,6 @@
 -- The precondition and the postcondition of a tool that merges two inputs, such as `comm` and `join`.
-use Rattle.std.specs.Prelude.{◌≡◌, ◌≢◌, ◌⊎◌, ◌≤◌, ◌<◌, ◌++◌, ◌^◌, ℕ, true, false, List, Option, None, Some, Result, Ok, Err, length, max}
+use Rattle.std.specs.Prelude.{◌≡◌, ◌≢◌, ◌⊎◌, ◌≤◌, ◌<◌, ◌++◌, ◌^◌, ℕ, true, false, List, Option, None, Some, Result, Ok}
+use Rattle.std.specs.Prelude.{Err, length, max}
 use Rattle.ptlines.specs.Received.{Received, IsPrefix, IsConsistent, HasReceived}
 use Rattle.ptlines.specs.Lag.{LaggedInput, BoundedLag}
 use Rattle.ptlines.specs.Outputs.{Output, PushEffect}
@@ -11,7 +12,8 @@ use Rattle.ptmerge.specs.declared.faults.MergeFault.TheVariants.{Read, Write, Me
 use Rattle.ptmerge.specs.declared.faults.MergeFault.TheVariants as faults
 use Rattle.ptmerge.specs.declared.key_order.Side.{Side}
 use Rattle.ptmerge.specs.declared.key_order.Side.TheVariants.{First, Second}
-use Rattle.ptmerge.specs.MergeSpec.{MergeTool, MergeDisorder, merge_output, decided_output, disorder, lines_of, disorder_is_decided}
+use Rattle.ptmerge.specs.MergeSpec.{MergeTool, MergeDisorder, merge_output, decided_output, disorder, lines_of}
+use Rattle.ptmerge.specs.MergeSpec.{disorder_is_decided}
 use Rattle.ptmerge.specs.Sides.{both, other, with_side}
 
 -- The readers, the output and the store of a call.

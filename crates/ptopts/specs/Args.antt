@@ -1,7 +1,8 @@
 -- The options and operands that the words of a command line give, by the utility syntax guidelines (POSIX.1-2017, XBD
 -- 12.2): as a grammar, and as a parse from left to right. Also the lookup of options.
-use Rattle.std.specs.Prelude.{ℕ, ◌==◌, ◌&&◌, List, [], ◌∷◌, ◌++◌, Bool, true, false, not, Option, Some, None, if◌then◌else◌, map, filter_map, drop, codes}
-use Rattle.std.specs.Prelude.{bytes_eq, IsTrue, slice_get, find, option_map, option_and_then}
+use Rattle.std.specs.Prelude.{ℕ, ◌==◌, ◌&&◌, List, [], ◌∷◌, ◌++◌, Bool, true, false, not, Option, Some, None}
+use Rattle.std.specs.Prelude.{if◌then◌else◌, map, filter_map, drop, codes, bytes_eq, IsTrue, slice_get, find}
+use Rattle.std.specs.Prelude.{option_map, option_and_then}
 use Rattle.std.specs.List.{list_all, list_any}
 use Rattle.std.specs.Option.{option_map_or}
 use Rattle.std.specs.Str.{byte}
@@ -65,12 +66,16 @@ pub data Spells (tool : Tool) : List (List ℕ) → List ParsedOption → List (
   Flags : (f : ℕ) (fs : List ℕ) (words : List (List ℕ)) (options : List ParsedOption) (operands : List (List ℕ))
       → AreFlags tool (f ∷ fs) → Spells tool words options operands
       → Spells tool ((byte "-" ∷ f ∷ fs) ∷ words) (map flag (f ∷ fs) ++ options) operands
-  ValueAttached : (fs : List ℕ) (letter b : ℕ) (bs : List ℕ) (words : List (List ℕ)) (options : List ParsedOption) (operands : List (List ℕ))
+  ValueAttached : (fs : List ℕ) (letter b : ℕ) (bs : List ℕ) (words : List (List ℕ)) (options : List ParsedOption)
+      (operands : List (List ℕ))
       → AreFlags tool fs → IsTrue (takes_value tool letter) → Spells tool words options operands
-      → Spells tool ((byte "-" ∷ fs ++ letter ∷ b ∷ bs) ∷ words) (map flag fs ++ with_value letter (b ∷ bs) ∷ options) operands
-  ValueNext : (fs : List ℕ) (letter : ℕ) (value : List ℕ) (words : List (List ℕ)) (options : List ParsedOption) (operands : List (List ℕ))
+      → Spells tool ((byte "-" ∷ fs ++ letter ∷ b ∷ bs) ∷ words) (map flag fs ++ with_value letter (b ∷ bs) ∷ options)
+      operands
+  ValueNext : (fs : List ℕ) (letter : ℕ) (value : List ℕ) (words : List (List ℕ)) (options : List ParsedOption)
+      (operands : List (List ℕ))
       → AreFlags tool fs → IsTrue (takes_value tool letter) → Spells tool words options operands
-      → Spells tool ((byte "-" ∷ fs ++ letter ∷ []) ∷ value ∷ words) (map flag fs ++ with_value letter value ∷ options) operands
+      → Spells tool ((byte "-" ∷ fs ++ letter ∷ []) ∷ value ∷ words) (map flag fs ++ with_value letter value ∷ options)
+      operands
 
 -- ---- the parse from left to right, which also has faulty tokens
 
@@ -121,7 +126,8 @@ parsed_args_from tool true (word ∷ words) = parsed_args_from tool false words
 parsed_args_from tool false (word ∷ words) =
     if is_end_of_options word then record { tokens = []; operands = words }
     else (if not (is_option_arg word) then record { tokens = []; operands = word ∷ words }
-    else prepend_tokens (tokens_of tool word (slice_get words 0)) (parsed_args_from tool (takes_next tool (drop 1 word)) words))
+    else prepend_tokens (tokens_of tool word (slice_get words 0))
+    (parsed_args_from tool (takes_next tool (drop 1 word)) words))
 
 -- the parse of the words
 abbrev pub parsed_args : Tool → List (List ℕ) → ParsedArgs

@@ -1,6 +1,7 @@
 -- The command that the words of a command line specify, or the first fault.
-use Rattle.std.specs.Prelude.{ℕ, ◌||◌, ◌+◌, List, [], ◌∷◌, Bool, false, not, Option, Some, None, Result, Ok, Err, if◌then◌else◌, option_and_then, slice_get}
-use Rattle.std.specs.Prelude.{unwrap_or, option_map, codes, bytes_eq, filter, take}
+use Rattle.std.specs.Prelude.{ℕ, ◌||◌, ◌+◌, List, [], ◌∷◌, Bool, false, not, Option, Some, None, Result, Ok, Err}
+use Rattle.std.specs.Prelude.{if◌then◌else◌, option_and_then, slice_get, unwrap_or, option_map, codes, bytes_eq, filter}
+use Rattle.std.specs.Prelude.{take}
 use Rattle.std.specs.List.{list_any}
 use Rattle.std.specs.Result.{result_unwrap_or}
 use Rattle.std.specs.Str.{byte}
@@ -18,8 +19,11 @@ use Rattle.ptopts.specs.declared.tool.Tool.{Tool}
 use Rattle.ptopts.specs.declared.tool.Tool.TheVariants.{Cut, Paste, Uniq, Comm, Join, Tr}
 use Rattle.ptopts.specs.declared.inputs.Input.{Input}
 use Rattle.ptopts.specs.declared.inputs.Input.TheVariants.{Standard, File}
-use Rattle.ptopts.specs.Args.{ParsedOption, tool_of_name, ParsedArgs, parsed_args, options, has_option, value_of, values_of}
-use Rattle.ptopts.specs.Faults.{Fault, NoTool, first_some, terminator_of_options, cut_list_value, parse_fault, constraints_fault, values_fault, operands_fault, strings_fault, plan_of_operands, is_standard}
+use Rattle.ptopts.specs.Args.{ParsedOption, tool_of_name, ParsedArgs, parsed_args, options, has_option, value_of}
+use Rattle.ptopts.specs.Args.{values_of}
+use Rattle.ptopts.specs.Faults.{Fault, NoTool, first_some, terminator_of_options, cut_list_value, parse_fault}
+use Rattle.ptopts.specs.Faults.{constraints_fault, values_fault, operands_fault, strings_fault, plan_of_operands}
+use Rattle.ptopts.specs.Faults.{is_standard}
 
 -- the options of a tool
 pub data Job : Type 0 where

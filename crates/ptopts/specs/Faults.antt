@@ -1,6 +1,7 @@
 -- The faults of a command line, and which of several faults is the first.
-use Rattle.std.specs.Prelude.{ℕ, ◌==◌, ◌&&◌, ◌||◌, List, [], ◌∷◌, ◌++◌, Bool, true, false, not, Option, Some, None, Result, if◌then◌else◌, map, find, length}
-use Rattle.std.specs.Prelude.{nat_le, codes, bytes_eq, is_some, is_ok, option_map, option_and_then, slice_get, slice_index_or}
+use Rattle.std.specs.Prelude.{ℕ, ◌==◌, ◌&&◌, ◌||◌, List, [], ◌∷◌, ◌++◌, Bool, true, false, not, Option, Some, None}
+use Rattle.std.specs.Prelude.{Result, if◌then◌else◌, map, find, length, nat_le, codes, bytes_eq, is_some, is_ok}
+use Rattle.std.specs.Prelude.{option_map, option_and_then, slice_get, slice_index_or}
 use Rattle.std.specs.List.{list_all}
 use Rattle.std.specs.Option.{option_or, option_map_or}
 use Rattle.std.specs.Result.{result_err}
@@ -19,7 +20,8 @@ use Rattle.ptopts.specs.declared.tool.Tool.TheVariants.{Cut, Paste, Uniq, Join, 
 use Rattle.ptopts.specs.declared.tool.Constraint.{Constraint}
 use Rattle.ptopts.specs.declared.tool.Constraint.TheVariants.{Conflict, Required}
 use Rattle.ptopts.specs.Syntax.{syntax}
-use Rattle.ptopts.specs.Args.{ParsedOption, Token, Valid, MissingValue, UnknownLetter, has_option, has_letter, value_of, values_of}
+use Rattle.ptopts.specs.Args.{ParsedOption, Token, Valid, MissingValue, UnknownLetter, has_option, has_letter, value_of}
+use Rattle.ptopts.specs.Args.{values_of}
 
 -- a fault; the letters are those of the options at fault
 pub data Fault : Type 0 where
@@ -48,8 +50,10 @@ is_repeated tool before letter = has_option letter before && not (has_letter let
 
 -- the fault of a token, after these options
 abbrev pub token_fault : Tool → List ParsedOption → Token → Option Fault
-token_fault tool before (Valid o) = if is_some o.value && is_repeated tool before o.letter then Some (Twice o.letter) else None
-token_fault tool before (MissingValue letter) = if is_repeated tool before letter then Some (Twice letter) else Some (NeedsValue letter)
+token_fault tool before (Valid o) =
+    if is_some o.value && is_repeated tool before o.letter then Some (Twice o.letter) else None
+token_fault tool before (MissingValue letter) =
+    if is_repeated tool before letter then Some (Twice letter) else Some (NeedsValue letter)
 token_fault tool before (UnknownLetter word) = Some (Unknown word)
 
 -- the options after one more token
@@ -61,7 +65,8 @@ with_token before (UnknownLetter word) = before
 -- the leftmost fault of the tokens, after these options
 abbrev pub parse_fault : Tool → List ParsedOption → List Token → Option Fault
 parse_fault tool before [] = None
-parse_fault tool before (token ∷ tokens) = option_or (token_fault tool before token) (parse_fault tool (with_token before token) tokens)
+parse_fault tool before (token ∷ tokens) =
+    option_or (token_fault tool before token) (parse_fault tool (with_token before token) tokens)
 
 -- ---- constraints
 
@@ -71,8 +76,10 @@ first_value letters options = first_some (map (λ letter. value_of letter option
 
 -- two options are present that conflict, or none of those of which one is required
 abbrev pub constraint_fault : List ParsedOption → Constraint → Option Fault
-constraint_fault options (Conflict a b) = if has_option a options && has_option b options then Some (Together a b) else None
-constraint_fault options (Required a b c) = if is_some (first_value (a ∷ b ∷ c ∷ []) options) then None else Some NeedsList
+constraint_fault options (Conflict a b) =
+    if has_option a options && has_option b options then Some (Together a b) else None
+constraint_fault options (Required a b c) =
+    if is_some (first_value (a ∷ b ∷ c ∷ []) options) then None else Some NeedsList
 
 -- the fault of the first constraint that the options do not meet
 abbrev pub constraints_fault : Tool → List ParsedOption → Option Fault
@@ -86,11 +93,13 @@ cut_list_value options = first_value (codes "bcf") options
 
 -- the value of an option fails the test
 abbrev pub value_fault : List ParsedOption → ℕ × (List ℕ → Bool) → Option Fault
-value_fault options (letter, is_good) = option_and_then (λ value. if is_good value then None else Some (Value letter value)) (value_of letter options)
+value_fault options (letter, is_good) =
+    option_and_then (λ value. if is_good value then None else Some (Value letter value)) (value_of letter options)
 
 -- the first value of a repeatable option that fails the test
 abbrev pub each_value_fault : List ParsedOption → ℕ × (List ℕ → Bool) → Option Fault
-each_value_fault options (letter, is_good) = option_map (Value letter) (find (λ value. not (is_good value)) (values_of letter options))
+each_value_fault options (letter, is_good) =
+    option_map (Value letter) (find (λ value. not (is_good value)) (values_of letter options))
 
 -- the text is a list of `cut`
 abbrev pub is_cut_list : List ℕ → Bool
@@ -155,7 +164,8 @@ fits_form _ options n = true
 
 -- the tool accepts this number of operands
 abbrev pub has_valid_count : Tool → List ParsedOption → ℕ → Bool
-has_valid_count tool options n = is_within (syntax tool).min_operands (syntax tool).max_operands n && fits_form tool options n
+has_valid_count tool options n =
+    is_within (syntax tool).min_operands (syntax tool).max_operands n && fits_form tool options n
 
 -- the operand means standard input
 abbrev pub is_standard : List ℕ → Bool
@@ -178,7 +188,8 @@ form true true n = DeleteSqueeze
 
 -- the form of `tr`, from its options and operands
 abbrev pub form_of_options : List ParsedOption → List (List ℕ) → Form
-form_of_options options operands = form (has_option (byte "d") options) (has_option (byte "s") options) (length operands)
+form_of_options options operands =
+    form (has_option (byte "d") options) (has_option (byte "s") options) (length operands)
 
 -- the first string is complemented (`-c`, `-C`)
 abbrev pub is_complemented : List ParsedOption → Bool
@@ -186,7 +197,9 @@ is_complemented options = has_option (byte "c") options || has_option (byte "C")
 
 -- the plan of `tr`, or the first fault of its strings
 abbrev pub plan_of_operands : List ParsedOption → List (List ℕ) → Result Plan SetFault
-plan_of_operands options operands = plan (form_of_options options operands) (is_complemented options) (slice_index_or operands 0 []) (slice_get operands 1)
+plan_of_operands options operands =
+    plan (form_of_options options operands) (is_complemented options) (slice_index_or operands 0 [])
+    (slice_get operands 1)
 
 -- the first fault of the strings
 abbrev pub strings_fault : Tool → List ParsedOption → List (List ℕ) → Option Fault

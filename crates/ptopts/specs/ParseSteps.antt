@@ -1,11 +1,13 @@
 -- Postconditions of the private functions that parse and check words.
-use Rattle.std.specs.Prelude.{◌≡◌, ℕ, List, [], ◌∷◌, ◌++◌, Bool, true, false, Option, None, Result, Ok, Err, IsSome, OnSome, option_map, map, filter_map, drop, slice_index, ◌+◌}
+use Rattle.std.specs.Prelude.{◌≡◌, ℕ, List, [], ◌∷◌, ◌++◌, Bool, true, false, Option, None, Result, Ok, Err, IsSome}
+use Rattle.std.specs.Prelude.{OnSome, option_map, map, filter_map, drop, slice_index, ◌+◌}
 use Rattle.std.specs.Borrow.{Bor}
 use Rattle.ptopts.specs.declared.tool.Tool.{Tool}
 use Rattle.ptopts.specs.declared.fault.UseFault.{UseFault}
 use Rattle.ptopts.specs.declared.inputs.Inputs.{Inputs}
 use Rattle.ptopts.specs.declared.parsing.ParsedOption as given
-use Rattle.ptopts.specs.Args.{ParsedOption, Token, option_of_token, tokens_of, value_token, takes_next, parsed_args, options}
+use Rattle.ptopts.specs.Args.{ParsedOption, Token, option_of_token, tokens_of, value_token, takes_next, parsed_args}
+use Rattle.ptopts.specs.Args.{options}
 use Rattle.ptopts.specs.Faults.{Fault, parse_fault}
 use Rattle.ptopts.specs.Commands.{Job, command_over}
 use Rattle.ptopts.specs.View.{fault_view, with_inputs}
@@ -47,7 +49,8 @@ options_of_tokens tokens = filter_map option_of_token tokens
 
 -- A word of options was read: its options are appended to those before it. `taken` says whether the next word is the
 -- value of the last option. A fault of later tokens is the same after the options as after the word.
-pub record GroupPost (tool : Tool) (word : List ℕ) (next : Option (List ℕ)) (before after : List ParsedOption) (taken : Bool) : Type 0 where
+pub record GroupPost (tool : Tool) (word : List ℕ) (next : Option (List ℕ)) (before after : List ParsedOption)
+    (taken : Bool) : Type 0 where
   pub options : after ≡ before ++ options_of_tokens (tokens_of tool word next)
   pub takes : taken ≡ takes_next tool (drop 1 word)
   pub faultless : (tokens : List Token)
@@ -56,10 +59,12 @@ pub record GroupPost (tool : Tool) (word : List ℕ) (next : Option (List ℕ)) 
 -- reading a word of options failed with its first fault, or with an allocation failure
 abbrev pub GroupFaultPost : Tool → List ℕ → Option (List ℕ) → List ParsedOption → UseFault → Type 0
 GroupFaultPost tool word next before e =
-    OnSome (fault_view e) ((tokens : List Token) → parse_fault tool before (tokens_of tool word next ++ tokens) ≡ fault_view e)
+    OnSome (fault_view e) ((tokens : List Token)
+    → parse_fault tool before (tokens_of tool word next ++ tokens) ≡ fault_view e)
 
 -- the words were parsed without a fault, into these options and operands
-pub record ArgsPost (tool : Tool) (words : List (List ℕ)) (os : List ParsedOption) (operands : List (List ℕ)) : Type 0 where
+pub record ArgsPost (tool : Tool) (words : List (List ℕ)) (os : List ParsedOption)
+    (operands : List (List ℕ)) : Type 0 where
   pub options : os ≡ options (parsed_args tool words)
   pub rest : operands ≡ (parsed_args tool words).operands
   pub faultless : parse_fault tool [] (parsed_args tool words).tokens ≡ None

@@ -31,7 +31,8 @@ conflict letters = Conflict (slice_index (codes letters) 0) (slice_index (codes 
 
 -- three options, one of which is required
 abbrev pub one_required : String → Constraint
-one_required letters = Required (slice_index (codes letters) 0) (slice_index (codes letters) 1) (slice_index (codes letters) 2)
+one_required letters = Required (slice_index (codes letters) 0) (slice_index (codes letters) 1)
+    (slice_index (codes letters) 2)
 
 -- the syntax of a tool, from its options as text
 abbrev pub tool_syntax : String → String → String → List Constraint → ℕ → ℕ → Bool → Syntax
@@ -47,7 +48,8 @@ tool_syntax flags value_letters repeatable constraints min_operands max_operands
 
 -- the tools by name
 abbrev pub tools : List (List ℕ × Tool)
-tools = (codes "cut", Cut) ∷ (codes "paste", Paste) ∷ (codes "join", Join) ∷ (codes "comm", Comm) ∷ (codes "uniq", Uniq) ∷ (codes "tr", Tr) ∷ []
+tools = (codes "cut", Cut) ∷ (codes "paste", Paste) ∷ (codes "join", Join) ∷ (codes "comm", Comm) ∷ (codes "uniq", Uniq)
+    ∷ (codes "tr", Tr) ∷ []
 
 -- the constraints of a tool
 abbrev pub constraints : Tool → List Constraint

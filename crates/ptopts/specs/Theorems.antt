@@ -2,7 +2,8 @@
 use Rattle.std.specs.Prelude.{◌≡◌, ◌↔◌, ℕ, List, [], ◌∷◌, ◌++◌, map, false, Some, None, Ok, IsTrue, is_some}
 use Rattle.ptopts.specs.declared.tool.Tool.{Tool}
 use Rattle.ptopts.specs.Args.{ParsedOption, Valid, Spells, tool_of_name, parsed_args, options}
-use Rattle.ptopts.specs.Faults.{is_repeated, parse_fault, constraints_fault, values_fault, operands_fault, strings_fault}
+use Rattle.ptopts.specs.Faults.{is_repeated, parse_fault, constraints_fault, values_fault, operands_fault}
+use Rattle.ptopts.specs.Faults.{strings_fault}
 use Rattle.ptopts.specs.Commands.{Command, command, command_of_args}
 
 -- the grammar gives options and operands to words if and only if the parse gives the same and no faulty token
@@ -12,7 +13,8 @@ ParseMatchesGrammar = (tool : Tool) (words : List (List ℕ)) (os : List ParsedO
 
 -- the grammar gives at most one list of options and one list of operands to words
 abbrev pub GrammarIsUnambiguous : Type 0
-GrammarIsUnambiguous = (tool : Tool) (words : List (List ℕ)) (os os' : List ParsedOption) (operands operands' : List (List ℕ))
+GrammarIsUnambiguous = (tool : Tool) (words : List (List ℕ)) (os os' : List ParsedOption)
+    (operands operands' : List (List ℕ))
     → Spells tool words os operands → Spells tool words os' operands' → (os ≡ os') × (operands ≡ operands')
 
 -- if the parse has no fault, the grammar gives the same options and operands

@@ -6,7 +6,8 @@ use Rattle.ptlangs.specs.Jobs as jobs
 use Rattle.ptopts.specs.declared.command.Command as code
 use Rattle.ptopts.specs.declared.command.Command.TheVariants.{Cut, Paste, Uniq, Comm, Join, Tr}
 use Rattle.ptopts.specs.declared.fault.UseFault.{UseFault}
-use Rattle.ptopts.specs.declared.fault.UseFault.TheVariants.{Tool, Unknown, NeedsValue, Twice, Together, Value, Operands, StandardTwice, NeedsList, String, Memory}
+use Rattle.ptopts.specs.declared.fault.UseFault.TheVariants.{Tool, Unknown, NeedsValue, Twice, Together, Value}
+use Rattle.ptopts.specs.declared.fault.UseFault.TheVariants.{Operands, StandardTwice, NeedsList, String, Memory}
 use Rattle.ptopts.specs.declared.inputs.Inputs.{Inputs}
 use Rattle.ptopts.specs.Args.{tool_of_name}
 use Rattle.ptopts.specs.Faults as faults

@@ -1,23 +1,32 @@
 -- Texts written to a sink one after another: together they are one text, of which a failure leaves a prefix.
-use Rattle.ptrun.proofs.Common.{◌≡◌, ℕ, ◌+◌, ◌<◌, ◌≤◌, Bool, true, false, List, [], ◌∷◌, ◌++◌, Option, length, take, drop, refl, sym, ◌∙◌, ap, arith, append_assoc, length-append, take-append-drop}
-use Rattle.ptrun.proofs.Common.{flat_map, Bor, get_or, take_more, take_all, get_or-map, length-map, append-nil, flat_map-append, false≢true, append_known, SinkState, WriteOutErr, WriteOutOk, unflushed_after}
-use Rattle.ptrun.proofs.Common.{append_known-append, append_known-nil, unflushed_after-append, SayPost, HasSaid, texts, line_of}
+use Rattle.ptrun.proofs.Common.{◌≡◌, ℕ, ◌+◌, ◌<◌, ◌≤◌, Bool, true, false, List, [], ◌∷◌, ◌++◌, Option, length, take}
+use Rattle.ptrun.proofs.Common.{drop, refl, sym, ◌∙◌, ap, arith, append_assoc, length-append, take-append-drop}
+use Rattle.ptrun.proofs.Common.{flat_map, Bor, get_or, take_more, take_all, get_or-map, length-map, append-nil}
+use Rattle.ptrun.proofs.Common.{flat_map-append, false≢true, append_known, SinkState, WriteOutErr, WriteOutOk}
+use Rattle.ptrun.proofs.Common.{unflushed_after, append_known-append, append_known-nil, unflushed_after-append, SayPost}
+use Rattle.ptrun.proofs.Common.{HasSaid, texts, line_of}
 
 -- the pieces before this one and a prefix of it are a prefix of the text
-pub say_post_part : {old mid new : SinkState} {text piece : List ℕ} (done more : List ℕ) → text ≡ (done ++ piece) ++ more → WriteOutOk old mid done → WriteOutErr mid new piece → SayPost old new text false
+pub say_post_part : {old mid new : SinkState} {text piece : List ℕ} (done more : List ℕ)
+    → text ≡ (done ++ piece) ++ more → WriteOutOk old mid done → WriteOutErr mid new piece → SayPost old new text false
 say_post_part {old} {piece = piece} done more split took p = record {
   front = done ++ p.front;
   rest = p.rest ++ more;
-  split = split ∙ ap (λ (l : List ℕ). (done ++ l) ++ more) p.split ∙ ap (λ (l : List ℕ). l ++ more) (sym (append_assoc done p.front p.rest)) ∙ append_assoc (done ++ p.front) p.rest more;
-  accepted = p.accepted ∙ ap (λ (s : SinkState). append_known s.accepted p.front) took ∙ append_known-append old.accepted done p.front;
-  unflushed = p.unflushed ∙ ap (λ (s : SinkState). unflushed_after s.unflushed p.front) took ∙ unflushed_after-append old.unflushed done p.front;
+  split = split ∙ ap (λ (l : List ℕ). (done ++ l) ++ more) p.split
+      ∙ ap (λ (l : List ℕ). l ++ more) (sym (append_assoc done p.front p.rest))
+      ∙ append_assoc (done ++ p.front) p.rest more;
+  accepted = p.accepted ∙ ap (λ (s : SinkState). append_known s.accepted p.front) took
+      ∙ append_known-append old.accepted done p.front;
+  unflushed = p.unflushed ∙ ap (λ (s : SinkState). unflushed_after s.unflushed p.front) took
+      ∙ unflushed_after-append old.unflushed done p.front;
   flushes = p.flushes ∙ ap (λ (s : SinkState). s.flushes) took;
   whole = λ all. absurd (false≢true all);
   broken = λ _. (omega (arith, p.some, length-append p.rest more), p.failed);
 }
 
 -- all of it was taken
-pub say_post_all : {old new : SinkState} {text : List ℕ} → old.failed ≡ false → WriteOutOk old new text → SayPost old new text true
+pub say_post_all : {old new : SinkState} {text : List ℕ} → old.failed ≡ false → WriteOutOk old new text
+    → SayPost old new text true
 say_post_all {text = text} clean took = record {
   front = text;
   rest = [];
@@ -30,7 +39,17 @@ say_post_all {text = text} clean took = record {
 }
 
 pub said_nothing : (s : SinkState) → HasSaid s s []
-said_nothing s = record { front = []; rest = []; split = refl; accepted = sym (append_known-nil s.accepted); unflushed = refl; flushes = refl; whole = λ _. refl; stays = λ _. refl }
+said_nothing s =
+    record {
+      front = [];
+      rest = [];
+      split = refl;
+      accepted = sym (append_known-nil s.accepted);
+      unflushed = refl;
+      flushes = refl;
+      whole = λ _. refl;
+      stays = λ _. refl;
+    }
 
 pub said_trans : {a b c : SinkState} {xs ys : List ℕ} → HasSaid a b xs → HasSaid b c ys → HasSaid a c (xs ++ ys)
 said_trans {a} {b} {c} {xs} {ys} p q = by_failed b.failed refl
@@ -52,8 +71,10 @@ said_trans {a} {b} {c} {xs} {ys} p q = by_failed b.failed refl
           front = p.front ++ q.front;
           rest = q.rest;
           split = ap (λ (l : List ℕ). p.front ++ l) q.split ∙ sym (append_assoc p.front q.front q.rest);
-          accepted = q.accepted ∙ ap (λ (t : Option (List ℕ)). append_known t q.front) p.accepted ∙ append_known-append a.accepted p.front q.front;
-          unflushed = q.unflushed ∙ ap (λ (b : Bool). unflushed_after b q.front) p.unflushed ∙ unflushed_after-append a.unflushed p.front q.front;
+          accepted = q.accepted ∙ ap (λ (t : Option (List ℕ)). append_known t q.front) p.accepted
+              ∙ append_known-append a.accepted p.front q.front;
+          unflushed = q.unflushed ∙ ap (λ (b : Bool). unflushed_after b q.front) p.unflushed
+              ∙ unflushed_after-append a.unflushed p.front q.front;
           flushes = q.flushes ∙ p.flushes;
           whole = q.whole;
           stays = λ failed. absurd (false≢true (sym is ∙ ap (λ (s : SinkState). s.failed) (p.stays failed) ∙ failed));
@@ -66,23 +87,41 @@ joined parts n = flat_map (λ p. p) (take n (texts parts))
 abbrev pub part_at : List (Bor (List ℕ)) → ℕ → List ℕ
 part_at parts i = (get_or parts i (record { ref_ptr = (0, 0); now = [] })).now
 
-pub joined_more : (parts : List (Bor (List ℕ))) (i : ℕ) → i < length parts → joined parts (i + 1) ≡ joined parts i ++ part_at parts i
+pub joined_more : (parts : List (Bor (List ℕ))) (i : ℕ) → i < length parts
+    → joined parts (i + 1) ≡ joined parts i ++ part_at parts i
 joined_more parts i within =
     let inside : i < length (texts parts) = omega (arith, length-map parts (λ (p : Bor (List ℕ)). p.now)) in
-    ap (λ (l : List (List ℕ)). flat_map (λ p. p) l) (take_more (texts parts) i [] inside) ∙ flat_map-append (λ (p : List ℕ). p) (take i (texts parts)) (get_or (texts parts) i [] ∷ [])
-    ∙ ap (λ (l : List ℕ). joined parts i ++ l) (append-nil (get_or (texts parts) i []) ∙ get_or-map (λ (p : Bor (List ℕ)). p.now) parts i (record { ref_ptr = (0, 0); now = [] }) [] within)
+    ap (λ (l : List (List ℕ)). flat_map (λ p. p) l) (take_more (texts parts) i [] inside)
+    ∙ flat_map-append (λ (p : List ℕ). p) (take i (texts parts)) (get_or (texts parts) i [] ∷ [])
+    ∙ ap (λ (l : List ℕ). joined parts i ++ l)
+    (append-nil (get_or (texts parts) i [])
+    ∙ get_or-map (λ (p : Bor (List ℕ)). p.now) parts i (record { ref_ptr = (0, 0); now = [] }) [] within)
 
-pub joined_all : (parts : List (Bor (List ℕ))) (i : ℕ) → length parts ≤ i → joined parts i ≡ flat_map (λ p. p) (texts parts)
-joined_all parts i all = ap (λ (l : List (List ℕ)). flat_map (λ p. p) l) (take_all i (texts parts) (omega (arith, all, length-map parts (λ (p : Bor (List ℕ)). p.now))))
+pub joined_all : (parts : List (Bor (List ℕ))) (i : ℕ) → length parts ≤ i
+    → joined parts i ≡ flat_map (λ p. p) (texts parts)
+joined_all parts i all = ap (λ (l : List (List ℕ)). flat_map (λ p. p) l)
+    (take_all i (texts parts) (omega (arith, all, length-map parts (λ (p : Bor (List ℕ)). p.now))))
 
-pub line_split : (parts : List (Bor (List ℕ))) (i : ℕ) → i < length parts → (more : List ℕ) × (line_of (texts parts) ≡ (joined parts i ++ part_at parts i) ++ more)
+pub line_split : (parts : List (Bor (List ℕ))) (i : ℕ) → i < length parts
+    → (more : List ℕ) × (line_of (texts parts) ≡ (joined parts i ++ part_at parts i) ++ more)
 line_split parts i within =
     let later = flat_map (λ (p : List ℕ). p) (drop (i + 1) (texts parts)) in
-    let all : flat_map (λ p. p) (texts parts) ≡ joined parts (i + 1) ++ later = ap (λ (l : List (List ℕ)). flat_map (λ p. p) l)
-    (sym (take-append-drop (i + 1) (texts parts))) ∙ flat_map-append (λ (p : List ℕ). p) (take (i + 1) (texts parts)) (drop (i + 1) (texts parts)) in (
+    let all : flat_map (λ p. p) (texts parts) ≡ joined parts (i + 1) ++ later =
+    ap (λ (l : List (List ℕ)). flat_map (λ p. p) l)
+    (sym (take-append-drop (i + 1) (texts parts)))
+    ∙ flat_map-append (λ (p : List ℕ). p) (take (i + 1) (texts parts)) (drop (i + 1) (texts parts)) in (
       later ++ 10 ∷ [],
-      ap (λ (l : List ℕ). l ++ 10 ∷ []) all ∙ append_assoc (joined parts (i + 1)) later (10 ∷ []) ∙ ap (λ (l : List ℕ). l ++ (later ++ 10 ∷ [])) (joined_more parts i within),
+      ap (λ (l : List ℕ). l ++ 10 ∷ []) all ∙ append_assoc (joined parts (i + 1)) later (10 ∷ [])
+          ∙ ap (λ (l : List ℕ). l ++ (later ++ 10 ∷ [])) (joined_more parts i within),
     )
 
-pub took_trans : (a b c : SinkState) (xs ys : List ℕ) → WriteOutOk a b xs → WriteOutOk b c ys → WriteOutOk a c (xs ++ ys)
-took_trans a b c xs ys p q = rw (q, p) (λ i. record { accepted = append_known-append a.accepted xs ys i; failed = a.failed; unflushed = unflushed_after-append a.unflushed xs ys i; flushes = a.flushes })
+pub took_trans : (a b c : SinkState) (xs ys : List ℕ) → WriteOutOk a b xs → WriteOutOk b c ys
+    → WriteOutOk a c (xs ++ ys)
+took_trans a b c xs ys p q =
+    rw (q, p)
+    (λ i. record {
+      accepted = append_known-append a.accepted xs ys i;
+      failed = a.failed;
+      unflushed = unflushed_after-append a.unflushed xs ys i;
+      flushes = a.flushes;
+    })

@@ -1,11 +1,17 @@
 -- One input: what was received from it, the output that was decided two blocks earlier, and how much of that reached
 -- the sink. What is received in two calls is the concatenation of what each receives, and at most one block of the
 -- output is buffered.
-use Rattle.ptrun.proofs.Common.{append_cancel_left, cases_Bool, ⊎_elim, ◌≡◌, ℕ, ◌<◌, ◌^◌, Bool, true, false, cond, List, [], ◌∷◌, ◌++◌, Option, Some, None, length, map, refl, sym, ◌∙◌, ap, arith}
-use Rattle.ptrun.proofs.Common.{append_assoc, length-append, is_none, slice_get, prepend_known, append-nil, nil_from_length, false≢true, Reader, IsDone, prepend_known-append, Received, IsConsistent, HasReceived}
-use Rattle.ptrun.proofs.Common.{InputBytes, ReceivedInputs, at, is_unopened, IsConsistentAt, AreInputsConsistent, reader_at, no_reader, HasReceivedAt, HaveReceived, IsNew, IsNewOrUnopened, IsTooLong, Completion, AllWritten, Unopened, zero, suc, ◌+◌}
-use Rattle.ptrun.proofs.Common.{◌≤◌, set, take, drop, subst, length-drop, take-append-drop, append_known, get_or-set_other, take-append_seam, IsPrefix, empty_input, LaggedInput, BufferLag, BoundedLag, Output}
-use Rattle.ptrun.proofs.Common.{IsKnownPrefix, PushEffect, append_known-append, ToolSpec, decided_in_order, CommandSpec, IsPushedUpToBlock, IsWrittenUpToBlock, LagOfLast, LagOfAny, BoundedLagAs, HasBoundedLag}
+use Rattle.ptrun.proofs.Common.{append_cancel_left, cases_Bool, ⊎_elim, ◌≡◌, ℕ, ◌<◌, ◌^◌, Bool, true, false, cond, List}
+use Rattle.ptrun.proofs.Common.{[], ◌∷◌, ◌++◌, Option, Some, None, length, map, refl, sym, ◌∙◌, ap, arith, append_assoc}
+use Rattle.ptrun.proofs.Common.{length-append, is_none, slice_get, prepend_known, append-nil, nil_from_length}
+use Rattle.ptrun.proofs.Common.{false≢true, Reader, IsDone, prepend_known-append, Received, IsConsistent, HasReceived}
+use Rattle.ptrun.proofs.Common.{InputBytes, ReceivedInputs, at, is_unopened, IsConsistentAt, AreInputsConsistent}
+use Rattle.ptrun.proofs.Common.{reader_at, no_reader, HasReceivedAt, HaveReceived, IsNew, IsNewOrUnopened, IsTooLong}
+use Rattle.ptrun.proofs.Common.{Completion, AllWritten, Unopened, zero, suc, ◌+◌, ◌≤◌, set, take, drop, subst}
+use Rattle.ptrun.proofs.Common.{length-drop, take-append-drop, append_known, get_or-set_other, take-append_seam}
+use Rattle.ptrun.proofs.Common.{IsPrefix, empty_input, LaggedInput, BufferLag, BoundedLag, Output, IsKnownPrefix}
+use Rattle.ptrun.proofs.Common.{PushEffect, append_known-append, ToolSpec, decided_in_order, CommandSpec}
+use Rattle.ptrun.proofs.Common.{IsPushedUpToBlock, IsWrittenUpToBlock, LagOfLast, LagOfAny, BoundedLagAs, HasBoundedLag}
 use Rattle.std.proofs.Math.ListN.{get_or-map}
 use Rattle.ptlines.proofs.Refill.{remaining_of_empty}
 use Rattle.std.proofs.Common.{is_none}
@@ -37,18 +43,22 @@ receives_nothing r new = record {
   end = λ h. h;
 }
 
-pub receives_trans : (a b c : Reader) (g h : Received) → HasReceived a b g → HasReceived b c h → b.buffered ≡ [] → HasReceived a c (record { bytes = g.bytes ++ h.bytes; eof = h.eof })
+pub receives_trans : (a b c : Reader) (g h : Received) → HasReceived a b g → HasReceived b c h → b.buffered ≡ []
+    → HasReceived a c (record { bytes = g.bytes ++ h.bytes; eof = h.eof })
 receives_trans a b c g h p q empty = record {
-  moved = p.moved ∙ ap (λ (o : Option (List ℕ)). prepend_known g.bytes o) (sym (remaining_of_empty b empty) ∙ q.moved) ∙ prepend_known-append g.bytes h.bytes c.left;
+  moved = p.moved ∙ ap (λ (o : Option (List ℕ)). prepend_known g.bytes o) (sym (remaining_of_empty b empty) ∙ q.moved)
+      ∙ prepend_known-append g.bytes h.bytes c.left;
   count = omega (arith, p.count, q.count, ap length empty, length-append g.bytes h.bytes);
   eof = q.eof;
   refused = q.refused ∙ p.refused;
-  still = λ eof. let (same, at_eof) = p.still eof in let (still_same, still_eof) = q.still at_eof in (still_same ∙ same, still_eof);
+  still = λ eof. let (same, at_eof) = p.still eof in let (still_same, still_eof) = q.still at_eof in
+      (still_same ∙ same, still_eof);
   end = λ h. q.end (p.end h);
 }
 
 -- after the end nothing more is received
-pub ended_gives_nothing : (b c : Reader) (h : Received) → HasReceived b c h → b.buffered ≡ [] → b.eof ≡ true → (h.bytes ≡ []) × (h.eof ≡ true)
+pub ended_gives_nothing : (b c : Reader) (h : Received) → HasReceived b c h → b.buffered ≡ [] → b.eof ≡ true
+    → (h.bytes ≡ []) × (h.eof ≡ true)
 ended_gives_nothing b c h q empty eof =
     let (same, at_eof) = q.still eof in
     (nil_from_length h.bytes (omega (arith, q.count, same, ap length empty)), q.eof ∙ at_eof)
@@ -58,8 +68,10 @@ abbrev pub received_of : Reader → Option Received
 received_of r = cond r.refused None (Some none_received)
 
 pub receives_none : (r : Reader) → IsNewOrUnopened r → HasReceivedAt r r (received_of r)
-receives_none r fresh = ⊎_elim (λ is. subst (λ (b : Bool). HasReceivedAt r r (cond b None (Some none_received))) (sym is) (is, refl))
-    (λ is. subst (λ (b : Bool). HasReceivedAt r r (cond b None (Some none_received))) (sym is) (is, receives_nothing r (fresh is))) (cases_Bool r.refused)
+receives_none r fresh =
+    ⊎_elim (λ is. subst (λ (b : Bool). HasReceivedAt r r (cond b None (Some none_received))) (sym is) (is, refl))
+    (λ is. subst (λ (b : Bool). HasReceivedAt r r (cond b None (Some none_received))) (sym is)
+    (is, receives_nothing r (fresh is))) (cases_Bool r.refused)
 
 pub never_long : (r : Reader) → IsTooLong (received_of r) → ⊥
 never_long r long = ⊎_elim (λ is. rw is at long) (λ is. omega (arith, rw is at long)) (cases_Bool r.refused)
@@ -70,7 +82,8 @@ pub record OpenedInput (old now : Reader) (o : Option Received) : Type 0 where
   pub is : o ≡ Some given
   pub received : HasReceived old now given
 
-pub opened_receives : (old now : Reader) (o : Option Received) → old.refused ≡ false → HasReceivedAt old now o → OpenedInput old now o
+pub opened_receives : (old now : Reader) (o : Option Received) → old.refused ≡ false → HasReceivedAt old now o
+    → OpenedInput old now o
 opened_receives old now None opened (unopened, same) = absurd (false≢true (sym opened ∙ unopened))
 opened_receives old now (Some g) opened (_, received) = record { given = g; is = refl; received = received }
 
@@ -79,24 +92,29 @@ still_unopened old now None (unopened, same) = ap (λ (r : Reader). r.refused) s
 still_unopened old now (Some g) (opened, received) = received.refused
 
 -- fewer than 2^63 bytes were received
-pub not_long : (old now : Reader) (o : Option Received) → IsNewOrUnopened old → HasReceivedAt old now o → (old.refused ≡ false → now.pulled < 2 ^ 63) → IsTooLong o → ⊥
+pub not_long : (old now : Reader) (o : Option Received) → IsNewOrUnopened old → HasReceivedAt old now o
+    → (old.refused ≡ false → now.pulled < 2 ^ 63) → IsTooLong o → ⊥
 not_long old now None fresh k short long = long
 not_long old now (Some g) fresh (opened, received) short long =
     let new = fresh opened in omega (arith, received.count, short opened, ap length new.buffered, new.pulled, long)
 
-pub ended_at : (old now : Reader) (o : Option Received) → HasReceivedAt old now o → (old.refused ≡ false → IsAtEof now) → IsEndedAt o
+pub ended_at : (old now : Reader) (o : Option Received) → HasReceivedAt old now o → (old.refused ≡ false → IsAtEof now)
+    → IsEndedAt o
 ended_at old now None k at_eof = tt
 ended_at old now (Some g) (opened, received) at_eof = received.eof ∙ (at_eof opened).done.eof
 
 -- the same files could not be opened
-pub unopened_at : (old now : Reader) (o : Option Received) (v : Option (List ℕ)) → HasReceivedAt old now o → IsConsistentAt o v → old.refused ≡ is_none v
+pub unopened_at : (old now : Reader) (o : Option Received) (v : Option (List ℕ)) → HasReceivedAt old now o
+    → IsConsistentAt o v → old.refused ≡ is_none v
 unopened_at old now None None (unopened, same) a = unopened
 unopened_at old now None (Some b) k a = absurd a
 unopened_at old now (Some g) None k a = absurd a
 unopened_at old now (Some g) (Some b) (opened, received) a = opened
 
-pub unopened_agrees : (old now : List Reader) (r : ReceivedInputs) (w : InputBytes) → HaveReceived old now r → AreInputsConsistent r w → (q : ℕ) → (reader_at old q).refused ≡ is_unopened w q
-unopened_agrees old now r w reading agrees q = unopened_at (reader_at old q) (reader_at now q) (at r q) (at w q) (reading q) (agrees q)
+pub unopened_agrees : (old now : List Reader) (r : ReceivedInputs) (w : InputBytes) → HaveReceived old now r
+    → AreInputsConsistent r w → (q : ℕ) → (reader_at old q).refused ≡ is_unopened w q
+unopened_agrees old now r w reading agrees q =
+    unopened_at (reader_at old q) (reader_at now q) (at r q) (at w q) (reading q) (agrees q)
 
 pub unopened_received : (old now : Reader) (o : Option Received) → HasReceivedAt old now o → old.refused ≡ is_none o
 unopened_received old now None (unopened, same) = unopened
@@ -114,12 +132,15 @@ pub record ConsistentBytes (v : Option (List ℕ)) (g : Received) : Type 0 where
   pub are : v ≡ Some bytes
   pub agree : IsConsistent g bytes
 
-pub consistent_bytes : (o : Option Received) (v : Option (List ℕ)) (g : Received) → o ≡ Some g → IsConsistentAt o v → ConsistentBytes v g
+pub consistent_bytes : (o : Option Received) (v : Option (List ℕ)) (g : Received) → o ≡ Some g → IsConsistentAt o v
+    → ConsistentBytes v g
 consistent_bytes None v g is a = cc
 consistent_bytes (Some h) None g is a = absurd a
-consistent_bytes (Some h) (Some b) g is a = let same : h ≡ g = cc in record { bytes = b; are = refl; agree = rw same at a }
+consistent_bytes (Some h) (Some b) g is a = let same : h ≡ g = cc in
+    record { bytes = b; are = refl; agree = rw same at a }
 
-pub consistent_before : (g e : Received) (b : List ℕ) → (g.eof ≡ true → (e.bytes ≡ []) × (e.eof ≡ true)) → IsConsistent (record { bytes = g.bytes ++ e.bytes; eof = e.eof }) b → IsConsistent g b
+pub consistent_before : (g e : Received) (b : List ℕ) → (g.eof ≡ true → (e.bytes ≡ []) × (e.eof ≡ true))
+    → IsConsistent (record { bytes = g.bytes ++ e.bytes; eof = e.eof }) b → IsConsistent g b
 consistent_before g e b still a = record {
   rest = e.bytes ++ a.rest;
   is = a.is ∙ append_assoc g.bytes e.bytes a.rest;
@@ -136,7 +157,8 @@ pub received_at : (old : List Reader) (q : ℕ) → at (map received_of old) q �
 received_at old q = get_or-map received_of old q no_reader
 
 -- nothing was read
-pub nothing_read : (old : List Reader) → ((q : ℕ) → IsNewOrUnopened (reader_at old q)) → HaveReceived old old (map received_of old)
+pub nothing_read : (old : List Reader) → ((q : ℕ) → IsNewOrUnopened (reader_at old q))
+    → HaveReceived old old (map received_of old)
 nothing_read old fresh q = rw (received_at old q) (receives_none (reader_at old q) (fresh q))
 
 least_consistent_at : (o : Option Received) → IsConsistentAt o (bytes_at o)
@@ -158,25 +180,35 @@ same_before g = record { earlier = g; last = []; split = sym (append-nil g.bytes
 
 last_same : (xs ys : List Received) (x y : Received) → xs ++ x ∷ [] ≡ ys ++ y ∷ [] → (xs ≡ ys) × (x ≡ y)
 last_same xs ys x y is =
-    let count : length xs ≡ length ys = omega (arith, ap length is, length-append xs (x ∷ []), length-append ys (y ∷ [])) in
-    let same : xs ≡ ys = sym (take-append_seam xs (x ∷ [])) ∙ (λ i. take (count i) (is i)) ∙ take-append_seam ys (y ∷ []) in
+    let count : length xs ≡ length ys =
+    omega (arith, ap length is, length-append xs (x ∷ []), length-append ys (y ∷ [])) in
+    let same : xs ≡ ys = sym (take-append_seam xs (x ∷ [])) ∙ (λ i. take (count i) (is i))
+    ∙ take-append_seam ys (y ∷ []) in
     let last = append_cancel_left ys (x ∷ []) (y ∷ []) (ap (λ (l : List Received). l ++ x ∷ []) (sym same) ∙ is) in
     (same, cc)
 
 -- operands that are all done decide all their output
-pub all_earlier : (t : ToolSpec) (came : List Received) (P : List ℕ → Type 0) → P (decided_in_order t came) → LagOfLast t came P
-all_earlier t came P holds done last is = (same_before last, subst (λ (l : List Received). P (decided_in_order t l)) is holds)
+pub all_earlier : (t : ToolSpec) (came : List Received) (P : List ℕ → Type 0) → P (decided_in_order t came)
+    → LagOfLast t came P
+all_earlier t came P holds done last is =
+    (same_before last, subst (λ (l : List Received). P (decided_in_order t l)) is holds)
 
 -- less of the last operand was received earlier
-pub last_earlier : (t : ToolSpec) (came : List Received) (g : Received) (b : LaggedInput g) (P : List ℕ → Type 0) → P (decided_in_order t (came ++ b.earlier ∷ [])) → LagOfLast t (came ++ g ∷ []) P
-last_earlier t came g b P holds done last is = let (before, same) = last_same came done g last is in rw (sym before, sym same) (b, holds)
+pub last_earlier : (t : ToolSpec) (came : List Received) (g : Received) (b : LaggedInput g) (P : List ℕ → Type 0)
+    → P (decided_in_order t (came ++ b.earlier ∷ [])) → LagOfLast t (came ++ g ∷ []) P
+last_earlier t came g b P holds done last is = let (before, same) = last_same came done g last is in
+    rw (sym before, sym same) (b, holds)
 
 -- a pass over one input has a bounded lag; its decided output may be given by either of two equal functions
-pub passed_on : (f g : Received → List ℕ) {came : Received} {was is : Output} {pushed : List ℕ} → ((e : Received) → f e ≡ g e)
-    → BoundedLag {I = Unit {0}} (λ given. f (given tt)) (λ u. came) was is pushed → (cut : LaggedInput came) × IsPushedUpToBlock (g cut.earlier) was is pushed
+pub passed_on : (f g : Received → List ℕ) {came : Received} {was is : Output} {pushed : List ℕ}
+    → ((e : Received) → f e ≡ g e) → BoundedLag {I = Unit {0}} (λ given. f (given tt)) (λ u. came) was is pushed
+    → (cut : LaggedInput came) × IsPushedUpToBlock (g cut.earlier) was is pushed
 passed_on f g {came} {was} {is} {pushed} same up =
-    let cut = up.processing.before tt in
-    (cut, subst (λ (l : List ℕ). IsPushedUpToBlock l was is pushed) (same cut.earlier) (record { begins = up.processing.begins; buffering = up.buffering }))
+    let cut = up.processing.before tt in (
+      cut,
+      subst (λ (l : List ℕ). IsPushedUpToBlock l was is pushed) (same cut.earlier)
+          (record { begins = up.processing.begins; buffering = up.buffering }),
+    )
 
 -- ---- less was received from one input
 
@@ -186,13 +218,16 @@ at_set (o ∷ r) zero g e is = refl
 at_set (o ∷ r) (suc p) g e is = at_set r p g e is
 
 -- the same inputs were opened
-pub opened_set : (r : ReceivedInputs) (p : ℕ) (g e : Received) → at r p ≡ Some g → (q : ℕ) → is_unopened (set r p (Some e)) q ≡ is_unopened r q
+pub opened_set : (r : ReceivedInputs) (p : ℕ) (g e : Received) → at r p ≡ Some g → (q : ℕ)
+    → is_unopened (set r p (Some e)) q ≡ is_unopened r q
 opened_set r p g e is = by_position (λ q. is_unopened (set r p (Some e)) q ≡ is_unopened r q) p
     (ap (λ (o : Option Received). is_none o) (at_set r p g e is) ∙ sym (ap (λ (o : Option Received). is_none o) is))
-    (λ q differs. ap (λ (o : Option Received). is_none o) (get_or-set_other r p q (Some e) None (λ is_p. differs (sym is_p))))
+    (λ q differs. ap (λ (o : Option Received). is_none o)
+    (get_or-set_other r p q (Some e) None (λ is_p. differs (sym is_p))))
 
 -- if nothing is decided, then all that is decided was written
-pub nothing_decided : (positions : List ℕ) (decided : ReceivedInputs → List ℕ) (r : ReceivedInputs) (failed : Bool) → ((s : ReceivedInputs) → ((q : ℕ) → is_unopened s q ≡ is_unopened r q) → decided s ≡ [])
+pub nothing_decided : (positions : List ℕ) (decided : ReceivedInputs → List ℕ) (r : ReceivedInputs) (failed : Bool)
+    → ((s : ReceivedInputs) → ((q : ℕ) → is_unopened s q ≡ is_unopened r q) → decided s ≡ [])
     → LagOfAny positions decided r (λ bytes. IsWrittenUpToBlock bytes [] failed)
 nothing_decided positions decided r failed none position came named is = (
   same_before came,
@@ -207,20 +242,26 @@ nothing_decided positions decided r failed none position came named is = (
 )
 
 -- a consequence of what holds of the decided output
-pub earlier_map : (m : CommandSpec) (r : ReceivedInputs) (n : ℕ) (P Q : List ℕ → Type 0) → ((bytes : List ℕ) → P bytes → Q bytes) → HasBoundedLag m r n P → HasBoundedLag m r n Q
+pub earlier_map : (m : CommandSpec) (r : ReceivedInputs) (n : ℕ) (P Q : List ℕ → Type 0)
+    → ((bytes : List ℕ) → P bytes → Q bytes) → HasBoundedLag m r n P → HasBoundedLag m r n Q
 earlier_map m r n P Q follows = by_kind m.sequential
   where
     by_kind : (kind : Option ToolSpec) → BoundedLagAs m r n P kind → BoundedLagAs m r n Q kind
-    by_kind None k = λ position came named is. let (lagged, holds) = k position came named is in (lagged, follows (m.decided (set r position (Some lagged.earlier))) holds)
-    by_kind (Some t) k = λ done last is. let (lagged, holds) = k done last is in (lagged, follows (decided_in_order t (done ++ lagged.earlier ∷ [])) holds)
+    by_kind None k = λ position came named is. let (lagged, holds) = k position came named is in
+        (lagged, follows (m.decided (set r position (Some lagged.earlier))) holds)
+    by_kind (Some t) k = λ done last is. let (lagged, holds) = k done last is in
+        (lagged, follows (decided_in_order t (done ++ lagged.earlier ∷ [])) holds)
 
 -- bytes that were pushed before any write failed were sent on
-pub sends_now : (was mid : Output) (pushed bytes : List ℕ) → PushEffect was mid pushed → mid.write_failed ≡ false → IsPrefix bytes pushed → BufferLag was mid bytes
+pub sends_now : (was mid : Output) (pushed bytes : List ℕ) → PushEffect was mid pushed → mid.write_failed ≡ false
+    → IsPrefix bytes pushed → BufferLag was mid bytes
 sends_now was mid pushed bytes wrote clean begins =
-    (bounded_lag_now {I = Unit {0}} (λ given. bytes) (λ u. empty_input) was mid pushed (record { before = λ u. same_before empty_input; begins = begins }) wrote clean).buffering
+    (bounded_lag_now {I = Unit {0}} (λ given. bytes) (λ u. empty_input) was mid pushed
+    (record { before = λ u. same_before empty_input; begins = begins }) wrote clean).buffering
 
 -- and so were the bytes after them
-pub sends_after : (was mid is : Output) (pushed bytes : List ℕ) → PushEffect was mid pushed → mid.write_failed ≡ false → BufferLag mid is bytes → BufferLag was is (pushed ++ bytes)
+pub sends_after : (was mid is : Output) (pushed bytes : List ℕ) → PushEffect was mid pushed → mid.write_failed ≡ false
+    → BufferLag mid is bytes → BufferLag was is (pushed ++ bytes)
 unfolding known_length
 sends_after was mid is pushed bytes wrote clean s = by_known was.accepted refl
   where
@@ -233,7 +274,14 @@ sends_after was mid is pushed bytes wrote clean s = by_known was.accepted refl
     by_known (Some known) is_known = record {
       written_out = wrote.kept.front ++ s.written_out;
       accepted = rw (s.accepted, wrote.kept.is) (append_known-append was.accepted wrote.kept.front s.written_out);
-      most = grind (arith, s.most, wrote.buffered, rw (wrote.kept.is, is_known) at (ap known_length (wrote.whole clean)), length-append);
+      most =
+          grind (
+            arith,
+            s.most,
+            wrote.buffered,
+            rw (wrote.kept.is, is_known) at (ap known_length (wrote.whole clean)),
+            length-append,
+          );
     }
 
 -- ---- the output that was written in the end
@@ -243,10 +291,13 @@ take_front zero xs ys = ([], refl)
 take_front (suc n) [] ys = (take (suc n) ys, refl)
 take_front (suc n) (x ∷ xs) ys = let (rest, is) = take_front n xs ys in (rest, ap (λ (l : List ℕ). x ∷ l) is)
 
-module _ (bytes : List ℕ) (was is is' : Output) (pushed front rest : List ℕ) (k : IsPushedUpToBlock bytes was is pushed) (empty : was.buffered ≡ []) (split : pushed ≡ front ++ rest)
-    (accepted : is'.accepted ≡ append_known was.accepted front) (kept : IsKnownPrefix is.accepted is'.accepted) (unknown : was.accepted ≡ None → rest ≡ []) where
+module _ (bytes : List ℕ) (was is is' : Output) (pushed front rest : List ℕ) (k : IsPushedUpToBlock bytes was is pushed)
+    (empty : was.buffered ≡ []) (split : pushed ≡ front ++ rest)
+    (accepted : is'.accepted ≡ append_known was.accepted front) (kept : IsKnownPrefix is.accepted is'.accepted)
+    (unknown : was.accepted ≡ None → rest ≡ []) where
   all_lengths : length bytes + length k.begins.rest ≡ length front + length rest
-  all_lengths = omega (arith, ap length split, ap length k.begins.is, length-append front rest, length-append bytes k.begins.rest)
+  all_lengths =
+      omega (arith, ap length split, ap length k.begins.is, length-append front rest, length-append bytes k.begins.rest)
 
   few : length (drop (length front) bytes) ≤ 8192
   unfolding known_length
@@ -265,7 +316,13 @@ module _ (bytes : List ℕ) (was is is' : Output) (pushed front rest : List ℕ)
         front = take (length front) bytes;
         lost = drop (length front) bytes;
         split = sym (take-append-drop (length front) bytes);
-        begins = record { rest = more; is = sym (take-append_seam front rest) ∙ ap (take (length front)) (sym split ∙ k.begins.is) ∙ is };
+        begins =
+            record {
+              rest = more;
+              is = sym (take-append_seam front rest)
+                  ∙ ap (take (length front)) (sym split ∙ k.begins.is) ∙ is;
+            };
         few = few;
-        none = λ clean. nil_from_length (drop (length front) bytes) (omega (arith, all_lengths, ap length (whole clean), length-drop (length front) bytes));
+        none = λ clean. nil_from_length (drop (length front) bytes)
+            (omega (arith, all_lengths, ap length (whole clean), length-drop (length front) bytes));
       }

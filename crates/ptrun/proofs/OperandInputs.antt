@@ -1,10 +1,16 @@
 -- The inputs and the positions of the operands of a command, one operand at a time. The facts follow by induction on
 -- the list of operands.
-use Rattle.ptrun.proofs.Common.{list_any_at, eqb-true, Any-from_list_any, or_left, or_right, or-false, cases_Bool, cases_eq, ◌≡◌, ◌≢◌, ⊎_elim, ℕ, zero, suc, ◌==◌, ◌||◌, Bool, true, false, cond, List}
-use Rattle.ptrun.proofs.Common.{[], ◌∷◌, ◌++◌, Option, Some, None, ◌+◌, length, take, map, max, refl, sym, ◌∙◌, ap, subst, arith, append_assoc, All, flat_map, option_map, list_any, append-nil}
-use Rattle.ptrun.proofs.Common.{flat_map-append, filter_map-append, list_any-append, false≢true, nat_tests, eqb_tells, Received, empty_input, InputBytes, ReceivedInputs, at, is_in, input_of_operand, inputs_of_operands, opened_values, opened_inputs}
-use Rattle.ptrun.proofs.Common.{ToolSpec, maximum, up_to_unended, unopened_messages, unopened_message, name_of, HasSaid, SinkState, update_at, ◌<◌, ◌≤◌, drop, get_or, take-append-drop, take_more, get_or-map, length-map}
-use Rattle.ptrun.proofs.Common.{take_all, Reader, reader_at, no_reader, IsNewOrUnopened, position, positions, All-nil, All-cons, Bor, words_view, is_standard, file_names, order_from, Input, Standard, File}
+use Rattle.ptrun.proofs.Common.{list_any_at, eqb-true, Any-from_list_any, or_left, or_right, or-false, cases_Bool}
+use Rattle.ptrun.proofs.Common.{cases_eq, ◌≡◌, ◌≢◌, ⊎_elim, ℕ, zero, suc, ◌==◌, ◌||◌, Bool, true, false, cond, List, []}
+use Rattle.ptrun.proofs.Common.{◌∷◌, ◌++◌, Option, Some, None, ◌+◌, length, take, map, max, refl, sym, ◌∙◌, ap, subst}
+use Rattle.ptrun.proofs.Common.{arith, append_assoc, All, flat_map, option_map, list_any, append-nil, flat_map-append}
+use Rattle.ptrun.proofs.Common.{filter_map-append, list_any-append, false≢true, nat_tests, eqb_tells, Received}
+use Rattle.ptrun.proofs.Common.{empty_input, InputBytes, ReceivedInputs, at, is_in, input_of_operand}
+use Rattle.ptrun.proofs.Common.{inputs_of_operands, opened_values, opened_inputs, ToolSpec, maximum, up_to_unended}
+use Rattle.ptrun.proofs.Common.{unopened_messages, unopened_message, name_of, HasSaid, SinkState, update_at, ◌<◌, ◌≤◌}
+use Rattle.ptrun.proofs.Common.{drop, get_or, take-append-drop, take_more, get_or-map, length-map, take_all, Reader}
+use Rattle.ptrun.proofs.Common.{reader_at, no_reader, IsNewOrUnopened, position, positions, All-nil, All-cons, Bor}
+use Rattle.ptrun.proofs.Common.{words_view, is_standard, file_names, order_from, Input, Standard, File}
 use Rattle.std.proofs.Math.ListN.{get_or-map as get_or-map_any}
 use Rattle.ptrun.proofs.MessageWrites.{said_trans}
 
@@ -26,13 +32,17 @@ by_position P p here others q = ⊎_elim (λ same. subst P same here) (others q)
 
 -- a fact about each position in a list holds at each position that is in it
 pub each_listed : (P : ℕ → Type 0) (ps : List ℕ) → All P ps → (q : ℕ) → is_in ps q ≡ true → P q
-each_listed P ps all q named = let a = Any-from_list_any (λ p. p == q) ps named in subst P (a.3 ∙ eqb-true a.1 q a.4) (all a.0 a.1 a.2)
+each_listed P ps all q named = let a = Any-from_list_any (λ p. p == q) ps named in
+    subst P (a.3 ∙ eqb-true a.1 q a.4) (all a.0 a.1 a.2)
 
 -- if no position in a list passes a test, none that is in it does
-pub none_passes : (test : ℕ → Bool) (ps : List ℕ) → list_any test ps ≡ false → (q : ℕ) → is_in ps q ≡ true → test q ≡ false
+pub none_passes : (test : ℕ → Bool) (ps : List ℕ) → list_any test ps ≡ false → (q : ℕ) → is_in ps q ≡ true
+    → test q ≡ false
 none_passes test ps none q named =
     let a = Any-from_list_any (λ p. p == q) ps named in
-    ⊎_elim (λ yes. absurd (false≢true (sym none ∙ list_any_at test ps a.0 a.1 a.2 (ap test (a.3 ∙ eqb-true a.1 q a.4) ∙ yes)))) (λ no. no) (cases_Bool (test q))
+    ⊎_elim
+    (λ yes. absurd (false≢true (sym none ∙ list_any_at test ps a.0 a.1 a.2 (ap test (a.3 ∙ eqb-true a.1 q a.4) ∙ yes))))
+    (λ no. no) (cases_Bool (test q))
 
 -- ---- functions of positions, updated at one
 
@@ -40,49 +50,75 @@ pub put_here : {X : Type 0} (p : ℕ) (x : X) (f : ℕ → X) → update_at p x 
 put_here p x f = ap (λ (b : Bool). cond b x (f p)) (same_here p)
 
 pub put_other : {X : Type 0} (p q : ℕ) (x : X) (f : ℕ → X) → p ≢ q → update_at p x f q ≡ f q
-put_other p q x f differs = ⊎_elim (λ same. absurd (differs (sym same.1))) (λ other. ap (λ (b : Bool). cond b x (f q)) other.0) (eqb_tells q p)
+put_other p q x f differs =
+    ⊎_elim (λ same. absurd (differs (sym same.1))) (λ other. ap (λ (b : Bool). cond b x (f q)) other.0) (eqb_tells q p)
 
 -- ---- operands
 
 module _ {X : Type 0} (rest : X) (xs : List (Option X)) where
-  pub inputs_of_operands-append : (before ps qs : List ℕ) → inputs_of_operands rest xs before (ps ++ qs) ≡ inputs_of_operands rest xs before ps ++ inputs_of_operands rest xs (before ++ ps) qs
-  inputs_of_operands-append before [] qs = ap (λ (l : List ℕ). inputs_of_operands rest xs l qs) (sym (append-nil before))
+  pub inputs_of_operands-append : (before ps qs : List ℕ)
+      → inputs_of_operands rest xs before (ps ++ qs) ≡ inputs_of_operands rest xs before ps
+      ++ inputs_of_operands rest xs (before ++ ps) qs
+  inputs_of_operands-append before [] qs =
+      ap (λ (l : List ℕ). inputs_of_operands rest xs l qs) (sym (append-nil before))
   inputs_of_operands-append before (p ∷ ps) qs =
-      ap (λ (l : List (Option X)). input_of_operand rest xs before p ∷ l) (inputs_of_operands-append (before ++ p ∷ []) ps qs
-      ∙ ap (λ (l : List ℕ). inputs_of_operands rest xs (before ++ p ∷ []) ps ++ inputs_of_operands rest xs l qs) (append_assoc before (p ∷ []) ps))
+      ap (λ (l : List (Option X)). input_of_operand rest xs before p ∷ l)
+      (inputs_of_operands-append (before ++ p ∷ []) ps qs
+      ∙ ap (λ (l : List ℕ). inputs_of_operands rest xs (before ++ p ∷ []) ps ++ inputs_of_operands rest xs l qs)
+      (append_assoc before (p ∷ []) ps))
 
   -- the operands before one, this one, and those after it
-  pub opened_inputs_at : (done : List ℕ) (p : ℕ) (more : List ℕ) → opened_inputs rest xs (done ++ p ∷ more) ≡ opened_inputs rest xs done ++ opened_values (input_of_operand rest xs done p ∷ inputs_of_operands rest xs (done ++ p ∷ []) more)
-  opened_inputs_at done p more = ap opened_values (inputs_of_operands-append [] done (p ∷ more)) ∙ filter_map-append (λ (o : Option X). o) (inputs_of_operands rest xs [] done) (input_of_operand rest xs done p ∷ inputs_of_operands rest xs (done ++ p ∷ []) more)
+  pub opened_inputs_at : (done : List ℕ) (p : ℕ) (more : List ℕ)
+      → opened_inputs rest xs (done ++ p ∷ more) ≡ opened_inputs rest xs done
+      ++ opened_values (input_of_operand rest xs done p ∷ inputs_of_operands rest xs (done ++ p ∷ []) more)
+  opened_inputs_at done p more = ap opened_values (inputs_of_operands-append [] done (p ∷ more))
+      ∙ filter_map-append (λ (o : Option X). o) (inputs_of_operands rest xs [] done)
+      (input_of_operand rest xs done p ∷ inputs_of_operands rest xs (done ++ p ∷ []) more)
 
-  pub opened_inputs_some : (done : List ℕ) (p : ℕ) (more : List ℕ) (x : X) → input_of_operand rest xs done p ≡ Some x → opened_inputs rest xs (done ++ p ∷ more)
-      ≡ opened_inputs rest xs done ++ x ∷ opened_values (inputs_of_operands rest xs (done ++ p ∷ []) more)
-  opened_inputs_some done p more x is = opened_inputs_at done p more ∙ ap (λ (o : Option X). opened_inputs rest xs done ++ opened_values (o ∷ inputs_of_operands rest xs (done ++ p ∷ []) more)) is
+  pub opened_inputs_some : (done : List ℕ) (p : ℕ) (more : List ℕ) (x : X) → input_of_operand rest xs done p ≡ Some x
+      → opened_inputs rest xs (done ++ p ∷ more) ≡ opened_inputs rest xs done ++ x
+      ∷ opened_values (inputs_of_operands rest xs (done ++ p ∷ []) more)
+  opened_inputs_some done p more x is = opened_inputs_at done p more
+      ∙ ap
+      (λ (o : Option X). opened_inputs rest xs done
+      ++ opened_values (o ∷ inputs_of_operands rest xs (done ++ p ∷ []) more)) is
 
-  pub opened_inputs_none : (done : List ℕ) (p : ℕ) → input_of_operand rest xs done p ≡ None → opened_inputs rest xs (done ++ p ∷ []) ≡ opened_inputs rest xs done
-  opened_inputs_none done p is = opened_inputs_at done p [] ∙ ap (λ (o : Option X). opened_inputs rest xs done ++ opened_values (o ∷ [])) is ∙ append-nil (opened_inputs rest xs done)
+  pub opened_inputs_none : (done : List ℕ) (p : ℕ) → input_of_operand rest xs done p ≡ None
+      → opened_inputs rest xs (done ++ p ∷ []) ≡ opened_inputs rest xs done
+  opened_inputs_none done p is = opened_inputs_at done p []
+      ∙ ap (λ (o : Option X). opened_inputs rest xs done ++ opened_values (o ∷ [])) is
+      ∙ append-nil (opened_inputs rest xs done)
 
 -- ---- messages
 
-pub unopened_same : (tool : List ℕ) (names : List (List ℕ)) (f g : ℕ → Bool) (ps : List ℕ) → ((p : ℕ) → f p ≡ g p) → unopened_messages tool names f ps ≡ unopened_messages tool names g ps
+pub unopened_same : (tool : List ℕ) (names : List (List ℕ)) (f g : ℕ → Bool) (ps : List ℕ) → ((p : ℕ) → f p ≡ g p)
+    → unopened_messages tool names f ps ≡ unopened_messages tool names g ps
 unopened_same tool names f g ps same = λ i. unopened_messages tool names (λ q. same q i) ps
 
 pub any_same : (f g : ℕ → Bool) (ps : List ℕ) → ((p : ℕ) → f p ≡ g p) → list_any f ps ≡ list_any g ps
 any_same f g ps same = λ i. list_any (λ q. same q i) ps
 
 -- one more operand, which is reported if it could not be opened
-pub said_more : (word : List ℕ) (names : List (List ℕ)) (is_unopened_at : ℕ → Bool) (done : List ℕ) (p : ℕ) {messages_old messages_new messages_new' : SinkState} → HasSaid messages_old messages_new (unopened_messages word names is_unopened_at done)
-    → HasSaid messages_new messages_new' (cond (is_unopened_at p) (unopened_message word (name_of names p)) []) → HasSaid messages_old messages_new' (unopened_messages word names is_unopened_at (done ++ p ∷ []))
+pub said_more : (word : List ℕ) (names : List (List ℕ)) (is_unopened_at : ℕ → Bool) (done : List ℕ)
+    (p : ℕ) {messages_old messages_new messages_new' : SinkState}
+    → HasSaid messages_old messages_new (unopened_messages word names is_unopened_at done)
+    → HasSaid messages_new messages_new' (cond (is_unopened_at p) (unopened_message word (name_of names p)) [])
+    → HasSaid messages_old messages_new' (unopened_messages word names is_unopened_at (done ++ p ∷ []))
 said_more word names is_unopened_at done p k says =
-    rw (flat_map-append (λ (q : ℕ). cond (is_unopened_at q) (unopened_message word (name_of names q)) []) done (p ∷ []), append-nil (cond (is_unopened_at p) (unopened_message word (name_of names p)) []))
+    rw (
+      flat_map-append (λ (q : ℕ). cond (is_unopened_at q) (unopened_message word (name_of names q)) []) done (p ∷ []),
+      append-nil (cond (is_unopened_at p) (unopened_message word (name_of names p)) []),
+    )
     (said_trans k says)
 
 module _ (test : ℕ → Bool) (done : List ℕ) (p : ℕ) where
   pub any_now : test p ≡ true → list_any test (done ++ p ∷ []) ≡ true
-  any_now is = list_any-append test done (p ∷ []) ∙ or_right (list_any test done) (test p || false) (or_left (test p) false is)
+  any_now is = list_any-append test done (p ∷ [])
+      ∙ or_right (list_any test done) (test p || false) (or_left (test p) false is)
 
   pub any_before : test p ≡ false → list_any test (done ++ p ∷ []) ≡ list_any test done
-  any_before is = list_any-append test done (p ∷ []) ∙ ap (λ (b : Bool). list_any test done || (b || false)) is ∙ or-false (list_any test done)
+  any_before is = list_any-append test done (p ∷ []) ∙ ap (λ (b : Bool). list_any test done || (b || false)) is
+      ∙ or-false (list_any test done)
 
 pub is_in-same : (done : List ℕ) (p : ℕ) → is_in (done ++ p ∷ []) p ≡ true
 is_in-same done p = any_now (λ q. q == p) done p (same_here p)
@@ -125,38 +161,54 @@ DecidesAll t = (bytes : List ℕ) → t.decided (record { bytes = bytes; eof = t
 
 module _ (t : ToolSpec) (law : DecidesAll t) where
   -- one operand whose end was reached decides all its output, and the decided output goes on with the next operand
-  module _ (came : List (Option Received)) (texts : List (Option (List ℕ))) (later : List Received) (rest : List ℕ) (further : flat_map t.decided (up_to_unended (opened_values came ++ later))
+  module _ (came : List (Option Received)) (texts : List (Option (List ℕ))) (later : List Received) (rest : List ℕ)
+      (further : flat_map t.decided (up_to_unended (opened_values came ++ later))
       ≡ flat_map t.text (opened_values texts) ++ rest) where
-    one : (g : Received) → g.eof ≡ true → flat_map t.decided (up_to_unended (g ∷ opened_values came ++ later)) ≡ (t.text g.bytes ++ flat_map t.text (opened_values texts)) ++ rest
+    one : (g : Received) → g.eof ≡ true
+        → flat_map t.decided (up_to_unended (g ∷ opened_values came ++ later))
+        ≡ (t.text g.bytes ++ flat_map t.text (opened_values texts)) ++ rest
     one g is =
-        ap (λ (b : Bool). t.decided g ++ flat_map t.decided (cond b (up_to_unended (opened_values came ++ later)) [])) is
-        ∙ (λ i. (ap (λ (b : Bool). t.decided (record { bytes = g.bytes; eof = b })) is ∙ law g.bytes) i ++ further i) ∙ sym (append_assoc (t.text g.bytes) (flat_map t.text (opened_values texts)) rest)
+        ap (λ (b : Bool). t.decided g ++ flat_map t.decided (cond b (up_to_unended (opened_values came ++ later)) []))
+        is
+        ∙ (λ i. (ap (λ (b : Bool). t.decided (record { bytes = g.bytes; eof = b })) is ∙ law g.bytes) i ++ further i)
+        ∙ sym (append_assoc (t.text g.bytes) (flat_map t.text (opened_values texts)) rest)
 
-    decided_input : (o : Option Received) → IsEndedAt o → (seen : Bool) → flat_map t.decided (up_to_unended (opened_values (option_map (λ (g : Received). cond seen empty_input g) o ∷ came) ++ later))
+    decided_input : (o : Option Received) → IsEndedAt o → (seen : Bool)
+        → flat_map t.decided (up_to_unended
+        (opened_values (option_map (λ (g : Received). cond seen empty_input g) o ∷ came) ++ later))
         ≡ flat_map t.text (opened_values (option_map (λ (b : List ℕ). cond seen [] b) (bytes_at o) ∷ texts)) ++ rest
     decided_input None e seen = further
     decided_input (Some g) e true = one empty_input refl
     decided_input (Some g) e false = one g e
 
   -- operands whose ends were reached decide all their output, and the decided output goes on with the next operand
-  pub decided_inputs : (r : ReceivedInputs) (before ps : List ℕ) (later : List Received) → ((q : ℕ) → is_in ps q ≡ true → IsEndedAt (at r q))
-      → flat_map t.decided (up_to_unended (opened_values (inputs_of_operands empty_input r before ps) ++ later)) ≡ flat_map t.text (opened_values (inputs_of_operands [] (least_bytes r) before ps)) ++ flat_map t.decided (up_to_unended later)
+  pub decided_inputs : (r : ReceivedInputs) (before ps : List ℕ) (later : List Received)
+      → ((q : ℕ) → is_in ps q ≡ true → IsEndedAt (at r q))
+      → flat_map t.decided (up_to_unended (opened_values (inputs_of_operands empty_input r before ps) ++ later))
+      ≡ flat_map t.text (opened_values (inputs_of_operands [] (least_bytes r) before ps))
+      ++ flat_map t.decided (up_to_unended later)
   decided_inputs r before [] later eof = refl
   decided_inputs r before (p ∷ ps) later eof =
       let further = decided_inputs r (before ++ p ∷ []) ps later (λ q is. eof q (or_right (p == q) (is_in ps q) is)) in
-      rw (at-least_bytes r p) (decided_input (inputs_of_operands empty_input r (before ++ p ∷ []) ps) (inputs_of_operands [] (least_bytes r) (before ++ p ∷ []) ps) later (flat_map t.decided (up_to_unended later)) further
+      rw (at-least_bytes r p) (decided_input (inputs_of_operands empty_input r (before ++ p ∷ []) ps)
+      (inputs_of_operands [] (least_bytes r) (before ++ p ∷ []) ps) later (flat_map t.decided (up_to_unended later))
+      further
       (at r p) (eof p (or_left (p == p) (is_in ps p) (same_here p))) (is_in before p))
 
 -- ---- the positions of the operands, in order
 
 -- each position has a reader that was not read yet, or none
-pub fresh_all : (readers : List Reader) → ((k : ℕ) (d : Reader) → k < length readers → IsNewOrUnopened (get_or readers k d)) → (q : ℕ) → IsNewOrUnopened (reader_at readers q)
+pub fresh_all : (readers : List Reader)
+    → ((k : ℕ) (d : Reader) → k < length readers → IsNewOrUnopened (get_or readers k d)) → (q : ℕ)
+    → IsNewOrUnopened (reader_at readers q)
 fresh_all [] h q = λ opened. absurd (false≢true (sym opened))
 fresh_all (r ∷ readers) h zero = h zero no_reader (omega arith)
 fresh_all (r ∷ readers) h (suc q) = fresh_all readers (λ k d within. h (suc k) d (omega (arith, within))) q
 
-pub position_in_range : (order : List Input) (n : ℕ) → All (λ p. p < n) (positions order) → All (λ o. position o < n) order
-position_in_range order n in_range i d within = rw (get_or-map position order i d 0 within) at (in_range i 0 (omega (arith, within, length-map order position)))
+pub position_in_range : (order : List Input) (n : ℕ) → All (λ p. p < n) (positions order)
+    → All (λ o. position o < n) order
+position_in_range order n in_range i d within =
+    rw (get_or-map position order i d 0 within) at (in_range i 0 (omega (arith, within, length-map order position)))
 
 -- the list of names is as long as the list of their texts
 pub names_counted : (names : List (Bor (List ℕ))) (n : ℕ) → n ≡ length (words_view names) + 1 → n ≡ length names + 1
@@ -168,16 +220,19 @@ pub record OperandStep (order : List Input) (i p n : ℕ) : Type 0 where
   pub next : take (i + 1) (positions order) ≡ take i (positions order) ++ p ∷ []
   pub split : take i (positions order) ++ p ∷ drop (i + 1) (positions order) ≡ positions order
 
-pub operand_step : {p n : ℕ} (order : List Input) (i : ℕ) (d : Input) → All (λ o. position o < n) order → i < length order → p ≡ position (get_or order i d) → OperandStep order i p n
+pub operand_step : {p n : ℕ} (order : List Input) (i : ℕ) (d : Input) → All (λ o. position o < n) order
+    → i < length order → p ≡ position (get_or order i d) → OperandStep order i p n
 operand_step {p} {n} order i d in_range within is = record {
   low = rw is (in_range i d within);
   next = next;
-  split = sym (append_assoc (take i (positions order)) (p ∷ []) (drop (i + 1) (positions order))) ∙ ap (λ (l : List ℕ). l ++ drop (i + 1) (positions order)) (sym next)
+  split = sym (append_assoc (take i (positions order)) (p ∷ []) (drop (i + 1) (positions order)))
+      ∙ ap (λ (l : List ℕ). l ++ drop (i + 1) (positions order)) (sym next)
       ∙ take-append-drop (i + 1) (positions order);
 }
   where
     next : take (i + 1) (positions order) ≡ take i (positions order) ++ p ∷ []
-    next = take_more (positions order) i 0 (omega (arith, within, length-map order position)) ∙ ap (λ (n : ℕ). take i (positions order) ++ n ∷ []) (get_or-map position order i d 0 within ∙ sym is)
+    next = take_more (positions order) i 0 (omega (arith, within, length-map order position))
+        ∙ ap (λ (n : ℕ). take i (positions order) ++ n ∷ []) (get_or-map position order i d 0 within ∙ sym is)
 
 pub positions_end : (order : List Input) (i : ℕ) → length order ≤ i → take i (positions order) ≡ positions order
 positions_end order i all = take_all i (positions order) (omega (arith, all, length-map order position))
@@ -185,9 +240,13 @@ positions_end order i all = take_all i (positions order) (omega (arith, all, len
 -- ---- the operands of arguments
 
 -- each operand has a reader
-pub positions_within : (n : ℕ) (operands : List (List ℕ)) → All (λ o. position o < n + length (file_names operands) + 1) (order_from n operands)
+pub positions_within : (n : ℕ) (operands : List (List ℕ))
+    → All (λ o. position o < n + length (file_names operands) + 1) (order_from n operands)
 positions_within n [] = All-nil (λ (o : Input). position o < n + 0 + 1)
 positions_within n (operand ∷ operands) = ⊎_elim
-    (λ is. rw is (All-cons (λ (o : Input). position o < n + length (file_names operands) + 1) Standard (order_from n operands) (omega arith) (positions_within n operands)))
-    (λ is. rw is (All-cons (λ (o : Input). position o < n + length (operand ∷ file_names operands) + 1) (File n) (order_from (n + 1) operands)
-    (omega arith) (λ k d within. omega (arith, positions_within (n + 1) operands k d within)))) (cases_Bool (is_standard operand))
+    (λ is. rw is (All-cons (λ (o : Input). position o < n + length (file_names operands) + 1) Standard
+    (order_from n operands) (omega arith) (positions_within n operands)))
+    (λ is. rw is (All-cons (λ (o : Input). position o < n + length (operand ∷ file_names operands) + 1) (File n)
+    (order_from (n + 1) operands)
+    (omega arith) (λ k d within. omega (arith, positions_within (n + 1) operands k d within))))
+    (cases_Bool (is_standard operand))

@@ -5,13 +5,23 @@
 -- The output of a tool reaches the sink unless a write fails, and the last message follows the tool's own messages. The
 -- main theorem holds because the bytes that the readers have are consistent with the bytes received, and because each
 -- cause of a failure contradicts a premise.
-use Rattle.ptrun.proofs.Common.{AreReadToEnd, ended_operands, cases_Bool, ◌≡◌, ⊎_elim, ℕ, Bool, true, false, cond, List, [], ◌++◌, Option, Some, None, Result, Ok, Err, length, map, refl, sym, ◌∙◌, ap, arith, append_assoc, subst}
-use Rattle.ptrun.proofs.Common.{length-append, All, append_known, prepend_known, IsAtEnd, append-nil, append_cancel_left, nil_from_length, false≢true, take-length, Reader, Output, PushEffect, Slots}
-use Rattle.ptrun.proofs.Common.{SinkState, append_known-nil, push_trans, Received, IsConsistent, IsPrefix, FlowFault, Read, Write, Memory, Completion, InputBytes, ReceivedInputs, at, IsConsistentAt, AreInputsConsistent, reader_at, is_reader_unopened}
-use Rattle.ptrun.proofs.Common.{is_unopened, HasReceivedAt, IsNewOrUnopened, HasReadFailed, IsTooLong, HasBytesAt, HasSaid, CommandSpec, operand_messages, messages, unopened_messages, Sinks, sinks, Outcome, HasCause, RunEnd, IsRun, IsRunInStore, IsExact, IsExactUnlessFailed}
-use Rattle.ptrun.proofs.Common.{ReportUnopenedPost, RunInputsEnd, RunInputsPost, FinishPost, result_message, result_status, HasIndexBelow, IsPushedUpToBlock, IsWrittenUpToBlock, message_only, ◌+◌, ◌<◌, ◌==◌, is_none, not, nat_le, length-map, All-map, nat_tests}
-use Rattle.ptrun.proofs.Common.{eqb_tells, Input, Standard, File, Fault, Command, Job, RunCut, RunPaste, RunUniq, RunComm, RunJoin, RunTr, command_of_args, input_operands, fault_view, command_view, CommandPost, usage_message, usage_status}
-use Rattle.ptrun.proofs.Common.{position, positions, InputsPre, two_input_tool, job_spec, command_spec, spec_of_result, tool_name, spec_of_args, spec_of_parsed, is_memory_fault, AreNewInputs}
+use Rattle.ptrun.proofs.Common.{AreReadToEnd, ended_operands, cases_Bool, ◌≡◌, ⊎_elim, ℕ, Bool, true, false, cond, List}
+use Rattle.ptrun.proofs.Common.{[], ◌++◌, Option, Some, None, Result, Ok, Err, length, map, refl, sym, ◌∙◌, ap, arith}
+use Rattle.ptrun.proofs.Common.{append_assoc, subst, length-append, All, append_known, prepend_known, IsAtEnd}
+use Rattle.ptrun.proofs.Common.{append-nil, append_cancel_left, nil_from_length, false≢true, take-length, Reader}
+use Rattle.ptrun.proofs.Common.{Output, PushEffect, Slots, SinkState, append_known-nil, push_trans, Received}
+use Rattle.ptrun.proofs.Common.{IsConsistent, IsPrefix, FlowFault, Read, Write, Memory, Completion, InputBytes}
+use Rattle.ptrun.proofs.Common.{ReceivedInputs, at, IsConsistentAt, AreInputsConsistent, reader_at, is_reader_unopened}
+use Rattle.ptrun.proofs.Common.{is_unopened, HasReceivedAt, IsNewOrUnopened, HasReadFailed, IsTooLong, HasBytesAt}
+use Rattle.ptrun.proofs.Common.{HasSaid, CommandSpec, operand_messages, messages, unopened_messages, Sinks, sinks}
+use Rattle.ptrun.proofs.Common.{Outcome, HasCause, RunEnd, IsRun, IsRunInStore, IsExact, IsExactUnlessFailed}
+use Rattle.ptrun.proofs.Common.{ReportUnopenedPost, RunInputsEnd, RunInputsPost, FinishPost, result_message}
+use Rattle.ptrun.proofs.Common.{result_status, HasIndexBelow, IsPushedUpToBlock, IsWrittenUpToBlock, message_only, ◌+◌}
+use Rattle.ptrun.proofs.Common.{◌<◌, ◌==◌, is_none, not, nat_le, length-map, All-map, nat_tests, eqb_tells, Input}
+use Rattle.ptrun.proofs.Common.{Standard, File, Fault, Command, Job, RunCut, RunPaste, RunUniq, RunComm, RunJoin, RunTr}
+use Rattle.ptrun.proofs.Common.{command_of_args, input_operands, fault_view, command_view, CommandPost, usage_message}
+use Rattle.ptrun.proofs.Common.{usage_status, position, positions, InputsPre, two_input_tool, job_spec, command_spec}
+use Rattle.ptrun.proofs.Common.{spec_of_result, tool_name, spec_of_args, spec_of_parsed, is_memory_fault, AreNewInputs}
 use Rattle.std.specs.Prelude.{if◌then◌else◌}
 use Rattle.ptlines.specs.Sinks.{flushes_after}
 use Rattle.ptlangs.specs.Results.{IsFault}
@@ -24,7 +34,8 @@ use Rattle.ptopts.proofs.CommandGrammar.{meant_as_spelled}
 use Rattle.ptopts.proofs.InputCounts.{AreTwo}
 use Rattle.ptopts.proofs.EachTool.{AreInputsOf, are_inputs}
 use Rattle.ptopts.specs.declared.command.Command as code
-use Rattle.ptrun.proofs.OneInput.{kept_up, earlier_map, nothing_decided, nothing_read, never_long, received_at, received_of, unopened_agrees, unopened_received}
+use Rattle.ptrun.proofs.OneInput.{kept_up, earlier_map, nothing_decided, nothing_read, never_long, received_at}
+use Rattle.ptrun.proofs.OneInput.{received_of, unopened_agrees, unopened_received}
 use Rattle.ptrun.proofs.MessageWrites.{said_trans}
 use Rattle.ptrun.proofs.OperandInputs.{some_same, fresh_all, unopened_same, positions_within}
 
@@ -38,7 +49,8 @@ pub record Reached (was new : Output) (pushed : List ℕ) : Type 0 where
   pub whole : new.write_failed ≡ false → new.buffered ≡ [] → rest ≡ []
   pub unknown : was.accepted ≡ None → rest ≡ []
 
-pub reached_of : (was new : Output) (pushed : List ℕ) → was.buffered ≡ [] → PushEffect was new pushed → Reached was new pushed
+pub reached_of : (was new : Output) (pushed : List ℕ) → was.buffered ≡ [] → PushEffect was new pushed
+    → Reached was new pushed
 reached_of was new pushed empty w = by_known was.accepted refl
   where
     by_known : (known : Option (List ℕ)) → was.accepted ≡ known → Reached was new pushed
@@ -57,51 +69,67 @@ reached_of was new pushed empty w = by_known was.accepted refl
       accepted = w.kept.is;
       whole = λ clean none.
           let same = ap length (some_same (rw (w.kept.is, is, empty) at (w.whole clean))) in
-          nil_from_length (new.buffered ++ w.beginning.front) (grind (arith, ap length none, same, ap length split, length-append));
+          nil_from_length (new.buffered ++ w.beginning.front)
+          (grind (arith, ap length none, same, ap length split, length-append));
       unknown = λ none. cc;
     }
       where
         split : pushed ≡ w.kept.front ++ (new.buffered ++ w.beginning.front)
         split = append_cancel_left t pushed (w.kept.front ++ (new.buffered ++ w.beginning.front))
-            (some_same (rw (w.kept.is, is, empty, append-nil t) at w.beginning.is) ∙ append_assoc (t ++ w.kept.front) new.buffered w.beginning.front
+            (some_same (rw (w.kept.is, is, empty, append-nil t) at w.beginning.is)
+            ∙ append_assoc (t ++ w.kept.front) new.buffered w.beginning.front
             ∙ append_assoc t w.kept.front (new.buffered ++ w.beginning.front))
 
 -- ---- the bytes of the readers are consistent with the bytes received
 
-bytes_consistent_at : (old new : Reader) (o : Option Received) (v : Option (List ℕ)) → IsNewOrUnopened old → HasReceivedAt old new o → HasBytesAt old v → IsConsistentAt o v
+bytes_consistent_at : (old new : Reader) (o : Option Received) (v : Option (List ℕ)) → IsNewOrUnopened old
+    → HasReceivedAt old new o → HasBytesAt old v → IsConsistentAt o v
 bytes_consistent_at old new None None fresh k bytes = tt
-bytes_consistent_at old new None (Some b) fresh (unopened, same) (opened, left, short) = absurd (false≢true (sym opened ∙ unopened))
-bytes_consistent_at old new (Some g) None fresh (opened, received) unopened = absurd (false≢true (sym opened ∙ unopened))
+bytes_consistent_at old new None (Some b) fresh (unopened, same) (opened, left, short) =
+    absurd (false≢true (sym opened ∙ unopened))
+bytes_consistent_at old new (Some g) None fresh (opened, received) unopened =
+    absurd (false≢true (sym opened ∙ unopened))
 bytes_consistent_at old new (Some g) (Some b) fresh (opened, received) (_, left, short) =
-    by_left new.left (sym left ∙ received.moved) (received.end (λ eof. absurd (false≢true (sym (fresh opened).eof ∙ eof))))
+    by_left new.left (sym left ∙ received.moved)
+    (received.end (λ eof. absurd (false≢true (sym (fresh opened).eof ∙ eof))))
   where
-    by_left : (left : Option (List ℕ)) → Some b ≡ prepend_known g.bytes left → (new.eof ≡ true → IsAtEnd left) → IsConsistent g b
+    by_left : (left : Option (List ℕ)) → Some b ≡ prepend_known g.bytes left → (new.eof ≡ true → IsAtEnd left)
+        → IsConsistent g b
     by_left None is end = cc
     by_left (Some rest) is end = record { rest = rest; is = cc; whole = λ eof. end (sym received.eof ∙ eof) }
 
-not_too_long : (o : Option Received) (v : Option (List ℕ)) (old : Reader) → IsConsistentAt o v → HasBytesAt old v → IsTooLong o → ⊥
+not_too_long : (o : Option Received) (v : Option (List ℕ)) (old : Reader) → IsConsistentAt o v → HasBytesAt old v
+    → IsTooLong o → ⊥
 not_too_long None v old a bytes long = long
 not_too_long (Some g) None old a bytes long = a
-not_too_long (Some g) (Some b) old a (opened, left, short) long = omega (arith, long, short, ap length a.is, length-append g.bytes a.rest)
+not_too_long (Some g) (Some b) old a (opened, left, short) long =
+    omega (arith, long, short, ap length a.is, length-append g.bytes a.rest)
 
 -- ---- no call failed
 
-pub exact_of_run : (m : CommandSpec) (old new : List Reader) (before : Sinks) (o : Outcome) → All IsNewOrUnopened old → IsRun m old new before o → IsExactUnlessFailed m old new before o
+pub exact_of_run : (m : CommandSpec) (old new : List Reader) (before : Sinks) (o : Outcome) → All IsNewOrUnopened old
+    → IsRun m old new before o → IsExactUnlessFailed m old new before o
 exact_of_run m old new before o fresh k w bytes none fine not_denied = by_fault k.fault k.ends
   where
     agrees : AreInputsConsistent k.received w
-    agrees q = bytes_consistent_at (reader_at old q) (reader_at new q) (at k.received q) (at w q) (fresh_all old fresh q) (k.came q) (bytes q)
+    agrees q = bytes_consistent_at (reader_at old q) (reader_at new q) (at k.received q) (at w q)
+        (fresh_all old fresh q) (k.came q) (bytes q)
 
     unfailed : (n : ℕ) (fault : FlowFault) → HasCause m k.received old new o.out.failed o.denied n fault → ⊥
-    unfailed n (Read p) c = ⊎_elim (λ failed. none p failed) (λ long. not_too_long (at k.received p) (at w p) (reader_at old p) (agrees p) (bytes p) long) c.2
+    unfailed n (Read p) c =
+        ⊎_elim (λ failed. none p failed) (λ long. not_too_long (at k.received p) (at w p) (reader_at old p) (agrees p)
+        (bytes p) long) c.2
     unfailed n Write c = false≢true (sym fine ∙ c)
     unfailed n Memory c = false≢true (sym not_denied ∙ c.0)
 
-    by_fault : (fault : Option FlowFault) → RunEnd m k.received old new k.written k.message o k.operands_done fault → IsExact m w before o
+    by_fault : (fault : Option FlowFault) → RunEnd m k.received old new k.written k.message o k.operands_done fault
+        → IsExact m w before o
     by_fault None (complete, says) = record {
       out = k.output ∙ ap (λ (l : List ℕ). append_known before.out.accepted l) (complete.out w agrees);
       messages = λ all_said. k.has_said.accepted ∙ ap (λ (l : List ℕ). append_known before.messages.accepted l)
-          (sym (append-nil k.has_said.front) ∙ ap (λ (l : List ℕ). k.has_said.front ++ l) (sym (k.has_said.whole all_said)) ∙ sym k.has_said.split ∙ (let (message, status) = says w agrees in message));
+          (sym (append-nil k.has_said.front)
+          ∙ ap (λ (l : List ℕ). k.has_said.front ++ l) (sym (k.has_said.whole all_said)) ∙ sym k.has_said.split
+          ∙ (let (message, status) = says w agrees in message));
       status_is = let (message, status) = says w agrees in status;
       bounded = k.bounded w agrees;
     }
@@ -113,48 +141,60 @@ none_failed : (old : List Reader) (q : ℕ) → HasReadFailed old old q → ⊥
 none_failed old q failed = false≢true (sym failed.1 ∙ failed.2)
 
 -- There is nothing to read, the output is unchanged, and `text` is the only message.
-unread : (m : CommandSpec) {old : List Reader} {out messages_old messages_new : SinkState} {text : List ℕ} (status : ℕ) → m.sequential ≡ None → m.reads_nothing (is_reader_unopened old) ≡ true
-    → ((r : ReceivedInputs) → ((q : ℕ) → is_reader_unopened old q ≡ is_unopened r q) → m.decided r ≡ []) → All IsNewOrUnopened old → out.failed ≡ false → HasSaid messages_old messages_new text
-    → ((w : InputBytes) → AreInputsConsistent (map received_of old) w → (m.out w ≡ []) × (text ≡ messages m w) × (status ≡ m.status w))
+unread : (m : CommandSpec) {old : List Reader} {out messages_old messages_new : SinkState} {text : List ℕ} (status : ℕ)
+    → m.sequential ≡ None → m.reads_nothing (is_reader_unopened old) ≡ true
+    → ((r : ReceivedInputs) → ((q : ℕ) → is_reader_unopened old q ≡ is_unopened r q) → m.decided r ≡ [])
+    → All IsNewOrUnopened old → out.failed ≡ false → HasSaid messages_old messages_new text
+    → ((w : InputBytes) → AreInputsConsistent (map received_of old) w
+    → (m.out w ≡ []) × (text ≡ messages m w) × (status ≡ m.status w))
     → AreReadToEnd old (ended_operands m (length m.positions) status)
-    → IsRun m old old (sinks out messages_old) (record { out = out; messages = messages_new; status = status; peak = 0; denied = false })
-unread m {old} {out} {messages_old} {messages_new} {text} status at_once nothing undecided fresh fine has_said says ended = let came = nothing_read old (fresh_all old fresh) in record {
-  received = map received_of old;
-  came = came;
-  written = [];
-  output = sym (append_known-nil out.accepted);
-  flushed = λ settled _. settled;
-  flushes = λ reads. absurd (false≢true (sym reads ∙ nothing));
-  message = text;
-  has_said = has_said;
-  operands_done = length m.positions;
-  fault = None;
-  ends = (
-    record {
-      all = refl;
-      out = λ w agrees. sym (says w agrees).0;
-      no_write_failed = fine;
-      not_denied = refl;
-      read = λ q. ⊎_elim (λ failed. none_failed old q failed) (λ long. never_long (reader_at old q) (rw (received_at old q) at long));
-    },
-    λ w agrees. ((says w agrees).1, (says w agrees).2),
-  );
-  untouched = λ q other. refl;
-  ended = ended;
-  left = λ memory. cc;
-  is_prefix = λ w agrees. record { rest = m.out w; is = refl };
-  names_failed_read = λ q failed clean. absurd (none_failed old q failed);
-  decided_is_written = λ q failed clean. absurd (none_failed old q failed);
-  bounded_lag = rw at_once
-      (nothing_decided m.positions m.decided (map received_of old) out.failed
-      (λ r same. undecided r (λ q. unopened_received (reader_at old q) (reader_at old q) (at (map received_of old) q) (came q) ∙ sym (same q))));
-  bounded = λ w agrees. omega arith;
-}
+    → IsRun m old old (sinks out messages_old)
+    (record { out = out; messages = messages_new; status = status; peak = 0; denied = false })
+unread m {old} {out} {messages_old} {messages_new} {text} status at_once nothing undecided fresh fine has_said says
+    ended = let came = nothing_read old (fresh_all old fresh) in record {
+      received = map received_of old;
+      came = came;
+      written = [];
+      output = sym (append_known-nil out.accepted);
+      flushed = λ settled _. settled;
+      flushes = λ reads. absurd (false≢true (sym reads ∙ nothing));
+      message = text;
+      has_said = has_said;
+      operands_done = length m.positions;
+      fault = None;
+      ends = (
+        record {
+          all = refl;
+          out = λ w agrees. sym (says w agrees).0;
+          no_write_failed = fine;
+          not_denied = refl;
+          read = λ q. ⊎_elim (λ failed. none_failed old q failed)
+              (λ long. never_long (reader_at old q) (rw (received_at old q) at long));
+        },
+        λ w agrees. ((says w agrees).1, (says w agrees).2),
+      );
+      untouched = λ q other. refl;
+      ended = ended;
+      left = λ memory. cc;
+      is_prefix = λ w agrees. record { rest = m.out w; is = refl };
+      names_failed_read = λ q failed clean. absurd (none_failed old q failed);
+      decided_is_written = λ q failed clean. absurd (none_failed old q failed);
+      bounded_lag = rw at_once
+          (nothing_decided m.positions m.decided (map received_of old) out.failed
+          (λ r same. undecided r (λ q. unopened_received (reader_at old q) (reader_at old q)
+          (at (map received_of old) q)
+          (came q) ∙ sym (same q))));
+      bounded = λ w agrees. omega arith;
+    }
 
 -- nothing is read or written, and `text` is the only message
-pub message_only_run : {text : List ℕ} {is : ℕ} {old : List Reader} {out messages_old messages_new : SinkState} {status : ℕ} → All IsNewOrUnopened old → out.failed ≡ false → HasSaid messages_old messages_new text → status ≡ is
-    → IsRun (message_only text is) old old (sinks out messages_old) (record { out = out; messages = messages_new; status = status; peak = 0; denied = false })
-message_only_run {text} {is} {old = old} {status = status} fresh fine has_said status_is = unread (message_only text is) status refl refl (λ r same. refl) fresh fine has_said (λ w agrees. (refl, refl, status_is))
+pub message_only_run : {text : List ℕ} {is : ℕ} {old : List Reader} {out messages_old messages_new : SinkState}
+    {status : ℕ}
+    → All IsNewOrUnopened old → out.failed ≡ false → HasSaid messages_old messages_new text → status ≡ is
+    → IsRun (message_only text is) old old (sinks out messages_old)
+    (record { out = out; messages = messages_new; status = status; peak = 0; denied = false })
+message_only_run {text} {is} {old = old} {status = status} fresh fine has_said status_is = unread (message_only text is)
+    status refl refl (λ r same. refl) fresh fine has_said (λ w agrees. (refl, refl, status_is))
     (no_operand (status == 0))
   where
     no_operand : (b : Bool) → AreReadToEnd old (cond b [] [])
@@ -162,15 +202,21 @@ message_only_run {text} {is} {old = old} {status = status} fresh fine has_said s
     no_operand false q named = absurd (false≢true named)
 
 -- A file that the tool cannot run without could not be opened, and every such file was reported.
-pub any_unopened : {m : CommandSpec} {old : List Reader} {out messages_old messages_new : SinkState} {has_unopened : Bool} → All IsNewOrUnopened old → out.failed ≡ false → ReportUnopenedPost m old messages_old messages_new has_unopened → has_unopened ≡ true
-    → IsRun m old old (sinks out messages_old) (record { out = out; messages = messages_new; status = 1; peak = 0; denied = false })
+pub any_unopened : {m : CommandSpec} {old : List Reader} {out messages_old messages_new : SinkState}
+    {has_unopened : Bool}
+    → All IsNewOrUnopened old → out.failed ≡ false → ReportUnopenedPost m old messages_old messages_new has_unopened
+    → has_unopened ≡ true
+    → IsRun m old old (sinks out messages_old)
+    (record { out = out; messages = messages_new; status = 1; peak = 0; denied = false })
 any_unopened {m} {old} fresh fine k has_unopened =
-    unread m 1 (k.at_once has_unopened) (sym k.is ∙ has_unopened) (k.undecided has_unopened) fresh fine (rw has_unopened at k.has_said)
+    unread m 1 (k.at_once has_unopened) (sym k.is ∙ has_unopened) (k.undecided has_unopened) fresh fine
+    (rw has_unopened at k.has_said)
     (λ w agrees.
     let same = unopened_agrees old old (map received_of old) w (nothing_read old (fresh_all old fresh)) agrees in
     let nothing = k.nothing has_unopened w same in (
       nothing.0,
-      rw (nothing.1, take-length m.positions, append-nil (unopened_messages m.tool m.names (is_unopened w) m.positions)) (unopened_same m.tool m.names (is_reader_unopened old) (is_unopened w) m.positions same),
+      rw (nothing.1, take-length m.positions, append-nil (unopened_messages m.tool m.names (is_unopened w) m.positions))
+          (unopened_same m.tool m.names (is_reader_unopened old) (is_unopened w) m.positions same),
       sym nothing.2,
     ))
     (rw (k.at_once has_unopened) (λ q named. absurd (false≢true named)))
@@ -188,23 +234,42 @@ ended_after_all m readers n r ended = ⊎_elim (λ together. rw together (λ q n
     (λ in_turn. rw in_turn (rw in_turn at ended)) (cases_Bool (is_none m.sequential))
 
 -- an input that a result names has an index below the number of readers
-pub index_below : {m : CommandSpec} {old new : List Reader} {was is is' : Output} {messages_old messages_new : SinkState} {before store : Slots} {run_result final_result : Result Completion FlowFault}
-    → RunInputsPost m old new was is messages_old messages_new before store run_result → FinishPost is is' run_result final_result → HasIndexBelow (length old) final_result
-index_below {is' = is'} k f = ⊎_elim (λ write_failed. rw (f.broken write_failed) tt) (λ clean. rw (f.same_result clean) k.position) (cases_Bool is'.write_failed)
+pub index_below : {m : CommandSpec} {old new : List Reader} {was is is' : Output}
+    {messages_old messages_new : SinkState} {before store : Slots}
+    {run_result final_result : Result Completion FlowFault}
+    → RunInputsPost m old new was is messages_old messages_new before store run_result
+    → FinishPost is is' run_result final_result → HasIndexBelow (length old) final_result
+index_below {is' = is'} k f = ⊎_elim (λ write_failed. rw (f.broken write_failed) tt)
+    (λ clean. rw (f.same_result clean) k.position) (cases_Bool is'.write_failed)
 
-module _ {m : CommandSpec} {old new : List Reader} {was is is' : Output} {messages_first messages_old messages_new : SinkState} {before store : Slots} {run_result final_result : Result Completion FlowFault} (out : SinkState) (o : Outcome)
-    (nothing_said : HasSaid messages_first messages_old []) (k : RunInputsPost m old new was is messages_old messages_new before store run_result) (f : FinishPost is is' run_result final_result)
-    (says : HasSaid messages_new o.messages (result_message m.tool m.names final_result)) (status_is : o.status ≡ result_status final_result)
-    (made : was ≡ record { accepted = out.accepted; buffered = []; write_failed = false; unflushed = out.unflushed; flushes = out.flushes }) (last_accepted : o.out.accepted ≡ is'.accepted)
-    (last_failed : o.out.failed ≡ is'.write_failed) (last_unflushed : o.out.unflushed ≡ is'.unflushed) (last_flushes : o.out.flushes ≡ is'.flushes)
+module _ {m : CommandSpec} {old new : List Reader} {was is is' : Output}
+    {messages_first messages_old messages_new : SinkState} {before store : Slots}
+    {run_result final_result : Result Completion FlowFault} (out : SinkState) (o : Outcome)
+    (nothing_said : HasSaid messages_first messages_old [])
+    (k : RunInputsPost m old new was is messages_old messages_new before store run_result)
+    (f : FinishPost is is' run_result final_result)
+    (says : HasSaid messages_new o.messages (result_message m.tool m.names final_result))
+    (status_is : o.status ≡ result_status final_result)
+    (made : was ≡ record {
+      accepted = out.accepted;
+      buffered = [];
+      write_failed = false;
+      unflushed = out.unflushed;
+      flushes = out.flushes;
+    }) (last_accepted : o.out.accepted ≡ is'.accepted)
+    (last_failed : o.out.failed ≡ is'.write_failed) (last_unflushed : o.out.unflushed ≡ is'.unflushed)
+    (last_flushes : o.out.flushes ≡ is'.flushes)
     (low : before.peak ≡ 0) (peak_is : o.peak ≡ store.peak) (denied_is : o.denied ≡ store.denied) where
   -- the last output, except for the count of flushes
   abbrev sent : Output
   sent = record is' { flushes = is.flushes }
 
   wrote : PushEffect was sent k.pushed
-  wrote = ⊎_elim (λ write_failed. subst (λ (b : Output). PushEffect was b k.pushed) (sym (f.wrote.stays write_failed)) k.wrote)
-      (λ clean. rw (append-nil k.pushed) at (push_trans was is sent k.pushed [] clean k.wrote f.wrote)) (cases_Bool is.write_failed)
+  wrote =
+      ⊎_elim (λ write_failed. subst (λ (b : Output). PushEffect was b k.pushed) (sym (f.wrote.stays write_failed))
+      k.wrote)
+      (λ clean. rw (append-nil k.pushed) at (push_trans was is sent k.pushed [] clean k.wrote f.wrote))
+      (cases_Bool is.write_failed)
 
   reached : Reached was sent k.pushed
   reached = reached_of was sent k.pushed (ap (λ (o : Output). o.buffered) made) wrote
@@ -215,7 +280,8 @@ module _ {m : CommandSpec} {old new : List Reader} {was is is' : Output} {messag
 
   flushed_once : o.out.flushes ≡ (if o.out.failed then out.flushes else flushes_after out.flushes)
   flushed_once = ⊎_elim (λ failed. rw failed (last_flushes ∙ f.unfinished (sym last_failed ∙ failed) ∙ flushes_before))
-      (λ fine. rw fine (last_flushes ∙ f.flushes (sym last_failed ∙ fine) ∙ ap flushes_after flushes_before)) (cases_Bool o.out.failed)
+      (λ fine. rw fine (last_flushes ∙ f.flushes (sym last_failed ∙ fine) ∙ ap flushes_after flushes_before))
+      (cases_Bool o.out.failed)
 
   begins : (w : InputBytes) → AreInputsConsistent k.received w → IsPrefix reached.front (m.out w)
   begins w agrees = let b = k.is_prefix w agrees in record {
@@ -224,12 +290,15 @@ module _ {m : CommandSpec} {old new : List Reader} {was is is' : Output} {messag
   }
 
   all_front : is'.write_failed ≡ false → reached.front ≡ k.pushed
-  all_front clean = sym (reached.split ∙ ap (λ (l : List ℕ). reached.front ++ l) (reached.whole clean (f.emptied clean)) ∙ append-nil reached.front)
+  all_front clean =
+      sym (reached.split ∙ ap (λ (l : List ℕ). reached.front ++ l) (reached.whole clean (f.emptied clean))
+      ∙ append-nil reached.front)
 
   abbrev last : List ℕ
   last = result_message m.tool m.names final_result
 
-  ends_as : (r : Result Completion FlowFault) → final_result ≡ r → RunInputsEnd m k.received old new k.pushed is'.write_failed store.denied k.operands_done r
+  ends_as : (r : Result Completion FlowFault) → final_result ≡ r
+      → RunInputsEnd m k.received old new k.pushed is'.write_failed store.denied k.operands_done r
       → RunEnd m k.received old new reached.front (k.message ++ last) o k.operands_done (fault_of r)
   ends_as (Ok done) same (complete, says) = (
     record {
@@ -240,7 +309,8 @@ module _ {m : CommandSpec} {old new : List Reader} {was is is' : Output} {messag
       read = complete.read;
     },
     λ w agrees. let (message, status) = says w agrees in (
-      (λ i. (k.names w agrees ∙ ap (λ (n : ℕ). operand_messages m w n) complete.all) i ++ (ap (result_message m.tool m.names) same ∙ message) i),
+      (λ i. (k.names w agrees ∙ ap (λ (n : ℕ). operand_messages m w n) complete.all) i
+          ++ (ap (result_message m.tool m.names) same ∙ message) i),
       status_is ∙ ap result_status same ∙ status,
     ),
   )
@@ -263,7 +333,8 @@ module _ {m : CommandSpec} {old new : List Reader} {was is is' : Output} {messag
     received = k.received;
     came = k.came;
     written = reached.front;
-    output = last_accepted ∙ reached.accepted ∙ ap (λ (t : Option (List ℕ)). append_known t reached.front) (ap (λ (o : Output). o.accepted) made);
+    output = last_accepted ∙ reached.accepted
+        ∙ ap (λ (t : Option (List ℕ)). append_known t reached.front) (ap (λ (o : Output). o.accepted) made);
     flushed = λ _ fine. last_unflushed ∙ f.flushed (sym last_failed ∙ fine);
     flushes = λ _. flushed_once;
     message = k.message ++ last;
@@ -271,22 +342,33 @@ module _ {m : CommandSpec} {old new : List Reader} {was is is' : Output} {messag
     operands_done = k.operands_done;
     fault = fault_of final_result;
     ends = ends_as final_result refl (⊎_elim (λ write_failed. rw (f.broken write_failed) write_failed)
-        (λ (clean : is'.write_failed ≡ false). rw (clean, f.same_result clean) (rw (f.was_clean clean) at k.ends)) (cases_Bool is'.write_failed));
+        (λ (clean : is'.write_failed ≡ false). rw (clean, f.same_result clean) (rw (f.was_clean clean) at k.ends))
+        (cases_Bool is'.write_failed));
     untouched = k.untouched;
-    ended = rw status_is (⊎_elim (λ write_failed. rw (f.broken write_failed) (ended_after_all m new k.operands_done run_result k.ended))
+    ended =
+        rw status_is
+        (⊎_elim (λ write_failed. rw (f.broken write_failed)
+        (ended_after_all m new k.operands_done run_result k.ended))
         (λ clean. rw (f.same_result clean) k.ended) (cases_Bool is'.write_failed));
     left = λ memory. ⊎_elim (λ write_failed. absurd (not_memory (f.broken write_failed) memory))
-        (λ clean. rw (all_front clean) (k.left (sym (f.same_result clean) ∙ err_of final_result memory))) (cases_Bool is'.write_failed);
+        (λ clean. rw (all_front clean) (k.left (sym (f.same_result clean) ∙ err_of final_result memory)))
+        (cases_Bool is'.write_failed);
     is_prefix = begins;
-    names_failed_read = λ position failed fine. let clean = sym last_failed ∙ fine in ap fault_of (f.same_result clean ∙ k.names_failed_read position failed (f.was_clean clean));
-    decided_is_written = λ position failed fine. let clean = sym last_failed ∙ fine in let b = k.decided_is_written position failed (f.was_clean clean) in record { rest = b.rest; is = all_front clean ∙ b.is };
-    bounded_lag = earlier_map m k.received k.operands_done (λ decided. IsPushedUpToBlock decided was is k.pushed) (λ decided. IsWrittenUpToBlock decided reached.front o.out.failed) kept k.bounded_lag;
+    names_failed_read = λ position failed fine. let clean = sym last_failed ∙ fine in
+        ap fault_of (f.same_result clean ∙ k.names_failed_read position failed (f.was_clean clean));
+    decided_is_written = λ position failed fine. let clean = sym last_failed ∙ fine in
+        let b = k.decided_is_written position failed (f.was_clean clean) in
+        record { rest = b.rest; is = all_front clean ∙ b.is };
+    bounded_lag = earlier_map m k.received k.operands_done (λ decided. IsPushedUpToBlock decided was is k.pushed)
+        (λ decided. IsWrittenUpToBlock decided reached.front o.out.failed) kept k.bounded_lag;
     bounded = λ w agrees. omega (arith, k.peak w agrees, low, peak_is);
   }
     where
-      kept : (bytes : List ℕ) → IsPushedUpToBlock bytes was is k.pushed → IsWrittenUpToBlock bytes reached.front o.out.failed
+      kept : (bytes : List ℕ) → IsPushedUpToBlock bytes was is k.pushed
+          → IsWrittenUpToBlock bytes reached.front o.out.failed
       kept bytes up =
-          kept_up bytes was is is' k.pushed reached.front reached.rest up (ap (λ (o : Output). o.buffered) made) reached.split reached.accepted f.wrote.kept reached.unknown o.out.failed
+          kept_up bytes was is is' k.pushed reached.front reached.rest up (ap (λ (o : Output). o.buffered) made)
+          reached.split reached.accepted f.wrote.kept reached.unknown o.out.failed
           (λ fine. let clean = sym last_failed ∙ fine in reached.whole clean (f.emptied clean))
 
   pub run_in_store : IsRunInStore m old new (sinks out messages_first) o before store
@@ -296,28 +378,35 @@ module _ {m : CommandSpec} {old new : List Reader} {was is is' : Output} {messag
 -- ---- the specification of arguments
 
 -- the specification of arguments that are a command
-pub spec_of_ok : {A : Type 0} (command : Result (code.Command A) UseFault) (words : List (List ℕ)) (c : code.Command A) → command ≡ Ok c
-    → CommandPost command (command_of_args words) → spec_of_parsed command words ≡ command_spec (command_view c)
+pub spec_of_ok : {A : Type 0} (command : Result (code.Command A) UseFault) (words : List (List ℕ)) (c : code.Command A)
+    → command ≡ Ok c → CommandPost command (command_of_args words)
+    → spec_of_parsed command words ≡ command_spec (command_view c)
 spec_of_ok command words c is m = rw is (ap (spec_of_result (tool_name words)) (rw is at m))
 
 spec_of_fault_in : (words : List (List ℕ)) (f : Option Fault) → IsFault f (command_of_args words)
-    → cond (is_none f) (message_only (usage_message (tool_name words) None) 1) (spec_of_args words) ≡ message_only (usage_message (tool_name words) f) (usage_status f)
+    → cond (is_none f) (message_only (usage_message (tool_name words) None) 1) (spec_of_args words)
+    ≡ message_only (usage_message (tool_name words) f) (usage_status f)
 spec_of_fault_in words None m = refl
 spec_of_fault_in words (Some f) m = ap (spec_of_result (tool_name words)) m
 
 -- the specification of arguments that are no command
-pub spec_of_fault : {A : Type 0} (command : Result (code.Command A) UseFault) (words : List (List ℕ)) (fault : UseFault) → command ≡ Err fault → CommandPost command (command_of_args words)
-    → spec_of_parsed command words ≡ message_only (usage_message (tool_name words) (fault_view fault)) (usage_status (fault_view fault))
+pub spec_of_fault : {A : Type 0} (command : Result (code.Command A) UseFault) (words : List (List ℕ)) (fault : UseFault)
+    → command ≡ Err fault → CommandPost command (command_of_args words)
+    → spec_of_parsed command words ≡ message_only (usage_message (tool_name words) (fault_view fault))
+    (usage_status (fault_view fault))
 spec_of_fault command words fault is m = rw is (spec_of_fault_in words (fault_view fault) (rw is at m))
 
 position_differs : (a b : Input) → (a ≡ b → ⊥) → (position a == position b) ≡ false
 position_differs Standard Standard differ = absurd (differ refl)
 position_differs Standard (File j) differ = grind (arith, nat_tests)
 position_differs (File i) Standard differ = grind (arith, nat_tests)
-position_differs (File i) (File j) differ = ⊎_elim (λ k. absurd (differ (let same : i ≡ j = omega (arith, k.1) in ap (λ (n : ℕ). File n) same))) (λ k. k.0) (eqb_tells (i + 1) (j + 1))
+position_differs (File i) (File j) differ =
+    ⊎_elim (λ k. absurd (differ (let same : i ≡ j = omega (arith, k.1) in ap (λ (n : ℕ). File n) same))) (λ k. k.0)
+    (eqb_tells (i + 1) (j + 1))
 
 -- a tool that merges two inputs accepts two different ones, since their positions differ
-two_positions : (t : TwoInputs) (order : List Input) → AreTwo order → (two_input_tool t).accepts (positions order) ≡ true
+two_positions : (t : TwoInputs) (order : List Input) → AreTwo order
+    → (two_input_tool t).accepts (positions order) ≡ true
 two_positions t order two = rw (two.are) (ap not (position_differs two.first two.second two.differ))
 
 -- a specification has these names and positions, and its tool accepts the operands
@@ -326,16 +415,33 @@ record IsSpecOver (m : CommandSpec) (names : List (List ℕ)) (positions : List 
   positioned : m.positions ≡ positions
   accepts_operands : m.accepts ≡ true
 
-is_spec_over : (job : Job) (order : List Input) (names : List (List ℕ)) → AreInputsOf job order → IsSpecOver (job_spec job names (positions order)) names (positions order)
-is_spec_over (RunCut u) order names accepts_operands = record { named = refl; positioned = refl; accepts_operands = refl }
-is_spec_over (RunPaste u) order names few = ⊎_elim (λ (is : u.serial ≡ true). rw is (record { named = refl; positioned = refl; accepts_operands = refl }))
-    (λ (is : u.serial ≡ false). rw is (record { named = refl; positioned = refl; accepts_operands = ap (λ (n : ℕ). nat_le n 512) (length-map order position) ∙ few })) (cases_Bool u.serial)
-is_spec_over (RunUniq u) order names one = record { named = refl; positioned = refl; accepts_operands = ap (λ (n : ℕ). n == 1) (length-map order position ∙ one) }
-is_spec_over (RunComm u) order names two = record { named = refl; positioned = refl; accepts_operands = two_positions (comm_tool u) order two }
-is_spec_over (RunJoin u) order names two = record { named = refl; positioned = refl; accepts_operands = two_positions (join_tool u) order two }
-is_spec_over (RunTr u) order names accepts_operands = record { named = refl; positioned = refl; accepts_operands = refl }
+is_spec_over : (job : Job) (order : List Input) (names : List (List ℕ)) → AreInputsOf job order
+    → IsSpecOver (job_spec job names (positions order)) names (positions order)
+is_spec_over (RunCut u) order names accepts_operands =
+    record { named = refl; positioned = refl; accepts_operands = refl }
+is_spec_over (RunPaste u) order names few =
+    ⊎_elim (λ (is : u.serial ≡ true). rw is (record { named = refl; positioned = refl; accepts_operands = refl }))
+    (λ (is : u.serial ≡ false). rw is
+    (record {
+      named = refl;
+      positioned = refl;
+      accepts_operands = ap (λ (n : ℕ). nat_le n 512) (length-map order position) ∙ few;
+    })) (cases_Bool u.serial)
+is_spec_over (RunUniq u) order names one =
+    record {
+      named = refl;
+      positioned = refl;
+      accepts_operands = ap (λ (n : ℕ). n == 1) (length-map order position ∙ one);
+    }
+is_spec_over (RunComm u) order names two =
+    record { named = refl; positioned = refl; accepts_operands = two_positions (comm_tool u) order two }
+is_spec_over (RunJoin u) order names two =
+    record { named = refl; positioned = refl; accepts_operands = two_positions (join_tool u) order two }
+is_spec_over (RunTr u) order names accepts_operands =
+    record { named = refl; positioned = refl; accepts_operands = refl }
 
-inputs_pre_of_spelled : (words : List (List ℕ)) (c : Command) (readers : List Reader) → SpellsCommand words c → AreNewInputs (length c.names) readers → InputsPre (command_spec c) readers
+inputs_pre_of_spelled : (words : List (List ℕ)) (c : Command) (readers : List Reader) → SpellsCommand words c
+    → AreNewInputs (length c.names) readers → InputsPre (command_spec c) readers
 inputs_pre_of_spelled words c readers (Spelled name rest tool os operands named s allowed) fresh =
     let is = is_spec_over c.job c.order c.names (are_inputs tool os operands allowed.inputs) in record {
       fresh = fresh.1;
@@ -346,12 +452,18 @@ inputs_pre_of_spelled words c readers (Spelled name rest tool os operands named 
     }
 
 -- each operand of a command has a reader, and the tool accepts these operands
-pub inputs_pre_of_parsed : {A : Type 0} (command : Result (code.Command A) UseFault) (words : List (List ℕ)) (c : code.Command A) (readers : List Reader) → command ≡ Ok c
-    → CommandPost command (command_of_args words) → AreNewInputs (length (command_view c).names) readers → InputsPre (command_spec (command_view c)) readers
-inputs_pre_of_parsed command words c readers is m fresh = inputs_pre_of_spelled words (command_view c) readers ((meant_as_spelled words (command_view c)).1 (rw is at m)) fresh
+pub inputs_pre_of_parsed : {A : Type 0} (command : Result (code.Command A) UseFault) (words : List (List ℕ))
+    (c : code.Command A) (readers : List Reader)
+    → command ≡ Ok c → CommandPost command (command_of_args words)
+    → AreNewInputs (length (command_view c).names) readers → InputsPre (command_spec (command_view c)) readers
+inputs_pre_of_parsed command words c readers is m fresh =
+    inputs_pre_of_spelled words (command_view c) readers ((meant_as_spelled words (command_view c)).1 (rw is at m))
+    fresh
 
 -- the main theorem for arguments, if parsing did not run out of memory
-pub exact_for_args : {A : Type 0} (command : Result (code.Command A) UseFault) (words : List (List ℕ)) (old new : List Reader) (before : Sinks) (o : Outcome)
-    → All IsNewOrUnopened old → IsRun (spec_of_parsed command words) old new before o
-    → is_memory_fault command ≡ false → IsExactUnlessFailed (spec_of_args words) old new before o
-exact_for_args command words old new before o fresh run not_denied = rw not_denied at (exact_of_run (spec_of_parsed command words) old new before o fresh run)
+pub exact_for_args : {A : Type 0} (command : Result (code.Command A) UseFault) (words : List (List ℕ))
+    (old new : List Reader) (before : Sinks) (o : Outcome)
+    → All IsNewOrUnopened old → IsRun (spec_of_parsed command words) old new before o → is_memory_fault command ≡ false
+    → IsExactUnlessFailed (spec_of_args words) old new before o
+exact_for_args command words old new before o fresh run not_denied =
+    rw not_denied at (exact_of_run (spec_of_parsed command words) old new before o fresh run)

@@ -1,21 +1,36 @@
 -- Tools that read their operands one after another. After each operand, the output is that of the operands so far; an
 -- operand whose input was read by an earlier one receives nothing more. An operand that fails leaves a prefix of the
 -- output, with all that was decided by then.
-use Rattle.ptrun.proofs.Common.{IsDone, cases_lt, sequential_slots, take-append-add, cases_eq, cases_Bool, ◌≡◌, ◌≢◌, ◌⊎◌, ⊎_elim, inl, inr, ℕ, ◌<◌, ◌≤◌, Bool, true, false, cond, List, [], ◌∷◌, ◌++◌, Option, Some, None, Result, Ok, Err}
-use Rattle.ptrun.proofs.Common.{◌+◌, length, take, map, set, max, refl, sym, ◌∙◌, ap, subst, arith, append_assoc, length-append, length-set, flat_map, option_map, list_any, append-nil, take_all}
-use Rattle.ptrun.proofs.Common.{map-append, get_or-set_same, get_or-set_other, length-map, take-append_seam, take-length, flat_map-append, false≢true, Reader, IsSound, HasReadCause, Output, PushEffect}
-use Rattle.ptrun.proofs.Common.{Slots, total_bytes, SinkState, push_trans, push_nothing, Received, empty_input, IsConsistent, IsPrefix, HasReceived, PassDone, PassOutcome, PassPost, ToolSpec, FlowFault, Read, Write, Memory, InputBytes}
-use Rattle.ptrun.proofs.Common.{ReceivedInputs, at, is_unopened, IsConsistentAt, AreInputsConsistent, is_in, input_of_operand, inputs_of_operands, opened_values, opened_inputs, reader_at, no_reader, is_reader_unopened, HasReceivedAt, HaveReceived, IsNewOrUnopened, HasReadFailed, IsTooLong}
-use Rattle.ptrun.proofs.Common.{HasSaid, unopened_messages, unopened_message, name_of, BoundedLag, IsPushedUpToBlock, decided_in_order, up_to_unended, sequential_output, sequential_bound, sequential_decided, sequential_spec, Completion, AllWritten, Unopened, HasCause, fault_at}
-use Rattle.ptrun.proofs.Common.{result_message, result_status, HasIndexBelow, RunInputsPost, get_or, get_or_default, All}
-use Rattle.ptrun.proofs.OneInput.{all_earlier, last_earlier, sends_now, sends_after, IsAtEof, none_received, completion_with, received_of, received_at, nothing_read, never_long, not_long, OpenedInput, opened_receives}
-use Rattle.ptrun.proofs.OneInput.{still_unopened, receives_trans, ended_gives_nothing, unopened_agrees, none_of, consistent_bytes, consistent_before, consistent_whole, least_consistent, ended_at, nth_here}
+use Rattle.ptrun.proofs.Common.{IsDone, cases_lt, sequential_slots, take-append-add, cases_eq, cases_Bool, ◌≡◌, ◌≢◌}
+use Rattle.ptrun.proofs.Common.{◌⊎◌, ⊎_elim, inl, inr, ℕ, ◌<◌, ◌≤◌, Bool, true, false, cond, List, [], ◌∷◌, ◌++◌}
+use Rattle.ptrun.proofs.Common.{Option, Some, None, Result, Ok, Err, ◌+◌, length, take, map, set, max, refl, sym, ◌∙◌}
+use Rattle.ptrun.proofs.Common.{ap, subst, arith, append_assoc, length-append, length-set, flat_map, option_map}
+use Rattle.ptrun.proofs.Common.{list_any, append-nil, take_all, map-append, get_or-set_same, get_or-set_other}
+use Rattle.ptrun.proofs.Common.{length-map, take-append_seam, take-length, flat_map-append, false≢true, Reader, IsSound}
+use Rattle.ptrun.proofs.Common.{HasReadCause, Output, PushEffect, Slots, total_bytes, SinkState, push_trans}
+use Rattle.ptrun.proofs.Common.{push_nothing, Received, empty_input, IsConsistent, IsPrefix, HasReceived, PassDone}
+use Rattle.ptrun.proofs.Common.{PassOutcome, PassPost, ToolSpec, FlowFault, Read, Write, Memory, InputBytes}
+use Rattle.ptrun.proofs.Common.{ReceivedInputs, at, is_unopened, IsConsistentAt, AreInputsConsistent, is_in}
+use Rattle.ptrun.proofs.Common.{input_of_operand, inputs_of_operands, opened_values, opened_inputs, reader_at}
+use Rattle.ptrun.proofs.Common.{no_reader, is_reader_unopened, HasReceivedAt, HaveReceived, IsNewOrUnopened}
+use Rattle.ptrun.proofs.Common.{HasReadFailed, IsTooLong, HasSaid, unopened_messages, unopened_message, name_of}
+use Rattle.ptrun.proofs.Common.{BoundedLag, IsPushedUpToBlock, decided_in_order, up_to_unended, sequential_output}
+use Rattle.ptrun.proofs.Common.{sequential_bound, sequential_decided, sequential_spec, Completion, AllWritten, Unopened}
+use Rattle.ptrun.proofs.Common.{HasCause, fault_at, result_message, result_status, HasIndexBelow, RunInputsPost, get_or}
+use Rattle.ptrun.proofs.Common.{get_or_default, All}
+use Rattle.ptrun.proofs.OneInput.{all_earlier, last_earlier, sends_now, sends_after, IsAtEof, none_received}
+use Rattle.ptrun.proofs.OneInput.{completion_with, received_of, received_at, nothing_read, never_long, not_long}
+use Rattle.ptrun.proofs.OneInput.{OpenedInput, opened_receives, still_unopened, receives_trans, ended_gives_nothing}
+use Rattle.ptrun.proofs.OneInput.{unopened_agrees, none_of, consistent_bytes, consistent_before, consistent_whole}
+use Rattle.ptrun.proofs.OneInput.{least_consistent, ended_at, nth_here}
 use Rattle.ptrun.proofs.MessageWrites.{said_nothing}
-use Rattle.ptrun.proofs.OperandInputs.{some_same, is_in-same, is_in-other, not_more, by_position, opened_inputs_some, opened_inputs_none, unopened_same, any_same, any_now, any_before, said_more, maximum-append, IsEndedAt, least_bytes}
-use Rattle.ptrun.proofs.OperandInputs.{decided_inputs, DecidesAll, fresh_all}
+use Rattle.ptrun.proofs.OperandInputs.{some_same, is_in-same, is_in-other, not_more, by_position, opened_inputs_some}
+use Rattle.ptrun.proofs.OperandInputs.{opened_inputs_none, unopened_same, any_same, any_now, any_before, said_more}
+use Rattle.ptrun.proofs.OperandInputs.{maximum-append, IsEndedAt, least_bytes, decided_inputs, DecidesAll, fresh_all}
 
 -- the state once these operands are done
-pub record OperandsDone (word : List ℕ) (t : ToolSpec) (names : List (List ℕ)) (old now : List Reader) (was is : Output) (messages_old messages_new : SinkState) (before store : Slots)
+pub record OperandsDone (word : List ℕ) (t : ToolSpec) (names : List (List ℕ)) (old now : List Reader) (was is : Output)
+    (messages_old messages_new : SinkState) (before store : Slots)
     (done : List ℕ) (so_far : Completion) : Type 0 where
   pub inputs_read : ReceivedInputs
   pub same_length : length now ≡ length old
@@ -32,19 +47,25 @@ pub record OperandsDone (word : List ℕ) (t : ToolSpec) (names : List (List ℕ
   pub clean : is.write_failed ≡ false
   pub not_denied : store.denied ≡ false
   pub empty : total_bytes store.lines ≡ 0
-  pub peak : (w : InputBytes) → AreInputsConsistent inputs_read w → store.peak ≤ max before.peak (sequential_bound t w done)
+  pub peak : (w : InputBytes) → AreInputsConsistent inputs_read w
+      → store.peak ≤ max before.peak (sequential_bound t w done)
   pub slots : (w : InputBytes) → AreInputsConsistent inputs_read w
       → length store.lines ≤ max (length before.lines) (sequential_slots t w done)
   pub room : (q : ℕ) → is_in done q ≡ true → is_reader_unopened old q ≡ false → t.slots ≤ length store.lines
 
 -- such a state, along equalities of its parts
-pub done_as : {word : List ℕ} {t : ToolSpec} {names : List (List ℕ)} {old now now' : List Reader} {was is is' : Output} {messages_old messages_new messages_new' : SinkState} {before store store' : Slots}
-    {done done' : List ℕ} {so_far so_far' : Completion} → now' ≡ now → store' ≡ store → is' ≡ is → messages_new' ≡ messages_new → so_far' ≡ so_far → done' ≡ done
-    → OperandsDone word t names old now was is messages_old messages_new before store done so_far → OperandsDone word t names old now' was is' messages_old messages_new' before store' done' so_far'
+pub done_as : {word : List ℕ} {t : ToolSpec} {names : List (List ℕ)} {old now now' : List Reader} {was is is' : Output}
+    {messages_old messages_new messages_new' : SinkState} {before store store' : Slots}
+    {done done' : List ℕ} {so_far so_far' : Completion} → now' ≡ now → store' ≡ store → is' ≡ is
+    → messages_new' ≡ messages_new → so_far' ≡ so_far → done' ≡ done
+    → OperandsDone word t names old now was is messages_old messages_new before store done so_far
+    → OperandsDone word t names old now' was is' messages_old messages_new' before store' done' so_far'
 done_as inputs kept out messages far positions k = rw (inputs, kept, out, messages, far, positions) k
 
-module _ {word : List ℕ} {t : ToolSpec} {names : List (List ℕ)} {old : List Reader} {was : Output} {messages_old : SinkState} {before : Slots} (fresh : All IsNewOrUnopened old) where
-  pub done_nothing : was.write_failed ≡ false → before.denied ≡ false → total_bytes before.lines ≡ 0 → OperandsDone word t names old old was was messages_old messages_old before before [] AllWritten
+module _ {word : List ℕ} {t : ToolSpec} {names : List (List ℕ)} {old : List Reader} {was : Output}
+    {messages_old : SinkState} {before : Slots} (fresh : All IsNewOrUnopened old) where
+  pub done_nothing : was.write_failed ≡ false → before.denied ≡ false → total_bytes before.lines ≡ 0
+      → OperandsDone word t names old old was was messages_old messages_old before before [] AllWritten
   done_nothing clean not_denied empty = record {
     inputs_read = map received_of old;
     same_length = refl;
@@ -66,23 +87,32 @@ module _ {word : List ℕ} {t : ToolSpec} {names : List (List ℕ)} {old : List 
     room = λ q seen. absurd (false≢true seen);
   }
 
-  module _ {now : List Reader} {is : Output} {messages_new : SinkState} {store : Slots} {done : List ℕ} {so_far : Completion} (k : OperandsDone word t names old now was is messages_old messages_new before store done so_far) where
+  module _ {now : List Reader} {is : Output} {messages_new : SinkState} {store : Slots} {done : List ℕ}
+      {so_far : Completion}
+      (k : OperandsDone word t names old now was is messages_old messages_new before store done so_far) where
     was_unopened : (q : ℕ) → is_reader_unopened old q ≡ (reader_at now q).refused
     was_unopened q = sym (still_unopened (reader_at old q) (reader_at now q) (at k.inputs_read q) (k.came q))
 
-    not_failed_now : (q : ℕ) → is_reader_unopened old q ≡ false → (reader_at old q).failed ≡ false → (reader_at now q).failed ≡ false
-    not_failed_now q opened not_failed_before = ⊎_elim (λ seen. (k.at_eof q seen opened).failed) (λ unseen. ap (λ (r : Reader). r.failed) (k.unread q unseen) ∙ not_failed_before) (cases_Bool (is_in done q))
+    not_failed_now : (q : ℕ) → is_reader_unopened old q ≡ false → (reader_at old q).failed ≡ false
+        → (reader_at now q).failed ≡ false
+    not_failed_now q opened not_failed_before =
+        ⊎_elim (λ seen. (k.at_eof q seen opened).failed)
+        (λ unseen. ap (λ (r : Reader). r.failed) (k.unread q unseen) ∙ not_failed_before) (cases_Bool (is_in done q))
 
     ended_now : (q : ℕ) → is_in done q ≡ true → IsEndedAt (at k.inputs_read q)
     ended_now q seen = ended_at (reader_at old q) (reader_at now q) (at k.inputs_read q) (k.came q) (k.at_eof q seen)
 
-    can_read_now : (q : ℕ) → is_reader_unopened old q ≡ false → ((reader_at now q).buffered ≡ []) × ((reader_at now q).fault ≡ None)
+    can_read_now : (q : ℕ) → is_reader_unopened old q ≡ false
+        → ((reader_at now q).buffered ≡ []) × ((reader_at now q).fault ≡ None)
     can_read_now q opened = ⊎_elim (λ seen. let s = k.at_eof q seen opened in (s.done.buffered, s.fault))
-        (λ unseen. let new = fresh_all old fresh q opened in rw (k.unread q unseen) (new.buffered, new.fault)) (cases_Bool (is_in done q))
+        (λ unseen. let new = fresh_all old fresh q opened in rw (k.unread q unseen) (new.buffered, new.fault))
+        (cases_Bool (is_in done q))
 
     -- ---- all operands are done
 
-    pub done_all : DecidesAll t → RunInputsPost (sequential_spec word t names done) old now was is messages_old messages_new before store (Ok so_far)
+    pub done_all : DecidesAll t
+        → RunInputsPost (sequential_spec word t names done) old now was is messages_old messages_new before store
+        (Ok so_far)
     done_all law = record {
       received = k.inputs_read;
       came = k.came;
@@ -92,7 +122,9 @@ module _ {word : List ℕ} {t : ToolSpec} {names : List (List ℕ)} {old : List 
       within = omega arith;
       message = unopened_messages word names (is_reader_unopened old) done;
       has_said = k.has_said;
-      names = λ w agrees. rw (take-length done) (unopened_same word names (is_reader_unopened old) (is_unopened w) done (unopened_agrees old now k.inputs_read w k.came agrees));
+      names =
+          λ w agrees. rw (take-length done) (unopened_same word names (is_reader_unopened old) (is_unopened w) done
+          (unopened_agrees old now k.inputs_read w k.came agrees));
       ends = (
         record {
           all = refl;
@@ -101,10 +133,13 @@ module _ {word : List ℕ} {t : ToolSpec} {names : List (List ℕ)} {old : List 
           not_denied = k.not_denied;
           read = λ q. ⊎_elim (none q) (short q);
         },
-        λ w agrees. let same = any_same (is_reader_unopened old) (is_unopened w) done (unopened_agrees old now k.inputs_read w k.came agrees) in
-            let (message, status, position) = ends_with (list_any (is_unopened w) done) in rw (k.so_far_is, same) (message, status),
+        λ w agrees. let same = any_same (is_reader_unopened old) (is_unopened w) done
+            (unopened_agrees old now k.inputs_read w k.came agrees) in
+            let (message, status, position) = ends_with (list_any (is_unopened w) done) in
+            rw (k.so_far_is, same) (message, status),
       );
-      position = let (message, status, position) = ends_with (list_any (is_reader_unopened old) done) in rw k.so_far_is position;
+      position = let (message, status, position) = ends_with (list_any (is_reader_unopened old) done) in
+          rw k.so_far_is position;
       untouched = λ q other. k.unread q (rw all_taken at other);
       ended = λ q named opened. (k.at_eof q (rw (take-length done) at named) (was_unopened q ∙ opened)).done;
       left = λ memory. cc;
@@ -112,8 +147,13 @@ module _ {word : List ℕ} {t : ToolSpec} {names : List (List ℕ)} {old : List 
       names_failed_read = λ q failed clean. absurd (none q failed);
       decided_is_written = λ q failed clean. absurd (none q failed);
       bounded_lag = rw all_taken
-          (all_earlier t (opened_inputs empty_input k.inputs_read done) (λ decided. IsPushedUpToBlock decided was is k.pushed)
-          (record { begins = processing; buffering = sends_now was is k.pushed (sequential_decided t k.inputs_read done) k.wrote k.clean processing }));
+          (all_earlier t (opened_inputs empty_input k.inputs_read done)
+          (λ decided. IsPushedUpToBlock decided was is k.pushed)
+          (record {
+            begins = processing;
+            buffering = sends_now was is k.pushed (sequential_decided t k.inputs_read done)
+                k.wrote k.clean processing;
+          }));
       peak = k.peak;
       slots = k.slots;
     }
@@ -125,19 +165,30 @@ module _ {word : List ℕ} {t : ToolSpec} {names : List (List ℕ)} {old : List 
         none q (opened, before, failed) = false≢true (sym (not_failed_now q opened before) ∙ failed)
 
         short : (q : ℕ) → IsTooLong (at k.inputs_read q) → ⊥
-        short q long = ⊎_elim (λ seen. not_long (reader_at old q) (reader_at now q) (at k.inputs_read q) (fresh_all old fresh q) (k.came q) (λ opened. (k.at_eof q seen opened).short) long)
+        short q long =
+            ⊎_elim (λ seen. not_long (reader_at old q) (reader_at now q) (at k.inputs_read q) (fresh_all old fresh q)
+            (k.came q) (λ opened. (k.at_eof q seen opened).short) long)
             (λ unseen. never_long (reader_at old q) (rw (k.unreceived q unseen) at long)) (cases_Bool (is_in done q))
 
-        ends_with : (b : Bool) → (result_message word names (Ok (completion_with b)) ≡ []) × (result_status (Ok (completion_with b)) ≡ cond b 1 0) × HasIndexBelow (length old) (Ok (completion_with b))
+        ends_with : (b : Bool)
+            → (result_message word names (Ok (completion_with b)) ≡ [])
+            × (result_status (Ok (completion_with b)) ≡ cond b 1 0)
+            × HasIndexBelow (length old) (Ok (completion_with b))
         ends_with true = (refl, refl, tt)
         ends_with false = (refl, refl, tt)
 
         -- all output that they decided was pushed
         processing : IsPrefix (sequential_decided t k.inputs_read done) k.pushed
         processing =
-            let all = decided_inputs t law k.inputs_read [] done [] ended_now ∙ append-nil (sequential_output t (least_bytes k.inputs_read) done) ∙ sym (k.out (least_bytes k.inputs_read) (least_consistent k.inputs_read)) in
+            let all = decided_inputs t law k.inputs_read [] done [] ended_now
+            ∙ append-nil (sequential_output t (least_bytes k.inputs_read) done)
+            ∙ sym (k.out (least_bytes k.inputs_read) (least_consistent k.inputs_read)) in
             let none = append-nil (opened_inputs empty_input k.inputs_read done) in
-            record { rest = []; is = sym all ∙ ap (λ (l : List Received). flat_map t.decided (up_to_unended l)) none ∙ sym (append-nil (sequential_decided t k.inputs_read done)) }
+            record {
+              rest = [];
+              is = sym all ∙ ap (λ (l : List Received). flat_map t.decided (up_to_unended l)) none
+                  ∙ sym (append-nil (sequential_decided t k.inputs_read done));
+            }
 
     -- ---- the next operand
 
@@ -147,17 +198,21 @@ module _ {word : List ℕ} {t : ToolSpec} {names : List (List ℕ)} {old : List 
 
       -- an opened reader has no fault
       pub ready_here : (get_or now p d).refused ≡ false → (get_or now p d).fault ≡ None
-      ready_here opened = let (buffered, fault) = can_read_now p (was_unopened p ∙ ap (λ (r : Reader). r.refused) (sym here) ∙ opened) in rw here fault
+      ready_here opened = let (buffered, fault) =
+          can_read_now p (was_unopened p ∙ ap (λ (r : Reader). r.refused) (sym here) ∙ opened) in rw here fault
 
       -- the next operand could not be opened
-      pub done_unopened : {messages_new' : SinkState} → (get_or now p d).refused ≡ true → HasSaid messages_new messages_new' (unopened_message word (name_of names p))
+      pub done_unopened : {messages_new' : SinkState} → (get_or now p d).refused ≡ true
+          → HasSaid messages_new messages_new' (unopened_message word (name_of names p))
           → OperandsDone word t names old now was is messages_old messages_new' before store (done ++ p ∷ []) Unopened
       done_unopened refused says = record {
         inputs_read = k.inputs_read;
         same_length = k.same_length;
         long = k.long;
         came = k.came;
-        at_eof = λ q seen opened. ⊎_elim (λ same. absurd (false≢true (sym opened ∙ ap (is_reader_unopened old) (sym same) ∙ old_unopened)))
+        at_eof =
+            λ q seen opened. ⊎_elim
+            (λ same. absurd (false≢true (sym opened ∙ ap (is_reader_unopened old) (sym same) ∙ old_unopened)))
             (λ other. k.at_eof q (sym (is_in-other done p q other) ∙ seen) opened) (cases_eq p q);
         unread = λ q unseen. let (differs, before) = not_more done p q unseen in k.unread q before;
         unreceived = λ q unseen. let (differs, before) = not_more done p q unseen in k.unreceived q before;
@@ -171,21 +226,26 @@ module _ {word : List ℕ} {t : ToolSpec} {names : List (List ℕ)} {old : List 
         empty = k.empty;
         peak = λ w agrees. rw (nothing w agrees) (k.peak w agrees);
         slots = λ w agrees. rw (nothing w agrees) (k.slots w agrees);
-        room = λ q seen opened. ⊎_elim (λ same. absurd (false≢true (sym opened ∙ ap (is_reader_unopened old) (sym same) ∙ old_unopened)))
+        room =
+            λ q seen opened. ⊎_elim
+            (λ same. absurd (false≢true (sym opened ∙ ap (is_reader_unopened old) (sym same) ∙ old_unopened)))
             (λ other. k.room q (sym (is_in-other done p q other) ∙ seen) opened) (cases_eq p q);
       }
         where
           old_unopened : (reader_at old p).refused ≡ true
           old_unopened = was_unopened p ∙ ap (λ (r : Reader). r.refused) (sym here) ∙ refused
 
-          nothing : (w : InputBytes) → AreInputsConsistent k.inputs_read w → opened_inputs [] w (done ++ p ∷ []) ≡ opened_inputs [] w done
+          nothing : (w : InputBytes) → AreInputsConsistent k.inputs_read w
+              → opened_inputs [] w (done ++ p ∷ []) ≡ opened_inputs [] w done
           nothing w agrees =
-              let none = none_of (at w p) (sym (unopened_agrees old now k.inputs_read w k.came agrees p) ∙ old_unopened) in
+              let none =
+              none_of (at w p) (sym (unopened_agrees old now k.inputs_read w k.came agrees p) ∙ old_unopened) in
               opened_inputs_none [] w done p (rw none refl)
 
     -- ---- an operand that was opened
 
-    module _ {is' : Output} {store' : Slots} {p : ℕ} {new : Reader} {result : Result (Unit {0}) FlowFault} (within : p < length old) (d : Reader) (open_here : (get_or now p d).refused ≡ false)
+    module _ {is' : Output} {store' : Slots} {p : ℕ} {new : Reader} {result : Result (Unit {0}) FlowFault}
+        (within : p < length old) (d : Reader) (open_here : (get_or now p d).refused ≡ false)
         (sound : IsSound (get_or now p d)) (pass : PassPost t (get_or now p d) new is is' store store' result) where
       e : PassPost t (reader_at now p) new is is' store store' result
       e = rw (here within d) at pass
@@ -222,34 +282,45 @@ module _ {word : List ℕ} {t : ToolSpec} {names : List (List ℕ)} {old : List 
       read_here = get_or-set_same k.inputs_read p (Some (given_now y.given)) None (omega (arith, within, k.long))
 
       read_other : (q : ℕ) → p ≢ q → at inputs_read' q ≡ at k.inputs_read q
-      read_other q differs = get_or-set_other k.inputs_read p q (Some (given_now y.given)) None (λ is_p. differs (sym is_p))
+      read_other q differs = get_or-set_other k.inputs_read p q (Some (given_now y.given)) None
+          (λ is_p. differs (sym is_p))
 
       receives_here : HasReceived (reader_at old p) new (given_now y.given)
       receives_here = receives_trans (reader_at old p) (reader_at now p) new y.given e.given y.received e.came buffered
 
       received' : HaveReceived old now' inputs_read'
-      received' = by_position (λ q. HasReceivedAt (reader_at old q) (reader_at now' q) (at inputs_read' q)) p (rw (reader_here, read_here) (old_open, receives_here))
+      received' = by_position (λ q. HasReceivedAt (reader_at old q) (reader_at now' q) (at inputs_read' q)) p
+          (rw (reader_here, read_here) (old_open, receives_here))
           (λ q other. rw (reader_other q other, read_other q other) (k.came q))
 
       still : y.given.eof ≡ true → (e.given.bytes ≡ []) × (e.given.eof ≡ true)
       still eof = ended_gives_nothing (reader_at now p) new e.given e.came buffered (sym y.received.eof ∙ eof)
 
       -- its input was read to its end before and gives nothing now, or it was not read before
-      turn : ((is_in done p ≡ true) × (e.given ≡ empty_input) × IsAtEof (reader_at now p)) ⊎ ((is_in done p ≡ false) × (y.given ≡ none_received))
+      turn : ((is_in done p ≡ true) × (e.given ≡ empty_input) × IsAtEof (reader_at now p))
+          ⊎ ((is_in done p ≡ false) × (y.given ≡ none_received))
       turn = ⊎_elim
           (λ seen.
           let s = k.at_eof p seen old_open in
           let (none, at_eof) = still (y.received.eof ∙ s.done.eof) in
           inl (seen, (λ i. record { bytes = none i; eof = at_eof i }), s))
-          (λ unseen. inr (unseen, some_same (sym y.is ∙ k.unreceived p unseen ∙ ap (λ (b : Bool). cond b None (Some none_received)) old_open))) (cases_Bool (is_in done p))
+          (λ unseen. inr (
+            unseen,
+            some_same (sym y.is ∙ k.unreceived p unseen
+                ∙ ap (λ (b : Bool). cond b None (Some none_received)) old_open),
+          )) (cases_Bool (is_in done p))
 
       unseen : HasReadCause (reader_at now p) new → is_in done p ≡ false
       unseen cause = ⊎_elim
-          (λ (seen, none, at_eof). absurd (⊎_elim (λ (failed, fault, before). false≢true (sym (e.came.eof ∙ before) ∙ ap (λ (g : Received). g.eof) none))
-          (λ (long, same). let (pulled, still_eof) = e.came.still at_eof.done.eof in omega (arith, at_eof.short, pulled, long)) cause))
+          (λ (seen, none, at_eof). absurd
+          (⊎_elim
+          (λ (failed, fault, before). false≢true (sym (e.came.eof ∙ before) ∙ ap (λ (g : Received). g.eof) none))
+          (λ (long, same). let (pulled, still_eof) = e.came.still at_eof.done.eof in
+          omega (arith, at_eof.short, pulled, long)) cause))
           (λ (unseen, none). unseen) turn
 
-      consistent_here : (b : List ℕ) → IsConsistent (given_now y.given) b → IsConsistent e.given (cond (is_in done p) [] b)
+      consistent_here : (b : List ℕ) → IsConsistent (given_now y.given) b
+          → IsConsistent e.given (cond (is_in done p) [] b)
       consistent_here b a = ⊎_elim
           (λ (seen, none, at_eof). rw (none, seen) (record { rest = []; is = refl; whole = λ _. refl }))
           (λ (unseen, none). rw unseen (rw none at a)) turn
@@ -258,7 +329,8 @@ module _ {word : List ℕ} {t : ToolSpec} {names : List (List ℕ)} {old : List 
       back : (w : InputBytes) → AreInputsConsistent inputs_read' w → AreInputsConsistent k.inputs_read w
       back w agrees =
           let here = consistent_bytes (at inputs_read' p) (at w p) (given_now y.given) read_here (agrees p) in
-          by_position (λ q. IsConsistentAt (at k.inputs_read q) (at w q)) p (rw (y.is, here.are) (consistent_before y.given e.given here.bytes still here.agree))
+          by_position (λ q. IsConsistentAt (at k.inputs_read q) (at w q)) p
+          (rw (y.is, here.are) (consistent_before y.given e.given here.bytes still here.agree))
           (λ q differs. rw (read_other q differs) at (agrees q))
 
       -- the bytes that are left for the operand, consistent with what this call received
@@ -280,21 +352,37 @@ module _ {word : List ℕ} {t : ToolSpec} {names : List (List ℕ)} {old : List 
       abbrev later : InputBytes → List ℕ → List (List ℕ)
       later w more = opened_values (inputs_of_operands [] w (done ++ p ∷ []) more)
 
-      out_here : (w : InputBytes) (more : List ℕ) (f : OperandFinds w) → sequential_output t w (done ++ p ∷ more) ≡ sequential_output t w done ++ (t.text f.bytes ++ flat_map t.text (later w more))
-      out_here w more f = ap (λ (l : List (List ℕ)). flat_map t.text l) (opened_inputs_some [] w done p more f.bytes f.are) ∙ flat_map-append t.text (opened_inputs [] w done) (f.bytes ∷ later w more)
+      out_here : (w : InputBytes) (more : List ℕ) (f : OperandFinds w)
+          → sequential_output t w (done ++ p ∷ more) ≡ sequential_output t w done
+          ++ (t.text f.bytes ++ flat_map t.text (later w more))
+      out_here w more f =
+          ap (λ (l : List (List ℕ)). flat_map t.text l) (opened_inputs_some [] w done p more f.bytes f.are)
+          ∙ flat_map-append t.text (opened_inputs [] w done) (f.bytes ∷ later w more)
 
-      peak_here : (w : InputBytes) (more : List ℕ) → AreInputsConsistent inputs_read' w → store'.peak ≤ max before.peak (sequential_bound t w (done ++ p ∷ more))
+      peak_here : (w : InputBytes) (more : List ℕ) → AreInputsConsistent inputs_read' w
+          → store'.peak ≤ max before.peak (sequential_bound t w (done ++ p ∷ more))
       peak_here w more agrees =
           let f = operand_finds w agrees in
-          rw (opened_inputs_some [] w done p more f.bytes f.are, map-append t.size (opened_inputs [] w done) (f.bytes ∷ later w more))
-          (omega (arith, maximum-append (map t.size (opened_inputs [] w done)) (map t.size (f.bytes ∷ later w more)), e.peak f.bytes f.agree, k.peak w (back w agrees)))
+          rw (
+            opened_inputs_some [] w done p more f.bytes f.are,
+            map-append t.size (opened_inputs [] w done) (f.bytes ∷ later w more),
+          )
+          (omega (
+            arith,
+            maximum-append (map t.size (opened_inputs [] w done)) (map t.size (f.bytes ∷ later w more)),
+            e.peak f.bytes f.agree,
+            k.peak w (back w agrees),
+          ))
 
       slots_here : (w : InputBytes) (more : List ℕ) → AreInputsConsistent inputs_read' w
           → length store'.lines ≤ max (length before.lines) (sequential_slots t w (done ++ p ∷ more))
       slots_here w more agrees =
           let f = operand_finds w agrees in
           let slots_of : List ℕ → ℕ = λ input. t.slots in
-          rw (opened_inputs_some [] w done p more f.bytes f.are, map-append slots_of (opened_inputs [] w done) (f.bytes ∷ later w more))
+          rw (
+            opened_inputs_some [] w done p more f.bytes f.are,
+            map-append slots_of (opened_inputs [] w done) (f.bytes ∷ later w more),
+          )
           (omega (
             arith,
             maximum-append (map slots_of (opened_inputs [] w done)) (map slots_of (f.bytes ∷ later w more)),
@@ -303,22 +391,30 @@ module _ {word : List ℕ} {t : ToolSpec} {names : List (List ℕ)} {old : List 
           ))
 
       -- it was read to its end
-      pub done_operand : result ≡ Ok tt → OperandsDone word t names old now' was is' messages_old messages_new before store' (done ++ p ∷ []) so_far
+      pub done_operand : result ≡ Ok tt
+          → OperandsDone word t names old now' was is' messages_old messages_new before store' (done ++ p ∷ []) so_far
       done_operand ok = record {
         inputs_read = inputs_read';
         same_length = length-set now p new ∙ k.same_length;
         long = length-set k.inputs_read p (Some (given_now y.given)) ∙ k.long;
         came = received';
-        at_eof = λ q seen opened. ⊎_elim (λ same. subst (λ (n : ℕ). IsAtEof (reader_at now' n)) same (rw reader_here at_eof))
-            (λ other. rw (reader_other q other) (k.at_eof q (sym (is_in-other done p q other) ∙ seen) opened)) (cases_eq p q);
-        unread = λ q unseen. let (differs, before) = not_more done p q unseen in reader_other q differs ∙ k.unread q before;
-        unreceived = λ q unseen. let (differs, before) = not_more done p q unseen in read_other q differs ∙ k.unreceived q before;
+        at_eof =
+            λ q seen opened. ⊎_elim (λ same. subst (λ (n : ℕ). IsAtEof (reader_at now' n)) same (rw reader_here at_eof))
+            (λ other. rw (reader_other q other) (k.at_eof q (sym (is_in-other done p q other) ∙ seen) opened))
+            (cases_eq p q);
+        unread = λ q unseen. let (differs, before) = not_more done p q unseen in reader_other q differs
+            ∙ k.unread q before;
+        unreceived = λ q unseen. let (differs, before) = not_more done p q unseen in read_other q differs
+            ∙ k.unreceived q before;
         pushed = k.pushed ++ e.pushed;
         wrote = push_trans was is is' k.pushed e.pushed k.clean k.wrote e.wrote;
         out = λ w agrees. let f = operand_finds w agrees in
-            (λ i. k.out w (back w agrees) i ++ (e.is_exact ok ∙ ap t.text (sym (consistent_whole e.given f.bytes (e.came.eof ∙ end.done.eof) f.agree)) ∙ sym (append-nil (t.text f.bytes))) i)
+            (λ i. k.out w (back w agrees) i ++ (e.is_exact ok
+            ∙ ap t.text (sym (consistent_whole e.given f.bytes (e.came.eof ∙ end.done.eof) f.agree))
+            ∙ sym (append-nil (t.text f.bytes))) i)
             ∙ sym (out_here w [] f);
-        has_said = said_more word names (is_reader_unopened old) done p k.has_said (rw old_open (said_nothing messages_new));
+        has_said =
+            said_more word names (is_reader_unopened old) done p k.has_said (rw old_open (said_nothing messages_new));
         so_far_is = k.so_far_is ∙ sym (ap completion_with (any_before (is_reader_unopened old) done p old_open));
         clean = end.clean;
         not_denied = end.denied;
@@ -332,17 +428,27 @@ module _ {word : List ℕ} {t : ToolSpec} {names : List (List ℕ)} {old : List 
           end = rw ok at e.ends
 
           at_eof : IsAtEof new
-          at_eof = record { done = end.done; fault = end.fault; failed = end.failed ∙ not_failed_before; short = end.short }
+          at_eof =
+              record { done = end.done; fault = end.fault; failed = end.failed ∙ not_failed_before; short = end.short }
 
       -- ---- it failed
 
       cause_of : (more : List ℕ) (fault : FlowFault) → PassOutcome (reader_at now p) new is' store' (Err fault)
-          → HasCause (sequential_spec word t names (done ++ p ∷ more)) inputs_read' old now' is'.write_failed store'.denied (length done) (fault_at p fault)
+          → HasCause (sequential_spec word t names (done ++ p ∷ more)) inputs_read' old now' is'.write_failed
+          store'.denied (length done) (fault_at p fault)
       cause_of more (Read position) r = (
         nth_here done more p,
         rw (take-append_seam done (p ∷ more)) (unseen r.cause),
-        ⊎_elim (λ (failed, empty, going). inl (old_open, ap (λ (r : Reader). r.failed) (sym (k.unread p (unseen r.cause))) ∙ not_failed_before, ap (λ (n : Reader). n.failed) reader_here ∙ failed))
-            (λ (long, same). inr (rw read_here (let first = fresh_all old fresh p old_open in omega (arith, long, receives_here.count, ap length first.buffered, first.pulled)))) r.cause,
+        ⊎_elim
+            (λ (failed, empty, going). inl (
+              old_open,
+              ap (λ (r : Reader). r.failed) (sym (k.unread p (unseen r.cause)))
+                  ∙ not_failed_before,
+              ap (λ (n : Reader). n.failed) reader_here ∙ failed,
+            ))
+            (λ (long, same). inr
+            (rw read_here (let first = fresh_all old fresh p old_open in
+            omega (arith, long, receives_here.count, ap length first.buffered, first.pulled)))) r.cause,
         r.clean,
         r.denied,
       )
@@ -351,7 +457,8 @@ module _ {word : List ℕ} {t : ToolSpec} {names : List (List ℕ)} {old : List 
 
       -- an operand before it with the same input has read that to its end
       ended_still : (q : ℕ) → is_in done q ≡ true → (reader_at now' q).refused ≡ false → IsDone (reader_at now' q)
-      ended_still = by_position (λ q. is_in done q ≡ true → (reader_at now' q).refused ≡ false → IsDone (reader_at now' q)) p
+      ended_still =
+          by_position (λ q. is_in done q ≡ true → (reader_at now' q).refused ≡ false → IsDone (reader_at now' q)) p
           (λ seen opened. rw reader_here (e.stays_done (k.at_eof p seen old_open).done))
           (λ q differs seen. rw (reader_other q differs) (λ opened. (k.at_eof q seen (was_unopened q ∙ opened)).done))
 
@@ -367,25 +474,34 @@ module _ {word : List ℕ} {t : ToolSpec} {names : List (List ℕ)} {old : List 
           (λ few.
           let unread = (e.refused k.clean few).same_reader in
           ⊎_elim (λ seen. omega (arith, few, k.room p seen old_open, (e.slots k.clean).least))
-          (λ unseen. false≢true (sym (fresh_all old fresh p old_open).eof ∙ ap (λ (r : Reader). r.eof) (sym (k.unread p unseen))
+          (λ unseen. false≢true (sym (fresh_all old fresh p old_open).eof
+          ∙ ap (λ (r : Reader). r.eof) (sym (k.unread p unseen))
           ∙ ap (λ (r : Reader). r.eof) (sym unread) ∙ ended.eof)) (cases_Bool (is_in done p)))
           (λ enough. e.line_left memory enough ended) (cases_lt (length store'.lines) t.slots)
 
-      failing : (fault : FlowFault) → PassOutcome (reader_at now p) new is' store' (Err fault) → new.failed ≡ true → (new.eof ≡ false) × (fault_at p fault ≡ Read p)
-      failing (Read position) r failed = ⊎_elim (λ (now_failed, empty, going). (going, refl)) (λ (long, same). absurd (false≢true (sym (same ∙ not_failed_before) ∙ failed))) r.cause
+      failing : (fault : FlowFault) → PassOutcome (reader_at now p) new is' store' (Err fault) → new.failed ≡ true
+          → (new.eof ≡ false) × (fault_at p fault ≡ Read p)
+      failing (Read position) r failed =
+          ⊎_elim (λ (now_failed, empty, going). (going, refl))
+          (λ (long, same). absurd (false≢true (sym (same ∙ not_failed_before) ∙ failed))) r.cause
       failing Write r failed = absurd (false≢true (sym (r.failed ∙ not_failed_before) ∙ failed))
       failing Memory r failed = absurd (false≢true (sym (r.failed ∙ not_failed_before) ∙ failed))
 
       ended_before : (q : ℕ) → is_in done q ≡ true → IsEndedAt (at inputs_read' q)
       ended_before = by_position (λ q. is_in done q ≡ true → IsEndedAt (at inputs_read' q)) p
-          (λ seen. rw read_here (⊎_elim (λ (before, none, at_eof). ap (λ (g : Received). g.eof) none) (λ (unseen, none). absurd (false≢true (sym unseen ∙ seen))) turn))
+          (λ seen. rw read_here (⊎_elim (λ (before, none, at_eof). ap (λ (g : Received). g.eof) none)
+          (λ (unseen, none). absurd (false≢true (sym unseen ∙ seen))) turn))
           (λ q differs seen. rw (read_other q differs) (ended_now q seen))
 
       module _ (law : DecidesAll t) where
         -- the operands that are done decided all their output
-        decided_all : (came : List Received) → flat_map t.decided (up_to_unended (opened_inputs empty_input inputs_read' done ++ came)) ≡ k.pushed ++ flat_map t.decided (up_to_unended came)
+        decided_all : (came : List Received)
+            → flat_map t.decided (up_to_unended (opened_inputs empty_input inputs_read' done ++ came))
+            ≡ k.pushed ++ flat_map t.decided (up_to_unended came)
         decided_all came = decided_inputs t law inputs_read' [] done came ended_before
-            ∙ (λ i. sym (k.out (least_bytes inputs_read') (back (least_bytes inputs_read') (least_consistent inputs_read'))) i ++ flat_map t.decided (up_to_unended came))
+            ∙ (λ i. sym (k.out (least_bytes inputs_read')
+            (back (least_bytes inputs_read') (least_consistent inputs_read'))) i
+            ++ flat_map t.decided (up_to_unended came))
 
         -- the output of this operand that was decided two blocks earlier
         one_keeps : BoundedLag {I = Unit {0}} (λ came. t.decided (came tt)) (λ u. e.given) is is' e.pushed
@@ -395,26 +511,41 @@ module _ {word : List ℕ} {t : ToolSpec} {names : List (List ℕ)} {old : List 
         earlier = (one_keeps.processing.before tt).earlier
 
         input_given : input_of_operand empty_input inputs_read' done p ≡ Some (e.given)
-        input_given = ap (λ (o : Option Received). option_map (λ (g : Received). cond (is_in done p) empty_input g) o) read_here
-            ∙ ⊎_elim (λ (seen, none, at_eof). (λ i. Some (cond (seen i) empty_input (given_now y.given))) ∙ ap (λ (g : Received). Some g) (sym none))
+        input_given = ap (λ (o : Option Received). option_map (λ (g : Received). cond (is_in done p) empty_input g) o)
+            read_here
+            ∙ ⊎_elim (λ (seen, none, at_eof). (λ i. Some (cond (seen i) empty_input (given_now y.given)))
+            ∙ ap (λ (g : Received). Some g) (sym none))
             (λ (unseen, none). λ i. Some (cond (unseen i) empty_input (given_now (none i)))) turn
 
         -- if its end was not reached, nothing after it is decided
-        decided_open : (g : Received) (after : List Received) → (after ≡ []) ⊎ (g.eof ≡ false) → flat_map t.decided (up_to_unended (g ∷ after)) ≡ t.decided g
-        decided_open g after last = ap (λ (l : List Received). t.decided g ++ flat_map t.decided l) (none_after g.eof last) ∙ append-nil (t.decided g)
+        decided_open : (g : Received) (after : List Received) → (after ≡ []) ⊎ (g.eof ≡ false)
+            → flat_map t.decided (up_to_unended (g ∷ after)) ≡ t.decided g
+        decided_open g after last = ap (λ (l : List Received). t.decided g ++ flat_map t.decided l)
+            (none_after g.eof last) ∙ append-nil (t.decided g)
           where
             none_after : (b : Bool) → (after ≡ []) ⊎ (b ≡ false) → cond b (up_to_unended after) [] ≡ []
-            none_after true last = ⊎_elim (λ none. ap up_to_unended none) (λ going. absurd (false≢true (sym going))) last
+            none_after true last =
+                ⊎_elim (λ none. ap up_to_unended none) (λ going. absurd (false≢true (sym going))) last
             none_after false last = refl
 
         -- a prefix of what this operand pushed, after all that was pushed before it
-        begins_after : (bytes : List ℕ) {all : List ℕ} → all ≡ k.pushed ++ bytes → IsPrefix bytes e.pushed → IsPrefix all (k.pushed ++ e.pushed)
-        begins_after bytes is b = record { rest = b.rest; is = (λ i. k.pushed ++ b.is i) ∙ sym (append_assoc k.pushed bytes b.rest) ∙ ap (λ (l : List ℕ). l ++ b.rest) (sym is) }
+        begins_after : (bytes : List ℕ) {all : List ℕ} → all ≡ k.pushed ++ bytes → IsPrefix bytes e.pushed
+            → IsPrefix all (k.pushed ++ e.pushed)
+        begins_after bytes is b =
+            record {
+              rest = b.rest;
+              is = (λ i. k.pushed ++ b.is i) ∙ sym (append_assoc k.pushed bytes b.rest)
+                  ∙ ap (λ (l : List ℕ). l ++ b.rest) (sym is);
+            }
 
-        decided_here : decided_in_order t (opened_inputs empty_input inputs_read' done ++ earlier ∷ []) ≡ k.pushed ++ t.decided earlier
-        decided_here = decided_all (earlier ∷ []) ∙ ap (λ (l : List ℕ). k.pushed ++ l) (decided_open earlier [] (inl refl))
+        decided_here : decided_in_order t (opened_inputs empty_input inputs_read' done ++ earlier ∷ [])
+            ≡ k.pushed ++ t.decided earlier
+        decided_here = decided_all (earlier ∷ [])
+            ∙ ap (λ (l : List ℕ). k.pushed ++ l) (decided_open earlier [] (inl refl))
 
-        pub done_stopped : (more : List ℕ) (fault : FlowFault) → result ≡ Err fault → RunInputsPost (sequential_spec word t names (done ++ p ∷ more)) old now' was is' messages_old messages_new before store' (Err (fault_at p fault))
+        pub done_stopped : (more : List ℕ) (fault : FlowFault) → result ≡ Err fault
+            → RunInputsPost (sequential_spec word t names (done ++ p ∷ more)) old now' was is' messages_old messages_new
+            before store' (Err (fault_at p fault))
         done_stopped more fault is_err = record {
           received = inputs_read';
           came = received';
@@ -424,10 +555,15 @@ module _ {word : List ℕ} {t : ToolSpec} {names : List (List ℕ)} {old : List 
           within = omega (arith, length-append done (p ∷ more));
           message = unopened_messages word names (is_reader_unopened old) done;
           has_said = k.has_said;
-          names = λ w agrees. rw (take-append_seam done (p ∷ more)) (unopened_same word names (is_reader_unopened old) (is_unopened w) done (unopened_agrees old now' inputs_read' w received' agrees));
+          names =
+              λ w agrees. rw (take-append_seam done (p ∷ more))
+              (unopened_same word names (is_reader_unopened old) (is_unopened w) done
+              (unopened_agrees old now' inputs_read' w received' agrees));
           ends = cause_of more fault end;
           position = index_within fault;
-          untouched = λ q other. let (differs, before) = not_more done p q (rw (take-append-add done (p ∷ more) 1) at other) in reader_other q differs ∙ k.unread q before;
+          untouched = λ q other. let (differs, before) =
+              not_more done p q (rw (take-append-add done (p ∷ more) 1) at other) in reader_other q differs
+              ∙ k.unread q before;
           ended = λ q named. ended_still q (rw (take-append_seam done (p ∷ more)) at named);
           left = λ memory. let same : fault_at p fault ≡ Memory = cc in inl (
             p,
@@ -435,20 +571,34 @@ module _ {word : List ℕ} {t : ToolSpec} {names : List (List ℕ)} {old : List 
             rw reader_here (e.came.refused ∙ sym (was_unopened p) ∙ old_open),
             rw reader_here (input_left (is_err ∙ ap (λ (f : FlowFault). Err f) (memory_is fault same))),
           );
-          is_prefix = λ w agrees. let f = operand_finds w agrees in let b = e.is_prefix f.bytes f.agree in let rest = flat_map t.text (later w more) in record {
-            rest = b.rest ++ rest;
-            is = out_here w more f ∙ (λ i. sym (k.out w (back w agrees)) i ++ (b.is i ++ rest)) ∙ ap (λ (l : List ℕ). k.pushed ++ l) (append_assoc e.pushed b.rest rest)
-                ∙ sym (append_assoc k.pushed e.pushed (b.rest ++ rest));
-          };
-          decided_is_written = λ q failed clean. let here = fails_here q failed in let after = opened_values (inputs_of_operands empty_input inputs_read' (done ++ p ∷ []) more) in
-              begins_after (t.decided e.given) (ap (λ (l : List Received). flat_map t.decided (up_to_unended l)) (opened_inputs_some empty_input inputs_read' done p more e.given input_given)
-              ∙ decided_all (e.given ∷ after) ∙ ap (λ (l : List ℕ). k.pushed ++ l) (decided_open e.given after (inr (e.came.eof ∙ (failing fault end here).0)))) (e.decided_is_written here clean);
-          bounded_lag = rw (take-append-add done (p ∷ more) 1, opened_inputs_some empty_input inputs_read' done p [] e.given input_given)
-              (last_earlier t (opened_inputs empty_input inputs_read' done) e.given (one_keeps.processing.before tt) (λ bytes. IsPushedUpToBlock bytes was is' (k.pushed ++ e.pushed)) (record {
+          is_prefix = λ w agrees. let f = operand_finds w agrees in let b = e.is_prefix f.bytes f.agree in let rest =
+              flat_map t.text (later w more) in record {
+                rest = b.rest ++ rest;
+                is = out_here w more f ∙ (λ i. sym (k.out w (back w agrees)) i ++ (b.is i ++ rest))
+                    ∙ ap (λ (l : List ℕ). k.pushed ++ l) (append_assoc e.pushed b.rest rest)
+                    ∙ sym (append_assoc k.pushed e.pushed (b.rest ++ rest));
+              };
+          decided_is_written = λ q failed clean. let here = fails_here q failed in let after =
+              opened_values (inputs_of_operands empty_input inputs_read' (done ++ p ∷ []) more) in
+              begins_after (t.decided e.given) (ap (λ (l : List Received). flat_map t.decided (up_to_unended l))
+              (opened_inputs_some empty_input inputs_read' done p more e.given input_given)
+              ∙ decided_all (e.given ∷ after) ∙ ap (λ (l : List ℕ). k.pushed ++ l)
+              (decided_open e.given after (inr (e.came.eof ∙ (failing fault end here).0))))
+              (e.decided_is_written here clean);
+          bounded_lag =
+              rw (
+                take-append-add done (p ∷ more) 1,
+                opened_inputs_some empty_input inputs_read' done p [] e.given input_given,
+              )
+              (last_earlier t (opened_inputs empty_input inputs_read' done) e.given (one_keeps.processing.before tt)
+              (λ bytes. IsPushedUpToBlock bytes was is' (k.pushed ++ e.pushed)) (record {
                 begins = begins_after (t.decided earlier) decided_here one_keeps.processing.begins;
-                buffering = rw decided_here (sends_after was is is' k.pushed (t.decided earlier) k.wrote k.clean one_keeps.buffering);
+                buffering =
+                    rw decided_here
+                    (sends_after was is is' k.pushed (t.decided earlier) k.wrote k.clean one_keeps.buffering);
               }));
-          names_failed_read = λ q failed clean. ap (λ (f : FlowFault). Err f) ((failing fault end (fails_here q failed)).1 ∙ ap (λ (n : ℕ). Read n) (position_of q failed));
+          names_failed_read = λ q failed clean. ap (λ (f : FlowFault). Err f)
+              ((failing fault end (fails_here q failed)).1 ∙ ap (λ (n : ℕ). Read n) (position_of q failed));
           peak = λ w agrees. peak_here w more agrees;
           slots = λ w agrees. slots_here w more agrees;
         }
@@ -458,11 +608,14 @@ module _ {word : List ℕ} {t : ToolSpec} {names : List (List ℕ)} {old : List 
 
             position_of : (q : ℕ) → HasReadFailed old now' q → p ≡ q
             position_of q (opened, before, failed) = ⊎_elim (λ same. same)
-                (λ other. absurd (false≢true (sym (not_failed_now q opened before) ∙ ap (λ (r : Reader). r.failed) (sym (reader_other q other)) ∙ failed))) (cases_eq p q)
+                (λ other. absurd
+                (false≢true (sym (not_failed_now q opened before)
+                ∙ ap (λ (r : Reader). r.failed) (sym (reader_other q other)) ∙ failed))) (cases_eq p q)
 
             fails_here : (q : ℕ) → HasReadFailed old now' q → new.failed ≡ true
             fails_here q fails = let (opened, before, failed) = fails in
-                ap (λ (r : Reader). r.failed) (sym reader_here) ∙ ap (λ (n : ℕ). (reader_at now' n).failed) (position_of q fails) ∙ failed
+                ap (λ (r : Reader). r.failed) (sym reader_here)
+                ∙ ap (λ (n : ℕ). (reader_at now' n).failed) (position_of q fails) ∙ failed
 
             index_within : (f : FlowFault) → HasIndexBelow (length old) (Err (fault_at p f))
             index_within (Read position) = within

@@ -1,13 +1,21 @@
 -- Tools with two inputs. What the merge ensures about its two readers is what the tool has to ensure about the list
 -- from which both were lent; no other reader changes.
-use Rattle.ptrun.proofs.Common.{IsDone, subst, JointReadFailed, HasReadCause, positions, length-append, length-map, ◌≡◌, ◌≢◌, ℕ, ◌<◌, ◌^◌, ◌||◌, ◌&&◌, ◌==◌, Bool, true, false, List, [], ◌∷◌, Option, Some, None}
-use Rattle.ptrun.proofs.Common.{Memory, cases_lt, ⊎_elim, inl, inr, IsJointUnfinished, Result, Ok, Err, length, get_or, refl, sym, ◌∙◌, ap, arith, option_map, not, All-nil, All-cons, false≢true, nat_tests, Reader, Output, Slots, Received, IsPrefix, HasReceived}
-use Rattle.ptrun.proofs.Common.{LaggedInput, update_at, First, Second, disorder, lines_of, decided_output, Input, Disorder, is_in, reader_at, is_reader_unopened, IsNew, IsPushedUpToBlock, position, two_input_tool, operand, by_side, JointPre}
-use Rattle.ptrun.proofs.Common.{BothAreSound, merge_completion, completion_of, AreConsistentAt, NoReadFailed, JointEnd, JointPost, ◌-◌, ◌++◌, set, length-set, set-append_left, set-append_right, get_or_append_left}
-use Rattle.ptrun.proofs.Common.{get_or-append_right, get_or_default, get_or-set_same, get_or-set_other, no_reader}
+use Rattle.ptrun.proofs.Common.{IsDone, subst, JointReadFailed, HasReadCause, positions, length-append, length-map, ◌≡◌}
+use Rattle.ptrun.proofs.Common.{◌≢◌, ℕ, ◌<◌, ◌^◌, ◌||◌, ◌&&◌, ◌==◌, Bool, true, false, List, [], ◌∷◌, Option, Some}
+use Rattle.ptrun.proofs.Common.{None, Memory, cases_lt, ⊎_elim, inl, inr, IsJointUnfinished, Result, Ok, Err, length}
+use Rattle.ptrun.proofs.Common.{get_or, refl, sym, ◌∙◌, ap, arith, option_map, not, All-nil, All-cons, false≢true}
+use Rattle.ptrun.proofs.Common.{nat_tests, Reader, Output, Slots, Received, IsPrefix, HasReceived, LaggedInput}
+use Rattle.ptrun.proofs.Common.{update_at, First, Second, disorder, lines_of, decided_output, Input, Disorder, is_in}
+use Rattle.ptrun.proofs.Common.{reader_at, is_reader_unopened, IsNew, IsPushedUpToBlock, position, two_input_tool}
+use Rattle.ptrun.proofs.Common.{operand, by_side, JointPre, BothAreSound, merge_completion, completion_of}
+use Rattle.ptrun.proofs.Common.{AreConsistentAt, NoReadFailed, JointEnd, JointPost, ◌-◌, ◌++◌, set, length-set}
+use Rattle.ptrun.proofs.Common.{set-append_left, set-append_right, get_or_append_left, get_or-append_right}
+use Rattle.ptrun.proofs.Common.{get_or_default, get_or-set_same, get_or-set_other, no_reader}
 use Rattle.ptmerge.specs.declared.faults.MergeFault.{MergeFault}
 use Rattle.ptmerge.specs.declared.key_order.Side.{Side}
-use Rattle.ptmerge.specs.MergeCall.{MergePre, MergePost, MergeEndPost, AreConsistent, IsExactMerge, IsDisorderAt, IsUnfinished, IsUnreadWithoutSlots, NeitherReadFailed as NoneBroke, MergeState, merge_state}
+use Rattle.ptmerge.specs.MergeCall.{MergePre, MergePost, MergeEndPost, AreConsistent, IsExactMerge, IsDisorderAt}
+use Rattle.ptmerge.specs.MergeCall.{IsUnfinished, IsUnreadWithoutSlots, NeitherReadFailed as NoneBroke, MergeState}
+use Rattle.ptmerge.specs.MergeCall.{merge_state}
 use Rattle.ptmerge.specs.Sides.{both, with_side}
 use Rattle.ptmerge.specs.declared.faults.MergeFault.TheVariants as faults
 use Rattle.ptmerge.specs.MergeSpec as keyed
@@ -25,15 +33,25 @@ side_of_operand : (p q : ℕ) (side : Side) → both p q side ≡ operand (p ∷
 side_of_operand p q First = refl
 side_of_operand p q Second = refl
 
-pub two_of : (order : List Input) (d e : Input) {p q : ℕ} → ((length (positions order) == 2) && not (operand (positions order) First == operand (positions order) Second)) ≡ true
+pub two_of : (order : List Input) (d e : Input) {p q : ℕ}
+    → ((length (positions order) == 2) && not (operand (positions order) First == operand (positions order) Second))
+    ≡ true
     → p ≡ position (get_or order 0 d) → q ≡ position (get_or order 1 e) → TwoPositions (positions order) p q
-two_of (a ∷ b ∷ []) d e accepts_operands is_p is_q = record { are = λ i. sym is_p i ∷ sym is_q i ∷ []; apart = λ same. grind (arith, nat_tests, accepts_operands, is_p, is_q, same) }
+two_of (a ∷ b ∷ []) d e accepts_operands is_p is_q =
+    record {
+      are = λ i. sym is_p i ∷ sym is_q i ∷ [];
+      apart = λ same. grind (arith, nat_tests, accepts_operands, is_p, is_q, same);
+    }
 two_of order d e accepts_operands is_p is_q = absurd (grind (arith, nat_tests, accepts_operands))
 
-pub two_there : (order : List Input) → ((length (positions order) == 2) && not (operand (positions order) First == operand (positions order) Second)) ≡ true → 1 < length order
+pub two_there : (order : List Input)
+    → ((length (positions order) == 2) && not (operand (positions order) First == operand (positions order) Second))
+    ≡ true
+    → 1 < length order
 two_there order accepts_operands = grind (arith, nat_tests, accepts_operands, length-map order position)
 
-module _ (t : keyed.MergeTool) {old : List Reader} {was : Output} {before : Slots} {p q : ℕ} (apart : p ≡ q → ⊥) (ready : JointPre (two_input_tool t) (p ∷ q ∷ []) old was before) where
+module _ (t : keyed.MergeTool) {old : List Reader} {was : Output} {before : Slots} {p q : ℕ} (apart : p ≡ q → ⊥)
+    (ready : JointPre (two_input_tool t) (p ∷ q ∷ []) old was before) where
   abbrev two : List ℕ
   two = p ∷ q ∷ []
 
@@ -52,7 +70,15 @@ module _ (t : keyed.MergeTool) {old : List Reader} {was : Output} {before : Slot
 
   -- both can be read
   pub ready_at : MergePre (reader_at old p) (reader_at old q) before
-  ready_at = record { opened1 = open_at First; opened2 = open_at Second; readable1 = (new_at First).fault; readable2 = (new_at Second).fault; allowed = ready.not_denied; empty = ready.empty }
+  ready_at =
+      record {
+        opened1 = open_at First;
+        opened2 = open_at Second;
+        readable1 = (new_at First).fault;
+        readable2 = (new_at Second).fault;
+        allowed = ready.not_denied;
+        empty = ready.empty;
+      }
 
   -- a fact about both positions
   each : (P : ℕ → Type 0) → P p → P q → (k : ℕ) → is_in two k ≡ true → P k
@@ -61,8 +87,10 @@ module _ (t : keyed.MergeTool) {old : List Reader} {was : Output} {before : Slot
   module _ (new : List Reader) (is : Output) (store : Slots) (result : Result (Unit {0}) MergeFault)
       (sound : BothAreSound (reader_at old p) (reader_at old q) (reader_at new p) (reader_at new q))
       (others : (k : ℕ) → (p ≡ k → ⊥) → (q ≡ k → ⊥) → reader_at new k ≡ reader_at old k)
-      (e : MergePost t (merge_state (reader_at old p) (reader_at old q) was before) (merge_state (reader_at new p) (reader_at new q) is store) result)
-      (unread : IsUnreadWithoutSlots t.terminator (merge_state (reader_at old p) (reader_at old q) was before) (merge_state (reader_at new p) (reader_at new q) is store)) where
+      (e : MergePost t (merge_state (reader_at old p) (reader_at old q) was before) (merge_state (reader_at new p)
+      (reader_at new q) is store) result)
+      (unread : IsUnreadWithoutSlots t.terminator (merge_state (reader_at old p) (reader_at old q)
+      was before) (merge_state (reader_at new p) (reader_at new q) is store)) where
     abbrev old_state : MergeState
     old_state = merge_state (reader_at old p) (reader_at old q) was before
 
@@ -93,7 +121,8 @@ module _ (t : keyed.MergeTool) {old : List Reader} {was : Output} {before : Slot
     put_is : (side : Side) (g : Received) → with_side side g e.given ≡ by_side two (update_at (both p q side) g given)
     put_is side g = λ i other. at_side side other i
       where
-        at_side : (side other : Side) → with_side side g e.given other ≡ update_at (both p q side) g given (operand two other)
+        at_side : (side other : Side)
+            → with_side side g e.given other ≡ update_at (both p q side) g given (operand two other)
         at_side First First = sym (put_here p g given)
         at_side First Second = sym (put_other p q g given apart ∙ given_at Second)
         at_side Second First = sym (put_other q p g given (λ same. apart (sym same)) ∙ given_at First)
@@ -109,18 +138,34 @@ module _ (t : keyed.MergeTool) {old : List Reader} {was : Output} {before : Slot
       abbrev Other : ℕ → Type 0
       Other k = both p q side ≢ k → (reader_at new k).failed ≡ (reader_at old k).failed
 
-      read_broke : Other p → Other q → is.write_failed ≡ false → store.denied ≡ false → JointReadFailed two old new is.write_failed store.denied (both p q side)
-      read_broke first second clean not_denied = record { named = named side; not_failed_before = not_failed_before side; cause = cause; others = each Other first second; no_write_failed = clean; not_denied = not_denied }
+      read_broke : Other p → Other q → is.write_failed ≡ false → store.denied ≡ false
+          → JointReadFailed two old new is.write_failed store.denied (both p q side)
+      read_broke first second clean not_denied =
+          record {
+            named = named side;
+            not_failed_before = not_failed_before side;
+            cause = cause;
+            others = each Other first second;
+            no_write_failed = clean;
+            not_denied = not_denied;
+          }
 
-    is_named : (d : Option keyed.MergeDisorder) (side : Side) (line : ℕ) → IsDisorderAt d side line → Disorder (both p q side) line ≡ completion_of (option_map (λ d. (operand two d.file, d.first_disorder.line)) d)
+    is_named : (d : Option keyed.MergeDisorder) (side : Side) (line : ℕ) → IsDisorderAt d side line
+        → Disorder (both p q side) line ≡ completion_of
+        (option_map (λ d. (operand two d.file, d.first_disorder.line)) d)
     is_named None side line k = absurd k
-    is_named (Some d) side line k = λ i. Disorder ((side_of_operand p q side ∙ ap (operand two) (sym k.0)) i) (sym k.1 i)
+    is_named (Some d) side line k = λ i. Disorder ((side_of_operand p q side ∙ ap (operand two) (sym k.0)) i)
+        (sym k.1 i)
 
-    ends : (r : Result (Unit {0}) MergeFault) → MergeEndPost old_state new_state r → ((texts : ℕ → List ℕ) → AreConsistentAt two given texts → IsExactMerge t (by_side two texts) e.pushed r)
-        → JointEnd (two_input_tool t) two given old new e.pushed is.write_failed store.denied (merge_completion (both p q) r)
+    ends : (r : Result (Unit {0}) MergeFault) → MergeEndPost old_state new_state r
+        → ((texts : ℕ → List ℕ) → AreConsistentAt two given texts → IsExactMerge t (by_side two texts) e.pushed r)
+        → JointEnd (two_input_tool t) two given old new e.pushed is.write_failed store.denied
+        (merge_completion (both p q) r)
     ends (Ok u) k is_exact = record {
       out = λ texts agrees. (is_exact texts agrees).0;
-      is_done = λ texts agrees. ap (λ d. completion_of (option_map (λ d. (operand two d.file, d.first_disorder.line)) d)) (sym (is_exact texts agrees).1);
+      is_done =
+          λ texts agrees. ap (λ d. completion_of (option_map (λ d. (operand two d.file, d.first_disorder.line)) d))
+          (sym (is_exact texts agrees).1);
       ended = λ written. each (λ k. IsDone (reader_at new k)) (k.done First) (k.done Second);
       position = tt;
       unfailed = none_failed k.failed;
@@ -128,41 +173,60 @@ module _ (t : keyed.MergeTool) {old : List Reader} {was : Output} {before : Slot
       no_write_failed = k.clean;
       not_denied = k.denied;
     }
-    ends (Err (faults.Read First)) k is_exact = read_broke First k.cause (λ differs. absurd (differs refl)) (λ differs. k.others) k.clean k.denied
-    ends (Err (faults.Read Second)) k is_exact = read_broke Second k.cause (λ differs. k.others) (λ differs. absurd (differs refl)) k.clean k.denied
+    ends (Err (faults.Read First)) k is_exact =
+        read_broke First k.cause (λ differs. absurd (differs refl)) (λ differs. k.others) k.clean k.denied
+    ends (Err (faults.Read Second)) k is_exact =
+        read_broke Second k.cause (λ differs. k.others) (λ differs. absurd (differs refl)) k.clean k.denied
     ends (Err faults.Write) k is_exact = k.write_failed
     ends (Err faults.Memory) k is_exact = (k.denied, k.clean, none_failed k.failed)
     ends (Err (faults.Disorder side line)) k is_exact = record {
       out = λ texts agrees. (is_exact texts agrees).0;
-      is_done = λ texts agrees. is_named (disorder t (lines_of t (by_side two texts))) side line (is_exact texts agrees).1;
+      is_done = λ texts agrees. is_named (disorder t (lines_of t (by_side two texts))) side line
+          (is_exact texts agrees).1;
       ended = λ written. cc;
       position = within_at side;
       unfailed = none_failed k.failed;
-      short = each (λ k. (reader_at new k).pulled < 2 ^ 63) (sound.first_is.long (k.fault First)) (sound.second_is.long (k.fault Second));
+      short = each (λ k. (reader_at new k).pulled < 2 ^ 63) (sound.first_is.long (k.fault First))
+          (sound.second_is.long (k.fault Second));
       no_write_failed = k.clean;
       not_denied = k.denied;
     }
 
-    pub two_inputs_post : JointPost (two_input_tool t) (p ∷ q ∷ []) old new was is before store (merge_completion (both p q) result)
+    pub two_inputs_post : JointPost (two_input_tool t) (p ∷ q ∷ []) old new was is before store
+        (merge_completion (both p q) result)
     two_inputs_post = record {
       given = given;
-      came = each (λ k. HasReceived (reader_at old k) (reader_at new k) (given k)) (rw (given_at First) (e.came First)) (rw (given_at Second) (e.came Second));
-      untouched = λ k other. others k (λ same. false≢true (sym other ∙ ap (is_in two) (sym same) ∙ named First)) (λ same. false≢true (sym other ∙ ap (is_in two) (sym same) ∙ named Second));
+      came = each (λ k. HasReceived (reader_at old k) (reader_at new k) (given k)) (rw (given_at First) (e.came First))
+          (rw (given_at Second) (e.came Second));
+      untouched = λ k other. others k (λ same. false≢true (sym other ∙ ap (is_in two) (sym same) ∙ named First))
+          (λ same. false≢true (sym other ∙ ap (is_in two) (sym same) ∙ named Second));
       pushed = e.pushed;
       wrote = e.wrote;
       ends = ends result e.ends (λ texts agrees. e.is_exact (by_side two texts) (agree texts agrees));
       is_prefix = λ texts agrees. e.is_prefix (by_side two texts) (agree texts agrees);
-      decided_is_written = each (λ k. (reader_at new k).failed ≡ true → is.write_failed ≡ false → IsPrefix (decided_output t (by_side two given)) e.pushed)
-          (λ failed clean. subst (λ g. IsPrefix (decided_output t g) e.pushed) (sym given_is) (e.decided_is_written First failed clean))
-          (λ failed clean. subst (λ g. IsPrefix (decided_output t g) e.pushed) (sym given_is) (e.decided_is_written Second failed clean));
-      bounded_lag = each (λ k. (cut : LaggedInput (given k)) × IsPushedUpToBlock (decided_output t (by_side two (update_at k cut.earlier given))) was is e.pushed) (keeps First) (keeps Second);
-      same = λ f g same. ap (decided_output t) (λ i side. rw (side_of_operand p q side) at (same (both p q side) (named side)) i);
+      decided_is_written =
+          each (λ k. (reader_at new k).failed ≡ true → is.write_failed ≡ false
+          → IsPrefix (decided_output t (by_side two given)) e.pushed)
+          (λ failed clean. subst (λ g. IsPrefix (decided_output t g) e.pushed) (sym given_is)
+          (e.decided_is_written First failed clean))
+          (λ failed clean. subst (λ g. IsPrefix (decided_output t g) e.pushed) (sym given_is)
+          (e.decided_is_written Second failed clean));
+      bounded_lag =
+          each
+          (λ k. (cut : LaggedInput (given k))
+          × IsPushedUpToBlock (decided_output t (by_side two (update_at k cut.earlier given))) was is e.pushed)
+          (keeps First) (keeps Second);
+      same =
+          λ f g same. ap (decided_output t) (λ i side. rw (side_of_operand p q side) at
+          (same (both p q side) (named side)) i);
       peak = λ texts agrees. e.peak (by_side two texts) (agree texts agrees);
       slots = λ texts agrees. e.slots (by_side two texts) (agree texts agrees);
-      left = λ memory. ⊎_elim (λ few. inl (p, named First, first_left few)) (λ enough. unfinished (e.unfinished (memory_of result memory) enough)) (cases_lt (length store.lines) 4);
+      left = λ memory. ⊎_elim (λ few. inl (p, named First, first_left few))
+          (λ enough. unfinished (e.unfinished (memory_of result memory) enough)) (cases_lt (length store.lines) 4);
     }
       where
-        memory_of : (r : Result (Unit {0}) MergeFault) → merge_completion (both p q) r ≡ Err Memory → r ≡ Err faults.Memory
+        memory_of : (r : Result (Unit {0}) MergeFault) → merge_completion (both p q) r ≡ Err Memory
+            → r ≡ Err faults.Memory
         memory_of (Ok u) same = cc
         memory_of (Err (faults.Read side)) same = cc
         memory_of (Err faults.Write) same = cc
@@ -171,15 +235,24 @@ module _ (t : keyed.MergeTool) {old : List Reader} {was : Output} {before : Slot
 
         -- without all slots nothing was read
         first_left : length store.lines < 4 → IsDone (reader_at new p) → ⊥
-        first_left few done = false≢true (sym (new_at First).eof ∙ ap (λ (r : Reader). r.eof) (sym ((unread ready.writable few).readers First)) ∙ done.eof)
+        first_left few done =
+            false≢true (sym (new_at First).eof
+            ∙ ap (λ (r : Reader). r.eof) (sym ((unread ready.writable few).readers First)) ∙ done.eof)
 
-        unfinished : IsUnfinished t new_state e.given e.pushed → IsJointUnfinished (two_input_tool t) two given new e.pushed
+        unfinished : IsUnfinished t new_state e.given e.pushed
+            → IsJointUnfinished (two_input_tool t) two given new e.pushed
         unfinished (inl (First, left)) = inl (p, named First, left)
         unfinished (inl (Second, left)) = inl (q, named Second, left)
-        unfinished (inr (keeps, unwritten)) = inr (keeps, λ texts agrees. unwritten (by_side two texts) (agree texts agrees))
+        unfinished (inr (keeps, unwritten)) =
+            inr (keeps, λ texts agrees. unwritten (by_side two texts) (agree texts agrees))
 
-        keeps : (side : Side) → (cut : LaggedInput (given (both p q side))) × IsPushedUpToBlock (decided_output t (by_side two (update_at (both p q side) cut.earlier given))) was is e.pushed
-        keeps side = rw (given_at side) (passed_on (λ g. decided_output t (with_side side g e.given)) (λ g. decided_output t (by_side two (update_at (both p q side) g given)))
+        keeps : (side : Side)
+            → (cut : LaggedInput (given (both p q side)))
+            × IsPushedUpToBlock (decided_output t (by_side two (update_at (both p q side) cut.earlier given)))
+            was is e.pushed
+        keeps side =
+            rw (given_at side) (passed_on (λ g. decided_output t (with_side side g e.given))
+            (λ g. decided_output t (by_side two (update_at (both p q side) g given)))
             (λ g. ap (decided_output t) (put_is side g)) (e.bounded_lag side ready.writable))
 
 -- ---- two readers of a list that was split between them
@@ -192,31 +265,44 @@ pub record SplitReaders (inputs new : List Reader) (low high : ℕ) (a b x y : R
   pub is_high : reader_at new high ≡ y
   pub others : (k : ℕ) → (low ≡ k → ⊥) → (high ≡ k → ⊥) → reader_at new k ≡ reader_at inputs k
 
-module _ {inputs : List Reader} (front back : List Reader) {low high : ℕ} (split : inputs ≡ front ++ back) (size : length front ≡ high) (below : low < high) (within : high < length inputs) where
+module _ {inputs : List Reader} (front back : List Reader) {low high : ℕ} (split : inputs ≡ front ++ back)
+    (size : length front ≡ high) (below : low < high) (within : high < length inputs) where
   none_left : high - high ≡ 0
   none_left = omega arith
 
   pub were : (d e : Reader) → (get_or front low d ≡ reader_at inputs low) × (get_or back 0 e ≡ reader_at inputs high)
   were d e = (
     get_or_default front low d no_reader (omega (arith, size, below))
-        ∙ sym (ap (λ l. get_or l low no_reader) split ∙ get_or_append_left front back no_reader low (omega (arith, size, below))),
+        ∙ sym (ap (λ l. get_or l low no_reader) split
+        ∙ get_or_append_left front back no_reader low (omega (arith, size, below))),
     get_or_default back 0 e no_reader (omega (arith, ap length split, length-append front back, size, within))
-        ∙ sym (ap (λ l. get_or l high no_reader) split ∙ get_or-append_right front back high high no_reader size (omega arith) ∙ ap (λ n. get_or back n no_reader) none_left),
+        ∙ sym (ap (λ l. get_or l high no_reader) split
+        ∙ get_or-append_right front back high high no_reader size (omega arith)
+        ∙ ap (λ n. get_or back n no_reader) none_left),
   )
 
   module _ (x y : Reader) where
     set_both : set (set inputs low x) high y ≡ set front low x ++ set back 0 y
     set_both =
-        ap (λ l. set (set l low x) high y) split ∙ ap (λ l. set l high y) (set-append_left front back low x (omega (arith, size, below)))
-        ∙ set-append_right (set front low x) back high high y (length-set front low x ∙ size) (omega arith) ∙ ap (λ n. set front low x ++ set back n y) none_left
+        ap (λ l. set (set l low x) high y) split
+        ∙ ap (λ l. set l high y) (set-append_left front back low x (omega (arith, size, below)))
+        ∙ set-append_right (set front low x) back high high y (length-set front low x ∙ size) (omega arith)
+        ∙ ap (λ n. set front low x ++ set back n y) none_left
 
-    pub split_readers : (d e : Reader) → SplitReaders inputs (set front low x ++ set back 0 y) low high (get_or front low d) (get_or back 0 e) x y
+    pub split_readers : (d e : Reader)
+        → SplitReaders inputs (set front low x ++ set back 0 y) low high (get_or front low d) (get_or back 0 e) x y
     split_readers d e = record {
       was_low = (were d e).0;
       was_high = (were d e).1;
-      is_low = rw (sym set_both) (get_or-set_other (set inputs low x) high low y no_reader (λ same. omega (arith, same, below))
+      is_low =
+          rw (sym set_both) (get_or-set_other (set inputs low x) high low y no_reader
+          (λ same. omega (arith, same, below))
           ∙ get_or-set_same inputs low x no_reader (omega (arith, below, within)));
-      is_high = rw (sym set_both) (get_or-set_same (set inputs low x) high y no_reader (omega (arith, within, length-set inputs low x)));
-      others = λ k first second. rw (sym set_both) (get_or-set_other (set inputs low x) high k y no_reader (λ same. second (sym same))
+      is_high =
+          rw (sym set_both) (get_or-set_same (set inputs low x) high y no_reader
+          (omega (arith, within, length-set inputs low x)));
+      others =
+          λ k first second. rw (sym set_both)
+          (get_or-set_other (set inputs low x) high k y no_reader (λ same. second (sym same))
           ∙ get_or-set_other inputs low k x no_reader (λ same. first (sym same)));
     }

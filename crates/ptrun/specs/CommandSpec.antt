@@ -1,6 +1,7 @@
 -- The requirements on one command, in terms of the bytes of its inputs. The inputs have positions: 0 is standard input,
 -- and `i` + 1 the `i`-th file.
-use Rattle.std.specs.Prelude.{◌≡◌, ◌≢◌, ◌⊎◌, ℕ, ◌==◌, Option, List, [], ◌++◌, Bool, true, flat_map, is_none, length, take, if◌then◌else◌}
+use Rattle.std.specs.Prelude.{◌≡◌, ◌≢◌, ◌⊎◌, ℕ, ◌==◌, Option, List, [], ◌++◌, Bool, true, flat_map, is_none, length}
+use Rattle.std.specs.Prelude.{take, if◌then◌else◌}
 use Rattle.ptflow.specs.ToolSpec.{ToolSpec}
 use Rattle.ptlines.specs.Readers.{Reader}
 use Rattle.ptrun.specs.Files.{InputBytes, ReceivedInputs, is_unopened, AreInputsConsistent, IsOneUnended}
@@ -35,7 +36,8 @@ pub record CommandSpec : Type 0 where
 
 -- A message for each position that passes the test, in order: its file could not be opened.
 abbrev pub unopened_messages : List ℕ → List (List ℕ) → (ℕ → Bool) → List ℕ → List ℕ
-unopened_messages tool names test positions = flat_map (λ p. if test p then unopened_message tool (name_of names p) else []) positions
+unopened_messages tool names test positions =
+    flat_map (λ p. if test p then unopened_message tool (name_of names p) else []) positions
 
 -- The messages about the first `n` operands: one for each that could not be opened.
 abbrev pub operand_messages : CommandSpec → InputBytes → ℕ → List ℕ

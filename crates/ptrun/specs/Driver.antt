@@ -1,5 +1,6 @@
 -- The contracts between a tool and the driver that runs it: the conditions before and after each of the driver's steps.
-use Rattle.std.specs.Prelude.{◌≡◌, ◌≢◌, ◌⊎◌, ℕ, ◌+◌, ◌<◌, ◌≤◌, ◌^◌, Bool, true, false, List, [], All, Option, Some, None, Result, Ok, Err, length, max, if◌then◌else◌}
+use Rattle.std.specs.Prelude.{◌≡◌, ◌≢◌, ◌⊎◌, ℕ, ◌+◌, ◌<◌, ◌≤◌, ◌^◌, Bool, true, false, List, [], All, Option, Some}
+use Rattle.std.specs.Prelude.{None, Result, Ok, Err, length, max, if◌then◌else◌}
 use Rattle.std.specs.List.{list_any}
 use Rattle.ptlines.specs.Readers.{Reader, IsDone, IsSound, HasReadCause}
 use Rattle.ptlines.specs.Outputs.{Output, PushEffect}
@@ -15,15 +16,16 @@ use Rattle.ptmerge.specs.declared.faults.MergeFault.TheVariants as faults
 use Rattle.ptmerge.specs.declared.key_order.Side.{Side}
 use Rattle.ptrun.specs.declared.driver.Completion.{Completion}
 use Rattle.ptrun.specs.declared.driver.Completion.TheVariants.{AllWritten, Unopened, Disorder}
-use Rattle.ptrun.specs.Files.{InputBytes, ReceivedInputs, is_in, is_unopened, is_reader_unopened, HaveReceived, IsNewOrUnopened, HasReadFailed}
-use Rattle.ptrun.specs.Files.{AreInputsConsistent, AreReadToEnd}
+use Rattle.ptrun.specs.Files.{InputBytes, ReceivedInputs, is_in, is_unopened, is_reader_unopened, HaveReceived}
+use Rattle.ptrun.specs.Files.{IsNewOrUnopened, HasReadFailed, AreInputsConsistent, AreReadToEnd}
 use Rattle.ptlines.specs.Readers.{reader_at}
 use Rattle.ptrun.specs.CommandSpec.{CommandSpec, operand_messages, unopened_messages, ended_operands, IsUnfinished}
 use Rattle.ptrun.specs.Lag.{IsPushedUpToBlock, HasBoundedLag}
 use Rattle.ptrun.specs.Joint.{JointTool}
 use Rattle.ptrun.specs.MessageWrites.{HasSaid}
 use Rattle.ptrun.specs.Messages.{fault_message, disorder_message}
-use Rattle.ptrun.specs.Runs.{IsComplete, HasCause, Sinks, Outcome, IsRunInStore, IsUnchangedIfUnread, IsStoreUnchangedIfUnread}
+use Rattle.ptrun.specs.Runs.{IsComplete, HasCause, Sinks, Outcome, IsRunInStore, IsUnchangedIfUnread}
+use Rattle.ptrun.specs.Runs.{IsStoreUnchangedIfUnread}
 
 -- The precondition on the inputs: none was read yet, each operand has a reader, each file has a name, and the tool
 -- accepts these operands.
@@ -35,13 +37,17 @@ pub record InputsPre (m : CommandSpec) (inputs : List Reader) : Type 0 where
 
 -- The postcondition of reporting unopened files before anything is read. `any_unopened` holds if the tool cannot run
 -- without one of them: then all of them were reported, and there is nothing else to read, write or say.
-pub record ReportUnopenedPost (m : CommandSpec) (inputs : List Reader) (messages_old messages_new : SinkState) (any_unopened : Bool) : Type 0 where
+pub record ReportUnopenedPost (m : CommandSpec) (inputs : List Reader) (messages_old messages_new : SinkState)
+    (any_unopened : Bool) : Type 0 where
   pub is : any_unopened ≡ m.reads_nothing (is_reader_unopened inputs)
-  pub has_said : HasSaid messages_old messages_new (if any_unopened then unopened_messages m.tool m.names (is_reader_unopened inputs) m.positions else [])
-  pub nothing : any_unopened ≡ true → (w : InputBytes) → ((position : ℕ) → is_reader_unopened inputs position ≡ is_unopened w position)
+  pub has_said : HasSaid messages_old messages_new
+      (if any_unopened then unopened_messages m.tool m.names (is_reader_unopened inputs) m.positions else [])
+  pub nothing : any_unopened ≡ true → (w : InputBytes)
+      → ((position : ℕ) → is_reader_unopened inputs position ≡ is_unopened w position)
       → (m.out w ≡ []) × (m.final_message w ≡ []) × (m.status w ≡ 1)
   pub at_once : any_unopened ≡ true → m.sequential ≡ None
-  pub undecided : any_unopened ≡ true → (r : ReceivedInputs) → ((position : ℕ) → is_reader_unopened inputs position ≡ is_unopened r position) → m.decided r ≡ []
+  pub undecided : any_unopened ≡ true → (r : ReceivedInputs)
+      → ((position : ℕ) → is_reader_unopened inputs position ≡ is_unopened r position) → m.decided r ≡ []
 
 -- The precondition of processing the inputs: all files that the tool cannot run without were opened, no write has
 -- failed, and the store is empty and was not denied memory.
@@ -112,12 +118,14 @@ abbrev pub RunInputsEnd : CommandSpec → ReceivedInputs → List Reader → Lis
     → Result Completion FlowFault → Type 0
 RunInputsEnd m r old new pushed failed denied n (Ok done) =
     IsComplete m r old new pushed failed denied n
-    × ((w : InputBytes) → AreInputsConsistent r w → (result_message m.tool m.names (Ok done) ≡ m.final_message w) × (result_status (Ok done) ≡ m.status w))
+    × ((w : InputBytes) → AreInputsConsistent r w
+    → (result_message m.tool m.names (Ok done) ≡ m.final_message w) × (result_status (Ok done) ≡ m.status w))
 RunInputsEnd m r old new pushed failed denied n (Err fault) = HasCause m r old new failed denied n fault
 
 -- The postcondition of processing the inputs: that of a run, except that the last message is still to be said and that
 -- some output may still be buffered.
-pub record RunInputsPost (m : CommandSpec) (old new : List Reader) (was is : Output) (messages_old messages_new : SinkState)
+pub record RunInputsPost (m : CommandSpec) (old new : List Reader) (was is : Output)
+    (messages_old messages_new : SinkState)
     (before store : Slots) (result : Result Completion FlowFault) : Type 0 where
   pub received : ReceivedInputs
   pub came : HaveReceived old new received
@@ -130,12 +138,15 @@ pub record RunInputsPost (m : CommandSpec) (old new : List Reader) (was is : Out
   pub names : (w : InputBytes) → AreInputsConsistent received w → message ≡ operand_messages m w operands_done
   pub ends : RunInputsEnd m received old new pushed is.write_failed store.denied operands_done result
   pub position : HasIndexBelow (length old) result
-  pub untouched : (position : ℕ) → is_in (m.may_touch operands_done) position ≡ false → reader_at new position ≡ reader_at old position
+  pub untouched : (position : ℕ) → is_in (m.may_touch operands_done) position ≡ false
+      → reader_at new position ≡ reader_at old position
   pub ended : AreReadToEnd new (ended_operands m operands_done (result_status result))
   pub left : result ≡ Err Memory → IsUnfinished m received new pushed operands_done
   pub is_prefix : (w : InputBytes) → AreInputsConsistent received w → IsPrefix pushed (m.out w)
-  pub names_failed_read : (position : ℕ) → HasReadFailed old new position → is.write_failed ≡ false → result ≡ Err (Read position)
-  pub decided_is_written : (position : ℕ) → HasReadFailed old new position → is.write_failed ≡ false → IsPrefix (m.decided received) pushed
+  pub names_failed_read : (position : ℕ) → HasReadFailed old new position → is.write_failed ≡ false
+      → result ≡ Err (Read position)
+  pub decided_is_written : (position : ℕ) → HasReadFailed old new position → is.write_failed ≡ false
+      → IsPrefix (m.decided received) pushed
   pub bounded_lag : HasBoundedLag m received operands_done (λ decided. IsPushedUpToBlock decided was is pushed)
   pub peak : (w : InputBytes) → AreInputsConsistent received w → store.peak ≤ max before.peak (m.memory_bound w)
   pub slots : (w : InputBytes) → AreInputsConsistent received w
@@ -143,7 +154,8 @@ pub record RunInputsPost (m : CommandSpec) (old new : List Reader) (was is : Out
 
 -- The postcondition of a run with a lent store: the peak that it reports, and whether memory was denied, are the store's
 -- own, and if it reads nothing, then inputs, store and output are unchanged.
-pub record RunWithStorePost (m : CommandSpec) (old new : List Reader) (handed : Sinks) (o : Outcome) (lent left : Slots) : Type 0 where
+pub record RunWithStorePost (m : CommandSpec) (old new : List Reader) (handed : Sinks) (o : Outcome)
+    (lent left : Slots) : Type 0 where
   pub run : IsRunInStore m old new handed o lent left
   pub reads_nothing : IsUnchangedIfUnread m old new handed.out o × IsStoreUnchangedIfUnread m old lent left
   pub store : (o.peak ≡ left.peak) × (o.denied ≡ left.denied)
@@ -151,7 +163,8 @@ pub record RunWithStorePost (m : CommandSpec) (old new : List Reader) (handed : 
 -- ---- tools that read all their inputs together
 
 -- The precondition of such a tool: it accepts these operands, each of them was opened and none was read yet.
-pub record JointPre (t : JointTool) (positions : List ℕ) (inputs : List Reader) (out : Output) (store : Slots) : Type 0 where
+pub record JointPre (t : JointTool) (positions : List ℕ) (inputs : List Reader) (out : Output)
+    (store : Slots) : Type 0 where
   pub accepts_operands : t.accepts positions ≡ true
   pub fresh : All IsNewOrUnopened inputs
   pub in_range : All (λ p. p < length inputs) positions
@@ -171,12 +184,15 @@ AreConsistentAt positions given texts = (q : ℕ) → is_in positions q ≡ true
 
 -- No read of an input at these positions failed.
 abbrev pub NoReadFailed : List ℕ → List Reader → List Reader → Type 0
-NoReadFailed positions old new = (q : ℕ) → is_in positions q ≡ true → (reader_at new q).failed ≡ (reader_at old q).failed
+NoReadFailed positions old new = (q : ℕ) → is_in positions q ≡ true
+    → (reader_at new q).failed ≡ (reader_at old q).failed
 
 -- All input was read and all output was pushed, up to a line out of order if there is one.
-pub record JointComplete (t : JointTool) (positions : List ℕ) (given : ℕ → Received) (old new : List Reader) (pushed : List ℕ) (failed denied : Bool) (done : Completion) : Type 0 where
+pub record JointComplete (t : JointTool) (positions : List ℕ) (given : ℕ → Received) (old new : List Reader)
+    (pushed : List ℕ) (failed denied : Bool) (done : Completion) : Type 0 where
   pub out : (texts : ℕ → List ℕ) → AreConsistentAt positions given texts → pushed ≡ t.text positions texts
-  pub is_done : (texts : ℕ → List ℕ) → AreConsistentAt positions given texts → done ≡ completion_of (t.disorder positions texts)
+  pub is_done : (texts : ℕ → List ℕ) → AreConsistentAt positions given texts
+      → done ≡ completion_of (t.disorder positions texts)
   pub ended : done ≡ AllWritten → (q : ℕ) → is_in positions q ≡ true → IsDone (reader_at new q)
   pub position : HasIndexBelow (length old) (Ok done)
   pub unfailed : NoReadFailed positions old new
@@ -194,35 +210,45 @@ pub record JointReadFailed (positions : List ℕ) (old new : List Reader) (faile
   pub not_denied : denied ≡ false
 
 -- How such a tool ended, by its result. The failure that it reports is one that happened.
-abbrev pub JointEnd : JointTool → List ℕ → (ℕ → Received) → List Reader → List Reader → List ℕ → Bool → Bool → Result Completion FlowFault → Type 0
-JointEnd t positions given old new pushed failed denied (Ok done) = JointComplete t positions given old new pushed failed denied done
-JointEnd t positions given old new pushed failed denied (Err (Read p)) = JointReadFailed positions old new failed denied p
+abbrev pub JointEnd : JointTool → List ℕ → (ℕ → Received) → List Reader → List Reader → List ℕ → Bool → Bool
+    → Result Completion FlowFault → Type 0
+JointEnd t positions given old new pushed failed denied (Ok done) =
+    JointComplete t positions given old new pushed failed denied done
+JointEnd t positions given old new pushed failed denied (Err (Read p)) =
+    JointReadFailed positions old new failed denied p
 JointEnd t positions given old new pushed failed denied (Err Write) = failed ≡ true
-JointEnd t positions given old new pushed failed denied (Err Memory) = (denied ≡ true) × (failed ≡ false) × NoReadFailed positions old new
+JointEnd t positions given old new pushed failed denied (Err Memory) =
+    (denied ≡ true) × (failed ≡ false) × NoReadFailed positions old new
 
 -- Something was left to do: an input at these positions was not read to its end. If the tool keeps groups, all may have
 -- ended, but then some output was left to push.
 abbrev pub IsJointUnfinished : JointTool → List ℕ → (ℕ → Received) → List Reader → List ℕ → Type 0
 IsJointUnfinished t positions given new pushed =
     ((q : ℕ) × (is_in positions q ≡ true) × (IsDone (reader_at new q) → ⊥))
-    ⊎ ((t.keeps_groups ≡ true) × ((texts : ℕ → List ℕ) → AreConsistentAt positions given texts → pushed ≢ t.text positions texts))
+    ⊎ ((t.keeps_groups ≡ true) × ((texts : ℕ → List ℕ) → AreConsistentAt positions given texts
+    → pushed ≢ t.text positions texts))
 
 -- The postcondition of such a tool. `given` is what was received from each input, by position, and `texts` are bytes
 -- that are consistent with it. The inputs at other positions are unchanged.
-pub record JointPost (t : JointTool) (positions : List ℕ) (old new : List Reader) (was is : Output) (before store : Slots) (result : Result Completion FlowFault) : Type 0 where
+pub record JointPost (t : JointTool) (positions : List ℕ) (old new : List Reader) (was is : Output)
+    (before store : Slots) (result : Result Completion FlowFault) : Type 0 where
   pub given : ℕ → Received
   pub came : (q : ℕ) → is_in positions q ≡ true → HasReceived (reader_at old q) (reader_at new q) (given q)
   pub untouched : (q : ℕ) → is_in positions q ≡ false → reader_at new q ≡ reader_at old q
   pub pushed : List ℕ
   pub wrote : PushEffect was is pushed
   pub ends : JointEnd t positions given old new pushed is.write_failed store.denied result
-  pub is_prefix : (texts : ℕ → List ℕ) → AreConsistentAt positions given texts → IsPrefix pushed (t.text positions texts)
-  pub decided_is_written : (q : ℕ) → is_in positions q ≡ true → (reader_at new q).failed ≡ true → is.write_failed ≡ false
-      → IsPrefix (t.decided positions given) pushed
+  pub is_prefix : (texts : ℕ → List ℕ) → AreConsistentAt positions given texts
+      → IsPrefix pushed (t.text positions texts)
+  pub decided_is_written : (q : ℕ) → is_in positions q ≡ true → (reader_at new q).failed ≡ true
+      → is.write_failed ≡ false → IsPrefix (t.decided positions given) pushed
   pub bounded_lag : (q : ℕ) → is_in positions q ≡ true
-      → (cut : LaggedInput (given q)) × IsPushedUpToBlock (t.decided positions (update_at q cut.earlier given)) was is pushed
-  pub same : (f g : ℕ → Received) → ((q : ℕ) → is_in positions q ≡ true → f q ≡ g q) → t.decided positions f ≡ t.decided positions g
-  pub peak : (texts : ℕ → List ℕ) → AreConsistentAt positions given texts → store.peak ≤ max before.peak (t.size positions texts)
+      → (cut : LaggedInput (given q)) × IsPushedUpToBlock (t.decided positions (update_at q cut.earlier given))
+      was is pushed
+  pub same : (f g : ℕ → Received) → ((q : ℕ) → is_in positions q ≡ true → f q ≡ g q)
+      → t.decided positions f ≡ t.decided positions g
+  pub peak : (texts : ℕ → List ℕ) → AreConsistentAt positions given texts
+      → store.peak ≤ max before.peak (t.size positions texts)
   pub slots : (texts : ℕ → List ℕ) → AreConsistentAt positions given texts
       → length store.lines ≤ max (length before.lines) (t.slots positions texts)
   pub left : result ≡ Err Memory → IsJointUnfinished t positions given new pushed

@@ -1,7 +1,7 @@
 -- The inputs of a command by position, and what was received from them. Position 0 is standard input, and `i` + 1 is
 -- the `i`-th file.
-use Rattle.std.specs.Prelude.{◌≡◌, ℕ, ◌+◌, ◌==◌, ◌<◌, ◌≤◌, ◌^◌, List, [], ◌∷◌, ◌++◌, Bool, true, false, Option, Some, None, if◌then◌else◌, slice_index_or}
-use Rattle.std.specs.Prelude.{option_map, filter_map, is_none, length, ⊤, All}
+use Rattle.std.specs.Prelude.{◌≡◌, ℕ, ◌+◌, ◌==◌, ◌<◌, ◌≤◌, ◌^◌, List, [], ◌∷◌, ◌++◌, Bool, true, false, Option, Some}
+use Rattle.std.specs.Prelude.{None, if◌then◌else◌, slice_index_or, option_map, filter_map, is_none, length, ⊤, All}
 use Rattle.std.specs.List.{list_any}
 use Rattle.ptlines.specs.Readers.{Reader, IsDone, remaining_bytes, reader_at}
 use Rattle.ptlines.specs.Received.{Received, HasReceived}
@@ -48,7 +48,8 @@ input_of_operand rest xs before position = option_map (λ x. if is_in before pos
 -- The inputs of operands in order; `before` are the positions of the operands before them.
 abbrev pub inputs_of_operands : {X : Type 0} → X → List (Option X) → List ℕ → List ℕ → List (Option X)
 inputs_of_operands rest xs before [] = []
-inputs_of_operands rest xs before (p ∷ ps) = input_of_operand rest xs before p ∷ inputs_of_operands rest xs (before ++ p ∷ []) ps
+inputs_of_operands rest xs before (p ∷ ps) =
+    input_of_operand rest xs before p ∷ inputs_of_operands rest xs (before ++ p ∷ []) ps
 
 -- The inputs among these that were opened.
 abbrev pub opened_values : {X : Type 0} → List (Option X) → List X
@@ -72,7 +73,8 @@ HasReceivedAt old new (Some g) = (old.refused ≡ false) × HasReceived old new 
 
 -- These parts were received from all readers, by position.
 abbrev pub HaveReceived : List Reader → List Reader → ReceivedInputs → Type 0
-HaveReceived old new r = (position : ℕ) → HasReceivedAt (reader_at old position) (reader_at new position) (at r position)
+HaveReceived old new r = (position : ℕ)
+    → HasReceivedAt (reader_at old position) (reader_at new position) (at r position)
 
 -- Nothing was read from it yet, and it has no fault.
 pub record IsNew (r : Reader) : Type 0 where

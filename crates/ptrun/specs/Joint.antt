@@ -1,6 +1,7 @@
 -- Tools that read all their operands together: `paste`, `uniq`, `comm` and `join`. If an operand could not be opened,
 -- every such file is reported and nothing else is done.
-use Rattle.std.specs.Prelude.{ℕ, ◌==◌, ◌&&◌, Bool, true, false, List, [], Option, Some, None, length, nat_le, unwrap_or, slice_index_or, option_map, not, if◌then◌else◌}
+use Rattle.std.specs.Prelude.{ℕ, ◌==◌, ◌&&◌, Bool, true, false, List, [], Option, Some, None, length, nat_le, unwrap_or}
+use Rattle.std.specs.Prelude.{slice_index_or, option_map, not, if◌then◌else◌}
 use Rattle.std.specs.List.{list_any}
 use Rattle.ptlines.specs.Received.{Received, empty_input}
 use Rattle.ptlangs.specs.Jobs.{Paste}
@@ -77,7 +78,8 @@ two_input_tool t = record {
   size = λ positions texts. t.size (lines_of t (by_side positions texts));
   slots = λ positions texts. t.slots (lines_of t (by_side positions texts));
   keeps_groups = t.keeps_groups;
-  disorder = λ positions texts. option_map (λ d. (operand positions d.file, d.first_disorder.line)) (keyed.disorder t (lines_of t (by_side positions texts)));
+  disorder = λ positions texts. option_map (λ d. (operand positions d.file, d.first_disorder.line))
+      (keyed.disorder t (lines_of t (by_side positions texts)));
   accepts = λ positions. (length positions == 2) && not (operand positions First == operand positions Second);
 }
 
@@ -113,7 +115,8 @@ joint_spec word t names positions = record {
   keeps_groups = t.keeps_groups;
   decided = λ r. if has_unopened positions r then [] else t.decided positions (received_in r);
   sequential = None;
-  final_message = λ w. if has_unopened positions w then [] else disorder_text word names (t.disorder positions (bytes_of w));
+  final_message = λ w. if has_unopened positions w then [] else disorder_text word names
+      (t.disorder positions (bytes_of w));
   reads_nothing = λ is_unopened_at. list_any is_unopened_at positions;
   accepts = t.accepts positions;
   positions = positions;

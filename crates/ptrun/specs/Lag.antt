@@ -1,6 +1,7 @@
 -- A bound on the lag of the output: however a run ends, the output that was decided two blocks of input ago is written,
 -- except for at most one block after a failed write.
-use Rattle.std.specs.Prelude.{◌≡◌, ◌≤◌, ℕ, ◌+◌, Bool, true, false, List, [], ◌∷◌, ◌++◌, Option, Some, None, length, take, set}
+use Rattle.std.specs.Prelude.{◌≡◌, ◌≤◌, ℕ, ◌+◌, Bool, true, false, List, [], ◌∷◌, ◌++◌, Option, Some, None, length}
+use Rattle.std.specs.Prelude.{take, set}
 use Rattle.ptlines.specs.Received.{Received, IsPrefix, empty_input}
 use Rattle.ptlines.specs.Lag.{LaggedInput, BufferLag}
 use Rattle.ptlines.specs.Outputs.{Output}
@@ -36,7 +37,8 @@ LagOfLast t came P = (done : List Received) (last : Received) → came ≡ done 
 -- `P` holds of the output that was decided when at most two blocks fewer of the input at any one of these positions
 -- were received, regardless of what was received from the others.
 abbrev pub LagOfAny : List ℕ → (ReceivedInputs → List ℕ) → ReceivedInputs → (List ℕ → Type 0) → Type 0
-LagOfAny positions decided r P = (position : ℕ) (came : Received) → is_in positions position ≡ true → at r position ≡ Some came
+LagOfAny positions decided r P = (position : ℕ) (came : Received) → is_in positions position ≡ true
+    → at r position ≡ Some came
     → (before : LaggedInput came) × P (decided (set r position (Some before.earlier)))
 
 -- One of the two: the former for a tool that reads its operands one after another, the latter for one that reads them

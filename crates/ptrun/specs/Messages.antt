@@ -1,5 +1,6 @@
 -- The texts of the messages. Each ends with newline.
-use Rattle.std.specs.Prelude.{ℕ, ◌-◌, ◌==◌, List, [], ◌∷◌, ◌++◌, map, Option, Some, None, codes, decimal, encode_utf8, if◌then◌else◌, slice_index_or}
+use Rattle.std.specs.Prelude.{ℕ, ◌-◌, ◌==◌, List, [], ◌∷◌, ◌++◌, map, Option, Some, None, codes, decimal, encode_utf8}
+use Rattle.std.specs.Prelude.{if◌then◌else◌, slice_index_or}
 use Rattle.ptlangs.specs.declared.faults.SetFault.{SetFault}
 use Rattle.ptlangs.specs.declared.faults.SetString.{SetString}
 use Rattle.ptlangs.specs.declared.faults.SetString.TheVariants as string
@@ -7,7 +8,8 @@ use Rattle.ptlangs.specs.declared.faults.SetFaultKind.{SetFaultKind}
 use Rattle.ptlangs.specs.declared.faults.SetFaultKind.TheVariants as kind
 use Rattle.ptflow.specs.declared.faults.FlowFault.{FlowFault}
 use Rattle.ptflow.specs.declared.faults.FlowFault.TheVariants.{Read, Write, Memory}
-use Rattle.ptopts.specs.Faults.{Fault, NoTool, Unknown, NeedsValue, Twice, Together, Value, Operands, StandardTwice, NeedsList, InString}
+use Rattle.ptopts.specs.Faults.{Fault, NoTool, Unknown, NeedsValue, Twice, Together, Value, Operands, StandardTwice}
+use Rattle.ptopts.specs.Faults.{NeedsList, InString}
 use Rattle.ptopts.specs.Syntax.{tools}
 use Rattle.ptrun.specs.MessageWrites.{line_of}
 
@@ -32,7 +34,8 @@ kind_word kind.Memory = codes "memory"
 
 -- The message about an invalid string operand of `tr`.
 abbrev pub string_fault_text : SetFault → List ℕ
-string_fault_text fault = line_of (codes "tr: wrong " ∷ string_word fault.string ∷ codes ": " ∷ kind_word fault.kind ∷ [])
+string_fault_text fault =
+    line_of (codes "tr: wrong " ∷ string_word fault.string ∷ codes ": " ∷ kind_word fault.kind ∷ [])
 
 -- A list as in a sentence, `a, b or c`, that begins with `name`.
 abbrev pub or_list_from : List ℕ → List (List ℕ) → List ℕ
@@ -51,8 +54,11 @@ usage_text tool NoTool = line_of (codes "ptext: first word: " ∷ or_list (map (
 usage_text tool (Unknown word) = line_of (tool ∷ codes ": unknown option in " ∷ word ∷ [])
 usage_text tool (NeedsValue l) = line_of (tool ∷ codes ": option -" ∷ encode_utf8 l ∷ codes " needs a value" ∷ [])
 usage_text tool (Twice l) = line_of (tool ∷ codes ": option -" ∷ encode_utf8 l ∷ codes " is given twice" ∷ [])
-usage_text tool (Together a b) = line_of (tool ∷ codes ": options -" ∷ encode_utf8 a ∷ codes " and -" ∷ encode_utf8 b ∷ codes " do not go together" ∷ [])
-usage_text tool (Value l value) = line_of (tool ∷ codes ": wrong value for option -" ∷ encode_utf8 l ∷ codes ": " ∷ value ∷ [])
+usage_text tool (Together a b) =
+    line_of (tool ∷ codes ": options -" ∷ encode_utf8 a ∷ codes " and -" ∷ encode_utf8 b ∷ codes " do not go together"
+    ∷ [])
+usage_text tool (Value l value) =
+    line_of (tool ∷ codes ": wrong value for option -" ∷ encode_utf8 l ∷ codes ": " ∷ value ∷ [])
 usage_text tool Operands = line_of (tool ∷ codes ": wrong number of operands" ∷ [])
 usage_text tool StandardTwice = line_of (tool ∷ codes ": standard input is named twice" ∷ [])
 usage_text tool NeedsList = line_of (codes "cut: one of -b, -c and -f is needed" ∷ [])
@@ -84,10 +90,12 @@ unopened_message tool name = line_of (tool ∷ codes ": " ∷ name ∷ codes ": 
 -- The message about a line out of order, by the position of its input and its number, counted from 1.
 abbrev pub disorder_message : List ℕ → List (List ℕ) → ℕ → ℕ → List ℕ
 disorder_message tool names position line =
-    line_of (tool ∷ codes ": " ∷ name_of names position ∷ codes ": line " ∷ decimal line ∷ codes " is out of order" ∷ [])
+    line_of (tool ∷ codes ": " ∷ name_of names position ∷ codes ": line " ∷ decimal line ∷ codes " is out of order"
+    ∷ [])
 
 -- The message about a failed call. A failed read names the input at its position.
 abbrev pub fault_message : List ℕ → List (List ℕ) → FlowFault → List ℕ
-fault_message tool names (Read position) = line_of (tool ∷ codes ": " ∷ name_of names position ∷ codes ": read failed" ∷ [])
+fault_message tool names (Read position) =
+    line_of (tool ∷ codes ": " ∷ name_of names position ∷ codes ": read failed" ∷ [])
 fault_message tool names Write = line_of (tool ∷ codes ": output: write failed" ∷ [])
 fault_message tool names Memory = memory_message tool

@@ -1,5 +1,6 @@
 -- The contract of a whole run: its output, messages, exit status and memory, by its inputs and the calls that failed.
-use Rattle.std.specs.Prelude.{◌≡◌, ℕ, ◌≤◌, Bool, true, false, List, ◌++◌, Option, Some, None, length, max, take, slice_get, ◌⊎◌, if◌then◌else◌}
+use Rattle.std.specs.Prelude.{◌≡◌, ℕ, ◌≤◌, Bool, true, false, List, ◌++◌, Option, Some, None, length, max, take}
+use Rattle.std.specs.Prelude.{slice_get, ◌⊎◌, if◌then◌else◌}
 use Rattle.std.specs.Io.KnownBytes.{append_known}
 use Rattle.ptlines.specs.Readers.{Reader}
 use Rattle.ptlines.specs.Sinks.{SinkState, flushes_after}
@@ -75,7 +76,8 @@ HasCause m r old new failed denied n Memory = (denied ≡ true) × (failed ≡ f
 pub record IsStopped (m : CommandSpec) (r : ReceivedInputs) (old new : List Reader) (message : List ℕ)
     (o : Outcome) (n : ℕ) (fault : FlowFault) : Type 0 where
   pub within : n ≤ length m.positions
-  pub messages : (w : InputBytes) → AreInputsConsistent r w → message ≡ operand_messages m w n ++ fault_message m.tool m.names fault
+  pub messages : (w : InputBytes) → AreInputsConsistent r w
+      → message ≡ operand_messages m w n ++ fault_message m.tool m.names fault
   pub cause : HasCause m r old new o.out.failed o.denied n fault
   pub status_is : o.status ≡ 1
 
@@ -108,7 +110,8 @@ pub record IsRun (m : CommandSpec) (old new : List Reader) (before : Sinks) (o :
   pub fault : Option FlowFault
   pub ends : RunEnd m received old new written message o operands_done fault
   -- the inputs that were not begun are unchanged
-  pub untouched : (position : ℕ) → is_in (m.may_touch operands_done) position ≡ false → reader_at new position ≡ reader_at old position
+  pub untouched : (position : ℕ) → is_in (m.may_touch operands_done) position ≡ false
+      → reader_at new position ≡ reader_at old position
   -- operands that are done were read to their end
   pub ended : AreReadToEnd new (ended_operands m operands_done o.status)
   -- if memory ran out, something was left to do
@@ -116,8 +119,10 @@ pub record IsRun (m : CommandSpec) (old new : List Reader) (before : Sinks) (o :
   -- the output is a prefix of the command's output, regardless of the bytes that follow in the inputs
   pub is_prefix : (w : InputBytes) → AreInputsConsistent received w → IsPrefix written (m.out w)
   -- a failed read is reported, and all output that was decided by then is written, unless a write failed
-  pub names_failed_read : (position : ℕ) → HasReadFailed old new position → o.out.failed ≡ false → fault ≡ Some (Read position)
-  pub decided_is_written : (position : ℕ) → HasReadFailed old new position → o.out.failed ≡ false → IsPrefix (m.decided received) written
+  pub names_failed_read : (position : ℕ) → HasReadFailed old new position → o.out.failed ≡ false
+      → fault ≡ Some (Read position)
+  pub decided_is_written : (position : ℕ) → HasReadFailed old new position → o.out.failed ≡ false
+      → IsPrefix (m.decided received) written
   -- after any failure, all output that was decided two blocks of input earlier is written, except for at most one block
   -- after a failed write
   pub bounded_lag : HasBoundedLag m received operands_done (λ decided. IsWrittenUpToBlock decided written o.out.failed)
@@ -125,7 +130,8 @@ pub record IsRun (m : CommandSpec) (old new : List Reader) (before : Sinks) (o :
 
 -- The postcondition of a run with a lent store: besides, the store has no more slots than the command needs for its
 -- inputs, or than it had before.
-pub record IsRunInStore (m : CommandSpec) (old new : List Reader) (before : Sinks) (o : Outcome) (lent left : Slots) : Type 0 where
+pub record IsRunInStore (m : CommandSpec) (old new : List Reader) (before : Sinks) (o : Outcome)
+    (lent left : Slots) : Type 0 where
   pub run : IsRun m old new before o
   pub slots : (w : InputBytes) → AreInputsConsistent run.received w
       → length left.lines ≤ max (length lent.lines) (m.slot_bound w)

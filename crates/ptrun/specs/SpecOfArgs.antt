@@ -1,5 +1,6 @@
 -- From the arguments of a command to its specification.
-use Rattle.std.specs.Prelude.{ℕ, List, [], Bool, true, false, Some, None, Result, Ok, Err, codes, length, slice_index_or, is_none, if◌then◌else◌}
+use Rattle.std.specs.Prelude.{ℕ, List, [], Bool, true, false, Some, None, Result, Ok, Err, codes, length}
+use Rattle.std.specs.Prelude.{slice_index_or, is_none, if◌then◌else◌}
 use Rattle.ptlangs.specs.Jobs.{Paste}
 use Rattle.ptflow.specs.Cuts.{cut_tool}
 use Rattle.ptflow.specs.PasteText.{paste_serial_tool}
@@ -76,7 +77,8 @@ is_memory_fault (Err fault) = is_none (fault_view fault)
 -- The specification for the arguments, unless parsing them ran out of memory: this is then the only message, with status
 -- 1.
 abbrev pub spec_unless_memory : List (List ℕ) → Bool → CommandSpec
-spec_unless_memory words out_of_memory = if out_of_memory then message_only (usage_message (tool_name words) None) 1 else spec_of_args words
+spec_unless_memory words out_of_memory =
+    if out_of_memory then message_only (usage_message (tool_name words) None) 1 else spec_of_args words
 
 -- The specification for the arguments and the result that parsing returned.
 abbrev pub spec_of_parsed : {A : Type 0} → Result (code.Command A) UseFault → List (List ℕ) → CommandSpec

@@ -1,5 +1,6 @@
 -- The readers of inputs in memory have their bytes to give, and none was read yet.
-use Rattle.std.proofs.Common.{◌≡◌, ℕ, zero, suc, ◌+◌, List, [], ◌∷◌, ◌++◌, Option, Some, None, Result, Ok, Err, is_none, false, All, ap, sym, ◌∙◌, refl, arith, length, map, length-append}
+use Rattle.std.proofs.Common.{◌≡◌, ℕ, zero, suc, ◌+◌, List, [], ◌∷◌, ◌++◌, Option, Some, None, Result, Ok, Err, is_none}
+use Rattle.std.proofs.Common.{false, All, ap, sym, ◌∙◌, refl, arith, length, map, length-append}
 use Rattle.std.proofs.lemmas.Bool.{true≢false}
 use Rattle.std.proofs.lemmas.List.{length-map, map-append}
 use Rattle.std.proofs.lemmas.List.Elements.{All-nil, All-cons, All-push}
@@ -55,11 +56,14 @@ readers_begin input r is short = record {
 plus_one : (n : ℕ) → n + 1 ≡ suc n
 plus_one n = omega arith
 
-pub reader_added : (files : InputBytes) (count : ℕ) (input : List ℕ) (readers : List Reader) (r : Reader) (v : Option (List ℕ))
+pub reader_added : (files : InputBytes) (count : ℕ) (input : List ℕ) (readers : List Reader) (r : Reader)
+    (v : Option (List ℕ))
     → v ≡ at files count → AreReadersOf (first_files files count) input readers → r ≡ memory_reader v → IsShort v
     → AreReadersOf (first_files files (count + 1)) input (readers ++ r ∷ [])
 reader_added files count input readers r v same are is short = rw (plus_one count) (record {
-  readers_are = rw (are.readers_are, is, same) (sym (map-append memory_reader (Some input ∷ first_files files count) (at files count ∷ [])));
+  readers_are =
+      rw (are.readers_are, is, same)
+      (sym (map-append memory_reader (Some input ∷ first_files files count) (at files count ∷ [])));
   short = All-push IsShort (Some input ∷ first_files files count) (at files count) are.short (rw (← same) short);
 })
 

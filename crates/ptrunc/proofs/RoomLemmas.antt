@@ -1,6 +1,7 @@
 -- A run that returns a sink to which it has added bytes has returned the sink of the same room: the state of a sink
 -- begins with the ghost name of its room. And what the room has is what the state says.
-use Rattle.std.proofs.Common.{◌≡◌, ℕ, ◌<◌, List, [], ◌∷◌, ◌++◌, Option, Some, None, ap, sym, ◌∙◌, arith, length, take, length-append, append_assoc, vec_len, ⊎_elim}
+use Rattle.std.proofs.Common.{◌≡◌, ℕ, ◌<◌, List, [], ◌∷◌, ◌++◌, Option, Some, None, ap, sym, ◌∙◌, arith, length, take}
+use Rattle.std.proofs.Common.{length-append, append_assoc, vec_len, ⊎_elim}
 use Rattle.std.proofs.lemmas.List.{length-take-le}
 use Rattle.std.proofs.Math.Seq.{take-append_seam}
 use Rattle.ptrunc.proofs.Below.{below_or_not}
@@ -39,7 +40,8 @@ module _ {A : Type 0} (s : Filling A) where
   holds_of text is = rw (← is) (record {
     begins = sym (ap (λ (n : ℕ). take n (filling_bytes s)) (sym written_length)
         ∙ take-append_seam (take s.room.written s.room.bytes.now) s.rest.items);
-    counts = omega (arith, written_length, s.rest.ok.0, length-append (take s.room.written s.room.bytes.now) s.rest.items);
+    counts =
+        omega (arith, written_length, s.rest.ok.0, length-append (take s.room.written s.room.bytes.now) s.rest.items);
     within = s.room.within;
     is_full = λ lacking. room_is_full lacking;
   })
@@ -49,5 +51,11 @@ module _ {A : Type 0} (s : Filling A) where
           ⊎_elim (λ space. absurd (omega (arith, lacking, s.rest.ok.0, ap length (s.rest_is_after space))))
           (λ full. omega (arith, full, s.room.within)) (below_or_not s.room.written (length s.room.bytes.now))
 
-  pub prefix_of_room : (text : List ℕ) → IsPrefix (filling_bytes s) text → IsPrefix (take s.room.written s.room.bytes.now) text
-  prefix_of_room text p = record { rest = s.rest.items ++ p.rest; is = p.is ∙ append_assoc (take s.room.written s.room.bytes.now) s.rest.items p.rest }
+  pub prefix_of_room : (text : List ℕ) → IsPrefix (filling_bytes s) text
+      → IsPrefix (take s.room.written s.room.bytes.now) text
+  prefix_of_room text p =
+      record {
+        rest = s.rest.items ++ p.rest;
+        is = p.is
+            ∙ append_assoc (take s.room.written s.room.bytes.now) s.rest.items p.rest;
+      }

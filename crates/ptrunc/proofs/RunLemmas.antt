@@ -1,5 +1,6 @@
 -- A run over memory fails only for want of memory: no reader has failed, and a room fails only if its rest cannot grow.
-use Rattle.std.proofs.Common.{◌≡◌, ℕ, true, false, List, Option, Some, None, All, ap, sym, ◌∙◌, refl, length, subst, vec_len, ⊎_elim}
+use Rattle.std.proofs.Common.{◌≡◌, ℕ, true, false, List, Option, Some, None, All, ap, sym, ◌∙◌, refl, length, subst}
+use Rattle.std.proofs.Common.{vec_len, ⊎_elim}
 use Rattle.std.proofs.lemmas.Bool.{true≢false, false≢true}
 use Rattle.std.proofs.lemmas.List.{get_or_past}
 use Rattle.ptrunc.proofs.Below.{below_or_not}
@@ -7,7 +8,8 @@ use Rattle.std.specs.Io.KnownBytes.{prepend_known, IsAtEnd}
 use Rattle.ptlines.specs.Readers.{Reader, reader_at, no_reader}
 use Rattle.ptlines.specs.Received.{Received, IsConsistent}
 use Rattle.ptrun.specs.CommandSpec.{CommandSpec, messages}
-use Rattle.ptrun.specs.Files.{InputBytes, AreInputsConsistent, HasBytes, HasBytesAt, HasReadFailed, HasReceivedAt, HaveReceived, IsConsistentAt, IsNewOrUnopened, ReceivedInputs, at}
+use Rattle.ptrun.specs.Files.{InputBytes, AreInputsConsistent, HasBytes, HasBytesAt, HasReadFailed, HasReceivedAt}
+use Rattle.ptrun.specs.Files.{HaveReceived, IsConsistentAt, IsNewOrUnopened, ReceivedInputs, at}
 use Rattle.ptrun.specs.Runs.{IsRun, IsExact, outcome, sinks}
 use Rattle.ptrunc.specs.Inputs.{HasNotFailed}
 use Rattle.ptrun.specs.declared.report.Report.{Report}
@@ -29,19 +31,22 @@ consistent_at old new (Some g) (Some b) is_new received bytes =
     by_left new.left (sym bytes.1 ∙ received.1.moved)
     (received.1.end (λ eof. absurd (false≢true (sym (is_new received.0).eof ∙ eof))))
   where
-    by_left : (left : Option (List ℕ)) → Some b ≡ prepend_known g.bytes left → (new.eof ≡ true → IsAtEnd left) → IsConsistent g b
+    by_left : (left : Option (List ℕ)) → Some b ≡ prepend_known g.bytes left → (new.eof ≡ true → IsAtEnd left)
+        → IsConsistent g b
     by_left None is end = cc
     by_left (Some rest) is end = record { rest = rest; is = cc; whole = λ eof. end (sym received.1.eof ∙ eof) }
 
-still_opened : (old new : Reader) (g : Option Received) → HasReceivedAt old new g → old.refused ≡ false → new.refused ≡ false
+still_opened : (old new : Reader) (g : Option Received) → HasReceivedAt old new g → old.refused ≡ false
+    → new.refused ≡ false
 still_opened old new None received opened = absurd (false≢true (sym opened ∙ received.0))
 still_opened old new (Some g) received opened = received.1.refused ∙ opened
 
 -- No read fails if no reader has failed. (After the last reader there is none whose read could fail.)
-pub none_failed : (old new : List Reader) (received : ReceivedInputs) → HaveReceived old new received → All HasNotFailed new
-    → (position : ℕ) → HasReadFailed old new position → ⊥
+pub none_failed : (old new : List Reader) (received : ReceivedInputs) → HaveReceived old new received
+    → All HasNotFailed new → (position : ℕ) → HasReadFailed old new position → ⊥
 none_failed old new received came all position failed =
-    let opened = still_opened (reader_at old position) (reader_at new position) (at received position) (came position) failed.0 in
+    let opened = still_opened (reader_at old position) (reader_at new position) (at received position)
+    (came position) failed.0 in
     ⊎_elim (λ within. false≢true (sym (all position no_reader within opened) ∙ failed.2))
     (λ past. false≢true (sym (ap (λ (r : Reader). r.failed) (get_or_past new position no_reader past)) ∙ failed.2))
     (below_or_not position (length new))
@@ -69,15 +74,19 @@ nothing_ran m w out messages' a ran_out nothing = record {
 module _ {A : Type 0} {m : CommandSpec} {old new : List Reader} (w : InputBytes) (to_out to_messages : Filling A)
     (report : Report (Filling A) (Filling A)) (out_new : IsNewFilling to_out) (messages_new : IsNewFilling to_messages)
     (fresh : All IsNewOrUnopened old)
-    (ran : IsRun m old new (sinks (filling_state to_out) (filling_state to_messages)) (outcome filling_state filling_state report))
+    (ran : IsRun m old new (sinks (filling_state to_out) (filling_state to_messages)) (outcome filling_state
+    filling_state report))
     (unfailed : All HasNotFailed new)
-    (exact_if : ((position : ℕ) → HasReadFailed old new position → ⊥) → report.out.failed ≡ false → report.denied ≡ false
-    → IsExact m w (sinks (filling_state to_out) (filling_state to_messages)) (outcome filling_state filling_state report))
+    (exact_if : ((position : ℕ) → HasReadFailed old new position
+    → ⊥) → report.out.failed ≡ false → report.denied ≡ false
+    → IsExact m w (sinks (filling_state to_out) (filling_state to_messages))
+    (outcome filling_state filling_state report))
     (bytes : HasBytes old w) (exit : Option ℕ)
     (whole : (s : ℕ) → exit ≡ Some s → (s ≡ report.status) × (report.denied ≡ false) × (report.out.failed ≡ false)
     × (report.messages.failed ≡ false)) where
   exact : (s : ℕ) → exit ≡ Some s
-      → IsExact m w (sinks (filling_state to_out) (filling_state to_messages)) (outcome filling_state filling_state report)
+      → IsExact m w (sinks (filling_state to_out) (filling_state to_messages))
+      (outcome filling_state filling_state report)
   exact s is = exact_if (none_failed old new ran.received ran.came unfailed) (whole s is).2 (whole s is).1
 
   pub filled_by : FilledPost m w report.out.room report.messages.room (record {
@@ -86,7 +95,8 @@ module _ {A : Type 0} {m : CommandSpec} {old new : List Reader} (w : InputBytes)
     messages_lacking = vec_len report.messages.rest;
   })
   filled_by = record {
-    out_holds = λ s is. holds_of report.out (m.out w) (bytes_added to_out report.out (m.out w) (exact s is).out out_new);
+    out_holds =
+        λ s is. holds_of report.out (m.out w) (bytes_added to_out report.out (m.out w) (exact s is).out out_new);
     messages_hold = λ s is. holds_of report.messages (messages m w)
         (bytes_added to_messages report.messages (messages m w) ((exact s is).messages (whole s is).3) messages_new);
     status_is = λ s is. (whole s is).0 ∙ (exact s is).status_is;
@@ -106,11 +116,13 @@ answer_of_filled m w out messages' filled a f out_is messages_is status = record
   is_prefix = rw out_is f.is_prefix;
 }
   where
-    by_status : (s : Option ℕ) → filled.status ≡ s → (a.status ≡ 4 → ⊥) → IsExactInMemory m w out.bytes.now messages'.bytes.now a
+    by_status : (s : Option ℕ) → filled.status ≡ s → (a.status ≡ 4 → ⊥)
+        → IsExactInMemory m w out.bytes.now messages'.bytes.now a
     by_status None none other = absurd (other (rw none at status))
     by_status (Some s) is other = let told = rw is at status in record {
       out_holds = rw out_is (f.out_holds s is);
       messages_hold = rw messages_is (f.messages_hold s is);
-      status_is = λ fits messages_fit. told.0 (ap (λ p. p.lacking) (sym out_is) ∙ fits) (ap (λ p. p.lacking) (sym messages_is) ∙ messages_fit) ∙ f.status_is s is;
+      status_is = λ fits messages_fit. told.0 (ap (λ p. p.lacking) (sym out_is) ∙ fits)
+          (ap (λ p. p.lacking) (sym messages_is) ∙ messages_fit) ∙ f.status_is s is;
       lacks_room = λ lacks. told.1 (rw (out_is, messages_is) at lacks);
     }

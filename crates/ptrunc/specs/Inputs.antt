@@ -1,5 +1,6 @@
 -- The inputs of a run over memory, and their readers.
-use Rattle.std.specs.Prelude.{◌≡◌, ℕ, zero, suc, ◌^◌, ◌<◌, Bool, false, true, List, [], ◌∷◌, ◌++◌, Option, Some, None, ⊤, All, length, map, option_map}
+use Rattle.std.specs.Prelude.{◌≡◌, ℕ, zero, suc, ◌^◌, ◌<◌, Bool, false, true, List, [], ◌∷◌, ◌++◌, Option, Some, None}
+use Rattle.std.specs.Prelude.{⊤, All, length, map, option_map}
 use Rattle.std.specs.Borrow.{Bor}
 use Rattle.ptlines.specs.Readers.{Reader, new_reader}
 use Rattle.ptlines.specs.Sources.{SourceState, unopened_state}

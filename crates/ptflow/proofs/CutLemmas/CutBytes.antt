@@ -32,19 +32,20 @@ module _ (end : ℕ) (selected : ℕ → Bool) where
       )
 
   -- one byte of a line
-  rest_onto : (line_offset b : ℕ) (ls : List (List ℕ)) → cut_lines_from end selected line_offset (onto_first b ls)
-      ≡ select_from selected (line_offset + 1) (b ∷ []) ++ cut_lines_from end selected (line_offset + 1) ls
+  rest_onto : (line_offset b : ℕ) (ls : List (List ℕ))
+      → cut_lines_from end selected line_offset (onto_first b ls) ≡ select_from selected (line_offset + 1) (b ∷ [])
+      ++ cut_lines_from end selected (line_offset + 1) ls
   rest_onto line_offset b [] = let some : (line_offset + 1 == 0) ≡ false = grind (arith, nat_tests) in rw some refl
   rest_onto line_offset b (line ∷ ls) = grind arith
 
-  select_onto : (n b : ℕ) (xs : List ℕ) → select_from selected n (b ∷ []) ++ select_from selected (n + 1) xs
-      ≡ select_from selected n (b ∷ xs)
+  select_onto : (n b : ℕ) (xs : List ℕ)
+      → select_from selected n (b ∷ []) ++ select_from selected (n + 1) xs ≡ select_from selected n (b ∷ xs)
   select_onto n b xs = grind arith
 
   -- a piece of a line
   pub rest_piece : (line_offset : ℕ) (piece rest : List ℕ) → IsLine end piece
-      → cut_bytes_from end selected line_offset (piece ++ rest)
-      ≡ select_from selected (line_offset + 1) piece ++ cut_bytes_from end selected (line_offset + length piece) rest
+      → cut_bytes_from end selected line_offset (piece ++ rest) ≡ select_from selected (line_offset + 1) piece
+      ++ cut_bytes_from end selected (line_offset + length piece) rest
   rest_piece line_offset [] rest whole = let same : line_offset + 0 ≡ line_offset = omega arith in cc
   rest_piece line_offset (b ∷ piece) rest whole =
       let same : line_offset + 1 + length piece ≡ line_offset + length (b ∷ piece) = omega arith in
@@ -77,17 +78,17 @@ module _ (end : ℕ) (bytes : List ℕ) (at : ℕ) (first : IsFirstByte (is_byte
       )
 
 -- empty lines
-pub empty_lines : (end : ℕ) (selected : ℕ → Bool) (ends more : List ℕ) → mask_l (map (is_byte end) ends) + 1
-    ≡ 2 ^ length ends
+pub empty_lines : (end : ℕ) (selected : ℕ → Bool) (ends more : List ℕ)
+    → mask_l (map (is_byte end) ends) + 1 ≡ 2 ^ length ends
     → cut_bytes_from end selected 0 (ends ++ more) ≡ ends ++ cut_bytes_from end selected 0 more
 empty_lines end selected [] more all = refl
 empty_lines end selected (b ∷ ends) more all = grind (arith, common_steps, empty_lines end selected ends more)
 
 -- 64 empty lines at an index of a block, at offset 0
 pub terminators_next : (end : ℕ) (selected : ℕ → Bool) (block : List ℕ) {from start now marked : ℕ}
-    → from + 64 ≤ length block → start ≡ from → now ≡ 0 → marked
-    ≡ mask_l (map (is_byte end) (chunk from 64 block)) → marked ≡ 2 ^ 64 - 1
-    → (more : List ℕ) → cut_bytes_from end selected now (drop start block ++ more) ≡ chunk start 64 block
+    → from + 64 ≤ length block → start ≡ from → now ≡ 0 → marked ≡ mask_l (map (is_byte end) (chunk from 64 block))
+    → marked ≡ 2 ^ 64 - 1 → (more : List ℕ)
+    → cut_bytes_from end selected now (drop start block ++ more) ≡ chunk start 64 block
     ++ cut_bytes_from end selected now (drop (start + 64) block ++ more)
 terminators_next end selected block {start} room here none is all more =
     let ends = chunk start 64 block in

@@ -20,8 +20,8 @@ none_of d [] free = refl
 none_of d (b ∷ line) free = rw (byte_ne d b free.0) (none_of d line free.1)
 
 -- the delimiter is in a line, by a search
-pub found : (d : ℕ) (line : List ℕ) (r : Option ℕ) → IsFirstByte (is_byte d) line r → list_any (λ b. b == d) line
-    ≡ is_some r
+pub found : (d : ℕ) (line : List ℕ) (r : Option ℕ) → IsFirstByte (is_byte d) line r
+    → list_any (λ b. b == d) line ≡ is_some r
 found d line None first = none_of d line (line_if_not_found d line first)
 found d line (Some at) first = list_any_at (λ b. b == d) line at 0 first.0.high first.1
 

@@ -113,8 +113,8 @@ module _ (d : ℕ) (all : List Interval) {line : List ℕ} {first : ℕ} {cursor
         by_sep (suc (suc n)) is = absurd (omega (arith, w.begun))
 
     -- the fields in the interval, and those that the others select
-    here_is : select_from (is_selected (r ∷ rs)) cursor.number here
-        ≡ take size (fields d rest) ++ select_from (is_selected rs) cursor.number here
+    here_is : select_from (is_selected (r ∷ rs)) cursor.number here ≡ take size (fields d rest)
+        ++ select_from (is_selected rs) cursor.number here
     here_is =
         let b = r.last + 1 - cursor.number in
         let many : b - skip ≡ size = omega (arith, not_past, apart.1) in

@@ -87,8 +87,8 @@ rest_of (suc n) (suc to) [] = sym (take-nil (suc to - suc n))
 rest_of (suc n) (suc to) (b ∷ bytes) = let less : suc to - suc n ≡ to - n = omega arith in cc (rest_of n to bytes)
 
 -- a slice of a line
-pub slice_of : (from size : ℕ) {to : ℕ} (bytes : List ℕ) → from + size ≤ to → take size (drop from (take to bytes))
-    ≡ take size (drop from bytes)
+pub slice_of : (from size : ℕ) {to : ℕ} (bytes : List ℕ) → from + size ≤ to
+    → take size (drop from (take to bytes)) ≡ take size (drop from bytes)
 slice_of from size {to} bytes le = cc
     (rest_of from to bytes, take-take size (to - from) (drop from bytes) (omega arith))
 

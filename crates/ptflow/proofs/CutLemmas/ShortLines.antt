@@ -25,8 +25,8 @@ length-take-le' (suc n) [] = omega arith
 length-take-le' (suc n) (x ∷ xs) = omega (arith, length-take-le' n xs)
 
 module _ (selected : ℕ → Bool) where
-  pub select_append : {X : Type 0} (n : ℕ) (xs ys : List X) → select_from selected n (xs ++ ys)
-      ≡ select_from selected n xs ++ select_from selected (n + length xs) ys
+  pub select_append : {X : Type 0} (n : ℕ) (xs ys : List X)
+      → select_from selected n (xs ++ ys) ≡ select_from selected n xs ++ select_from selected (n + length xs) ys
   select_append n [] ys = let same : n ≡ n + 0 = omega arith in cc
   select_append n (x ∷ xs) ys = grind (arith, select_append (n + 1) xs ys)
 
@@ -114,9 +114,8 @@ module _ (selected : ℕ → Bool) where
 
   -- no byte of a line after its first `start` bytes is selected
   pub none_later : {X : Type 0} {max_len start count : ℕ} (xs : List X)
-      → ((index : ℕ) → start < index → index ≤ max_len → selected index ≡ false)
-      → start ≤ count → count ≤ max_len → count ≤ length xs → select_from selected 1 (take start xs)
-      ≡ select_from selected 1 (take count xs)
+      → ((index : ℕ) → start < index → index ≤ max_len → selected index ≡ false) → start ≤ count → count ≤ max_len
+      → count ≤ length xs → select_from selected 1 (take start xs) ≡ select_from selected 1 (take count xs)
   none_later {start} {count} xs past later upto within =
       let whole : start + (count - start) ≡ count = omega arith in
       let others = take (count - start) (drop start xs) in
@@ -136,8 +135,8 @@ module _ (selected : ℕ → Bool) where
   -- ---- the bytes of a line that the row moves to the front
 
   module _ {piece : PieceShuffle} (is : IsPieceShuffle selected piece) where
-    prefix_indices : {count : ℕ} → count ≤ 16 → take (length (selected_indices selected count)) piece.row
-        ≡ selected_indices selected count
+    prefix_indices : {count : ℕ} → count ≤ 16
+        → take (length (selected_indices selected count)) piece.row ≡ selected_indices selected count
     prefix_indices {count} short =
         let all : count + (16 - count) ≡ 16 = omega arith in
         let parts = ap (selected_indices selected) (sym all) ∙ picked_parts count (16 - count) in
@@ -178,16 +177,16 @@ none_after (r ∷ rs) {limit} {index} all later = by_test (nat_le r.last limit) 
     (λ more. none_after rs more later)
   where
     by_test : (t : Bool) → nat_le r.last limit ≡ t → (t && list_all (λ x. nat_le x.last limit) rs) ≡ true
-        → (list_all (λ x. nat_le x.last limit) rs ≡ true → is_selected rs index ≡ false) → is_selected (r ∷ rs) index
-        ≡ false
+        → (list_all (λ x. nat_le x.last limit) rs ≡ true → is_selected rs index ≡ false)
+        → is_selected (r ∷ rs) index ≡ false
     by_test true low more next = rw (above r _ (last_low r low later)) (next more)
     by_test false low more next = absurd (false≢true more)
 
 -- ---- a line, piece by piece
 
 -- positions that are counted from a later byte on
-select_later : (selected : ℕ → Bool) (start n : ℕ) (xs : List ℕ) → select_from (selected_after selected start) n xs
-    ≡ select_from selected (start + n) xs
+select_later : (selected : ℕ → Bool) (start n : ℕ) (xs : List ℕ)
+    → select_from (selected_after selected start) n xs ≡ select_from selected (start + n) xs
 select_later selected start n [] = refl
 select_later selected start n (x ∷ xs) =
     let next : start + (n + 1) ≡ start + n + 1 = omega arith in

@@ -96,8 +96,9 @@ module _ (end : ℕ) (delims : List (Option ℕ)) where
   length-cycle number (b ∷ bytes) = ⊎_elim (λ is. rw is (ap suc (length-cycle (number + 1) bytes)))
       (λ is. rw is (ap suc (length-cycle number bytes))) (cases_Bool (b == end))
 
-  pub cycle-append : (number : ℕ) (xs ys : List ℕ) → with_cycle end delims number (xs ++ ys)
-      ≡ with_cycle end delims number xs ++ with_cycle end delims (number + count_by (is_byte end) xs) ys
+  pub cycle-append : (number : ℕ) (xs ys : List ℕ)
+      → with_cycle end delims number (xs ++ ys) ≡ with_cycle end delims number xs
+      ++ with_cycle end delims (number + count_by (is_byte end) xs) ys
   cycle-append number [] ys = let same : number + 0 ≡ number = omega arith in ap (λ (n : ℕ). with_cycle end delims n ys)
       (sym same)
   cycle-append number (b ∷ xs) ys = ⊎_elim

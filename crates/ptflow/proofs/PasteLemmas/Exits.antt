@@ -196,8 +196,8 @@ module _ {job : Paste} {cells : List ℕ} {old set now : List Reader} {was is : 
                 ∙ omega (arith, none, uses_before cells n p));
           })
 
-  more_count : (p : ℕ) → (length s.taken_rows + 1) * uses_of cells p
-      ≡ length s.taken_rows * uses_of cells p + uses_of cells p
+  more_count : (p : ℕ)
+      → (length s.taken_rows + 1) * uses_of cells p ≡ length s.taken_rows * uses_of cells p + uses_of cells p
   more_count p = omega arith
 
   -- An input without its last line, if it gave no more lines than one row takes: it has fewer lines than the rows so

@@ -110,16 +110,16 @@ row_later (c ∷ cols) r =
     let next : 1 + r ≡ r + 1 = omega arith in
     λ i. (get_or_after_one c r [] ∙ ap (λ (n : ℕ). get_or c n []) next) i ∷ row_later cols r i
 
-rows_later : (cols : List Column) (a h : ℕ) → map (row_at cols) (range_with_len (a + 1) h)
-    ≡ map (row_at (map (drop 1) cols)) (range_with_len a h)
+rows_later : (cols : List Column) (a h : ℕ)
+    → map (row_at cols) (range_with_len (a + 1) h) ≡ map (row_at (map (drop 1) cols)) (range_with_len a h)
 rows_later cols a zero = refl
 rows_later cols a (suc h) = λ i. sym (row_later cols a) i ∷ rows_later cols (a + 1) h i
 
 rows_step : (cols : List Column) → 0 < row_count cols → rows cols ≡ row_at cols 0 ∷ rows (map (drop 1) cols)
 rows_step cols some = by_height (row_count cols) refl some
   where
-    by_height : (h : ℕ) → row_count cols ≡ h → 0 < h → map (row_at cols) (range_with_len 0 (row_count cols))
-        ≡ row_at cols 0 ∷ rows (map (drop 1) cols)
+    by_height : (h : ℕ) → row_count cols ≡ h → 0 < h
+        → map (row_at cols) (range_with_len 0 (row_count cols)) ≡ row_at cols 0 ∷ rows (map (drop 1) cols)
     by_height zero is some = absurd (omega arith)
     by_height (suc h) is some =
         let less : h ≡ row_count (map (drop 1) cols) = omega (arith, row_count_from 0 cols, is) in
@@ -216,12 +216,12 @@ last_use (x ∷ cells) p some = ⊎_elim
     uses_first rest = sum_by-cons (λ y. cond (y == p) 1 0) x rest
 
 module _ (cells : List ℕ) where
-  pub uses_here : (c p : ℕ) → c < length cells → get_or cells c 0 ≡ p → uses_of (take (c + 1) cells) p
-      ≡ uses_of (take c cells) p + 1
+  pub uses_here : (c p : ℕ) → c < length cells → get_or cells c 0 ≡ p
+      → uses_of (take (c + 1) cells) p ≡ uses_of (take c cells) p + 1
   uses_here c p low same = count_by_more_yes (λ x. x == p) cells c 0 low (eq-eqb (get_or cells c 0) p same)
 
-  pub uses_other : (c p : ℕ) → c < length cells → get_or cells c 0 ≢ p → uses_of (take (c + 1) cells) p
-      ≡ uses_of (take c cells) p
+  pub uses_other : (c p : ℕ) → c < length cells → get_or cells c 0 ≢ p
+      → uses_of (take (c + 1) cells) p ≡ uses_of (take c cells) p
   uses_other c p low other = count_by_more_no (λ x. x == p) cells c 0 low (grind (arith, nat_tests))
 
   pub uses_before : (c p : ℕ) → uses_of (take c cells) p ≤ uses_of cells p

@@ -27,8 +27,8 @@ all_used P cells all p some = let (c, low, is, last) = last_use cells p some in
 
 -- ---- the complete lines that were received
 
-ended_more : (end : ℕ) (ls : Column) (bytes : List ℕ) → AreLines end ls → complete_lines end (unlines end ls ++ bytes)
-    ≡ ls ++ complete_lines end bytes
+ended_more : (end : ℕ) (ls : Column) (bytes : List ℕ) → AreLines end ls
+    → complete_lines end (unlines end ls ++ bytes) ≡ ls ++ complete_lines end bytes
 ended_more end [] bytes w = refl
 ended_more end (line ∷ ls) bytes (whole, more) =
     ap (complete_lines end) (append_assoc (line ++ end ∷ []) (unlines end ls) bytes ∙ append_assoc line (end ∷ [])

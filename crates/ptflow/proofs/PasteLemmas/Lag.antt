@@ -141,7 +141,8 @@ whole_lines_prefix end eof (b ∷ front) last = by_test eof (b == end) (complete
   where
     by_test : (e t : Bool) (xs : Column)
         → (more : Column) × (known_lines end (record { bytes = front ++ last; eof = e }) ≡ xs ++ more)
-        → (more : Column) × (cond e (cond t ([] ∷ lines end (front ++ last)) (onto_first b (lines end (front ++ last))))
+        → (more : Column)
+        × (cond e (cond t ([] ∷ lines end (front ++ last)) (onto_first b (lines end (front ++ last))))
         (cond t ([] ∷ complete_lines end (front ++ last)) (onto_first_if_any b (complete_lines end (front ++ last))))
         ≡ cond t ([] ∷ xs) (onto_first_if_any b xs) ++ more)
     by_test true true xs (more, is) = (more, ap (λ (l : Column). [] ∷ l) is)
@@ -178,8 +179,8 @@ none_known f down a zero none = refl
 none_known f down a (suc h) none = rw none (none_known f down (a + 1) h (down a none))
 
 filter_first : (f : ℕ → Bool) → ((r : ℕ) → f r ≡ false → f (r + 1) ≡ false) → (a h : ℕ)
-    → (m : ℕ) × (m ≤ h) × ((n : ℕ) → a ≤ n → f n ≡ false → a + m ≤ n) × (filter f (range_with_len a h)
-    ≡ range_with_len a m)
+    → (m : ℕ) × (m ≤ h) × ((n : ℕ) → a ≤ n → f n ≡ false → a + m ≤ n)
+    × (filter f (range_with_len a h) ≡ range_with_len a m)
 filter_first f down a zero = (0, omega arith, (λ n high none. omega (arith, high)), refl)
 filter_first f down a (suc h) = ⊎_elim
     (λ is. let (m, few, past, later) = filter_first f down (a + 1) h in (
@@ -199,23 +200,23 @@ known_down (col ∷ cols) [] r none = cc
 known_down (col ∷ cols) (e ∷ eof) r none = let later = known_down cols eof r in grind (arith, nat_tests)
 
 known_first : (cols : List Column) (eof : List Bool)
-    → (m : ℕ) × (m ≤ row_count cols) × ((n : ℕ) → is_row_known cols eof n ≡ false → m ≤ n) × (known_rows cols eof
-    ≡ map (row_at cols) (range_with_len 0 m))
+    → (m : ℕ) × (m ≤ row_count cols) × ((n : ℕ) → is_row_known cols eof n ≡ false → m ≤ n)
+    × (known_rows cols eof ≡ map (row_at cols) (range_with_len 0 m))
 known_first cols eof =
     let (m, few, past, is) = filter_first (is_row_known cols eof) (known_down cols eof) 0 (row_count cols) in
     (m, few, (λ n none. omega (arith, past n (omega arith) none)), ap (map (row_at cols)) is)
 
 -- ---- two grids with the same rows
 
-same_rows : (f g : ℕ → List (List ℕ)) (a m : ℕ) → ((r : ℕ) → r < a + m → f r ≡ g r) → map f (range_with_len a m)
-    ≡ map g (range_with_len a m)
+same_rows : (f g : ℕ → List (List ℕ)) (a m : ℕ) → ((r : ℕ) → r < a + m → f r ≡ g r)
+    → map f (range_with_len a m) ≡ map g (range_with_len a m)
 same_rows f g a zero same = refl
 same_rows f g a (suc m) same = λ i. same a (omega arith) i ∷ same_rows f g (a + 1) m
     (λ r low. same r (omega (arith, low))) i
 
 -- A column keeps its lines if more follow.
-every_kth_more : (k j r : ℕ) (xs more : Column) → r < length (every_kth k j xs) → slice_index_or (every_kth k j xs) r []
-    ≡ slice_index_or (every_kth k j (xs ++ more)) r []
+every_kth_more : (k j r : ℕ) (xs more : Column) → r < length (every_kth k j xs)
+    → slice_index_or (every_kth k j xs) r [] ≡ slice_index_or (every_kth k j (xs ++ more)) r []
 every_kth_more k j r xs more low = rw (select_append (λ i. i % k == j) 0 xs more)
     (sym (get_or_append_left (every_kth k j xs) (select_from (λ i. i % k == j) (0 + length xs) more) [] r low))
 
@@ -264,8 +265,8 @@ module _ (job : Paste) (cells : List ℕ) (came : ℕ → Received) where
 
     -- A row is not determined if a column of the input has no line for it.
     unknown : (r c : ℕ) → c < length cells → get_or cells c 0 ≡ here
-        → length (column_of cells (known_of earlier) c (get_or cells c 0)) ≤ r → is_row_known (grid earlier) ends r
-        ≡ false
+        → length (column_of cells (known_of earlier) c (get_or cells c 0)) ≤ r
+        → is_row_known (grid earlier) ends r ≡ false
     unknown r c low is few =
         is_row_unknown (grid earlier) ends r c (omega (arith, low, length-columns cells (known_of earlier)))
         (omega (arith, low, length-map cells (λ q. (earlier q).eof)))

@@ -157,8 +157,8 @@ paste_of_parts job cells n a b cut =
     ∙ ap (rows_text job) (rows-append cells n ins more (λ p named. reach p (cut p named)))
     ∙ rows_text-append job.terminator job.delimiters (rows (columns cells ins)) (rows (columns cells more))
   where
-    both : (p : ℕ) → IsRowSplit job.terminator n (uses_of cells p) (a p) (b p) → lines job.terminator (a p ++ b p)
-        ≡ lines job.terminator (a p) ++ lines job.terminator (b p)
+    both : (p : ℕ) → IsRowSplit job.terminator n (uses_of cells p) (a p) (b p)
+        → lines job.terminator (a p ++ b p) ≡ lines job.terminator (a p) ++ lines job.terminator (b p)
     both p (inl (whole, count)) = the_lines_of_parts job.terminator (a p) (b p) whole
     both p (inr (none, few)) = rw none (simp append-nil)
 

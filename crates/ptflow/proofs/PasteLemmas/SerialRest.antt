@@ -20,14 +20,14 @@ next_position_number cell = by_ended cell.complete
 
 module _ (end : ℕ) (delims : List (Option ℕ)) where
   -- A line, and then what follows its column.
-  pub row_line : (number : ℕ) (line : List ℕ) (more : List (List ℕ)) → row_rest end delims number false (line ∷ more)
-      ≡ line ++ row_rest end delims number true more
+  pub row_line : (number : ℕ) (line : List ℕ) (more : List (List ℕ))
+      → row_rest end delims number false (line ∷ more) ≡ line ++ row_rest end delims number true more
   row_line number line [] = refl
   row_line number line (l ∷ more) = simp append_assoc
 
   -- One more byte of the first line.
-  row_byte : (number b : ℕ) (ls : List (List ℕ)) → row_rest end delims number false (onto_first b ls)
-      ≡ b ∷ row_rest end delims number false ls
+  row_byte : (number b : ℕ) (ls : List (List ℕ))
+      → row_rest end delims number false (onto_first b ls) ≡ b ∷ row_rest end delims number false ls
   row_byte number b [] = refl
   row_byte number b (l ∷ []) = refl
   row_byte number b (l ∷ m ∷ ls) = refl
@@ -43,8 +43,9 @@ module _ (end : ℕ) (delims : List (Option ℕ)) where
       by_ended true = refl
       by_ended false = refl
 
-  next_lines : (cell : ColumnPos) (ls : List (List ℕ)) → ls ≢ [] → row_rest end delims cell.number cell.complete ls
-      ≡ leading_delimiter delims cell ++ row_rest end delims (next_position cell).number false ls
+  next_lines : (cell : ColumnPos) (ls : List (List ℕ)) → ls ≢ []
+      → row_rest end delims cell.number cell.complete ls ≡ leading_delimiter delims cell
+      ++ row_rest end delims (next_position cell).number false ls
   next_lines cell [] some = absurd (some refl)
   next_lines cell (l ∷ ls) some = row_next cell l ls
 
@@ -57,8 +58,9 @@ module _ (end : ℕ) (delims : List (Option ℕ)) where
       by_test false (l ∷ ls) e = cc
 
   -- Likewise for a non-empty text.
-  next_some : (cell : ColumnPos) (bytes : List ℕ) → 0 < length bytes → serial_rest end delims cell bytes
-      ≡ leading_delimiter delims cell ++ serial_rest end delims (next_position cell) bytes
+  next_some : (cell : ColumnPos) (bytes : List ℕ) → 0 < length bytes
+      → serial_rest end delims cell bytes ≡ leading_delimiter delims cell
+      ++ serial_rest end delims (next_position cell) bytes
   next_some cell [] some = absurd (omega (arith, some))
   next_some cell (b ∷ bytes) some = next_lines cell (lines end (b ∷ bytes)) (some_lines b bytes)
 
@@ -129,8 +131,8 @@ module _ (end : ℕ) (delims : List (Option ℕ)) where
 
     only_delimiter_copied : (n m : ℕ) (bytes more : List ℕ) → 0 < length more
         → row_rest end delims n false (lines end (bytes ++ more))
-        ≡ map (with_delimiter (record { terminator = end; delim = delim })) bytes ++ row_rest end delims m false
-        (lines end more)
+        ≡ map (with_delimiter (record { terminator = end; delim = delim })) bytes
+        ++ row_rest end delims m false (lines end more)
     only_delimiter_copied n m [] more some = ap (λ (l : List ℕ). l ++ end ∷ []) (same_joined n m (lines end more))
     only_delimiter_copied n m (b ∷ bytes) more some = ⊎_elim
         (λ is. rw is (row_line n [] (lines end (bytes ++ more)) ∙ next_some (record { number = n; complete = true })

@@ -1,10 +1,15 @@
 -- The n-th item of a list that passes a test, by the bits of a mask of which the lowest n are cleared; a field starts
 -- after the n-th delimiter. Then the terminators in 64 bytes, which are processed in order by clearing the lowest bit.
-use Rattle.ptflow.proofs.Common.{◌≡◌, ⊎_elim, ℕ, zero, suc, ◌+◌, ◌-◌, ◌*◌, ◌/◌, ◌%◌, ◌^◌, ◌<◌, ◌≤◌, min, Bool, true, false, cond, not, Option, Some, List, [], ◌∷◌, ◌++◌, length, map, take, drop}
-use Rattle.ptflow.proofs.Common.{get_or, refl, sym, ◌∙◌, ap, subst, arith, get_or-take, take-append-drop, length-drop, count_ones, count_by, prefix_len, mask_l, chunk, take-add, eqb-true, take-take}
-use Rattle.ptflow.proofs.Common.{drop_more, take_at, drop_at, length-take-le, length-slice_split, get_or-le-sum_by, sum_by-cons, sum_by-append, sum_by-take-le, count_by-le-length}
-use Rattle.ptflow.proofs.Common.{trailing_mask_l, ones-mask_l, get_or-chunk, length-chunk, IsFirstByte, NoneBefore, Passes, is_byte, IsLine, line_before_terminator, byte_ne, IsNth, HasTerminators, fields}
-use Rattle.ptflow.proofs.Common.{IsFieldStart, put_chunk, take_more_put_chunk, length-put_chunk, length-set, unwrap_or, delim_at, with_cycle, slice_set, count_by_more_yes, cases_lt, length-map}
+use Rattle.ptflow.proofs.Common.{◌≡◌, ⊎_elim, ℕ, zero, suc, ◌+◌, ◌-◌, ◌*◌, ◌/◌, ◌%◌, ◌^◌, ◌<◌, ◌≤◌, min, Bool, true}
+use Rattle.ptflow.proofs.Common.{false, cond, not, Option, Some, List, [], ◌∷◌, ◌++◌, length, map, take, drop, get_or}
+use Rattle.ptflow.proofs.Common.{refl, sym, ◌∙◌, ap, subst, arith, get_or-take, take-append-drop, length-drop}
+use Rattle.ptflow.proofs.Common.{count_ones, count_by, prefix_len, mask_l, chunk, take-add, eqb-true, take-take}
+use Rattle.ptflow.proofs.Common.{drop_more, take_at, drop_at, length-take-le, length-slice_split, get_or-le-sum_by}
+use Rattle.ptflow.proofs.Common.{sum_by-cons, sum_by-append, sum_by-take-le, count_by-le-length, trailing_mask_l}
+use Rattle.ptflow.proofs.Common.{ones-mask_l, get_or-chunk, length-chunk, IsFirstByte, NoneBefore, Passes, is_byte}
+use Rattle.ptflow.proofs.Common.{IsLine, line_before_terminator, byte_ne, IsNth, HasTerminators, fields, IsFieldStart}
+use Rattle.ptflow.proofs.Common.{put_chunk, take_more_put_chunk, length-put_chunk, length-set, unwrap_or, delim_at}
+use Rattle.ptflow.proofs.Common.{with_cycle, slice_set, count_by_more_yes, cases_lt, length-map}
 use Rattle.std.proofs.lemmas.List.{get_or-drop}
 use Rattle.ptflow.proofs.Vectors.Lanes.{map-id}
 use lib.Bits.{bit_and, and_step, and_self, and_zero_l}
@@ -195,7 +200,8 @@ module _ (d : ℕ) (line : List ℕ) where
       cc (sum_by-cons (λ x. cond (is_byte d x) 1 0) b bytes, byte_ne d b differs, none_counted bytes free)
 
   -- the first delimiter, which is among the first `end` bytes
-  module _ {end at : ℕ} (first : NoneBefore (Passes (is_byte d) line) 0 end at) (is : Passes (is_byte d) line at) (within : end ≤ length line) where
+  module _ {end at : ℕ} (first : NoneBefore (Passes (is_byte d) line) 0 end at) (is : Passes (is_byte d) line at)
+      (within : end ≤ length line) where
     pub none_before : count_by (is_byte d) (take at line) ≡ 0
     none_before =
         let all : IsFirstByte (is_byte d) line (Some at) =

@@ -1,10 +1,14 @@
 -- Vector operations, byte by byte: values that are computed for each lane, the bytes that a mask selects, and masks of
 -- 64 bytes with no bit set. Each of them is a `map` over the lanes, so facts about one byte carry over.
-use Rattle.ptflow.proofs.Common.{◌≡◌, ℕ, ◌+◌, ◌<◌, ◌≤◌, ◌%◌, Bool, false, List, [], ◌∷◌, ◌++◌, Option, map, take, drop, length, get_or, replicate, cond, refl, sym, ◌∙◌, ap, arith, w8, Fits, sum_by}
-use Rattle.ptflow.proofs.Common.{zero, suc, slice_get, option_map, sel_l, zip2, top, Each1, take-add, false≢true, map-append, tops_compared, zip2_splat, zip2_of_maps, splat_is_map}
-use Rattle.ptflow.proofs.Common.{Each1-from_get_or, shift_at, stretch_delta, ◌^◌, ◌||◌, not, pos, negsuc, bit_or, append_assoc, filter, cast_unsigned, mask_l, chunk, mask_l-mod}
-use Rattle.ptflow.proofs.Common.{length-zip2, drop-drop, filter-append, mask_of, true, set, ℤ, from_bool, bit_not, take_more_set, take-set, take_more, append-nil, length-map, IsFilteredTo, map-map}
-use Rattle.ptflow.proofs.Common.{length-set, take_all, add-one, sum_by-append, sum_by-cons, range_delta, shift_by_ranges}
+use Rattle.ptflow.proofs.Common.{◌≡◌, ℕ, ◌+◌, ◌<◌, ◌≤◌, ◌%◌, Bool, false, List, [], ◌∷◌, ◌++◌, Option, map, take, drop}
+use Rattle.ptflow.proofs.Common.{length, get_or, replicate, cond, refl, sym, ◌∙◌, ap, arith, w8, Fits, sum_by, zero}
+use Rattle.ptflow.proofs.Common.{suc, slice_get, option_map, sel_l, zip2, top, Each1, take-add, false≢true, map-append}
+use Rattle.ptflow.proofs.Common.{tops_compared, zip2_splat, zip2_of_maps, splat_is_map, Each1-from_get_or, shift_at}
+use Rattle.ptflow.proofs.Common.{stretch_delta, ◌^◌, ◌||◌, not, pos, negsuc, bit_or, append_assoc, filter}
+use Rattle.ptflow.proofs.Common.{cast_unsigned, mask_l, chunk, mask_l-mod, length-zip2, drop-drop, filter-append}
+use Rattle.ptflow.proofs.Common.{mask_of, true, set, ℤ, from_bool, bit_not, take_more_set, take-set, take_more}
+use Rattle.ptflow.proofs.Common.{append-nil, length-map, IsFilteredTo, map-map, length-set, take_all, add-one}
+use Rattle.ptflow.proofs.Common.{sum_by-append, sum_by-cons, range_delta, shift_by_ranges}
 use Rattle.std.specs.Prelude.{is_some}
 use Rattle.ptflow.specs.declared.simd.shift.ShiftRange.{ShiftRange}
 pub use Rattle.std.proofs.lemmas.List.{map-id}

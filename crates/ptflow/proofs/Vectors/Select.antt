@@ -29,7 +29,8 @@ above r n high = grind (arith, nat_tests)
 -- intervals that begin after a position do not select it
 pub not_selected : (rs : List Interval) (low n : ℕ) → AreSeparated low rs → n ≤ low → is_selected rs n ≡ false
 not_selected [] low n apart out = refl
-not_selected (r ∷ rs) low n apart out = rw (below r n (omega (arith, apart.0))) (not_selected rs (r.last + 1) n apart.2 (omega (arith, apart.0, apart.1)))
+not_selected (r ∷ rs) low n apart out =
+    rw (below r n (omega (arith, apart.0))) (not_selected rs (r.last + 1) n apart.2 (omega (arith, apart.0, apart.1)))
 
 -- no item is selected
 pub select_none : {X : Type 0} (test : ℕ → Bool) (n : ℕ) (xs : List X)
@@ -54,8 +55,7 @@ select_step x first others false false apart none more = more
 
 -- the items of the first interval, and then those of the others
 pub select_first : {X : Type 0} (r : Interval) (rs : List Interval) (n : ℕ) (xs : List X) → AreSeparated (r.last + 1) rs
-    → select_from (is_selected (r ∷ rs)) n xs
-    ≡ select_from (is_within r) n xs ++ select_from (is_selected rs) n xs
+    → select_from (is_selected (r ∷ rs)) n xs ≡ select_from (is_within r) n xs ++ select_from (is_selected rs) n xs
 select_first r rs n [] apart = refl
 select_first r rs n (x ∷ xs) apart = select_step x (select_from (is_within r) (n + 1) xs)
     (select_from (is_selected rs) (n + 1) xs) (is_within r n) (is_selected rs n) here there
@@ -72,8 +72,8 @@ select_first r rs n (x ∷ xs) apart = select_step x (select_from (is_within r) 
 
 -- the first items are not selected
 pub select_skip : {X : Type 0} (test : ℕ → Bool) (n count : ℕ) (xs : List X)
-    → ((k : ℕ) → n ≤ k → k < n + count → test k ≡ false) → select_from test n xs
-    ≡ select_from test (n + count) (drop count xs)
+    → ((k : ℕ) → n ≤ k → k < n + count → test k ≡ false)
+    → select_from test n xs ≡ select_from test (n + count) (drop count xs)
 select_skip test n zero xs out = let same : n + 0 ≡ n = omega arith in rw same refl
 select_skip test n (suc count) [] out = refl
 select_skip test n (suc count) (x ∷ xs) out =
@@ -151,9 +151,9 @@ module _ {all : List Interval} {before : ℕ} {piece tail was : List ℕ} {start
       copy_room = omega (arith, apart.0, apart.1)
 
       -- the bytes of one interval were copied
-      pub copy_next : {is' : List ℕ} {at' : ℕ} → is' ≡ is ++ select_from (is_within r) (before + 1) piece → at'
-          ≡ at + ((r.last - before) - (r.first - (before + 1)))
-          → r.last < before + 1 + length piece → CopyInvariant all (i + 1) before piece tail was is' start at'
+      pub copy_next : {is' : List ℕ} {at' : ℕ} → is' ≡ is ++ select_from (is_within r) (before + 1) piece
+          → at' ≡ at + ((r.last - before) - (r.first - (before + 1))) → r.last < before + 1 + length piece
+          → CopyInvariant all (i + 1) before piece tail was is' start at'
       copy_next is_is at_is short = record {
         front = cc (next);
         low = r.last + 1;
@@ -163,7 +163,8 @@ module _ {all : List Interval} {before : ℕ} {piece tail was : List ℕ} {start
             (arith, copy_room);
       }
 
-      pub copy_ends : before + length piece ≤ r.last → is ++ (select_from (is_within r) (before + 1) piece ++ tail)
+      pub copy_ends : before + length piece ≤ r.last
+          → is ++ (select_from (is_within r) (before + 1) piece ++ tail)
           ≡ was ++ (select_from (is_selected all) (before + 1) piece ++ tail)
       copy_ends reaches =
           cc (
@@ -241,7 +242,8 @@ module _ {all : List Interval} {before count end : ℕ} (bytes : List ℕ) {was 
       abbrev at_i : Interval
       at_i = get_or all i (record { first = 0; last = 0 })
 
-      pub copied_ends : {from : ℕ} → from ≡ min (at_i.first - (before + 1)) count → before + count ≤ at_i.last → is' ≡ is
+      pub copied_ends : {from : ℕ} → from ≡ min (at_i.first - (before + 1)) count → before + count ≤ at_i.last
+          → is' ≡ is
           ++ take (end - from) (drop from bytes)
           → is' ≡ was ++ (select_from (is_selected all) (before + 1) piece ++ tail)
       copied_ends {from} from_is reaches copied =

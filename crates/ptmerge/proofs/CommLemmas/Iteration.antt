@@ -1,15 +1,24 @@
 -- Proofs for `comm`. A line adds one output line if one input has it alone, and one common output line if both have it.
 -- So each step of the merge extends the output by the entries of its key, and the loop invariant of the merge carries
 -- over.
-use Rattle.ptmerge.proofs.Common.{◌≡◌, ℕ, ◌<◌, false, List, [], ◌∷◌, ◌++◌, Result, Ok, Err, length, refl, sym, ◌∙◌, ap, arith, Comm, Output, PushEffect, Reader, Slots, line, unlines, MergeFault, Side, First}
-use Rattle.ptmerge.proofs.Common.{Second, Sorted, Head, Ended, comm_with, column_entries, tab_if_shown, Lines, MergeTool, entries_by_key, lines_with_key, AdvanceOkPost, AdvancePre, MergeState, MergePost, IsMergeUnread, merge_state, Cmp, Key, both}
-use Rattle.ptmerge.proofs.Common.{with_side, other, HaveEqualKeys, StartErrPost, HasOnlyLeastKey, IsDisorderDecided, IsReaderOf, AreValidCursors, StartOkPost, merge_inputs, AddedSlots, ClearFourSlotsPost, suc, ◌-◌, min, append_assoc, append-nil}
-use Rattle.ptmerge.proofs.Common.{tied_itself, entries, Bool}
-use Rattle.ptmerge.proofs.MergeLemmas.Step.{AdvanceErrPost, IsOpenMerge, CursorsInvariant, LoopInvariant, adds_of, next_keeps_slot_count, advance_ok, goes_merging, advance_keeps_slot_count, passing_now, runs_on, slots_of, read_facts_current, iteration_fails}
-use Rattle.ptmerge.proofs.MergeLemmas.Step.{IsLineByLine, current_key_is_above, alone, write_one_line, reads_ahead, measure_less, own_reader_kept, place_is, wrote_and_sent, StoreHoldsTwoLines, holds_two, keeps_two, ends_well, ends_fallen}
+use Rattle.ptmerge.proofs.Common.{◌≡◌, ℕ, ◌<◌, false, List, [], ◌∷◌, ◌++◌, Result, Ok, Err, length, refl, sym, ◌∙◌, ap}
+use Rattle.ptmerge.proofs.Common.{arith, Comm, Output, PushEffect, Reader, Slots, line, unlines, MergeFault, Side}
+use Rattle.ptmerge.proofs.Common.{First, Second, Sorted, Head, Ended, comm_with, column_entries, tab_if_shown, Lines}
+use Rattle.ptmerge.proofs.Common.{MergeTool, entries_by_key, lines_with_key, AdvanceOkPost, AdvancePre, MergeState}
+use Rattle.ptmerge.proofs.Common.{MergePost, IsMergeUnread, merge_state, Cmp, Key, both, with_side, other}
+use Rattle.ptmerge.proofs.Common.{HaveEqualKeys, StartErrPost, HasOnlyLeastKey, IsDisorderDecided, IsReaderOf}
+use Rattle.ptmerge.proofs.Common.{AreValidCursors, StartOkPost, merge_inputs, AddedSlots, ClearFourSlotsPost, suc, ◌-◌}
+use Rattle.ptmerge.proofs.Common.{min, append_assoc, append-nil, tied_itself, entries, Bool}
+use Rattle.ptmerge.proofs.MergeLemmas.Step.{AdvanceErrPost, IsOpenMerge, CursorsInvariant, LoopInvariant, adds_of}
+use Rattle.ptmerge.proofs.MergeLemmas.Step.{next_keeps_slot_count, advance_ok, goes_merging, advance_keeps_slot_count}
+use Rattle.ptmerge.proofs.MergeLemmas.Step.{passing_now, runs_on, slots_of, read_facts_current, iteration_fails}
+use Rattle.ptmerge.proofs.MergeLemmas.Step.{IsLineByLine, current_key_is_above, alone, write_one_line, reads_ahead}
+use Rattle.ptmerge.proofs.MergeLemmas.Step.{measure_less, own_reader_kept, place_is, wrote_and_sent, StoreHoldsTwoLines}
+use Rattle.ptmerge.proofs.MergeLemmas.Step.{holds_two, keeps_two, ends_well, ends_fallen}
 use Rattle.ptmerge.proofs.MergeLemmas.Orders.{IsKeyOrder, same_bytes}
 use Rattle.ptmerge.proofs.MergeLemmas.Slots.{put_other, put_same}
-use Rattle.ptmerge.proofs.MergeLemmas.Invariant.{LagInvariant, MergeInvariant, line_is_least_run, lag_invariant_starts, write_least_run, all_keys}
+use Rattle.ptmerge.proofs.MergeLemmas.Invariant.{LagInvariant, MergeInvariant, line_is_least_run, lag_invariant_starts}
+use Rattle.ptmerge.proofs.MergeLemmas.Invariant.{write_least_run, all_keys}
 use Rattle.ptmerge.proofs.MergeLemmas.Exits.{at_current_line, state_by_side}
 use Rattle.ptmerge.proofs.MergeLemmas.Start.{start_ok, start_fault, start_slots, start_unread}
 use Rattle.ptmerge.specs.declared.faults.MergeFault.TheVariants as faults
@@ -64,7 +73,8 @@ module _ (job : Comm) (cmp : Cmp) (key : Side → Key) where
   is_line_by_line : IsLineByLine (comm_with job cmp key)
   is_line_by_line = record {
     none = entries_none job;
-    first = λ k x g. rw (only_first job k (suc (length g)), only_first job k 1, only_first job k (length g)) (one_more_entry job.hide1 [] k (length g));
+    first = λ k x g. rw (only_first job k (suc (length g)), only_first job k 1, only_first job k (length g))
+        (one_more_entry job.hide1 [] k (length g));
     second = λ k x g. rw (only_second job k (suc (length g)), only_second job k 1, only_second job k (length g))
         (one_more_entry job.hide2 (tab_if_shown job.hide1) k (length g));
   }
@@ -88,7 +98,8 @@ module _ (job : Comm) (cmp : Cmp) (key : Side → Key) where
 -- ---- the loop invariant
 
 -- the invariant of the loop
-pub record IterationInvariant (job : Comm) (cmp : Cmp) (key : Side → Key) (old now : MergeState) (one two : Sorted) : Type 0 where
+pub record IterationInvariant (job : Comm) (cmp : Cmp) (key : Side → Key) (old now : MergeState)
+    (one two : Sorted) : Type 0 where
   pub opened : IsOpenMerge (comm_with job cmp key) old
   pub whole_line_keys : (side : Side) (x : List ℕ) → key side x ≡ x
   pub loop_invariant : LoopInvariant (comm_with job cmp key) (StoreHoldsTwoLines old.store) old now (both one two)
@@ -105,24 +116,34 @@ ExitPost tool old new result = record {
 }
 
 -- the invariant and the postconditions depend only on the order, and a call leaves the order of a merge unchanged
-pub iteration_as : {K : Type 0} (order : K → Cmp) (key_of : K → Side → Key) {a b : K} {job : Comm} {old now : MergeState} {one two : Sorted}
-    → b ≡ a → IterationInvariant job (order a) (key_of a) old now one two → IterationInvariant job (order b) (key_of b) old now one two
+pub iteration_as : {K : Type 0} (order : K → Cmp) (key_of : K → Side → Key)
+    {a b : K} {job : Comm} {old now : MergeState} {one two : Sorted}
+    → b ≡ a → IterationInvariant job (order a) (key_of a) old now one two
+    → IterationInvariant job (order b) (key_of b) old now one two
 iteration_as order key_of is t = rw is t
 
-pub exit_as : {K : Type 0} (order : K → Cmp) (key_of : K → Side → Key) {a b : K} (job : Comm) {old new : MergeState} {r : Result (Unit {0}) MergeFault}
-    → a ≡ b → ExitPost (comm_with job (order a) (key_of a)) old new r → ExitPost (comm_with job (order b) (key_of b)) old new r
+pub exit_as : {K : Type 0} (order : K → Cmp) (key_of : K → Side → Key) {a b : K}
+    (job : Comm) {old new : MergeState} {r : Result (Unit {0}) MergeFault}
+    → a ≡ b → ExitPost (comm_with job (order a) (key_of a)) old new r
+    → ExitPost (comm_with job (order b) (key_of b)) old new r
 exit_as order key_of job is l = rw (← is) l
 
 -- ---- the start
 
-module _ (job : Comm) {cmp : Cmp} {key : Side → Key} {old : MergeState} (w : IsOpenMerge (comm_with job cmp key) old) where
-  pub start_fails : {new1 new2 : Reader} {after : Slots} {fault : MergeFault} {r : Result (Unit {0}) MergeFault} → r ≡ Err fault
-      → StartErrPost key cmp (record { reader = old.reader; store = old.store }) (record { reader = both new1 new2; store = after }) fault
+module _ (job : Comm) {cmp : Cmp} {key : Side → Key} {old : MergeState}
+    (w : IsOpenMerge (comm_with job cmp key) old) where
+  pub start_fails : {new1 new2 : Reader} {after : Slots} {fault : MergeFault} {r : Result (Unit {0}) MergeFault}
+      → r ≡ Err fault
+      → StartErrPost key cmp (record { reader = old.reader; store = old.store })
+      (record { reader = both new1 new2; store = after }) fault
       → ExitPost (comm_with job cmp key) old (merge_state new1 new2 old.out after) r
-  start_fails {new1} {new2} {after} {fault} is h = rw is (record { merged = start_fault w h; unread_without_slots = start_unread w h; slots = start_slots w h })
+  start_fails {new1} {new2} {after} {fault} is h = rw is
+      (record { merged = start_fault w h; unread_without_slots = start_unread w h; slots = start_slots w h })
 
-  pub starts : ((side : Side) (x : List ℕ) → key side x ≡ x) → {first second : Reader} {store : Slots} {one two : Sorted}
-      → StartOkPost key cmp (both one two) (record { reader = old.reader; store = old.store }) (merge_inputs first second store)
+  pub starts : ((side : Side) (x : List ℕ) → key side x ≡ x)
+      → {first second : Reader} {store : Slots} {one two : Sorted}
+      → StartOkPost key cmp (both one two) (record { reader = old.reader; store = old.store })
+      (merge_inputs first second store)
       → AreValidCursors key one two store → IsReaderOf one first × IsReaderOf two second
       → IterationInvariant job cmp key old (merge_state first second old.out store) one two
   starts whole_line_keys {first} {second} {store} {one} {two} h valid_cursors (reader1, reader2) = record {
@@ -136,14 +157,23 @@ module _ (job : Comm) {cmp : Cmp} {key : Side → Key} {old : MergeState} (w : I
 
 -- ---- a step
 
-module _ {job : Comm} {cmp : Cmp} {key : Side → Key} {old now : MergeState} {one two : Sorted} (t : IterationInvariant job cmp key old now one two) where
-  open t use {opened as w, whole_line_keys, loop_invariant.{ls, p, b, sides, merge_invariant, keeps}, valid_cursors, own_reader, clean}
+module _ {job : Comm} {cmp : Cmp} {key : Side → Key} {old now : MergeState} {one two : Sorted}
+    (t : IterationInvariant job cmp key old now one two) where
+  open t use {
+    opened as w,
+    whole_line_keys,
+    loop_invariant.{ls, p, b, sides, merge_invariant, keeps},
+    valid_cursors,
+    own_reader,
+    clean,
+  }
 
   abbrev tool : MergeTool
   tool = comm_with job cmp key
 
   stood_at : CursorsInvariant tool old now.reader (both one two) now.store ls p b
-  stood_at = let slots = slots_of one two now.store valid_cursors in record { sides = sides; holds = holds_two w.fits keeps slots; slots = slots }
+  stood_at = let slots = slots_of one two now.store valid_cursors in
+      record { sides = sides; holds = holds_two w.fits keeps slots; slots = slots }
 
   abbrev head : Side → List ℕ
   head s = line now.store (both one two s).current_slot
@@ -169,7 +199,8 @@ module _ {job : Comm} {cmp : Cmp} {key : Side → Key} {old now : MergeState} {o
 
     module _ {new : Output} {e : ℕ} (ends : e ≡ job.terminator) {tabs : List ℕ} (led : tabs ≡ tabs_of job s)
         (pushed : PushEffect now.out new (unlines e (column_entries (hidden_of job s) tabs 1 (head s)))) where
-      wrote_line : MergeInvariant tool b (with_side s (ls s) p) old.out new × LagInvariant tool b (with_side s (ls s) p) old.out new
+      wrote_line : MergeInvariant tool b (with_side s (ls s) p) old.out new
+          × LagInvariant tool b (with_side s (ls s) p) old.out new
       wrote_line =
           let h = at_current_line step.status_is (sides s) in
           let (above, under) = current_key_is_above _ w.o _ _ _ _ _ _ _ _ _ step.before (sides (other s)).status_is in
@@ -187,20 +218,24 @@ module _ {job : Comm} {cmp : Cmp} {key : Side → Key} {old now : MergeState} {o
             (runs_on w stood_at s step.status_is h.came (keeps_two w stood_at s step.status_is h.came keeps)
             (let (m, _) = wrote_line in m));
         valid_cursors = h.continues.valid_cursors;
-        own_reader = own_reader_kept s one two one2 two2 now.reader reader h.continues.others h.continues.own_reader own_reader;
+        own_reader =
+            own_reader_kept s one two one2 two2 now.reader reader h.continues.others h.continues.own_reader own_reader;
         clean = h.continues.clean;
       }
 
-      pub alone_fails : {reader : Reader} {after : Slots} {fault : MergeFault} {r : Result (Unit {0}) MergeFault} → r ≡ Err fault
-          → AdvanceErrPost s (both one two s) (now.reader s) reader now.store after new fault
+      pub alone_fails : {reader : Reader} {after : Slots} {fault : MergeFault} {r : Result (Unit {0}) MergeFault}
+          → r ≡ Err fault → AdvanceErrPost s (both one two s) (now.reader s) reader now.store after new fault
           → ExitPost tool old (state_by_side (with_side s reader now.reader) new after) r
-      alone_fails {fault = fault} is h = rw is (exit_post (advance_keeps_slot_count (key s) cmp s (both one two s) (both one two s) _ _ _ _ _ fault h)
+      alone_fails {fault = fault} is h = rw is
+          (exit_post (advance_keeps_slot_count (key s) cmp s (both one two s) (both one two s) _ _ _ _ _ fault h)
           (iteration_fails w stood_at s step.status_is wrote_line (put_same s (ls s) p)
           (rw (put_other s (ls s) p) (read_facts_current w stood_at (other s))) h))
 
   -- a step for a line of both inputs, after the first input advanced: the second one is still at the line
-  pub second_advance_pre : HaveEqualKeys cmp key (both one two) now.store → {one2 two2 : Sorted} {reader : Reader} {after : Slots} {mid : Output}
-      → AdvanceOkPost key cmp First one two one2 two2 (now.reader First) reader now.store after mid → AdvancePre key Second one2 two2 (now.reader Second) after
+  pub second_advance_pre : HaveEqualKeys cmp key (both one two) now.store
+      → {one2 two2 : Sorted} {reader : Reader} {after : Slots} {mid : Output}
+      → AdvanceOkPost key cmp First one two one2 two2 (now.reader First) reader now.store after mid
+      → AdvancePre key Second one2 two2 (now.reader Second) after
   second_advance_pre step h = record {
     valid_cursors = h.continues.valid_cursors;
     head = ap (λ (q : Sorted). q.status) h.continues.others ∙ step.second;
@@ -208,13 +243,15 @@ module _ {job : Comm} {cmp : Cmp} {key : Side → Key} {old now : MergeState} {o
   }
 
   module _ (step : HaveEqualKeys cmp key (both one two) now.store) where
-    pub pair_decreases : {one2 two2 one3 two3 : Sorted} {reader reader2 : Reader} {after last : Slots} {mid new : Output}
+    pub pair_decreases : {one2 two2 one3 two3 : Sorted} {reader reader2 : Reader} {after last : Slots}
+        {mid new : Output}
         → AdvanceOkPost key cmp First one two one2 two2 (now.reader First) reader now.store after mid
         → AdvanceOkPost key cmp Second one2 two2 one3 two3 (now.reader Second) reader2 after last new
         → reads_ahead (both reader reader2) one3 two3 < reads_ahead now.reader one two
     pair_decreases {one2} {two2} {one3} {two3} {reader} {reader2} {after} {last} h k = omega (
       arith,
-      measure_less (key First) cmp First one two one2 two2 now.reader reader now.store after step.first h.continues.others h.came,
+      measure_less (key First) cmp First one two one2 two2 now.reader reader now.store after step.first
+          h.continues.others h.came,
       measure_less (key Second) cmp Second one2 two2 one3 two3 (with_side First reader now.reader) reader2 after last
           (second_advance_pre step h).head k.continues.others k.came,
     )
@@ -222,7 +259,9 @@ module _ {job : Comm} {cmp : Cmp} {key : Side → Key} {old now : MergeState} {o
     abbrev both_written : Side → Lines
     both_written = both (ls First) (ls Second)
 
-    wrote_both : {new : Output} → PushEffect now.out new (unlines job.terminator (entries_by_key tool all_keys (both (head First ∷ []) (head Second ∷ []))))
+    wrote_both : {new : Output}
+        → PushEffect now.out new
+        (unlines job.terminator (entries_by_key tool all_keys (both (head First ∷ []) (head Second ∷ []))))
         → MergeInvariant tool b both_written old.out new × LagInvariant tool b both_written old.out new
     wrote_both {new} wrote =
         let h1 = at_current_line step.first (sides First) in
@@ -234,17 +273,21 @@ module _ {job : Comm} {cmp : Cmp} {key : Side → Key} {old now : MergeState} {o
         (λ r c. entries_both job (key First x) (length (lines_with_key (key First) (r First) (key First x)))
         (length (lines_with_key (key Second) (r Second) (key First x)))) clean merge_invariant wrote
 
-    module _ {mid : Output} {e : ℕ} (ends : e ≡ job.terminator) {tabs : List ℕ} (led : tabs ≡ tab_if_shown job.hide1 ++ tab_if_shown job.hide2)
+    module _ {mid : Output} {e : ℕ} (ends : e ≡ job.terminator) {tabs : List ℕ}
+        (led : tabs ≡ tab_if_shown job.hide1 ++ tab_if_shown job.hide2)
         (pushed : PushEffect now.out mid (unlines e (column_entries job.hide3 tabs 1 (head First)))) where
-      wrote_pair : PushEffect now.out mid (unlines job.terminator (entries_by_key tool all_keys (both (head First ∷ []) (head Second ∷ []))))
+      wrote_pair : PushEffect now.out mid
+          (unlines job.terminator (entries_by_key tool all_keys (both (head First ∷ []) (head Second ∷ []))))
       wrote_pair = rw (entries_of_pair job cmp key w.o (head First) (head Second) (whole_line_keys First (head First))
           (sym step.same)) (rw (ends, led) at pushed)
 
-      pub pair_fails : {reader : Reader} {after : Slots} {fault : MergeFault} {r : Result (Unit {0}) MergeFault} → r ≡ Err fault
-          → AdvanceErrPost First one (now.reader First) reader now.store after mid fault
+      pub pair_fails : {reader : Reader} {after : Slots} {fault : MergeFault} {r : Result (Unit {0}) MergeFault}
+          → r ≡ Err fault → AdvanceErrPost First one (now.reader First) reader now.store after mid fault
           → ExitPost tool old (state_by_side (with_side First reader now.reader) mid after) r
-      pair_fails {fault = fault} is h = rw is (exit_post (advance_keeps_slot_count (key First) cmp First one one _ _ _ _ _ fault h)
-          (iteration_fails w stood_at First step.first (wrote_both wrote_pair) refl (passing_now w stood_at Second step.second) h))
+      pair_fails {fault = fault} is h = rw is
+          (exit_post (advance_keeps_slot_count (key First) cmp First one one _ _ _ _ _ fault h)
+          (iteration_fails w stood_at First step.first (wrote_both wrote_pair) refl
+          (passing_now w stood_at Second step.second) h))
 
       -- the first input advanced, and the output was written out
       module _ {one2 two2 : Sorted} {reader : Reader} {after : Slots}
@@ -253,13 +296,16 @@ module _ {job : Comm} {cmp : Cmp} {key : Side → Key} {old now : MergeState} {o
         wrote_line_out : MergeInvariant tool b both_written old.out new
         wrote_line_out = let (m, _) = wrote_both (wrote_and_sent _ _ _ _ h.continues.clean wrote_pair written_out) in m
 
-        pub second_fails : {reader2 : Reader} {last : Slots} {fault : MergeFault} {r : Result (Unit {0}) MergeFault} → r ≡ Err fault
-            → AdvanceErrPost Second two2 (now.reader Second) reader2 after last new fault → ExitPost tool old (state_by_side (both reader reader2) new last) r
+        pub second_fails : {reader2 : Reader} {last : Slots} {fault : MergeFault} {r : Result (Unit {0}) MergeFault}
+            → r ≡ Err fault → AdvanceErrPost Second two2 (now.reader Second) reader2 after last new fault
+            → ExitPost tool old (state_by_side (both reader reader2) new last) r
         second_fails {fault = fault} is k =
             let g = advance_ok w stood_at First step.first h.came w.fits keeps in
             let m = goes_merging w stood_at First step.first h.came wrote_line_out in
             let (before, _) = wrote_both wrote_pair in
-            rw is (exit_post (advance_keeps_slot_count (key Second) cmp Second two2 two2 _ _ _ _ _ fault k ∙ next_keeps_slot_count _ _ _ _ _ _ _ _ h.came)
+            rw is
+            (exit_post (advance_keeps_slot_count (key Second) cmp Second two2 two2 _ _ _ _ _ fault k
+            ∙ next_keeps_slot_count _ _ _ _ _ _ _ _ h.came)
             (iteration_fails w g Second step.second
             (m, lag_invariant_starts _ _ _ _ _ _ h.continues.clean before.wrote written_out) refl
             (read_facts_current w g First) (rw h.continues.others at k)))
@@ -277,14 +323,16 @@ module _ {job : Comm} {cmp : Cmp} {key : Side → Key} {old now : MergeState} {o
               loop_invariant = rw k.continues.others (runs_on w g Second step.second came kept
                   (goes_merging w stood_at First step.first h.came wrote_line_out));
               valid_cursors = k.continues.valid_cursors;
-              own_reader = elim [ First ↦ rw k.continues.others h.continues.own_reader | Second ↦ k.continues.own_reader ];
+              own_reader =
+                  elim [ First ↦ rw k.continues.others h.continues.own_reader | Second ↦ k.continues.own_reader ];
               clean = k.continues.clean;
             }
 
   -- ---- the end
 
   module _ {after : Slots} (clear : ClearFourSlotsPost now.store after) where
-    pub eof : ((side : Side) → (both one two side).status ≡ Ended) → ExitPost tool old (state_by_side now.reader now.out after) (Ok tt)
+    pub eof : ((side : Side) → (both one two side).status ≡ Ended)
+        → ExitPost tool old (state_by_side now.reader now.out after) (Ok tt)
     eof step = exit_post clear.slots (ends_well w stood_at merge_invariant clean clear step)
 
     pub disordered : {s : Side} {n : ℕ} → IsDisorderDecided cmp key (both one two) now.store s n

@@ -3,12 +3,18 @@
 -- difference of two lengths. Writing the fields of a canonical line gives the line back, since joining undoes splitting;
 -- so the fields after a field are the bytes after it.
 use Rattle.std.proofs.lemmas.Bool.{false_from_ne_true}
-use Rattle.ptmerge.proofs.Common.{nil_from_length, drop_more, length-drop, length-append, ◌≡◌, ℕ, suc, ◌+◌, ◌-◌, ◌≤◌, Bool, true, false, ltb, List, [], ◌∷◌, Option, None, Some, length, drop, get_or}
-use Rattle.ptmerge.proofs.Common.{refl, sym, ◌∙◌, ap, arith, zero, ◌<◌, ◌==◌, cond, ◌++◌, take, append_assoc, position, IfSome, MatchOption, filter, is_some, position_or_len, slice_split, nat_tests}
-use Rattle.ptmerge.proofs.Common.{drop-drop, take-append-drop, take_all, position_or_len_is, IsFirstByte, nth_field, is_nonempty, is_blank, Lines, false≢true, split_around, split_whole}
-use Rattle.ptmerge.proofs.Common.{IsFirstPieceEnd, IsFieldIn, IsPiece, is_separator, entry_with_list, remaining_fields, IsKeySpan, IsFieldFound, is_evenly_separated, around, ◌||◌, ◌&&◌, map, remove, unwrap_or, onto_first, join_with_byte, eqb-true}
-use Rattle.ptmerge.proofs.Common.{append-nil, flat_map-append, Join, output_separator, entry, join_fields, or_filler, field_named, other_fields, output_fields, IsCanonical, is_single_spaced, with_prefix, ◌%◌, ◌^◌, eqb}
-use Rattle.ptmerge.proofs.Common.{replicate, bit_or, length-map, drop-append_seam, take_at, nat_tests}
+use Rattle.ptmerge.proofs.Common.{nil_from_length, drop_more, length-drop, length-append, ◌≡◌, ℕ, suc, ◌+◌, ◌-◌, ◌≤◌}
+use Rattle.ptmerge.proofs.Common.{Bool, true, false, ltb, List, [], ◌∷◌, Option, None, Some, length, drop, get_or, refl}
+use Rattle.ptmerge.proofs.Common.{sym, ◌∙◌, ap, arith, zero, ◌<◌, ◌==◌, cond, ◌++◌, take, append_assoc, position}
+use Rattle.ptmerge.proofs.Common.{IfSome, MatchOption, filter, is_some, position_or_len, slice_split, nat_tests}
+use Rattle.ptmerge.proofs.Common.{drop-drop, take-append-drop, take_all, position_or_len_is, IsFirstByte, nth_field}
+use Rattle.ptmerge.proofs.Common.{is_nonempty, is_blank, Lines, false≢true, split_around, split_whole, IsFirstPieceEnd}
+use Rattle.ptmerge.proofs.Common.{IsFieldIn, IsPiece, is_separator, entry_with_list, remaining_fields, IsKeySpan}
+use Rattle.ptmerge.proofs.Common.{IsFieldFound, is_evenly_separated, around, ◌||◌, ◌&&◌, map, remove, unwrap_or}
+use Rattle.ptmerge.proofs.Common.{onto_first, join_with_byte, eqb-true, append-nil, flat_map-append, Join}
+use Rattle.ptmerge.proofs.Common.{output_separator, entry, join_fields, or_filler, field_named, other_fields}
+use Rattle.ptmerge.proofs.Common.{output_fields, IsCanonical, is_single_spaced, with_prefix, ◌%◌, ◌^◌, eqb, replicate}
+use Rattle.ptmerge.proofs.Common.{bit_or, length-map, drop-append_seam, take_at, nat_tests}
 use Rattle.std.proofs.lemmas.List.{length-take-le}
 use Rattle.std.proofs.lemmas.List.Quantifiers.{position-Some}
 use Rattle.ptlangs.specs.declared.outlist.OutField.{OutField}
@@ -19,10 +25,12 @@ use Rattle.std.specs.Simd.Lanes.{chunk, mask_l, top, zip2}
 
 -- ---- the end of a field
 
-pub first_is_position : (test : ℕ → Bool) (bytes : List ℕ) (r : Option ℕ) → IsFirstByte test bytes r → r ≡ position test bytes
+pub first_is_position : (test : ℕ → Bool) (bytes : List ℕ) (r : Option ℕ) → IsFirstByte test bytes r
+    → r ≡ position test bytes
 first_is_position test bytes None none =
     let is : position_or_len test bytes ≡ length bytes = position_or_len_is test bytes (length bytes) 0 (omega arith)
-    (λ k lt. false_from_ne_true (test (get_or bytes k 0)) (none k (omega arith) lt)) (λ bad. absurd (omega (arith, bad))) in
+    (λ k lt. false_from_ne_true (test (get_or bytes k 0)) (none k (omega arith) lt))
+    (λ bad. absurd (omega (arith, bad))) in
     let past : ltb (length bytes) (length bytes) ≡ false = grind (arith, nat_tests) in
     rw (is, past) refl
 first_is_position test bytes (Some at) (range, found) =
@@ -82,17 +90,18 @@ remaining_after separator (Some line) (Some l) field (Some b) (front, is) p =
 pub piece_at : (separator : Option ℕ) (bytes : List ℕ) (at : ℕ)
     → position (is_separator separator) bytes ≡ Some at → IsPiece separator bytes (take at bytes)
     (Some (take (length bytes - (at + 1)) (drop (at + 1) bytes)))
-piece_at separator bytes at is = let (within, found, _) = position-Some (is_separator separator) bytes at 0 is in record {
-  front = [];
-  tail = drop at bytes;
-  is = sym (take-append-drop at bytes);
-  ends = (
-    get_or bytes at 0,
-    drop_more bytes at 0 within ∙ ap (λ (l : List ℕ). get_or bytes at 0 ∷ l)
-        (sym (take_all _ (drop (at + 1) bytes) (omega (arith, length-drop (at + 1) bytes)))),
-    found,
-  );
-}
+piece_at separator bytes at is = let (within, found, _) = position-Some (is_separator separator) bytes at 0 is in
+    record {
+      front = [];
+      tail = drop at bytes;
+      is = sym (take-append-drop at bytes);
+      ends = (
+        get_or bytes at 0,
+        drop_more bytes at 0 within ∙ ap (λ (l : List ℕ). get_or bytes at 0 ∷ l)
+            (sym (take_all _ (drop (at + 1) bytes) (omega (arith, length-drop (at + 1) bytes)))),
+        found,
+      );
+    }
 
 -- the index of the first separator is the end of the first field
 pub ends_at : (separator : Option ℕ) (bytes : List ℕ) (at : ℕ) (end : Option ℕ)
@@ -107,12 +116,14 @@ pub ends_whole : (separator : Option ℕ) (bytes : List ℕ) (end : Option ℕ)
     → end ≡ position (is_separator separator) bytes → end ≡ None → IsFirstPieceEnd separator bytes (length bytes)
 ends_whole separator bytes end first is_none = let none = sym first ∙ is_none in record {
   remainder = [];
-  is = split_whole (is_separator separator) bytes none ∙ ap (λ (l : List ℕ). l ∷ []) (sym (take_all (length bytes) bytes (omega arith)));
+  is = split_whole (is_separator separator) bytes none
+      ∙ ap (λ (l : List ℕ). l ∷ []) (sym (take_all (length bytes) bytes (omega arith)));
   within = omega arith;
 }
 
 -- the first field begins at index 0
-front_span : (line bytes : List ℕ) (end : ℕ) → end ≤ length line → take end line ≡ bytes → IsKeySpan line bytes (record { start = 0; end = end })
+front_span : (line bytes : List ℕ) (end : ℕ) → end ≤ length line → take end line ≡ bytes
+    → IsKeySpan line bytes (record { start = 0; end = end })
 front_span line bytes end within is = let whole : end - 0 ≡ end =
     omega arith in record { ordered = omega arith; within = within; bytes_are = ap (λ (n : ℕ). take n line) whole ∙ is }
 
@@ -120,7 +131,8 @@ pub first_piece_span : (c number end : ℕ) (line : List ℕ) → number ≤ 1 �
     → IsKeySpan line (nth_field number (remaining_fields (Some c) (Some line))) (record { start = 0; end = end })
 first_piece_span c number end line low e =
     let first : number - 1 ≡ 0 = omega (arith, low) in
-    front_span line (nth_field number (remaining_fields (Some c) (Some line))) end e.within (sym ((λ i. get_or (e.is i) (first i) [])))
+    front_span line (nth_field number (remaining_fields (Some c) (Some line))) end e.within
+    (sym ((λ i. get_or (e.is i) (first i) [])))
 
 word_first : (line bytes : List ℕ) (end : ℕ) (remainder : List (List ℕ)) → 0 < end → end ≤ length line
     → get_or (filter is_nonempty (take end line ∷ remainder)) 0 [] ≡ take end line
@@ -140,15 +152,18 @@ first_word_span end line e some =
 empty_word : (field : List ℕ) → (length field == 0) ≡ true → is_nonempty field ≡ false
 empty_word field empty = rw (nil_from_length field (eqb-true (length field) 0 empty)) refl
 
-word_dropped : (field : List ℕ) (fs : List (List ℕ)) → is_nonempty field ≡ false → filter is_nonempty (field ∷ fs) ≡ filter is_nonempty fs
+word_dropped : (field : List ℕ) (fs : List (List ℕ)) → is_nonempty field ≡ false
+    → filter is_nonempty (field ∷ fs) ≡ filter is_nonempty fs
 word_dropped field fs none = ap (λ (t : Bool). cond t (field ∷ filter is_nonempty fs) (filter is_nonempty fs)) none
 
-pub skip_empty_word : (separator : Option ℕ) (bytes field : List ℕ) (remainder : Option (List ℕ)) → is_some separator ≡ false → (length field == 0) ≡ true
+pub skip_empty_word : (separator : Option ℕ) (bytes field : List ℕ) (remainder : Option (List ℕ))
+    → is_some separator ≡ false → (length field == 0) ≡ true
     → MatchOption remainder (slice_split (is_separator separator) bytes ≡ field ∷ [])
     (λ left. slice_split (is_separator separator) bytes ≡ field ∷ slice_split (is_separator separator) left)
     → remaining_fields separator remainder ≡ remaining_fields separator (Some bytes)
 skip_empty_word (Some c) bytes field remainder none empty first = absurd (false≢true (sym none))
-skip_empty_word None bytes field None none empty first = sym (ap (filter is_nonempty) first ∙ word_dropped field [] (empty_word field empty))
+skip_empty_word None bytes field None none empty first =
+    sym (ap (filter is_nonempty) first ∙ word_dropped field [] (empty_word field empty))
 skip_empty_word None bytes field (Some left) none empty first =
     sym (ap (filter is_nonempty) first ∙ word_dropped field (slice_split is_blank left) (empty_word field empty))
 
@@ -159,7 +174,8 @@ pub prefixed_fields : (c : ℕ) (bytes : List ℕ) → with_prefix c (slice_spli
 prefixed_fields c [] = refl
 prefixed_fields c (x ∷ xs) = by_test (x == c) refl (slice_split (λ b. b == c) xs) (prefixed_fields c xs)
   where
-    by_test : (t : Bool) → (x == c) ≡ t → (fs : Lines) → with_prefix c fs ≡ c ∷ xs → with_prefix c (cond t ([] ∷ fs) (onto_first x fs)) ≡ c ∷ x ∷ xs
+    by_test : (t : Bool) → (x == c) ≡ t → (fs : Lines) → with_prefix c fs ≡ c ∷ xs
+        → with_prefix c (cond t ([] ∷ fs) (onto_first x fs)) ≡ c ∷ x ∷ xs
     by_test true same fs more = ap (λ (l : List ℕ). c ∷ l) (more ∙ ap (λ (b : ℕ). b ∷ xs) (sym (eqb-true x c same)))
     by_test false other [] more = cc
     by_test false other (f ∷ fs) more = ap (λ (l : List ℕ). c ∷ x ∷ l) (ap (drop 1) more)
@@ -174,7 +190,8 @@ others_none : (byte n : ℕ) → with_prefix byte (remove [] n) ≡ []
 others_none byte zero = refl
 others_none byte (suc n) = refl
 
-pub others_more : (count i : ℕ) {fs more : Lines} {f : List ℕ} → i < count → fs ≡ f ∷ more → remove fs (count - i) ≡ f ∷ remove more (count - (i + 1))
+pub others_more : (count i : ℕ) {fs more : Lines} {f : List ℕ} → i < count → fs ≡ f ∷ more
+    → remove fs (count - i) ≡ f ∷ remove more (count - (i + 1))
 others_more count i low is = let at : count - i ≡ suc (count - (i + 1)) = omega arith in λ k. remove (is k) (at k)
 
 pub others_rest : (n : ℕ) {fs more : Lines} {f : List ℕ} → n ≡ 0 → fs ≡ f ∷ more → remove fs n ≡ more
@@ -182,31 +199,33 @@ others_rest n last is = λ k. remove (is k) (last k)
 
 -- the output line without an output list, and with one
 pub entry_plain : (job : Join) (k : List ℕ) (one two : Option (List ℕ)) → job.list ≡ None
-    → entry job k (remaining_fields job.separator one) (remaining_fields job.separator two)
-    ≡ k ++ (with_prefix (output_separator job.separator) (other_fields job.field1
-    (remaining_fields job.separator one)) ++ with_prefix (output_separator job.separator)
-    (other_fields job.field2 (remaining_fields job.separator two)))
+    → entry job k (remaining_fields job.separator one) (remaining_fields job.separator two) ≡ k
+    ++ (with_prefix (output_separator job.separator) (other_fields job.field1 (remaining_fields job.separator one))
+    ++ with_prefix (output_separator job.separator) (other_fields job.field2 (remaining_fields job.separator two)))
 entry_plain job k one two none =
     let fs1 = remaining_fields job.separator one in
     let fs2 = remaining_fields job.separator two in
     ap (λ (l : Option (List OutField)). join_with_byte (output_separator job.separator) (output_fields job k fs1 fs2 l))
     none ∙ join_is_prefixed (output_separator job.separator) k
     (other_fields job.field1 fs1 ++ other_fields job.field2 fs2)
-    ∙ ap (λ (l : List ℕ). k ++ l) (flat_map-append (λ f. output_separator job.separator ∷ f) (other_fields job.field1 fs1) (other_fields job.field2 fs2))
+    ∙ ap (λ (l : List ℕ). k ++ l) (flat_map-append (λ f. output_separator job.separator ∷ f)
+    (other_fields job.field1 fs1) (other_fields job.field2 fs2))
 
 pub between_is : (separator : Option ℕ) → output_separator separator ≡ unwrap_or separator 32
 between_is (Some c) = refl
 between_is None = refl
 
 -- the first item of a list, and then each other item after a separator
-pub first_then_rest : (f : OutField → List ℕ) (items : List OutField) (d : OutField) → 1 ≤ length items → {bytes : List ℕ} → bytes ≡ f (get_or items 0 d)
+pub first_then_rest : (f : OutField → List ℕ) (items : List OutField) (d : OutField) → 1 ≤ length items
+    → {bytes : List ℕ} → bytes ≡ f (get_or items 0 d)
     → map f items ≡ bytes ∷ map f (take (length items - 1) (drop 1 items))
 first_then_rest f [] d s e = absurd (omega (arith, s))
 first_then_rest f (x ∷ l) d s e = λ i. sym e i ∷ map f (sym (take_all (length (x ∷ l) - 1) l (omega arith)) i)
 
 -- the output for one item
 abbrev pub output_item : Join → List ℕ → Option (List ℕ) → Option (List ℕ) → OutField → List ℕ
-output_item job k one two i = or_filler job.empty (field_named i k (remaining_fields job.separator one) (remaining_fields job.separator two))
+output_item job k one two i =
+    or_filler job.empty (field_named i k (remaining_fields job.separator one) (remaining_fields job.separator two))
 
 -- the output line for a list begins with its first item
 pub entry_listed : (job : Join) (k : List ℕ) (one two : Option (List ℕ)) (items : List OutField) (d : OutField)
@@ -227,7 +246,8 @@ abbrev pub WordsAre : Bool → List ℕ → Type 0
 WordsAre true bytes = words_of (slice_split is_blank bytes) ≡ 32 ∷ bytes
 WordsAre false bytes = (c : ℕ) → words_of (onto_first c (slice_split is_blank bytes)) ≡ 32 ∷ c ∷ bytes
 
-word_more : (c b : ℕ) (split : Lines) {l : List ℕ} → words_of (onto_first b split) ≡ 32 ∷ b ∷ l → words_of (onto_first c (onto_first b split)) ≡ 32 ∷ c ∷ b ∷ l
+word_more : (c b : ℕ) (split : Lines) {l : List ℕ} → words_of (onto_first b split) ≡ 32 ∷ b ∷ l
+    → words_of (onto_first c (onto_first b split)) ≡ 32 ∷ c ∷ b ∷ l
 word_more c b [] is = ap (λ (l : List ℕ). 32 ∷ c ∷ drop 1 l) is
 word_more c b (f ∷ split) is = ap (λ (l : List ℕ). 32 ∷ c ∷ drop 1 l) is
 
@@ -237,18 +257,25 @@ single_spaced_words true (b ∷ bytes) tidy = by (b == 9) (b == 32) tidy (single
   where
     by : (tab space : Bool) → cond (tab || (true && space)) false (is_single_spaced space bytes) ≡ true
         → (is_single_spaced false bytes ≡ true → WordsAre false bytes)
-        → words_of (cond (space || tab) ([] ∷ slice_split is_blank bytes) (onto_first b (slice_split is_blank bytes))) ≡ 32 ∷ b ∷ bytes
+        → words_of (cond (space || tab) ([] ∷ slice_split is_blank bytes) (onto_first b (slice_split is_blank bytes)))
+        ≡ 32 ∷ b ∷ bytes
     by true space h more = cc
     by false true h more = cc
     by false false h more = more h b
 single_spaced_words false [] tidy = λ c. refl
-single_spaced_words false (b ∷ bytes) tidy = λ c. by c (b == 9) (b == 32) refl tidy (single_spaced_words false bytes) (single_spaced_words true bytes)
+single_spaced_words false (b ∷ bytes) tidy =
+    λ c. by c (b == 9) (b == 32) refl tidy (single_spaced_words false bytes) (single_spaced_words true bytes)
   where
-    by : (c : ℕ) (tab space : Bool) → (b == 32) ≡ space → cond (tab || (false && space)) false (is_single_spaced space bytes) ≡ true
-        → (is_single_spaced false bytes ≡ true → WordsAre false bytes) → (is_single_spaced true bytes ≡ true → WordsAre true bytes)
-        → words_of (onto_first c (cond (space || tab) ([] ∷ slice_split is_blank bytes) (onto_first b (slice_split is_blank bytes)))) ≡ 32 ∷ c ∷ b ∷ bytes
+    by : (c : ℕ) (tab space : Bool) → (b == 32) ≡ space
+        → cond (tab || (false && space)) false (is_single_spaced space bytes) ≡ true
+        → (is_single_spaced false bytes ≡ true → WordsAre false bytes)
+        → (is_single_spaced true bytes ≡ true → WordsAre true bytes)
+        → words_of
+        (onto_first c (cond (space || tab) ([] ∷ slice_split is_blank bytes)
+        (onto_first b (slice_split is_blank bytes)))) ≡ 32 ∷ c ∷ b ∷ bytes
     by c true space e h more words = cc
-    by c false true e h more words = ap (λ (l : List ℕ). 32 ∷ c ∷ l) (words h ∙ ap (λ (x : ℕ). x ∷ bytes) (sym (eqb-true b 32 e)))
+    by c false true e h more words =
+        ap (λ (l : List ℕ). 32 ∷ c ∷ l) (words h ∙ ap (λ (x : ℕ). x ∷ bytes) (sym (eqb-true b 32 e)))
     by c false false e h more words = word_more c b (slice_split is_blank bytes) (more h b)
 
 -- ---- canonical lines
@@ -257,11 +284,15 @@ single_spaced_words false (b ∷ bytes) tidy = λ c. by c (b == 9) (b == 32) ref
 line_is : (b n : ℕ) (fs : Lines) (line key : List ℕ) → with_prefix b fs ≡ b ∷ line → n - 1 ≡ 0 → nth_field n fs ≡ key
     → line ≡ key ++ with_prefix b (other_fields n fs)
 line_is b n [] line key is first keyed = cc
-line_is b n (f ∷ fs) line key is first keyed = let same : f ≡ key = rw first at keyed in sym (ap (drop 1) is) ∙ (rw (first, same) refl)
+line_is b n (f ∷ fs) line key is first keyed = let same : f ≡ key = rw first at keyed in sym (ap (drop 1) is)
+    ∙ (rw (first, same) refl)
 
 -- the rest of a line after its first field
-after_key : (key rest line : List ℕ) → line ≡ key ++ rest → take (length line - length key) (drop (length key) line) ≡ rest
-after_key key rest line is = rw (is, drop-append_seam key rest) (take_all (length (key ++ rest) - length key) rest (omega (arith, length-append key rest)))
+after_key : (key rest line : List ℕ) → line ≡ key ++ rest
+    → take (length line - length key) (drop (length key) line) ≡ rest
+after_key key rest line is =
+    rw (is, drop-append_seam key rest)
+    (take_all (length (key ++ rest) - length key) rest (omega (arith, length-append key rest)))
 
 module _ (job : Join) (key : List ℕ) (none : job.list ≡ None) where
   abbrev prefix : ℕ
@@ -288,15 +319,18 @@ module _ (job : Join) (key : List ℕ) (none : job.list ≡ None) where
       ∙ sym (entry_plain job key (Some one) (Some two) none))
 
   -- the output line for one canonical line
-  pub first_is : {line : List ℕ} → IsCanonical job.separator job.field1 line → nth_field job.field1 (of line) ≡ key → line ≡ entry job key (of line) []
+  pub first_is : {line : List ℕ} → IsCanonical job.separator job.field1 line → nth_field job.field1 (of line) ≡ key
+      → line ≡ entry job key (of line) []
   first_is {line} w keyed = rw (
     entry_plain job key (Some line) None none,
     others_none prefix (job.field2 - 1),
     append-nil (with_prefix prefix (other_fields job.field1 (of line))),
   ) (canonical_is w keyed)
 
-  pub second_is : {line : List ℕ} → IsCanonical job.separator job.field2 line → nth_field job.field2 (of line) ≡ key → line ≡ entry job key [] (of line)
-  second_is {line} w keyed = rw (entry_plain job key None (Some line) none, others_none prefix (job.field1 - 1)) (canonical_is w keyed)
+  pub second_is : {line : List ℕ} → IsCanonical job.separator job.field2 line → nth_field job.field2 (of line) ≡ key
+      → line ≡ entry job key [] (of line)
+  second_is {line} w keyed = rw (entry_plain job key None (Some line) none, others_none prefix (job.field1 - 1))
+      (canonical_is w keyed)
 
 -- ---- blanks
 
@@ -307,7 +341,8 @@ or_of_lanes p q = grind arith
 abbrev equal_lanes : List ℕ → ℕ → ℕ → List ℕ
 equal_lanes v n byte = zip2 (λ a b. cond (eqb a b) 255 0) v (replicate n byte)
 
-blank_lanes : (v : List ℕ) (n : ℕ) → length v ≡ n → map (top 7) (zip2 bit_or (equal_lanes v n 32) (equal_lanes v n 9)) ≡ map is_blank v
+blank_lanes : (v : List ℕ) (n : ℕ) → length v ≡ n
+    → map (top 7) (zip2 bit_or (equal_lanes v n 32) (equal_lanes v n 9)) ≡ map is_blank v
 blank_lanes [] n long = refl
 blank_lanes (b ∷ v) zero long = absurd (omega (arith, long))
 blank_lanes (b ∷ v) (suc n) long = λ i. or_of_lanes (eqb b 32) (eqb b 9) i ∷ blank_lanes v n (omega (arith, long)) i
@@ -318,10 +353,12 @@ pub blank_mask : (bytes : List ℕ) (at n : ℕ) → at + n ≤ length bytes →
 blank_mask bytes at n within few =
     let v = chunk at n bytes in
     let long = length-chunk at n bytes within in
-    ap (λ (ms : List Bool). mask_l ms % 2 ^ 64) (blank_lanes v n long) ∙ mask_l-mod (map is_blank v) 64 (omega (arith, length-map v is_blank, long, few))
+    ap (λ (ms : List Bool). mask_l ms % 2 ^ 64) (blank_lanes v n long)
+    ∙ mask_l-mod (map is_blank v) 64 (omega (arith, length-map v is_blank, long, few))
 
 -- a blank among single spaces is a space
-pub space_is : (blank : Bool) (b : ℕ) (v : List ℕ) → is_blank b ≡ true → is_single_spaced blank (b ∷ v) ≡ true → (b ≡ 32) × (is_single_spaced true v ≡ true)
+pub space_is : (blank : Bool) (b : ℕ) (v : List ℕ) → is_blank b ≡ true → is_single_spaced blank (b ∷ v) ≡ true
+    → (b ≡ 32) × (is_single_spaced true v ≡ true)
 space_is blank b v here spaced = by (b == 9) (b == 32) refl blank here spaced
   where
     by : (tab space : Bool) → (b == 32) ≡ space → (blank : Bool) → (space || tab) ≡ true
@@ -352,17 +389,21 @@ even_prefixed (Some c) line even = prefixed_fields c line
 even_prefixed None line even = single_spaced_words true line even
 
 -- the fields after a field are the bytes after it
-pub after_piece : (separator : Option ℕ) (line field : List ℕ) (remainder : Option (List ℕ)) (end : ℕ) → IsPiece separator line field remainder
-    → MatchOption remainder (end ≡ length line) (λ bytes. end + 1 + length bytes ≡ length line) → is_evenly_separated separator line ≡ true
+pub after_piece : (separator : Option ℕ) (line field : List ℕ) (remainder : Option (List ℕ)) (end : ℕ)
+    → IsPiece separator line field remainder
+    → MatchOption remainder (end ≡ length line) (λ bytes. end + 1 + length bytes ≡ length line)
+    → is_evenly_separated separator line ≡ true
     → with_prefix (output_separator separator) (remaining_fields separator remainder) ≡ drop end line
-after_piece separator line field None end p e even = sym (nil_from_length (drop end line) (omega (arith, length-drop end line, e)))
+after_piece separator line field None end p e even =
+    sym (nil_from_length (drop end line) (omega (arith, length-drop end line, e)))
 after_piece separator line field (Some bytes) end p e even = by separator even p.ends.2 ∙ sym tail
   where
     front : List ℕ
     front = p.front ++ field
 
     split : line ≡ front ++ p.ends.0 ∷ bytes
-    split = p.is ∙ ap (λ (l : List ℕ). p.front ++ (field ++ l)) p.ends.1 ∙ sym (append_assoc p.front field (p.ends.0 ∷ bytes))
+    split = p.is ∙ ap (λ (l : List ℕ). p.front ++ (field ++ l)) p.ends.1
+        ∙ sym (append_assoc p.front field (p.ends.0 ∷ bytes))
 
     at_end : end ≡ length front
     at_end = omega (arith, e, ap length split, length-append front (p.ends.0 ∷ bytes))
@@ -374,7 +415,8 @@ after_piece separator line field (Some bytes) end p e even = by separator even p
         → with_prefix (output_separator separator) (join_fields separator bytes) ≡ p.ends.0 ∷ bytes
     by (Some c) even test = prefixed_fields c bytes ∙ ap (λ (b : ℕ). b ∷ bytes) (sym (eqb-true p.ends.0 c test))
     by None even test =
-        let (is_space, spaced) = spaced_suffix true front p.ends.0 bytes (ap (is_single_spaced true) (sym split) ∙ even) test in
+        let (is_space, spaced) = spaced_suffix true front p.ends.0 bytes (ap (is_single_spaced true) (sym split) ∙ even)
+        test in
         single_spaced_words true bytes spaced ∙ ap (λ (b : ℕ). b ∷ bytes) (sym is_space)
 
 remove_past : (fs : Lines) (i : ℕ) → drop i fs ≡ [] → remove fs i ≡ fs
@@ -392,7 +434,8 @@ remove_at (g ∷ fs) (suc i) f more is = ap (λ (l : Lines). g ∷ l) (remove_at
 -- without a field: the bytes before it, except the separator, and those after it
 pub around_is : (separator : Option ℕ) (number : ℕ) (line : List ℕ) (found : Option Span)
     → IsFieldFound separator number line found → is_evenly_separated separator line ≡ true
-    → with_prefix (output_separator separator) (other_fields number (join_fields separator line)) ≡ around (output_separator separator) line found
+    → with_prefix (output_separator separator) (other_fields number (join_fields separator line))
+    ≡ around (output_separator separator) line found
 around_is separator number line None none even = ap (with_prefix (output_separator separator))
     (remove_past (join_fields separator line) (number - 1) none) ∙ even_prefixed separator line even
 around_is separator number line (Some span) f even = whole ∙ by span.start long
@@ -441,10 +484,12 @@ around_is separator number line (Some span) f even = whole ∙ by span.start lon
       f.within,
     )
 
-    by : (start : ℕ) → length before ≡ start → before ++ rest ≡ cond (start == 0) rest (c ∷ take (start - 1) line ++ rest)
+    by : (start : ℕ) → length before ≡ start
+        → before ++ rest ≡ cond (start == 0) rest (c ∷ take (start - 1) line ++ rest)
     by zero none = ap (λ (l : List ℕ). l ++ rest) (nil_from_length before none)
     by (suc start) size =
         let one : suc start - 1 ≡ start = omega arith in
         let some : (suc start == 0) ≡ false = grind (arith, nat_tests) in
-        let front : before ≡ c ∷ take start line = sym (take_at before (c ∷ (word ++ rest)) (suc start) size) ∙ ap (take (suc start)) line_is in
+        let front : before ≡ c ∷ take start line = sym (take_at before (c ∷ (word ++ rest)) (suc start) size)
+        ∙ ap (take (suc start)) line_is in
         rw (some, one) (ap (λ (l : List ℕ). l ++ rest) front)

@@ -1,18 +1,30 @@
 -- The group of one key: its lines are read, paired and then closed. Output during a group is a prefix of the output for
 -- all inputs, since lesser keys are complete and the pairs of the group are written in their final order. Once both
 -- inputs are past the key, the group is complete, and counts as processed.
-use Rattle.ptmerge.proofs.Common.{◌≡◌, ⊎_elim, inl, inr, ℕ, ◌+◌, ◌*◌, ◌≤◌, ◌<◌, ◌&&◌, Bool, true, false, List, [], ◌∷◌, ◌++◌, Some, Err, length, max, refl, sym, ◌∙◌, ap, subst, arith}
-use Rattle.ptmerge.proofs.Common.{append_assoc, bytes_eq, bytes_decides, is_gt, false≢true, append-nil, Output, PushEffect, Reader, ReaderAdvance, IsSound, Slots, line, total_bytes, with_line, unlines, IsLine, max_length}
-use Rattle.ptmerge.proofs.Common.{push_trans, unlines-append, MergeFault, Read, Memory, Side, First, Second, Sorted, CursorStatus, Head, Ended, Disorder, is_head, length-append, Lines, MergeTool}
-use Rattle.ptmerge.proofs.Common.{entries_by_key, entries_of_key, lines_with_key, MergeState, MergePost, NextErrPost, NextOkPost, HasSlots, with_side, other, PrecedesInput, disorder, merged_entries, sorted_prefixes, is_up_to, MergeEndPost, IsExactMerge, Cmp, Key}
-use Rattle.ptmerge.proofs.Common.{Write}
-use Rattle.ptmerge.proofs.MergeLemmas.Step.{slots_on, SidesInvariant, IsAbove, IsLineByLine, current_key_is_above, next_at, own_slots, passed_at, sides_invariant_continues, slots_apart, StoreInvariant, buffered_not_done}
-use Rattle.ptmerge.proofs.MergeLemmas.Invariant.{Bound, AtLeast, MayFollow, IsUnder, MergeInvariant, InputSplit, MayCome, all_keys, splits_step, all_wanted, written_is_wanted}
-use Rattle.ptmerge.proofs.JoinLemmas.GroupSlots.{AllSlots, Extends, GroupBounds, InGroup, largest_group, GroupStore, group_store_line, group_store_next, low_slot, put_more}
-use Rattle.ptmerge.proofs.MergeLemmas.Orders.{EachKey, EachKey-append, EachKey-weaker, at_most-same, front_first, front_is, others_of, lines_with_key-above, IsKeyOrder, AtMost, least_or_above, self_at_most}
-use Rattle.ptmerge.proofs.MergeLemmas.Orders.{at_most_trans, same_bytes}
-use Rattle.ptmerge.proofs.MergeLemmas.Slots.{put_both, put_each, put_other, put_same, side_case, has_lines_total, line_other}
-use Rattle.ptmerge.proofs.MergeLemmas.Exits.{SideAfterNext, IsAtCurrentLine, MatchesStatus, next_same_key, side_invariant_kept, IsFailedRead, Fits, ReadFacts, read_facts_after_line, read_facts_at_line, exit_facts, input_split_of, LeavesWork, both_begun}
+use Rattle.ptmerge.proofs.Common.{◌≡◌, ⊎_elim, inl, inr, ℕ, ◌+◌, ◌*◌, ◌≤◌, ◌<◌, ◌&&◌, Bool, true, false, List, [], ◌∷◌}
+use Rattle.ptmerge.proofs.Common.{◌++◌, Some, Err, length, max, refl, sym, ◌∙◌, ap, subst, arith, append_assoc}
+use Rattle.ptmerge.proofs.Common.{bytes_eq, bytes_decides, is_gt, false≢true, append-nil, Output, PushEffect, Reader}
+use Rattle.ptmerge.proofs.Common.{ReaderAdvance, IsSound, Slots, line, total_bytes, with_line, unlines, IsLine}
+use Rattle.ptmerge.proofs.Common.{max_length, push_trans, unlines-append, MergeFault, Read, Memory, Side, First, Second}
+use Rattle.ptmerge.proofs.Common.{Sorted, CursorStatus, Head, Ended, Disorder, is_head, length-append, Lines, MergeTool}
+use Rattle.ptmerge.proofs.Common.{entries_by_key, entries_of_key, lines_with_key, MergeState, MergePost, NextErrPost}
+use Rattle.ptmerge.proofs.Common.{NextOkPost, HasSlots, with_side, other, PrecedesInput, disorder, merged_entries}
+use Rattle.ptmerge.proofs.Common.{sorted_prefixes, is_up_to, MergeEndPost, IsExactMerge, Cmp, Key, Write}
+use Rattle.ptmerge.proofs.MergeLemmas.Step.{slots_on, SidesInvariant, IsAbove, IsLineByLine, current_key_is_above}
+use Rattle.ptmerge.proofs.MergeLemmas.Step.{next_at, own_slots, passed_at, sides_invariant_continues, slots_apart}
+use Rattle.ptmerge.proofs.MergeLemmas.Step.{StoreInvariant, buffered_not_done}
+use Rattle.ptmerge.proofs.MergeLemmas.Invariant.{Bound, AtLeast, MayFollow, IsUnder, MergeInvariant, InputSplit}
+use Rattle.ptmerge.proofs.MergeLemmas.Invariant.{MayCome, all_keys, splits_step, all_wanted, written_is_wanted}
+use Rattle.ptmerge.proofs.JoinLemmas.GroupSlots.{AllSlots, Extends, GroupBounds, InGroup, largest_group, GroupStore}
+use Rattle.ptmerge.proofs.JoinLemmas.GroupSlots.{group_store_line, group_store_next, low_slot, put_more}
+use Rattle.ptmerge.proofs.MergeLemmas.Orders.{EachKey, EachKey-append, EachKey-weaker, at_most-same, front_first}
+use Rattle.ptmerge.proofs.MergeLemmas.Orders.{front_is, others_of, lines_with_key-above, IsKeyOrder, AtMost}
+use Rattle.ptmerge.proofs.MergeLemmas.Orders.{least_or_above, self_at_most, at_most_trans, same_bytes}
+use Rattle.ptmerge.proofs.MergeLemmas.Slots.{put_both, put_each, put_other, put_same, side_case, has_lines_total}
+use Rattle.ptmerge.proofs.MergeLemmas.Slots.{line_other}
+use Rattle.ptmerge.proofs.MergeLemmas.Exits.{SideAfterNext, IsAtCurrentLine, MatchesStatus, next_same_key}
+use Rattle.ptmerge.proofs.MergeLemmas.Exits.{side_invariant_kept, IsFailedRead, Fits, ReadFacts, read_facts_after_line}
+use Rattle.ptmerge.proofs.MergeLemmas.Exits.{read_facts_at_line, exit_facts, input_split_of, LeavesWork, both_begun}
 use Rattle.ptmerge.proofs.MergeLemmas.LinesRead.{Continues, HasBegun, HoldsLines}
 use Rattle.ptmerge.specs.declared.faults.MergeFault.TheVariants as faults
 
@@ -22,23 +34,28 @@ use Rattle.ptmerge.specs.declared.faults.MergeFault.TheVariants as faults
 -- prefix.
 
 -- a key up to k is at most all keys that may follow, if k is
-pub under_lower : {cmp : Cmp} (o : IsKeyOrder cmp) (b : Bound) (x k : List ℕ) → AtMost cmp x k → IsUnder cmp b k → IsUnder cmp b x
+pub under_lower : {cmp : Cmp} (o : IsKeyOrder cmp) (b : Bound) (x k : List ℕ) → AtMost cmp x k → IsUnder cmp b k
+    → IsUnder cmp b x
 under_lower o b x k h u = grind (arith, at_most_trans)
 
 -- a property of k holds for the keys of all lines of its group
-pub all_own_keys : (P : List ℕ → Type 0) (key : Key) (k : List ℕ) (g : Lines) → P k → EachKey (λ x. x ≡ k) key g → EachKey P key g
+pub all_own_keys : (P : List ℕ → Type 0) (key : Key) (k : List ℕ) (g : Lines) → P k → EachKey (λ x. x ≡ k) key g
+    → EachKey P key g
 all_own_keys P key k g h = EachKey-weaker (λ x. x ≡ k) P (λ x same. subst P (sym same) h) key g
 
 -- the lines `p` are processed, the lines `g` are the group of the key `k`, and `d` bounds the lines that may follow
-pub record OutputInGroup (tool : MergeTool) (was mid : Output) (p g : Side → Lines) (d : Side → Bound) (k : List ℕ) : Type 0 where
+pub record OutputInGroup (tool : MergeTool) (was mid : Output) (p g : Side → Lines) (d : Side → Bound)
+    (k : List ℕ) : Type 0 where
   pub merge_invariant : MergeInvariant tool (λ side. AtLeast k) p was mid
   pub clean : mid.write_failed ≡ false
   pub own : (side : Side) → EachKey (λ x. x ≡ k) (tool.key side) (g side)
-  pub beyond : (side : Side) (r : Lines) → MayFollow tool.cmp (tool.key side) (d side) r → EachKey (AtMost tool.cmp k) (tool.key side) r
+  pub beyond : (side : Side) (r : Lines) → MayFollow tool.cmp (tool.key side) (d side) r
+      → EachKey (AtMost tool.cmp k) (tool.key side) r
   pub under : (side : Side) → IsUnder tool.cmp (d side) k
 
 -- the entries `extra` are a prefix of the group's output, for all lines that may follow
-pub record OutputStartsWith (tool : MergeTool) (g : Side → Lines) (d : Side → Bound) (k : List ℕ) (extra : Lines) : Type 0 where
+pub record OutputStartsWith (tool : MergeTool) (g : Side → Lines) (d : Side → Bound) (k : List ℕ)
+    (extra : Lines) : Type 0 where
   pub rest : (w : List ℕ → Bool) (r : Side → Lines) → MayCome tool d r → w k ≡ true → (rest : Lines)
       × (entries_by_key tool w (λ side. g side ++ r side) ≡ extra ++ rest)
 
@@ -57,7 +74,8 @@ module _ {tool : MergeTool} (o : IsKeyOrder tool.cmp) (old new : MergeState) {no
   abbrev front : Lines
   front = entries_by_key tool all_keys p
 
-  rest_not_less : (side : Side) (r : Lines) → MayFollow cmp (key side) (d side) r → EachKey (AtMost cmp k) (key side) (g side ++ r)
+  rest_not_less : (side : Side) (r : Lines) → MayFollow cmp (key side) (d side) r
+      → EachKey (AtMost cmp k) (key side) (g side ++ r)
   rest_not_less side r c = at_most-same tool o (key side) k (g side) r (m.own side) (m.beyond side r c)
 
   -- two lists that continue the lines read so far: their sorted prefixes and their disorder
@@ -68,11 +86,13 @@ module _ {tool : MergeTool} (o : IsKeyOrder tool.cmp) (old new : MergeState) {no
     parts : (w : List ℕ → Bool) → entries_by_key tool w (sorted_prefixes tool all) ≡ entries_by_key tool w
         p ++ entries_by_key tool w (λ side. g side ++ seen.r side)
     parts w = (λ i. entries_by_key tool w (λ side. (seen.parts side ∙ append_assoc (p side) (g side) (seen.r side)) i))
-        ∙ m.merge_invariant.splits.split w (λ side. g side ++ seen.r side) (λ side. rest_not_less side (seen.r side) (seen.may_follow side))
+        ∙ m.merge_invariant.splits.split w (λ side. g side ++ seen.r side)
+        (λ side. rest_not_less side (seen.r side) (seen.may_follow side))
 
     wanted : (x : List ℕ) → AtMost cmp x k → is_up_to cmp (disorder tool all) x ≡ true
     wanted x h = written_is_wanted _ o (d First) (d Second) _ _ x
-        (seen.may_disorder First) (seen.may_disorder Second) (under_lower o (d First) x k h (m.under First)) (under_lower o (d Second) x k h (m.under Second))
+        (seen.may_disorder First) (seen.may_disorder Second) (under_lower o (d First) x k h (m.under First))
+        (under_lower o (d Second) x k h (m.under Second))
 
     abbrev is_wanted : List ℕ → Bool
     is_wanted = is_up_to cmp (disorder tool all)
@@ -102,7 +122,8 @@ module _ {tool : MergeTool} (o : IsKeyOrder tool.cmp) (old new : MergeState) {no
 
   -- the keys of the processed lines and of the group
   passed_keys : (of side : Side) → EachKey (λ x. AtMost cmp x k) (key side) (p side ++ g side)
-  passed_keys of side = EachKey-append (λ x. AtMost cmp x k) (key side) (p side) (g side) (m.merge_invariant.under of side)
+  passed_keys of side =
+      EachKey-append (λ x. AtMost cmp x k) (key side) (p side) (g side) (m.merge_invariant.under of side)
       (all_own_keys (λ x. AtMost cmp x k) (key side) k (g side) (self_at_most cmp o k) (m.own side))
 
   pub group_exit : {extra : Lines} → OutputStartsWith tool g d k extra
@@ -158,10 +179,12 @@ state_after_read now s reader out store = record { reader = with_side s reader n
 
 -- the lines read from an input, those of them that are processed, and a piece of a further line
 abbrev pub ReadFactsOf : JoinCall → MergeState → Side → Reader → List ℕ → Lines → Lines → Bound → Type 0
-ReadFactsOf call now side new piece ls p b = ReadFacts call.terminator call.cmp (call.key side) (call.old.reader side) (now.reader side) new piece ls p b
+ReadFactsOf call now side new piece ls p b =
+    ReadFacts call.terminator call.cmp (call.key side) (call.old.reader side) (now.reader side) new piece ls p b
 
 -- no read has failed, so the case of a failed read is void
-pub not_failed : (call : JoinCall) (side : Side) {b : Bool} {X : Type 0} → b ≡ (call.old.reader side).failed → b ≡ true → X
+pub not_failed : (call : JoinCall) (side : Side) {b : Bool} {X : Type 0} → b ≡ (call.old.reader side).failed → b ≡ true
+    → X
 not_failed call side same fail = absurd (false≢true (sym (same ∙ call.unfailed side) ∙ fail))
 
 -- ---- the bytes in the store
@@ -211,12 +234,18 @@ pub store_between_groups : (call : JoinCall) {reader : Side → Reader} {cursor 
     {ls : Side → Lines} → GroupStore call.most call.old.store store ls [] → AllSlots cursor
     → StoreInvariant call.tool call.old.store reader cursor store ls
 store_between_groups call {cursor = cursor} h slots =
-    record { lines = h.lines; denied = h.denied; fits = fits_kept call h; line = λ s. peak_line call h s (cursor s) (slots s) }
+    record {
+      lines = h.lines;
+      denied = h.denied;
+      fits = fits_kept call h;
+      line = λ s. peak_line call h s (cursor s) (slots s);
+    }
 
 -- the invariant of both inputs depends only on the first four slots
 pub same_cursors : (tool : MergeTool) {old now : Side → Reader} {cursor : Side → Sorted} {before after : Slots}
     {ls p : Side → Lines} {b : Side → Bound} → SidesInvariant tool old now cursor before ls p b
-    → AllSlots cursor → ((i : ℕ) → i < 4 → line after i ≡ line before i) → SidesInvariant tool old now cursor after ls p b
+    → AllSlots cursor → ((i : ℕ) → i < 4 → line after i ≡ line before i)
+    → SidesInvariant tool old now cursor after ls p b
 same_cursors tool {old} {now} {cursor} {before} {after} {ls} {p} {b} sides slots same side =
     let low = low_slot side (cursor side) (slots side) in
     side_invariant_kept (sides side) (same (cursor side).current_slot low.current)
@@ -224,7 +253,8 @@ same_cursors tool {old} {now} {cursor} {before} {after} {ls} {p} {b} sides slots
 
 -- ---- the output of a group
 
-module _ (call : JoinCall) {was mid : Output} {p g : Side → Lines} {d : Side → Bound} {k : List ℕ} (m : OutputInGroup call.tool was mid p g d k) where
+module _ (call : JoinCall) {was mid : Output} {p g : Side → Lines} {d : Side → Bound} {k : List ℕ}
+    (m : OutputInGroup call.tool was mid p g d k) where
   open call use {cmp, entries, key, laws, o, pairs, tool}
 
   -- the pairs of a group come first, for all lines of its key that the first input still has
@@ -236,10 +266,12 @@ module _ (call : JoinCall) {was mid : Output} {p g : Side → Lines} {d : Side �
   pub starts_none : OutputStartsWith tool g d k []
   starts_none = record { rest = λ w r c wanted. (entries_by_key tool w (λ side. g side ++ r side), refl) }
 
-  pub starts : 0 < length (g Second) → IsAbove cmp (key Second) k (d Second) → OutputStartsWith tool g d k (pairs k (g First) (g Second))
+  pub starts : 0 < length (g Second) → IsAbove cmp (key Second) k (d Second)
+      → OutputStartsWith tool g d k (pairs k (g First) (g Second))
   starts some above = record {
     rest = λ w r c wanted.
-        let none : lines_with_key (key Second) (r Second) k ≡ [] = lines_with_key-above tool o (key Second) k (r Second) (above (r Second) (c Second)) in
+        let none : lines_with_key (key Second) (r Second) k ≡ [] =
+        lines_with_key-above tool o (key Second) k (r Second) (above (r Second) (c Second)) in
         let (rest, is) = starts_pairs (g First) (lines_with_key (key First) (r First) k) (g Second) some in (
           rest ++ entries_by_key tool w (others_of tool o k r),
           front_is tool o w k g r m.own (λ side. m.beyond side (r side) (c side)) (laws.alone.none k)
@@ -271,8 +303,10 @@ module _ (call : JoinCall) {was mid : Output} {p g : Side → Lines} {d : Side �
   own_entries f s some1 some2 = absurd (omega (arith, some1, some2))
 
   -- a group is complete if only greater keys follow
-  pub closes : {is : Output} → ((side : Side) → 0 < length (g side)) → ((side : Side) → IsAbove cmp (key side) k (d side))
-      → PushEffect mid is (unlines call.terminator (pairs k (g First) (g Second))) → MergeInvariant tool d (λ side. p side ++ g side) was is
+  pub closes : {is : Output} → ((side : Side) → 0 < length (g side))
+      → ((side : Side) → IsAbove cmp (key side) k (d side))
+      → PushEffect mid is (unlines call.terminator (pairs k (g First) (g Second)))
+      → MergeInvariant tool d (λ side. p side ++ g side) was is
   closes {is} some above wrote =
       record {
         splits = splits_step tool (λ side. AtLeast k) d p g m.merge_invariant.splits
@@ -292,14 +326,20 @@ module _ (call : JoinCall) {was mid : Output} {p g : Side → Lines} {d : Side �
       splits_off : (w : List ℕ → Bool) (r : Side → Lines) → MayCome tool d r
           → entries_by_key tool w (λ side. g side ++ r side) ≡ entries_by_key tool w g ++ entries_by_key tool w r
       splits_off w r c =
-          let none = λ (side : Side). lines_with_key-above tool o (key side) k (r side) (above side (r side) (c side)) in
-          let nothing : entries_of_key tool r k ≡ [] = (λ i. entries k (none First i) (none Second i)) ∙ laws.alone.none k in
-          front_first tool o w k g r m.own (λ side. m.beyond side (r side) (c side)) (laws.alone.none k) (simp (none First, none Second, nothing, append-nil))
+          let none = λ (side : Side). lines_with_key-above tool o (key side) k (r side)
+          (above side (r side) (c side)) in
+          let nothing : entries_of_key tool r k ≡ [] = (λ i. entries k (none First i) (none Second i))
+          ∙ laws.alone.none k in
+          front_first tool o w k g r m.own (λ side. m.beyond side (r side) (c side)) (laws.alone.none k)
+          (simp (none First, none Second, nothing, append-nil))
 
-      all : entries_by_key tool all_keys (λ side. p side ++ g side) ≡ entries_by_key tool all_keys p ++ pairs k (g First) (g Second)
+      all : entries_by_key tool all_keys (λ side. p side ++ g side) ≡ entries_by_key tool all_keys p
+          ++ pairs k (g First) (g Second)
       all =
-          m.merge_invariant.splits.split all_keys g (λ side. all_own_keys (AtMost cmp k) (key side) k (g side) (self_at_most cmp o k) (m.own side))
-          ∙ ap (λ l. entries_by_key tool all_keys p ++ l) (alone_is ∙ own_entries (g First) (g Second) (some First) (some Second))
+          m.merge_invariant.splits.split all_keys g
+          (λ side. all_own_keys (AtMost cmp k) (key side) k (g side) (self_at_most cmp o k) (m.own side))
+          ∙ ap (λ l. entries_by_key tool all_keys p ++ l)
+          (alone_is ∙ own_entries (g First) (g Second) (some First) (some Second))
 
 -- ---- the lines of a group
 
@@ -317,7 +357,8 @@ pub record IsAtKey (call : JoinCall) (now : MergeState) (cursor : Side → Sorte
 
 -- the invariant during a group `g` of the key `k`: its output so far is written, and its copied lines end before slot
 -- `end`
-pub record GroupState (call : JoinCall) (now : MergeState) (cursor : Side → Sorted) (end : ℕ) (k : List ℕ) (g : Side → Lines) (kept : Lines) : Type 0 where
+pub record GroupState (call : JoinCall) (now : MergeState) (cursor : Side → Sorted) (end : ℕ) (k : List ℕ)
+    (g : Side → Lines) (kept : Lines) : Type 0 where
   pub ls : Side → Lines
   pub p : Side → Lines
   pub d : Side → Bound
@@ -333,7 +374,8 @@ module _ {call : JoinCall} {now : MergeState} {cursor : Side → Sorted} {end : 
   open call use {cmp, key, o, old, tool}
 
   -- an input is past a key if its current line does not have it
-  pub is_past : (s : Side) → ((cursor s).status ≡ Head → ¬ (key s (head_of now cursor s) ≡ k)) → IsAbove cmp (key s) k (q.d s)
+  pub is_past : (s : Side) → ((cursor s).status ≡ Head → ¬ (key s (head_of now cursor s) ≡ k))
+      → IsAbove cmp (key s) k (q.d s)
   is_past s other =
       let (above, _) = current_key_is_above cmp o (key s) k _ (cursor s) now.store (now.reader s) (q.ls s)
       (q.p s ++ g s) (q.d s) (by (cursor s).status (q.sides s).status_is other) (q.sides s).status_is in
@@ -354,15 +396,25 @@ module _ {call : JoinCall} {now : MergeState} {cursor : Side → Sorted} {end : 
   pub group_begun : (side : Side) → HasBegun (now.reader side) (q.ls side)
   group_begun side = (q.sides side).begun
 
-  pub group_read_facts : (side : Side) → ReadFactsOf call now side (now.reader side) [] (q.ls side) (q.p side ++ g side) (q.d side)
+  pub group_read_facts : (side : Side)
+      → ReadFactsOf call now side (now.reader side) [] (q.ls side) (q.p side ++ g side) (q.d side)
   group_read_facts side = read_facts_at_line (q.sides side)
 
   -- the group after other lines were stored for it
-  pub group_kept : AllSlots cursor → {after : Slots} → ((i : ℕ) → i < 4 → line after i ≡ line now.store i) → {lines : Lines}
-      → GroupStore call.most old.store after q.ls lines → {to : ℕ} → to ≡ 4 + length lines
+  pub group_kept : AllSlots cursor → {after : Slots} → ((i : ℕ) → i < 4 → line after i ≡ line now.store i)
+      → {lines : Lines} → GroupStore call.most old.store after q.ls lines → {to : ℕ} → to ≡ 4 + length lines
       → GroupState call (record now { store = after }) cursor to k g lines
-  group_kept slots same keeps at = record
-      { ls = q.ls; p = q.p; d = q.d; mid = q.mid; sides = same_cursors tool q.sides slots same; within = q.within; keeps = keeps; wrote = q.wrote; at = at }
+  group_kept slots same keeps at = record {
+    ls = q.ls;
+    p = q.p;
+    d = q.d;
+    mid = q.mid;
+    sides = same_cursors tool q.sides slots same;
+    within = q.within;
+    keeps = keeps;
+    wrote = q.wrote;
+    at = at;
+  }
 
   -- the input `s` is at a further line of the group
   pub record IsAtGroupLine (s : Side) : Type 0 where
@@ -389,9 +441,17 @@ module _ {call : JoinCall} {now : MergeState} {cursor : Side → Sorted} {end : 
       (EachKey-append (λ z. z ≡ k) (key s) (g s) (x ∷ []) (q.within.own s) (l.is, tt)) q.within.own
 
   pub within_more : OutputInGroup tool old.out q.mid q.p (with_added_line now cursor s g) q.d k
-  within_more = record { merge_invariant = q.within.merge_invariant; clean = q.within.clean; own = own_more; beyond = q.within.beyond; under = q.within.under }
+  within_more =
+      record {
+        merge_invariant = q.within.merge_invariant;
+        clean = q.within.clean;
+        own = own_more;
+        beyond = q.within.beyond;
+        under = q.within.under;
+      }
 
-  fails_in : (new : Reader) → new.buffered ≡ [] → new.eof ≡ false → IsFailedRead cmp (key s) new (q.ls s) (q.p s ++ with_added_line now cursor s g s)
+  fails_in : (new : Reader) → new.buffered ≡ [] → new.eof ≡ false
+      → IsFailedRead cmp (key s) new (q.ls s) (q.p s ++ with_added_line now cursor s g s)
   fails_in new buffered eof = record {
     buffered = buffered;
     eof = eof;
@@ -400,9 +460,10 @@ module _ {call : JoinCall} {now : MergeState} {cursor : Side → Sorted} {end : 
     sorted_up_to = rw put_same (rw with_head at at_head.sorted_up_to);
   }
 
-  pub passing : (new : Reader) (piece : List ℕ) → ReaderAdvance (now.reader s) new piece → IsLine (now.reader s).terminator piece → IsSound new
-      → (side : Side) → ReadFactsOf call now side (with_side s new now.reader side) (with_side s piece (λ t. []) side)
-      (q.ls side) (q.p side ++ with_added_line now cursor s g side) (q.d side)
+  pub passing : (new : Reader) (piece : List ℕ) → ReaderAdvance (now.reader s) new piece
+      → IsLine (now.reader s).terminator piece → IsSound new → (side : Side)
+      → ReadFactsOf call now side (with_side s new now.reader side) (with_side s piece (λ t. []) side) (q.ls side)
+      (q.p side ++ with_added_line now cursor s g side) (q.d side)
   passing new piece reads free sound = side_case (λ side. ReadFactsOf call now side (with_side s new now.reader side)
       (with_side s piece (λ t. []) side) (q.ls side) (q.p side ++ with_added_line now cursor s g side) (q.d side)) s
       (simp put_same (subst (λ (l : Lines). ReadFactsOf call now s new piece (q.ls s) l (q.d s)) with_head
@@ -410,7 +471,8 @@ module _ {call : JoinCall} {now : MergeState} {cursor : Side → Sorted} {end : 
       (simp put_other (group_read_facts q (other s)))
 
   -- reading the next line failed, after a prefix of the group's output was written
-  module _ {out : Output} (clean : out.write_failed ≡ false) {extra : Lines} (begins : OutputStartsWith tool (with_added_line now cursor s g) q.d k extra)
+  module _ {out : Output} (clean : out.write_failed ≡ false) {extra : Lines}
+      (begins : OutputStartsWith tool (with_added_line now cursor s g) q.d k extra)
       (wrote : PushEffect q.mid out (unlines call.terminator extra)) (new : Reader) where
     pub group_breaks : {after : Slots} (fault : MergeFault) → NextErrPost s (cursor s) (now.reader s) new now.store
         after fault → MergePost tool old (state_after_read now s new out after) (Err fault)
@@ -430,16 +492,19 @@ module _ {call : JoinCall} {now : MergeState} {cursor : Side → Sorted} {end : 
         (λ input pushed. tt) tt (rw e.stored (peak_line call q.keeps s (cursor s) (l.slots s) e.piece)))
     group_breaks Write moves = absurd moves
     group_breaks {after} Memory (e, sound) =
-        let failed = put_each (λ side (r : Reader). r.failed ≡ (old.reader side).failed) s new now.reader (e.failed ∙ none_failed q s) (none_failed q) in
+        let failed = put_each (λ side (r : Reader). r.failed ≡ (old.reader side).failed) s new now.reader
+        (e.failed ∙ none_failed q s) (none_failed q) in
         group_exit o _ _ within_more (passing new e.piece e.faults.reads e.faults.whole sound) begins wrote
         (group_begun q)
-        (record { denied = ap (λ (t : Slots). t.denied) e.stored; failed = failed; clean = clean }) (λ side. not_failed call side (failed side))
+        (record { denied = ap (λ (t : Slots). t.denied) e.stored; failed = failed; clean = clean })
+        (λ side. not_failed call side (failed side))
         (λ input pushed. tt) (λ four. inl (s, rw (put_same s new now.reader) (buffered_not_done e.left)))
         (rw e.stored (peak_line call q.keeps s (cursor s) (l.slots s) e.piece))
     group_breaks (faults.Disorder file number) moves = absurd moves
 
   -- the input advances
-  module _ {reader : Reader} {next : Sorted} {after : Slots} (comes : NextOkPost (key s) cmp (cursor s) next (now.reader s) reader now.store after) where
+  module _ {reader : Reader} {next : Sorted} {after : Slots}
+      (comes : NextOkPost (key s) cmp (cursor s) next (now.reader s) reader now.store after) where
     gone_to : SideAfterNext call.terminator cmp (key s) (old.reader s) reader next (cursor s).previous_slot now.store
         after (q.ls s) (Some (key s (head_of now cursor s)))
     gone_to = next_at tool o _ _ _ _ _ _ _ q.sides l.slots q.keeps.four s l.head reader next after comes
@@ -483,7 +548,8 @@ module _ {call : JoinCall} {now : MergeState} {cursor : Side → Sorted} {end : 
 
     -- the previous line belongs to the group
     pub record AdvancedGroup (new : Output) : Type 0 where
-      pub group : GroupState call (state_after_read now s reader new after) (with_side s next cursor) end k (with_added_line now cursor s g) kept
+      pub group : GroupState call (state_after_read now s reader new after) (with_side s next cursor) end k
+          (with_added_line now cursor s g) kept
       pub bound : group.d (other s) ≡ q.d (other s)
       pub more : Extends (q.ls Second) (group.ls Second)
 
@@ -499,15 +565,21 @@ module _ {call : JoinCall} {now : MergeState} {cursor : Side → Sorted} {end : 
             mid = q.mid;
             sides = subst (λ (f : Side → Lines). SidesInvariant tool old.reader (with_side s reader now.reader)
                 (with_side s next cursor) after (with_side s n.now_ls q.ls) f (with_side s n.bound q.d))
-                (λ i side. put_both (λ side (l m : Lines). l ≡ q.p side ++ m) s (q.ls s) (λ side. q.p side ++ g side) (g s ++ x ∷ []) g with_head refl side i)
-                (sides_invariant_continues tool o _ _ _ _ _ _ _ q.sides l.slots q.keeps.four s l.head reader next after n);
+                (λ i side. put_both (λ side (l m : Lines). l ≡ q.p side ++ m) s (q.ls s) (λ side. q.p side ++ g side)
+                (g s ++ x ∷ []) g with_head refl side i)
+                (sides_invariant_continues tool o _ _ _ _ _ _ _ q.sides l.slots q.keeps.four s l.head reader next after
+                n);
             within = record {
               merge_invariant = q.within.merge_invariant;
               clean = q.within.clean;
               own = own_more;
-              beyond = put_each (λ side (b : Bound). (r : Lines) → MayFollow cmp (key side) b r → EachKey (AtMost cmp k) (key side) r) s n.bound q.d
-                  (λ r c. subst (λ (z : List ℕ). EachKey (AtMost cmp z) (key s) r) l.is (n.may_follow r c)) q.within.beyond;
-              under = put_each (λ side (b : Bound). IsUnder cmp b k) s n.bound q.d (n.under k (rw l.is (self_at_most cmp o k))) q.within.under;
+              beyond =
+                  put_each (λ side (b : Bound). (r : Lines) → MayFollow cmp (key side) b r
+                  → EachKey (AtMost cmp k) (key side) r) s n.bound q.d
+                  (λ r c. subst (λ (z : List ℕ). EachKey (AtMost cmp z) (key s) r) l.is (n.may_follow r c))
+                  q.within.beyond;
+              under = put_each (λ side (b : Bound). IsUnder cmp b k) s n.bound q.d
+                  (n.under k (rw l.is (self_at_most cmp o k))) q.within.under;
             };
             keeps = group_store_next s (cursor s) (l.slots s) q.keeps n;
             wrote = wrote;

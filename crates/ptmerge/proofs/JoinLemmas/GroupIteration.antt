@@ -1,15 +1,29 @@
 -- The iterations of `join` within a group: reading a line of the second input, or writing the pairs of a line of the
 -- first, and each exit from them. Each preserves the invariant of the group, since it adds one line to it.
-use Rattle.ptmerge.proofs.Common.{NextOkPost, ◌≡◌, ℕ, true, false, List, [], ◌∷◌, ◌++◌, refl, ap, sym, ◌∙◌, inl, inr, ◌+◌, ◌≤◌, ◌<◌, Result, Err, length, arith, Join, Side, First, Second, join_with}
-use Rattle.ptmerge.proofs.Common.{join_key, pair_entries, Lines, Cmp, Key, Output, PushEffect, Reader, Slots, line, unlines, MergeFault, Sorted, ReadGroupLineOkPost, ReadGroupLinePost, IsGroup, ClearGroupPost, group_end_slot, group_first_slot}
-use Rattle.ptmerge.proofs.Common.{group, IsReadyToContinue, AdvanceOkPost, JoinLinePre, AdvancePre, MergeState, MergePost, both, with_side, ⊎_elim, ◌-◌, ◌==◌, push_trans, other, nat_tests, length_push, unlines-append, append_assoc}
-use Rattle.ptmerge.proofs.Common.{Bool, cond, entries_by_key, merged_entries, nil_from_length, CopyToGroupPost, ReadGroupLineErrPost, false≢true}
-use Rattle.ptmerge.proofs.JoinLemmas.Iteration.{ReadGroup, IsGroupIn, IsOneForAll, IterationInvariant, ExitPost, WritePairs, join_call_of, end_in, joins, exit_post, slots, advance_pre, iteration_continues}
-use Rattle.ptmerge.proofs.MergeLemmas.Step.{next_keeps_slot_count, same_state, wrote_as, next_error_keeps_slot_count, IsAbove, valid_cursors_kept, wrote_and_sent, AdvanceErrPost}
-use Rattle.ptmerge.proofs.JoinLemmas.GroupInvariant.{JoinCall, state_after_read, fits_kept, not_failed, IsAtGroupLine, AdvancedGroup, GroupState, closes, continues_key, leaves_key, advanced_group, group_breaks, with_added_line, is_past, next_slots, others_stay}
-use Rattle.ptmerge.proofs.JoinLemmas.GroupInvariant.{passing, extends, front_is_not_all, has_entries, group_begun, same_cursors, group_read_facts, starts, none_failed, within_more, group_kept, last_stays, own_more, size_of, starts_none, with_head, OutputStartsWith, group_exit}
+use Rattle.ptmerge.proofs.Common.{NextOkPost, ◌≡◌, ℕ, true, false, List, [], ◌∷◌, ◌++◌, refl, ap, sym, ◌∙◌, inl, inr}
+use Rattle.ptmerge.proofs.Common.{◌+◌, ◌≤◌, ◌<◌, Result, Err, length, arith, Join, Side, First, Second, join_with}
+use Rattle.ptmerge.proofs.Common.{join_key, pair_entries, Lines, Cmp, Key, Output, PushEffect, Reader, Slots, line}
+use Rattle.ptmerge.proofs.Common.{unlines, MergeFault, Sorted, ReadGroupLineOkPost, ReadGroupLinePost, IsGroup}
+use Rattle.ptmerge.proofs.Common.{ClearGroupPost, group_end_slot, group_first_slot, group, IsReadyToContinue}
+use Rattle.ptmerge.proofs.Common.{AdvanceOkPost, JoinLinePre, AdvancePre, MergeState, MergePost, both, with_side}
+use Rattle.ptmerge.proofs.Common.{⊎_elim, ◌-◌, ◌==◌, push_trans, other, nat_tests, length_push, unlines-append}
+use Rattle.ptmerge.proofs.Common.{append_assoc, Bool, cond, entries_by_key, merged_entries, nil_from_length}
+use Rattle.ptmerge.proofs.Common.{CopyToGroupPost, ReadGroupLineErrPost, false≢true}
+use Rattle.ptmerge.proofs.JoinLemmas.Iteration.{ReadGroup, IsGroupIn, IsOneForAll, IterationInvariant, ExitPost}
+use Rattle.ptmerge.proofs.JoinLemmas.Iteration.{WritePairs, join_call_of, end_in, joins, exit_post, slots, advance_pre}
+use Rattle.ptmerge.proofs.JoinLemmas.Iteration.{iteration_continues}
+use Rattle.ptmerge.proofs.MergeLemmas.Step.{next_keeps_slot_count, same_state, wrote_as, next_error_keeps_slot_count}
+use Rattle.ptmerge.proofs.MergeLemmas.Step.{IsAbove, valid_cursors_kept, wrote_and_sent, AdvanceErrPost}
+use Rattle.ptmerge.proofs.JoinLemmas.GroupInvariant.{JoinCall, state_after_read, fits_kept, not_failed, IsAtGroupLine}
+use Rattle.ptmerge.proofs.JoinLemmas.GroupInvariant.{AdvancedGroup, GroupState, closes, continues_key, leaves_key}
+use Rattle.ptmerge.proofs.JoinLemmas.GroupInvariant.{advanced_group, group_breaks, with_added_line, is_past, next_slots}
+use Rattle.ptmerge.proofs.JoinLemmas.GroupInvariant.{others_stay, passing, extends, front_is_not_all, has_entries}
+use Rattle.ptmerge.proofs.JoinLemmas.GroupInvariant.{group_begun, same_cursors, group_read_facts, starts, none_failed}
+use Rattle.ptmerge.proofs.JoinLemmas.GroupInvariant.{within_more, group_kept, last_stays, own_more, size_of}
+use Rattle.ptmerge.proofs.JoinLemmas.GroupInvariant.{starts_none, with_head, OutputStartsWith, group_exit}
 use Rattle.ptmerge.specs.declared.tools.join.JoinPhase.{JoinPhase}
-use Rattle.ptmerge.proofs.JoinLemmas.GroupSlots.{group_is, kept_line, group_store_cleared, low_slot, group_one, InGroup, largest_group, CopiedLine, group_in, group_store_copied}
+use Rattle.ptmerge.proofs.JoinLemmas.GroupSlots.{group_is, kept_line, group_store_cleared, low_slot, group_one, InGroup}
+use Rattle.ptmerge.proofs.JoinLemmas.GroupSlots.{largest_group, CopiedLine, group_in, group_store_copied}
 use Rattle.ptmerge.proofs.MergeLemmas.Invariant.{all_keys}
 use Rattle.ptmerge.proofs.MergeLemmas.LinesRead.{Continues, reads_nothing}
 use Rattle.ptmerge.proofs.MergeLemmas.Orders.{EachKey-at}
@@ -24,7 +38,8 @@ read_group_slots fault (inl e) = omega (arith, next_keeps_slot_count _ _ _ _ _ _
 read_group_slots {cursor = cursor} {was = was} {is = is} {before = before} {after = after} fault (inr e) =
     omega (arith, next_error_keeps_slot_count Second cursor was is before after fault e)
 
-module _ {job : Join} {cmp : Cmp} {key : Side → Key} {old : MergeState} {phase : JoinPhase} {now : MergeState} {one two : Sorted} {end : ℕ}
+module _ {job : Join} {cmp : Cmp} {key : Side → Key} {old : MergeState} {phase : JoinPhase} {now : MergeState}
+    {one two : Sorted} {end : ℕ}
     (t : IterationInvariant job cmp key old phase now one two end) where
   open t.opened.w use {o}
 
@@ -60,7 +75,8 @@ module _ {job : Join} {cmp : Cmp} {key : Side → Key} {old : MergeState} {phase
       wrote_none = wrote_and_sent _ _ _ _ t.clean (rw (call.laws.none a.k a.g) at a.q.wrote) written_out
 
       -- the second input advanced
-      module _ {reader : Reader} {two2 : Sorted} {made : Slots} (comes : NextOkPost (key Second) cmp two two2 (now.reader Second) reader now.store made) where
+      module _ {reader : Reader} {two2 : Sorted} {made : Slots}
+          (comes : NextOkPost (key Second) cmp two two2 (now.reader Second) reader now.store made) where
         on_second : AdvancedGroup at_second comes out
         on_second = advanced_group at_second comes (rw (call.laws.none a.k (a.g ++ y ∷ [])) wrote_none)
 
@@ -146,14 +162,17 @@ module _ {job : Join} {cmp : Cmp} {key : Side → Key} {old : MergeState} {phase
           all_copied_too : a.kept ++ y ∷ [] ≡ a.g ++ y ∷ []
           all_copied_too = ap (λ (l : Lines). l ++ y ∷ []) (all_copied keeps)
 
-          reads_more : two2.same ≡ true → ReadGroup call (state_after_read now Second reader out after) (with_side Second two2 (both one two)) (end + 1)
+          reads_more : two2.same ≡ true
+              → ReadGroup call (state_after_read now Second reader out after) (with_side Second two2 (both one two))
+              (end + 1)
           reads_more more =
               reads_by after kept_too.same group_on more (all_copied_too ∙ sym (λ i. cond (keeps i) (a.g ++ y ∷ []) []))
 
       module _ {one2 two2 : Sorted} {reader : Reader} {after : Slots} {to : ℕ}
           (h : ReadGroupLineOkPost call.keeps_groups (key Second) cmp two two2 (now.reader Second) reader now.store
           after end to) (continues : IsReadyToContinue key Second one two one2 two2 reader after out) where
-        pub read_group_continues : two2.same ≡ true → IterationInvariant job cmp key old phase (state_after_read now Second reader out after) one2 two2 to
+        pub read_group_continues : two2.same ≡ true
+            → IterationInvariant job cmp key old phase (state_after_read now Second reader out after) one2 two2 to
         read_group_continues same = iteration_continues t {next = phase} Second continues (rw is (⊎_elim (λ e.
             let without = ⊎_elim (λ none. none) (λ (differs, _). absurd (false≢true (sym differs ∙ same))) e.alone in
             rw (e.end_is, e.store_is) (reads_by h.came _ (λ i low. refl) (on_second h.came).group same
@@ -193,7 +212,8 @@ module _ {job : Join} {cmp : Cmp} {key : Side → Key} {old : MergeState} {phase
           (elim [ First ↦ omega arith | Second ↦ omega (arith, length_push a.g y) ]))
 
       -- a line could not be copied, or the next one could not be read
-      read_group_fault : {two2 : Sorted} {reader : Reader} {after : Slots} → out.write_failed ≡ false → (fault : MergeFault)
+      read_group_fault : {two2 : Sorted} {reader : Reader} {after : Slots} → out.write_failed ≡ false
+          → (fault : MergeFault)
           → ReadGroupLineErrPost call.keeps_groups (key Second) cmp two two2 (now.reader Second) reader now.store after
           end fault → MergePost (join_with job cmp key) old (state_after_read now Second reader out after) (Err fault)
       read_group_fault fine fault (inl e) =
@@ -219,9 +239,12 @@ module _ {job : Join} {cmp : Cmp} {key : Side → Key} {old : MergeState} {phase
               length_push a.g y,
             ),
           )))
-      read_group_fault {reader = reader} fine fault (inr e) = group_breaks at_second fine (starts_none call (within_more at_second)) wrote_none reader fault e
+      read_group_fault {reader = reader} fine fault (inr e) = group_breaks at_second fine
+          (starts_none call (within_more at_second)) wrote_none reader fault e
 
-      pub read_group_fails : {two2 : Sorted} {reader : Reader} {after : Slots} {fault : MergeFault} {r : Result (Unit {0}) MergeFault} → r ≡ Err fault
+      pub read_group_fails : {two2 : Sorted} {reader : Reader} {after : Slots} {fault : MergeFault}
+          {r : Result (Unit {0}) MergeFault}
+          → r ≡ Err fault
           → ReadGroupLinePost call.keeps_groups (key Second) cmp two two2 (now.reader Second) reader now.store after out
           end (Err fault) → ExitPost job cmp key old (state_after_read now Second reader out after) r
       read_group_fails {reader = reader} is_fault (inl (is_write, e)) = exit_post t is_fault
@@ -249,12 +272,14 @@ module _ {job : Join} {cmp : Cmp} {key : Side → Key} {old : MergeState} {phase
     is_alone none = let four : end ≡ 4 = omega (arith, r.q.at, ap length none) in grind (arith, nat_tests)
 
     -- the lines of the group have its key
-    keyed_slot : (slot : ℕ) → group_first_slot two end ≤ slot → slot < group_end_slot two end → key Second (line now.store slot) ≡ r.k
+    keyed_slot : (slot : ℕ) → group_first_slot two end ≤ slot → slot < group_end_slot two end
+        → key Second (line now.store slot) ≡ r.k
     keyed_slot slot from low = ⊎_elim (λ same.
         let least : 4 ≤ slot = rw (is_kept same) at from in
         let most : slot < end = rw (is_kept same) at low in
         ap (key Second) (kept_line r.q.keeps slot least (omega (arith, most, r.q.at)))
-        ∙ EachKey-at (λ x. x ≡ r.k) (key Second) r.kept (slot - 4) (omega (arith, least, most, r.q.at)) (rw same (r.q.within.own Second)))
+        ∙ EachKey-at (λ x. x ≡ r.k) (key Second) r.kept (slot - 4) (omega (arith, least, most, r.q.at))
+        (rw same (r.q.within.own Second)))
         (λ h.
         let least : two.previous_slot ≤ slot = rw (is_alone h.none) at from in
         let most : slot < two.previous_slot + 1 = rw (is_alone h.none) at low in
@@ -273,7 +298,8 @@ module _ {job : Join} {cmp : Cmp} {key : Side → Key} {old : MergeState} {phase
         (omega (arith, r.q.keeps.four, (low_slot Second two (slots t Second)).previous))) in
         ap (λ (l : Lines). pair_entries job r.k f l) one ∙ h.same_pairs f) r.lines_in
 
-    pub write_pairs_group : IsGroup (join_key job Second) two now.store end (key First (line now.store one.current_slot))
+    pub write_pairs_group : IsGroup (join_key job Second) two now.store end
+        (key First (line now.store one.current_slot))
     write_pairs_group = record {
       within = end_in t;
       keyed = λ slot from low. sym
@@ -303,8 +329,8 @@ module _ {job : Join} {cmp : Cmp} {key : Side → Key} {old : MergeState} {phase
           (pair_entries job r.k (r.g First ++ z) (r.g Second))
       begins = starts call (within_more at_first) r.some r.above
 
-      pub pair_fails : {reader : Reader} {after : Slots} {fault : MergeFault} {r : Result (Unit {0}) MergeFault} → r ≡ Err fault
-          → AdvanceErrPost First one (now.reader First) reader now.store after new fault
+      pub pair_fails : {reader : Reader} {after : Slots} {fault : MergeFault} {r : Result (Unit {0}) MergeFault}
+          → r ≡ Err fault → AdvanceErrPost First one (now.reader First) reader now.store after new fault
           → ExitPost job cmp key old (state_after_read now First reader new after) r
       pair_fails {reader} is_fault (inl (is_write, e)) = exit_post t is_fault
           (omega (arith, ap (λ (z : Slots). length z.lines) e.store)) (same_state _ _ First now _ reader _ _ is_write e
@@ -334,7 +360,8 @@ module _ {job : Join} {cmp : Cmp} {key : Side → Key} {old : MergeState} {phase
         pub group_there : (4 ≤ end) × (end ≤ length after.lines)
         group_there = omega (arith, end_in t, next_keeps_slot_count _ _ _ _ _ _ _ _ h.came)
 
-        pub write_pairs_continues : one2.same ≡ true → IterationInvariant job cmp key old phase (state_after_read now First reader new after) one2 two2 end
+        pub write_pairs_continues : one2.same ≡ true
+            → IterationInvariant job cmp key old phase (state_after_read now First reader new after) one2 two2 end
         write_pairs_continues same = iteration_continues t {next = phase} First h.continues (rw is (record {
           k = r.k;
           g = with_added_line now (both one two) First r.g;

@@ -1,19 +1,26 @@
 -- The store of `join`: the slots 0 to 3 hold two lines of each input, and the slots from 4 on hold the group. Reading a
 -- line or copying one changes one slot, so the bytes stored are the sum of both parts. The group is a part of the lines
 -- of one key, so it is bounded by the largest group.
-use Rattle.ptmerge.proofs.Common.{◌≡◌, ⊎_elim, inl, inr, ℕ, ◌+◌, ◌-◌, ◌≤◌, ◌<◌, suc, true, false, length-drop, List, [], ◌∷◌, ◌++◌, length, map, take, drop, get_or, set, max, refl, sym, ap, ◌∙◌}
-use Rattle.ptmerge.proofs.Common.{subst, arith, ◌*◌, cond, Option, append_assoc, length-append, append-nil, length-set, drop_more, get_or-drop, drop-set-add, take_more, length_push, drop-append-le}
-use Rattle.ptmerge.proofs.Common.{drop-set-lt, set_at, take_at, bytes_eq, sum_by_push, sum_by-append, sum_by-cons, Slots, line, total_bytes, with_line, with_denied, unlines, max_length, total_bytes_set, Join}
-use Rattle.ptmerge.proofs.Common.{ClearGroupPost, EnsureSlotPost, CopyToGroupErrPost, group, CopyToGroupPost, entry, join_fields, pair_entries, max_over_keys, max_group_bytes, max_group_lines, Lines, lines_with_key, Reader, Side}
-use Rattle.ptmerge.proofs.Common.{First, Second, Sorted, Cmp, Key, HasSlots, with_side}
-use Rattle.ptmerge.proofs.MergeLemmas.Slots.{line_other, HasLines, StoreOfLines, has_lines_total, set_line, put_each, put_same}
+use Rattle.ptmerge.proofs.Common.{◌≡◌, ⊎_elim, inl, inr, ℕ, ◌+◌, ◌-◌, ◌≤◌, ◌<◌, suc, true, false, length-drop, List, []}
+use Rattle.ptmerge.proofs.Common.{◌∷◌, ◌++◌, length, map, take, drop, get_or, set, max, refl, sym, ap, ◌∙◌, subst}
+use Rattle.ptmerge.proofs.Common.{arith, ◌*◌, cond, Option, append_assoc, length-append, append-nil, length-set}
+use Rattle.ptmerge.proofs.Common.{drop_more, get_or-drop, drop-set-add, take_more, length_push, drop-append-le}
+use Rattle.ptmerge.proofs.Common.{drop-set-lt, set_at, take_at, bytes_eq, sum_by_push, sum_by-append, sum_by-cons}
+use Rattle.ptmerge.proofs.Common.{Slots, line, total_bytes, with_line, with_denied, unlines, max_length}
+use Rattle.ptmerge.proofs.Common.{total_bytes_set, Join, ClearGroupPost, EnsureSlotPost, CopyToGroupErrPost, group}
+use Rattle.ptmerge.proofs.Common.{CopyToGroupPost, entry, join_fields, pair_entries, max_over_keys, max_group_bytes}
+use Rattle.ptmerge.proofs.Common.{max_group_lines, Lines, lines_with_key, Reader, Side, First, Second, Sorted, Cmp, Key}
+use Rattle.ptmerge.proofs.Common.{HasSlots, with_side}
+use Rattle.ptmerge.proofs.MergeLemmas.Slots.{line_other, HasLines, StoreOfLines, has_lines_total, set_line, put_each}
+use Rattle.ptmerge.proofs.MergeLemmas.Slots.{put_same}
 use Rattle.std.proofs.Math.ListN.{get_or-append}
 use Rattle.ptmerge.proofs.MergeLemmas.Orders.{EachKey, same_bytes}
 use Rattle.ptmerge.proofs.MergeLemmas.Exits.{SideAfterNext}
 use Rattle.ptmerge.proofs.MergeLemmas.Step.{own_slots, slot_low}
 
 -- the lines of the group, from a slot on
-pub group_from : (store : Slots) (end slot : ℕ) → end ≤ length store.lines → slot < end → group store slot end ≡ line store slot ∷ group store (slot + 1) end
+pub group_from : (store : Slots) (end slot : ℕ) → end ≤ length store.lines → slot < end
+    → group store slot end ≡ line store slot ∷ group store (slot + 1) end
 group_from store end slot fits low =
     let more : end - slot ≡ suc (end - (slot + 1)) = omega arith in
     rw more (ap (λ (l : Lines). take (suc (end - (slot + 1))) l) (drop_more store.lines slot [] (omega arith)))
@@ -28,10 +35,12 @@ group_more store from end least within =
     let next : (end + 1) - from ≡ (end - from) + 1 = omega arith in
     let back : from + (end - from) ≡ end = omega arith in
     ap (λ n. take n rest) next ∙ take_more rest (end - from) [] (omega (arith, length-drop from store.lines))
-    ∙ ap (λ (l : List ℕ). take (end - from) rest ++ l ∷ []) (get_or-drop from store.lines (end - from) [] ∙ ap (λ i. get_or store.lines i []) back)
+    ∙ ap (λ (l : List ℕ). take (end - from) rest ++ l ∷ [])
+    (get_or-drop from store.lines (end - from) [] ∙ ap (λ i. get_or store.lines i []) back)
 
 -- the lines of one slot
-pub group_one : (store : Slots) (slot : ℕ) → slot < length store.lines → group store slot (slot + 1) ≡ line store slot ∷ []
+pub group_one : (store : Slots) (slot : ℕ) → slot < length store.lines
+    → group store slot (slot + 1) ≡ line store slot ∷ []
 group_one store slot within = let none : slot - slot ≡ 0 = omega arith in
     group_more store slot slot (omega arith) within ∙ ap (λ n. take n (drop slot store.lines) ++ line store slot ∷ [])
     none
@@ -49,7 +58,15 @@ pairs_text job end x k g asked = rw asked (ap (unlines end) (append-nil (map (pa
 -- ---- emptying the group
 
 pub clears_none : (s : Slots) → ClearGroupPost s s 4
-clears_none s = record { slots = refl; others = λ i _. refl; emptied = omega arith; less = omega arith; peak = omega arith; denied = refl }
+clears_none s =
+    record {
+      slots = refl;
+      others = λ i _. refl;
+      emptied = omega arith;
+      less = omega arith;
+      peak = omega arith;
+      denied = refl;
+    }
 
 pub clears_more : (a s t : Slots) (slot : ℕ) → 4 ≤ slot → slot < length a.lines → ClearGroupPost a s slot
     → t ≡ with_line s slot [] → ClearGroupPost a t (slot + 1)
@@ -59,12 +76,14 @@ clears_more a s t slot from within c is =
     let back : 4 + (slot - 4) ≡ slot = omega arith in
     let at : get_or rest (slot - 4) [] ≡ line a slot = get_or-drop 4 s.lines (slot - 4) []
     ∙ ap (λ i. get_or s.lines i []) back ∙ c.others slot (inr (omega arith)) in
-    let d : drop 4 (set s.lines slot []) ≡ set rest (slot - 4) [] = ap (λ i. drop 4 (set s.lines i [])) (sym back) ∙ drop-set-add 4 s.lines (slot - 4) [] in
+    let d : drop 4 (set s.lines slot []) ≡ set rest (slot - 4) [] = ap (λ i. drop 4 (set s.lines i [])) (sym back)
+    ∙ drop-set-add 4 s.lines (slot - 4) [] in
     let here = total_bytes_set rest (slot - 4) [] (omega (arith, c.slots, length-drop 4 s.lines)) in
     let grows = ap total_bytes (group_more a 4 slot from within) ∙ sum_by_push length (group a 4 slot) (line a slot) in
     rw is (record {
       slots = length-set s.lines slot [] ∙ c.slots;
-      others = λ i far. line_other s slot i [] (λ e. absurd (omega (arith, e, far))) ∙ c.others i (⊎_elim (λ h. inl h) (λ h. inr (omega (arith, h))) far);
+      others = λ i far. line_other s slot i [] (λ e. absurd (omega (arith, e, far)))
+          ∙ c.others i (⊎_elim (λ h. inl h) (λ h. inr (omega (arith, h))) far);
       emptied = omega (arith, here, ap total_bytes d, ap length at, c.emptied, grows);
       less = omega (arith, all, c.less);
       peak = omega (arith, all, c.less, c.peak);
@@ -84,7 +103,8 @@ record EnsuredSlot (before made : Slots) (slot : ℕ) : Type 0 where
 
 ensured_slot : (before made : Slots) (slot : ℕ) → EnsureSlotPost before made slot → EnsuredSlot before made slot
 ensured_slot before made slot g =
-    let kept : slot < length before.lines → length made.lines ≡ length before.lines = λ low. ap (λ (s : Slots). length s.lines) (g.there low) in
+    let kept : slot < length before.lines → length made.lines ≡ length before.lines =
+    λ low. ap (λ (s : Slots). length s.lines) (g.there low) in
     ⊎_elim (λ e.
     let same = ap (λ (s : Slots). length s.lines) e in
     record {
@@ -106,7 +126,8 @@ ensured_slot before made slot g =
       denied = rw e refl;
     }) g.grown
 
-pub failed_copy : (before made : Slots) (to : ℕ) → EnsureSlotPost before made to → CopyToGroupErrPost before (with_denied (with_line made to [])) to
+pub failed_copy : (before made : Slots) (to : ℕ) → EnsureSlotPost before made to
+    → CopyToGroupErrPost before (with_denied (with_line made to [])) to
 failed_copy before made to g =
     let w = ensured_slot before made to g in
     let size = length-set made.lines to [] in
@@ -114,7 +135,15 @@ failed_copy before made to g =
       denied = refl;
       most = omega (arith, size, w.slots);
       slots = omega (arith, size, w.slots);
-      peak = omega (arith, w.peak, w.empty, ap total_bytes w.lines, sum_by-append length before.lines w.more, total_bytes_set made.lines to [] g.within);
+      peak =
+          omega (
+            arith,
+            w.peak,
+            w.empty,
+            ap total_bytes w.lines,
+            sum_by-append length before.lines w.more,
+            total_bytes_set made.lines to [] g.within,
+          );
     }
 
 -- ---- the largest group
@@ -127,21 +156,25 @@ record IsLineMeasure (m : Lines → ℕ) : Type 0 where
 
 module _ (m : Lines → ℕ) (laws : IsLineMeasure m) (key : Key) where
   -- lines of one key are at most all lines with this key
-  group_measure_max : (k : List ℕ) (p g c : Lines) → EachKey (λ x. x ≡ k) key g → m g ≤ m (lines_with_key key (p ++ (g ++ c)) k)
+  group_measure_max : (k : List ℕ) (p g c : Lines) → EachKey (λ x. x ≡ k) key g
+      → m g ≤ m (lines_with_key key (p ++ (g ++ c)) k)
   group_measure_max k [] [] c e = omega (arith, laws.none)
   group_measure_max k [] (x ∷ g) c (here, more) = rw (same_bytes here)
       (omega (arith, laws.more x g, laws.more x (lines_with_key key (g ++ c) k), group_measure_max k [] g c more))
   group_measure_max k (x ∷ p) g c e =
       let ih = group_measure_max k p g c e in
       let ls : Lines = lines_with_key key (p ++ (g ++ c)) k in
-      elim (bytes_eq (key x) k) as (λ t. m g ≤ m (cond t (x ∷ ls) ls)) [ true ↦ omega (arith, ih, laws.more x ls) | false ↦ ih ]
+      elim (bytes_eq (key x) k) as (λ t. m g ≤ m (cond t (x ∷ ls) ls))
+      [ true ↦ omega (arith, ih, laws.more x ls) | false ↦ ih ]
 
-  greatest_has : (ls p : Lines) (y : List ℕ) (w : Lines) → m (lines_with_key key ls (key y)) ≤ max_over_keys m key ls (p ++ y ∷ w)
+  greatest_has : (ls p : Lines) (y : List ℕ) (w : Lines)
+      → m (lines_with_key key ls (key y)) ≤ max_over_keys m key ls (p ++ y ∷ w)
   greatest_has ls [] y w = omega arith
   greatest_has ls (x ∷ p) y w = omega (arith, greatest_has ls p y w)
 
   -- lines of one key are at most the largest group
-  measure_in : (k : List ℕ) (p g : Lines) (y : List ℕ) (w : Lines) → EachKey (λ x. x ≡ k) key (g ++ y ∷ []) → key y ≡ k → m (g ++ y ∷ [])
+  measure_in : (k : List ℕ) (p g : Lines) (y : List ℕ) (w : Lines) → EachKey (λ x. x ≡ k) key (g ++ y ∷ []) → key y ≡ k
+      → m (g ++ y ∷ [])
       ≤ max_over_keys m key (((p ++ g) ++ y ∷ []) ++ w) (((p ++ g) ++ y ∷ []) ++ w)
   measure_in k p g y w own is =
       let in_group : m (g ++ y ∷ []) ≤ m (lines_with_key key ((p ++ g) ++ y ∷ w) (key y)) = rw
@@ -165,7 +198,8 @@ pub group_in : (key : Key) (k : List ℕ) (p g : Lines) (y : List ℕ) (w : Line
     → key y ≡ k
     → InGroup (largest_group key) (g ++ y ∷ []) (((p ++ g) ++ y ∷ []) ++ w)
 group_in key k p g y w own is = (
-  measure_in total_bytes (record { weight = length; none = refl; more = λ x xs. sum_by-cons length x xs }) key k p g y w own is,
+  measure_in total_bytes (record { weight = length; none = refl; more = λ x xs. sum_by-cons length x xs })
+      key k p g y w own is,
   measure_in length (record { weight = λ x. 1; none = refl; more = λ x xs. omega arith }) key k p g y w own is,
 )
 
@@ -242,8 +276,10 @@ pub group_store_line : {most : GroupBounds} {before store after : Slots} {ls now
     → Extends (ls Second) (now Second) → after ≡ with_line store cursor.previous_slot x
     → GroupStore most before after now g
 group_store_line {store = store} {after} {ls} {now} {g} s cursor slots x k up fit continues_key is =
-    let inside = set_line s cursor store.lines (λ side. max_length (ls side)) (λ side. max_length (now side)) (total_bytes g) x slots k.lines up fit in
-    let sum = has_lines_total (set store.lines cursor.previous_slot x) (λ side. max_length (now side)) (total_bytes g) inside in
+    let inside = set_line s cursor store.lines (λ side. max_length (ls side)) (λ side. max_length (now side))
+    (total_bytes g) x slots k.lines up fit in
+    let sum = has_lines_total (set store.lines cursor.previous_slot x) (λ side. max_length (now side))
+    (total_bytes g) inside in
     let size = length-set store.lines cursor.previous_slot x in
     rw is (record {
       tail = k.tail;
@@ -273,7 +309,8 @@ pub group_store_next : {most : GroupBounds} {own : Key} {before store after : Sl
     cursor.previous_slot store after (ls s) last) → GroupStore most before after (with_side s n.now_ls ls) g
 group_store_next {ls = ls} s cursor slots k n = group_store_line s cursor slots n.bytes k
     (put_each (λ side (l : Lines). max_length (ls side) ≤ max_length l) s n.now_ls ls n.longer (λ side. omega arith))
-    (subst (λ (l : Lines). length n.bytes ≤ max_length l) (sym (put_same s n.now_ls ls)) n.fits) (put_more s ls n.now_ls n.more n.continues_key) n.stored
+    (subst (λ (l : Lines). length n.bytes ≤ max_length l) (sym (put_same s n.now_ls ls)) n.fits)
+    (put_more s ls n.now_ls n.more n.continues_key) n.stored
 
 module _ {most : GroupBounds} {before store : Slots} {ls : Side → Lines} {g : Lines}
     (k : GroupStore most before store ls g) where
@@ -284,7 +321,8 @@ module _ {most : GroupBounds} {before store : Slots} {ls : Side → Lines} {g : 
 
   module _ {made : Slots} {to : ℕ} (w : EnsuredSlot store made to) where
     made_same : (i : ℕ) → i < 4 → line made i ≡ line store i
-    made_same i low = ap (λ (l : Lines). get_or l i []) w.lines ∙ get_or-append store.lines w.more [] i (omega (arith, k.four, low))
+    made_same i low = ap (λ (l : Lines). get_or l i []) w.lines
+        ∙ get_or-append store.lines w.more [] i (omega (arith, k.four, low))
 
     module _ (y : List ℕ) (at : to ≡ 4 + length g) (within : to < length made.lines)
         (largest : (l : Lines) → InGroup most (g ++ y ∷ []) (ls Second ++ l)) where
@@ -296,7 +334,8 @@ module _ {most : GroupBounds} {before store : Slots} {ls : Side → Lines} {g : 
           → GroupStore most before (with_line made to y) ls (g ++ y ∷ [])
       by_tail [] none some is = absurd (omega (arith, some, length-append g []))
       by_tail (z ∷ t) none some is =
-          let split : drop 4 (set made.lines to y) ≡ (g ++ y ∷ []) ++ t = is ∙ set_at g z t y (length g) refl ∙ sym (append_assoc g (y ∷ []) t) in
+          let split : drop 4 (set made.lines to y) ≡ (g ++ y ∷ []) ++ t = is ∙ set_at g z t y (length g) refl
+          ∙ sym (append_assoc g (y ∷ []) t) in
           let empty : total_bytes t ≡ 0 = omega (arith, none, sum_by-cons length z t) in
           let sum : total_bytes (drop 4 (set made.lines to y)) ≡ total_bytes (g ++ y ∷ []) = omega
           (arith, ap total_bytes split, sum_by-append length (g ++ y ∷ []) t, empty) in
@@ -311,7 +350,8 @@ module _ {most : GroupBounds} {before store : Slots} {ls : Side → Lines} {g : 
             lines = inside;
             bounds = λ all more e.
                 let within : InGroup most (g ++ y ∷ []) all = rw e (largest more) in
-                let all_lines = has_lines_total (set made.lines to y) (λ side. max_length (ls side)) (total_bytes (g ++ y ∷ [])) inside in
+                let all_lines = has_lines_total (set made.lines to y) (λ side. max_length (ls side))
+                (total_bytes (g ++ y ∷ [])) inside in
                 omega (arith, within, at, k.bounds all more e, w.peak, w.slots, all_lines.most, size, length_push g y);
             least = omega (arith, k.least, w.slots, size);
             four = four;
@@ -342,7 +382,8 @@ module _ {most : GroupBounds} {before store : Slots} {ls : Side → Lines} {g : 
   kept_line slot from low =
       let back : 4 + (slot - 4) ≡ slot = omega arith in
       sym (ap (λ i. get_or store.lines i []) back) ∙ sym (get_or-drop 4 store.lines (slot - 4) [])
-      ∙ ap (λ (l : Lines). get_or l (slot - 4) []) k.split ∙ get_or-append g k.tail [] (slot - 4) (omega (arith, from, low))
+      ∙ ap (λ (l : Lines). get_or l (slot - 4) []) k.split
+      ∙ get_or-append g k.tail [] (slot - 4) (omega (arith, from, low))
 
   pub group_is : {end : ℕ} → end ≡ 4 + length g → group store 4 end ≡ g
   group_is at = rw k.split (take_at g k.tail _ (omega (arith, at)))
@@ -362,7 +403,8 @@ module _ {most : GroupBounds} {before store : Slots} {ls : Side → Lines} {g : 
         tail = drop 4 after.lines;
         split = refl;
         empty = none;
-        lines = same_lines store.lines after.lines (λ side. max_length (ls side)) (total_bytes g) 0 k.lines four (λ i low. c.others i (inl low)) none;
+        lines = same_lines store.lines after.lines (λ side. max_length (ls side)) (total_bytes g) 0 k.lines four
+            (λ i low. c.others i (inl low)) none;
         bounds = λ all more e. omega (
           arith,
           c.peak,

@@ -1,17 +1,29 @@
 -- The loop invariant of `join`, and its iterations between two groups. Between groups the invariant is that of the
 -- merge. An iteration there writes one unpaired line, opens a group or ends the loop. The remaining work, three times
 -- the reads that are left plus the rank of the phase, decreases in each iteration.
-use Rattle.ptmerge.proofs.Common.{NextOkPost, ◌≡◌, ℕ, Bool, true, false, cond, List, [], ◌∷◌, ◌++◌, map, refl, ap, sym, ◌∙◌, ◌+◌, ◌*◌, ◌≤◌, ◌<◌, Result, Ok, Err, length, subst, arith, append-nil}
-use Rattle.ptmerge.proofs.Common.{flat_map-append, Join, Side, First, Second, unpaired_entries1, unpaired_entries2, unpaired_entry, entry, join_fields, join_with, join_entries, join_key, pair_entries, Lines, entries_by_key, Cmp}
-use Rattle.ptmerge.proofs.Common.{Key, Output, PushEffect, Reader, Slots, line, unlines, MergeFault, Sorted, Head, Ended, AddedAtLeast, IsReadyToContinue, AdvanceOkPost, MergeState, MergePost, IsMergeUnread, merge_state, HasSlots, both, with_side}
-use Rattle.ptmerge.proofs.Common.{HaveEqualKeys, StartErrPost, HasOnlyLeastKey, IsDisorderDecided, IsReaderOf, AreValidCursors, StartOkPost, merge_inputs, ClearFourSlotsPost, ◌⊎◌, MergeRunPre, JoinStepPre, AdvancePre, push_nothing, other, if◌then◌else◌, max_group_bytes, max_group_lines}
-use Rattle.ptmerge.proofs.MergeLemmas.Step.{open_merge, slots_of, wrote_as, IsLineByLine, alone, current_key_is_above, IsOpenMerge as OpenMerge, write_one_line, IsAbove, reads_ahead, measure_less, own_reader_kept, place_is, LoopInvariant, CursorsInvariant}
-use Rattle.ptmerge.proofs.MergeLemmas.Step.{AdvanceErrPost, advance_keeps_slot_count, iteration_fails, read_facts_current, runs_on, n, ends_well, ends_fallen}
+use Rattle.ptmerge.proofs.Common.{NextOkPost, ◌≡◌, ℕ, Bool, true, false, cond, List, [], ◌∷◌, ◌++◌, map, refl, ap, sym}
+use Rattle.ptmerge.proofs.Common.{◌∙◌, ◌+◌, ◌*◌, ◌≤◌, ◌<◌, Result, Ok, Err, length, subst, arith, append-nil}
+use Rattle.ptmerge.proofs.Common.{flat_map-append, Join, Side, First, Second, unpaired_entries1, unpaired_entries2}
+use Rattle.ptmerge.proofs.Common.{unpaired_entry, entry, join_fields, join_with, join_entries, join_key, pair_entries}
+use Rattle.ptmerge.proofs.Common.{Lines, entries_by_key, Cmp, Key, Output, PushEffect, Reader, Slots, line, unlines}
+use Rattle.ptmerge.proofs.Common.{MergeFault, Sorted, Head, Ended, AddedAtLeast, IsReadyToContinue, AdvanceOkPost}
+use Rattle.ptmerge.proofs.Common.{MergeState, MergePost, IsMergeUnread, merge_state, HasSlots, both, with_side}
+use Rattle.ptmerge.proofs.Common.{HaveEqualKeys, StartErrPost, HasOnlyLeastKey, IsDisorderDecided, IsReaderOf}
+use Rattle.ptmerge.proofs.Common.{AreValidCursors, StartOkPost, merge_inputs, ClearFourSlotsPost, ◌⊎◌, MergeRunPre}
+use Rattle.ptmerge.proofs.Common.{JoinStepPre, AdvancePre, push_nothing, other, if◌then◌else◌, max_group_bytes}
+use Rattle.ptmerge.proofs.Common.{max_group_lines}
+use Rattle.ptmerge.proofs.MergeLemmas.Step.{open_merge, slots_of, wrote_as, IsLineByLine, alone, current_key_is_above}
+use Rattle.ptmerge.proofs.MergeLemmas.Step.{IsOpenMerge as OpenMerge, write_one_line, IsAbove, reads_ahead}
+use Rattle.ptmerge.proofs.MergeLemmas.Step.{measure_less, own_reader_kept, place_is, LoopInvariant, CursorsInvariant}
+use Rattle.ptmerge.proofs.MergeLemmas.Step.{AdvanceErrPost, advance_keeps_slot_count, iteration_fails}
+use Rattle.ptmerge.proofs.MergeLemmas.Step.{read_facts_current, runs_on, n, ends_well, ends_fallen}
 use Rattle.std.specs.List.{flat_map}
-use Rattle.ptmerge.proofs.JoinLemmas.GroupInvariant.{IsPairTool, IsAtKey, head_of, JoinCall, state_after_read, GroupState, store_between_groups}
+use Rattle.ptmerge.proofs.JoinLemmas.GroupInvariant.{IsPairTool, IsAtKey, head_of, JoinCall, state_after_read}
+use Rattle.ptmerge.proofs.JoinLemmas.GroupInvariant.{GroupState, store_between_groups}
 use Rattle.ptmerge.proofs.MergeLemmas.Invariant.{all_keys, AtLeast, LagInvariant, MergeInvariant, Bound}
 use Rattle.ptmerge.specs.declared.tools.join.JoinPhase.{JoinPhase}
-use Rattle.ptmerge.proofs.JoinLemmas.GroupSlots.{GroupBounds, end_within, pair_of, GroupStore, group_store_next, group_store_starts}
+use Rattle.ptmerge.proofs.JoinLemmas.GroupSlots.{GroupBounds, end_within, pair_of, GroupStore, group_store_next}
+use Rattle.ptmerge.proofs.JoinLemmas.GroupSlots.{group_store_starts}
 use Rattle.ptmerge.proofs.MergeLemmas.Orders.{IsKeyOrder, same_bytes, self_at_most}
 use Rattle.ptmerge.proofs.MergeLemmas.Slots.{put_other, put_same}
 use Rattle.ptmerge.proofs.MergeLemmas.Start.{start_fault, start_ok, start_unread, start_slots}
@@ -39,8 +51,10 @@ module _ (job : Join) (cmp : Cmp) (key : Side → Key) where
     none = λ k. cond_of_empty job.unpaired2;
     first = λ k x g.
         let of = λ (a : List ℕ). entry job k (join_fields job.separator a) [] in
-        cond_of_append job.unpaired1 (of x ∷ []) (map of g) ∙ ap (λ l. unpaired_entries1 job k (x ∷ []) ++ l) (sym (first_alone k g));
-    second = λ k x g. let of = λ (b : List ℕ). entry job k [] (join_fields job.separator b) in cond_of_append job.unpaired2 (of x ∷ []) (map of g);
+        cond_of_append job.unpaired1 (of x ∷ []) (map of g)
+        ∙ ap (λ l. unpaired_entries1 job k (x ∷ []) ++ l) (sym (first_alone k g));
+    second = λ k x g. let of = λ (b : List ℕ). entry job k [] (join_fields job.separator b) in
+        cond_of_append job.unpaired2 (of x ∷ []) (map of g);
   }
 
   -- the bounds of a group, if pairs are written; otherwise none is kept
@@ -56,7 +70,8 @@ module _ (job : Join) (cmp : Cmp) (key : Side → Key) where
     none = λ k g. cond_of_empty job.pairs;
     more = λ k f g c.
         let each = λ (a : List ℕ). map (pair_of job k a) c in
-        ap (λ l. cond job.pairs l []) (flat_map-append each f g) ∙ cond_of_append job.pairs (flat_map each f) (flat_map each g);
+        ap (λ l. cond job.pairs l []) (flat_map-append each f g)
+        ∙ cond_of_append job.pairs (flat_map each f) (flat_map each g);
     whole = λ k a b f g. refl;
     written = λ keeps k a b f g. rw keeps (omega arith);
     unwritten = λ none k f g. rw none;
@@ -142,13 +157,14 @@ pub record IsOpenMerge (job : Join) (cmp : Cmp) (key : Side → Key) (old : Merg
   pub w : OpenMerge (join_with job cmp key) old
   pub keys : (side : Side) (x : List ℕ) → key side x ≡ join_key job side x
 
-pub opened : (job : Join) (cmp : Cmp) (key : Side → Key) {first second : Reader} {out : Output} {store : Slots} → IsKeyOrder cmp
-    → ((side : Side) (x : List ℕ) → key side x ≡ join_key job side x)
+pub opened : (job : Join) (cmp : Cmp) (key : Side → Key) {first second : Reader} {out : Output} {store : Slots}
+    → IsKeyOrder cmp → ((side : Side) (x : List ℕ) → key side x ≡ join_key job side x)
     → MergeRunPre job.terminator first second out store → IsOpenMerge job cmp key (merge_state first second out store)
 opened job cmp key o keys begins = record { w = open_merge o (λ ls. (omega arith, omega arith)) begins; keys = keys }
 
 -- the call
-abbrev pub join_call_of : {job : Join} {cmp : Cmp} {key : Side → Key} {old : MergeState} → IsOpenMerge job cmp key old → JoinCall
+abbrev pub join_call_of : {job : Join} {cmp : Cmp} {key : Side → Key} {old : MergeState} → IsOpenMerge job cmp key old
+    → JoinCall
 join_call_of {job} {cmp} {key} {old} a = record {
   tool = join_with job cmp key;
   o = a.w.o;
@@ -179,7 +195,8 @@ ExitPost job cmp key old new result = record {
 -- the invariant and the postconditions depend only on the order, and a call leaves the order of a merge unchanged
 module _ {K : Type 0} (order : K → Cmp) (key_of : K → Side → Key) {a b : K} where
   pub iteration_as : {job : Join} {old : MergeState} {phase : JoinPhase} {now : MergeState} {one two : Sorted} {end : ℕ}
-      → b ≡ a → IterationInvariant job (order a) (key_of a) old phase now one two end → IterationInvariant job (order b) (key_of b) old phase now one two end
+      → b ≡ a → IterationInvariant job (order a) (key_of a) old phase now one two end
+      → IterationInvariant job (order b) (key_of b) old phase now one two end
   iteration_as is t = rw is t
 
   pub exit_as : (job : Join) {old new : MergeState} {r : Result (Unit {0}) MergeFault}
@@ -198,15 +215,27 @@ module _ {job : Join} {cmp : Cmp} {key : Side → Key} {old : MergeState} (a : I
       let r = start_ok a.w (merge_inputs first second store) (both one two) valid_cursors.first starts in
       record {
         opened = a;
-        phased = (record { ls = r.ls; p = r.p; b = r.b; sides = r.sides; merge_invariant = r.merge_invariant; keeps = group_store_starts r.keeps }, refl);
+        phased = (
+          record {
+            ls = r.ls;
+            p = r.p;
+            b = r.b;
+            sides = r.sides;
+            merge_invariant = r.merge_invariant;
+            keeps = group_store_starts r.keeps;
+          },
+          refl,
+        );
         valid_cursors = valid_cursors;
         own_reader = elim [ First ↦ reader1 | Second ↦ reader2 ];
         clean = a.w.writable;
       }
 
   pub start_fails : {first second : Reader} {store : Slots} {fault : MergeFault}
-      → StartErrPost key cmp (record { reader = old.reader; store = old.store }) (record { reader = both first second; store = store }) fault
-      → {r : Result (Unit {0}) MergeFault} → r ≡ Err fault → ExitPost job cmp key old (merge_state first second old.out store) r
+      → StartErrPost key cmp (record { reader = old.reader; store = old.store })
+      (record { reader = both first second; store = store }) fault
+      → {r : Result (Unit {0}) MergeFault} → r ≡ Err fault
+      → ExitPost job cmp key old (merge_state first second old.out store) r
   start_fails {first} {second} {store} {fault} cannot is_fault =
       let adds = start_slots a.w cannot in
       rw is_fault (record {
@@ -215,7 +244,8 @@ module _ {job : Join} {cmp : Cmp} {key : Side → Key} {old : MergeState} (a : I
         slots = record { least = adds.least; all = λ fine. omega (arith, adds.all fine) };
       })
 
-module _ {job : Join} {cmp : Cmp} {key : Side → Key} {old : MergeState} {phase : JoinPhase} {now : MergeState} {one two : Sorted} {end : ℕ}
+module _ {job : Join} {cmp : Cmp} {key : Side → Key} {old : MergeState} {phase : JoinPhase} {now : MergeState}
+    {one two : Sorted} {end : ℕ}
     (t : IterationInvariant job cmp key old phase now one two end) where
   open t.opened.w use {o}
 
@@ -255,7 +285,8 @@ module _ {job : Join} {cmp : Cmp} {key : Side → Key} {old : MergeState} {phase
     phased = subst (λ (cursor : Side → Sorted). PhaseInvariant (join_call_of t.opened) next
         (state_after_read now s reader new after) cursor to) (place_is s one two one2 two2 continues.others) phased;
     valid_cursors = continues.valid_cursors;
-    own_reader = own_reader_kept s one two one2 two2 now.reader reader continues.others continues.own_reader t.own_reader;
+    own_reader =
+        own_reader_kept s one two one2 two2 now.reader reader continues.others continues.own_reader t.own_reader;
     clean = continues.clean;
   }
 
@@ -264,7 +295,8 @@ module _ {job : Join} {cmp : Cmp} {key : Side → Key} {old : MergeState} {phase
       {out : Output} → (both one two s).status ≡ Head
       → NextOkPost (key s) cmp (both one two s) (both one2 two2 s) (now.reader s) reader now.store made
       → IsReadyToContinue key s one two one2 two2 reader after out
-      → 3 * reads_ahead (with_side s reader now.reader) one2 two2 + rank next < 3 * reads_ahead now.reader one two + rank phase
+      → 3 * reads_ahead (with_side s reader now.reader) one2 two2 + rank next
+      < 3 * reads_ahead now.reader one two + rank phase
   measure_decreases s next {one2} {two2} {reader} {made} head came continues = omega (
     arith,
     measure_less (key s) cmp s one two one2 two2 now.reader reader now.store made head continues.others came,
@@ -290,10 +322,12 @@ module _ {job : Join} {cmp : Cmp} {key : Side → Key} {old : MergeState} {phase
     no_copies = let (_, four) = between in four
 
     stood_at : CursorsInvariant (join_with job cmp key) old now.reader (both one two) now.store r.ls r.p r.b
-    stood_at = record { sides = r.sides; holds = store_between_groups (join_call_of t.opened) r.keeps slots; slots = slots }
+    stood_at =
+        record { sides = r.sides; holds = store_between_groups (join_call_of t.opened) r.keeps slots; slots = slots }
 
     -- a step for an unpaired line
-    module _ {s : Side} (step : HasOnlyLeastKey cmp key (both one two) now.store s) {new : Output} {e : ℕ} (ends : e ≡ (old.reader First).terminator)
+    module _ {s : Side} (step : HasOnlyLeastKey cmp key (both one two) now.store s) {new : Output} {e : ℕ}
+        (ends : e ≡ (old.reader First).terminator)
         (pushed : PushEffect now.out new (unlines e (unpaired_entry job s (head_of now (both one two) s)))) where
       wrote_unpaired : MergeInvariant (join_with job cmp key) r.b (with_side s (r.ls s) r.p) old.out new
           × LagInvariant (join_with job cmp key) r.b (with_side s (r.ls s) r.p) old.out new
@@ -303,19 +337,21 @@ module _ {job : Join} {cmp : Cmp} {key : Side → Key} {old : MergeState} {phase
           let (above, under) = current_key_is_above cmp o _ _ _ _ _ _ _ _ _ step.before (r.sides (other s)).status_is in
           rw h.all (write_one_line _ o (is_line_by_line job cmp key) s x r.b r.p _ _ _ t.clean r.merge_invariant h.bound
           above under
-          (wrote_as _ _ _ _ _ _ (ends ∙ t.opened.w.terminator First) (entries_alone job cmp key s x (t.opened.keys s x)) pushed))
+          (wrote_as _ _ _ _ _ _ (ends ∙ t.opened.w.terminator First) (entries_alone job cmp key s x (t.opened.keys s x))
+          pushed))
 
       pub alone_continues : {one2 two2 : Sorted} {reader : Reader} {after : Slots}
           → AdvanceOkPost key cmp s one two one2 two2 (now.reader s) reader now.store after new
           → IterationInvariant job cmp key old phase (state_after_read now s reader new after) one2 two2 end
       alone_continues h =
-          let keeps = group_store_next s (both one two s) (slots s) r.keeps (n t.opened.w stood_at s step.status_is h.came) in
+          let keeps =
+          group_store_next s (both one two s) (slots s) r.keeps (n t.opened.w stood_at s step.status_is h.came) in
           let (m, _) = wrote_unpaired in
           iteration_continues {next = phase} s h.continues
           (rw is (runs_on t.opened.w stood_at s step.status_is h.came keeps m, no_copies))
 
-      pub alone_fails : {reader : Reader} {after : Slots} {fault : MergeFault} {r : Result (Unit {0}) MergeFault} → r ≡ Err fault
-          → AdvanceErrPost s (both one two s) (now.reader s) reader now.store after new fault
+      pub alone_fails : {reader : Reader} {after : Slots} {fault : MergeFault} {r : Result (Unit {0}) MergeFault}
+          → r ≡ Err fault → AdvanceErrPost s (both one two s) (now.reader s) reader now.store after new fault
           → ExitPost job cmp key old (state_after_read now s reader new after) r
       alone_fails {fault = fault} is_fault h = exit_post is_fault
           (omega (arith, advance_keeps_slot_count (key s) cmp s (both one two s) (both one two s) _ _ _ _ _ fault h))
@@ -323,7 +359,8 @@ module _ {job : Join} {cmp : Cmp} {key : Side → Key} {old : MergeState} {phase
           (rw (put_other s (r.ls s) r.p) (read_facts_current t.opened.w stood_at (other s))) h)
 
     -- both inputs have the same key, and a group of it begins
-    pub group_opens : HaveEqualKeys cmp key (both one two) now.store → IterationInvariant job cmp key old phases.ReadGroup now one two end
+    pub group_opens : HaveEqualKeys cmp key (both one two) now.store
+        → IterationInvariant job cmp key old phases.ReadGroup now one two end
     group_opens step =
         let k = key First (head_of now (both one two) First) in
         let bounds : (side : Side) → r.b side ≡ AtLeast
@@ -369,14 +406,18 @@ module _ {job : Join} {cmp : Cmp} {key : Side → Key} {old : MergeState} {phase
         }
 
     -- the phase in which the group is read is next
-    pub group_opens_decreases : 3 * reads_ahead now.reader one two + rank phases.ReadGroup < 3 * reads_ahead now.reader one two + rank phase
+    pub group_opens_decreases : 3 * reads_ahead now.reader one two + rank phases.ReadGroup
+        < 3 * reads_ahead now.reader one two + rank phase
     group_opens_decreases = omega (arith, ap rank is)
 
     -- the end of the loop
     module _ {after : Slots} (clear : ClearFourSlotsPost now.store after) where
-      pub eof : ((side : Side) → (both one two side).status ≡ Ended) → ExitPost job cmp key old (record now { store = after }) (Ok tt)
-      eof step = exit_post refl (omega (arith, clear.slots)) (ends_well t.opened.w stood_at r.merge_invariant t.clean clear step)
+      pub eof : ((side : Side) → (both one two side).status ≡ Ended)
+          → ExitPost job cmp key old (record now { store = after }) (Ok tt)
+      eof step = exit_post refl (omega (arith, clear.slots))
+          (ends_well t.opened.w stood_at r.merge_invariant t.clean clear step)
 
       pub disordered : {s : Side} {n : ℕ} → IsDisorderDecided cmp key (both one two) now.store s n
           → ExitPost job cmp key old (record now { store = after }) (Err (faults.Disorder s n))
-      disordered step = exit_post refl (omega (arith, clear.slots)) (ends_fallen t.opened.w stood_at r.merge_invariant t.clean clear step)
+      disordered step = exit_post refl (omega (arith, clear.slots))
+          (ends_fallen t.opened.w stood_at r.merge_invariant t.clean clear step)

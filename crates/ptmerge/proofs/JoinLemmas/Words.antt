@@ -1,9 +1,12 @@
 -- Words of a line by masks of its blanks. A mask is the number of a list of bits, so each fact is by induction on that
 -- list: two masks that overlap make one; no blank is misplaced if a mask is zero; and the first run of set bits is the
 -- first word, after which the words of the rest of the line follow.
-use Rattle.ptmerge.proofs.Common.{◌≡◌, ◌≢◌, ℕ, zero, suc, ◌+◌, ◌-◌, ◌*◌, ◌^◌, ◌%◌, ◌<◌, ◌≤◌, max, min, Bool, true, false, cond, not, ◌&&◌, ◌||◌, eqb, ◌==◌, List, [], ◌∷◌, ◌++◌, None}
-use Rattle.ptmerge.proofs.Common.{length, map, take, drop, replicate, filter, refl, sym, ◌∙◌, ap, subst, arith, bit_and, bit_or, take_all, length-map, length-drop, take-append-drop, false≢true, drop-drop, nat_tests}
-use Rattle.ptmerge.proofs.Common.{Lines, is_blank, is_nonempty, join_fields, is_single_spaced, has_single_spaces, slice_split, onto_first, with_prefix}
+use Rattle.ptmerge.proofs.Common.{◌≡◌, ◌≢◌, ℕ, zero, suc, ◌+◌, ◌-◌, ◌*◌, ◌^◌, ◌%◌, ◌<◌, ◌≤◌, max, min, Bool, true}
+use Rattle.ptmerge.proofs.Common.{false, cond, not, ◌&&◌, ◌||◌, eqb, ◌==◌, List, [], ◌∷◌, ◌++◌, None, length, map, take}
+use Rattle.ptmerge.proofs.Common.{drop, replicate, filter, refl, sym, ◌∙◌, ap, subst, arith, bit_and, bit_or, take_all}
+use Rattle.ptmerge.proofs.Common.{length-map, length-drop, take-append-drop, false≢true, drop-drop, nat_tests, Lines}
+use Rattle.ptmerge.proofs.Common.{is_blank, is_nonempty, join_fields, is_single_spaced, has_single_spaces, slice_split}
+use Rattle.ptmerge.proofs.Common.{onto_first, with_prefix}
 use Rattle.std.proofs.lemmas.Simd.{mask_l-lt, trailing_mask_l}
 use Rattle.std.proofs.lemmas.List.{drop-map, map-id, take-map}
 use Rattle.std.specs.Simd.Lanes.{chunk, mask_l}
@@ -12,7 +15,8 @@ use Rattle.memchr.specs.Find.{is_byte}
 use Rattle.std.proofs.Common.{◌/◌}
 use Rattle.ptmerge.proofs.Common.{IsFieldAt}
 use Rattle.ptmerge.proofs.JoinLemmas.Fields.{none_past, single_spaced_words, space_is}
-use Rattle.std.proofs.Math.Nat.{div-div-eq-div-mul, mod-eq_of_lt, mul-lt-mul_of_pos_right, mul_assoc, mul_comm, one-le-pow, two-pow-succ}
+use Rattle.std.proofs.Math.Nat.{div-div-eq-div-mul, mod-eq_of_lt, mul-lt-mul_of_pos_right, mul_assoc, mul_comm}
+use Rattle.std.proofs.Math.Nat.{one-le-pow, two-pow-succ}
 use Rattle.std.proofs.Math.Pow.{pow-add, pow-lt, pow_mono}
 use lib.Bits.{and_step, or_step, or_zero_l, or_zero_r, and_zero_l, or_shifted_r, and_mod, and_le_l, and_self, or_self}
 use lib.Count.{count_trailing_zeros}
@@ -27,7 +31,8 @@ halves true x = (omega arith, omega arith)
 halves false x = (omega arith, omega arith)
 
 or_bits : (b c : Bool) (x y : ℕ) → bit_or (bit b + 2 * x) (bit c + 2 * y) ≡ bit (b || c) + 2 * bit_or x y
-or_bits b c x y = or_step (bit b + 2 * x) (bit c + 2 * y) ∙ rw ((halves b x).0, (halves b x).1, (halves c y).0, (halves c y).1) (low b c)
+or_bits b c x y = or_step (bit b + 2 * x) (bit c + 2 * y)
+    ∙ rw ((halves b x).0, (halves b x).1, (halves c y).0, (halves c y).1) (low b c)
   where
     low : (b c : Bool) → bit_or x y * 2 + max (bit b) (bit c) ≡ bit (b || c) + 2 * bit_or x y
     low true true = omega arith
@@ -36,7 +41,8 @@ or_bits b c x y = or_step (bit b + 2 * x) (bit c + 2 * y) ∙ rw ((halves b x).0
     low false false = omega arith
 
 and_bits : (b c : Bool) (x y : ℕ) → bit_and (bit b + 2 * x) (bit c + 2 * y) ≡ bit (b && c) + 2 * bit_and x y
-and_bits b c x y = and_step (bit b + 2 * x) (bit c + 2 * y) ∙ rw ((halves b x).0, (halves b x).1, (halves c y).0, (halves c y).1) (low b c)
+and_bits b c x y = and_step (bit b + 2 * x) (bit c + 2 * y)
+    ∙ rw ((halves b x).0, (halves b x).1, (halves c y).0, (halves c y).1) (low b c)
   where
     low : (b c : Bool) → bit_and x y * 2 + min (bit b) (bit c) ≡ bit (b && c) + 2 * bit_and x y
     low true true = omega arith
@@ -59,14 +65,17 @@ or_prefix zero bits = or_zero_l (mask_l bits)
 or_prefix (suc n) [] = or_zero_l 0
 or_prefix (suc n) (b ∷ bits) = or_bits b b (mask_l (take n bits)) (mask_l bits) ∙ rw (or_same b, or_prefix n bits) refl
 
-or_ends : (last n : ℕ) (bits : List Bool) → last ≤ n → bit_or (mask_l (take n bits)) (2 ^ last * mask_l (drop last bits)) ≡ mask_l bits
-or_ends zero n bits le = let one : 2 ^ 0 * mask_l bits ≡ mask_l bits = omega arith in ap (bit_or (mask_l (take n bits))) one ∙ or_prefix n bits
+or_ends : (last n : ℕ) (bits : List Bool) → last ≤ n
+    → bit_or (mask_l (take n bits)) (2 ^ last * mask_l (drop last bits)) ≡ mask_l bits
+or_ends zero n bits le = let one : 2 ^ 0 * mask_l bits ≡ mask_l bits = omega arith in
+    ap (bit_or (mask_l (take n bits))) one ∙ or_prefix n bits
 or_ends (suc last) zero bits le = absurd (omega (arith, le))
 or_ends (suc last) (suc n) [] le = let none : 2 ^ suc last * 0 ≡ 0 = omega arith in ap (bit_or 0) none ∙ or_zero_l 0
 or_ends (suc last) (suc n) (b ∷ bits) le =
     let double : 2 ^ suc last ≡ 2 * 2 ^ last = omega (arith, two-pow-succ last) in
     let twice : 2 ^ suc last * mask_l (drop last bits) ≡ bit false + 2 * (2 ^ last * mask_l (drop last bits)) =
-    ap (λ (p : ℕ). p * mask_l (drop last bits)) double ∙ mul_assoc 2 (2 ^ last) (mask_l (drop last bits)) ∙ omega arith in
+    ap (λ (p : ℕ). p * mask_l (drop last bits)) double ∙ mul_assoc 2 (2 ^ last) (mask_l (drop last bits))
+    ∙ omega arith in
     ap (bit_or (mask_l (b ∷ take n bits))) twice ∙ or_bits b false (mask_l (take n bits))
     (2 ^ last * mask_l (drop last bits)) ∙ rw (or_false b, or_ends last n bits (omega (arith, le))) refl
 
@@ -79,7 +88,8 @@ ends_mask test bytes n first all few =
     let bits = map test bytes in
     let size : length (drop last bits) ≡ n = omega (arith, length-drop last bits, length-map bytes test, first) in
     let tail : map test (chunk last n bytes) ≡ drop last bits =
-    ap (map test) (take_all n (drop last bytes) (omega (arith, length-drop last bytes, first))) ∙ sym (drop-map test last bytes) in
+    ap (map test) (take_all n (drop last bytes) (omega (arith, length-drop last bytes, first)))
+    ∙ sym (drop-map test last bytes) in
     let front : map test (chunk 0 n bytes) ≡ take n bits = sym (take-map test n bytes) in
     let small : mask_l (drop last bits) * 2 ^ last < 2 ^ 64 = fits (mask_l (drop last bits)) n last
     (rw size at (mask_l-lt (drop last bits))) (omega (arith, all, first, few)) in
@@ -89,7 +99,13 @@ ends_mask test bytes n first all few =
     ∙ or_ends last n bits (omega (arith, all, first))
   where
     fits : (m n last : ℕ) → m < 2 ^ n → n + last ≤ 64 → m * 2 ^ last < 2 ^ 64
-    fits m n last low le = omega (arith, mul-lt-mul_of_pos_right {k = 2 ^ last} low (one-le-pow last 2 (omega arith)), pow-add 2 n last, pow_mono {j = 64} le)
+    fits m n last low le =
+        omega (
+          arith,
+          mul-lt-mul_of_pos_right {k = 2 ^ last} low (one-le-pow last 2 (omega arith)),
+          pow-add 2 n last,
+          pow_mono {j = 64} le,
+        )
 
 -- ---- single spaces
 
@@ -101,7 +117,8 @@ zero_bits false (suc x) = grind (arith, nat_tests)
 no_misplaced : (blank : Bool) (bytes : List ℕ)
     → eqb (bit_or (mask_l (map (is_byte 9) bytes)) (bit_and (mask_l (map is_blank bytes))
     (bit blank + 2 * mask_l (map is_blank bytes)))) 0 ≡ has_single_spaces blank bytes
-no_misplaced blank [] = ap (λ (x : ℕ). eqb (bit_or 0 x) 0) (and_zero_l (bit blank + 2 * 0)) ∙ ap (λ (x : ℕ). eqb x 0) (or_zero_l 0)
+no_misplaced blank [] = ap (λ (x : ℕ). eqb (bit_or 0 x) 0) (and_zero_l (bit blank + 2 * 0))
+    ∙ ap (λ (x : ℕ). eqb x 0) (or_zero_l 0)
 no_misplaced blank (b ∷ bytes) =
     let m = mask_l (map is_blank bytes) in
     let t = mask_l (map (is_byte 9) bytes) in
@@ -119,8 +136,10 @@ no_misplaced blank (b ∷ bytes) =
     by false false true = refl
     by false false false = refl
 
-pub single_spaces_is : (any before : ℕ) (bytes : List ℕ) → before ≤ 1 → length bytes ≤ 64 → any ≡ mask_l (map is_blank bytes)
-    → eqb (bit_or (mask_l (map (is_byte 9) bytes)) (bit_and any (bit_or (any * 2 % 2 ^ 64) before))) 0 ≡ has_single_spaces (before == 1) bytes
+pub single_spaces_is : (any before : ℕ) (bytes : List ℕ) → before ≤ 1 → length bytes ≤ 64
+    → any ≡ mask_l (map is_blank bytes)
+    → eqb (bit_or (mask_l (map (is_byte 9) bytes)) (bit_and any (bit_or (any * 2 % 2 ^ 64) before))) 0
+    ≡ has_single_spaces (before == 1) bytes
 single_spaces_is any before bytes low few is =
     let size = length-map bytes is_blank in
     let wide : 2 ^ length (map is_blank bytes) ≤ 2 ^ 64 = pow_mono {j = 64} (omega (arith, size, few)) in
@@ -146,24 +165,33 @@ single_spaces_is any before bytes low few is =
         let even : any * 2 % 2 ^ 64 ≡ bit false + 2 * half = omega arith in
         let one : bit (before == 1) + 2 * 0 ≡ before = omega (arith, of_bit before low) in
         let sum : bit (before == 1) + 2 * half ≡ (any * 2 + before) % 2 ^ 64 = omega (arith, of_bit before low, low) in
-        (λ i. bit_or (even i) (sym one i)) ∙ or_bits false (before == 1) half 0 ∙ ap (λ (x : ℕ). bit (before == 1) + 2 * x) (or_zero_r half) ∙ sum
+        (λ i. bit_or (even i) (sym one i)) ∙ or_bits false (before == 1) half 0
+        ∙ ap (λ (x : ℕ). bit (before == 1) + 2 * x) (or_zero_r half) ∙ sum
 
     and_low : (x y : ℕ) → x < 2 ^ 64 → bit_and x (y % 2 ^ 64) ≡ bit_and x y
     and_low x y low =
         let same : x % 2 ^ 64 ≡ x = mod-eq_of_lt low in
-        ap (λ (z : ℕ). bit_and z (y % 2 ^ 64)) (sym same) ∙ sym (and_mod x y 64) ∙ mod-eq_of_lt (omega (arith, and_le_l x y, low))
+        ap (λ (z : ℕ). bit_and z (y % 2 ^ 64)) (sym same) ∙ sym (and_mod x y 64)
+        ∙ mod-eq_of_lt (omega (arith, and_le_l x y, low))
 
 -- a line that ends after these bytes, as if a space followed it
-pub with_end : (bytes : List ℕ) (any tabs : ℕ) → length bytes < 64 → any ≡ mask_l (map is_blank bytes) → tabs ≡ mask_l (map (is_byte 9) bytes)
-    → (bit_or any (1 * 2 ^ length bytes % 2 ^ 64) ≡ mask_l (map is_blank (bytes ++ 32 ∷ []))) × (tabs ≡ mask_l (map (is_byte 9) (bytes ++ 32 ∷ [])))
+pub with_end : (bytes : List ℕ) (any tabs : ℕ) → length bytes < 64 → any ≡ mask_l (map is_blank bytes)
+    → tabs ≡ mask_l (map (is_byte 9) bytes)
+    → (bit_or any (1 * 2 ^ length bytes % 2 ^ 64) ≡ mask_l (map is_blank (bytes ++ 32 ∷ [])))
+    × (tabs ≡ mask_l (map (is_byte 9) (bytes ++ 32 ∷ [])))
 with_end bytes any tabs short any_is tabs_is =
     let size = length-map bytes is_blank in
-    let low : any < 2 ^ length bytes = omega (arith, any_is, mask_l-lt (map is_blank bytes), ap (λ (n : ℕ). 2 ^ n) size) in
+    let low : any < 2 ^ length bytes =
+    omega (arith, any_is, mask_l-lt (map is_blank bytes), ap (λ (n : ℕ). 2 ^ n) size) in
     let wide : 2 ^ length bytes < 2 ^ 64 = pow-lt {j = 64} short in
-    let fits : 1 * 2 ^ length bytes % 2 ^ 64 ≡ 1 * 2 ^ length bytes = mod-eq_of_lt (omega (arith, wide)) in
-    (ap (bit_or any) fits ∙ or_shifted_r 1 (length bytes) any low ∙ omega (arith, end_blank bytes, any_is), tabs_is ∙ sym (end_tab bytes))
+    let fits : 1 * 2 ^ length bytes % 2 ^ 64 ≡ 1 * 2 ^ length bytes = mod-eq_of_lt (omega (arith, wide)) in (
+      ap (bit_or any) fits ∙ or_shifted_r 1 (length bytes) any low ∙ omega (arith, end_blank bytes, any_is),
+      tabs_is
+          ∙ sym (end_tab bytes),
+    )
   where
-    end_blank : (bytes : List ℕ) → mask_l (map is_blank (bytes ++ 32 ∷ [])) ≡ mask_l (map is_blank bytes) + 2 ^ length bytes
+    end_blank : (bytes : List ℕ)
+        → mask_l (map is_blank (bytes ++ 32 ∷ [])) ≡ mask_l (map is_blank bytes) + 2 ^ length bytes
     end_blank [] = refl
     end_blank (b ∷ bytes) = omega (arith, end_blank bytes, two-pow-succ (length bytes))
 
@@ -171,10 +199,12 @@ with_end bytes any tabs short any_is tabs_is =
     end_tab [] = refl
     end_tab (b ∷ bytes) = omega (arith, end_tab bytes)
 
-pub spaced_to_end : (blank : Bool) (bytes : List ℕ) → has_single_spaces blank (bytes ++ 32 ∷ []) ≡ is_single_spaced blank bytes
+pub spaced_to_end : (blank : Bool) (bytes : List ℕ)
+    → has_single_spaces blank (bytes ++ 32 ∷ []) ≡ is_single_spaced blank bytes
 spaced_to_end true [] = refl
 spaced_to_end false [] = refl
-spaced_to_end blank (b ∷ bytes) = ap (λ (x : Bool). cond (b == 9 || (blank && (b == 32))) false x) (spaced_to_end (b == 32) bytes)
+spaced_to_end blank (b ∷ bytes) =
+    ap (λ (x : Bool). cond (b == 9 || (blank && (b == 32))) false x) (spaced_to_end (b == 32) bytes)
 
 -- ---- the next 64 bytes of a line
 
@@ -187,9 +217,11 @@ pub spaced_append : (blank : Bool) (v back : List ℕ) → is_single_spaced blan
 spaced_append blank [] back = refl
 spaced_append blank (b ∷ v) back = by (b == 9 || (blank && (b == 32))) (spaced_append (b == 32) v back)
   where
-    by : (t : Bool) → is_single_spaced (b == 32) (v ++ back) ≡ cond (has_single_spaces (b == 32) v) (is_single_spaced (last_blank (b == 32) v) back) false
-        → cond t false (is_single_spaced (b == 32) (v ++ back)) ≡ cond (cond t false (has_single_spaces (b == 32) v))
-        (is_single_spaced (last_blank (b == 32) v) back) false
+    by : (t : Bool)
+        → is_single_spaced (b == 32) (v ++ back)
+        ≡ cond (has_single_spaces (b == 32) v) (is_single_spaced (last_blank (b == 32) v) back) false
+        → cond t false (is_single_spaced (b == 32) (v ++ back))
+        ≡ cond (cond t false (has_single_spaces (b == 32) v)) (is_single_spaced (last_blank (b == 32) v) back) false
     by true e = refl
     by false e = e
 
@@ -199,7 +231,8 @@ pub top_bit : (n : ℕ) (blank : Bool) (v : List ℕ) → length v ≡ suc n →
 top_bit n blank [] size spaced = absurd (omega (arith, size))
 top_bit zero blank (b ∷ []) size spaced = by (b == 9) (b == 32) blank spaced
   where
-    by : (tab space blank : Bool) → cond (tab || (blank && space)) false true ≡ true → (bit (space || tab) + 2 * 0) / 2 ^ 0 ≡ bit space
+    by : (tab space blank : Bool) → cond (tab || (blank && space)) false true ≡ true
+        → (bit (space || tab) + 2 * 0) / 2 ^ 0 ≡ bit space
     by true space blank h = absurd (false≢true h)
     by false true blank h = refl
     by false false blank h = refl
@@ -242,7 +275,8 @@ pub word_mask : (bytes : List ℕ) → mask_l (map is_word bytes) + mask_l (map 
 word_mask [] = refl
 word_mask (b ∷ bytes) = by (is_blank b) (mask_l (map is_word bytes)) (mask_l (map is_blank bytes)) (word_mask bytes)
   where
-    by : (t : Bool) (x y : ℕ) → x + y + 1 ≡ 2 ^ length bytes → bit (not t) + 2 * x + (bit t + 2 * y) + 1 ≡ 2 ^ suc (length bytes)
+    by : (t : Bool) (x y : ℕ) → x + y + 1 ≡ 2 ^ length bytes
+        → bit (not t) + 2 * x + (bit t + 2 * y) + 1 ≡ 2 ^ suc (length bytes)
     by true x y e = omega (arith, e, two-pow-succ (length bytes))
     by false x y e = omega (arith, e, two-pow-succ (length bytes))
 
@@ -294,13 +328,17 @@ or_less (false ∷ bits) some =
 
 and_ones : (bits : List Bool) → bit_and (mask_l bits) (mask_l (after_ones bits)) ≡ mask_l (clear_ones bits)
 and_ones [] = and_zero_l 1
-and_ones (true ∷ bits) = and_bits true false (mask_l bits) (mask_l (after_ones bits)) ∙ ap (λ (x : ℕ). bit false + 2 * x) (and_ones bits)
-and_ones (false ∷ bits) = and_bits false true (mask_l bits) (mask_l bits) ∙ ap (λ (x : ℕ). bit false + 2 * x) (and_self (mask_l bits))
+and_ones (true ∷ bits) = and_bits true false (mask_l bits) (mask_l (after_ones bits))
+    ∙ ap (λ (x : ℕ). bit false + 2 * x) (and_ones bits)
+and_ones (false ∷ bits) = and_bits false true (mask_l bits) (mask_l bits)
+    ∙ ap (λ (x : ℕ). bit false + 2 * x) (and_self (mask_l bits))
 
 and_run : (bits : List Bool) → bit_and (mask_l bits) (mask_l (after_run bits)) ≡ mask_l (clear_run bits)
 and_run [] = and_zero_l 1
-and_run (true ∷ bits) = and_bits true false (mask_l bits) (mask_l (after_ones bits)) ∙ ap (λ (x : ℕ). bit false + 2 * x) (and_ones bits)
-and_run (false ∷ bits) = and_bits false false (mask_l bits) (mask_l (after_run bits)) ∙ ap (λ (x : ℕ). bit false + 2 * x) (and_run bits)
+and_run (true ∷ bits) = and_bits true false (mask_l bits) (mask_l (after_ones bits))
+    ∙ ap (λ (x : ℕ). bit false + 2 * x) (and_ones bits)
+and_run (false ∷ bits) = and_bits false false (mask_l bits) (mask_l (after_run bits))
+    ∙ ap (λ (x : ℕ). bit false + 2 * x) (and_run bits)
 
 length-after_ones : (bits : List Bool) → length (after_ones bits) ≤ suc (length bits)
 length-after_ones [] = omega arith
@@ -315,7 +353,8 @@ length-after_run (false ∷ bits) = omega (arith, length-after_run bits)
 some_after_run : (bits : List Bool) → 0 < mask_l bits → 0 < mask_l (after_run bits)
 some_after_run bits some = omega (arith, or_less bits some)
 
-lowest : (bits : List Bool) → length bits ≤ 64 → 0 < mask_l bits → count_trailing_zeros 64 (mask_l bits) ≡ prefix_len not bits
+lowest : (bits : List Bool) → length bits ≤ 64 → 0 < mask_l bits
+    → count_trailing_zeros 64 (mask_l bits) ≡ prefix_len not bits
 lowest bits few some = cc (map-id bits, trailing_mask_l (λ b. b) 64 bits few (rw (map-id bits) some))
 
 -- ---- a word is a run of bytes that are no blanks
@@ -346,7 +385,8 @@ record InWord (v : List ℕ) (size : ℕ) (cleared : List Bool) : Type 0 where
   pub spaced : is_single_spaced false v ≡ true → with_prefix 32 (filter is_nonempty more) ≡ drop size v
 
 -- a byte of a word among single spaces
-letter_is : (blank : Bool) (b : ℕ) (v : List ℕ) → is_blank b ≡ false → is_single_spaced blank (b ∷ v) ≡ true → is_single_spaced false v ≡ true
+letter_is : (blank : Bool) (b : ℕ) (v : List ℕ) → is_blank b ≡ false → is_single_spaced blank (b ∷ v) ≡ true
+    → is_single_spaced false v ≡ true
 letter_is blank b v here spaced = by (b == 9) (b == 32) blank here spaced
   where
     by : (tab space blank : Bool) → (space || tab) ≡ false → cond (tab || (blank && space)) false
@@ -358,7 +398,8 @@ letter_is blank b v here spaced = by (b == 9) (b == 32) blank here spaced
     by false false false h s = s
 
 in_word : (v : List ℕ) → InWord v (prefix_len not (after_ones (marks v))) (clear_ones (marks v))
-in_word [] = record { high = omega arith; more = []; split = refl; words = refl; rest = refl; next = λ s. s; spaced = λ s. refl }
+in_word [] =
+    record { high = omega arith; more = []; split = refl; words = refl; rest = refl; next = λ s. s; spaced = λ s. refl }
 in_word (b ∷ v) = by (in_word v) (is_blank b) refl
   where
     by : InWord v (prefix_len not (after_ones (marks v))) (clear_ones (marks v)) → (t : Bool) → is_blank b ≡ t
@@ -372,7 +413,8 @@ in_word (b ∷ v) = by (in_word v) (is_blank b) refl
           words = sym (ap (filter is_nonempty) split);
           rest = ap (λ (t : Bool). not t ∷ marks v) (sym e);
           next = λ s. s;
-          spaced = λ s. let space = space_is false b v e s in single_spaced_words true v space.1 ∙ ap (λ (x : ℕ). x ∷ v) (sym space.0);
+          spaced = λ s. let space = space_is false b v e s in single_spaced_words true v space.1
+              ∙ ap (λ (x : ℕ). x ∷ v) (sym space.0);
         }
     by w false e =
         let n = prefix_len not (after_ones (marks v)) in
@@ -394,14 +436,17 @@ pub record WordAt (v : List ℕ) (start end : ℕ) (cleared : List Bool) : Type 
   pub is : join_fields None v ≡ take (end - start) (drop start v) ∷ join_fields None (drop end v)
   pub rest : cleared ≡ replicate end false ++ marks (drop end v)
   pub next : (blank : Bool) → is_single_spaced blank v ≡ true → is_single_spaced false (drop end v) ≡ true
-  pub spaced : (blank : Bool) → is_single_spaced blank v ≡ true → with_prefix 32 (join_fields None (drop end v)) ≡ drop end v
+  pub spaced : (blank : Bool) → is_single_spaced blank v ≡ true
+      → with_prefix 32 (join_fields None (drop end v)) ≡ drop end v
 
 word_at : (v : List ℕ) → 0 < mask_l (marks v) → WordAt v (word_start v) (word_end v) (clear_run (marks v))
 word_at [] some = absurd (omega (arith, some))
 word_at (b ∷ v) some = by (word_at v) (is_blank b) refl some
   where
-    by : (0 < mask_l (marks v) → WordAt v (word_start v) (word_end v) (clear_run (marks v))) → (t : Bool) → is_blank b ≡ t → 0 < mask_l (not t ∷ marks v)
-        → WordAt (b ∷ v) (prefix_len not (not t ∷ marks v)) (prefix_len not (after_run (not t ∷ marks v))) (clear_run (not t ∷ marks v))
+    by : (0 < mask_l (marks v) → WordAt v (word_start v) (word_end v) (clear_run (marks v))) → (t : Bool)
+        → is_blank b ≡ t → 0 < mask_l (not t ∷ marks v)
+        → WordAt (b ∷ v) (prefix_len not (not t ∷ marks v)) (prefix_len not (after_run (not t ∷ marks v)))
+        (clear_run (not t ∷ marks v))
     by more true e some =
         let w = more (omega (arith, some)) in
         let start = word_start v in
@@ -413,7 +458,8 @@ word_at (b ∷ v) some = by (word_at v) (is_blank b) refl some
         (subst (λ (k : ℕ). WordAt (b ∷ v) (suc start) k (false ∷ clear_run (marks v))) one_end (record {
           low = omega (arith, w.low);
           high = omega (arith, w.high);
-          is = ap (filter is_nonempty) (split_byte b v e) ∙ w.is ∙ ap (λ (n : ℕ). take n (drop start v) ∷ join_fields None (drop end v)) (sym size);
+          is = ap (filter is_nonempty) (split_byte b v e) ∙ w.is
+              ∙ ap (λ (n : ℕ). take n (drop start v) ∷ join_fields None (drop end v)) (sym size);
           rest = ap (λ (l : List Bool). false ∷ l) w.rest;
           next = λ blank s. w.next true (space_is blank b v e s).1;
           spaced = λ blank s. w.spaced true (space_is blank b v e s).1;
@@ -426,8 +472,10 @@ word_at (b ∷ v) some = by (word_at v) (is_blank b) refl some
         subst (λ (k : ℕ). WordAt (b ∷ v) 0 k (false ∷ clear_ones (marks v))) one (record {
           low = omega arith;
           high = omega (arith, w.high);
-          is = ap (filter is_nonempty) (split_byte b v e) ∙ ap (λ (l : Lines). filter is_nonempty (onto_first b l)) w.split
-              ∙ ap (λ (l : Lines). (b ∷ take n v) ∷ l) w.words ∙ ap (λ (m : ℕ). take m (b ∷ v) ∷ join_fields None (drop n v)) (sym size);
+          is = ap (filter is_nonempty) (split_byte b v e)
+              ∙ ap (λ (l : Lines). filter is_nonempty (onto_first b l)) w.split
+              ∙ ap (λ (l : Lines). (b ∷ take n v) ∷ l) w.words
+              ∙ ap (λ (m : ℕ). take m (b ∷ v) ∷ join_fields None (drop n v)) (sym size);
           rest = ap (λ (l : List Bool). false ∷ l) w.rest;
           next = λ blank s. w.next (letter_is blank b v e s);
           spaced = λ blank s. ap (with_prefix 32) (sym w.words) ∙ w.spaced (letter_is blank b v e s);
@@ -437,7 +485,8 @@ no_words : (v : List ℕ) → mask_l (marks v) ≡ 0 → join_fields None v ≡ 
 no_words [] none = refl
 no_words (b ∷ v) none = by (no_words v) (is_blank b) refl none
   where
-    by : (mask_l (marks v) ≡ 0 → join_fields None v ≡ []) → (t : Bool) → is_blank b ≡ t → mask_l (not t ∷ marks v) ≡ 0 → join_fields None (b ∷ v) ≡ []
+    by : (mask_l (marks v) ≡ 0 → join_fields None v ≡ []) → (t : Bool) → is_blank b ≡ t → mask_l (not t ∷ marks v) ≡ 0
+        → join_fields None (b ∷ v) ≡ []
     by more true e none = ap (filter is_nonempty) (split_byte b v e) ∙ more (omega (arith, none))
     by more false e none = absurd (omega (arith, none))
 
@@ -483,13 +532,21 @@ pub record WordsLeft (line : List ℕ) (passed words : ℕ) : Type 0 where
   pub fields : drop passed (join_fields None line) ≡ join_fields None (drop at line)
   pub spaced : is_single_spaced true line ≡ true → (blank : Bool) × (is_single_spaced blank (drop at line) ≡ true)
 
-pub words_start : (line : List ℕ) (any : ℕ) → length line < 64 → any ≡ mask_l (map is_blank line) → WordsLeft line 0 (1 * 2 ^ length line % 2 ^ 64 - 1 - any)
+pub words_start : (line : List ℕ) (any : ℕ) → length line < 64 → any ≡ mask_l (map is_blank line)
+    → WordsLeft line 0 (1 * 2 ^ length line % 2 ^ 64 - 1 - any)
 words_start line any short is =
     let wide : 2 ^ length line < 2 ^ 64 = pow-lt {j = 64} short in
     let fits : 1 * 2 ^ length line % 2 ^ 64 ≡ 1 * 2 ^ length line = mod-eq_of_lt (omega (arith, wide)) in
-    record { at = 0; within = omega arith; mask = omega (arith, fits, is, word_mask line); fields = refl; spaced = λ s. (true, s) }
+    record {
+      at = 0;
+      within = omega arith;
+      mask = omega (arith, fits, is, word_mask line);
+      fields = refl;
+      spaced = λ s. (true, s);
+    }
 
-pub any_fits : (line : List ℕ) (any : ℕ) → length line < 64 → any ≡ mask_l (map is_blank line) → any ≤ 1 * 2 ^ length line % 2 ^ 64 - 1
+pub any_fits : (line : List ℕ) (any : ℕ) → length line < 64 → any ≡ mask_l (map is_blank line)
+    → any ≤ 1 * 2 ^ length line % 2 ^ 64 - 1
 any_fits line any short is =
     let wide : 2 ^ length line < 2 ^ 64 = pow-lt {j = 64} short in
     let fits : 1 * 2 ^ length line % 2 ^ 64 ≡ 1 * 2 ^ length line = mod-eq_of_lt (omega (arith, wide)) in
@@ -503,10 +560,12 @@ module _ {line : List ℕ} {passed words : ℕ} (short : length line < 64) (left
   bits = from left.at (marks rest)
 
   bits_long : length bits ≡ length line
-  bits_long = omega (arith, from_length left.at (marks rest), length-map rest is_word, length-drop left.at line, left.within)
+  bits_long =
+      omega (arith, from_length left.at (marks rest), length-map rest is_word, length-drop left.at line, left.within)
 
   pub words_small : words < 2 ^ 63
-  words_small = let wide : 2 ^ length bits ≤ 2 ^ 63 = pow_mono {j = 63} (omega (arith, bits_long, short)) in omega (arith, left.mask, mask_l-lt bits, wide)
+  words_small = let wide : 2 ^ length bits ≤ 2 ^ 63 = pow_mono {j = 63} (omega (arith, bits_long, short)) in
+      omega (arith, left.mask, mask_l-lt bits, wide)
 
   -- no words are left
   pub none_left : (number : ℕ) → words ≡ 0 → passed ≤ number - 1 → drop (number - 1) (join_fields None line) ≡ []
@@ -527,7 +586,8 @@ module _ {line : List ℕ} {passed words : ℕ} (short : length line < 64) (left
     after_is = ap (λ (x : ℕ). bit_or x (x - 1) + 1) left.mask ∙ or_less bits some_bits
 
     start_is : count_trailing_zeros 64 words ≡ left.at + word_start rest
-    start_is = ap (count_trailing_zeros 64) left.mask ∙ lowest bits (omega (arith, bits_long, short)) some_bits ∙ from_prefix_len left.at (marks rest)
+    start_is = ap (count_trailing_zeros 64) left.mask ∙ lowest bits (omega (arith, bits_long, short)) some_bits
+        ∙ from_prefix_len left.at (marks rest)
 
     end_is : count_trailing_zeros 64 after ≡ left.at + word_end rest
     end_is = ap (count_trailing_zeros 64) after_is ∙ lowest (after_run bits)
@@ -539,7 +599,8 @@ module _ {line : List ℕ} {passed words : ℕ} (short : length line < 64) (left
     word_passed =
         let w = first_word in
         let end = word_end rest in
-        let there : drop end rest ≡ drop (left.at + end) line = drop-drop end left.at line ∙ ap (λ (n : ℕ). drop n line) (omega arith) in
+        let there : drop end rest ≡ drop (left.at + end) line = drop-drop end left.at line
+        ∙ ap (λ (n : ℕ). drop n line) (omega arith) in
         record {
           at = left.at + end;
           within = omega (arith, w.high, length-drop left.at line, left.within);
@@ -547,7 +608,8 @@ module _ {line : List ℕ} {passed words : ℕ} (short : length line < 64) (left
               ∙ ap mask_l (from_clear left.at (marks rest) ∙ ap (from left.at) w.rest
               ∙ from_from left.at end (marks (drop end rest))
               ∙ ap (λ (l : List ℕ). from (left.at + end) (marks l)) there);
-          fields = sym (drop-drop 1 passed (join_fields None line)) ∙ ap (drop 1) (left.fields ∙ w.is) ∙ ap (join_fields None) there;
+          fields = sym (drop-drop 1 passed (join_fields None line)) ∙ ap (drop 1) (left.fields ∙ w.is)
+              ∙ ap (join_fields None) there;
           spaced = λ s. (false, rw there at (w.next (left.spaced s).0 (left.spaced s).1));
         }
 
@@ -562,10 +624,12 @@ module _ {line : List ℕ} {passed words : ℕ} (short : length line < 64) (left
         ∙ ap (λ (n : ℕ). drop n line) (omega (arith, end_is)) in
         let here : drop start rest ≡ drop (count_trailing_zeros 64 words) line = drop-drop start left.at line
         ∙ ap (λ (n : ℕ). drop n line) (omega (arith, start_is)) in
-        let size : end - start ≡ count_trailing_zeros 64 after - count_trailing_zeros 64 words = omega (arith, start_is, end_is) in
+        let size : end - start ≡ count_trailing_zeros 64 after - count_trailing_zeros 64 words =
+        omega (arith, start_is, end_is) in
         record {
           more = join_fields None (drop end rest);
-          is = ap (λ (n : ℕ). drop n (join_fields None line)) (sym is) ∙ left.fields ∙ w.is ∙ (λ i. take (size i) (here i) ∷ join_fields None (drop end rest));
+          is = ap (λ (n : ℕ). drop n (join_fields None line)) (sym is) ∙ left.fields ∙ w.is
+              ∙ (λ i. take (size i) (here i) ∷ join_fields None (drop end rest));
           ordered = omega (arith, start_is, end_is, w.low);
           within = omega (arith, end_is, w.high, length-drop left.at line, left.within);
           after = λ s. w.spaced (left.spaced s).0 (left.spaced s).1 ∙ there;

@@ -1,15 +1,30 @@
 -- Each input of a merge, and the exits of a tool. At an exit the lines read, the processed ones and a bound on the
 -- others are known for each input, and the contract of the tool follows from these and from the output.
-use Rattle.ptmerge.proofs.Common.{◌≡◌, ◌≢◌, inl, inr, ℕ, ◌+◌, ◌<◌, ◌≤◌, ◌&&◌, Bool, true, false, cond, List, [], ◌∷◌, ◌++◌, Option, Some, None, length, refl, sym, ◌∙◌, ap, subst, arith, nat_lt}
-use Rattle.ptmerge.proofs.Common.{bytes_eq, Ordering, is_eq, is_gt, false≢true, nat_tests, append-nil, length_push, FillLine, Reader, IsDone, IsSound, budget, Slots, line, with_line, max_length}
-use Rattle.ptmerge.proofs.Common.{line_of_with_line, Sorted, CursorStatus, Head, Ended, Disorder, Lines, Cmp, Key, is_head, status_at, same_key_at, NextOkPost, Result, Ok, Err, max, Received, known_lines, Output, ReaderAdvance, unlines}
-use Rattle.ptmerge.proofs.Common.{◌⊎◌, ⊎_elim, length-append, Memory, lines, IsLine, received_with, has_received, has_received_set, cause_set, advance_trans, append_assoc, PushEffect, push_trans, push_nothing, bounded_lag_after, unlines-append, MergeFault, Read, Write}
-use Rattle.ptmerge.proofs.Common.{Side, First, Second, MergeTool, entries_by_key, decided_output, disorder, earlier_disorder, first_disorder, lines_of, merge_output, merged_entries, sorted_prefix, is_up_to, MergeState, AreConsistent, MergeEndPost, MergePost}
-use Rattle.ptmerge.proofs.Common.{IsMergeUnread, IsExactMerge, IsUnreadWithoutSlots, HasNoLine, with_terminator, other, with_side}
-use Rattle.ptmerge.proofs.MergeLemmas.Lag.{ProcessedNearly, LinesToCome, LagPoint, back, decided_of_passed, unsettled, lag_bound}
-use Rattle.ptmerge.proofs.MergeLemmas.Invariant.{Bound, NoBound, AtLeast, AfterDisorder, NothingMore, MayFollow, IsUnder, IsSortedUpTo, sorted_up_to_more, is_disordered, IsProcessedPrefix, processed_before_line, processed_all, processed_to_disorder, processed_to_line}
-use Rattle.ptmerge.proofs.MergeLemmas.Invariant.{LagInvariant, MergeInvariant, InputSplit, IsExactStop, is_continuation, past_none, input_split, all_keys, under_fall}
-use Rattle.ptmerge.proofs.MergeLemmas.LinesRead.{LinesRead, HoldsLines, HasBegun, begun_gives_line, one_line_and_block, lines_read_more, lines_read_eof, Continues, KnownLines, lines_read_known, lines_read_of_input, lines_read_none, reads_nothing}
+use Rattle.ptmerge.proofs.Common.{◌≡◌, ◌≢◌, inl, inr, ℕ, ◌+◌, ◌<◌, ◌≤◌, ◌&&◌, Bool, true, false, cond, List, [], ◌∷◌}
+use Rattle.ptmerge.proofs.Common.{◌++◌, Option, Some, None, length, refl, sym, ◌∙◌, ap, subst, arith, nat_lt, bytes_eq}
+use Rattle.ptmerge.proofs.Common.{Ordering, is_eq, is_gt, false≢true, nat_tests, append-nil, length_push, FillLine}
+use Rattle.ptmerge.proofs.Common.{Reader, IsDone, IsSound, budget, Slots, line, with_line, max_length}
+use Rattle.ptmerge.proofs.Common.{line_of_with_line, Sorted, CursorStatus, Head, Ended, Disorder, Lines, Cmp, Key}
+use Rattle.ptmerge.proofs.Common.{is_head, status_at, same_key_at, NextOkPost, Result, Ok, Err, max, Received}
+use Rattle.ptmerge.proofs.Common.{known_lines, Output, ReaderAdvance, unlines, ◌⊎◌, ⊎_elim, length-append, Memory}
+use Rattle.ptmerge.proofs.Common.{lines, IsLine, received_with, has_received, has_received_set, cause_set}
+use Rattle.ptmerge.proofs.Common.{advance_trans, append_assoc, PushEffect, push_trans, push_nothing, bounded_lag_after}
+use Rattle.ptmerge.proofs.Common.{unlines-append, MergeFault, Read, Write, Side, First, Second, MergeTool}
+use Rattle.ptmerge.proofs.Common.{entries_by_key, decided_output, disorder, earlier_disorder, first_disorder, lines_of}
+use Rattle.ptmerge.proofs.Common.{merge_output, merged_entries, sorted_prefix, is_up_to, MergeState, AreConsistent}
+use Rattle.ptmerge.proofs.Common.{MergeEndPost, MergePost, IsMergeUnread, IsExactMerge, IsUnreadWithoutSlots, HasNoLine}
+use Rattle.ptmerge.proofs.Common.{with_terminator, other, with_side}
+use Rattle.ptmerge.proofs.MergeLemmas.Lag.{ProcessedNearly, LinesToCome, LagPoint, back, decided_of_passed, unsettled}
+use Rattle.ptmerge.proofs.MergeLemmas.Lag.{lag_bound}
+use Rattle.ptmerge.proofs.MergeLemmas.Invariant.{Bound, NoBound, AtLeast, AfterDisorder, NothingMore, MayFollow}
+use Rattle.ptmerge.proofs.MergeLemmas.Invariant.{IsUnder, IsSortedUpTo, sorted_up_to_more, is_disordered}
+use Rattle.ptmerge.proofs.MergeLemmas.Invariant.{IsProcessedPrefix, processed_before_line, processed_all}
+use Rattle.ptmerge.proofs.MergeLemmas.Invariant.{processed_to_disorder, processed_to_line, LagInvariant, MergeInvariant}
+use Rattle.ptmerge.proofs.MergeLemmas.Invariant.{InputSplit, IsExactStop, is_continuation, past_none, input_split}
+use Rattle.ptmerge.proofs.MergeLemmas.Invariant.{all_keys, under_fall}
+use Rattle.ptmerge.proofs.MergeLemmas.LinesRead.{LinesRead, HoldsLines, HasBegun, begun_gives_line, one_line_and_block}
+use Rattle.ptmerge.proofs.MergeLemmas.LinesRead.{lines_read_more, lines_read_eof, Continues, KnownLines}
+use Rattle.ptmerge.proofs.MergeLemmas.LinesRead.{lines_read_known, lines_read_of_input, lines_read_none, reads_nothing}
 use Rattle.ptmerge.proofs.MergeLemmas.Orders.{EachKey, EachKey-weaker, IsKeyOrder, AtMost, at_most_trans, equal_is}
 use Rattle.ptlines.proofs.MaxLength.{max_length-append}
 use Rattle.ptmerge.proofs.MergeLemmas.Slots.{line_other}
@@ -23,10 +38,12 @@ MatchesStatus cmp key Head cursor store now ls p b =
     (Some (key (line store cursor.current_slot)))
     × (b ≡ AtLeast (key (line store cursor.current_slot)))
 MatchesStatus cmp key Ended cursor store now ls p b = (b ≡ NothingMore) × IsDone now
-MatchesStatus cmp key (Disorder n) cursor store now ls p b = b ≡ AfterDisorder (record { last_key = key (line store cursor.previous_slot); line = n })
+MatchesStatus cmp key (Disorder n) cursor store now ls p b =
+    b ≡ AfterDisorder (record { last_key = key (line store cursor.previous_slot); line = n })
 
 -- the invariant of one input
-pub record SideInvariant (end : ℕ) (cmp : Cmp) (key : Key) (old now : Reader) (cursor : Sorted) (store : Slots) (ls p : Lines) (b : Bound) : Type 0 where
+pub record SideInvariant (end : ℕ) (cmp : Cmp) (key : Key) (old now : Reader) (cursor : Sorted) (store : Slots)
+    (ls p : Lines) (b : Bound) : Type 0 where
   pub lines_read : LinesRead end old now ls
   pub begun : HasBegun now ls
   pub sound : IsSound now
@@ -51,20 +68,24 @@ side_invariant_kept {cmp = cmp} {key} {now = now} {cursor} {before} {after} {ls}
   status_is = by cursor.status s.status_is;
 }
   where
-    by : (t : CursorStatus) → MatchesStatus cmp key t cursor before now ls p b → MatchesStatus cmp key t cursor after now ls p b
+    by : (t : CursorStatus) → MatchesStatus cmp key t cursor before now ls p b
+        → MatchesStatus cmp key t cursor after now ls p b
     by Head st = rw same1 st
     by Ended st = st
     by (Disorder n) st = rw same2 st
 
 -- the current line becomes a processed line
-pub record IsAtCurrentLine (cmp : Cmp) (key : Key) (cursor : Sorted) (store : Slots) (ls p : Lines) (b : Bound) : Type 0 where
+pub record IsAtCurrentLine (cmp : Cmp) (key : Key) (cursor : Sorted) (store : Slots) (ls p : Lines)
+    (b : Bound) : Type 0 where
   pub all : ls ≡ p ++ line store cursor.current_slot ∷ []
   pub sorted_up_to : IsSortedUpTo cmp key ls (Some (key (line store cursor.current_slot)))
   pub bound : b ≡ AtLeast (key (line store cursor.current_slot))
   pub some : 0 < cursor.number
 
-pub at_current_line : {end : ℕ} {cmp : Cmp} {key : Key} {old now : Reader} {cursor : Sorted} {store : Slots} {ls p : Lines} {b : Bound} → cursor.status ≡ Head
-    → SideInvariant end cmp key old now cursor store ls p b → IsAtCurrentLine cmp key cursor store ls p b
+pub at_current_line : {end : ℕ} {cmp : Cmp} {key : Key} {old now : Reader} {cursor : Sorted} {store : Slots}
+    {ls p : Lines} {b : Bound}
+    → cursor.status ≡ Head → SideInvariant end cmp key old now cursor store ls p b
+    → IsAtCurrentLine cmp key cursor store ls p b
 at_current_line {cmp = cmp} {key} {now = now} {cursor} {store} {ls} {p} {b} e s =
     let (all, sorted_up_to, bound) = subst (λ t. MatchesStatus cmp key t cursor store now ls p b) e s.status_is in
     record {
@@ -108,21 +129,29 @@ pub record SideAfterNext (end : ℕ) (cmp : Cmp) (key : Key) (old new : Reader) 
   pub continues_key : now_ls ≡ ls ++ more
   pub fits : length bytes ≤ max_length now_ls
 
-status_after_next : (cmp : Cmp) (key : Key) (last : Option (List ℕ)) (cursor : Sorted) (store : Slots) (next : List ℕ) → IsLastKey key last cursor store
-    → status_at key cmp cursor.number (line store cursor.current_slot) next ≡ cond (is_disordered cmp last (key next)) (Disorder (cursor.number + 1)) Head
+status_after_next : (cmp : Cmp) (key : Key) (last : Option (List ℕ)) (cursor : Sorted) (store : Slots) (next : List ℕ)
+    → IsLastKey key last cursor store
+    → status_at key cmp cursor.number (line store cursor.current_slot) next
+    ≡ cond (is_disordered cmp last (key next)) (Disorder (cursor.number + 1)) Head
 status_after_next cmp key last cursor store next l = grind (arith, nat_tests)
 
 -- nothing follows
-nothing_follows : (cmp : Cmp) (key : Key) (last : Option (List ℕ)) (r : Lines) → r ≡ [] → MayFollow cmp key (bound_after last) r
+nothing_follows : (cmp : Cmp) (key : Key) (last : Option (List ℕ)) (r : Lines) → r ≡ []
+    → MayFollow cmp key (bound_after last) r
 nothing_follows cmp key last r none = grind arith
 
-from_next : {cmp : Cmp} (o : IsKeyOrder cmp) (key : Key) (last : Option (List ℕ)) (x : List ℕ) → is_disordered cmp last (key x) ≡ false
+from_next : {cmp : Cmp} (o : IsKeyOrder cmp) (key : Key) (last : Option (List ℕ)) (x : List ℕ)
+    → is_disordered cmp last (key x) ≡ false
     → ((r : Lines) → EachKey (AtMost cmp (key x)) key r → MayFollow cmp key (bound_after last) r)
     × ((k : List ℕ) → IsUnder cmp (bound_after last) k → AtMost cmp k (key x))
 from_next o key None x h = (λ r c. tt, λ k u. absurd u)
-from_next {cmp} o key (Some j) x h = (λ r c. EachKey-weaker _ _ (λ y a. at_most_trans cmp o j (key x) y h a) _ _ c, λ k u. at_most_trans cmp o k j (key x) u h)
+from_next {cmp} o key (Some j) x h = (
+  λ r c. EachKey-weaker _ _ (λ y a. at_most_trans cmp o j (key x) y h a) _ _ c,
+  λ k u. at_most_trans cmp o k j (key x) u h,
+)
 
-module _ (end : ℕ) (cmp : Cmp) (o : IsKeyOrder cmp) (key : Key) (old now new : Reader) (cursor next : Sorted) (before after : Slots) (ls : Lines) where
+module _ (end : ℕ) (cmp : Cmp) (o : IsKeyOrder cmp) (key : Key) (old now new : Reader) (cursor next : Sorted)
+    (before after : Slots) (ls : Lines) where
   abbrev next_cursor : CursorStatus → ℕ → Bool → Sorted
   next_cursor status number same = record {
     current_slot = cursor.previous_slot;
@@ -173,7 +202,8 @@ module _ (end : ℕ) (cmp : Cmp) (o : IsKeyOrder cmp) (key : Key) (old now new :
     at_head : (last : Option (List ℕ)) → cursor.previous_slot < length before.lines → IsSortedUpTo cmp key ls last
         → is_disordered cmp last (key e.line) ≡ false → Goal last (next_cursor Head (cursor.number + 1) same)
     at_head last within sorted_up_to no_disorder =
-        let now_is : line after cursor.previous_slot ≡ e.line = rw e.stored (line_of_with_line before cursor.previous_slot e.line within) in
+        let now_is : line after cursor.previous_slot ≡ e.line =
+        rw e.stored (line_of_with_line before cursor.previous_slot e.line within) in
         let more = sorted_up_to_more e.line sorted_up_to no_disorder in
         let (may_follow, under) = from_next o key last e.line no_disorder in
         at_next last (e.line ∷ []) e.line (next_cursor Head (cursor.number + 1) same) (AtLeast (key e.line))
@@ -193,15 +223,22 @@ module _ (end : ℕ) (cmp : Cmp) (o : IsKeyOrder cmp) (key : Key) (old now new :
         at_next (Some k) (e.line ∷ []) e.line (next_cursor (Disorder (cursor.number + 1)) (cursor.number + 1) same)
         (AfterDisorder (record { last_key = k; line = length ls + 1 })) (lines_read_more lines_read e)
         (inr (omega (arith, length_push ls e.line))) sound
-        (inr (e.line, refl, refl)) (omega (arith, number, length_push ls e.line)) (processed_to_disorder e.line sorted_up_to falls_now)
-        (rw (← key_is, number) refl) (nothing_follows cmp key (Some k)) (λ j u. u) e.stored (omega (arith, max_length-append ls (e.line ∷ [])))
+        (inr (e.line, refl, refl)) (omega (arith, number, length_push ls e.line))
+        (processed_to_disorder e.line sorted_up_to falls_now)
+        (rw (← key_is, number) refl) (nothing_follows cmp key (Some k)) (λ j u. u) e.stored
+        (omega (arith, max_length-append ls (e.line ∷ [])))
 
   pub next_invariant : {last : Option (List ℕ)} → cursor.previous_slot < length before.lines
       → cursor.current_slot ≢ cursor.previous_slot → LinesRead end old now ls → cursor.number ≡ length ls
-      → IsSortedUpTo cmp key ls last → IsLastKey key last cursor before → NextOkPost key cmp cursor next now new before after → Goal last next
+      → IsSortedUpTo cmp key ls last → IsLastKey key last cursor before
+      → NextOkPost key cmp cursor next now new before after → Goal last next
   next_invariant {last} within apart lines_read number sorted_up_to is (inl e) =
       let same = same_key_at key cmp cursor.number (line before cursor.current_slot) e.next_line.line in
-      subst (Goal last) (sym (e.cursor ∙ (λ i. next_cursor (status_after_next cmp key last cursor before e.next_line.line is i) (cursor.number + 1) same)))
+      subst (Goal last)
+      (sym
+      (e.cursor
+      ∙ (λ i. next_cursor (status_after_next cmp key last cursor before e.next_line.line is i) (cursor.number + 1)
+      same)))
       (elim (is_disordered cmp last (key e.next_line.line)) as (λ t. is_disordered cmp last (key e.next_line.line) ≡ t
       → Goal last (next_cursor (cond t (Disorder (cursor.number + 1)) Head) (cursor.number + 1) same)) [
         | true ↦ λ h. at_fall e.next_line e.sound lines_read number same last apart sorted_up_to is h
@@ -215,10 +252,13 @@ module _ (end : ℕ) (cmp : Cmp) (o : IsKeyOrder cmp) (key : Key) (old now new :
       (refl, e.done) (nothing_follows cmp key last) (λ k u. tt) e.empty (omega arith))
 
 -- advancing decreases the remaining work
-pub next_decreases : {key : Key} {cmp : Cmp} {cursor next : Sorted} {now new : Reader} {before after : Slots} → cursor.status ≡ Head
-    → NextOkPost key cmp cursor next now new before after → budget new + reads_left next.status < budget now + reads_left cursor.status
-next_decreases {next = next} head (inl e) = omega (arith, e.next_line.less, reads_left_most next.status, ap reads_left head)
-next_decreases head (inr e) = omega (arith, e.advance_ok.reads.count, ap (λ (q : Sorted). reads_left q.status) e.cursor, ap reads_left head)
+pub next_decreases : {key : Key} {cmp : Cmp} {cursor next : Sorted} {now new : Reader} {before after : Slots}
+    → cursor.status ≡ Head → NextOkPost key cmp cursor next now new before after
+    → budget new + reads_left next.status < budget now + reads_left cursor.status
+next_decreases {next = next} head (inl e) = omega
+    (arith, e.next_line.less, reads_left_most next.status, ap reads_left head)
+next_decreases head (inr e) =
+    omega (arith, e.advance_ok.reads.count, ap (λ (q : Sorted). reads_left q.status) e.cursor, ap reads_left head)
 
 -- ---- whether the current line has the key of the previous one
 
@@ -226,9 +266,12 @@ next_decreases head (inr e) = omega (arith, e.advance_ok.reads.count, ap (λ (q 
 status_same_key : (n : ℕ) (r : Ordering) → is_eq r ≡ (is_head (cond (is_gt r) (Disorder n) Head) && is_eq r)
 status_same_key n r = grind arith
 
-pub next_same_key : (cmp : Cmp) (o : IsKeyOrder cmp) (key : Key) (cursor next : Sorted) (now new : Reader) (before after : Slots) → 0 < cursor.number
-    → cursor.previous_slot < length before.lines → NextOkPost key cmp cursor next now new before after
-    → next.same ≡ (is_head next.status && bytes_eq (key (line before cursor.current_slot)) (key (line after next.current_slot)))
+pub next_same_key : (cmp : Cmp) (o : IsKeyOrder cmp) (key : Key) (cursor next : Sorted) (now new : Reader)
+    (before after : Slots)
+    → 0 < cursor.number → cursor.previous_slot < length before.lines
+    → NextOkPost key cmp cursor next now new before after
+    → next.same ≡ (is_head next.status && bytes_eq (key (line before cursor.current_slot))
+    (key (line after next.current_slot)))
 next_same_key cmp o key cursor next now new before after some within (inl e) =
     let last = key (line before cursor.current_slot) in
     let r = cmp last (key e.next_line.line) in
@@ -236,7 +279,8 @@ next_same_key cmp o key cursor next now new before after some within (inl e) =
     let counted : nat_lt 0 cursor.number ≡ true = grind (arith, nat_tests) in
     let now_is : line after cursor.previous_slot ≡ e.next_line.line = rw e.next_line.stored
     (line_of_with_line before cursor.previous_slot e.next_line.line within) in
-    let here = status_same_key m r ∙ ap (λ (t : Bool). is_head (cond (is_gt r) (Disorder m) Head) && t) (equal_is cmp o last (key e.next_line.line)) in
+    let here = status_same_key m r ∙ ap (λ (t : Bool). is_head (cond (is_gt r) (Disorder m) Head) && t)
+    (equal_is cmp o last (key e.next_line.line)) in
     rw (e.cursor, counted, now_is) here
 next_same_key cmp o key cursor next now new before after some within (inr e) = rw e.cursor refl
 
@@ -246,7 +290,8 @@ abbrev pub state_by_side : (Side → Reader) → Output → Slots → MergeState
 state_by_side reader out store = record { reader = reader; out = out; store = store }
 
 -- an input at an exit: the lines `ls` are read, `p` of them are processed, and a piece of a further line is read
-pub record ReadFacts (end : ℕ) (cmp : Cmp) (key : Key) (old now new : Reader) (piece : List ℕ) (ls p : Lines) (b : Bound) : Type 0 where
+pub record ReadFacts (end : ℕ) (cmp : Cmp) (key : Key) (old now new : Reader) (piece : List ℕ) (ls p : Lines)
+    (b : Bound) : Type 0 where
   pub lines_read : LinesRead end old now ls
   pub reads : ReaderAdvance now new piece
   pub line : IsLine now.terminator piece
@@ -266,11 +311,12 @@ read_facts_at_line {cmp = cmp} {key} {now = now} {cursor} {store} {ls} {p} {b} s
   sound = s.sound;
   processed_nearly = s.processed_nearly;
   processed_prefix = s.processed_prefix;
-  nothing_follows = elim cursor.status as (λ t. MatchesStatus cmp key t cursor store now ls p b → b ≡ NothingMore → IsDone now) [
-    | Head ↦ λ (_, _, bound) e. (let bad = sym bound ∙ e in cc)
-    | Ended ↦ λ (_, done) e. done
-    | Disorder n ↦ λ st e. (let bad = sym st ∙ e in cc)
-  ] s.status_is;
+  nothing_follows =
+      elim cursor.status as (λ t. MatchesStatus cmp key t cursor store now ls p b → b ≡ NothingMore → IsDone now) [
+        | Head ↦ λ (_, _, bound) e. (let bad = sym bound ∙ e in cc)
+        | Ended ↦ λ (_, done) e. done
+        | Disorder n ↦ λ st e. (let bad = sym st ∙ e in cc)
+      ] s.status_is;
 }
 
 -- an input whose lines are all processed, and a piece of a further line
@@ -313,7 +359,8 @@ pub record IsFailedRead (cmp : Cmp) (key : Key) (new : Reader) (ls p : Lines) : 
 
 -- the store never held more bytes than the measure of these lines, and has no more slots
 abbrev pub FitsIn : MergeTool → Slots → Slots → (Side → Lines) → Type 0
-FitsIn tool before after ls = (after.peak ≤ max before.peak (tool.size ls)) × (length after.lines ≤ max (length before.lines) (tool.slots ls))
+FitsIn tool before after ls =
+    (after.peak ≤ max before.peak (tool.size ls)) × (length after.lines ≤ max (length before.lines) (tool.slots ls))
 
 -- this holds for all lists that continue these lines and pieces
 abbrev pub Fits : MergeTool → Slots → (Side → Reader) → (Side → Lines) → (Side → List ℕ) → Slots → Type 0
@@ -367,7 +414,8 @@ module _ (tool : MergeTool) (o : IsKeyOrder tool.cmp) (old new : MergeState) (no
   abbrev pub given : Side → Received
   given side = received_with ((g side).lines_read.given ++ piece side) (new.reader side)
 
-  pub input_split_of : (all : Side → Lines) → ((side : Side) → Continues (now side) (ls side) (all side)) → InputSplit tool b p all
+  pub input_split_of : (all : Side → Lines) → ((side : Side) → Continues (now side) (ls side) (all side))
+      → InputSplit tool b p all
   input_split_of all w =
       let rest = λ (side : Side). (g side).processed_prefix.future (w side).more
       (is_continuation (b side) (w side).more (λ e. (w side).done ((g side).nothing_follows e))) in
@@ -380,7 +428,8 @@ module _ (tool : MergeTool) (o : IsKeyOrder tool.cmp) (old new : MergeState) (no
 
   input_lines : (input : Side → List ℕ) → AreConsistent given input → (side : Side)
       → HoldsLines (now side) (ls side) (piece side) (lines tool.terminator (input side))
-  input_lines input a side = lines_read_of_input _ _ _ _ _ _ (g side).lines_read (g side).reads (g side).line (input side) (a side)
+  input_lines input a side = lines_read_of_input _ _ _ _ _ _ (g side).lines_read (g side).reads (g side).line
+      (input side) (a side)
 
   known : (side : Side) → KnownLines tool.terminator (old.reader side) (now side) (new.reader side) (ls side)
       (piece side) (g side).lines_read (g side).reads (g side).line (known_lines tool.terminator (given side))
@@ -411,7 +460,8 @@ module _ (tool : MergeTool) (o : IsKeyOrder tool.cmp) (old new : MergeState) (no
 
     pub exit_facts : (done : Lines) → unlines tool.terminator (entries_by_key tool all_keys front) ++ bytes ≡ unlines
         tool.terminator done → {result : Result (Unit {0}) MergeFault} → MergeEndPost old new result
-        → ((all : Side → Lines) → ((side : Side) → Continues (now side) (ls side) (all side)) → (rest : Lines) × (merged_entries tool all ≡ done ++ rest))
+        → ((all : Side → Lines) → ((side : Side) → Continues (now side) (ls side) (all side))
+        → (rest : Lines) × (merged_entries tool all ≡ done ++ rest))
         → ((side : Side) → (new.reader side).failed ≡ true → IsFailedRead cmp (key side) (new.reader side) (ls side)
         (p side))
         → ((input : Side → List ℕ) → AreConsistent given input
@@ -436,7 +486,8 @@ module _ (tool : MergeTool) (o : IsKeyOrder tool.cmp) (old new : MergeState) (no
       decided_is_written = λ side fail clean_now.
           let f = failed side fail in
           let e = (known side).exact f.buffered f.eof ∙ f.all in
-          let b = decided_of_passed tool o (λ s. (new.reader s).eof) (λ s. known_lines tool.terminator (given s)) side f.eof
+          let b = decided_of_passed tool o (λ s. (new.reader s).eof) (λ s. known_lines tool.terminator (given s))
+          side f.eof
           (ap (first_disorder cmp (key side)) (e ∙ sym (append-nil (p side))) ∙ f.sorted_up_to.may_disorder []) front
           (λ s. record {
             rest = [];
@@ -447,7 +498,11 @@ module _ (tool : MergeTool) (o : IsKeyOrder tool.cmp) (old new : MergeState) (no
             none_tail = rw e (past_none cmp o (key side) (key s) (bound s) (p side) (tail s ++ (future s).rest)
                 (under s side) (future s).may_follow);
           }) in
-          record { rest = b.rest ++ bytes; is = sym is ∙ ap (λ (l : List ℕ). l ++ bytes) b.is ∙ append_assoc (decided_output tool given) b.rest bytes };
+          record {
+            rest = b.rest ++ bytes;
+            is = sym is ∙ ap (λ (l : List ℕ). l ++ bytes) b.is
+                ∙ append_assoc (decided_output tool given) b.rest bytes;
+          };
       -- everything was written that was decided two blocks of an input earlier
       bounded_lag = λ of clean_then. rw is at (bounded_lag_after (λ came. decided_output tool
           (with_side of (came tt) given)) (λ u. given of) old.out mid
@@ -545,16 +600,21 @@ module _ (tool : MergeTool) (o : IsKeyOrder tool.cmp) (old new : MergeState) (no
 
 -- ---- a merge of readers whose terminator was set
 
-module _ (old new : MergeState) (set : Side → Reader) (end : ℕ) (is : (side : Side) → set side ≡ record (old.reader side) { terminator = end }) where
-  ends_set : (result : Result (Unit {0}) MergeFault) → MergeEndPost (with_terminator end old) new result → MergeEndPost old new result
-  ends_set (Err (Read side)) e = assumption (cause_set (old.reader side) (record (old.reader side) { terminator = end }) end refl (new.reader side) e.cause)
+module _ (old new : MergeState) (set : Side → Reader) (end : ℕ)
+    (is : (side : Side) → set side ≡ record (old.reader side) { terminator = end }) where
+  ends_set : (result : Result (Unit {0}) MergeFault) → MergeEndPost (with_terminator end old) new result
+      → MergeEndPost old new result
+  ends_set (Err (Read side)) e =
+      assumption (cause_set (old.reader side) (record (old.reader side) { terminator = end }) end refl (new.reader side)
+      e.cause)
   ends_set other e = assumption
 
   pub merge_set : (tool : MergeTool) (result : Result (Unit {0}) MergeFault)
       → MergePost tool (record { reader = set; out = old.out; store = old.store }) new result
       → MergePost tool old new result
   merge_set tool result was =
-      let m = subst (λ (r : Side → Reader). MergePost tool (state_by_side r old.out old.store) new result) (λ i side. is side i) was in
+      let m = subst (λ (r : Side → Reader). MergePost tool (state_by_side r old.out old.store) new result)
+      (λ i side. is side i) was in
       record {
         given = m.given;
         came = λ side. has_received_set (old.reader side) (record (old.reader side) { terminator = end }) end refl
@@ -583,7 +643,8 @@ module _ (old new : MergeState) (set : Side → Reader) (end : ℕ) (is : (side 
 -- ---- an exit before the start
 
 -- the output had failed, and nothing was done
-pub merge_halted : (tool : MergeTool) (old : MergeState) → old.store.denied ≡ false → old.out.write_failed ≡ true → MergePost tool old old (Err Write)
+pub merge_halted : (tool : MergeTool) (old : MergeState) → old.store.denied ≡ false → old.out.write_failed ≡ true
+    → MergePost tool old old (Err Write)
 merge_halted tool old allowed fault = record {
   given = λ side. received_with [] (old.reader side);
   came = λ side. has_received (old.reader side) (old.reader side) [] (reads_nothing (old.reader side));

@@ -1,12 +1,19 @@
 -- The invariant of a merge. Lines are processed in the order of their keys: no line that may still follow has a lesser
 -- key than a processed line. So the output for the processed lines is a prefix of the output for all inputs that begin
 -- with the lines read so far.
-use Rattle.ptmerge.proofs.Common.{nat_tests, ◌≡◌, ℕ, ◌+◌, List, [], ◌∷◌, ◌++◌, Bool, true, false, cond, Option, Some, None, length, refl, ◌∙◌, map, append_assoc, arith, nat_lt, unwrap_or}
-use Rattle.ptmerge.proofs.Common.{if◌then◌else◌, last_or, is_gt, length_push, Lines, sorted_prefix, first_disorder, FirstDisorder, Cmp, Key, ◌&&◌, not, ap, sym, append-nil, flat_map-append, filter, flat_map, Less, Equal}
-use Rattle.ptmerge.proofs.Common.{Greater, match_ordering, Side, First, Second, MergeTool, insert_key, distinct_keys, keys, entries_of_key, entries_by_key, earlier_disorder, is_up_to, ◌⊎◌, inl, inr, subst, is_lt, Output}
-use Rattle.ptmerge.proofs.Common.{PushEffect, unlines, push_trans, push_nothing, unlines-append, disorder, is_below, is_decided, is_past, merged_entries, lines_with_key, IsDisorderAt, with_side}
-use Rattle.ptmerge.proofs.MergeLemmas.Orders.{IsKeyOrder, AtMost, at_most_trans, self_at_most, EachKey, EachKey-weaker, Above, at_most_is_le, above_trans, less_flips, Each, Each-weaker, Each-insert}
-use Rattle.ptmerge.proofs.MergeLemmas.Orders.{Each-distinct, Each-append, Each-all, EachKey-append, front_first, greater_flips}
+use Rattle.ptmerge.proofs.Common.{nat_tests, ◌≡◌, ℕ, ◌+◌, List, [], ◌∷◌, ◌++◌, Bool, true, false, cond, Option, Some}
+use Rattle.ptmerge.proofs.Common.{None, length, refl, ◌∙◌, map, append_assoc, arith, nat_lt, unwrap_or, if◌then◌else◌}
+use Rattle.ptmerge.proofs.Common.{last_or, is_gt, length_push, Lines, sorted_prefix, first_disorder, FirstDisorder, Cmp}
+use Rattle.ptmerge.proofs.Common.{Key, ◌&&◌, not, ap, sym, append-nil, flat_map-append, filter, flat_map, Less, Equal}
+use Rattle.ptmerge.proofs.Common.{Greater, match_ordering, Side, First, Second, MergeTool, insert_key, distinct_keys}
+use Rattle.ptmerge.proofs.Common.{keys, entries_of_key, entries_by_key, earlier_disorder, is_up_to, ◌⊎◌, inl, inr}
+use Rattle.ptmerge.proofs.Common.{subst, is_lt, Output, PushEffect, unlines, push_trans, push_nothing, unlines-append}
+use Rattle.ptmerge.proofs.Common.{disorder, is_below, is_decided, is_past, merged_entries, lines_with_key, IsDisorderAt}
+use Rattle.ptmerge.proofs.Common.{with_side}
+use Rattle.ptmerge.proofs.MergeLemmas.Orders.{IsKeyOrder, AtMost, at_most_trans, self_at_most, EachKey, EachKey-weaker}
+use Rattle.ptmerge.proofs.MergeLemmas.Orders.{Above, at_most_is_le, above_trans, less_flips, Each, Each-weaker}
+use Rattle.ptmerge.proofs.MergeLemmas.Orders.{Each-insert, Each-distinct, Each-append, Each-all, EachKey-append}
+use Rattle.ptmerge.proofs.MergeLemmas.Orders.{front_first, greater_flips}
 use Rattle.ptmerge.specs.MergeSpec.{MergeDisorder}
 use Rattle.ptmerge.proofs.MergeLemmas.Slots.{put_each}
 
@@ -24,7 +31,8 @@ disorder_at last n = record { last_key = unwrap_or last []; line = n + 1 }
 
 abbrev pub disorder_after : Cmp → Key → Option (List ℕ) → ℕ → Lines → Option FirstDisorder
 disorder_after cmp key last n [] = None
-disorder_after cmp key last n (x ∷ w) = cond (is_disordered cmp last (key x)) (Some (disorder_at last n)) (disorder_after cmp key (Some (key x)) (n + 1) w)
+disorder_after cmp key last n (x ∷ w) =
+    cond (is_disordered cmp last (key x)) (Some (disorder_at last n)) (disorder_after cmp key (Some (key x)) (n + 1) w)
 
 pub sorted_prefix_is : (cmp : Cmp) (key : Key) (ls : Lines) → sorted_prefix cmp key ls ≡ sorted_after cmp key None ls
 sorted_prefix_is cmp key [] = refl
@@ -39,9 +47,11 @@ by_length cmp key last n part ls = if nat_lt (length part) (length ls) then Some
 by_length_is : (cmp : Cmp) (key : Key) (last : Option (List ℕ)) (n : ℕ) (ls : Lines)
     → by_length cmp key last n (sorted_after cmp key last ls) ls ≡ disorder_after cmp key last n ls
 by_length_is cmp key last n [] = refl
-by_length_is cmp key last n (x ∷ w) = let ih = by_length_is cmp key (Some (key x)) (n + 1) w in grind (arith, nat_tests, ih)
+by_length_is cmp key last n (x ∷ w) = let ih = by_length_is cmp key (Some (key x)) (n + 1) w in
+    grind (arith, nat_tests, ih)
 
-pub first_disorder_is : (cmp : Cmp) (key : Key) (ls : Lines) → first_disorder cmp key ls ≡ disorder_after cmp key None 0 ls
+pub first_disorder_is : (cmp : Cmp) (key : Key) (ls : Lines)
+    → first_disorder cmp key ls ≡ disorder_after cmp key None 0 ls
 first_disorder_is cmp key ls = grind (arith, sorted_prefix_is cmp key ls, by_length_is cmp key None 0 ls)
 
 -- lines in order, up to a last key
@@ -56,7 +66,13 @@ pub sorted_up_to_more : {cmp : Cmp} {key : Key} {q : Lines} {last : Option (List
     → IsSortedUpTo cmp key q last → is_disordered cmp last (key x) ≡ false
     → IsSortedUpTo cmp key (q ++ x ∷ []) (Some (key x))
 sorted_up_to_more {cmp} {key} {q} x b no_disorder = record {
-  ordered = λ w. rw (append_assoc q (x ∷ []) w, b.ordered (x ∷ w), no_disorder, append_assoc q (x ∷ []) (sorted_after cmp key (Some (key x)) w));
+  ordered =
+      λ w. rw (
+        append_assoc q (x ∷ []) w,
+        b.ordered (x ∷ w),
+        no_disorder,
+        append_assoc q (x ∷ []) (sorted_after cmp key (Some (key x)) w),
+      );
   may_disorder = λ w. rw (append_assoc q (x ∷ []) w, b.may_disorder (x ∷ w), no_disorder, length_push q x);
 }
 
@@ -65,7 +81,8 @@ abbrev pub IsDisorderFrom : Cmp → List ℕ → Option FirstDisorder → Type 0
 IsDisorderFrom cmp k None = Unit {0}
 IsDisorderFrom cmp k (Some d) = AtMost cmp k d.last_key
 
-pub after_from : (cmp : Cmp) (o : IsKeyOrder cmp) (key : Key) (k : List ℕ) (n : ℕ) (w : Lines) → EachKey (AtMost cmp k) key (sorted_after cmp key (Some k) w)
+pub after_from : (cmp : Cmp) (o : IsKeyOrder cmp) (key : Key) (k : List ℕ) (n : ℕ) (w : Lines)
+    → EachKey (AtMost cmp k) key (sorted_after cmp key (Some k) w)
     × IsDisorderFrom cmp k (disorder_after cmp key (Some k) n w)
 after_from cmp o key k n [] = (tt, tt)
 after_from cmp o key k n (x ∷ w) =
@@ -137,7 +154,8 @@ processed_to_line {cmp} o {key} {ls} {k} g = record {
       };
 }
 
-pub processed_all : {cmp : Cmp} {key : Key} {ls : Lines} {last : Option (List ℕ)} → IsSortedUpTo cmp key ls last → IsProcessedPrefix cmp key ls ls NothingMore
+pub processed_all : {cmp : Cmp} {key : Key} {ls : Lines} {last : Option (List ℕ)} → IsSortedUpTo cmp key ls last
+    → IsProcessedPrefix cmp key ls ls NothingMore
 processed_all g = record {
   future = λ w none. rw none
       (record { rest = []; is = g.ordered []; may_follow = refl; may_disorder = g.may_disorder [] });
@@ -158,7 +176,8 @@ processed_before_line {cmp} o {key} {p} {x} g = record {
 }
 
 -- the current line is out of order
-pub processed_to_disorder : {cmp : Cmp} {key : Key} {p : Lines} {k : List ℕ} (x : List ℕ) → IsSortedUpTo cmp key p (Some k) → is_gt (cmp k (key x)) ≡ true
+pub processed_to_disorder : {cmp : Cmp} {key : Key} {p : Lines} {k : List ℕ} (x : List ℕ)
+    → IsSortedUpTo cmp key p (Some k) → is_gt (cmp k (key x)) ≡ true
     → IsProcessedPrefix cmp key (p ++ x ∷ []) p (AfterDisorder (record { last_key = k; line = length p + 1 }))
 processed_to_disorder {p = p} x g fell = record {
   future = λ w _. record {
@@ -222,7 +241,8 @@ module _ (cmp : Cmp) (o : IsKeyOrder cmp) where
       not_above h y g = grind (arith, down k y g)
 
   -- the disorder comes after a key that is at least k
-  pub under_fall : (b : Bound) (k : List ℕ) (f : Option FirstDisorder) → IsUnder cmp b k → MayDisorder cmp b f → IsDisorderFrom cmp k f
+  pub under_fall : (b : Bound) (k : List ℕ) (f : Option FirstDisorder) → IsUnder cmp b k → MayDisorder cmp b f
+      → IsDisorderFrom cmp k f
   under_fall b k f u h = grind (arith, at_most_trans)
 
   pub up_to_from : (k : List ℕ) (f1 f2 : Option FirstDisorder) → IsDisorderFrom cmp k f1 → IsDisorderFrom cmp k f2
@@ -250,7 +270,8 @@ module _ (tool : MergeTool) where
 
   -- the entries of the keys that pass the test come first
   pub downward_splits : IsKeyOrder cmp → (w p : List ℕ → Bool) → IsDownwardClosed cmp p → (ls : Side → Lines)
-      → entries_by_key tool w ls ≡ entries_by_key tool (λ k. w k && p k) ls ++ entries_by_key tool (λ k. w k && not (p k)) ls
+      → entries_by_key tool w ls ≡ entries_by_key tool (λ k. w k && p k) ls
+      ++ entries_by_key tool (λ k. w k && not (p k)) ls
   downward_splits o w p down ls =
       let ks = distinct_keys cmp (keys tool ls) in
       ap (flat_map (entries_of_key tool ls)) (downward_first cmp o w p down ks (ascends_distinct cmp o (keys tool ls)))
@@ -295,8 +316,10 @@ pub record MergeInvariant (tool : MergeTool) (b : Side → Bound) (p : Side → 
   pub wrote : PushEffect was is (unlines tool.terminator (entries_by_key tool all_keys p))
 
 -- before anything is read
-pub merge_invariant_starts : (tool : MergeTool) (was : Output) → MergeInvariant tool (λ side. NoBound) (λ side. []) was was
-merge_invariant_starts tool was = record { splits = record { split = λ w r c. refl }; under = λ of side. tt; wrote = push_nothing was }
+pub merge_invariant_starts : (tool : MergeTool) (was : Output)
+    → MergeInvariant tool (λ side. NoBound) (λ side. []) was was
+merge_invariant_starts tool was =
+    record { splits = record { split = λ w r c. refl }; under = λ of side. tt; wrote = push_nothing was }
 
 -- The output by the last time at which no write had failed: entries of all processed lines except perhaps the last
 -- ones, which precede all that may follow.
@@ -308,13 +331,16 @@ pub record LagInvariant (tool : MergeTool) (b : Side → Bound) (p : Side → Li
   pub wrote : PushEffect was mid (unlines tool.terminator (entries_by_key tool all_keys front))
   pub bytes : List ℕ
   pub more : PushEffect mid is bytes
-  pub all : unlines tool.terminator (entries_by_key tool all_keys front) ++ bytes ≡ unlines tool.terminator (entries_by_key tool all_keys p)
+  pub all : unlines tool.terminator (entries_by_key tool all_keys front) ++ bytes
+      ≡ unlines tool.terminator (entries_by_key tool all_keys p)
   pub split : (side : Side) → p side ≡ front side ++ tail side
-  pub may_follow : (side : Side) (r : Lines) → MayFollow tool.cmp (tool.key side) (b side) r → MayFollow tool.cmp (tool.key side) (b side) (tail side ++ r)
+  pub may_follow : (side : Side) (r : Lines) → MayFollow tool.cmp (tool.key side) (b side) r
+      → MayFollow tool.cmp (tool.key side) (b side) (tail side ++ r)
 
 -- everything was written by then, and nothing after it
-pub lag_invariant_starts : (tool : MergeTool) (b : Side → Bound) (p : Side → Lines) (was mid is : Output) → mid.write_failed ≡ false
-    → PushEffect was mid (unlines tool.terminator (entries_by_key tool all_keys p)) → PushEffect mid is [] → LagInvariant tool b p was is
+pub lag_invariant_starts : (tool : MergeTool) (b : Side → Bound) (p : Side → Lines) (was mid is : Output)
+    → mid.write_failed ≡ false → PushEffect was mid (unlines tool.terminator (entries_by_key tool all_keys p))
+    → PushEffect mid is [] → LagInvariant tool b p was is
 lag_invariant_starts tool b p was mid is clean wrote more = record {
   mid = mid;
   front = p;
@@ -347,8 +373,10 @@ line_is_least_run {cmp} o {key} {x = x} is same = rw (is, ← same)
     })
 
 -- such lines are processed
-pub write_least_run : {tool : MergeTool} (o : IsKeyOrder tool.cmp) (k : List ℕ) (q f : Side → Lines) {b : Side → Bound} {p : Side → Lines} {was is new : Output}
-    → ((side : Side) → IsLeastKeyRun tool.cmp (tool.key side) (b side) k (f side)) → ((side : Side) → q side ≡ p side ++ f side) → tool.entries k [] [] ≡ []
+pub write_least_run : {tool : MergeTool} (o : IsKeyOrder tool.cmp) (k : List ℕ) (q f : Side → Lines)
+    {b : Side → Bound} {p : Side → Lines} {was is new : Output}
+    → ((side : Side) → IsLeastKeyRun tool.cmp (tool.key side) (b side) k (f side))
+    → ((side : Side) → q side ≡ p side ++ f side) → tool.entries k [] [] ≡ []
     → ((r : Side → Lines) → ((side : Side) → MayFollow tool.cmp (tool.key side) (b side) (r side))
     → tool.entries k (f First ++ lines_with_key (tool.key First) (r First) k)
     (f Second ++ lines_with_key (tool.key Second) (r Second) k) ≡ tool.entries k (f First) (f Second) ++ entries_of_key
@@ -357,13 +385,17 @@ pub write_least_run : {tool : MergeTool} (o : IsKeyOrder tool.cmp) (k : List ℕ
     → PushEffect is new (unlines tool.terminator (entries_by_key tool all_keys f)) → MergeInvariant tool b q was new
     × LagInvariant tool b q was new
 write_least_run {tool} o k q f {b} {p} {was} {is} {new} front all none law clean m wrote =
-    let nothing = λ (side : Side). rw append-nil at ((front side).may_follow [] (may_follow_none tool.cmp (tool.key side) (b side))) in
+    let nothing =
+    λ (side : Side). rw append-nil at
+    ((front side).may_follow [] (may_follow_none tool.cmp (tool.key side) (b side))) in
     let texts = ap (unlines tool.terminator) (m.splits.split all_keys f nothing)
     ∙ unlines-append tool.terminator (entries_by_key tool all_keys p) (entries_by_key tool all_keys f) in
-    subst (λ (l : Side → Lines). MergeInvariant tool b l was new × LagInvariant tool b l was new) (λ i side. sym (all side) i) (
+    subst (λ (l : Side → Lines). MergeInvariant tool b l was new × LagInvariant tool b l was new)
+    (λ i side. sym (all side) i) (
       record {
         splits = splits_step tool b b p f m.splits (λ side. (front side).may_follow)
-            (λ w r c. front_first tool o w k f r (λ side. (front side).own) (λ side. (front side).bound_after (r side) (c side)) none (law r c));
+            (λ w r c. front_first tool o w k f r (λ side. (front side).own)
+            (λ side. (front side).bound_after (r side) (c side)) none (law r c));
         under = λ of side. EachKey-append (IsUnder tool.cmp (b of)) (tool.key side) _ _ (m.under of side)
             (EachKey-weaker (λ y. y ≡ k) (IsUnder tool.cmp (b of)) (λ y e. rw e (front of).under) _ _ (front side).own);
         wrote = rw texts (push_trans _ _ _ _ _ clean m.wrote wrote);
@@ -383,7 +415,8 @@ write_least_run {tool} o k q f {b} {p} {was} {is} {new} front all none law clean
     )
 
 -- an input advanced
-pub bound_changes : {tool : MergeTool} {b : Side → Bound} {p : Side → Lines} {was is : Output} (s : Side) (d : Bound) → MergeInvariant tool b p was is
+pub bound_changes : {tool : MergeTool} {b : Side → Bound} {p : Side → Lines} {was is : Output} (s : Side) (d : Bound)
+    → MergeInvariant tool b p was is
     → ((r : Lines) → MayFollow tool.cmp (tool.key s) d r → MayFollow tool.cmp (tool.key s) (b s) r)
     → ((k : List ℕ) → IsUnder tool.cmp (b s) k → IsUnder tool.cmp d k) → MergeInvariant tool (with_side s d b) p was is
 bound_changes {tool} {b} {p} s d m may_follow under = record {
@@ -425,15 +458,16 @@ module _ (cmp : Cmp) (o : IsKeyOrder cmp) where
   not_below k x h = grind (arith, less_flips cmp o k x)
 
   -- no line that may follow is below the key of a processed line
-  coming_under : (key : Key) (b : Bound) (x : List ℕ) (r : Lines) → IsUnder cmp b x → MayFollow cmp key b r → EachKey (AtMost cmp x) key r
+  coming_under : (key : Key) (b : Bound) (x : List ℕ) (r : Lines) → IsUnder cmp b x → MayFollow cmp key b r
+      → EachKey (AtMost cmp x) key r
   coming_under key NoBound x r u c = absurd u
   coming_under key (AtLeast l) x r u c = EachKey-weaker _ _ (λ k h. at_most_trans cmp o x l k u h) _ _ c
   coming_under key (AfterDisorder d) x r u c = rw c tt
   coming_under key NothingMore x r u c = rw c tt
 
   -- no line that may follow in one input is below the last processed key of the other
-  pub past_none : (key other_key : Key) (b : Bound) (p r : Lines) → EachKey (IsUnder cmp b) key p → MayFollow cmp other_key b r
-      → EachKey (λ k. is_below cmp k (last_or None (map key p)) ≡ false) other_key r
+  pub past_none : (key other_key : Key) (b : Bound) (p r : Lines) → EachKey (IsUnder cmp b) key p
+      → MayFollow cmp other_key b r → EachKey (λ k. is_below cmp k (last_or None (map key p)) ≡ false) other_key r
   past_none key other_key b p r u c = elim (last_or None (map key p)) as (λ l. last_or None (map key p) ≡ l
       → EachKey (λ k. is_below cmp k l ≡ false) other_key r) [
         | None ↦ λ e. Each-all (λ k. false ≡ false) (λ k. refl) (map other_key r)
@@ -449,12 +483,14 @@ module _ (cmp : Cmp) (o : IsKeyOrder cmp) where
 
   downward_up_to : (d : Option MergeDisorder) → IsDownwardClosed cmp (is_up_to cmp d)
   downward_up_to None a b g h = refl
-  downward_up_to (Some d) a b g h = grind (arith, at_most_trans cmp o a b d.first_disorder.last_key, greater_flips cmp o b a g)
+  downward_up_to (Some d) a b g h =
+      grind (arith, at_most_trans cmp o a b d.first_disorder.last_key, greater_flips cmp o b a g)
 
   downward_past : (key : Key) (eof : Bool) (ls : Lines) → IsDownwardClosed cmp (is_past cmp key eof ls)
   downward_past key eof ls a b g h = grind (arith, downward_lt)
 
-all_three : (x y z u v w : Bool) → (x ≡ true → u ≡ true) → (y ≡ true → v ≡ true) → (z ≡ true → w ≡ true) → (x && y && z) ≡ true → (u && v && w) ≡ true
+all_three : (x y z u v w : Bool) → (x ≡ true → u ≡ true) → (y ≡ true → v ≡ true) → (z ≡ true → w ≡ true)
+    → (x && y && z) ≡ true → (u && v && w) ≡ true
 all_three x y z u v w f g h e = grind arith
 
 and_false : (x y z : Bool) → (y ≡ false) ⊎ (z ≡ false) → (x && y && z) ≡ false
@@ -486,11 +522,15 @@ pub record InputSplit (tool : MergeTool) (b : Side → Bound) (p ls : Side → L
 -- the entries of the processed lines come first, for all such lists
 pub input_split : {tool : MergeTool} (o : IsKeyOrder tool.cmp) {b : Side → Bound} {p ls : Side → Lines}
     {was is : Output} → MergeInvariant tool b p was is → (s : InputSplit tool b p ls)
-    → merged_entries tool ls ≡ entries_by_key tool all_keys p ++ entries_by_key tool (is_up_to tool.cmp (disorder tool ls)) s.r
+    → merged_entries tool ls ≡ entries_by_key tool all_keys p
+    ++ entries_by_key tool (is_up_to tool.cmp (disorder tool ls)) s.r
 input_split {tool} o {b} {p} {ls} m s =
     let w = is_up_to tool.cmp (disorder tool ls) in
-    let first = all_wanted tool w p (λ side. both_under (tool.key side) (IsUnder tool.cmp (b First)) (IsUnder tool.cmp (b Second)) (λ k. w k ≡ true)
+    let first =
+    all_wanted tool w p (λ side. both_under (tool.key side) (IsUnder tool.cmp (b First)) (IsUnder tool.cmp (b Second))
+    (λ k. w k ≡ true)
     (λ k u1 u2. written_is_wanted tool.cmp o (b First) (b Second) (first_disorder tool.cmp (tool.key First) (ls First))
     (first_disorder tool.cmp (tool.key Second) (ls Second)) k
     (s.may_disorder First) (s.may_disorder Second) u1 u2) (p side) (m.under First side) (m.under Second side)) in
-    (λ i. entries_by_key tool w (λ side. s.parts side i)) ∙ m.splits.split w s.r s.may_follow ∙ ap (λ l. l ++ entries_by_key tool w s.r) first
+    (λ i. entries_by_key tool w (λ side. s.parts side i)) ∙ m.splits.split w s.r s.may_follow
+    ∙ ap (λ l. l ++ entries_by_key tool w s.r) first

@@ -1,14 +1,22 @@
 -- Bounded lag. Leave out the buffered bytes, at most a block, and the terminator of a line that is not yet processed:
 -- the complete lines that remain are all processed. No key below the last of these can follow in either input, so with
 -- any content of the other input they decide only output that is written.
-use Rattle.ptmerge.proofs.Common.{◌≡◌, ◌⊎◌, ⊎_elim, inl, inr, ℕ, ◌+◌, ◌≤◌, false, List, [], ◌∷◌, ◌++◌, Option, Some, None, length, map, refl, sym, ◌∙◌, ap, arith, append_assoc, length-append, last_or}
-use Rattle.ptmerge.proofs.Common.{append-nil, append_cancel_right, Received, known_lines, LaggedInput, Reader, unlines, complete_lines, IsLine, AreLines, received_with, complete_lines_of_unlines, unlines_push, the_lines, Lines, first_disorder}
-use Rattle.ptmerge.proofs.Common.{is_below, sorted_prefix, Cmp, Key, Bool, filter-append, filter, IsPrefix, unlines-append, Side, First, Second, MergeTool, entries_by_key, decided_entries, disorder, earlier_disorder}
-use Rattle.ptmerge.proofs.Common.{is_decided, lines_decide_disorder, other, ProcessLag, decided_output, disorder_is_decided, with_side, FirstDisorder, map-append}
-use Rattle.ptmerge.proofs.MergeLemmas.Invariant.{disorder_after, first_disorder_is, is_disordered, sorted_after, sorted_prefix_is, Bound, IsDisorderFrom, IsUnder, MayFollow, not_below, downward_decided, not_decided, past_none, all_keys}
-use Rattle.ptmerge.proofs.MergeLemmas.Invariant.{downward_is_prefix, AtLeast}
+use Rattle.ptmerge.proofs.Common.{◌≡◌, ◌⊎◌, ⊎_elim, inl, inr, ℕ, ◌+◌, ◌≤◌, false, List, [], ◌∷◌, ◌++◌, Option, Some}
+use Rattle.ptmerge.proofs.Common.{None, length, map, refl, sym, ◌∙◌, ap, arith, append_assoc, length-append, last_or}
+use Rattle.ptmerge.proofs.Common.{append-nil, append_cancel_right, Received, known_lines, LaggedInput, Reader, unlines}
+use Rattle.ptmerge.proofs.Common.{complete_lines, IsLine, AreLines, received_with, complete_lines_of_unlines}
+use Rattle.ptmerge.proofs.Common.{unlines_push, the_lines, Lines, first_disorder, is_below, sorted_prefix, Cmp, Key}
+use Rattle.ptmerge.proofs.Common.{Bool, filter-append, filter, IsPrefix, unlines-append, Side, First, Second, MergeTool}
+use Rattle.ptmerge.proofs.Common.{entries_by_key, decided_entries, disorder, earlier_disorder, is_decided}
+use Rattle.ptmerge.proofs.Common.{lines_decide_disorder, other, ProcessLag, decided_output, disorder_is_decided}
+use Rattle.ptmerge.proofs.Common.{with_side, FirstDisorder, map-append}
+use Rattle.ptmerge.proofs.MergeLemmas.Invariant.{disorder_after, first_disorder_is, is_disordered, sorted_after}
+use Rattle.ptmerge.proofs.MergeLemmas.Invariant.{sorted_prefix_is, Bound, IsDisorderFrom, IsUnder, MayFollow, not_below}
+use Rattle.ptmerge.proofs.MergeLemmas.Invariant.{downward_decided, not_decided, past_none, all_keys, downward_is_prefix}
+use Rattle.ptmerge.proofs.MergeLemmas.Invariant.{AtLeast}
 use Rattle.ptmerge.proofs.MergeLemmas.LinesRead.{IsReadAs}
-use Rattle.ptmerge.proofs.MergeLemmas.Orders.{EachKey, Each-all, EachKey-weaker, Each-parts, kept_none, IsKeyOrder, AtMost, at_most_trans, self_at_most}
+use Rattle.ptmerge.proofs.MergeLemmas.Orders.{EachKey, Each-all, EachKey-weaker, Each-parts, kept_none, IsKeyOrder}
+use Rattle.ptmerge.proofs.MergeLemmas.Orders.{AtMost, at_most_trans, self_at_most}
 use Rattle.ptmerge.proofs.Parts.Concatenation.{by_keys_kept}
 use Rattle.ptmerge.proofs.MergeLemmas.Slots.{put_each, put_other, put_same}
 use Rattle.ptlines.proofs.LineSearch.{IsLine-append}
@@ -21,7 +29,8 @@ abbrev pub IsSortedFrom : Cmp → Key → Option (List ℕ) → Lines → Type 0
 IsSortedFrom cmp key last [] = Unit {0}
 IsSortedFrom cmp key last (x ∷ xs) = (is_disordered cmp last (key x) ≡ false) × IsSortedFrom cmp key (Some (key x)) xs
 
-sorted_from_after : (cmp : Cmp) (key : Key) (last : Option (List ℕ)) (ls : Lines) → IsSortedFrom cmp key last (sorted_after cmp key last ls)
+sorted_from_after : (cmp : Cmp) (key : Key) (last : Option (List ℕ)) (ls : Lines)
+    → IsSortedFrom cmp key last (sorted_after cmp key last ls)
 sorted_from_after cmp key last [] = tt
 sorted_from_after cmp key last (x ∷ ls) = let ih = sorted_from_after cmp key (Some (key x)) ls in grind (arith, ih)
 
@@ -42,7 +51,8 @@ sorted_from_whole cmp key last n [] r = (refl, refl)
 sorted_from_whole cmp key last n (x ∷ ls) (here, more) = let (whole, none) =
     sorted_from_whole cmp key (Some (key x)) (n + 1) ls more in rw here (ap (λ (l : Lines). x ∷ l) whole, none)
 
-sorted_from_start : (cmp : Cmp) (key : Key) (ls : Lines) → IsSortedFrom cmp key None ls → (sorted_prefix cmp key ls ≡ ls) × (first_disorder cmp key ls ≡ None)
+sorted_from_start : (cmp : Cmp) (key : Key) (ls : Lines) → IsSortedFrom cmp key None ls
+    → (sorted_prefix cmp key ls ≡ ls) × (first_disorder cmp key ls ≡ None)
 sorted_from_start cmp key ls r = let (whole, none) =
     sorted_from_whole cmp key None 0 ls r in (sorted_prefix_is cmp key ls ∙ whole, first_disorder_is cmp key ls ∙ none)
 
@@ -53,11 +63,14 @@ module _ (cmp : Cmp) (o : IsKeyOrder cmp) (key : Key) where
       (here, EachKey-weaker _ _ (λ y h. at_most_trans cmp o k (key x) y here h) _ _ (from_key (key x) ls more))
 
   -- no later key is below the last one
-  none_below : (xs ys : Lines) → IsSortedFrom cmp key None (xs ++ ys) → EachKey (λ k. is_below cmp k (last_or None (map key xs)) ≡ false) key ys
-  none_below xs ys r = elim (last_or None (map key xs)) as (λ l. IsSortedFrom cmp key l ys → EachKey (λ k. is_below cmp k l ≡ false) key ys) [
-    | None ↦ λ h. Each-all (λ k. false ≡ false) (λ k. refl) (map key ys)
-    | Some x ↦ λ h. EachKey-weaker _ _ (λ k a. not_below cmp o k x a) _ _ (from_key x ys h)
-  ] (let (_, rest) = sorted_from_parts cmp key None xs ys r in rest)
+  none_below : (xs ys : Lines) → IsSortedFrom cmp key None (xs ++ ys)
+      → EachKey (λ k. is_below cmp k (last_or None (map key xs)) ≡ false) key ys
+  none_below xs ys r =
+      elim (last_or None (map key xs)) as
+      (λ l. IsSortedFrom cmp key l ys → EachKey (λ k. is_below cmp k l ≡ false) key ys) [
+        | None ↦ λ h. Each-all (λ k. false ≡ false) (λ k. refl) (map key ys)
+        | Some x ↦ λ h. EachKey-weaker _ _ (λ k a. not_below cmp o k x a) _ _ (from_key x ys h)
+      ] (let (_, rest) = sorted_from_parts cmp key None xs ys r in rest)
 
 -- ---- the bytes received
 
@@ -95,10 +108,18 @@ ProcessedNearly ls p piece = (ls ≡ p) ⊎ ((x : List ℕ) × (ls ≡ p ++ x �
 module _ (end : ℕ) (given piece : List ℕ) (ls p : Lines) (now new : Reader) (far : IsReadAs end given ls now)
     (free : IsLine end piece) (few : length new.buffered ≤ 8192) where
   -- the buffered bytes are left out
-  unheld : (whole : Lines) (tail : List ℕ) → given ++ piece ≡ unlines end whole ++ tail → AreLines end whole → IsLine end tail → (rest : Lines) → p ≡ whole
+  unheld : (whole : Lines) (tail : List ℕ) → given ++ piece ≡ unlines end whole ++ tail → AreLines end whole
+      → IsLine end tail → (rest : Lines) → p ≡ whole
       ++ rest → LagPoint end (received_with (given ++ piece) new) p
   unheld whole tail is all line rest split = record {
-    before = record { earlier = record { bytes = given ++ piece; eof = false }; last = new.buffered; split = refl; short = omega (arith, few); eof = λ e. cc };
+    before =
+        record {
+          earlier = record { bytes = given ++ piece; eof = false };
+          last = new.buffered;
+          split = refl;
+          short = omega (arith, few);
+          eof = λ e. cc;
+        };
     going = refl;
     whole = whole;
     whole_is = ap (complete_lines end) is ∙ complete_lines_of_unlines end whole tail all line;
@@ -111,7 +132,8 @@ module _ (end : ℕ) (given piece : List ℕ) (ls p : Lines) (now new : Reader) 
       → (rest : Lines) → p ≡ w ++ rest → LagPoint end (received_with (given ++ piece) new) p
   open_line w y last all is rest split =
       let (lines, line) = are_split end w y (rw last at all) in
-      let same : given ++ end ∷ [] ≡ (unlines end w ++ y) ++ end ∷ [] = is ∙ (rw (last, unlines_push end w y, append_assoc (unlines end w) y (end ∷ []))) in
+      let same : given ++ end ∷ [] ≡ (unlines end w ++ y) ++ end ∷ [] =
+      is ∙ (rw (last, unlines_push end w y, append_assoc (unlines end w) y (end ∷ []))) in
       let ends : given ≡ unlines end w ++ y = append_cancel_right given (unlines end w ++ y) (end ∷ []) same in
       unheld w (y ++ piece) (rw (ends, append_assoc (unlines end w) y piece)) lines
       (IsLine-append end y piece line free) rest split
@@ -122,7 +144,10 @@ module _ (end : ℕ) (given piece : List ℕ) (ls p : Lines) (now new : Reader) 
       by : ProcessedNearly ls p piece → Shape end given ls → LagPoint end (received_with (given ++ piece) new) p
       by (inl e) (all, inl is) = unheld ls piece (rw is) all free [] (sym e ∙ sym (append-nil ls))
       by (inl e) (all, inr is) =
-          ⊎_elim (λ none. (let bad : [] ≡ given ++ end ∷ [] = rw none at (sym is) in absurd (omega (arith, ap length bad, length-append given (end ∷ [])))))
+          ⊎_elim
+          (λ none.
+          (let bad : [] ≡ given ++ end ∷ [] = rw none at (sym is) in absurd (omega
+          (arith, ap length bad, length-append given (end ∷ [])))))
           (λ (w, y, last). open_line w y last all is (y ∷ []) (sym e ∙ last)) (last_of ls)
       by (inr (y, split, _)) (all, inr is) = open_line p y split all is [] (sym (append-nil p))
       by (inr (y, split, none)) (all, inl is) =
@@ -145,8 +170,9 @@ module _ (end : ℕ) (given piece : List ℕ) (ls p : Lines) (now new : Reader) 
 -- ---- the decided output is a prefix of the output, if only processed lines decide it
 
 -- two lists that differ only in lines that are left out
-kept_same : (w : List ℕ → Bool) (key : Key) (xs ys rest tail : Lines) → xs ++ rest ≡ ys ++ tail → EachKey (λ k. w k ≡ false) key rest
-    → EachKey (λ k. w k ≡ false) key tail → filter (λ line. w (key line)) xs ≡ filter (λ line. w (key line)) ys
+kept_same : (w : List ℕ → Bool) (key : Key) (xs ys rest tail : Lines) → xs ++ rest ≡ ys ++ tail
+    → EachKey (λ k. w k ≡ false) key rest → EachKey (λ k. w k ≡ false) key tail
+    → filter (λ line. w (key line)) xs ≡ filter (λ line. w (key line)) ys
 kept_same w key xs ys rest tail same none1 none2 = simp
     (filter-append, kept_none w key rest none1, kept_none w key tail none2, append-nil) at (ap
     (filter (λ line. w (key line))) same)
@@ -160,7 +186,8 @@ pub record Differ (tool : MergeTool) (last : Option (List ℕ)) (key : Key) (xs 
   pub none_tail : EachKey (λ k. is_below tool.cmp k last ≡ false) key tail
 
 -- if one list is in order, a property of the reported disorder is one of the other list's disorder
-of_other : (cmp : Cmp) (s : Side) (f : Side → Option FirstDisorder) (test : Option MergeDisorder → Bool) → f s ≡ None → test None ≡ false
+of_other : (cmp : Cmp) (s : Side) (f : Side → Option FirstDisorder) (test : Option MergeDisorder → Bool) → f s ≡ None
+    → test None ≡ false
     → ((d : FirstDisorder) → f (other s) ≡ Some d → test (Some (record { file = other s; first_disorder = d })) ≡ false)
     → test (earlier_disorder cmp (f First) (f Second)) ≡ false
 of_other cmp First f test none calm some = rw none (elim (f Second) as (λ g. f Second ≡ g
@@ -196,8 +223,8 @@ module _ (tool : MergeTool) (o : IsKeyOrder tool.cmp) (eof : Side → Bool) (ls 
             rest;
       }
     where
-      kept : (side : Side) → filter (λ line. is_decided tool eof ls (tool.key side line))
-          (sorted_prefix cmp (tool.key side) (ls side))
+      kept : (side : Side)
+          → filter (λ line. is_decided tool eof ls (tool.key side line)) (sorted_prefix cmp (tool.key side) (ls side))
           ≡ filter (λ line. is_decided tool eof ls (tool.key side line)) (p side)
       kept side =
           let d = differ side in
@@ -227,8 +254,10 @@ pub record LinesToCome (tool : MergeTool) (side : Side) (ls q tail : Lines) (bou
   pub may_follow : MayFollow tool.cmp (tool.key side) bound (tail ++ rest)
 
 -- `q` are the processed lines; the output for `p` is complete, and the rest of `q` follows it
-module _ (tool : MergeTool) (o : IsKeyOrder tool.cmp) (given : Side → Received) (p q tail : Side → Lines) (bound : Side → Bound)
-    (backs : (side : Side) → LagPoint tool.terminator (given side) (q side)) (split : (side : Side) → q side ≡ p side ++ tail side)
+module _ (tool : MergeTool) (o : IsKeyOrder tool.cmp) (given : Side → Received) (p q tail : Side → Lines)
+    (bound : Side → Bound)
+    (backs : (side : Side) → LagPoint tool.terminator (given side) (q side))
+    (split : (side : Side) → q side ≡ p side ++ tail side)
     (under : (of side : Side) → EachKey (IsUnder tool.cmp (bound of)) (tool.key side) (q side))
     (future : (side : Side) → LinesToCome tool side (known_lines tool.terminator (given side)) (q side) (tail side)
     (bound side)) where

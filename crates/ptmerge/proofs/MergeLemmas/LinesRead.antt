@@ -1,13 +1,18 @@
 -- The lines read from a source. The bytes received are the lines read so far, and all but the last have their
 -- terminator. So every input that begins with these bytes begins with these lines.
-use Rattle.ptmerge.proofs.Common.{◌≡◌, ◌⊎◌, ⊎_elim, inl, inr, ℕ, ◌+◌, ◌<◌, ◌≤◌, Bool, true, false, List, [], ◌∷◌, ◌++◌, None, length, max, refl, sym, ◌∙◌, ap, arith, append_assoc, length-append}
-use Rattle.ptmerge.proofs.Common.{append-nil, nil_from_length, false≢true, FillLine, Received, IsConsistent, known_lines, Reader, ReaderAdvance, AdvanceOk, IsDone, remaining_bytes, Slots, unlines, lines, complete_lines, IsLine}
-use Rattle.ptmerge.proofs.Common.{AreLines, max_length, received_with, advance_ok_trans, lines_of_unlines, lines_of_last, unlines_push, IsSound, HasNoLine, HasOneLineAndBlock, AreLines_push, complete_lines_none, complete_lines_cons}
+use Rattle.ptmerge.proofs.Common.{◌≡◌, ◌⊎◌, ⊎_elim, inl, inr, ℕ, ◌+◌, ◌<◌, ◌≤◌, Bool, true, false, List, [], ◌∷◌, ◌++◌}
+use Rattle.ptmerge.proofs.Common.{None, length, max, refl, sym, ◌∙◌, ap, arith, append_assoc, length-append, append-nil}
+use Rattle.ptmerge.proofs.Common.{nil_from_length, false≢true, FillLine, Received, IsConsistent, known_lines, Reader}
+use Rattle.ptmerge.proofs.Common.{ReaderAdvance, AdvanceOk, IsDone, remaining_bytes, Slots, unlines, lines}
+use Rattle.ptmerge.proofs.Common.{complete_lines, IsLine, AreLines, max_length, received_with, advance_ok_trans}
+use Rattle.ptmerge.proofs.Common.{lines_of_unlines, lines_of_last, unlines_push, IsSound, HasNoLine, HasOneLineAndBlock}
+use Rattle.ptmerge.proofs.Common.{AreLines_push, complete_lines_none, complete_lines_cons}
 use Rattle.ptlines.proofs.KnownBytes.{prepend_known-nil}
 use Rattle.ptlines.proofs.MaxLength.{max_length-append, piece_le_max_length}
 
 -- complete lines, and then the complete lines of the rest
-ended_more : (end : ℕ) (ls : List (List ℕ)) (bytes : List ℕ) → AreLines end ls → complete_lines end (unlines end ls ++ bytes) ≡ ls ++ complete_lines end bytes
+ended_more : (end : ℕ) (ls : List (List ℕ)) (bytes : List ℕ) → AreLines end ls
+    → complete_lines end (unlines end ls ++ bytes) ≡ ls ++ complete_lines end bytes
 ended_more end [] bytes w = refl
 ended_more end (line ∷ ls) bytes (free, more) =
     ap (complete_lines end) (append_assoc (line ++ end ∷ []) (unlines end ls) bytes
@@ -72,8 +77,8 @@ pub one_line_at_most : (end : ℕ) (piece : List ℕ) → IsLine end piece → l
 one_line_at_most end [] free = omega arith
 one_line_at_most end (b ∷ piece) free = rw (lines_of_last end (b ∷ piece) free (omega arith)) (omega arith)
 
-pub lines_read_more : {end : ℕ} {old now new : Reader} {ls : List (List ℕ)} {before after : Slots} {slot : ℕ} → LinesRead end old now ls
-    → (e : FillLine now new before after slot) → LinesRead end old new (ls ++ e.line ∷ [])
+pub lines_read_more : {end : ℕ} {old now new : Reader} {ls : List (List ℕ)} {before after : Slots} {slot : ℕ}
+    → LinesRead end old now ls → (e : FillLine now new before after slot) → LinesRead end old new (ls ++ e.line ∷ [])
 lines_read_more {end} {old} {now} {new} {ls} c e = record {
   given = c.given ++ (e.line ++ e.terminator);
   so_far = ⊎_elim opened (λ (_, done). absurd
@@ -85,7 +90,8 @@ lines_read_more {end} {old} {now} {new} {ls} c e = record {
     free : IsLine end e.line
     free = rw c.terminator at e.whole
 
-    opened : (c.given ≡ unlines end ls) × AreLines end ls → IsReadAs end (c.given ++ (e.line ++ e.terminator)) (ls ++ e.line ∷ []) new
+    opened : (c.given ≡ unlines end ls) × AreLines end ls
+        → IsReadAs end (c.given ++ (e.line ++ e.terminator)) (ls ++ e.line ∷ []) new
     opened (is, all) = elim e.ends [
       | inl ends ↦ inl (rw (is, ends, c.terminator, unlines_push end ls e.line), AreLines_push end ls e.line all free)
       | inr last ↦ (let (ends, some, done) = last in
@@ -128,7 +134,8 @@ module _ (end : ℕ) (old now new : Reader) (ls : List (List ℕ)) (piece : List
   free = rw c.terminator at line
 
   -- the bytes after the lines
-  front_of : c.given ≡ unlines end ls → (rest : List ℕ) → ((c.given ++ piece) ++ new.buffered) ++ rest ≡ unlines end ls ++ (piece ++ (new.buffered ++ rest))
+  front_of : c.given ≡ unlines end ls → (rest : List ℕ)
+      → ((c.given ++ piece) ++ new.buffered) ++ rest ≡ unlines end ls ++ (piece ++ (new.buffered ++ rest))
   front_of is rest = rw is (simp append_assoc)
 
   -- the lines of an input that is consistent with the bytes received
@@ -169,16 +176,21 @@ module _ (end : ℕ) (old now new : Reader) (ls : List (List ℕ)) (piece : List
     where
       by_end : (t : Bool) → new.eof ≡ t → KnownLines (known_lines end (received_with (c.given ++ piece) new))
       by_end true e =
-          let all : known_lines end (received_with (c.given ++ piece) new) ≡ lines end ((c.given ++ piece) ++ new.buffered) = rw e in
+          let all : known_lines end (received_with (c.given ++ piece) new)
+          ≡ lines end ((c.given ++ piece) ++ new.buffered) = rw e in
           let w = (lines_read_of_input ((c.given ++ piece) ++ new.buffered)
           (record {
             rest = [];
             is = sym (append-nil ((c.given ++ piece) ++ new.buffered));
             whole = λ _. refl;
           })).continues in
-          record { known = record { more = w.more; is = all ∙ w.is; done = w.done }; exact = λ _ going. absurd (false≢true (sym going ∙ e)) }
+          record {
+            known = record { more = w.more; is = all ∙ w.is; done = w.done };
+            exact = λ _ going. absurd (false≢true (sym going ∙ e));
+          }
       by_end false e = ⊎_elim (λ (given_is, all).
-          let is : known_lines end (received_with (c.given ++ piece) new) ≡ ls ++ complete_lines end (piece ++ (new.buffered ++ [])) =
+          let is : known_lines end (received_with (c.given ++ piece) new)
+          ≡ ls ++ complete_lines end (piece ++ (new.buffered ++ [])) =
           rw e (ap (complete_lines end) (sym (append-nil ((c.given ++ piece) ++ new.buffered)) ∙ front_of given_is [])
           ∙ ended_more end ls (piece ++ (new.buffered ++ [])) all) in
           record {

@@ -1,8 +1,11 @@
 -- Consequences of the laws of an order of keys. Distinct keys are sorted, so the entries of the least key come first,
 -- followed by the entries of the lines with other keys.
-use Rattle.ptmerge.proofs.Common.{◌≡◌, ◌⊎◌, ⊎_elim, inl, inr, ℕ, List, Bool, true, false, refl, sym, ◌∙◌, ap, arith, bytes_eq, Ordering, Less, Equal, Greater, is_eq, is_gt, is_le, ordering_reverse}
-use Rattle.ptmerge.proofs.Common.{bytes_decides, back_total, nat_list_cmp_total, tied_itself, upto, Cmp, byte_cmp, line_cmp, ◌<◌, length, get_or, suc, zero, [], ◌∷◌, ◌++◌, cond, map, append_assoc}
-use Rattle.ptmerge.proofs.Common.{append-nil, filter, flat_map, Side, First, Second, Lines, MergeTool, insert_key, distinct_keys, keys, lines_with_key, entries_of_key, entries_by_key, Key, map-append}
+use Rattle.ptmerge.proofs.Common.{◌≡◌, ◌⊎◌, ⊎_elim, inl, inr, ℕ, List, Bool, true, false, refl, sym, ◌∙◌, ap, arith}
+use Rattle.ptmerge.proofs.Common.{bytes_eq, Ordering, Less, Equal, Greater, is_eq, is_gt, is_le, ordering_reverse}
+use Rattle.ptmerge.proofs.Common.{bytes_decides, back_total, nat_list_cmp_total, tied_itself, upto, Cmp, byte_cmp}
+use Rattle.ptmerge.proofs.Common.{line_cmp, ◌<◌, length, get_or, suc, zero, [], ◌∷◌, ◌++◌, cond, map, append_assoc}
+use Rattle.ptmerge.proofs.Common.{append-nil, filter, flat_map, Side, First, Second, Lines, MergeTool, insert_key}
+use Rattle.ptmerge.proofs.Common.{distinct_keys, keys, lines_with_key, entries_of_key, entries_by_key, Key, map-append}
 use Rattle.std.specs.Cmp.{IsTotalOrder}
 use Rattle.ptmerge.specs.OrderLaws.{reversed_same_bytes, byte_cmp_equal}
 
@@ -34,7 +37,9 @@ module _ (cmp : Cmp) (o : IsKeyOrder cmp) where
 
   -- keys that differ in the order differ in their bytes
   not_equal : (a b : List ℕ) → is_eq (cmp a b) ≡ false → bytes_eq a b ≡ false
-  not_equal a b n = not_same a b (λ e. (let bad : false ≡ true = sym n ∙ ap is_eq (ap (λ z. cmp a z) (sym e) ∙ tied_itself o.total a) in cc))
+  not_equal a b n =
+      not_same a b
+      (λ e. (let bad : false ≡ true = sym n ∙ ap is_eq (ap (λ z. cmp a z) (sym e) ∙ tied_itself o.total a) in cc))
 
   pub equal_is : (a b : List ℕ) → is_eq (cmp a b) ≡ bytes_eq a b
   equal_is a b = grind (arith, not_equal a b, o.exact a b, bytes_decides a b)
@@ -55,7 +60,8 @@ module _ (cmp : Cmp) (o : IsKeyOrder cmp) where
   above_not_same k y g = not_equal y k (ap is_eq g)
 
   -- k equals y, or is less
-  pub least_or_above : (k y : List ℕ) → AtMost cmp k y → ((bytes_eq y k ≡ true) × (y ≡ k)) ⊎ ((bytes_eq y k ≡ false) × (cmp y k ≡ Greater))
+  pub least_or_above : (k y : List ℕ) → AtMost cmp k y
+      → ((bytes_eq y k ≡ true) × (y ≡ k)) ⊎ ((bytes_eq y k ≡ false) × (cmp y k ≡ Greater))
   least_or_above k y h = elim (cmp k y) as (λ r. cmp k y ≡ r → is_gt r ≡ false → ((bytes_eq y k ≡ true) × (y ≡ k))
       ⊎ ((bytes_eq y k ≡ false) × (cmp y k ≡ Greater))) [
         | Less ↦ λ l g. inr (above_not_same k y (less_flips k y l), less_flips k y l)
@@ -96,12 +102,14 @@ pub Each-weaker : (P Q : List ℕ → Type 0) → ((x : List ℕ) → P x → Q 
 Each-weaker P Q f [] e = tt
 Each-weaker P Q f (x ∷ xs) (here, more) = (f x here, Each-weaker P Q f xs more)
 
-pub EachKey-at : (P : List ℕ → Type 0) (key : Key) (xs : Lines) (i : ℕ) → i < length xs → EachKey P key xs → P (key (get_or xs i []))
+pub EachKey-at : (P : List ℕ → Type 0) (key : Key) (xs : Lines) (i : ℕ) → i < length xs → EachKey P key xs
+    → P (key (get_or xs i []))
 EachKey-at P key [] i low e = absurd (omega (arith, low))
 EachKey-at P key (x ∷ xs) zero low (here, _) = here
 EachKey-at P key (x ∷ xs) (suc i) low (_, more) = EachKey-at P key xs i (omega (arith, low)) more
 
-pub EachKey-weaker : (P Q : List ℕ → Type 0) → ((x : List ℕ) → P x → Q x) → (key : Key) (xs : Lines) → EachKey P key xs → EachKey Q key xs
+pub EachKey-weaker : (P Q : List ℕ → Type 0) → ((x : List ℕ) → P x → Q x) → (key : Key) (xs : Lines) → EachKey P key xs
+    → EachKey Q key xs
 EachKey-weaker P Q f key xs e = Each-weaker P Q f (map key xs) e
 
 pub Each-all : (P : List ℕ → Type 0) → ((x : List ℕ) → P x) → (xs : Lines) → Each P xs
@@ -116,10 +124,12 @@ pub Each-parts : (P : List ℕ → Type 0) (xs ys : Lines) → Each P (xs ++ ys)
 Each-parts P [] ys e = (tt, e)
 Each-parts P (x ∷ xs) ys (here, more) = let (front, rest) = Each-parts P xs ys more in ((here, front), rest)
 
-pub EachKey-append : (P : List ℕ → Type 0) (key : Key) (xs ys : Lines) → EachKey P key xs → EachKey P key ys → EachKey P key (xs ++ ys)
+pub EachKey-append : (P : List ℕ → Type 0) (key : Key) (xs ys : Lines) → EachKey P key xs → EachKey P key ys
+    → EachKey P key (xs ++ ys)
 EachKey-append P key xs ys e h = rw (map-append key xs ys) (Each-append P (map key xs) (map key ys) e h)
 
-pub Each-insert : (cmp : Cmp) (P : List ℕ → Type 0) (k : List ℕ) (xs : Lines) → P k → Each P xs → Each P (insert_key cmp k xs)
+pub Each-insert : (cmp : Cmp) (P : List ℕ → Type 0) (k : List ℕ) (xs : Lines) → P k → Each P xs
+    → Each P (insert_key cmp k xs)
 Each-insert cmp P k [] h e = (h, tt)
 Each-insert cmp P k (x ∷ xs) h (here, more) = let ih = Each-insert cmp P k xs h more in grind (arith, ih)
 
@@ -162,7 +172,8 @@ module _ (cmp : Cmp) (o : IsKeyOrder cmp) where
           → (distinct_keys cmp ks ≡ k ∷ distinct_keys cmp (others k ks))
           ⊎ ((distinct_keys cmp ks ≡ distinct_keys cmp (others k ks)) × Each (λ z. bytes_eq z k ≡ false) ks)
           → (insert_key cmp y (distinct_keys cmp ks) ≡ k ∷ distinct_keys cmp (others k (y ∷ ks)))
-          ⊎ ((insert_key cmp y (distinct_keys cmp ks) ≡ distinct_keys cmp (others k (y ∷ ks))) × Each (λ z. bytes_eq z k ≡ false) (y ∷ ks))
+          ⊎ ((insert_key cmp y (distinct_keys cmp ks) ≡ distinct_keys cmp (others k (y ∷ ks)))
+          × Each (λ z. bytes_eq z k ≡ false) (y ∷ ks))
       by (inl (is, same)) (inl d) = inl (rw (is, same, d, tied_itself o.total k))
       by (inl (is, same)) (inr (without_k, _)) =
           inl (rw (is, same, without_k, insert_least k (distinct_keys cmp (others k ks)) above))
@@ -176,12 +187,14 @@ others-keys key1 key2 k [] (y ∷ ys) = let ih = others-keys key1 key2 k [] ys i
 others-keys key1 key2 k (x ∷ xs) ys = let ih = others-keys key1 key2 k xs ys in grind (arith, ih)
 
 -- a test that no key passes keeps no line
-pub kept_none : (w : List ℕ → Bool) (key : Key) (ls : Lines) → EachKey (λ k. w k ≡ false) key ls → filter (λ line. w (key line)) ls ≡ []
+pub kept_none : (w : List ℕ → Bool) (key : Key) (ls : Lines) → EachKey (λ k. w k ≡ false) key ls
+    → filter (λ line. w (key line)) ls ≡ []
 kept_none w key [] e = refl
 kept_none w key (x ∷ ls) (here, more) = rw here (kept_none w key ls more)
 
 -- the lines with another key
-with_key_without : (key : Key) (k q : List ℕ) (xs : Lines) → bytes_eq q k ≡ false → lines_with_key key (without key k xs) q ≡ lines_with_key key xs q
+with_key_without : (key : Key) (k q : List ℕ) (xs : Lines) → bytes_eq q k ≡ false
+    → lines_with_key key (without key k xs) q ≡ lines_with_key key xs q
 with_key_without key k q [] n = refl
 with_key_without key k q (x ∷ xs) n =
     let ih = with_key_without key k q xs n in
@@ -205,7 +218,12 @@ module _ (tool : MergeTool) (o : IsKeyOrder tool.cmp) where
   over_others w k ls (q ∷ ks) (here, more) =
       let ih = over_others w k ls ks more in
       let n = above_not_same cmp o k q here in
-      grind (arith, ih, with_key_without (tool.key First) k q (ls First) n, with_key_without (tool.key Second) k q (ls Second) n)
+      grind (
+        arith,
+        ih,
+        with_key_without (tool.key First) k q (ls First) n,
+        with_key_without (tool.key Second) k q (ls Second) n,
+      )
 
   -- The entries of a key that is at most all others come first, followed by those of the lines with other keys.
   pub least_first : (w : List ℕ → Bool) (k : List ℕ) (ls : Side → Lines)
@@ -224,9 +242,10 @@ module _ (tool : MergeTool) (o : IsKeyOrder tool.cmp) where
           ∙ ap (λ l. nothing_follows w (others_of k ls) (distinct_keys cmp l))
           (others-keys (tool.key First) (tool.key Second) k (ls First) (ls Second))
 
-      by : (distinct_keys cmp (keys tool ls) ≡ k ∷ ds) ⊎ ((distinct_keys cmp (keys tool ls) ≡ ds)
-          × Each (λ y. bytes_eq y k ≡ false) (keys tool ls))
-          → entries_by_key tool w ls ≡ cond (w k) (entries_of_key tool ls k) [] ++ entries_by_key tool w (others_of k ls)
+      by : (distinct_keys cmp (keys tool ls) ≡ k ∷ ds)
+          ⊎ ((distinct_keys cmp (keys tool ls) ≡ ds) × Each (λ y. bytes_eq y k ≡ false) (keys tool ls))
+          → entries_by_key tool w ls ≡ cond (w k) (entries_of_key tool ls k) []
+          ++ entries_by_key tool w (others_of k ls)
       by (inl d) = rw (d, ← rest) (grind arith)
       by (inr (without_k, absent)) =
           let (absent1, absent2) = Each-parts (λ y. bytes_eq y k ≡ false) (map (tool.key First) (ls First))
@@ -250,29 +269,35 @@ module _ (tool : MergeTool) (o : IsKeyOrder tool.cmp) where
   at_most-same key k f r e h =
       EachKey-append _ key f r (EachKey-weaker _ _ (λ x is. rw is (self_at_most cmp o k)) key f e) h
 
-  glued : (t : Bool) (all a b rest : Lines) → all ≡ a ++ b → cond t all [] ++ rest ≡ cond t a [] ++ (cond t b [] ++ rest)
+  glued : (t : Bool) (all a b rest : Lines) → all ≡ a ++ b
+      → cond t all [] ++ rest ≡ cond t a [] ++ (cond t b [] ++ rest)
   glued t all a b rest e = grind (arith, append_assoc a b rest)
 
   -- Lines of the least key, followed by lines with no lesser keys.
-  module _ (w : List ℕ → Bool) (k : List ℕ) (f r : Side → Lines) (s : (side : Side) → EachKey (λ x. x ≡ k) (tool.key side) (f side))
+  module _ (w : List ℕ → Bool) (k : List ℕ) (f r : Side → Lines)
+      (s : (side : Side) → EachKey (λ x. x ≡ k) (tool.key side) (f side))
       (a : (side : Side) → EachKey (AtMost cmp k) (tool.key side) (r side)) (none : tool.entries k [] [] ≡ []) where
     pub front_is : entries_by_key tool w (λ side. f side ++ r side)
         ≡ cond (w k) (tool.entries k (f First ++ lines_with_key (tool.key First) (r First) k)
         (f Second ++ lines_with_key (tool.key Second) (r Second) k)) [] ++ entries_by_key tool w (others_of k r)
     front_is =
         let in_front = λ (side : Side). lines_with_key-front (tool.key side) k (f side) (r side) (s side) in
-        least_first w k (λ side. f side ++ r side) (λ side. at_most-same (tool.key side) k (f side) (r side) (s side) (a side)) none
-        ∙ (λ i. cond (w k) (tool.entries k ((in_front First).0 i) ((in_front Second).0 i)) [] ++ entries_by_key tool w (λ side. (in_front side).1 i))
+        least_first w k (λ side. f side ++ r side)
+        (λ side. at_most-same (tool.key side) k (f side) (r side) (s side) (a side)) none
+        ∙ (λ i. cond (w k) (tool.entries k ((in_front First).0 i) ((in_front Second).0 i)) []
+        ++ entries_by_key tool w (λ side. (in_front side).1 i))
 
-  pub front_first : (w : List ℕ → Bool) (k : List ℕ) (f r : Side → Lines) → ((side : Side) → EachKey (λ x. x ≡ k) (tool.key side) (f side))
+  pub front_first : (w : List ℕ → Bool) (k : List ℕ) (f r : Side → Lines)
+      → ((side : Side) → EachKey (λ x. x ≡ k) (tool.key side) (f side))
       → ((side : Side) → EachKey (AtMost cmp k) (tool.key side) (r side)) → tool.entries k [] [] ≡ []
       → tool.entries k (f First ++ lines_with_key (tool.key First) (r First) k)
-      (f Second ++ lines_with_key (tool.key Second) (r Second) k) ≡ tool.entries k (f First)
-      (f Second) ++ entries_of_key tool r k
+      (f Second ++ lines_with_key (tool.key Second) (r Second) k) ≡ tool.entries k (f First) (f Second)
+      ++ entries_of_key tool r k
       → entries_by_key tool w (λ side. f side ++ r side) ≡ entries_by_key tool w f ++ entries_by_key tool w r
   front_first w k f r s a none law =
       let first = simp append-nil at (front_is w k f (λ side. []) s (λ side. tt) none) in
-      front_is w k f r s a none ∙ glued (w k) _ (tool.entries k (f First) (f Second)) (entries_of_key tool r k) (entries_by_key tool w (others_of k r)) law
+      front_is w k f r s a none ∙ glued (w k) _ (tool.entries k (f First) (f Second)) (entries_of_key tool r k)
+      (entries_by_key tool w (others_of k r)) law
       ∙ (λ i. sym first i ++ sym (least_first w k r a none) i)
 
   -- no line with a greater key has the key

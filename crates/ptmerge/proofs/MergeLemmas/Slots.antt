@@ -1,7 +1,9 @@
 -- Lines in the slots of a store. A slot changes only if its own input reads, so two lines of each input, none longer
 -- than its longest line, bound the bytes stored.
-use Rattle.ptmerge.proofs.Common.{◌≡◌, ◌≢◌, inl, inr, ℕ, zero, suc, ◌+◌, ◌*◌, ◌≤◌, false, List, [], ◌∷◌, ◌++◌, length, max, refl, sym, ◌∙◌, arith, get_or, set, length-set, get_or-set_other}
-use Rattle.ptmerge.proofs.Common.{sum_by-cons, Slots, line, total_bytes, with_new_slot, with_line, Side, First, Second, Sorted, HasSlots, EnsureFourSlotsPost, ClearFourSlotsPost, Bool, both, with_side, other}
+use Rattle.ptmerge.proofs.Common.{◌≡◌, ◌≢◌, inl, inr, ℕ, zero, suc, ◌+◌, ◌*◌, ◌≤◌, false, List, [], ◌∷◌, ◌++◌, length}
+use Rattle.ptmerge.proofs.Common.{max, refl, sym, ◌∙◌, arith, get_or, set, length-set, get_or-set_other, sum_by-cons}
+use Rattle.ptmerge.proofs.Common.{Slots, line, total_bytes, with_new_slot, with_line, Side, First, Second, Sorted}
+use Rattle.ptmerge.proofs.Common.{HasSlots, EnsureFourSlotsPost, ClearFourSlotsPost, Bool, both, with_side, other}
 
 -- two functions of the side, each changed at the same side
 pub put_both : {X Y : Type 0} (P : Side → X → Y → Type 0) (s : Side) (x : X) (f : Side → X) (y : Y) (g : Side → Y)
@@ -17,7 +19,8 @@ module _ {X : Type 0} (P : Side → X → Type 0) where
   both_each x y p q = elim [ First ↦ p | Second ↦ q ]
 
   -- one function of the side, changed at one side
-  pub put_each : (s : Side) (x : X) (f : Side → X) → P s x → ((side : Side) → P side (f side)) → (side : Side) → P side (with_side s x f side)
+  pub put_each : (s : Side) (x : X) (f : Side → X) → P s x → ((side : Side) → P side (f side)) → (side : Side)
+      → P side (with_side s x f side)
   put_each s x f p q = put_both {Y = Unit {0}} (λ side z u. P side z) s x f tt (λ side. tt) p (q (other s))
 
 pub put_same : {X : Type 0} (s : Side) (x : X) (f : Side → X) → with_side s x f s ≡ x
@@ -45,10 +48,13 @@ line_added s slot = added_same s.lines slot
 
 -- Two lines of each input, of at most `m` bytes each, and `more` bytes in the other slots.
 abbrev pub HasLines : (Side → ℕ) → ℕ → List (List ℕ) → Type 0
-HasLines m more (a ∷ b ∷ c ∷ d ∷ rest) = (length a ≤ m First) × (length b ≤ m First) × (length c ≤ m Second) × (length d ≤ m Second) × (total_bytes rest ≡ more)
+HasLines m more (a ∷ b ∷ c ∷ d ∷ rest) =
+    (length a ≤ m First) × (length b ≤ m First) × (length c ≤ m Second) × (length d ≤ m Second)
+    × (total_bytes rest ≡ more)
 HasLines m more few = ⊥
 
-four_total : (a b c d : List ℕ) (rest : List (List ℕ)) → total_bytes (a ∷ b ∷ c ∷ d ∷ rest) ≡ ((length a + length b) + length c) + length d + total_bytes rest
+four_total : (a b c d : List ℕ) (rest : List (List ℕ))
+    → total_bytes (a ∷ b ∷ c ∷ d ∷ rest) ≡ ((length a + length b) + length c) + length d + total_bytes rest
 four_total a b c d rest = omega (
   arith,
   sum_by-cons length a (b ∷ c ∷ d ∷ rest),
@@ -76,8 +82,9 @@ has_lines_total (a ∷ b ∷ c ∷ d ∷ rest) m more h =
 has_lines_total few m more h = absurd h
 
 -- the next line of an input replaces its previous line
-pub set_line : (s : Side) (cursor : Sorted) (xs : List (List ℕ)) (m k : Side → ℕ) (more : ℕ) (x : List ℕ) → HasSlots s cursor → HasLines m more xs
-    → ((side : Side) → m side ≤ k side) → length x ≤ k s → HasLines k more (set xs cursor.previous_slot x)
+pub set_line : (s : Side) (cursor : Sorted) (xs : List (List ℕ)) (m k : Side → ℕ) (more : ℕ) (x : List ℕ)
+    → HasSlots s cursor → HasLines m more xs → ((side : Side) → m side ≤ k side) → length x ≤ k s
+    → HasLines k more (set xs cursor.previous_slot x)
 set_line s cursor (a ∷ b ∷ c ∷ d ∷ rest) m k more x slots h up l = by s slots l
   where
     first : (length a ≤ k First) × (length b ≤ k First)
@@ -86,7 +93,8 @@ set_line s cursor (a ∷ b ∷ c ∷ d ∷ rest) m k more x slots h up l = by s 
     second : (length c ≤ k Second) × (length d ≤ k Second)
     second = omega (arith, h, up Second)
 
-    by : (t : Side) → HasSlots t cursor → length x ≤ k t → HasLines k more (set (a ∷ b ∷ c ∷ d ∷ rest) cursor.previous_slot x)
+    by : (t : Side) → HasSlots t cursor → length x ≤ k t
+        → HasLines k more (set (a ∷ b ∷ c ∷ d ∷ rest) cursor.previous_slot x)
     by First (inl (_, is)) l = rw is (first.0, l, second.0, second.1, h.4)
     by First (inr (_, is)) l = rw is (l, first.1, second.0, second.1, h.4)
     by Second (inl (_, is)) l = rw is (first.0, first.1, second.0, l, h.4)
@@ -110,8 +118,9 @@ store_of_no_lines {store = store} four allowed empty = record {
 }
 
 pub store_with_line : {before store after : Slots} (s : Side) (cursor : Sorted) {m : Side → ℕ} (k : Side → ℕ)
-    (x : List ℕ) → HasSlots s cursor → StoreOfLines before store m
-    → ((side : Side) → m side ≤ k side) → length x ≤ k s → after ≡ with_line store cursor.previous_slot x → StoreOfLines before after k
+    (x : List ℕ)
+    → HasSlots s cursor → StoreOfLines before store m → ((side : Side) → m side ≤ k side) → length x ≤ k s
+    → after ≡ with_line store cursor.previous_slot x → StoreOfLines before after k
 store_with_line {store = store} s cursor {m} k x slots kept up fits is =
     let inside = set_line s cursor store.lines m k 0 x slots kept.lines up fits in
     rw is (record {
@@ -134,7 +143,15 @@ cleared : (lines : List (List ℕ)) (peak : ℕ) (denied : Bool) → 4 ≤ lengt
 cleared (a ∷ b ∷ c ∷ d ∷ rest) peak denied four = record {
   slots = refl;
   emptied = omega (arith, four_total a b c d rest, four_total [] [] [] [] rest);
-  peak = omega (arith, four_total a b c d rest, four_total [] b c d rest, four_total [] [] c d rest, four_total [] [] [] d rest, four_total [] [] [] [] rest);
+  peak =
+      omega (
+        arith,
+        four_total a b c d rest,
+        four_total [] b c d rest,
+        four_total [] [] c d rest,
+        four_total [] [] [] d rest,
+        four_total [] [] [] [] rest,
+      );
   denied = refl;
 }
 cleared few peak denied four = absurd (omega arith)

@@ -1,13 +1,20 @@
 -- The start of a merge: slots are added and the first line of each input is read. Nothing is processed yet, so the
 -- invariant holds with an empty output.
-use Rattle.ptmerge.proofs.Common.{◌≡◌, inl, inr, ◌≤◌, ◌<◌, Bool, cond, [], None, Err, length, refl, sym, ap, ◌+◌, ◌∙◌, arith, false≢true, terminator, Reader, Slots}
-use Rattle.ptmerge.proofs.Common.{max_length, push_nothing, MergeFault, Memory, Side, First, Second, Sorted, Lines, MergeTool, MergeState, MergePost, IsMergeUnread, NextOkPost, HasSlots, initial_cursor, base_slot, both, MergeInputs}
-use Rattle.ptmerge.proofs.Common.{StartErrPost, StartOkPost, AddedSlots, StartFirstPost, StartSlotFaultPost, ⊎_elim, max, ◌⊎◌}
-use Rattle.ptmerge.proofs.MergeLemmas.Invariant.{NoBound, sorted_up_to_none, MergeInvariant, lag_invariant_starts, merge_invariant_starts, bound_changes}
-use Rattle.ptmerge.proofs.MergeLemmas.Step.{LoopInvariant, adds_of, next_error_keeps_slot_count, within_size, IsOpenMerge, StoreHoldsTwoLines, fails, own_slots, slot_low, slots_apart}
+use Rattle.ptmerge.proofs.Common.{◌≡◌, inl, inr, ◌≤◌, ◌<◌, Bool, cond, [], None, Err, length, refl, sym, ap, ◌+◌, ◌∙◌}
+use Rattle.ptmerge.proofs.Common.{arith, false≢true, terminator, Reader, Slots, max_length, push_nothing, MergeFault}
+use Rattle.ptmerge.proofs.Common.{Memory, Side, First, Second, Sorted, Lines, MergeTool, MergeState, MergePost}
+use Rattle.ptmerge.proofs.Common.{IsMergeUnread, NextOkPost, HasSlots, initial_cursor, base_slot, both, MergeInputs}
+use Rattle.ptmerge.proofs.Common.{StartErrPost, StartOkPost, AddedSlots, StartFirstPost, StartSlotFaultPost, ⊎_elim}
+use Rattle.ptmerge.proofs.Common.{max, ◌⊎◌}
+use Rattle.ptmerge.proofs.MergeLemmas.Invariant.{NoBound, sorted_up_to_none, MergeInvariant, lag_invariant_starts}
+use Rattle.ptmerge.proofs.MergeLemmas.Invariant.{merge_invariant_starts, bound_changes}
+use Rattle.ptmerge.proofs.MergeLemmas.Step.{LoopInvariant, adds_of, next_error_keeps_slot_count, within_size}
+use Rattle.ptmerge.proofs.MergeLemmas.Step.{IsOpenMerge, StoreHoldsTwoLines, fails, own_slots, slot_low, slots_apart}
 use Rattle.ptmerge.proofs.MergeLemmas.LinesRead.{lines_read_none, reads_nothing, one_line_at_most}
-use Rattle.ptmerge.proofs.MergeLemmas.Slots.{StoreOfLines, has_lines_total, store_with_line, store_of_no_lines, line_other}
-use Rattle.ptmerge.proofs.MergeLemmas.Exits.{SideAfterNext, next_invariant, side_invariant_kept, ReadFacts, read_facts_at_start, read_facts_at_line, state_by_side, exit_is_merge_post}
+use Rattle.ptmerge.proofs.MergeLemmas.Slots.{StoreOfLines, has_lines_total, store_with_line, store_of_no_lines}
+use Rattle.ptmerge.proofs.MergeLemmas.Slots.{line_other}
+use Rattle.ptmerge.proofs.MergeLemmas.Exits.{SideAfterNext, next_invariant, side_invariant_kept, ReadFacts}
+use Rattle.ptmerge.proofs.MergeLemmas.Exits.{read_facts_at_start, read_facts_at_line, state_by_side, exit_is_merge_post}
 
 fresh_slots : (s : Side) → HasSlots s (initial_cursor s)
 fresh_slots s = inr (refl, refl)
@@ -29,7 +36,8 @@ module _ {tool : MergeTool} {old : MergeState} (w : IsOpenMerge tool old) where
 
   unread_side : (side : Side) → ReadFacts terminator cmp (key side) (old.reader side) (old.reader side)
       (old.reader side) [] [] [] NoBound
-  unread_side side = read_facts_at_start (w.readable side) (w.terminator side) (reads_nothing (old.reader side)) tt (w.sound side)
+  unread_side side = read_facts_at_start (w.readable side) (w.terminator side) (reads_nothing (old.reader side)) tt
+      (w.sound side)
 
   abbrev no_lines : Side → Lines
   no_lines side = []
@@ -77,7 +85,8 @@ module _ {tool : MergeTool} {old : MergeState} (w : IsOpenMerge tool old) where
           | Second ↦ k.side_invariant
         ];
         merge_invariant = bound_changes Second k.bound (half_invariant s) k.may_follow k.under;
-        keeps = store_with_line Second (initial_cursor Second) (λ side. max_length (both f.now_ls k.now_ls side)) k.bytes (fresh_slots Second) (half_store s)
+        keeps = store_with_line Second (initial_cursor Second) (λ side. max_length (both f.now_ls k.now_ls side))
+            k.bytes (fresh_slots Second) (half_store s)
             (elim [ First ↦ omega arith | Second ↦ omega arith ]) k.fits k.stored;
       }
 
@@ -87,11 +96,15 @@ module _ {tool : MergeTool} {old : MergeState} (w : IsOpenMerge tool old) where
       StartErrPost key cmp unstarted (record { reader = both new1 new2; store = after }) fault
 
   module _ {new1 new2 : Reader} {after : Slots} {fault : MergeFault} where
-    pub start_fault : StartErr new1 new2 after fault → MergePost tool old (state_by_side (both new1 new2) old.out after) (Err fault)
+    pub start_fault : StartErr new1 new2 after fault
+        → MergePost tool old (state_by_side (both new1 new2) old.out after) (Err fault)
     start_fault (inl u) =
-        let same : (side : Side) → (both new1 new2 side).failed ≡ (old.reader side).failed = λ side. rw (u.unread side) refl in
-        rw u.memory (exit_is_merge_post _ w.o _ _ old.reader (λ side. []) no_lines no_lines (λ side. NoBound) (λ side. rw (u.unread side) (unread_side side))
-        (merge_invariant_starts tool old.out) (lag_invariant_starts _ _ _ _ _ _ w.writable (push_nothing old.out) (push_nothing old.out))
+        let same : (side : Side) → (both new1 new2 side).failed ≡ (old.reader side).failed =
+        λ side. rw (u.unread side) refl in
+        rw u.memory (exit_is_merge_post _ w.o _ _ old.reader (λ side. []) no_lines no_lines (λ side. NoBound)
+        (λ side. rw (u.unread side) (unread_side side))
+        (merge_invariant_starts tool old.out)
+        (lag_invariant_starts _ _ _ _ _ _ w.writable (push_nothing old.out) (push_nothing old.out))
         (Err Memory) (record { denied = u.slots.denied; failed = same; clean = w.writable })
         (λ side fail. absurd (false≢true (sym (same side ∙ w.unfailed side) ∙ fail)))
         (λ four. absurd (omega (arith, four, u.slots.few)))
@@ -119,7 +132,8 @@ module _ {tool : MergeTool} {old : MergeState} (w : IsOpenMerge tool old) where
         (w.terminator Second)) refl None sorted_up_to_none (read_facts_at_line g.side_invariant)
         (λ r piece free. record { first = inl g.side_invariant.begun; second = inr (first_line_only s) })
         (half_store s).denied
-        (λ piece all l. within_size tool w.fits Second (initial_cursor Second) (both g.now_ls []) all piece (fresh_slots Second) (half_store s)
+        (λ piece all l. within_size tool w.fits Second (initial_cursor Second) (both g.now_ls []) all piece
+        (fresh_slots Second) (half_store s)
         (λ side. omega (arith, (l side).longest)) (omega (arith, (l Second).longest))) s.later
 
     -- the number of slots after such a start: fewer than four, or all
@@ -127,7 +141,9 @@ module _ {tool : MergeTool} {old : MergeState} (w : IsOpenMerge tool old) where
         (record { reader = both new1 new2; store = after }) fault
         ⊎ (length after.lines ≡ max (length old.store.lines) 4)
     slots_then (inl u) = inl u
-    slots_then (inr (inl f)) = inr (next_error_keeps_slot_count First (initial_cursor First) (old.reader First) new1 f.made after fault f.fails ∙ f.four.slots)
+    slots_then (inr (inl f)) =
+        inr (next_error_keeps_slot_count First (initial_cursor First) (old.reader First) new1 f.made after fault f.fails
+        ∙ f.four.slots)
     slots_then (inr (inr f)) = let s = f.begins in inr (next_error_keeps_slot_count Second (initial_cursor Second)
         (old.reader Second) new2 s.mid after fault s.later ∙ (half_store s).slots)
 
@@ -139,15 +155,19 @@ module _ {tool : MergeTool} {old : MergeState} (w : IsOpenMerge tool old) where
     }) adds_of (slots_then c)
 
     -- nothing was read if one of the first four slots could not be added
-    pub start_unread : StartErr new1 new2 after fault → length after.lines < 4 → IsMergeUnread old (state_by_side (both new1 new2) old.out after)
-    start_unread c few = ⊎_elim (λ u. record { readers = u.unread; output = refl }) (λ same. absurd (omega (arith, few, same))) (slots_then c)
+    pub start_unread : StartErr new1 new2 after fault → length after.lines < 4
+        → IsMergeUnread old (state_by_side (both new1 new2) old.out after)
+    start_unread c few = ⊎_elim (λ u. record { readers = u.unread; output = refl })
+        (λ same. absurd (omega (arith, few, same))) (slots_then c)
 
 -- the line terminator
 pub ending_is : (zero : Bool) → cond zero 0 10 ≡ terminator zero
 ending_is zero = grind arith
 
 -- the terminator of both readers was set
-pub set_is : (first second set1 set2 : Reader) (zero : Bool) → set1 ≡ record first { terminator = cond zero 0 10 } → set2
-    ≡ record second { terminator = cond zero 0 10 } → (side : Side) → both set1 set2 side ≡ record (both first second side) { terminator = terminator zero }
+pub set_is : (first second set1 set2 : Reader) (zero : Bool) → set1 ≡ record first { terminator = cond zero 0 10 }
+    → set2
+    ≡ record second { terminator = cond zero 0 10 } → (side : Side)
+    → both set1 set2 side ≡ record (both first second side) { terminator = terminator zero }
 set_is first second set1 set2 zero is1 is2 First = rw (is1, ending_is zero)
 set_is first second set1 set2 zero is1 is2 Second = rw (is2, ending_is zero)

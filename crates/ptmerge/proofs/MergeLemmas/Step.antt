@@ -1,18 +1,32 @@
 -- The steps of a merge. A line that precedes everything in the other input is processed, and its input advances; the
 -- next line has no lesser key, so the invariant holds again. A step ends the loop when both inputs are at their ends or
 -- a disorder is reported, and a fault of a write or read ends it with a prefix of the output.
-use Rattle.ptmerge.proofs.Common.{◌≡◌, ◌≢◌, ⊎_elim, inl, inr, ℕ, ◌+◌, ◌≤◌, true, false, List, [], ◌∷◌, ◌++◌, Option, Some, None, Err, length, refl, sym, ◌∙◌, arith, is_lt, is_le, false≢true}
-use Rattle.ptmerge.proofs.Common.{append-nil, Output, PushEffect, Reader, ReaderAdvance, IsDone, IsSound, Slots, line, with_line, unlines, IsLine, push_nothing, MergeFault, Read, Memory, Side, First, Second, Sorted}
-use Rattle.ptmerge.proofs.Common.{CursorStatus, Head, Ended, Disorder, Lines, MergeTool, FirstDisorder, entries_by_key, earlier_disorder, first_disorder, lines_with_key, MergeState, MergePost, Cmp, Key, NextErrPost, NextOkPost, HasSlots, base_slot, with_side, other}
-use Rattle.ptmerge.proofs.Common.{PrecedesInput, IsDisorderDecided, IsReportable, previous_key, ap, ◌⊎◌, ◌*◌, max, length-set, total_bytes, max_length, Write, MergeRunPre, merge_state, WriteFaultPost, WriteThenNextPost, both, AreValidCursors, budget}
-use Rattle.ptmerge.proofs.Common.{IsReaderOf, subst, push_trans, ◌&&◌, cond, nat_lt, Ordering, is_eq, is_gt, nat_tests, length_push, CopyToGroupPost, same_key_at, status_at, IsValidCursor, AddedSlots, ◌<◌, Result, ClearFourSlotsPost}
+use Rattle.ptmerge.proofs.Common.{◌≡◌, ◌≢◌, ⊎_elim, inl, inr, ℕ, ◌+◌, ◌≤◌, true, false, List, [], ◌∷◌, ◌++◌, Option}
+use Rattle.ptmerge.proofs.Common.{Some, None, Err, length, refl, sym, ◌∙◌, arith, is_lt, is_le, false≢true, append-nil}
+use Rattle.ptmerge.proofs.Common.{Output, PushEffect, Reader, ReaderAdvance, IsDone, IsSound, Slots, line, with_line}
+use Rattle.ptmerge.proofs.Common.{unlines, IsLine, push_nothing, MergeFault, Read, Memory, Side, First, Second, Sorted}
+use Rattle.ptmerge.proofs.Common.{CursorStatus, Head, Ended, Disorder, Lines, MergeTool, FirstDisorder, entries_by_key}
+use Rattle.ptmerge.proofs.Common.{earlier_disorder, first_disorder, lines_with_key, MergeState, MergePost, Cmp, Key}
+use Rattle.ptmerge.proofs.Common.{NextErrPost, NextOkPost, HasSlots, base_slot, with_side, other, PrecedesInput}
+use Rattle.ptmerge.proofs.Common.{IsDisorderDecided, IsReportable, previous_key, ap, ◌⊎◌, ◌*◌, max, length-set}
+use Rattle.ptmerge.proofs.Common.{total_bytes, max_length, Write, MergeRunPre, merge_state, WriteFaultPost}
+use Rattle.ptmerge.proofs.Common.{WriteThenNextPost, both, AreValidCursors, budget, IsReaderOf, subst, push_trans, ◌&&◌}
+use Rattle.ptmerge.proofs.Common.{cond, nat_lt, Ordering, is_eq, is_gt, nat_tests, length_push, CopyToGroupPost}
+use Rattle.ptmerge.proofs.Common.{same_key_at, status_at, IsValidCursor, AddedSlots, ◌<◌, Result, ClearFourSlotsPost}
 use Rattle.ptmerge.proofs.Common.{MergeEndPost, Ok}
-use Rattle.ptmerge.proofs.MergeLemmas.Invariant.{Bound, AtLeast, AfterDisorder, NothingMore, MayFollow, MayDisorder, IsDisorderFrom, IsUnder, IsSortedUpTo, IsLeastKeyRun, LagInvariant, MergeInvariant, IsExactStop, line_is_least_run, lag_invariant_starts, not_below, write_least_run, bound_changes}
-use Rattle.ptmerge.proofs.MergeLemmas.Invariant.{all_keys, none_wanted}
-use Rattle.ptmerge.proofs.MergeLemmas.Orders.{EachKey, EachKey-weaker, lines_with_key-above, IsKeyOrder, Above, above_at_most, above_up, greater_flips, is_greater}
-use Rattle.ptmerge.proofs.MergeLemmas.Slots.{both_each, put_both, put_each, put_other, put_same, side_case, line_other, StoreOfLines, has_lines_total, store_with_line, line_added, HasLines}
-use Rattle.ptmerge.proofs.MergeLemmas.Exits.{SideInvariant, MatchesStatus, SideAfterNext, IsAtCurrentLine, next_invariant, at_current_line, side_invariant_kept, IsFailedRead, Fits, ReadFacts, state_by_side, exit_is_merge_post, FitsIn, read_facts_after_line, read_facts_at_line, reads_left, next_decreases, FirstReads, both_begun}
-use Rattle.ptmerge.proofs.MergeLemmas.Exits.{IsExactExit}
+use Rattle.ptmerge.proofs.MergeLemmas.Invariant.{Bound, AtLeast, AfterDisorder, NothingMore, MayFollow, MayDisorder}
+use Rattle.ptmerge.proofs.MergeLemmas.Invariant.{IsDisorderFrom, IsUnder, IsSortedUpTo, IsLeastKeyRun, LagInvariant}
+use Rattle.ptmerge.proofs.MergeLemmas.Invariant.{MergeInvariant, IsExactStop, line_is_least_run, lag_invariant_starts}
+use Rattle.ptmerge.proofs.MergeLemmas.Invariant.{not_below, write_least_run, bound_changes, all_keys, none_wanted}
+use Rattle.ptmerge.proofs.MergeLemmas.Orders.{EachKey, EachKey-weaker, lines_with_key-above, IsKeyOrder, Above}
+use Rattle.ptmerge.proofs.MergeLemmas.Orders.{above_at_most, above_up, greater_flips, is_greater}
+use Rattle.ptmerge.proofs.MergeLemmas.Slots.{both_each, put_both, put_each, put_other, put_same, side_case, line_other}
+use Rattle.ptmerge.proofs.MergeLemmas.Slots.{StoreOfLines, has_lines_total, store_with_line, line_added, HasLines}
+use Rattle.ptmerge.proofs.MergeLemmas.Exits.{SideInvariant, MatchesStatus, SideAfterNext, IsAtCurrentLine}
+use Rattle.ptmerge.proofs.MergeLemmas.Exits.{next_invariant, at_current_line, side_invariant_kept, IsFailedRead, Fits}
+use Rattle.ptmerge.proofs.MergeLemmas.Exits.{ReadFacts, state_by_side, exit_is_merge_post, FitsIn}
+use Rattle.ptmerge.proofs.MergeLemmas.Exits.{read_facts_after_line, read_facts_at_line, reads_left, next_decreases}
+use Rattle.ptmerge.proofs.MergeLemmas.Exits.{FirstReads, both_begun, IsExactExit}
 use Rattle.ptmerge.proofs.MergeLemmas.LinesRead.{HasBegun, reads_nothing}
 use Rattle.ptmerge.specs.declared.faults.MergeFault.TheVariants as faults
 
@@ -27,7 +41,8 @@ pub slot_low : (s : Side) → base_slot s ≤ 2
 slot_low s = grind arith
 
 -- the slots of the two inputs are distinct
-pub slots_apart : (s : Side) (a c : Sorted) → HasSlots s a → HasSlots (other s) c → (a.previous_slot ≢ c.current_slot) × (a.previous_slot ≢ c.previous_slot)
+pub slots_apart : (s : Side) (a c : Sorted) → HasSlots s a → HasSlots (other s) c
+    → (a.previous_slot ≢ c.current_slot) × (a.previous_slot ≢ c.previous_slot)
 slots_apart First a c x y = omega (arith, own_slots First a x, own_slots Second c y)
 slots_apart Second a c x y = omega (arith, own_slots Second a x, own_slots First c y)
 
@@ -58,14 +73,16 @@ current_key_is_above cmp o key x (Disorder n) cursor store now ls p b before st 
 pub record IsLineByLine (tool : MergeTool) : Type 0 where
   pub none : (k : List ℕ) → tool.entries k [] [] ≡ []
   pub first : (k x : List ℕ) (g : Lines) → tool.entries k (x ∷ g) [] ≡ tool.entries k (x ∷ []) [] ++ tool.entries k g []
-  pub second : (k x : List ℕ) (g : Lines) → tool.entries k [] (x ∷ g) ≡ tool.entries k [] (x ∷ []) ++ tool.entries k [] g
+  pub second : (k x : List ℕ) (g : Lines)
+      → tool.entries k [] (x ∷ g) ≡ tool.entries k [] (x ∷ []) ++ tool.entries k [] g
 
 -- a line of one input
 abbrev pub alone : Side → List ℕ → Side → Lines
 alone s x = with_side s (x ∷ []) (λ side. [])
 
 -- an input without lines of the key, in which only greater keys follow
-front_none : {cmp : Cmp} (o : IsKeyOrder cmp) {key : Key} {b : Bound} {k : List ℕ} → IsAbove cmp key k b → IsUnder cmp b k → IsLeastKeyRun cmp key b k []
+front_none : {cmp : Cmp} (o : IsKeyOrder cmp) {key : Key} {b : Bound} {k : List ℕ} → IsAbove cmp key k b
+    → IsUnder cmp b k → IsLeastKeyRun cmp key b k []
 front_none {cmp} o {key} {k = k} above under = record {
   own = tt;
   may_follow = λ r c. c;
@@ -99,7 +116,8 @@ write_one_line tool o laws Second x b p was is new clean m is_from above under w
 -- ---- the invariant of both inputs
 
 -- the invariant of both inputs
-abbrev pub SidesInvariant : MergeTool → (Side → Reader) → (Side → Reader) → (Side → Sorted) → Slots → (Side → Lines) → (Side → Lines) → (Side → Bound) → Type 0
+abbrev pub SidesInvariant : MergeTool → (Side → Reader) → (Side → Reader) → (Side → Sorted) → Slots → (Side → Lines)
+    → (Side → Lines) → (Side → Bound) → Type 0
 SidesInvariant tool old now cursor store ls p b = (side : Side)
     → SideInvariant tool.terminator tool.cmp (tool.key side) (old side) (now side) (cursor side) store (ls side)
     (p side) (b side)
@@ -107,7 +125,8 @@ SidesInvariant tool old now cursor store ls p b = (side : Side)
 module _ (tool : MergeTool) (o : IsKeyOrder tool.cmp) (old now : Side → Reader) (cursor : Side → Sorted) (store : Slots)
     (ls p : Side → Lines) (b : Side → Bound)
     (sides : SidesInvariant tool old now cursor store ls p b)
-    (slots : (side : Side) → HasSlots side (cursor side)) (four : 4 ≤ length store.lines) (s : Side) (head : (cursor s).status ≡ Head) where
+    (slots : (side : Side) → HasSlots side (cursor side)) (four : 4 ≤ length store.lines) (s : Side)
+    (head : (cursor s).status ≡ Head) where
   open tool use {cmp, key, terminator}
 
   pub passed_at : IsAtCurrentLine cmp (key s) (cursor s) store (ls s) (p s) (b s)
@@ -148,13 +167,17 @@ module _ (tool : MergeTool) (o : IsKeyOrder tool.cmp) (old now : Side → Reader
         ] n.side_invariant other_stays
 
     -- the output comes first, as before
-    pub merge_invariant_continues : (q : Side → Lines) (was is : Output) → MergeInvariant tool b q was is → MergeInvariant tool (with_side s n.bound b) q was is
-    merge_invariant_continues q was is m = bound_changes s n.bound m (λ r c. rw passed_at.bound (n.may_follow r c)) (λ k u. n.under k (rw passed_at.bound at u))
+    pub merge_invariant_continues : (q : Side → Lines) (was is : Output) → MergeInvariant tool b q was is
+        → MergeInvariant tool (with_side s n.bound b) q was is
+    merge_invariant_continues q was is m =
+        bound_changes s n.bound m (λ r c. rw passed_at.bound (n.may_follow r c))
+        (λ k u. n.under k (rw passed_at.bound at u))
 
 -- ---- the end of the loop
 
 -- both inputs are at their ends
-pub all_ended : (tool : MergeTool) (old now : Side → Reader) (cursor : Side → Sorted) (store : Slots) (ls p : Side → Lines) (b : Side → Bound)
+pub all_ended : (tool : MergeTool) (old now : Side → Reader) (cursor : Side → Sorted) (store : Slots)
+    (ls p : Side → Lines) (b : Side → Bound)
     → SidesInvariant tool old now cursor store ls p b → ((side : Side) → (cursor side).status ≡ Ended) → (side : Side)
     → (b side ≡ NothingMore) × IsDone (now side)
 all_ended tool old now cursor store ls p b sides eof side = rw (eof side) at (sides side).status_is
@@ -178,21 +201,27 @@ module _ (cmp : Cmp) (o : IsKeyOrder cmp) where
   precedes_above : (s : Side) (l e : List ℕ) → Above cmp l e → Precedes cmp s l e
   precedes_above s l e g = grind (arith, greater_flips)
 
-  named_precedes : (s : Side) (l head last : List ℕ) (m : ℕ) → IsReportable cmp s l (Disorder m) head last → Precedes cmp s l last
+  named_precedes : (s : Side) (l head last : List ℕ) (m : ℕ) → IsReportable cmp s l (Disorder m) head last
+      → Precedes cmp s l last
   named_precedes s l head last m h = grind (arith, not_below, greater_flips cmp o last l)
 
   -- the other input, if this one is reported
-  named_other : (key : Key) (s : Side) (d : FirstDisorder) (status : CursorStatus) (cursor : Sorted) (store : Slots) (now : Reader) (ls p : Lines) (b : Bound)
+  named_other : (key : Key) (s : Side) (d : FirstDisorder) (status : CursorStatus) (cursor : Sorted) (store : Slots)
+      (now : Reader) (ls p : Lines) (b : Bound)
       → IsReportable cmp s d.last_key status (key (line store cursor.current_slot))
-      (key (line store cursor.previous_slot)) → MatchesStatus cmp key status cursor store now ls p b
-      → (f : Option FirstDisorder) (r : Lines) → MayFollow cmp key b r → MayDisorder cmp b f → IsReportedOver cmp s d f
-      × EachKey (λ k. is_le (cmp k d.last_key) ≡ false) key r
+      (key (line store cursor.previous_slot))
+      → MatchesStatus cmp key status cursor store now ls p b → (f : Option FirstDisorder) (r : Lines)
+      → MayFollow cmp key b r → MayDisorder cmp b f
+      → IsReportedOver cmp s d f × EachKey (λ k. is_le (cmp k d.last_key) ≡ false) key r
   named_other key s d Head cursor store now ls p b named (_, _, bound) f r c is_disordered =
       let l = d.last_key in
       let head = key (line store cursor.current_slot) in
       let above : Above cmp l head = is_greater (cmp head l) named in (
         elim f as (λ g. IsDisorderFrom cmp head g → IsReportedOver cmp s d
-            g) [ None ↦ λ u. tt | Some e ↦ λ u. precedes_above s l e.last_key (above_up cmp o l head e.last_key above u) ]
+            g) [
+              | None ↦ λ u. tt
+              | Some e ↦ λ u. precedes_above s l e.last_key (above_up cmp o l head e.last_key above u)
+            ]
             (rw bound at is_disordered),
         EachKey-weaker _ _ (λ k h. ap is_le (above_up cmp o l head k above h)) _ _ (rw bound at c),
       )
@@ -206,8 +235,9 @@ module _ (cmp : Cmp) (o : IsKeyOrder cmp) where
       )
 
 -- an input is out of order, and no key that may follow is up to its last key
-pub stops_at : (tool : MergeTool) (o : IsKeyOrder tool.cmp) (old now : Side → Reader) (cursor : Side → Sorted) (store : Slots) (ls p : Side → Lines)
-    (b : Side → Bound) → SidesInvariant tool old now cursor store ls p b → (s : Side) (n : ℕ)
+pub stops_at : (tool : MergeTool) (o : IsKeyOrder tool.cmp) (old now : Side → Reader) (cursor : Side → Sorted)
+    (store : Slots) (ls p : Side → Lines) (b : Side → Bound)
+    → SidesInvariant tool old now cursor store ls p b → (s : Side) (n : ℕ)
     → IsDisorderDecided tool.cmp tool.key cursor store s n → IsExactStop tool b s n
 stops_at tool o old now cursor store ls p b sides s n dec l r c f =
     let d : FirstDisorder = record { last_key = previous_key tool.key cursor store s; line = n } in
@@ -231,7 +261,8 @@ buffered_not_done some done = absurd (omega (arith, some, ap length done.buffere
 module _ (tool : MergeTool) (o : IsKeyOrder tool.cmp) (old now : MergeState) (ls q : Side → Lines) (b : Side → Bound)
     (m : MergeInvariant tool b q old.out now.out)
     (unfailed : (side : Side) → (old.reader side).failed ≡ false)
-    (none_failed : (side : Side) → (now.reader side).failed ≡ (old.reader side).failed) (clean : now.out.write_failed ≡ false) where
+    (none_failed : (side : Side) → (now.reader side).failed ≡ (old.reader side).failed)
+    (clean : now.out.write_failed ≡ false) where
   open tool use {cmp, key}
 
   abbrev pub ReadFactsOf : Side → Reader → List ℕ → Type 0
@@ -280,8 +311,10 @@ module _ (tool : MergeTool) (o : IsKeyOrder tool.cmp) (old now : MergeState) (ls
       (λ side. fails_not side (now.reader side) (none_failed side))) tt (order new e.piece e.faults.whole)
       (rw e.stored (fits e.piece)))
   fails s cursor new after Memory gone all last sorted_up_to rest order roomy fits (e, sound) =
-      let failed = put_each (λ side (r : Reader). r.failed ≡ (old.reader side).failed) s new now.reader (e.failed ∙ none_failed s) none_failed in
-      exit_is_merge_post tool o old (state_by_side (with_side s new now.reader) now.out after) now.reader (with_side s e.piece (λ side. [])) ls q b
+      let failed = put_each (λ side (r : Reader). r.failed ≡ (old.reader side).failed) s new now.reader
+      (e.failed ∙ none_failed s) none_failed in
+      exit_is_merge_post tool o old (state_by_side (with_side s new now.reader) now.out after) now.reader
+      (with_side s e.piece (λ side. [])) ls q b
       (put_both ReadFactsOf s new now.reader e.piece (λ side. []) (gone new e.piece e.faults.reads e.faults.whole sound)
       rest) m lag_invariant (Err Memory)
       (record { denied = rw e.stored refl; failed = failed; clean = clean })
@@ -293,7 +326,8 @@ module _ (tool : MergeTool) (o : IsKeyOrder tool.cmp) (old now : MergeState) (ls
 -- ---- between two steps
 
 -- the loop invariant of a tool, with `Keep` as the invariant of its store
-pub record LoopInvariant (tool : MergeTool) (Keep : Slots → (Side → Lines) → Type 0) (old now : MergeState) (cursor : Side → Sorted) : Type 0 where
+pub record LoopInvariant (tool : MergeTool) (Keep : Slots → (Side → Lines) → Type 0) (old now : MergeState)
+    (cursor : Side → Sorted) : Type 0 where
   pub ls : Side → Lines
   pub p : Side → Lines
   pub b : Side → Bound
@@ -312,11 +346,13 @@ same_state tool old s now out reader after fault is e m =
     (λ (t : Side) (r : Reader). r ≡ now.reader t) s (now.reader s) now.reader refl (λ t. refl) side i in
     rw (is, e.unread, e.store, unread_side) m
 
-pub slots_of : {key : Side → Key} (one two : Sorted) (store : Slots) → AreValidCursors key one two store → (side : Side) → HasSlots side (both one two side)
+pub slots_of : {key : Side → Key} (one two : Sorted) (store : Slots) → AreValidCursors key one two store → (side : Side)
+    → HasSlots side (both one two side)
 slots_of one two store valid_cursors = elim [ First ↦ valid_cursors.first | Second ↦ valid_cursors.second ]
 
 -- the output as lines with terminators
-pub wrote_as : (end e : ℕ) (xs ys : Lines) (was is : Output) → e ≡ end → ys ≡ xs → PushEffect was is (unlines e xs) → PushEffect was is (unlines end ys)
+pub wrote_as : (end e : ℕ) (xs ys : Lines) (was is : Output) → e ≡ end → ys ≡ xs → PushEffect was is (unlines e xs)
+    → PushEffect was is (unlines end ys)
 wrote_as end e xs ys was is same list wrote = rw (list, ← same) wrote
 
 -- ---- the number of slots
@@ -336,7 +372,8 @@ next_error_keeps_slot_count s cursor was is before after other e = absurd e
 
 pub advance_keeps_slot_count : (key : Key) (cmp : Cmp) (s : Side) (cursor next : Sorted) (was is : Reader)
     (before after : Slots) (out : Output) (fault : MergeFault)
-    → WriteThenNextPost key cmp s cursor next was is before after out (Err fault) → length after.lines ≡ length before.lines
+    → WriteThenNextPost key cmp s cursor next was is before after out (Err fault)
+    → length after.lines ≡ length before.lines
 advance_keeps_slot_count key cmp s cursor next was is before after out fault (inl (_, e)) = rw e.store
 advance_keeps_slot_count key cmp s cursor next was is before after out fault (inr (_, e)) =
     next_error_keeps_slot_count s cursor was is before after fault e
@@ -354,7 +391,8 @@ adds_of count = record { least = omega arith; most = omega arith; all = λ _. co
 
 -- the measure of such a tool
 abbrev pub HoldsTwoLines : MergeTool → Type 0
-HoldsTwoLines tool = (ls : Side → Lines) → (2 * max_length (ls First) + 2 * max_length (ls Second) ≤ tool.size ls) × (4 ≤ tool.slots ls)
+HoldsTwoLines tool = (ls : Side → Lines)
+    → (2 * max_length (ls First) + 2 * max_length (ls Second) ≤ tool.size ls) × (4 ≤ tool.slots ls)
 
 -- a line is no longer than the longest line
 pub within_size : (tool : MergeTool) → HoldsTwoLines tool → {before store : Slots} (s : Side) (cursor : Sorted)
@@ -384,7 +422,8 @@ pub open_merge : {tool : MergeTool} {first second : Reader} {out : Output} {stor
 open_merge {tool} {first} {second} {store = store} o fits b = record {
   o = o;
   fits = fits;
-  terminator = both_each (λ (side : Side) (r : Reader). r.terminator ≡ tool.terminator) first second b.terminator1 b.terminator2;
+  terminator =
+      both_each (λ (side : Side) (r : Reader). r.terminator ≡ tool.terminator) first second b.terminator1 b.terminator2;
   sound = both_each (λ (side : Side) (r : Reader). IsSound r) first second b.sound1 b.sound2;
   readable = elim [ First ↦ b.ready.readable1 | Second ↦ b.ready.readable2 ];
   -- a sound reader has not failed
@@ -405,7 +444,8 @@ pub record StoreInvariant (tool : MergeTool) (before : Slots) (reader : Side →
   pub denied : store.denied ≡ false
   pub fits : (after : Slots) → after.peak ≤ max store.peak (total_bytes store.lines)
       → length after.lines ≡ length store.lines → Fits tool before reader ls (λ side. []) after
-  pub line : (s : Side) (piece : List ℕ) → Fits tool before reader ls (with_side s piece (λ side. [])) (with_line store (cursor s).previous_slot piece)
+  pub line : (s : Side) (piece : List ℕ)
+      → Fits tool before reader ls (with_side s piece (λ side. [])) (with_line store (cursor s).previous_slot piece)
 
 -- the store holds two lines of each input and nothing else
 abbrev pub StoreHoldsTwoLines : Slots → Slots → (Side → Lines) → Type 0
@@ -521,10 +561,12 @@ module _ {tool : MergeTool} {old : MergeState} (w : IsOpenMerge tool old) {reade
     denied : after.denied ≡ false
     denied = clear.denied ∙ a.holds.denied
 
-    pub ends_well : ((side : Side) → (cursor side).status ≡ Ended) → MergePost tool old (state_by_side reader out after) (Ok tt)
+    pub ends_well : ((side : Side) → (cursor side).status ≡ Ended)
+        → MergePost tool old (state_by_side reader out after) (Ok tt)
     ends_well step =
         let e = all_ended tool _ _ _ _ _ _ _ a.sides step in
-        let short = λ (side : Side). (a.sides side).lines_read.advance_ok.short ((w.sound side).long (w.readable side)) in
+        let short =
+        λ (side : Side). (a.sides side).lines_read.advance_ok.short ((w.sound side).long (w.readable side)) in
         concludes (Ok tt) (record {
           done = λ side. (let (_, done) = e side in done);
           fault = fault;
@@ -551,7 +593,8 @@ module _ {tool : MergeTool} {old : MergeState} (w : IsOpenMerge tool old) {reade
     n = next_at tool w.o _ _ _ _ _ _ _ a.sides a.slots four s head _ _ _ comes
 
     pub keeps_two : StoreHoldsTwoLines old.store store ls → StoreHoldsTwoLines old.store after (with_side s n.now_ls ls)
-    keeps_two keeps = store_with_line s (cursor s) (λ side. max_length (with_side s n.now_ls ls side)) n.bytes (a.slots s) keeps
+    keeps_two keeps = store_with_line s (cursor s) (λ side. max_length (with_side s n.now_ls ls side)) n.bytes
+        (a.slots s) keeps
         (put_each (λ side (l : Lines). max_length (ls side) ≤ max_length l) s n.now_ls ls n.longer
         (λ side. omega arith)) (rw (put_same s n.now_ls ls) n.fits) n.stored
 
@@ -566,7 +609,8 @@ module _ {tool : MergeTool} {old : MergeState} (w : IsOpenMerge tool old) {reade
         record { sides = sides_next; holds = holds_two fits (keeps_two keeps) slots; slots = slots }
 
     -- the output comes first, as before
-    pub goes_merging : {q : Side → Lines} {out : Output} → MergeInvariant tool b q old.out out → MergeInvariant tool (with_side s n.bound b) q old.out out
+    pub goes_merging : {q : Side → Lines} {out : Output} → MergeInvariant tool b q old.out out
+        → MergeInvariant tool (with_side s n.bound b) q old.out out
     goes_merging m = merge_invariant_continues tool w.o _ _ _ _ _ _ _ a.sides a.slots four s head _ _ _ n _ _ _ m
 
     pub runs_on : {Keep : Slots → (Side → Lines) → Type 0} {out : Output} → Keep after (with_side s n.now_ls ls)
@@ -589,7 +633,8 @@ err_is (_, is, same) = is ∙ ap (λ y. Err y) same
 
 -- the remaining work
 abbrev pub reads_ahead : (Side → Reader) → Sorted → Sorted → ℕ
-reads_ahead reader one two = (budget (reader First) + reads_left one.status) + (budget (reader Second) + reads_left two.status)
+reads_ahead reader one two =
+    (budget (reader First) + reads_left one.status) + (budget (reader Second) + reads_left two.status)
 
 pub measure_less : (key : Key) (cmp : Cmp) (s : Side) (one two one2 two2 : Sorted) (f : Side → Reader) (reader : Reader)
     (before after : Slots) → (both one two s).status ≡ Head
@@ -606,8 +651,9 @@ pub place_is : (s : Side) (one two one2 two2 : Sorted) → both one2 two2 (other
 place_is First one two one2 two2 same = λ i. both one2 (sym same i)
 place_is Second one two one2 two2 same = λ i. both (sym same i) two2
 
-pub own_reader_kept : (s : Side) (one two one2 two2 : Sorted) (f : Side → Reader) (reader : Reader) → both one2 two2 (other s) ≡ both one two (other s)
-    → IsReaderOf (both one2 two2 s) reader → ((side : Side) → IsReaderOf (both one two side) (f side)) → (side : Side)
+pub own_reader_kept : (s : Side) (one two one2 two2 : Sorted) (f : Side → Reader) (reader : Reader)
+    → both one2 two2 (other s) ≡ both one two (other s) → IsReaderOf (both one2 two2 s) reader
+    → ((side : Side) → IsReaderOf (both one two side) (f side)) → (side : Side)
     → IsReaderOf (both one2 two2 side) (with_side s reader f side)
 own_reader_kept s one two one2 two2 f reader same h all =
     side_case (λ side. IsReaderOf (both one2 two2 side) (with_side s reader f side)) s (rw (put_same s reader f) h)
@@ -622,8 +668,10 @@ wrote_and_sent was mid is pushed clean wrote written_out = subst (λ (bytes : Li
 -- ---- keys in slots
 
 -- the status at a line that is not the first
-pub later_status : (key : Key) (cmp : Cmp) (number : ℕ) (last next : List ℕ) (r : Ordering) → 0 < number → r ≡ cmp (key last) (key next)
-    → (cond (is_gt r) (Disorder (number + 1)) Head ≡ status_at key cmp number last next) × (is_eq r ≡ same_key_at key cmp number last next)
+pub later_status : (key : Key) (cmp : Cmp) (number : ℕ) (last next : List ℕ) (r : Ordering) → 0 < number
+    → r ≡ cmp (key last) (key next)
+    → (cond (is_gt r) (Disorder (number + 1)) Head ≡ status_at key cmp number last next)
+    × (is_eq r ≡ same_key_at key cmp number last next)
 later_status key cmp number last next r some is =
     let t : nat_lt 0 number ≡ true = grind (arith, nat_tests) in
     (λ i. cond (sym t i && is_gt (is i)) (Disorder (number + 1)) Head, λ i. sym t i && is_eq (is i))
@@ -632,7 +680,8 @@ later_status key cmp number last next r some is =
 pub cursor_valid_kept : (key : Key) (cursor : Sorted) (before after : Slots)
     → line after cursor.current_slot ≡ line before cursor.current_slot → IsValidCursor key cursor before
     → IsValidCursor key cursor after
-cursor_valid_kept key cursor before after same cursor_valid = record { head = λ status_is. rw same (cursor_valid.head status_is); broken = cursor_valid.broken }
+cursor_valid_kept key cursor before after same cursor_valid =
+    record { head = λ status_is. rw same (cursor_valid.head status_is); broken = cursor_valid.broken }
 
 -- the slots after the first four may change
 pub valid_cursors_kept : (key : Side → Key) (one two : Sorted) (before after : Slots)
@@ -642,16 +691,21 @@ valid_cursors_kept key one two before after p least same = record {
   first = p.first;
   second = p.second;
   slots = omega (arith, p.slots, least);
-  cursor_valid1 = cursor_valid_kept (key First) one before after (same one.current_slot (omega (arith, own_slots First one p.first))) p.cursor_valid1;
-  cursor_valid2 = cursor_valid_kept (key Second) two before after (same two.current_slot (omega (arith, own_slots Second two p.second))) p.cursor_valid2;
+  cursor_valid1 = cursor_valid_kept (key First) one before after
+      (same one.current_slot (omega (arith, own_slots First one p.first))) p.cursor_valid1;
+  cursor_valid2 = cursor_valid_kept (key Second) two before after
+      (same two.current_slot (omega (arith, own_slots Second two p.second))) p.cursor_valid2;
 }
 
 -- copying a line changes one slot, or adds one
-pub kept_line : (before after : Slots) (from to slot : ℕ) → slot < to → CopyToGroupPost before after from to → line after slot ≡ line before slot
+pub kept_line : (before after : Slots) (from to slot : ℕ) → slot < to → CopyToGroupPost before after from to
+    → line after slot ≡ line before slot
 kept_line before after from to slot low e =
-    let grown : line e.made slot ≡ line before slot = ⊎_elim (λ h. rw h refl) (λ h. rw h (line_added before slot)) e.grown.grown in
+    let grown : line e.made slot ≡ line before slot =
+    ⊎_elim (λ h. rw h refl) (λ h. rw h (line_added before slot)) e.grown.grown in
     rw e.copied (line_other e.made to slot (line e.made from) (λ is. absurd (omega (arith, is, low))) ∙ grown)
 
-pub kept_least : (before after : Slots) (from to : ℕ) → CopyToGroupPost before after from to → length before.lines ≤ length after.lines
+pub kept_least : (before after : Slots) (from to : ℕ) → CopyToGroupPost before after from to
+    → length before.lines ≤ length after.lines
 kept_least before after from to e = rw (e.copied, length-set)
     (⊎_elim (λ h. rw h (omega arith)) (λ h. rw h (omega (arith, length_push before.lines []))) e.grown.grown)

@@ -1,6 +1,7 @@
 -- Several writes, one after another, to an output that may have failed: their bytes are concatenated, and after a
 -- failed write nothing more is written.
-use Rattle.ptmerge.proofs.Common.{◌≡◌, ⊎_elim, false, ℕ, List, ◌++◌, Result, Ok, Err, IsErrAnd, true, Output, PushPost, PushEffect, push_trans, WriteBytesPost}
+use Rattle.ptmerge.proofs.Common.{◌≡◌, ⊎_elim, false, ℕ, List, ◌++◌, Result, Ok, Err, IsErrAnd, true, Output, PushPost}
+use Rattle.ptmerge.proofs.Common.{PushEffect, push_trans, WriteBytesPost}
 use Rattle.std.proofs.lemmas.Bool.{cases_Bool}
 use Rattle.ptlines.proofs.Push.{push_after_failure}
 
@@ -16,7 +17,8 @@ pub then_pushes : {E : Type 0} {a b c : Output} {xs ys : List ℕ} {r : Result (
 then_pushes clean p q = record { wrote = wrote_then clean p q.wrote; clean = q.clean; fault = q.fault }
 
 -- a push is a write of its bytes
-pub push_is_write : {E : Type 0} {a b : Output} {xs : List ℕ} {r : Result (Unit {0}) E} → PushPost a b xs r → WriteBytesPost a b xs r
+pub push_is_write : {E : Type 0} {a b : Output} {xs : List ℕ} {r : Result (Unit {0}) E} → PushPost a b xs r
+    → WriteBytesPost a b xs r
 push_is_write p = record { wrote = p.wrote; clean = λ _. p.clean; fault = p.fault }
 
 -- the fault of a push is the fault of the call

@@ -1,13 +1,21 @@
 -- Output of inputs that are split at the same key. The keys of the first parts are below those of the second, so the
 -- distinct keys of the whole are those of the first parts followed by those of the second, and so are the entries. A
 -- disorder can only be in the second parts.
-use Rattle.ptmerge.proofs.Common.{arith, append-nil, ◌≡◌, ℕ, ◌+◌, List, [], ◌∷◌, ◌++◌, Bool, true, false, cond, Option, Some, None, refl, ap, sym, ◌∙◌, filter, Less, Side, First, Second, Lines, MergeTool}
-use Rattle.ptmerge.proofs.Common.{FirstDisorder, entries_by_key, disorder, earlier_disorder, first_disorder, keys, merged_entries, sorted_prefixes, sorted_prefix, is_up_to, lines_of, Cmp, Key, unlines, the_lines_of_parts, unlines-append, comm_tool}
-use Rattle.ptmerge.proofs.Common.{join_tool, IsConcatOfParts, CommOfParts, JoinOfParts, ◌&&◌, not, map, tied_itself, bytes_eq, flat_map, is_gt, is_lt, Equal, bytes_decides, insert_key, distinct_keys, lines_with_key}
+use Rattle.ptmerge.proofs.Common.{arith, append-nil, ◌≡◌, ℕ, ◌+◌, List, [], ◌∷◌, ◌++◌, Bool, true, false, cond, Option}
+use Rattle.ptmerge.proofs.Common.{Some, None, refl, ap, sym, ◌∙◌, filter, Less, Side, First, Second, Lines, MergeTool}
+use Rattle.ptmerge.proofs.Common.{FirstDisorder, entries_by_key, disorder, earlier_disorder, first_disorder, keys}
+use Rattle.ptmerge.proofs.Common.{merged_entries, sorted_prefixes, sorted_prefix, is_up_to, lines_of, Cmp, Key, unlines}
+use Rattle.ptmerge.proofs.Common.{the_lines_of_parts, unlines-append, comm_tool, join_tool, IsConcatOfParts}
+use Rattle.ptmerge.proofs.Common.{CommOfParts, JoinOfParts, ◌&&◌, not, map, tied_itself, bytes_eq, flat_map, is_gt}
+use Rattle.ptmerge.proofs.Common.{is_lt, Equal, bytes_decides, insert_key, distinct_keys, lines_with_key}
 use Rattle.ptmerge.proofs.Common.{entries_of_key, filter-append}
-use Rattle.ptmerge.proofs.MergeLemmas.Invariant.{IsDisorderFrom, after_from, disorder_after, disorder_at, first_disorder_is, is_disordered, sorted_after, sorted_prefix_is, Ascends, IsDownwardClosed, all_keys, all_wanted, ascends_distinct, downward_splits}
-use Rattle.ptmerge.proofs.MergeLemmas.Invariant.{up_to_from}
-use Rattle.ptmerge.proofs.MergeLemmas.Orders.{Each, Each-weaker, EachKey, Each-all, EachKey-weaker, insert_least, Each-parts, IsKeyOrder, AtMost, above_trans, at_most_trans, greater_flips, line_order}
+use Rattle.ptmerge.proofs.MergeLemmas.Invariant.{IsDisorderFrom, after_from, disorder_after, disorder_at}
+use Rattle.ptmerge.proofs.MergeLemmas.Invariant.{first_disorder_is, is_disordered, sorted_after, sorted_prefix_is}
+use Rattle.ptmerge.proofs.MergeLemmas.Invariant.{Ascends, IsDownwardClosed, all_keys, all_wanted, ascends_distinct}
+use Rattle.ptmerge.proofs.MergeLemmas.Invariant.{downward_splits, up_to_from}
+use Rattle.ptmerge.proofs.MergeLemmas.Orders.{Each, Each-weaker, EachKey, Each-all, EachKey-weaker, insert_least}
+use Rattle.ptmerge.proofs.MergeLemmas.Orders.{Each-parts, IsKeyOrder, AtMost, above_trans, at_most_trans, greater_flips}
+use Rattle.ptmerge.proofs.MergeLemmas.Orders.{line_order}
 
 -- ---- lines with some of the keys
 
@@ -17,18 +25,21 @@ module _ (p : List ℕ → Bool) where
   each_kept P (k ∷ ks) (here, more) = grind (arith, each_kept P ks more)
 
   module _ (cmp : Cmp) (o : IsKeyOrder cmp) where
-    insert_kept : (k : List ℕ) (xs : Lines) → Ascends cmp xs → filter p (insert_key cmp k xs) ≡ cond (p k) (insert_key cmp k (filter p xs)) (filter p xs)
+    insert_kept : (k : List ℕ) (xs : Lines) → Ascends cmp xs
+        → filter p (insert_key cmp k xs) ≡ cond (p k) (insert_key cmp k (filter p xs)) (filter p xs)
     insert_kept k [] a = refl
     insert_kept k (x ∷ xs) (above, more) =
         let least : cmp k x ≡ Less → insert_key cmp k (filter p xs) ≡ k ∷ filter p xs =
-        λ e. insert_least cmp o k (filter p xs) (each_kept _ xs (Each-weaker _ _ (λ y g. above_trans cmp o k x y (ap is_gt e) g) xs above)) in
+        λ e. insert_least cmp o k (filter p xs)
+        (each_kept _ xs (Each-weaker _ _ (λ y g. above_trans cmp o k x y (ap is_gt e) g) xs above)) in
         let same : cmp k x ≡ Equal → p k ≡ p x = λ e. ap p (o.exact k x e) in
         grind (arith, insert_kept k xs more, least, same)
 
     -- filtering and computing the distinct keys commute
     distinct_kept : (ks : Lines) → filter p (distinct_keys cmp ks) ≡ distinct_keys cmp (filter p ks)
     distinct_kept [] = refl
-    distinct_kept (k ∷ ks) = grind (arith, distinct_kept ks, insert_kept k (distinct_keys cmp ks) (ascends_distinct cmp o ks))
+    distinct_kept (k ∷ ks) =
+        grind (arith, distinct_kept ks, insert_kept k (distinct_keys cmp ks) (ascends_distinct cmp o ks))
 
   -- the lines whose keys pass the test
   abbrev kept : Key → Lines → Lines
@@ -42,11 +53,14 @@ module _ (p : List ℕ → Bool) where
   kept_parts : (key : Key) (xs ys : Lines) → EachKey (λ k. p k ≡ true) key xs → EachKey (λ k. p k ≡ false) key ys
       → (kept key (xs ++ ys) ≡ xs) × (filter (λ line. not (p (key line))) (xs ++ ys) ≡ ys)
   kept_parts key [] [] e f = (refl, refl)
-  kept_parts key [] (y ∷ ys) e (here, more) = let (none, all) = kept_parts key [] ys tt more in rw here (none, ap (λ l. y ∷ l) all)
-  kept_parts key (x ∷ xs) ys (here, more) f = let (all, none) = kept_parts key xs ys more f in rw here (ap (λ l. x ∷ l) all, none)
+  kept_parts key [] (y ∷ ys) e (here, more) = let (none, all) = kept_parts key [] ys tt more in
+      rw here (none, ap (λ l. y ∷ l) all)
+  kept_parts key (x ∷ xs) ys (here, more) f = let (all, none) = kept_parts key xs ys more f in
+      rw here (ap (λ l. x ∷ l) all, none)
 
   -- all lines of a key pass the test if the key does
-  with_key_kept : (key : Key) (k : List ℕ) (ls : Lines) → p k ≡ true → lines_with_key key (kept key ls) k ≡ lines_with_key key ls k
+  with_key_kept : (key : Key) (k : List ℕ) (ls : Lines) → p k ≡ true
+      → lines_with_key key (kept key ls) k ≡ lines_with_key key ls k
   with_key_kept key k [] h = refl
   with_key_kept key k (x ∷ ls) h = let same : bytes_eq (key x) k ≡ true → p (key x) ≡ true =
       λ e. ap p ((bytes_decides (key x) k).0 e) ∙ h in grind (arith, with_key_kept key k ls h, same)
@@ -67,17 +81,21 @@ module _ (p : List ℕ → Bool) where
         (filter w ((ap (distinct_keys cmp) keys_of_part ∙ sym (distinct_kept cmp o (keys tool ls))) i)))
         ∙ each_of (distinct_keys cmp (keys tool ls))
       where
-        each_of : (ds : Lines) → flat_map (entries_of_key tool part) (filter w (filter p ds)) ≡ flat_map (entries_of_key tool ls) (filter (λ k. w k && p k) ds)
+        each_of : (ds : Lines)
+            → flat_map (entries_of_key tool part) (filter w (filter p ds))
+            ≡ flat_map (entries_of_key tool ls) (filter (λ k. w k && p k) ds)
         each_of [] = refl
         each_of (d ∷ ds) =
             let same : p d ≡ true → entries_of_key tool part d ≡ entries_of_key tool ls d =
-            λ h i. entries d (with_key_kept (key First) d (ls First) h i) (with_key_kept (key Second) d (ls Second) h i) in
+            λ h i. entries d (with_key_kept (key First) d (ls First) h i)
+            (with_key_kept (key Second) d (ls Second) h i) in
             grind (arith, each_of ds, same)
 
 -- ---- keys below others
 
 -- a property of the keys of two lists holds for each list
-key_split : (tool : MergeTool) (side : Side) (P : List ℕ → Type 0) (ls : Side → Lines) → Each P (keys tool ls) → EachKey P (tool.key side) (ls side)
+key_split : (tool : MergeTool) (side : Side) (P : List ℕ → Type 0) (ls : Side → Lines) → Each P (keys tool ls)
+    → EachKey P (tool.key side) (ls side)
 key_split tool First P ls e = (Each-parts P (map (tool.key First) (ls First)) (map (tool.key Second) (ls Second)) e).0
 key_split tool Second P ls e = (Each-parts P (map (tool.key First) (ls First)) (map (tool.key Second) (ls Second)) e).1
 
@@ -118,7 +136,8 @@ by_limits : (cmp : Cmp) (f g : Option FirstDisorder) (k : List ℕ)
 by_limits cmp f g k = grind arith
 
 -- the first line is in order, and so are those after it
-no_disorder : (b : Bool) (d : FirstDisorder) (f : Option FirstDisorder) → cond b (Some d) f ≡ None → (b ≡ false) × (f ≡ None)
+no_disorder : (b : Bool) (d : FirstDisorder) (f : Option FirstDisorder) → cond b (Some d) f ≡ None
+    → (b ≡ false) × (f ≡ None)
 no_disorder b d f e = grind arith
 
 module _ (cmp : Cmp) (o : IsKeyOrder cmp) (key : Key) where
@@ -129,15 +148,16 @@ module _ (cmp : Cmp) (o : IsKeyOrder cmp) (key : Key) where
   uncounted last n m (y ∷ ys) = grind (arith, uncounted (Some (key y)) (n + 1) (m + 1) ys)
 
   -- A list appended to a sorted list with keys of at most its own has its own disorder.
-  appended : (last : Option (List ℕ)) (n : ℕ) (xs ys : Lines) → disorder_after cmp key last n xs ≡ None → EachKey (λ k. is_disordered cmp last k ≡ false) key ys
-      → EachKey (λ k. EachKey (AtMost cmp k) key ys) key xs
+  appended : (last : Option (List ℕ)) (n : ℕ) (xs ys : Lines) → disorder_after cmp key last n xs ≡ None
+      → EachKey (λ k. is_disordered cmp last k ≡ false) key ys → EachKey (λ k. EachKey (AtMost cmp k) key ys) key xs
       → (sorted_after cmp key last (xs ++ ys) ≡ xs ++ sorted_after cmp key None ys)
-      × (without_line_number (disorder_after cmp key last n (xs ++ ys)) ≡ without_line_number
-      (disorder_after cmp key None 0 ys))
+      × (without_line_number (disorder_after cmp key last n (xs ++ ys))
+      ≡ without_line_number (disorder_after cmp key None 0 ys))
   appended last n [] [] e h b = (refl, refl)
   appended last n [] (y ∷ ys) e (here, _) b = rw here (refl, uncounted (Some (key y)) (n + 1) 1 ys)
   appended last n (x ∷ xs) ys e h (below, below_all) =
-      let (calm, later) = no_disorder (is_disordered cmp last (key x)) (disorder_at last n) (disorder_after cmp key (Some (key x)) (n + 1) xs) e in
+      let (calm, later) = no_disorder (is_disordered cmp last (key x)) (disorder_at last n)
+      (disorder_after cmp key (Some (key x)) (n + 1) xs) e in
       let (is, without) = appended (Some (key x)) (n + 1) xs ys later below below_all in
       rw calm (ap (λ l. x ∷ l) is, without)
 
@@ -145,8 +165,14 @@ module _ (cmp : Cmp) (o : IsKeyOrder cmp) (key : Key) where
       → (sorted_prefix cmp key (xs ++ ys) ≡ xs ++ sorted_prefix cmp key ys)
       × (without_line_number (first_disorder cmp key (xs ++ ys)) ≡ without_line_number (first_disorder cmp key ys))
   together xs ys e b =
-      let all = appended None 0 xs ys (sym (first_disorder_is cmp key xs) ∙ e) (Each-all (λ k. is_disordered cmp None k ≡ false) (λ k. refl) (map key ys)) b in
-      rw (first_disorder_is cmp key (xs ++ ys), first_disorder_is cmp key ys, sorted_prefix_is cmp key (xs ++ ys), sorted_prefix_is cmp key ys) all
+      let all = appended None 0 xs ys (sym (first_disorder_is cmp key xs) ∙ e)
+      (Each-all (λ k. is_disordered cmp None k ≡ false) (λ k. refl) (map key ys)) b in
+      rw (
+        first_disorder_is cmp key (xs ++ ys),
+        first_disorder_is cmp key ys,
+        sorted_prefix_is cmp key (xs ++ ys),
+        sorted_prefix_is cmp key ys,
+      ) all
 
   -- a list without a disorder is its own sorted prefix
   ordered_whole : (xs : Lines) → first_disorder cmp key xs ≡ None → sorted_prefix cmp key xs ≡ xs
@@ -159,9 +185,11 @@ module _ (cmp : Cmp) (o : IsKeyOrder cmp) (key : Key) where
   each_ordered P (x ∷ y ∷ ys) (here, more) = grind (arith, each_ordered P (y ∷ ys) more)
 
   -- the last key in order is at least a lower bound of all keys
-  from_below : (k : List ℕ) (ys : Lines) → EachKey (AtMost cmp k) key ys → IsDisorderFrom cmp k (first_disorder cmp key ys)
+  from_below : (k : List ℕ) (ys : Lines) → EachKey (AtMost cmp k) key ys
+      → IsDisorderFrom cmp k (first_disorder cmp key ys)
   from_below k [] e = tt
-  from_below k (y ∷ ys) (here, _) = rw (first_disorder_is cmp key (y ∷ ys)) (rw here at (after_from cmp o key k 0 (y ∷ ys)).1)
+  from_below k (y ∷ ys) (here, _) =
+      rw (first_disorder_is cmp key (y ∷ ys)) (rw here at (after_from cmp o key k 0 (y ∷ ys)).1)
 
   kept_after : (p : List ℕ → Bool) (last from : Option (List ℕ)) (n m : ℕ) (xs : Lines)
       → ((k : List ℕ) → is_disordered cmp last k ≡ false → is_disordered cmp from k ≡ false)
@@ -169,44 +197,57 @@ module _ (cmp : Cmp) (o : IsKeyOrder cmp) (key : Key) where
       → disorder_after cmp key from m (filter p xs) ≡ None
   kept_after p last from n m [] up e = refl
   kept_after p last from n m (x ∷ xs) up e =
-      let (calm, later) = no_disorder (is_disordered cmp last (key x)) (disorder_at last n) (disorder_after cmp key (Some (key x)) (n + 1) xs) e in
+      let (calm, later) = no_disorder (is_disordered cmp last (key x)) (disorder_at last n)
+      (disorder_after cmp key (Some (key x)) (n + 1) xs) e in
       let rise = up (key x) calm in
-      let left_out = kept_after p (Some (key x)) from (n + 1) m xs (λ k g. grind (arith, at_most_trans, rise, g)) later in
+      let left_out = kept_after p (Some (key x)) from (n + 1) m xs (λ k g. grind (arith, at_most_trans, rise, g))
+      later in
       grind (arith, rise, left_out, kept_after p (Some (key x)) (Some (key x)) (n + 1) (m + 1) xs (λ k g. g) later)
 
   -- a sublist of a sorted list is sorted
-  in_order_kept : (p : List ℕ → Bool) (xs : Lines) → first_disorder cmp key xs ≡ None → first_disorder cmp key (filter p xs) ≡ None
-  in_order_kept p xs e = first_disorder_is cmp key (filter p xs) ∙ kept_after p None None 0 0 xs (λ k h. h) (sym (first_disorder_is cmp key xs) ∙ e)
+  in_order_kept : (p : List ℕ → Bool) (xs : Lines) → first_disorder cmp key xs ≡ None
+      → first_disorder cmp key (filter p xs) ≡ None
+  in_order_kept p xs e = first_disorder_is cmp key (filter p xs)
+      ∙ kept_after p None None 0 0 xs (λ k h. h) (sym (first_disorder_is cmp key xs) ∙ e)
 
 module _ (tool : MergeTool) (o : IsKeyOrder tool.cmp) where
   open tool use {cmp, key}
 
-  none_disordered : (ls : Side → Lines) → disorder tool ls ≡ None → (side : Side) → first_disorder cmp (key side) (ls side) ≡ None
+  none_disordered : (ls : Side → Lines) → disorder tool ls ≡ None → (side : Side)
+      → first_disorder cmp (key side) (ls side) ≡ None
   none_disordered ls e First = (no_fall_first cmp _ _ e).0
   none_disordered ls e Second = (no_fall_first cmp _ _ e).1
 
   -- sublists of sorted lists are sorted
-  pub kept_in_order : (p : Side → List ℕ → Bool) (ls : Side → Lines) → disorder tool ls ≡ None → disorder tool (λ side. filter (p side) (ls side)) ≡ None
+  pub kept_in_order : (p : Side → List ℕ → Bool) (ls : Side → Lines) → disorder tool ls ≡ None
+      → disorder tool (λ side. filter (p side) (ls side)) ≡ None
   kept_in_order p ls e = let none = λ (side : Side). in_order_kept cmp o (key side) (p side) (ls side)
       (none_disordered ls e side) in λ i. earlier_disorder cmp (none First i) (none Second i)
 
   -- the output for sorted lists is that of all their keys
-  pub merged_in_order : (ls : Side → Lines) → disorder tool ls ≡ None → merged_entries tool ls ≡ entries_by_key tool all_keys ls
-  merged_in_order ls e = λ i. entries_by_key tool (is_up_to cmp (e i)) (λ side. ordered_whole cmp o (key side) (ls side) (none_disordered ls e side) i)
+  pub merged_in_order : (ls : Side → Lines) → disorder tool ls ≡ None
+      → merged_entries tool ls ≡ entries_by_key tool all_keys ls
+  merged_in_order ls e = λ i. entries_by_key tool (is_up_to cmp (e i))
+      (λ side. ordered_whole cmp o (key side) (ls side) (none_disordered ls e side) i)
 
   -- sorted lists whose keys pass a test, and lists whose keys, which are at least those, do not
   module _ (p : List ℕ → Bool) (down : IsDownwardClosed cmp p) (a b : Side → Lines) (in_order : disorder tool a ≡ None)
-      (low : (side : Side) → EachKey (λ k. p k ≡ true) (key side) (a side)) (high : (side : Side) → EachKey (λ k. p k ≡ false) (key side) (b side)) where
+      (low : (side : Side) → EachKey (λ k. p k ≡ true) (key side) (a side))
+      (high : (side : Side) → EachKey (λ k. p k ≡ false) (key side) (b side)) where
     at_most_high : (side : Side) (k : List ℕ) → p k ≡ true → EachKey (AtMost cmp k) (key side) (b side)
-    at_most_high side k h = EachKey-weaker (λ l. p l ≡ false) (AtMost cmp k) (λ l g. grind (arith, down l k)) (key side) (b side) (high side)
+    at_most_high side k h = EachKey-weaker (λ l. p l ≡ false) (AtMost cmp k) (λ l g. grind (arith, down l k)) (key side)
+        (b side) (high side)
 
-    both_go_on : (side : Side) → (sorted_prefix cmp (key side) (a side ++ b side) ≡ a side ++ sorted_prefix cmp (key side) (b side))
-        × (without_line_number (first_disorder cmp (key side) (a side ++ b side)) ≡ without_line_number (first_disorder cmp (key side) (b side)))
+    both_go_on : (side : Side)
+        → (sorted_prefix cmp (key side) (a side ++ b side) ≡ a side ++ sorted_prefix cmp (key side) (b side))
+        × (without_line_number (first_disorder cmp (key side) (a side ++ b side))
+        ≡ without_line_number (first_disorder cmp (key side) (b side)))
     both_go_on side = together cmp o (key side) (a side) (b side) (none_disordered a in_order side)
         (EachKey-weaker _ _ (at_most_high side) (key side) (a side) (low side))
 
     -- the same keys are wanted
-    same_wanted : (k : List ℕ) → is_up_to cmp (disorder tool (λ side. a side ++ b side)) k ≡ is_up_to cmp (disorder tool b) k
+    same_wanted : (k : List ℕ)
+        → is_up_to cmp (disorder tool (λ side. a side ++ b side)) k ≡ is_up_to cmp (disorder tool b) k
     same_wanted k = by_limits cmp _ _ k ∙ (λ i. is_up_to cmp (earlier_disorder cmp ((both_go_on First).1 i)
         ((both_go_on Second).1 i)) k) ∙ sym (by_limits cmp _ _ k)
 
@@ -219,11 +260,13 @@ module _ (tool : MergeTool) (o : IsKeyOrder tool.cmp) where
     entries_together : merged_entries tool (λ side. a side ++ b side) ≡ merged_entries tool a ++ merged_entries tool b
     entries_together =
         let w = is_up_to cmp (disorder tool b) in
-        let first_wanted = λ (side : Side). EachKey-weaker _ (λ k. w k ≡ true) low_wanted (key side) (a side) (low side) in
+        let first_wanted = λ (side : Side). EachKey-weaker _ (λ k. w k ≡ true) low_wanted (key side) (a side)
+        (low side) in
         let all : Side → Lines = λ side. a side ++ sorted_prefixes tool b side in
         let parts = λ (side : Side). kept_parts p (key side) (a side) (sorted_prefixes tool b side) (low side)
         (each_ordered cmp o (key side) (λ k. p k ≡ false) (b side) (high side)) in
-        (λ i. entries_by_key tool (λ k. same_wanted k i) (λ side. (both_go_on side).0 i)) ∙ downward_splits tool o w p down all
+        (λ i. entries_by_key tool (λ k. same_wanted k i) (λ side. (both_go_on side).0 i))
+        ∙ downward_splits tool o w p down all
         ∙ (λ i. sym (by_keys_kept p tool o all w) i ++ sym (by_keys_kept (λ k. not (p k)) tool o all w) i)
         ∙ (λ i. entries_by_key tool w (λ side. (parts side).0 i) ++ entries_by_key tool w (λ side. (parts side).1 i))
         ∙ ap (λ l. l ++ merged_entries tool b) (all_wanted tool w a first_wanted ∙ sym (merged_in_order a in_order))
@@ -238,7 +281,9 @@ of_parts tool o first second cut =
     let low = λ (side : Side). key_split tool side (λ k. p k ≡ true) a
     (Each-weaker _ (λ k. p k ≡ true) (below_under tool.cmp o (keys tool b)) (keys tool a) cut.below) in
     let high = λ (side : Side). key_split tool side (λ k. p k ≡ false) b (none_under tool.cmp o (keys tool b)) in
-    ap (unlines tool.terminator) ((λ i. merged_entries tool (λ side. the_lines_of_parts tool.terminator (first side) (second side) (cut.whole side) i))
+    ap (unlines tool.terminator)
+    ((λ i. merged_entries tool (λ side. the_lines_of_parts tool.terminator (first side) (second side)
+    (cut.whole side) i))
     ∙ entries_together tool o p (downward_under tool.cmp o (keys tool b)) a b cut.in_order low high)
     ∙ unlines-append tool.terminator (merged_entries tool a) (merged_entries tool b)
 

@@ -12,7 +12,8 @@ use Rattle.ptext.proofs.files.run_with_inputs.Goals as goal
 pub returns-then-writes_to_stdout-clause-performed : goal.returns-then-writes_to_stdout-clause-performed
 returns-then-writes_to_stdout-clause-performed g c =
     let writes = sym c.writes_to_stdout.ensures ∙ c.if-writes_to_stdout.true in
-    inl (has_run c.args.command (words_view c.args.words.now) {new = c.run.new.inputs} refl c.requires.meant c.requires.fresh c.run.ensures.run c.run.ensures.reads_nothing
+    inl (has_run c.args.command (words_view c.args.words.now) {new = c.run.new.inputs} refl c.requires.meant
+    c.requires.fresh c.run.ensures.run c.run.ensures.reads_nothing
     (λ _. (refl, refl)) (λ other. absurd (false≢true (sym other ∙ writes))))
 
 pub returns-in-Err-clause-performed : goal.returns-in-Err-clause-performed
@@ -20,7 +21,9 @@ returns-in-Err-clause-performed g c =
     let r = c.report_output_unopened.ensures in
     inr (record {
       text = unopened_message (codes "uniq") c.in-Some.name.now;
-      reason = inr (names_output c.args.command (command_of_args (words_view c.args.words.now)) c.args.inputs.now c.in-Some.name.now c.requires.meant
+      reason =
+          inr (names_output c.args.command (command_of_args (words_view c.args.words.now))
+          c.args.inputs.now c.in-Some.name.now c.requires.meant
           (ap (option_map (λ (name : Bor (List ℕ)). name.now)) (sym c.in-Some.is) ∙ c.output_name.ensures));
       has_said = r.has_said;
       status_is = r.status;
@@ -31,6 +34,9 @@ returns-in-Err-clause-performed g c =
 pub returns-clause-performed : goal.returns-clause-performed
 returns-clause-performed g c =
     let r = c.replace_output.ensures in
-    inl (has_run c.args.command (words_view c.args.words.now) {new = c.run-report.new.inputs} (with_sink (outcome g.W.Sink.state g.E.Sink.state c.replace_output.result) _ (ap g.E.Sink.state r.messages) r.status r.memory.0 r.memory.1)
+    inl (has_run c.args.command (words_view c.args.words.now) {new = c.run-report.new.inputs}
+    (with_sink (outcome g.W.Sink.state g.E.Sink.state c.replace_output.result) _ (ap g.E.Sink.state r.messages)
+    r.status r.memory.0 r.memory.1)
     c.requires.meant c.requires.fresh c.run-report.ensures.run c.run-report.ensures.reads_nothing
-    (λ standard. absurd (false≢true (sym c.if-writes_to_stdout.false ∙ c.writes_to_stdout.ensures ∙ standard))) (λ _. r.out))
+    (λ standard. absurd (false≢true (sym c.if-writes_to_stdout.false ∙ c.writes_to_stdout.ensures ∙ standard)))
+    (λ _. r.out))

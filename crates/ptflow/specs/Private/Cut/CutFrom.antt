@@ -1,5 +1,6 @@
 -- The output of `cut` for the rest of a text, and for a piece of a line.
-use Rattle.std.specs.Prelude.{◌≡◌, ◌<◌, ◌≤◌, ℕ, ◌+◌, ◌^◌, ◌==◌, List, [], ◌∷◌, ◌++◌, Bool, length, map, take, drop, if◌then◌else◌}
+use Rattle.std.specs.Prelude.{◌≡◌, ◌<◌, ◌≤◌, ℕ, ◌+◌, ◌^◌, ◌==◌, List, [], ◌∷◌, ◌++◌, Bool, length, map, take, drop}
+use Rattle.std.specs.Prelude.{if◌then◌else◌}
 use Rattle.std.specs.List.{count_by}
 use Rattle.std.specs.Simd.Lanes.{mask_l, chunk}
 use Rattle.memchr.specs.Find.{is_byte}
@@ -29,12 +30,14 @@ cut_list_from end list = cut_bytes_from end (is_selected list)
 -- all of these bytes but the rest were processed, with this output, for every continuation of the input
 abbrev pub IsCutPart : ℕ → List Interval → ℕ → List ℕ → ℕ → List ℕ → List ℕ → Type 0
 IsCutPart end list line_offset bytes now rest written =
-    (more : List ℕ) → cut_list_from end list line_offset (bytes ++ more) ≡ written ++ cut_list_from end list now (rest ++ more)
+    (more : List ℕ) → cut_list_from end list line_offset (bytes ++ more)
+    ≡ written ++ cut_list_from end list now (rest ++ more)
 
 -- output for a first part of the input is extended to the output with these bytes
 abbrev pub ExtendsCut : ℕ → List Interval → ℕ → List ℕ → List ℕ → ℕ → List ℕ → List ℕ → Type 0
 ExtendsCut end list line_offset rest was now left is =
-    (start : ℕ) (bytes : List ℕ) → IsCutPart end list start bytes line_offset rest was → IsCutPart end list start bytes now left is
+    (start : ℕ) (bytes : List ℕ) → IsCutPart end list start bytes line_offset rest was
+    → IsCutPart end list start bytes now left is
 
 -- no line of the block ends between these two indices
 abbrev pub IsSameLine : ℕ → List ℕ → ℕ → ℕ → Type 0
@@ -55,7 +58,8 @@ pub record IsCursorAt (end : ℕ) (block : List ℕ) (at : ℕ) (cursor : LineCu
   pub near : cursor.at ≤ cursor.start
 
 -- The cursor moved on by some lines, and their output was appended; it is not longer than the lines.
-pub record CutChunkPost (end : ℕ) (list : List Interval) (block : List ℕ) (was : LineCursor) (old : List ℕ) (now : LineCursor) (new : List ℕ) : Type 0 where
+pub record CutChunkPost (end : ℕ) (list : List Interval) (block : List ℕ) (was : LineCursor) (old : List ℕ)
+    (now : LineCursor) (new : List ℕ) : Type 0 where
   pub cut : ExtendsCut end list was.line_offset (drop was.start block) old now.line_offset (drop now.start block) new
   pub bound : now.line_offset ≤ was.line_offset
   pub near : now.at ≤ now.start
@@ -71,12 +75,15 @@ cut_fields_from job u ls = cut_lines job ls
 pub record CopyLinesPost (job : Cut) (end : ℕ) (bytes : List ℕ) (size : ℕ) (old new : List ℕ) : Type 0 where
   pub some : 0 < size
   pub fits : size ≤ length bytes
-  pub taken : unlines end (complete_lines end bytes) ≡ take size bytes ++ unlines end (complete_lines end (drop size bytes))
-  pub on : (more : List (List ℕ)) → old ++ cut_lines job (complete_lines end bytes ++ more)
+  pub taken : unlines end (complete_lines end bytes)
+      ≡ take size bytes ++ unlines end (complete_lines end (drop size bytes))
+  pub on : (more : List (List ℕ))
+      → old ++ cut_lines job (complete_lines end bytes ++ more)
       ≡ new ++ cut_lines job (complete_lines end (drop size bytes) ++ more)
 
 -- ---- a piece of a line: the first `count` of some bytes; the others are its terminator, or none
 
 -- the selected bytes of a piece and the bytes after it, if `line_offset` bytes of the line are before the piece
 abbrev pub cut_piece : List Interval → ℕ → ℕ → List ℕ → List ℕ
-cut_piece list line_offset count bytes = select_from (is_selected list) (line_offset + 1) (take count bytes) ++ drop count bytes
+cut_piece list line_offset count bytes =
+    select_from (is_selected list) (line_offset + 1) (take count bytes) ++ drop count bytes

@@ -30,8 +30,8 @@ pub record IsFieldCursor (all : List Interval) (line : List ℕ) (first : ℕ) (
 -- the output that is left begins with this slice
 pub record IsNextSlice (delimiter : ℕ) (all : List Interval) (line : List ℕ) (first : ℕ) (cursor : FieldCursor)
     (slice : FieldSlice) : Type 0 where
-  pub output : remaining_fields delimiter all line cursor
-      ≡ take (slice.end - slice.start) (drop slice.start line) ++ remaining_fields delimiter all line slice.next
+  pub output : remaining_fields delimiter all line cursor ≡ take (slice.end - slice.start) (drop slice.start line)
+      ++ remaining_fields delimiter all line slice.next
   pub order : slice.start ≤ slice.end
   pub within : slice.end ≤ length line
   pub next : IsFieldCursor all line first slice.next

@@ -1,6 +1,7 @@
 -- The byte shuffles with which `cut` selects bytes of a line, 16 after 16 (`src/tools/cut/shuffle.rt`), and a lemma for
 -- a ghost field of `Selection`.
-use Rattle.std.specs.Prelude.{◌≡◌, ◌<◌, ◌≤◌, ◌+◌, ◌*◌, ℕ, List, [], ◌∷◌, Bool, false, All, length, take, slice_index, slice_index_or}
+use Rattle.std.specs.Prelude.{◌≡◌, ◌<◌, ◌≤◌, ◌+◌, ◌*◌, ℕ, List, [], ◌∷◌, Bool, false, All, length, take, slice_index}
+use Rattle.std.specs.Prelude.{slice_index_or}
 use Rattle.std.specs.List.{range_with_len}
 use mathlib.Core.HLevel.{×₃_prop}
 use Rattle.std.specs.Coded.{Unit-prop, le_prop}

@@ -5,12 +5,16 @@ use Rattle.ptrun.proofs.RunEnds.{run_in_store, any_unopened, index_below}
 use Rattle.ptrun.proofs.driver.run_driver.Goals as goal
 
 pub say_final_message-status-requires : goal.say_final_message-status-requires
-say_final_message-status-requires g c = subst (λ (n : ℕ). HasIndexBelow n c.finish-final_result.result) c.requires.given.named (index_below c.run_inputs-run_result.ensures c.finish-final_result.ensures)
+say_final_message-status-requires g c =
+    subst (λ (n : ℕ). HasIndexBelow n c.finish-final_result.result) c.requires.given.named
+    (index_below c.run_inputs-run_result.ensures c.finish-final_result.ensures)
 
 pub returns-then-report_unopened : goal.returns-then-report_unopened
 returns-then-report_unopened g c = rw c.report_unread.ensures (record {
   run = record {
-    run = any_unopened c.requires.given.fresh c.requires.unused.writable c.report_unopened.ensures c.if-report_unopened.true;
+    run =
+        any_unopened c.requires.given.fresh c.requires.unused.writable c.report_unopened.ensures
+        c.if-report_unopened.true;
     slots = λ w agrees. omega arith;
   };
   reads_nothing = (λ reads_none. (refl, (refl, refl, refl)), λ reads_none. refl);
@@ -22,8 +26,10 @@ returns g c =
     let r = c.report_of.ensures in
     record {
       run = run_in_store (g.W.Sink.state c.args.out) (outcome (g.W.Sink.state) (g.E.Sink.state) c.report_of.result)
-          (rw c.if-report_unopened.false at c.report_unopened.ensures.has_said) c.run_inputs-run_result.ensures c.finish-final_result.ensures
-          (rw r.messages c.say_final_message-status.ensures.message) (r.status ∙ c.say_final_message-status.ensures.status)
+          (rw c.if-report_unopened.false at c.report_unopened.ensures.has_said)
+          c.run_inputs-run_result.ensures c.finish-final_result.ensures
+          (rw r.messages c.say_final_message-status.ensures.message)
+          (r.status ∙ c.say_final_message-status.ensures.status)
           c.new-out.ensures r.out.0 r.out.1 r.out.2 r.flushes c.requires.unused.store.never r.store.0 r.store.1;
       reads_nothing = (
         λ reads_none. absurd (false≢true (sym c.if-report_unopened.false ∙ c.report_unopened.ensures.is ∙ reads_none)),

@@ -1,9 +1,12 @@
 -- Of the operands so far, each that could not be opened was reported, in order.
-use Rattle.ptrun.proofs.Common.{◌≡◌, take, list_any, words_view, is_reader_unopened, unopened_messages, HasSaid, positions}
+use Rattle.ptrun.proofs.Common.{◌≡◌, take, list_any, words_view, is_reader_unopened, unopened_messages, HasSaid}
+use Rattle.ptrun.proofs.Common.{positions}
 use Rattle.ptrun.proofs.joint_driver.say_each_unopened.Given as goal
 
 abbrev pub invariant-loop-input : goal.invariant-loop-input
 invariant-loop-input g l = record {
-  message : HasSaid l.fn.messages l.messages (unopened_messages l.tool (words_view l.names) (is_reader_unopened l.inputs) (take l.input-index (positions l.order)));
+  message : HasSaid l.fn.messages l.messages
+      (unopened_messages l.tool (words_view l.names) (is_reader_unopened l.inputs)
+      (take l.input-index (positions l.order)));
   any_is : l.any ≡ list_any (is_reader_unopened l.inputs) (take l.input-index (positions l.order));
 }

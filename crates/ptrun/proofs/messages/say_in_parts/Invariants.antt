@@ -3,4 +3,5 @@ use Rattle.ptrun.proofs.Common.{take, flat_map, WriteOutOk, texts}
 use Rattle.ptrun.proofs.messages.say_in_parts.Given as goal
 
 abbrev pub invariant-loop-part : goal.invariant-loop-part
-invariant-loop-part g l = WriteOutOk (g.E.Sink.state l.fn.messages) (g.E.Sink.state l.messages) (flat_map (λ p. p) (take l.part-index (texts l.parts)))
+invariant-loop-part g l = WriteOutOk (g.E.Sink.state l.fn.messages) (g.E.Sink.state l.messages)
+    (flat_map (λ p. p) (take l.part-index (texts l.parts)))

@@ -6,5 +6,6 @@ use Rattle.ptrun.proofs.operands.run_on_each.Given as goal
 
 abbrev pub invariant-loop-input : goal.invariant-loop-input
 invariant-loop-input g l =
-    OperandsDone (g.T.PerOperand.word l.tool) (g.T.PerOperand.tool l.tool) (words_view l.names) l.fn.inputs l.inputs l.fn.out l.out l.fn.messages l.messages l.fn.store l.store
+    OperandsDone (g.T.PerOperand.word l.tool) (g.T.PerOperand.tool l.tool) (words_view l.names)
+    l.fn.inputs l.inputs l.fn.out l.out l.fn.messages l.messages l.fn.store l.store
     (take l.input-index (positions l.order)) l.done

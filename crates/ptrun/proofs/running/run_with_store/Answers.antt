@@ -6,24 +6,39 @@ use Rattle.ptrun.proofs.RunEnds.{spec_of_ok, spec_of_fault, inputs_pre_of_parsed
 
 pub run_command-requires-clause-given : goal.run_command-requires-clause-given
 run_command-requires-clause-given g c =
-    inputs_pre_of_parsed c.args.command (words_view c.args.words.now) c.in-Ok.command c.args.inputs.now c.in-Ok.is c.requires.meant (rw c.in-Ok.is at c.requires.fresh)
+    inputs_pre_of_parsed c.args.command (words_view c.args.words.now) c.in-Ok.command c.args.inputs.now c.in-Ok.is
+    c.requires.meant (rw c.in-Ok.is at c.requires.fresh)
 
 pub returns-in-Err-clause-run : goal.returns-in-Err-clause-run
 returns-in-Err-clause-run g c =
     let has_said = rw (c.new-messages.ensures, c.first_word.ensures) at c.say_usage_fault-status.ensures.message in
-    rw (c.report_unread.ensures, spec_of_fault c.args.command (words_view c.args.words.now) c.in-Err.fault c.in-Err.is c.requires.meant) (record {
-      run = message_only_run c.requires.fresh.1 c.requires.unused.writable has_said c.say_usage_fault-status.ensures.status;
+    rw (
+      c.report_unread.ensures,
+      spec_of_fault c.args.command (words_view c.args.words.now)
+          c.in-Err.fault c.in-Err.is c.requires.meant,
+    ) (record {
+      run =
+          message_only_run c.requires.fresh.1 c.requires.unused.writable has_said
+          c.say_usage_fault-status.ensures.status;
       slots = λ w agrees. omega arith;
     })
 
 pub returns-in-Ok-clause-run : goal.returns-in-Ok-clause-run
-returns-in-Ok-clause-run g c = rw (spec_of_ok c.args.command (words_view c.args.words.now) c.in-Ok.command c.in-Ok.is c.requires.meant) (rw (c.new-messages.ensures) at c.run_command.ensures.run)
+returns-in-Ok-clause-run g c =
+    rw (spec_of_ok c.args.command (words_view c.args.words.now) c.in-Ok.command c.in-Ok.is c.requires.meant)
+    (rw (c.new-messages.ensures) at c.run_command.ensures.run)
 
 pub returns-in-Ok-clause-reads_nothing : goal.returns-in-Ok-clause-reads_nothing
-returns-in-Ok-clause-reads_nothing g c = rw (spec_of_ok c.args.command (words_view c.args.words.now) c.in-Ok.command c.in-Ok.is c.requires.meant) c.run_command.ensures.reads_nothing
+returns-in-Ok-clause-reads_nothing g c =
+    rw (spec_of_ok c.args.command (words_view c.args.words.now) c.in-Ok.command c.in-Ok.is c.requires.meant)
+    c.run_command.ensures.reads_nothing
 
 pub returns-in-Err-clause-is_exact : goal.returns-in-Err-clause-is_exact
-returns-in-Err-clause-is_exact g c = exact_for_args c.args.command (words_view c.args.words.now) _ _ _ _ c.requires.fresh.1 (returns-in-Err-clause-run g c).run
+returns-in-Err-clause-is_exact g c =
+    exact_for_args c.args.command (words_view c.args.words.now) _ _ _ _ c.requires.fresh.1
+    (returns-in-Err-clause-run g c).run
 
 pub returns-in-Ok-clause-is_exact : goal.returns-in-Ok-clause-is_exact
-returns-in-Ok-clause-is_exact g c = exact_for_args c.args.command (words_view c.args.words.now) _ _ _ _ c.requires.fresh.1 (returns-in-Ok-clause-run g c).run
+returns-in-Ok-clause-is_exact g c =
+    exact_for_args c.args.command (words_view c.args.words.now) _ _ _ _ c.requires.fresh.1
+    (returns-in-Ok-clause-run g c).run

@@ -12,7 +12,8 @@ pub merge_two-requires-clause-readers : goal.merge_two-requires-clause-readers
 merge_two-requires-clause-readers g c =
     let s = c.split_at_mut-front in
     let r = c.requires in
-    let k = were s.result.0.now s.result.1.now s.ensures.value s.ensures.front_len c.if-first-second.true r.within.1 c.index-front-first.result c.index-back-0.result in
+    let k = were s.result.0.now s.result.1.now s.ensures.value s.ensures.front_len c.if-first-second.true r.within.1
+    c.index-front-first.result c.index-back-0.result in
     rw (k.0, k.1) (r.ready.opened1, r.ready.opened2, r.ready.readable1, r.ready.readable2)
 
 pub merge_two-requires-else-first-second-clause-readers : goal.merge_two-requires-else-first-second-clause-readers
@@ -20,14 +21,17 @@ merge_two-requires-else-first-second-clause-readers g c =
     let s = c.split_at_mut-front-else-first-second in
     let r = c.requires in
     let lower = below c.args.first c.args.second c.if-first-second.false r.apart in
-    let k = were s.result.0.now s.result.1.now s.ensures.value s.ensures.front_len lower r.within.0 c.index-front-second.result c.index-back-0-else-first-second.result in
+    let k =
+    were s.result.0.now s.result.1.now s.ensures.value s.ensures.front_len lower r.within.0 c.index-front-second.result
+    c.index-back-0-else-first-second.result in
     rw (k.0, k.1) (r.ready.opened1, r.ready.opened2, r.ready.readable1, r.ready.readable2)
 
 pub returns-then-first-second : goal.returns-then-first-second
 returns-then-first-second g c =
     let s = c.split_at_mut-front in
     let w = c.merge_two in
-    let k = split_readers s.result.0.now s.result.1.now s.ensures.value s.ensures.front_len c.if-first-second.true c.requires.within.1 w.new.first w.new.second
+    let k = split_readers s.result.0.now s.result.1.now s.ensures.value s.ensures.front_len c.if-first-second.true
+    c.requires.within.1 w.new.first w.new.second
     c.index-front-first.result c.index-back-0.result in
     record {
       merged = rw (sym k.was_low, sym k.was_high, k.is_low, k.is_high) w.ensures.merged;
@@ -41,7 +45,8 @@ returns-else-first-second g c =
     let s = c.split_at_mut-front-else-first-second in
     let w = c.merge_two-else-first-second in
     let lower = below c.args.first c.args.second c.if-first-second.false c.requires.apart in
-    let k = split_readers s.result.0.now s.result.1.now s.ensures.value s.ensures.front_len lower c.requires.within.0 w.new.second w.new.first
+    let k = split_readers s.result.0.now s.result.1.now s.ensures.value s.ensures.front_len lower c.requires.within.0
+    w.new.second w.new.first
     c.index-front-second.result c.index-back-0-else-first-second.result in
     record {
       merged = rw (sym k.was_low, sym k.was_high, k.is_low, k.is_high) w.ensures.merged;

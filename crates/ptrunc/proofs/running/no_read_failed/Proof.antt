@@ -49,7 +49,8 @@ module _ (κ κ' : NamedLft) where
   Row = row.the_row (bytes.the_row κ) (bytes.the_row κ') ghosts ghosts
 
   abbrev known : Known Row
-  known = view_known Fields (nothing_known Fields) Reader (reader.the_code Bytes Bytes (bytes.the_row κ).coded (bytes.the_row κ').coded)
+  known = view_known Fields (nothing_known Fields) Reader
+      (reader.the_code Bytes Bytes (bytes.the_row κ).coded (bytes.the_row κ').coded)
       (view Bytes Bytes ghosts ghosts) (invariant Bytes Bytes ghosts ghosts)
 
   has_not_failed : (r : Reader) → known.Fact r → HasNotFailed r
@@ -63,19 +64,29 @@ stayed = (stay_dropped _ yes, tt)
 pub no_read_failed_spec : {M : Type 1} → statement M
 no_read_failed_spec {M} 𝓤 𝓛 𝓜 𝓡 wired =
     let c = f.clauses 𝓛 𝓜.mem 𝓡.returns in let W = walk_of 𝓛 f.ended stayed c in let 𝓣 = tables 𝓤 𝓛.H 𝓜 𝓡 𝓡.env in
-    proved 𝓛 f.ended stayed c 𝓜 𝓡 (Goes-dropped 𝓛 3 (SliceRefOf (0 ∷ []) tt (plain (λ κs. Row (named_lft 3 1 tt κs) (named_lft 3 2 tt κs))) (λ κs. tt)) yes (λ κs x w. refl), tt)
+    proved 𝓛 f.ended stayed c 𝓜 𝓡 (
+      Goes-dropped 𝓛 3 (SliceRefOf (0 ∷ []) tt (plain (λ κs. Row (named_lft 3 1 tt κs) (named_lft 3 2 tt κs)))
+          (λ κs. tt)) yes (λ κs x w. refl),
+      tt,
+    )
     f.Key.name code.function (code.unfolded 𝓤 𝓛.H 𝓜 𝓡 wired)
-    (λ κs. (shr_slice_vals, tt)) (λ κs. (shr_slice_Tells (named 0) κs.0 (Row (named_lft 3 1 tt κs) (named_lft 3 2 tt κs)), tt)) (λ κs qs bounds a none are.
+    (λ κs. (shr_slice_vals, tt))
+    (λ κs. (shr_slice_Tells (named 0) κs.0 (Row (named_lft 3 1 tt κs) (named_lft 3 2 tt κs)), tt))
+    (λ κs qs bounds a none are.
     let R = Row (named_lft 3 1 tt κs) (named_lft 3 2 tt κs) in
     let vs = shr_slice_vals a.0 in
     let y : W.Ghost = ((κs, qs, bounds, a, (vs, tt)), tt) in
     let all = shr_slice_known R (known (named_lft 3 1 tt κs) (named_lft 3 2 tt κs)) (named 0) κs.0 in
-    qed 𝓛 (((‵ (flft κs.0 qs.0) ⊛ (‵ (flft κs.1.0 qs.1.0) ⊛ (‵ (flft κs.1.1.0 qs.1.1.0) ⊛ ‵ ftrue))) ⊛ (‵ ((ShrSlice (named 0) κs.0 R).own_val a.0 vs) ⊛ ‵ ftrue)) ∷ ‵ ftrue ∷ []) ∵
+    qed 𝓛
+    (((‵ (flft κs.0 qs.0) ⊛ (‵ (flft κs.1.0 qs.1.0) ⊛ (‵ (flft κs.1.1.0 qs.1.1.0) ⊛ ‵ ftrue))) ⊛
+    (‵ ((ShrSlice (named 0) κs.0 R).own_val a.0 vs) ⊛ ‵ ftrue)) ∷ ‵ ftrue ∷ []) ∵
     split ! $ move ! (1 ∷ []) $ split ! $ keep ! (0 ∷ 2 ∷ []) $
-    peeks ! (ShrSlice (named 0) κs.0 R) (λ x us. all.Fact x) (λ x us. (all.owned x us).go M 𝓤 𝓛) a.0 vs (λ facts. keep ! (1 ∷ []) $
+    peeks ! (ShrSlice (named 0) κs.0 R) (λ x us. all.Fact x) (λ x us. (all.owned x us).go M 𝓤 𝓛) a.0 vs
+    (λ facts. keep ! (1 ∷ []) $
     enter ! _ _ _ _ _ $ alloc_all ! (λ l. pass_all ! refl ((tt, (tt, (record { fits = are.0.0.1.0 }, tt))), tt) $
     sets ! (of_opd ! (unit_lit !)) refl (tt, tt) $
     returns ! (look_at ! 0 refl) $ free_all ! refl $
     suffices ! _ (ends_at 𝓛 f.ended stayed c y vunit tt (tt, tt) (tt, tt)) $
-    says ! (λ (i : ℕ) (d : Reader) (lt : i < length a.0.now). has_not_failed (named_lft 3 1 tt κs) (named_lft 3 2 tt κs) (get_or a.0.now i d) (facts i d lt)) $
+    says ! (λ (i : ℕ) (d : Reader) (lt : i < length a.0.now). has_not_failed (named_lft 3 1 tt κs) (named_lft 3 2 tt κs)
+    (get_or a.0.now i d) (facts i d lt)) $
     feq_i ! _ (vunit ∷ []) _ refl $ nothing ! $ nothing ! $ join ! $ move ! (2 ∷ []) $ done !)))

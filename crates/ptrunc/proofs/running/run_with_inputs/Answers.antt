@@ -11,6 +11,7 @@ returns g c w bytes =
     let out_is = c.out-2-1.given.1.1 (sym (filled.same_out ∙ c.new-out.ensures.same_room)) in
     let messages_are = c.messages-2-1.given.1.1 (sym (filled.same_messages ∙ c.new-messages.ensures.same_room)) in
     rw (out_is, messages_are)
-    (answer_of_filled (spec_of_args (words_view c.args.words.now)) w c.run_into-filled.new.out c.run_into-filled.new.messages
+    (answer_of_filled (spec_of_args (words_view c.args.words.now))
+    w c.run_into-filled.new.out c.run_into-filled.new.messages
     c.run_into-filled.result c.answer_of.result (filled.filled w bytes) c.answer_of.ensures.parts.0
     c.answer_of.ensures.parts.1 c.answer_of.ensures.status)

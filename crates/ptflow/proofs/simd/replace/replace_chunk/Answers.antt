@@ -1,6 +1,7 @@
 -- The terminators of a chunk are the bits of its mask, in order; each iteration replaces the lowest one by the next
 -- delimiter of the cycle.
-use Rattle.ptflow.proofs.Common.{◌≡◌, ℕ, ◌+◌, ◌%◌, None, length, slice_index_or, ◌∙◌, ap, arith, unwrap_or, delim_at, refl}
+use Rattle.ptflow.proofs.Common.{◌≡◌, ℕ, ◌+◌, ◌%◌, None, length, slice_index_or, ◌∙◌, ap, arith, unwrap_or, delim_at}
+use Rattle.ptflow.proofs.Common.{refl}
 use Rattle.ptflow.proofs.Vectors.FindNth.{replace_starts, end_within, replace_next, replace_end}
 use Rattle.ptflow.proofs.simd.replace.replace_chunk.Goals as goal
 
@@ -21,10 +22,13 @@ pub loop-end-preserved : goal.loop-end-preserved
 loop-end-preserved c =
     let loop = c.loop-end in
     let delims = c.args.delims.now in
-    let delim : c.unwrap_or.result ≡ unwrap_or (delim_at c.args.delims.now (c.args.cycle_pos.number + loop._end)) c.args.terminator =
-    c.unwrap_or.ensures ∙ ap (λ (p : ℕ). unwrap_or (slice_index_or delims p None) c.args.terminator) (loop.invariant.index ∙ ap (λ (n : ℕ). n % length delims) loop.invariant.number) in
+    let delim : c.unwrap_or.result ≡ unwrap_or (delim_at c.args.delims.now (c.args.cycle_pos.number + loop._end))
+    c.args.terminator =
+    c.unwrap_or.ensures ∙ ap (λ (p : ℕ). unwrap_or (slice_index_or delims p None) c.args.terminator)
+    (loop.invariant.index ∙ ap (λ (n : ℕ). n % length delims) loop.invariant.number) in
     record {
-      ends = replace_next loop.invariant.ends c.match_mask-mask.ensures c.loop-end-test.true loop.auto.mask-fits.fits delim refl refl;
+      ends = replace_next loop.invariant.ends c.match_mask-mask.ensures c.loop-end-test.true loop.auto.mask-fits.fits
+          delim refl refl;
       index = c.next-cycle_pos.ensures.0;
       number = next_number _ _ c.next-cycle_pos.ensures.1 loop.invariant.number;
     }

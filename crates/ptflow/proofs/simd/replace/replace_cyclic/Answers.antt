@@ -14,11 +14,13 @@ loop-at-preserved c =
       | then-from-at w ↦
           let next = w.next-cycle_pos in
           rw w.cycle_pos-is (rw w.to-is (
-          replaced_terminator _ delims c.args.number loop.at loop.cycle_pos from loop.to loop.invariant (omega (arith, c.loop-at-test.true)) next.result _ _ w.if-from-at.true w.unwrap_or.ensures
+          replaced_terminator _ delims c.args.number loop.at loop.cycle_pos from loop.to loop.invariant
+          (omega (arith, c.loop-at-test.true)) next.result _ _ w.if-from-at.true w.unwrap_or.ensures
           next.ensures.1 next.ensures.0 refl
           (length-set _ loop.at w.unwrap_or.result ∙ length-set loop.to loop.at _ ∙ loop.invariant.1)))
       | else-from-at w ↦
           rw w.cycle_pos-is (rw w.to-is (
-          replaced_other end delims c.args.number loop.at loop.cycle_pos from loop.to loop.invariant (omega (arith, c.loop-at-test.true))
+          replaced_other end delims c.args.number loop.at loop.cycle_pos from loop.to loop.invariant
+          (omega (arith, c.loop-at-test.true))
           _ w.if-from-at.false refl (length-set loop.to loop.at _ ∙ loop.invariant.1)))
     ]

@@ -10,13 +10,16 @@ some (suc n) h = omega arith
 pub loop-at-init : goal.loop-at-init
 loop-at-init c =
     let from = c.args.from.now in
-    squeezing_starts _ c.args.last from c.args.into.now (some (length from) c.if-is_empty.ensures) (omega arith) (cc) c.from-count.ensures
+    squeezing_starts _ c.args.last from c.args.into.now (some (length from) c.if-is_empty.ensures) (omega arith)
+    (cc) c.from-count.ensures
 
 pub loop-at-preserved : goal.loop-at-preserved
 loop-at-preserved c =
-    squeezing_piece _ c.loop-at.invariant 64 (omega arith) (omega arith) c.squeeze64-count.ensures.end c.squeeze64-count.ensures.squeezed
+    squeezing_piece _ c.loop-at.invariant 64 (omega arith)
+    (omega arith) c.squeeze64-count.ensures.end c.squeeze64-count.ensures.squeezed
 
 pub returns-clause-squeezed : goal.returns-clause-squeezed
 returns-clause-squeezed c =
     c.squeeze_tail.ensures.squeezed ∙ c.loop-at.invariant.is
-    ∙ same_from (set_has c.args.by.set) (λ b. slice_index_or c.args.by.flags.now b false) c.args.by.same c.args.last c.args.from.now c.type_inv.from
+    ∙ same_from (set_has c.args.by.set) (λ b. slice_index_or c.args.by.flags.now b false)
+    c.args.by.same c.args.last c.args.from.now c.type_inv.from

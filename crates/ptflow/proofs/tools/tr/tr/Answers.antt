@@ -6,7 +6,8 @@ use Rattle.ptflow.proofs.TrLemmas.TrFrom.{rest_decided}
 use Rattle.ptflow.proofs.tools.tr.tr.Goals as goal
 
 pub returns-then-has_failed-clause-pass : goal.returns-then-has_failed-clause-pass
-returns-then-has_failed-clause-pass g c = λ store ready. pass_unchanged (tr_tool c.args.plan.now) _ c.args.out.now _ ready (cc)
+returns-then-has_failed-clause-pass g c =
+    λ store ready. pass_unchanged (tr_tool c.args.plan.now) _ c.args.out.now _ ready (cc)
 
 pub returns-clause-pass : goal.returns-clause-pass
 returns-clause-pass g c =
@@ -16,7 +17,8 @@ returns-clause-pass g c =
     (record {
       text = λ bytes. ap (λ p. tr_from p None bytes) c.new.ensures;
       decided = λ given pushed now holds on. rest_decided t given pushed now.last
-          (λ rest. sym (ap (λ p. tr_from p None (given ++ rest)) c.new.ensures) ∙ on rest ∙ ap (λ p. pushed ++ tr_from p now.last rest) (holds ∙ c.new.ensures));
+          (λ rest. sym (ap (λ p. tr_from p None (given ++ rest)) c.new.ensures) ∙ on rest
+          ∙ ap (λ p. pushed ++ tr_from p now.last rest) (holds ∙ c.new.ensures));
       holds = refl;
       slots = refl;
     })

@@ -6,7 +6,8 @@ use Rattle.ptmerge.proofs.tools.comm.comm.Goals as goal
 
 pub returns-then-has_failed-clause-merged : goal.returns-then-has_failed-clause-merged
 returns-then-has_failed-clause-merged g c =
-    merge_halted (comm_tool (comm_job c.args.job.now)) (merge_state c.args.first.now c.args.second.now c.args.out.now c.args.store.now)
+    merge_halted (comm_tool (comm_job c.args.job.now))
+    (merge_state c.args.first.now c.args.second.now c.args.out.now c.args.store.now)
     c.requires.allowed (sym c.has_failed.ensures ∙ c.if-has_failed.true)
 
 pub returns-then-job-clause-merged : goal.returns-then-job-clause-merged

@@ -1,8 +1,10 @@
 -- Each iteration preserves the invariant by one lemma of `Iteration`, and each exit has the postconditions by another.
-use Rattle.ptmerge.proofs.Common.{◌≡◌, Result, Err, IsErrAnd, arith, refl, ◌∙◌, err_from_is_err_and, comm_job, MergeFault, comm_with, merge_state}
+use Rattle.ptmerge.proofs.Common.{◌≡◌, Result, Err, IsErrAnd, arith, refl, ◌∙◌, err_from_is_err_and, comm_job}
+use Rattle.ptmerge.proofs.Common.{MergeFault, comm_with, merge_state}
 use Rattle.ptmerge.proofs.MergeLemmas.Step.{IsOpenMerge, open_merge, err_is}
-use Rattle.ptmerge.proofs.CommLemmas.Iteration.{alone_decreases, alone_continues, alone_fails, eof, disordered, exit_as, pair_decreases, pair_continues, pair_fails, second_advance_pre, second_fails, advance_pre, start_fails, starts}
-use Rattle.ptmerge.proofs.CommLemmas.Iteration.{iteration_as}
+use Rattle.ptmerge.proofs.CommLemmas.Iteration.{alone_decreases, alone_continues, alone_fails, eof, disordered, exit_as}
+use Rattle.ptmerge.proofs.CommLemmas.Iteration.{pair_decreases, pair_continues, pair_fails, second_advance_pre}
+use Rattle.ptmerge.proofs.CommLemmas.Iteration.{second_fails, advance_pre, start_fails, starts, iteration_as}
 use Rattle.ptmerge.proofs.tools.comm.comm_with_order.Goals.{After-start}
 use Rattle.ptmerge.specs.declared.key_order.Side.TheVariants as sides
 use Rattle.ptmerge.proofs.tools.comm.comm_with_order.Given as given
@@ -32,13 +34,16 @@ steps-init g c =
     record { iteration = iteration_as g.K.KeyOrder.order g.K.KeyOrder.key_of p.order iteration; order = p.order }
 
 pub write_head-requires-clause-status_is : goal.write_head-requires-clause-status_is
-write_head-requires-clause-status_is g c = advance_pre c.steps.invariant.iteration sides.First c.in-First.ensures.status_is
+write_head-requires-clause-status_is g c =
+    advance_pre c.steps.invariant.iteration sides.First c.in-First.ensures.status_is
 
 pub write_head-requires-in-Second-clause-status_is : goal.write_head-requires-in-Second-clause-status_is
-write_head-requires-in-Second-clause-status_is g c = advance_pre c.steps.invariant.iteration sides.Second c.in-Second.ensures.status_is
+write_head-requires-in-Second-clause-status_is g c =
+    advance_pre c.steps.invariant.iteration sides.Second c.in-Second.ensures.status_is
 
 pub write_head-requires-in-Both-clause-status_is : goal.write_head-requires-in-Both-clause-status_is
-write_head-requires-in-Both-clause-status_is g c = advance_pre c.steps.invariant.iteration sides.First c.in-Both.ensures.first
+write_head-requires-in-Both-clause-status_is g c =
+    advance_pre c.steps.invariant.iteration sides.First c.in-Both.ensures.first
 
 pub write_out_and_advance-requires-clause-status_is : goal.write_out_and_advance-requires-clause-status_is
 write_out_and_advance-requires-clause-status_is g c = rw c.write_head-in-Both.ensures.order
@@ -50,7 +55,11 @@ steps-preserved-in-Continue-branch-2 g c =
     let iteration = alone_continues c.steps.invariant.iteration c.in-First.ensures
     (c.terminator-terminator.ensures ∙ c.requires.begins.terminator1) refl p.wrote
     c.in_ok-write_head-in-First.ensures.advances in
-    record { iteration = iteration_as g.K.KeyOrder.order g.K.KeyOrder.key_of p.order iteration; order = p.order ∙ c.steps.invariant.order }
+    record {
+      iteration = iteration_as g.K.KeyOrder.order g.K.KeyOrder.key_of p.order iteration;
+      order = p.order
+          ∙ c.steps.invariant.order;
+    }
 
 pub steps-preserved-in-Continue-branch-3 : goal.steps-preserved-in-Continue-branch-3
 steps-preserved-in-Continue-branch-3 g c =
@@ -59,7 +68,11 @@ steps-preserved-in-Continue-branch-3 g c =
     let iteration = alone_continues i.iteration c.in-Second.ensures
     (c.terminator-terminator.ensures ∙ c.requires.begins.terminator1) c.tabs-tabs2.ensures p.wrote
     c.in_ok-write_head-in-Second.ensures.advances in
-    record { iteration = iteration_as g.K.KeyOrder.order g.K.KeyOrder.key_of p.order iteration; order = p.order ∙ i.order }
+    record {
+      iteration = iteration_as g.K.KeyOrder.order g.K.KeyOrder.key_of p.order iteration;
+      order = p.order
+          ∙ i.order;
+    }
 
 pub steps-preserved : goal.steps-preserved
 steps-preserved g c =
@@ -70,13 +83,18 @@ steps-preserved g c =
     let iteration = pair_continues i.iteration c.in-Both.ensures
     (c.terminator-terminator.ensures ∙ c.requires.begins.terminator1) c.tabs-tabs3.ensures p.wrote
     c.in_ok-write_head-in-Both.ensures.advances q.written_out continues in
-    record { iteration = iteration_as g.K.KeyOrder.order g.K.KeyOrder.key_of (q.order ∙ p.order) iteration; order = q.order ∙ p.order ∙ i.order }
+    record {
+      iteration = iteration_as g.K.KeyOrder.order g.K.KeyOrder.key_of (q.order ∙ p.order) iteration;
+      order = q.order ∙ p.order ∙ i.order;
+    }
 
 pub steps-smaller-in-Continue-branch-2 : goal.steps-smaller-in-Continue-branch-2
-steps-smaller-in-Continue-branch-2 g c = alone_decreases c.steps.invariant.iteration c.in-First.ensures c.in_ok-write_head-in-First.ensures.advances
+steps-smaller-in-Continue-branch-2 g c =
+    alone_decreases c.steps.invariant.iteration c.in-First.ensures c.in_ok-write_head-in-First.ensures.advances
 
 pub steps-smaller-in-Continue-branch-3 : goal.steps-smaller-in-Continue-branch-3
-steps-smaller-in-Continue-branch-3 g c = alone_decreases c.steps.invariant.iteration c.in-Second.ensures c.in_ok-write_head-in-Second.ensures.advances
+steps-smaller-in-Continue-branch-3 g c =
+    alone_decreases c.steps.invariant.iteration c.in-Second.ensures c.in_ok-write_head-in-Second.ensures.advances
 
 pub steps-smaller : goal.steps-smaller
 steps-smaller g c = pair_decreases c.steps.invariant.iteration c.in-Both.ensures

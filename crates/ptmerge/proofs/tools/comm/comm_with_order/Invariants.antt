@@ -8,7 +8,8 @@ use Rattle.ptmerge.proofs.tools.comm.comm_with_order.Given as goal
 abbrev pub invariant-steps : goal.invariant-steps
 invariant-steps g l = record {
   iteration : IterationInvariant (comm_job l.job) (g.K.KeyOrder.order l.merge.order) (g.K.KeyOrder.key_of l.merge.order)
-      (merge_state l.fn.first l.fn.second l.fn.out l.fn.store) (merge_state l.first l.second l.out l.store) l.merge.first l.merge.second;
+      (merge_state l.fn.first l.fn.second l.fn.out l.fn.store) (merge_state l.first l.second l.out l.store)
+      l.merge.first l.merge.second;
   order : l.merge.order ≡ l.fn.order;
 }
 

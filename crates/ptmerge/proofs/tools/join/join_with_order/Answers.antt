@@ -1,8 +1,12 @@
 -- Each iteration preserves the invariant by one lemma of `Iteration` or `GroupIteration`, and each exit has the
 -- postconditions by another.
 use Rattle.ptmerge.proofs.Common.{sym, ◌∙◌, err_from_is_err_and, join_job}
-use Rattle.ptmerge.proofs.JoinLemmas.GroupIteration.{read_group_pre, read_group_fails, read_group_continues, group_closed, group_there, write_pairs_group, write_pairs_pre, pair_fails, write_pairs_next, write_pairs_continues}
-use Rattle.ptmerge.proofs.JoinLemmas.Iteration.{alone_continues, alone_fails, begins, end_in, eof, disordered, measure_decreases, joins, exit_as, opened, group_opens, group_opens_decreases, advance_pre, start_fails, iteration_as}
+use Rattle.ptmerge.proofs.JoinLemmas.GroupIteration.{read_group_pre, read_group_fails, read_group_continues}
+use Rattle.ptmerge.proofs.JoinLemmas.GroupIteration.{group_closed, group_there, write_pairs_group, write_pairs_pre}
+use Rattle.ptmerge.proofs.JoinLemmas.GroupIteration.{pair_fails, write_pairs_next, write_pairs_continues}
+use Rattle.ptmerge.proofs.JoinLemmas.Iteration.{alone_continues, alone_fails, begins, end_in, eof, disordered}
+use Rattle.ptmerge.proofs.JoinLemmas.Iteration.{measure_decreases, joins, exit_as, opened, group_opens}
+use Rattle.ptmerge.proofs.JoinLemmas.Iteration.{group_opens_decreases, advance_pre, start_fails, iteration_as}
 use Rattle.ptmerge.proofs.MergeLemmas.Step.{err_is}
 use Rattle.ptmerge.specs.declared.key_order.Side.TheVariants as sides
 use Rattle.ptmerge.specs.declared.tools.join.JoinPhase.TheVariants as phases
@@ -11,25 +15,33 @@ use Rattle.ptmerge.proofs.tools.join.join_with_order.Goals as goal
 pub returns-in_err-merge : goal.returns-in_err-merge
 returns-in_err-merge g c =
     let a = opened (join_job c.args.job.now) (g.K.KeyOrder.order c.args.order) (g.K.KeyOrder.key_of c.args.order)
-    (record { total = g.met.K.KeyOrder.total c.args.order; exact = g.met.K.KeyOrder.exact c.args.order }) c.requires.keys c.requires.begins in
+    (record { total = g.met.K.KeyOrder.total c.args.order; exact = g.met.K.KeyOrder.exact c.args.order })
+    c.requires.keys c.requires.begins in
     start_fails a c.in_err-merge.ensures.fails (err_is (err_from_is_err_and _ c.from_residual.ensures.1))
 
 pub steps-init : goal.steps-init
 steps-init g c =
     let a = opened (join_job c.args.job.now) (g.K.KeyOrder.order c.args.order) (g.K.KeyOrder.key_of c.args.order)
-    (record { total = g.met.K.KeyOrder.total c.args.order; exact = g.met.K.KeyOrder.exact c.args.order }) c.requires.keys c.requires.begins in
+    (record { total = g.met.K.KeyOrder.total c.args.order; exact = g.met.K.KeyOrder.exact c.args.order })
+    c.requires.keys c.requires.begins in
     let e = c.in_ok-merge.ensures in
     let valid_cursors = rw e.order at e.valid_cursors in
-    record { order = e.order; iteration = iteration_as g.K.KeyOrder.order g.K.KeyOrder.key_of e.order (begins a e.starts valid_cursors e.own_reader) }
+    record {
+      order = e.order;
+      iteration = iteration_as g.K.KeyOrder.order g.K.KeyOrder.key_of e.order
+          (begins a e.starts valid_cursors e.own_reader);
+    }
 
 pub write_unpaired-requires-clause-status_is : goal.write_unpaired-requires-clause-status_is
-write_unpaired-requires-clause-status_is g c = advance_pre c.steps.invariant.iteration sides.First c.in-First.ensures.status_is
+write_unpaired-requires-clause-status_is g c =
+    advance_pre c.steps.invariant.iteration sides.First c.in-First.ensures.status_is
 
 pub write_unpaired-requires-clause-joins : goal.write_unpaired-requires-clause-joins
 write_unpaired-requires-clause-joins g c = joins c.steps.invariant.iteration
 
 pub write_unpaired-requires-in-Second-clause-status_is : goal.write_unpaired-requires-in-Second-clause-status_is
-write_unpaired-requires-in-Second-clause-status_is g c = advance_pre c.steps.invariant.iteration sides.Second c.in-Second.ensures.status_is
+write_unpaired-requires-in-Second-clause-status_is g c =
+    advance_pre c.steps.invariant.iteration sides.Second c.in-Second.ensures.status_is
 
 pub write_unpaired-requires-in-Second-clause-joins : goal.write_unpaired-requires-in-Second-clause-joins
 write_unpaired-requires-in-Second-clause-joins g c = joins c.steps.invariant.iteration
@@ -40,7 +52,10 @@ steps-preserved-in-Continue-branch-2 g c =
     let p = c.write_unpaired.ensures in
     let iteration = alone_continues i.iteration c.in-BetweenGroups.is c.in-First.ensures c.terminator-terminator.ensures
     p.wrote c.in_ok-write_unpaired-in-First.ensures.advances in
-    record { order = p.order ∙ i.order; iteration = iteration_as g.K.KeyOrder.order g.K.KeyOrder.key_of p.order iteration }
+    record {
+      order = p.order ∙ i.order;
+      iteration = iteration_as g.K.KeyOrder.order g.K.KeyOrder.key_of p.order iteration;
+    }
 
 pub steps-preserved-in-Continue-branch-3 : goal.steps-preserved-in-Continue-branch-3
 steps-preserved-in-Continue-branch-3 g c =
@@ -48,7 +63,10 @@ steps-preserved-in-Continue-branch-3 g c =
     let p = c.write_unpaired-in-Second.ensures in
     let iteration = alone_continues i.iteration c.in-BetweenGroups.is c.in-Second.ensures
     c.terminator-terminator.ensures p.wrote c.in_ok-write_unpaired-in-Second.ensures.advances in
-    record { order = p.order ∙ i.order; iteration = iteration_as g.K.KeyOrder.order g.K.KeyOrder.key_of p.order iteration }
+    record {
+      order = p.order ∙ i.order;
+      iteration = iteration_as g.K.KeyOrder.order g.K.KeyOrder.key_of p.order iteration;
+    }
 
 pub steps-smaller-in-Continue-branch-2 : goal.steps-smaller-in-Continue-branch-2
 steps-smaller-in-Continue-branch-2 g c = let h = c.in_ok-write_unpaired-in-First.ensures.advances in
@@ -63,14 +81,18 @@ steps-smaller-in-Continue-branch-3 g c = let h = c.in_ok-write_unpaired-in-Secon
 pub returns-in_err-write_unpaired-in-First : goal.returns-in_err-write_unpaired-in-First
 returns-in_err-write_unpaired-in-First g c =
     exit_as g.K.KeyOrder.order g.K.KeyOrder.key_of (join_job c.args.job.now) c.steps.invariant.order
-    (alone_fails c.steps.invariant.iteration c.in-BetweenGroups.is c.in-First.ensures c.terminator-terminator.ensures c.write_unpaired.ensures.wrote
-    (err_is (err_from_is_err_and _ c.from_residual-in_err-write_unpaired-in-First.ensures.1)) c.in_err-write_unpaired-in-First.ensures.advances)
+    (alone_fails c.steps.invariant.iteration c.in-BetweenGroups.is c.in-First.ensures c.terminator-terminator.ensures
+    c.write_unpaired.ensures.wrote
+    (err_is (err_from_is_err_and _ c.from_residual-in_err-write_unpaired-in-First.ensures.1))
+    c.in_err-write_unpaired-in-First.ensures.advances)
 
 pub returns-in_err-write_unpaired-in-Second : goal.returns-in_err-write_unpaired-in-Second
 returns-in_err-write_unpaired-in-Second g c =
     exit_as g.K.KeyOrder.order g.K.KeyOrder.key_of (join_job c.args.job.now) c.steps.invariant.order
-    (alone_fails c.steps.invariant.iteration c.in-BetweenGroups.is c.in-Second.ensures c.terminator-terminator.ensures c.write_unpaired-in-Second.ensures.wrote
-    (err_is (err_from_is_err_and _ c.from_residual-in_err-write_unpaired-in-Second.ensures.1)) c.in_err-write_unpaired-in-Second.ensures.advances)
+    (alone_fails c.steps.invariant.iteration c.in-BetweenGroups.is c.in-Second.ensures c.terminator-terminator.ensures
+    c.write_unpaired-in-Second.ensures.wrote
+    (err_is (err_from_is_err_and _ c.from_residual-in_err-write_unpaired-in-Second.ensures.1))
+    c.in_err-write_unpaired-in-Second.ensures.advances)
 
 pub steps-preserved-in-Both : goal.steps-preserved-in-Both
 steps-preserved-in-Both g c = record {
@@ -103,7 +125,8 @@ pub returns-in_err-end-in-ReadGroup : goal.returns-in_err-end-in-ReadGroup
 returns-in_err-end-in-ReadGroup g c =
     exit_as g.K.KeyOrder.order g.K.KeyOrder.key_of (join_job c.args.job.now) c.steps.invariant.order
     (read_group_fails c.steps.invariant.iteration c.in-ReadGroup.is c.read_group_line.ensures.written_out
-    (err_is (err_from_is_err_and _ c.from_residual-in_err-end-in-ReadGroup.ensures.1)) c.in_err-end-in-ReadGroup.ensures.reads_line)
+    (err_is (err_from_is_err_and _ c.from_residual-in_err-end-in-ReadGroup.ensures.1))
+    c.in_err-end-in-ReadGroup.ensures.reads_line)
 
 pub steps-preserved-then-not-has_same_key : goal.steps-preserved-then-not-has_same_key
 steps-preserved-then-not-has_same_key g c =
@@ -112,7 +135,10 @@ steps-preserved-then-not-has_same_key g c =
     let ok = c.in_ok-end-in-ReadGroup.ensures in
     let iteration = write_pairs_next i.iteration c.in-ReadGroup.is p.written_out ok.reads_line ok.continues
     (sym c.has_same_key.ensures ∙ c.if-not-has_same_key.true) in
-    record { order = p.order ∙ i.order; iteration = iteration_as g.K.KeyOrder.order g.K.KeyOrder.key_of p.order iteration }
+    record {
+      order = p.order ∙ i.order;
+      iteration = iteration_as g.K.KeyOrder.order g.K.KeyOrder.key_of p.order iteration;
+    }
 
 pub steps-preserved-else-not-has_same_key : goal.steps-preserved-else-not-has_same_key
 steps-preserved-else-not-has_same_key g c =
@@ -121,7 +147,10 @@ steps-preserved-else-not-has_same_key g c =
     let ok = c.in_ok-end-in-ReadGroup.ensures in
     let iteration = read_group_continues i.iteration c.in-ReadGroup.is p.written_out ok.reads_line ok.continues
     (sym c.has_same_key.ensures ∙ c.if-not-has_same_key.false) in
-    record { order = p.order ∙ i.order; iteration = iteration_as g.K.KeyOrder.order g.K.KeyOrder.key_of p.order iteration }
+    record {
+      order = p.order ∙ i.order;
+      iteration = iteration_as g.K.KeyOrder.order g.K.KeyOrder.key_of p.order iteration;
+    }
 
 pub steps-smaller-else-not-has_same_key : goal.steps-smaller-else-not-has_same_key
 steps-smaller-else-not-has_same_key g c =
@@ -156,8 +185,10 @@ write_pairs-requires-clause-group g c = write_pairs_group c.steps.invariant.iter
 pub returns-in_err-write_pairs-in-WritePairs : goal.returns-in_err-write_pairs-in-WritePairs
 returns-in_err-write_pairs-in-WritePairs g c =
     exit_as g.K.KeyOrder.order g.K.KeyOrder.key_of (join_job c.args.job.now) c.steps.invariant.order
-    (pair_fails c.steps.invariant.iteration c.in-WritePairs.is c.terminator-terminator.ensures c.write_pairs.ensures.wrote
-    (err_is (err_from_is_err_and _ c.from_residual-in_err-write_pairs-in-WritePairs.ensures.1)) c.in_err-write_pairs-in-WritePairs.ensures.advances)
+    (pair_fails c.steps.invariant.iteration c.in-WritePairs.is c.terminator-terminator.ensures
+    c.write_pairs.ensures.wrote
+    (err_is (err_from_is_err_and _ c.from_residual-in_err-write_pairs-in-WritePairs.ensures.1))
+    c.in_err-write_pairs-in-WritePairs.ensures.advances)
 
 pub clear_group-requires : goal.clear_group-requires
 clear_group-requires g c = group_there c.steps.invariant.iteration c.in-WritePairs.is c.terminator-terminator.ensures
@@ -167,9 +198,15 @@ pub steps-preserved-then-not-has_same_key-2 : goal.steps-preserved-then-not-has_
 steps-preserved-then-not-has_same_key-2 g c =
     let i = c.steps.invariant in
     let p = c.write_pairs.ensures in
-    let continues = group_closed i.iteration c.in-WritePairs.is c.terminator-terminator.ensures p.wrote c.in_ok-write_pairs-in-WritePairs.ensures.advances in
-    let iteration = continues c.clear_group.ensures (sym c.has_same_key-in-WritePairs.ensures ∙ c.if-not-has_same_key-2.true) in
-    record { order = p.order ∙ i.order; iteration = iteration_as g.K.KeyOrder.order g.K.KeyOrder.key_of p.order iteration }
+    let continues =
+    group_closed i.iteration c.in-WritePairs.is c.terminator-terminator.ensures p.wrote
+    c.in_ok-write_pairs-in-WritePairs.ensures.advances in
+    let iteration =
+    continues c.clear_group.ensures (sym c.has_same_key-in-WritePairs.ensures ∙ c.if-not-has_same_key-2.true) in
+    record {
+      order = p.order ∙ i.order;
+      iteration = iteration_as g.K.KeyOrder.order g.K.KeyOrder.key_of p.order iteration;
+    }
 
 pub steps-preserved : goal.steps-preserved
 steps-preserved g c =

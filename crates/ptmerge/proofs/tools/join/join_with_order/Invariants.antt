@@ -9,7 +9,8 @@ use Rattle.ptmerge.proofs.tools.join.join_with_order.Given as goal
 abbrev pub invariant-steps : goal.invariant-steps
 invariant-steps g l = record {
   iteration : IterationInvariant (join_job l.job) (g.K.KeyOrder.order l.merge.order) (g.K.KeyOrder.key_of l.merge.order)
-      (merge_state l.fn.first l.fn.second l.fn.out l.fn.store) l.phase (merge_state l.first l.second l.out l.store) l.merge.first l.merge.second l.end;
+      (merge_state l.fn.first l.fn.second l.fn.out l.fn.store) l.phase (merge_state l.first l.second l.out l.store)
+      l.merge.first l.merge.second l.end;
   order : l.merge.order ≡ l.fn.order;
 }
 

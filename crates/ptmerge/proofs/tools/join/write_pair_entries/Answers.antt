@@ -13,19 +13,25 @@ loop-slot-init g c = record {
 
 pub returns-in_err-write_pair : goal.returns-in_err-write_pair
 returns-in_err-write_pair g c =
-    each_fails (λ (l : List ℕ). l ++ c.args.terminator ∷ []) (ap (map (pair_of (join_job c.args.job.now) c.args.key.now c.args.line.now))
-    (group_from c.args.store.now c.args.end c.loop-slot.slot c.requires.group.within c.loop-slot-test.true)) c.loop-slot.invariant.amid
+    each_fails (λ (l : List ℕ). l ++ c.args.terminator ∷ [])
+    (ap (map (pair_of (join_job c.args.job.now) c.args.key.now c.args.line.now))
+    (group_from c.args.store.now c.args.end c.loop-slot.slot c.requires.group.within c.loop-slot-test.true))
+    c.loop-slot.invariant.amid
     (rw (sym c.line.ensures) c.write_pair.ensures.wrote) c.in_err-write_pair.ensures.fault _ c.from_residual.ensures.1
 
 pub loop-slot-preserved : goal.loop-slot-preserved
 loop-slot-preserved g c = record {
-  amid = each_more (λ (l : List ℕ). l ++ c.args.terminator ∷ []) (ap (map (pair_of (join_job c.args.job.now) c.args.key.now c.args.line.now))
-      (group_from c.args.store.now c.args.end c.loop-slot.slot c.requires.group.within c.loop-slot-test.true)) c.loop-slot.invariant.amid
+  amid = each_more (λ (l : List ℕ). l ++ c.args.terminator ∷ [])
+      (ap (map (pair_of (join_job c.args.job.now) c.args.key.now c.args.line.now))
+      (group_from c.args.store.now c.args.end c.loop-slot.slot c.requires.group.within c.loop-slot-test.true))
+      c.loop-slot.invariant.amid
       (rw (sym c.line.ensures) c.write_pair.ensures.wrote) c.in_ok-write_pair.ensures.clean;
   from = omega (arith, c.loop-slot.invariant.from);
 }
 
 pub returns : goal.returns
 returns g c =
-    each_done (λ (l : List ℕ). l ++ c.args.terminator ∷ []) (ap (map (pair_of (join_job c.args.job.now) c.args.key.now c.args.line.now))
-    (group_end c.args.store.now c.args.end c.loop-slot.slot (omega (arith, c.loop-slot-test.false)))) c.loop-slot.invariant.amid
+    each_done (λ (l : List ℕ). l ++ c.args.terminator ∷ [])
+    (ap (map (pair_of (join_job c.args.job.now) c.args.key.now c.args.line.now))
+    (group_end c.args.store.now c.args.end c.loop-slot.slot (omega (arith, c.loop-slot-test.false))))
+    c.loop-slot.invariant.amid

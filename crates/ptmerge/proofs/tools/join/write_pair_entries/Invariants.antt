@@ -6,7 +6,8 @@ use Rattle.ptmerge.proofs.tools.join.write_pair_entries.Given as goal
 
 abbrev pub invariant-loop-slot : goal.invariant-loop-slot
 invariant-loop-slot g l = record {
-  amid : PartialWrite l.fn.out l.out (unlines l.terminator (pair_entries (join_job l.job) l.key (l.line ∷ []) (group l.store l.from l.end)))
+  amid : PartialWrite l.fn.out l.out
+      (unlines l.terminator (pair_entries (join_job l.job) l.key (l.line ∷ []) (group l.store l.from l.end)))
       (unlines l.terminator (map (pair_of (join_job l.job) l.key l.line) (group l.store l.slot l.end)));
   from : l.from ≤ l.slot;
 }

@@ -4,8 +4,8 @@ use Rattle.ptflow.proofs.Vectors.Select.{copy_starts, copy_order, copied_done, c
 use Rattle.ptflow.proofs.tools.cut.bytes.copy_selected.Goals as goal
 
 -- the indices of an interval in the piece
-in_piece : (first last line_offset : ℕ) {from to : ℕ} → first ≤ last → from ≡ first - (line_offset + 1) → to
-    ≡ last - line_offset → from ≤ to
+in_piece : (first last line_offset : ℕ) {from to : ℕ} → first ≤ last → from ≡ first - (line_offset + 1)
+    → to ≡ last - line_offset → from ≤ to
 in_piece first last line_offset low from_is to_is = omega arith
 
 to_within : (last line_offset count : ℕ) {to end size : ℕ} → last < line_offset + count → to ≡ last - line_offset

@@ -33,7 +33,8 @@ returns-in_err-passed-clause-found c =
     let zero : c.args.from ≡ 0 = c.requires.start c.if-from-line.false in
     let left = rw (← (rest_of (c.args.line.now.first + 1) c.args.line.now.to bytes))
     at (rw take_rest at c.in_err-passed.ensures) in
-    let few : length (fields c.args.line.now.delimiter (drop c.args.from (take c.args.line.now.to bytes))) ≤ c.args.count =
+    let few : length (fields c.args.line.now.delimiter (drop c.args.from (take c.args.line.now.to bytes)))
+    ≤ c.args.count =
     rw zero (few_after_first c.args.line.now.delimiter (take c.args.line.now.to bytes) c.args.line.now.first
     c.args.count c.requires.line.found (omega arith) left) in
     rw c.from_residual.ensures few

@@ -5,7 +5,8 @@ use Rattle.ptflow.proofs.tools.tr.Translation.squeezed.Goals as goal
 pub returns-in-Some : goal.returns-in-Some
 returns-in-Some c =
     c.squeeze_block-count.ensures.squeezed
-    ∙ ap (λ flags. squeeze_from (λ b. slice_index_or flags b false) c.args.last c.args.bytes.now) c.squeezed-flags.ensures
+    ∙ ap (λ flags. squeeze_from (λ b. slice_index_or flags b false) c.args.last c.args.bytes.now)
+    c.squeezed-flags.ensures
 
 pub returns-in-None : goal.returns-in-None
 returns-in-None c =

@@ -10,19 +10,29 @@ returns-in_err-push-clause-halts g c =
     let t = c.args.self.now in
     let block = c.args.block.now in
     let written = c.squeezed-written.result.now in
-    let made = passes_make t.by.plan.now t.last block c.kept-kept.ensures.kept c.mapped-mapped.ensures c.squeezed-written.ensures in
+    let made =
+    passes_make t.by.plan.now t.last block c.kept-kept.ensures.kept c.mapped-mapped.ensures
+    c.squeezed-written.ensures in
     on_err c.from_residual.result
-    (record { pushed = written; wrote = c.push.ensures.pushed.wrote; fault = c.in_err-push.ensures.pushed.fault; is_prefix = λ rest. block_begins t.by.plan.now t.last block rest made })
+    (record {
+      pushed = written;
+      wrote = c.push.ensures.pushed.wrote;
+      fault = c.in_err-push.ensures.pushed.fault;
+      is_prefix = λ rest. block_begins t.by.plan.now t.last block rest made;
+    })
 
 pub returns-clause-continues : goal.returns-clause-continues
 returns-clause-continues g c =
     let t = c.args.self.now in
     let block = c.args.block.now in
     let written = c.squeezed-written.result.now in
-    let made = passes_make t.by.plan.now t.last block c.kept-kept.ensures.kept c.mapped-mapped.ensures c.squeezed-written.ensures in
+    let made =
+    passes_make t.by.plan.now t.last block c.kept-kept.ensures.kept c.mapped-mapped.ensures
+    c.squeezed-written.ensures in
     record {
       pushed = written;
       wrote = c.push.ensures.pushed.wrote;
       clean = c.in_ok-push.ensures.pushed.clean;
-      on = λ rest. block_on t.by.plan.now t.last block rest made (c.or-self.ensures ∙ ap (λ o. option_or o t.last) (c.copied.ensures ∙ c.last.ensures.value));
+      on = λ rest. block_on t.by.plan.now t.last block rest made
+          (c.or-self.ensures ∙ ap (λ o. option_or o t.last) (c.copied.ensures ∙ c.last.ensures.value));
     }

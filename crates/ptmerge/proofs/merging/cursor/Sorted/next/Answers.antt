@@ -1,6 +1,7 @@
 -- The stored span of the current line becomes the span of the previous line, since that line keeps its slot. So the two
 -- keys that are compared are the keys of both lines.
-use Rattle.ptmerge.proofs.Common.{◌≡◌, ◌<◌, ◌+◌, sym, ap, ◌∙◌, inl, arith, if◌then◌else◌, nat_tests, line, line_of_with_line, Head, Disorder}
+use Rattle.ptmerge.proofs.Common.{◌≡◌, ◌<◌, ◌+◌, sym, ap, ◌∙◌, inl, arith, if◌then◌else◌, nat_tests, line}
+use Rattle.ptmerge.proofs.Common.{line_of_with_line, Head, Disorder}
 use Rattle.ptmerge.proofs.MergeLemmas.Step.{later_status}
 use Rattle.ptmerge.proofs.MergeLemmas.Slots.{line_other}
 use Rattle.ptmerge.proofs.merging.cursor.Sorted.next.Goals as goal
@@ -19,11 +20,15 @@ returns-clause-moves g c =
     (line_other before old.previous_slot old.current_slot e.line (λ is. c.requires.distinct_slots.apart (sym is))) in
     let next_is : line after old.previous_slot ≡ e.line = rw e.stored
     (line_of_with_line before old.previous_slot e.line c.requires.distinct_slots.previous_slot) in
-    let last : c.key-last.result.now ≡ key (line before old.current_slot) = c.key-last.ensures ∙ ap key (c.line-2.ensures ∙ last_is) in
+    let last : c.key-last.result.now ≡ key (line before old.current_slot) = c.key-last.ensures
+    ∙ ap key (c.line-2.ensures ∙ last_is) in
     let next : c.key-head.result.now ≡ key e.line = c.key-head.ensures ∙ ap key (c.line-3.ensures ∙ next_is) in
-    let is : c.cmp-ordering.result ≡ cmp (key (line before old.current_slot)) (key e.line) = c.cmp-ordering.ensures ∙ (λ i. cmp (last i) (next i)) in
-    let status_is = later_status key cmp old.number (line before old.current_slot) e.line c.cmp-ordering.result some is in
-    let status = c.status_at-self.ensures ∙ ap (λ t. if t then Disorder (old.number + 1) else Head) c.is_gt.ensures ∙ status_is.0 in
+    let is : c.cmp-ordering.result ≡ cmp (key (line before old.current_slot)) (key e.line) = c.cmp-ordering.ensures
+    ∙ (λ i. cmp (last i) (next i)) in
+    let status_is =
+    later_status key cmp old.number (line before old.current_slot) e.line c.cmp-ordering.result some is in
+    let status = c.status_at-self.ensures ∙ ap (λ t. if t then Disorder (old.number + 1) else Head) c.is_gt.ensures
+    ∙ status_is.0 in
     let same = c.is_eq-self.ensures ∙ status_is.1 in
     inl (record {
       next_line = e;

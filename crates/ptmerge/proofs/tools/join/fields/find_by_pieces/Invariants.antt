@@ -5,6 +5,7 @@ use Rattle.ptmerge.proofs.tools.join.fields.find_by_pieces.Given as goal
 
 abbrev pub invariant-loop-passed : goal.invariant-loop-passed
 invariant-loop-passed l = record {
-  passed : drop l._passed (remaining_fields l.separator (Some l.line)) ≡ remaining_fields l.separator (option_copied l.left);
+  passed : drop l._passed (remaining_fields l.separator (Some l.line))
+      ≡ remaining_fields l.separator (option_copied l.left);
   ends : IsRemainderOf (Some l.line) (option_copied l.left);
 }

@@ -1,7 +1,8 @@
 -- The set bits are the words that were not passed, so the first run of them is the next word.
 use Rattle.ptmerge.proofs.Common.{arith, subst, sym, ℕ, bit_and, ◌+◌, IsFieldAt, None}
 use lib.Count.{count_trailing_zeros}
-use Rattle.ptmerge.proofs.JoinLemmas.Words.{WordsLeft, any_fits, none_left, word_found, word_passed, words_small, words_start}
+use Rattle.ptmerge.proofs.JoinLemmas.Words.{WordsLeft, any_fits, none_left, word_found, word_passed, words_small}
+use Rattle.ptmerge.proofs.JoinLemmas.Words.{words_start}
 use Rattle.ptmerge.proofs.tools.join.words.find_word.Goals as goal
 
 pub overflow_sub-words-2 : goal.overflow_sub-words-2
@@ -19,7 +20,8 @@ after_first_run-words-requires c = (c.if-words-eq0.false, words_small c.requires
 
 pub loop-passed-preserved : goal.loop-passed-preserved
 loop-passed-preserved c =
-    subst (λ (x : ℕ). WordsLeft c.args.line.now (c.loop-passed._passed + 1) (bit_and c.loop-passed.words x)) (sym c.after_first_run-words.ensures)
+    subst (λ (x : ℕ). WordsLeft c.args.line.now (c.loop-passed._passed + 1) (bit_and c.loop-passed.words x))
+    (sym c.after_first_run-words.ensures)
     (word_passed c.requires.short c.loop-passed.invariant c.if-words-eq0.false)
 
 pub returns-then-words-eq0-2 : goal.returns-then-words-eq0-2

@@ -1,4 +1,5 @@
-use Rattle.ptmerge.proofs.Common.{◌==◌, ◌∙◌, ◌+◌, ◌^◌, ◌≤◌, Bool, length, false, ap, arith, cond, drop, sym, is_single_spaced}
+use Rattle.ptmerge.proofs.Common.{◌==◌, ◌∙◌, ◌+◌, ◌^◌, ◌≤◌, Bool, length, false, ap, arith, cond, drop, sym}
+use Rattle.ptmerge.proofs.Common.{is_single_spaced}
 use Rattle.std.proofs.Common.{◌/◌}
 use Rattle.std.proofs.lemmas.Simd.{length-chunk}
 use Rattle.std.specs.Simd.Lanes.{chunk}
@@ -13,7 +14,8 @@ returns-then-not-are_single_spaces c =
     let v = chunk at 64 bytes in
     let room : at + 64 ≤ length bytes = omega (arith, c.loop-at.invariant.within, c.loop-at-test.true) in
     let few : length v ≤ 64 = omega (arith, length-chunk at 64 bytes room) in
-    let misplaced = sym (c.are_single_spaces.ensures v few c.blanks_in-blanks.ensures) ∙ c.if-not-are_single_spaces.true in
+    let misplaced = sym (c.are_single_spaces.ensures v few c.blanks_in-blanks.ensures)
+    ∙ c.if-not-are_single_spaces.true in
     sym (c.loop-at.invariant.same ∙ chunk_spaced blank bytes at room
     ∙ ap (λ (t : Bool). cond t (is_single_spaced (last_blank blank v) (drop (at + 64) bytes)) false) misplaced)
 
@@ -25,12 +27,15 @@ loop-at-preserved c =
     let v = chunk at 64 bytes in
     let room : at + 64 ≤ length bytes = omega (arith, c.loop-at.invariant.within, c.loop-at-test.true) in
     let few : length v ≤ 64 = omega (arith, length-chunk at 64 bytes room) in
-    let spaced = sym (c.are_single_spaces.ensures v few c.blanks_in-blanks.ensures) ∙ c.if-not-are_single_spaces.false in
-    let before = ap (λ x. x / 2 ^ 63) c.blanks_in-blanks.ensures.any ∙ top_bit 63 blank v (length-chunk at 64 bytes room) spaced in
+    let spaced = sym (c.are_single_spaces.ensures v few c.blanks_in-blanks.ensures)
+    ∙ c.if-not-are_single_spaces.false in
+    let before = ap (λ x. x / 2 ^ 63) c.blanks_in-blanks.ensures.any
+    ∙ top_bit 63 blank v (length-chunk at 64 bytes room) spaced in
     record {
       within = room;
       bit = omega (arith, before, bit_low (last_blank blank v));
       same = c.loop-at.invariant.same ∙ chunk_spaced blank bytes at room
           ∙ ap (λ (t : Bool). cond t (is_single_spaced (last_blank blank v) (drop (at + 64) bytes)) false) spaced
-          ∙ ap (λ (b : Bool). is_single_spaced b (drop (at + 64) bytes)) (sym (ap (λ x. x == 1) before ∙ bit_is (last_blank blank v)));
+          ∙ ap (λ (b : Bool). is_single_spaced b (drop (at + 64) bytes))
+          (sym (ap (λ x. x == 1) before ∙ bit_is (last_blank blank v)));
     }

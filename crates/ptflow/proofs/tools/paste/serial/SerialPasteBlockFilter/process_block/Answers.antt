@@ -32,8 +32,8 @@ copy_block-end-requires g c =
     record { short = omega (arith, number, few, next_position_number c.args.self.now.cell); small = omega (arith, few) }
 
 -- A block is its bytes up to the last one, and the last one.
-parts : (block : List ℕ) → 0 < length block → take (length block - 1) block ++ get_or block (length block - 1) 0 ∷ []
-    ≡ block
+parts : (block : List ℕ) → 0 < length block
+    → take (length block - 1) block ++ get_or block (length block - 1) 0 ∷ [] ≡ block
 parts block some = sym (take_more block (length block - 1) 0 (omega (arith, some)))
     ∙ take_all (length block - 1 + 1) block (omega arith)
 
