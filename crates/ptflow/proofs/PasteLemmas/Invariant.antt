@@ -2,7 +2,7 @@
 -- were pushed, and the slots hold at most one line for each column. From it follow the clauses of the contract once the
 -- readers were read further.
 use Rattle.ptflow.proofs.Common.{◌≡◌, ⊎_elim, ℕ, ◌+◌, ◌*◌, ◌<◌, ◌≤◌, ◌^◌, Bool, true, false, List, [], ◌∷◌, ◌++◌, None}
-use Rattle.ptflow.proofs.Common.{length, refl, sym, ◌∙◌, ap, subst, arith, append_assoc, All, cases_lt, append-nil}
+use Rattle.ptflow.proofs.Common.{length, get_or, refl, sym, ◌∙◌, ap, subst, arith, append_assoc, All, cases_lt, append-nil}
 use Rattle.ptflow.proofs.Common.{All-get_or, unlines, lines, complete_lines, AreLines, max_length, Received, IsPrefix}
 use Rattle.ptflow.proofs.Common.{IsConsistent, HasReceived, known_lines, Output, PushEffect, Reader, ReaderAdvance}
 use Rattle.ptflow.proofs.Common.{IsDone, Slots, total_bytes, received_with, has_received, has_received_of_set}
@@ -21,8 +21,12 @@ use Rattle.ptflow.proofs.PasteLemmas.LinesTaken.{nothing_taken}
 
 -- ---- inputs that columns use
 
-pub all_used : (P : ℕ → Type 0) (cells : List ℕ) → All P cells → (p : ℕ) → 0 < uses_of cells p → P p
-all_used P cells all p some = let (c, low, is, last) = last_use cells p some in
+pub used_at : (cells : List ℕ) (p : ℕ) → 0 < uses_of cells p → (c : ℕ) × (c < length cells) × (get_or cells c 0 ≡ p)
+used_at cells p some = let (c, low, is, count) = last_use cells p some in (c, low, is)
+
+all_used : (P : ℕ → Type 0) (cells : List ℕ) → All P cells → (p : ℕ) → 0 < uses_of cells p → P p
+all_used P cells all p some =
+    let (c, low, is) = used_at cells p some in
     subst P is (All-get_or P cells c 0 low all)
 
 -- ---- the complete lines that were received
