@@ -64,7 +64,7 @@ pub use Rattle.ptmerge.specs.WriteAndAdvance.{IsReadyToContinue, AdvanceOkPost, 
 pub use Rattle.ptmerge.specs.WriteAndAdvance.{AdvancePre}
 pub use Rattle.ptmerge.specs.MergeCall.{AreConsistent, MergeRunPre, MergeEndPost, MergePost, MergePre, IsMergeUnread}
 pub use Rattle.ptmerge.specs.MergeCall.{IsExactMerge, IsDisorderAt, MergeState, with_terminator, merge_state, HasNoLine}
-pub use Rattle.ptmerge.specs.MergeCall.{HasOneLineAndBlock, IsUnfinished, IsUnreadWithoutSlots}
+pub use Rattle.ptmerge.specs.MergeCall.{IsFirstLineAndBlock, IsMergeUnfinished, IsUnreadWithoutSlots}
 pub use Rattle.ptmerge.specs.Orders.{Cmp, Key, byte_cmp, line_cmp}
 pub use Rattle.ptmerge.specs.Parts.{CommByKey, IsSplittableByKey, IsConcatOfParts, JoinByKey, CommOfParts, JoinOfParts}
 pub use Rattle.ptmerge.specs.Parts.{text_of_part, output_lines}

@@ -1,6 +1,6 @@
--- The group of `join`: the second input's lines of one key. Several are copied to the slots 4 and up; a single one
--- stays in the slot into which it was read. The slot `end` is the one after the copied lines, and is 4 if there are
--- none.
+-- The group of `join`: the second input's lines of one key. If pairs are written, several are copied to the slots 4 and
+-- up; a single one stays in the slot into which it was read. The slot `end` is the one after the copied lines, and is 4
+-- if there are none.
 use Rattle.std.specs.Prelude.{◌≡◌, ◌⊎◌, ℕ, ◌==◌, if◌then◌else◌, ◌+◌, ◌-◌, ◌≤◌, ◌<◌, true, false, Bool, List, length}
 use Rattle.std.specs.Prelude.{take, drop, max, Result, Ok, Err}
 use Rattle.ptlangs.specs.Jobs.{Join}
@@ -24,7 +24,7 @@ use Rattle.ptmerge.specs.Cursor.{NextErrPost, NextOkPost}
 abbrev pub group : Slots → ℕ → ℕ → Lines
 group store from end = take (end - from) (drop from store.lines)
 
--- The first slot of the group. If no line is copied, the group is the previous line of the second input.
+-- The first slot of the group. If no line was copied, that is the slot of the previous line of the second input.
 abbrev pub group_first_slot : Sorted → ℕ → ℕ
 group_first_slot second end = if end == 4 then second.previous_slot else 4
 
@@ -70,7 +70,7 @@ pub record ClearGroupPost (before after : Slots) (end : ℕ) : Type 0 where
 -- After the second input has advanced, its previous line stays in its slot: no group is kept, or the line is the only
 -- one of its key.
 pub record IsInItsSlot (keep : Bool) (new : Sorted) (made after : Slots) (end next : ℕ) : Type 0 where
-  pub alone : (keep ≡ false) ⊎ ((new.same ≡ false) × (end ≡ 4))
+  pub stays : (keep ≡ false) ⊎ ((new.same ≡ false) × (end ≡ 4))
   pub end_is : next ≡ end
   pub store_is : after ≡ made
 

@@ -122,21 +122,22 @@ IsUnreadWithoutSlots end old new =
 
 -- An input has given neither a whole line nor its end: there is no terminator among the bytes received.
 pub record HasNoLine (end : ℕ) (given : Received) : Type 0 where
-  pub line : IsLine end given.bytes
+  pub unterminated : IsLine end given.bytes
   pub eof : given.eof ≡ false
 
--- Nothing was read from an input after its first line was there: at most one block (8,192 bytes) follows this line.
-pub record HasOneLineAndBlock (end : ℕ) (given : Received) : Type 0 where
+-- An input has given at most its first line and one block (8,192 bytes) after it.
+pub record IsFirstLineAndBlock (end : ℕ) (given : Received) : Type 0 where
   pub first : List ℕ
   pub rest : List ℕ
   pub split : given.bytes ≡ first ++ rest
   pub one_line : length (lines end first) ≤ 1
   pub block : length rest ≤ 8192
 
--- The first line of the first input is read, then that of the second input, and only then further lines.
+-- The first line of the first input is read, then that of the second input. Until the second has given a line or its
+-- end, no more than a block after the first input's first line is read.
 pub record AreFirstReadsInOrder (end : ℕ) (old new : MergeState) (given : Side → Received) : Type 0 where
   pub second_unread : HasNoLine end (given First) → new.reader Second ≡ record (old.reader Second) { terminator = end }
-  pub first_waits : HasNoLine end (given Second) → HasOneLineAndBlock end (given First)
+  pub first_waits : HasNoLine end (given Second) → IsFirstLineAndBlock end (given First)
 
 -- ---- the output
 
@@ -159,10 +160,9 @@ IsExactMerge tool input pushed (Err (Read side)) = Unit {0}
 IsExactMerge tool input pushed (Err Write) = Unit {0}
 IsExactMerge tool input pushed (Err Memory) = Unit {0}
 
--- Something was left to do: an input is not at its end, or it is for the lines of a key that memory was requested, and
--- a part of the output is missing.
-abbrev pub IsUnfinished : MergeTool → MergeState → (Side → Received) → List ℕ → Type 0
-IsUnfinished tool new given pushed =
+-- Something was left to do: an input is not at its end, or the tool keeps groups and a part of the output is missing.
+abbrev pub IsMergeUnfinished : MergeTool → MergeState → (Side → Received) → List ℕ → Type 0
+IsMergeUnfinished tool new given pushed =
     ((side : Side) × ¬ IsDone (new.reader side))
     ⊎ ((tool.keeps_groups ≡ true)
     × ((input : Side → List ℕ) → AreConsistent given input → pushed ≢ merge_output tool input))
@@ -187,10 +187,11 @@ pub record MergePost (tool : MergeTool) (old new : MergeState) (result : Result 
   -- reading stops after a disorder: two blocks of the input `side` earlier, the disorder was not yet decided
   pub stops_at_disorder : (side : Side) → old.out.write_failed ≡ false
       → (before : LaggedInput (given side)) × (disorder_is_decided tool (with_side side before.earlier given) ≡ false)
-  -- the second input is not read before the first input has given a line, nor the first one further before the second
+  -- the second input is not read before the first has given a line or its end, and no more than a block after the first
+  -- input's first line is read before the second has
   pub first_reads : old.out.write_failed ≡ false → AreFirstReadsInOrder tool.terminator old new given
   -- memory is requested for the first four slots, or for something that is left to do
-  pub unfinished : result ≡ Err Memory → 4 ≤ length new.store.lines → IsUnfinished tool new given pushed
+  pub unfinished : result ≡ Err Memory → 4 ≤ length new.store.lines → IsMergeUnfinished tool new given pushed
   -- the store never held more bytes than the tool's measure of the inputs
   pub peak : (input : Side → List ℕ) → AreConsistent given input
       → new.store.peak ≤ max old.store.peak (tool.size (lines_of tool input))

@@ -28,7 +28,7 @@ pub record MergeTool : Type 0 where
   pub size : (Side → Lines) → ℕ
   -- the most slots that are used for them
   pub slots : (Side → Lines) → ℕ
-  -- lines of one key are kept until their output is written
+  -- whether lines of one key are kept until their output is written
   pub keeps_groups : Bool
 
 -- ---- output by key

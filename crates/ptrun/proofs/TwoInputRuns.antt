@@ -14,7 +14,7 @@ use Rattle.ptrun.proofs.Common.{get_or_default, get_or-set_same, get_or-set_othe
 use Rattle.ptmerge.specs.declared.faults.MergeFault.{MergeFault}
 use Rattle.ptmerge.specs.declared.key_order.Side.{Side}
 use Rattle.ptmerge.specs.MergeCall.{MergePre, MergePost, MergeEndPost, AreConsistent, IsExactMerge, IsDisorderAt}
-use Rattle.ptmerge.specs.MergeCall.{IsUnfinished, IsUnreadWithoutSlots, NeitherReadFailed as NoneBroke, MergeState}
+use Rattle.ptmerge.specs.MergeCall.{IsMergeUnfinished, IsUnreadWithoutSlots, NeitherReadFailed as NoneBroke, MergeState}
 use Rattle.ptmerge.specs.MergeCall.{merge_state}
 use Rattle.ptmerge.specs.Sides.{both, with_side}
 use Rattle.ptmerge.specs.declared.faults.MergeFault.TheVariants as faults
@@ -239,7 +239,7 @@ module _ (t : keyed.MergeTool) {old : List Reader} {was : Output} {before : Slot
             false≢true (sym (new_at First).eof
             ∙ ap (λ (r : Reader). r.eof) (sym ((unread ready.writable few).readers First)) ∙ done.eof)
 
-        unfinished : IsUnfinished t new_state e.given e.pushed
+        unfinished : IsMergeUnfinished t new_state e.given e.pushed
             → IsJointUnfinished (two_input_tool t) two given new e.pushed
         unfinished (inl (First, left)) = inl (p, named First, left)
         unfinished (inl (Second, left)) = inl (q, named Second, left)

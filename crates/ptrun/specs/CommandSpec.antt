@@ -15,7 +15,7 @@ pub record CommandSpec : Type 0 where
   pub memory_bound : InputBytes → ℕ
   -- the most slots that the store needs for these lines
   pub slot_bound : InputBytes → ℕ
-  -- whether the tool may store lines of an input that has ended, as `join` stores the lines of a group
+  -- whether the tool may request memory once its inputs have ended, as `join` does for a group
   pub keeps_groups : Bool
   -- the output that is decided by what was received, regardless of the bytes that follow
   pub decided : ReceivedInputs → List ℕ
@@ -57,8 +57,9 @@ ended_operands m n status =
 abbrev pub IsUnwritten : CommandSpec → ReceivedInputs → List ℕ → Type 0
 IsUnwritten m r written = (w : InputBytes) → AreInputsConsistent r w → written ≢ m.out w
 
--- A command that stopped after `n` operands, with this output, had something left to do: an input that it had begun was
--- not read to its end. If the tool keeps groups, all inputs may have ended, but then some output was left to write.
+-- A command that stopped after `n` operands, with this output, had something left to do: one of the inputs that it may
+-- have begun was opened, and was not read to its end. If the tool keeps groups, all inputs may have ended, but then some
+-- output was left to write.
 abbrev pub IsUnfinished : CommandSpec → ReceivedInputs → List Reader → List ℕ → ℕ → Type 0
 IsUnfinished m r new written n =
     IsOneUnended new (m.may_touch n) ⊎ ((m.keeps_groups ≡ true) × IsUnwritten m r written)

@@ -26,7 +26,7 @@ pub record JointTool : Type 0 where
   pub size : List ℕ → (ℕ → List ℕ) → ℕ
   -- the most slots that the store needs for them
   pub slots : List ℕ → (ℕ → List ℕ) → ℕ
-  -- whether it may store lines of an input that has ended
+  -- whether it may request memory once its inputs have ended, as `join` does for a group
   pub keeps_groups : Bool
   -- the position of an input that is out of order, and the number of the line, counted from 1
   pub disorder : List ℕ → (ℕ → List ℕ) → Option (ℕ × ℕ)

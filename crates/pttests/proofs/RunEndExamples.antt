@@ -82,7 +82,14 @@ module _ {old new : List Reader} {before : Sinks} {o : Outcome} where
       (λ (p, named, opened, unended). unended (one_of_two (λ q. IsDone (reader_at new q)) p named first second))
       (λ (keeps, unwritten). false≢true keeps) (k.left memory)
 
-  -- `join` may run out of memory then, but not once its output is written, for example if it has nothing to write.
+  -- Nor for a `join` that writes no pairs.
+  join_without_pairs_needs_no_memory_at_the_end : (k : IsRun (spec_of_args (words "join -v 1 f g")) old new before o)
+      → IsDone (reader_at new 1) → IsDone (reader_at new 2) → k.fault ≡ Some Memory → ⊥
+  join_without_pairs_needs_no_memory_at_the_end k first second memory = ⊎_elim
+      (λ (p, named, opened, unended). unended (one_of_two (λ q. IsDone (reader_at new q)) p named first second))
+      (λ (keeps, unwritten). false≢true keeps) (k.left memory)
+
+  -- Any other `join` may run out of memory then, but not once its output is written, for example if it has nothing to write.
   join_needs_no_memory_for_nothing : (k : IsRun (spec_of_args (words "join f g")) old new before o)
       → IsDone (reader_at new 1) → IsDone (reader_at new 2)
       → (w : InputBytes) → AreInputsConsistent k.received w → k.written ≡ (spec_of_args (words "join f g")).out w

@@ -174,7 +174,7 @@ module _ {job : Join} {cmp : Cmp} {key : Side → Key} {old : MergeState} {phase
         pub read_group_continues : two2.same ≡ true
             → IterationInvariant job cmp key old phase (state_after_read now Second reader out after) one2 two2 to
         read_group_continues same = iteration_continues t {next = phase} Second continues (rw is (⊎_elim (λ e.
-            let without = ⊎_elim (λ none. none) (λ (differs, _). absurd (false≢true (sym differs ∙ same))) e.alone in
+            let without = ⊎_elim (λ none. none) (λ (differs, _). absurd (false≢true (sym differs ∙ same))) e.stays in
             rw (e.end_is, e.store_is) (reads_by h.came _ (λ i low. refl) (on_second h.came).group same
             (none_copied without ∙ sym (λ i. cond (without i) (a.g ++ y ∷ []) []))))
             (λ e. rw e.end_is (reads_more h.came e.keeps e.copied same)) h.kept))
@@ -182,7 +182,7 @@ module _ {job : Join} {cmp : Cmp} {key : Side → Key} {old : MergeState} {phase
         pub write_pairs_next : two2.same ≡ false → IterationInvariant job cmp key old phases.WritePairs
             (state_after_read now Second reader out after) one2 two2 to
         write_pairs_next same = iteration_continues t {next = phases.WritePairs} Second continues (⊎_elim (λ e.
-            let none = ⊎_elim none_copied (λ (_, four). nil_from_length a.kept (omega (arith, four, a.q.at))) e.alone in
+            let none = ⊎_elim none_copied (λ (_, four). nil_from_length a.kept (omega (arith, four, a.q.at))) e.stays in
             rw (e.end_is, e.store_is) (pairs_by h.came _ (λ i low. refl) (on_second h.came).group same
             (inr (one_for_all h.came none))))
             (λ e. rw e.end_is (pairs_by h.came _ (kept_too h.came e.keeps e.copied).same

@@ -5,7 +5,7 @@ use Rattle.ptmerge.proofs.Common.{None, length, max, refl, sym, ◌∙◌, ap, a
 use Rattle.ptmerge.proofs.Common.{nil_from_length, false≢true, FillLine, Received, IsConsistent, known_lines, Reader}
 use Rattle.ptmerge.proofs.Common.{ReaderAdvance, AdvanceOk, IsDone, remaining_bytes, Slots, unlines, lines}
 use Rattle.ptmerge.proofs.Common.{complete_lines, IsLine, AreLines, max_length, received_with, advance_ok_trans}
-use Rattle.ptmerge.proofs.Common.{lines_of_unlines, lines_of_last, unlines_push, IsSound, HasNoLine, HasOneLineAndBlock}
+use Rattle.ptmerge.proofs.Common.{lines_of_unlines, lines_of_last, unlines_push, IsSound, HasNoLine, IsFirstLineAndBlock}
 use Rattle.ptmerge.proofs.Common.{AreLines_push, complete_lines_none, complete_lines_cons}
 use Rattle.ptlines.proofs.KnownBytes.{prepend_known-nil}
 use Rattle.ptlines.proofs.MaxLength.{max_length-append, piece_le_max_length}
@@ -207,13 +207,13 @@ module _ (end : ℕ) (old now new : Reader) (ls : List (List ℕ)) (piece : List
   begun_gives_line begun none =
       ⊎_elim (λ done. false≢true (sym none.eof ∙ (done_gives_nothing done reads).eof)) (λ some.
       let nothing : known_lines end (received_with (c.given ++ piece) new) ≡ [] = rw none.eof
-      (complete_lines_none end ((c.given ++ piece) ++ new.buffered) none.line) in
+      (complete_lines_none end ((c.given ++ piece) ++ new.buffered) none.unterminated) in
       let known = lines_read_known.known in
       absurd (omega (arith, some, ap length (sym nothing ∙ known.is), length-append ls known.more))) begun
 
   -- at most one line was read, or a part of it
   pub one_line_and_block : IsSound new → length ls + length (lines end piece) ≤ 1
-      → HasOneLineAndBlock end (received_with (c.given ++ piece) new)
+      → IsFirstLineAndBlock end (received_with (c.given ++ piece) new)
   one_line_and_block sound few = record {
     first = c.given ++ piece;
     rest = new.buffered;

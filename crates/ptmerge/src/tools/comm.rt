@@ -133,8 +133,8 @@ fn comm_with_order<K: KeyOrder, A: Allocator + Copy, S: Source, R: Source, W: Si
 ///
 /// The slots 0 to 3 of the store are used, and added if they are missing. After `Ok` and `Disorder` they are empty. If
 /// one of them could not be added, nothing is read or written. If the output has failed before, the call does nothing.
-/// The second input is not read before the first one has given a line or its end, nor the first one further before the
-/// second one has. However the call ends, everything was pushed that was decided two blocks (16,384 bytes) of either
+/// The second input is not read before the first one has given a line or its end; until the second one has, no more
+/// than a block after the first one's first line is read. However the call ends, everything was pushed that was decided two blocks (16,384 bytes) of either
 /// input earlier, regardless of the content of the other input; and a disorder was not yet decided then. Tests check,
 /// but no clause states, that buffered output is written out before a read that may block.
 /// # Errors

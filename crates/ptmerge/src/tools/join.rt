@@ -1,4 +1,4 @@
-//! The engine of `join`: a merge that keeps the second input's lines of one key at a time.
+//! The engine of `join`: a merge that keeps the second input's lines of one key at a time, if it writes pairs.
 //!
 //! `key_group` copies these lines, `fields` splits a line into fields, `output` writes an output line, and `words`
 //! searches for blanks.
@@ -244,8 +244,8 @@ fn join_with_order<
 /// The slots 0 to 3 of the store are used, and added if they are missing; after them, if pairs are written, at most one
 /// slot is added for each of the second input's lines of one key. After `Ok` and `Disorder` all slots are empty. If one
 /// of the first four could not be added, nothing is read or written. If the output has failed before, the call does
-/// nothing. The second input is not read before the first one has given a line or its end, nor the first one further
-/// before the second one has. However the call ends, everything was pushed that was decided two blocks (16,384 bytes)
+/// nothing. The second input is not read before the first one has given a line or its end; until the second one has, no
+/// more than a block after the first one's first line is read. However the call ends, everything was pushed that was decided two blocks (16,384 bytes)
 /// of either input earlier, regardless of the content of the other input; and a disorder was not yet decided then. The
 /// pairs of a key are written once all lines of the second input with this key are read. A line that is the only one of
 /// its key takes no further slot: this is stated by the contract of the function that copies the lines of a key, not by

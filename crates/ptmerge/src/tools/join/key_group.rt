@@ -1,5 +1,5 @@
-//! The group: the second input's lines of one key. If there are several, `join` copies them to slots 4 and up; a single
-//! one stays in the slot into which it was read.
+//! The group: the second input's lines of one key. If there are several, and pairs are written, `join` copies them to
+//! slots 4 and up; a single one stays in the slot into which it was read.
 ghost use Rattle.std.specs.Prelude.{◌≡◌, ◌≤◌, ◌<◌, ◌+◌, ◌-◌, [], false, length, IfOk, OnOk, OnErr};
 ghost use Rattle.ptlines.specs.Outputs.{PushEffect};
 ghost use Rattle.ptlines.specs.Slots.{with_denied};
@@ -67,7 +67,7 @@ pub(crate) fn read_group_line<K: KeyOrder, A: Allocator + Copy, S: Source, R: So
     ensures order { merge.new.order ≡ merge.old.order }
 {
     merge.write_out_and_advance(Side::Second, reader, store, out)?;
-    if !keep || end == 4 && !merge.has_same_key(Side::Second) {
+    if !keep || (end == 4 && !merge.has_same_key(Side::Second)) {
         return Ok(end);
     }
     match copy_to_group(store, merge.previous_slot_of(Side::Second), end) {
