@@ -90,7 +90,7 @@ pub record PasteUnread (end : ℕ) (cells : List ℕ) (old new : List Reader) (w
       { terminator = end }
   pub output : is ≡ was
 
--- A column reads an input that is not at its end.
+-- Some column reads an input that is not at its end.
 abbrev pub IsColumnUnended : List ℕ → List Reader → Type 0
 IsColumnUnended cells readers = (input : ℕ) × (0 < uses_of cells input) × (IsDone (reader_at readers input) → ⊥)
 
@@ -121,7 +121,7 @@ pub record PastePost (job : Paste) (cells : List ℕ) (old new : List Reader) (w
   pub peak : (texts : ℕ → List ℕ) → ((input : ℕ) → IsConsistent (given input) (texts input))
       → store.peak ≤ max before.peak (paste_size job cells texts)
   pub slots : was.write_failed ≡ false → AddedSlots before store (length cells)
-  -- Memory is requested for missing slots, or for a line of an input that is not at its end.
+  -- If memory runs out although all slots are there, the input of some column is not at its end.
   pub line_left : result ≡ Err Memory → length cells ≤ length store.lines → IsColumnUnended cells new
   -- If a slot could not be allocated, nothing was read or pushed.
   pub refused : was.write_failed ≡ false → length store.lines < length cells

@@ -1,8 +1,8 @@
 -- The effects of pushes compose: two pushes are one push of the concatenation, and after a failed write nothing changes
 -- any more.
-use Rattle.ptlines.proofs.Common.{◌≡◌, ◌+◌, ◌≤◌, ℕ, true, false, List, [], ◌++◌, Option, length, refl, sym, ◌∙◌, ap}
-use Rattle.ptlines.proofs.Common.{subst, arith, append_assoc, length-append, Result, Ok, Err, OnOk, OnErr, false≢true}
-use Rattle.ptlines.proofs.Common.{append-nil, append_known, Output, with_buffered, with_written_out, with_direct_write}
+use Rattle.ptlines.proofs.Common.{◌≡◌, ℕ, true, false, List, [], ◌++◌, Option, length, refl, sym, ◌∙◌, ap}
+use Rattle.ptlines.proofs.Common.{subst, arith, append_assoc, Result, Ok, Err, OnOk, OnErr, false≢true}
+use Rattle.ptlines.proofs.Common.{append-nil, append_known, Output, with_written_out, with_direct_write}
 use Rattle.ptlines.proofs.Common.{IsKnownPrefix, PushEffect, PushPost, OutputErr}
 use Rattle.ptlines.specs.declared.out.WriteFault.{WriteFault}
 use Rattle.ptlines.specs.Outputs.{output_bytes}
@@ -65,19 +65,6 @@ push_trans a b c xs ys clean first second =
       buffered = omega (arith, first.buffered, second.buffered);
       flushes = second.flushes ∙ first.flushes;
     }
-
--- the bytes fit into the block
-pub push_buffered : (old new : Output) (bytes : List ℕ) → old.write_failed ≡ false
-    → length old.buffered + length bytes ≤ 8192 → new ≡ with_buffered old bytes → PushEffect old new bytes
-push_buffered old new bytes clean room is = subst (λ o. PushEffect old o bytes) (sym is) (record {
-  kept = known_prefix_refl old.accepted;
-  beginning = subst (λ t. IsKnownPrefix t (append_known (output_bytes old) bytes))
-      (append_known-append old.accepted old.buffered bytes) (known_prefix_refl (append_known (output_bytes old) bytes));
-  whole = λ _. sym (append_known-append old.accepted old.buffered bytes);
-  stays = λ fault. absurd (false≢true (sym clean ∙ fault));
-  buffered = omega (arith, room, length-append old.buffered bytes);
-  flushes = refl;
-})
 
 -- the block was written to the sink
 pub push_written_out : (old new : Output) → old.write_failed ≡ false → new ≡ with_written_out old

@@ -1,9 +1,9 @@
 -- The fields of a line, and where they start. Each delimiter ends one field, so the rest of the fields, after the first
 -- n, starts after the n-th delimiter.
 use Rattle.ptflow.proofs.Common.{◌≡◌, ℕ, ◌+◌, ◌<◌, ◌==◌, ◌-◌, ◌≤◌, Bool, true, false, cond, Option, None, Some}
-use Rattle.ptflow.proofs.Common.{MatchOption, ◌⊎◌, inl, inr, List, [], ◌∷◌, ◌++◌, length, take, drop, get_or, slice_set}
+use Rattle.ptflow.proofs.Common.{MatchOption, ◌⊎◌, inl, inr, List, [], ◌∷◌, ◌++◌, length, take, drop}
 use Rattle.ptflow.proofs.Common.{refl, sym, ap, arith, length-drop, IfSome, onto_first, join_with_byte, take-add}
-use Rattle.ptflow.proofs.Common.{append-nil, drop-drop, drop_more, take-take, take_more_set, length-take-le}
+use Rattle.ptflow.proofs.Common.{append-nil, drop-drop, take-take, length-take-le}
 use Rattle.ptflow.proofs.Common.{drop-append-le}
 use Rattle.ptflow.proofs.Common.{flat_map-append, length-slice_split, byte_eq, fields, prefixed_fields, IsFieldStart}
 use Rattle.ptflow.proofs.Common.{zero, suc}
@@ -91,12 +91,6 @@ pub slice_of : (from size : ℕ) {to : ℕ} (bytes : List ℕ) → from + size �
     → take size (drop from (take to bytes)) ≡ take size (drop from bytes)
 slice_of from size {to} bytes le = cc
     (rest_of from to bytes, take-take size (to - from) (drop from bytes) (omega arith))
-
--- one byte is appended
-pub put_byte : (room bytes : List ℕ) (end : ℕ) {to : ℕ} → end < length room → to < length bytes
-    → take (end + 1) (slice_set room end (get_or bytes to 0)) ≡ take end room ++ take 1 (drop to bytes)
-put_byte room bytes end {to} in_room within = cc
-    (take_more_set room end (get_or bytes to 0) in_room, drop_more bytes to 0 within)
 
 -- the end of a line, and the byte after it
 pub rest_with_end : (from to : ℕ) (bytes : List ℕ) → from ≤ length (take to bytes)

@@ -175,9 +175,9 @@ fn clear_slots<A: Allocator + Copy>(cells: &[usize], store: &mut Store<A>)
 /// at the end of its input gives empty fields, and there are rows until all readers are. Rows end with newline, or with
 /// byte 0 with `-z`, an extension of POSIX.
 ///
-/// Lines that are complete in the buffers of the readers are copied from there. Any other line is read into a slot of
-/// the store, one for each column, and copied from the slot if the first 8,192 bytes of its row have room for it.
-/// Missing slots are added before anything is read.
+/// Lines that are complete in the buffers of the readers, and fit into the first 8,192 bytes of their row, are copied
+/// from there. Any other line is read into a slot of the store, one for each column, and copied from the slot if those
+/// bytes have room for it. Missing slots are added before anything is read.
 ///
 /// A row is written before 16,384 more bytes of any of its inputs are read. Not proved but tested: it is written before
 /// anything more is read, nothing of it is written before all of its lines are known, and the buffered output is
@@ -186,8 +186,8 @@ fn clear_slots<A: Allocator + Copy>(cells: &[usize], store: &mut Store<A>)
 /// # Errors
 /// - `Read` with the index of a reader whose read failed.
 /// - `Write` if a write failed.
-/// - `Memory` if a growth of the store failed; the store is then marked as denied. If a slot could not be added,
-///   nothing was read or written.
+/// - `Memory` if the store could not grow; it is then marked as denied. If a slot could not be added, nothing was read
+///   or written; otherwise the input of some column is not at its end.
 pub fn paste<A: Allocator + Copy, B: Allocator + Copy, S: Source, R: Source, W: Sink>(
     job: &PasteJob<B>,
     cells: &[usize],

@@ -1,6 +1,5 @@
 -- A row of `paste` that is finished with the store: a line that is not complete in the buffer of its reader is read
--- into
--- the slot of its column.
+-- into the slot of its column.
 use Rattle.std.specs.Prelude.{◌≡◌, ◌≢◌, ℕ, ◌<◌, ◌≤◌, Bool, true, false, List, [], Result, Ok, Err, length, take, drop}
 use Rattle.std.specs.Prelude.{max, sum_by, slice_index_or}
 use Rattle.ptlines.specs.Readers.{Reader, IsSound, reader_at}

@@ -1,6 +1,5 @@
 -- Each step reads the line of the next column into its slot. If the columns before it were all copied, it is copied
--- from
--- there, and the further columns are from the buffers. A failed write, read or growth stops the row; nothing was
+-- from there, and the further columns are from the buffers. A failed write, read or growth stops the row; nothing was
 -- pushed.
 use Rattle.ptflow.proofs.Common.{◌≡◌, ◌+◌, ◌<◌, ℕ, Bool, List, [], ◌++◌, length, take, get_or, set, ◌∙◌, ap, arith}
 use Rattle.ptflow.proofs.Common.{err_from_is_err_and, Reader, Slots, push_nothing, push_trans, reader_at, uses_of, ◌||◌}
