@@ -103,6 +103,7 @@ pub use Rattle.ptflow.specs.Private.Cut.FieldSlices.{IsFieldCursor, IsNextSlice,
 pub use Rattle.ptflow.specs.Private.Passes.StepOutput.{OutputPart, OutputFailed}
 pub use Rattle.ptflow.specs.Private.Passes.LineLoop.{SlotsCleared, IsLineFilter, IsSwapped, LinesFailed, LinesWritten}
 pub use Rattle.ptflow.specs.Private.Passes.LineLoop.{IsLinesLength}
+pub use Rattle.ptflow.specs.Private.Paste.SharedInput.{IsWholeRows, IsRowCycle, IsSharedCycle}
 pub use Rattle.ptflow.specs.Private.Paste.FillRow.{SetTerminatorsPost, FillCellPost, FillRowPost, SlotsBound, SlotsKept}
 pub use Rattle.ptflow.specs.Private.Paste.FillRow.{NotRead, RowAmid, RowFailed, RowFilled, ClearSlotsPost}
 pub use Rattle.ptflow.specs.Private.Paste.FillRow.{is_write_fault}
@@ -114,7 +115,7 @@ pub use Rattle.ptflow.specs.Private.Paste.SerialRest.{with_delimiter, with_cycle
 pub use Rattle.ptflow.specs.Private.Paste.TakenLines.{AreReceivedLines, LinesTaken}
 pub use Rattle.ptflow.specs.Private.Paste.BufferedRows.{BufferedRowsPre, IsConsumed, AreConsumed, AreFirstRows}
 pub use Rattle.ptflow.specs.Private.Paste.BufferedRows.{RowsTaken, IsFieldCopied, LineCopied, EofCopied}
-pub use Rattle.ptflow.specs.Private.Paste.BufferedRows.{CopyColumnsPost, CopyRowsPost}
+pub use Rattle.ptflow.specs.Private.Paste.BufferedRows.{CopyColumnsPost, CopyRowsPost, RowsWritten}
 pub use Rattle.ptflow.specs.Private.Tr.TrFrom.{squeeze_from, tr_from}
 pub use Rattle.ptflow.specs.Private.Uniq.BlockRuns.{CountRepeatsPost, IsSpan, RunsFailed, RunsWritten, IsPending}
 pub use Rattle.ptflow.specs.Private.Uniq.BlockRuns.{span_of}

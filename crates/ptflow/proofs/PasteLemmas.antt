@@ -2,6 +2,8 @@
 pub mod CellSlots
 pub mod RowsTaken
 pub mod Grid
+pub mod LastMatch
+pub mod SharedInput
 pub mod PasteOfParts
 pub mod Exits
 pub mod Lag

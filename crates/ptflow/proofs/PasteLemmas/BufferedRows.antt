@@ -90,7 +90,7 @@ both_consumed {a} p q = record {
       ∙ ap (λ (l : List ℕ). record a { buffered = l }) (drop-drop q.size p.size a.buffered);
 }
 
-consumed_more : {old now : List Reader} {input : ℕ} {b r : Reader} → AreConsumed old now → input < length now
+pub consumed_more : {old now : List Reader} {input : ℕ} {b r : Reader} → AreConsumed old now → input < length now
     → b ≡ reader_at now input → IsConsumed b r → AreConsumed old (set now input r)
 consumed_more {old} {now} {input} {b} {r} c low is_read step = record {
   count = length-set now input r ∙ c.count;

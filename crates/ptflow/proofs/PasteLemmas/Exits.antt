@@ -9,8 +9,9 @@ use Rattle.ptflow.proofs.Common.{received_with, has_received, advance_trans, pus
 use Rattle.ptflow.proofs.Common.{bounded_lag_after, Paste, AddedSlots, reader_at, update_at, PastePre, IsReadToEnd}
 use Rattle.ptflow.proofs.Common.{PasteOutcome, PastePost, IsColumnUnended, uses_of, columns, rows, rows_text, paste}
 use Rattle.ptflow.proofs.Common.{paste_decided, paste_size, SlotsBound, SlotsKept, CellsFilled, RowFilled, RowFailed}
-use Rattle.ptflow.proofs.Common.{ClearSlotsPost, CopyRowsPost, BegunText, job_shape, is_write_fault, AreReceivedLines}
-use Rattle.ptflow.proofs.Common.{LinesTaken, AreFirstRows, FlowFault, Read, Write, Memory}
+use Rattle.ptflow.proofs.Common.{ClearSlotsPost, CopyRowsPost, RowsTaken, RowsWritten, AreConsumed, BegunText}
+use Rattle.ptflow.proofs.Common.{job_shape, is_write_fault, AreReceivedLines, LinesTaken, AreFirstRows, FlowFault, Read}
+use Rattle.ptflow.proofs.Common.{Write, Memory}
 use Rattle.ptflow.proofs.PasteLemmas.CellSlots.{slots_bound_line, cells_total, sum_of_zeros}
 use Rattle.ptflow.proofs.PasteLemmas.RowsTaken.{first_rows_trans, lines_taken_by_cells, lines_taken_by_row}
 use Rattle.ptflow.proofs.PasteLemmas.Grid.{Column, uses_before_lt, uses_before, grid_none, rows_text-append}
@@ -218,16 +219,32 @@ module _ {job : Paste} {cells : List ℕ} {old set now : List Reader} {was is : 
       ))
 
   -- A write of rows from the buffers failed, after the first columns of the next row were copied.
+  module _ {mid new : List Reader} {copied : List ℕ} (p : RowsTaken (job_shape job cells) now mid copied) (n : ℕ)
+      {taken : ℕ → Column}
+      (b : (q : ℕ) → LinesTaken job.terminator (reader_at mid q) (reader_at new q) (uses_of (take n cells) q) (taken q))
+      (consumed : AreConsumed now new) {is' : Output} (wrote : PushEffect is is' copied)
+      (fault : is'.write_failed ≡ true) where
+    taken_write_failed : PastePost job cells old new was is' first store (Err Write)
+    taken_write_failed =
+        paste_write new n p.first_rows b (rows_wrote s p wrote) fault (rows_kept s p) (λ q some.
+        earlier_before (so_far q).came (all_taken new n p.first_rows b q).reads (still_pulled consumed q)
+        (now_buffered s q some) (omega (arith, some, more_count q, taken_at_most (so_far q))))
+
+  -- A write of the rows of one input failed.
+  pub paste_shared_write_failed : {new : List Reader} {is' : Output}
+      → RowsWritten (job_shape job cells) now new is is' → is'.write_failed ≡ true
+      → PastePost job cells old new was is' first store (Err Write)
+  paste_shared_write_failed p fault =
+      taken_write_failed p.rows 0 (λ q. nothing_taken refl) p.consumed p.wrote fault
+
+  -- A write of rows of several inputs failed.
   pub paste_rows_write_failed : {copied : List ℕ} {begun : BegunText} {is' : Output}
       → CopyRowsPost (job_shape job cells) now copied begun → PushEffect is is' copied → is'.write_failed ≡ true
       → PastePost job cells old begun.readers was is' first store (Err Write)
   paste_rows_write_failed {begun = begun} p wrote fault =
-      let g = p.rows.first_rows in
-      let b = lines_taken_by_cells (job_shape job cells)
-      (λ q some. (g.lines_taken q).reads.terminator ∙ now_end s q some) p.filled.consumed in
-      paste_write begun.readers begun.count g b (rows_wrote s p.rows wrote) fault (rows_kept s p.rows) (λ q some.
-      earlier_before (so_far q).came (all_taken begun.readers begun.count g b q).reads (still_pulled p.consumed q)
-      (now_buffered s q some) (omega (arith, some, more_count q, taken_at_most (so_far q))))
+      taken_write_failed p.rows begun.count (lines_taken_by_cells (job_shape job cells)
+      (λ q some. (p.rows.first_rows.lines_taken q).reads.terminator ∙ now_end s q some) p.filled.consumed)
+      p.consumed wrote fault
 
   -- A write of a row that was filled failed.
   pub paste_row_write_failed : {new : List Reader} {after : Slots} {fields : List (List ℕ)}

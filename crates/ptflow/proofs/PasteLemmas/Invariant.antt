@@ -2,14 +2,15 @@
 -- were pushed, and the slots hold at most one line for each column. From it follow the clauses of the contract once the
 -- readers were read further.
 use Rattle.ptflow.proofs.Common.{◌≡◌, ⊎_elim, ℕ, ◌+◌, ◌*◌, ◌<◌, ◌≤◌, ◌^◌, Bool, true, false, List, [], ◌∷◌, ◌++◌, None}
-use Rattle.ptflow.proofs.Common.{length, get_or, refl, sym, ◌∙◌, ap, subst, arith, append_assoc, All, cases_lt, append-nil}
-use Rattle.ptflow.proofs.Common.{All-get_or, unlines, lines, complete_lines, AreLines, max_length, Received, IsPrefix}
-use Rattle.ptflow.proofs.Common.{IsConsistent, HasReceived, known_lines, Output, PushEffect, Reader, ReaderAdvance}
-use Rattle.ptflow.proofs.Common.{IsDone, Slots, total_bytes, received_with, has_received, has_received_of_set}
-use Rattle.ptflow.proofs.Common.{push_nothing, push_trans, complete_lines_cons, Paste, AddedSlots, reader_at}
-use Rattle.ptflow.proofs.Common.{IsReadable, PastePre, uses_of, columns, rows, rows_text, paste, paste_decided}
-use Rattle.ptflow.proofs.Common.{SetTerminatorsPost, SlotsBound, SlotsKept, CellsTaken, CellsFilled, AreReceivedLines}
-use Rattle.ptflow.proofs.Common.{AreFirstRows, RowsTaken, cells_text, job_shape, BufferedRowsPre}
+use Rattle.ptflow.proofs.Common.{length, get_or, refl, sym, ◌∙◌, ap, subst, arith, append_assoc, All, cases_lt}
+use Rattle.ptflow.proofs.Common.{append-nil, All-get_or, unlines, lines, complete_lines, AreLines, max_length, Received}
+use Rattle.ptflow.proofs.Common.{IsPrefix, IsConsistent, HasReceived, known_lines, Output, PushEffect, Reader}
+use Rattle.ptflow.proofs.Common.{ReaderAdvance, IsDone, Slots, total_bytes, received_with, has_received}
+use Rattle.ptflow.proofs.Common.{has_received_of_set, push_nothing, push_trans, complete_lines_cons, Paste, AddedSlots}
+use Rattle.ptflow.proofs.Common.{reader_at, IsReadable, PastePre, uses_of, columns, rows, rows_text, paste}
+use Rattle.ptflow.proofs.Common.{paste_decided, SetTerminatorsPost, SlotsBound, SlotsKept, CellsTaken, CellsFilled}
+use Rattle.ptflow.proofs.Common.{AreReceivedLines, AreFirstRows, RowsTaken, RowsWritten, cells_text, job_shape}
+use Rattle.ptflow.proofs.Common.{BufferedRowsPre}
 use Rattle.ptflow.proofs.PasteLemmas.CellSlots.{slots_bound_start, slots_kept_by_lines}
 use Rattle.ptflow.proofs.PasteLemmas.RowsTaken.{first_rows_trans, filled_row_is_first, filled_row_text}
 use Rattle.ptflow.proofs.PasteLemmas.Grid.{Column, last_use, rows_text-append}
@@ -272,6 +273,10 @@ module _ {job : Paste} {cells : List ℕ} {old set now : List Reader} {was is : 
     pub invariant_rows : {is' : Output} → PushEffect is is' written → is'.write_failed ≡ false
         → PasteInvariant job cells old set new was is' first store
     invariant_rows wrote clean = invariant_after p.first_rows rows_kept (rows_wrote wrote) clean
+
+  pub invariant_written : {new : List Reader} {is' : Output} → RowsWritten (job_shape job cells) now new is is'
+      → is'.write_failed ≡ false → PasteInvariant job cells old set new was is' first store
+  invariant_written p clean = invariant_rows p.rows p.wrote clean
 
   -- A row that was filled.
   module _ {new : List Reader} {after : Slots} {fields : List (List ℕ)} (slots : SlotsKept cells fields store after)

@@ -1,4 +1,5 @@
 -- Definitions for the contracts of the private functions and types of `paste`.
+pub mod SharedInput
 pub mod FillRow
 pub mod SerialRest
 pub mod TakenLines

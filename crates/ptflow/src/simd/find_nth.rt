@@ -1,5 +1,6 @@
 //! Finds occurrences of a byte by match masks of 64 bytes. `cut` by fields calls `nth_index` for the one after a given
-//! number of others and `find_line_end` for the first. `cut` by bytes and `replace` use a `match_mask` alone.
+//! number of others and `find_line_end` for the first; `paste` calls `nth_index`. `cut` by bytes, `replace` and `cycle`
+//! use a `match_mask` alone.
 
 ghost use Rattle.std.specs.Prelude.{◌≡◌, ◌<◌, ◌≤◌, ◌+◌, ℕ, Bool, List, length, map, take};
 ghost use Rattle.std.specs.List.{count_by};

@@ -1,4 +1,4 @@
-//! Replaces line terminators by delimiters, many at a time. `paste -s` uses it.
+//! Replaces line terminators by delimiters, many at a time. `paste -s` uses it, and `cycle` its last part.
 
 ghost use Rattle.std.specs.Prelude.{◌≡◌, ◌<◌, ◌+◌, ◌%◌, ◌++◌, length, map, take};
 ghost use Rattle.std.specs.List.{count_by};
@@ -55,6 +55,23 @@ impl CyclePos {
         CyclePos {
             number: self.number + 1,
             index: if after == delims.len() { 0 } else { after },
+        }
+    }
+
+    // The position after `count` more terminators.
+    #[inline(always)]
+    pub(crate) fn after(self, count: usize, delims: &[Option<u8>]) -> CyclePos
+        requires { CyclePosPre delims.now self count }
+        ensures { IsCyclePosAfter delims.now self count result }
+    {
+        let index = self.index + count;
+        CyclePos {
+            number: self.number + count as u64,
+            index: if index < delims.len() {
+                index
+            } else {
+                index % delims.len()
+            },
         }
     }
 }

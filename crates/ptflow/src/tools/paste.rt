@@ -14,6 +14,7 @@ ghost use Rattle.ptflow.specs.Private.Paste.RowCells.{after_cell, begun_in, job_
 mod buffered_rows;
 mod row;
 pub(crate) mod serial;
+mod shared_input;
 
 use crate::faults::FlowFault;
 use crate::slots::ensure_slots;
@@ -22,6 +23,7 @@ use crate::tools::paste::buffered_rows::{
 };
 use crate::tools::paste::row::{BegunRow, RowFormat};
 use crate::tools::paste::serial::OutBuf;
+use crate::tools::paste::shared_input::{shared_cycle, write_shared_rows};
 use ptlangs::jobs::PasteJob;
 use ptlines::{LineFault, LineReader, Out, Sink, Source, Store, WriteFault};
 use std::alloc::Allocator;
@@ -177,7 +179,8 @@ fn clear_slots<A: Allocator + Copy>(cells: &[usize], store: &mut Store<A>)
 ///
 /// Lines that are complete in the buffers of the readers, and fit into the first 8,192 bytes of their row, are copied
 /// from there. Any other line is read into a slot of the store, one for each column, and copied from the slot if those
-/// bytes have room for it. Missing slots are added before anything is read.
+/// bytes have room for it. Missing slots are added before anything is read. If at most 64 columns all read one input,
+/// and no delimiter between them is empty, all complete rows in its buffer are written at once.
 ///
 /// A row is written before 16,384 more bytes of any of its inputs are read. Not proved but tested: it is written before
 /// anything more is read, nothing of it is written before all of its lines are known, and the buffered output is
@@ -205,8 +208,10 @@ pub fn paste<A: Allocator + Copy, B: Allocator + Copy, S: Source, R: Source, W: 
     set_terminators(cells, job.zero, readers);
     ensure_slots(store, cells.len())?;
     let row = row_format(job, cells);
+    let cycle = shared_cycle(row);
     let mut buffer = [0; 8208];
     'rows: loop {
+        write_shared_rows(&cycle, row, readers, &mut buffer, out)?;
         let copied = copy_rows(row, readers, &mut buffer);
         out.push(&buffer[..copied.end])?;
         let begun = move_to_front(copied, &mut buffer);

@@ -3,6 +3,7 @@ use Rattle.std.specs.Prelude.{◌≡◌, ℕ, ◌+◌, ◌*◌, ◌<◌, ◌≤�
 use Rattle.std.specs.Prelude.{map, take, drop, sum_by}
 use Rattle.memchr.specs.Find.{IsFirstByte, is_byte}
 use Rattle.ptlines.specs.Text.{unlines}
+use Rattle.ptlines.specs.Outputs.{Output, PushEffect}
 use Rattle.ptlines.specs.Readers.{Reader, IsDone, budget, reader_at}
 use Rattle.ptflow.specs.PasteText.{uses_of, join_with_cycle, columns, rows}
 use Rattle.ptflow.specs.Private.Paste.RowCells.{RowShape, BegunText, CellsFilled, cells_text}
@@ -85,3 +86,10 @@ pub record CopyRowsPost (row : RowShape) (old : List Reader) (copied : List ℕ)
   pub filled : CellsFilled row.cells begun.count mid begun.readers fields begun.any_line
   pub is : begun.text ≡ cells_text row 0 fields
   pub consumed : AreConsumed old begun.readers
+
+-- Rows were taken from the buffers, or none, and their text was pushed.
+pub record RowsWritten (row : RowShape) (old new : List Reader) (was is : Output) : Type 0 where
+  pub written : List ℕ
+  pub rows : RowsTaken row old new written
+  pub consumed : AreConsumed old new
+  pub wrote : PushEffect was is written

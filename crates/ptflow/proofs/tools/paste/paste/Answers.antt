@@ -7,8 +7,10 @@ use Rattle.ptflow.proofs.Common.{begun_in, job_shape, shape_of, [], ◌∷◌, �
 use Rattle.ptflow.proofs.Common.{slots_text}
 use Rattle.ptflow.specs.declared.tools.paste.row.BegunRow.{BegunRow}
 use Rattle.ptflow.proofs.PasteLemmas.Exits.{paste_on_failed_output, paste_without_slots, paste_rows_write_failed}
+use Rattle.ptflow.proofs.PasteLemmas.Exits.{paste_shared_write_failed}
 use Rattle.ptflow.proofs.PasteLemmas.Exits.{paste_fill_failed, paste_done, paste_row_write_failed}
 use Rattle.ptflow.proofs.PasteLemmas.Invariant.{PasteInvariant, HasStarted, invariant_starts, invariant_rows}
+use Rattle.ptflow.proofs.PasteLemmas.Invariant.{invariant_written}
 use Rattle.ptflow.proofs.PasteLemmas.Invariant.{invariant_sent, invariant_slots, invariant_more, now_readable}
 use Rattle.ptflow.proofs.PasteLemmas.Invariant.{row_wrote}
 use Rattle.ptflow.proofs.PasteLemmas.BufferedRows.{still_readable}
@@ -47,9 +49,25 @@ rows-init g c = record {
       c.ensure_slots.ensures.same_peak;
 }
 
+pub write_shared_rows-requires-clause-readable : goal.write_shared_rows-requires-clause-readable
+write_shared_rows-requires-clause-readable g c =
+    rw c.row_format-row.ensures (now_readable c.rows.invariant.invariant_holds c.set_terminators.auto.readers)
+
+pub write_shared_rows-requires-clause-clean : goal.write_shared_rows-requires-clause-clean
+write_shared_rows-requires-clause-clean g c = c.rows.invariant.invariant_holds.clean
+
+pub returns-in_err-write_shared_rows : goal.returns-in_err-write_shared_rows
+returns-in_err-write_shared_rows g c =
+    let (fault, same, is) = err_from_is_err_and c.from_residual-in_err-write_shared_rows.result
+    c.from_residual-in_err-write_shared_rows.ensures.1 in
+    rw (same, is) (paste_shared_write_failed c.rows.invariant.invariant_holds
+    (rw c.row_format-row.ensures at c.write_shared_rows.ensures.rows) c.in_err-write_shared_rows.ensures.fault)
+
 pub copy_rows-copied-requires : goal.copy_rows-copied-requires
 copy_rows-copied-requires g c =
-    rw c.row_format-row.ensures (now_readable c.rows.invariant.invariant_holds c.set_terminators.auto.readers)
+    rw c.row_format-row.ensures (now_readable (invariant_written c.rows.invariant.invariant_holds
+    (rw c.row_format-row.ensures at c.write_shared_rows.ensures.rows) c.in_ok-write_shared_rows.ensures.clean)
+    c.set_terminators.auto.readers)
 
 had_line : (any_line : Bool) → not any_line ≡ false → any_line ≡ true
 had_line true same = refl
@@ -63,14 +81,17 @@ pub returns-in_err-push : goal.returns-in_err-push
 returns-in_err-push g c =
     let (fault, same, is) = err_from_is_err_and c.from_residual-in_err-push.result c.from_residual-in_err-push.ensures.1
     in
-    rw (same, is) (paste_rows_write_failed c.rows.invariant.invariant_holds
+    rw (same, is) (paste_rows_write_failed (invariant_written c.rows.invariant.invariant_holds
+    (rw c.row_format-row.ensures at c.write_shared_rows.ensures.rows) c.in_ok-write_shared_rows.ensures.clean)
     (rw c.row_format-row.ensures at c.copy_rows-copied.ensures.rows) c.push.ensures.pushed.wrote
     c.in_err-push.ensures.pushed.fault)
 
 pub fill_row-requires-clause-readable : goal.fill_row-requires-clause-readable
 fill_row-requires-clause-readable g c =
     rw c.row_format-row.ensures (still_readable c.copy_rows-copied.ensures.rows.consumed
-    (now_readable c.rows.invariant.invariant_holds c.set_terminators.auto.readers))
+    (now_readable (invariant_written c.rows.invariant.invariant_holds
+    (rw c.row_format-row.ensures at c.write_shared_rows.ensures.rows) c.in_ok-write_shared_rows.ensures.clean)
+    c.set_terminators.auto.readers))
 
 pub fill_row-requires-clause-within : goal.fill_row-requires-clause-within
 fill_row-requires-clause-within g c = omega (
@@ -94,15 +115,17 @@ module _ (g : given.Over) (c : After-fill_row g) where
   shape = job_shape job c.args.cells.now
 
   -- The rows from the buffers, and the row that was begun after them.
-  rows : CopyRowsPost shape c.rows.readers (take c.copy_rows-copied.result.end c.copy_rows-copied.new.into)
+  rows : CopyRowsPost shape c.write_shared_rows.new.readers
+      (take c.copy_rows-copied.result.end c.copy_rows-copied.new.into)
       (begun_after c.copy_rows-copied.new.readers c.copy_rows-copied.result c.copy_rows-copied.new.into)
   rows = rw c.row_format-row.ensures at c.copy_rows-copied.ensures.rows
 
   -- The invariant after the rows from the buffers.
   now : PasteInvariant job c.args.cells.now c.args.readers.now c.set_terminators.new.readers rows.mid c.args.out.now
       c.push.new.self c.args.store.now c.rows.store
-  now = invariant_rows c.rows.invariant.invariant_holds rows.rows c.push.ensures.pushed.wrote
-      c.in_ok-push.ensures.pushed.clean
+  now = invariant_rows (invariant_written c.rows.invariant.invariant_holds
+      (rw c.row_format-row.ensures at c.write_shared_rows.ensures.rows) c.in_ok-write_shared_rows.ensures.clean)
+      rows.rows c.push.ensures.pushed.wrote c.in_ok-push.ensures.pushed.clean
 
   -- The row that was begun, at the start of the buffer.
   abbrev begun : BegunText
@@ -215,6 +238,7 @@ rows-smaller g c =
       arith,
       (amid g here c.in_ok-filled.filled c.in_ok-filled.ensures.fills).filled.less (had_line _ c.if-not-filled.false),
       (rows g here).rows.least,
+      c.write_shared_rows.ensures.rows.rows.least,
     )
 
 pub rows-preserved : goal.rows-preserved

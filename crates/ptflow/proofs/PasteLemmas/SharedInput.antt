@@ -1,0 +1,389 @@
+-- Rows of `paste` whose n columns all read one input. Such a row takes n lines, one for each column; if the terminators
+-- of these lines are replaced by the cycle (the delimiters of the row, and a last entry that keeps the terminator),
+-- they become the row. So bytes with count * n terminators, the last at the end, become `count` rows.
+use Rattle.ptflow.proofs.Common.{◌≡◌, ◌≢◌, ℕ, zero, suc, ◌+◌, ◌-◌, ◌*◌, ◌%◌, ◌<◌, ◌≤◌, Bool, cond, List, [], ◌∷◌, ◌++◌}
+use Rattle.ptflow.proofs.Common.{Option, None, Some, length, map, take, drop, set, get_or, refl, sym, ◌∙◌, ap, subst}
+use Rattle.ptflow.proofs.Common.{arith, append_assoc, length-append, length-drop, take-append-drop, ⊎_elim, inl}
+use Rattle.ptflow.proofs.Common.{unwrap_or, option_to_list, count_by, cases_eq, cases_lt, eq-eqb, ne_eqb, mod-mul-add}
+use Rattle.ptflow.proofs.Common.{take_more, take_all, nil_from_length, length-take-le, length-set, get_or_append_left}
+use Rattle.ptflow.proofs.Common.{get_or_push, take_at, All-get_or, All-take, All-drop, All-from_recursion}
+use Rattle.ptflow.proofs.Common.{recursion_from_All, sum_by-cons, sum_by-append, sum_by-set, is_byte, unlines, lines}
+use Rattle.ptflow.proofs.Common.{IsLine, AreLines, EndsWithByte, Output, PushEffect, push_nothing, Reader, IsSound}
+use Rattle.ptflow.proofs.Common.{budget, advance_ok_take, byte_eq, byte_ne, unlines-append, lines_are, the_lines}
+use Rattle.ptflow.proofs.Common.{delim_at, no_reader, reader_at, update_at, delimiter, join_with_cycle, uses_of}
+use Rattle.ptflow.proofs.Common.{columns, rows, IsRowCycle, IsSharedCycle, IsWholeRows, with_cycle, LinesTaken}
+use Rattle.ptflow.proofs.Common.{RowShape, BufferedRowsPre, RowsTaken, RowsWritten}
+use Rattle.std.specs.Prelude.{slice_index_or}
+use Rattle.ptflow.proofs.Vectors.FindNth.{none_counted}
+use Rattle.ptflow.proofs.PasteLemmas.Grid.{Column, for_each_cell_unique, top_of, grid_step, uses_here, uses_before_lt}
+use Rattle.ptflow.proofs.PasteLemmas.Grid.{last_use, update_here, update_there}
+use Rattle.ptflow.proofs.PasteLemmas.FillRow.{at_same, at_other, at_index}
+use Rattle.ptflow.proofs.PasteLemmas.LinesTaken.{nothing_taken}
+use Rattle.ptflow.proofs.PasteLemmas.RowsTaken.{rows_taken_none}
+use Rattle.ptflow.proofs.PasteLemmas.BufferedRows.{consumed_none, consumed_more}
+use Rattle.ptflow.proofs.PasteLemmas.Cycle.{cycle-append, length-cycle}
+
+-- ---- the cycle of one row
+
+-- The cycle so far: the delimiters after the columns before column `n`.
+pub record CyclePrefix (delims : List (Option ℕ)) (n : ℕ) (cycle : List (Option ℕ)) : Type 0 where
+  pub count : length cycle + 1 ≡ n
+  pub between : (c : ℕ) → c + 1 < n → (d : ℕ) × (slice_index_or cycle c None ≡ Some d) × (delimiter delims c ≡ d ∷ [])
+
+module _ {delims : List (Option ℕ)} {n : ℕ} {cycle : List (Option ℕ)} (t : CyclePrefix delims n cycle) where
+  -- A push does not change the entries before it.
+  stays : (turn : Option ℕ) (c : ℕ) → c + 1 < n
+      → (d : ℕ) × (slice_index_or (cycle ++ turn ∷ []) c None ≡ Some d) × (delimiter delims c ≡ d ∷ [])
+  stays turn c low =
+      let (d, there, is) = t.between c low in
+      (d, get_or_append_left cycle (turn ∷ []) None c (omega (arith, low, t.count)) ∙ there, is)
+
+  pub cycle_few : (turn : Option ℕ) {after : List (Option ℕ)} {size : ℕ} → after ≡ cycle ++ turn ∷ [] → n < size
+      → size ≤ 64 → length after < 64
+  cycle_few turn is low few = omega (arith, ap length is, length-append cycle (turn ∷ []), t.count)
+
+  pub cycle_more : {d : ℕ} {after : List (Option ℕ)} → after ≡ cycle ++ Some d ∷ [] → delim_at delims (n - 1) ≡ Some d
+      → CyclePrefix delims (n + 1) after
+  cycle_more {d} is delim = rw is (record {
+    count = omega (arith, length-append cycle (Some d ∷ []), t.count);
+    between = λ c low. ⊎_elim
+        (stays (Some d) c)
+        (λ here. (
+          d,
+          get_or_push cycle (Some d) None c (omega (arith, here, low, t.count)),
+          (let number : c ≡ n - 1 = omega (arith, here, low) in ap (delimiter delims) number ∙ ap option_to_list delim),
+        ))
+        (cases_lt (c + 1) n);
+  })
+
+  pub cycle_done : {size : ℕ} {after : List (Option ℕ)} → n ≡ size → after ≡ cycle ++ None ∷ []
+      → IsRowCycle delims size after
+  cycle_done all is = rw (is, ← all) (record {
+    count = omega (arith, length-append cycle (None ∷ []), t.count);
+    between = stays None;
+    last = λ c here. get_or_push cycle None None c (omega (arith, here, t.count));
+  })
+
+-- ---- complete rows are known by the number of terminators
+
+-- A text of complete lines has one terminator for each line.
+ends_of_lines : (end : ℕ) (ls : List (List ℕ)) → AreLines end ls → count_by (is_byte end) (unlines end ls) ≡ length ls
+ends_of_lines end [] are_lines = refl
+ends_of_lines end (line ∷ ls) (free, are_lines) =
+    let one : count_by (is_byte end) (end ∷ []) ≡ 1 = sum_by-cons (λ x. cond (is_byte end x) 1 0) end []
+    ∙ ap (λ (t : Bool). cond t 1 0 + 0) (byte_eq end) in
+    let split = sum_by-append (λ x. cond (is_byte end x) 1 0) (line ++ end ∷ []) (unlines end ls) in
+    let first = sum_by-append (λ x. cond (is_byte end x) 1 0) line (end ∷ []) in
+    omega (arith, one, split, first, none_counted end [] line free, ends_of_lines end ls are_lines)
+
+ends_with : (end : ℕ) (bytes : List ℕ) → bytes ≢ [] → (0 < length bytes → get_or bytes (length bytes - 1) 0 ≡ end)
+    → EndsWithByte end bytes
+ends_with end [] some last = absurd (some refl)
+ends_with end (b ∷ bs) some last =
+    let n = length bs in
+    let there : length (b ∷ bs) - 1 ≡ n = omega arith in (
+      take n (b ∷ bs),
+      sym (take_all (n + 1) (b ∷ bs) (omega arith)) ∙ take_more (b ∷ bs) n 0 (omega arith)
+          ∙ ap (λ (x : ℕ). take n (b ∷ bs) ++ x ∷ [])
+          (ap (λ (k : ℕ). get_or (b ∷ bs) k 0) (sym there) ∙ last (omega arith)),
+    )
+
+-- Bytes that end with a terminator and have count * n terminators are `count` complete rows.
+pub whole_rows_counted : (end n count : ℕ) (bytes : List ℕ)
+    → (0 < length bytes → get_or bytes (length bytes - 1) 0 ≡ end) → count_by (is_byte end) bytes ≡ count * n
+    → IsWholeRows end n bytes
+whole_rows_counted end n count bytes last counted =
+    let is : unlines end (lines end bytes) ≡ bytes =
+    let ((are_lines, is), only) = the_lines end bytes in
+    ⊎_elim (λ same. same) (λ (some, not_ended, missing). absurd (not_ended (ends_with end bytes some last))) is in
+    record {
+      count = count;
+      ls = lines end bytes;
+      is = sym is;
+      are_lines = lines_are end bytes;
+      long = sym (ends_of_lines end (lines end bytes) (lines_are end bytes)) ∙ ap (count_by (is_byte end)) is ∙ counted;
+    }
+
+-- ---- the text of rows
+
+AreLines-take : (end n : ℕ) (ls : List (List ℕ)) → AreLines end ls → AreLines end (take n ls)
+AreLines-take end n ls are_lines =
+    recursion_from_All (IsLine end) (take n ls)
+    (All-take (IsLine end) n ls (All-from_recursion (IsLine end) ls are_lines))
+
+AreLines-drop : (end n : ℕ) (ls : List (List ℕ)) → AreLines end ls → AreLines end (drop n ls)
+AreLines-drop end n ls are_lines =
+    recursion_from_All (IsLine end) (drop n ls)
+    (All-drop (IsLine end) n ls (All-from_recursion (IsLine end) ls are_lines))
+
+-- Replacing commutes with taking a prefix.
+pub cycle-take : (end : ℕ) (cycle : List (Option ℕ)) (at number : ℕ) (bytes : List ℕ) → at ≤ length bytes
+    → take at (with_cycle end cycle number bytes) ≡ with_cycle end cycle number (take at bytes)
+cycle-take end cycle at number bytes within =
+    let front = take at bytes in
+    let long : length (with_cycle end cycle number front) ≡ at = length-cycle end cycle number front
+    ∙ length-take-le at bytes within in
+    ap (λ (l : List ℕ). take at (with_cycle end cycle number l)) (sym (take-append-drop at bytes))
+    ∙ ap (take at) (cycle-append end cycle number front (drop at bytes))
+    ∙ take_at (with_cycle end cycle number front)
+    (with_cycle end cycle (number + count_by (is_byte end) front) (drop at bytes)) at long
+
+-- The lines `ls` in rows of n.
+abbrev pub rows_in : ℕ → ℕ → List (List ℕ) → List (List (List ℕ))
+rows_in n zero ls = []
+rows_in n (suc k) ls = take n ls ∷ rows_in n k (drop n ls)
+
+length-rows : (n k : ℕ) (ls : List (List ℕ)) → length (rows_in n k ls) ≡ k
+length-rows n zero ls = refl
+length-rows n (suc k) ls = ap suc (length-rows n k (drop n ls))
+
+module _ (end n : ℕ) (delims cycle : List (Option ℕ)) (t : IsRowCycle delims n cycle) where
+  -- A line contains no terminator, so its bytes stay.
+  line_stays : (number : ℕ) (line rest : List ℕ) → IsLine end line
+      → with_cycle end cycle number (line ++ rest) ≡ line ++ with_cycle end cycle number rest
+  line_stays number [] rest free = refl
+  line_stays number (b ∷ line) rest (other, free) =
+      rw (byte_ne end b other) (ap (λ (l : List ℕ). b ∷ l) (line_stays number line rest free))
+
+  line_with_cycle : (number : ℕ) (line rest : List ℕ) → IsLine end line
+      → with_cycle end cycle number ((line ++ end ∷ []) ++ rest) ≡ line ++ unwrap_or (delim_at cycle number) end
+      ∷ with_cycle end cycle (number + 1) rest
+  line_with_cycle number line rest free =
+      ap (with_cycle end cycle number) (append_assoc line (end ∷ []) rest) ∙ line_stays number line (end ∷ rest) free
+      ∙ rw (byte_eq end) refl
+
+  cycle_at : (k c : ℕ) → c < n → delim_at cycle (k * n + c) ≡ slice_index_or cycle c None
+  cycle_at k c low = ap (λ (m : ℕ). slice_index_or cycle m None)
+      (ap (λ (size : ℕ). (k * n + c) % size) t.count ∙ mod-mul-add k n c low)
+
+  -- The fields of a row from column c on.
+  row_with_cycle : (k c : ℕ) (ls : List (List ℕ)) → AreLines end ls → c + length ls ≡ n → 0 < length ls
+      → with_cycle end cycle (k * n + c) (unlines end ls) ≡ join_with_cycle delims c ls ++ end ∷ []
+  row_with_cycle k c [] are_lines all some = absurd (omega (arith, some))
+  row_with_cycle k c (line ∷ []) (free, none) all some =
+      let last : delim_at cycle (k * n + c) ≡ None = cycle_at k c (omega (arith, all))
+      ∙ t.last c (omega (arith, all)) in
+      line_with_cycle (k * n + c) line [] free ∙ ap (λ (d : Option ℕ). line ++ unwrap_or d end ∷ []) last
+  row_with_cycle k c (line ∷ next ∷ ls) (free, are_lines) all some =
+      let (d, there, is) = t.between c (omega (arith, all)) in
+      let here : delim_at cycle (k * n + c) ≡ Some d = cycle_at k c (omega (arith, all)) ∙ there in
+      let number : k * n + c + 1 ≡ k * n + (c + 1) = omega arith in
+      line_with_cycle (k * n + c) line (unlines end (next ∷ ls)) free
+      ∙ rw (here, number, row_with_cycle k (c + 1) (next ∷ ls) are_lines (omega (arith, all)) (omega arith), is)
+      (simp append_assoc)
+
+  -- All rows from row k on, each with its terminator.
+  pub rows_with_cycle : (some : 0 < n) (k more : ℕ) (ls : List (List ℕ)) → AreLines end ls → length ls ≡ more * n
+      → with_cycle end cycle (k * n) (unlines end ls) ≡ unlines end (map (join_with_cycle delims 0) (rows_in n more ls))
+  rows_with_cycle some k zero [] are_lines long = refl
+  rows_with_cycle some k zero (line ∷ ls) are_lines long = absurd (omega (arith, long))
+  rows_with_cycle some k (suc more) ls are_lines long =
+      let size : suc more * n ≡ n + more * n = omega arith in
+      let first = take n ls in
+      let rest = drop n ls in
+      let whole_first = AreLines-take end n ls are_lines in
+      let first_long : length first ≡ n = length-take-le n ls (omega (arith, long, size)) in
+      let start : k * n ≡ k * n + 0 = omega arith in
+      let next : k * n + count_by (is_byte end) (unlines end first) ≡ (k + 1) * n =
+      omega (arith, ends_of_lines end first whole_first, first_long) in
+      ap (λ (l : List (List ℕ)). with_cycle end cycle (k * n) (unlines end l)) (sym (take-append-drop n ls))
+      ∙ ap (with_cycle end cycle (k * n)) (unlines-append end first rest)
+      ∙ cycle-append end cycle (k * n) (unlines end first) (unlines end rest)
+      ∙ (λ i. (ap (λ (m : ℕ). with_cycle end cycle m (unlines end first)) start
+      ∙ row_with_cycle k 0 first whole_first (omega (arith, first_long)) (omega (arith, first_long, some))) i
+      ++ (ap (λ (m : ℕ). with_cycle end cycle m (unlines end rest)) next
+      ∙ rows_with_cycle some (k + 1) more rest (AreLines-drop end n ls are_lines)
+      (omega (arith, length-drop n ls, long, size))) i)
+
+-- ---- the grid of one input
+
+-- `ls` for this input, and no lines for all others.
+abbrev pub lines_of_input : ℕ → Column → ℕ → Column
+lines_of_input input ls = update_at input ls (λ q. [])
+
+lines_of_input-append : (input : ℕ) (xs ys : Column) (q : ℕ)
+    → lines_of_input input (xs ++ ys) q ≡ lines_of_input input xs q ++ lines_of_input input ys q
+lines_of_input-append input xs ys q =
+    ⊎_elim (λ same. rw (eq-eqb q input same) refl) (λ differ. rw (ne_eqb q input differ) refl) (cases_eq q input)
+
+module _ (cells : List ℕ) (input : ℕ) (same : (c : ℕ) → c < length cells → get_or cells c 0 ≡ input) where
+  uses_before_column : (c : ℕ) → c ≤ length cells → uses_of (take c cells) input ≡ c
+  uses_before_column zero low = refl
+  uses_before_column (suc c) low =
+      let next : suc c ≡ c + 1 = omega arith in
+      ap (λ (m : ℕ). uses_of (take m cells) input) next
+      ∙ uses_here cells c input (omega (arith, low)) (same c (omega (arith, low)))
+      ∙ omega (arith, uses_before_column c (omega (arith, low)))
+
+  uses_all : uses_of cells input ≡ length cells
+  uses_all = ap (λ (l : List ℕ). uses_of l input) (sym (take_all (length cells) cells (omega arith)))
+      ∙ uses_before_column (length cells) (omega arith)
+
+  uses_none : (q : ℕ) → q ≢ input → uses_of cells q ≡ 0
+  uses_none q differ = ⊎_elim
+      (λ some. let (c, low, uses, before) = last_use cells q some in absurd (differ (sym uses ∙ same c low)))
+      (λ none. omega (arith, none))
+      (cases_lt 0 (uses_of cells q))
+
+  -- The first n lines are the first row.
+  row_on : (some : 0 < length cells) (ls : Column) (more : ℕ → Column) → length ls ≡ length cells
+      → rows (columns cells (λ q. lines_of_input input ls q ++ more q)) ≡ ls ∷ rows (columns cells more)
+  row_on some ls more long =
+      grid_step cells (lines_of_input input ls) more
+      (record {
+        all = λ q. inl (⊎_elim
+            (λ here. rw here (rw (update_here input ls (λ q. []) input refl, uses_all) long))
+            (λ there. rw (update_there input ls (λ q. []) q there, uses_none q there) refl)
+            (cases_eq q input));
+      }) 0 some (omega (arith, ap length (update_here input ls (λ q. []) (get_or cells 0 0) (same 0 some)), long, some))
+      ∙ ap (λ (r : List (List ℕ)). r ∷ rows (columns cells more))
+      (sym (for_each_cell_unique (top_of cells (lines_of_input input ls)) cells ls [] long
+      (λ c low. rw (same c low)
+      (rw (update_here input ls (λ q. []) input refl, uses_before_column c (omega (arith, low))) refl))))
+
+  -- The first k * n lines are the first k rows.
+  rows_on : (some : 0 < length cells) (k : ℕ) (ls : Column) (more : ℕ → Column) → length ls ≡ k * length cells
+      → rows (columns cells (λ q. lines_of_input input ls q ++ more q)) ≡ rows_in (length cells) k ls
+      ++ rows (columns cells more)
+  rows_on some zero [] more long = λ i. rows (columns cells (λ q. none q i ++ more q))
+    where
+      none : (q : ℕ) → lines_of_input input [] q ≡ []
+      none q = ⊎_elim (update_here input [] (λ q. []) q) (update_there input [] (λ q. []) q) (cases_eq q input)
+  rows_on some zero (line ∷ ls) more long = absurd (omega (arith, long))
+  rows_on some (suc k) ls more long =
+      let n = length cells in
+      let size : suc k * n ≡ n + k * n = omega arith in
+      (λ i. rows
+      (columns cells
+      (λ q. (ap (λ (l : Column). lines_of_input input l q ++ more q) (sym (take-append-drop n ls))
+      ∙ ap (λ (l : Column). l ++ more q) (lines_of_input-append input (take n ls) (drop n ls) q)
+      ∙ append_assoc (lines_of_input input (take n ls) q) (lines_of_input input (drop n ls) q) (more q)) i)))
+      ∙ row_on some (take n ls) (λ q. lines_of_input input (drop n ls) q ++ more q)
+      (length-take-le n ls (omega (arith, long, size)))
+      ∙ ap (λ (r : List (List (List ℕ))). take n ls ∷ r)
+      (rows_on some k (drop n ls) more (omega (arith, length-drop n ls, long, size)))
+
+-- ---- the complete rows in the buffer
+
+module _ {row : RowShape} {cycle : List (Option ℕ)} (t : IsSharedCycle row cycle) (old : List Reader)
+    (low : get_or row.cells 0 0 < length old) (clean : (reader_at old (get_or row.cells 0 0)).fault ≡ None)
+    (sound : IsSound (reader_at old (get_or row.cells 0 0))) {count : ℕ} (some : 0 < count)
+    (within : count ≤ length (reader_at old (get_or row.cells 0 0)).buffered)
+    (rs : IsWholeRows row.terminator (length row.cells) (take count
+    (reader_at old (get_or row.cells 0 0)).buffered)) where
+  abbrev end : ℕ
+  end = row.terminator
+
+  abbrev cells : List ℕ
+  cells = row.cells
+
+  abbrev input : ℕ
+  input = get_or cells 0 0
+
+  abbrev was : Reader
+  was = reader_at old input
+
+  abbrev now : Reader
+  now = record (reader_at old input) { buffered = drop count (reader_at old input).buffered }
+
+  same : (c : ℕ) → c < length cells → get_or cells c 0 ≡ input
+  same c low = All-get_or (λ (q : ℕ). q ≡ input) cells c 0 low t.same
+
+  lines_taken_here : LinesTaken end was now (rs.count * length cells) rs.ls
+  lines_taken_here = record {
+    bytes = take count was.buffered;
+    reads = (advance_ok_take was now count clean within refl).reads;
+    failed = refl;
+    fault = refl;
+    short = λ h. h;
+    buffered = λ h. omega (arith, h, length-drop count was.buffered);
+    none =
+        λ none. absurd
+        (omega (
+          arith,
+          some,
+          length-take-le count was.buffered within,
+          ap length rs.is,
+          ap (λ (l : List (List ℕ)). length (unlines end l)) (nil_from_length rs.ls (rs.long ∙ none)),
+        ));
+    came = record { so_far = inl (rs.is, rs.are_lines) };
+    enough = inl rs.long;
+  }
+
+  lines_taken_all : (q : ℕ)
+      → LinesTaken end (reader_at old q) (reader_at (set old input now) q)
+      (length (rows_in (length cells) rs.count rs.ls) * uses_of cells q) (lines_of_input input rs.ls q)
+  lines_taken_all q = ⊎_elim
+      (λ is. rw is
+      (rw (
+        at_same old input now low,
+        update_here input rs.ls (λ q. []) input refl,
+        length-rows (length cells) rs.count rs.ls,
+        uses_all cells input same,
+      ) lines_taken_here))
+      (λ differ. rw (
+        at_other old input q now differ,
+        update_there input rs.ls (λ q. []) q differ,
+        uses_none cells input same q differ,
+      ) (nothing_taken (omega arith)))
+      (cases_eq q input)
+
+  rows_of_input : RowsTaken row old (set old input now) (with_cycle end cycle 0 (take count was.buffered))
+  rows_of_input = record {
+    taken_rows = rows_in (length cells) rs.count rs.ls;
+    ls = lines_of_input input rs.ls;
+    first_rows = record {
+      lines_taken = lines_taken_all;
+      on = λ more may. rows_on cells input same t.some rs.count rs.ls more rs.long;
+      count = length-set old input now;
+    };
+    least = omega (
+      arith,
+      some,
+      within,
+      sound.long clean,
+      length-drop count was.buffered,
+      sum_by-set budget old input
+          now no_reader low,
+    );
+    is =
+        let start : 0 ≡ 0 * length cells = omega arith in
+        ap (with_cycle end cycle 0) rs.is ∙ ap (λ (m : ℕ). with_cycle end cycle m (unlines end rs.ls)) start
+        ∙ rows_with_cycle end (length cells) row.delims cycle t.is_cycle t.some 0 rs.count rs.ls rs.are_lines rs.long;
+  }
+
+-- The rows in the buffer, by the bytes that were copied and pushed.
+pub copied_rows : {row : RowShape} {cycle : List (Option ℕ)} → IsSharedCycle row cycle → {old : List Reader}
+    → BufferedRowsPre row old → (d : Reader) → IsSound (get_or old (get_or row.cells 0 0) d)
+    → {count : ℕ} → 0 < count → count ≤ length (get_or old (get_or row.cells 0 0) d).buffered
+    → IsWholeRows row.terminator (length cycle) (take count (get_or old (get_or row.cells 0 0) d).buffered)
+    → (e : Reader) {r : Reader} → r ≡ record (get_or old (get_or row.cells 0 0) e) {
+      buffered = drop count (get_or old (get_or row.cells 0 0) e).buffered;
+    }
+    → {written : List ℕ}
+    → written ≡ with_cycle row.terminator cycle 0 (take count (get_or old (get_or row.cells 0 0) d).buffered)
+    → {out pushed : Output} → PushEffect out pushed written
+    → RowsWritten row old (set old (get_or row.cells 0 0) r) out pushed
+copied_rows {row} {cycle} t {old} ready d sound {count} some few rs e {r} step {written} copied wrote =
+    let p = get_or row.cells 0 0 in
+    let low = ready.within 0 0 t.some in
+    let is_read = at_index old p d low in
+    record {
+      written = written;
+      rows = rw (copied, is_read, step, at_index old p e low)
+          (rows_of_input t old low (ready.unfailed p (omega (arith, uses_before_lt row.cells 0 t.some)))
+          (subst IsSound is_read sound) some
+          (omega (arith, few, ap (λ (x : Reader). length x.buffered) is_read))
+          (rw (is_read, t.is_cycle.count) at rs));
+      consumed = consumed_more consumed_none low (at_index old p e low) (record { size = count; is = step });
+      wrote = wrote;
+    }
+
+-- Nothing is in the buffer, or the columns share no reader.
+pub no_rows_written : {row : RowShape} {old : List Reader} {out : Output} → RowsWritten row old old out out
+no_rows_written {out = out} = record {
+  written = [];
+  rows = rows_taken_none;
+  consumed = consumed_none;
+  wrote = push_nothing out;
+}

@@ -1,0 +1,54 @@
+-- The buffer of the only reader begins with complete rows, and their copy is pushed.
+use Rattle.ptflow.proofs.Common.{◌<◌, length, get_or, sym, ◌∙◌, ap, arith, Reader}
+use borrow.Author.Rules.{scaled_Fits}
+use Rattle.ptflow.proofs.PasteLemmas.SharedInput.{copied_rows, no_rows_written}
+use Rattle.ptflow.proofs.PasteLemmas.FillRow.{at_index}
+use Rattle.ptflow.proofs.tools.paste.shared_input.write_shared_rows.Given as given
+use Rattle.ptflow.proofs.tools.paste.shared_input.write_shared_rows.Goals as goal
+use Rattle.ptflow.proofs.tools.paste.shared_input.write_shared_rows.Goals.{In-Some}
+
+low : (g : given.Over) (c : In-Some g) → get_or c.args.row.cells.now 0 0 < length c.args.readers.now
+low g c =
+    let (shared, same_end) = rw c.in-Some.is at c.requires.is_cycle in
+    c.requires.readable.within 0 0 shared.some
+
+pub returns-in_default-clause-rows : goal.returns-in_default-clause-rows
+returns-in_default-clause-rows g c = no_rows_written
+
+pub returns-then-count-eq0-clause-rows : goal.returns-then-count-eq0-clause-rows
+returns-then-count-eq0-clause-rows g c = no_rows_written
+
+pub returns-clause-rows : goal.returns-clause-rows
+returns-clause-rows g c =
+    let copied = c.copy_shared_rows-count.ensures in
+    let (shared, same_end) = rw c.in-Some.is at c.requires.is_cycle in
+    copied_rows shared c.requires.readable
+    c.index-readers-input.result copied.sound (omega (arith, c.if-count-eq0.false)) copied.within
+    (rw same_end at copied.rows)
+    c.index-readers-input-2.result c.consume.ensures.consumed (rw same_end at copied.copied) c.push.ensures.pushed.wrote
+
+pub bounds-row-0 : goal.bounds-row-0
+bounds-row-0 g c = let (shared, same_end) = rw c.in-Some.is at c.requires.is_cycle in shared.some
+
+pub bounds-readers-input : goal.bounds-readers-input
+bounds-readers-input g c = low g (goal.at.bounds-readers-input g c).In-Some
+
+pub offset_bounds-readers-input : goal.offset_bounds-readers-input
+offset_bounds-readers-input g c = let there = low g (goal.at.offset_bounds-readers-input g c).In-Some in search
+    (scaled_Fits, there)
+
+pub bounds-readers-input-2 : goal.bounds-readers-input-2
+bounds-readers-input-2 g c = low g (goal.at.bounds-readers-input-2 g c).In-Some
+
+pub offset_bounds-readers-input-2 : goal.offset_bounds-readers-input-2
+offset_bounds-readers-input-2 g c = let there = low g (goal.at.offset_bounds-readers-input-2 g c).In-Some in search
+    (scaled_Fits, there)
+
+pub consume-requires : goal.consume-requires
+consume-requires g c =
+    let there = low g (goal.at.consume-requires g c).In-Some in
+    let readers = c.args.readers.now in
+    let input = get_or c.args.row.cells.now 0 0 in
+    let same = at_index readers input c.index-readers-input.result there
+    ∙ sym (at_index readers input c.index-readers-input-2.result there) in
+    omega (arith, c.copy_shared_rows-count.ensures.within, ap length (ap (λ (r : Reader). r.buffered) same))
