@@ -2,11 +2,12 @@
 -- of the string. And the classes that start in two arrays, compared byte by byte as the arrays are paired.
 use Rattle.ptlangs.proofs.Common.{◌≡◌, Bool, Err, List, None, Ok, Option, Result, Some, [], ap, arith, cond, drop, eqb}
 use Rattle.ptlangs.proofs.Common.{false, length, map, refl, suc, sym, true, zero, ℕ, ◌&&◌, ◌++◌, ◌+◌, ◌||◌, ◌∙◌, ◌∷◌}
-use Rattle.ptlangs.proofs.Common.{◌≤◌, ◌<◌, append-nil, append_assoc, length-map, length-replicate, map-append}
+use Rattle.ptlangs.proofs.Common.{◌≤◌, ◌<◌, ◌-◌, append-nil, append_assoc, length-map, length-replicate, map-append}
 use Rattle.ptlangs.proofs.Common.{slice_get, cons_ok, are_opposite_cases, array, class_offsets, class_bytes, sequence}
 use Rattle.ptlangs.proofs.Common.{is_fill, are_paired, members, segment, result_map_both, has_other_case_at, CharClass}
 use Rattle.ptlangs.proofs.Common.{SetFaultKind, SetElement, Segment, Fill, Repeat, SetRole, First, Images, Squeezed}
 use Rattle.ptlangs.proofs.Common.{eq-eqb, ne_eqb, drop_all, subst, replicate, span, segments_of, string_segments}
+use Rattle.std.proofs.lemmas.List.{drop-replicate}
 use Rattle.std.specs.Prelude.{IfSome}
 use Rattle.std.specs.Result.{IsErrAnd}
 use Rattle.ptlangs.specs.declared.tr.elements.SetElement.TheVariants as element
@@ -23,15 +24,15 @@ pub record ItemsRead {A : Type 0} (all rest : List (Result A SetFaultKind)) (P :
   pub so_far : all ≡ map Ok done ++ rest
   pub holds : P done
 
--- one more item was read
-pub items_more : {A : Type 0} {all rest after : List (Result A SetFaultKind)} {P : List A → Type 0} {x : A}
-    (Q : List A → Type 0) (r : ItemsRead all rest P)
-    → rest ≡ Ok x ∷ after → (P r.done → Q (r.done ++ x ∷ [])) → ItemsRead all after Q
-items_more {after = after} {x = x} Q r s h = record {
-  done = r.done ++ x ∷ [];
+-- more items were read
+pub items_more : {A : Type 0} {all rest after : List (Result A SetFaultKind)} {P : List A → Type 0}
+    (Q : List A → Type 0) (r : ItemsRead all rest P) (more : List A)
+    → rest ≡ map Ok more ++ after → (P r.done → Q (r.done ++ more)) → ItemsRead all after Q
+items_more {after = after} Q r more s h = record {
+  done = r.done ++ more;
   so_far =
-      r.so_far ∙ ap (λ xs. map Ok r.done ++ xs) s ∙ sym (append_assoc (map Ok r.done) (Ok x ∷ []) after)
-      ∙ ap (λ xs. xs ++ after) (sym (map-append Ok r.done (x ∷ [])));
+      r.so_far ∙ ap (λ xs. map Ok r.done ++ xs) s ∙ sym (append_assoc (map Ok r.done) (map Ok more) after)
+      ∙ ap (λ xs. xs ++ after) (sym (map-append Ok r.done more));
   holds = h r.holds;
 }
 
@@ -126,6 +127,31 @@ pub segment-passed : (n : ℕ) (x : Segment) (i : ℕ) (rs : List (Result Segmen
     → None ≡ slice_get (marked_members n x) i
     → map {B = Result Member SetFaultKind} Ok (drop i (marked_members n x)) ++ member_results n rs ≡ member_results n rs
 segment-passed n x i rs e = rw (drop_all i (marked_members n x) (slice_get-none (marked_members n x) i e)) refl
+
+-- ---- the copies of a byte, passed at once
+
+drop-plain : (i : ℕ) (bytes : List ℕ) → drop i (plain_members bytes) ≡ plain_members (drop i bytes)
+drop-plain zero bytes = refl
+drop-plain (suc i) [] = refl
+drop-plain (suc i) (b ∷ bytes) = drop-plain i bytes
+
+-- if a segment has only copies of a byte, those from an index on are passed
+pub copies-passed : (count i b : ℕ) (ms : List Member) → (0 < count → ms ≡ plain_members (replicate count b))
+    → drop i ms ≡ plain_members (replicate (count - i) b) ++ drop (i + (count - i)) ms
+copies-passed zero i b ms h =
+    let none : zero - i ≡ 0 = omega arith in
+    let same : i ≡ i + 0 = omega arith in
+    rw none (ap (λ k. drop k ms) same)
+copies-passed (suc n) i b ms h =
+    let copies = plain_members (replicate (suc n) b) in
+    let all : length copies ≤ i + (suc n - i) =
+    omega (
+      arith,
+      length-map {B = Member} (replicate (suc n) b) (λ (c : ℕ). record { byte = c; class = None }),
+      length-replicate (suc n) b,
+    ) in
+    rw (h (omega arith), drop_all (i + (suc n - i)) copies all, append-nil (plain_members (replicate (suc n - i) b)))
+    (drop-plain i (replicate (suc n) b) ∙ ap plain_members (drop-replicate i (suc n) b))
 
 -- ---- the string of the segments
 

@@ -59,21 +59,28 @@ set-table {X} f g i v h e others =
 
 -- ---- appending a byte
 
-has_byte-same : (b : ℕ) (bytes : List ℕ) → has_byte b (bytes ++ b ∷ []) ≡ true
-has_byte-same b [] = rw (eq-eqb b b refl) refl
-has_byte-same b (x ∷ bytes) = or_right _ _ (has_byte-same b bytes)
+has_byte-same : (b : ℕ) (bytes more : List ℕ) → has_byte b (bytes ++ b ∷ more) ≡ true
+has_byte-same b [] more = rw (eq-eqb b b refl) refl
+has_byte-same b (x ∷ bytes) more = or_right _ _ (has_byte-same b bytes more)
 
-has_byte-other : (b k : ℕ) (bytes : List ℕ) → k ≢ b → has_byte k (bytes ++ b ∷ []) ≡ has_byte k bytes
-has_byte-other b k [] n = rw (ne_eqb b k (λ e. n (sym e))) refl
-has_byte-other b k (x ∷ bytes) n = ap (λ t. eqb x k || t) (has_byte-other b k bytes n)
+has_byte-copies : (b k n : ℕ) → k ≢ b → has_byte k (replicate n b) ≡ false
+has_byte-copies b k zero other = refl
+has_byte-copies b k (suc n) other = rw (ne_eqb b k (λ e. other (sym e))) (has_byte-copies b k n other)
 
-pub contents-push : (old : Contents) (bytes : List ℕ) (b : ℕ) → b < 256 → old ≡ contents_of bytes
-    → record { has = set old.has b true; length = old.length + 1 } ≡ contents_of (bytes ++ b ∷ [])
-contents-push old bytes b h e =
-    let table : set (map (λ c. has_byte c bytes) all_bytes) b true ≡ map (λ c. has_byte c (bytes ++ b ∷ [])) all_bytes =
-    set-table (λ c. has_byte c bytes) (λ c. has_byte c (bytes ++ b ∷ [])) b true h (has_byte-same b bytes)
-    (λ k n. has_byte-other b k bytes n) in
-    let counted : length bytes + 1 ≡ length (bytes ++ b ∷ []) = omega (arith, length-append bytes (b ∷ [])) in
+has_byte-other : (b k : ℕ) (bytes : List ℕ) (n : ℕ) → k ≢ b → has_byte k (bytes ++ replicate n b) ≡ has_byte k bytes
+has_byte-other b k [] n other = has_byte-copies b k n other
+has_byte-other b k (x ∷ bytes) n other = ap (λ t. eqb x k || t) (has_byte-other b k bytes n other)
+
+pub contents-push : (old : Contents) (bytes : List ℕ) (b more : ℕ) → b < 256 → old ≡ contents_of bytes
+    → record { has = set old.has b true; length = old.length + (1 + more) }
+    ≡ contents_of (bytes ++ b ∷ replicate more b)
+contents-push old bytes b more h e =
+    let after = bytes ++ b ∷ replicate more b in
+    let table : set (map (λ c. has_byte c bytes) all_bytes) b true ≡ map (λ c. has_byte c after) all_bytes =
+    set-table (λ c. has_byte c bytes) (λ c. has_byte c after) b true h (has_byte-same b bytes (replicate more b))
+    (λ k n. has_byte-other b k bytes (suc more) n) in
+    let counted : length bytes + (1 + more) ≡ length after =
+    omega (arith, length-append bytes (b ∷ replicate more b), length-replicate more b) in
     rw (e, table, counted) refl
 
 pub contents-new : record { has = replicate 256 false; length = 0 } ≡ contents_of []
@@ -185,8 +192,8 @@ has_byte-range (suc n) b low =
   where
     by_cases : ((b ≡ n) ⊎ (b ≡ n → ⊥)) → (b < n → has_byte b (range_with_len 0 n) ≡ true)
         → has_byte b (range_with_len 0 n ++ n ∷ []) ≡ true
-    by_cases (inl same) h = rw same (has_byte-same n (range_with_len 0 n))
-    by_cases (inr other) h = has_byte-other n b (range_with_len 0 n) other ∙ h (omega (arith, low, other))
+    by_cases (inl same) h = rw same (has_byte-same n (range_with_len 0 n) [])
+    by_cases (inr other) h = has_byte-other n b (range_with_len 0 n) 1 other ∙ h (omega (arith, low, other))
 
 has_byte-all : (b : ℕ) → b < 256 → has_byte b all_bytes ≡ true
 unfolding all_bytes

@@ -11,7 +11,7 @@ use Rattle.ptlangs.specs.declared.tr.segments.Member.{Member}
 use Rattle.ptlangs.specs.TrParsing.{HasPaired, all_paired, bytes_left, bytes_of, classes_match}
 use Rattle.ptlangs.proofs.Common.{ClassPlace, Segment, array, complement_of, cond, first_array}
 use Rattle.std.specs.Result.{IsErrAnd}
-use Rattle.ptlangs.specs.TrParsing.{first_members}
+use Rattle.ptlangs.specs.TrParsing.{first_members, plain_members}
 use Rattle.ptlangs.proofs.TrByteWalk.{bytes_of-array, bytes_of-plain, on_fault}
 use Rattle.ptlangs.proofs.TrContents.{images-push}
 
@@ -168,6 +168,23 @@ passing-next from to old second t p s plain =
           ∙ rw (unmatched t.class, plain) refl;
       table = p.table;
     }
+
+-- no class starts in bytes that are passed as copies of one
+plain-passed : (bytes : List ℕ) (rest : List Member) (after : List (Result Member SetFaultKind))
+    → AllOk rest ≡ AllOk (plain_members bytes) ++ after
+    → (more : List Member) × (after ≡ AllOk more) × (all_paired [] rest ≡ all_paired [] more)
+plain-passed [] rest after e = (rest, sym e, refl)
+plain-passed (b ∷ bytes) rest after e =
+    let (next, is, left) = split_ok rest (record { byte = b; class = None }) (AllOk (plain_members bytes) ++ after) e in
+    let (more, end, decides) = plain-passed bytes next after (sym left) in
+    (more, end, ap (all_paired []) is ∙ decides)
+
+pub passing-copies : (from to : List Member) (old : Images) (second : Bytes) (bytes : List ℕ) → IsPassing from to old
+    → bytes_left old.second ≡ AllOk (plain_members bytes) ++ bytes_left second
+    → IsPassing from to (record { table = old.table; second = second; last = old.last })
+passing-copies from to old second bytes p s =
+    let (more, left, decides) = plain-passed bytes p.rest (bytes_left second) (sym p.left ∙ s) in
+    record { rest = more; left = left; decides = p.decides ∙ decides; table = p.table }
 
 pub passing-unpaired : (from to : List Member) (old : Images) (after : List (Result Member SetFaultKind)) (t : Member)
     → IsPassing from to old → bytes_left old.second ≡ Ok t ∷ after → is_some t.class ≡ true → all_paired from to ≡ false

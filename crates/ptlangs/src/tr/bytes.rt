@@ -1,8 +1,8 @@
 //! The bytes of the array that a string of `tr` denotes, read from the string one after another. No array is kept in
 //! memory.
-ghost use Rattle.std.specs.Prelude.{◌≡◌, ◌*◌, ◌+◌, ◌<◌, length, IfOk, IfSome};
+ghost use Rattle.std.specs.Prelude.{◌≡◌, ◌*◌, ◌+◌, ◌<◌, ◌++◌, length, map, replicate, Ok, IfOk, IfSome};
 ghost use Rattle.ptlangs.specs.TrPlan.{segments_of};
-ghost use Rattle.ptlangs.specs.TrParsing.{NextPost, bytes_left, member_results, most_left};
+ghost use Rattle.ptlangs.specs.TrParsing.{NextPost, bytes_left, member_results, most_left, plain_members};
 
 use crate::faults::SetFaultKind;
 use crate::tr::elements::element_at;
@@ -60,5 +60,16 @@ impl<'a> Bytes<'a> {
             self.at = next;
             self.index = 0;
         }
+    }
+
+    /// Passes the bytes that are left of a repeat or a fill of `byte` at once, and returns how many they were.
+    pub(crate) fn skip_repeats(&mut self, byte: u8) -> u128
+        ensures passed { bytes_left self.old ≡ map Ok (plain_members (replicate result byte)) ++ bytes_left self.new }
+        ensures fewer { most_left self.old ≡ result + most_left self.new }
+    {
+        let count = self.segment.repeats_of(byte, self.fill);
+        let passed = count.saturating_sub(self.index);
+        self.index += passed;
+        passed
     }
 }

@@ -1,5 +1,5 @@
 //! Which bytes the array of a string of `tr` contains, and how many bytes it has. `plan` makes its tables with it.
-ghost use Rattle.std.specs.Prelude.{◌≡◌, ◌+◌, ◌*◌, ◌^◌, ◌<◌, ◌≤◌, ◌++◌, ◌∷◌, [], ℕ, List, IfOk, length, map};
+ghost use Rattle.std.specs.Prelude.{◌≡◌, ◌+◌, ◌*◌, ◌^◌, ◌<◌, ◌≤◌, ◌++◌, ◌∷◌, [], ℕ, List, IfOk, length, map, replicate};
 ghost use Rattle.ptlangs.specs.declared.tr.segments.Segment.{Segment};
 ghost use Rattle.ptlangs.specs.TrPlan.{array, complement_of, first_array, string_segments};
 ghost use Rattle.ptlangs.specs.TrParsing.{contents_of, ok_map};
@@ -27,16 +27,16 @@ impl Contents {
         }
     }
 
-    /// Appends a byte to the array.
+    /// Appends a byte to the array, and then `more` copies of it.
     #[tactic(auto, using(crate::proofs::TrContents::contents_steps))]
-    fn push(&mut self, byte: u8)
-        requires { self.old.length < 2 ^ 127 }
-        ensures length { self.new.length ≡ self.old.length + 1 }
+    fn push(&mut self, byte: u8, more: u128)
+        requires { self.old.length + more < 2 ^ 127 }
+        ensures length { self.new.length ≡ self.old.length + (1 + more) }
         ensures is { (bytes : List ℕ) → self.old ≡ contents_of bytes
-            → self.new ≡ contents_of (bytes ++ byte ∷ []) }
+            → self.new ≡ contents_of (bytes ++ byte ∷ replicate more byte) }
     {
         self.has[usize::from(byte)] = true;
-        self.length += 1;
+        self.length += 1 + more;
     }
 
     /// Reads the array of a string, if a fill has `fill` bytes.
@@ -56,7 +56,8 @@ impl Contents {
         let mut bytes = Bytes::new(role, text, fill);
         let mut contents = Contents::new();
         while let Some(member) = bytes.next()? {
-            contents.push(member.byte);
+            let more = bytes.skip_repeats(member.byte);
+            contents.push(member.byte, more);
         }
         Ok(contents)
     }
@@ -70,7 +71,7 @@ impl Contents {
         let mut others = Contents::new();
         for byte in u8::MIN..=u8::MAX {
             if !self.has[usize::from(byte)] {
-                others.push(byte);
+                others.push(byte, 0);
             }
         }
         others

@@ -114,6 +114,7 @@ impl<'a> Images<'a> {
             if member.class.is_some() {
                 return Err(SetFaultKind::ClassPlace);
             }
+            self.second.skip_repeats(member.byte);
         }
         Ok(self.table)
     }

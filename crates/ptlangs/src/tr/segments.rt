@@ -2,7 +2,7 @@
 //! their bytes, so that no array is kept in memory.
 ghost use Rattle.std.specs.Prelude.{◌≡◌, ◌+◌, ◌^◌, ◌<◌, ◌≤◌, length, replicate, slice_get, IfOk, IfSome};
 ghost use Rattle.ptlangs.specs.TrPlan.{segment, is_fill, members};
-ghost use Rattle.ptlangs.specs.TrParsing.{class_of, marked_members};
+ghost use Rattle.ptlangs.specs.TrParsing.{class_of, marked_members, plain_members};
 
 use crate::faults::SetFaultKind;
 use crate::tr::classes::{CharClass, span_get};
@@ -93,6 +93,17 @@ impl Segment {
             Segment::Class(class) => class.get(index),
             Segment::Repeat(byte, count) => (index < u128::from(count)).then_some(byte),
             Segment::Fill(byte) => (index < fill).then_some(byte),
+        }
+    }
+
+    /// The number of bytes of a repeat or a fill of `byte`, if a fill has `fill` bytes, or 0 for other segments.
+    pub(crate) fn repeats_of(self, byte: u8, fill: u128) -> u128
+        ensures { 0 < result → marked_members fill self ≡ plain_members (replicate result byte) }
+    {
+        match self {
+            Segment::Repeat(repeated, count) if repeated == byte => u128::from(count),
+            Segment::Fill(repeated) if repeated == byte => fill,
+            _ => 0,
         }
     }
 

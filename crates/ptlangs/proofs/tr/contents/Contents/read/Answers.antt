@@ -1,10 +1,10 @@
 -- The fault of a byte is the fault of the string. At the end all bytes are read.
-use Rattle.ptlangs.proofs.Common.{◌≡◌, ◌∙◌, [], ◌∷◌, List, Ok, ap, sym, refl, arith, array, ◌<◌, map-append}
-use Rattle.ptlangs.proofs.Common.{string_segments, Segment}
+use Rattle.ptlangs.proofs.Common.{◌≡◌, ◌∙◌, ◌∷◌, ◌++◌, List, Ok, ap, sym, refl, arith, array, ◌<◌, map-append}
+use Rattle.ptlangs.proofs.Common.{string_segments, replicate, Segment}
 use Rattle.ptlangs.specs.declared.tr.segments.Member.{Member}
-use Rattle.ptlangs.specs.TrParsing.{bytes_left, bytes_of, contents_of, most_left, ok_map}
-use Rattle.ptlangs.proofs.TrByteWalk.{bytes_of-array, items_end, items_fault, items_more, next_none, next_some}
-use Rattle.ptlangs.proofs.TrByteWalk.{on_fault, some_then, string-fault, string-read}
+use Rattle.ptlangs.specs.TrParsing.{bytes_left, bytes_of, contents_of, most_left, ok_map, plain_members}
+use Rattle.ptlangs.proofs.TrByteWalk.{bytes_of-array, bytes_of-plain, items_end, items_fault, items_more, next_none}
+use Rattle.ptlangs.proofs.TrByteWalk.{next_some, on_fault, some_then, string-fault, string-read}
 use Rattle.ptlangs.proofs.tr.contents.Contents.read.Goals as goal
 
 pub returns-in_err-member-clause-is : goal.returns-in_err-member-clause-is
@@ -26,12 +26,23 @@ loop-member-preserved c =
     c.in_ok-member.ensures.steps in
     let fewer = some_then c.in_ok-member.field-0 c.in-Some.member (most_left new < most_left old)
     c.in-Some.is c.in_ok-member.ensures.fewer in
+    let m = c.in-Some.member in
+    let copies = replicate c.skip_repeats-more.result m.byte in
+    let bytes : bytes_of (read.done ++ m ∷ plain_members copies) ≡ bytes_of read.done ++ m.byte ∷ copies =
+    map-append (λ (n : Member). n.byte) read.done (m ∷ plain_members copies)
+    ∙ ap (λ bs. bytes_of read.done ++ m.byte ∷ bs) (bytes_of-plain copies) in
     record {
       read =
-          items_more (λ (ms : List Member). c.push.new.self ≡ contents_of (bytes_of ms)) read step
-          (λ h. c.push.ensures.is (bytes_of read.done) h
-          ∙ ap contents_of (sym (map-append (λ (m : Member). m.byte) read.done (c.in-Some.member ∷ []))));
-      most = omega (arith, c.push.ensures.length, fewer, c.loop-member.invariant.most);
+          items_more (λ (ms : List Member). c.push.new.self ≡ contents_of (bytes_of ms)) read (m ∷ plain_members copies)
+          (step ∙ ap (λ rs. Ok m ∷ rs) c.skip_repeats-more.ensures.passed)
+          (λ h. c.push.ensures.is (bytes_of read.done) h ∙ ap contents_of (sym bytes));
+      most = omega (
+        arith,
+        c.push.ensures.length,
+        c.skip_repeats-more.ensures.fewer,
+        fewer,
+        c.loop-member.invariant.most,
+      );
     }
 
 pub returns-clause-is : goal.returns-clause-is

@@ -1,8 +1,8 @@
 -- A class that starts after the end of the first array has no other case.
-use Rattle.ptlangs.proofs.Common.{◌∙◌, ap, sym, refl, Ok}
+use Rattle.ptlangs.proofs.Common.{◌∙◌, ap, sym, refl, replicate, Ok}
 use Rattle.ptlangs.specs.TrParsing.{bytes_left}
 use Rattle.ptlangs.proofs.TrByteWalk.{next_none, next_some}
-use Rattle.ptlangs.proofs.TrImages.{never_fault, passing-end, passing-next, passing-unpaired}
+use Rattle.ptlangs.proofs.TrImages.{never_fault, passing-copies, passing-end, passing-next, passing-unpaired}
 use Rattle.ptlangs.proofs.tr.images.Images.finish.Goals as goal
 
 pub returns-in_err-member : goal.returns-in_err-member
@@ -24,8 +24,10 @@ loop-member-preserved c = λ from to h.
     let old = c.loop-member.self in
     let step = next_some (bytes_left old.second) (bytes_left c.next.new.self) c.in_ok-member.field-0 c.in-Some.member
     c.in-Some.is c.in_ok-member.ensures.steps in
-    passing-next from to old c.next.new.self c.in-Some.member (c.loop-member.invariant from to h) step
-    (sym c.is_some.ensures ∙ c.if-is_some.false)
+    let next = passing-next from to old c.next.new.self c.in-Some.member (c.loop-member.invariant from to h) step
+    (sym c.is_some.ensures ∙ c.if-is_some.false) in
+    passing-copies from to (record { table = old.table; second = c.next.new.self; last = old.last })
+    c.skip_repeats.new.self (replicate c.skip_repeats.result c.in-Some.member.byte) next c.skip_repeats.ensures.passed
 
 pub returns : goal.returns
 returns c = λ from to h.

@@ -1,5 +1,5 @@
 -- The bytes of the string are paired in order; as the string has no fault, these are all of its array.
-use Rattle.ptlangs.proofs.Common.{◌∙◌, [], List, ap, refl, First, segments_of, sequence}
+use Rattle.ptlangs.proofs.Common.{◌∙◌, [], ◌∷◌, List, ap, refl, First, segments_of, sequence}
 use Rattle.ptlangs.specs.declared.tr.segments.Member.{Member}
 use Rattle.ptlangs.specs.TrParsing.{HasPaired, PairPost, all_paired, bytes_left, marked_array, member_results}
 use Rattle.ptlangs.proofs.TrByteWalk.{items_at, items_end, items_fault, items_more, next_none, next_some, on_fault}
@@ -20,7 +20,8 @@ loop-member-preserved c =
     c.in_ok-member.field-0 c.in-Some.member c.in-Some.is c.in_ok-member.ensures.steps in
     let read = c.loop-member.invariant in
     items_more (λ (ms : List Member). (to : List Member) → HasPaired [] to c.args.self.now
-    → HasPaired ms to c.push.new.self) read step (λ holds to h. c.in_ok-push.ensures read.done to (holds to h))
+    → HasPaired ms to c.push.new.self) read (c.in-Some.member ∷ []) step
+    (λ holds to h. c.in_ok-push.ensures read.done to (holds to h))
 
 pub returns-in_err-push : goal.returns-in_err-push
 returns-in_err-push c = λ ps to e h.
