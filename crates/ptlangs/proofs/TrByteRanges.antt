@@ -1,8 +1,8 @@
 -- The byte with an index in a concatenation of ranges: an index past the first range is an index in the rest, less the
 -- length of the first.
-use Rattle.ptlangs.proofs.Common.{◌≡◌, ◌<◌, ◌≤◌, ◌+◌, ◌-◌, ℕ, zero, suc, List, [], ◌∷◌, ◌++◌, length, take, drop}
+use Rattle.ptlangs.proofs.Common.{◌≡◌, ◌<◌, ◌≤◌, ◌+◌, ◌-◌, ℕ, zero, suc, List, [], ◌∷◌, ◌++◌, length, drop}
 use Rattle.ptlangs.proofs.Common.{replicate, lit≤, arith, refl, sym, ap, ◌∙◌, Option, Some, None, slice_get, flat_map}
-use Rattle.ptlangs.proofs.Common.{drop_more, length-append, length-replicate, length-range_with_len, CharClass, span}
+use Rattle.ptlangs.proofs.Common.{drop_more, length-replicate, length-range_with_len, CharClass, span}
 use Rattle.ptlangs.proofs.Common.{range_bytes, class_bytes, get_or-replicate}
 use Rattle.std.proofs.Math.ListN.{get_or}
 use Rattle.std.proofs.lemmas.List.FromFn.{get_or-range_with_len}

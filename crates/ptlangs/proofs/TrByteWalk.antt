@@ -1,5 +1,5 @@
--- The bytes of a string of `tr`, read one after another: the bytes so far and those that are left are together all bytes
--- of the string. And the classes that start in two arrays, compared byte by byte as the arrays are paired.
+-- The bytes of a string of `tr`, read one after another: the bytes so far and those that are left are together all
+-- bytes of the string. And the classes that start in two arrays, compared byte by byte as the arrays are paired.
 use Rattle.ptlangs.proofs.Common.{◌≡◌, Bool, Err, List, None, Ok, Option, Result, Some, [], ap, arith, cond, drop, eqb}
 use Rattle.ptlangs.proofs.Common.{false, length, map, refl, suc, sym, true, zero, ℕ, ◌&&◌, ◌++◌, ◌+◌, ◌||◌, ◌∙◌, ◌∷◌}
 use Rattle.ptlangs.proofs.Common.{◌≤◌, ◌<◌, ◌-◌, append-nil, append_assoc, length-map, length-replicate, map-append}

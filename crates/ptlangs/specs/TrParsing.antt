@@ -78,7 +78,7 @@ bytes_left b =
     map Ok (drop b.index (marked_members b.fill b.segment))
     ++ member_results b.fill (segments b.role b.has_fill (set_elements (chars_from b.text.now b.at)))
 
--- a bound on the number of bytes that are left: each byte of the text gives at most 65,535, and one segment is a fill
+-- a bound on the number of bytes that are left: each byte of the text gives fewer than 65,536; one segment is a fill
 abbrev pub most_left : Bytes → ℕ
 most_left b =
     length (drop b.index (marked_members b.fill b.segment)) + 65536 * (length b.text.now - b.at)

@@ -1,7 +1,7 @@
 //! Which bytes the array of a string of `tr` contains, and how many bytes it has. `plan` makes its tables with it.
-ghost use Rattle.std.specs.Prelude.{◌≡◌, ◌+◌, ◌*◌, ◌^◌, ◌<◌, ◌≤◌, ◌++◌, ◌∷◌, [], ℕ, List, IfOk, length, map, replicate};
+ghost use Rattle.std.specs.Prelude.{◌≡◌, ◌+◌, ◌^◌, ◌<◌, ◌≤◌, ◌++◌, ◌∷◌, [], ℕ, List, IfOk, length, replicate};
 ghost use Rattle.ptlangs.specs.declared.tr.segments.Segment.{Segment};
-ghost use Rattle.ptlangs.specs.TrPlan.{array, complement_of, first_array, string_segments};
+ghost use Rattle.ptlangs.specs.TrPlan.{array, complement_of, string_segments};
 ghost use Rattle.ptlangs.specs.TrParsing.{contents_of, ok_map};
 
 use crate::faults::SetFaultKind;

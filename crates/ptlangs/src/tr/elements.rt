@@ -1,18 +1,20 @@
 //! Reads one element of a string of `tr` at a given index: a single character, a range, or one of the bracketed forms
 //! `[x*n]`, `[:class:]` and `[=x=]` (POSIX.1-2017, XCU, `tr`, "EXTENDED DESCRIPTION"). `segments` reads a whole string
 //! by calls of `element_at`. A function that reads text at an index returns the index after that text.
-ghost use Rattle.std.specs.Prelude.{◌≡◌, ◌≢◌, ◌+◌, ◌<◌, ◌≤◌, ◌∷◌, [], ℕ, List, Some, length, drop, option_map, IfSome, IfOk, slice_range};
+ghost use Rattle.std.specs.Prelude.{◌≡◌, ◌≢◌, ◌+◌, ◌<◌, ◌≤◌, ◌∷◌, [], ℕ, List, Some, length, drop, option_map};
+ghost use Rattle.std.specs.Prelude.{IfSome, IfOk, slice_range};
 ghost use Rattle.std.specs.List.{take_while, list_all, AllPass};
-ghost use Rattle.std.specs.Result.{result_map_both};
 ghost use Rattle.std.specs.Char.{is_ascii_digit, is_ascii_lowercase};
 ghost use Rattle.ptlangs.specs.declared.faults.SetFaultKind.{SetFaultKind};
 ghost use Rattle.ptlangs.specs.TrChars.{is_octal_digit, chars, CharsMatchGrammar};
-ghost use Rattle.ptlangs.specs.TrElements.{after_plain, after_two, after_run, plain_run, repeat_at, class_at, equivalence_at, bracketed_inside, bracketed_at, first_set_element, single_or_range, repeat_count, ElementsMatchGrammar};
+ghost use Rattle.ptlangs.specs.TrElements.{after_plain, after_two, after_run, plain_run, repeat_at, class_at};
+ghost use Rattle.ptlangs.specs.TrElements.{equivalence_at, bracketed_at, first_set_element, single_or_range};
+ghost use Rattle.ptlangs.specs.TrElements.{repeat_count, ElementsMatchGrammar};
 ghost use Rattle.ptlangs.specs.TrPlan.{FirstFaultIsReported};
 ghost use Rattle.ptlangs.specs.TrParsing.{element_and_rest, ok_map, chars_from};
 
 use crate::faults::SetFaultKind;
-use crate::tr::chars::{SetChar, is_octal, next_char, number};
+use crate::tr::chars::{is_octal, next_char, number};
 use crate::tr::classes::CharClass;
 
 /// An element of a string.

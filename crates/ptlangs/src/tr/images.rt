@@ -1,12 +1,13 @@
 //! The images of a plan of `tr`: for each byte the byte that replaces it. The bytes of the first array are paired with
 //! those of the second one, which is extended by its last byte.
-ghost use Rattle.std.specs.Prelude.{◌≡◌, ◌++◌, ◌∷◌, [], ℕ, List, Ok, Err, false, if◌then◌else◌, length, map, MatchResult};
+ghost use Rattle.std.specs.Prelude.{◌≡◌, ◌++◌, ◌∷◌, [], ℕ, List, Ok, Err, false, if◌then◌else◌, map, MatchResult};
 ghost use Rattle.ptlangs.specs.declared.faults.SetFaultKind.TheVariants.{ClassPlace};
 ghost use Rattle.ptlangs.specs.declared.tr.segments.Member.{Member};
 ghost use Rattle.ptlangs.specs.declared.tr.segments.Segment.{Segment};
 ghost use Rattle.ptlangs.specs.TrClasses.{all_bytes};
 ghost use Rattle.ptlangs.specs.TrPlan.{array, complement_of, first_array, image_by, string_segments};
-ghost use Rattle.ptlangs.specs.TrParsing.{HasPaired, PairPost, all_paired, bytes_left, bytes_of, classes_match, contents_of, first_members, marked_array, plain_members};
+ghost use Rattle.ptlangs.specs.TrParsing.{HasPaired, PairPost, all_paired, bytes_left, bytes_of, classes_match};
+ghost use Rattle.ptlangs.specs.TrParsing.{contents_of, first_members, marked_array, plain_members};
 
 use crate::faults::SetFaultKind;
 use crate::tr::bytes::Bytes;

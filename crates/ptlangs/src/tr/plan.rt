@@ -1,11 +1,12 @@
 //! The plan of `tr`: for each byte, what happens to it (POSIX.1-2017, XCU, `tr`). `ptopts` makes a plan from the
 //! strings of a command line; `ptflow` applies it to the input.
-ghost use Rattle.std.specs.Prelude.{◌≡◌, ◌^◌, ◌<◌, [], ℕ, List, Ok, IfOk, IfSome, MatchOption, length, false, true, is_some, option_copied};
-ghost use Rattle.std.specs.Result.{result_map_both};
+ghost use Rattle.std.specs.Prelude.{◌≡◌, ◌^◌, ◌<◌, [], ℕ, List, Ok, IfOk, IfSome, MatchOption, length, false, true};
+ghost use Rattle.std.specs.Prelude.{is_some, option_copied};
 ghost use Rattle.ptlangs.specs.declared.faults.SetFault.{SetFault};
 ghost use Rattle.ptlangs.specs.declared.faults.SetFaultKind.{SetFaultKind};
 ghost use Rattle.ptlangs.specs.declared.tr.segments.Segment.{Segment};
-ghost use Rattle.ptlangs.specs.TrPlan.{array, first_array, plan, plan_of, second_plan, NoMemoryFault, second_role, string_segments, takes_second};
+ghost use Rattle.ptlangs.specs.TrPlan.{first_array, plan, plan_of, second_plan, NoMemoryFault, second_role};
+ghost use Rattle.ptlangs.specs.TrPlan.{string_segments, takes_second};
 ghost use Rattle.ptlangs.specs.TrTables.{tables, deletes, image, squeezes, TablesMatchPlan};
 ghost use Rattle.ptlangs.specs.TrShifts.{stretches, HasImagesOf};
 ghost use Rattle.ptlangs.specs.TrParsing.{contents_of, ok_map};
