@@ -1,5 +1,5 @@
-"""`python3 -m ptext cut -f 1 FILE` does what `ptext cut -f 1 FILE` does, but reads its inputs whole first. So nothing is
-written if a read fails."""
+"""`python3 -m ptext cut -f 1 FILE` does what `ptext cut -f 1 FILE` does, but reads its inputs whole first. So nothing
+is written if a read fails."""
 from __future__ import annotations
 
 import os
@@ -60,7 +60,7 @@ def write_messages(messages: bytes) -> None:
 
 
 def run(words: list[str]) -> int:
-    """Runs a command, as the program does: an output file is made when all inputs are open, and before they are read."""
+    """Runs a command, as the program does: an output file is made when all inputs are open, before they are read."""
     inputs, output = names(words)
     open_files = {name: opened(name, READ) for name in dict.fromkeys(inputs)}
     to = 1 if sys.stdout else -1

@@ -134,7 +134,9 @@ def run(words: Iterable[str], stdin: Input = b"", files: Mapping[str, Input] | N
     return out
 
 
-def run_all(words: Iterable[str], stdin: Input = b"", files: Mapping[str, Input] | None = None) -> tuple[int, bytes, bytes]:
+def run_all(
+    words: Iterable[str], stdin: Input = b"", files: Mapping[str, Input] | None = None
+) -> tuple[int, bytes, bytes]:
     """The status of a command, its output and its messages. The status is MEMORY if the library ran out of memory."""
     words = _listed(words)
     given, text = _words_of(words), _bytes_of(stdin)

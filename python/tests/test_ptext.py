@@ -74,7 +74,7 @@ class Tools(unittest.TestCase):
     def test_whether_standard_input_is_read(self):
         for words in ["cut -f 1", "cut -f 1 -", "cut -f 1 a -", "paste a - b", "join -t - - a", "tr - a", "uniq - x"]:
             self.assertTrue(_library.reads_stdin(words.split()), words)
-        for words in ["", "cut", "cut -q", "paste", "cut -d - -f 1 a", "join -t - a b", "uniq a -", "join -e - -a 1 a b"]:
+        for words in ["", "cut", "cut -q", "paste", "cut -d - -f 1 a", "join -t - a b", "uniq a -", "join -e - a b"]:
             self.assertFalse(_library.reads_stdin(words.split()), words)
 
 
