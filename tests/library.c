@@ -68,6 +68,8 @@ static void bad_arguments(void) {
 enum { ANSWER, OUT, MESSAGES, WORDS, COUNT_OF_NAMES, INPUT = COUNT_OF_NAMES, FILES, ENDS, COUNT_OF_RUN };
 static const char *const called[] = {"answer", "out", "messages", "words", "input", "files", "ends"};
 
+static const char refusal[] = "ptext: a pointer is null, or rooms overlap\n";
+
 struct span {
     uint8_t *at;
     size_t size;
@@ -104,16 +106,15 @@ static uint8_t call(int is_run, const struct span *s) {
 
 /* Expects that a call is refused, and that it writes nothing but the answer and `written` bytes of its message. */
 static void expect_refused(int is_run, const struct span *spans, size_t written, const char *what, int i, int j) {
-    static const char message[] = "ptext: a pointer is null, or rooms overlap\n";
     struct ptext_answer to = {{9, 9}, {9, 9}, 9};
     uint8_t wanted[sizeof place];
     memcpy(wanted, place, sizeof place);
     uint8_t status = call(is_run, spans);
     if (written)
-        memcpy(wanted + (spans[MESSAGES].at - place), message, written);
+        memcpy(wanted + (spans[MESSAGES].at - place), refusal, written);
     memcpy(&to, spans[ANSWER].at, sizeof to);
     memcpy(wanted + (spans[ANSWER].at - place), &to, sizeof to);
-    size_t lacking = is_run ? sizeof message - 1 - written : 0;
+    size_t lacking = is_run ? strlen(refusal) - written : 0;
     int is_right = status == PTEXT_ARGUMENTS && to.status == status && !to.out.written && !to.out.lacking &&
                    to.messages.written == written && to.messages.lacking == lacking;
     if (!is_right || memcmp(wanted, place, sizeof place)) {
@@ -144,7 +145,7 @@ static void overlaps(int is_run) {
             for (int k = 0; k < count; k++)
                 is_known |= k != MESSAGES && spans[k].at < spans[MESSAGES].at + spans[MESSAGES].size &&
                             spans[MESSAGES].at < spans[k].at + spans[k].size;
-            expect_refused(is_run, spans, is_run && !is_known ? 43 : 0, "an overlap", i, j);
+            expect_refused(is_run, spans, is_run && !is_known ? strlen(refusal) : 0, "an overlap", i, j);
         }
 }
 
@@ -161,7 +162,7 @@ static void bad_spans(int is_run) {
         for (size_t k = 0; k < sizeof bad / sizeof *bad; k++) {
             lay(spans);
             spans[i] = bad[k];
-            expect_refused(is_run, spans, is_run && i != MESSAGES ? 43 : 0, "a bad pointer", i, i);
+            expect_refused(is_run, spans, is_run && i != MESSAGES ? strlen(refusal) : 0, "a bad pointer", i, i);
         }
         lay(spans);
         spans[i] = (struct span){NULL, 0};
@@ -190,8 +191,10 @@ static void spans_of_calls(void) {
     expect_refused(1, spans, 3, "an overlap, with little room", OUT, INPUT);
     lay(spans);
     size_t many = SIZE_MAX / sizeof(size_t) + 2;
-    expect(ptext_run(spans[WORDS].at, spans[WORDS].size, NULL, 0, NULL, 0, (size_t *)spans[ENDS].at, many, out, 64,
-                     messages, 64, &answer) == PTEXT_ARGUMENTS, "more ends than there are addresses");
+    ptext_run(spans[WORDS].at, spans[WORDS].size, NULL, 0, NULL, 0, (size_t *)spans[ENDS].at, many, out, 64, messages,
+              64, &answer);
+    /* (Room that large overlaps the messages, unless they come before it.) */
+    expect(answer.messages.written + answer.messages.lacking == strlen(refusal), "more ends than there are addresses");
     for (int is_run = 0; is_run < 2; is_run++) {
         overlaps(is_run);
         bad_spans(is_run);
