@@ -71,7 +71,7 @@ function setInput(id, given) {
         return;
     }
     held.set(id, given);
-    const isLong = given.length > BEGINNING;
+    const isLong = (text ?? given).length > BEGINNING;
     const asText = () => shown(firstOf(given, BEGINNING)).map((it) => it.text).join("");
     at(id).value = text === null ? asText() : text.slice(0, BEGINNING);
     at(id).readOnly = true;

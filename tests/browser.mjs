@@ -242,6 +242,12 @@ async function chosen(browser) {
         const button = turn === "an example" ? `querySelector("[data-example]")` : `getElementById("file1-empty")`;
         if (turn !== "typing") await browser.value(`document.${button}.click()`);
     }
+    await browser.value(`document.getElementById("file1-empty").click()`);
+    fs.writeFileSync(`${room}/bytes`, "€\r".repeat(600));
+    await choose();
+    const all = "2,400 bytes, which cannot be edited here.";
+    is("all of many bytes is shown", await browser.until(`${held} === "${all}"`), true);
+    await browser.value(`document.getElementById("file1-empty").click()`);
     fs.writeFileSync(`${room}/bytes`, "some text\n");
     await browser.value(`document.getElementById("file1-empty").click()`);
     await choose();
