@@ -39,10 +39,10 @@ struct ptext_answer {
  * PTEXT_NO_FILE if it cannot be opened; so is a file with no end. The output goes to `out`, also that of `uniq` with an
  * output file, and the messages to `messages`.
  *
- * A pointer may be null if its size is 0. `answer` may not. What is written to (`out`, `messages` and `answer`) may
- * overlap neither each other nor what is read. Otherwise the status is PTEXT_ARGUMENTS, and nothing is written but
- * `answer` (unless it is null) and a message, the latter only if `messages` is no null pointer and overlaps nothing
- * else. Otherwise the message is counted as lacking.
+ * A pointer may be null if its size is 0; `answer` may not. No size is above PTRDIFF_MAX or reaches past the last
+ * address. What is written to (`out`, `messages` and `answer`) may overlap neither each other nor what is read.
+ * If not, the status is PTEXT_ARGUMENTS, and nothing is written but `answer` (unless it is null) and a message, the
+ * latter only if nothing of this is wrong with `messages` itself. Otherwise the message is counted as lacking.
  *
  * The caller owes that each pointer has as many bytes (or ends) behind it as its size says, that nobody else writes to
  * them during the call, and that malloc(3) aligns to 16 bytes. Threads may call at the same time. The call may not be
