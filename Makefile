@@ -17,7 +17,7 @@
 #                           toybox, uutils, 9base, all, or a path, compares with others (docs/OTHERS.md)
 # make install PREFIX=..    installs the program, its pages and completion into PREFIX (/usr/local), below DESTDIR
 # make install-tools        adds PREFIX/libexec/ptext/bin with each tool by its own name, a folder to put into PATH
-# make uninstall PREFIX=..  takes away exactly what these two installed
+# make uninstall PREFIX=..  takes away exactly what these two and install-lib installed
 # make dist                 build/dist: an archive of the source, one of the program, and their checksums. All has to be
 #                           committed; with CHANGED=yes the archives are made all the same, and say so
 # make dist-static          build/dist: an archive of the program without shared libraries, with the license of the C
@@ -39,7 +39,7 @@ mandir = $(datadir)/man
 # The command that puts the program in its place, as `install`. Without one it is stripped, if there is strip.
 INSTALL_PROGRAM =
 INSTALL_TO = "$(PREFIX)" "$(DESTDIR)" bindir="$(bindir)" libexecdir="$(libexecdir)" datadir="$(datadir)" \
-    mandir="$(mandir)" INSTALL_PROGRAM="$(INSTALL_PROGRAM)"
+    mandir="$(mandir)" libdir="$(libdir)" includedir="$(includedir)" INSTALL_PROGRAM="$(INSTALL_PROGRAM)"
 N ?= 1000
 PROGRAM ?= build/ptext
 WITH_RT = command -v rt >/dev/null || { echo 'there is no rt in PATH: it is part of the toolchain, of which the README \
@@ -86,25 +86,25 @@ build/ptext-static: build/ptext
 
 lib: build/libptext.a
 
+# (The tests take build/libptext.a as it is, too.)
+ifndef PTEXT_AS_BUILT
 build/libptext.a: HANDLES crates.txt lib/ptext.c lib/ptext.h tools/library.py \
     $(shell find crates -name out -prune -o -path '*/must-fail' -prune -o -type f -print)
 	@$(WITH_RT)
 	python3 tools/library.py
+endif
 
 install-lib: build/libptext.a
-	install -d "$(DESTDIR)$(libdir)/pkgconfig" "$(DESTDIR)$(includedir)" "$(DESTDIR)$(mandir)/man3"
-	install -m 644 build/libptext.a "$(DESTDIR)$(libdir)"
-	cp -P build/libptext.so* "$(DESTDIR)$(libdir)"
-	install -m 644 lib/ptext.h "$(DESTDIR)$(includedir)"
-	install -m 644 man/ptext.3 "$(DESTDIR)$(mandir)/man3"
-	sed 's|^prefix=.*|prefix=$(PREFIX)|' build/ptext.pc >"$(DESTDIR)$(libdir)/pkgconfig/ptext.pc"
+	@python3 tools/install.py library $(INSTALL_TO)
 
 # (The modules of Debian's packages python3-setuptools and python3-wheel are those of its own Python.)
 PYTHON ?= /usr/bin/python3
 python: build/libptext.a
 	rm -rf build/python && cp -r python build/python
 	cp build/libptext.so.$(shell cat VERSION) build/python/ptext/libptext.so
-	cd build/python && $(PYTHON) setup.py -q bdist_wheel -d ../dist
+	@# (setuptools warns of `setup.py install`, which this runs for a folder that goes into the wheel.)
+	cd build/python && $(PYTHON) -W ignore setup.py -q bdist_wheel -d ../dist
+	@echo "built $$(echo build/dist/ptext-$(shell cat VERSION)-*.whl), which pip install takes"
 
 page: build/page/ptext.html
 

@@ -24,9 +24,14 @@ static int is_span(struct span it) {
     return it.size == 0 || (it.at && it.size <= PTRDIFF_MAX && it.size <= UINTPTR_MAX - (uintptr_t)it.at);
 }
 
+/* The address of the last byte, or the last address. */
+static uintptr_t last(struct span it) {
+    uintptr_t from = (uintptr_t)it.at;
+    return it.size - 1 <= UINTPTR_MAX - from ? from + (it.size - 1) : UINTPTR_MAX;
+}
+
 static int overlap(struct span a, struct span b) {
-    uintptr_t from_a = (uintptr_t)a.at, from_b = (uintptr_t)b.at;
-    return a.size && b.size && from_a < from_b + b.size && from_b < from_a + a.size;
+    return a.at && b.at && a.size && b.size && (uintptr_t)a.at <= last(b) && (uintptr_t)b.at <= last(a);
 }
 
 /* Whether the first `written` spans, which are written to, overlap none of the others. */
@@ -45,10 +50,21 @@ static const void *given(const void *at) {
     return at ? at : &nothing;
 }
 
-/* Says what is wrong with the arguments, if the messages have room. */
+/* Where the messages are in `spans` of ptext_run. */
+#define MESSAGES 2
+
+/* Whether the messages overlap no other span. */
+static int can_be_written(const struct span *spans, size_t count) {
+    for (size_t i = 0; i < count; i++)
+        if (i != MESSAGES && overlap(spans[i], spans[MESSAGES]))
+            return 0;
+    return is_span(spans[MESSAGES]);
+}
+
+/* Says what is wrong with the arguments of ptext_run, as far as `room` allows. */
 static uint8_t refused(uint8_t *messages, size_t room, struct ptext_answer *answer) {
     static const char text[] = "ptext: a pointer is null, or rooms overlap\n";
-    size_t size = sizeof text - 1, written = messages ? (room < size ? room : size) : 0;
+    size_t size = sizeof text - 1, written = room < size ? room : size;
     if (written)
         memcpy(messages, text, written);
     *answer = (struct ptext_answer){{0, 0}, {written, size - written}, PTEXT_ARGUMENTS};
@@ -64,10 +80,11 @@ uint8_t ptext_run(const uint8_t *words, size_t words_size, const uint8_t *input,
         {input, input_size}, {files, files_size},
         {ends, ends_count <= PTRDIFF_MAX / sizeof *ends ? ends_count * sizeof *ends : SIZE_MAX},
     };
+    const size_t count = sizeof spans / sizeof *spans;
     if (!answer)
         return PTEXT_ARGUMENTS;
-    if (!are_apart(spans, 3, sizeof spans / sizeof *spans))
-        return refused(is_span(spans[2]) ? messages : NULL, messages_room, answer);
+    if (!are_apart(spans, 3, count))
+        return refused(messages, can_be_written(spans, count) ? messages_room : 0, answer);
     ptext_run_in_memory(given(words), words_size, given(input), input_size, given(files), files_size, given(ends),
                         ends_count, (uint8_t *)given(out), out_room, (uint8_t *)given(messages), messages_room, answer);
     return answer->status;
@@ -80,8 +97,10 @@ uint8_t ptext_names(const uint8_t *words, size_t words_size, uint8_t *names, siz
     };
     if (!answer)
         return PTEXT_ARGUMENTS;
-    if (!are_apart(spans, 3, sizeof spans / sizeof *spans))
-        return refused(NULL, 0, answer);
+    if (!are_apart(spans, 3, sizeof spans / sizeof *spans)) {
+        *answer = (struct ptext_answer){{0, 0}, {0, 0}, PTEXT_ARGUMENTS};
+        return PTEXT_ARGUMENTS;
+    }
     ptext_names_in_memory(given(words), words_size, (uint8_t *)given(names), names_room, (uint8_t *)given(output),
                           output_room, answer);
     return answer->status;

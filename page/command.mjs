@@ -61,19 +61,20 @@ export function commands(text) {
 }
 
 /**
- * Runs commands, each over the output of the one before it. Returns the status of the last one and its output, the name
- * of the file to which that output goes (or null), and the messages of all.
+ * Runs commands, each over the output of the one before it. Returns the statuses of all, the status of the last one and
+ * its output, the name of the file to which that output goes (or null), and the messages of all.
  */
 export function runAll(ptext, all, stdin, files) {
-    const known = new Map(files), messages = [];
+    const known = new Map(files), messages = [], statuses = [];
     let input = stdin, last = null;
     for (const words of all) {
         last = ptext.run(words, input, known);
         messages.push(last.messages);
+        statuses.push(last.status);
         if (last.output !== null) known.set(last.output, last.out);
         input = last.output === null ? last.out : new Uint8Array(0);
     }
     const size = messages.reduce((sum, it) => sum + it.length, 0), together = new Uint8Array(size);
     messages.reduce((at, it) => (together.set(it, at), at + it.length), 0);
-    return { ...last, messages: together };
+    return { ...last, statuses, messages: together };
 }

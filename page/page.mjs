@@ -8,6 +8,8 @@ const FIELDS = ["command", "stdin", "name1", "file1", "name2", "file2"];
 const INPUTS = ["stdin", "file1", "file2"];
 /** How many bytes of the output are shown, and how long a text can be that is edited in a field. */
 const SHOWN = 65536, EDITED = 100_000;
+/** How much of an input is shown that cannot be edited. */
+const BEGINNING = 2000;
 const LACKS = "This browser cannot run the module, which needs memories with 64-bit addresses in WebAssembly "
     + "(Chromium and Chrome have them since version 133, Firefox since 134).";
 const STATUSES = {
@@ -16,6 +18,8 @@ const STATUSES = {
     2: "the command is wrong, and nothing was read",
     4: "memory ran out: the output is a beginning of the whole",
 };
+/** What differs if commands are chained. */
+const OF_LAST = { ...STATUSES, 0: "the output of the last command was written", 2: "the last command is wrong" };
 
 /** The inputs that no field can hold, as a text or as bytes: long ones, and those that are not UTF-8. */
 const held = new Map();
@@ -51,6 +55,13 @@ function empty(id) {
     at(`${id}-empty`).hidden = true;
 }
 
+/** Shows no name of a chosen file any more, so that the same file can be chosen again. */
+function forget(id) {
+    at(`${id}-open`).value = "";
+}
+
+const counted = (count, unit) => `${count.toLocaleString("en")} ${unit}${count === 1 ? "" : "s"}`;
+
 /** Sets an input. If a field cannot hold it, the field shows its beginning, and cannot be edited. */
 function setInput(id, given) {
     empty(id);
@@ -60,11 +71,13 @@ function setInput(id, given) {
         return;
     }
     held.set(id, given);
-    const beginning = text === null ? shown(firstOf(given, 2000)).map((it) => it.text).join("") : text.slice(0, 2000);
-    at(id).value = beginning;
+    const isLong = (text ?? given).length > BEGINNING;
+    const asText = () => shown(firstOf(given, BEGINNING)).map((it) => it.text).join("");
+    at(id).value = text === null ? asText() : text.slice(0, BEGINNING);
     at(id).readOnly = true;
-    const unit = typeof given === "string" ? "characters" : "bytes";
-    at(`${id}-held`).textContent = `${given.length.toLocaleString("en")} ${unit}, of which the beginning is shown.`;
+    const count = counted(given.length, typeof given === "string" ? "character" : "byte");
+    const what = isLong ? "of which the beginning is shown" : "which cannot be edited here";
+    at(`${id}-held`).textContent = `${count}, ${what}.`;
     at(`${id}-empty`).hidden = false;
 }
 
@@ -85,13 +98,23 @@ function paste(event) {
     const { value, selectionStart, selectionEnd } = field;
     const pasted = text.replaceAll("\r\n", "\n");
     setInput(field.id, value.slice(0, selectionStart) + pasted + value.slice(selectionEnd));
+    forget(field.id);
     change();
 }
 
 /** Takes a file that was chosen. */
 async function open(id, chosen) {
     if (!chosen) return;
-    setInput(id, new Uint8Array(await chosen.arrayBuffer()));
+    let bytes = null;
+    try {
+        bytes = new Uint8Array(await chosen.arrayBuffer());
+    } catch (error) {
+        // (A browser reads no file of more than some 2 GB.)
+        at(`${id}-held`).textContent = `${chosen.name} could not be read, and nothing was changed: ${error.message}`;
+        forget(id);
+        return;
+    }
+    setInput(id, bytes);
     const name = at(id.replace("file", "name"));
     if (id !== "stdin" && name.value === "") name.value = chosen.name;
     change();
@@ -120,6 +143,8 @@ function run() {
     abandon();
     number++;
     const files = [1, 2].map((it) => [at(`name${it}`).value, inputOf(`file${it}`)]).filter(([name]) => name !== "");
+    const isTaken = files.length === 2 && files[0][0] === files[1][0];
+    at("same").textContent = isTaken ? "File 1 has this name, too: only file 2 is there." : "";
     try {
         const all = commands(at("command").value);
         isRunning = true;
@@ -153,7 +178,14 @@ function finish(data) {
         return;
     }
     show(data.out, data.messages, data.output);
-    say(`Status ${data.status}`, STATUSES[data.status]);
+    say(`Status ${data.status}`, meaningOf(data.statuses));
+}
+
+/** What the statuses of chained commands mean. */
+function meaningOf(statuses) {
+    const last = statuses.at(-1), earlier = statuses.slice(0, -1).find((it) => it !== 0);
+    const meaning = (statuses.length > 1 ? OF_LAST : STATUSES)[last];
+    return earlier ? `${meaning}, but a command before it ended with status ${earlier}` : meaning;
 }
 
 function say(status, meaning) {
@@ -163,11 +195,11 @@ function say(status, meaning) {
 
 /** Shows the output and the messages, and offers the whole output as a file. */
 function show(out, messages, file) {
-    const isCut = fill("out", out), { length } = out;
-    fill("messages", messages);
+    const cut = `, of which the first ${SHOWN.toLocaleString("en")} are shown`;
+    at("size").textContent = counted(out.length, "byte") + (fill("out", out) ? cut : "");
+    const isCut = fill("messages", messages);
+    at("messages-size").textContent = isCut ? `${counted(messages.length, "byte")}${cut}. ` : "";
     at("where").textContent = file === null ? "" : `to the file ${file}`;
-    const count = length === 1 ? "1 byte" : `${length.toLocaleString("en")} bytes`;
-    at("size").textContent = isCut ? `${count}, of which the first ${SHOWN.toLocaleString("en")} are shown` : count;
     URL.revokeObjectURL(address);
     address = URL.createObjectURL(new Blob([out]));
     at("download").href = address;
@@ -197,7 +229,10 @@ function change() {
 }
 
 function take(example) {
-    for (const it of INPUTS) empty(it);
+    for (const it of INPUTS) {
+        empty(it);
+        forget(it);
+    }
     for (const it of FIELDS) at(it).value = example[it] ?? "";
     clearTimeout(waiting);
     run();
@@ -217,9 +252,11 @@ async function begin() {
     for (const it of FIELDS) at(it).addEventListener("input", change);
     for (const it of INPUTS) {
         at(it).addEventListener("paste", paste);
+        at(it).addEventListener("input", () => forget(it));
         at(`${it}-open`).addEventListener("change", (event) => open(it, event.target.files[0]));
         at(`${it}-empty`).addEventListener("click", () => {
             empty(it);
+            forget(it);
             at(it).focus();
             change();
         });

@@ -20,7 +20,10 @@ class NoMemory extends Error {
     }
 }
 
-/** The heap of a module. A block has 2^k bytes; its first 16 hold k, and the caller gets those after them. */
+/**
+ * The heap of a module. Of each block, the first 16 bytes hold its size, and the caller gets those after them. Small
+ * blocks have 2^k bytes, and large ones a multiple of PAGE_SIZE.
+ */
 export class Heap {
     constructor(limit) {
         this.limit = limit;
@@ -34,7 +37,9 @@ export class Heap {
         this.most = address + this.limit;
         this.end = Math.ceil(address / HEADER_SIZE) * HEADER_SIZE;
         this.requests = 0;
-        this.free = Array.from({ length: 64 }, () => []);
+        /** The blocks that were given back: the small ones by their size, and the large ones. */
+        this.small = new Map();
+        this.large = [];
     }
 
     view() {
@@ -45,16 +50,28 @@ export class Heap {
         return new Uint8Array(this.memory.buffer);
     }
 
-    /** Returns a block with room for `size` bytes, or 0 if there is no memory for it. */
-    take(size) {
-        let order = 5;
-        while (2 ** order < size + HEADER_SIZE) order++;
-        const block = this.free[order].pop() ?? this.extend(2 ** order);
-        if (block) this.view().setUint8(block, order);
-        return block && block + HEADER_SIZE;
+    sizeOf(block) {
+        return this.view().getFloat64(block);
     }
 
-    /** Returns the beginning of `size` bytes that no block has had, or 0. */
+    /** Returns a block with room for `size` bytes, or 0 if there is no memory for it. */
+    take(size) {
+        const whole = wholeSize(size), block = this.reuse(whole);
+        if (block) return block + HEADER_SIZE;
+        const made = this.extend(whole);
+        if (made) this.view().setFloat64(made, whole);
+        return made && made + HEADER_SIZE;
+    }
+
+    /** Returns a block of about this size that was given back, or 0. */
+    reuse(whole) {
+        if (whole <= PAGE_SIZE) return this.small.get(whole)?.pop() ?? 0;
+        const sizes = this.large.map((it) => this.sizeOf(it)).map((it) => (it < whole ? Infinity : it));
+        const least = Math.min(...sizes);
+        return least <= 2 * whole ? this.large.splice(sizes.indexOf(least), 1)[0] : 0;
+    }
+
+    /** Returns the beginning of `size` bytes that no block has, or 0. */
     extend(size) {
         const end = this.end + size;
         if (end > this.most || !this.grow(end)) return 0;
@@ -80,13 +97,23 @@ export class Heap {
 
     /** Takes a block back. */
     give(address) {
-        const block = address - HEADER_SIZE;
-        this.free[this.view().getUint8(block)].push(block);
+        const block = address - HEADER_SIZE, whole = this.sizeOf(block);
+        if (block + whole === this.end) this.end = block;
+        else if (whole > PAGE_SIZE) this.large.push(block);
+        else if (this.small.has(whole)) this.small.get(whole).push(block);
+        else this.small.set(whole, [block]);
     }
 
     /** Returns a block with room for `size` bytes that begins with the first `kept` of an earlier one, or 0. */
     resize(address, kept, size) {
-        if (size + HEADER_SIZE <= 2 ** this.view().getUint8(address - HEADER_SIZE)) return address;
+        const block = address - HEADER_SIZE, had = this.sizeOf(block), whole = wholeSize(size);
+        if (whole <= had) return address;
+        if (block + had === this.end) {
+            // (The last block grows where it is.)
+            if (!this.extend(whole - had)) return 0;
+            this.view().setFloat64(block, whole);
+            return address;
+        }
         const other = this.take(size);
         if (!other) return 0;
         this.bytes().copyWithin(other, address, address + kept);
@@ -138,17 +165,19 @@ export class Ptext {
     }
 
     /**
-     * Runs a command, the name of the tool first. `stdin` are bytes, and `files` a Map with the bytes of each file by
-     * its name; a file that it lacks cannot be opened. Returns the status, the bytes of the output and of the messages,
-     * and the name of the file to which the output goes, or null.
+     * Runs a command, the name of the tool first. `stdin` is standard input, and `files` a Map with each file by its
+     * name; a file that it lacks cannot be opened. Each is a string (taken as UTF-8), an ArrayBuffer, or a view of one.
+     * Returns the status, the bytes of the output and of the messages, and the name of the file to which the output
+     * goes, or null.
      */
-    run(words, stdin, files) {
+    run(words, stdin = "", files = new Map()) {
         try {
-            const { read, output } = this.names(words), contents = read.map((name) => files.get(name));
-            const total = contents.reduce((sum, it) => sum + (it ? it.length : 0), stdin.length);
+            const { read, output } = this.names(words), input = bytesOf(stdin);
+            const contents = read.map((name) => files.get(name)).map((it) => (it === undefined ? null : bytesOf(it)));
+            const total = contents.reduce((sum, it) => sum + (it ? it.length : 0), input.length);
             let rooms = [total + FIRST_ROOM, FIRST_ROOM];
             for (;;) {
-                const { out, messages, status } = this.#guarded(() => this.#call(words, stdin, contents, rooms));
+                const { out, messages, status } = this.#guarded(() => this.#call(words, input, contents, rooms));
                 if (status !== ROOM) return { status, out: out.bytes, messages: messages.bytes, output };
                 rooms = [out, messages].map((it) => it.bytes.length + it.lacking);
             }
@@ -223,8 +252,29 @@ function encode(text) {
     return new TextEncoder().encode(text);
 }
 
+/** The bytes of an input. */
+function bytesOf(given) {
+    if (typeof given === "string") return encode(given);
+    if (ArrayBuffer.isView(given)) return new Uint8Array(given.buffer, given.byteOffset, given.byteLength);
+    // (A buffer may be of another window, so it is known by its name.)
+    const name = Object.prototype.toString.call(given);
+    if (["[object ArrayBuffer]", "[object SharedArrayBuffer]"].includes(name)) return new Uint8Array(given);
+    throw new TypeError("an input is a string, an ArrayBuffer or a view of one");
+}
+
+/** The size of a block with room for this many bytes. */
+function wholeSize(size) {
+    if (size + HEADER_SIZE > PAGE_SIZE) return Math.ceil((size + HEADER_SIZE) / PAGE_SIZE) * PAGE_SIZE;
+    let whole = 2 * HEADER_SIZE;
+    while (whole < size + HEADER_SIZE) whole *= 2;
+    return whole;
+}
+
 /** Each word, and byte 0 after it. */
 function bytesOfWords(words) {
+    if (!Array.isArray(words) || words.some((it) => typeof it !== "string")) {
+        throw new TypeError("words are a list of strings, as ['cut', '-f', '1']");
+    }
     if (words.some((it) => it.includes("\0"))) throw new Error("a word contains byte 0");
     return encode(words.map((it) => `${it}\0`).join(""));
 }

@@ -9,10 +9,8 @@ self.onmessage = ({ data }) => {
         ptext = new Ptext(data.module);
         return;
     }
-    const bytesOf = (it) => (typeof it === "string" ? new TextEncoder().encode(it) : it);
-    const files = new Map(data.files.map(([name, it]) => [name, bytesOf(it)]));
     try {
-        const did = runAll(ptext, data.commands, bytesOf(data.stdin), files);
+        const did = runAll(ptext, data.commands, data.stdin, data.files);
         self.postMessage({ number: data.number, ...did }, [did.out.buffer, did.messages.buffer]);
     } catch (error) {
         self.postMessage({ number: data.number, error: String(error) });

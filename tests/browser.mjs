@@ -151,6 +151,18 @@ async function typed(browser) {
     is("a wrong command", await browser.until(`(${RESULT}).status.startsWith("Status 2: ")`), true);
     const wrong = { status: 2, out: "", messages: "cut: unknown option in -q\n" };
     is("its message", numbered(await browser.value(RESULT)), wrong);
+    await browser.type("command", "cut -q | tr a b");
+    is("a wrong command before another", await browser.until(`(${RESULT}).status.startsWith("Status 0: ")`), true);
+    is("its label", (await browser.value(RESULT)).status,
+        "Status 0: the output of the last command was written, but a command before it ended with status 2");
+    await browser.type("command", "cut -c 1 | tr a");
+    is("the last of a chain is wrong", await browser.until(`(${RESULT}).status.startsWith("Status 2: ")`), true);
+    is("its label", (await browser.value(RESULT)).status, "Status 2: the last command is wrong");
+    await browser.type("name2", "names");
+    const same = `document.getElementById("same").textContent`;
+    is("two files of one name", await browser.until(`${same}.startsWith("File 1 has this name, too")`), true);
+    await browser.type("name2", "");
+    is("one file of that name", await browser.until(`${same} === ""`), true);
     await browser.type("command", "cut -f 1 > f");
     is("not taken", await browser.until(`(${RESULT}).status.startsWith("Not run")`), true);
     await browser.type("command", "tr ab '\\377\\0'");
@@ -165,6 +177,8 @@ async function typed(browser) {
 async function clicked(browser) {
     const count = await browser.value(`document.querySelectorAll("[data-example]").length`);
     is("there are examples", count > 25, true);
+    const labels = `Array.from(document.querySelectorAll("[data-example]"), (it) => it.textContent)`;
+    is("their labels differ", await browser.value(`new Set(${labels}).size`), count);
     for (let number = 0; number < count; number++) {
         const button = `document.querySelector('[data-example="${number}"]')`;
         await browser.value(`document.getElementById("status").textContent = ""; ${button}.focus()`);
@@ -195,14 +209,6 @@ async function large(browser) {
         "10,000,000 characters, of which the beginning is shown.");
     await browser.value(`document.getElementById("stdin-empty").click()`);
     is("nothing", await browser.until(`${size} === "0 bytes"`), true);
-    fs.writeFileSync(`${room}/bytes`, Buffer.from([0x61, 0xff, 0x0d, 0x0a]));
-    const { root } = await browser.send("DOM.getDocument");
-    const { nodeId } = await browser.send("DOM.querySelector", { nodeId: root.nodeId, selector: "#file1-open" });
-    await browser.send("DOM.setFileInputFiles", { files: [`${room}/bytes`], nodeId });
-    await browser.type("command", "cut -b 1- bytes");
-    is("a file is taken", await browser.until(`(${RESULT}).out.startsWith("a\\\\xff")`), true);
-    is("its bytes", numbered(await browser.value(RESULT)), { status: 0, out: "a\\xff\\x0d\n", messages: "" });
-    await browser.value(`document.getElementById("file1-empty").click()`);
     await browser.type("name1", "f");
     await browser.type("name2", "g");
     for (const it of ["file1", "file2"]) await paste(it, `"k some more words\\n".repeat(20000)`);
@@ -212,6 +218,60 @@ async function large(browser) {
     is("it is stopped", (await browser.value(RESULT)).status, "Stopped");
     await browser.type("command", "uniq -c f");
     is("a run after it", await browser.until(`(${RESULT}).out === "20000 k some more words\\n"`), true);
+}
+
+/** Chooses a file of bytes that are no text, and one that cannot be read. */
+async function chosen(browser) {
+    fs.writeFileSync(`${room}/bytes`, Buffer.from([0x61, 0xff, 0x0d, 0x0a]));
+    const choose = async () => {
+        const { root } = await browser.send("DOM.getDocument");
+        const { nodeId } = await browser.send("DOM.querySelector", { nodeId: root.nodeId, selector: "#file1-open" });
+        await browser.send("DOM.setFileInputFiles", { files: [`${room}/bytes`], nodeId });
+    };
+    const count = `document.getElementById("file1-open").files.length`;
+    const held = `document.getElementById("file1-held").textContent`;
+    for (const turn of ["Empty", "an example", "typing"]) {
+        for (const it of ["name1", "file1", "name2", "file2", "stdin"]) await browser.type(it, "");
+        await browser.type("command", "cut -b 1- bytes");
+        is(`no file is chosen before: ${turn}`, await browser.value(count), 0);
+        await choose();
+        is("a file is taken", await browser.until(`(${RESULT}).out.startsWith("a\\\\xff")`), true);
+        is("its bytes", numbered(await browser.value(RESULT)), { status: 0, out: "a\\xff\\x0d\n", messages: "" });
+        is("it is held", [await browser.value(held), await browser.value(count)],
+            ["4 bytes, which cannot be edited here.", 1]);
+        const button = turn === "an example" ? `querySelector("[data-example]")` : `getElementById("file1-empty")`;
+        if (turn !== "typing") await browser.value(`document.${button}.click()`);
+    }
+    await browser.value(`document.getElementById("file1-empty").click()`);
+    fs.writeFileSync(`${room}/bytes`, "€\r".repeat(600));
+    await choose();
+    const all = "2,400 bytes, which cannot be edited here.";
+    is("all of many bytes is shown", await browser.until(`${held} === "${all}"`), true);
+    await browser.value(`document.getElementById("file1-empty").click()`);
+    fs.writeFileSync(`${room}/bytes`, "some text\n");
+    await browser.value(`document.getElementById("file1-empty").click()`);
+    await choose();
+    is("a text is taken", await browser.until(`(${RESULT}).out === "some text\\n"`), true);
+    await browser.type("file1", "another text");
+    is("typing forgets the file", await browser.value(count), 0);
+    await browser.value(`Blob.prototype.arrayBuffer = async () => { throw new Error("too large"); }`);
+    await choose();
+    is("a file that cannot be read", await browser.until(`${held}.startsWith("bytes could not be read")`), true);
+    is("nothing was changed", await browser.value(`[document.getElementById("file1").value, ${count}]`),
+        ["another text", 0]);
+    await browser.value(`document.getElementById("file1-empty").click()`);
+}
+
+/** Shows how many bytes of many messages are shown. */
+async function messages(browser) {
+    const size = `document.getElementById("messages-size").textContent`;
+    is("the size of few messages", await browser.value(size), "");
+    const none = Array.from({ length: 300 }, (_, index) => `${"none".repeat(60)}${index}`);
+    await browser.type("command", `cut -f 1 ${none.join(" ")}`);
+    const all = none.map((it) => `cut: ${it}: cannot be opened\n`).join("");
+    const wanted = `${all.length.toLocaleString("en")} bytes, of which the first 65,536 are shown. `;
+    is("many messages", await browser.until(`${size} === ${JSON.stringify(wanted)}`), true);
+    is("those that are shown", (await browser.value(RESULT)).messages, all.slice(0, 65536));
 }
 
 /** Each control has a name, and so has each region that takes the focus. */
@@ -256,6 +316,8 @@ async function main() {
     await names(browser);
     await narrow(browser);
     if (picture) await pictured(browser);
+    await chosen(browser);
+    await messages(browser);
     await large(browser);
     const requests = browser.events.filter((it) => it.method === "Network.requestWillBeSent");
     const asked = requests.map((it) => it.params.request.url);

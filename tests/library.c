@@ -1,4 +1,4 @@
-/* Calls of the library with bad arguments and with too little room. */
+/* Calls of the library with bad arguments, with rooms that overlap and with too little room. */
 #include "ptext.h"
 
 #include <pthread.h>
@@ -64,6 +64,143 @@ static void bad_arguments(void) {
     expect(status == 0 && answer.out.written == 3 && !memcmp(out, "in", 3) && !memcmp(messages, "out", 4), "names");
 }
 
+/* The arguments of a call. Those of both calls come first, and of these those that are written to. */
+enum { ANSWER, OUT, MESSAGES, WORDS, COUNT_OF_NAMES, INPUT = COUNT_OF_NAMES, FILES, ENDS, COUNT_OF_RUN };
+static const char *const called[] = {"answer", "out", "messages", "words", "input", "files", "ends"};
+
+static const char refusal[] = "ptext: a pointer is null, or rooms overlap\n";
+
+struct span {
+    uint8_t *at;
+    size_t size;
+};
+
+/* Here the spans of a call lie, with no byte between them. */
+static _Alignas(16) uint8_t place[256];
+
+/* Lays out a call that is right. */
+static void lay(struct span *spans) {
+    static const char words[] = "paste\0-\0f";
+    static const int order[] = {WORDS, INPUT, FILES, OUT, MESSAGES, ENDS, ANSWER};
+    static const size_t sizes[] = {sizeof(struct ptext_answer), 10, 64, sizeof words, 2, 2, sizeof(size_t)}, end = 2;
+    uint8_t *at = place;
+    for (int i = 0; i < COUNT_OF_RUN; i++) {
+        spans[order[i]] = (struct span){at, sizes[order[i]]};
+        at += sizes[order[i]];
+    }
+    memset(place, '.', sizeof place);
+    memcpy(spans[WORDS].at, words, sizeof words);
+    memcpy(spans[INPUT].at, "1\n", 2);
+    memcpy(spans[FILES].at, "2\n", 2);
+    memcpy(spans[ENDS].at, &end, sizeof end);
+}
+
+static uint8_t call(int is_run, const struct span *s) {
+    struct ptext_answer *to = (struct ptext_answer *)s[ANSWER].at;
+    if (!is_run)
+        return ptext_names(s[WORDS].at, s[WORDS].size, s[OUT].at, s[OUT].size, s[MESSAGES].at, s[MESSAGES].size, to);
+    return ptext_run(s[WORDS].at, s[WORDS].size, s[INPUT].at, s[INPUT].size, s[FILES].at, s[FILES].size,
+                     (size_t *)s[ENDS].at, s[ENDS].size / sizeof(size_t), s[OUT].at, s[OUT].size, s[MESSAGES].at,
+                     s[MESSAGES].size, to);
+}
+
+/* Expects that a call is refused, and that it writes nothing but the answer and `written` bytes of its message. */
+static void expect_refused(int is_run, const struct span *spans, size_t written, const char *what, int i, int j) {
+    struct ptext_answer to = {{9, 9}, {9, 9}, 9};
+    uint8_t wanted[sizeof place];
+    memcpy(wanted, place, sizeof place);
+    uint8_t status = call(is_run, spans);
+    if (written)
+        memcpy(wanted + (spans[MESSAGES].at - place), refusal, written);
+    memcpy(&to, spans[ANSWER].at, sizeof to);
+    memcpy(wanted + (spans[ANSWER].at - place), &to, sizeof to);
+    size_t lacking = is_run ? strlen(refusal) - written : 0;
+    int is_right = status == PTEXT_ARGUMENTS && to.status == status && !to.out.written && !to.out.lacking &&
+                   to.messages.written == written && to.messages.lacking == lacking;
+    if (!is_right || memcmp(wanted, place, sizeof place)) {
+        printf("FAILED: %s of %s: %s, %s\n", what, is_run ? "ptext_run" : "ptext_names", called[i], called[j]);
+        failed = 1;
+    }
+}
+
+/* Lets one span begin with the last byte of another. Those of numbers stay where they can be. */
+static void join_spans(struct span *spans, int i, int j) {
+    if (j == ANSWER || (j == ENDS && i != ANSWER))
+        spans[i].at = spans[j].at - spans[i].size + 1;
+    else
+        spans[j].at = spans[i].at + (j == ENDS ? 0 : spans[i].size - 1);
+}
+
+static void overlaps(int is_run) {
+    struct span spans[COUNT_OF_RUN];
+    const int count = is_run ? COUNT_OF_RUN : COUNT_OF_NAMES;
+    for (int i = 0; i < count; i++)
+        for (int j = 0; j < count; j++) {
+            if (i == j || (i > MESSAGES && j > MESSAGES))
+                continue;
+            lay(spans);
+            join_spans(spans, i, j);
+            int is_known = i == MESSAGES || j == MESSAGES;
+            /* (What is moved may come to lie over the messages, which follow `out`.) */
+            for (int k = 0; k < count; k++)
+                is_known |= k != MESSAGES && spans[k].at < spans[MESSAGES].at + spans[MESSAGES].size &&
+                            spans[MESSAGES].at < spans[k].at + spans[k].size;
+            expect_refused(is_run, spans, is_run && !is_known ? strlen(refusal) : 0, "an overlap", i, j);
+        }
+}
+
+static void bad_spans(int is_run) {
+    struct span spans[COUNT_OF_RUN];
+    for (int i = OUT; i < (is_run ? COUNT_OF_RUN : COUNT_OF_NAMES); i++) {
+        /* (No program has memory at 2^47 or above.) */
+        const struct span bad[] = {
+            {NULL, 8},
+            {NULL, SIZE_MAX},
+            {(uint8_t *)(UINTPTR_MAX - 7), 16},
+            {(uint8_t *)((uintptr_t)1 << 47), (size_t)PTRDIFF_MAX + 1},
+        };
+        for (size_t k = 0; k < sizeof bad / sizeof *bad; k++) {
+            lay(spans);
+            spans[i] = bad[k];
+            expect_refused(is_run, spans, is_run && i != MESSAGES ? strlen(refusal) : 0, "a bad pointer", i, i);
+        }
+        lay(spans);
+        spans[i] = (struct span){NULL, 0};
+        if (i == FILES)
+            spans[ENDS].size = 0;
+        expect(call(is_run, spans) != PTEXT_ARGUMENTS, "a null pointer without a size");
+    }
+    lay(spans);
+    spans[ANSWER].at = NULL;
+    expect(call(is_run, spans) == PTEXT_ARGUMENTS, "no answer");
+}
+
+static void spans_of_calls(void) {
+    struct span spans[COUNT_OF_RUN];
+    lay(spans);
+    struct ptext_answer *to = (struct ptext_answer *)spans[ANSWER].at;
+    expect(!call(1, spans) && has(spans[OUT].at, to->out, "1\t2\n"), "spans that touch each other");
+    lay(spans);
+    expect(!call(0, spans) && to->out.written == 2 && !memcmp(spans[OUT].at, "f", 2), "names that touch each other");
+    lay(spans);
+    spans[FILES] = spans[INPUT];
+    expect(!call(1, spans) && has(spans[OUT].at, to->out, "1\t1\n"), "inputs that overlap");
+    lay(spans);
+    spans[INPUT].at = spans[OUT].at;
+    spans[MESSAGES].size = 3;
+    expect_refused(1, spans, 3, "an overlap, with little room", OUT, INPUT);
+    lay(spans);
+    size_t many = SIZE_MAX / sizeof(size_t) + 2;
+    ptext_run(spans[WORDS].at, spans[WORDS].size, NULL, 0, NULL, 0, (size_t *)spans[ENDS].at, many, out, 64, messages,
+              64, &answer);
+    /* (Room that large overlaps the messages, unless they come before it.) */
+    expect(answer.messages.written + answer.messages.lacking == strlen(refusal), "more ends than there are addresses");
+    for (int is_run = 0; is_run < 2; is_run++) {
+        overlaps(is_run);
+        bad_spans(is_run);
+    }
+}
+
 static void *many_calls(void *text) {
     for (int i = 0; i < 2000; i++) {
         uint8_t room[64], said[64];
@@ -89,6 +226,7 @@ static void two_threads(void) {
 int main(void) {
     too_little_room();
     bad_arguments();
+    spans_of_calls();
     two_threads();
     if (!failed)
         puts("library: all calls as expected");

@@ -75,6 +75,43 @@ is("names", ptext.names(["paste", "a", "-", "b"]), { read: ["a", "b"], output: n
 is("output", ptext.names(["uniq", "a", "b"]), { read: ["a"], output: "b" });
 is("names of no command", ptext.names(["cut", "-q"]), { read: [], output: null });
 
+is("a name with a mark of order", run("cut -f 1 '\ufefff'", "", { "\ufefff": "a\n", f: "b\n" }), [0, "a\n", ""]);
+
+// ---- inputs of each type, and others
+const halves = new Uint16Array([0x6261, 0x0a63]), inner = new Uint8Array([120, 97, 98, 10, 120]).subarray(1, 4);
+const TYPES = [
+    ["a string", "é\n", "é\n"],
+    ["half a character of a string", "\ud800", "\ufffd\n"],
+    ["no characters", "", ""],
+    ["a view of 16-bit numbers", halves, "abc\n"],
+    ["a DataView", new DataView(halves.buffer), "abc\n"],
+    ["a buffer", halves.buffer, "abc\n"],
+    ["a shared buffer", new SharedArrayBuffer(2), "\0\0\n"],
+    ["bytes within a buffer", inner, "ab\n"],
+];
+for (const [what, given, wanted] of TYPES) {
+    is(`standard input: ${what}`, decode(ptext.run(["cut", "-b", "1-"], given).out), wanted);
+    is(`a file: ${what}`, decode(ptext.run(["cut", "-b", "1-", "f"], "", new Map([["f", given]])).out), wanted);
+}
+/** The name of the error of a call, or nothing. */
+function errorOf(call) {
+    try {
+        call();
+    } catch (error) {
+        return error.name;
+    }
+    return "";
+}
+for (const given of [null, 7, {}, [97, 10], new Date(0), new Blob(["a"])]) {
+    const files = new Map([["f", given]]);
+    is(`standard input is refused: ${given}`, errorOf(() => ptext.run(["uniq"], given)), "TypeError");
+    is(`a file is refused: ${given}`, errorOf(() => ptext.run(["uniq", "f"], "", files)), "TypeError");
+}
+for (const words of ["uniq", undefined, ["cut", "-f", 1], [["uniq"]]]) {
+    is(`words are refused: ${JSON.stringify(words)}`, errorOf(() => ptext.run(words, "", new Map())), "TypeError");
+}
+is("a word with byte 0", errorOf(() => ptext.run(["cut\0"], "", new Map())), "Error");
+
 // ---- much: a megabyte, more output than input, two runs after one another, and a module that is loaded anew
 const rows = Array.from({ length: 60000 }, (_, index) => `${index},some words,${index * 7}`);
 const large = `${rows.join("\n")}\n`;
@@ -92,7 +129,21 @@ const names = Array.from({ length: 500 }, (_, index) => `f${index}`);
 const many = Object.fromEntries(names.map((it) => [it, `${it}\n`]));
 is("500 files", run(`paste ${names.join(" ")}`, "", many), [0, `${names.join("\t")}\n`, ""]);
 
+const none = Array.from({ length: 500 }, (_, index) => `${"none".repeat(50)}${index}`);
+is("more than 64 KiB of messages", run(`cut -f 1 ${none.join(" ")}`),
+    [1, "", none.map((it) => `cut: ${it}: cannot be opened\n`).join("")]);
+const statuses = runAll(ptext, commands("cut -q | cut -f 1 - none | tr a b"), "a\n", new Map()).statuses;
+is("the statuses of a chain", statuses, [2, 1, 0]);
+
 // ---- want of memory
+// (An input takes its own size, and as much as room for the output.)
+const middle = await load(page, 2 ** 26), half = "x".repeat(31 * 10 ** 6);
+is("an input of nearly half of the memory", run("tr x y", half, {}, middle)[0], 0);
+is("one of more than half of it", run("tr x y", `${half}${"x".repeat(3 * 10 ** 6)}`, {}, middle)[0], 4);
+const same = "k some words\n".repeat(5000);
+const endless = run("join f g", "", { f: same, g: same }, middle);
+is("too much output", [endless[0], endless[2]], [4, "join: output: write failed\n"]);
+is("its beginning", "k some words some words\n".repeat(10 ** 6).startsWith(endless[1]) && endless[1].length > 24, true);
 const small = await load(page, 2 ** 22);
 const [status, , message] = run("cut -d , -f 2", "x".repeat(3 * 10 ** 6), {}, small);
 is("too little memory", [status, message], [4, "ptext: out of memory\n"]);
@@ -114,7 +165,7 @@ for (const [text, stdin, files, wanted] of CASES) {
 small.heap.refused = -1;
 
 // ---- the heap: what the contracts of its three calls say, in a random order of calls
-const heap = new Heap(2 ** 20), blocks = [];
+const heap = new Heap(2 ** 22), blocks = [];
 heap.begin(new WebAssembly.Memory({ initial: 1 }), 1001);
 let seed = 1, faults = 0, refusals = 0;
 const random = (below) => (seed = (seed * 48271) % 2147483647) % below;
@@ -128,7 +179,7 @@ function fill(at, size) {
     blocks.push(block);
 }
 for (let turn = 0; turn < 5000; turn++) {
-    const size = random(2) ? random(100) : random(60000), index = random(blocks.length || 1);
+    const size = [random(100), random(60000), random(600000)][random(3)], index = random(blocks.length || 1);
     if (blocks.length < 20 || random(3) === 0) {
         const at = heap.take(size);
         if (at) fill(at, size);

@@ -12,7 +12,8 @@ fi
 # (Before version 24, node has memories with 64-bit addresses by this option only.)
 option=--experimental-wasm-memory64
 node $option -e '' 2>/dev/null || option=
-node $option tests/page.mjs "$page"
+# (A call that does not end is stopped.)
+timeout 600 node $option tests/page.mjs "$page"
 python3 tools/same.py "$program" 500 --page "$page"
 chromium=$(command -v chromium || command -v chromium-browser || command -v google-chrome || true)
 if [ "$chromium" ]; then

@@ -1,12 +1,15 @@
 #!/usr/bin/env python3
-"""Installs the built program, its pages, its completion and cut_at_keys.sh, and removes exactly what was installed.
+"""Installs the built program, its pages, its completion and cut_at_keys.sh, or the library for C, and removes exactly
+what was installed.
 
   python3 tools/install.py install PREFIX [DESTDIR] [NAME=VALUE..]     the program, its pages, completion and script
   python3 tools/install.py tools PREFIX [DESTDIR] [NAME=VALUE..]       each tool by its own name, page and completion
+  python3 tools/install.py library PREFIX [DESTDIR] [NAME=VALUE..]     the library for C, its header and its page
   python3 tools/install.py uninstall PREFIX [DESTDIR] [NAME=VALUE..]   all of it, and the folders that were made for it
 
 The names are those of other projects: bindir (PREFIX/bin), libexecdir (PREFIX/libexec), datadir (PREFIX/share), mandir
-(datadir/man) and INSTALL_PROGRAM, the command that puts the program in its place (without one, it is stripped).
+(datadir/man), libdir (PREFIX/lib), includedir (PREFIX/include) and INSTALL_PROGRAM, the command that puts the program
+in its place (without one, it is stripped).
 
 Each file and each folder that was made is noted in datadir/ptext/installed. Every path that is written to begins with
 DESTDIR, but no file contains it. If something cannot be written, the earlier state is restored.
@@ -15,6 +18,7 @@ import contextlib
 import functools
 import hashlib
 import os
+import re
 import shlex
 import shutil
 import signal
@@ -40,7 +44,7 @@ OTHERS_OF_TOOLS = [
     ("zsh/site-functions/_ptext_tools", 0o644, "completion/_ptext_tools"),
     *((f"fish/vendor_completions.d/{name}.fish", 0o644, "completion/ptext-tools.fish") for name in NAMES),
 ]
-VARIABLES = ("bindir", "libexecdir", "datadir", "mandir", "INSTALL_PROGRAM")
+VARIABLES = ("bindir", "libexecdir", "datadir", "mandir", "libdir", "includedir", "INSTALL_PROGRAM")
 
 
 def bytes_of(file):
@@ -109,7 +113,8 @@ def script(bindir, name):
 
 def folders(prefix, given):
     """The folders of an installation: those that are given, and the usual ones below the prefix."""
-    found = {"bindir": f"{prefix}/bin", "libexecdir": f"{prefix}/libexec", "datadir": f"{prefix}/share", **given}
+    usual = {"bindir": "bin", "libexecdir": "libexec", "datadir": "share", "libdir": "lib", "includedir": "include"}
+    found = {**{name: f"{prefix}/{it}" for name, it in usual.items()}, **given}
     return {"mandir": f"{found['datadir']}/man", **found}
 
 
@@ -119,7 +124,8 @@ class Place:
 
     def __init__(self, prefix, destdir, given):
         self.destdir = os.path.abspath(destdir) if destdir else ""
-        self.root = self.destdir + os.path.abspath(prefix)
+        self.prefix = os.path.abspath(prefix)
+        self.root = self.destdir + self.prefix
         self.install_program = given.get("INSTALL_PROGRAM", "")
         given = {name: value for name, value in given.items() if name != "INSTALL_PROGRAM"}
         self.folders = {it: os.path.abspath(value) for it, value in folders(prefix, given).items()}
@@ -155,19 +161,24 @@ class Place:
         return name
 
     def put(self, path, mode, text):
-        """Writes a file under a temporary name, then renames it. The earlier file is kept until all went well."""
+        """Writes a file under a temporary name, then renames it. The earlier file is kept until all went well. If there
+        is no mode, it is a link, and the text is the name to which it leads."""
         path = self.destdir + path
         self.make_folder(os.path.dirname(path))
         if os.path.isdir(path) and not os.path.islink(path):
             raise IsADirectoryError(0, "there is a folder of that name", path)
         new = self.unused_beside(path)
         try:
-            with open(new, "wb") as it:
-                it.write(text)
+            if mode is None:
+                os.remove(new)
+                os.symlink(text, new)
+            else:
+                with open(new, "wb") as it:
+                    it.write(text)
+                os.chmod(new, mode)
         except OSError as why:
             # (A write that fails, as on a full disk, does not name the file itself.)
             raise OSError(why.errno, why.strerror, path if why.filename is None else why.filename) from why
-        os.chmod(new, mode)
         if self.install_program and path == f"{self.destdir}{self.folders['bindir']}/ptext":
             did = subprocess.run([*shlex.split(self.install_program), f"{TOP}/build/ptext", new], check=False)
             if did.returncode:
@@ -223,6 +234,35 @@ def files_of_tools(where, script_of=script, commit=None):
     ]
 
 
+def version():
+    return "".join(lines_of(f"{TOP}/VERSION"))
+
+
+def settings(where, prefix):
+    """What pkg-config reads."""
+    text = bytes_of(f"{TOP}/build/ptext.pc").decode()
+    for name, value in [("prefix", prefix), *((it, where[it]) for it in ("libdir", "includedir"))]:
+        value = value.replace(f"{prefix}/", "${prefix}/", 1) if name != "prefix" else value
+        line = f"{name}={value}".replace(" ", "\\ ")
+        text = re.sub(f"^{name}=.*", lambda _, it=line: it, text, flags=re.M)
+    return text.encode()
+
+
+def files_of_library(where, prefix):
+    """The library for C. Programs that are linked with it look for it under a name with the first number of the version
+    only."""
+    whole, lib = f"libptext.so.{version()}", where["libdir"]
+    return [
+        (f"{lib}/libptext.a", 0o644, bytes_of(f"{TOP}/build/libptext.a")),
+        (f"{lib}/{whole}", 0o755, bytes_of(f"{TOP}/build/{whole}")),
+        (f"{lib}/libptext.so.{version().partition('.')[0]}", None, whole),
+        (f"{lib}/libptext.so", None, whole),
+        (f"{lib}/pkgconfig/ptext.pc", 0o644, settings(where, prefix)),
+        (f"{where['includedir']}/ptext.h", 0o644, bytes_of(f"{TOP}/lib/ptext.h")),
+        (f"{where['mandir']}/man3/ptext.3", 0o644, page("ptext.3")),
+    ]
+
+
 def put_all(place, files_in):
     """Puts all files in their places, or none. Returns a message if it failed."""
     try:
@@ -266,6 +306,18 @@ def install_tools(place):
     return 0
 
 
+def install_library(place):
+    why = put_all(place, lambda where: files_of_library(where, place.prefix))
+    if why:
+        return why
+    lib = beside(place, "libdir")
+    print(
+        f"installed in {place.root}: {lib}/libptext.a, {lib}/libptext.so.{version()}, {lib}/pkgconfig/ptext.pc, "
+        f"{beside(place, 'includedir')}/ptext.h, the page ptext(3)"
+    )
+    return 0
+
+
 def uninstall(place):
     """Files first, then the folders that were made, the innermost first, where nothing else has come into them."""
     paths = [os.path.normpath(f"{place.root}/{it}") for it in place.noted]
@@ -287,7 +339,7 @@ def uninstall(place):
 
 
 def main():
-    does = {"install": install, "tools": install_tools, "uninstall": uninstall}
+    does = {"install": install, "tools": install_tools, "library": install_library, "uninstall": uninstall}
     words = [it for it in sys.argv[1:] if it.partition("=")[0] not in VARIABLES or "=" not in it]
     given = dict(it.split("=", 1) for it in sys.argv[1:] if it not in words)
     if len(words) not in (2, 3) or words[0] not in does:

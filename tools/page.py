@@ -133,12 +133,17 @@ def fields(command, folder):
 
 
 def examples():
-    """The examples of the pages of the tools, with the name of the tool."""
+    """The examples of the pages of the tools, with the name of the tool. Of those with the same command, only the first
+    is taken: nobody could tell two buttons with the same text apart."""
     for tool in NAMES:
+        known = []
         with tempfile.TemporaryDirectory() as folder:
             for _, command, _ in examples_of(f"man/ptext-{tool}.1"):
                 if "ptext " in command:
-                    yield tool, fields(command, folder)
+                    example = fields(command, folder)
+                    if example["command"] not in known:
+                        yield tool, example
+                    known.append(example["command"])
                 elif " > " in command:
                     by_shell(command, folder)
 

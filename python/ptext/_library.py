@@ -10,7 +10,7 @@ from typing import BinaryIO, Union
 Input = Union[bytes, bytearray, memoryview, str, BinaryIO]
 """Bytes, a text (as UTF-8), or an open file in binary mode."""
 
-ROOM, MEMORY, ARGUMENTS = 3, 4, 5
+WRONG, ROOM, MEMORY, ARGUMENTS = 2, 3, 4, 5
 NO_FILE = ctypes.c_size_t(-1).value
 FIRST_ROOM = 4096
 
@@ -22,6 +22,10 @@ class Error(Exception):
     def __init__(self, status: int, message: str, out: bytes) -> None:
         super().__init__(message)
         self.status, self.message, self.out = status, message, out
+
+    def __reduce__(self) -> tuple[type[Error], tuple[int, str, bytes]]:
+        # (A process of a pool sends what it raises by pickle.)
+        return type(self), (self.status, self.message, self.out)
 
 
 class _Part(ctypes.Structure):
@@ -100,23 +104,45 @@ def names(words: Iterable[str]) -> tuple[list[str], str | None]:
     return _texts(read, answer.out.written), outputs[0] if outputs else None
 
 
+def reads_stdin(words: Iterable[str]) -> bool:
+    """Whether a command reads standard input. Words that are no command do not."""
+    words = _listed(words)
+    if run_all(words)[0] == WRONG:
+        return False
+    other = "x"
+    while other in words:
+        other += "x"
+    # A word `-` is standard input if another word in its place would be the name of an input. (It may be a delimiter.)
+    replaced = ([*words[:at], other, *words[at + 1 :]] for at, word in enumerate(words) if word == "-")
+    return not names(words)[0] or any(other in names(it)[0] for it in replaced)
+
+
 def run(words: Iterable[str], stdin: Input = b"", files: Mapping[str, Input] | None = None) -> bytes:
     """Runs a command, the name of the tool first, and returns its output. A file that `files` lacks cannot be opened.
 
-    Raises `Error` if the status is not 0, with the status, the messages and the output; and `MemoryError`."""
+    An open file is read once, also if its name is there twice. Raises `Error` if the status is not 0, with the status,
+    the messages and the output; and `MemoryError`, of which `out` has the beginning of the output if the library raised
+    it."""
     words = _listed(words)
     status, out, messages = run_all(words, stdin, files)
+    if status == MEMORY:
+        error = MemoryError("ptext: out of memory")
+        error.out = out  # type: ignore[attr-defined]
+        raise error
     if status:
         raise Error(status, messages.decode(errors="replace").rstrip("\n"), out)
     return out
 
 
-def run_all(words: Iterable[str], stdin: Input = b"", files: Mapping[str, Input] | None = None) -> tuple[int, bytes, bytes]:
-    """The exit status of a command, its output and its messages."""
+def run_all(
+    words: Iterable[str], stdin: Input = b"", files: Mapping[str, Input] | None = None
+) -> tuple[int, bytes, bytes]:
+    """The status of a command, its output and its messages. The status is MEMORY if the library ran out of memory."""
     words = _listed(words)
     given, text = _words_of(words), _bytes_of(stdin)
-    contents = [files.get(it) for it in names(words)[0]] if files else []
-    parts = [None if it is None else _bytes_of(it) for it in contents]
+    read = names(words)[0] if files else []
+    contents = {it: _bytes_of(files[it]) for it in dict.fromkeys(read) if files and files.get(it) is not None}
+    parts = [contents.get(it) for it in read]
     present = [it for it in parts if it is not None]
     joined = present[0] if len(present) == 1 else b"".join(present)
     ends, end = (ctypes.c_size_t * len(parts))(), 0
@@ -132,8 +158,6 @@ def run_all(words: Iterable[str], stdin: Input = b"", files: Mapping[str, Input]
             break
         room = answer.out.written + answer.out.lacking + 1
         messages_room = answer.messages.written + answer.messages.lacking + 1
-    if status == MEMORY:
-        raise MemoryError("ptext: out of memory")
     if status == ARGUMENTS:
         raise ValueError(messages.raw[: answer.messages.written].decode())
     return status, ctypes.string_at(out, answer.out.written), ctypes.string_at(messages, answer.messages.written)

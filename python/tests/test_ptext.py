@@ -1,11 +1,33 @@
 """Tests of the module. Run them in python/ with `python3 -m unittest discover tests`."""
+import concurrent.futures
 import io
+import os
+import pickle
 import subprocess
 import sys
+import tempfile
 import threading
 import unittest
 
 import ptext
+from ptext import _library
+
+# Runs out of memory: the output is far longer than the inputs. It prints whether `out` of the exception is a beginning.
+NO_MEMORY = """
+import resource
+import ptext
+resource.setrlimit(resource.RLIMIT_AS, (400 << 20,) * 2)
+lines = b"k 0123456789\\n" * 20_000
+try:
+    ptext.join("a", "b", files={"a": lines, "b": lines})
+except MemoryError as error:
+    line = b"k 0123456789 0123456789\\n"
+    print(error, len(error.out) > 24, error.out == (line * (len(error.out) // 24 + 1))[: len(error.out)])
+"""
+
+
+def fails(number):
+    return ptext.cut("-q", str(number))
 
 
 class Tools(unittest.TestCase):
@@ -23,6 +45,20 @@ class Tools(unittest.TestCase):
         self.assertEqual(ptext.cut("-b", "1", "f", "g", files={"g": b"c\n", "f": b"ab\n"}), b"a\nc\n")
         self.assertEqual(ptext.cut("-b", "1"), b"")
 
+    def test_open_file_that_is_named_twice(self):
+        for words, wanted in [
+            (["join", "a", "a"], b"k 1 1\n"),
+            (["paste", "a", "b", "a"], b"k 1\tx\tk 1\n"),
+            (["cut", "-b", "1", "a", "a"], b"k\nk\n"),
+        ]:
+            files = {"a": io.BytesIO(b"k 1\n"), "b": io.BytesIO(b"x\n")}
+            self.assertEqual(ptext.run(words, files=files), wanted)
+
+    def test_file_that_is_not_named_is_not_read(self):
+        other = io.BytesIO(b"x\n")
+        ptext.cut("-b", "1", "a", files={"a": b"k\n", "b": other})
+        self.assertEqual(other.tell(), 0)
+
     def test_output_is_longer_than_the_input(self):
         lines = b"a\n" * 100_000
         out = ptext.paste("-d", "\\0", "-", "-", stdin=lines)
@@ -34,6 +70,12 @@ class Tools(unittest.TestCase):
         self.assertEqual(ptext.names(["join", "a b", "-"]), (["a b"], None))
         self.assertEqual(ptext.names(["uniq", "in", "out"]), (["in"], "out"))
         self.assertEqual(ptext.names(["uniq", "-q"]), ([], None))
+
+    def test_whether_standard_input_is_read(self):
+        for words in ["cut -f 1", "cut -f 1 -", "cut -f 1 a -", "paste a - b", "join -t - - a", "tr - a", "uniq - x"]:
+            self.assertTrue(_library.reads_stdin(words.split()), words)
+        for words in ["", "cut", "cut -q", "paste", "cut -d - -f 1 a", "join -t - a b", "uniq a -", "join -e - a b"]:
+            self.assertFalse(_library.reads_stdin(words.split()), words)
 
 
 class Failures(unittest.TestCase):
@@ -60,6 +102,19 @@ class Failures(unittest.TestCase):
         self.assertIn("line 2 is out of order", error.message)
 
 
+    def test_error_passes_from_process_to_process(self):
+        error = pickle.loads(pickle.dumps(ptext.Error(1, "a message", b"output")))
+        self.assertEqual((error.status, error.message, error.out, str(error)), (1, "a message", b"output", "a message"))
+        with concurrent.futures.ProcessPoolExecutor(1) as pool:
+            caught = pool.submit(fails, 1).exception(timeout=60)
+        self.assertIsInstance(caught, ptext.Error)
+        self.assertEqual((caught.status, caught.message), (2, "cut: unknown option in -q"))
+
+    def test_no_memory(self):
+        did = subprocess.run([sys.executable, "-c", NO_MEMORY], capture_output=True, text=True)
+        self.assertEqual(did.stdout, "ptext: out of memory True True\n", did.stderr[-500:])
+
+
 class Threads(unittest.TestCase):
     def test_calls_at_the_same_time(self):
         text = b"".join(b"%d some words\n" % it for it in range(20_000))
@@ -75,9 +130,55 @@ class Threads(unittest.TestCase):
 
 
 class Program(unittest.TestCase):
-    def test_main(self):
-        did = subprocess.run([sys.executable, "-m", "ptext", "cut", "-b", "1"], input=b"ab\n", capture_output=True)
-        self.assertEqual((did.returncode, did.stdout, did.stderr), (0, b"a\n", b""))
+    """`python3 -m ptext`, in a folder with the files f and g."""
+
+    def setUp(self):
+        room = tempfile.TemporaryDirectory()
+        self.addCleanup(room.cleanup)
+        self.room = room.name
+        for name, text in [("f", b"ab\ncd\n"), ("g", b"x\n")]:
+            with open(f"{self.room}/{name}", "wb") as file:
+                file.write(text)
+
+    def is_so(self, command, wanted, **more):
+        """Runs a command by a shell. `ptext` is the module. Compares the status, the output and the messages."""
+        words = command.replace("ptext", f"exec {sys.executable} -m ptext", 1)
+        path = os.pathsep.join(os.path.abspath(it) for it in sys.path if it)
+        how = {"capture_output": True, "cwd": self.room, "timeout": 60, "env": {**os.environ, "PYTHONPATH": path}}
+        did = subprocess.run(["sh", "-c", words], **how, **({"input": b""} | more))
+        self.assertEqual((did.returncode, did.stdout.decode(), did.stderr.decode()), wanted, command)
+
+    def test_inputs(self):
+        self.is_so("ptext cut -b 1", (0, "a\n", ""), input=b"ab\n")
+        self.is_so("ptext cut -b 1 f g", (0, "a\nc\nx\n", ""))
+        self.is_so("ptext paste f - g", (0, "ab\t1\tx\ncd\t2\t\n", ""), input=b"1\n2\n")
+        self.is_so("ptext paste f f", (0, "ab\tab\ncd\tcd\n", ""))
+
+    def test_output_file(self):
+        self.is_so("ptext uniq -c - made", (0, "", ""), input=b"a\na\n")
+        with open(f"{self.room}/made", "rb") as file:
+            self.assertEqual(file.read(), b"2 a\n")
+        self.is_so("ptext uniq none made2", (1, "", "uniq: none: cannot be opened\n"))
+        self.assertFalse(os.path.exists(f"{self.room}/made2"))
+        self.is_so("ptext uniq - none/made", (1, "", "uniq: none/made: cannot be opened\n"))
+        self.is_so("ptext uniq f /dev/full", (1, "", "uniq: output: write failed\n"))
+
+    def test_failures(self):
+        self.is_so("ptext", (2, "", "ptext: first word: cut, paste, join, comm, uniq or tr\n"))
+        self.is_so("ptext cut -b 1 f none", (1, "a\nc\n", "cut: none: cannot be opened\n"))
+        self.is_so("ptext cut -b 1 f .", (1, "", "cut: .: read failed\n"))
+        self.is_so("ptext cut -b 1 <&-", (1, "", "cut: standard input: read failed\n"))
+        self.is_so("ptext cut -b 1 f >&-", (1, "", "cut: output: write failed\n"))
+        self.is_so("ptext cut -b 1 f >/dev/full", (1, "", "cut: output: write failed\n"))
+        self.is_so("ptext cut -b 1 f none 2>&-", (1, "a\nc\n", ""))
+
+    def test_does_not_wait_for_an_input_that_it_does_not_read(self):
+        begin, end = os.pipe()
+        self.addCleanup(os.close, begin)
+        self.addCleanup(os.close, end)
+        never = {"input": None, "stdin": begin}
+        self.is_so("ptext cut -q", (2, "", "cut: unknown option in -q\n"), **never)
+        self.is_so("ptext cut -d - -f 1 f", (0, "ab\ncd\n", ""), **never)
 
 
 if __name__ == "__main__":
