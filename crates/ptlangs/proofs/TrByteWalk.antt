@@ -13,7 +13,7 @@ use Rattle.std.specs.Result.{IsErrAnd}
 use Rattle.ptlangs.specs.declared.tr.elements.SetElement.TheVariants as element
 use Rattle.ptlangs.specs.declared.tr.segments.Member.{Member}
 use Rattle.ptlangs.specs.declared.tr.segments.Segment.TheVariants.{Range, Class}
-use Rattle.ptlangs.specs.TrParsing.{NextPost, all_paired, bytes_of, classes_match, class_of, marked_array}
+use Rattle.ptlangs.specs.TrParsing.{NextItemPost, all_paired, member_bytes, classes_match, class_of, marked_array}
 use Rattle.ptlangs.specs.TrParsing.{marked_members, member_results, members_from, plain_members}
 use Rattle.ptlangs.proofs.ListElements.{append_ok as onto, append_ok-nil, cons_ok-append_ok, reads_first}
 use Rattle.ptlangs.proofs.TrByteRanges.{slice_get-none, class_bytes-some}
@@ -95,23 +95,23 @@ members-ok n (Ok x ∷ rs) ps e =
     rw (← all.is, first) (ap (λ ys. map Ok (marked_members n x) ++ ys) (members-ok n rs all.tail all.rest)
     ∙ sym (map-append Ok (marked_members n x) (marked_array n all.tail)))
 
-pub bytes_of-plain : (bytes : List ℕ) → bytes_of (plain_members bytes) ≡ bytes
-bytes_of-plain [] = refl
-bytes_of-plain (b ∷ bytes) = ap (λ bs. b ∷ bs) (bytes_of-plain bytes)
+pub member_bytes-plain : (bytes : List ℕ) → member_bytes (plain_members bytes) ≡ bytes
+member_bytes-plain [] = refl
+member_bytes-plain (b ∷ bytes) = ap (λ bs. b ∷ bs) (member_bytes-plain bytes)
 
-bytes_of-members : (class : Option CharClass) (bytes : List ℕ) → bytes_of (members_from class bytes) ≡ bytes
-bytes_of-members class [] = refl
-bytes_of-members class (b ∷ bytes) = ap (λ bs. b ∷ bs) (bytes_of-plain bytes)
+member_bytes-members : (class : Option CharClass) (bytes : List ℕ) → member_bytes (members_from class bytes) ≡ bytes
+member_bytes-members class [] = refl
+member_bytes-members class (b ∷ bytes) = ap (λ bs. b ∷ bs) (member_bytes-plain bytes)
 
-pub bytes_of-array : (n : ℕ) (ps : List Segment) → bytes_of (marked_array n ps) ≡ array n ps
-bytes_of-array n [] = refl
-bytes_of-array n (p ∷ ps) =
+pub member_bytes-array : (n : ℕ) (ps : List Segment) → member_bytes (marked_array n ps) ≡ array n ps
+member_bytes-array n [] = refl
+member_bytes-array n (p ∷ ps) =
     map-append (λ (m : Member). m.byte) (marked_members n p) (marked_array n ps)
-    ∙ (λ i. bytes_of-members (class_of p) (members n p) i ++ bytes_of-array n ps i)
+    ∙ (λ i. member_bytes-members (class_of p) (members n p) i ++ member_bytes-array n ps i)
 
 pub length-marked : (n : ℕ) (x : Segment) → length (marked_members n x) ≡ length (members n x)
 length-marked n x = sym (length-map (marked_members n x) (λ (m : Member). m.byte))
-    ∙ ap length (bytes_of-members (class_of x) (members n x))
+    ∙ ap length (member_bytes-members (class_of x) (members n x))
 
 pub drop-found : {X : Type 0} (xs : List X) (i : ℕ) (x : X) → Some x ≡ slice_get xs i → drop i xs ≡ x ∷ drop (i + 1) xs
 drop-found [] i x e = absurd (let no : ⊥ = cc in no)
@@ -190,12 +190,12 @@ string-ok role (b ∷ text) n ps e = members-ok n (segments_of role (b ∷ text)
 -- ---- one step
 
 pub next_some : {A : Type 0} (old new : List (Result A SetFaultKind)) (o : Option A) (x : A) → o ≡ Some x
-    → NextPost old new (Ok o) → old ≡ Ok x ∷ new
-next_some old new o x is h = subst (λ p. NextPost old new (Ok p)) is h
+    → NextItemPost old new (Ok o) → old ≡ Ok x ∷ new
+next_some old new o x is h = subst (λ p. NextItemPost old new (Ok p)) is h
 
 pub next_none : {A : Type 0} (old new : List (Result A SetFaultKind)) (o : Option A) → o ≡ None
-    → NextPost old new (Ok o) → (old ≡ []) × (new ≡ [])
-next_none old new o is h = subst (λ p. NextPost old new (Ok p)) is h
+    → NextItemPost old new (Ok o) → (old ≡ []) × (new ≡ [])
+next_none old new o is h = subst (λ p. NextItemPost old new (Ok p)) is h
 
 pub some_then : {A : Type 0} (o : Option A) (x : A) (P : Type 0) → o ≡ Some x → IfSome o (λ _. P) → P
 some_then o x P is h = subst (λ p. IfSome p (λ _. P)) is h

@@ -1,5 +1,5 @@
--- What an array contains, read byte by byte, and the images of bytes. The image of a byte is the byte of the second
--- array, extended by its last byte, at the index that was pushed last for it.
+-- The table of the bytes that an array contains, which grows byte by byte, and the table of images. The image of a byte
+-- is the byte of the second array, extended by its last byte, at the index that was pushed last for it.
 use Rattle.ptlangs.proofs.Common.{◌≡◌, ◌≢◌, ◌⊎◌, inl, inr, ◌<◌, ◌≤◌, ◌+◌, ◌-◌, ℕ, zero, suc, Bool, true, false, cond}
 use Rattle.ptlangs.proofs.Common.{eqb, List, [], ◌∷◌, ◌++◌, length, take, map, replicate, arith, refl, sym, ap, ◌∙◌}
 use Rattle.ptlangs.proofs.Common.{Option, Some, None, range_with_len, flat_map, set, cases_eq, eq-eqb, ne_eqb}

@@ -8,11 +8,11 @@ use Rattle.ptlangs.specs.TrClasses.{all_bytes}
 use Rattle.ptlangs.specs.declared.tr.images.Images.{Images}
 use Rattle.ptlangs.specs.declared.tr.bytes.Bytes.{Bytes}
 use Rattle.ptlangs.specs.declared.tr.segments.Member.{Member}
-use Rattle.ptlangs.specs.TrParsing.{HasPaired, all_paired, bytes_left, bytes_of, classes_match}
+use Rattle.ptlangs.specs.TrParsing.{HasPaired, all_paired, bytes_left, member_bytes, classes_match}
 use Rattle.ptlangs.proofs.Common.{ClassPlace, Segment, array, complement_of, cond, first_array}
 use Rattle.std.specs.Result.{IsErrAnd}
 use Rattle.ptlangs.specs.TrParsing.{first_members, plain_members}
-use Rattle.ptlangs.proofs.TrByteWalk.{bytes_of-array, bytes_of-plain, on_fault}
+use Rattle.ptlangs.proofs.TrByteWalk.{member_bytes-array, member_bytes-plain, on_fault}
 use Rattle.ptlangs.proofs.TrContents.{images-push}
 
 -- the results are the bytes of the second array from an index on
@@ -33,12 +33,12 @@ never_fault ms rs k is e = let whole : sequence rs ≡ Ok ms = ap sequence is �
 pub record TakesNext (n : ℕ) (to : List Member) (t : Member) (after : List (Result Member SetFaultKind)) : Type 0 where
   pub at : drop n to ≡ t ∷ drop (suc n) to
   pub left : after ≡ AllOk (drop (suc n) to)
-  pub last : last_or None (bytes_of (take (suc n) to)) ≡ Some t.byte
+  pub last : last_or None (member_bytes (take (suc n) to)) ≡ Some t.byte
 
 takes_next : (o : Option ℕ) (n : ℕ) (to : List Member) (t : Member) (after : List (Result Member SetFaultKind))
     → AllOk (drop n to) ≡ Ok t ∷ after
     → (drop n to ≡ t ∷ drop (suc n) to) × (after ≡ AllOk (drop (suc n) to))
-    × (last_or o (bytes_of (take (suc n) to)) ≡ Some t.byte)
+    × (last_or o (member_bytes (take (suc n) to)) ≡ Some t.byte)
 takes_next o zero [] t after e = absurd (let no : ⊥ = cc in no)
 takes_next o zero (x ∷ to) t after e = let same : x ≡ t = cc in
     (ap (λ y. y ∷ to) same, cc, ap (λ (y : Member). Some y.byte) same)
@@ -63,22 +63,22 @@ ended (suc n) [] e = record { now = refl; next = refl; taken = refl }
 ended (suc n) (x ∷ to) e = let rest = ended n to e in
     record { now = rest.now; next = rest.next; taken = ap (λ ms. x ∷ ms) rest.taken }
 
-bytes_of-take : (n : ℕ) (ms : List Member) → bytes_of (take n ms) ≡ take n (bytes_of ms)
-bytes_of-take zero ms = refl
-bytes_of-take (suc n) [] = refl
-bytes_of-take (suc n) (m ∷ ms) = ap (λ bs. m.byte ∷ bs) (bytes_of-take n ms)
+member_bytes-take : (n : ℕ) (ms : List Member) → member_bytes (take n ms) ≡ take n (member_bytes ms)
+member_bytes-take zero ms = refl
+member_bytes-take (suc n) [] = refl
+member_bytes-take (suc n) (m ∷ ms) = ap (λ bs. m.byte ∷ bs) (member_bytes-take n ms)
 
 module _ (before to : List Member) (old : Images) (from : Member) (h : HasPaired before to old)
     (fits : from.byte < 256) where
   count : length (before ++ from ∷ []) ≡ suc (length before)
   count = omega (arith, length-append before (from ∷ []))
 
-  bytes : bytes_of (before ++ from ∷ []) ≡ bytes_of before ++ from.byte ∷ []
+  bytes : member_bytes (before ++ from ∷ []) ≡ member_bytes before ++ from.byte ∷ []
   bytes = map-append (λ (m : Member). m.byte) before (from ∷ [])
 
   -- the byte is paired, if the table and the last byte are what the pairs give
   paired : (second : Bytes) (last : Option ℕ) → bytes_left second ≡ AllOk (drop (suc (length before)) to)
-      → last ≡ last_or None (bytes_of (take (suc (length before)) to))
+      → last ≡ last_or None (member_bytes (take (suc (length before)) to))
       → ((more : List Member) → all_paired (from ∷ more) (drop (length before) to)
       ≡ all_paired more (drop (suc (length before)) to))
       → HasPaired (before ++ from ∷ []) to
@@ -87,13 +87,13 @@ module _ (before to : List Member) (old : Images) (from : Member) (h : HasPaired
     left = rw count left;
     last = rw count is;
     table =
-        rw (h.table, bytes) (images-push (bytes_of before) (bytes_of to) from.byte last fits
-        (is ∙ ap (last_or None) (bytes_of-take (suc (length before)) to)
-        ∙ ap (λ n. last_or None (take (suc n) (bytes_of to))) (sym (length-bytes before))));
+        rw (h.table, bytes) (images-push (member_bytes before) (member_bytes to) from.byte last fits
+        (is ∙ ap (last_or None) (member_bytes-take (suc (length before)) to)
+        ∙ ap (λ n. last_or None (take (suc n) (member_bytes to))) (sym (length-bytes before))));
     decides = λ more. rw (count, append_assoc before (from ∷ []) more) (h.decides (from ∷ more) ∙ decides more);
   }
     where
-      length-bytes : (ms : List Member) → length (bytes_of ms) ≡ length ms
+      length-bytes : (ms : List Member) → length (member_bytes ms) ≡ length ms
       length-bytes [] = refl
       length-bytes (m ∷ ms) = ap (λ n. suc n) (length-bytes ms)
 
@@ -117,7 +117,7 @@ module _ (before to : List Member) (old : Images) (from : Member) (h : HasPaired
   push-last second s end =
       let no_more = ended (length before) to (sym h.left ∙ s) in
       paired second old.last (end ∙ ap AllOk (sym no_more.next))
-      (h.last ∙ ap (λ ms. last_or None (bytes_of ms)) (sym no_more.taken))
+      (h.last ∙ ap (λ ms. last_or None (member_bytes ms)) (sym no_more.taken))
       (λ more. rw (no_more.now, no_more.next) refl)
 
   -- a class without its other case
@@ -144,7 +144,7 @@ pub record IsPassing (from to : List Member) (images : Images) : Type 0 where
   pub rest : List Member
   pub left : bytes_left images.second ≡ AllOk rest
   pub decides : all_paired from to ≡ all_paired [] rest
-  pub table : images.table ≡ map (image_by (bytes_of from) (bytes_of to)) all_bytes
+  pub table : images.table ≡ map (image_by (member_bytes from) (member_bytes to)) all_bytes
 
 -- the next byte that is left
 split_ok : (rest : List Member) (t : Member) (after : List (Result Member SetFaultKind)) → AllOk rest ≡ Ok t ∷ after
@@ -221,6 +221,6 @@ answer_fault true images k e = absurd (let no : ⊥ = cc in no)
 answer_fault false images k e = (refl, cc)
 
 pub first-bytes : (complement : Bool) (ps : List Segment)
-    → bytes_of (first_members complement ps) ≡ first_array complement ps
-first-bytes true ps = bytes_of-plain (complement_of (array 0 ps))
-first-bytes false ps = bytes_of-array 0 ps
+    → member_bytes (first_members complement ps) ≡ first_array complement ps
+first-bytes true ps = member_bytes-plain (complement_of (array 0 ps))
+first-bytes false ps = member_bytes-array 0 ps

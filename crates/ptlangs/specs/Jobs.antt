@@ -104,7 +104,7 @@ pub record Join : Type 0 where
   -- unpairable lines of the file are written
   pub unpaired1 : Bool
   pub unpaired2 : Bool
-  -- written in place of an empty field that the output list names
+  -- the text for an empty field that the output list names
   pub empty : List ℕ
   -- the fields that are written; `None` for the join field and then the other fields of each line
   pub list : Option (List OutField)

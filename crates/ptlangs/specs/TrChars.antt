@@ -38,7 +38,7 @@ abbrev pub starts_octal : List ℕ → Bool
 starts_octal [] = false
 starts_octal (b ∷ bs) = is_octal_digit b
 
--- the octal digits of an escape, at most three and as many as there are, before the rest
+-- the octal digits of an escape before the rest: the first three if there are more
 pub data IsOctalRun : List ℕ → List ℕ → Type 0 where
   OneDigit : (a : ℕ) (rest : List ℕ) → is_octal_digit a ≡ true → starts_octal rest ≡ false → IsOctalRun (a ∷ []) rest
   TwoDigits : (a b : ℕ) (rest : List ℕ) → is_octal_digit a ≡ true → is_octal_digit b ≡ true → starts_octal rest ≡ false

@@ -63,8 +63,8 @@ abbrev pub first_members : Bool → List Segment → List Member
 first_members complement ps = if complement then plain_members (complement_of (array 0 ps)) else marked_array 0 ps
 
 -- the bytes alone
-abbrev pub bytes_of : List Member → List ℕ
-bytes_of ms = map (λ (m : Member). m.byte) ms
+abbrev pub member_bytes : List Member → List ℕ
+member_bytes ms = map (λ (m : Member). m.byte) ms
 
 -- the bytes of segments, and the faults between them
 abbrev pub member_results : ℕ → List (Result Segment SetFaultKind) → List (Result Member SetFaultKind)
@@ -85,10 +85,10 @@ most_left b =
     + (if b.has_fill then 0 else b.fill)
 
 -- one item of a list of results is read: `old` is the list before, `new` the rest after it; a fault ends the list
-abbrev pub NextPost : {A E : Type 0} → List (Result A E) → List (Result A E) → Result (Option A) E → Type 0
-NextPost old new (Ok None) = (old ≡ []) × (new ≡ [])
-NextPost old new (Ok (Some x)) = old ≡ Ok x ∷ new
-NextPost old new (Err e) = sequence old ≡ Err e
+abbrev pub NextItemPost : {A E : Type 0} → List (Result A E) → List (Result A E) → Result (Option A) E → Type 0
+NextItemPost old new (Ok None) = (old ≡ []) × (new ≡ [])
+NextItemPost old new (Ok (Some x)) = old ≡ Ok x ∷ new
+NextItemPost old new (Err e) = sequence old ≡ Err e
 
 -- which bytes the array contains, and its length
 abbrev pub contents_of : List ℕ → Contents
@@ -111,8 +111,8 @@ all_paired (f ∷ from) (t ∷ to) = classes_match f.class t.class && all_paired
 -- the bytes `before` of the first array are paired with those of `to`, and each class so far is paired
 pub record HasPaired (before to : List Member) (images : Images) : Type 0 where
   pub left : bytes_left images.second ≡ map Ok (drop (length before) to)
-  pub last : images.last ≡ last_or None (bytes_of (take (length before) to))
-  pub table : images.table ≡ map (image_by (bytes_of before) (bytes_of to)) all_bytes
+  pub last : images.last ≡ last_or None (member_bytes (take (length before) to))
+  pub table : images.table ≡ map (image_by (member_bytes before) (member_bytes to)) all_bytes
   pub decides : (more : List Member) → all_paired (before ++ more) to ≡ all_paired more (drop (length before) to)
 
 -- all bytes of the first array are paired, or a class has no other case

@@ -1,6 +1,6 @@
 //! Checks the operands of a tool: that their number is valid, and that `comm` or `join` does not have standard input
-//! twice. `command` calls `check_operands`; `command` and `inputs` call `is_standard`, which tells whether an operand
-//! means standard input.
+//! twice. `command` calls `check_operands`; `command` and `inputs` call `is_standard` to find the operands that
+//! mean standard input.
 
 ghost use Rattle.std.specs.Prelude.{◌≡◌};
 ghost use Rattle.std.specs.List.{list_all};

@@ -15,7 +15,7 @@ use Rattle.ptrun.specs.Files.{InputBytes, AreInputsConsistent, AreReadToEnd}
 use Rattle.ptrun.specs.Runs.{IsRun, RunEnd, Sinks, Outcome}
 use Rattle.ptrun.specs.SpecOfArgs.{spec_of_args}
 
--- What holds of the positions 1 and 2 holds of each that is one of the two.
+-- A property of the positions 1 and 2 holds of each position in the list of the two.
 one_of_two : (P : ℕ → Type 0) (p : ℕ) → ((1 == p) || ((2 == p) || false)) ≡ true → P 1 → P 2 → P p
 one_of_two P p named first second = ⊎_elim (λ (is, same). subst P same first)
     (λ (not_first, differs). ⊎_elim (λ (is, same). subst P same second)

@@ -367,7 +367,7 @@ const UNSORTED: Case = Case {
     ..DEFAULT
 };
 
-// The failed write is reported in place of the disorder.
+// The failed write is reported, and the disorder is not.
 const WRITE_FAILURES: &[WriteFailures] = &[
     (
         SORTED,

@@ -303,7 +303,7 @@ const OUT_OF_ORDER: Case = Case {
     ..DEFAULT
 };
 
-// The failed write is reported in place of the disorder.
+// The failed write is reported, and the disorder is not.
 const WRITE_FAILURES: &[WriteFailures] = &[
     (
         PAIRS_CASE,

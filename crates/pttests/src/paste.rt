@@ -417,7 +417,7 @@ const WRITE_FAILURES: &[WriteFailures] = &[
     ),
 ];
 
-// A failed write is reported in place of a failed read.
+// A failed write is reported, and a failed read is not.
 const BOTH_FAIL: &[CaseExample] = &[(
     Case {
         words: PARALLEL,

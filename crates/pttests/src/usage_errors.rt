@@ -351,8 +351,8 @@ fn invalid_operands(rt: HostRuntime) -> Result<(), Fail> {
     expect_usage_errors(&rt, rt.alloc(), OPERANDS_AND_STRINGS)
 }
 
-// A tool and an argument, the number of `-` after them, standard input, the output, and the message in place of it.
-// There may be 512 operands, and as columns of `paste` too.
+// A tool and an argument, the number of `-` after them, standard input, the output, and the message. There may be 512
+// operands, and as columns of `paste` too.
 type ManyOperands = (
     [&'static str; 2],
     usize,

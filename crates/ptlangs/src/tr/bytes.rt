@@ -2,7 +2,7 @@
 //! memory.
 ghost use Rattle.std.specs.Prelude.{◌≡◌, ◌*◌, ◌+◌, ◌<◌, ◌++◌, length, map, replicate, Ok, IfOk, IfSome};
 ghost use Rattle.ptlangs.specs.TrPlan.{segments_of};
-ghost use Rattle.ptlangs.specs.TrParsing.{NextPost, bytes_left, member_results, most_left, plain_members};
+ghost use Rattle.ptlangs.specs.TrParsing.{NextItemPost, bytes_left, member_results, most_left, plain_members};
 
 use crate::faults::SetFaultKind;
 use crate::tr::elements::element_at;
@@ -43,7 +43,7 @@ impl<'a> Bytes<'a> {
     ///
     /// The fault of the next segment.
     pub(crate) fn next(&mut self) -> Result<Option<Member>, SetFaultKind>
-        ensures steps { NextPost (bytes_left self.old) (bytes_left self.new) result }
+        ensures steps { NextItemPost (bytes_left self.old) (bytes_left self.new) result }
         ensures fewer { IfOk result (λ found. IfSome found (λ _. most_left self.new < most_left self.old)) }
     {
         loop {

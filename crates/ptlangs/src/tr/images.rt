@@ -6,7 +6,7 @@ ghost use Rattle.ptlangs.specs.declared.tr.segments.Member.{Member};
 ghost use Rattle.ptlangs.specs.declared.tr.segments.Segment.{Segment};
 ghost use Rattle.ptlangs.specs.TrClasses.{all_bytes};
 ghost use Rattle.ptlangs.specs.TrPlan.{array, complement_of, first_array, image_by, string_segments};
-ghost use Rattle.ptlangs.specs.TrParsing.{HasPaired, PairPost, all_paired, bytes_left, bytes_of, classes_match};
+ghost use Rattle.ptlangs.specs.TrParsing.{HasPaired, PairPost, all_paired, bytes_left, member_bytes, classes_match};
 ghost use Rattle.ptlangs.specs.TrParsing.{contents_of, first_members, marked_array, plain_members};
 
 use crate::faults::SetFaultKind;
@@ -23,8 +23,8 @@ struct Images<'a> {
     last: Option<u8>,
 }
 
-/// Whether the class `to`, which starts with a byte of the second array, may stand there: the class that starts with
-/// the byte of the first array at the same index is its other case.
+/// Whether the class `to`, if one starts with a byte of the second array, is the other case of `from`, the class that
+/// starts with the byte of the first array at the same index.
 fn classes_match(from: Option<CharClass>, to: Option<CharClass>) -> bool
     ensures { result ≡ classes_match from to }
 {
@@ -108,7 +108,7 @@ impl<'a> Images<'a> {
     /// A class starts in the second array after the end of the first one.
     fn finish(mut self) -> Result<[u8; 256], SetFaultKind>
         ensures { (from to : List Member) → HasPaired from to self.entry → result
-            ≡ (if all_paired from to then Ok (map (image_by (bytes_of from) (bytes_of to)) all_bytes)
+            ≡ (if all_paired from to then Ok (map (image_by (member_bytes from) (member_bytes to)) all_bytes)
             else Err ClassPlace) }
     {
         while let Some(member) = self.second.next()? {
@@ -136,7 +136,7 @@ pub(crate) fn read_images(
     ensures { (ps : List Segment) (to : List Member) → string_segments SetRole.First s1.now ≡ Ok ps
         → first.now ≡ contents_of (first_array complement ps) → bytes_left second.entry ≡ map Ok to → result
         ≡ (if all_paired (first_members complement ps) to
-        then Ok (map (image_by (first_array complement ps) (bytes_of to)) all_bytes)
+        then Ok (map (image_by (first_array complement ps) (member_bytes to)) all_bytes)
         else Err ClassPlace) }
 {
     let mut images = Images::new(second);

@@ -2,7 +2,7 @@
 use Rattle.ptlangs.proofs.Common.{◌∙◌, Bool, ap, array, complement_of, first_array}
 use Rattle.ptlangs.specs.TrClasses.{all_bytes}
 use Rattle.ptlangs.proofs.Common.{image_by, map}
-use Rattle.ptlangs.specs.TrParsing.{HasPaired, all_paired, bytes_of, contents_of, first_members, marked_array}
+use Rattle.ptlangs.specs.TrParsing.{HasPaired, all_paired, member_bytes, contents_of, first_members, marked_array}
 use Rattle.ptlangs.specs.TrParsing.{plain_members}
 use Rattle.ptlangs.proofs.TrImages.{answer_of, first-bytes, paired_same, unpaired_answer}
 use Rattle.ptlangs.proofs.tr.images.read_images.Goals as goal
@@ -43,5 +43,5 @@ returns c = λ ps to e f l.
           (w.in_ok-push_string.ensures ps to e new)
     ] in
     c.finish.ensures (first_members b ps) to paired
-    ∙ ap (λ from. answer_of (all_paired (first_members b ps) to) (map (image_by from (bytes_of to)) all_bytes))
+    ∙ ap (λ from. answer_of (all_paired (first_members b ps) to) (map (image_by from (member_bytes to)) all_bytes))
     (first-bytes b ps)

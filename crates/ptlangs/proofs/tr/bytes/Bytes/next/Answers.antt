@@ -3,7 +3,7 @@ use Rattle.ptlangs.proofs.Common.{◌≡◌, ◌∷◌, ◌++◌, ◌+◌, ◌-�
 use Rattle.ptlangs.proofs.Common.{length, map, drop, ap, sym, refl, arith, drop_all, sequence, segments, chars}
 use Rattle.ptlangs.proofs.Common.{set_elements, is_fill, Segment, SetFaultKind}
 use Rattle.ptlangs.specs.declared.tr.segments.Member.{Member}
-use Rattle.ptlangs.specs.TrParsing.{NextPost, bytes_left, marked_members, member_results, most_left}
+use Rattle.ptlangs.specs.TrParsing.{NextItemPost, bytes_left, marked_members, member_results, most_left}
 use Rattle.ptlangs.proofs.TrElementGrammar.{segments-element, segments-fault}
 use Rattle.ptlangs.proofs.TrByteWalk.{drop-found, fill_step, le_trans, length-marked, on_fault, segment-passed}
 use Rattle.ptlangs.proofs.tr.bytes.Bytes.next.Goals as goal
@@ -47,7 +47,7 @@ returns-in_err-element-clause-steps c =
     let passed = segment-passed s.fill s.segment s.index (segments_left s) c.in_default.ensures.found in
     let fault : sequence (bytes_left s) ≡ Err k = ap sequence (passed ∙ ap (member_results s.fill) first) in
     let (_, is) = c.from_residual.ensures in
-    on_fault (NextPost (bytes_left c.args.self.now) (bytes_left s)) c.from_residual.result k is
+    on_fault (NextItemPost (bytes_left c.args.self.now) (bytes_left s)) c.from_residual.result k is
     (ap sequence (sym c.loop-member.invariant.left) ∙ fault)
 
 -- what is left begins with the segment of the element
@@ -61,7 +61,7 @@ returns-in_err-self-clause-steps c =
     let passed = segment-passed s.fill s.segment s.index (segments_left s) c.in_default.ensures.found in
     let fault : sequence (bytes_left s) ≡ Err k = ap sequence (passed ∙ ap (member_results s.fill) first) in
     let (_, is) = c.from_residual-in_err-self.ensures in
-    on_fault (NextPost (bytes_left c.args.self.now) (bytes_left s)) c.from_residual-in_err-self.result k is
+    on_fault (NextItemPost (bytes_left c.args.self.now) (bytes_left s)) c.from_residual-in_err-self.result k is
     (ap sequence (sym c.loop-member.invariant.left) ∙ fault)
 
 pub loop-member-preserved : goal.loop-member-preserved

@@ -2,8 +2,8 @@
 use Rattle.ptlangs.proofs.Common.{◌≡◌, ◌∙◌, ◌∷◌, ◌++◌, List, Ok, ap, sym, refl, arith, array, ◌<◌, map-append}
 use Rattle.ptlangs.proofs.Common.{string_segments, replicate, Segment}
 use Rattle.ptlangs.specs.declared.tr.segments.Member.{Member}
-use Rattle.ptlangs.specs.TrParsing.{bytes_left, bytes_of, contents_of, most_left, ok_map, plain_members}
-use Rattle.ptlangs.proofs.TrByteWalk.{bytes_of-array, bytes_of-plain, items_end, items_fault, items_more, next_none}
+use Rattle.ptlangs.specs.TrParsing.{bytes_left, member_bytes, contents_of, most_left, ok_map, plain_members}
+use Rattle.ptlangs.proofs.TrByteWalk.{member_bytes-array, member_bytes-plain, items_end, items_fault, items_more, next_none}
 use Rattle.ptlangs.proofs.TrByteWalk.{next_some, on_fault, some_then, string-fault, string-read}
 use Rattle.ptlangs.proofs.tr.contents.Contents.read.Goals as goal
 
@@ -28,14 +28,14 @@ loop-member-preserved c =
     c.in-Some.is c.in_ok-member.ensures.fewer in
     let m = c.in-Some.member in
     let copies = replicate c.skip_repeats-more.result m.byte in
-    let bytes : bytes_of (read.done ++ m ∷ plain_members copies) ≡ bytes_of read.done ++ m.byte ∷ copies =
+    let bytes : member_bytes (read.done ++ m ∷ plain_members copies) ≡ member_bytes read.done ++ m.byte ∷ copies =
     map-append (λ (n : Member). n.byte) read.done (m ∷ plain_members copies)
-    ∙ ap (λ bs. bytes_of read.done ++ m.byte ∷ bs) (bytes_of-plain copies) in
+    ∙ ap (λ bs. member_bytes read.done ++ m.byte ∷ bs) (member_bytes-plain copies) in
     record {
       read =
-          items_more (λ (ms : List Member). c.push.new.self ≡ contents_of (bytes_of ms)) read (m ∷ plain_members copies)
+          items_more (λ (ms : List Member). c.push.new.self ≡ contents_of (member_bytes ms)) read (m ∷ plain_members copies)
           (step ∙ ap (λ rs. Ok m ∷ rs) c.skip_repeats-more.ensures.passed)
-          (λ h. c.push.ensures.is (bytes_of read.done) h ∙ ap contents_of (sym bytes));
+          (λ h. c.push.ensures.is (member_bytes read.done) h ∙ ap contents_of (sym bytes));
       most = omega (
         arith,
         c.push.ensures.length,
@@ -52,4 +52,4 @@ returns-clause-is c =
     c.in_ok-member.field-0 c.in_default.is c.in_ok-member.ensures.steps in
     let (ps, whole, bytes) = string-read c.args.role c.args.text.now c.args.fill read.done c.if-is_empty.ensures
     (items_end read end) in
-    rw whole (ap Ok (read.holds ∙ ap contents_of (ap bytes_of (sym bytes) ∙ bytes_of-array c.args.fill ps)))
+    rw whole (ap Ok (read.holds ∙ ap contents_of (ap member_bytes (sym bytes) ∙ member_bytes-array c.args.fill ps)))

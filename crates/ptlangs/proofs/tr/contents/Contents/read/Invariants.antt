@@ -1,14 +1,14 @@
 -- The contents are those of the bytes so far; with the bytes that are left, these are no more than the text allows.
 use Rattle.ptlangs.proofs.Common.{◌≡◌, ◌≤◌, ◌+◌, ◌*◌, List, length, segments_of}
 use Rattle.ptlangs.specs.declared.tr.segments.Member.{Member}
-use Rattle.ptlangs.specs.TrParsing.{bytes_left, bytes_of, contents_of, member_results, most_left}
+use Rattle.ptlangs.specs.TrParsing.{bytes_left, member_bytes, contents_of, member_results, most_left}
 use Rattle.ptlangs.proofs.TrByteWalk.{ItemsRead}
 use Rattle.ptlangs.proofs.tr.contents.Contents.read.Given as goal
 
 abbrev pub invariant-loop-member : goal.invariant-loop-member
 invariant-loop-member l = record {
   read : ItemsRead (member_results l.fn.fill (segments_of l.fn.role l.fn.text)) (bytes_left l.bytes)
-      (λ (ms : List Member). l.contents ≡ contents_of (bytes_of ms));
+      (λ (ms : List Member). l.contents ≡ contents_of (member_bytes ms));
   most : l.contents.length + most_left l.bytes ≤ 65536 * length l.fn.text + l.fn.fill;
 }
 

@@ -7,7 +7,7 @@ use Rattle.ptlangs.proofs.Common.{tables}
 use Rattle.ptlangs.specs.TrClasses.{all_bytes}
 use Rattle.ptlangs.specs.TrParsing.{contents_of, marked_array, ok_map}
 use Rattle.ptlangs.specs.declared.tr.contents.Contents.{Contents}
-use Rattle.ptlangs.proofs.TrByteWalk.{bytes_of-array, on_fault, string-ok}
+use Rattle.ptlangs.proofs.TrByteWalk.{member_bytes-array, on_fault, string-ok}
 use Rattle.ptlangs.proofs.TrContents.{none_contained}
 use Rattle.ptlangs.proofs.TrImages.{answer_fault, answer_ok}
 use Rattle.ptlangs.proofs.TrPlans.{is_translate, mapped_at, second_plan-read, tables_are, valid-paired}
@@ -69,7 +69,7 @@ returns-in-TranslateSqueeze c = λ firsts e f.
     (c.new-2.ensures.all ∙ string-ok role c.args.s2.now fill ps read)) in
     let valid = valid-paired c.args.form c.args.complement firsts ps fill c.in_default.not-DeleteSqueeze ∙ paired in
     let from = first_array c.args.complement firsts in
-    let images = table ∙ ap (λ to. map (image_by from to) all_bytes) (bytes_of-array fill ps) in
+    let images = table ∙ ap (λ to. map (image_by from to) all_bytes) (member_bytes-array fill ps) in
     let is = tables_are (plan_of TranslateSqueeze from (array fill ps)) _ _ _ none_contained images
     (ap (λ (q : Contents). q.has) second) in
     ap Ok (c.new-in-TranslateSqueeze.ensures ∙ is
@@ -90,7 +90,7 @@ returns-in_default-form c = λ firsts e f.
     (c.new-2.ensures.all ∙ string-ok role c.args.s2.now fill ps read)) in
     let valid = valid-paired c.args.form c.args.complement firsts ps fill c.in_default.not-DeleteSqueeze ∙ paired in
     let from = first_array c.args.complement firsts in
-    let images = table ∙ ap (λ to. map (image_by from to) all_bytes) (bytes_of-array fill ps) in
+    let images = table ∙ ap (λ to. map (image_by from to) all_bytes) (member_bytes-array fill ps) in
     let is = tables_are (plan_of Translate from (array fill ps)) _ _ _ none_contained images none_contained in
     let translates =
     is_translate c.args.form c.requires.form c.in_default.not-DeleteSqueeze c.in_default-form.not-TranslateSqueeze in
