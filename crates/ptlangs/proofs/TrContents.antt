@@ -12,6 +12,8 @@ use Rattle.ptlangs.proofs.Common.{unwrap_or, complement_of, padded_to, image_by}
 use Rattle.std.proofs.Math.ListN.{get_or}
 use Rattle.std.proofs.lemmas.Bool.{or_right}
 use Rattle.std.proofs.lemmas.List.Elements.{filter-append}
+use Rattle.std.proofs.lemmas.List.Sums.{length-filter}
+use Rattle.std.specs.Prelude.{count_by}
 use Rattle.ptlangs.specs.TrClasses.{all_bytes}
 use Rattle.ptlangs.specs.TrParsing.{contents_of}
 use Rattle.ptlangs.specs.declared.tr.contents.Contents.{Contents}
@@ -119,14 +121,6 @@ pub get_or-has : (contents : Contents) (bytes : List ℕ) (b : ℕ) (d : Bool) �
     → get_or contents.has b d ≡ has_byte b bytes
 get_or-has contents bytes b d h e = rw e (get_or-table (λ c. has_byte c bytes) b d h)
 
--- the next byte belongs to the complement if the array does not contain it
-pub others-more : (start : Contents) (bytes : List ℕ) {b i : ℕ} (t : Bool) → i ≡ b → b < 256
-    → get_or start.has i false ≡ t → start ≡ contents_of bytes
-    → others_below bytes (b + 1) ≡ others_below bytes b ++ cond t [] (b ∷ [])
-others-more start bytes {b} t j h s e =
-    others_below-more bytes b t (sym (get_or-has start bytes b false h e) ∙ ap (λ k. get_or start.has k false) (sym j)
-    ∙ s)
-
 -- the complement goes on after the bytes below `m`
 others-split : (bytes : List ℕ) (m k : ℕ)
     → (rest : List ℕ) × (others_below bytes (m + k) ≡ others_below bytes m ++ rest)
@@ -202,6 +196,31 @@ has_byte-all b low = has_byte-range 256 b low
 -- the complement contains the bytes that the array does not contain
 pub has_byte-complement : (bytes : List ℕ) (b : ℕ) → b < 256 → has_byte b (complement_of bytes) ≡ not (has_byte b bytes)
 has_byte-complement bytes b low = has_byte-filter (λ c. not (has_byte c bytes)) b all_bytes (has_byte-all b low)
+
+length-filter-map : (f : ℕ → Bool) (xs : List ℕ)
+    → count_by not (map f xs) ≡ length (filter (λ b. not (f b)) xs)
+length-filter-map f xs = sym (length-filter not (map f xs)) ∙ by_item xs
+  where
+    choose : (t : Bool) {A B : Type 0} (y : A) (ys : List A) (z : B) (zs : List B) → length ys ≡ length zs
+        → length (cond t (y ∷ ys) ys) ≡ length (cond t (z ∷ zs) zs)
+    choose true y ys z zs e = ap (λ n. suc n) e
+    choose false y ys z zs e = e
+
+    by_item : (xs : List ℕ) → length (filter not (map f xs)) ≡ length (filter (λ b. not (f b)) xs)
+    by_item [] = refl
+    by_item (x ∷ xs) = choose (not (f x)) _ _ _ _ (by_item xs)
+
+-- the complement of an array, from a table and a count of the bytes that the array does not contain
+pub complement-is : (old : Contents) (bytes : List ℕ) (has : List Bool) (count : ℕ) → old ≡ contents_of bytes
+    → length has ≡ 256 → ((k : ℕ) → k < 256 → get_or has k false ≡ not (get_or old.has k false))
+    → count ≡ count_by not old.has → record { has = has; length = count } ≡ contents_of (complement_of bytes)
+complement-is old bytes has count e long flips counted =
+    let table : has ≡ map (λ b. has_byte b (complement_of bytes)) all_bytes =
+    same_table has (λ b. has_byte b (complement_of bytes)) false long (λ k low.
+    flips k low ∙ ap not (get_or-has old bytes k false low e) ∙ sym (has_byte-complement bytes k low)) in
+    let all : count ≡ length (complement_of bytes) =
+    counted ∙ ap (λ (q : Contents). count_by not q.has) e ∙ length-filter-map (λ b. has_byte b bytes) all_bytes in
+    rw (table, all) refl
 
 -- a byte is not in the array if it is in the complement, and the other way about
 pub is_kept : (first : Contents) (bytes : List ℕ) (b i : ℕ) (t : Bool) → i ≡ b → b < 256 → get_or first.has i false ≡ t

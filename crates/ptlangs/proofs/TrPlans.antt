@@ -77,20 +77,24 @@ valid-paired Squeeze false firsts ps n other = paired-arrays n firsts ps
 valid-paired Delete true firsts ps n other = paired-plain n (complement_of (array 0 firsts)) ps
 valid-paired Delete false firsts ps n other = paired-arrays n firsts ps
 
+-- a result of which only the fault was changed
+pub in_string-ok : {A : Type 0} (string : SetString) (r : Result A SetFaultKind) (x : A) → Ok x ≡ in_string string r
+    → Ok x ≡ r
+in_string-ok string (Ok y) x e = cc
+in_string-ok string (Err k) x e = cc
+
 -- the plan of two strings, the first of which has no fault
-pub plan_two : (form : Form) (complement : Bool) (s1 s2 : List ℕ) (firsts : List Segment) (k : SetFaultKind)
+pub plan_two : (form : Form) (complement : Bool) (s1 s2 : List ℕ) (firsts : List Segment)
     → string_segments First s1 ≡ Ok firsts
-    → Err k ≡ result_map_both tables (λ (kind : SetFaultKind). kind) (second_plan form complement firsts s2)
-    → result_map_both tables (λ (f : SetFault). f) (plan form complement s1 (Some s2))
-    ≡ Err (record { string = string.Second; kind = k })
-plan_two form complement s1 s2 firsts k s e = rw s (choose (second_plan form complement firsts s2) e)
+    → in_string string.Second (result_map_both tables (λ (k : SetFaultKind). k) (second_plan form complement firsts s2))
+    ≡ result_map_both tables (λ (f : SetFault). f) (plan form complement s1 (Some s2))
+plan_two form complement s1 s2 firsts s = rw s (choose (second_plan form complement firsts s2))
   where
-    choose : (r : Result Plan SetFaultKind) → Err k ≡ result_map_both tables (λ (kind : SetFaultKind). kind) r
-        → result_map_both tables (λ (f : SetFault). f) (in_string string.Second r)
-        ≡ Err (record { string = string.Second; kind = k })
-    choose (Ok p) e = absurd (let no : ⊥ = cc in no)
-    choose (Err j) e = let same : k ≡ j = cc in
-        ap (λ (kind : SetFaultKind). Err (record { string = string.Second; kind = kind })) (sym same)
+    choose : (r : Result Plan SetFaultKind)
+        → in_string string.Second (result_map_both tables (λ (k : SetFaultKind). k) r)
+        ≡ result_map_both tables (λ (f : SetFault). f) (in_string string.Second r)
+    choose (Ok p) = refl
+    choose (Err k) = refl
 
 -- ---- the three tables of a plan
 

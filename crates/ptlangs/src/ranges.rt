@@ -1,12 +1,12 @@
 //! The list of `cut` (options `-b`, `-c` and `-f`), as `ptopts` reads it and `ptflow` uses it.
-ghost use Rattle.std.specs.Prelude.{◌≡◌, ◌≤◌, ◌<◌, None, IfOk, IsTrue, MatchResult};
+ghost use Rattle.std.specs.Prelude.{◌≡◌, ◌≤◌, ◌<◌, None, IfErr, IfOk, IsTrue, MatchResult};
 ghost use Rattle.std.specs.Result.{result_err};
 ghost use Rattle.ptlangs.specs.Results.{ParsePost, ValidatedParsePost};
 ghost use Rattle.ptlangs.specs.CutLists.{CutListMatchesGrammar, cut_list_fault, is_bound, value_or, interval_of_bounds, checked_interval, element_interval, cut_list, is_selected, selection, AreSeparated, AreSortedFrom};
 ghost use Rattle.ptlangs.specs.Numbers.{max_u64};
 
 use crate::numbers::{decimal, first_element, is_decimal};
-use std::alloc::{AllocError, AllocFailed, Allocator, Global};
+use std::alloc::{AllocFailed, Allocator, Global};
 use std::marker::Model;
 
 /// The numbers from `first` to `last`, both included.
@@ -31,17 +31,6 @@ pub enum ListFault {
     Malformed = 5,
     /// An allocation failed.
     Memory = 6,
-}
-
-impl From<AllocError> for ListFault {
-    ghost use Rattle.std.specs.Prelude.{◌≡◌};
-    ghost use Rattle.ptlangs.specs.declared.ranges.ListFault.TheVariants.{Memory};
-
-    ghost from_gives = { λ _ e. e ≡ Memory };
-
-    fn from(_error: AllocError) -> ListFault {
-        ListFault::Memory
-    }
 }
 
 impl<T: Drop> From<AllocFailed<T>> for ListFault {
@@ -202,8 +191,9 @@ fn read_bound(text: &[u8], default: u64) -> Result<u64, ListFault>
 }
 
 /// Merges intervals that overlap or are adjacent. The intervals are given in the order of their first numbers.
-fn merge<A: Allocator>(alloc: A, sorted: &[Interval]) -> Result<Vec<Interval, A>, AllocError>
+fn merge<A: Allocator>(alloc: A, sorted: &[Interval]) -> Result<Vec<Interval, A>, ListFault>
     requires { AreSortedFrom 1 sorted.now }
+    ensures fault { IfErr result (λ e. e ≡ ListFault.Memory) }
     ensures separated { IfOk result (λ v. AreSeparated 0 v.items) }
     ensures same { IfOk result (λ v. is_selected v.items ≡ is_selected sorted.now) }
 {

@@ -101,9 +101,8 @@ pub(crate) fn span_len(first: u8, last: u8) -> u128
 pub(crate) fn span_get(first: u8, last: u8, index: u128) -> Option<u8>
     ensures { result ≡ slice_get (span first last) index }
 {
-    if index < span_len(first, last) {
-        Some(first + index as u8)
-    } else {
-        None
+    if index >= span_len(first, last) {
+        return None;
     }
+    Some(first + index as u8)
 }

@@ -68,12 +68,9 @@ impl Contents {
             → result ≡ contents_of (complement_of bytes) }
         ensures bound { result.length ≤ 256 }
     {
-        let mut others = Contents::new();
-        for byte in u8::MIN..=u8::MAX {
-            if !self.has[usize::from(byte)] {
-                others.push(byte, 0);
-            }
+        Contents {
+            has: self.has.map(|has| !has),
+            length: self.has.iter().filter(|has| !**has).count() as u128,
         }
-        others
     }
 }

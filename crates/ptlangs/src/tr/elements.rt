@@ -114,7 +114,6 @@ fn read_count(digits: &[u8]) -> Option<u16>
     ensures { result ≡ repeat_count digits.now }
 {
     match digits {
-        [] => Some(0),
         [b'0', ..] if !are_octal(digits) => None,
         [b'0', ..] => Some(number(digits, 8, 65535)? as u16),
         _ => Some(number(digits, 10, 65535)? as u16),

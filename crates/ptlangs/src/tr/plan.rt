@@ -2,11 +2,10 @@
 //! strings of a command line; `ptflow` applies it to the input.
 ghost use Rattle.std.specs.Prelude.{◌≡◌, ◌^◌, ◌<◌, [], ℕ, List, Ok, IfOk, IfSome, MatchOption, length, false, true};
 ghost use Rattle.std.specs.Prelude.{is_some, option_copied};
-ghost use Rattle.ptlangs.specs.declared.faults.SetFault.{SetFault};
 ghost use Rattle.ptlangs.specs.declared.faults.SetFaultKind.{SetFaultKind};
 ghost use Rattle.ptlangs.specs.declared.tr.segments.Segment.{Segment};
 ghost use Rattle.ptlangs.specs.TrPlan.{first_array, plan, plan_of, second_plan, NoMemoryFault, second_role};
-ghost use Rattle.ptlangs.specs.TrPlan.{string_segments, takes_second};
+ghost use Rattle.ptlangs.specs.TrPlan.{in_string, string_segments, takes_second};
 ghost use Rattle.ptlangs.specs.TrTables.{tables, deletes, image, squeezes, TablesMatchPlan};
 ghost use Rattle.ptlangs.specs.TrShifts.{stretches, HasImagesOf};
 ghost use Rattle.ptlangs.specs.TrParsing.{contents_of, ok_map};
@@ -62,17 +61,16 @@ fn read_first(complement: bool, s1: &[u8]) -> Result<Contents, SetFaultKind>
 {
     let first = Contents::read(SetRole::First, s1, 0)?;
     if complement {
-        Ok(first.complement())
-    } else {
-        Ok(first)
+        return Ok(first.complement());
     }
+    Ok(first)
 }
 
-/// The fault of this kind in the string.
-fn fault(string: SetString, kind: SetFaultKind) -> SetFault
-    ensures { result ≡ record { string = string; kind = kind } }
+/// The result of reading the string, with a fault that names it.
+fn in_string<T: Drop>(string: SetString, read: Result<T, SetFaultKind>) -> Result<T, SetFault>
+    ensures { result ≡ in_string string read }
 {
-    SetFault { string, kind }
+    read.map_err(|kind| SetFault { string, kind })
 }
 
 /// For each byte: whether it is deleted, its image, and whether its repeats are squeezed. Reading a plan from its
@@ -124,17 +122,12 @@ impl CharPlan {
         ensures { result
             ≡ ok_map tables (plan form complement s1.now (option_copied s2.entry)) }
     {
-        let first = match read_first(complement, s1) {
-            Ok(first) => first,
-            Err(kind) => return Err(fault(SetString::First, kind)),
-        };
+        let first = in_string(SetString::First, read_first(complement, s1))?;
         let Some(s2) = s2 else {
             return Ok(CharPlan::of_one(form, &first));
         };
-        match CharPlan::of_two(form, complement, s1, &first, s2) {
-            Ok(plan) => Ok(plan),
-            Err(kind) => Err(fault(SetString::Second, kind)),
-        }
+        let plan = CharPlan::of_two(form, complement, s1, &first, s2);
+        in_string(SetString::Second, plan)
     }
 
     /// The plan with these tables.
