@@ -88,7 +88,7 @@ contents-push old bytes b more h e =
 pub contents-new : record { has = replicate 256 false; length = 0 } ≡ contents_of []
 contents-new = rw none_contained refl
 
-pub ruleset contents_steps = (contents-push, contents-new)
+pub ruleset contents_steps = (contents-push)
 
 -- ---- the complement of an array
 

@@ -20,7 +20,8 @@ use Rattle.ptlangs.specs.declared.faults.SetString.{SetString}
 use Rattle.ptlangs.specs.declared.tr.elements.SetElement.TheVariants as element
 use Rattle.ptlangs.proofs.TrElementGrammar.{faults_are_first}
 use Rattle.ptlangs.proofs.Common.{complement_of}
-use Rattle.ptlangs.specs.TrParsing.{all_paired, contents_of, first_members, marked_array}
+use Rattle.ptlangs.specs.TrParsing.{all_paired, contents_of, first_members, marked_array, ok_map}
+use Rattle.ptlangs.specs.TrTables.{Tables}
 use Rattle.ptlangs.proofs.TrByteWalk.{paired-arrays, paired-plain}
 use Rattle.ptlangs.proofs.TrCharGrammar.{chars_are_spelled}
 
@@ -44,24 +45,31 @@ pub mapped_at : (r : Result (List Segment) SetFaultKind) (f : List Segment → C
 mapped_at (Ok qs) f y ps e h = let same : qs ≡ ps = cc in let value : y ≡ f qs = cc in value ∙ ap f same
 mapped_at (Err k) f y ps e h = absurd (let no : ⊥ = cc in no)
 
--- the plan of two strings, after the second one was read without a fill
-pub second_plan-read : (form : Form) (complement : Bool) (firsts : List Segment) (text : List ℕ) (role : SetRole)
+-- the segments of a second string, and the plan that they give if a fill has `fill` bytes
+pub record SecondRead (form : Form) (complement : Bool) (firsts : List Segment) (text : List ℕ) (role : SetRole)
+    (fill : ℕ) : Type 0 where
+  pub ps : List Segment
+  pub read : string_segments role text ≡ Ok ps
+  pub plan : (valid : Bool)
+      → has_valid_classes form complement (class_offsets 0 0 firsts) (class_offsets fill 0 ps) ≡ valid
+      → second_plan form complement firsts text
+      ≡ cond {A = Result Plan SetFaultKind} valid (Ok (plan_of form (first_array complement firsts) (array fill ps)))
+      (Err ClassPlace)
+
+-- the second string was read without a fill
+pub second_read : (form : Form) (complement : Bool) (firsts : List Segment) (text : List ℕ) (role : SetRole)
     (fill : ℕ) (first unfilled : Contents)
     → role ≡ second_role form
     → Ok unfilled ≡ result_map_both (λ ps. contents_of (array 0 ps)) (λ (k : SetFaultKind). k)
     (string_segments role text)
     → fill ≡ first.length - unfilled.length → first ≡ contents_of (first_array complement firsts)
-    → (ps : List Segment) × (string_segments role text ≡ Ok ps)
-    × ((valid : Bool) → has_valid_classes form complement (class_offsets 0 0 firsts) (class_offsets fill 0 ps) ≡ valid
-    → second_plan form complement firsts text
-    ≡ cond {A = Result Plan SetFaultKind} valid (Ok (plan_of form (first_array complement firsts) (array fill ps)))
-    (Err ClassPlace))
-second_plan-read form complement firsts text role fill first unfilled at was e f =
+    → SecondRead form complement firsts text role fill
+second_read form complement firsts text role fill first unfilled at was e f =
     let (ps, read, is) = mapped_ok (string_segments role text) (λ ps. contents_of (array 0 ps)) unfilled was in
     let whole : string_segments (second_role form) text ≡ Ok ps = ap (λ q. string_segments q text) (sym at) ∙ read in
     let has_fill : fill ≡ fill_count (length (first_array complement firsts)) ps =
     omega (arith, e, ap (λ (q : Contents). q.length) f, ap (λ (q : Contents). q.length) is) in
-    (ps, read, λ valid is. rw (whole, ← has_fill, is) refl)
+    record { ps = ps; read = read; plan = λ valid is. rw (whole, ← has_fill, is) refl }
 
 -- the classes of a second string that translates are valid if they are paired
 pub valid-paired : (form : Form) (complement : Bool) (firsts ps : List Segment) (n : ℕ) → (form ≡ DeleteSqueeze → ⊥)
@@ -103,6 +111,17 @@ pub tables_are : (p : Plan) (deleted : List Bool) (images : List ℕ) (squeezed 
     → squeezed ≡ map (is_squeezed p) all_bytes
     → record { deleted = deleted; images = images; squeezed = squeezed } ≡ tables p
 tables_are p deleted images squeezed d i s = rw (d, i, s) refl
+
+-- the tables of the plan of two strings, if each class of the second one is valid
+pub planned : (form like : Form) (complement : Bool) (firsts : List Segment) (text : List ℕ) (role : SetRole)
+    (fill : ℕ) (r : SecondRead form complement firsts text role fill) (t : Tables)
+    → form ≡ like
+    → has_valid_classes form complement (class_offsets 0 0 firsts) (class_offsets fill 0 r.ps) ≡ true
+    → t ≡ tables (plan_of like (first_array complement firsts) (array fill r.ps))
+    → Ok t ≡ ok_map tables (second_plan form complement firsts text)
+planned form like complement firsts text role fill r t same valid is =
+    rw (r.plan true valid) (ap Ok (is ∙ ap (λ (f : Form). tables (plan_of f (first_array complement firsts)
+    (array fill r.ps))) (sym same)))
 
 -- ---- the form in the last arm of a match
 

@@ -16,17 +16,6 @@ pub(crate) struct Contents {
 }
 
 impl Contents {
-    /// The empty array.
-    #[tactic(auto, using(crate::proofs::TrContents::contents_steps))]
-    fn new() -> Contents
-        ensures { result ≡ contents_of [] }
-    {
-        Contents {
-            has: [false; 256],
-            length: 0,
-        }
-    }
-
     /// Appends a byte to the array, and then `more` copies of it.
     #[tactic(auto, using(crate::proofs::TrContents::contents_steps))]
     fn push(&mut self, byte: u8, more: u128)
@@ -54,7 +43,10 @@ impl Contents {
             return Err(SetFaultKind::Empty);
         }
         let mut bytes = Bytes::new(role, text, fill);
-        let mut contents = Contents::new();
+        let mut contents = Contents {
+            has: [false; 256],
+            length: 0,
+        };
         while let Some(member) = bytes.next()? {
             let more = bytes.skip_repeats(member.byte);
             contents.push(member.byte, more);

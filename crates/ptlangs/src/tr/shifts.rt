@@ -44,16 +44,6 @@ impl Model for Shifts {
 }
 
 impl Shifts {
-    // No stretches.
-    fn none() -> Shifts
-        ensures { result ≡ [] }
-    {
-        Shifts {
-            stretches: [Stretch::new(0, 0, 0); 4],
-            count: 0,
-        }
-    }
-
     // Prepends a byte that is below all others and has the shift `by`. Returns false if a fifth stretch would be
     // needed.
     fn prepend(&mut self, byte: u8, by: u8) -> bool
@@ -95,10 +85,7 @@ impl Shifts {
         ensures found { result ≡ option_map (λ s. (s.first, s.last, s.by)) (slice_get self.now index) }
         ensures few { length self.now ≤ 4 }
     {
-        if index >= self.count {
-            return None;
-        }
-        let stretch = self.stretches[self.count - 1 - index];
+        let stretch = self.stretches[self.count.checked_sub(index)?.checked_sub(1)?];
         Some((stretch.first, stretch.last, stretch.by))
     }
 }
@@ -109,7 +96,10 @@ pub(crate) fn shifts_of(images: &[u8; 256]) -> Option<Shifts>
         (λ s. s ≡ stretches_from 0 images.now) }
     ensures moves { IfSome result (λ s. (b : ℕ) → b < 256 → image_of_shifts s b ≡ slice_index images.now b) }
 {
-    let mut shifts = Shifts::none();
+    let mut shifts = Shifts {
+        stretches: [Stretch::new(0, 0, 0); 4],
+        count: 0,
+    };
     let mut index = 256_usize;
     while index > 0 {
         index -= 1;

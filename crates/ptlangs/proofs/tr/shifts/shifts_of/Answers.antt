@@ -10,8 +10,7 @@ use Rattle.ptlangs.proofs.tr.shifts.shifts_of.Goals.{else-by-ne0-via-else-by-ne0
 pub loop-index-init : goal.loop-index-init
 loop-index-init c = record {
   within = omega arith;
-  stretches = c.none-shifts.ensures
-      ∙ sym (ap (stretches_from 256) (drop_all 256 c.args.images.now (omega (arith, c.told-images))));
+  stretches = sym (ap (stretches_from 256) (drop_all 256 c.args.images.now (omega (arith, c.told-images))));
 }
 
 pub returns-then-not-prepend-clause-found : goal.returns-then-not-prepend-clause-found

@@ -5,6 +5,8 @@ use Rattle.ptlangs.specs.declared.tr.segments.Member.{Member}
 use Rattle.ptlangs.specs.TrParsing.{bytes_left, member_bytes, contents_of, most_left, ok_map, plain_members}
 use Rattle.ptlangs.proofs.TrByteWalk.{member_bytes-array, member_bytes-plain, items_end, items_fault, items_more, next_none}
 use Rattle.ptlangs.proofs.TrByteWalk.{next_some, on_fault, some_then, string-fault, string-read}
+use Rattle.ptlangs.proofs.Common.{[]}
+use Rattle.ptlangs.proofs.TrContents.{contents-new}
 use Rattle.ptlangs.proofs.tr.contents.Contents.read.Goals as goal
 
 pub returns-in_err-member-clause-is : goal.returns-in_err-member-clause-is
@@ -16,6 +18,12 @@ returns-in_err-member-clause-is c =
     on_fault
     (λ r. r ≡ ok_map (λ (ps : List Segment). contents_of (array c.args.fill ps))
     (string_segments c.args.role c.args.text.now)) c.from_residual.result k is (rw fault refl)
+
+pub loop-member-init : goal.loop-member-init
+loop-member-init c = record {
+  read = record { done = []; so_far = sym c.new-bytes.ensures.all; holds = contents-new };
+  most = omega (arith, c.new-bytes.ensures.most);
+}
 
 pub loop-member-preserved : goal.loop-member-preserved
 loop-member-preserved c =
