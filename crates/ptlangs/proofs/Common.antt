@@ -4,22 +4,19 @@ pub use Rattle.std.proofs.Common.{false, get_or, inl, inr, leb, length, lit≤, 
 pub use Rattle.std.proofs.Common.{refl, replicate, reverse, rules, subst, suc, sym, take, tests, true, zero, ℕ, ◌%◌}
 pub use Rattle.std.proofs.Common.{◌&&◌, ◌*◌, ◌++◌, ◌+◌, ◌-◌, ◌<◌, ◌==◌, ◌||◌, ◌∙◌, ◌∷◌, ◌≡◌, ◌≢◌, ◌≤◌, ◌⊎◌}
 pub use Rattle.std.proofs.Math.ListN.{set}
-pub use Rattle.std.proofs.lemmas.Bool.{and_from, and_left, and_parts, and_right, cases_Bool, cases_eq, cases_lt}
+pub use Rattle.std.proofs.lemmas.Bool.{and_from, and_parts, and_right, cases_Bool, cases_eq}
 pub use Rattle.std.proofs.lemmas.Bool.{cond-false, cond-true, eq-eqb, eqb-false, eqb-true, le-leb, le-ltb, lt-leb}
-pub use Rattle.std.proofs.lemmas.Bool.{ltb-false, ltb-true, ne_eqb, not_from_false, or_from, or_parts}
+pub use Rattle.std.proofs.lemmas.Bool.{ltb-false, ltb-true, ne_eqb}
 pub use Rattle.std.proofs.lemmas.Bool.Decides.{nat_tests}
 pub use Rattle.std.proofs.lemmas.Iterator.{YieldsList-from_slice}
 pub use Rattle.std.proofs.lemmas.Iterator.Search.{all_from_yields_List, position_from_yields_List}
 pub use Rattle.std.proofs.lemmas.List.{append-nil, append_assoc, drop-drop, drop_all, drop_at, drop_more}
-pub use Rattle.std.proofs.lemmas.List.{get_or-replicate, get_or-set_other, get_or-set_same, get_or-take, get_or_default}
-pub use Rattle.std.proofs.lemmas.List.{length-append, length-drop, length-map, length-replicate, length-set}
-pub use Rattle.std.proofs.lemmas.List.{length-take, length_push, map-append, map-id, same_lists, take-take, take_all}
+pub use Rattle.std.proofs.lemmas.List.{get_or-replicate, get_or-take}
+pub use Rattle.std.proofs.lemmas.List.{length-append, length-drop, length-map, length-replicate}
+pub use Rattle.std.proofs.lemmas.List.{length-take, map-append, take-take, take_all}
 pub use Rattle.std.proofs.lemmas.List.{take_rest}
 pub use Rattle.std.proofs.lemmas.List.Elements.{All-append, All-cons}
-pub use Rattle.std.proofs.lemmas.List.Folds.{length-prefix_len, list_all-append, list_any-append}
-pub use Rattle.std.proofs.lemmas.List.FromFn.{get_or-map-range_with_len, length-map-range_with_len}
-pub use Rattle.std.proofs.lemmas.List.FromFn.{length-range_with_len, map-range_with_len_more}
-pub use Rattle.std.proofs.lemmas.List.Sorted.{All-permutation, IsNonDecreasingBy-from_sort_by_key}
+pub use Rattle.std.proofs.lemmas.List.Folds.{length-prefix_len, list_any-append}
 pub use Rattle.std.proofs.lemmas.List.Sorted.{IsPermutation-reverse, list_any-IsPermutation, sum_by-IsPermutation}
 pub use Rattle.std.proofs.lemmas.List.Splits.{join_with_byte-slice_split, length-slice_split, slice_split_at}
 pub use Rattle.std.proofs.lemmas.List.Splits.{slice_split_first, slice_split_none}
@@ -30,49 +27,40 @@ pub use Rattle.std.specs.List.{All, AllPass, flat_map, join_with_byte, last_or, 
 pub use Rattle.std.specs.List.{position, position_or_len, prefix_len, range_with_len, slice_get, slice_range}
 pub use Rattle.std.specs.List.{slice_split, take_while}
 pub use Rattle.std.specs.Option.{option_and_then, option_copied, option_or, option_to_list}
-pub use Rattle.std.specs.Prelude.{filter, is_some, sum_by, unwrap_or}
+pub use Rattle.std.specs.Prelude.{is_some, sum_by, unwrap_or}
 pub use Rattle.std.specs.Result.{result_err, result_map_both}
 pub use Rattle.std.specs.Str.Parse.{digits_value, digits_value_after}
-pub use Rattle.ptlangs.specs.CutLists.{CutListMatchesGrammar, AreSeparated, AreSortedFrom, From, FromTo, SpellsInterval}
-pub use Rattle.ptlangs.specs.CutLists.{IsValidInterval, IsIntervalElement, One, UpTo, checked_interval, cut_list}
-pub use Rattle.ptlangs.specs.CutLists.{element_interval, interval_of_bounds, is_dash, is_bound, is_selected}
-pub use Rattle.ptlangs.specs.CutLists.{interval_of_parts, selection}
-pub use Rattle.ptlangs.specs.DelimLists.{Backslash, IsDelim, IsDelimList, Last, More, Newline, Nothing, Tab, backslash}
-pub use Rattle.ptlangs.specs.DelimLists.{delim_list, delims, escape, delim_list_fault}
-pub use Rattle.ptlangs.specs.Numbers.{IsListOf, and_then, traverse, elements, max_u64, is_empty, is_number}
-pub use Rattle.ptlangs.specs.Numbers.{is_list_separator, number, cons_ok, value}
-pub use Rattle.ptlangs.specs.OutLists.{FirstFileField, SecondFileField, JoinField, field_of, out_list}
+pub use Rattle.ptlangs.specs.CutLists.{IsValidInterval, cut_list}
+pub use Rattle.ptlangs.specs.CutLists.{element_interval, is_dash}
+pub use Rattle.ptlangs.specs.DelimLists.{delim_list, delims}
+pub use Rattle.ptlangs.specs.Numbers.{and_then, traverse, elements, max_u64, is_empty, is_number}
+pub use Rattle.ptlangs.specs.Numbers.{is_list_separator, cons_ok, value}
+pub use Rattle.ptlangs.specs.OutLists.{out_list}
 pub use Rattle.ptlangs.specs.TrClasses.{are_opposite_cases, class_bytes, class_named, range_bytes, span}
 pub use Rattle.ptlangs.specs.TrElements.{AClass, ADescendingRange, AnInvalidEnd, AnInvalidChar, ARange, ARepeat, Alone}
-pub use Rattle.ptlangs.specs.TrElements.{AnEquivalence, AreElements, StartsElement, StartsInvalid, ByEscape, ByItself}
-pub use Rattle.ptlangs.specs.TrElements.{InBrackets, DenotesByte, StartsBracketed, HasBracketed, after_plain, after_run}
-pub use Rattle.ptlangs.specs.TrElements.{after_two, class_at, class_after_colon, class_with_name, count_in_base}
-pub use Rattle.ptlangs.specs.TrElements.{equivalence_at, equivalence_with_byte, equivalence_after_equals}
-pub use Rattle.ptlangs.specs.TrElements.{first_set_element, bracketed_at, bracketed_inside, single_or_range}
-pub use Rattle.ptlangs.specs.TrElements.{char_or_range, is_plain, or_char, set_elements, elements_after, elements_from}
-pub use Rattle.ptlangs.specs.TrElements.{plain_run, range_to, repeat_at, repeat_count, repeat_after_star, with_rest}
-pub use Rattle.ptlangs.specs.TrPlan.{FirstFaultIsReported, FirstFault, LaterFault, NoMemoryFault, NoElement, NoSegment}
-pub use Rattle.ptlangs.specs.TrPlan.{Plan, array, class_offsets, sequence, complement_of, fill_count, first_array}
-pub use Rattle.ptlangs.specs.TrPlan.{padded_to, has_byte, image_by, image_of, in_string, is_deleted, is_fill}
-pub use Rattle.ptlangs.specs.TrPlan.{are_paired, is_squeezed, last_position, next_index_or, has_valid_classes, members}
-pub use Rattle.ptlangs.specs.TrPlan.{segment, segments, segments_of, plan, plan_from, plan_of, plan_with}
-pub use Rattle.ptlangs.specs.TrPlan.{repeat_segment, second_role, second_plan, has_other_case_at, string_segments}
-pub use Rattle.ptlangs.specs.TrPlan.{takes_second}
+pub use Rattle.ptlangs.specs.TrElements.{AnEquivalence, StartsElement, StartsInvalid}
+pub use Rattle.ptlangs.specs.TrElements.{InBrackets, StartsBracketed, after_plain, after_run}
+pub use Rattle.ptlangs.specs.TrElements.{set_elements}
+pub use Rattle.ptlangs.specs.TrElements.{plain_run}
+pub use Rattle.ptlangs.specs.TrPlan.{FirstFaultIsReported, FirstFault, LaterFault, NoElement, NoSegment}
+pub use Rattle.ptlangs.specs.TrPlan.{array, class_offsets, sequence, complement_of, first_array}
+pub use Rattle.ptlangs.specs.TrPlan.{image_by, image_of, in_string, is_deleted, is_fill}
+pub use Rattle.ptlangs.specs.TrPlan.{are_paired, is_squeezed, has_valid_classes, members}
+pub use Rattle.ptlangs.specs.TrPlan.{segment, segments, segments_of, plan, plan_of}
+pub use Rattle.ptlangs.specs.TrPlan.{second_plan, has_other_case_at, string_segments}
 pub use Rattle.ptlangs.specs.TrShifts.{shift_at, prepend_shift, shift_of, image_of_shifts, stretches_from}
-pub use Rattle.ptlangs.specs.TrTables.{Tables, tables}
-pub use Rattle.ptlangs.specs.TrChars.{ALargeOctal, ALoneBackslash, APlainByte, AChar, AnEscape, AnOctal, IsOctalRun}
-pub use Rattle.ptlangs.specs.TrChars.{NoChar, OneDigit, SpellsChar, SpellsChars, ThreeDigits, TwoDigits}
-pub use Rattle.ptlangs.specs.TrChars.{CharsMatchGrammar, after_backslash, byte_of, byte_of_escape, is_octal_digit}
-pub use Rattle.ptlangs.specs.TrChars.{octal, octal_run, char_at, chars, chars_after}
+pub use Rattle.ptlangs.specs.TrTables.{tables}
+pub use Rattle.ptlangs.specs.TrChars.{ALargeOctal, ALoneBackslash, APlainByte, AChar, AnEscape, AnOctal}
+pub use Rattle.ptlangs.specs.TrChars.{NoChar, SpellsChar, SpellsChars}
+pub use Rattle.ptlangs.specs.TrChars.{after_backslash, byte_of, is_octal_digit}
+pub use Rattle.ptlangs.specs.TrChars.{octal, octal_run, chars}
 pub use Rattle.ptlangs.specs.declared.tr.classes.CharClass.{CharClass}
 pub use Rattle.ptlangs.specs.declared.delims.DelimFault.{DelimFault}
 pub use Rattle.ptlangs.specs.declared.faults.SetFault.{SetFault}
 pub use Rattle.ptlangs.specs.declared.faults.SetFaultKind.{SetFaultKind}
 pub use Rattle.ptlangs.specs.declared.faults.SetFaultKind.TheVariants.{ClassPlace, Escape, Memory, Octal}
 pub use Rattle.ptlangs.specs.declared.tr.elements.SetElement.{SetElement}
-pub use Rattle.ptlangs.specs.declared.tr.elements.SetElement.TheVariants.{Class, Equivalence, Single}
 pub use Rattle.ptlangs.specs.declared.tr.segments.Segment.{Segment}
-pub use Rattle.ptlangs.specs.declared.tr.segments.Segment.TheVariants.{Fill, Repeat}
 pub use Rattle.ptlangs.specs.declared.tr.segments.SetRole.{SetRole}
 pub use Rattle.ptlangs.specs.declared.tr.segments.SetRole.TheVariants.{First, Images, Squeezed}
 pub use Rattle.ptlangs.specs.declared.tr.plan.Form.{Form}

@@ -3,21 +3,22 @@
 -- that they select.
 use Rattle.ptlangs.proofs.Common.{Result, ◌≡◌, Bool, List, None, Ok, Option, Some, [], ap, arith, cond, drop, eqb}
 use Rattle.ptlangs.proofs.Common.{false, get_or, inl, inr, leb, length, ltb, not, refl, subst, suc, sym, take, true, ℕ}
-use Rattle.ptlangs.proofs.Common.{◌&&◌, ◌++◌, ◌+◌, ◌-◌, ◌<◌, ◌||◌, ◌∙◌, ◌∷◌, and_left, and_parts, and_right, cases_Bool}
-use Rattle.ptlangs.proofs.Common.{cond-false, cond-true, eqb-false, eqb-true, le-ltb, ltb-false, ne_eqb, or_from}
-use Rattle.ptlangs.proofs.Common.{or_parts, nat_tests, All-append, All-cons, list_any-IsPermutation}
+use Rattle.ptlangs.proofs.Common.{◌&&◌, ◌++◌, ◌+◌, ◌-◌, ◌<◌, ◌||◌, ◌∙◌, ◌∷◌, and_parts, and_right, cases_Bool}
+use Rattle.ptlangs.proofs.Common.{cond-false, cond-true, eqb-false, eqb-true, le-ltb, ltb-false, ne_eqb}
+use Rattle.ptlangs.proofs.Common.{nat_tests, All-append, All-cons, list_any-IsPermutation}
 use Rattle.ptlangs.proofs.Common.{join_with_byte-slice_split, length-slice_split, slice_split_at, slice_split_none}
 use Rattle.ptlangs.proofs.Common.{AllPass-from_list_all, is_ascii_digit, All, join_with_byte, list_all, position}
-use Rattle.ptlangs.proofs.Common.{slice_split, CutListMatchesGrammar, AreSortedFrom, From, FromTo, SpellsInterval}
-use Rattle.ptlangs.proofs.Common.{IsValidInterval, IsIntervalElement, One, UpTo, checked_interval, cut_list}
-use Rattle.ptlangs.proofs.Common.{element_interval, interval_of_bounds, is_dash, is_bound, is_selected}
-use Rattle.ptlangs.proofs.Common.{interval_of_parts, selection, and_then, traverse, max_u64, is_empty, is_number}
+use Rattle.ptlangs.proofs.Common.{slice_split}
+use Rattle.ptlangs.proofs.Common.{IsValidInterval, cut_list}
+use Rattle.ptlangs.proofs.Common.{element_interval, is_dash}
+use Rattle.ptlangs.proofs.Common.{and_then, traverse, max_u64, is_empty, is_number}
 use Rattle.ptlangs.proofs.Common.{is_list_separator, value, Interval, max, ◌≤◌, append_assoc, list_any-append, list_any}
-use Rattle.ptlangs.proofs.Common.{AreSeparated}
 use Rattle.std.specs.List.Sorted.{IsNonDecreasingBy, IsPermutation}
 use Rattle.std.proofs.lemmas.Bool.{cond_both}
 use Rattle.ptlangs.specs.declared.ranges.ListFault.{ListFault}
 use Rattle.ptlangs.proofs.ListElements.{split_whole, split_around, some_since, digits_fail, digit_no_list_separator}
+use Rattle.ptlangs.specs.CutLists.{CutListMatchesGrammar, AreSeparated, AreSortedFrom, From, FromTo, SpellsInterval, IsIntervalElement, One, UpTo, checked_interval, interval_of_bounds, is_bound, is_selected, interval_of_parts, selection}
+use Rattle.std.proofs.lemmas.Bool.{and_left, or_from, or_parts}
 use Rattle.ptlangs.proofs.ListElements.{IsSplit, Whole, Cut, splits, reads_first, Accepts, from_grammar, to_grammar}
 
 -- ---- the elements, split at dashes

@@ -2,11 +2,12 @@
 -- directions. The fault of a list is the first one found from left to right, and is never an allocation failure.
 use Rattle.ptlangs.proofs.Common.{◌≡◌, Bool, Err, List, None, Ok, Option, Result, Some, [], ap, arith, cond, eqb, false}
 use Rattle.ptlangs.proofs.Common.{length, refl, subst, sym, true, ℕ, ◌++◌, ◌<◌, ◌∙◌, ◌∷◌, eqb-true, append-nil}
-use Rattle.ptlangs.proofs.Common.{result_err, Backslash, IsDelim, IsDelimList, Last, More, Newline, Nothing, Tab}
-use Rattle.ptlangs.proofs.Common.{backslash, delim_list, delims, escape, delim_list_fault, and_then, cons_ok}
+use Rattle.ptlangs.proofs.Common.{result_err}
+use Rattle.ptlangs.proofs.Common.{delim_list, delims, and_then, cons_ok}
 use Rattle.ptlangs.proofs.Common.{DelimFault}
 use Rattle.std.proofs.lemmas.Bool.{cond_both}
 use Rattle.ptlangs.proofs.ListElements.{reads_first}
+use Rattle.ptlangs.specs.DelimLists.{Backslash, IsDelim, IsDelimList, Last, More, Newline, Nothing, Tab, backslash, escape, delim_list_fault}
 use Rattle.ptlangs.specs.DelimLists.{Plain, DelimListMatchesGrammar}
 
 pub delims_of_some : (bs : List ℕ) → 0 < length bs → delims bs ≡ delim_list bs

@@ -4,12 +4,14 @@ use Rattle.ptlangs.proofs.Common.{◌≡◌, Bool, Err, List, None, Ok, Result, 
 use Rattle.ptlangs.proofs.Common.{get_or, length, ltb, refl, subst, sym, take, true, ℕ, ◌++◌, ◌+◌, ◌-◌, ◌∙◌, ◌∷◌}
 use Rattle.ptlangs.proofs.Common.{ltb-false, ltb-true, nat_tests, append_assoc, length-drop, take_all, slice_split_at}
 use Rattle.ptlangs.proofs.Common.{slice_split_first, slice_split_none, AllPass-from_list_all, fails_before_first}
-use Rattle.ptlangs.proofs.Common.{is_ascii_digit, All, onto_first, position, position_or_len, slice_split, IsListOf}
+use Rattle.ptlangs.proofs.Common.{is_ascii_digit, All, onto_first, position, position_or_len, slice_split}
 use Rattle.ptlangs.proofs.Common.{and_then, traverse, elements, is_number, is_list_separator, cons_ok, eqb, leb, not}
 use Rattle.ptlangs.proofs.Common.{◌&&◌, ◌*◌, ◌<◌, ◌≤◌, and_from, and_right, cond-false, cond-true, le-leb, lt-leb}
-use Rattle.ptlangs.proofs.Common.{ne_eqb, not_from_false, drop_all, drop_more, digit_value, list_all}
-use Rattle.ptlangs.proofs.Common.{digits_value_after, max_u64, is_empty, number, value}
+use Rattle.ptlangs.proofs.Common.{ne_eqb, drop_all, drop_more, digit_value, list_all}
+use Rattle.ptlangs.proofs.Common.{digits_value_after, max_u64, is_empty, value}
 use Rattle.std.proofs.lemmas.Bool.{cond_both}
+use Rattle.ptlangs.specs.Numbers.{IsListOf, number}
+use Rattle.std.proofs.lemmas.Bool.{not_from_false}
 use Rattle.ptlangs.specs.Numbers.{Last, More}
 
 -- ---- splitting at the first separator

@@ -2,8 +2,7 @@
 -- tests exactly this. So `out_list` agrees with the grammar in both directions.
 use Rattle.ptlangs.proofs.Common.{Result, ◌≡◌, ℕ, ◌≤◌, true, false, not, ltb, eqb, List, [], ◌∷◌, Ok, refl, subst}
 use Rattle.ptlangs.proofs.Common.{arith, All, le-ltb, ltb-false, ne_eqb, eqb-true, eqb-false, All-cons, max_u64}
-use Rattle.ptlangs.proofs.Common.{is_number, value, is_list_separator, field_of, JoinField, FirstFileField}
-use Rattle.ptlangs.proofs.Common.{SecondFileField}
+use Rattle.ptlangs.proofs.Common.{is_number, value, is_list_separator}
 use Rattle.std.proofs.lemmas.Bool.{cond_both, not-false}
 use Rattle.ptlangs.proofs.ListElements.{digits_fail, digit_no_list_separator, Accepts, from_grammar, to_grammar}
 use Rattle.ptlangs.specs.declared.outlist.OutFault.{OutFault}
@@ -11,6 +10,7 @@ use Rattle.ptlangs.specs.OutLists.{element_field, SpellsField, IsValidField, IsF
 use Rattle.ptlangs.specs.declared.outlist.File.{File}
 use Rattle.ptlangs.specs.declared.outlist.File.TheVariants.{First, Second}
 use Rattle.ptlangs.specs.declared.outlist.OutField.{OutField}
+use Rattle.ptlangs.specs.OutLists.{FirstFileField, SecondFileField, JoinField, field_of}
 use Rattle.ptlangs.specs.declared.outlist.OutField.TheVariants.{Join, Field}
 
 -- ---- from the grammar to `out_list`

@@ -2,13 +2,14 @@
 -- length of the first.
 use Rattle.ptlangs.proofs.Common.{◌≡◌, ◌<◌, ◌≤◌, ◌+◌, ◌-◌, ℕ, zero, suc, List, [], ◌∷◌, ◌++◌, length, drop}
 use Rattle.ptlangs.proofs.Common.{replicate, lit≤, arith, refl, sym, ap, ◌∙◌, Option, Some, None, slice_get, flat_map}
-use Rattle.ptlangs.proofs.Common.{drop_more, length-replicate, length-range_with_len, CharClass, span}
+use Rattle.ptlangs.proofs.Common.{drop_more, length-replicate, CharClass, span}
 use Rattle.ptlangs.proofs.Common.{range_bytes, class_bytes, get_or-replicate}
 use Rattle.std.proofs.Math.ListN.{get_or}
 use Rattle.std.proofs.lemmas.List.FromFn.{get_or-range_with_len}
 use Rattle.std.proofs.lemmas.Option.{slice_get-get_or, slice_get_past, slice_get_within}
 use Rattle.std.specs.Prelude.{◌^◌, IfSome}
 use Rattle.ptlangs.specs.declared.tr.classes.CharClass.TheVariants.{Alnum, Alpha, Blank, Cntrl, Digit, Graph, Lower}
+use Rattle.std.proofs.lemmas.List.FromFn.{length-range_with_len}
 use Rattle.ptlangs.specs.declared.tr.classes.CharClass.TheVariants.{Print, Punct, Space, Upper, Xdigit}
 
 pub slice_get-left : {X : Type 0} (xs ys : List X) (i : ℕ) → i < length xs → slice_get (xs ++ ys) i ≡ slice_get xs i
@@ -24,7 +25,7 @@ slice_get-right (x ∷ xs) ys (suc i) j e = slice_get-right xs ys i j (omega ari
 
 pub slice_get-none : {X : Type 0} (xs : List X) (i : ℕ) → None ≡ slice_get xs i → length xs ≤ i
 slice_get-none [] i e = omega arith
-slice_get-none (x ∷ xs) zero e = absurd (let no : ⊥ = cc in no)
+slice_get-none (x ∷ xs) zero e = absurd (cc)
 slice_get-none (x ∷ xs) (suc i) e = omega (arith, slice_get-none xs i e)
 
 pub span_there : (first last index : ℕ) → index < length (span first last)

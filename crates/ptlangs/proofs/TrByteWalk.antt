@@ -5,17 +5,17 @@ use Rattle.ptlangs.proofs.Common.{false, length, map, refl, suc, sym, true, zero
 use Rattle.ptlangs.proofs.Common.{◌≤◌, ◌<◌, ◌-◌, append-nil, append_assoc, length-map, length-replicate, map-append}
 use Rattle.ptlangs.proofs.Common.{slice_get, cons_ok, are_opposite_cases, array, class_offsets, class_bytes, sequence}
 use Rattle.ptlangs.proofs.Common.{is_fill, are_paired, members, segment, result_map_both, has_other_case_at, CharClass}
-use Rattle.ptlangs.proofs.Common.{SetFaultKind, SetElement, Segment, Fill, Repeat, SetRole, First, Images, Squeezed}
+use Rattle.ptlangs.proofs.Common.{SetFaultKind, SetElement, Segment, SetRole, First, Images, Squeezed}
 use Rattle.ptlangs.proofs.Common.{eq-eqb, ne_eqb, drop_all, subst, replicate, span, segments_of, string_segments}
 use Rattle.std.proofs.lemmas.List.{drop-replicate}
-use Rattle.std.specs.Prelude.{IfSome}
 use Rattle.std.specs.Result.{IsErrAnd}
 use Rattle.ptlangs.specs.declared.tr.elements.SetElement.TheVariants as element
 use Rattle.ptlangs.specs.declared.tr.segments.Member.{Member}
 use Rattle.ptlangs.specs.declared.tr.segments.Segment.TheVariants.{Range, Class}
-use Rattle.ptlangs.specs.TrParsing.{NextItemPost, all_paired, member_bytes, classes_match, class_of, marked_array}
+use Rattle.ptlangs.specs.TrParsing.{all_paired, member_bytes, classes_match, class_of, marked_array}
 use Rattle.ptlangs.specs.TrParsing.{marked_members, member_results, members_from, plain_members}
 use Rattle.ptlangs.proofs.ListElements.{append_ok as onto, append_ok-nil, cons_ok-append_ok, reads_first}
+use Rattle.ptlangs.specs.declared.tr.segments.Segment.TheVariants.{Fill, Repeat}
 use Rattle.ptlangs.proofs.TrByteRanges.{slice_get-none, class_bytes-some}
 
 -- these items were read without a fault, and `P` holds of them; `rest` is still to be read
@@ -64,7 +64,7 @@ items_at {A} {after = after} {x = x} {xs = xs} r s c = by_rest (sequence after)
     by_rest : (t : Result (List A) SetFaultKind) → onto r.done (cons_ok x t) ≡ Ok xs
         → (more : List A) × (xs ≡ r.done ++ x ∷ more)
     by_rest (Ok more) e = (more, cc)
-    by_rest (Err k) e = absurd (let no : ⊥ = cc in no)
+    by_rest (Err k) e = absurd (cc)
 
 -- ---- the bytes of segments
 
@@ -86,8 +86,8 @@ sequence-members n (Err k ∷ rs) = refl
 pub members-ok : (n : ℕ) (rs : List (Result Segment SetFaultKind)) (ps : List Segment) → sequence rs ≡ Ok ps
     → member_results n rs ≡ map Ok (marked_array n ps)
 members-ok n [] [] e = refl
-members-ok n [] (p ∷ ps) e = absurd (let no : ⊥ = cc in no)
-members-ok n (Err k ∷ rs) ps e = absurd (let no : ⊥ = cc in no)
+members-ok n [] (p ∷ ps) e = absurd (cc)
+members-ok n (Err k ∷ rs) ps e = absurd (cc)
 members-ok n (Ok x ∷ rs) ps e =
     let all = reads_first (Ok x) (sequence rs) ps e in
     let read = all.read in
@@ -114,7 +114,7 @@ length-marked n x = sym (length-map (marked_members n x) (λ (m : Member). m.byt
     ∙ ap length (member_bytes-members (class_of x) (members n x))
 
 pub drop-found : {X : Type 0} (xs : List X) (i : ℕ) (x : X) → Some x ≡ slice_get xs i → drop i xs ≡ x ∷ drop (i + 1) xs
-drop-found [] i x e = absurd (let no : ⊥ = cc in no)
+drop-found [] i x e = absurd (cc)
 drop-found (y ∷ xs) zero x e = let same : y ≡ x = cc in ap (λ z. z ∷ xs) same
 drop-found (y ∷ xs) (suc i) x e =
     let next : suc i + 1 ≡ suc (i + 1) = omega arith in
@@ -158,20 +158,20 @@ copies-passed (suc n) i b ms h =
 -- a string that is not empty has the fault of its bytes
 pub string-fault : (role : SetRole) (text : List ℕ) (n : ℕ) (k : SetFaultKind) → false ≡ eqb (length text) 0
     → sequence (member_results n (segments_of role text)) ≡ Err k → string_segments role text ≡ Err k
-string-fault role [] n k some e = absurd (let no : ⊥ = cc in no)
+string-fault role [] n k some e = absurd (cc)
 string-fault role (b ∷ text) n k some e =
     by_segments (sequence (segments_of role (b ∷ text))) (sym (sequence-members n (segments_of role (b ∷ text))) ∙ e)
   where
     by_segments : (r : Result (List Segment) SetFaultKind)
         → result_map_both (marked_array n) (λ (j : SetFaultKind). j) r ≡ Err k → r ≡ Err k
-    by_segments (Ok ps) e = absurd (let no : ⊥ = cc in no)
+    by_segments (Ok ps) e = absurd (cc)
     by_segments (Err j) e = cc
 
 -- or the segments that give these bytes
 pub string-read : (role : SetRole) (text : List ℕ) (n : ℕ) (ms : List Member) → false ≡ eqb (length text) 0
     → sequence (member_results n (segments_of role text)) ≡ Ok ms
     → (ps : List Segment) × (string_segments role text ≡ Ok ps) × (marked_array n ps ≡ ms)
-string-read role [] n ms some e = absurd (let no : ⊥ = cc in no)
+string-read role [] n ms some e = absurd (cc)
 string-read role (b ∷ text) n ms some e =
     by_segments (sequence (segments_of role (b ∷ text))) (sym (sequence-members n (segments_of role (b ∷ text))) ∙ e)
   where
@@ -179,26 +179,15 @@ string-read role (b ∷ text) n ms some e =
         → result_map_both (marked_array n) (λ (j : SetFaultKind). j) r ≡ Ok ms
         → (ps : List Segment) × (r ≡ Ok ps) × (marked_array n ps ≡ ms)
     by_segments (Ok ps) e = (ps, refl, cc)
-    by_segments (Err j) e = absurd (let no : ⊥ = cc in no)
+    by_segments (Err j) e = absurd (cc)
 
 -- a string without a fault gives its array
 pub string-ok : (role : SetRole) (text : List ℕ) (n : ℕ) (ps : List Segment) → string_segments role text ≡ Ok ps
     → member_results n (segments_of role text) ≡ map Ok (marked_array n ps)
-string-ok role [] n ps e = absurd (let no : ⊥ = cc in no)
+string-ok role [] n ps e = absurd (cc)
 string-ok role (b ∷ text) n ps e = members-ok n (segments_of role (b ∷ text)) ps e
 
 -- ---- one step
-
-pub next_some : {A : Type 0} (old new : List (Result A SetFaultKind)) (o : Option A) (x : A) → o ≡ Some x
-    → NextItemPost old new (Ok o) → old ≡ Ok x ∷ new
-next_some old new o x is h = subst (λ p. NextItemPost old new (Ok p)) is h
-
-pub next_none : {A : Type 0} (old new : List (Result A SetFaultKind)) (o : Option A) → o ≡ None
-    → NextItemPost old new (Ok o) → (old ≡ []) × (new ≡ [])
-next_none old new o is h = subst (λ p. NextItemPost old new (Ok p)) is h
-
-pub some_then : {A : Type 0} (o : Option A) (x : A) (P : Type 0) → o ≡ Some x → IfSome o (λ _. P) → P
-some_then o x P is h = subst (λ p. IfSome p (λ _. P)) is h
 
 pub le_trans : (a b c : ℕ) → a ≤ b → b ≤ c → a ≤ c
 le_trans a b c h k = omega (arith, h, k)

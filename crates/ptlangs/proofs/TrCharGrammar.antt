@@ -5,15 +5,16 @@ use Rattle.ptlangs.proofs.Common.{◌∷◌, length, take, drop, get_or, arith, 
 use Rattle.ptlangs.proofs.Common.{Option, Some, None, prefix_len, slice_get, digit_value, digits_value, drop_more}
 use Rattle.ptlangs.proofs.Common.{drop_all, drop-drop, take-take, length-take, get_or-take, length-prefix_len}
 use Rattle.ptlangs.proofs.Common.{prefix_len-le-length, prefix_len_passes, is_octal_digit, octal_run, octal, chars}
-use Rattle.ptlangs.proofs.Common.{chars_after, char_at, after_backslash, Octal, SetChar, Plain, Escaped, Invalid, inl}
+use Rattle.ptlangs.proofs.Common.{after_backslash, Octal, SetChar, Plain, Escaped, Invalid, inl}
 use Rattle.ptlangs.proofs.Common.{inr, subst, ◌++◌, cases_Bool, cases_eq, ne_eqb, nat_tests, drop_at, length-append}
-use Rattle.ptlangs.proofs.Common.{ALargeOctal, ALoneBackslash, APlainByte, AChar, AnEscape, AnOctal, IsOctalRun, NoChar}
-use Rattle.ptlangs.proofs.Common.{OneDigit, SpellsChar, SpellsChars, ThreeDigits, TwoDigits, CharsMatchGrammar}
-use Rattle.ptlangs.proofs.Common.{byte_of_escape, Escape, cond-false, cond-true, le-leb, lt-leb, value}
+use Rattle.ptlangs.proofs.Common.{ALargeOctal, ALoneBackslash, APlainByte, AChar, AnEscape, AnOctal, NoChar}
+use Rattle.ptlangs.proofs.Common.{SpellsChar, SpellsChars}
+use Rattle.ptlangs.proofs.Common.{Escape, cond-false, cond-true, le-leb, lt-leb, value}
 use Rattle.std.proofs.Common.{All}
 use Rattle.std.specs.Int.{IsInRange}
 use Rattle.std.proofs.lemmas.Int.Digits.{digits_value_more}
 use Rattle.std.proofs.lemmas.Str.Parse.{digits_value-take-le, digit_from_value}
+use Rattle.ptlangs.specs.TrChars.{IsOctalRun, OneDigit, ThreeDigits, TwoDigits, CharsMatchGrammar, byte_of_escape, char_at, chars_after}
 use Rattle.std.proofs.lemmas.Str.{digit_value_digit}
 
 pub ruleset number_steps = (digits_value_more, digits_value-take-le, digit_from_value)

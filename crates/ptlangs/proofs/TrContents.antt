@@ -3,12 +3,11 @@
 use Rattle.ptlangs.proofs.Common.{◌≡◌, ◌≢◌, ◌⊎◌, inl, inr, ◌<◌, ◌≤◌, ◌+◌, ◌-◌, ℕ, zero, suc, Bool, true, false, cond}
 use Rattle.ptlangs.proofs.Common.{eqb, List, [], ◌∷◌, ◌++◌, length, take, map, replicate, arith, refl, sym, ap, ◌∙◌}
 use Rattle.ptlangs.proofs.Common.{Option, Some, None, range_with_len, flat_map, set, cases_eq, eq-eqb, ne_eqb}
-use Rattle.ptlangs.proofs.Common.{append_assoc, append-nil, map-id, same_lists, length-set, get_or-set_same}
-use Rattle.ptlangs.proofs.Common.{get_or-set_other, length-replicate, get_or-replicate, length-append}
-use Rattle.ptlangs.proofs.Common.{length-map-range_with_len, get_or-map-range_with_len, map-range_with_len_more}
-use Rattle.ptlangs.proofs.Common.{has_byte, last_position, next_index_or, min, not, ◌||◌, ◌&&◌, cases_lt}
-use Rattle.ptlangs.proofs.Common.{get_or_default, last_or, slice_get, option_and_then, option_to_list, filter}
-use Rattle.ptlangs.proofs.Common.{unwrap_or, complement_of, padded_to, image_by}
+use Rattle.ptlangs.proofs.Common.{append_assoc, append-nil}
+use Rattle.ptlangs.proofs.Common.{length-replicate, get_or-replicate, length-append}
+use Rattle.ptlangs.proofs.Common.{min, not, ◌||◌, ◌&&◌}
+use Rattle.ptlangs.proofs.Common.{last_or, slice_get, option_and_then, option_to_list}
+use Rattle.ptlangs.proofs.Common.{unwrap_or, complement_of, image_by}
 use Rattle.std.proofs.Math.ListN.{get_or}
 use Rattle.std.proofs.lemmas.Bool.{or_right}
 use Rattle.std.proofs.lemmas.List.Elements.{filter-append}
@@ -17,6 +16,11 @@ use Rattle.std.specs.Prelude.{count_by}
 use Rattle.ptlangs.specs.TrClasses.{all_bytes}
 use Rattle.ptlangs.specs.TrParsing.{contents_of}
 use Rattle.ptlangs.specs.declared.tr.contents.Contents.{Contents}
+use Rattle.ptlangs.specs.TrPlan.{padded_to, has_byte, last_position, next_index_or}
+use Rattle.std.specs.Prelude.{filter}
+use Rattle.std.proofs.lemmas.List.FromFn.{get_or-map-range_with_len, length-map-range_with_len, map-range_with_len_more}
+use Rattle.std.proofs.lemmas.List.{get_or-set_other, get_or-set_same, get_or_default, length-set, map-id, same_lists}
+use Rattle.std.proofs.lemmas.Bool.{cases_lt}
 use Rattle.ptlangs.proofs.TrByteRanges.{slice_get-left, slice_get-right, slice_get-none, repeat_there}
 
 -- the entries of a table of all bytes
@@ -237,7 +241,7 @@ is_kept first bytes b i t j low h e =
 
 -- the last position is below the length
 last_position-lt : (c i : ℕ) (bytes : List ℕ) → last_position c bytes ≡ Some i → i < length bytes
-last_position-lt c i [] e = absurd (let no : ⊥ = cc in no)
+last_position-lt c i [] e = absurd (cc)
 last_position-lt c i (b ∷ bytes) e =
     by_later (last_position c bytes) refl (eqb b c) e (λ j h. last_position-lt c j bytes h)
   where
@@ -245,7 +249,7 @@ last_position-lt c i (b ∷ bytes) e =
         → ((j : ℕ) → last_position c bytes ≡ Some j → j < length bytes) → i < suc (length bytes)
     by_later (Some j) l t e h = let same : j + 1 ≡ i = cc in omega (arith, h j l)
     by_later None l true e h = let same : 0 ≡ i = cc in omega arith
-    by_later None l false e h = absurd (let no : ⊥ = cc in no)
+    by_later None l false e h = absurd (cc)
 
 slice_get-take : (n : ℕ) (xs : List ℕ) (i : ℕ) → i < n → slice_get (take n xs) i ≡ slice_get xs i
 slice_get-take zero xs i h = absurd (omega arith)

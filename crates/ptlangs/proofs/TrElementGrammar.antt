@@ -5,20 +5,19 @@ use Rattle.ptlangs.proofs.Common.{◌≡◌, ◌<◌, ◌-◌, ℕ, zero, suc, B
 use Rattle.ptlangs.proofs.Common.{drop, map, arith, refl, sym, ap, subst, ◌∙◌, Option, Some, None, Result, Ok, Err}
 use Rattle.ptlangs.proofs.Common.{nat_lt, list_all, option_and_then, option_or, is_ascii_digit, is_ascii_lowercase}
 use Rattle.ptlangs.proofs.Common.{ltb-false, le-ltb, eqb-true, ne_eqb, length-map, length-append, append_assoc, drop_at}
-use Rattle.ptlangs.proofs.Common.{drop_all, SetFaultKind, SetChar, Plain, Escaped, Invalid, SetElement, Single, Class}
-use Rattle.ptlangs.proofs.Common.{Equivalence, byte_of, class_named, DenotesByte, ByItself, ByEscape, StartsBracketed}
-use Rattle.ptlangs.proofs.Common.{ARepeat, AClass, AnEquivalence, HasBracketed, StartsElement, InBrackets, ARange}
-use Rattle.ptlangs.proofs.Common.{Alone, AreElements, is_plain, after_plain, after_two, plain_run, after_run, with_rest}
-use Rattle.ptlangs.proofs.Common.{repeat_count, repeat_after_star, repeat_at, class_with_name, class_after_colon}
-use Rattle.ptlangs.proofs.Common.{class_at, equivalence_with_byte, equivalence_after_equals, equivalence_at}
-use Rattle.ptlangs.proofs.Common.{bracketed_inside, bracketed_at, range_to, single_or_range, char_or_range, or_char}
-use Rattle.ptlangs.proofs.Common.{first_set_element, elements_after, set_elements, ◌||◌, ◌≤◌, and_parts}
+use Rattle.ptlangs.proofs.Common.{drop_all, SetFaultKind, SetChar, Plain, Escaped, Invalid, SetElement}
+use Rattle.ptlangs.proofs.Common.{byte_of, class_named, StartsBracketed}
+use Rattle.ptlangs.proofs.Common.{ARepeat, AClass, AnEquivalence, StartsElement, InBrackets, ARange}
+use Rattle.ptlangs.proofs.Common.{Alone, after_plain, plain_run, after_run}
+use Rattle.ptlangs.proofs.Common.{set_elements, ◌||◌, ◌≤◌, and_parts}
 use Rattle.ptlangs.proofs.Common.{ltb-true, nat_tests, drop_more, result_map_both, ADescendingRange, AnInvalidEnd}
 use Rattle.ptlangs.proofs.Common.{AnInvalidChar, StartsInvalid, FirstFaultIsReported, FirstFault}
 use Rattle.ptlangs.proofs.Common.{LaterFault, NoElement, NoSegment, sequence, is_fill, segment, segments}
 use Rattle.ptlangs.proofs.Common.{chars, CharClass, Segment, SetRole}
 use Rattle.ptlangs.specs.declared.tr.elements.SetElement.TheVariants.{Repeat}
 use Rattle.std.proofs.lemmas.Bool.{cond_both}
+use Rattle.ptlangs.specs.declared.tr.elements.SetElement.TheVariants.{Class, Equivalence, Single}
+use Rattle.ptlangs.specs.TrElements.{AreElements, ByEscape, ByItself, DenotesByte, HasBracketed, after_two, class_at, class_after_colon, class_with_name, equivalence_at, equivalence_with_byte, equivalence_after_equals, first_set_element, bracketed_at, bracketed_inside, single_or_range, char_or_range, is_plain, or_char, elements_after, range_to, repeat_at, repeat_count, repeat_after_star, with_rest}
 use Rattle.ptlangs.proofs.TrPlainRuns.{list_all-plain_run}
 
 -- ---- from the computed elements to the grammar
@@ -228,7 +227,7 @@ starts_as u us r e = subst (StartsAs (u ∷ us)) e (by_form (bracketed_at (u ∷
 
 first_set_element-found : (us : List SetChar) (p : SetElement) (rest : List SetChar) → bracketed_at us ≡ Some (p, rest)
     → first_set_element us ≡ Ok (p, rest)
-first_set_element-found [] p rest e = absurd (let no : ⊥ = cc in no)
+first_set_element-found [] p rest e = absurd (cc)
 first_set_element-found (u ∷ us) p rest e = rw e refl
 
 pub first_set_element-StartsElement : (us : List SetChar) (p : SetElement) (rest : List SetChar)
@@ -293,7 +292,7 @@ drop_prefix u us rest (f ∷ front) e h =
 -- the first element, then those of the rest
 pub set_elements-first : (us : List SetChar) (p : SetElement) (rest : List SetChar)
     → first_set_element us ≡ Ok (p, rest) → set_elements us ≡ Ok p ∷ set_elements rest
-set_elements-first [] p rest e = absurd (let no : ⊥ = cc in no)
+set_elements-first [] p rest e = absurd (cc)
 set_elements-first (u ∷ us) p rest e =
     let (front, all, some) = StartsElement-front (u ∷ us) p rest (starts_as u us (Ok (p, rest)) e) in
     rw (e, elements_after_is us (length us - length rest), drop_prefix u us rest front all some) refl
@@ -330,13 +329,13 @@ pub AreElements-set_elements : (ps : List SetElement) (us : List SetChar) → se
 AreElements-set_elements [] [] e = refl
 AreElements-set_elements [] (u ∷ us) e =
     by_first u us (λ p rest b is. let never = sym is ∙ e in cc) (λ k b is. let never = sym is ∙ e in cc)
-AreElements-set_elements (p ∷ ps) [] e = absurd (let no : ⊥ = cc in no)
+AreElements-set_elements (p ∷ ps) [] e = absurd (cc)
 AreElements-set_elements (p ∷ ps) (u ∷ us) e = by_first u us
     (λ q rest b is.
     let all : Ok q ∷ set_elements rest ≡ Ok p ∷ map Ok ps = sym is ∙ e in
     let same : q ≡ p = cc in
     (rest, subst (λ (x : SetElement). StartsElement (u ∷ us) x rest) same b, AreElements-set_elements ps rest (cc)))
-    (λ k b is. let all : Err k ∷ [] ≡ Ok p ∷ map Ok ps = sym is ∙ e in absurd (let no : ⊥ = cc in no))
+    (λ k b is. let all : Err k ∷ [] ≡ Ok p ∷ map Ok ps = sym is ∙ e in absurd (cc))
 
 -- ---- the bracketed forms and the first element, as the code finds them
 

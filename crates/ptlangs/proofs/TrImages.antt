@@ -27,7 +27,7 @@ sequence-ok (m ∷ ms) = rw (sequence-ok ms) refl
 pub never_fault : {X : Type 0} (ms : List Member) (rs : List (Result Member SetFaultKind)) (k : SetFaultKind)
     → rs ≡ AllOk ms → sequence rs ≡ Err k → X
 never_fault ms rs k is e = let whole : sequence rs ≡ Ok ms = ap sequence is ∙ sequence-ok ms in
-    absurd (let no : ⊥ = cc in no)
+    absurd (cc)
 
 -- one byte of the second array is taken
 pub record TakesNext (n : ℕ) (to : List Member) (t : Member) (after : List (Result Member SetFaultKind)) : Type 0 where
@@ -39,10 +39,10 @@ takes_next : (o : Option ℕ) (n : ℕ) (to : List Member) (t : Member) (after :
     → AllOk (drop n to) ≡ Ok t ∷ after
     → (drop n to ≡ t ∷ drop (suc n) to) × (after ≡ AllOk (drop (suc n) to))
     × (last_or o (member_bytes (take (suc n) to)) ≡ Some t.byte)
-takes_next o zero [] t after e = absurd (let no : ⊥ = cc in no)
+takes_next o zero [] t after e = absurd (cc)
 takes_next o zero (x ∷ to) t after e = let same : x ≡ t = cc in
     (ap (λ y. y ∷ to) same, cc, ap (λ (y : Member). Some y.byte) same)
-takes_next o (suc n) [] t after e = absurd (let no : ⊥ = cc in no)
+takes_next o (suc n) [] t after e = absurd (cc)
 takes_next o (suc n) (x ∷ to) t after e = takes_next (Some x.byte) n to t after e
 
 pub next_taken : (n : ℕ) (to : List Member) (t : Member) (after : List (Result Member SetFaultKind))
@@ -58,7 +58,7 @@ pub record HasEnded (n : ℕ) (to : List Member) : Type 0 where
 
 pub ended : (n : ℕ) (to : List Member) → AllOk (drop n to) ≡ [] → HasEnded n to
 ended zero [] e = record { now = refl; next = refl; taken = refl }
-ended zero (x ∷ to) e = absurd (let no : ⊥ = cc in no)
+ended zero (x ∷ to) e = absurd (cc)
 ended (suc n) [] e = record { now = refl; next = refl; taken = refl }
 ended (suc n) (x ∷ to) e = let rest = ended n to e in
     record { now = rest.now; next = rest.next; taken = ap (λ ms. x ∷ ms) rest.taken }
@@ -149,7 +149,7 @@ pub record IsPassing (from to : List Member) (images : Images) : Type 0 where
 -- the next byte that is left
 split_ok : (rest : List Member) (t : Member) (after : List (Result Member SetFaultKind)) → AllOk rest ≡ Ok t ∷ after
     → (more : List Member) × (rest ≡ t ∷ more) × (after ≡ AllOk more)
-split_ok [] t after e = absurd (let no : ⊥ = cc in no)
+split_ok [] t after e = absurd (cc)
 split_ok (x ∷ rest) t after e = let same : x ≡ t = cc in (rest, ap (λ y. y ∷ rest) same, cc)
 
 unmatched : (class : Option CharClass) → classes_match None class ≡ not (is_some class)
@@ -198,7 +198,7 @@ passing-end from to old p s = p.decides ∙ by_rest p.rest (sym p.left ∙ s)
   where
     by_rest : (rest : List Member) → AllOk rest ≡ [] → all_paired [] rest ≡ true
     by_rest [] e = refl
-    by_rest (x ∷ rest) e = absurd (let no : ⊥ = cc in no)
+    by_rest (x ∷ rest) e = absurd (cc)
 
 -- ---- the images of two arrays, or the fault of a class
 
@@ -213,11 +213,11 @@ unpaired_answer paired images r k is kind wrong =
 pub answer_ok : (paired : Bool) (images table : List ℕ) → Ok table ≡ answer_of paired images
     → (paired ≡ true) × (table ≡ images)
 answer_ok true images table e = (refl, cc)
-answer_ok false images table e = absurd (let no : ⊥ = cc in no)
+answer_ok false images table e = absurd (cc)
 
 pub answer_fault : (paired : Bool) (images : List ℕ) (k : SetFaultKind) → Err k ≡ answer_of paired images
     → (paired ≡ false) × (k ≡ ClassPlace)
-answer_fault true images k e = absurd (let no : ⊥ = cc in no)
+answer_fault true images k e = absurd (cc)
 answer_fault false images k e = (refl, cc)
 
 pub first-bytes : (complement : Bool) (ps : List Segment)

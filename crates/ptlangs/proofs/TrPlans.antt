@@ -4,10 +4,10 @@ use Rattle.ptlangs.proofs.Common.{◌≡◌, Bool, Err, List, None, Ok, Option, 
 use Rattle.ptlangs.proofs.Common.{length, map, refl, suc, sym, true, zero, ℕ, ◌++◌, ◌-◌, ◌∙◌, ◌∷◌, ◌≢◌, result_map_both}
 use Rattle.ptlangs.proofs.Common.{and_then, AClass, ADescendingRange, AnInvalidEnd, AnInvalidChar, ARange, ARepeat}
 use Rattle.ptlangs.proofs.Common.{Alone, AnEquivalence, StartsElement, StartsInvalid, InBrackets, StartsBracketed}
-use Rattle.ptlangs.proofs.Common.{FirstFault, LaterFault, NoMemoryFault, NoElement, NoSegment, Plan, array}
-use Rattle.ptlangs.proofs.Common.{class_offsets, fill_count, first_array, image_of, in_string, is_deleted}
-use Rattle.ptlangs.proofs.Common.{is_squeezed, has_valid_classes, segment, plan, plan_from, plan_of}
-use Rattle.ptlangs.proofs.Common.{plan_with, repeat_segment, second_role, second_plan, string_segments, takes_second}
+use Rattle.ptlangs.proofs.Common.{FirstFault, LaterFault, NoElement, NoSegment, array}
+use Rattle.ptlangs.proofs.Common.{class_offsets, first_array, image_of, in_string, is_deleted}
+use Rattle.ptlangs.proofs.Common.{is_squeezed, has_valid_classes, segment, plan, plan_of}
+use Rattle.ptlangs.proofs.Common.{second_plan, string_segments}
 use Rattle.ptlangs.proofs.Common.{tables, ALargeOctal, ALoneBackslash, APlainByte, AChar, AnEscape, AnOctal, NoChar}
 use Rattle.ptlangs.proofs.Common.{SpellsChar, SpellsChars, chars, SetFault, SetFaultKind, ClassPlace, Memory}
 use Rattle.ptlangs.proofs.Common.{SetElement, Segment, SetRole, First, Images, Squeezed, Form, Delete, DeleteSqueeze}
@@ -23,6 +23,7 @@ use Rattle.ptlangs.proofs.Common.{complement_of}
 use Rattle.ptlangs.specs.TrParsing.{all_paired, contents_of, first_members, marked_array, ok_map}
 use Rattle.ptlangs.specs.TrTables.{Tables}
 use Rattle.ptlangs.proofs.TrByteWalk.{paired-arrays, paired-plain}
+use Rattle.ptlangs.specs.TrPlan.{NoMemoryFault, Plan, fill_count, plan_from, plan_with, repeat_segment, second_role, takes_second}
 use Rattle.ptlangs.proofs.TrCharGrammar.{chars_are_spelled}
 
 -- ---- two facts about a result
@@ -37,13 +38,13 @@ same_answer r x y e f = cc
 pub mapped_ok : (r : Result (List Segment) SetFaultKind) (f : List Segment → Contents) (y : Contents)
     → Ok y ≡ result_map_both f (λ (k : SetFaultKind). k) r → (ps : List Segment) × (r ≡ Ok ps) × (y ≡ f ps)
 mapped_ok (Ok ps) f y e = (ps, refl, cc)
-mapped_ok (Err k) f y e = absurd (let no : ⊥ = cc in no)
+mapped_ok (Err k) f y e = absurd (cc)
 
 pub mapped_at : (r : Result (List Segment) SetFaultKind) (f : List Segment → Contents) (y : Contents)
     (ps : List Segment)
     → Ok y ≡ result_map_both f (λ (k : SetFaultKind). k) r → r ≡ Ok ps → y ≡ f ps
 mapped_at (Ok qs) f y ps e h = let same : qs ≡ ps = cc in let value : y ≡ f qs = cc in value ∙ ap f same
-mapped_at (Err k) f y ps e h = absurd (let no : ⊥ = cc in no)
+mapped_at (Err k) f y ps e h = absurd (cc)
 
 -- the segments of a second string, and the plan that they give if a fill has `fill` bytes
 pub record SecondRead (form : Form) (complement : Bool) (firsts : List Segment) (text : List ℕ) (role : SetRole)

@@ -1,10 +1,10 @@
 -- The fault of a byte is the fault of the string. At the end all bytes are read.
-use Rattle.ptlangs.proofs.Common.{◌≡◌, ◌∙◌, ◌∷◌, ◌++◌, List, Ok, ap, sym, refl, arith, array, ◌<◌, map-append}
+use Rattle.ptlangs.proofs.Common.{◌≡◌, ◌∙◌, ◌∷◌, ◌++◌, List, Ok, ap, sym, refl, arith, array, map-append}
 use Rattle.ptlangs.proofs.Common.{string_segments, replicate, Segment}
 use Rattle.ptlangs.specs.declared.tr.segments.Member.{Member}
-use Rattle.ptlangs.specs.TrParsing.{bytes_left, member_bytes, contents_of, most_left, ok_map, plain_members}
-use Rattle.ptlangs.proofs.TrByteWalk.{member_bytes-array, member_bytes-plain, items_end, items_fault, items_more, next_none}
-use Rattle.ptlangs.proofs.TrByteWalk.{next_some, on_fault, some_then, string-fault, string-read}
+use Rattle.ptlangs.specs.TrParsing.{member_bytes, contents_of, ok_map, plain_members}
+use Rattle.ptlangs.proofs.TrByteWalk.{member_bytes-array, member_bytes-plain, items_end, items_fault, items_more}
+use Rattle.ptlangs.proofs.TrByteWalk.{on_fault, string-fault, string-read}
 use Rattle.ptlangs.proofs.Common.{[]}
 use Rattle.ptlangs.proofs.TrContents.{contents-new}
 use Rattle.ptlangs.proofs.tr.contents.Contents.read.Goals as goal
@@ -30,10 +30,8 @@ loop-member-preserved c =
     let old = c.loop-member.bytes in
     let new = c.next.new.self in
     let read = c.loop-member.invariant.read in
-    let step = next_some (bytes_left old) (bytes_left new) c.in_ok-member.field-0 c.in-Some.member c.in-Some.is
-    c.in_ok-member.ensures.steps in
-    let fewer = some_then c.in_ok-member.field-0 c.in-Some.member (most_left new < most_left old)
-    c.in-Some.is c.in_ok-member.ensures.fewer in
+    let step = rw c.in-Some.is at c.in_ok-member.ensures.steps in
+    let fewer = rw c.in-Some.is at c.in_ok-member.ensures.fewer in
     let m = c.in-Some.member in
     let copies = replicate c.skip_repeats-more.result m.byte in
     let bytes : member_bytes (read.done ++ m ∷ plain_members copies) ≡ member_bytes read.done ++ m.byte ∷ copies =
@@ -56,8 +54,7 @@ loop-member-preserved c =
 pub returns-clause-is : goal.returns-clause-is
 returns-clause-is c =
     let read = c.loop-member.invariant.read in
-    let (end, _) = next_none (bytes_left c.loop-member.bytes) (bytes_left c.next.new.self)
-    c.in_ok-member.field-0 c.in_default.is c.in_ok-member.ensures.steps in
+    let (end, _) = rw c.in_default.is at c.in_ok-member.ensures.steps in
     let (ps, whole, bytes) = string-read c.args.role c.args.text.now c.args.fill read.done c.if-is_empty.ensures
     (items_end read end) in
     rw whole (ap Ok (read.holds ∙ ap contents_of (ap member_bytes (sym bytes) ∙ member_bytes-array c.args.fill ps)))

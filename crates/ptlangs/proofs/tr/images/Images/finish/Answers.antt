@@ -1,7 +1,6 @@
 -- A class that starts after the end of the first array has no other case.
 use Rattle.ptlangs.proofs.Common.{◌∙◌, ap, sym, refl, replicate, Ok}
 use Rattle.ptlangs.specs.TrParsing.{bytes_left}
-use Rattle.ptlangs.proofs.TrByteWalk.{next_none, next_some}
 use Rattle.ptlangs.proofs.TrImages.{never_fault, passing-copies, passing-end, passing-next, passing-unpaired}
 use Rattle.ptlangs.proofs.tr.images.Images.finish.Goals as goal
 
@@ -13,8 +12,7 @@ returns-in_err-member c = λ from to h.
 pub returns-then-is_some : goal.returns-then-is_some
 returns-then-is_some c = λ from to h.
     let old = c.loop-member.self in
-    let step = next_some (bytes_left old.second) (bytes_left c.next.new.self) c.in_ok-member.field-0 c.in-Some.member
-    c.in-Some.is c.in_ok-member.ensures.steps in
+    let step = rw c.in-Some.is at c.in_ok-member.ensures.steps in
     let unpaired = passing-unpaired from to old (bytes_left c.next.new.self) c.in-Some.member
     (c.loop-member.invariant from to h) step (sym c.is_some.ensures ∙ c.if-is_some.true) in
     rw unpaired refl
@@ -22,8 +20,7 @@ returns-then-is_some c = λ from to h.
 pub loop-member-preserved : goal.loop-member-preserved
 loop-member-preserved c = λ from to h.
     let old = c.loop-member.self in
-    let step = next_some (bytes_left old.second) (bytes_left c.next.new.self) c.in_ok-member.field-0 c.in-Some.member
-    c.in-Some.is c.in_ok-member.ensures.steps in
+    let step = rw c.in-Some.is at c.in_ok-member.ensures.steps in
     let next = passing-next from to old c.next.new.self c.in-Some.member (c.loop-member.invariant from to h) step
     (sym c.is_some.ensures ∙ c.if-is_some.false) in
     passing-copies from to (record { table = old.table; second = c.next.new.self; last = old.last })
@@ -33,6 +30,5 @@ pub returns : goal.returns
 returns c = λ from to h.
     let old = c.loop-member.self in
     let p = c.loop-member.invariant from to h in
-    let (end, _) = next_none (bytes_left old.second) (bytes_left c.next.new.self) c.in_ok-member.field-0 c.in_default.is
-    c.in_ok-member.ensures.steps in
+    let (end, _) = rw c.in_default.is at c.in_ok-member.ensures.steps in
     rw (passing-end from to old p end) (ap Ok p.table)

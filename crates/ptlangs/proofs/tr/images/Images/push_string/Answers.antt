@@ -1,8 +1,8 @@
 -- The bytes of the string are paired in order; as the string has no fault, these are all of its array.
 use Rattle.ptlangs.proofs.Common.{◌∙◌, [], ◌∷◌, List, ap, refl, First, segments_of, sequence}
 use Rattle.ptlangs.specs.declared.tr.segments.Member.{Member}
-use Rattle.ptlangs.specs.TrParsing.{HasPaired, PairPost, all_paired, bytes_left, marked_array, member_results}
-use Rattle.ptlangs.proofs.TrByteWalk.{items_at, items_end, items_fault, items_more, next_none, next_some, on_fault}
+use Rattle.ptlangs.specs.TrParsing.{HasPaired, PairPost, all_paired, marked_array, member_results}
+use Rattle.ptlangs.proofs.TrByteWalk.{items_at, items_end, items_fault, items_more, on_fault}
 use Rattle.ptlangs.proofs.TrByteWalk.{string-ok}
 use Rattle.ptlangs.proofs.TrImages.{never_fault, paired_same, sequence-ok}
 use Rattle.ptlangs.proofs.TrPlans.{same_answer}
@@ -16,8 +16,7 @@ returns-in_err-member c = λ ps to e h.
 
 pub loop-member-preserved : goal.loop-member-preserved
 loop-member-preserved c =
-    let step = next_some (bytes_left c.loop-member.bytes) (bytes_left c.next.new.self)
-    c.in_ok-member.field-0 c.in-Some.member c.in-Some.is c.in_ok-member.ensures.steps in
+    let step = rw c.in-Some.is at c.in_ok-member.ensures.steps in
     let read = c.loop-member.invariant in
     items_more (λ (ms : List Member). (to : List Member) → HasPaired [] to c.args.self.now
     → HasPaired ms to c.push.new.self) read (c.in-Some.member ∷ []) step
@@ -25,8 +24,7 @@ loop-member-preserved c =
 
 pub returns-in_err-push : goal.returns-in_err-push
 returns-in_err-push c = λ ps to e h.
-    let step = next_some (bytes_left c.loop-member.bytes) (bytes_left c.next.new.self)
-    c.in_ok-member.field-0 c.in-Some.member c.in-Some.is c.in_ok-member.ensures.steps in
+    let step = rw c.in-Some.is at c.in_ok-member.ensures.steps in
     let read = c.loop-member.invariant in
     let whole = ap sequence (string-ok First c.args.text.now 0 ps e) ∙ sequence-ok (marked_array 0 ps) in
     let (more, is) = items_at read step whole in
@@ -38,8 +36,7 @@ returns-in_err-push c = λ ps to e h.
 pub returns : goal.returns
 returns c = λ ps to e h.
     let read = c.loop-member.invariant in
-    let (end, _) = next_none (bytes_left c.loop-member.bytes) (bytes_left c.next.new.self)
-    c.in_ok-member.field-0 c.in_default.is c.in_ok-member.ensures.steps in
+    let (end, _) = rw c.in_default.is at c.in_ok-member.ensures.steps in
     let whole = ap sequence (string-ok First c.args.text.now 0 ps e) ∙ sequence-ok (marked_array 0 ps) in
     paired_same (marked_array 0 ps) read.done to _ _
     (same_answer (sequence (member_results 0 (segments_of First c.args.text.now))) _ _ whole (items_end read end))
