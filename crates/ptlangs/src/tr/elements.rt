@@ -57,8 +57,7 @@ fn after_bytes(text: &[u8], at: usize, first: u8, second: u8) -> Option<usize>
     ensures onward { IfSome result (λ i. at < i) }
     ensures within { IfSome result (λ i. i ≤ length text.now) }
 {
-    let next = after_byte(text, at, first)?;
-    after_byte(text, next, second)
+    after_byte(text, after_byte(text, at, first)?, second)
 }
 
 /// The number of digits at the start.

@@ -44,17 +44,6 @@ pub(crate) fn identity() -> [u8; 256]
 }
 
 impl<'a> Images<'a> {
-    /// No images, before the bytes of the second array.
-    fn new(second: Bytes<'a>) -> Images<'a>
-        ensures { (to : List Member) → bytes_left second.entry ≡ map Ok to → HasPaired [] to result }
-    {
-        Images {
-            table: identity(),
-            second,
-            last: None,
-        }
-    }
-
     /// Pairs the next byte of the first array. Its image is the next byte of the second one, or the last if none is
     /// left.
     ///
@@ -139,7 +128,11 @@ pub(crate) fn read_images(
         then Ok (map (image_by (first_array complement ps) (member_bytes to)) all_bytes)
         else Err ClassPlace) }
 {
-    let mut images = Images::new(second);
+    let mut images = Images {
+        table: identity(),
+        second,
+        last: None,
+    };
     if complement {
         images.push_ascending(first)?;
     } else {

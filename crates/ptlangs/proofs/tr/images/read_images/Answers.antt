@@ -5,15 +5,24 @@ use Rattle.ptlangs.proofs.Common.{image_by, map}
 use Rattle.ptlangs.specs.TrParsing.{HasPaired, all_paired, member_bytes, contents_of, first_members, marked_array}
 use Rattle.ptlangs.specs.TrParsing.{plain_members}
 use Rattle.ptlangs.proofs.TrImages.{answer_of, first-bytes, paired_same, unpaired_answer}
+use Rattle.ptlangs.proofs.Common.{◌≡◌, [], List, None, Ok, refl}
+use Rattle.ptlangs.specs.declared.tr.segments.Member.{Member}
+use Rattle.ptlangs.specs.TrParsing.{bytes_left}
+use Rattle.ptlangs.proofs.tr.images.read_images.Goals.{After-identity}
 use Rattle.ptlangs.proofs.tr.images.read_images.Goals as goal
 use Rattle.ptlangs.proofs.tr.images.read_images.Goals.{then-complement+in_ok-push_ascending}
 use Rattle.ptlangs.proofs.tr.images.read_images.Goals.{else-complement+in_ok-push_string}
+
+-- before the first pair
+unpaired : (c : After-identity) (to : List Member) → bytes_left c.args.second ≡ map Ok to
+    → HasPaired [] to (record { table = c.identity.result; second = c.args.second; last = None })
+unpaired c to l = record { left = l; last = refl; table = c.identity.ensures (member_bytes to); decides = λ more. refl }
 
 pub returns-in_err-push_ascending : goal.returns-in_err-push_ascending
 returns-in_err-push_ascending c = λ ps to e f l.
     let b = c.args.complement in
     let bytes = f ∙ ap (λ (t : Bool). contents_of (first_array t ps)) c.if-complement.true in
-    let (kind, wrong) = c.in_err-push_ascending.ensures (array 0 ps) to bytes (c.new-images.ensures to l) in
+    let (kind, wrong) = c.in_err-push_ascending.ensures (array 0 ps) to bytes (unpaired (goal.at.returns-in_err-push_ascending c).After-identity to l) in
     let (_, fault) = c.from_residual.ensures in
     unpaired_answer (all_paired (first_members b ps) to) _ c.from_residual.result _ fault kind
     (ap (λ (t : Bool). all_paired (first_members t ps) to) c.if-complement.true ∙ wrong)
@@ -21,7 +30,7 @@ returns-in_err-push_ascending c = λ ps to e f l.
 pub returns-in_err-push_string : goal.returns-in_err-push_string
 returns-in_err-push_string c = λ ps to e f l.
     let b = c.args.complement in
-    let (kind, wrong) = c.in_err-push_string.ensures ps to e (c.new-images.ensures to l) in
+    let (kind, wrong) = c.in_err-push_string.ensures ps to e (unpaired (goal.at.returns-in_err-push_string c).After-identity to l) in
     let (_, fault) = c.from_residual-in_err-push_string.ensures in
     unpaired_answer (all_paired (first_members b ps) to) _ c.from_residual-in_err-push_string.result _ fault kind
     (ap (λ (t : Bool). all_paired (first_members t ps) to) c.if-complement.false ∙ wrong)
@@ -29,7 +38,7 @@ returns-in_err-push_string c = λ ps to e f l.
 pub returns : goal.returns
 returns c = λ ps to e f l.
     let b = c.args.complement in
-    let new = c.new-images.ensures to l in
+    let new = unpaired (goal.at.returns c).After-identity to l in
     let paired : HasPaired (first_members b ps) to c.if-complement.images =
     elim c.if-complement.branch [
       | then-complement+in_ok-push_ascending w ↦
