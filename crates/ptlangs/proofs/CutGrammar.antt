@@ -17,7 +17,9 @@ use Rattle.std.specs.List.Sorted.{IsNonDecreasingBy, IsPermutation}
 use Rattle.std.proofs.lemmas.Bool.{cond_both}
 use Rattle.ptlangs.specs.declared.ranges.ListFault.{ListFault}
 use Rattle.ptlangs.proofs.ListElements.{split_whole, split_around, some_since, digits_fail, digit_no_list_separator}
-use Rattle.ptlangs.specs.CutLists.{CutListMatchesGrammar, AreSeparated, AreSortedFrom, From, FromTo, SpellsInterval, IsIntervalElement, One, UpTo, checked_interval, interval_of_bounds, is_bound, is_selected, interval_of_parts, selection}
+use Rattle.ptlangs.specs.CutLists.{CutListMatchesGrammar, AreSeparated, AreSortedFrom, From, FromTo, SpellsInterval}
+use Rattle.ptlangs.specs.CutLists.{IsIntervalElement, One, UpTo, checked_interval, interval_of_bounds, is_bound}
+use Rattle.ptlangs.specs.CutLists.{is_selected, interval_of_parts, selection}
 use Rattle.std.proofs.lemmas.Bool.{and_left, or_from, or_parts}
 use Rattle.ptlangs.proofs.ListElements.{IsSplit, Whole, Cut, splits, reads_first, Accepts, from_grammar, to_grammar}
 

@@ -7,7 +7,8 @@ use Rattle.ptlangs.proofs.Common.{delim_list, delims, and_then, cons_ok}
 use Rattle.ptlangs.proofs.Common.{DelimFault}
 use Rattle.std.proofs.lemmas.Bool.{cond_both}
 use Rattle.ptlangs.proofs.ListElements.{reads_first}
-use Rattle.ptlangs.specs.DelimLists.{Backslash, IsDelim, IsDelimList, Last, More, Newline, Nothing, Tab, backslash, escape, delim_list_fault}
+use Rattle.ptlangs.specs.DelimLists.{Backslash, IsDelim, IsDelimList, Last, More, Newline, Nothing, Tab, backslash}
+use Rattle.ptlangs.specs.DelimLists.{escape, delim_list_fault}
 use Rattle.ptlangs.specs.DelimLists.{Plain, DelimListMatchesGrammar}
 
 pub delims_of_some : (bs : List ℕ) → 0 < length bs → delims bs ≡ delim_list bs

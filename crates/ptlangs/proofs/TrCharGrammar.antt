@@ -14,7 +14,8 @@ use Rattle.std.proofs.Common.{All}
 use Rattle.std.specs.Int.{IsInRange}
 use Rattle.std.proofs.lemmas.Int.Digits.{digits_value_more}
 use Rattle.std.proofs.lemmas.Str.Parse.{digits_value-take-le, digit_from_value}
-use Rattle.ptlangs.specs.TrChars.{IsOctalRun, OneDigit, ThreeDigits, TwoDigits, CharsMatchGrammar, byte_of_escape, char_at, chars_after}
+use Rattle.ptlangs.specs.TrChars.{IsOctalRun, OneDigit, ThreeDigits, TwoDigits, CharsMatchGrammar, byte_of_escape}
+use Rattle.ptlangs.specs.TrChars.{char_at, chars_after}
 use Rattle.std.proofs.lemmas.Str.{digit_value_digit}
 
 pub ruleset number_steps = (digits_value_more, digits_value-take-le, digit_from_value)

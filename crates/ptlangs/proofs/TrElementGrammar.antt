@@ -17,7 +17,11 @@ use Rattle.ptlangs.proofs.Common.{chars, CharClass, Segment, SetRole}
 use Rattle.ptlangs.specs.declared.tr.elements.SetElement.TheVariants.{Repeat}
 use Rattle.std.proofs.lemmas.Bool.{cond_both}
 use Rattle.ptlangs.specs.declared.tr.elements.SetElement.TheVariants.{Class, Equivalence, Single}
-use Rattle.ptlangs.specs.TrElements.{AreElements, ByEscape, ByItself, DenotesByte, HasBracketed, after_two, class_at, class_after_colon, class_with_name, equivalence_at, equivalence_with_byte, equivalence_after_equals, first_set_element, bracketed_at, bracketed_inside, single_or_range, char_or_range, is_plain, or_char, elements_after, range_to, repeat_at, repeat_count, repeat_after_star, with_rest}
+use Rattle.ptlangs.specs.TrElements.{AreElements, ByEscape, ByItself, DenotesByte, HasBracketed, after_two, class_at}
+use Rattle.ptlangs.specs.TrElements.{class_after_colon, class_with_name, equivalence_at, equivalence_with_byte}
+use Rattle.ptlangs.specs.TrElements.{equivalence_after_equals, first_set_element, bracketed_at, bracketed_inside}
+use Rattle.ptlangs.specs.TrElements.{single_or_range, char_or_range, is_plain, or_char, elements_after, range_to}
+use Rattle.ptlangs.specs.TrElements.{repeat_at, repeat_count, repeat_after_star, with_rest}
 use Rattle.ptlangs.proofs.TrPlainRuns.{list_all-plain_run}
 
 -- ---- from the computed elements to the grammar

@@ -23,7 +23,8 @@ use Rattle.ptlangs.proofs.Common.{complement_of}
 use Rattle.ptlangs.specs.TrParsing.{all_paired, contents_of, first_members, marked_array, ok_map}
 use Rattle.ptlangs.specs.TrTables.{Tables}
 use Rattle.ptlangs.proofs.TrByteWalk.{paired-arrays, paired-plain}
-use Rattle.ptlangs.specs.TrPlan.{NoMemoryFault, Plan, fill_count, plan_from, plan_with, repeat_segment, second_role, takes_second}
+use Rattle.ptlangs.specs.TrPlan.{NoMemoryFault, Plan, fill_count, plan_from, plan_with, repeat_segment, second_role}
+use Rattle.ptlangs.specs.TrPlan.{takes_second}
 use Rattle.ptlangs.proofs.TrCharGrammar.{chars_are_spelled}
 
 -- ---- two facts about a result

@@ -54,5 +54,6 @@ loop-byte-preserved c = paired (goal.at.loop-byte-preserved c).Joined-first-from
 
 pub returns-after-first-from : goal.returns-after-first-from
 returns-after-first-from c = λ bytes to e h.
-    subst (λ bs. HasPaired (plain_members bs) to c.if-first-from.self) (others_below-all bytes (c.loop-byte.byte + 1) (omega arith))
+    subst (λ bs. HasPaired (plain_members bs) to c.if-first-from.self)
+    (others_below-all bytes (c.loop-byte.byte + 1) (omega arith))
     (paired (goal.at.returns-after-first-from c).Joined-first-from bytes to e h)

@@ -36,7 +36,8 @@ returns-in-DeleteSqueeze c = λ firsts e f.
     let valid = ap (λ (form : Form). has_valid_classes form c.args.complement (class_offsets 0 0 firsts)
     (class_offsets c.saturating_sub-fill.result 0 r.ps)) c.in-DeleteSqueeze.is in
     planned c.args.form DeleteSqueeze c.args.complement firsts c.args.s2.now _ _ r _ c.in-DeleteSqueeze.is valid
-    (c.new.ensures ∙ tables_are (plan_of DeleteSqueeze (first_array c.args.complement firsts) (array c.saturating_sub-fill.result r.ps)) _ _ _ (ap (λ (q : Contents). q.has) f)
+    (c.new.ensures ∙ tables_are (plan_of DeleteSqueeze (first_array c.args.complement firsts)
+    (array c.saturating_sub-fill.result r.ps)) _ _ _ (ap (λ (q : Contents). q.has) f)
     (c.identity.ensures []) (squeezed at.In_ok-second r.ps r.read))
 
 pub returns-in_err-table : goal.returns-in_err-table
@@ -62,7 +63,8 @@ returns-in-TranslateSqueeze c = λ firsts e f.
     (c.new-2.ensures.all ∙ string-ok c.second_role-role.result c.args.s2.now fill r.ps r.read)) in
     planned c.args.form TranslateSqueeze c.args.complement firsts c.args.s2.now _ _ r _ c.in-TranslateSqueeze.is
     (valid-paired c.args.form c.args.complement firsts r.ps fill c.in_default.not-DeleteSqueeze ∙ paired)
-    (c.new-in-TranslateSqueeze.ensures ∙ tables_are (plan_of TranslateSqueeze from (array fill r.ps)) _ _ _ none_contained
+    (c.new-in-TranslateSqueeze.ensures ∙ tables_are (plan_of TranslateSqueeze from (array fill r.ps)) _ _ _
+    none_contained
     (table ∙ ap (λ to. map (image_by from to) all_bytes) (member_bytes-array fill r.ps))
     (squeezed at.In_ok-second r.ps r.read))
 
