@@ -4,23 +4,23 @@
 -- positions of its operands is what processing the inputs has to ensure. A tool with one input ensures this by its only
 -- pass, and `paste` by its pass over the columns.
 use Rattle.ptrun.proofs.Common.{AreReadToEnd, ended_operands, IsDone, Unopened, Disorder, cases_lt, or_left, or_right}
-use Rattle.ptrun.proofs.Common.{sum, get_or_default, no_reader, length-map, cases_eq, cases_Bool, ◌≡◌, ◌⊎◌, ⊎_elim, inl}
+use Rattle.ptrun.proofs.Common.{sum, get_or_default, no_reader, cases_eq, cases_Bool, ◌≡◌, ◌⊎◌, ⊎_elim, inl}
 use Rattle.ptrun.proofs.Common.{inr, ℕ, zero, suc, ◌+◌, ◌<◌, ◌≤◌, ◌^◌, ◌||◌, ◌==◌, Bool, true, false, cond, List, []}
 use Rattle.ptrun.proofs.Common.{◌∷◌, ◌++◌, Option, Some, None, Result, Ok, Err, length, take, drop, get_or, set, refl}
 use Rattle.ptrun.proofs.Common.{sym, ◌∙◌, ap, subst, arith, take-append-drop, slice_get, list_any, get_or-set_same}
 use Rattle.ptrun.proofs.Common.{get_or-set_other, All-nil, All-cons, list_any-append, false≢true, eqb-true, eqb_tells}
-use Rattle.ptrun.proofs.Common.{Reader, IsSound, Output, Slots, SinkState, Received, IsPrefix, HasReceived, LaggedInput}
-use Rattle.ptrun.proofs.Common.{PassOutcome, PassPost, update_at, ToolSpec, FlowFault, Read, Write, Memory, Input}
+use Rattle.ptrun.proofs.Common.{Reader, Output, Slots, SinkState, Received, IsPrefix, HasReceived, LaggedInput}
+use Rattle.ptrun.proofs.Common.{PassOutcome, PassPost, update_at, ToolSpec, FlowFault, Read, Write, Memory}
 use Rattle.ptrun.proofs.Common.{Completion, AllWritten, InputBytes, ReceivedInputs, at, is_unopened}
 use Rattle.ptrun.proofs.Common.{AreInputsConsistent, is_in, reader_at, is_reader_unopened, HaveReceived}
 use Rattle.ptrun.proofs.Common.{IsNewOrUnopened, HasReadFailed, IsTooLong, unopened_messages, HasSaid, unopened_message}
 use Rattle.ptrun.proofs.Common.{name_of, IsPushedUpToBlock, position, positions, JointTool, one_input_tool, bytes_of}
 use Rattle.ptrun.proofs.Common.{received_in, has_unopened, disorder_text, disorder_status, joint_spec}
-use Rattle.ptrun.proofs.Common.{ReportUnopenedPost, RunInputsPre, JointPre, HasIndexBelow, fault_at, result_message}
+use Rattle.ptrun.proofs.Common.{ReportUnopenedPost, RunInputsPre, JointPre, HasIndexBelow, result_message}
 use Rattle.ptrun.proofs.Common.{result_status, RunInputsEnd, RunInputsPost, completion_of, AreConsistentAt}
 use Rattle.ptrun.proofs.Common.{NoReadFailed, JointEnd, JointPost, map, max, append-nil, All-from_get_or, list_any_at}
 use Rattle.ptrun.proofs.Common.{known_lines, IsConsistent, Paste, IsReadable, IsReadToEnd, PasteOutcome, PastePost}
-use Rattle.ptrun.proofs.Common.{paste_rows_tool}
+use Rattle.ptrun.proofs.Common.{paste_rows_tool, AreSoundAt, PassPre, operand_completion, IsNew}
 use Rattle.std.proofs.lemmas.List.Sums.{sum-map}
 use Rattle.ptlines.specs.Text.{lines, max_line_length}
 use Rattle.ptflow.specs.PasteText.{uses_of, every_kth, columns, rows, known_rows, rows_text, paste, paste_decided}
@@ -48,8 +48,9 @@ pub report_unopened_post : (word : List ℕ) (t : JointTool) (names : List (List
     (inputs : List Reader) {messages_old messages_new : SinkState} {any_unopened : Bool}
     → any_unopened ≡ list_any (is_reader_unopened inputs) positions
     → HasSaid messages_old messages_new (unopened_messages word names (is_reader_unopened inputs) positions)
+    → AreSoundAt positions inputs
     → ReportUnopenedPost (joint_spec word t names positions) inputs messages_old messages_new any_unopened
-report_unopened_post word t names positions inputs {messages_old} {messages_new} {any_unopened} is has_said = record {
+report_unopened_post word t names positions inputs {messages_old} {messages_new} {any_unopened} is has_said sound = record {
   is = is;
   has_said =
       ⊎_elim (λ some. rw some has_said)
@@ -57,6 +58,7 @@ report_unopened_post word t names positions inputs {messages_old} {messages_new}
       at has_said)) (cases_Bool any_unopened);
   nothing = λ some w same. rw (has_unopened_as (is_unopened w) same some) (refl, refl, refl);
   at_once = λ _. refl;
+  sound = λ _. sound;
   undecided = λ some r same. rw (has_unopened_as (is_unopened r) same some) refl;
 }
   where
@@ -100,6 +102,7 @@ joint_pre word names s =
       fresh = s.given.fresh;
       in_range = s.given.in_range;
       opened = s.complete;
+      sound = s.sound refl;
       writable = s.writable;
       not_denied = s.not_denied;
       empty = s.empty;
@@ -315,10 +318,6 @@ module _ (word : List ℕ) {t : JointTool} (names : List (List ℕ)) {positions 
 
 -- ---- a tool with one input
 
-abbrev pub one_completion : ℕ → Result (Unit {0}) FlowFault → Result Completion FlowFault
-one_completion p (Ok u) = Ok AllWritten
-one_completion p (Err fault) = Err (fault_at p fault)
-
 module _ (t : ToolSpec) (old : List Reader) (was is : Output) (before store : Slots) (p : ℕ) (new : Reader)
     (result : Result (Unit {0}) FlowFault)
     (clean : was.write_failed ≡ false) (within : p < length old) (unread : (reader_at old p).eof ≡ false)
@@ -339,7 +338,7 @@ module _ (t : ToolSpec) (old : List Reader) (was is : Output) (before store : Sl
   only_operand_end : (r : Result (Unit {0}) FlowFault) → PassOutcome (reader_at old p) new is store r
       → (r ≡ Ok tt → e.pushed ≡ t.text e.given.bytes)
       → JointEnd (one_input_tool t) (p ∷ []) (λ q. e.given) old all e.pushed is.write_failed store.denied
-      (one_completion p r)
+      (operand_completion p r)
   only_operand_end (Ok u) f whole = record {
     out =
         λ texts agrees. whole refl ∙ ap t.text
@@ -364,7 +363,7 @@ module _ (t : ToolSpec) (old : List Reader) (was is : Output) (before store : Sl
   only_operand_end (Err Memory) f whole =
       (f.denied, f.clean, each (λ q. (reader_at all q).failed ≡ (reader_at old q).failed) (rw here f.failed))
 
-  memory_of : (r : Result (Unit {0}) FlowFault) → one_completion p r ≡ Err Memory → r ≡ Err Memory
+  memory_of : (r : Result (Unit {0}) FlowFault) → operand_completion p r ≡ Err Memory → r ≡ Err Memory
   memory_of (Ok u) same = cc
   memory_of (Err (Read position)) same = cc
   memory_of (Err Write) same = cc
@@ -376,7 +375,7 @@ module _ (t : ToolSpec) (old : List Reader) (was is : Output) (before store : Sl
       (λ few. false≢true (sym unread ∙ ap (λ (r : Reader). r.eof) (sym (e.refused clean few).same_reader) ∙ ended.eof))
       (λ enough. e.line_left memory enough ended) (cases_lt (length store.lines) t.slots)
 
-  one_input_post : JointPost (one_input_tool t) (p ∷ []) old all was is before store (one_completion p result)
+  one_input_post : JointPost (one_input_tool t) (p ∷ []) old all was is before store (operand_completion p result)
   one_input_post = record {
     given = λ q. e.given;
     came = each (λ q. HasReceived (reader_at old q) (reader_at all q) e.given) (rw here e.came);
@@ -400,38 +399,50 @@ module _ (t : ToolSpec) (old : List Reader) (was is : Output) (before store : Sl
     left = λ memory. inl (p, named, rw here (input_left (memory_of result memory)));
   }
 
--- the position of the only operand
-pub only_operand_of : (order : List Input) (d : Input) {p : ℕ} → (length (positions order) == 1) ≡ true
-    → p ≡ position (get_or order 0 d) → positions order ≡ p ∷ []
-only_operand_of (o ∷ []) d one is = ap (λ (n : ℕ). n ∷ []) (sym is)
-only_operand_of order d one is = absurd (omega (arith, eqb-true (length (positions order)) 1 one))
+only_operand_of : (positions : List ℕ) (d : ℕ) → (length positions == 1) ≡ true
+    → positions ≡ get_or positions 0 d ∷ []
+only_operand_of (p ∷ []) d one = refl
+only_operand_of positions d one = absurd (omega (arith, eqb-true (length positions) 1 one))
 
 -- the pass over the reader of the only operand
-module _ {j : JointTool} (order : List Input) {old : List Reader} {was : Output} {before : Slots}
-    (ready : JointPre j (positions order) old was before) (one : (length (positions order) == 1) ≡ true) where
-  pub only_operand_exists : 0 < length order
-  only_operand_exists = omega (arith, eqb-true (length (positions order)) 1 one, length-map order position)
+module _ {j : JointTool} {positions : List ℕ} {old : List Reader} {was : Output} {before : Slots}
+    (ready : JointPre j positions old was before) (one : (length positions == 1) ≡ true) where
+  pub only_operand_exists : 0 < length positions
+  only_operand_exists = omega (arith, eqb-true (length positions) 1 one)
 
-  module _ (d : Input) {p : ℕ} (positioned : p ≡ position (get_or order 0 d)) where
-    pub only_operand_within : p < length old
-    only_operand_within = (rw (only_operand_of order d one positioned) at ready.in_range) 0 0 (omega arith)
+  pub only_operand_within : (d : ℕ) → get_or positions 0 d < length old
+  only_operand_within d = ready.in_range 0 d only_operand_exists
 
-    pub only_operand_opened : (e : Reader) → (get_or old p e).refused ≡ false
-    only_operand_opened e = rw (get_or_default old p e no_reader only_operand_within)
-        (neither (is_reader_unopened old p) false (rw (only_operand_of order d one positioned) at ready.opened)).0
+  module _ (d : ℕ) where
+    abbrev p : ℕ
+    p = get_or positions 0 d
+
+    opened : (reader_at old p).refused ≡ false
+    opened = (neither (is_reader_unopened old p) false (rw (only_operand_of positions d one) at ready.opened)).0
+
+    pub only_operand_ready : (e : Reader) → PassPre (get_or old p e) before
+    only_operand_ready e = rw (get_or_default old p e no_reader (only_operand_within d)) (record {
+      opened = opened;
+      readable = (fresh_all old ready.fresh p opened).fault;
+      not_denied = ready.not_denied;
+      empty = ready.empty;
+    })
 
     pub only_operand_post : (e : Reader) {t : ToolSpec} {is : Output} {store : Slots} {new : Reader}
-        {result : Result (Unit {0}) FlowFault}
-        → IsSound (get_or old p e) → PassPost t (get_or old p e) new was is before store result
-        → JointPost (one_input_tool t) (positions order) old (set old p new) was is before store
-        (one_completion p result)
-    only_operand_post e {t} {is} {store} {new} {result} sound pass =
-        let here = get_or_default old p e no_reader only_operand_within in
-        let new_here = fresh_all old ready.fresh p (rw here at (only_operand_opened e)) in
-        let not_failed_before = sound.unfailed (only_operand_opened e) (rw here new_here.fault) in
-        rw (only_operand_of order d one positioned)
-        (one_input_post t old was is before store p new result ready.writable only_operand_within new_here.eof
-        (rw here at not_failed_before) (rw here at pass))
+        {result : Result (Unit {0}) FlowFault} → PassPost t (get_or old p e) new was is before store result
+        → JointPost (one_input_tool t) positions old (set old p new) was is before store (operand_completion p result)
+    only_operand_post e {t} {is} {store} {new} {result} pass =
+        subst (λ (ps : List ℕ). JointPost (one_input_tool t) ps old (set old p new) was is before store
+        (operand_completion p result)) (sym (only_operand_of positions d one))
+        (one_input_post t old was is before store p new result ready.writable (only_operand_within d) new_here.eof
+        ((ready.sound p named).unfailed opened new_here.fault)
+        (rw (get_or_default old p e no_reader (only_operand_within d)) at pass))
+      where
+        new_here : IsNew (reader_at old p)
+        new_here = fresh_all old ready.fresh p opened
+
+        named : is_in positions p ≡ true
+        named = rw (only_operand_of positions d one) (is_in-same [] p)
 
 -- ---- `paste`: facts about columns, as facts about operands
 

@@ -10,7 +10,7 @@ use Rattle.ptrun.proofs.Common.{inputs_of_operands, opened_values, opened_inputs
 use Rattle.ptrun.proofs.Common.{unopened_messages, unopened_message, name_of, HasSaid, SinkState, update_at, ◌<◌, ◌≤◌}
 use Rattle.ptrun.proofs.Common.{drop, get_or, take-append-drop, take_more, get_or-map, length-map, take_all, Reader}
 use Rattle.ptrun.proofs.Common.{reader_at, no_reader, IsNewOrUnopened, position, positions, All-nil, All-cons, Bor}
-use Rattle.ptrun.proofs.Common.{words_view, is_standard, file_names, order_from, Input, Standard, File}
+use Rattle.ptrun.proofs.Common.{words_view, is_standard, file_names, order_from, Input, Standard, File, DecidesAll}
 use Rattle.std.proofs.Math.ListN.{get_or-map as get_or-map_any}
 use Rattle.ptrun.proofs.MessageWrites.{said_trans}
 
@@ -131,6 +131,12 @@ not_more done p q none =
     let differs : p ≢ q = λ same. false≢true (sym none ∙ ap (is_in (done ++ p ∷ [])) (sym same) ∙ is_in-same done p) in
     (differs, sym (is_in-other done p q differs) ∙ none)
 
+-- a fact about each position in a list, and about one more
+pub holds_more : (P : ℕ → Type 0) (done : List ℕ) (p : ℕ) → ((q : ℕ) → is_in done q ≡ true → P q) → P p → (q : ℕ)
+    → is_in (done ++ p ∷ []) q ≡ true → P q
+holds_more P done p before here = by_position (λ q. is_in (done ++ p ∷ []) q ≡ true → P q) p (λ _. here)
+    (λ q differs named. before q (sym (is_in-other done p q differs) ∙ named))
+
 -- ---- the maximum
 
 pub maximum-append : (xs ys : List ℕ) → maximum (xs ++ ys) ≡ max (maximum xs) (maximum ys)
@@ -154,10 +160,6 @@ least_bytes r = map bytes_at r
 
 pub at-least_bytes : (r : ReceivedInputs) (p : ℕ) → at (least_bytes r) p ≡ bytes_at (at r p)
 at-least_bytes r p = get_or-map_any bytes_at r p None
-
--- once the end of an input is reached, all its output is decided
-abbrev pub DecidesAll : ToolSpec → Type 0
-DecidesAll t = (bytes : List ℕ) → t.decided (record { bytes = bytes; eof = true }) ≡ t.text bytes
 
 module _ (t : ToolSpec) (law : DecidesAll t) where
   -- one operand whose end was reached decides all its output, and the decided output goes on with the next operand

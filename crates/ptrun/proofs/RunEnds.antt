@@ -21,7 +21,7 @@ use Rattle.ptrun.proofs.Common.{◌<◌, ◌==◌, is_none, not, nat_le, length-
 use Rattle.ptrun.proofs.Common.{Standard, File, Fault, Command, Job, RunCut, RunPaste, RunUniq, RunComm, RunJoin, RunTr}
 use Rattle.ptrun.proofs.Common.{command_of_args, input_operands, fault_view, command_view, CommandPost, usage_message}
 use Rattle.ptrun.proofs.Common.{usage_status, position, positions, InputsPre, two_input_tool, job_spec, command_spec}
-use Rattle.ptrun.proofs.Common.{spec_of_result, tool_name, spec_of_args, spec_of_parsed, is_memory_fault, AreNewInputs}
+use Rattle.ptrun.proofs.Common.{leb-true, ◌≤◌, spec_of_result, tool_name, spec_of_args, spec_of_parsed, is_memory_fault, AreNewInputs}
 use Rattle.std.specs.Prelude.{if◌then◌else◌}
 use Rattle.ptlines.specs.Sinks.{flushes_after}
 use Rattle.ptlangs.specs.Results.{IsFault}
@@ -414,31 +414,43 @@ record IsSpecOver (m : CommandSpec) (names : List (List ℕ)) (positions : List 
   named : m.names ≡ names
   positioned : m.positions ≡ positions
   accepts_operands : m.accepts ≡ true
+  few : m.sequential ≡ None → length m.positions ≤ 512
 
 is_spec_over : (job : Job) (order : List Input) (names : List (List ℕ)) → AreInputsOf job order
     → IsSpecOver (job_spec job names (positions order)) names (positions order)
 is_spec_over (RunCut u) order names accepts_operands =
-    record { named = refl; positioned = refl; accepts_operands = refl }
+    record { named = refl; positioned = refl; accepts_operands = refl; few = λ none. cc }
 is_spec_over (RunPaste u) order names few =
-    ⊎_elim (λ (is : u.serial ≡ true). rw is (record { named = refl; positioned = refl; accepts_operands = refl }))
+    ⊎_elim
+    (λ (is : u.serial ≡ true). rw is
+    (record { named = refl; positioned = refl; accepts_operands = refl; few = λ none. cc }))
     (λ (is : u.serial ≡ false). rw is
     (record {
       named = refl;
       positioned = refl;
       accepts_operands = ap (λ (n : ℕ). nat_le n 512) (length-map order position) ∙ few;
+      few = λ _. omega (arith, leb-true (length order) 512 few, length-map order position);
     })) (cases_Bool u.serial)
-is_spec_over (RunUniq u) order names one =
-    record {
-      named = refl;
-      positioned = refl;
-      accepts_operands = ap (λ (n : ℕ). n == 1) (length-map order position ∙ one);
-    }
-is_spec_over (RunComm u) order names two =
-    record { named = refl; positioned = refl; accepts_operands = two_positions (comm_tool u) order two }
-is_spec_over (RunJoin u) order names two =
-    record { named = refl; positioned = refl; accepts_operands = two_positions (join_tool u) order two }
+is_spec_over (RunUniq u) order names one = record {
+  named = refl;
+  positioned = refl;
+  accepts_operands = ap (λ (n : ℕ). n == 1) (length-map order position ∙ one);
+  few = λ _. omega (arith, one, length-map order position);
+}
+is_spec_over (RunComm u) order names two = record {
+  named = refl;
+  positioned = refl;
+  accepts_operands = two_positions (comm_tool u) order two;
+  few = λ _. omega (arith, ap length two.are, length-map order position);
+}
+is_spec_over (RunJoin u) order names two = record {
+  named = refl;
+  positioned = refl;
+  accepts_operands = two_positions (join_tool u) order two;
+  few = λ _. omega (arith, ap length two.are, length-map order position);
+}
 is_spec_over (RunTr u) order names accepts_operands =
-    record { named = refl; positioned = refl; accepts_operands = refl }
+    record { named = refl; positioned = refl; accepts_operands = refl; few = λ none. cc }
 
 inputs_pre_of_spelled : (words : List (List ℕ)) (c : Command) (readers : List Reader) → SpellsCommand words c
     → AreNewInputs (length c.names) readers → InputsPre (command_spec c) readers
@@ -449,6 +461,7 @@ inputs_pre_of_spelled words c readers (Spelled name rest tool os operands named 
           (λ k d within. omega (arith, positions_within 0 (input_operands tool operands) k d within, fresh.0)));
       named = fresh.0 ∙ ap (λ (l : List (List ℕ)). length l + 1) (sym is.named);
       accepts_operands = is.accepts_operands;
+      few = is.few;
     }
 
 -- each operand of a command has a reader, and the tool accepts these operands

@@ -17,7 +17,7 @@ use Rattle.ptrun.proofs.Common.{HasReadFailed, IsTooLong, HasSaid, unopened_mess
 use Rattle.ptrun.proofs.Common.{BoundedLag, IsPushedUpToBlock, decided_in_order, up_to_unended, sequential_output}
 use Rattle.ptrun.proofs.Common.{sequential_bound, sequential_decided, sequential_spec, Completion, AllWritten, Unopened}
 use Rattle.ptrun.proofs.Common.{HasCause, fault_at, result_message, result_status, HasIndexBelow, RunInputsPost, get_or}
-use Rattle.ptrun.proofs.Common.{get_or_default, All}
+use Rattle.ptrun.proofs.Common.{get_or_default, All, DecidesAll, OperandPre, OperandPost, operand_completion}
 use Rattle.ptrun.proofs.OneInput.{all_earlier, last_earlier, sends_now, sends_after, IsAtEof, none_received}
 use Rattle.ptrun.proofs.OneInput.{completion_with, received_of, received_at, nothing_read, never_long, not_long}
 use Rattle.ptrun.proofs.OneInput.{OpenedInput, opened_receives, still_unopened, receives_trans, ended_gives_nothing}
@@ -26,7 +26,7 @@ use Rattle.ptrun.proofs.OneInput.{least_consistent, ended_at, nth_here}
 use Rattle.ptrun.proofs.MessageWrites.{said_nothing}
 use Rattle.ptrun.proofs.OperandInputs.{some_same, is_in-same, is_in-other, not_more, by_position, opened_inputs_some}
 use Rattle.ptrun.proofs.OperandInputs.{opened_inputs_none, unopened_same, any_same, any_now, any_before, said_more}
-use Rattle.ptrun.proofs.OperandInputs.{maximum-append, IsEndedAt, least_bytes, decided_inputs, DecidesAll, fresh_all}
+use Rattle.ptrun.proofs.OperandInputs.{maximum-append, IsEndedAt, least_bytes, decided_inputs, fresh_all}
 
 -- the state once these operands are done
 pub record OperandsDone (word : List ℕ) (t : ToolSpec) (names : List (List ℕ)) (old now : List Reader) (was is : Output)
@@ -61,6 +61,22 @@ pub done_as : {word : List ℕ} {t : ToolSpec} {names : List (List ℕ)} {old no
     → OperandsDone word t names old now was is messages_old messages_new before store done so_far
     → OperandsDone word t names old now' was is' messages_old messages_new' before store' done' so_far'
 done_as inputs kept out messages far positions k = rw (inputs, kept, out, messages, far, positions) k
+
+ok_of : (p : ℕ) {all : Completion} (passed : Result (Unit {0}) FlowFault) → operand_completion p passed ≡ Ok all
+    → passed ≡ Ok tt
+ok_of p (Ok u) same = refl
+ok_of p (Err fault) same = cc
+
+-- the failure of the pass over the operand at `p`, from that of the tool
+record PassFault (p : ℕ) (passed : Result (Unit {0}) FlowFault) (fault : FlowFault) : Type 0 where
+  passed_fault : FlowFault
+  failed : passed ≡ Err passed_fault
+  is : fault ≡ fault_at p passed_fault
+
+err_of : {p : ℕ} {fault : FlowFault} (passed : Result (Unit {0}) FlowFault) → operand_completion p passed ≡ Err fault
+    → PassFault p passed fault
+err_of (Ok u) same = cc
+err_of (Err f) same = record { passed_fault = f; failed = refl; is = cc }
 
 module _ {word : List ℕ} {t : ToolSpec} {names : List (List ℕ)} {old : List Reader} {was : Output}
     {messages_old : SinkState} {before : Slots} (fresh : All IsNewOrUnopened old) where
@@ -196,10 +212,22 @@ module _ {word : List ℕ} {t : ToolSpec} {names : List (List ℕ)} {old : List 
       here : get_or now p d ≡ reader_at now p
       here = get_or_default now p d no_reader (omega (arith, within, k.same_length))
 
-      -- an opened reader has no fault
-      pub ready_here : (get_or now p d).refused ≡ false → (get_or now p d).fault ≡ None
+      ready_here : (get_or now p d).refused ≡ false → (get_or now p d).fault ≡ None
       ready_here opened = let (buffered, fault) =
           can_read_now p (was_unopened p ∙ ap (λ (r : Reader). r.refused) (sym here) ∙ opened) in rw here fault
+
+      -- an opened operand can be passed to the tool
+      pub operand_ready : (get_or now p d).refused ≡ false → OperandPre (p ∷ []) now store
+      operand_ready opened = record {
+        only = refl;
+        within = omega (arith, within, k.same_length);
+        ready = record {
+          opened = rw here at opened;
+          readable = rw here at (ready_here opened);
+          not_denied = k.not_denied;
+          empty = k.empty;
+        };
+      }
 
       -- the next operand could not be opened
       pub done_unopened : {messages_new' : SinkState} → (get_or now p d).refused ≡ true
@@ -246,10 +274,7 @@ module _ {word : List ℕ} {t : ToolSpec} {names : List (List ℕ)} {old : List 
 
     module _ {is' : Output} {store' : Slots} {p : ℕ} {new : Reader} {result : Result (Unit {0}) FlowFault}
         (within : p < length old) (d : Reader) (open_here : (get_or now p d).refused ≡ false)
-        (sound : IsSound (get_or now p d)) (pass : PassPost t (get_or now p d) new is is' store store' result) where
-      e : PassPost t (reader_at now p) new is is' store store' result
-      e = rw (here within d) at pass
-
+        (sound : IsSound (get_or now p d)) (e : PassPost t (reader_at now p) new is is' store store' result) where
       not_failed_before : (reader_at now p).failed ≡ false
       not_failed_before = rw (here within d) at (sound.unfailed open_here (ready_here within d open_here))
 
@@ -269,7 +294,7 @@ module _ {word : List ℕ} {t : ToolSpec} {names : List (List ℕ)} {old : List 
       abbrev inputs_read' : ReceivedInputs
       inputs_read' = set k.inputs_read p (Some (given_now y.given))
 
-      abbrev pub now' : List Reader
+      abbrev now' : List Reader
       now' = set now p new
 
       reader_here : reader_at now' p ≡ new
@@ -391,9 +416,9 @@ module _ {word : List ℕ} {t : ToolSpec} {names : List (List ℕ)} {old : List 
           ))
 
       -- it was read to its end
-      pub done_operand : result ≡ Ok tt
+      passed_ok : result ≡ Ok tt
           → OperandsDone word t names old now' was is' messages_old messages_new before store' (done ++ p ∷ []) so_far
-      done_operand ok = record {
+      passed_ok ok = record {
         inputs_read = inputs_read';
         same_length = length-set now p new ∙ k.same_length;
         long = length-set k.inputs_read p (Some (given_now y.given)) ∙ k.long;
@@ -543,10 +568,10 @@ module _ {word : List ℕ} {t : ToolSpec} {names : List (List ℕ)} {old : List 
         decided_here = decided_all (earlier ∷ [])
             ∙ ap (λ (l : List ℕ). k.pushed ++ l) (decided_open earlier [] (inl refl))
 
-        pub done_stopped : (more : List ℕ) (fault : FlowFault) → result ≡ Err fault
+        stopped : (more : List ℕ) (fault : FlowFault) → result ≡ Err fault
             → RunInputsPost (sequential_spec word t names (done ++ p ∷ more)) old now' was is' messages_old messages_new
             before store' (Err (fault_at p fault))
-        done_stopped more fault is_err = record {
+        stopped more fault is_err = record {
           received = inputs_read';
           came = received';
           pushed = k.pushed ++ e.pushed;
@@ -621,3 +646,17 @@ module _ {word : List ℕ} {t : ToolSpec} {names : List (List ℕ)} {old : List 
             index_within (Read position) = within
             index_within Write = tt
             index_within Memory = tt
+
+    module _ {is' : Output} {store' : Slots} {p : ℕ} {after : List Reader} {result : Result Completion FlowFault}
+        (within : p < length old) (d : Reader) (open_here : (get_or now p d).refused ≡ false)
+        (sound : IsSound (get_or now p d)) (call : OperandPost t p now after is is' store store' result) where
+      pub done_operand : {all : Completion} → result ≡ Ok all
+          → OperandsDone word t names old after was is' messages_old messages_new before store' (done ++ p ∷ []) so_far
+      done_operand ok = rw call.inputs
+          (passed_ok within d open_here sound call.pass (ok_of p call.pass_result (sym call.result_is ∙ ok)))
+
+      pub done_stopped : DecidesAll t → (more : List ℕ) {fault : FlowFault} → result ≡ Err fault
+          → RunInputsPost (sequential_spec word t names (done ++ p ∷ more)) old after was is' messages_old messages_new
+          before store' (Err fault)
+      done_stopped law more is_err = let f = err_of call.pass_result (sym call.result_is ∙ is_err) in
+          rw (call.inputs, f.is) (stopped within d open_here sound call.pass law more f.passed_fault f.failed)

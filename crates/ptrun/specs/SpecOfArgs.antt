@@ -1,9 +1,7 @@
 -- From the arguments of a command to its specification.
 use Rattle.std.specs.Prelude.{ℕ, List, [], Bool, true, false, Some, None, Result, Ok, Err, codes, length}
 use Rattle.std.specs.Prelude.{slice_index_or, is_none, if◌then◌else◌}
-use Rattle.ptlangs.specs.Jobs.{Paste}
 use Rattle.ptflow.specs.Cuts.{cut_tool}
-use Rattle.ptflow.specs.PasteText.{paste_serial_tool}
 use Rattle.ptflow.specs.TrOutput.{tr_tool}
 use Rattle.ptflow.specs.Uniqs.{uniq_tool}
 use Rattle.ptmerge.specs.Comm.{comm_tool}
@@ -16,7 +14,8 @@ use Rattle.ptopts.specs.declared.command.Command as code
 use Rattle.ptrun.specs.CommandSpec.{CommandSpec}
 use Rattle.ptrun.specs.Messages.{usage_message}
 use Rattle.ptrun.specs.Operands.{positions, sequential_spec}
-use Rattle.ptrun.specs.Joint.{one_input_tool, paste_rows_tool, two_input_tool, joint_spec}
+use Rattle.ptrun.specs.Joint.{one_input_tool, two_input_tool, joint_spec}
+use Rattle.ptrun.specs.Tools.{paste_in_run, spec_of_tool}
 
 -- Nothing is read, nothing is written to the output, and `text` is the only message.
 abbrev pub message_only : List ℕ → ℕ → CommandSpec
@@ -37,16 +36,10 @@ message_only text status = record {
   names = [];
 }
 
--- `paste -s` reads its operands one after another, and `paste` reads them together.
-abbrev pub paste_spec : Paste → List (List ℕ) → List ℕ → CommandSpec
-paste_spec job names positions =
-    if job.serial then sequential_spec (codes "paste") (paste_serial_tool job) names positions
-    else joint_spec (codes "paste") (paste_rows_tool job) names positions
-
 -- The specification of a job with operands at these positions and files of these names.
 abbrev pub job_spec : Job → List (List ℕ) → List ℕ → CommandSpec
 job_spec (RunCut job) names positions = sequential_spec (codes "cut") (cut_tool job) names positions
-job_spec (RunPaste job) names positions = paste_spec job names positions
+job_spec (RunPaste job) names positions = spec_of_tool (codes "paste") (paste_in_run job) names positions
 job_spec (RunUniq job) names positions = joint_spec (codes "uniq") (one_input_tool (uniq_tool job)) names positions
 job_spec (RunComm job) names positions = joint_spec (codes "comm") (two_input_tool (comm_tool job)) names positions
 job_spec (RunJoin job) names positions = joint_spec (codes "join") (two_input_tool (join_tool job)) names positions
