@@ -187,7 +187,7 @@ module _ (word : List ℕ) {t : JointTool} (names : List (List ℕ)) {positions 
   failed_is_in q failed =
       ⊎_elim (λ named. named)
       (λ other. absurd
-      (false≢true (sym failed.1 ∙ sym (ap (λ (r : Reader). r.failed) (k.untouched q other)) ∙ failed.2)))
+      (false≢true (sym failed.1 ∙ sym (ap (λ r. r.failed) (k.untouched q other)) ∙ failed.2)))
       (cases_Bool (is_in positions q))
 
   none_failed : NoReadFailed positions old new → (q : ℕ) → HasReadFailed old new q → ⊥
@@ -222,9 +222,9 @@ module _ (word : List ℕ) {t : JointTool} (names : List (List ℕ)) {positions 
   ended_if_written Unopened ended = none_ended
   ended_if_written (Disorder p line) ended = none_ended
 
-  terminator : (r : Result Completion FlowFault)
+  ending : (r : Result Completion FlowFault)
       → JointEnd t positions k.given old new k.pushed is.write_failed store.denied r → Ending r
-  terminator (Ok done) e = record {
+  ending (Ok done) e = record {
     operands_done = length positions;
     within = omega arith;
     ends = (
@@ -242,7 +242,7 @@ module _ (word : List ℕ) {t : JointTool} (names : List (List ℕ)) {positions 
     names_failed_read = λ q failed clean. absurd (none_failed e.unfailed q failed);
     ended = ended_if_written done e.ended;
   }
-  terminator (Err (Read p)) e =
+  ending (Err (Read p)) e =
       let f = first_at positions p e.named in
       let cause : HasReadFailed old new p ⊎ IsTooLong (at received p) =
       ⊎_elim (λ broke. inl (open_at p e.named, e.not_failed_before, broke.0))
@@ -260,7 +260,7 @@ module _ (word : List ℕ) {t : JointTool} (names : List (List ℕ)) {positions 
             (cases_eq p q);
         ended = none_ended;
       }
-  terminator (Err Write) e =
+  ending (Err Write) e =
       record {
         operands_done = 0;
         within = omega arith;
@@ -269,7 +269,7 @@ module _ (word : List ℕ) {t : JointTool} (names : List (List ℕ)) {positions 
         names_failed_read = λ q failed clean. absurd (false≢true (sym clean ∙ e));
         ended = none_ended;
       }
-  terminator (Err Memory) e =
+  ending (Err Memory) e =
       record {
         operands_done = 0;
         within = omega arith;
@@ -281,7 +281,7 @@ module _ (word : List ℕ) {t : JointTool} (names : List (List ℕ)) {positions 
 
   pub joint_post : RunInputsPost (joint_spec word t names positions) old new was is messages_old messages_old before
       store result
-  joint_post = let e = terminator result k.ends in record {
+  joint_post = let e = ending result k.ends in record {
     received = received;
     came = came;
     pushed = k.pushed;
@@ -372,7 +372,7 @@ module _ (t : ToolSpec) (old : List Reader) (was is : Output) (before store : Sl
   -- the input is unread, or a line of it is left
   input_left : result ≡ Err Memory → IsDone new → ⊥
   input_left memory ended = ⊎_elim
-      (λ few. false≢true (sym unread ∙ ap (λ (r : Reader). r.eof) (sym (e.refused clean few).same_reader) ∙ ended.eof))
+      (λ few. false≢true (sym unread ∙ ap (λ r. r.eof) (sym (e.refused clean few).same_reader) ∙ ended.eof))
       (λ enough. e.line_left memory enough ended) (cases_lt (length store.lines) t.slots)
 
   one_input_post : JointPost (one_input_tool t) (p ∷ []) old all was is before store (operand_completion p result)
@@ -610,5 +610,5 @@ module _ (job : Paste) {positions : List ℕ} {old : List Reader} {was : Output}
                   (sym
                   (fresh_all old ready.fresh q
                   (none_passes (is_reader_unopened old) positions ready.opened q named)).eof
-                  ∙ ap (λ (r : Reader). r.eof) (sym unread) ∙ done.eof),
+                  ∙ ap (λ r. r.eof) (sym unread) ∙ done.eof),
             )

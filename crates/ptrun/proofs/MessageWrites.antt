@@ -19,7 +19,7 @@ say_post_part {old} {piece = piece} done more split took p = record {
       ∙ append_known-append old.accepted done p.front;
   unflushed = p.unflushed ∙ ap (λ (s : SinkState). unflushed_after s.unflushed p.front) took
       ∙ unflushed_after-append old.unflushed done p.front;
-  flushes = p.flushes ∙ ap (λ (s : SinkState). s.flushes) took;
+  flushes = p.flushes ∙ ap (λ s. s.flushes) took;
   whole = λ all. absurd (false≢true all);
   broken = λ _. (omega (arith, p.some, length-append p.rest more), p.failed);
 }
@@ -31,10 +31,10 @@ say_post_all {text = text} clean took = record {
   front = text;
   rest = [];
   split = sym (append-nil text);
-  accepted = ap (λ (s : SinkState). s.accepted) took;
-  unflushed = ap (λ (s : SinkState). s.unflushed) took;
-  flushes = ap (λ (s : SinkState). s.flushes) took;
-  whole = λ _. (refl, ap (λ (s : SinkState). s.failed) took ∙ clean);
+  accepted = ap (λ s. s.accepted) took;
+  unflushed = ap (λ s. s.unflushed) took;
+  flushes = ap (λ s. s.flushes) took;
+  whole = λ _. (refl, ap (λ s. s.failed) took ∙ clean);
   broken = λ no. absurd (false≢true (sym no));
 }
 
@@ -77,7 +77,7 @@ said_trans {a} {b} {c} {xs} {ys} p q = by_failed b.failed refl
               ∙ unflushed_after-append a.unflushed p.front q.front;
           flushes = q.flushes ∙ p.flushes;
           whole = q.whole;
-          stays = λ failed. absurd (false≢true (sym is ∙ ap (λ (s : SinkState). s.failed) (p.stays failed) ∙ failed));
+          stays = λ failed. absurd (false≢true (sym is ∙ ap (λ s. s.failed) (p.stays failed) ∙ failed));
         })
 
 -- the first `n` parts, concatenated

@@ -88,7 +88,7 @@ opened_receives old now None opened (unopened, same) = absurd (false≢true (sym
 opened_receives old now (Some g) opened (_, received) = record { given = g; is = refl; received = received }
 
 pub still_unopened : (old now : Reader) (o : Option Received) → HasReceivedAt old now o → now.refused ≡ old.refused
-still_unopened old now None (unopened, same) = ap (λ (r : Reader). r.refused) same
+still_unopened old now None (unopened, same) = ap (λ r. r.refused) same
 still_unopened old now (Some g) (opened, received) = received.refused
 
 -- fewer than 2^63 bytes were received
@@ -221,8 +221,8 @@ at_set (o ∷ r) (suc p) g e is = at_set r p g e is
 pub opened_set : (r : ReceivedInputs) (p : ℕ) (g e : Received) → at r p ≡ Some g → (q : ℕ)
     → is_unopened (set r p (Some e)) q ≡ is_unopened r q
 opened_set r p g e is = by_position (λ q. is_unopened (set r p (Some e)) q ≡ is_unopened r q) p
-    (ap (λ (o : Option Received). is_none o) (at_set r p g e is) ∙ sym (ap (λ (o : Option Received). is_none o) is))
-    (λ q differs. ap (λ (o : Option Received). is_none o)
+    (ap (λ o. is_none o) (at_set r p g e is) ∙ sym (ap (λ o. is_none o) is))
+    (λ q differs. ap (λ o. is_none o)
     (get_or-set_other r p q (Some e) None (λ is_p. differs (sym is_p))))
 
 -- if nothing is decided, then all that is decided was written

@@ -272,11 +272,11 @@ module _ {m : CommandSpec} {old new : List Reader} {was is is' : Output}
       (cases_Bool is.write_failed)
 
   reached : Reached was sent k.pushed
-  reached = reached_of was sent k.pushed (ap (λ (o : Output). o.buffered) made) wrote
+  reached = reached_of was sent k.pushed (ap (λ o. o.buffered) made) wrote
 
   -- until the output was finished nothing was flushed
   flushes_before : is.flushes ≡ out.flushes
-  flushes_before = k.wrote.flushes ∙ ap (λ (o : Output). o.flushes) made
+  flushes_before = k.wrote.flushes ∙ ap (λ o. o.flushes) made
 
   flushed_once : o.out.flushes ≡ (if o.out.failed then out.flushes else flushes_after out.flushes)
   flushed_once = ⊎_elim (λ failed. rw failed (last_flushes ∙ f.unfinished (sym last_failed ∙ failed) ∙ flushes_before))
@@ -334,7 +334,7 @@ module _ {m : CommandSpec} {old new : List Reader} {was is is' : Output}
     came = k.came;
     written = reached.front;
     output = last_accepted ∙ reached.accepted
-        ∙ ap (λ (t : Option (List ℕ)). append_known t reached.front) (ap (λ (o : Output). o.accepted) made);
+        ∙ ap (λ (t : Option (List ℕ)). append_known t reached.front) (ap (λ o. o.accepted) made);
     flushed = λ _ fine. last_unflushed ∙ f.flushed (sym last_failed ∙ fine);
     flushes = λ _. flushed_once;
     message = k.message ++ last;
@@ -367,7 +367,7 @@ module _ {m : CommandSpec} {old new : List Reader} {was is is' : Output}
       kept : (bytes : List ℕ) → IsPushedUpToBlock bytes was is k.pushed
           → IsWrittenUpToBlock bytes reached.front o.out.failed
       kept bytes up =
-          kept_up bytes was is is' k.pushed reached.front reached.rest up (ap (λ (o : Output). o.buffered) made)
+          kept_up bytes was is is' k.pushed reached.front reached.rest up (ap (λ o. o.buffered) made)
           reached.split reached.accepted f.wrote.kept reached.unknown o.out.failed
           (λ fine. let clean = sym last_failed ∙ fine in reached.whole clean (f.emptied clean))
 

@@ -113,7 +113,7 @@ module _ {word : List ℕ} {t : ToolSpec} {names : List (List ℕ)} {old : List 
         → (reader_at now q).failed ≡ false
     not_failed_now q opened not_failed_before =
         ⊎_elim (λ seen. (k.at_eof q seen opened).failed)
-        (λ unseen. ap (λ (r : Reader). r.failed) (k.unread q unseen) ∙ not_failed_before) (cases_Bool (is_in done q))
+        (λ unseen. ap (λ r. r.failed) (k.unread q unseen) ∙ not_failed_before) (cases_Bool (is_in done q))
 
     ended_now : (q : ℕ) → is_in done q ≡ true → IsEndedAt (at k.inputs_read q)
     ended_now q seen = ended_at (reader_at old q) (reader_at now q) (at k.inputs_read q) (k.came q) (k.at_eof q seen)
@@ -214,7 +214,7 @@ module _ {word : List ℕ} {t : ToolSpec} {names : List (List ℕ)} {old : List 
 
       ready_here : (get_or now p d).refused ≡ false → (get_or now p d).fault ≡ None
       ready_here opened = let (buffered, fault) =
-          can_read_now p (was_unopened p ∙ ap (λ (r : Reader). r.refused) (sym here) ∙ opened) in rw here fault
+          can_read_now p (was_unopened p ∙ ap (λ r. r.refused) (sym here) ∙ opened) in rw here fault
 
       -- an opened operand can be passed to the tool
       pub operand_ready : (get_or now p d).refused ≡ false → OperandPre (p ∷ []) now store
@@ -261,7 +261,7 @@ module _ {word : List ℕ} {t : ToolSpec} {names : List (List ℕ)} {old : List 
       }
         where
           old_unopened : (reader_at old p).refused ≡ true
-          old_unopened = was_unopened p ∙ ap (λ (r : Reader). r.refused) (sym here) ∙ refused
+          old_unopened = was_unopened p ∙ ap (λ r. r.refused) (sym here) ∙ refused
 
           nothing : (w : InputBytes) → AreInputsConsistent k.inputs_read w
               → opened_inputs [] w (done ++ p ∷ []) ≡ opened_inputs [] w done
@@ -467,9 +467,9 @@ module _ {word : List ℕ} {t : ToolSpec} {names : List (List ℕ)} {old : List 
         ⊎_elim
             (λ (failed, empty, going). inl (
               old_open,
-              ap (λ (r : Reader). r.failed) (sym (k.unread p (unseen r.cause)))
+              ap (λ r. r.failed) (sym (k.unread p (unseen r.cause)))
                   ∙ not_failed_before,
-              ap (λ (n : Reader). n.failed) reader_here ∙ failed,
+              ap (λ n. n.failed) reader_here ∙ failed,
             ))
             (λ (long, same). inr
             (rw read_here (let first = fresh_all old fresh p old_open in
@@ -500,8 +500,8 @@ module _ {word : List ℕ} {t : ToolSpec} {names : List (List ℕ)} {old : List 
           let unread = (e.refused k.clean few).same_reader in
           ⊎_elim (λ seen. omega (arith, few, k.room p seen old_open, (e.slots k.clean).least))
           (λ unseen. false≢true (sym (fresh_all old fresh p old_open).eof
-          ∙ ap (λ (r : Reader). r.eof) (sym (k.unread p unseen))
-          ∙ ap (λ (r : Reader). r.eof) (sym unread) ∙ ended.eof)) (cases_Bool (is_in done p)))
+          ∙ ap (λ r. r.eof) (sym (k.unread p unseen))
+          ∙ ap (λ r. r.eof) (sym unread) ∙ ended.eof)) (cases_Bool (is_in done p)))
           (λ enough. e.line_left memory enough ended) (cases_lt (length store'.lines) t.slots)
 
       failing : (fault : FlowFault) → PassOutcome (reader_at now p) new is' store' (Err fault) → new.failed ≡ true
@@ -536,7 +536,7 @@ module _ {word : List ℕ} {t : ToolSpec} {names : List (List ℕ)} {old : List 
         earlier = (one_keeps.processing.before tt).earlier
 
         input_given : input_of_operand empty_input inputs_read' done p ≡ Some (e.given)
-        input_given = ap (λ (o : Option Received). option_map (λ (g : Received). cond (is_in done p) empty_input g) o)
+        input_given = ap (λ o. option_map (λ (g : Received). cond (is_in done p) empty_input g) o)
             read_here
             ∙ ⊎_elim (λ (seen, none, at_eof). (λ i. Some (cond (seen i) empty_input (given_now y.given)))
             ∙ ap (λ (g : Received). Some g) (sym none))
@@ -635,11 +635,11 @@ module _ {word : List ℕ} {t : ToolSpec} {names : List (List ℕ)} {old : List 
             position_of q (opened, before, failed) = ⊎_elim (λ same. same)
                 (λ other. absurd
                 (false≢true (sym (not_failed_now q opened before)
-                ∙ ap (λ (r : Reader). r.failed) (sym (reader_other q other)) ∙ failed))) (cases_eq p q)
+                ∙ ap (λ r. r.failed) (sym (reader_other q other)) ∙ failed))) (cases_eq p q)
 
             fails_here : (q : ℕ) → HasReadFailed old now' q → new.failed ≡ true
             fails_here q fails = let (opened, before, failed) = fails in
-                ap (λ (r : Reader). r.failed) (sym reader_here)
+                ap (λ r. r.failed) (sym reader_here)
                 ∙ ap (λ (n : ℕ). (reader_at now' n).failed) (position_of q fails) ∙ failed
 
             index_within : (f : FlowFault) → HasIndexBelow (length old) (Err (fault_at p f))

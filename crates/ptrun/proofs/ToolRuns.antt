@@ -8,7 +8,9 @@ use Rattle.ptrun.proofs.Common.{RunOnPost, DecidesAll, OneByOne, Together, ToolI
 use Rattle.ptrun.proofs.Common.{result_message, get_or, set, get_or_default, no_reader, PassPost, only_operand}
 use Rattle.ptrun.proofs.Common.{operand_completion}
 use Rattle.ptrun.proofs.JointRuns.{report_unopened_post, joint_pre, joint_post}
+use Rattle.ptrun.proofs.Common.{Bor, Input, position, positions, words_view}
 use Rattle.ptrun.proofs.MessageWrites.{said_nothing}
+use Rattle.ptrun.proofs.OperandInputs.{names_counted, position_in_range}
 
 -- the tool, if it reads one operand after another
 abbrev pub one_tool : ToolInRun → ToolSpec
@@ -19,19 +21,22 @@ pub decides_all : (s : ToolInRun) → DecidesAll (one_tool s)
 decides_all (OneByOne t law) = law
 decides_all (Together t) = λ bytes. refl
 
+-- ---- the inputs
+
+-- each operand has a reader
+pub in_range_of : (s : ToolInRun) (word : List ℕ) (names : List (List ℕ)) (order : List Input) {inputs : List Reader}
+    → InputsPre (spec_of_tool word s names (positions order)) inputs → All (λ o. position o < length inputs) order
+in_range_of (OneByOne t law) word names order {inputs} k = position_in_range order (length inputs) k.in_range
+in_range_of (Together t) word names order {inputs} k = position_in_range order (length inputs) k.in_range
+
+-- each file has a name
+pub named_of : (s : ToolInRun) (word : List ℕ) (names : List (Bor (List ℕ))) (positions : List ℕ)
+    {inputs : List Reader}
+    → InputsPre (spec_of_tool word s (words_view names) positions) inputs → length inputs ≡ length names + 1
+named_of (OneByOne t law) word names positions {inputs} k = names_counted names (length inputs) k.named
+named_of (Together t) word names positions {inputs} k = names_counted names (length inputs) k.named
+
 module _ (word : List ℕ) (names : List (List ℕ)) (positions : List ℕ) where
-  -- ---- the inputs
-
-  pub in_range_of : (s : ToolInRun) {inputs : List Reader} → InputsPre (spec_of_tool word s names positions) inputs
-      → All (λ p. p < length inputs) positions
-  in_range_of (OneByOne t law) k = k.in_range
-  in_range_of (Together t) k = k.in_range
-
-  pub named_of : (s : ToolInRun) {inputs : List Reader} → InputsPre (spec_of_tool word s names positions) inputs
-      → length inputs ≡ length names + 1
-  named_of (OneByOne t law) k = k.named
-  named_of (Together t) k = k.named
-
   pub few_of : (s : ToolInRun) {inputs : List Reader} → reads_together s ≡ true
       → InputsPre (spec_of_tool word s names positions) inputs → length positions ≤ 512
   few_of (OneByOne t law) together k = absurd (false≢true together)

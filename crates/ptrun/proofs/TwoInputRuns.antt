@@ -240,7 +240,7 @@ module _ (t : keyed.MergeTool) {old : List Reader} {was : Output} {before : Slot
         first_left : length store.lines < 4 → IsDone (reader_at new p) → ⊥
         first_left few done =
             false≢true (sym (new_at First).eof
-            ∙ ap (λ (r : Reader). r.eof) (sym ((call.unread_without_slots ready.writable few).readers First)) ∙ done.eof)
+            ∙ ap (λ r. r.eof) (sym ((call.unread_without_slots ready.writable few).readers First)) ∙ done.eof)
 
         unfinished : IsMergeUnfinished t new_state e.given e.pushed
             → IsJointUnfinished (two_input_tool t) two given new e.pushed

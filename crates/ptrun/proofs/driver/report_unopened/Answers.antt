@@ -1,9 +1,9 @@
 -- Each iteration reports one more operand if it could not be opened.
-use Rattle.ptrun.proofs.Common.{scaled_Fits, ◌<◌, length, length-map, take, refl, sym, ◌∙◌, ap, arith, get_or_default, Reader, subst}
+use Rattle.ptrun.proofs.Common.{scaled_Fits, take, refl, sym, ◌∙◌, ap, arith, get_or_default, subst}
 use Rattle.ptrun.proofs.Common.{words_view, positions, no_reader, is_reader_unopened, Standard, false≢true, IsSound}
 use Rattle.ptrun.proofs.Common.{reader_at}
 use Rattle.ptrun.proofs.driver.report_unopened.Goals as goal
-use Rattle.ptrun.proofs.OperandInputs.{operand_step, positions_end, position_in_range, said_more, any_now, any_before}
+use Rattle.ptrun.proofs.OperandInputs.{operand_step, positions_end, said_more, any_now, any_before}
 use Rattle.ptrun.proofs.OperandInputs.{holds_more}
 use Rattle.ptrun.proofs.MessageWrites.{said_nothing}
 use Rattle.ptrun.proofs.ToolRuns.{in_range_of, named_of, nothing_reported, all_reported}
@@ -27,11 +27,10 @@ loop-input-preserved g c =
     let i = c.loop-input.input-index in
     let done = take i (positions c.args.order.now) in
     let k = c.loop-input.invariant in
-    let in_range = position_in_range c.args.order.now (length inputs)
-    (in_range_of _ _ _ (g.T.Tool.tool c.args.tool.now) c.requires) in
-    let turn = operand_step c.args.order.now i _ in_range c.loop-input-test.true c.position_of-position.ensures in
+    let turn = operand_step c.args.order.now i _ (in_range_of (g.T.Tool.tool c.args.tool.now) _ _ c.args.order.now c.requires)
+    c.loop-input-test.true c.position_of-position.ensures in
     let here = sym (c.index-inputs-position.is ∙ get_or_default inputs p _ no_reader turn.low) in
-    let refused = ap (λ (r : Reader). r.refused) here ∙ sym c.is_refused.ensures.refused in
+    let refused = ap (λ r. r.refused) here ∙ sym c.is_refused.ensures.refused in
     let sound = holds_more (λ q. IsSound (reader_at inputs q)) done p k.sound
     (subst IsSound (sym here) c.is_refused.ensures.sound) in
     elim c.if-is_refused.branch [
@@ -53,43 +52,30 @@ pub bounds-inputs-position : goal.bounds-inputs-position
 bounds-inputs-position g c =
     omega (
       arith,
-      position_in_range c.args.order.now (length c.args.inputs.now)
-          (in_range_of _ _ _ (g.T.Tool.tool c.args.tool.now) c.requires)
-          c.loop-input.input-index Standard c.loop-input-test.true,
+      in_range_of (g.T.Tool.tool c.args.tool.now) _ _ c.args.order.now c.requires c.loop-input.input-index Standard
+          c.loop-input-test.true,
       c.position_of-position.ensures,
     )
 
 pub offset_bounds-inputs-position : goal.offset_bounds-inputs-position
-offset_bounds-inputs-position g c =
-    let low : c.position_of-position.result < length c.args.inputs.now =
-    omega (
-      arith,
-      position_in_range c.args.order.now (length c.args.inputs.now)
-          (in_range_of _ _ _ (g.T.Tool.tool c.args.tool.now) c.requires)
-          c.loop-input.input-index Standard c.loop-input-test.true,
-      c.position_of-position.ensures,
-    ) in
-    search (scaled_Fits, low, arith)
+offset_bounds-inputs-position g c = let low = bounds-inputs-position g c in search (scaled_Fits, low, arith)
 
 pub name_at-requires : goal.name_at-requires
 name_at-requires g c =
     omega (
       arith,
-      position_in_range c.args.order.now (length c.args.inputs.now)
-          (in_range_of _ _ _ (g.T.Tool.tool c.args.tool.now) c.requires)
-          c.loop-input.input-index Standard c.loop-input-test.true,
+      in_range_of (g.T.Tool.tool c.args.tool.now) _ _ c.args.order.now c.requires c.loop-input.input-index Standard
+          c.loop-input-test.true,
       c.position_of-position.ensures,
-      named_of _ _ _ (g.T.Tool.tool c.args.tool.now) c.requires,
-      length-map c.args.names.now (λ w. w.now),
+      named_of (g.T.Tool.tool c.args.tool.now) _ c.args.names.now _ c.requires,
     )
 
 pub position_of-position-requires : goal.position_of-position-requires
 position_of-position-requires g c =
     omega (
       arith,
-      position_in_range c.args.order.now (length c.args.inputs.now)
-          (in_range_of _ _ _ (g.T.Tool.tool c.args.tool.now) c.requires)
-          c.loop-input.input-index Standard c.loop-input-test.true,
+      in_range_of (g.T.Tool.tool c.args.tool.now) _ _ c.args.order.now c.requires c.loop-input.input-index Standard
+          c.loop-input-test.true,
     )
 
 pub returns : goal.returns

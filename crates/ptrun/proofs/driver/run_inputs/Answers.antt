@@ -3,7 +3,7 @@
 use Rattle.ptrun.proofs.Common.{scaled_Fits, ◌<◌, ◌+◌, length, length-map, drop, sym, ◌∙◌, arith, positions}
 use Rattle.ptrun.proofs.Common.{Standard, position}
 use Rattle.ptrun.proofs.driver.run_inputs.Goals as goal
-use Rattle.ptrun.proofs.OperandInputs.{operand_step, positions_end, position_in_range}
+use Rattle.ptrun.proofs.OperandInputs.{operand_step, positions_end}
 use Rattle.ptrun.proofs.Sequential.{done_as, done_nothing, operand_ready, done_all, done_unopened, done_operand}
 use Rattle.ptrun.proofs.Sequential.{done_stopped}
 use Rattle.ptrun.proofs.ToolRuns.{in_range_of, named_of, few_of, together_pre, together_post, sequential_post}
@@ -25,8 +25,7 @@ pub positions_of-requires-clause-in_range : goal.positions_of-requires-clause-in
 positions_of-requires-clause-in_range g c =
     λ k d within. omega (
       arith,
-      position_in_range c.args.order.now (length c.args.inputs.now)
-          (in_range_of _ _ _ (g.T.Tool.tool c.args.tool.now) c.requires.given) k d within,
+      in_range_of (g.T.Tool.tool c.args.tool.now) _ _ c.args.order.now c.requires.given k d within,
     )
 
 pub run_on-requires : goal.run_on-requires
@@ -49,8 +48,7 @@ loop-input-init g c = done_nothing c.requires.given.fresh c.requires.writable c.
 pub run_on-requires-else-is_refused : goal.run_on-requires-else-is_refused
 run_on-requires-else-is_refused g c =
     let s = g.T.Tool.tool c.args.tool.now in
-    let in_range = position_in_range c.args.order.now (length c.args.inputs.now) (in_range_of _ _ _ s c.requires.given) in
-    let turn = operand_step c.args.order.now c.loop-input.input-index _ in_range c.loop-input-test.true
+    let turn = operand_step c.args.order.now c.loop-input.input-index _ (in_range_of s _ _ c.args.order.now c.requires.given) c.loop-input-test.true
     c.position_of-position.ensures in
     operand_pre s c.loop-input.out (sym c.reads_together.ensures ∙ c.if-reads_together.false)
     (operand_ready c.requires.given.fresh c.loop-input.invariant turn.low c.index-inputs-position.result
@@ -61,8 +59,7 @@ loop-input-preserved g c =
     let s = g.T.Tool.tool c.args.tool.now in
     let k = c.loop-input.invariant in
     let d = c.index-inputs-position.result in
-    let in_range = position_in_range c.args.order.now (length c.args.inputs.now) (in_range_of _ _ _ s c.requires.given) in
-    let turn = operand_step c.args.order.now c.loop-input.input-index _ in_range c.loop-input-test.true
+    let turn = operand_step c.args.order.now c.loop-input.input-index _ (in_range_of s _ _ c.args.order.now c.requires.given) c.loop-input-test.true
     c.position_of-position.ensures in
     elim c.if-is_refused.branch [
       | then-is_refused w ↦
@@ -82,8 +79,7 @@ returns-in-Err g c =
     let s = g.T.Tool.tool c.args.tool.now in
     let i = c.loop-input.input-index in
     let in_turn = sym c.reads_together.ensures ∙ c.if-reads_together.false in
-    let in_range = position_in_range c.args.order.now (length c.args.inputs.now) (in_range_of _ _ _ s c.requires.given) in
-    let turn = operand_step c.args.order.now i _ in_range c.loop-input-test.true c.position_of-position.ensures in
+    let turn = operand_step c.args.order.now i _ (in_range_of s _ _ c.args.order.now c.requires.given) c.loop-input-test.true c.position_of-position.ensures in
     sequential_post _ _ _ s in_turn
     (rw turn.split at (done_stopped c.requires.given.fresh c.loop-input.invariant turn.low
     c.index-inputs-position.result (sym c.is_refused.ensures.refused ∙ c.if-is_refused.false)
@@ -101,9 +97,8 @@ pub bounds-inputs-position : goal.bounds-inputs-position
 bounds-inputs-position g c =
     omega (
       arith,
-      position_in_range c.args.order.now (length c.args.inputs.now)
-          (in_range_of _ _ _ (g.T.Tool.tool c.args.tool.now) c.requires.given)
-          c.loop-input.input-index Standard c.loop-input-test.true,
+      in_range_of (g.T.Tool.tool c.args.tool.now) _ _ c.args.order.now c.requires.given c.loop-input.input-index Standard
+          c.loop-input-test.true,
       c.position_of-position.ensures,
       c.loop-input.auto.inputs,
     )
@@ -111,32 +106,23 @@ bounds-inputs-position g c =
 pub offset_bounds-inputs-position : goal.offset_bounds-inputs-position
 offset_bounds-inputs-position g c =
     let low : c.position_of-position.result < length c.args.inputs.now =
-    omega (
-      arith,
-      position_in_range c.args.order.now (length c.args.inputs.now)
-          (in_range_of _ _ _ (g.T.Tool.tool c.args.tool.now) c.requires.given)
-          c.loop-input.input-index Standard c.loop-input-test.true,
-      c.position_of-position.ensures,
-    ) in
+    omega (arith, bounds-inputs-position g c, c.loop-input.auto.inputs) in
     search (scaled_Fits, low)
 
 pub name_at-requires : goal.name_at-requires
 name_at-requires g c =
     omega (
       arith,
-      position_in_range c.args.order.now (length c.args.inputs.now)
-          (in_range_of _ _ _ (g.T.Tool.tool c.args.tool.now) c.requires.given)
-          c.loop-input.input-index Standard c.loop-input-test.true,
+      in_range_of (g.T.Tool.tool c.args.tool.now) _ _ c.args.order.now c.requires.given c.loop-input.input-index Standard
+          c.loop-input-test.true,
       c.position_of-position.ensures,
-      named_of _ _ _ (g.T.Tool.tool c.args.tool.now) c.requires.given,
-      length-map c.args.names.now (λ w. w.now),
+      named_of (g.T.Tool.tool c.args.tool.now) _ c.args.names.now _ c.requires.given,
     )
 
 pub position_of-position-requires : goal.position_of-position-requires
 position_of-position-requires g c =
     omega (
       arith,
-      position_in_range c.args.order.now (length c.args.inputs.now)
-          (in_range_of _ _ _ (g.T.Tool.tool c.args.tool.now) c.requires.given)
-          c.loop-input.input-index Standard c.loop-input-test.true,
+      in_range_of (g.T.Tool.tool c.args.tool.now) _ _ c.args.order.now c.requires.given c.loop-input.input-index Standard
+          c.loop-input-test.true,
     )

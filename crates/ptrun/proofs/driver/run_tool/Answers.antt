@@ -1,17 +1,16 @@
 -- If a file that the tool cannot run without could not be opened, nothing is read. Otherwise the tool processes its
 -- inputs, and the end of the run follows from its result.
-use Rattle.ptrun.proofs.Common.{ℕ, length, arith, refl, sym, ◌∙◌, subst, false≢true, HasIndexBelow}
+use Rattle.ptrun.proofs.Common.{ℕ, arith, refl, sym, ◌∙◌, subst, false≢true, HasIndexBelow}
 use Rattle.ptrun.proofs.Common.{outcome}
 use Rattle.ptrun.proofs.RunEnds.{run_in_store, any_unopened, index_below}
-use Rattle.ptrun.proofs.OperandInputs.{names_counted}
 use Rattle.ptrun.proofs.ToolRuns.{named_of, final_said}
 use Rattle.ptrun.proofs.driver.run_tool.Goals as goal
 
 pub say_final_message-status-requires : goal.say_final_message-status-requires
 say_final_message-status-requires g c =
     subst (λ (n : ℕ). HasIndexBelow n c.finish-final_result.result)
-    (rw c.deref-names.ensures.value (names_counted c.args.operands.now.names.items (length c.args.inputs.now)
-    (named_of _ _ _ (g.T.Tool.tool c.args.tool.now) c.requires.given)))
+    (rw c.deref-names.ensures.value
+    (named_of (g.T.Tool.tool c.args.tool.now) _ c.args.operands.now.names.items _ c.requires.given))
     (index_below c.run_inputs-run_result.ensures c.finish-final_result.ensures)
 
 pub returns-then-report_unopened : goal.returns-then-report_unopened
