@@ -43,7 +43,7 @@ pub use Rattle.ptopts.specs.Faults.{Fault, is_standard}
 pub use Rattle.ptopts.specs.View.{CommandPost, fault_view, command_view, words_view}
 pub use Rattle.ptopts.specs.declared.inputs.Input.{Input}
 pub use Rattle.ptopts.specs.declared.inputs.Input.TheVariants.{File, Standard}
-pub use Rattle.ptrun.specs.SpecOfArgs.{spec_of_args, spec_of_parsed, command_spec, is_memory_fault, job_spec}
+pub use Rattle.ptrun.specs.SpecOfArgs.{spec_of_args, spec_of_parsed, command_spec, is_memory_fault, tool_of_job, word_of_job}
 pub use Rattle.ptrun.specs.SpecOfArgs.{spec_of_result, message_only, tool_name}
 pub use Rattle.ptrun.specs.Driver.{AreConsistentAt, AreSoundAt, IsJointUnfinished, InputsPre, JointPre, MergeCallPost}
 pub use Rattle.ptrun.specs.Driver.{OperandPre, OperandPost, RunOnPre, RunOnPost, operand_completion}

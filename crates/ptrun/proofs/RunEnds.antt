@@ -20,7 +20,7 @@ use Rattle.ptrun.proofs.Common.{result_status, HasIndexBelow, IsPushedUpToBlock,
 use Rattle.ptrun.proofs.Common.{◌<◌, ◌==◌, is_none, not, nat_le, length-map, All-map, nat_tests, eqb_tells, Input}
 use Rattle.ptrun.proofs.Common.{Standard, File, Fault, Command, Job, RunCut, RunPaste, RunUniq, RunComm, RunJoin, RunTr}
 use Rattle.ptrun.proofs.Common.{command_of_args, input_operands, fault_view, command_view, CommandPost, usage_message}
-use Rattle.ptrun.proofs.Common.{usage_status, position, positions, InputsPre, two_input_tool, job_spec, command_spec}
+use Rattle.ptrun.proofs.Common.{usage_status, position, positions, InputsPre, two_input_tool, command_spec, tool_of_job, word_of_job, spec_of_tool}
 use Rattle.ptrun.proofs.Common.{leb-true, ◌≤◌, spec_of_result, tool_name, spec_of_args, spec_of_parsed, is_memory_fault, AreNewInputs}
 use Rattle.std.specs.Prelude.{if◌then◌else◌}
 use Rattle.ptlines.specs.Sinks.{flushes_after}
@@ -409,57 +409,44 @@ two_positions : (t : TwoInputs) (order : List Input) → AreTwo order
     → (two_input_tool t).accepts (positions order) ≡ true
 two_positions t order two = rw (two.are) (ap not (position_differs two.first two.second two.differ))
 
--- a specification has these names and positions, and its tool accepts the operands
-record IsSpecOver (m : CommandSpec) (names : List (List ℕ)) (positions : List ℕ) : Type 0 where
-  named : m.names ≡ names
-  positioned : m.positions ≡ positions
+-- the tool accepts its operands, and there are few if it reads them together
+record AcceptsOperands (m : CommandSpec) : Type 0 where
   accepts_operands : m.accepts ≡ true
   few : m.sequential ≡ None → length m.positions ≤ 512
 
-is_spec_over : (job : Job) (order : List Input) (names : List (List ℕ)) → AreInputsOf job order
-    → IsSpecOver (job_spec job names (positions order)) names (positions order)
-is_spec_over (RunCut u) order names accepts_operands =
-    record { named = refl; positioned = refl; accepts_operands = refl; few = λ none. cc }
-is_spec_over (RunPaste u) order names few =
-    ⊎_elim
-    (λ (is : u.serial ≡ true). rw is
-    (record { named = refl; positioned = refl; accepts_operands = refl; few = λ none. cc }))
+accepts_operands : (job : Job) (word : List ℕ) (names : List (List ℕ)) (order : List Input) → AreInputsOf job order
+    → AcceptsOperands (spec_of_tool word (tool_of_job job) names (positions order))
+accepts_operands (RunCut u) word names order any = record { accepts_operands = refl; few = λ none. cc }
+accepts_operands (RunPaste u) word names order few =
+    ⊎_elim (λ (is : u.serial ≡ true). rw is (record { accepts_operands = refl; few = λ none. cc }))
     (λ (is : u.serial ≡ false). rw is
     (record {
-      named = refl;
-      positioned = refl;
-      accepts_operands = ap (λ (n : ℕ). nat_le n 512) (length-map order position) ∙ few;
+      accepts_operands = ap (λ n. nat_le n 512) (length-map order position) ∙ few;
       few = λ _. omega (arith, leb-true (length order) 512 few, length-map order position);
     })) (cases_Bool u.serial)
-is_spec_over (RunUniq u) order names one = record {
-  named = refl;
-  positioned = refl;
-  accepts_operands = ap (λ (n : ℕ). n == 1) (length-map order position ∙ one);
+accepts_operands (RunUniq u) word names order one = record {
+  accepts_operands = ap (λ n. n == 1) (length-map order position ∙ one);
   few = λ _. omega (arith, one, length-map order position);
 }
-is_spec_over (RunComm u) order names two = record {
-  named = refl;
-  positioned = refl;
+accepts_operands (RunComm u) word names order two = record {
   accepts_operands = two_positions (comm_tool u) order two;
   few = λ _. omega (arith, ap length two.are, length-map order position);
 }
-is_spec_over (RunJoin u) order names two = record {
-  named = refl;
-  positioned = refl;
+accepts_operands (RunJoin u) word names order two = record {
   accepts_operands = two_positions (join_tool u) order two;
   few = λ _. omega (arith, ap length two.are, length-map order position);
 }
-is_spec_over (RunTr u) order names accepts_operands =
-    record { named = refl; positioned = refl; accepts_operands = refl; few = λ none. cc }
+accepts_operands (RunTr u) word names order any = record { accepts_operands = refl; few = λ none. cc }
 
 inputs_pre_of_spelled : (words : List (List ℕ)) (c : Command) (readers : List Reader) → SpellsCommand words c
     → AreNewInputs (length c.names) readers → InputsPre (command_spec c) readers
 inputs_pre_of_spelled words c readers (Spelled name rest tool os operands named s allowed) fresh =
-    let is = is_spec_over c.job c.order c.names (are_inputs tool os operands allowed.inputs) in record {
+    let is = accepts_operands c.job (word_of_job c.job) c.names c.order
+    (are_inputs tool os operands allowed.inputs) in record {
       fresh = fresh.1;
-      in_range = rw is.positioned (All-map (λ (p : ℕ). p < length readers) position c.order
-          (λ k d within. omega (arith, positions_within 0 (input_operands tool operands) k d within, fresh.0)));
-      named = fresh.0 ∙ ap (λ (l : List (List ℕ)). length l + 1) (sym is.named);
+      in_range = All-map (λ p. p < length readers) position c.order
+          (λ k d within. omega (arith, positions_within 0 (input_operands tool operands) k d within, fresh.0));
+      named = fresh.0;
       accepts_operands = is.accepts_operands;
       few = is.few;
     }

@@ -24,7 +24,7 @@ use Rattle.ptrun.proofs.OneInput.{OpenedInput, opened_receives, still_unopened, 
 use Rattle.ptrun.proofs.OneInput.{unopened_agrees, none_of, consistent_bytes, consistent_before, consistent_whole}
 use Rattle.ptrun.proofs.OneInput.{least_consistent, ended_at, nth_here}
 use Rattle.ptrun.proofs.MessageWrites.{said_nothing}
-use Rattle.ptrun.proofs.OperandInputs.{some_same, is_in-same, is_in-other, not_more, by_position, opened_inputs_some}
+use Rattle.ptrun.proofs.OperandInputs.{some_same, holds_more, is_in-same, is_in-other, not_more, by_position, opened_inputs_some}
 use Rattle.ptrun.proofs.OperandInputs.{opened_inputs_none, unopened_same, any_same, any_now, any_before, said_more}
 use Rattle.ptrun.proofs.OperandInputs.{maximum-append, IsEndedAt, least_bytes, decided_inputs, fresh_all}
 
@@ -238,10 +238,8 @@ module _ {word : List ℕ} {t : ToolSpec} {names : List (List ℕ)} {old : List 
         same_length = k.same_length;
         long = k.long;
         came = k.came;
-        at_eof =
-            λ q seen opened. ⊎_elim
-            (λ same. absurd (false≢true (sym opened ∙ ap (is_reader_unopened old) (sym same) ∙ old_unopened)))
-            (λ other. k.at_eof q (sym (is_in-other done p q other) ∙ seen) opened) (cases_eq p q);
+        at_eof = holds_more (λ q. is_reader_unopened old q ≡ false → IsAtEof (reader_at now q)) done p k.at_eof
+            (λ opened. absurd (false≢true (sym opened ∙ old_unopened)));
         unread = λ q unseen. let (differs, before) = not_more done p q unseen in k.unread q before;
         unreceived = λ q unseen. let (differs, before) = not_more done p q unseen in k.unreceived q before;
         pushed = k.pushed;
@@ -254,10 +252,8 @@ module _ {word : List ℕ} {t : ToolSpec} {names : List (List ℕ)} {old : List 
         empty = k.empty;
         peak = λ w agrees. rw (nothing w agrees) (k.peak w agrees);
         slots = λ w agrees. rw (nothing w agrees) (k.slots w agrees);
-        room =
-            λ q seen opened. ⊎_elim
-            (λ same. absurd (false≢true (sym opened ∙ ap (is_reader_unopened old) (sym same) ∙ old_unopened)))
-            (λ other. k.room q (sym (is_in-other done p q other) ∙ seen) opened) (cases_eq p q);
+        room = holds_more (λ q. is_reader_unopened old q ≡ false → t.slots ≤ length store.lines) done p k.room
+            (λ opened. absurd (false≢true (sym opened ∙ old_unopened)));
       }
         where
           old_unopened : (reader_at old p).refused ≡ true

@@ -1,16 +1,14 @@
 -- The steps of the driver, by how a tool reads its operands: each is the step of a tool that reads them one after
 -- another, or of one that reads them together.
-use Rattle.ptrun.proofs.Common.{◌≡◌, ℕ, ◌+◌, ◌<◌, ◌≤◌, Bool, true, false, List, [], ◌∷◌, Result, length, refl, sym, All}
+use Rattle.ptrun.proofs.Common.{◌≡◌, ℕ, ◌≤◌, Bool, true, false, List, [], ◌∷◌, Result, length, refl, sym}
 use Rattle.ptrun.proofs.Common.{false≢true, list_any, Reader, Output, Slots, SinkState, ToolSpec, FlowFault, Completion}
 use Rattle.ptrun.proofs.Common.{HasSaid, is_reader_unopened, unopened_messages, sequential_spec, InputsPre, AreSoundAt}
 use Rattle.ptrun.proofs.Common.{ReportUnopenedPost, RunInputsPre, RunInputsPost, OperandPre, OperandPost, RunOnPre}
 use Rattle.ptrun.proofs.Common.{RunOnPost, DecidesAll, OneByOne, Together, ToolInRun, reads_together, spec_of_tool}
-use Rattle.ptrun.proofs.Common.{result_message, get_or, set, get_or_default, no_reader, PassPost, only_operand}
+use Rattle.ptrun.proofs.Common.{get_or, set, get_or_default, no_reader, PassPost, only_operand}
 use Rattle.ptrun.proofs.Common.{operand_completion}
 use Rattle.ptrun.proofs.JointRuns.{report_unopened_post, joint_pre, joint_post}
-use Rattle.ptrun.proofs.Common.{Bor, Input, position, positions, words_view}
 use Rattle.ptrun.proofs.MessageWrites.{said_nothing}
-use Rattle.ptrun.proofs.OperandInputs.{names_counted, position_in_range}
 
 -- the tool, if it reads one operand after another
 abbrev pub one_tool : ToolInRun → ToolSpec
@@ -20,21 +18,6 @@ one_tool (Together t) = record { text = λ i. []; decided = λ g. []; size = λ 
 pub decides_all : (s : ToolInRun) → DecidesAll (one_tool s)
 decides_all (OneByOne t law) = law
 decides_all (Together t) = λ bytes. refl
-
--- ---- the inputs
-
--- each operand has a reader
-pub in_range_of : (s : ToolInRun) (word : List ℕ) (names : List (List ℕ)) (order : List Input) {inputs : List Reader}
-    → InputsPre (spec_of_tool word s names (positions order)) inputs → All (λ o. position o < length inputs) order
-in_range_of (OneByOne t law) word names order {inputs} k = position_in_range order (length inputs) k.in_range
-in_range_of (Together t) word names order {inputs} k = position_in_range order (length inputs) k.in_range
-
--- each file has a name
-pub named_of : (s : ToolInRun) (word : List ℕ) (names : List (Bor (List ℕ))) (positions : List ℕ)
-    {inputs : List Reader}
-    → InputsPre (spec_of_tool word s (words_view names) positions) inputs → length inputs ≡ length names + 1
-named_of (OneByOne t law) word names positions {inputs} k = names_counted names (length inputs) k.named
-named_of (Together t) word names positions {inputs} k = names_counted names (length inputs) k.named
 
 module _ (word : List ℕ) (names : List (List ℕ)) (positions : List ℕ) where
   pub few_of : (s : ToolInRun) {inputs : List Reader} → reads_together s ≡ true
@@ -65,13 +48,6 @@ module _ (word : List ℕ) (names : List (List ℕ)) (positions : List ℕ) wher
   all_reported (OneByOne t law) inputs together is has_said sound = absurd (false≢true together)
   all_reported (Together t) inputs together is has_said sound =
       report_unopened_post word t names positions inputs is has_said sound
-
-  pub final_said : (s : ToolInRun) {messages_old messages_new : SinkState} (r : Result Completion FlowFault)
-      → HasSaid messages_old messages_new (result_message word names r)
-      → HasSaid messages_old messages_new (result_message (spec_of_tool word s names positions).tool
-      (spec_of_tool word s names positions).names r)
-  final_said (OneByOne t law) r says = says
-  final_said (Together t) r says = says
 
   -- ---- processing the inputs
 

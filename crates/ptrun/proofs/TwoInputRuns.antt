@@ -50,9 +50,6 @@ two_of (p ∷ q ∷ []) d accepts_operands = record {
 }
 two_of positions d accepts_operands = absurd (grind (arith, nat_tests, accepts_operands))
 
-pub two_there : (positions : List ℕ) → AcceptsTwo positions → 1 < length positions
-two_there positions accepts_operands = grind (arith, nat_tests, accepts_operands)
-
 module _ (t : keyed.MergeTool) {old : List Reader} {was : Output} {before : Slots} {p q : ℕ} (apart : p ≡ q → ⊥)
     (ready : JointPre (two_input_tool t) (p ∷ q ∷ []) old was before) where
   abbrev two : List ℕ

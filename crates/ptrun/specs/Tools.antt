@@ -18,10 +18,15 @@ abbrev pub reads_together : ToolInRun → Bool
 reads_together (OneByOne t law) = false
 reads_together (Together t) = true
 
+-- The part of the specification that depends on how the tool reads its operands.
+abbrev pub spec_by_reading : List ℕ → ToolInRun → List (List ℕ) → List ℕ → CommandSpec
+spec_by_reading word (OneByOne t law) names positions = sequential_spec word t names positions
+spec_by_reading word (Together t) names positions = joint_spec word t names positions
+
 -- The specification of the tool named `word` with operands at these positions and files of these names.
 abbrev pub spec_of_tool : List ℕ → ToolInRun → List (List ℕ) → List ℕ → CommandSpec
-spec_of_tool word (OneByOne t law) names positions = sequential_spec word t names positions
-spec_of_tool word (Together t) names positions = joint_spec word t names positions
+spec_of_tool word tool names positions =
+    record (spec_by_reading word tool names positions) { positions = positions; tool = word; names = names }
 
 -- `paste -s` reads its operands one after another, and `paste` reads them together.
 abbrev pub paste_in_run : Paste → ToolInRun

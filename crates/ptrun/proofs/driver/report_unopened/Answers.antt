@@ -1,12 +1,12 @@
 -- Each iteration reports one more operand if it could not be opened.
-use Rattle.ptrun.proofs.Common.{scaled_Fits, take, refl, sym, ◌∙◌, ap, arith, get_or_default, subst}
+use Rattle.ptrun.proofs.Common.{scaled_Fits, length, take, refl, sym, ◌∙◌, ap, arith, get_or_default, subst}
 use Rattle.ptrun.proofs.Common.{words_view, positions, no_reader, is_reader_unopened, Standard, false≢true, IsSound}
 use Rattle.ptrun.proofs.Common.{reader_at}
 use Rattle.ptrun.proofs.driver.report_unopened.Goals as goal
-use Rattle.ptrun.proofs.OperandInputs.{operand_step, positions_end, said_more, any_now, any_before}
+use Rattle.ptrun.proofs.OperandInputs.{names_counted, operand_step, position_in_range, positions_end, said_more, any_now, any_before}
 use Rattle.ptrun.proofs.OperandInputs.{holds_more}
 use Rattle.ptrun.proofs.MessageWrites.{said_nothing}
-use Rattle.ptrun.proofs.ToolRuns.{in_range_of, named_of, nothing_reported, all_reported}
+use Rattle.ptrun.proofs.ToolRuns.{nothing_reported, all_reported}
 use Rattle.ptrun.proofs.driver.report_unopened.Goals.{then-is_refused, else-is_refused}
 
 pub returns-then-not-reads_together : goal.returns-then-not-reads_together
@@ -27,7 +27,7 @@ loop-input-preserved g c =
     let i = c.loop-input.input-index in
     let done = take i (positions c.args.order.now) in
     let k = c.loop-input.invariant in
-    let turn = operand_step c.args.order.now i _ (in_range_of (g.T.Tool.tool c.args.tool.now) _ _ c.args.order.now c.requires)
+    let turn = operand_step c.args.order.now i _ (position_in_range c.args.order.now (length c.args.inputs.now) c.requires.in_range)
     c.loop-input-test.true c.position_of-position.ensures in
     let here = sym (c.index-inputs-position.is ∙ get_or_default inputs p _ no_reader turn.low) in
     let refused = ap (λ r. r.refused) here ∙ sym c.is_refused.ensures.refused in
@@ -52,7 +52,7 @@ pub bounds-inputs-position : goal.bounds-inputs-position
 bounds-inputs-position g c =
     omega (
       arith,
-      in_range_of (g.T.Tool.tool c.args.tool.now) _ _ c.args.order.now c.requires c.loop-input.input-index Standard
+      position_in_range c.args.order.now (length c.args.inputs.now) c.requires.in_range c.loop-input.input-index Standard
           c.loop-input-test.true,
       c.position_of-position.ensures,
     )
@@ -64,17 +64,17 @@ pub name_at-requires : goal.name_at-requires
 name_at-requires g c =
     omega (
       arith,
-      in_range_of (g.T.Tool.tool c.args.tool.now) _ _ c.args.order.now c.requires c.loop-input.input-index Standard
+      position_in_range c.args.order.now (length c.args.inputs.now) c.requires.in_range c.loop-input.input-index Standard
           c.loop-input-test.true,
       c.position_of-position.ensures,
-      named_of (g.T.Tool.tool c.args.tool.now) _ c.args.names.now _ c.requires,
+      names_counted c.args.names.now (length c.args.inputs.now) c.requires.named,
     )
 
 pub position_of-position-requires : goal.position_of-position-requires
 position_of-position-requires g c =
     omega (
       arith,
-      in_range_of (g.T.Tool.tool c.args.tool.now) _ _ c.args.order.now c.requires c.loop-input.input-index Standard
+      position_in_range c.args.order.now (length c.args.inputs.now) c.requires.in_range c.loop-input.input-index Standard
           c.loop-input-test.true,
     )
 

@@ -1,16 +1,16 @@
 -- If a file that the tool cannot run without could not be opened, nothing is read. Otherwise the tool processes its
 -- inputs, and the end of the run follows from its result.
 use Rattle.ptrun.proofs.Common.{ℕ, arith, refl, sym, ◌∙◌, subst, false≢true, HasIndexBelow}
-use Rattle.ptrun.proofs.Common.{outcome}
+use Rattle.ptrun.proofs.Common.{length, outcome}
 use Rattle.ptrun.proofs.RunEnds.{run_in_store, any_unopened, index_below}
-use Rattle.ptrun.proofs.ToolRuns.{named_of, final_said}
+use Rattle.ptrun.proofs.OperandInputs.{names_counted}
 use Rattle.ptrun.proofs.driver.run_tool.Goals as goal
 
 pub say_final_message-status-requires : goal.say_final_message-status-requires
 say_final_message-status-requires g c =
     subst (λ (n : ℕ). HasIndexBelow n c.finish-final_result.result)
     (rw c.deref-names.ensures.value
-    (named_of (g.T.Tool.tool c.args.tool.now) _ c.args.operands.now.names.items _ c.requires.given))
+    (names_counted c.args.operands.now.names.items (length c.args.inputs.now) c.requires.given.named))
     (index_below c.run_inputs-run_result.ensures c.finish-final_result.ensures)
 
 pub returns-then-report_unopened : goal.returns-then-report_unopened
@@ -34,7 +34,7 @@ returns g c =
     record {
       run = run_in_store (g.W.Sink.state c.args.out) (outcome (g.W.Sink.state) (g.E.Sink.state) c.report_of.result)
           (rw c.if-report_unopened.false at reported.has_said) ran c.finish-final_result.ensures
-          (final_said _ _ _ (g.T.Tool.tool c.args.tool.now) _ (rw r.messages last))
+          (rw r.messages last)
           (r.status ∙ c.say_final_message-status.ensures.status)
           c.new-out.ensures r.out.0 r.out.1 r.out.2 r.flushes c.requires.unused.store.never r.store.0 r.store.1;
       reads_nothing = (
