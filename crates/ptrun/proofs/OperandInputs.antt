@@ -222,14 +222,17 @@ pub record OperandStep (order : List Input) (i p n : ℕ) : Type 0 where
   pub next : take (i + 1) (positions order) ≡ take i (positions order) ++ p ∷ []
   pub split : take i (positions order) ++ p ∷ drop (i + 1) (positions order) ≡ positions order
 
-pub operand_step : {p n : ℕ} (order : List Input) (i : ℕ) (d : Input) → All (λ o. position o < n) order
+pub operand_low : {p n : ℕ} (order : List Input) (i : ℕ) (d : Input) → All (λ q. q < n) (positions order)
+    → i < length order → p ≡ position (get_or order i d) → p < n
+operand_low {n = n} order i d in_range within is = rw is (position_in_range order n in_range i d within)
+
+pub operand_step : {p n : ℕ} (order : List Input) (i : ℕ) (d : Input) → All (λ q. q < n) (positions order)
     → i < length order → p ≡ position (get_or order i d) → OperandStep order i p n
 operand_step {p} {n} order i d in_range within is = record {
-  low = rw is (in_range i d within);
+  low = operand_low order i d in_range within is;
   next = next;
   split = sym (append_assoc (take i (positions order)) (p ∷ []) (drop (i + 1) (positions order)))
-      ∙ ap (λ (l : List ℕ). l ++ drop (i + 1) (positions order)) (sym next)
-      ∙ take-append-drop (i + 1) (positions order);
+      ∙ ap (λ l. l ++ drop (i + 1) (positions order)) (sym next) ∙ take-append-drop (i + 1) (positions order);
 }
   where
     next : take (i + 1) (positions order) ≡ take i (positions order) ++ p ∷ []

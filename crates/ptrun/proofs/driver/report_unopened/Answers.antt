@@ -1,9 +1,9 @@
 -- Each iteration reports one more operand if it could not be opened.
-use Rattle.ptrun.proofs.Common.{scaled_Fits, length, take, refl, sym, ◌∙◌, ap, arith, get_or_default, subst}
+use Rattle.ptrun.proofs.Common.{scaled_Fits, ◌<◌, length, take, refl, sym, ◌∙◌, ap, arith, get_or_default, subst}
 use Rattle.ptrun.proofs.Common.{words_view, positions, no_reader, is_reader_unopened, Standard, false≢true, IsSound}
 use Rattle.ptrun.proofs.Common.{reader_at}
 use Rattle.ptrun.proofs.driver.report_unopened.Goals as goal
-use Rattle.ptrun.proofs.OperandInputs.{names_counted, operand_step, position_in_range, positions_end, said_more, any_now, any_before}
+use Rattle.ptrun.proofs.OperandInputs.{names_counted, operand_low, operand_step, position_in_range, positions_end, said_more, any_now, any_before}
 use Rattle.ptrun.proofs.OperandInputs.{holds_more}
 use Rattle.ptrun.proofs.MessageWrites.{said_nothing}
 use Rattle.ptrun.proofs.ToolRuns.{nothing_reported, all_reported}
@@ -27,7 +27,7 @@ loop-input-preserved g c =
     let i = c.loop-input.input-index in
     let done = take i (positions c.args.order.now) in
     let k = c.loop-input.invariant in
-    let turn = operand_step c.args.order.now i _ (position_in_range c.args.order.now (length c.args.inputs.now) c.requires.in_range)
+    let turn = operand_step c.args.order.now i _ c.requires.in_range
     c.loop-input-test.true c.position_of-position.ensures in
     let here = sym (c.index-inputs-position.is ∙ get_or_default inputs p _ no_reader turn.low) in
     let refused = ap (λ r. r.refused) here ∙ sym c.is_refused.ensures.refused in
@@ -50,25 +50,22 @@ loop-input-preserved g c =
 
 pub bounds-inputs-position : goal.bounds-inputs-position
 bounds-inputs-position g c =
-    omega (
-      arith,
-      position_in_range c.args.order.now (length c.args.inputs.now) c.requires.in_range c.loop-input.input-index Standard
-          c.loop-input-test.true,
-      c.position_of-position.ensures,
-    )
+    operand_low c.args.order.now c.loop-input.input-index Standard c.requires.in_range c.loop-input-test.true
+    c.position_of-position.ensures
 
 pub offset_bounds-inputs-position : goal.offset_bounds-inputs-position
-offset_bounds-inputs-position g c = let low = bounds-inputs-position g c in search (scaled_Fits, low, arith)
+offset_bounds-inputs-position g c =
+    let low : c.position_of-position.result < length c.args.inputs.now =
+    operand_low c.args.order.now c.loop-input.input-index Standard c.requires.in_range c.loop-input-test.true
+    c.position_of-position.ensures in
+    search (scaled_Fits, low, arith)
 
 pub name_at-requires : goal.name_at-requires
 name_at-requires g c =
-    omega (
-      arith,
-      position_in_range c.args.order.now (length c.args.inputs.now) c.requires.in_range c.loop-input.input-index Standard
-          c.loop-input-test.true,
-      c.position_of-position.ensures,
-      names_counted c.args.names.now (length c.args.inputs.now) c.requires.named,
-    )
+    let low : c.position_of-position.result < length c.args.inputs.now =
+    operand_low c.args.order.now c.loop-input.input-index Standard c.requires.in_range c.loop-input-test.true
+    c.position_of-position.ensures in
+    omega (arith, low, names_counted c.args.names.now (length c.args.inputs.now) c.requires.named)
 
 pub position_of-position-requires : goal.position_of-position-requires
 position_of-position-requires g c =

@@ -1,9 +1,9 @@
 -- A tool that reads its operands together is run once. Otherwise each iteration processes one more operand; if one
 -- fails, the run stops there, and the operands after it are unchanged.
-use Rattle.ptrun.proofs.Common.{scaled_Fits, ◌<◌, ◌+◌, length, length-map, drop, sym, ◌∙◌, arith, positions}
+use Rattle.ptrun.proofs.Common.{scaled_Fits, ◌<◌, ◌<◌, ◌+◌, length, length-map, drop, sym, ◌∙◌, arith, positions}
 use Rattle.ptrun.proofs.Common.{Standard, position}
 use Rattle.ptrun.proofs.driver.run_inputs.Goals as goal
-use Rattle.ptrun.proofs.OperandInputs.{names_counted, operand_step, position_in_range, positions_end}
+use Rattle.ptrun.proofs.OperandInputs.{names_counted, operand_low, operand_step, position_in_range, positions_end}
 use Rattle.ptrun.proofs.Sequential.{done_as, done_nothing, operand_ready, done_all, done_unopened, done_operand}
 use Rattle.ptrun.proofs.Sequential.{done_stopped}
 use Rattle.ptrun.proofs.ToolRuns.{few_of, together_pre, together_post, sequential_post}
@@ -48,7 +48,7 @@ loop-input-init g c = done_nothing c.requires.given.fresh c.requires.writable c.
 pub run_on-requires-else-is_refused : goal.run_on-requires-else-is_refused
 run_on-requires-else-is_refused g c =
     let s = g.T.Tool.tool c.args.tool.now in
-    let turn = operand_step c.args.order.now c.loop-input.input-index _ (position_in_range c.args.order.now (length c.args.inputs.now) c.requires.given.in_range) c.loop-input-test.true
+    let turn = operand_step c.args.order.now c.loop-input.input-index _ c.requires.given.in_range c.loop-input-test.true
     c.position_of-position.ensures in
     operand_pre s c.loop-input.out (sym c.reads_together.ensures ∙ c.if-reads_together.false)
     (operand_ready c.requires.given.fresh c.loop-input.invariant turn.low c.index-inputs-position.result
@@ -59,7 +59,7 @@ loop-input-preserved g c =
     let s = g.T.Tool.tool c.args.tool.now in
     let k = c.loop-input.invariant in
     let d = c.index-inputs-position.result in
-    let turn = operand_step c.args.order.now c.loop-input.input-index _ (position_in_range c.args.order.now (length c.args.inputs.now) c.requires.given.in_range) c.loop-input-test.true
+    let turn = operand_step c.args.order.now c.loop-input.input-index _ c.requires.given.in_range c.loop-input-test.true
     c.position_of-position.ensures in
     elim c.if-is_refused.branch [
       | then-is_refused w ↦
@@ -79,7 +79,7 @@ returns-in-Err g c =
     let s = g.T.Tool.tool c.args.tool.now in
     let i = c.loop-input.input-index in
     let in_turn = sym c.reads_together.ensures ∙ c.if-reads_together.false in
-    let turn = operand_step c.args.order.now i _ (position_in_range c.args.order.now (length c.args.inputs.now) c.requires.given.in_range) c.loop-input-test.true c.position_of-position.ensures in
+    let turn = operand_step c.args.order.now i _ c.requires.given.in_range c.loop-input-test.true c.position_of-position.ensures in
     sequential_post _ _ _ s in_turn
     (rw turn.split at (done_stopped c.requires.given.fresh c.loop-input.invariant turn.low
     c.index-inputs-position.result (sym c.is_refused.ensures.refused ∙ c.if-is_refused.false)
@@ -95,29 +95,24 @@ returns g c =
 
 pub bounds-inputs-position : goal.bounds-inputs-position
 bounds-inputs-position g c =
-    omega (
-      arith,
-      position_in_range c.args.order.now (length c.args.inputs.now) c.requires.given.in_range c.loop-input.input-index Standard
-          c.loop-input-test.true,
-      c.position_of-position.ensures,
-      c.loop-input.auto.inputs,
-    )
+    let low : c.position_of-position.result < length c.args.inputs.now =
+    operand_low c.args.order.now c.loop-input.input-index Standard c.requires.given.in_range c.loop-input-test.true
+    c.position_of-position.ensures in
+    omega (arith, low, c.loop-input.auto.inputs)
 
 pub offset_bounds-inputs-position : goal.offset_bounds-inputs-position
 offset_bounds-inputs-position g c =
     let low : c.position_of-position.result < length c.args.inputs.now =
-    omega (arith, bounds-inputs-position g c, c.loop-input.auto.inputs) in
-    search (scaled_Fits, low)
+    operand_low c.args.order.now c.loop-input.input-index Standard c.requires.given.in_range c.loop-input-test.true
+    c.position_of-position.ensures in
+    search (scaled_Fits, low, arith)
 
 pub name_at-requires : goal.name_at-requires
 name_at-requires g c =
-    omega (
-      arith,
-      position_in_range c.args.order.now (length c.args.inputs.now) c.requires.given.in_range c.loop-input.input-index Standard
-          c.loop-input-test.true,
-      c.position_of-position.ensures,
-      names_counted c.args.names.now (length c.args.inputs.now) c.requires.given.named,
-    )
+    let low : c.position_of-position.result < length c.args.inputs.now =
+    operand_low c.args.order.now c.loop-input.input-index Standard c.requires.given.in_range c.loop-input-test.true
+    c.position_of-position.ensures in
+    omega (arith, low, names_counted c.args.names.now (length c.args.inputs.now) c.requires.given.named)
 
 pub position_of-position-requires : goal.position_of-position-requires
 position_of-position-requires g c =
