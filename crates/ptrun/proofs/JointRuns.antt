@@ -13,14 +13,14 @@ use Rattle.ptrun.proofs.Common.{Reader, Output, Slots, SinkState, Received, IsPr
 use Rattle.ptrun.proofs.Common.{PassOutcome, PassPost, update_at, ToolSpec, FlowFault, Read, Write, Memory}
 use Rattle.ptrun.proofs.Common.{Completion, AllWritten, InputBytes, ReceivedInputs, at, is_unopened}
 use Rattle.ptrun.proofs.Common.{AreInputsConsistent, is_in, reader_at, is_reader_unopened, HaveReceived}
-use Rattle.ptrun.proofs.Common.{IsNewOrUnopened, HasReadFailed, IsTooLong, unopened_messages, HasSaid, unopened_message}
+use Rattle.ptrun.proofs.Common.{IsNewOrUnopened, HasReadFailed, IsTooLong, unopened_messages, unopened_message}
 use Rattle.ptrun.proofs.Common.{name_of, IsPushedUpToBlock, position, positions, JointTool, one_input_tool, bytes_of}
 use Rattle.ptrun.proofs.Common.{received_in, has_unopened, disorder_text, disorder_status, joint_spec}
-use Rattle.ptrun.proofs.Common.{ReportUnopenedPost, RunInputsPre, JointPre, HasIndexBelow, result_message}
+use Rattle.ptrun.proofs.Common.{RunInputsPre, JointPre, HasIndexBelow, result_message}
 use Rattle.ptrun.proofs.Common.{result_status, RunInputsEnd, RunInputsPost, completion_of, AreConsistentAt}
 use Rattle.ptrun.proofs.Common.{NoReadFailed, JointEnd, JointPost, map, max, append-nil, All-from_get_or, list_any_at}
 use Rattle.ptrun.proofs.Common.{known_lines, IsConsistent, Paste, IsReadable, IsReadToEnd, PasteOutcome, PastePost}
-use Rattle.ptrun.proofs.Common.{paste_rows_tool, AreSoundAt, PassPre, operand_completion, IsNew}
+use Rattle.ptrun.proofs.Common.{paste_rows_tool, PassPre, operand_completion, IsNew}
 use Rattle.std.proofs.lemmas.List.Sums.{sum-map}
 use Rattle.ptlines.specs.Text.{lines, max_line_length}
 use Rattle.ptflow.specs.PasteText.{uses_of, every_kth, columns, rows, known_rows, rows_text, paste, paste_decided}
@@ -43,28 +43,6 @@ none_unopened word names test [] none = refl
 none_unopened word names test (p ∷ positions) none = let both = neither (test p) (list_any test positions) none in
     (λ i. cond (both.0 i) (unopened_message word (name_of names p)) []
     ++ none_unopened word names test positions both.1 i)
-
-pub report_unopened_post : (word : List ℕ) (t : JointTool) (names : List (List ℕ)) (positions : List ℕ)
-    (inputs : List Reader) {messages_old messages_new : SinkState} {any_unopened : Bool}
-    → any_unopened ≡ list_any (is_reader_unopened inputs) positions
-    → HasSaid messages_old messages_new (unopened_messages word names (is_reader_unopened inputs) positions)
-    → AreSoundAt positions inputs
-    → ReportUnopenedPost (joint_spec word t names positions) inputs messages_old messages_new any_unopened
-report_unopened_post word t names positions inputs {messages_old} {messages_new} {any_unopened} is has_said sound = record {
-  is = is;
-  has_said =
-      ⊎_elim (λ some. rw some has_said)
-      (λ none. rw none (rw (none_unopened word names (is_reader_unopened inputs) positions (sym is ∙ none))
-      at has_said)) (cases_Bool any_unopened);
-  nothing = λ some w same. rw (has_unopened_as (is_unopened w) same some) (refl, refl, refl);
-  at_once = λ _. refl;
-  sound = λ _. sound;
-  undecided = λ some r same. rw (has_unopened_as (is_unopened r) same some) refl;
-}
-  where
-    has_unopened_as : (test : ℕ → Bool) → ((q : ℕ) → is_reader_unopened inputs q ≡ test q) → any_unopened ≡ true
-        → list_any test positions ≡ true
-    has_unopened_as test same some = sym (any_same (is_reader_unopened inputs) test positions same) ∙ sym is ∙ some
 
 -- ---- the position of a failure, as that of the first operand with this input
 
@@ -91,22 +69,6 @@ at_received given n (r ∷ readers) zero m is = let same : n ≡ m = omega (arit
 at_received given n (r ∷ readers) (suc q) m is = at_received given (n + 1) readers q m (omega (arith, is))
 
 -- ---- processing the inputs
-
--- the precondition of such a tool
-pub joint_pre : (word : List ℕ) {t : JointTool} (names : List (List ℕ)) {positions : List ℕ} {inputs : List Reader}
-    {out : Output} {store : Slots}
-    → RunInputsPre (joint_spec word t names positions) inputs out store → JointPre t positions inputs out store
-joint_pre word names s =
-    record {
-      accepts_operands = s.given.accepts_operands;
-      fresh = s.given.fresh;
-      in_range = s.given.in_range;
-      opened = s.complete;
-      sound = s.sound refl;
-      writable = s.writable;
-      not_denied = s.not_denied;
-      empty = s.empty;
-    }
 
 ends_with : (word : List ℕ) (names : List (List ℕ)) (found : Option (ℕ × ℕ))
     → (result_message word names (Ok (completion_of found)) ≡ disorder_text word names found)

@@ -7,7 +7,9 @@ use Rattle.ptrun.proofs.Common.{ReportUnopenedPost, RunInputsPre, RunInputsPost,
 use Rattle.ptrun.proofs.Common.{RunOnPost, DecidesAll, OneByOne, Together, ToolInRun, reads_together, spec_of_tool}
 use Rattle.ptrun.proofs.Common.{get_or, set, get_or_default, no_reader, PassPost, only_operand}
 use Rattle.ptrun.proofs.Common.{operand_completion}
-use Rattle.ptrun.proofs.JointRuns.{report_unopened_post, joint_pre, joint_post}
+use Rattle.ptrun.proofs.Common.{◌∙◌, ⊎_elim, cases_Bool, is_unopened}
+use Rattle.ptrun.proofs.JointRuns.{none_unopened, joint_post}
+use Rattle.ptrun.proofs.OperandInputs.{any_same}
 use Rattle.ptrun.proofs.MessageWrites.{said_nothing}
 
 -- the tool, if it reads one operand after another
@@ -32,10 +34,10 @@ module _ (word : List ℕ) (names : List (List ℕ)) (positions : List ℕ) wher
   nothing_reported (OneByOne t law) inputs messages in_turn = record {
     is = refl;
     has_said = said_nothing messages;
-    nothing = λ any_unopened. absurd (false≢true any_unopened);
-    at_once = λ any_unopened. absurd (false≢true any_unopened);
+    nothing = λ some. absurd (false≢true some);
+    at_once = λ some. absurd (false≢true some);
     sound = λ none. cc;
-    undecided = λ any_unopened. absurd (false≢true any_unopened);
+    undecided = λ some. absurd (false≢true some);
   }
   nothing_reported (Together t) inputs messages in_turn = absurd (false≢true (sym in_turn))
 
@@ -46,8 +48,21 @@ module _ (word : List ℕ) (names : List (List ℕ)) (positions : List ℕ) wher
       → AreSoundAt positions inputs
       → ReportUnopenedPost (spec_of_tool word s names positions) inputs messages_old messages_new any_unopened
   all_reported (OneByOne t law) inputs together is has_said sound = absurd (false≢true together)
-  all_reported (Together t) inputs together is has_said sound =
-      report_unopened_post word t names positions inputs is has_said sound
+  all_reported (Together t) inputs {any_unopened = any_unopened} together is has_said sound = record {
+    is = is;
+    has_said =
+        ⊎_elim (λ some. rw some has_said)
+        (λ none. rw none (rw (none_unopened word names (is_reader_unopened inputs) positions (sym is ∙ none))
+        at has_said)) (cases_Bool any_unopened);
+    nothing = λ some w same. rw (has_unopened_as (is_unopened w) same some) (refl, refl, refl);
+    at_once = λ _. refl;
+    sound = λ _. sound;
+    undecided = λ some r same. rw (has_unopened_as (is_unopened r) same some) refl;
+  }
+    where
+      has_unopened_as : (test : ℕ → Bool) → ((q : ℕ) → is_reader_unopened inputs q ≡ test q) → any_unopened ≡ true
+          → list_any test positions ≡ true
+      has_unopened_as test same some = sym (any_same (is_reader_unopened inputs) test positions same) ∙ sym is ∙ some
 
   -- ---- processing the inputs
 
@@ -56,7 +71,16 @@ module _ (word : List ℕ) (names : List (List ℕ)) (positions : List ℕ) wher
         → RunInputsPre (spec_of_tool word s names positions) inputs was before
         → RunOnPre s positions inputs was before
     together_pre (OneByOne t law) together k = absurd (false≢true together)
-    together_pre (Together t) together k = joint_pre word names k
+    together_pre (Together t) together k = record {
+      accepts_operands = k.given.accepts_operands;
+      fresh = k.given.fresh;
+      in_range = k.given.in_range;
+      opened = k.complete;
+      sound = k.sound refl;
+      writable = k.writable;
+      not_denied = k.not_denied;
+      empty = k.empty;
+    }
 
     module _ {old new : List Reader} {is : Output} {store : Slots} {result : Result Completion FlowFault} where
       pub together_post : (s : ToolInRun) (messages : SinkState) → reads_together s ≡ true
