@@ -49,10 +49,10 @@ none_unopened word names test (p ∷ positions) none = let both = neither (test 
 first_at : (positions : List ℕ) (p : ℕ) → is_in positions p ≡ true
     → (n : ℕ) × (n ≤ length positions) × (slice_get positions n ≡ Some p) × (is_in (take n positions) p ≡ false)
 first_at [] p there = absurd (false≢true there)
-first_at (q ∷ positions) p there = ⊎_elim (λ same. (0, omega arith, ap (λ (n : ℕ). Some n) same.1, refl))
+first_at (q ∷ positions) p there = ⊎_elim (λ same. (0, omega arith, ap (λ n. Some n) same.1, refl))
     (λ other.
-    let f = first_at positions p (ap (λ (b : Bool). b || is_in positions p) (sym other.0) ∙ there) in
-    (suc f.0, omega (arith, f.1), f.2, ap (λ (b : Bool). b || is_in (take f.0 positions) p) other.0 ∙ f.3))
+    let f = first_at positions p (ap (λ b. b || is_in positions p) (sym other.0) ∙ there) in
+    (suc f.0, omega (arith, f.1), f.2, ap (λ b. b || is_in (take f.0 positions) p) other.0 ∙ f.3))
     (eqb_tells q p)
 
 -- ---- the inputs received, as a list
@@ -65,7 +65,7 @@ at_received : (given : ℕ → Received) (n : ℕ) (readers : List Reader) (q m 
     → at (received_from given n readers) q ≡ cond (is_reader_unopened readers q) None (Some (given m))
 at_received given n [] q m is = refl
 at_received given n (r ∷ readers) zero m is = let same : n ≡ m = omega (arith, is) in
-    ap (λ (k : ℕ). cond r.refused None (Some (given k))) same
+    ap (λ k. cond r.refused None (Some (given k))) same
 at_received given n (r ∷ readers) (suc q) m is = at_received given (n + 1) readers q m (omega (arith, is))
 
 -- ---- processing the inputs
@@ -102,7 +102,7 @@ module _ (word : List ℕ) {t : JointTool} (names : List (List ℕ)) {positions 
 
   at_other : (q : ℕ) → is_in positions q ≡ false → at received q ≡ received_of (reader_at old q)
   at_other q other =
-      at_position q ∙ ap (λ (b : Bool). cond (is_reader_unopened old q) None (Some (cond b (k.given q) none_received)))
+      at_position q ∙ ap (λ b. cond (is_reader_unopened old q) None (Some (cond b (k.given q) none_received)))
       other
 
   given_listed : (q : ℕ) → is_in positions q ≡ true → received_in received q ≡ k.given q
@@ -128,7 +128,7 @@ module _ (word : List ℕ) {t : JointTool} (names : List (List ℕ)) {positions 
   decided_is : (r : ReceivedInputs) (f : ℕ → Received) → ((q : ℕ) → is_unopened r q ≡ is_unopened received q)
       → ((q : ℕ) → is_in positions q ≡ true → received_in r q ≡ f q)
       → (joint_spec word t names positions).decided r ≡ t.decided positions f
-  decided_is r f opened same = ap (λ (b : Bool). cond b [] (t.decided positions (received_in r)))
+  decided_is r f opened same = ap (λ b. cond b [] (t.decided positions (received_in r)))
       (any_same (is_unopened r) (is_unopened received) positions opened
       ∙ sym (any_same (is_reader_unopened old) (is_unopened received) positions
       (λ q. unopened_received (reader_at old q) (reader_at new q) (at received q) (came q))) ∙ start.complete)
@@ -217,7 +217,7 @@ module _ (word : List ℕ) {t : JointTool} (names : List (List ℕ)) {positions 
         within = f.1;
         ends = (f.2, f.3, cause, e.no_write_failed, e.not_denied);
         position = each_listed (λ q. q < length old) positions start.given.in_range p e.named;
-        names_failed_read = λ q failed clean. ⊎_elim (λ same. ap (λ (n : ℕ). Err (Read n)) same)
+        names_failed_read = λ q failed clean. ⊎_elim (λ same. ap (λ n. Err (Read n)) same)
             (λ other. absurd (false≢true (sym failed.1 ∙ sym (e.others q (failed_is_in q failed) other) ∙ failed.2)))
             (cases_eq p q);
         ended = none_ended;
@@ -394,7 +394,7 @@ module _ {j : JointTool} {positions : List ℕ} {old : List Reader} {was : Outpu
         {result : Result (Unit {0}) FlowFault} → PassPost t (get_or old p e) new was is before store result
         → JointPost (one_input_tool t) positions old (set old p new) was is before store (operand_completion p result)
     only_operand_post e {t} {is} {store} {new} {result} pass =
-        subst (λ (ps : List ℕ). JointPost (one_input_tool t) ps old (set old p new) was is before store
+        subst (λ ps. JointPost (one_input_tool t) ps old (set old p new) was is before store
         (operand_completion p result)) (sym (only_operand_of positions d one))
         (one_input_post t old was is before store p new result ready.writable (only_operand_within d) new_here.eof
         ((ready.sound p named).unfailed opened new_here.fault)
@@ -415,7 +415,7 @@ module _ (cells : List ℕ) where
   cell_in c low = list_any_at (λ q. q == get_or cells c 0) cells c 0 low (same_here (get_or cells c 0))
 
   used_is_in : (p : ℕ) → 0 < uses_of cells p → is_in cells p ≡ true
-  used_is_in p some = let n = used_at cells p some in subst (λ (q : ℕ). is_in cells q ≡ true) n.2 (cell_in n.0 n.1)
+  used_is_in p some = let n = used_at cells p some in subst (λ q. is_in cells q ≡ true) n.2 (cell_in n.0 n.1)
 
   is_in_used : (p : ℕ) → is_in cells p ≡ true → 0 < uses_of cells p
   is_in_used = each_listed (λ p. 0 < uses_of cells p) cells
@@ -453,7 +453,7 @@ module _ (job : Paste) (cells : List ℕ) where
       rows_text job (known_rows
       (columns_same cells (λ p. known_lines job.terminator (f p)) (λ p. known_lines job.terminator (g p))
       (λ p named. ap (known_lines job.terminator) (same p named)) i)
-      (map_same (λ p. (f p).eof) (λ p. (g p).eof) cells (λ p named. ap (λ (h : Received). h.eof) (same p named)) i))
+      (map_same (λ p. (f p).eof) (λ p. (g p).eof) cells (λ p named. ap (λ h. h.eof) (same p named)) i))
 
   size_same : (f g : ℕ → List ℕ) → ((p : ℕ) → is_in cells p ≡ true → f p ≡ g p)
       → paste_size job cells f ≡ paste_size job cells g
@@ -488,7 +488,7 @@ module _ (job : Paste) {positions : List ℕ} {old : List Reader} {was : Output}
     with_received texts q = cond (is_in positions q) (texts q) (k.given q).bytes
 
     with_received_is : (texts : ℕ → List ℕ) (q : ℕ) → is_in positions q ≡ true → with_received texts q ≡ texts q
-    with_received_is texts q named = ap (λ (b : Bool). cond b (texts q) (k.given q).bytes) named
+    with_received_is texts q named = ap (λ b. cond b (texts q) (k.given q).bytes) named
 
     consistent_at : (texts : ℕ → List ℕ) → AreConsistentAt positions k.given texts → (q : ℕ)
         → IsConsistent (k.given q) (with_received texts q)
@@ -514,7 +514,7 @@ module _ (job : Paste) {positions : List ℕ} {old : List Reader} {was : Output}
     }
       where
         read : (q : ℕ) → is_in positions q ≡ true → IsReadToEnd (reader_at old q) (reader_at new q)
-        read = each_listed (λ (q : ℕ). IsReadToEnd (reader_at old q) (reader_at new q)) positions e.read
+        read = each_listed (λ q. IsReadToEnd (reader_at old q) (reader_at new q)) positions e.read
     ends (Err (Read p)) e whole = record {
       named = used_is_in positions p e.named;
       not_failed_before = e.unfailed;
@@ -535,7 +535,7 @@ module _ (job : Paste) {positions : List ℕ} {old : List Reader} {was : Output}
       wrote = k.wrote;
       ends = ends result k.ends k.is_exact;
       is_prefix =
-          λ texts agrees. subst (λ (l : List ℕ). IsPrefix k.pushed l)
+          λ texts agrees. subst (λ l. IsPrefix k.pushed l)
           (paste_same job positions (with_received texts) texts (with_received_is texts))
           (k.is_prefix (with_received texts) (consistent_at texts agrees));
       decided_is_written = λ q named. k.decided_is_written q (is_in_used positions q named);
@@ -544,7 +544,7 @@ module _ (job : Paste) {positions : List ℕ} {old : List Reader} {was : Output}
           (k.bounded_lag q (is_in_used positions q named) ready.writable);
       same = decided_same job positions;
       peak =
-          λ texts agrees. subst (λ (n : ℕ). store.peak ≤ max before.peak n)
+          λ texts agrees. subst (λ n. store.peak ≤ max before.peak n)
           (size_same job positions (with_received texts) texts (with_received_is texts))
           (k.peak (with_received texts) (consistent_at texts agrees));
       slots = λ texts agrees. (k.slots ready.writable).most;

@@ -47,11 +47,11 @@ none_passes test ps none q named =
 -- ---- functions of positions, updated at one
 
 pub put_here : {X : Type 0} (p : ℕ) (x : X) (f : ℕ → X) → update_at p x f p ≡ x
-put_here p x f = ap (λ (b : Bool). cond b x (f p)) (same_here p)
+put_here p x f = ap (λ b. cond b x (f p)) (same_here p)
 
 pub put_other : {X : Type 0} (p q : ℕ) (x : X) (f : ℕ → X) → p ≢ q → update_at p x f q ≡ f q
 put_other p q x f differs =
-    ⊎_elim (λ same. absurd (differs (sym same.1))) (λ other. ap (λ (b : Bool). cond b x (f q)) other.0) (eqb_tells q p)
+    ⊎_elim (λ same. absurd (differs (sym same.1))) (λ other. ap (λ b. cond b x (f q)) other.0) (eqb_tells q p)
 
 -- ---- operands
 
@@ -60,11 +60,11 @@ module _ {X : Type 0} (rest : X) (xs : List (Option X)) where
       → inputs_of_operands rest xs before (ps ++ qs) ≡ inputs_of_operands rest xs before ps
       ++ inputs_of_operands rest xs (before ++ ps) qs
   inputs_of_operands-append before [] qs =
-      ap (λ (l : List ℕ). inputs_of_operands rest xs l qs) (sym (append-nil before))
+      ap (λ l. inputs_of_operands rest xs l qs) (sym (append-nil before))
   inputs_of_operands-append before (p ∷ ps) qs =
-      ap (λ (l : List (Option X)). input_of_operand rest xs before p ∷ l)
+      ap (λ l. input_of_operand rest xs before p ∷ l)
       (inputs_of_operands-append (before ++ p ∷ []) ps qs
-      ∙ ap (λ (l : List ℕ). inputs_of_operands rest xs (before ++ p ∷ []) ps ++ inputs_of_operands rest xs l qs)
+      ∙ ap (λ l. inputs_of_operands rest xs (before ++ p ∷ []) ps ++ inputs_of_operands rest xs l qs)
       (append_assoc before (p ∷ []) ps))
 
   -- the operands before one, this one, and those after it
@@ -86,7 +86,7 @@ module _ {X : Type 0} (rest : X) (xs : List (Option X)) where
   pub opened_inputs_none : (done : List ℕ) (p : ℕ) → input_of_operand rest xs done p ≡ None
       → opened_inputs rest xs (done ++ p ∷ []) ≡ opened_inputs rest xs done
   opened_inputs_none done p is = opened_inputs_at done p []
-      ∙ ap (λ (o : Option X). opened_inputs rest xs done ++ opened_values (o ∷ [])) is
+      ∙ ap (λ o. opened_inputs rest xs done ++ opened_values (o ∷ [])) is
       ∙ append-nil (opened_inputs rest xs done)
 
 -- ---- messages
@@ -117,7 +117,7 @@ module _ (test : ℕ → Bool) (done : List ℕ) (p : ℕ) where
       ∙ or_right (list_any test done) (test p || false) (or_left (test p) false is)
 
   pub any_before : test p ≡ false → list_any test (done ++ p ∷ []) ≡ list_any test done
-  any_before is = list_any-append test done (p ∷ []) ∙ ap (λ (b : Bool). list_any test done || (b || false)) is
+  any_before is = list_any-append test done (p ∷ []) ∙ ap (λ b. list_any test done || (b || false)) is
       ∙ or-false (list_any test done)
 
 pub is_in-same : (done : List ℕ) (p : ℕ) → is_in (done ++ p ∷ []) p ≡ true
@@ -170,9 +170,9 @@ module _ (t : ToolSpec) (law : DecidesAll t) where
         → flat_map t.decided (up_to_unended (g ∷ opened_values came ++ later))
         ≡ (t.text g.bytes ++ flat_map t.text (opened_values texts)) ++ rest
     one g is =
-        ap (λ (b : Bool). t.decided g ++ flat_map t.decided (cond b (up_to_unended (opened_values came ++ later)) []))
+        ap (λ b. t.decided g ++ flat_map t.decided (cond b (up_to_unended (opened_values came ++ later)) []))
         is
-        ∙ (λ i. (ap (λ (b : Bool). t.decided (record { bytes = g.bytes; eof = b })) is ∙ law g.bytes) i ++ further i)
+        ∙ (λ i. (ap (λ b. t.decided (record { bytes = g.bytes; eof = b })) is ∙ law g.bytes) i ++ further i)
         ∙ sym (append_assoc (t.text g.bytes) (flat_map t.text (opened_values texts)) rest)
 
     decided_input : (o : Option Received) → IsEndedAt o → (seen : Bool)
@@ -214,7 +214,7 @@ position_in_range order n in_range i d within =
 
 -- the list of names is as long as the list of their texts
 pub names_counted : (names : List (Bor (List ℕ))) (n : ℕ) → n ≡ length (words_view names) + 1 → n ≡ length names + 1
-names_counted names n is = is ∙ ap (λ (k : ℕ). k + 1) (length-map names (λ (w : Bor (List ℕ)). w.now))
+names_counted names n is = is ∙ ap (λ k. k + 1) (length-map names (λ (w : Bor (List ℕ)). w.now))
 
 -- the position of the `i`-th operand has a reader, and the operands are those before it, it, and those after it
 pub record OperandStep (order : List Input) (i p n : ℕ) : Type 0 where
@@ -237,7 +237,7 @@ operand_step {p} {n} order i d in_range within is = record {
   where
     next : take (i + 1) (positions order) ≡ take i (positions order) ++ p ∷ []
     next = take_more (positions order) i 0 (omega (arith, within, length-map order position))
-        ∙ ap (λ (n : ℕ). take i (positions order) ++ n ∷ []) (get_or-map position order i d 0 within ∙ sym is)
+        ∙ ap (λ n. take i (positions order) ++ n ∷ []) (get_or-map position order i d 0 within ∙ sym is)
 
 pub positions_end : (order : List Input) (i : ℕ) → length order ≤ i → take i (positions order) ≡ positions order
 positions_end order i all = take_all i (positions order) (omega (arith, all, length-map order position))

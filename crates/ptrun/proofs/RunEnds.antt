@@ -125,10 +125,10 @@ exact_of_run m old new before o fresh k w bytes none fine not_denied = by_fault 
     by_fault : (fault : Option FlowFault) → RunEnd m k.received old new k.written k.message o k.operands_done fault
         → IsExact m w before o
     by_fault None (complete, says) = record {
-      out = k.output ∙ ap (λ (l : List ℕ). append_known before.out.accepted l) (complete.out w agrees);
-      messages = λ all_said. k.has_said.accepted ∙ ap (λ (l : List ℕ). append_known before.messages.accepted l)
+      out = k.output ∙ ap (λ l. append_known before.out.accepted l) (complete.out w agrees);
+      messages = λ all_said. k.has_said.accepted ∙ ap (λ l. append_known before.messages.accepted l)
           (sym (append-nil k.has_said.front)
-          ∙ ap (λ (l : List ℕ). k.has_said.front ++ l) (sym (k.has_said.whole all_said)) ∙ sym k.has_said.split
+          ∙ ap (λ l. k.has_said.front ++ l) (sym (k.has_said.whole all_said)) ∙ sym k.has_said.split
           ∙ (let (message, status) = says w agrees in message));
       status_is = let (message, status) = says w agrees in status;
       bounded = k.bounded w agrees;
@@ -266,7 +266,7 @@ module _ {m : CommandSpec} {old new : List Reader} {was is is' : Output}
 
   wrote : PushEffect was sent k.pushed
   wrote =
-      ⊎_elim (λ write_failed. subst (λ (b : Output). PushEffect was b k.pushed) (sym (f.wrote.stays write_failed))
+      ⊎_elim (λ write_failed. subst (λ b. PushEffect was b k.pushed) (sym (f.wrote.stays write_failed))
       k.wrote)
       (λ clean. rw (append-nil k.pushed) at (push_trans was is sent k.pushed [] clean k.wrote f.wrote))
       (cases_Bool is.write_failed)
@@ -286,12 +286,12 @@ module _ {m : CommandSpec} {old new : List Reader} {was is is' : Output}
   begins : (w : InputBytes) → AreInputsConsistent k.received w → IsPrefix reached.front (m.out w)
   begins w agrees = let b = k.is_prefix w agrees in record {
     rest = reached.rest ++ b.rest;
-    is = b.is ∙ ap (λ (l : List ℕ). l ++ b.rest) reached.split ∙ append_assoc reached.front reached.rest b.rest;
+    is = b.is ∙ ap (λ l. l ++ b.rest) reached.split ∙ append_assoc reached.front reached.rest b.rest;
   }
 
   all_front : is'.write_failed ≡ false → reached.front ≡ k.pushed
   all_front clean =
-      sym (reached.split ∙ ap (λ (l : List ℕ). reached.front ++ l) (reached.whole clean (f.emptied clean))
+      sym (reached.split ∙ ap (λ l. reached.front ++ l) (reached.whole clean (f.emptied clean))
       ∙ append-nil reached.front)
 
   abbrev last : List ℕ
@@ -309,7 +309,7 @@ module _ {m : CommandSpec} {old new : List Reader} {was is is' : Output}
       read = complete.read;
     },
     λ w agrees. let (message, status) = says w agrees in (
-      (λ i. (k.names w agrees ∙ ap (λ (n : ℕ). operand_messages m w n) complete.all) i
+      (λ i. (k.names w agrees ∙ ap (λ n. operand_messages m w n) complete.all) i
           ++ (ap (result_message m.tool m.names) same ∙ message) i),
       status_is ∙ ap result_status same ∙ status,
     ),
@@ -326,7 +326,7 @@ module _ {m : CommandSpec} {old new : List Reader} {was is is' : Output}
 
   err_of : (r : Result Completion FlowFault) → fault_of r ≡ Some Memory → r ≡ Err Memory
   err_of (Ok done) same = cc
-  err_of (Err fault) same = ap (λ (f : FlowFault). Err f) (some_same same)
+  err_of (Err fault) same = ap (λ f. Err f) (some_same same)
 
   run_of : IsRun m old new (sinks out messages_first) o
   run_of = record {
@@ -334,7 +334,7 @@ module _ {m : CommandSpec} {old new : List Reader} {was is is' : Output}
     came = k.came;
     written = reached.front;
     output = last_accepted ∙ reached.accepted
-        ∙ ap (λ (t : Option (List ℕ)). append_known t reached.front) (ap (λ o. o.accepted) made);
+        ∙ ap (λ t. append_known t reached.front) (ap (λ o. o.accepted) made);
     flushed = λ _ fine. last_unflushed ∙ f.flushed (sym last_failed ∙ fine);
     flushes = λ _. flushed_once;
     message = k.message ++ last;
@@ -401,7 +401,7 @@ position_differs Standard Standard differ = absurd (differ refl)
 position_differs Standard (File j) differ = grind (arith, nat_tests)
 position_differs (File i) Standard differ = grind (arith, nat_tests)
 position_differs (File i) (File j) differ =
-    ⊎_elim (λ k. absurd (differ (let same : i ≡ j = omega (arith, k.1) in ap (λ (n : ℕ). File n) same))) (λ k. k.0)
+    ⊎_elim (λ k. absurd (differ (let same : i ≡ j = omega (arith, k.1) in ap (λ n. File n) same))) (λ k. k.0)
     (eqb_tells (i + 1) (j + 1))
 
 -- a tool that merges two inputs accepts two different ones, since their positions differ

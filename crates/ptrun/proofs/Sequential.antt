@@ -3,7 +3,7 @@
 -- output, with all that was decided by then.
 use Rattle.ptrun.proofs.Common.{IsDone, cases_lt, sequential_slots, take-append-add, cases_eq, cases_Bool, ◌≡◌, ◌≢◌}
 use Rattle.ptrun.proofs.Common.{◌⊎◌, ⊎_elim, inl, inr, ℕ, ◌<◌, ◌≤◌, Bool, true, false, cond, List, [], ◌∷◌, ◌++◌}
-use Rattle.ptrun.proofs.Common.{Option, Some, None, Result, Ok, Err, ◌+◌, length, take, map, set, max, refl, sym, ◌∙◌}
+use Rattle.ptrun.proofs.Common.{Some, None, Result, Ok, Err, ◌+◌, length, take, map, set, max, refl, sym, ◌∙◌}
 use Rattle.ptrun.proofs.Common.{ap, subst, arith, append_assoc, length-append, length-set, flat_map, option_map}
 use Rattle.ptrun.proofs.Common.{list_any, append-nil, take_all, map-append, get_or-set_same, get_or-set_other}
 use Rattle.ptrun.proofs.Common.{length-map, take-append_seam, take-length, flat_map-append, false≢true, Reader, IsSound}
@@ -202,7 +202,7 @@ module _ {word : List ℕ} {t : ToolSpec} {names : List (List ℕ)} {old : List 
             let none = append-nil (opened_inputs empty_input k.inputs_read done) in
             record {
               rest = [];
-              is = sym all ∙ ap (λ (l : List Received). flat_map t.decided (up_to_unended l)) none
+              is = sym all ∙ ap (λ l. flat_map t.decided (up_to_unended l)) none
                   ∙ sym (append-nil (sequential_decided t k.inputs_read done));
             }
 
@@ -328,14 +328,14 @@ module _ {word : List ℕ} {t : ToolSpec} {names : List (List ℕ)} {old : List 
           (λ unseen. inr (
             unseen,
             some_same (sym y.is ∙ k.unreceived p unseen
-                ∙ ap (λ (b : Bool). cond b None (Some none_received)) old_open),
+                ∙ ap (λ b. cond b None (Some none_received)) old_open),
           )) (cases_Bool (is_in done p))
 
       unseen : HasReadCause (reader_at now p) new → is_in done p ≡ false
       unseen cause = ⊎_elim
           (λ (seen, none, at_eof). absurd
           (⊎_elim
-          (λ (failed, fault, before). false≢true (sym (e.came.eof ∙ before) ∙ ap (λ (g : Received). g.eof) none))
+          (λ (failed, fault, before). false≢true (sym (e.came.eof ∙ before) ∙ ap (λ g. g.eof) none))
           (λ (long, same). let (pulled, still_eof) = e.came.still at_eof.done.eof in
           omega (arith, at_eof.short, pulled, long)) cause))
           (λ (unseen, none). unseen) turn
@@ -365,7 +365,7 @@ module _ {word : List ℕ} {t : ToolSpec} {names : List (List ℕ)} {old : List 
           let here = consistent_bytes (at inputs_read' p) (at w p) (given_now y.given) read_here (agrees p) in
           record {
             bytes = cond (is_in done p) [] here.bytes;
-            are = ap (λ (v : Option (List ℕ)). option_map (λ (b : List ℕ). cond (is_in done p) [] b) v) here.are;
+            are = ap (λ v. option_map (λ (b : List ℕ). cond (is_in done p) [] b) v) here.are;
             agree = consistent_here here.bytes here.agree;
           }
 
@@ -377,7 +377,7 @@ module _ {word : List ℕ} {t : ToolSpec} {names : List (List ℕ)} {old : List 
           → sequential_output t w (done ++ p ∷ more) ≡ sequential_output t w done
           ++ (t.text f.bytes ++ flat_map t.text (later w more))
       out_here w more f =
-          ap (λ (l : List (List ℕ)). flat_map t.text l) (opened_inputs_some [] w done p more f.bytes f.are)
+          ap (λ l. flat_map t.text l) (opened_inputs_some [] w done p more f.bytes f.are)
           ∙ flat_map-append t.text (opened_inputs [] w done) (f.bytes ∷ later w more)
 
       peak_here : (w : InputBytes) (more : List ℕ) → AreInputsConsistent inputs_read' w
@@ -420,7 +420,7 @@ module _ {word : List ℕ} {t : ToolSpec} {names : List (List ℕ)} {old : List 
         long = length-set k.inputs_read p (Some (given_now y.given)) ∙ k.long;
         came = received';
         at_eof =
-            λ q seen opened. ⊎_elim (λ same. subst (λ (n : ℕ). IsAtEof (reader_at now' n)) same (rw reader_here at_eof))
+            λ q seen opened. ⊎_elim (λ same. subst (λ n. IsAtEof (reader_at now' n)) same (rw reader_here at_eof))
             (λ other. rw (reader_other q other) (k.at_eof q (sym (is_in-other done p q other) ∙ seen) opened))
             (cases_eq p q);
         unread = λ q unseen. let (differs, before) = not_more done p q unseen in reader_other q differs
@@ -510,7 +510,7 @@ module _ {word : List ℕ} {t : ToolSpec} {names : List (List ℕ)} {old : List 
 
       ended_before : (q : ℕ) → is_in done q ≡ true → IsEndedAt (at inputs_read' q)
       ended_before = by_position (λ q. is_in done q ≡ true → IsEndedAt (at inputs_read' q)) p
-          (λ seen. rw read_here (⊎_elim (λ (before, none, at_eof). ap (λ (g : Received). g.eof) none)
+          (λ seen. rw read_here (⊎_elim (λ (before, none, at_eof). ap (λ g. g.eof) none)
           (λ (unseen, none). absurd (false≢true (sym unseen ∙ seen))) turn))
           (λ q differs seen. rw (read_other q differs) (ended_now q seen))
 
@@ -535,13 +535,13 @@ module _ {word : List ℕ} {t : ToolSpec} {names : List (List ℕ)} {old : List 
         input_given = ap (λ o. option_map (λ (g : Received). cond (is_in done p) empty_input g) o)
             read_here
             ∙ ⊎_elim (λ (seen, none, at_eof). (λ i. Some (cond (seen i) empty_input (given_now y.given)))
-            ∙ ap (λ (g : Received). Some g) (sym none))
+            ∙ ap (λ g. Some g) (sym none))
             (λ (unseen, none). λ i. Some (cond (unseen i) empty_input (given_now (none i)))) turn
 
         -- if its end was not reached, nothing after it is decided
         decided_open : (g : Received) (after : List Received) → (after ≡ []) ⊎ (g.eof ≡ false)
             → flat_map t.decided (up_to_unended (g ∷ after)) ≡ t.decided g
-        decided_open g after last = ap (λ (l : List Received). t.decided g ++ flat_map t.decided l)
+        decided_open g after last = ap (λ l. t.decided g ++ flat_map t.decided l)
             (none_after g.eof last) ∙ append-nil (t.decided g)
           where
             none_after : (b : Bool) → (after ≡ []) ⊎ (b ≡ false) → cond b (up_to_unended after) [] ≡ []
@@ -556,13 +556,13 @@ module _ {word : List ℕ} {t : ToolSpec} {names : List (List ℕ)} {old : List 
             record {
               rest = b.rest;
               is = (λ i. k.pushed ++ b.is i) ∙ sym (append_assoc k.pushed bytes b.rest)
-                  ∙ ap (λ (l : List ℕ). l ++ b.rest) (sym is);
+                  ∙ ap (λ l. l ++ b.rest) (sym is);
             }
 
         decided_here : decided_in_order t (opened_inputs empty_input inputs_read' done ++ earlier ∷ [])
             ≡ k.pushed ++ t.decided earlier
         decided_here = decided_all (earlier ∷ [])
-            ∙ ap (λ (l : List ℕ). k.pushed ++ l) (decided_open earlier [] (inl refl))
+            ∙ ap (λ l. k.pushed ++ l) (decided_open earlier [] (inl refl))
 
         stopped : (more : List ℕ) (fault : FlowFault) → result ≡ Err fault
             → RunInputsPost (sequential_spec word t names (done ++ p ∷ more)) old now' was is' messages_old messages_new
@@ -590,20 +590,20 @@ module _ {word : List ℕ} {t : ToolSpec} {names : List (List ℕ)} {old : List 
             p,
             rw (take-append-add done (p ∷ more) 1) (is_in-same done p),
             rw reader_here (e.came.refused ∙ sym (was_unopened p) ∙ old_open),
-            rw reader_here (input_left (is_err ∙ ap (λ (f : FlowFault). Err f) (memory_is fault same))),
+            rw reader_here (input_left (is_err ∙ ap (λ f. Err f) (memory_is fault same))),
           );
           is_prefix = λ w agrees. let f = operand_finds w agrees in let b = e.is_prefix f.bytes f.agree in let rest =
               flat_map t.text (later w more) in record {
                 rest = b.rest ++ rest;
                 is = out_here w more f ∙ (λ i. sym (k.out w (back w agrees)) i ++ (b.is i ++ rest))
-                    ∙ ap (λ (l : List ℕ). k.pushed ++ l) (append_assoc e.pushed b.rest rest)
+                    ∙ ap (λ l. k.pushed ++ l) (append_assoc e.pushed b.rest rest)
                     ∙ sym (append_assoc k.pushed e.pushed (b.rest ++ rest));
               };
           decided_is_written = λ q failed clean. let here = fails_here q failed in let after =
               opened_values (inputs_of_operands empty_input inputs_read' (done ++ p ∷ []) more) in
-              begins_after (t.decided e.given) (ap (λ (l : List Received). flat_map t.decided (up_to_unended l))
+              begins_after (t.decided e.given) (ap (λ l. flat_map t.decided (up_to_unended l))
               (opened_inputs_some empty_input inputs_read' done p more e.given input_given)
-              ∙ decided_all (e.given ∷ after) ∙ ap (λ (l : List ℕ). k.pushed ++ l)
+              ∙ decided_all (e.given ∷ after) ∙ ap (λ l. k.pushed ++ l)
               (decided_open e.given after (inr (e.came.eof ∙ (failing fault end here).0))))
               (e.decided_is_written here clean);
           bounded_lag =
@@ -618,8 +618,8 @@ module _ {word : List ℕ} {t : ToolSpec} {names : List (List ℕ)} {old : List 
                     rw decided_here
                     (sends_after was is is' k.pushed (t.decided earlier) k.wrote k.clean one_keeps.buffering);
               }));
-          names_failed_read = λ q failed clean. ap (λ (f : FlowFault). Err f)
-              ((failing fault end (fails_here q failed)).1 ∙ ap (λ (n : ℕ). Read n) (position_of q failed));
+          names_failed_read = λ q failed clean. ap (λ f. Err f)
+              ((failing fault end (fails_here q failed)).1 ∙ ap (λ n. Read n) (position_of q failed));
           peak = λ w agrees. peak_here w more agrees;
           slots = λ w agrees. slots_here w more agrees;
         }
@@ -636,7 +636,7 @@ module _ {word : List ℕ} {t : ToolSpec} {names : List (List ℕ)} {old : List 
             fails_here : (q : ℕ) → HasReadFailed old now' q → new.failed ≡ true
             fails_here q fails = let (opened, before, failed) = fails in
                 ap (λ r. r.failed) (sym reader_here)
-                ∙ ap (λ (n : ℕ). (reader_at now' n).failed) (position_of q fails) ∙ failed
+                ∙ ap (λ n. (reader_at now' n).failed) (position_of q fails) ∙ failed
 
             index_within : (f : FlowFault) → HasIndexBelow (length old) (Err (fault_at p f))
             index_within (Read position) = within

@@ -1,7 +1,7 @@
 -- Tools with two inputs. What the merge ensures about its two readers is what the tool has to ensure about the list
 -- from which both were lent; no other reader changes.
 use Rattle.ptrun.proofs.Common.{IsDone, subst, JointReadFailed, HasReadCause, positions, length-append, ◌≡◌}
-use Rattle.ptrun.proofs.Common.{◌≢◌, ℕ, ◌<◌, ◌^◌, ◌||◌, ◌&&◌, ◌==◌, Bool, true, false, List, [], ◌∷◌, Option, Some}
+use Rattle.ptrun.proofs.Common.{◌≢◌, ℕ, ◌<◌, ◌^◌, ◌||◌, ◌&&◌, ◌==◌, true, false, List, [], ◌∷◌, Option, Some}
 use Rattle.ptrun.proofs.Common.{None, Memory, cases_lt, ⊎_elim, inl, inr, IsJointUnfinished, Result, Ok, Err, length}
 use Rattle.ptrun.proofs.Common.{get_or, refl, sym, ◌∙◌, ap, arith, option_map, not, All-nil, All-cons, false≢true}
 use Rattle.ptrun.proofs.Common.{nat_tests, Reader, Output, Slots, Received, IsPrefix, HasReceived, LaggedInput}
@@ -56,7 +56,7 @@ module _ (t : keyed.MergeTool) {old : List Reader} {was : Output} {before : Slot
   two = p ∷ q ∷ []
 
   named : (side : Side) → is_in two (both p q side) ≡ true
-  named First = ap (λ (b : Bool). b || ((q == p) || false)) (same_here p)
+  named First = ap (λ b. b || ((q == p) || false)) (same_here p)
   named Second = is_in-same (p ∷ []) q
 
   open_at : (side : Side) → (reader_at old (both p q side)).refused ≡ false
