@@ -20,7 +20,7 @@ pub use Rattle.std.specs.Borrow.{Bor}
 pub use Rattle.std.specs.Io.KnownBytes.{IsAtEnd, append_known, prepend_known}
 pub use Rattle.std.specs.List.{list_any, sum}
 pub use Rattle.std.specs.Prelude.{All, encode_utf8, flat_map, is_none, nat_le, not, option_map, slice_get}
-pub use Rattle.ptflow.specs.Passes.{PassOutcome, PassDone, PassPost}
+pub use Rattle.ptflow.specs.Passes.{PassOutcome, PassDone, PassPre, PassPost}
 pub use Rattle.ptflow.specs.PasteCall.{PastePost, IsReadable, IsReadToEnd, PasteOutcome, update_at}
 pub use Rattle.ptflow.specs.ToolSpec.{ToolSpec}
 pub use Rattle.ptflow.specs.declared.faults.FlowFault.{FlowFault}
@@ -43,9 +43,10 @@ pub use Rattle.ptopts.specs.Faults.{Fault, is_standard}
 pub use Rattle.ptopts.specs.View.{CommandPost, fault_view, command_view, words_view}
 pub use Rattle.ptopts.specs.declared.inputs.Input.{Input}
 pub use Rattle.ptopts.specs.declared.inputs.Input.TheVariants.{File, Standard}
-pub use Rattle.ptrun.specs.SpecOfArgs.{spec_of_args, spec_of_parsed, command_spec, is_memory_fault, job_spec}
+pub use Rattle.ptrun.specs.SpecOfArgs.{spec_of_args, spec_of_parsed, command_spec, is_memory_fault, tool_of_job, word_of_job}
 pub use Rattle.ptrun.specs.SpecOfArgs.{spec_of_result, message_only, tool_name}
-pub use Rattle.ptrun.specs.Driver.{AreConsistentAt, IsJointUnfinished, InputsPre, JointPre, BothAreSound}
+pub use Rattle.ptrun.specs.Driver.{AreConsistentAt, AreSoundAt, IsJointUnfinished, InputsPre, JointPre, MergeCallPost}
+pub use Rattle.ptrun.specs.Driver.{OperandPre, OperandPost, RunOnPre, RunOnPost, operand_completion}
 pub use Rattle.ptrun.specs.Driver.{ReportUnopenedPost, FinishPost, JointPost, JointReadFailed, RunInputsPre}
 pub use Rattle.ptrun.specs.Driver.{HasIndexBelow, JointEnd, NoReadFailed, RunInputsPost, RunInputsEnd, fault_at}
 pub use Rattle.ptrun.specs.Driver.{completion_of, result_message, result_status, merge_completion}
@@ -54,10 +55,12 @@ pub use Rattle.ptrun.specs.CommandSpec.{CommandSpec, messages, operand_messages,
 pub use Rattle.ptrun.specs.Messages.{name_of, unopened_message, usage_message, usage_status}
 pub use Rattle.ptrun.specs.Operands.{decided_in_order, sequential_bound, sequential_slots, sequential_decided}
 pub use Rattle.ptrun.specs.Operands.{sequential_output, maximum, sequential_spec, position, positions, up_to_unended}
+pub use Rattle.ptrun.specs.Operands.{DecidesAll}
+pub use Rattle.ptrun.specs.Tools.{OneByOne, Together, ToolInRun, reads_together, spec_of_tool}
 pub use Rattle.ptrun.specs.Runs.{HasCause, RunEnd, IsExactUnlessFailed, IsExact, IsRun, IsRunInStore, Outcome, Sinks}
 pub use Rattle.ptrun.specs.Runs.{outcome, sinks}
 pub use Rattle.ptrun.specs.MessageWrites.{SayPost, HasSaid, line_of, texts}
-pub use Rattle.ptrun.specs.Joint.{JointTool, disorder_status, disorder_text, received_in, has_unopened, one_input_tool}
+pub use Rattle.ptrun.specs.Joint.{JointTool, disorder_status, disorder_text, received_in, has_unopened, one_input_tool, only_operand}
 pub use Rattle.ptrun.specs.Joint.{by_side, paste_rows_tool, two_input_tool, operand, bytes_of, joint_spec}
 pub use Rattle.ptrun.specs.Files.{IsConsistentAt, AreNewInputs, HasReceivedAt, HasReadFailed, IsNewOrUnopened, IsNew}
 pub use Rattle.ptrun.specs.Files.{HaveReceived, IsTooLong, ReceivedInputs, HasBytesAt, InputBytes, at, input_of_operand}
@@ -65,5 +68,5 @@ pub use Rattle.ptrun.specs.Files.{inputs_of_operands, is_in, is_unopened, AreInp
 pub use Rattle.ptlines.specs.Readers.{no_reader}
 pub use Rattle.ptrun.specs.Files.{opened_values, is_reader_unopened, opened_inputs}
 pub use Rattle.ptlines.specs.Readers.{reader_at}
-pub use Rattle.ptrun.specs.declared.driver.Completion.{Completion}
-pub use Rattle.ptrun.specs.declared.driver.Completion.TheVariants.{Disorder, Unopened, AllWritten}
+pub use Rattle.ptrun.specs.declared.tool.Completion.{Completion}
+pub use Rattle.ptrun.specs.declared.tool.Completion.TheVariants.{Disorder, Unopened, AllWritten}

@@ -4,23 +4,23 @@
 -- positions of its operands is what processing the inputs has to ensure. A tool with one input ensures this by its only
 -- pass, and `paste` by its pass over the columns.
 use Rattle.ptrun.proofs.Common.{AreReadToEnd, ended_operands, IsDone, Unopened, Disorder, cases_lt, or_left, or_right}
-use Rattle.ptrun.proofs.Common.{sum, get_or_default, no_reader, length-map, cases_eq, cases_Bool, ◌≡◌, ◌⊎◌, ⊎_elim, inl}
+use Rattle.ptrun.proofs.Common.{sum, get_or_default, no_reader, cases_eq, cases_Bool, ◌≡◌, ◌⊎◌, ⊎_elim, inl}
 use Rattle.ptrun.proofs.Common.{inr, ℕ, zero, suc, ◌+◌, ◌<◌, ◌≤◌, ◌^◌, ◌||◌, ◌==◌, Bool, true, false, cond, List, []}
 use Rattle.ptrun.proofs.Common.{◌∷◌, ◌++◌, Option, Some, None, Result, Ok, Err, length, take, drop, get_or, set, refl}
 use Rattle.ptrun.proofs.Common.{sym, ◌∙◌, ap, subst, arith, take-append-drop, slice_get, list_any, get_or-set_same}
 use Rattle.ptrun.proofs.Common.{get_or-set_other, All-nil, All-cons, list_any-append, false≢true, eqb-true, eqb_tells}
-use Rattle.ptrun.proofs.Common.{Reader, IsSound, Output, Slots, SinkState, Received, IsPrefix, HasReceived, LaggedInput}
-use Rattle.ptrun.proofs.Common.{PassOutcome, PassPost, update_at, ToolSpec, FlowFault, Read, Write, Memory, Input}
+use Rattle.ptrun.proofs.Common.{Reader, Output, Slots, SinkState, Received, IsPrefix, HasReceived, LaggedInput}
+use Rattle.ptrun.proofs.Common.{PassOutcome, PassPost, update_at, ToolSpec, FlowFault, Read, Write, Memory}
 use Rattle.ptrun.proofs.Common.{Completion, AllWritten, InputBytes, ReceivedInputs, at, is_unopened}
 use Rattle.ptrun.proofs.Common.{AreInputsConsistent, is_in, reader_at, is_reader_unopened, HaveReceived}
-use Rattle.ptrun.proofs.Common.{IsNewOrUnopened, HasReadFailed, IsTooLong, unopened_messages, HasSaid, unopened_message}
+use Rattle.ptrun.proofs.Common.{IsNewOrUnopened, HasReadFailed, IsTooLong, unopened_messages, unopened_message}
 use Rattle.ptrun.proofs.Common.{name_of, IsPushedUpToBlock, position, positions, JointTool, one_input_tool, bytes_of}
 use Rattle.ptrun.proofs.Common.{received_in, has_unopened, disorder_text, disorder_status, joint_spec}
-use Rattle.ptrun.proofs.Common.{ReportUnopenedPost, RunInputsPre, JointPre, HasIndexBelow, fault_at, result_message}
+use Rattle.ptrun.proofs.Common.{RunInputsPre, JointPre, HasIndexBelow, result_message}
 use Rattle.ptrun.proofs.Common.{result_status, RunInputsEnd, RunInputsPost, completion_of, AreConsistentAt}
 use Rattle.ptrun.proofs.Common.{NoReadFailed, JointEnd, JointPost, map, max, append-nil, All-from_get_or, list_any_at}
 use Rattle.ptrun.proofs.Common.{known_lines, IsConsistent, Paste, IsReadable, IsReadToEnd, PasteOutcome, PastePost}
-use Rattle.ptrun.proofs.Common.{paste_rows_tool}
+use Rattle.ptrun.proofs.Common.{paste_rows_tool, PassPre, operand_completion, IsNew}
 use Rattle.std.proofs.lemmas.List.Sums.{sum-map}
 use Rattle.ptlines.specs.Text.{lines, max_line_length}
 use Rattle.ptflow.specs.PasteText.{uses_of, every_kth, columns, rows, known_rows, rows_text, paste, paste_decided}
@@ -44,35 +44,15 @@ none_unopened word names test (p ∷ positions) none = let both = neither (test 
     (λ i. cond (both.0 i) (unopened_message word (name_of names p)) []
     ++ none_unopened word names test positions both.1 i)
 
-pub report_unopened_post : (word : List ℕ) (t : JointTool) (names : List (List ℕ)) (positions : List ℕ)
-    (inputs : List Reader) {messages_old messages_new : SinkState} {any_unopened : Bool}
-    → any_unopened ≡ list_any (is_reader_unopened inputs) positions
-    → HasSaid messages_old messages_new (unopened_messages word names (is_reader_unopened inputs) positions)
-    → ReportUnopenedPost (joint_spec word t names positions) inputs messages_old messages_new any_unopened
-report_unopened_post word t names positions inputs {messages_old} {messages_new} {any_unopened} is has_said = record {
-  is = is;
-  has_said =
-      ⊎_elim (λ some. rw some has_said)
-      (λ none. rw none (rw (none_unopened word names (is_reader_unopened inputs) positions (sym is ∙ none))
-      at has_said)) (cases_Bool any_unopened);
-  nothing = λ some w same. rw (has_unopened_as (is_unopened w) same some) (refl, refl, refl);
-  at_once = λ _. refl;
-  undecided = λ some r same. rw (has_unopened_as (is_unopened r) same some) refl;
-}
-  where
-    has_unopened_as : (test : ℕ → Bool) → ((q : ℕ) → is_reader_unopened inputs q ≡ test q) → any_unopened ≡ true
-        → list_any test positions ≡ true
-    has_unopened_as test same some = sym (any_same (is_reader_unopened inputs) test positions same) ∙ sym is ∙ some
-
 -- ---- the position of a failure, as that of the first operand with this input
 
 first_at : (positions : List ℕ) (p : ℕ) → is_in positions p ≡ true
     → (n : ℕ) × (n ≤ length positions) × (slice_get positions n ≡ Some p) × (is_in (take n positions) p ≡ false)
 first_at [] p there = absurd (false≢true there)
-first_at (q ∷ positions) p there = ⊎_elim (λ same. (0, omega arith, ap (λ (n : ℕ). Some n) same.1, refl))
+first_at (q ∷ positions) p there = ⊎_elim (λ same. (0, omega arith, ap (λ n. Some n) same.1, refl))
     (λ other.
-    let f = first_at positions p (ap (λ (b : Bool). b || is_in positions p) (sym other.0) ∙ there) in
-    (suc f.0, omega (arith, f.1), f.2, ap (λ (b : Bool). b || is_in (take f.0 positions) p) other.0 ∙ f.3))
+    let f = first_at positions p (ap (λ b. b || is_in positions p) (sym other.0) ∙ there) in
+    (suc f.0, omega (arith, f.1), f.2, ap (λ b. b || is_in (take f.0 positions) p) other.0 ∙ f.3))
     (eqb_tells q p)
 
 -- ---- the inputs received, as a list
@@ -85,25 +65,10 @@ at_received : (given : ℕ → Received) (n : ℕ) (readers : List Reader) (q m 
     → at (received_from given n readers) q ≡ cond (is_reader_unopened readers q) None (Some (given m))
 at_received given n [] q m is = refl
 at_received given n (r ∷ readers) zero m is = let same : n ≡ m = omega (arith, is) in
-    ap (λ (k : ℕ). cond r.refused None (Some (given k))) same
+    ap (λ k. cond r.refused None (Some (given k))) same
 at_received given n (r ∷ readers) (suc q) m is = at_received given (n + 1) readers q m (omega (arith, is))
 
 -- ---- processing the inputs
-
--- the precondition of such a tool
-pub joint_pre : (word : List ℕ) {t : JointTool} (names : List (List ℕ)) {positions : List ℕ} {inputs : List Reader}
-    {out : Output} {store : Slots}
-    → RunInputsPre (joint_spec word t names positions) inputs out store → JointPre t positions inputs out store
-joint_pre word names s =
-    record {
-      accepts_operands = s.given.accepts_operands;
-      fresh = s.given.fresh;
-      in_range = s.given.in_range;
-      opened = s.complete;
-      writable = s.writable;
-      not_denied = s.not_denied;
-      empty = s.empty;
-    }
 
 ends_with : (word : List ℕ) (names : List (List ℕ)) (found : Option (ℕ × ℕ))
     → (result_message word names (Ok (completion_of found)) ≡ disorder_text word names found)
@@ -137,7 +102,7 @@ module _ (word : List ℕ) {t : JointTool} (names : List (List ℕ)) {positions 
 
   at_other : (q : ℕ) → is_in positions q ≡ false → at received q ≡ received_of (reader_at old q)
   at_other q other =
-      at_position q ∙ ap (λ (b : Bool). cond (is_reader_unopened old q) None (Some (cond b (k.given q) none_received)))
+      at_position q ∙ ap (λ b. cond (is_reader_unopened old q) None (Some (cond b (k.given q) none_received)))
       other
 
   given_listed : (q : ℕ) → is_in positions q ≡ true → received_in received q ≡ k.given q
@@ -163,7 +128,7 @@ module _ (word : List ℕ) {t : JointTool} (names : List (List ℕ)) {positions 
   decided_is : (r : ReceivedInputs) (f : ℕ → Received) → ((q : ℕ) → is_unopened r q ≡ is_unopened received q)
       → ((q : ℕ) → is_in positions q ≡ true → received_in r q ≡ f q)
       → (joint_spec word t names positions).decided r ≡ t.decided positions f
-  decided_is r f opened same = ap (λ (b : Bool). cond b [] (t.decided positions (received_in r)))
+  decided_is r f opened same = ap (λ b. cond b [] (t.decided positions (received_in r)))
       (any_same (is_unopened r) (is_unopened received) positions opened
       ∙ sym (any_same (is_reader_unopened old) (is_unopened received) positions
       (λ q. unopened_received (reader_at old q) (reader_at new q) (at received q) (came q))) ∙ start.complete)
@@ -184,7 +149,7 @@ module _ (word : List ℕ) {t : JointTool} (names : List (List ℕ)) {positions 
   failed_is_in q failed =
       ⊎_elim (λ named. named)
       (λ other. absurd
-      (false≢true (sym failed.1 ∙ sym (ap (λ (r : Reader). r.failed) (k.untouched q other)) ∙ failed.2)))
+      (false≢true (sym failed.1 ∙ sym (ap (λ r. r.failed) (k.untouched q other)) ∙ failed.2)))
       (cases_Bool (is_in positions q))
 
   none_failed : NoReadFailed positions old new → (q : ℕ) → HasReadFailed old new q → ⊥
@@ -219,9 +184,9 @@ module _ (word : List ℕ) {t : JointTool} (names : List (List ℕ)) {positions 
   ended_if_written Unopened ended = none_ended
   ended_if_written (Disorder p line) ended = none_ended
 
-  terminator : (r : Result Completion FlowFault)
+  ending : (r : Result Completion FlowFault)
       → JointEnd t positions k.given old new k.pushed is.write_failed store.denied r → Ending r
-  terminator (Ok done) e = record {
+  ending (Ok done) e = record {
     operands_done = length positions;
     within = omega arith;
     ends = (
@@ -239,7 +204,7 @@ module _ (word : List ℕ) {t : JointTool} (names : List (List ℕ)) {positions 
     names_failed_read = λ q failed clean. absurd (none_failed e.unfailed q failed);
     ended = ended_if_written done e.ended;
   }
-  terminator (Err (Read p)) e =
+  ending (Err (Read p)) e =
       let f = first_at positions p e.named in
       let cause : HasReadFailed old new p ⊎ IsTooLong (at received p) =
       ⊎_elim (λ broke. inl (open_at p e.named, e.not_failed_before, broke.0))
@@ -252,12 +217,12 @@ module _ (word : List ℕ) {t : JointTool} (names : List (List ℕ)) {positions 
         within = f.1;
         ends = (f.2, f.3, cause, e.no_write_failed, e.not_denied);
         position = each_listed (λ q. q < length old) positions start.given.in_range p e.named;
-        names_failed_read = λ q failed clean. ⊎_elim (λ same. ap (λ (n : ℕ). Err (Read n)) same)
+        names_failed_read = λ q failed clean. ⊎_elim (λ same. ap (λ n. Err (Read n)) same)
             (λ other. absurd (false≢true (sym failed.1 ∙ sym (e.others q (failed_is_in q failed) other) ∙ failed.2)))
             (cases_eq p q);
         ended = none_ended;
       }
-  terminator (Err Write) e =
+  ending (Err Write) e =
       record {
         operands_done = 0;
         within = omega arith;
@@ -266,7 +231,7 @@ module _ (word : List ℕ) {t : JointTool} (names : List (List ℕ)) {positions 
         names_failed_read = λ q failed clean. absurd (false≢true (sym clean ∙ e));
         ended = none_ended;
       }
-  terminator (Err Memory) e =
+  ending (Err Memory) e =
       record {
         operands_done = 0;
         within = omega arith;
@@ -278,7 +243,7 @@ module _ (word : List ℕ) {t : JointTool} (names : List (List ℕ)) {positions 
 
   pub joint_post : RunInputsPost (joint_spec word t names positions) old new was is messages_old messages_old before
       store result
-  joint_post = let e = terminator result k.ends in record {
+  joint_post = let e = ending result k.ends in record {
     received = received;
     came = came;
     pushed = k.pushed;
@@ -315,10 +280,6 @@ module _ (word : List ℕ) {t : JointTool} (names : List (List ℕ)) {positions 
 
 -- ---- a tool with one input
 
-abbrev pub one_completion : ℕ → Result (Unit {0}) FlowFault → Result Completion FlowFault
-one_completion p (Ok u) = Ok AllWritten
-one_completion p (Err fault) = Err (fault_at p fault)
-
 module _ (t : ToolSpec) (old : List Reader) (was is : Output) (before store : Slots) (p : ℕ) (new : Reader)
     (result : Result (Unit {0}) FlowFault)
     (clean : was.write_failed ≡ false) (within : p < length old) (unread : (reader_at old p).eof ≡ false)
@@ -339,7 +300,7 @@ module _ (t : ToolSpec) (old : List Reader) (was is : Output) (before store : Sl
   only_operand_end : (r : Result (Unit {0}) FlowFault) → PassOutcome (reader_at old p) new is store r
       → (r ≡ Ok tt → e.pushed ≡ t.text e.given.bytes)
       → JointEnd (one_input_tool t) (p ∷ []) (λ q. e.given) old all e.pushed is.write_failed store.denied
-      (one_completion p r)
+      (operand_completion p r)
   only_operand_end (Ok u) f whole = record {
     out =
         λ texts agrees. whole refl ∙ ap t.text
@@ -364,7 +325,7 @@ module _ (t : ToolSpec) (old : List Reader) (was is : Output) (before store : Sl
   only_operand_end (Err Memory) f whole =
       (f.denied, f.clean, each (λ q. (reader_at all q).failed ≡ (reader_at old q).failed) (rw here f.failed))
 
-  memory_of : (r : Result (Unit {0}) FlowFault) → one_completion p r ≡ Err Memory → r ≡ Err Memory
+  memory_of : (r : Result (Unit {0}) FlowFault) → operand_completion p r ≡ Err Memory → r ≡ Err Memory
   memory_of (Ok u) same = cc
   memory_of (Err (Read position)) same = cc
   memory_of (Err Write) same = cc
@@ -373,10 +334,10 @@ module _ (t : ToolSpec) (old : List Reader) (was is : Output) (before store : Sl
   -- the input is unread, or a line of it is left
   input_left : result ≡ Err Memory → IsDone new → ⊥
   input_left memory ended = ⊎_elim
-      (λ few. false≢true (sym unread ∙ ap (λ (r : Reader). r.eof) (sym (e.refused clean few).same_reader) ∙ ended.eof))
+      (λ few. false≢true (sym unread ∙ ap (λ r. r.eof) (sym (e.refused clean few).same_reader) ∙ ended.eof))
       (λ enough. e.line_left memory enough ended) (cases_lt (length store.lines) t.slots)
 
-  one_input_post : JointPost (one_input_tool t) (p ∷ []) old all was is before store (one_completion p result)
+  one_input_post : JointPost (one_input_tool t) (p ∷ []) old all was is before store (operand_completion p result)
   one_input_post = record {
     given = λ q. e.given;
     came = each (λ q. HasReceived (reader_at old q) (reader_at all q) e.given) (rw here e.came);
@@ -400,38 +361,50 @@ module _ (t : ToolSpec) (old : List Reader) (was is : Output) (before store : Sl
     left = λ memory. inl (p, named, rw here (input_left (memory_of result memory)));
   }
 
--- the position of the only operand
-pub only_operand_of : (order : List Input) (d : Input) {p : ℕ} → (length (positions order) == 1) ≡ true
-    → p ≡ position (get_or order 0 d) → positions order ≡ p ∷ []
-only_operand_of (o ∷ []) d one is = ap (λ (n : ℕ). n ∷ []) (sym is)
-only_operand_of order d one is = absurd (omega (arith, eqb-true (length (positions order)) 1 one))
+only_operand_of : (positions : List ℕ) (d : ℕ) → (length positions == 1) ≡ true
+    → positions ≡ get_or positions 0 d ∷ []
+only_operand_of (p ∷ []) d one = refl
+only_operand_of positions d one = absurd (omega (arith, eqb-true (length positions) 1 one))
 
 -- the pass over the reader of the only operand
-module _ {j : JointTool} (order : List Input) {old : List Reader} {was : Output} {before : Slots}
-    (ready : JointPre j (positions order) old was before) (one : (length (positions order) == 1) ≡ true) where
-  pub only_operand_exists : 0 < length order
-  only_operand_exists = omega (arith, eqb-true (length (positions order)) 1 one, length-map order position)
+module _ {j : JointTool} {positions : List ℕ} {old : List Reader} {was : Output} {before : Slots}
+    (ready : JointPre j positions old was before) (one : (length positions == 1) ≡ true) where
+  pub only_operand_exists : 0 < length positions
+  only_operand_exists = omega (arith, eqb-true (length positions) 1 one)
 
-  module _ (d : Input) {p : ℕ} (positioned : p ≡ position (get_or order 0 d)) where
-    pub only_operand_within : p < length old
-    only_operand_within = (rw (only_operand_of order d one positioned) at ready.in_range) 0 0 (omega arith)
+  pub only_operand_within : (d : ℕ) → get_or positions 0 d < length old
+  only_operand_within d = ready.in_range 0 d only_operand_exists
 
-    pub only_operand_opened : (e : Reader) → (get_or old p e).refused ≡ false
-    only_operand_opened e = rw (get_or_default old p e no_reader only_operand_within)
-        (neither (is_reader_unopened old p) false (rw (only_operand_of order d one positioned) at ready.opened)).0
+  module _ (d : ℕ) where
+    abbrev p : ℕ
+    p = get_or positions 0 d
+
+    opened : (reader_at old p).refused ≡ false
+    opened = (neither (is_reader_unopened old p) false (rw (only_operand_of positions d one) at ready.opened)).0
+
+    pub only_operand_ready : (e : Reader) → PassPre (get_or old p e) before
+    only_operand_ready e = rw (get_or_default old p e no_reader (only_operand_within d)) (record {
+      opened = opened;
+      readable = (fresh_all old ready.fresh p opened).fault;
+      not_denied = ready.not_denied;
+      empty = ready.empty;
+    })
 
     pub only_operand_post : (e : Reader) {t : ToolSpec} {is : Output} {store : Slots} {new : Reader}
-        {result : Result (Unit {0}) FlowFault}
-        → IsSound (get_or old p e) → PassPost t (get_or old p e) new was is before store result
-        → JointPost (one_input_tool t) (positions order) old (set old p new) was is before store
-        (one_completion p result)
-    only_operand_post e {t} {is} {store} {new} {result} sound pass =
-        let here = get_or_default old p e no_reader only_operand_within in
-        let new_here = fresh_all old ready.fresh p (rw here at (only_operand_opened e)) in
-        let not_failed_before = sound.unfailed (only_operand_opened e) (rw here new_here.fault) in
-        rw (only_operand_of order d one positioned)
-        (one_input_post t old was is before store p new result ready.writable only_operand_within new_here.eof
-        (rw here at not_failed_before) (rw here at pass))
+        {result : Result (Unit {0}) FlowFault} → PassPost t (get_or old p e) new was is before store result
+        → JointPost (one_input_tool t) positions old (set old p new) was is before store (operand_completion p result)
+    only_operand_post e {t} {is} {store} {new} {result} pass =
+        subst (λ ps. JointPost (one_input_tool t) ps old (set old p new) was is before store
+        (operand_completion p result)) (sym (only_operand_of positions d one))
+        (one_input_post t old was is before store p new result ready.writable (only_operand_within d) new_here.eof
+        ((ready.sound p named).unfailed opened new_here.fault)
+        (rw (get_or_default old p e no_reader (only_operand_within d)) at pass))
+      where
+        new_here : IsNew (reader_at old p)
+        new_here = fresh_all old ready.fresh p opened
+
+        named : is_in positions p ≡ true
+        named = rw (only_operand_of positions d one) (is_in-same [] p)
 
 -- ---- `paste`: facts about columns, as facts about operands
 
@@ -442,7 +415,7 @@ module _ (cells : List ℕ) where
   cell_in c low = list_any_at (λ q. q == get_or cells c 0) cells c 0 low (same_here (get_or cells c 0))
 
   used_is_in : (p : ℕ) → 0 < uses_of cells p → is_in cells p ≡ true
-  used_is_in p some = let n = used_at cells p some in subst (λ (q : ℕ). is_in cells q ≡ true) n.2 (cell_in n.0 n.1)
+  used_is_in p some = let n = used_at cells p some in subst (λ q. is_in cells q ≡ true) n.2 (cell_in n.0 n.1)
 
   is_in_used : (p : ℕ) → is_in cells p ≡ true → 0 < uses_of cells p
   is_in_used = each_listed (λ p. 0 < uses_of cells p) cells
@@ -480,7 +453,7 @@ module _ (job : Paste) (cells : List ℕ) where
       rows_text job (known_rows
       (columns_same cells (λ p. known_lines job.terminator (f p)) (λ p. known_lines job.terminator (g p))
       (λ p named. ap (known_lines job.terminator) (same p named)) i)
-      (map_same (λ p. (f p).eof) (λ p. (g p).eof) cells (λ p named. ap (λ (h : Received). h.eof) (same p named)) i))
+      (map_same (λ p. (f p).eof) (λ p. (g p).eof) cells (λ p named. ap (λ h. h.eof) (same p named)) i))
 
   size_same : (f g : ℕ → List ℕ) → ((p : ℕ) → is_in cells p ≡ true → f p ≡ g p)
       → paste_size job cells f ≡ paste_size job cells g
@@ -515,7 +488,7 @@ module _ (job : Paste) {positions : List ℕ} {old : List Reader} {was : Output}
     with_received texts q = cond (is_in positions q) (texts q) (k.given q).bytes
 
     with_received_is : (texts : ℕ → List ℕ) (q : ℕ) → is_in positions q ≡ true → with_received texts q ≡ texts q
-    with_received_is texts q named = ap (λ (b : Bool). cond b (texts q) (k.given q).bytes) named
+    with_received_is texts q named = ap (λ b. cond b (texts q) (k.given q).bytes) named
 
     consistent_at : (texts : ℕ → List ℕ) → AreConsistentAt positions k.given texts → (q : ℕ)
         → IsConsistent (k.given q) (with_received texts q)
@@ -541,7 +514,7 @@ module _ (job : Paste) {positions : List ℕ} {old : List Reader} {was : Output}
     }
       where
         read : (q : ℕ) → is_in positions q ≡ true → IsReadToEnd (reader_at old q) (reader_at new q)
-        read = each_listed (λ (q : ℕ). IsReadToEnd (reader_at old q) (reader_at new q)) positions e.read
+        read = each_listed (λ q. IsReadToEnd (reader_at old q) (reader_at new q)) positions e.read
     ends (Err (Read p)) e whole = record {
       named = used_is_in positions p e.named;
       not_failed_before = e.unfailed;
@@ -562,7 +535,7 @@ module _ (job : Paste) {positions : List ℕ} {old : List Reader} {was : Output}
       wrote = k.wrote;
       ends = ends result k.ends k.is_exact;
       is_prefix =
-          λ texts agrees. subst (λ (l : List ℕ). IsPrefix k.pushed l)
+          λ texts agrees. subst (λ l. IsPrefix k.pushed l)
           (paste_same job positions (with_received texts) texts (with_received_is texts))
           (k.is_prefix (with_received texts) (consistent_at texts agrees));
       decided_is_written = λ q named. k.decided_is_written q (is_in_used positions q named);
@@ -571,7 +544,7 @@ module _ (job : Paste) {positions : List ℕ} {old : List Reader} {was : Output}
           (k.bounded_lag q (is_in_used positions q named) ready.writable);
       same = decided_same job positions;
       peak =
-          λ texts agrees. subst (λ (n : ℕ). store.peak ≤ max before.peak n)
+          λ texts agrees. subst (λ n. store.peak ≤ max before.peak n)
           (size_same job positions (with_received texts) texts (with_received_is texts))
           (k.peak (with_received texts) (consistent_at texts agrees));
       slots = λ texts agrees. (k.slots ready.writable).most;
@@ -599,5 +572,5 @@ module _ (job : Paste) {positions : List ℕ} {old : List Reader} {was : Output}
                   (sym
                   (fresh_all old ready.fresh q
                   (none_passes (is_reader_unopened old) positions ready.opened q named)).eof
-                  ∙ ap (λ (r : Reader). r.eof) (sym unread) ∙ done.eof),
+                  ∙ ap (λ r. r.eof) (sym unread) ∙ done.eof),
             )

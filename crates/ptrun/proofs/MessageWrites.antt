@@ -1,5 +1,5 @@
 -- Texts written to a sink one after another: together they are one text, of which a failure leaves a prefix.
-use Rattle.ptrun.proofs.Common.{◌≡◌, ℕ, ◌+◌, ◌<◌, ◌≤◌, Bool, true, false, List, [], ◌∷◌, ◌++◌, Option, length, take}
+use Rattle.ptrun.proofs.Common.{◌≡◌, ℕ, ◌+◌, ◌<◌, ◌≤◌, Bool, true, false, List, [], ◌∷◌, ◌++◌, length, take}
 use Rattle.ptrun.proofs.Common.{drop, refl, sym, ◌∙◌, ap, arith, append_assoc, length-append, take-append-drop}
 use Rattle.ptrun.proofs.Common.{flat_map, Bor, get_or, take_more, take_all, get_or-map, length-map, append-nil}
 use Rattle.ptrun.proofs.Common.{flat_map-append, false≢true, append_known, SinkState, WriteOutErr, WriteOutOk}
@@ -12,14 +12,14 @@ pub say_post_part : {old mid new : SinkState} {text piece : List ℕ} (done more
 say_post_part {old} {piece = piece} done more split took p = record {
   front = done ++ p.front;
   rest = p.rest ++ more;
-  split = split ∙ ap (λ (l : List ℕ). (done ++ l) ++ more) p.split
-      ∙ ap (λ (l : List ℕ). l ++ more) (sym (append_assoc done p.front p.rest))
+  split = split ∙ ap (λ l. (done ++ l) ++ more) p.split
+      ∙ ap (λ l. l ++ more) (sym (append_assoc done p.front p.rest))
       ∙ append_assoc (done ++ p.front) p.rest more;
-  accepted = p.accepted ∙ ap (λ (s : SinkState). append_known s.accepted p.front) took
+  accepted = p.accepted ∙ ap (λ s. append_known s.accepted p.front) took
       ∙ append_known-append old.accepted done p.front;
-  unflushed = p.unflushed ∙ ap (λ (s : SinkState). unflushed_after s.unflushed p.front) took
+  unflushed = p.unflushed ∙ ap (λ s. unflushed_after s.unflushed p.front) took
       ∙ unflushed_after-append old.unflushed done p.front;
-  flushes = p.flushes ∙ ap (λ (s : SinkState). s.flushes) took;
+  flushes = p.flushes ∙ ap (λ s. s.flushes) took;
   whole = λ all. absurd (false≢true all);
   broken = λ _. (omega (arith, p.some, length-append p.rest more), p.failed);
 }
@@ -31,10 +31,10 @@ say_post_all {text = text} clean took = record {
   front = text;
   rest = [];
   split = sym (append-nil text);
-  accepted = ap (λ (s : SinkState). s.accepted) took;
-  unflushed = ap (λ (s : SinkState). s.unflushed) took;
-  flushes = ap (λ (s : SinkState). s.flushes) took;
-  whole = λ _. (refl, ap (λ (s : SinkState). s.failed) took ∙ clean);
+  accepted = ap (λ s. s.accepted) took;
+  unflushed = ap (λ s. s.unflushed) took;
+  flushes = ap (λ s. s.flushes) took;
+  whole = λ _. (refl, ap (λ s. s.failed) took ∙ clean);
   broken = λ no. absurd (false≢true (sym no));
 }
 
@@ -58,7 +58,7 @@ said_trans {a} {b} {c} {xs} {ys} p q = by_failed b.failed refl
     by_failed true is = rw (q.stays is) (record {
       front = p.front;
       rest = p.rest ++ ys;
-      split = ap (λ (l : List ℕ). l ++ ys) p.split ∙ append_assoc p.front p.rest ys;
+      split = ap (λ l. l ++ ys) p.split ∙ append_assoc p.front p.rest ys;
       accepted = p.accepted;
       unflushed = p.unflushed;
       flushes = p.flushes;
@@ -66,18 +66,18 @@ said_trans {a} {b} {c} {xs} {ys} p q = by_failed b.failed refl
       stays = p.stays;
     })
     by_failed false is =
-        let all : xs ≡ p.front = p.split ∙ ap (λ (l : List ℕ). p.front ++ l) (p.whole is) ∙ append-nil p.front in
+        let all : xs ≡ p.front = p.split ∙ ap (λ l. p.front ++ l) (p.whole is) ∙ append-nil p.front in
         rw all (record {
           front = p.front ++ q.front;
           rest = q.rest;
-          split = ap (λ (l : List ℕ). p.front ++ l) q.split ∙ sym (append_assoc p.front q.front q.rest);
-          accepted = q.accepted ∙ ap (λ (t : Option (List ℕ)). append_known t q.front) p.accepted
+          split = ap (λ l. p.front ++ l) q.split ∙ sym (append_assoc p.front q.front q.rest);
+          accepted = q.accepted ∙ ap (λ t. append_known t q.front) p.accepted
               ∙ append_known-append a.accepted p.front q.front;
-          unflushed = q.unflushed ∙ ap (λ (b : Bool). unflushed_after b q.front) p.unflushed
+          unflushed = q.unflushed ∙ ap (λ b. unflushed_after b q.front) p.unflushed
               ∙ unflushed_after-append a.unflushed p.front q.front;
           flushes = q.flushes ∙ p.flushes;
           whole = q.whole;
-          stays = λ failed. absurd (false≢true (sym is ∙ ap (λ (s : SinkState). s.failed) (p.stays failed) ∙ failed));
+          stays = λ failed. absurd (false≢true (sym is ∙ ap (λ s. s.failed) (p.stays failed) ∙ failed));
         })
 
 -- the first `n` parts, concatenated
@@ -91,15 +91,15 @@ pub joined_more : (parts : List (Bor (List ℕ))) (i : ℕ) → i < length parts
     → joined parts (i + 1) ≡ joined parts i ++ part_at parts i
 joined_more parts i within =
     let inside : i < length (texts parts) = omega (arith, length-map parts (λ (p : Bor (List ℕ)). p.now)) in
-    ap (λ (l : List (List ℕ)). flat_map (λ p. p) l) (take_more (texts parts) i [] inside)
+    ap (λ l. flat_map (λ p. p) l) (take_more (texts parts) i [] inside)
     ∙ flat_map-append (λ (p : List ℕ). p) (take i (texts parts)) (get_or (texts parts) i [] ∷ [])
-    ∙ ap (λ (l : List ℕ). joined parts i ++ l)
+    ∙ ap (λ l. joined parts i ++ l)
     (append-nil (get_or (texts parts) i [])
     ∙ get_or-map (λ (p : Bor (List ℕ)). p.now) parts i (record { ref_ptr = (0, 0); now = [] }) [] within)
 
 pub joined_all : (parts : List (Bor (List ℕ))) (i : ℕ) → length parts ≤ i
     → joined parts i ≡ flat_map (λ p. p) (texts parts)
-joined_all parts i all = ap (λ (l : List (List ℕ)). flat_map (λ p. p) l)
+joined_all parts i all = ap (λ l. flat_map (λ p. p) l)
     (take_all i (texts parts) (omega (arith, all, length-map parts (λ (p : Bor (List ℕ)). p.now))))
 
 pub line_split : (parts : List (Bor (List ℕ))) (i : ℕ) → i < length parts
@@ -107,12 +107,12 @@ pub line_split : (parts : List (Bor (List ℕ))) (i : ℕ) → i < length parts
 line_split parts i within =
     let later = flat_map (λ (p : List ℕ). p) (drop (i + 1) (texts parts)) in
     let all : flat_map (λ p. p) (texts parts) ≡ joined parts (i + 1) ++ later =
-    ap (λ (l : List (List ℕ)). flat_map (λ p. p) l)
+    ap (λ l. flat_map (λ p. p) l)
     (sym (take-append-drop (i + 1) (texts parts)))
     ∙ flat_map-append (λ (p : List ℕ). p) (take (i + 1) (texts parts)) (drop (i + 1) (texts parts)) in (
       later ++ 10 ∷ [],
-      ap (λ (l : List ℕ). l ++ 10 ∷ []) all ∙ append_assoc (joined parts (i + 1)) later (10 ∷ [])
-          ∙ ap (λ (l : List ℕ). l ++ (later ++ 10 ∷ [])) (joined_more parts i within),
+      ap (λ l. l ++ 10 ∷ []) all ∙ append_assoc (joined parts (i + 1)) later (10 ∷ [])
+          ∙ ap (λ l. l ++ (later ++ 10 ∷ [])) (joined_more parts i within),
     )
 
 pub took_trans : (a b c : SinkState) (xs ys : List ℕ) → WriteOutOk a b xs → WriteOutOk b c ys

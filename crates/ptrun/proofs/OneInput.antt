@@ -35,7 +35,7 @@ completion_with any = cond any Unopened AllWritten
 
 pub receives_nothing : (r : Reader) → IsNew r → HasReceived r r none_received
 receives_nothing r new = record {
-  moved = ap (λ (l : List ℕ). prepend_known l r.left) new.buffered;
+  moved = ap (λ l. prepend_known l r.left) new.buffered;
   count = omega (arith, ap length new.buffered);
   eof = sym new.eof;
   refused = refl;
@@ -46,7 +46,7 @@ receives_nothing r new = record {
 pub receives_trans : (a b c : Reader) (g h : Received) → HasReceived a b g → HasReceived b c h → b.buffered ≡ []
     → HasReceived a c (record { bytes = g.bytes ++ h.bytes; eof = h.eof })
 receives_trans a b c g h p q empty = record {
-  moved = p.moved ∙ ap (λ (o : Option (List ℕ)). prepend_known g.bytes o) (sym (remaining_of_empty b empty) ∙ q.moved)
+  moved = p.moved ∙ ap (λ o. prepend_known g.bytes o) (sym (remaining_of_empty b empty) ∙ q.moved)
       ∙ prepend_known-append g.bytes h.bytes c.left;
   count = omega (arith, p.count, q.count, ap length empty, length-append g.bytes h.bytes);
   eof = q.eof;
@@ -69,8 +69,8 @@ received_of r = cond r.refused None (Some none_received)
 
 pub receives_none : (r : Reader) → IsNewOrUnopened r → HasReceivedAt r r (received_of r)
 receives_none r fresh =
-    ⊎_elim (λ is. subst (λ (b : Bool). HasReceivedAt r r (cond b None (Some none_received))) (sym is) (is, refl))
-    (λ is. subst (λ (b : Bool). HasReceivedAt r r (cond b None (Some none_received))) (sym is)
+    ⊎_elim (λ is. subst (λ b. HasReceivedAt r r (cond b None (Some none_received))) (sym is) (is, refl))
+    (λ is. subst (λ b. HasReceivedAt r r (cond b None (Some none_received))) (sym is)
     (is, receives_nothing r (fresh is))) (cases_Bool r.refused)
 
 pub never_long : (r : Reader) → IsTooLong (received_of r) → ⊥
@@ -88,7 +88,7 @@ opened_receives old now None opened (unopened, same) = absurd (false≢true (sym
 opened_receives old now (Some g) opened (_, received) = record { given = g; is = refl; received = received }
 
 pub still_unopened : (old now : Reader) (o : Option Received) → HasReceivedAt old now o → now.refused ≡ old.refused
-still_unopened old now None (unopened, same) = ap (λ (r : Reader). r.refused) same
+still_unopened old now None (unopened, same) = ap (λ r. r.refused) same
 still_unopened old now (Some g) (opened, received) = received.refused
 
 -- fewer than 2^63 bytes were received
@@ -149,7 +149,7 @@ consistent_before g e b still a = record {
 
 -- all its bytes were received
 pub consistent_whole : (g : Received) (b : List ℕ) → g.eof ≡ true → IsConsistent g b → b ≡ g.bytes
-consistent_whole g b eof a = a.is ∙ ap (λ (l : List ℕ). g.bytes ++ l) (a.whole eof) ∙ append-nil g.bytes
+consistent_whole g b eof a = a.is ∙ ap (λ l. g.bytes ++ l) (a.whole eof) ∙ append-nil g.bytes
 
 -- ---- before the first operand, and after the last
 
@@ -184,14 +184,14 @@ last_same xs ys x y is =
     omega (arith, ap length is, length-append xs (x ∷ []), length-append ys (y ∷ [])) in
     let same : xs ≡ ys = sym (take-append_seam xs (x ∷ [])) ∙ (λ i. take (count i) (is i))
     ∙ take-append_seam ys (y ∷ []) in
-    let last = append_cancel_left ys (x ∷ []) (y ∷ []) (ap (λ (l : List Received). l ++ x ∷ []) (sym same) ∙ is) in
+    let last = append_cancel_left ys (x ∷ []) (y ∷ []) (ap (λ l. l ++ x ∷ []) (sym same) ∙ is) in
     (same, cc)
 
 -- operands that are all done decide all their output
 pub all_earlier : (t : ToolSpec) (came : List Received) (P : List ℕ → Type 0) → P (decided_in_order t came)
     → LagOfLast t came P
 all_earlier t came P holds done last is =
-    (same_before last, subst (λ (l : List Received). P (decided_in_order t l)) is holds)
+    (same_before last, subst (λ l. P (decided_in_order t l)) is holds)
 
 -- less of the last operand was received earlier
 pub last_earlier : (t : ToolSpec) (came : List Received) (g : Received) (b : LaggedInput g) (P : List ℕ → Type 0)
@@ -206,7 +206,7 @@ pub passed_on : (f g : Received → List ℕ) {came : Received} {was is : Output
 passed_on f g {came} {was} {is} {pushed} same up =
     let cut = up.processing.before tt in (
       cut,
-      subst (λ (l : List ℕ). IsPushedUpToBlock l was is pushed) (same cut.earlier)
+      subst (λ l. IsPushedUpToBlock l was is pushed) (same cut.earlier)
           (record { begins = up.processing.begins; buffering = up.buffering }),
     )
 
@@ -221,8 +221,8 @@ at_set (o ∷ r) (suc p) g e is = at_set r p g e is
 pub opened_set : (r : ReceivedInputs) (p : ℕ) (g e : Received) → at r p ≡ Some g → (q : ℕ)
     → is_unopened (set r p (Some e)) q ≡ is_unopened r q
 opened_set r p g e is = by_position (λ q. is_unopened (set r p (Some e)) q ≡ is_unopened r q) p
-    (ap (λ (o : Option Received). is_none o) (at_set r p g e is) ∙ sym (ap (λ (o : Option Received). is_none o) is))
-    (λ q differs. ap (λ (o : Option Received). is_none o)
+    (ap (λ o. is_none o) (at_set r p g e is) ∙ sym (ap (λ o. is_none o) is))
+    (λ q differs. ap (λ o. is_none o)
     (get_or-set_other r p q (Some e) None (λ is_p. differs (sym is_p))))
 
 -- if nothing is decided, then all that is decided was written
@@ -289,7 +289,7 @@ sends_after was mid is pushed bytes wrote clean s = by_known was.accepted refl
 take_front : (n : ℕ) (xs ys : List ℕ) → (rest : List ℕ) × (take n (xs ++ ys) ≡ take n xs ++ rest)
 take_front zero xs ys = ([], refl)
 take_front (suc n) [] ys = (take (suc n) ys, refl)
-take_front (suc n) (x ∷ xs) ys = let (rest, is) = take_front n xs ys in (rest, ap (λ (l : List ℕ). x ∷ l) is)
+take_front (suc n) (x ∷ xs) ys = let (rest, is) = take_front n xs ys in (rest, ap (λ l. x ∷ l) is)
 
 module _ (bytes : List ℕ) (was is is' : Output) (pushed front rest : List ℕ) (k : IsPushedUpToBlock bytes was is pushed)
     (empty : was.buffered ≡ []) (split : pushed ≡ front ++ rest)

@@ -10,7 +10,7 @@ use Rattle.ptrun.proofs.Common.{inputs_of_operands, opened_values, opened_inputs
 use Rattle.ptrun.proofs.Common.{unopened_messages, unopened_message, name_of, HasSaid, SinkState, update_at, ◌<◌, ◌≤◌}
 use Rattle.ptrun.proofs.Common.{drop, get_or, take-append-drop, take_more, get_or-map, length-map, take_all, Reader}
 use Rattle.ptrun.proofs.Common.{reader_at, no_reader, IsNewOrUnopened, position, positions, All-nil, All-cons, Bor}
-use Rattle.ptrun.proofs.Common.{words_view, is_standard, file_names, order_from, Input, Standard, File}
+use Rattle.ptrun.proofs.Common.{words_view, is_standard, file_names, order_from, Input, Standard, File, DecidesAll}
 use Rattle.std.proofs.Math.ListN.{get_or-map as get_or-map_any}
 use Rattle.ptrun.proofs.MessageWrites.{said_trans}
 
@@ -47,11 +47,11 @@ none_passes test ps none q named =
 -- ---- functions of positions, updated at one
 
 pub put_here : {X : Type 0} (p : ℕ) (x : X) (f : ℕ → X) → update_at p x f p ≡ x
-put_here p x f = ap (λ (b : Bool). cond b x (f p)) (same_here p)
+put_here p x f = ap (λ b. cond b x (f p)) (same_here p)
 
 pub put_other : {X : Type 0} (p q : ℕ) (x : X) (f : ℕ → X) → p ≢ q → update_at p x f q ≡ f q
 put_other p q x f differs =
-    ⊎_elim (λ same. absurd (differs (sym same.1))) (λ other. ap (λ (b : Bool). cond b x (f q)) other.0) (eqb_tells q p)
+    ⊎_elim (λ same. absurd (differs (sym same.1))) (λ other. ap (λ b. cond b x (f q)) other.0) (eqb_tells q p)
 
 -- ---- operands
 
@@ -60,11 +60,11 @@ module _ {X : Type 0} (rest : X) (xs : List (Option X)) where
       → inputs_of_operands rest xs before (ps ++ qs) ≡ inputs_of_operands rest xs before ps
       ++ inputs_of_operands rest xs (before ++ ps) qs
   inputs_of_operands-append before [] qs =
-      ap (λ (l : List ℕ). inputs_of_operands rest xs l qs) (sym (append-nil before))
+      ap (λ l. inputs_of_operands rest xs l qs) (sym (append-nil before))
   inputs_of_operands-append before (p ∷ ps) qs =
-      ap (λ (l : List (Option X)). input_of_operand rest xs before p ∷ l)
+      ap (λ l. input_of_operand rest xs before p ∷ l)
       (inputs_of_operands-append (before ++ p ∷ []) ps qs
-      ∙ ap (λ (l : List ℕ). inputs_of_operands rest xs (before ++ p ∷ []) ps ++ inputs_of_operands rest xs l qs)
+      ∙ ap (λ l. inputs_of_operands rest xs (before ++ p ∷ []) ps ++ inputs_of_operands rest xs l qs)
       (append_assoc before (p ∷ []) ps))
 
   -- the operands before one, this one, and those after it
@@ -86,7 +86,7 @@ module _ {X : Type 0} (rest : X) (xs : List (Option X)) where
   pub opened_inputs_none : (done : List ℕ) (p : ℕ) → input_of_operand rest xs done p ≡ None
       → opened_inputs rest xs (done ++ p ∷ []) ≡ opened_inputs rest xs done
   opened_inputs_none done p is = opened_inputs_at done p []
-      ∙ ap (λ (o : Option X). opened_inputs rest xs done ++ opened_values (o ∷ [])) is
+      ∙ ap (λ o. opened_inputs rest xs done ++ opened_values (o ∷ [])) is
       ∙ append-nil (opened_inputs rest xs done)
 
 -- ---- messages
@@ -117,7 +117,7 @@ module _ (test : ℕ → Bool) (done : List ℕ) (p : ℕ) where
       ∙ or_right (list_any test done) (test p || false) (or_left (test p) false is)
 
   pub any_before : test p ≡ false → list_any test (done ++ p ∷ []) ≡ list_any test done
-  any_before is = list_any-append test done (p ∷ []) ∙ ap (λ (b : Bool). list_any test done || (b || false)) is
+  any_before is = list_any-append test done (p ∷ []) ∙ ap (λ b. list_any test done || (b || false)) is
       ∙ or-false (list_any test done)
 
 pub is_in-same : (done : List ℕ) (p : ℕ) → is_in (done ++ p ∷ []) p ≡ true
@@ -130,6 +130,12 @@ pub not_more : (done : List ℕ) (p q : ℕ) → is_in (done ++ p ∷ []) q ≡ 
 not_more done p q none =
     let differs : p ≢ q = λ same. false≢true (sym none ∙ ap (is_in (done ++ p ∷ [])) (sym same) ∙ is_in-same done p) in
     (differs, sym (is_in-other done p q differs) ∙ none)
+
+-- a fact about each position in a list, and about one more
+pub holds_more : (P : ℕ → Type 0) (done : List ℕ) (p : ℕ) → ((q : ℕ) → is_in done q ≡ true → P q) → P p → (q : ℕ)
+    → is_in (done ++ p ∷ []) q ≡ true → P q
+holds_more P done p before here = by_position (λ q. is_in (done ++ p ∷ []) q ≡ true → P q) p (λ _. here)
+    (λ q differs named. before q (sym (is_in-other done p q differs) ∙ named))
 
 -- ---- the maximum
 
@@ -155,10 +161,6 @@ least_bytes r = map bytes_at r
 pub at-least_bytes : (r : ReceivedInputs) (p : ℕ) → at (least_bytes r) p ≡ bytes_at (at r p)
 at-least_bytes r p = get_or-map_any bytes_at r p None
 
--- once the end of an input is reached, all its output is decided
-abbrev pub DecidesAll : ToolSpec → Type 0
-DecidesAll t = (bytes : List ℕ) → t.decided (record { bytes = bytes; eof = true }) ≡ t.text bytes
-
 module _ (t : ToolSpec) (law : DecidesAll t) where
   -- one operand whose end was reached decides all its output, and the decided output goes on with the next operand
   module _ (came : List (Option Received)) (texts : List (Option (List ℕ))) (later : List Received) (rest : List ℕ)
@@ -168,9 +170,9 @@ module _ (t : ToolSpec) (law : DecidesAll t) where
         → flat_map t.decided (up_to_unended (g ∷ opened_values came ++ later))
         ≡ (t.text g.bytes ++ flat_map t.text (opened_values texts)) ++ rest
     one g is =
-        ap (λ (b : Bool). t.decided g ++ flat_map t.decided (cond b (up_to_unended (opened_values came ++ later)) []))
+        ap (λ b. t.decided g ++ flat_map t.decided (cond b (up_to_unended (opened_values came ++ later)) []))
         is
-        ∙ (λ i. (ap (λ (b : Bool). t.decided (record { bytes = g.bytes; eof = b })) is ∙ law g.bytes) i ++ further i)
+        ∙ (λ i. (ap (λ b. t.decided (record { bytes = g.bytes; eof = b })) is ∙ law g.bytes) i ++ further i)
         ∙ sym (append_assoc (t.text g.bytes) (flat_map t.text (opened_values texts)) rest)
 
     decided_input : (o : Option Received) → IsEndedAt o → (seen : Bool)
@@ -212,7 +214,7 @@ position_in_range order n in_range i d within =
 
 -- the list of names is as long as the list of their texts
 pub names_counted : (names : List (Bor (List ℕ))) (n : ℕ) → n ≡ length (words_view names) + 1 → n ≡ length names + 1
-names_counted names n is = is ∙ ap (λ (k : ℕ). k + 1) (length-map names (λ (w : Bor (List ℕ)). w.now))
+names_counted names n is = is ∙ ap (λ k. k + 1) (length-map names (λ (w : Bor (List ℕ)). w.now))
 
 -- the position of the `i`-th operand has a reader, and the operands are those before it, it, and those after it
 pub record OperandStep (order : List Input) (i p n : ℕ) : Type 0 where
@@ -220,19 +222,22 @@ pub record OperandStep (order : List Input) (i p n : ℕ) : Type 0 where
   pub next : take (i + 1) (positions order) ≡ take i (positions order) ++ p ∷ []
   pub split : take i (positions order) ++ p ∷ drop (i + 1) (positions order) ≡ positions order
 
-pub operand_step : {p n : ℕ} (order : List Input) (i : ℕ) (d : Input) → All (λ o. position o < n) order
+pub operand_low : {p n : ℕ} (order : List Input) (i : ℕ) (d : Input) → All (λ q. q < n) (positions order)
+    → i < length order → p ≡ position (get_or order i d) → p < n
+operand_low {n = n} order i d in_range within is = rw is (position_in_range order n in_range i d within)
+
+pub operand_step : {p n : ℕ} (order : List Input) (i : ℕ) (d : Input) → All (λ q. q < n) (positions order)
     → i < length order → p ≡ position (get_or order i d) → OperandStep order i p n
 operand_step {p} {n} order i d in_range within is = record {
-  low = rw is (in_range i d within);
+  low = operand_low order i d in_range within is;
   next = next;
   split = sym (append_assoc (take i (positions order)) (p ∷ []) (drop (i + 1) (positions order)))
-      ∙ ap (λ (l : List ℕ). l ++ drop (i + 1) (positions order)) (sym next)
-      ∙ take-append-drop (i + 1) (positions order);
+      ∙ ap (λ l. l ++ drop (i + 1) (positions order)) (sym next) ∙ take-append-drop (i + 1) (positions order);
 }
   where
     next : take (i + 1) (positions order) ≡ take i (positions order) ++ p ∷ []
     next = take_more (positions order) i 0 (omega (arith, within, length-map order position))
-        ∙ ap (λ (n : ℕ). take i (positions order) ++ n ∷ []) (get_or-map position order i d 0 within ∙ sym is)
+        ∙ ap (λ n. take i (positions order) ++ n ∷ []) (get_or-map position order i d 0 within ∙ sym is)
 
 pub positions_end : (order : List Input) (i : ℕ) → length order ≤ i → take i (positions order) ≡ positions order
 positions_end order i all = take_all i (positions order) (omega (arith, all, length-map order position))

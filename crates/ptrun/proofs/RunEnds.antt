@@ -20,8 +20,8 @@ use Rattle.ptrun.proofs.Common.{result_status, HasIndexBelow, IsPushedUpToBlock,
 use Rattle.ptrun.proofs.Common.{◌<◌, ◌==◌, is_none, not, nat_le, length-map, All-map, nat_tests, eqb_tells, Input}
 use Rattle.ptrun.proofs.Common.{Standard, File, Fault, Command, Job, RunCut, RunPaste, RunUniq, RunComm, RunJoin, RunTr}
 use Rattle.ptrun.proofs.Common.{command_of_args, input_operands, fault_view, command_view, CommandPost, usage_message}
-use Rattle.ptrun.proofs.Common.{usage_status, position, positions, InputsPre, two_input_tool, job_spec, command_spec}
-use Rattle.ptrun.proofs.Common.{spec_of_result, tool_name, spec_of_args, spec_of_parsed, is_memory_fault, AreNewInputs}
+use Rattle.ptrun.proofs.Common.{usage_status, position, positions, InputsPre, two_input_tool, command_spec, tool_of_job, word_of_job, spec_of_tool}
+use Rattle.ptrun.proofs.Common.{leb-true, ◌≤◌, spec_of_result, tool_name, spec_of_args, spec_of_parsed, is_memory_fault, AreNewInputs}
 use Rattle.std.specs.Prelude.{if◌then◌else◌}
 use Rattle.ptlines.specs.Sinks.{flushes_after}
 use Rattle.ptlangs.specs.Results.{IsFault}
@@ -125,10 +125,10 @@ exact_of_run m old new before o fresh k w bytes none fine not_denied = by_fault 
     by_fault : (fault : Option FlowFault) → RunEnd m k.received old new k.written k.message o k.operands_done fault
         → IsExact m w before o
     by_fault None (complete, says) = record {
-      out = k.output ∙ ap (λ (l : List ℕ). append_known before.out.accepted l) (complete.out w agrees);
-      messages = λ all_said. k.has_said.accepted ∙ ap (λ (l : List ℕ). append_known before.messages.accepted l)
+      out = k.output ∙ ap (λ l. append_known before.out.accepted l) (complete.out w agrees);
+      messages = λ all_said. k.has_said.accepted ∙ ap (λ l. append_known before.messages.accepted l)
           (sym (append-nil k.has_said.front)
-          ∙ ap (λ (l : List ℕ). k.has_said.front ++ l) (sym (k.has_said.whole all_said)) ∙ sym k.has_said.split
+          ∙ ap (λ l. k.has_said.front ++ l) (sym (k.has_said.whole all_said)) ∙ sym k.has_said.split
           ∙ (let (message, status) = says w agrees in message));
       status_is = let (message, status) = says w agrees in status;
       bounded = k.bounded w agrees;
@@ -266,17 +266,17 @@ module _ {m : CommandSpec} {old new : List Reader} {was is is' : Output}
 
   wrote : PushEffect was sent k.pushed
   wrote =
-      ⊎_elim (λ write_failed. subst (λ (b : Output). PushEffect was b k.pushed) (sym (f.wrote.stays write_failed))
+      ⊎_elim (λ write_failed. subst (λ b. PushEffect was b k.pushed) (sym (f.wrote.stays write_failed))
       k.wrote)
       (λ clean. rw (append-nil k.pushed) at (push_trans was is sent k.pushed [] clean k.wrote f.wrote))
       (cases_Bool is.write_failed)
 
   reached : Reached was sent k.pushed
-  reached = reached_of was sent k.pushed (ap (λ (o : Output). o.buffered) made) wrote
+  reached = reached_of was sent k.pushed (ap (λ o. o.buffered) made) wrote
 
   -- until the output was finished nothing was flushed
   flushes_before : is.flushes ≡ out.flushes
-  flushes_before = k.wrote.flushes ∙ ap (λ (o : Output). o.flushes) made
+  flushes_before = k.wrote.flushes ∙ ap (λ o. o.flushes) made
 
   flushed_once : o.out.flushes ≡ (if o.out.failed then out.flushes else flushes_after out.flushes)
   flushed_once = ⊎_elim (λ failed. rw failed (last_flushes ∙ f.unfinished (sym last_failed ∙ failed) ∙ flushes_before))
@@ -286,12 +286,12 @@ module _ {m : CommandSpec} {old new : List Reader} {was is is' : Output}
   begins : (w : InputBytes) → AreInputsConsistent k.received w → IsPrefix reached.front (m.out w)
   begins w agrees = let b = k.is_prefix w agrees in record {
     rest = reached.rest ++ b.rest;
-    is = b.is ∙ ap (λ (l : List ℕ). l ++ b.rest) reached.split ∙ append_assoc reached.front reached.rest b.rest;
+    is = b.is ∙ ap (λ l. l ++ b.rest) reached.split ∙ append_assoc reached.front reached.rest b.rest;
   }
 
   all_front : is'.write_failed ≡ false → reached.front ≡ k.pushed
   all_front clean =
-      sym (reached.split ∙ ap (λ (l : List ℕ). reached.front ++ l) (reached.whole clean (f.emptied clean))
+      sym (reached.split ∙ ap (λ l. reached.front ++ l) (reached.whole clean (f.emptied clean))
       ∙ append-nil reached.front)
 
   abbrev last : List ℕ
@@ -309,7 +309,7 @@ module _ {m : CommandSpec} {old new : List Reader} {was is is' : Output}
       read = complete.read;
     },
     λ w agrees. let (message, status) = says w agrees in (
-      (λ i. (k.names w agrees ∙ ap (λ (n : ℕ). operand_messages m w n) complete.all) i
+      (λ i. (k.names w agrees ∙ ap (λ n. operand_messages m w n) complete.all) i
           ++ (ap (result_message m.tool m.names) same ∙ message) i),
       status_is ∙ ap result_status same ∙ status,
     ),
@@ -326,7 +326,7 @@ module _ {m : CommandSpec} {old new : List Reader} {was is is' : Output}
 
   err_of : (r : Result Completion FlowFault) → fault_of r ≡ Some Memory → r ≡ Err Memory
   err_of (Ok done) same = cc
-  err_of (Err fault) same = ap (λ (f : FlowFault). Err f) (some_same same)
+  err_of (Err fault) same = ap (λ f. Err f) (some_same same)
 
   run_of : IsRun m old new (sinks out messages_first) o
   run_of = record {
@@ -334,7 +334,7 @@ module _ {m : CommandSpec} {old new : List Reader} {was is is' : Output}
     came = k.came;
     written = reached.front;
     output = last_accepted ∙ reached.accepted
-        ∙ ap (λ (t : Option (List ℕ)). append_known t reached.front) (ap (λ (o : Output). o.accepted) made);
+        ∙ ap (λ t. append_known t reached.front) (ap (λ o. o.accepted) made);
     flushed = λ _ fine. last_unflushed ∙ f.flushed (sym last_failed ∙ fine);
     flushes = λ _. flushed_once;
     message = k.message ++ last;
@@ -367,7 +367,7 @@ module _ {m : CommandSpec} {old new : List Reader} {was is is' : Output}
       kept : (bytes : List ℕ) → IsPushedUpToBlock bytes was is k.pushed
           → IsWrittenUpToBlock bytes reached.front o.out.failed
       kept bytes up =
-          kept_up bytes was is is' k.pushed reached.front reached.rest up (ap (λ (o : Output). o.buffered) made)
+          kept_up bytes was is is' k.pushed reached.front reached.rest up (ap (λ o. o.buffered) made)
           reached.split reached.accepted f.wrote.kept reached.unknown o.out.failed
           (λ fine. let clean = sym last_failed ∙ fine in reached.whole clean (f.emptied clean))
 
@@ -401,7 +401,7 @@ position_differs Standard Standard differ = absurd (differ refl)
 position_differs Standard (File j) differ = grind (arith, nat_tests)
 position_differs (File i) Standard differ = grind (arith, nat_tests)
 position_differs (File i) (File j) differ =
-    ⊎_elim (λ k. absurd (differ (let same : i ≡ j = omega (arith, k.1) in ap (λ (n : ℕ). File n) same))) (λ k. k.0)
+    ⊎_elim (λ k. absurd (differ (let same : i ≡ j = omega (arith, k.1) in ap (λ n. File n) same))) (λ k. k.0)
     (eqb_tells (i + 1) (j + 1))
 
 -- a tool that merges two inputs accepts two different ones, since their positions differ
@@ -409,46 +409,46 @@ two_positions : (t : TwoInputs) (order : List Input) → AreTwo order
     → (two_input_tool t).accepts (positions order) ≡ true
 two_positions t order two = rw (two.are) (ap not (position_differs two.first two.second two.differ))
 
--- a specification has these names and positions, and its tool accepts the operands
-record IsSpecOver (m : CommandSpec) (names : List (List ℕ)) (positions : List ℕ) : Type 0 where
-  named : m.names ≡ names
-  positioned : m.positions ≡ positions
+-- the tool accepts its operands, and there are few if it reads them together
+record AcceptsOperands (m : CommandSpec) : Type 0 where
   accepts_operands : m.accepts ≡ true
+  few : m.sequential ≡ None → length m.positions ≤ 512
 
-is_spec_over : (job : Job) (order : List Input) (names : List (List ℕ)) → AreInputsOf job order
-    → IsSpecOver (job_spec job names (positions order)) names (positions order)
-is_spec_over (RunCut u) order names accepts_operands =
-    record { named = refl; positioned = refl; accepts_operands = refl }
-is_spec_over (RunPaste u) order names few =
-    ⊎_elim (λ (is : u.serial ≡ true). rw is (record { named = refl; positioned = refl; accepts_operands = refl }))
+accepts_operands : (job : Job) (word : List ℕ) (names : List (List ℕ)) (order : List Input) → AreInputsOf job order
+    → AcceptsOperands (spec_of_tool word (tool_of_job job) names (positions order))
+accepts_operands (RunCut u) word names order any = record { accepts_operands = refl; few = λ none. cc }
+accepts_operands (RunPaste u) word names order few =
+    ⊎_elim (λ (is : u.serial ≡ true). rw is (record { accepts_operands = refl; few = λ none. cc }))
     (λ (is : u.serial ≡ false). rw is
     (record {
-      named = refl;
-      positioned = refl;
-      accepts_operands = ap (λ (n : ℕ). nat_le n 512) (length-map order position) ∙ few;
+      accepts_operands = ap (λ n. nat_le n 512) (length-map order position) ∙ few;
+      few = λ _. omega (arith, leb-true (length order) 512 few, length-map order position);
     })) (cases_Bool u.serial)
-is_spec_over (RunUniq u) order names one =
-    record {
-      named = refl;
-      positioned = refl;
-      accepts_operands = ap (λ (n : ℕ). n == 1) (length-map order position ∙ one);
-    }
-is_spec_over (RunComm u) order names two =
-    record { named = refl; positioned = refl; accepts_operands = two_positions (comm_tool u) order two }
-is_spec_over (RunJoin u) order names two =
-    record { named = refl; positioned = refl; accepts_operands = two_positions (join_tool u) order two }
-is_spec_over (RunTr u) order names accepts_operands =
-    record { named = refl; positioned = refl; accepts_operands = refl }
+accepts_operands (RunUniq u) word names order one = record {
+  accepts_operands = ap (λ n. n == 1) (length-map order position ∙ one);
+  few = λ _. omega (arith, one, length-map order position);
+}
+accepts_operands (RunComm u) word names order two = record {
+  accepts_operands = two_positions (comm_tool u) order two;
+  few = λ _. omega (arith, ap length two.are, length-map order position);
+}
+accepts_operands (RunJoin u) word names order two = record {
+  accepts_operands = two_positions (join_tool u) order two;
+  few = λ _. omega (arith, ap length two.are, length-map order position);
+}
+accepts_operands (RunTr u) word names order any = record { accepts_operands = refl; few = λ none. cc }
 
 inputs_pre_of_spelled : (words : List (List ℕ)) (c : Command) (readers : List Reader) → SpellsCommand words c
     → AreNewInputs (length c.names) readers → InputsPre (command_spec c) readers
 inputs_pre_of_spelled words c readers (Spelled name rest tool os operands named s allowed) fresh =
-    let is = is_spec_over c.job c.order c.names (are_inputs tool os operands allowed.inputs) in record {
+    let is = accepts_operands c.job (word_of_job c.job) c.names c.order
+    (are_inputs tool os operands allowed.inputs) in record {
       fresh = fresh.1;
-      in_range = rw is.positioned (All-map (λ (p : ℕ). p < length readers) position c.order
-          (λ k d within. omega (arith, positions_within 0 (input_operands tool operands) k d within, fresh.0)));
-      named = fresh.0 ∙ ap (λ (l : List (List ℕ)). length l + 1) (sym is.named);
+      in_range = All-map (λ p. p < length readers) position c.order
+          (λ k d within. omega (arith, positions_within 0 (input_operands tool operands) k d within, fresh.0));
+      named = fresh.0;
       accepts_operands = is.accepts_operands;
+      few = is.few;
     }
 
 -- each operand of a command has a reader, and the tool accepts these operands

@@ -3,7 +3,7 @@
 -- output, with all that was decided by then.
 use Rattle.ptrun.proofs.Common.{IsDone, cases_lt, sequential_slots, take-append-add, cases_eq, cases_Bool, ◌≡◌, ◌≢◌}
 use Rattle.ptrun.proofs.Common.{◌⊎◌, ⊎_elim, inl, inr, ℕ, ◌<◌, ◌≤◌, Bool, true, false, cond, List, [], ◌∷◌, ◌++◌}
-use Rattle.ptrun.proofs.Common.{Option, Some, None, Result, Ok, Err, ◌+◌, length, take, map, set, max, refl, sym, ◌∙◌}
+use Rattle.ptrun.proofs.Common.{Some, None, Result, Ok, Err, ◌+◌, length, take, map, set, max, refl, sym, ◌∙◌}
 use Rattle.ptrun.proofs.Common.{ap, subst, arith, append_assoc, length-append, length-set, flat_map, option_map}
 use Rattle.ptrun.proofs.Common.{list_any, append-nil, take_all, map-append, get_or-set_same, get_or-set_other}
 use Rattle.ptrun.proofs.Common.{length-map, take-append_seam, take-length, flat_map-append, false≢true, Reader, IsSound}
@@ -17,16 +17,16 @@ use Rattle.ptrun.proofs.Common.{HasReadFailed, IsTooLong, HasSaid, unopened_mess
 use Rattle.ptrun.proofs.Common.{BoundedLag, IsPushedUpToBlock, decided_in_order, up_to_unended, sequential_output}
 use Rattle.ptrun.proofs.Common.{sequential_bound, sequential_decided, sequential_spec, Completion, AllWritten, Unopened}
 use Rattle.ptrun.proofs.Common.{HasCause, fault_at, result_message, result_status, HasIndexBelow, RunInputsPost, get_or}
-use Rattle.ptrun.proofs.Common.{get_or_default, All}
+use Rattle.ptrun.proofs.Common.{get_or_default, All, DecidesAll, OperandPre, OperandPost, operand_completion}
 use Rattle.ptrun.proofs.OneInput.{all_earlier, last_earlier, sends_now, sends_after, IsAtEof, none_received}
 use Rattle.ptrun.proofs.OneInput.{completion_with, received_of, received_at, nothing_read, never_long, not_long}
 use Rattle.ptrun.proofs.OneInput.{OpenedInput, opened_receives, still_unopened, receives_trans, ended_gives_nothing}
 use Rattle.ptrun.proofs.OneInput.{unopened_agrees, none_of, consistent_bytes, consistent_before, consistent_whole}
 use Rattle.ptrun.proofs.OneInput.{least_consistent, ended_at, nth_here}
 use Rattle.ptrun.proofs.MessageWrites.{said_nothing}
-use Rattle.ptrun.proofs.OperandInputs.{some_same, is_in-same, is_in-other, not_more, by_position, opened_inputs_some}
+use Rattle.ptrun.proofs.OperandInputs.{some_same, holds_more, is_in-same, is_in-other, not_more, by_position, opened_inputs_some}
 use Rattle.ptrun.proofs.OperandInputs.{opened_inputs_none, unopened_same, any_same, any_now, any_before, said_more}
-use Rattle.ptrun.proofs.OperandInputs.{maximum-append, IsEndedAt, least_bytes, decided_inputs, DecidesAll, fresh_all}
+use Rattle.ptrun.proofs.OperandInputs.{maximum-append, IsEndedAt, least_bytes, decided_inputs, fresh_all}
 
 -- the state once these operands are done
 pub record OperandsDone (word : List ℕ) (t : ToolSpec) (names : List (List ℕ)) (old now : List Reader) (was is : Output)
@@ -61,6 +61,22 @@ pub done_as : {word : List ℕ} {t : ToolSpec} {names : List (List ℕ)} {old no
     → OperandsDone word t names old now was is messages_old messages_new before store done so_far
     → OperandsDone word t names old now' was is' messages_old messages_new' before store' done' so_far'
 done_as inputs kept out messages far positions k = rw (inputs, kept, out, messages, far, positions) k
+
+ok_of : (p : ℕ) {all : Completion} (passed : Result (Unit {0}) FlowFault) → operand_completion p passed ≡ Ok all
+    → passed ≡ Ok tt
+ok_of p (Ok u) same = refl
+ok_of p (Err fault) same = cc
+
+-- the failure of the pass over the operand at `p`, from that of the tool
+record PassFault (p : ℕ) (passed : Result (Unit {0}) FlowFault) (fault : FlowFault) : Type 0 where
+  passed_fault : FlowFault
+  failed : passed ≡ Err passed_fault
+  is : fault ≡ fault_at p passed_fault
+
+err_of : {p : ℕ} {fault : FlowFault} (passed : Result (Unit {0}) FlowFault) → operand_completion p passed ≡ Err fault
+    → PassFault p passed fault
+err_of (Ok u) same = cc
+err_of (Err f) same = record { passed_fault = f; failed = refl; is = cc }
 
 module _ {word : List ℕ} {t : ToolSpec} {names : List (List ℕ)} {old : List Reader} {was : Output}
     {messages_old : SinkState} {before : Slots} (fresh : All IsNewOrUnopened old) where
@@ -97,7 +113,7 @@ module _ {word : List ℕ} {t : ToolSpec} {names : List (List ℕ)} {old : List 
         → (reader_at now q).failed ≡ false
     not_failed_now q opened not_failed_before =
         ⊎_elim (λ seen. (k.at_eof q seen opened).failed)
-        (λ unseen. ap (λ (r : Reader). r.failed) (k.unread q unseen) ∙ not_failed_before) (cases_Bool (is_in done q))
+        (λ unseen. ap (λ r. r.failed) (k.unread q unseen) ∙ not_failed_before) (cases_Bool (is_in done q))
 
     ended_now : (q : ℕ) → is_in done q ≡ true → IsEndedAt (at k.inputs_read q)
     ended_now q seen = ended_at (reader_at old q) (reader_at now q) (at k.inputs_read q) (k.came q) (k.at_eof q seen)
@@ -186,7 +202,7 @@ module _ {word : List ℕ} {t : ToolSpec} {names : List (List ℕ)} {old : List 
             let none = append-nil (opened_inputs empty_input k.inputs_read done) in
             record {
               rest = [];
-              is = sym all ∙ ap (λ (l : List Received). flat_map t.decided (up_to_unended l)) none
+              is = sym all ∙ ap (λ l. flat_map t.decided (up_to_unended l)) none
                   ∙ sym (append-nil (sequential_decided t k.inputs_read done));
             }
 
@@ -196,10 +212,22 @@ module _ {word : List ℕ} {t : ToolSpec} {names : List (List ℕ)} {old : List 
       here : get_or now p d ≡ reader_at now p
       here = get_or_default now p d no_reader (omega (arith, within, k.same_length))
 
-      -- an opened reader has no fault
-      pub ready_here : (get_or now p d).refused ≡ false → (get_or now p d).fault ≡ None
+      ready_here : (get_or now p d).refused ≡ false → (get_or now p d).fault ≡ None
       ready_here opened = let (buffered, fault) =
-          can_read_now p (was_unopened p ∙ ap (λ (r : Reader). r.refused) (sym here) ∙ opened) in rw here fault
+          can_read_now p (was_unopened p ∙ ap (λ r. r.refused) (sym here) ∙ opened) in rw here fault
+
+      -- an opened operand can be passed to the tool
+      pub operand_ready : (get_or now p d).refused ≡ false → OperandPre (p ∷ []) now store
+      operand_ready opened = record {
+        only = refl;
+        within = omega (arith, within, k.same_length);
+        ready = record {
+          opened = rw here at opened;
+          readable = rw here at (ready_here opened);
+          not_denied = k.not_denied;
+          empty = k.empty;
+        };
+      }
 
       -- the next operand could not be opened
       pub done_unopened : {messages_new' : SinkState} → (get_or now p d).refused ≡ true
@@ -210,10 +238,8 @@ module _ {word : List ℕ} {t : ToolSpec} {names : List (List ℕ)} {old : List 
         same_length = k.same_length;
         long = k.long;
         came = k.came;
-        at_eof =
-            λ q seen opened. ⊎_elim
-            (λ same. absurd (false≢true (sym opened ∙ ap (is_reader_unopened old) (sym same) ∙ old_unopened)))
-            (λ other. k.at_eof q (sym (is_in-other done p q other) ∙ seen) opened) (cases_eq p q);
+        at_eof = holds_more (λ q. is_reader_unopened old q ≡ false → IsAtEof (reader_at now q)) done p k.at_eof
+            (λ opened. absurd (false≢true (sym opened ∙ old_unopened)));
         unread = λ q unseen. let (differs, before) = not_more done p q unseen in k.unread q before;
         unreceived = λ q unseen. let (differs, before) = not_more done p q unseen in k.unreceived q before;
         pushed = k.pushed;
@@ -226,14 +252,12 @@ module _ {word : List ℕ} {t : ToolSpec} {names : List (List ℕ)} {old : List 
         empty = k.empty;
         peak = λ w agrees. rw (nothing w agrees) (k.peak w agrees);
         slots = λ w agrees. rw (nothing w agrees) (k.slots w agrees);
-        room =
-            λ q seen opened. ⊎_elim
-            (λ same. absurd (false≢true (sym opened ∙ ap (is_reader_unopened old) (sym same) ∙ old_unopened)))
-            (λ other. k.room q (sym (is_in-other done p q other) ∙ seen) opened) (cases_eq p q);
+        room = holds_more (λ q. is_reader_unopened old q ≡ false → t.slots ≤ length store.lines) done p k.room
+            (λ opened. absurd (false≢true (sym opened ∙ old_unopened)));
       }
         where
           old_unopened : (reader_at old p).refused ≡ true
-          old_unopened = was_unopened p ∙ ap (λ (r : Reader). r.refused) (sym here) ∙ refused
+          old_unopened = was_unopened p ∙ ap (λ r. r.refused) (sym here) ∙ refused
 
           nothing : (w : InputBytes) → AreInputsConsistent k.inputs_read w
               → opened_inputs [] w (done ++ p ∷ []) ≡ opened_inputs [] w done
@@ -246,10 +270,7 @@ module _ {word : List ℕ} {t : ToolSpec} {names : List (List ℕ)} {old : List 
 
     module _ {is' : Output} {store' : Slots} {p : ℕ} {new : Reader} {result : Result (Unit {0}) FlowFault}
         (within : p < length old) (d : Reader) (open_here : (get_or now p d).refused ≡ false)
-        (sound : IsSound (get_or now p d)) (pass : PassPost t (get_or now p d) new is is' store store' result) where
-      e : PassPost t (reader_at now p) new is is' store store' result
-      e = rw (here within d) at pass
-
+        (sound : IsSound (get_or now p d)) (e : PassPost t (reader_at now p) new is is' store store' result) where
       not_failed_before : (reader_at now p).failed ≡ false
       not_failed_before = rw (here within d) at (sound.unfailed open_here (ready_here within d open_here))
 
@@ -269,7 +290,7 @@ module _ {word : List ℕ} {t : ToolSpec} {names : List (List ℕ)} {old : List 
       abbrev inputs_read' : ReceivedInputs
       inputs_read' = set k.inputs_read p (Some (given_now y.given))
 
-      abbrev pub now' : List Reader
+      abbrev now' : List Reader
       now' = set now p new
 
       reader_here : reader_at now' p ≡ new
@@ -307,14 +328,14 @@ module _ {word : List ℕ} {t : ToolSpec} {names : List (List ℕ)} {old : List 
           (λ unseen. inr (
             unseen,
             some_same (sym y.is ∙ k.unreceived p unseen
-                ∙ ap (λ (b : Bool). cond b None (Some none_received)) old_open),
+                ∙ ap (λ b. cond b None (Some none_received)) old_open),
           )) (cases_Bool (is_in done p))
 
       unseen : HasReadCause (reader_at now p) new → is_in done p ≡ false
       unseen cause = ⊎_elim
           (λ (seen, none, at_eof). absurd
           (⊎_elim
-          (λ (failed, fault, before). false≢true (sym (e.came.eof ∙ before) ∙ ap (λ (g : Received). g.eof) none))
+          (λ (failed, fault, before). false≢true (sym (e.came.eof ∙ before) ∙ ap (λ g. g.eof) none))
           (λ (long, same). let (pulled, still_eof) = e.came.still at_eof.done.eof in
           omega (arith, at_eof.short, pulled, long)) cause))
           (λ (unseen, none). unseen) turn
@@ -344,7 +365,7 @@ module _ {word : List ℕ} {t : ToolSpec} {names : List (List ℕ)} {old : List 
           let here = consistent_bytes (at inputs_read' p) (at w p) (given_now y.given) read_here (agrees p) in
           record {
             bytes = cond (is_in done p) [] here.bytes;
-            are = ap (λ (v : Option (List ℕ)). option_map (λ (b : List ℕ). cond (is_in done p) [] b) v) here.are;
+            are = ap (λ v. option_map (λ (b : List ℕ). cond (is_in done p) [] b) v) here.are;
             agree = consistent_here here.bytes here.agree;
           }
 
@@ -356,7 +377,7 @@ module _ {word : List ℕ} {t : ToolSpec} {names : List (List ℕ)} {old : List 
           → sequential_output t w (done ++ p ∷ more) ≡ sequential_output t w done
           ++ (t.text f.bytes ++ flat_map t.text (later w more))
       out_here w more f =
-          ap (λ (l : List (List ℕ)). flat_map t.text l) (opened_inputs_some [] w done p more f.bytes f.are)
+          ap (λ l. flat_map t.text l) (opened_inputs_some [] w done p more f.bytes f.are)
           ∙ flat_map-append t.text (opened_inputs [] w done) (f.bytes ∷ later w more)
 
       peak_here : (w : InputBytes) (more : List ℕ) → AreInputsConsistent inputs_read' w
@@ -391,15 +412,15 @@ module _ {word : List ℕ} {t : ToolSpec} {names : List (List ℕ)} {old : List 
           ))
 
       -- it was read to its end
-      pub done_operand : result ≡ Ok tt
+      passed_ok : result ≡ Ok tt
           → OperandsDone word t names old now' was is' messages_old messages_new before store' (done ++ p ∷ []) so_far
-      done_operand ok = record {
+      passed_ok ok = record {
         inputs_read = inputs_read';
         same_length = length-set now p new ∙ k.same_length;
         long = length-set k.inputs_read p (Some (given_now y.given)) ∙ k.long;
         came = received';
         at_eof =
-            λ q seen opened. ⊎_elim (λ same. subst (λ (n : ℕ). IsAtEof (reader_at now' n)) same (rw reader_here at_eof))
+            λ q seen opened. ⊎_elim (λ same. subst (λ n. IsAtEof (reader_at now' n)) same (rw reader_here at_eof))
             (λ other. rw (reader_other q other) (k.at_eof q (sym (is_in-other done p q other) ∙ seen) opened))
             (cases_eq p q);
         unread = λ q unseen. let (differs, before) = not_more done p q unseen in reader_other q differs
@@ -442,9 +463,9 @@ module _ {word : List ℕ} {t : ToolSpec} {names : List (List ℕ)} {old : List 
         ⊎_elim
             (λ (failed, empty, going). inl (
               old_open,
-              ap (λ (r : Reader). r.failed) (sym (k.unread p (unseen r.cause)))
+              ap (λ r. r.failed) (sym (k.unread p (unseen r.cause)))
                   ∙ not_failed_before,
-              ap (λ (n : Reader). n.failed) reader_here ∙ failed,
+              ap (λ n. n.failed) reader_here ∙ failed,
             ))
             (λ (long, same). inr
             (rw read_here (let first = fresh_all old fresh p old_open in
@@ -475,8 +496,8 @@ module _ {word : List ℕ} {t : ToolSpec} {names : List (List ℕ)} {old : List 
           let unread = (e.refused k.clean few).same_reader in
           ⊎_elim (λ seen. omega (arith, few, k.room p seen old_open, (e.slots k.clean).least))
           (λ unseen. false≢true (sym (fresh_all old fresh p old_open).eof
-          ∙ ap (λ (r : Reader). r.eof) (sym (k.unread p unseen))
-          ∙ ap (λ (r : Reader). r.eof) (sym unread) ∙ ended.eof)) (cases_Bool (is_in done p)))
+          ∙ ap (λ r. r.eof) (sym (k.unread p unseen))
+          ∙ ap (λ r. r.eof) (sym unread) ∙ ended.eof)) (cases_Bool (is_in done p)))
           (λ enough. e.line_left memory enough ended) (cases_lt (length store'.lines) t.slots)
 
       failing : (fault : FlowFault) → PassOutcome (reader_at now p) new is' store' (Err fault) → new.failed ≡ true
@@ -489,7 +510,7 @@ module _ {word : List ℕ} {t : ToolSpec} {names : List (List ℕ)} {old : List 
 
       ended_before : (q : ℕ) → is_in done q ≡ true → IsEndedAt (at inputs_read' q)
       ended_before = by_position (λ q. is_in done q ≡ true → IsEndedAt (at inputs_read' q)) p
-          (λ seen. rw read_here (⊎_elim (λ (before, none, at_eof). ap (λ (g : Received). g.eof) none)
+          (λ seen. rw read_here (⊎_elim (λ (before, none, at_eof). ap (λ g. g.eof) none)
           (λ (unseen, none). absurd (false≢true (sym unseen ∙ seen))) turn))
           (λ q differs seen. rw (read_other q differs) (ended_now q seen))
 
@@ -511,16 +532,16 @@ module _ {word : List ℕ} {t : ToolSpec} {names : List (List ℕ)} {old : List 
         earlier = (one_keeps.processing.before tt).earlier
 
         input_given : input_of_operand empty_input inputs_read' done p ≡ Some (e.given)
-        input_given = ap (λ (o : Option Received). option_map (λ (g : Received). cond (is_in done p) empty_input g) o)
+        input_given = ap (λ o. option_map (λ (g : Received). cond (is_in done p) empty_input g) o)
             read_here
             ∙ ⊎_elim (λ (seen, none, at_eof). (λ i. Some (cond (seen i) empty_input (given_now y.given)))
-            ∙ ap (λ (g : Received). Some g) (sym none))
+            ∙ ap (λ g. Some g) (sym none))
             (λ (unseen, none). λ i. Some (cond (unseen i) empty_input (given_now (none i)))) turn
 
         -- if its end was not reached, nothing after it is decided
         decided_open : (g : Received) (after : List Received) → (after ≡ []) ⊎ (g.eof ≡ false)
             → flat_map t.decided (up_to_unended (g ∷ after)) ≡ t.decided g
-        decided_open g after last = ap (λ (l : List Received). t.decided g ++ flat_map t.decided l)
+        decided_open g after last = ap (λ l. t.decided g ++ flat_map t.decided l)
             (none_after g.eof last) ∙ append-nil (t.decided g)
           where
             none_after : (b : Bool) → (after ≡ []) ⊎ (b ≡ false) → cond b (up_to_unended after) [] ≡ []
@@ -535,18 +556,18 @@ module _ {word : List ℕ} {t : ToolSpec} {names : List (List ℕ)} {old : List 
             record {
               rest = b.rest;
               is = (λ i. k.pushed ++ b.is i) ∙ sym (append_assoc k.pushed bytes b.rest)
-                  ∙ ap (λ (l : List ℕ). l ++ b.rest) (sym is);
+                  ∙ ap (λ l. l ++ b.rest) (sym is);
             }
 
         decided_here : decided_in_order t (opened_inputs empty_input inputs_read' done ++ earlier ∷ [])
             ≡ k.pushed ++ t.decided earlier
         decided_here = decided_all (earlier ∷ [])
-            ∙ ap (λ (l : List ℕ). k.pushed ++ l) (decided_open earlier [] (inl refl))
+            ∙ ap (λ l. k.pushed ++ l) (decided_open earlier [] (inl refl))
 
-        pub done_stopped : (more : List ℕ) (fault : FlowFault) → result ≡ Err fault
+        stopped : (more : List ℕ) (fault : FlowFault) → result ≡ Err fault
             → RunInputsPost (sequential_spec word t names (done ++ p ∷ more)) old now' was is' messages_old messages_new
             before store' (Err (fault_at p fault))
-        done_stopped more fault is_err = record {
+        stopped more fault is_err = record {
           received = inputs_read';
           came = received';
           pushed = k.pushed ++ e.pushed;
@@ -569,20 +590,20 @@ module _ {word : List ℕ} {t : ToolSpec} {names : List (List ℕ)} {old : List 
             p,
             rw (take-append-add done (p ∷ more) 1) (is_in-same done p),
             rw reader_here (e.came.refused ∙ sym (was_unopened p) ∙ old_open),
-            rw reader_here (input_left (is_err ∙ ap (λ (f : FlowFault). Err f) (memory_is fault same))),
+            rw reader_here (input_left (is_err ∙ ap (λ f. Err f) (memory_is fault same))),
           );
           is_prefix = λ w agrees. let f = operand_finds w agrees in let b = e.is_prefix f.bytes f.agree in let rest =
               flat_map t.text (later w more) in record {
                 rest = b.rest ++ rest;
                 is = out_here w more f ∙ (λ i. sym (k.out w (back w agrees)) i ++ (b.is i ++ rest))
-                    ∙ ap (λ (l : List ℕ). k.pushed ++ l) (append_assoc e.pushed b.rest rest)
+                    ∙ ap (λ l. k.pushed ++ l) (append_assoc e.pushed b.rest rest)
                     ∙ sym (append_assoc k.pushed e.pushed (b.rest ++ rest));
               };
           decided_is_written = λ q failed clean. let here = fails_here q failed in let after =
               opened_values (inputs_of_operands empty_input inputs_read' (done ++ p ∷ []) more) in
-              begins_after (t.decided e.given) (ap (λ (l : List Received). flat_map t.decided (up_to_unended l))
+              begins_after (t.decided e.given) (ap (λ l. flat_map t.decided (up_to_unended l))
               (opened_inputs_some empty_input inputs_read' done p more e.given input_given)
-              ∙ decided_all (e.given ∷ after) ∙ ap (λ (l : List ℕ). k.pushed ++ l)
+              ∙ decided_all (e.given ∷ after) ∙ ap (λ l. k.pushed ++ l)
               (decided_open e.given after (inr (e.came.eof ∙ (failing fault end here).0))))
               (e.decided_is_written here clean);
           bounded_lag =
@@ -597,8 +618,8 @@ module _ {word : List ℕ} {t : ToolSpec} {names : List (List ℕ)} {old : List 
                     rw decided_here
                     (sends_after was is is' k.pushed (t.decided earlier) k.wrote k.clean one_keeps.buffering);
               }));
-          names_failed_read = λ q failed clean. ap (λ (f : FlowFault). Err f)
-              ((failing fault end (fails_here q failed)).1 ∙ ap (λ (n : ℕ). Read n) (position_of q failed));
+          names_failed_read = λ q failed clean. ap (λ f. Err f)
+              ((failing fault end (fails_here q failed)).1 ∙ ap (λ n. Read n) (position_of q failed));
           peak = λ w agrees. peak_here w more agrees;
           slots = λ w agrees. slots_here w more agrees;
         }
@@ -610,14 +631,28 @@ module _ {word : List ℕ} {t : ToolSpec} {names : List (List ℕ)} {old : List 
             position_of q (opened, before, failed) = ⊎_elim (λ same. same)
                 (λ other. absurd
                 (false≢true (sym (not_failed_now q opened before)
-                ∙ ap (λ (r : Reader). r.failed) (sym (reader_other q other)) ∙ failed))) (cases_eq p q)
+                ∙ ap (λ r. r.failed) (sym (reader_other q other)) ∙ failed))) (cases_eq p q)
 
             fails_here : (q : ℕ) → HasReadFailed old now' q → new.failed ≡ true
             fails_here q fails = let (opened, before, failed) = fails in
-                ap (λ (r : Reader). r.failed) (sym reader_here)
-                ∙ ap (λ (n : ℕ). (reader_at now' n).failed) (position_of q fails) ∙ failed
+                ap (λ r. r.failed) (sym reader_here)
+                ∙ ap (λ n. (reader_at now' n).failed) (position_of q fails) ∙ failed
 
             index_within : (f : FlowFault) → HasIndexBelow (length old) (Err (fault_at p f))
             index_within (Read position) = within
             index_within Write = tt
             index_within Memory = tt
+
+    module _ {is' : Output} {store' : Slots} {p : ℕ} {after : List Reader} {result : Result Completion FlowFault}
+        (within : p < length old) (d : Reader) (open_here : (get_or now p d).refused ≡ false)
+        (sound : IsSound (get_or now p d)) (call : OperandPost t p now after is is' store store' result) where
+      pub done_operand : {all : Completion} → result ≡ Ok all
+          → OperandsDone word t names old after was is' messages_old messages_new before store' (done ++ p ∷ []) so_far
+      done_operand ok = rw call.inputs
+          (passed_ok within d open_here sound call.pass (ok_of p call.pass_result (sym call.result_is ∙ ok)))
+
+      pub done_stopped : DecidesAll t → (more : List ℕ) {fault : FlowFault} → result ≡ Err fault
+          → RunInputsPost (sequential_spec word t names (done ++ p ∷ more)) old after was is' messages_old messages_new
+          before store' (Err fault)
+      done_stopped law more is_err = let f = err_of call.pass_result (sym call.result_is ∙ is_err) in
+          rw (call.inputs, f.is) (stopped within d open_here sound call.pass law more f.passed_fault f.failed)

@@ -1,20 +1,20 @@
 -- Tools with two inputs. What the merge ensures about its two readers is what the tool has to ensure about the list
 -- from which both were lent; no other reader changes.
-use Rattle.ptrun.proofs.Common.{IsDone, subst, JointReadFailed, HasReadCause, positions, length-append, length-map, ◌≡◌}
-use Rattle.ptrun.proofs.Common.{◌≢◌, ℕ, ◌<◌, ◌^◌, ◌||◌, ◌&&◌, ◌==◌, Bool, true, false, List, [], ◌∷◌, Option, Some}
+use Rattle.ptrun.proofs.Common.{IsDone, subst, JointReadFailed, HasReadCause, positions, length-append, ◌≡◌}
+use Rattle.ptrun.proofs.Common.{◌≢◌, ℕ, ◌<◌, ◌^◌, ◌||◌, ◌&&◌, ◌==◌, true, false, List, [], ◌∷◌, Option, Some}
 use Rattle.ptrun.proofs.Common.{None, Memory, cases_lt, ⊎_elim, inl, inr, IsJointUnfinished, Result, Ok, Err, length}
 use Rattle.ptrun.proofs.Common.{get_or, refl, sym, ◌∙◌, ap, arith, option_map, not, All-nil, All-cons, false≢true}
 use Rattle.ptrun.proofs.Common.{nat_tests, Reader, Output, Slots, Received, IsPrefix, HasReceived, LaggedInput}
-use Rattle.ptrun.proofs.Common.{update_at, First, Second, disorder, lines_of, decided_output, Input, Disorder, is_in}
-use Rattle.ptrun.proofs.Common.{reader_at, is_reader_unopened, IsNew, IsPushedUpToBlock, position, two_input_tool}
-use Rattle.ptrun.proofs.Common.{operand, by_side, JointPre, BothAreSound, merge_completion, completion_of}
+use Rattle.ptrun.proofs.Common.{update_at, First, Second, disorder, lines_of, decided_output, Disorder, is_in}
+use Rattle.ptrun.proofs.Common.{reader_at, is_reader_unopened, IsNew, IsPushedUpToBlock, two_input_tool}
+use Rattle.ptrun.proofs.Common.{operand, by_side, JointPre, MergeCallPost, merge_completion, completion_of}
 use Rattle.ptrun.proofs.Common.{AreConsistentAt, NoReadFailed, JointEnd, JointPost, ◌-◌, ◌++◌, set, length-set}
 use Rattle.ptrun.proofs.Common.{set-append_left, set-append_right, get_or_append_left, get_or-append_right}
-use Rattle.ptrun.proofs.Common.{get_or_default, get_or-set_same, get_or-set_other, no_reader}
+use Rattle.ptrun.proofs.Common.{get_or_default, get_or-set_same, get_or-set_other, no_reader, IsSound}
 use Rattle.ptmerge.specs.declared.faults.MergeFault.{MergeFault}
 use Rattle.ptmerge.specs.declared.key_order.Side.{Side}
 use Rattle.ptmerge.specs.MergeCall.{MergePre, MergePost, MergeEndPost, AreConsistent, IsExactMerge, IsDisorderAt}
-use Rattle.ptmerge.specs.MergeCall.{IsMergeUnfinished, IsUnreadWithoutSlots, NeitherReadFailed as NoneBroke, MergeState}
+use Rattle.ptmerge.specs.MergeCall.{IsMergeUnfinished, NeitherReadFailed as NoneBroke, MergeState}
 use Rattle.ptmerge.specs.MergeCall.{merge_state}
 use Rattle.ptmerge.specs.Sides.{both, with_side}
 use Rattle.ptmerge.specs.declared.faults.MergeFault.TheVariants as faults
@@ -33,22 +33,22 @@ side_of_operand : (p q : ℕ) (side : Side) → both p q side ≡ operand (p ∷
 side_of_operand p q First = refl
 side_of_operand p q Second = refl
 
-pub two_of : (order : List Input) (d e : Input) {p q : ℕ}
-    → ((length (positions order) == 2) && not (operand (positions order) First == operand (positions order) Second))
-    ≡ true
-    → p ≡ position (get_or order 0 d) → q ≡ position (get_or order 1 e) → TwoPositions (positions order) p q
-two_of (a ∷ b ∷ []) d e accepts_operands is_p is_q =
-    record {
-      are = λ i. sym is_p i ∷ sym is_q i ∷ [];
-      apart = λ same. grind (arith, nat_tests, accepts_operands, is_p, is_q, same);
-    }
-two_of order d e accepts_operands is_p is_q = absurd (grind (arith, nat_tests, accepts_operands))
+pub both_sound : {first second : Reader} → IsSound first → IsSound second → (side : Side)
+    → IsSound (both first second side)
+both_sound first second First = first
+both_sound first second Second = second
 
-pub two_there : (order : List Input)
-    → ((length (positions order) == 2) && not (operand (positions order) First == operand (positions order) Second))
-    ≡ true
-    → 1 < length order
-two_there order accepts_operands = grind (arith, nat_tests, accepts_operands, length-map order position)
+abbrev AcceptsTwo : List ℕ → Type 0
+AcceptsTwo positions =
+    ((length positions == 2) && not (operand positions First == operand positions Second)) ≡ true
+
+pub two_of : (positions : List ℕ) (d : ℕ) → AcceptsTwo positions
+    → TwoPositions positions (get_or positions 0 d) (get_or positions 1 d)
+two_of (p ∷ q ∷ []) d accepts_operands = record {
+  are = refl;
+  apart = λ same. grind (arith, nat_tests, accepts_operands, same);
+}
+two_of positions d accepts_operands = absurd (grind (arith, nat_tests, accepts_operands))
 
 module _ (t : keyed.MergeTool) {old : List Reader} {was : Output} {before : Slots} {p q : ℕ} (apart : p ≡ q → ⊥)
     (ready : JointPre (two_input_tool t) (p ∷ q ∷ []) old was before) where
@@ -56,7 +56,7 @@ module _ (t : keyed.MergeTool) {old : List Reader} {was : Output} {before : Slot
   two = p ∷ q ∷ []
 
   named : (side : Side) → is_in two (both p q side) ≡ true
-  named First = ap (λ (b : Bool). b || ((q == p) || false)) (same_here p)
+  named First = ap (λ b. b || ((q == p) || false)) (same_here p)
   named Second = is_in-same (p ∷ []) q
 
   open_at : (side : Side) → (reader_at old (both p q side)).refused ≡ false
@@ -85,21 +85,21 @@ module _ (t : keyed.MergeTool) {old : List Reader} {was : Output} {before : Slot
   each P first second = each_listed P two (All-cons P p (q ∷ []) first (All-cons P q [] second (All-nil P)))
 
   module _ (new : List Reader) (is : Output) (store : Slots) (result : Result (Unit {0}) MergeFault)
-      (sound : BothAreSound (reader_at old p) (reader_at old q) (reader_at new p) (reader_at new q))
       (others : (k : ℕ) → (p ≡ k → ⊥) → (q ≡ k → ⊥) → reader_at new k ≡ reader_at old k)
-      (e : MergePost t (merge_state (reader_at old p) (reader_at old q) was before) (merge_state (reader_at new p)
-      (reader_at new q) is store) result)
-      (unread : IsUnreadWithoutSlots t.terminator (merge_state (reader_at old p) (reader_at old q)
-      was before) (merge_state (reader_at new p) (reader_at new q) is store)) where
+      (call : MergeCallPost t (merge_state (reader_at old p) (reader_at old q) was before) (merge_state
+      (reader_at new p) (reader_at new q) is store) result) where
     abbrev old_state : MergeState
     old_state = merge_state (reader_at old p) (reader_at old q) was before
 
     abbrev new_state : MergeState
     new_state = merge_state (reader_at new p) (reader_at new q) is store
 
+    e : MergePost t old_state new_state result
+    e = call.merged
+
     not_failed_before : (side : Side) → (reader_at old (both p q side)).failed ≡ false
-    not_failed_before First = sound.first_was.unfailed (open_at First) (new_at First).fault
-    not_failed_before Second = sound.second_was.unfailed (open_at Second) (new_at Second).fault
+    not_failed_before side =
+        (ready.sound (both p q side) (named side)).unfailed (open_at side) (new_at side).fault
 
     -- ---- the inputs received
 
@@ -186,8 +186,8 @@ module _ (t : keyed.MergeTool) {old : List Reader} {was : Output} {before : Slot
       ended = λ written. cc;
       position = within_at side;
       unfailed = none_failed k.failed;
-      short = each (λ k. (reader_at new k).pulled < 2 ^ 63) (sound.first_is.long (k.fault First))
-          (sound.second_is.long (k.fault Second));
+      short = each (λ k. (reader_at new k).pulled < 2 ^ 63) ((call.sound First).long (k.fault First))
+          ((call.sound Second).long (k.fault Second));
       no_write_failed = k.clean;
       not_denied = k.denied;
     }
@@ -237,7 +237,7 @@ module _ (t : keyed.MergeTool) {old : List Reader} {was : Output} {before : Slot
         first_left : length store.lines < 4 → IsDone (reader_at new p) → ⊥
         first_left few done =
             false≢true (sym (new_at First).eof
-            ∙ ap (λ (r : Reader). r.eof) (sym ((unread ready.writable few).readers First)) ∙ done.eof)
+            ∙ ap (λ r. r.eof) (sym ((call.unread_without_slots ready.writable few).readers First)) ∙ done.eof)
 
         unfinished : IsMergeUnfinished t new_state e.given e.pushed
             → IsJointUnfinished (two_input_tool t) two given new e.pushed

@@ -1,6 +1,6 @@
 -- The contracts between a tool and the driver that runs it: the conditions before and after each of the driver's steps.
 use Rattle.std.specs.Prelude.{◌≡◌, ◌≢◌, ◌⊎◌, ℕ, ◌+◌, ◌<◌, ◌≤◌, ◌^◌, Bool, true, false, List, [], All, Option, Some}
-use Rattle.std.specs.Prelude.{None, Result, Ok, Err, length, max, if◌then◌else◌}
+use Rattle.std.specs.Prelude.{None, Result, Ok, Err, length, max, set, if◌then◌else◌}
 use Rattle.std.specs.List.{list_any}
 use Rattle.ptlines.specs.Readers.{Reader, IsDone, IsSound, HasReadCause}
 use Rattle.ptlines.specs.Outputs.{Output, PushEffect}
@@ -9,31 +9,41 @@ use Rattle.ptlines.specs.Sinks.{SinkState, flushes_after}
 use Rattle.ptlines.specs.Received.{Received, IsPrefix, IsConsistent, HasReceived}
 use Rattle.ptlines.specs.Lag.{LaggedInput}
 use Rattle.ptflow.specs.PasteCall.{update_at}
+use Rattle.ptflow.specs.Passes.{PassPre, PassPost}
+use Rattle.ptflow.specs.ToolSpec.{ToolSpec}
 use Rattle.ptflow.specs.declared.faults.FlowFault.{FlowFault}
 use Rattle.ptflow.specs.declared.faults.FlowFault.TheVariants.{Read, Write, Memory}
 use Rattle.ptmerge.specs.declared.faults.MergeFault.{MergeFault}
 use Rattle.ptmerge.specs.declared.faults.MergeFault.TheVariants as faults
 use Rattle.ptmerge.specs.declared.key_order.Side.{Side}
-use Rattle.ptrun.specs.declared.driver.Completion.{Completion}
-use Rattle.ptrun.specs.declared.driver.Completion.TheVariants.{AllWritten, Unopened, Disorder}
+use Rattle.ptmerge.specs.MergeCall.{IsUnreadWithoutSlots, MergePost, MergeState}
+use Rattle.ptmerge.specs.MergeSpec.{MergeTool}
+use Rattle.ptrun.specs.declared.tool.Completion.{Completion}
+use Rattle.ptrun.specs.declared.tool.Completion.TheVariants.{AllWritten, Unopened, Disorder}
 use Rattle.ptrun.specs.Files.{InputBytes, ReceivedInputs, is_in, is_unopened, is_reader_unopened, HaveReceived}
 use Rattle.ptrun.specs.Files.{IsNewOrUnopened, HasReadFailed, AreInputsConsistent, AreReadToEnd}
 use Rattle.ptlines.specs.Readers.{reader_at}
 use Rattle.ptrun.specs.CommandSpec.{CommandSpec, operand_messages, unopened_messages, ended_operands, IsUnfinished}
 use Rattle.ptrun.specs.Lag.{IsPushedUpToBlock, HasBoundedLag}
-use Rattle.ptrun.specs.Joint.{JointTool}
+use Rattle.ptrun.specs.Joint.{JointTool, only_operand}
+use Rattle.ptrun.specs.Tools.{ToolInRun, OneByOne, Together}
 use Rattle.ptrun.specs.MessageWrites.{HasSaid}
 use Rattle.ptrun.specs.Messages.{fault_message, disorder_message}
 use Rattle.ptrun.specs.Runs.{IsComplete, HasCause, Sinks, Outcome, IsRunInStore, IsUnchangedIfUnread}
 use Rattle.ptrun.specs.Runs.{IsStoreUnchangedIfUnread}
 
 -- The precondition on the inputs: none was read yet, each operand has a reader, each file has a name, and the tool
--- accepts these operands.
+-- accepts these operands; there are at most 512, if it reads them together.
 pub record InputsPre (m : CommandSpec) (inputs : List Reader) : Type 0 where
   pub fresh : All IsNewOrUnopened inputs
   pub in_range : All (λ p. p < length inputs) m.positions
   pub named : length inputs ≡ length m.names + 1
   pub accepts_operands : m.accepts ≡ true
+  pub few : m.sequential ≡ None → length m.positions ≤ 512
+
+-- The invariants of the readers at these positions hold.
+abbrev pub AreSoundAt : List ℕ → List Reader → Type 0
+AreSoundAt positions inputs = (q : ℕ) → is_in positions q ≡ true → IsSound (reader_at inputs q)
 
 -- The postcondition of reporting unopened files before anything is read. `any_unopened` holds if the tool cannot run
 -- without one of them: then all of them were reported, and there is nothing else to read, write or say.
@@ -46,6 +56,7 @@ pub record ReportUnopenedPost (m : CommandSpec) (inputs : List Reader) (messages
       → ((position : ℕ) → is_reader_unopened inputs position ≡ is_unopened w position)
       → (m.out w ≡ []) × (m.final_message w ≡ []) × (m.status w ≡ 1)
   pub at_once : any_unopened ≡ true → m.sequential ≡ None
+  pub sound : m.sequential ≡ None → AreSoundAt m.positions inputs
   pub undecided : any_unopened ≡ true → (r : ReceivedInputs)
       → ((position : ℕ) → is_reader_unopened inputs position ≡ is_unopened r position) → m.decided r ≡ []
 
@@ -54,6 +65,7 @@ pub record ReportUnopenedPost (m : CommandSpec) (inputs : List Reader) (messages
 pub record RunInputsPre (m : CommandSpec) (inputs : List Reader) (out : Output) (store : Slots) : Type 0 where
   pub given : InputsPre m inputs
   pub complete : m.reads_nothing (is_reader_unopened inputs) ≡ false
+  pub sound : m.sequential ≡ None → AreSoundAt m.positions inputs
   pub writable : out.write_failed ≡ false
   pub not_denied : store.denied ≡ false
   pub empty : total_bytes store.lines ≡ 0
@@ -98,12 +110,10 @@ fault_at p (Read position) = Read p
 fault_at p Write = Write
 fault_at p Memory = Memory
 
--- The invariants of two readers, before a call and after it.
-pub record BothAreSound (first second first' second' : Reader) : Type 0 where
-  pub first_was : IsSound first
-  pub second_was : IsSound second
-  pub first_is : IsSound first'
-  pub second_is : IsSound second'
+-- The result of a call over one reader as that of a run, with the position of the reader.
+abbrev pub operand_completion : ℕ → Result (Unit {0}) FlowFault → Result Completion FlowFault
+operand_completion p (Ok u) = Ok AllWritten
+operand_completion p (Err fault) = Err (fault_at p fault)
 
 -- The result of a merge as that of a run, with the position of each side.
 abbrev pub merge_completion : (Side → ℕ) → Result (Unit {0}) MergeFault → Result Completion FlowFault
@@ -169,6 +179,7 @@ pub record JointPre (t : JointTool) (positions : List ℕ) (inputs : List Reader
   pub fresh : All IsNewOrUnopened inputs
   pub in_range : All (λ p. p < length inputs) positions
   pub opened : list_any (is_reader_unopened inputs) positions ≡ false
+  pub sound : AreSoundAt positions inputs
   pub writable : out.write_failed ≡ false
   pub not_denied : store.denied ≡ false
   pub empty : total_bytes store.lines ≡ 0
@@ -252,3 +263,41 @@ pub record JointPost (t : JointTool) (positions : List ℕ) (old new : List Read
   pub slots : (texts : ℕ → List ℕ) → AreConsistentAt positions given texts
       → length store.lines ≤ max (length before.lines) (t.slots positions texts)
   pub left : result ≡ Err Memory → IsJointUnfinished t positions given new pushed
+
+-- ---- two merged inputs
+
+-- The postcondition of a merge: besides, if slots were missing nothing was read, and the invariants of both readers hold.
+pub record MergeCallPost (t : MergeTool) (old new : MergeState) (result : Result (Unit {0}) MergeFault) : Type 0 where
+  pub merged : MergePost t old new result
+  pub unread_without_slots : IsUnreadWithoutSlots t.terminator old new
+  pub sound : (side : Side) → IsSound (new.reader side)
+
+-- ---- the run of a tool
+
+-- The precondition of a tool that reads one operand after another, on one of them.
+pub record OperandPre (operands : List ℕ) (inputs : List Reader) (store : Slots) : Type 0 where
+  pub only : length operands ≡ 1
+  pub within : only_operand operands < length inputs
+  pub ready : PassPre (reader_at inputs (only_operand operands)) store
+
+-- Its postcondition: the reader at position `p` was passed over, and the other inputs are unchanged.
+pub record OperandPost (t : ToolSpec) (p : ℕ) (old new : List Reader) (was is : Output) (before store : Slots)
+    (result : Result Completion FlowFault) : Type 0 where
+  pub reader : Reader
+  pub inputs : new ≡ set old p reader
+  pub pass_result : Result (Unit {0}) FlowFault
+  pub result_is : result ≡ operand_completion p pass_result
+  pub pass : PassPost t (reader_at old p) reader was is before store pass_result
+
+-- The precondition of a tool on the operands at these positions.
+abbrev pub RunOnPre : ToolInRun → List ℕ → List Reader → Output → Slots → Type 0
+RunOnPre (OneByOne t law) operands inputs out store = OperandPre operands inputs store
+RunOnPre (Together t) operands inputs out store = JointPre t operands inputs out store
+
+-- The postcondition of a tool on the operands at these positions.
+abbrev pub RunOnPost : ToolInRun → List ℕ → List Reader → List Reader → Output → Output → Slots → Slots
+    → Result Completion FlowFault → Type 0
+RunOnPost (OneByOne t law) operands old new was is before store result =
+    OperandPost t (only_operand operands) old new was is before store result
+RunOnPost (Together t) operands old new was is before store result =
+    JointPost t operands old new was is before store result

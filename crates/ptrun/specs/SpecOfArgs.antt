@@ -1,9 +1,7 @@
 -- From the arguments of a command to its specification.
 use Rattle.std.specs.Prelude.{ℕ, List, [], Bool, true, false, Some, None, Result, Ok, Err, codes, length}
-use Rattle.std.specs.Prelude.{slice_index_or, is_none, if◌then◌else◌}
-use Rattle.ptlangs.specs.Jobs.{Paste}
+use Rattle.std.specs.Prelude.{slice_index_or, is_none, refl, if◌then◌else◌}
 use Rattle.ptflow.specs.Cuts.{cut_tool}
-use Rattle.ptflow.specs.PasteText.{paste_serial_tool}
 use Rattle.ptflow.specs.TrOutput.{tr_tool}
 use Rattle.ptflow.specs.Uniqs.{uniq_tool}
 use Rattle.ptmerge.specs.Comm.{comm_tool}
@@ -15,8 +13,9 @@ use Rattle.ptopts.specs.declared.fault.UseFault.{UseFault}
 use Rattle.ptopts.specs.declared.command.Command as code
 use Rattle.ptrun.specs.CommandSpec.{CommandSpec}
 use Rattle.ptrun.specs.Messages.{usage_message}
-use Rattle.ptrun.specs.Operands.{positions, sequential_spec}
-use Rattle.ptrun.specs.Joint.{one_input_tool, paste_rows_tool, two_input_tool, joint_spec}
+use Rattle.ptrun.specs.Operands.{positions}
+use Rattle.ptrun.specs.Joint.{one_input_tool, two_input_tool}
+use Rattle.ptrun.specs.Tools.{OneByOne, Together, ToolInRun, paste_in_run, spec_of_tool}
 
 -- Nothing is read, nothing is written to the output, and `text` is the only message.
 abbrev pub message_only : List ℕ → ℕ → CommandSpec
@@ -37,24 +36,27 @@ message_only text status = record {
   names = [];
 }
 
--- `paste -s` reads its operands one after another, and `paste` reads them together.
-abbrev pub paste_spec : Paste → List (List ℕ) → List ℕ → CommandSpec
-paste_spec job names positions =
-    if job.serial then sequential_spec (codes "paste") (paste_serial_tool job) names positions
-    else joint_spec (codes "paste") (paste_rows_tool job) names positions
+-- The tool that a job asks for.
+abbrev pub tool_of_job : Job → ToolInRun
+tool_of_job (RunCut job) = OneByOne (cut_tool job) (λ bytes. refl)
+tool_of_job (RunPaste job) = paste_in_run job
+tool_of_job (RunUniq job) = Together (one_input_tool (uniq_tool job))
+tool_of_job (RunComm job) = Together (two_input_tool (comm_tool job))
+tool_of_job (RunJoin job) = Together (two_input_tool (join_tool job))
+tool_of_job (RunTr tables) = OneByOne (tr_tool tables) (λ bytes. refl)
 
--- The specification of a job with operands at these positions and files of these names.
-abbrev pub job_spec : Job → List (List ℕ) → List ℕ → CommandSpec
-job_spec (RunCut job) names positions = sequential_spec (codes "cut") (cut_tool job) names positions
-job_spec (RunPaste job) names positions = paste_spec job names positions
-job_spec (RunUniq job) names positions = joint_spec (codes "uniq") (one_input_tool (uniq_tool job)) names positions
-job_spec (RunComm job) names positions = joint_spec (codes "comm") (two_input_tool (comm_tool job)) names positions
-job_spec (RunJoin job) names positions = joint_spec (codes "join") (two_input_tool (join_tool job)) names positions
-job_spec (RunTr tables) names positions = sequential_spec (codes "tr") (tr_tool tables) names positions
+-- The name of this tool.
+abbrev pub word_of_job : Job → List ℕ
+word_of_job (RunCut job) = codes "cut"
+word_of_job (RunPaste job) = codes "paste"
+word_of_job (RunUniq job) = codes "uniq"
+word_of_job (RunComm job) = codes "comm"
+word_of_job (RunJoin job) = codes "join"
+word_of_job (RunTr tables) = codes "tr"
 
 -- The specification of a parsed command.
 abbrev pub command_spec : Command → CommandSpec
-command_spec c = job_spec c.job c.names (positions c.order)
+command_spec c = spec_of_tool (word_of_job c.job) (tool_of_job c.job) c.names (positions c.order)
 
 -- The name of the tool: the first argument, or empty if there is none.
 abbrev pub tool_name : List (List ℕ) → List ℕ

@@ -1,0 +1,84 @@
+-- Each iteration reports one more operand if it could not be opened.
+use Rattle.ptrun.proofs.Common.{scaled_Fits, ◌<◌, length, take, refl, sym, ◌∙◌, ap, arith, get_or_default, subst}
+use Rattle.ptrun.proofs.Common.{words_view, positions, no_reader, is_reader_unopened, Standard, false≢true, IsSound}
+use Rattle.ptrun.proofs.Common.{reader_at}
+use Rattle.ptrun.proofs.driver.report_unopened.Goals as goal
+use Rattle.ptrun.proofs.OperandInputs.{names_counted, operand_low, operand_step, position_in_range, positions_end, said_more, any_now, any_before}
+use Rattle.ptrun.proofs.OperandInputs.{holds_more}
+use Rattle.ptrun.proofs.MessageWrites.{said_nothing}
+use Rattle.ptrun.proofs.ToolRuns.{nothing_reported, all_reported}
+use Rattle.ptrun.proofs.driver.report_unopened.Goals.{then-is_refused, else-is_refused}
+
+pub returns-then-not-reads_together : goal.returns-then-not-reads_together
+returns-then-not-reads_together g c =
+    nothing_reported _ _ _ (g.T.Tool.tool c.args.tool.now) c.args.inputs.now c.args.messages.now
+    (sym c.reads_together.ensures ∙ c.if-not-reads_together.true)
+
+pub loop-input-init : goal.loop-input-init
+loop-input-init g c =
+    record { message = said_nothing c.args.messages.now; any_is = refl; sound = λ q seen. absurd (false≢true seen) }
+
+pub loop-input-preserved : goal.loop-input-preserved
+loop-input-preserved g c =
+    let word = g.T.Tool.word c.args.tool.now in
+    let names = words_view c.args.names.now in
+    let inputs = c.args.inputs.now in
+    let p = c.position_of-position.result in
+    let i = c.loop-input.input-index in
+    let done = take i (positions c.args.order.now) in
+    let k = c.loop-input.invariant in
+    let turn = operand_step c.args.order.now i _ c.requires.in_range
+    c.loop-input-test.true c.position_of-position.ensures in
+    let here = sym (c.index-inputs-position.is ∙ get_or_default inputs p _ no_reader turn.low) in
+    let refused = ap (λ r. r.refused) here ∙ sym c.is_refused.ensures.refused in
+    let sound = holds_more (λ q. IsSound (reader_at inputs q)) done p k.sound
+    (subst IsSound (sym here) c.is_refused.ensures.sound) in
+    elim c.if-is_refused.branch [
+      | then-is_refused w ↦ rw (w.messages-is, w.any-is, turn.next) (record {
+        message = said_more word names (is_reader_unopened inputs) done p k.message
+            (rw (refused ∙ w.if-is_refused.true) (rw (w.name.ensures, w.name_at.ensures) at w.say_unopened.ensures));
+        any_is = sym (any_now (is_reader_unopened inputs) done p (refused ∙ w.if-is_refused.true));
+        sound = sound;
+      })
+      | else-is_refused w ↦ rw (w.messages-is, w.any-is, turn.next) (record {
+        message = said_more word names (is_reader_unopened inputs) done p k.message
+            (rw (refused ∙ w.if-is_refused.false) (said_nothing c.loop-input.messages));
+        any_is = k.any_is ∙ sym (any_before (is_reader_unopened inputs) done p (refused ∙ w.if-is_refused.false));
+        sound = sound;
+      })
+    ]
+
+pub bounds-inputs-position : goal.bounds-inputs-position
+bounds-inputs-position g c =
+    operand_low c.args.order.now c.loop-input.input-index Standard c.requires.in_range c.loop-input-test.true
+    c.position_of-position.ensures
+
+pub offset_bounds-inputs-position : goal.offset_bounds-inputs-position
+offset_bounds-inputs-position g c =
+    let low : c.position_of-position.result < length c.args.inputs.now =
+    operand_low c.args.order.now c.loop-input.input-index Standard c.requires.in_range c.loop-input-test.true
+    c.position_of-position.ensures in
+    search (scaled_Fits, low, arith)
+
+pub name_at-requires : goal.name_at-requires
+name_at-requires g c =
+    let low : c.position_of-position.result < length c.args.inputs.now =
+    operand_low c.args.order.now c.loop-input.input-index Standard c.requires.in_range c.loop-input-test.true
+    c.position_of-position.ensures in
+    omega (arith, low, names_counted c.args.names.now (length c.args.inputs.now) c.requires.named)
+
+pub position_of-position-requires : goal.position_of-position-requires
+position_of-position-requires g c =
+    omega (
+      arith,
+      position_in_range c.args.order.now (length c.args.inputs.now) c.requires.in_range c.loop-input.input-index Standard
+          c.loop-input-test.true,
+    )
+
+pub returns : goal.returns
+returns g c =
+    let k = c.loop-input.invariant in
+    let all = positions_end c.args.order.now c.loop-input.input-index c.loop-input-test.false in
+    all_reported _ _ _ (g.T.Tool.tool c.args.tool.now) c.args.inputs.now
+    (sym c.reads_together.ensures ∙ c.if-not-reads_together.false) (rw all at k.any_is) (rw all at k.message)
+    (rw all at k.sound)

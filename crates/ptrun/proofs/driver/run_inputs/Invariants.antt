@@ -1,0 +1,12 @@
+-- The operands so far were processed, or reported if they could not be opened, and the output contains what the tool
+-- writes for them.
+use Rattle.ptrun.proofs.Common.{take, words_view, positions}
+use Rattle.ptrun.proofs.Sequential.{OperandsDone}
+use Rattle.ptrun.proofs.ToolRuns.{one_tool}
+use Rattle.ptrun.proofs.driver.run_inputs.Given as goal
+
+abbrev pub invariant-loop-input : goal.invariant-loop-input
+invariant-loop-input g l =
+    OperandsDone (g.T.Tool.word l.tool) (one_tool (g.T.Tool.tool l.tool)) (words_view l.names)
+    l.fn.inputs l.inputs l.fn.out l.out l.fn.messages l.messages l.fn.store l.store
+    (take l.input-index (positions l.order)) l.done

@@ -1,0 +1,48 @@
+-- Two readers are lent from one list, split at the higher position. Either position may be the lower one, and both
+-- cases are the same merge.
+use Rattle.ptrun.proofs.Common.{◌≡◌, ℕ, ◌<◌, ◌≤◌, sym, arith}
+use Rattle.ptrun.proofs.merge.MergeJob.merge_at.Goals as goal
+use Rattle.ptrun.proofs.TwoInputRuns.{were, split_readers}
+
+-- the other position is the lower one
+below : (first second : ℕ) → second ≤ first → (first ≡ second → ⊥) → second < first
+below first second not_higher apart = omega (arith, not_higher, apart)
+
+pub merge-requires : goal.merge-requires
+merge-requires g c =
+    let s = c.split_at_mut-front in
+    let k = were s.result.0.now s.result.1.now s.ensures.value s.ensures.front_len c.if-first-second.true
+    c.requires.within.1 c.index-front-first.result c.index-back-0.result in
+    rw (k.0, k.1) c.requires.ready
+
+pub merge-requires-else-first-second : goal.merge-requires-else-first-second
+merge-requires-else-first-second g c =
+    let s = c.split_at_mut-front-else-first-second in
+    let lower = below c.args.first c.args.second c.if-first-second.false c.requires.apart in
+    let k = were s.result.0.now s.result.1.now s.ensures.value s.ensures.front_len lower c.requires.within.0
+    c.index-front-second.result c.index-back-0-else-first-second.result in
+    rw (k.0, k.1) c.requires.ready
+
+pub returns-then-first-second : goal.returns-then-first-second
+returns-then-first-second g c =
+    let s = c.split_at_mut-front in
+    let k = split_readers s.result.0.now s.result.1.now s.ensures.value s.ensures.front_len c.if-first-second.true
+    c.requires.within.1 c.merge.new.first c.merge.new.second
+    c.index-front-first.result c.index-back-0.result in
+    record {
+      merged = rw (sym k.was_low, sym k.was_high, k.is_low, k.is_high) c.merge.ensures;
+      others = k.others;
+    }
+
+pub returns-else-first-second : goal.returns-else-first-second
+returns-else-first-second g c =
+    let s = c.split_at_mut-front-else-first-second in
+    let w = c.merge-else-first-second in
+    let lower = below c.args.first c.args.second c.if-first-second.false c.requires.apart in
+    let k = split_readers s.result.0.now s.result.1.now s.ensures.value s.ensures.front_len lower c.requires.within.0
+    w.new.second w.new.first
+    c.index-front-second.result c.index-back-0-else-first-second.result in
+    record {
+      merged = rw (sym k.was_low, sym k.was_high, k.is_low, k.is_high) w.ensures;
+      others = λ position first second. k.others position second first;
+    }
