@@ -13,10 +13,9 @@ mod map_kind;
 
 use crate::block_loop::{BlockFilter, run_blocks};
 use crate::faults::FlowFault;
-use crate::simd::byte_set::{ByteSet, FlagSet};
+use crate::simd::byte_set::ByteSet;
 use crate::simd::compress::{CompressTable, OutBuf};
-use crate::simd::filter::filter_out;
-use crate::simd::squeeze::squeeze_block;
+use crate::simd::filter::{Filter, remove, squeeze};
 use crate::tools::tr::map_kind::MapKind;
 use ptlangs::CharPlan;
 use ptlines::{LineReader, Out, Sink, Source, WriteFault};
@@ -66,12 +65,14 @@ impl<'a> Translation<'a> {
         ensures within { length result.now ≤ length block.now }
     {
         match self.deleting {
-            Some(set) => {
-                let flags = self.plan.deleted();
-                let table = &self.table;
-                let count = filter_out(FlagSet { set, flags, table }, block, into);
-                &into[..count]
-            }
+            Some(set) => remove(
+                Filter {
+                    set,
+                    table: &self.table,
+                },
+                block,
+                into,
+            ),
             None => block,
         }
     }
@@ -96,12 +97,15 @@ impl<'a> Translation<'a> {
         ensures { result.now ≡ squeeze_from (squeezes self.now.plan.now) last bytes.now }
     {
         match self.squeezing {
-            Some(set) => {
-                let flags = self.plan.squeezed();
-                let table = &self.table;
-                let count = squeeze_block(FlagSet { set, flags, table }, last, bytes, into);
-                &into[..count]
-            }
+            Some(set) => squeeze(
+                Filter {
+                    set,
+                    table: &self.table,
+                },
+                last,
+                bytes,
+                into,
+            ),
             None => bytes,
         }
     }
