@@ -4,14 +4,26 @@ use Rattle.ptflow.proofs.Common.{◌≡◌, ℕ, ◌+◌, ◌<◌, ◌≤◌, �
 use Rattle.ptflow.proofs.Common.{◌∷◌, ◌++◌, not, eqb, length, map, filter, take, drop, set, get_or, refl, sym, ◌∙◌, ap}
 use Rattle.ptflow.proofs.Common.{arith, append_assoc, append-nil, take-append-drop, take-add, drop-drop, drop_all, w8}
 use Rattle.ptflow.proofs.Common.{drop-cons, chunk, length-chunk, zip2, mask_l, mask_l-mod, length-zip2, bit_and}
-use Rattle.ptflow.proofs.Common.{bit_not, top, cast_unsigned, from_bool, select_by, mask_of, is_not_repeat, keep_flags}
+use Rattle.ptflow.proofs.Common.{top, cast_unsigned, from_bool, select_by, mask_of, is_not_repeat, keep_flags}
 use Rattle.ptflow.proofs.Common.{kept_bytes, FilterPre, pow-succ', negsuc, pos, ℤ}
-use Rattle.ptflow.proofs.Common.{mask_l-lt}
-use Rattle.std.proofs.lemmas.Nat.{and_le_l, and_le_r}
-use Rattle.ptflow.proofs.Vectors.Lanes.{stored_more, lanes_of, not_lanes}
+use Rattle.ptflow.proofs.Common.{bit_or, mask_l-lt, ◌-◌}
+use Rattle.std.proofs.lemmas.Nat.{and_le_l, and_le_r, le_or_l, le_or_r}
+use Rattle.ptflow.proofs.Vectors.Lanes.{stored_more, lanes_of, tops_of_lanes}
 
 chunk_parts : (at n m : ℕ) (from : List ℕ) → chunk at (n + m) from ≡ chunk at n from ++ chunk (at + n) m from
 chunk_parts at n m from = cc (take-add n m (drop at from), drop-drop n at from)
+
+none_set : {a b c d : ℕ} → bit_or (bit_or (bit_or a b) c) d ≡ 0 → (a ≡ 0) × (b ≡ 0) × (c ≡ 0) × (d ≡ 0)
+none_set {a} {b} {c} {d} none =
+    let two = bit_or a b in
+    let three = bit_or two c in
+    let third : three ≡ 0 = omega (arith, none, le_or_l three d) in
+    let second : two ≡ 0 = omega (arith, third, le_or_l two c) in (
+      omega (arith, second, le_or_l a b),
+      omega (arith, second, le_or_r a b),
+      omega (arith, third, le_or_r two c),
+      omega (arith, none, le_or_r three d),
+    )
 
 all_full : {a b c d : ℕ} → bit_and (bit_and (bit_and a b) c) d ≡ 65535
     → (65535 ≤ a) × (65535 ≤ b) × (65535 ≤ c) × (65535 ≤ d)
@@ -84,12 +96,12 @@ module _ (test : ℕ → Bool) where
       pub is : take count into ++ kept_bytes test (drop at before) (drop at bytes) ≡ whole
       pub pre : FilterPre bytes at count
 
-    -- the flags of a vector, and their mask
+    -- the flags of the bytes of a vector that are kept, and of those that are equal to what they are compared with
     abbrev pub flags_at : ℕ → List Bool
     flags_at k = keep_flags test (chunk k 16 before) (chunk k 16 bytes)
 
-    abbrev pub IsMask : ℕ → ℕ → Type 0
-    IsMask mask k = mask ≡ mask_l (flags_at k)
+    abbrev pub equal_at : ℕ → List Bool
+    equal_at k = zip2 eqb (chunk k 16 before) (chunk k 16 bytes)
 
     -- no byte is left
     pub filter_done : {into : List ℕ} {at count : ℕ} {whole : List ℕ} → FilterInvariant into at count whole
@@ -107,7 +119,7 @@ module _ (test : ℕ → Bool) where
           ∙ length-chunk k 16 before (omega arith)
 
       -- the bytes of a vector are kept if its mask is full
-      kept_full : (k : ℕ) {mask : ℕ} → k + 16 ≤ length bytes → IsMask mask k → 65535 ≤ mask
+      kept_full : (k : ℕ) {mask : ℕ} → k + 16 ≤ length bytes → mask ≡ mask_l (flags_at k) → 65535 ≤ mask
           → kept_at k 16 ≡ chunk k 16 bytes
       kept_full k {mask} room is full =
           let long : 2 ^ 16 ≡ 2 ^ length (chunk k 16 bytes) = ap (λ (n : ℕ). 2 ^ n) (sym (length-chunk k 16 bytes room)) in
@@ -140,25 +152,31 @@ module _ (test : ℕ → Bool) where
             ∙ append_four t (kept_at at 16) (kept_at (at + 16) 16) (kept_at (at + 32) 16) (kept_at (at + 48) 16)
             ∙ ap (λ l. t ++ l) (sym four)
 
-        -- the masks of four vectors are full if no bit of their conjunction is missing
-        pub all_kept_in_four : {a b c d : ℕ} → IsMask a at → IsMask b (at + 16) → IsMask c (at + 32)
-            → IsMask d (at + 48) → bit_and (bit_and (bit_and a b) c) d ≡ 65535 → kept_at at 64 ≡ chunk at 64 bytes
-        all_kept_in_four {a} {b} {c} {d} ma mb mc md full =
+        whole : kept_at at 16 ≡ chunk at 16 bytes → kept_at (at + 16) 16 ≡ chunk (at + 16) 16 bytes
+            → kept_at (at + 32) 16 ≡ chunk (at + 32) 16 bytes → kept_at (at + 48) 16 ≡ chunk (at + 48) 16 bytes
+            → kept_at at 64 ≡ chunk at 64 bytes
+        whole first second third last =
+            cc (four, chunk_parts at 48 16 bytes, chunk_parts at 32 16 bytes, chunk_parts at 16 16 bytes)
+
+        -- no byte of four vectors is equal to the one that it is compared with
+        pub none_equal_in_four : {a b c d : ℕ} → a ≡ mask_l (equal_at at) → b ≡ mask_l (equal_at (at + 16))
+            → c ≡ mask_l (equal_at (at + 32)) → d ≡ mask_l (equal_at (at + 48))
+            → bit_or (bit_or (bit_or a b) c) d ≡ 0 → kept_at at 64 ≡ chunk at 64 bytes
+        none_equal_in_four ma mb mc md none =
+            let (za, zb, zc, zd) = none_set none in
+            let kept = λ (k : ℕ) (within : k + 16 ≤ length bytes).
+            none_equal (chunk k 16 before) (chunk k 16 bytes) (same_length k 16 within) in
+            whole (kept at (omega arith) (sym ma ∙ za)) (kept (at + 16) (omega arith) (sym mb ∙ zb))
+            (kept (at + 32) (omega arith) (sym mc ∙ zc)) (kept (at + 48) (omega arith) (sym md ∙ zd))
+
+        -- the masks of four vectors are full
+        pub all_kept_in_four : {a b c d : ℕ} → a ≡ mask_l (flags_at at) → b ≡ mask_l (flags_at (at + 16))
+            → c ≡ mask_l (flags_at (at + 32)) → d ≡ mask_l (flags_at (at + 48))
+            → bit_and (bit_and (bit_and a b) c) d ≡ 65535 → kept_at at 64 ≡ chunk at 64 bytes
+        all_kept_in_four ma mb mc md full =
             let (la, lb, lc, ld) = all_full full in
-            let first = kept_full at (omega arith) ma la in
-            let second = kept_full (at + 16) (omega arith) mb lb in
-            let third = kept_full (at + 32) (omega arith) mc lc in
-            let last = kept_full (at + 48) (omega arith) md ld in
-            cc (
-              four,
-              first,
-              second,
-              third,
-              last,
-              chunk_parts at 48 16 bytes,
-              chunk_parts at 32 16 bytes,
-              chunk_parts at 16 16 bytes,
-            )
+            whole (kept_full at (omega arith) ma la) (kept_full (at + 16) (omega arith) mb lb)
+            (kept_full (at + 32) (omega arith) mc lc) (kept_full (at + 48) (omega arith) md ld)
 
       -- a piece more
       pub filter_piece : {into : List ℕ} {at count : ℕ} {whole : List ℕ} → FilterInvariant into at count whole → (n : ℕ)
@@ -222,22 +240,43 @@ removed_lanes test (a ∷ before) (b ∷ bytes) = λ i. lane (eqb a b) (test b) 
     lane : (e t : Bool) → bit_and (cond e 255 0) (cast_unsigned w8 (cond t (negsuc 0) (pos 0))) ≡ cond (e && t) 255 0
     lane e t = grind arith
 
+-- the mask of the flags that are not set, and those that are, are all
+not_mask : (flags : List Bool) → mask_l (map not flags) + mask_l flags + 1 ≡ 2 ^ length flags
+not_mask [] = refl
+not_mask (true ∷ flags) = omega (arith, not_mask flags, pow-succ' 2 (length flags))
+not_mask (false ∷ flags) = omega (arith, not_mask flags, pow-succ' 2 (length flags))
+
 not_removed : (test : ℕ → Bool) (before bytes : List ℕ)
     → map not (zip2 (λ a b. eqb a b && test b) before bytes) ≡ keep_flags test before bytes
 not_removed test [] bytes = refl
 not_removed test (a ∷ before) [] = refl
 not_removed test (a ∷ before) (b ∷ bytes) = ap (◌∷◌ (is_not_repeat test (a, b))) (not_removed test before bytes)
 
-pub keep_mask : (test : ℕ → Bool) (before bytes : List ℕ) {lanes : List ℤ} → length before ≡ length bytes
-    → length bytes ≤ 64 → lanes ≡ mask_of test bytes
-    → mask_l (map (top 7) (map (bit_not w8)
-    (zip2 bit_and (zip2 (λ a b. cond (eqb a b) 255 0) before bytes) (map (cast_unsigned w8) lanes)))) % 2 ^ 64
-    ≡ mask_l (keep_flags test before bytes)
-keep_mask test before bytes same few is =
-    let long = length-zip2 (λ a b. is_not_repeat test (a, b)) before bytes same in
-    cc (
+module _ (test : ℕ → Bool) (before bytes : List ℕ) {lanes : List ℤ} (long_before : length before ≡ 16)
+    (long : length bytes ≡ 16) (is : lanes ≡ mask_of test bytes)
+  where
+    abbrev removed : List Bool
+    removed = zip2 (λ a b. eqb a b && test b) before bytes
+
+    removed_long : length removed ≡ 16
+    removed_long = length-zip2 (λ a b. eqb a b && test b) before bytes (long_before ∙ sym long) ∙ long_before
+
+    abbrev mask : ℕ
+    mask = mask_l (map (top 7)
+        (zip2 bit_and (zip2 (λ a b. cond (eqb a b) 255 0) before bytes) (map (cast_unsigned w8) lanes))) % 2 ^ 64
+
+    mask_is : mask ≡ mask_l removed
+    mask_is = cc (
+      is,
       removed_lanes test before bytes,
-      not_lanes (zip2 (λ a b. eqb a b && test b) before bytes),
-      not_removed test before bytes,
-      mask_l-mod (keep_flags test before bytes) 64 (omega arith),
+      tops_of_lanes removed,
+      mask_l-mod removed 64 (omega (arith, removed_long)),
     )
+
+    pub removed_small : mask < 65536
+    removed_small = let low : mask_l removed < 2 ^ 16 = rw removed_long at (mask_l-lt removed) in omega (arith, mask_is, low)
+
+    pub keep_mask : 65535 - mask ≡ mask_l (keep_flags test before bytes)
+    keep_mask =
+        let all : 2 ^ length removed ≡ 2 ^ 16 = ap (λ (n : ℕ). 2 ^ n) removed_long in
+        omega (arith, mask_is, all, not_mask removed, ap mask_l (not_removed test before bytes))

@@ -3,7 +3,7 @@
 use Rattle.ptflow.proofs.Common.{◌≡◌, ℕ, zero, suc, ◌+◌, ◌*◌, ◌/◌, ◌%◌, ◌<◌, ◌≤◌, ◌^◌, ◌∙◌, ◌==◌, List, [], ◌∷◌, ◌++◌}
 use Rattle.ptflow.proofs.Common.{map, cond, not, eqb, get_or, bit_and, bit_at, ap, arith, refl, sym, take, ⊎_elim}
 use Rattle.ptflow.proofs.Common.{cases_eq, eq-eqb, ne_eqb, image_in_eighths, chunk, get_or-chunk}
-use Rattle.ptflow.proofs.Common.{HasMoved, length, length-set, set, take_more_set, add-one, ◌⊎◌, inl, inr, cases_lt}
+use Rattle.ptflow.proofs.Common.{HasMoved, length, length-set, set, take_more_set, ◌⊎◌, inl, inr}
 use Rattle.ptflow.specs.declared.simd.table.Eighths.{Eighths}
 use Rattle.ptflow.proofs.Common.{Fits, w8}
 use Rattle.std.proofs.Math.Seq.{take-nil}

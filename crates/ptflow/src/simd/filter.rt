@@ -1,7 +1,7 @@
 //! Removes bytes of a set: each of them, or those that repeat the byte before them. `tr -d` and `tr -s` use it.
 
-ghost use Rattle.std.specs.Prelude.{◌≡◌, ◌≤◌, ◌+◌, ◌++◌, ℕ, Bool, true, not, length, filter, take, drop};
-ghost use Rattle.std.specs.Simd.Lanes.{chunk, mask_l};
+ghost use Rattle.std.specs.Prelude.{◌≡◌, ◌≤◌, ◌+◌, ◌++◌, ◌==◌, not, length, filter, take, drop};
+ghost use Rattle.std.specs.Simd.Lanes.{chunk, mask_l, zip2};
 ghost use Rattle.ptflow.specs.Private.Vectors.ByteSets.{set_has, keep_flags, kept_bytes, FilterPre};
 ghost use Rattle.ptflow.specs.Private.Vectors.Compress.{ChunkPre};
 ghost use Rattle.ptflow.specs.Private.Tr.TrFrom.{squeeze_from};
@@ -26,34 +26,38 @@ struct Pairs<'a> {
 }
 
 impl Pairs<'_> {
-    // Checks whether each of 64 bytes differs from the one that it is compared with.
+    // The 16 bytes at index `at`, after those that they are compared with.
     #[inline(always)]
-    fn differ(self, at: usize) -> bool
-        requires { at + 64 ≤ length self.bytes.now }
-        ensures { result ≡ true → (test : ℕ → Bool)
-            → kept_bytes test (chunk at 64 self.entry.before.now) (chunk at 64 self.entry.bytes.now) ≡ chunk at 64 self.entry.bytes.now }
-    {
-        let Pairs { before, bytes } = self;
-        let same = u8x64::from_slice(&before[at..]).simd_eq(u8x64::from_slice(&bytes[at..]));
-        same.to_bitmask() == 0
-    }
-
-    // The 16 bytes at index `at`, and the mask of those that are kept.
-    #[inline(always)]
-    fn keep16(self, set: ByteSet, at: usize) -> (u8x16, u64)
+    fn load(self, at: usize) -> (u8x16, u8x16)
         requires { at + 16 ≤ length self.bytes.now }
-        ensures bytes { result.0 ≡ chunk at 16 self.entry.bytes.now }
-        ensures mask { result.1
-            ≡ mask_l (keep_flags (set_has set) (chunk at 16 self.entry.before.now) (chunk at 16 self.entry.bytes.now)) }
+        ensures before { result.0 ≡ chunk at 16 self.entry.before.now }
+        ensures bytes { result.1 ≡ chunk at 16 self.entry.bytes.now }
     {
         let Pairs { before, bytes } = self;
-        let v = u8x16::from_slice(&bytes[at..]);
-        let removed = u8x16::from_slice(&before[at..]).simd_eq(v) & set.test(v);
-        (v, (!removed).to_bitmask())
+        let before = u8x16::from_slice(&before[at..]);
+        (before, u8x16::from_slice(&bytes[at..]))
     }
 }
 
-// Appends those of the 64 bytes at index `at` that are kept. Returns the new count.
+// The mask of the bytes that are equal to those that they are compared with.
+#[inline(always)]
+fn same16(before: u8x16, bytes: u8x16) -> u64
+    ensures { result ≡ mask_l (zip2 ◌==◌ before bytes) }
+{
+    before.simd_eq(bytes).to_bitmask()
+}
+
+// The mask of the bytes that are kept.
+#[inline(always)]
+fn keep16(set: ByteSet, before: u8x16, bytes: u8x16) -> u64
+    ensures { result ≡ mask_l (keep_flags (set_has set) before bytes) }
+{
+    let removed = before.simd_eq(bytes) & set.test(bytes);
+    0xffff - removed.to_bitmask()
+}
+
+// Appends those of the 64 bytes at index `at` that are kept. Returns the new count. If no byte is equal to the one that
+// it is compared with, which is tested first, or all are kept, the chunk is copied whole.
 #[inline(always)]
 fn filter64(by: Filter, pairs: Pairs, at: usize, into: &mut OutBuf, count: usize) -> usize
     requires { ChunkPre pairs.bytes.now at count }
@@ -62,13 +66,17 @@ fn filter64(by: Filter, pairs: Pairs, at: usize, into: &mut OutBuf, count: usize
         ++ kept_bytes (set_has by.entry.set) (chunk at 64 pairs.entry.before.now) (chunk at 64 pairs.entry.bytes.now) }
     ensures end { result ≤ count + 64 }
 {
-    if pairs.differ(at) {
+    let (before_a, a) = pairs.load(at);
+    let (before_b, b) = pairs.load(at + 16);
+    let (before_c, c) = pairs.load(at + 32);
+    let (before_d, d) = pairs.load(at + 48);
+    if same16(before_a, a) | same16(before_b, b) | same16(before_c, c) | same16(before_d, d) == 0 {
         return copy_chunk(pairs.bytes, at, into, count);
     }
-    let (a, keep_a) = pairs.keep16(by.set, at);
-    let (b, keep_b) = pairs.keep16(by.set, at + 16);
-    let (c, keep_c) = pairs.keep16(by.set, at + 32);
-    let (d, keep_d) = pairs.keep16(by.set, at + 48);
+    let keep_a = keep16(by.set, before_a, a);
+    let keep_b = keep16(by.set, before_b, b);
+    let keep_c = keep16(by.set, before_c, c);
+    let keep_d = keep16(by.set, before_d, d);
     if keep_a & keep_b & keep_c & keep_d == 0xffff {
         return copy_chunk(pairs.bytes, at, into, count);
     }

@@ -1,6 +1,6 @@
 -- A byte that differs from its image begins an eighth, unless its eighth was begun.
-use Rattle.ptflow.proofs.Common.{◌+◌, ◌∙◌, arith, inl, inr, refl, sym}
-use Rattle.ptflow.proofs.Vectors.Tables.{EighthsSoFar, eighths_skip, eighths_begin, eighths_done}
+use Rattle.ptflow.proofs.Common.{arith, inl, inr, refl}
+use Rattle.ptflow.proofs.Vectors.Tables.{eighths_skip, eighths_begin, eighths_done}
 use Rattle.ptflow.proofs.simd.table.Eighths.of.Goals as goal
 use Rattle.ptflow.proofs.simd.table.Eighths.of.Goals.{then-from-byte+then-byte-next, else-from-byte}
 use Rattle.ptflow.proofs.simd.table.Eighths.of.Goals.{else-from-byte-via-then-from-byte+else-byte-next}
