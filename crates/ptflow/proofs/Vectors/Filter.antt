@@ -13,6 +13,13 @@ use Rattle.ptflow.proofs.Vectors.Lanes.{stored_more, lanes_of, tops_of_lanes}
 chunk_parts : (at n m : ℕ) (from : List ℕ) → chunk at (n + m) from ≡ chunk at n from ++ chunk (at + n) m from
 chunk_parts at n m from = cc (take-add n m (drop at from), drop-drop n at from)
 
+module _ (f : ℕ → ℕ → Bool) (before bytes : List ℕ) (paired : length bytes ≤ length before) where
+  -- a flag for each of 16 bytes
+  pub pairs_long : (at : ℕ) → at + 16 ≤ length bytes → length (zip2 f (chunk at 16 before) (chunk at 16 bytes)) ≡ 16
+  pairs_long at room =
+      let long = length-chunk at 16 before (omega arith) in
+      length-zip2 f (chunk at 16 before) (chunk at 16 bytes) (long ∙ sym (length-chunk at 16 bytes room)) ∙ long
+
 none_set : {a b c d : ℕ} → bit_or (bit_or (bit_or a b) c) d ≡ 0 → (a ≡ 0) × (b ≡ 0) × (c ≡ 0) × (d ≡ 0)
 none_set {a} {b} {c} {d} none =
     let two = bit_or a b in
@@ -103,6 +110,9 @@ module _ (test : ℕ → Bool) where
     abbrev pub equal_at : ℕ → List Bool
     equal_at k = zip2 eqb (chunk k 16 before) (chunk k 16 bytes)
 
+    pub select_kept_at : (k : ℕ) (t : List ℕ) → t ++ select_by (flags_at k) (chunk k 16 bytes) ≡ t ++ kept_at k 16
+    select_kept_at k t = ap (λ l. t ++ l) (select_kept (chunk k 16 before) (chunk k 16 bytes))
+
     -- no byte is left
     pub filter_done : {into : List ℕ} {at count : ℕ} {whole : List ℕ} → FilterInvariant into at count whole
         → length bytes ≤ at → take count into ≡ whole
@@ -113,17 +123,13 @@ module _ (test : ℕ → Bool) where
       same_length : (at n : ℕ) → at + n ≤ length bytes → length (chunk at n before) ≡ length (chunk at n bytes)
       same_length at n room = length-chunk at n before (omega arith) ∙ sym (length-chunk at n bytes room)
 
-      pub flags_long : (k : ℕ) → k + 16 ≤ length bytes → length (flags_at k) ≡ 16
-      flags_long k room =
-          length-zip2 (λ a b. is_not_repeat test (a, b)) (chunk k 16 before) (chunk k 16 bytes) (same_length k 16 room)
-          ∙ length-chunk k 16 before (omega arith)
-
       -- the bytes of a vector are kept if its mask is full
       kept_full : (k : ℕ) {mask : ℕ} → k + 16 ≤ length bytes → mask ≡ mask_l (flags_at k) → 65535 ≤ mask
           → kept_at k 16 ≡ chunk k 16 bytes
       kept_full k {mask} room is full =
           let long : 2 ^ 16 ≡ 2 ^ length (chunk k 16 bytes) = ap (λ (n : ℕ). 2 ^ n) (sym (length-chunk k 16 bytes room)) in
-          let low : mask_l (flags_at k) < 2 ^ 16 = rw (flags_long k room) at (mask_l-lt (flags_at k)) in
+          let flags_long = pairs_long (λ a b. is_not_repeat test (a, b)) before bytes paired k room in
+          let low : mask_l (flags_at k) < 2 ^ 16 = rw flags_long at (mask_l-lt (flags_at k)) in
           all_kept (chunk k 16 before) (chunk k 16 bytes) (same_length k 16 room) (omega (arith, is, full, low, long))
 
       -- two pieces, one after another
@@ -198,35 +204,6 @@ module _ (test : ℕ → Bool) where
         pre = record { within = room; room = omega (arith, k.pre.room) };
       }
 
-      -- one byte more
-      pub filter_byte : {into : List ℕ} {at count : ℕ} {whole : List ℕ} → FilterInvariant into at count whole
-          → {b add : ℕ} → b ≡ get_or bytes at 0 → at < length bytes → count < length into
-          → add ≡ from_bool (is_not_repeat test (get_or before at 0, b))
-          → FilterInvariant (set into count b) (at + 1) (count + add) whole
-      filter_byte {into} {at} {count} k {b} {add} is_b more room is_add =
-          let flag = is_not_repeat test (get_or before at 0, b) in
-          let add_is : add ≡ cond flag 1 0 = is_add ∙ bit flag in
-          filter_piece k 1 (omega arith) (omega (arith, add_is, few flag))
-          (cc (
-            add_is,
-            is_b,
-            stored_more flag into count b room,
-            one_byte before at (omega arith),
-            one_byte bytes at more,
-            kept_cons (get_or before at 0) b [] [],
-          ))
-        where
-          bit : (t : Bool) → from_bool t ≡ cond t 1 0
-          bit true = refl
-          bit false = refl
-
-          few : (t : Bool) → cond t 1 0 ≤ 1
-          few true = omega arith
-          few false = omega arith
-
-          one_byte : (xs : List ℕ) (at : ℕ) → at < length xs → chunk at 1 xs ≡ get_or xs at 0 ∷ []
-          one_byte xs at more = cc (drop-cons xs at 0 more)
-
 -- ---- masks of lanes
 
 -- the lanes that are removed
@@ -252,31 +229,31 @@ not_removed test [] bytes = refl
 not_removed test (a ∷ before) [] = refl
 not_removed test (a ∷ before) (b ∷ bytes) = ap (◌∷◌ (is_not_repeat test (a, b))) (not_removed test before bytes)
 
-module _ (test : ℕ → Bool) (before bytes : List ℕ) {lanes : List ℤ} (long_before : length before ≡ 16)
-    (long : length bytes ≡ 16) (is : lanes ≡ mask_of test bytes)
+module _ (test : ℕ → Bool) (before bytes : List ℕ) (paired : length bytes ≤ length before) (at : ℕ)
+    (room : at + 16 ≤ length bytes) {lanes : List ℤ} (is : lanes ≡ mask_of test (chunk at 16 bytes))
   where
-    abbrev removed : List Bool
-    removed = zip2 (λ a b. eqb a b && test b) before bytes
+  abbrev removed : List Bool
+  removed = zip2 (λ a b. eqb a b && test b) (chunk at 16 before) (chunk at 16 bytes)
 
-    removed_long : length removed ≡ 16
-    removed_long = length-zip2 (λ a b. eqb a b && test b) before bytes (long_before ∙ sym long) ∙ long_before
+  abbrev mask : ℕ
+  mask = mask_l (map (top 7) (zip2 bit_and (zip2 (λ a b. cond (eqb a b) 255 0) (chunk at 16 before) (chunk at 16 bytes))
+      (map (cast_unsigned w8) lanes))) % 2 ^ 64
 
-    abbrev mask : ℕ
-    mask = mask_l (map (top 7)
-        (zip2 bit_and (zip2 (λ a b. cond (eqb a b) 255 0) before bytes) (map (cast_unsigned w8) lanes))) % 2 ^ 64
+  long : length removed ≡ 16
+  long = pairs_long (λ a b. eqb a b && test b) before bytes paired at room
 
-    mask_is : mask ≡ mask_l removed
-    mask_is = cc (
-      is,
-      removed_lanes test before bytes,
-      tops_of_lanes removed,
-      mask_l-mod removed 64 (omega (arith, removed_long)),
-    )
+  mask_is : mask ≡ mask_l removed
+  mask_is = cc (
+        is,
+        removed_lanes test (chunk at 16 before) (chunk at 16 bytes),
+        tops_of_lanes removed,
+        mask_l-mod removed 64 (omega (arith, long)),
+      )
 
-    pub removed_small : mask < 65536
-    removed_small = let low : mask_l removed < 2 ^ 16 = rw removed_long at (mask_l-lt removed) in omega (arith, mask_is, low)
+  pub removed_small : mask < 65536
+  removed_small = let low : mask_l removed < 2 ^ 16 = rw long at (mask_l-lt removed) in omega (arith, mask_is, low)
 
-    pub keep_mask : 65535 - mask ≡ mask_l (keep_flags test before bytes)
-    keep_mask =
-        let all : 2 ^ length removed ≡ 2 ^ 16 = ap (λ (n : ℕ). 2 ^ n) removed_long in
-        omega (arith, mask_is, all, not_mask removed, ap mask_l (not_removed test before bytes))
+  pub keep_mask : 65535 - mask ≡ mask_l (keep_flags test (chunk at 16 before) (chunk at 16 bytes))
+  keep_mask =
+      let all : 2 ^ length removed ≡ 2 ^ 16 = ap (λ (n : ℕ). 2 ^ n) long in
+      omega (arith, mask_is, all, not_mask removed, ap mask_l (not_removed test (chunk at 16 before) (chunk at 16 bytes)))

@@ -26,34 +26,29 @@ struct Pairs<'a> {
 }
 
 impl Pairs<'_> {
-    // The 16 bytes at index `at`, after those that they are compared with.
+    // The mask of those of the 16 bytes at index `at` that are equal to what they are compared with.
     #[inline(always)]
-    fn load(self, at: usize) -> (u8x16, u8x16)
+    fn same16(self, at: usize) -> u64
         requires { at + 16 ≤ length self.bytes.now }
-        ensures before { result.0 ≡ chunk at 16 self.entry.before.now }
-        ensures bytes { result.1 ≡ chunk at 16 self.entry.bytes.now }
+        ensures { result ≡ mask_l (zip2 ◌==◌ (chunk at 16 self.entry.before.now) (chunk at 16 self.entry.bytes.now)) }
     {
         let Pairs { before, bytes } = self;
-        let before = u8x16::from_slice(&before[at..]);
-        (before, u8x16::from_slice(&bytes[at..]))
+        let v = u8x16::from_slice(&bytes[at..]);
+        u8x16::from_slice(&before[at..]).simd_eq(v).to_bitmask()
     }
-}
 
-// The mask of the bytes that are equal to those that they are compared with.
-#[inline(always)]
-fn same16(before: u8x16, bytes: u8x16) -> u64
-    ensures { result ≡ mask_l (zip2 ◌==◌ before bytes) }
-{
-    before.simd_eq(bytes).to_bitmask()
-}
-
-// The mask of the bytes that are kept.
-#[inline(always)]
-fn keep16(set: ByteSet, before: u8x16, bytes: u8x16) -> u64
-    ensures { result ≡ mask_l (keep_flags (set_has set) before bytes) }
-{
-    let removed = before.simd_eq(bytes) & set.test(bytes);
-    0xffff - removed.to_bitmask()
+    // The mask of those of the 16 bytes at index `at` that are kept.
+    #[inline(always)]
+    fn keep16(self, set: ByteSet, at: usize) -> u64
+        requires { at + 16 ≤ length self.bytes.now }
+        ensures { result
+            ≡ mask_l (keep_flags (set_has set) (chunk at 16 self.entry.before.now) (chunk at 16 self.entry.bytes.now)) }
+    {
+        let Pairs { before, bytes } = self;
+        let v = u8x16::from_slice(&bytes[at..]);
+        let removed = u8x16::from_slice(&before[at..]).simd_eq(v) & set.test(v);
+        0xffff - removed.to_bitmask()
+    }
 }
 
 // Appends those of the 64 bytes at index `at` that are kept. Returns the new count. If no byte is equal to the one that
@@ -66,20 +61,21 @@ fn filter64(by: Filter, pairs: Pairs, at: usize, into: &mut OutBuf, count: usize
         ++ kept_bytes (set_has by.entry.set) (chunk at 64 pairs.entry.before.now) (chunk at 64 pairs.entry.bytes.now) }
     ensures end { result ≤ count + 64 }
 {
-    let (before_a, a) = pairs.load(at);
-    let (before_b, b) = pairs.load(at + 16);
-    let (before_c, c) = pairs.load(at + 32);
-    let (before_d, d) = pairs.load(at + 48);
-    if same16(before_a, a) | same16(before_b, b) | same16(before_c, c) | same16(before_d, d) == 0 {
-        return copy_chunk(pairs.bytes, at, into, count);
+    let from = pairs.bytes;
+    if pairs.same16(at) | pairs.same16(at + 16) | pairs.same16(at + 32) | pairs.same16(at + 48) == 0 {
+        return copy_chunk(from, at, into, count);
     }
-    let keep_a = keep16(by.set, before_a, a);
-    let keep_b = keep16(by.set, before_b, b);
-    let keep_c = keep16(by.set, before_c, c);
-    let keep_d = keep16(by.set, before_d, d);
+    let keep_a = pairs.keep16(by.set, at);
+    let keep_b = pairs.keep16(by.set, at + 16);
+    let keep_c = pairs.keep16(by.set, at + 32);
+    let keep_d = pairs.keep16(by.set, at + 48);
     if keep_a & keep_b & keep_c & keep_d == 0xffff {
-        return copy_chunk(pairs.bytes, at, into, count);
+        return copy_chunk(from, at, into, count);
     }
+    let a = u8x16::from_slice(&from[at..]);
+    let b = u8x16::from_slice(&from[at + 16..]);
+    let c = u8x16::from_slice(&from[at + 32..]);
+    let d = u8x16::from_slice(&from[at + 48..]);
     let first = compress16(by.table, a, keep_a, into, count);
     let second = compress16(by.table, b, keep_b, into, first);
     let third = compress16(by.table, c, keep_c, into, second);
