@@ -1,14 +1,14 @@
 -- Bytes that a filter keeps. Each byte is kept or removed by itself and the byte that it is compared with, so a text can
 -- be processed in pieces, one after another; a piece is kept whole if all bits of its mask are set.
 use Rattle.ptflow.proofs.Common.{◌≡◌, ℕ, ◌+◌, ◌<◌, ◌≤◌, ◌^◌, ◌&&◌, ◌%◌, Bool, true, false, cond, List, []}
-use Rattle.ptflow.proofs.Common.{◌∷◌, ◌++◌, not, eqb, length, map, filter, take, drop, set, get_or, refl, sym, ◌∙◌, ap}
+use Rattle.ptflow.proofs.Common.{◌∷◌, ◌++◌, not, eqb, length, map, filter, take, drop, refl, sym, ◌∙◌, ap}
 use Rattle.ptflow.proofs.Common.{arith, append_assoc, append-nil, take-append-drop, take-add, drop-drop, drop_all, w8}
-use Rattle.ptflow.proofs.Common.{drop-cons, chunk, length-chunk, zip2, mask_l, mask_l-mod, length-zip2, bit_and}
-use Rattle.ptflow.proofs.Common.{top, cast_unsigned, from_bool, select_by, mask_of, is_not_repeat, keep_flags}
+use Rattle.ptflow.proofs.Common.{chunk, length-chunk, zip2, mask_l, mask_l-mod, length-zip2, bit_and}
+use Rattle.ptflow.proofs.Common.{top, cast_unsigned, select_by, mask_of, is_not_repeat, keep_flags}
 use Rattle.ptflow.proofs.Common.{kept_bytes, FilterPre, pow-succ', negsuc, pos, ℤ}
 use Rattle.ptflow.proofs.Common.{bit_or, mask_l-lt, ◌-◌}
 use Rattle.std.proofs.lemmas.Nat.{and_le_l, and_le_r, le_or_l, le_or_r}
-use Rattle.ptflow.proofs.Vectors.Lanes.{stored_more, lanes_of, tops_of_lanes}
+use Rattle.ptflow.proofs.Vectors.Lanes.{lanes_of, tops_of_lanes}
 
 chunk_parts : (at n m : ℕ) (from : List ℕ) → chunk at (n + m) from ≡ chunk at n from ++ chunk (at + n) m from
 chunk_parts at n m from = cc (take-add n m (drop at from), drop-drop n at from)
@@ -232,28 +232,28 @@ not_removed test (a ∷ before) (b ∷ bytes) = ap (◌∷◌ (is_not_repeat tes
 module _ (test : ℕ → Bool) (before bytes : List ℕ) (paired : length bytes ≤ length before) (at : ℕ)
     (room : at + 16 ≤ length bytes) {lanes : List ℤ} (is : lanes ≡ mask_of test (chunk at 16 bytes))
   where
-  abbrev removed : List Bool
-  removed = zip2 (λ a b. eqb a b && test b) (chunk at 16 before) (chunk at 16 bytes)
+    abbrev removed : List Bool
+    removed = zip2 (λ a b. eqb a b && test b) (chunk at 16 before) (chunk at 16 bytes)
 
-  abbrev mask : ℕ
-  mask = mask_l (map (top 7) (zip2 bit_and (zip2 (λ a b. cond (eqb a b) 255 0) (chunk at 16 before) (chunk at 16 bytes))
-      (map (cast_unsigned w8) lanes))) % 2 ^ 64
+    abbrev mask : ℕ
+    mask = mask_l (map (top 7) (zip2 bit_and (zip2 (λ a b. cond (eqb a b) 255 0) (chunk at 16 before) (chunk at 16 bytes))
+        (map (cast_unsigned w8) lanes))) % 2 ^ 64
 
-  long : length removed ≡ 16
-  long = pairs_long (λ a b. eqb a b && test b) before bytes paired at room
+    long : length removed ≡ 16
+    long = pairs_long (λ a b. eqb a b && test b) before bytes paired at room
 
-  mask_is : mask ≡ mask_l removed
-  mask_is = cc (
-        is,
-        removed_lanes test (chunk at 16 before) (chunk at 16 bytes),
-        tops_of_lanes removed,
-        mask_l-mod removed 64 (omega (arith, long)),
-      )
+    mask_is : mask ≡ mask_l removed
+    mask_is = cc (
+      is,
+      removed_lanes test (chunk at 16 before) (chunk at 16 bytes),
+      tops_of_lanes removed,
+      mask_l-mod removed 64 (omega (arith, long)),
+    )
 
-  pub removed_small : mask < 65536
-  removed_small = let low : mask_l removed < 2 ^ 16 = rw long at (mask_l-lt removed) in omega (arith, mask_is, low)
+    pub removed_small : mask < 65536
+    removed_small = let low : mask_l removed < 2 ^ 16 = rw long at (mask_l-lt removed) in omega (arith, mask_is, low)
 
-  pub keep_mask : 65535 - mask ≡ mask_l (keep_flags test (chunk at 16 before) (chunk at 16 bytes))
-  keep_mask =
-      let all : 2 ^ length removed ≡ 2 ^ 16 = ap (λ (n : ℕ). 2 ^ n) long in
-      omega (arith, mask_is, all, not_mask removed, ap mask_l (not_removed test (chunk at 16 before) (chunk at 16 bytes)))
+    pub keep_mask : 65535 - mask ≡ mask_l (keep_flags test (chunk at 16 before) (chunk at 16 bytes))
+    keep_mask =
+        let all : 2 ^ length removed ≡ 2 ^ 16 = ap (λ (n : ℕ). 2 ^ n) long in
+        omega (arith, mask_is, all, not_mask removed, ap mask_l (not_removed test (chunk at 16 before) (chunk at 16 bytes)))
