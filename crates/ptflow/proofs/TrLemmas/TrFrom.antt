@@ -5,7 +5,8 @@ use Rattle.ptflow.proofs.Common.{Option, None, Some, map, length, refl, ap, arit
 use Rattle.ptflow.proofs.Common.{option_eq, option_or, append-nil, map-append, filter-append, IsPrefix, Tables, deletes}
 use Rattle.ptflow.proofs.Common.{image, squeezes, is_not_repeat, squeeze_after, translation, tr, tr_decided}
 use Rattle.ptflow.proofs.Common.{squeeze_from, tr_from, ⊎_elim, sym, cases_Bool, eq-eqb, eqb-true, squeeze, BeginsWith}
-use Rattle.ptflow.proofs.Common.{Each1, Fits, w8, suc, ◌<◌, drop, from_bool, get_or, kept_bytes, set, take, take_more_set}
+use Rattle.ptflow.proofs.Common.{Each1, Fits, w8, suc, ◌<◌, drop, from_bool, get_or, kept_bytes, set, take}
+use Rattle.ptflow.proofs.Common.{take_more_set}
 use Rattle.ptflow.proofs.Common.{EndsWith, TrOfAnyParts, TrOfParts, TrAfterByte, TrMeetsTwice, and_right}
 use Rattle.ptflow.proofs.Vectors.Lanes.{bytes_fit}
 

@@ -1,5 +1,5 @@
--- Bytes that a filter keeps. Each byte is kept or removed by itself and the byte that it is compared with, so a text can
--- be processed in pieces, one after another; a piece is kept whole if all bits of its mask are set.
+-- Bytes that a filter keeps. Each byte is kept or removed by itself and the byte that it is compared with, so a text
+-- can be processed in pieces, one after another; a piece is kept whole if all bits of its mask are set.
 use Rattle.ptflow.proofs.Common.{◌≡◌, ℕ, ◌+◌, ◌<◌, ◌≤◌, ◌^◌, ◌&&◌, ◌%◌, Bool, true, false, cond, List, []}
 use Rattle.ptflow.proofs.Common.{◌∷◌, ◌++◌, not, eqb, length, map, filter, take, drop, refl, sym, ◌∙◌, ap}
 use Rattle.ptflow.proofs.Common.{arith, append_assoc, append-nil, take-append-drop, take-add, drop-drop, drop_all, w8}
@@ -127,7 +127,8 @@ module _ (test : ℕ → Bool) where
       kept_full : (k : ℕ) {mask : ℕ} → k + 16 ≤ length bytes → mask ≡ mask_l (flags_at k) → 65535 ≤ mask
           → kept_at k 16 ≡ chunk k 16 bytes
       kept_full k {mask} room is full =
-          let long : 2 ^ 16 ≡ 2 ^ length (chunk k 16 bytes) = ap (λ (n : ℕ). 2 ^ n) (sym (length-chunk k 16 bytes room)) in
+          let long : 2 ^ 16 ≡ 2 ^ length (chunk k 16 bytes) =
+          ap (λ (n : ℕ). 2 ^ n) (sym (length-chunk k 16 bytes room)) in
           let flags_long = pairs_long (λ a b. is_not_repeat test (a, b)) before bytes paired k room in
           let low : mask_l (flags_at k) < 2 ^ 16 = rw flags_long at (mask_l-lt (flags_at k)) in
           all_kept (chunk k 16 before) (chunk k 16 bytes) (same_length k 16 room) (omega (arith, is, full, low, long))
@@ -236,7 +237,8 @@ module _ (test : ℕ → Bool) (before bytes : List ℕ) (paired : length bytes 
     removed = zip2 (λ a b. eqb a b && test b) (chunk at 16 before) (chunk at 16 bytes)
 
     abbrev mask : ℕ
-    mask = mask_l (map (top 7) (zip2 bit_and (zip2 (λ a b. cond (eqb a b) 255 0) (chunk at 16 before) (chunk at 16 bytes))
+    mask = mask_l (map (top 7)
+        (zip2 bit_and (zip2 (λ a b. cond (eqb a b) 255 0) (chunk at 16 before) (chunk at 16 bytes))
         (map (cast_unsigned w8) lanes))) % 2 ^ 64
 
     long : length removed ≡ 16
@@ -256,4 +258,5 @@ module _ (test : ℕ → Bool) (before bytes : List ℕ) (paired : length bytes 
     pub keep_mask : 65535 - mask ≡ mask_l (keep_flags test (chunk at 16 before) (chunk at 16 bytes))
     keep_mask =
         let all : 2 ^ length removed ≡ 2 ^ 16 = ap (λ (n : ℕ). 2 ^ n) long in
-        omega (arith, mask_is, all, not_mask removed, ap mask_l (not_removed test (chunk at 16 before) (chunk at 16 bytes)))
+        let kept = ap mask_l (not_removed test (chunk at 16 before) (chunk at 16 bytes)) in
+        omega (arith, mask_is, all, not_mask removed, kept)

@@ -62,9 +62,8 @@ fn filter64(by: Filter, pairs: Pairs, at: usize, into: &mut OutBuf, count: usize
     ensures end { result ≤ count + 64 }
 {
     let from = pairs.bytes;
-    if pairs.same16(at) | pairs.same16(at + 16) | pairs.same16(at + 32) | pairs.same16(at + 48)
-        == 0
-    {
+    let same_ab = pairs.same16(at) | pairs.same16(at + 16);
+    if same_ab | pairs.same16(at + 32) | pairs.same16(at + 48) == 0 {
         return copy_chunk(from, at, into, count);
     }
     let keep_a = pairs.keep16(by.set, at);

@@ -39,11 +39,7 @@ struct Translation<'a> {
 fn optional_set(flags: &[bool; 256]) -> Option<ByteSet>
     ensures { IsOptionalSet result flags.now }
 {
-    if flags.contains(&true) {
-        Some(ByteSet::of(flags))
-    } else {
-        None
-    }
+    flags.contains(&true).then_some(ByteSet::of(flags))
 }
 
 impl<'a> Translation<'a> {

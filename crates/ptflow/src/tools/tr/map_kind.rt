@@ -37,10 +37,8 @@ impl MapSetToByte {
                 return None;
             }
         }
-        Some(MapSetToByte {
-            set: ByteSet::of(&flags),
-            byte,
-        })
+        let set = ByteSet::of(&flags);
+        Some(MapSetToByte { set, byte })
     }
 }
 

@@ -5,11 +5,12 @@ use Rattle.ptflow.proofs.Vectors.Filter.{all_kept_in_four, flags_at, kept_in_fou
 use Rattle.ptflow.proofs.Vectors.Filter.{select_kept_at}
 use Rattle.ptflow.proofs.simd.filter.filter64.Goals as goal
 
-pub returns-then-same16-eq0-clause-kept : goal.returns-then-same16-eq0-clause-kept
-returns-then-same16-eq0-clause-kept c =
+pub returns-then-same_ab-same16-eq0-clause-kept : goal.returns-then-same_ab-same16-eq0-clause-kept
+returns-then-same_ab-same16-eq0-clause-kept c =
     let pairs = c.args.pairs in
     let all = none_equal_in_four (set_has c.args.by.set) pairs.before.now pairs.bytes.now pairs.paired c.args.at
-    c.requires.lanes c.same16.ensures c.same16-2.ensures c.same16-3.ensures c.same16-4.ensures c.if-same16-eq0.true in
+    c.requires.lanes c.same16.ensures c.same16-2.ensures c.same16-3.ensures c.same16-4.ensures
+    c.if-same_ab-same16-eq0.true in
     c.copy_chunk.ensures.copied ∙ ap (◌++◌ (take c.args.count c.args.into.now)) (sym all)
 
 pub returns-then-keep_a-keep_b-eq65535-clause-kept : goal.returns-then-keep_a-keep_b-eq65535-clause-kept

@@ -9,4 +9,5 @@ loop-index-preserved g c =
     let so_far = take c.loop-index.index eighths in
     c.look_up_eighth-images.ensures (image_in_eighths so_far table) c.loop-index.invariant
     ∙ (λ i. map (λ b. sym (eighths_push so_far table (get_or eighths c.loop-index.index 0) b) i) c.args.v)
-    ∙ ap (λ bytes. map (image_in_eighths bytes table) c.args.v) (sym (take_more eighths c.loop-index.index 0 (omega arith)))
+    ∙ ap (λ bytes. map (image_in_eighths bytes table) c.args.v)
+    (sym (take_more eighths c.loop-index.index 0 (omega arith)))

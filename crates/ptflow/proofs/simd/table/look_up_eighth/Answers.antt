@@ -1,4 +1,5 @@
-use Rattle.ptflow.proofs.Common.{◌+◌, ◌*◌, ◌/◌, ◌%◌, ◌^◌, ◌∙◌, ℕ, not, eqb, bit_and, cond, get_or, chunk, map, zip2_splat}
+use Rattle.ptflow.proofs.Common.{◌+◌, ◌*◌, ◌/◌, ◌%◌, ◌^◌, ◌∙◌, ℕ, not, eqb, bit_and, cond, get_or, chunk, map}
+use Rattle.ptflow.proofs.Common.{zip2_splat}
 use Rattle.ptflow.proofs.Vectors.Lanes.{sel_maps, tests_are}
 use Rattle.ptflow.proofs.Vectors.Tables.{entry_in_eighth}
 use Rattle.ptflow.proofs.simd.table.look_up_eighth.Goals as goal
