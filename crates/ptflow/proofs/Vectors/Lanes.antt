@@ -1,12 +1,12 @@
--- Vector operations, byte by byte: values that are computed for each lane, the bytes that a mask selects, and masks of
--- 64 bytes with no bit set. Each of them is a `map` over the lanes, so facts about one byte carry over.
+-- Vector operations, byte by byte: values that are computed for each lane, and the lanes of flags. Each of them is a
+-- `map` over the lanes, so facts about one byte carry over.
 use Rattle.ptflow.proofs.Common.{◌≡◌, ℕ, ◌+◌, ◌<◌, ◌≤◌, ◌%◌, Bool, false, List, [], ◌∷◌, ◌++◌, Option, map, take, drop}
 use Rattle.ptflow.proofs.Common.{length, get_or, replicate, cond, refl, sym, ◌∙◌, ap, arith, w8, Fits, sum_by, zero}
 use Rattle.ptflow.proofs.Common.{suc, slice_get, option_map, sel_l, zip2, top, Each1, take-add, false≢true, map-append}
 use Rattle.ptflow.proofs.Common.{tops_compared, zip2_splat, zip2_of_maps, splat_is_map, Each1-from_get_or, shift_at}
-use Rattle.ptflow.proofs.Common.{stretch_delta, not, pos, negsuc, filter}
+use Rattle.ptflow.proofs.Common.{stretch_delta, pos, negsuc, filter}
 use Rattle.ptflow.proofs.Common.{cast_unsigned}
-use Rattle.ptflow.proofs.Common.{mask_of, true, set, bit_not, take_more_set, take-set, take_more}
+use Rattle.ptflow.proofs.Common.{mask_of, true, set, take_more_set, take-set, take_more}
 use Rattle.ptflow.proofs.Common.{append-nil, add-one}
 use Rattle.ptflow.proofs.Common.{sum_by-append, sum_by-cons, range_delta, shift_by_ranges}
 use Rattle.std.specs.Prelude.{is_some}
@@ -149,15 +149,7 @@ tops_of_lanes (f ∷ fs) = λ i. lane f i ∷ tops_of_lanes fs i
     lane : (f : Bool) → top 7 (cond f 255 0) ≡ f
     lane f = grind arith
 
--- ---- bytes that pass a test, moved to the front
-
--- the lanes that are not in a mask
-pub not_lanes : (fs : List Bool) → map (top 7) (map (bit_not w8) (lanes_of fs)) ≡ map not fs
-not_lanes [] = refl
-not_lanes (f ∷ fs) = λ i. lane f i ∷ not_lanes fs i
-  where
-    lane : (f : Bool) → top 7 (bit_not w8 (cond f 255 0)) ≡ not f
-    lane f = grind arith
+-- ---- bytes that are stored if they pass a test
 
 -- a byte is stored, and counts if its flag is set
 pub stored_more : (flag : Bool) (row : List ℕ) (count place : ℕ) → count < length row
