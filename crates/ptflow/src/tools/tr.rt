@@ -61,15 +61,9 @@ impl<'a> Translation<'a> {
         ensures kept { result.now ≡ filter (λ b. not (deletes self.now.plan.now b)) block.now }
         ensures within { length result.now ≤ length block.now }
     {
+        let table = &self.table;
         match self.deleting {
-            Some(set) => remove(
-                Filter {
-                    set,
-                    table: &self.table,
-                },
-                block,
-                into,
-            ),
+            Some(set) => remove(Filter { set, table }, block, into),
             None => block,
         }
     }
@@ -94,16 +88,9 @@ impl<'a> Translation<'a> {
         requires { length bytes.now ≤ 8192 }
         ensures { result.now ≡ squeeze_from (squeezes self.now.plan.now) last bytes.now }
     {
+        let table = &self.table;
         match self.squeezing {
-            Some(set) => squeeze(
-                Filter {
-                    set,
-                    table: &self.table,
-                },
-                last,
-                bytes,
-                into,
-            ),
+            Some(set) => squeeze(Filter { set, table }, last, bytes, into),
             None => bytes,
         }
     }
