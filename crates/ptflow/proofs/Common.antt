@@ -90,11 +90,12 @@ pub use Rattle.ptflow.specs.TrOutput.{squeeze, squeeze_after, is_not_repeat, tr,
 pub use Rattle.ptflow.specs.Uniqs.{Run, after_fields, init, ends_word, output_of, is_same, key, cons_run, runs}
 pub use Rattle.ptflow.specs.Uniqs.{output_of_run, uniq_tool, word_ends}
 pub use Rattle.ptlines.specs.Text.{is_blank}
-pub use Rattle.ptflow.specs.Private.Vectors.ByteSets.{IsSetOf, IsFilteredTo, set_has, table_has, mask_of}
+pub use Rattle.ptflow.specs.Private.Vectors.ByteSets.{FilterPre, IsSetOf, keep_flags, kept_bytes, mask_of}
+pub use Rattle.ptflow.specs.Private.Vectors.ByteSets.{set_has, table_has}
 pub use Rattle.ptflow.specs.Private.Vectors.Shift.{IsMappedTo, range_delta, shift_by_ranges, stretch_delta}
 pub use Rattle.ptflow.specs.Private.Vectors.FindNth.{IsNth}
 pub use Rattle.ptflow.specs.Private.Vectors.Compress.{IsCompressTable, IsCompressRow, select_by, true_indices}
-pub use Rattle.ptflow.specs.Private.Vectors.Tables.{entry_of, image_in, image_by_window, IsSameOutside}
+pub use Rattle.ptflow.specs.Private.Vectors.Tables.{HasMoved, image_in_eighths}
 pub use Rattle.ptflow.specs.Private.Cut.CutFrom.{ExtendsCut, CutChunkPost, HasTerminators, IsCutPart, IsSameLine}
 pub use Rattle.ptflow.specs.Private.Cut.CutFrom.{CopyLinesPost, cut_piece, cut_fields_from, cut_bytes_from}
 pub use Rattle.ptflow.specs.Private.Cut.CutFrom.{cut_list_from, cut_lines_from}

@@ -1,3 +1,2 @@
 -- Facts about `tr`.
-pub mod Squeeze
 pub mod TrFrom

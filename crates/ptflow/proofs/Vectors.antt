@@ -5,3 +5,4 @@ pub mod Compress
 pub mod Lanes
 pub mod Tables
 pub mod FindNth
+pub mod Filter

@@ -4,7 +4,7 @@
 //! - `byte_set` tests 16 bytes for membership in a set.
 //! - `shift` maps 16 bytes at a time by any `ByteMap`; `table` is the one for a table of 256 images.
 //! - `replace` replaces line terminators by delimiters in turn; `cycle` is faster, for at most 64 delimiters.
-//! - `compress` moves the selected bytes of a vector to the front; `filter` and `squeeze` choose which bytes these are.
+//! - `compress` moves the selected bytes of a vector to the front; `filter` chooses which bytes these are.
 pub(crate) mod byte_set;
 pub(crate) mod compress;
 pub(crate) mod cycle;
@@ -12,5 +12,4 @@ pub(crate) mod filter;
 pub(crate) mod find_nth;
 pub(crate) mod replace;
 pub(crate) mod shift;
-pub(crate) mod squeeze;
 pub(crate) mod table;

@@ -23,9 +23,8 @@ pub(crate) fn ensure_slots<A: Allocator + Copy>(
     ensures same_peak { store.new.peak ≡ store.old.peak }
 {
     while store.slots() < count {
-        match store.add() {
-            Ok(_) => {}
-            Err(_) => return Err(FlowFault::Memory),
+        if store.add().is_err() {
+            return Err(FlowFault::Memory);
         }
     }
     Ok(())

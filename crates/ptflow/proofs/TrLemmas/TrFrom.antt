@@ -5,7 +5,10 @@ use Rattle.ptflow.proofs.Common.{Option, None, Some, map, length, refl, ap, arit
 use Rattle.ptflow.proofs.Common.{option_eq, option_or, append-nil, map-append, filter-append, IsPrefix, Tables, deletes}
 use Rattle.ptflow.proofs.Common.{image, squeezes, is_not_repeat, squeeze_after, translation, tr, tr_decided}
 use Rattle.ptflow.proofs.Common.{squeeze_from, tr_from, ⊎_elim, sym, cases_Bool, eq-eqb, eqb-true, squeeze, BeginsWith}
+use Rattle.ptflow.proofs.Common.{Each1, Fits, w8, suc, ◌<◌, drop, from_bool, get_or, kept_bytes, set, take}
+use Rattle.ptflow.proofs.Common.{take_more_set}
 use Rattle.ptflow.proofs.Common.{EndsWith, TrOfAnyParts, TrOfParts, TrAfterByte, TrMeetsTwice, and_right}
+use Rattle.ptflow.proofs.Vectors.Lanes.{bytes_fit}
 
 module _ (squeezed : ℕ → Bool) where
   pub after_one_byte : (last b : ℕ) (bytes : List ℕ)
@@ -218,3 +221,36 @@ tr_meets_twice tables byte a b rest is (front, ends) begins =
       last_after None front byte,
       after_same (squeezes tables) byte (translation tables b) rest is begins,
     )
+
+-- ---- a block of which the first byte was stored, if it is kept
+
+pub first_squeezed : (squeezed : ℕ → Bool) (last : Option ℕ) (from into : List ℕ) {repeats : Bool} {count : ℕ}
+    → 0 < length from → 0 < length into
+    → repeats ≡ (option_eq eqb last (Some (get_or from 0 0)) && squeezed (get_or from 0 0))
+    → count ≡ from_bool (not repeats)
+    → take count (set into 0 (get_or from 0 0)) ++ kept_bytes squeezed from (drop 1 from)
+    ≡ squeeze_from squeezed last from
+first_squeezed squeezed last [] into some room is count_is = absurd (omega arith)
+first_squeezed squeezed last (b ∷ from) into {repeats = true} some room is count_is =
+    cc (count_is, from_one squeezed last b from, is)
+first_squeezed squeezed last (b ∷ from) into {repeats = false} some room is count_is =
+    cc (count_is, from_one squeezed last b from, is, take_more_set into 0 b room)
+
+-- ---- tests that agree on bytes
+
+same_after : (p q : ℕ → Bool) → ((b : ℕ) → b < 256 → p b ≡ q b) → (last : ℕ) (bytes : List ℕ) → Each1 (Fits w8) bytes
+    → squeeze_after p last bytes ≡ squeeze_after q last bytes
+same_after p q same last [] fit = refl
+same_after p q same last (b ∷ bytes) (first, others) =
+    cc (
+      after_one_byte p last b bytes,
+      same b first.fits,
+      same_after p q same b bytes others,
+      after_one_byte q last b bytes,
+    )
+
+pub same_from : (p q : ℕ → Bool) → ((b : ℕ) → b < 256 → p b ≡ q b) → (last : Option ℕ) (bytes : List ℕ)
+    → ((k : ℕ) → Fits w8 (get_or bytes k 0)) → squeeze_from p last bytes ≡ squeeze_from q last bytes
+same_from p q same None [] fit = refl
+same_from p q same None (b ∷ bytes) fit = ap (◌∷◌ b) (same_after p q same b bytes (bytes_fit bytes (λ k. fit (suc k))))
+same_from p q same (Some last) bytes fit = same_after p q same last bytes (bytes_fit bytes fit)

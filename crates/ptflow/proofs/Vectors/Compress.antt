@@ -2,7 +2,7 @@
 -- the front, and a mask of 16 flags is handled as two of eight.
 use Rattle.ptflow.proofs.Common.{◌≡◌, ℕ, zero, suc, ◌+◌, ◌*◌, ◌^◌, ◌/◌, ◌%◌, ◌<◌, ◌≤◌, Bool, true, false, cond, List}
 use Rattle.ptflow.proofs.Common.{[], ◌∷◌, ◌++◌, map, length, take, drop, set, get_or, length-drop, drop-cons}
-use Rattle.ptflow.proofs.Common.{append_assoc, add-one, refl, sym, ◌∙◌, ap, arith, w8, All, nat_eq, nat_le, filter}
+use Rattle.ptflow.proofs.Common.{append_assoc, add-one, refl, sym, ◌∙◌, ap, arith, w8, All, nat_eq, nat_le}
 use Rattle.ptflow.proofs.Common.{range_with_len, mask_l, put_chunk, chunk, pick_l, Each1, take_more_put_chunk}
 use Rattle.ptflow.proofs.Common.{bit_mask_l, mask_l-lt, Each1-from_get_or, swz_l, ones-mask_l_cons}
 use Rattle.ptflow.proofs.Common.{pick_l-range_with_len, take-map, take-take, take_more, take_all, take-append-le}
@@ -15,11 +15,6 @@ use Rattle.ptlines.proofs.MatchMasks.{mask_append}
 use Rattle.ptflow.proofs.Vectors.Lanes.{stored_more}
 
 -- ---- items that are selected by flags
-
--- flags that are a test of each item
-pub select_by_test : {X : Type 0} (p : X → Bool) (xs : List X) → select_by (map p xs) xs ≡ filter p xs
-select_by_test p [] = refl
-select_by_test p (x ∷ xs) = cc (select_by_test p xs)
 
 -- the number of selected items is the number of set bits in the mask
 pub length-select_by : {X : Type 0} (flags : List Bool) (xs : List X) → length flags ≤ length xs

@@ -1,13 +1,13 @@
--- Vector operations, byte by byte: values that are computed for each lane, the bytes that a mask selects, and masks of
--- 64 bytes with no bit set. Each of them is a `map` over the lanes, so facts about one byte carry over.
+-- Vector operations, byte by byte: values that are computed for each lane, and the lanes of flags. Each of them is a
+-- `map` over the lanes, so facts about one byte carry over.
 use Rattle.ptflow.proofs.Common.{◌≡◌, ℕ, ◌+◌, ◌<◌, ◌≤◌, ◌%◌, Bool, false, List, [], ◌∷◌, ◌++◌, Option, map, take, drop}
 use Rattle.ptflow.proofs.Common.{length, get_or, replicate, cond, refl, sym, ◌∙◌, ap, arith, w8, Fits, sum_by, zero}
 use Rattle.ptflow.proofs.Common.{suc, slice_get, option_map, sel_l, zip2, top, Each1, take-add, false≢true, map-append}
 use Rattle.ptflow.proofs.Common.{tops_compared, zip2_splat, zip2_of_maps, splat_is_map, Each1-from_get_or, shift_at}
-use Rattle.ptflow.proofs.Common.{stretch_delta, ◌^◌, ◌||◌, not, pos, negsuc, bit_or, append_assoc, filter}
-use Rattle.ptflow.proofs.Common.{cast_unsigned, mask_l, chunk, mask_l-mod, length-zip2, drop-drop, filter-append}
-use Rattle.ptflow.proofs.Common.{mask_of, true, set, ℤ, from_bool, bit_not, take_more_set, take-set, take_more}
-use Rattle.ptflow.proofs.Common.{append-nil, length-map, IsFilteredTo, map-map, length-set, take_all, add-one}
+use Rattle.ptflow.proofs.Common.{stretch_delta, pos, negsuc, filter}
+use Rattle.ptflow.proofs.Common.{cast_unsigned}
+use Rattle.ptflow.proofs.Common.{mask_of, true, set, take_more_set, take-set, take_more}
+use Rattle.ptflow.proofs.Common.{append-nil, add-one}
 use Rattle.ptflow.proofs.Common.{sum_by-append, sum_by-cons, range_delta, shift_by_ranges}
 use Rattle.std.specs.Prelude.{is_some}
 use Rattle.ptflow.specs.declared.simd.shift.ShiftRange.{ShiftRange}
@@ -142,14 +142,6 @@ lanes_of_mask test (b ∷ v) = λ i. lane (test b) i ∷ lanes_of_mask test v i
     lane : (t : Bool) → cast_unsigned w8 (cond t (negsuc 0) (pos 0)) ≡ cond t 255 0
     lane t = grind arith
 
-or_lanes : (fs gs : List Bool) → zip2 bit_or (lanes_of fs) (lanes_of gs) ≡ lanes_of (zip2 ◌||◌ fs gs)
-or_lanes [] gs = refl
-or_lanes (f ∷ fs) [] = refl
-or_lanes (f ∷ fs) (g ∷ gs) = λ i. lane f g i ∷ or_lanes fs gs i
-  where
-    lane : (f g : Bool) → bit_or (cond f 255 0) (cond g 255 0) ≡ cond (f || g) 255 0
-    lane f g = grind arith
-
 pub tops_of_lanes : (fs : List Bool) → map (top 7) (lanes_of fs) ≡ fs
 tops_of_lanes [] = refl
 tops_of_lanes (f ∷ fs) = λ i. lane f i ∷ tops_of_lanes fs i
@@ -157,125 +149,7 @@ tops_of_lanes (f ∷ fs) = λ i. lane f i ∷ tops_of_lanes fs i
     lane : (f : Bool) → top 7 (cond f 255 0) ≡ f
     lane f = grind arith
 
-none_of_two : (fs gs : List Bool) → length fs ≡ length gs → mask_l (zip2 ◌||◌ fs gs) ≡ 0
-    → (mask_l fs ≡ 0) × (mask_l gs ≡ 0)
-none_of_two [] [] same none = (refl, refl)
-none_of_two [] (g ∷ gs) same none = absurd (omega arith)
-none_of_two (f ∷ fs) [] same none = absurd (omega arith)
-none_of_two (f ∷ fs) (g ∷ gs) same none = grind (arith, none_of_two fs gs)
-
--- a fact holds of each of the four vectors from index `at` on
-abbrev pub InFour : (ℕ → Type 0) → ℕ → Type 0
-InFour holds at = holds at × holds (at + 16) × holds (at + 32) × holds (at + 48)
-
-module _ (flags : ℕ → List Bool) (at : ℕ) (long : (k : ℕ) → at ≤ k → k ≤ at + 48 → length (flags k) ≡ 16) where
-  long_or : (fs : List Bool) (k : ℕ) → length fs ≡ 16 → at ≤ k → k ≤ at + 48 → length (zip2 ◌||◌ fs (flags k)) ≡ 16
-  long_or fs k same low high = length-zip2 ◌||◌ fs (flags k) (same ∙ sym (long k low high)) ∙ same
-
-  -- if no lane is set in the union of four masks, none is set in each of them
-  pub none_of_four : {xa xb xc xd : List ℕ} → xa ≡ lanes_of (flags at) → xb ≡ lanes_of (flags (at + 16))
-      → xc ≡ lanes_of (flags (at + 32)) → xd ≡ lanes_of (flags (at + 48))
-      → mask_l (map (top 7) (zip2 bit_or (zip2 bit_or (zip2 bit_or xa xb) xc) xd)) % 2 ^ 64 ≡ 0
-      → InFour (λ k. mask_l (flags k) ≡ 0) at
-  none_of_four ea eb ec ed none =
-      let two = zip2 ◌||◌ (flags at) (flags (at + 16)) in
-      let three = zip2 ◌||◌ two (flags (at + 32)) in
-      let all = zip2 ◌||◌ three (flags (at + 48)) in
-      let long_a = long at (omega arith) (omega arith) in
-      let long_two = long_or (flags at) (at + 16) long_a (omega arith) (omega arith) in
-      let long_three = long_or two (at + 32) long_two (omega arith) (omega arith) in
-      let long_all = long_or three (at + 48) long_three (omega arith) (omega arith) in
-      let nothing : mask_l all ≡ 0 =
-      cc (
-        or_lanes (flags at) (flags (at + 16)),
-        or_lanes two (flags (at + 32)),
-        or_lanes three (flags (at + 48)),
-        mask_l-mod all 64 (omega arith),
-        tops_of_lanes all,
-      ) in
-      let (no_three, no_last) =
-      none_of_two three (flags (at + 48)) (long_three ∙ sym (long (at + 48) (omega arith) (omega arith))) nothing in
-      let (no_two, no_third) =
-      none_of_two two (flags (at + 32)) (long_two ∙ sym (long (at + 32) (omega arith) (omega arith))) no_three in
-      let (no_first, no_second) =
-      none_of_two (flags at) (flags (at + 16)) (long_a ∙ sym (long (at + 16) (omega arith) (omega arith))) no_two in
-      (no_first, no_second, no_third, no_last)
-
--- ---- chunks of 64 bytes
-
-pub chunk_parts : (at n m : ℕ) (from : List ℕ) → chunk at (n + m) from ≡ chunk at n from ++ chunk (at + n) m from
-chunk_parts at n m from = cc (take-add n m (drop at from), drop-drop n at from)
-
-pub chunk_in_four : (at : ℕ) (from : List ℕ)
-    → chunk at 64 from ≡ ((chunk at 16 from ++ chunk (at + 16) 16 from) ++ chunk (at + 32) 16 from)
-    ++ chunk (at + 48) 16 from
-chunk_in_four at from = cc (chunk_parts at 48 16 from, chunk_parts at 32 16 from, chunk_parts at 16 16 from)
-
-module _ (test : ℕ → Bool) where
-  -- if no flag is set, all bytes are kept
-  pub all_kept : (v : List ℕ) → mask_l (map test v) ≡ 0 → filter (λ b. not (test b)) v ≡ v
-  all_kept [] none = refl
-  all_kept (b ∷ v) none = grind (arith, all_kept v)
-
-  kept_on : (t xs ys : List ℕ) → (t ++ filter test xs) ++ filter test ys ≡ t ++ filter test (xs ++ ys)
-  kept_on t xs ys = cc (append_assoc t (filter test xs) (filter test ys), filter-append test xs ys)
-
-  pub kept_in_four : (t : List ℕ) (at : ℕ) (from : List ℕ)
-      → (((t ++ filter test (chunk at 16 from)) ++ filter test (chunk (at + 16) 16 from))
-      ++ filter test (chunk (at + 32) 16 from)) ++ filter test (chunk (at + 48) 16 from)
-      ≡ t ++ filter test (chunk at 64 from)
-  kept_in_four t at from =
-      let a = chunk at 16 from in
-      let b = chunk (at + 16) 16 from in
-      let c = chunk (at + 32) 16 from in
-      cc (
-        kept_on t a b,
-        kept_on t (a ++ b) c,
-        kept_on t ((a ++ b) ++ c) (chunk (at + 48) 16 from),
-        chunk_in_four at from,
-      )
-
-  -- the bytes kept of four vectors, one after another
-  pub kept_after : (t : List ℕ) (at : ℕ) (from : List ℕ) {a b c d : List ℕ} → a ≡ t ++ filter test (chunk at 16 from)
-      → b ≡ a ++ filter test (chunk (at + 16) 16 from) → c ≡ b ++ filter test (chunk (at + 32) 16 from)
-      → d ≡ c ++ filter test (chunk (at + 48) 16 from) → d ≡ t ++ filter test (chunk at 64 from)
-  kept_after t at from ea eb ec ed = cc (kept_in_four t at from)
-
--- if no flag is set in four vectors, all of their 64 bytes are kept
-pub all_selected_in_four : (test : ℕ → Bool) (at : ℕ) (from : List ℕ)
-    → InFour (λ k. mask_l (map test (chunk k 16 from)) ≡ 0) at
-    → filter (λ b. not (test b)) (chunk at 64 from) ≡ chunk at 64 from
-all_selected_in_four test at from (first, second, third, last) =
-    cc (
-      kept_in_four (λ b. not (test b)) [] at from,
-      all_kept test _ first,
-      all_kept test _ second,
-      all_kept test _ third,
-      all_kept test _ last,
-      chunk_in_four at from,
-    )
-
--- ---- bytes that pass a test, moved to the front
-
--- the lanes that are not in a mask
-pub not_lanes : (fs : List Bool) → map (top 7) (map (bit_not w8) (lanes_of fs)) ≡ map not fs
-not_lanes [] = refl
-not_lanes (f ∷ fs) = λ i. lane f i ∷ not_lanes fs i
-  where
-    lane : (f : Bool) → top 7 (bit_not w8 (cond f 255 0)) ≡ not f
-    lane f = grind arith
-
--- the mask of the bytes that are not in a set, from the mask of those that are
-pub mask_bits : (test : ℕ → Bool) (v : List ℕ) {lanes : List ℤ} → length v ≡ 16 → lanes ≡ mask_of test v
-    → mask_l (map (top 7) (map (bit_not w8) (map (cast_unsigned w8) lanes))) % 2 ^ 64
-    ≡ mask_l (map (λ b. not (test b)) v)
-mask_bits test v long is =
-    cc (
-      lanes_of_mask test v,
-      not_lanes (map test v),
-      map-map not test v,
-      mask_l-mod (map (λ b. not (test b)) v) 64 (omega (arith, length-map v (λ b. not (test b)))),
-    )
+-- ---- bytes that are stored if they pass a test
 
 -- a byte is stored, and counts if its flag is set
 pub stored_more : (flag : Bool) (row : List ℕ) (count place : ℕ) → count < length row
@@ -283,48 +157,3 @@ pub stored_more : (flag : Bool) (row : List ℕ) (count place : ℕ) → count <
 stored_more true row count place room = take_more_set row count place room
 stored_more false row count place room = ap (λ n. take n (set row count place)) (omega arith) ∙ take-set row count place
     ∙ sym (append-nil (take count row))
-
-module _ {test : ℕ → Bool} {from into : List ℕ} {at count : ℕ} (before : IsFilteredTo test from at into count) where
-  -- a vector or chunk more
-  pub filter_piece : (size : ℕ) {after : List ℕ} {end : ℕ} → at + size ≤ length from → end ≤ count + size
-      → length after ≡ 8224 → take end after ≡ take count into ++ filter test (chunk at size from)
-      → IsFilteredTo test from (at + size) after end
-  filter_piece size room few long put = record {
-    within = room;
-    few = omega arith;
-    room = long;
-    kept = cc (filter-append test (take at from) (chunk at size from), take-add at size from);
-  }
-
-  -- one byte more
-  pub filter_byte : {after : List ℕ} {end : ℕ} → at < length from → at < 8224
-      → after ≡ set into count (get_or from at 0) → end ≡ count + from_bool (test (get_or from at 0))
-      → IsFilteredTo test from (at + 1) after end
-  filter_byte room small is eof = record {
-    within = omega arith;
-    few = omega (arith, bit_small (test b));
-    room = cc (length-set into count b);
-    kept =
-        cc (
-          bit (test b),
-          stored_more (test b) into count b (omega arith),
-          filter-append test (take at from) (b ∷ []),
-          take_more from at 0 room,
-        );
-  }
-    where
-      b : ℕ
-      b = get_or from at 0
-
-      bit : (t : Bool) → from_bool t ≡ cond t 1 0
-      bit true = refl
-      bit false = refl
-
-      bit_small : (t : Bool) → from_bool t ≤ 1
-      bit_small true = omega arith
-      bit_small false = omega arith
-
--- all bytes
-pub filter_keeps_all : {test : ℕ → Bool} {from into : List ℕ} {at count : ℕ} → IsFilteredTo test from at into count
-    → length from ≤ at → (take count into ≡ filter test from) × (count ≤ length from)
-filter_keeps_all {from} {at} keeps all = (cc (take_all at from all), omega arith)

@@ -1,9 +1,7 @@
-//! Sets of bytes that test 16 bytes at once. `filter`, `squeeze` and `tr` use them.
+//! Sets of bytes that test 16 bytes at once. `filter` and `tr` use them.
 
 ghost use Rattle.std.specs.Prelude.{◌≡◌, ◌/◌, ◌%◌, map, slice_index};
-ghost use Rattle.ptflow.specs.Private.Vectors.ByteSets.{IsSetOf};
 
-use crate::simd::compress::CompressTable;
 use std::simd::Mask;
 use std::simd::prelude::*;
 
@@ -34,27 +32,6 @@ pub(crate) struct ByteSet {
     pub high: u8x16,
 }
 
-/// A set together with the 256 flags that it was made of, and the table for compression.
-#[derive(Clone, Copy)]
-pub(crate) struct FlagSet<'a> {
-    pub set: ByteSet,
-    pub flags: &'a [bool; 256],
-    pub table: &'a CompressTable,
-    ghost same: { IsSetOf set flags.now },
-}
-
-impl FlagSet<'_> {
-    ghost use Rattle.ptflow.specs.Private.Vectors.ByteSets.{set_has};
-
-    // Checks whether a byte is in the set.
-    #[inline(always)]
-    pub(crate) fn contains(self, byte: u8) -> bool
-        ensures { result ≡ set_has self.entry.set byte }
-    {
-        self.flags[usize::from(byte)]
-    }
-}
-
 impl ByteSet {
     ghost use Rattle.ptflow.specs.Private.Vectors.ByteSets.{IsSetOf, set_has, mask_of};
 
@@ -72,6 +49,15 @@ impl ByteSet {
             low: u8x16::from_array(low),
             high: u8x16::from_array(high),
         }
+    }
+
+    // Checks whether a byte is in the set.
+    #[inline(always)]
+    pub(crate) fn contains(self, byte: u8) -> bool
+        ensures { result ≡ set_has self byte }
+    {
+        let table = if byte < 128 { self.low } else { self.high };
+        table[usize::from(byte % 16)] >> (byte / 16 % 8) & 1 == 1
     }
 
     // The lane mask of the bytes that are in the set.

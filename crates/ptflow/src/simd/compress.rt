@@ -1,6 +1,6 @@
 //! Appends the selected bytes of a vector of 16 bytes to an output buffer (`compress16`), or a chunk of 64 bytes of
-//! which all are selected (`copy_chunk`). `filter` and `squeeze` use both, on a `Block`. The rows of the
-//! `CompressTable`, which `tr` makes, are byte shuffles that move the selected bytes of eight to the front.
+//! which all are selected (`copy_chunk`). `filter` uses both. The rows of the `CompressTable`, which `tr`
+//! makes, are byte shuffles that move the selected bytes of eight to the front.
 
 ghost use Rattle.std.specs.Prelude.{◌≡◌, ◌≤◌, ◌+◌, ◌++◌, ℕ, List, Bool, length, take};
 ghost use Rattle.std.specs.Simd.Lanes.{mask_l, chunk};
@@ -11,13 +11,6 @@ use std::simd::prelude::*;
 
 /// Room for the selected bytes of a block, even if a whole vector is stored after the last of them.
 pub(crate) type OutBuf = [u8; 8224];
-
-/// A block of at most 8,192 bytes.
-#[derive(Clone, Copy)]
-pub(crate) struct Block<'a> {
-    pub bytes: &'a [u8],
-    ghost small: { length bytes.now ≤ 8192 },
-}
 
 // For each mask of eight flags, the indices of those that are set, in order.
 #[derive(Clone, Copy)]
@@ -48,15 +41,16 @@ impl CompressTable {
     }
 }
 
-// Appends the 64 bytes at index `at` to the first `count` bytes of `into`.
+// Appends the 64 bytes at index `at` to the first `count` bytes of `into`. Returns the new count.
 #[inline(always)]
-pub(crate) fn copy_chunk(block: Block, at: usize, into: &mut OutBuf, count: usize)
-    requires { ChunkPre block.bytes.now at count }
-    ensures { take (count + 64) into.new ≡ take count into.old ++ chunk at 64 block.entry.bytes.now }
+pub(crate) fn copy_chunk(from: &[u8], at: usize, into: &mut OutBuf, count: usize) -> usize
+    requires { ChunkPre from.now at count }
+    ensures copied { take result into.new ≡ take count into.old ++ chunk at 64 from.now }
+    ensures end { result ≡ count + 64 }
 {
-    let from = block.bytes;
     let into: &mut [u8] = into;
     u8x64::from_slice(&from[at..]).copy_to_slice(&mut into[count..]);
+    count + 64
 }
 
 // Appends to the first `at` bytes of `into` the bytes of those of the first eight lanes of `v` whose bit in `keep` is

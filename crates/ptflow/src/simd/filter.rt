@@ -1,75 +1,158 @@
-//! Removes the bytes of a set from a block. `tr -d` uses it.
+//! Removes bytes of a set: each of them, or those that repeat the byte before them. `tr -d` and `tr -s` use it.
 
-ghost use Rattle.std.specs.Prelude.{◌≡◌, ◌≤◌, ◌+◌, ◌++◌, false, not, length, filter, take, slice_index_or};
-ghost use Rattle.std.specs.Simd.Lanes.{chunk};
-ghost use Rattle.ptflow.specs.Private.Vectors.ByteSets.{IsFilteredTo, set_has};
+ghost use Rattle.std.specs.Prelude.{◌≡◌, ◌≤◌, ◌+◌, ◌++◌, ◌==◌, not, length, filter, take, drop};
+ghost use Rattle.std.specs.Simd.Lanes.{chunk, mask_l, zip2};
+ghost use Rattle.ptflow.specs.Private.Vectors.ByteSets.{set_has, keep_flags, kept_bytes, FilterPre};
 ghost use Rattle.ptflow.specs.Private.Vectors.Compress.{ChunkPre};
+ghost use Rattle.ptflow.specs.Private.Tr.TrFrom.{squeeze_from};
 
-use crate::simd::byte_set::FlagSet;
-use crate::simd::compress::{Block, OutBuf, compress16, copy_chunk};
+use crate::simd::byte_set::ByteSet;
+use crate::simd::compress::{CompressTable, OutBuf, compress16, copy_chunk};
 use std::simd::prelude::*;
 
-// Appends the bytes of a vector that are not in the set to the first `count` bytes of `into`. Returns the new count.
-#[inline(always)]
-fn filter16(by: FlagSet, bytes: u8x16, into: &mut OutBuf, count: usize) -> usize
-    requires { count ≤ 8200 }
-    ensures kept { take result into.new ≡ take count into.old ++ filter (λ b. not (set_has by.entry.set b)) bytes }
-    ensures end { result ≤ count + 16 }
-{
-    let keep = !by.set.test(bytes);
-    compress16(by.table, bytes, keep.to_bitmask(), into, count)
+/// The set of the bytes that may be removed, and the table for compression.
+#[derive(Clone, Copy)]
+pub(crate) struct Filter<'a> {
+    pub set: ByteSet,
+    pub table: &'a CompressTable,
 }
 
-// Appends those of the 64 bytes at index `at` that are not in the set. Returns the new count. If none is in the set,
-// the chunk is copied whole.
+// Bytes, and the bytes that they are compared with. A byte of the set is removed if it is equal to the one in `before`.
+#[derive(Clone, Copy)]
+struct Pairs<'a> {
+    before: &'a [u8],
+    bytes: &'a [u8],
+    ghost paired: { length bytes.now ≤ length before.now },
+}
+
+impl Pairs<'_> {
+    // The mask of those of the 16 bytes at index `at` that are equal to what they are compared with.
+    #[inline(always)]
+    fn same16(self, at: usize) -> u64
+        requires { at + 16 ≤ length self.bytes.now }
+        ensures { result ≡ mask_l (zip2 ◌==◌ (chunk at 16 self.entry.before.now) (chunk at 16 self.entry.bytes.now)) }
+    {
+        let Pairs { before, bytes } = self;
+        let v = u8x16::from_slice(&bytes[at..]);
+        u8x16::from_slice(&before[at..]).simd_eq(v).to_bitmask()
+    }
+
+    // The mask of those of the 16 bytes at index `at` that are kept.
+    #[inline(always)]
+    fn keep16(self, set: ByteSet, at: usize) -> u64
+        requires { at + 16 ≤ length self.bytes.now }
+        ensures { result
+            ≡ mask_l (keep_flags (set_has set) (chunk at 16 self.entry.before.now) (chunk at 16 self.entry.bytes.now)) }
+    {
+        let Pairs { before, bytes } = self;
+        let v = u8x16::from_slice(&bytes[at..]);
+        let removed = u8x16::from_slice(&before[at..]).simd_eq(v) & set.test(v);
+        0xffff - removed.to_bitmask()
+    }
+}
+
+// Appends those of the 64 bytes at index `at` that are kept. Returns the new count. If no byte is equal to the one that
+// it is compared with, which is tested first, or all are kept, the chunk is copied whole.
 #[inline(always)]
-fn filter64(by: FlagSet, block: Block, at: usize, into: &mut OutBuf, count: usize) -> usize
-    requires { ChunkPre block.bytes.now at count }
+fn filter64(by: Filter, pairs: Pairs, at: usize, into: &mut OutBuf, count: usize) -> usize
+    requires { ChunkPre pairs.bytes.now at count }
     ensures kept { take result into.new
-        ≡ take count into.old ++ filter (λ b. not (set_has by.entry.set b)) (chunk at 64 block.entry.bytes.now) }
+        ≡ take count into.old
+        ++ kept_bytes (set_has by.entry.set) (chunk at 64 pairs.entry.before.now) (chunk at 64 pairs.entry.bytes.now) }
     ensures end { result ≤ count + 64 }
 {
-    let from = block.bytes;
+    let from = pairs.bytes;
+    let same_ab = pairs.same16(at) | pairs.same16(at + 16);
+    if same_ab | pairs.same16(at + 32) | pairs.same16(at + 48) == 0 {
+        return copy_chunk(from, at, into, count);
+    }
+    let keep_a = pairs.keep16(by.set, at);
+    let keep_b = pairs.keep16(by.set, at + 16);
+    let keep_c = pairs.keep16(by.set, at + 32);
+    let keep_d = pairs.keep16(by.set, at + 48);
+    if keep_a & keep_b & keep_c & keep_d == 0xffff {
+        return copy_chunk(from, at, into, count);
+    }
     let a = u8x16::from_slice(&from[at..]);
     let b = u8x16::from_slice(&from[at + 16..]);
     let c = u8x16::from_slice(&from[at + 32..]);
     let d = u8x16::from_slice(&from[at + 48..]);
-    let removed = by.set.test(a) | by.set.test(b) | by.set.test(c) | by.set.test(d);
-    if removed.to_bitmask() == 0 {
-        copy_chunk(block, at, into, count);
-        return count + 64;
-    }
-    let first = filter16(by, a, into, count);
-    let second = filter16(by, b, into, first);
-    let third = filter16(by, c, into, second);
-    filter16(by, d, into, third)
+    let first = compress16(by.table, a, keep_a, into, count);
+    let second = compress16(by.table, b, keep_b, into, first);
+    let third = compress16(by.table, c, keep_c, into, second);
+    compress16(by.table, d, keep_d, into, third)
 }
 
-// Removes the bytes of the set, 64 bytes at a time. Returns how many bytes were read, and how many of them were kept.
-#[inline(always)]
-fn filter_by_64(by: FlagSet, block: Block, into: &mut OutBuf) -> (usize, usize)
-    ensures { IsFilteredTo (λ b. not (set_has by.entry.set b)) block.entry.bytes.now result.0 into.new result.1 }
+// Appends the bytes from index `start` on that are kept, one by one. Returns the new count.
+fn filter_tail(by: Filter, pairs: Pairs, start: usize, into: &mut OutBuf, count: usize) -> usize
+    requires { FilterPre pairs.bytes.now start count }
+    ensures kept { take result into.new
+        ≡ take count into.old
+        ++ kept_bytes (set_has by.entry.set) (drop start pairs.entry.before.now) (drop start pairs.entry.bytes.now) }
+    ensures end { result + start ≤ count + length pairs.entry.bytes.now }
 {
-    let mut at = 0;
-    let mut count = 0;
-    while block.bytes.len() - at >= 64 {
-        count = filter64(by, block, at, into, count);
-        at += 64;
-    }
-    (at, count)
-}
-
-// Copies the bytes that are not in the set to the front of `into`. Returns how many they are.
-pub(crate) fn filter_out(by: FlagSet, from: &[u8], into: &mut OutBuf) -> usize
-    requires { length from.now ≤ 8192 }
-    ensures kept { take result into.new ≡ filter (λ b. not (slice_index_or by.entry.flags.now b false)) from.now }
-    ensures within { result ≤ length from.now }
-{
-    let (mut at, mut count) = filter_by_64(by, Block { bytes: from }, into);
-    while at < from.len() {
-        into[count] = from[at];
-        count += usize::from(!by.contains(from[at]));
-        at += 1;
+    let mut count = count;
+    for at in start..pairs.bytes.len() {
+        let byte = pairs.bytes[at];
+        let removed = (pairs.before[at] == byte) & by.set.contains(byte);
+        into[count] = byte;
+        count += usize::from(!removed);
     }
     count
+}
+
+// Appends the bytes that are kept, 64 at a time. Returns the new count.
+#[inline(never)]
+fn filter_pairs(by: Filter, pairs: Pairs, into: &mut OutBuf, count: usize) -> usize
+    requires { FilterPre pairs.bytes.now 0 count }
+    ensures kept { take result into.new
+        ≡ take count into.old ++ kept_bytes (set_has by.entry.set) pairs.entry.before.now pairs.entry.bytes.now }
+    ensures end { result ≤ count + length pairs.entry.bytes.now }
+{
+    let mut at = 0;
+    let mut count = count;
+    while pairs.bytes.len() - at >= 64 {
+        count = filter64(by, pairs, at, into, count);
+        at += 64;
+    }
+    filter_tail(by, pairs, at, into, count)
+}
+
+/// Copies the bytes that are not in the set to the front of `into`, and returns them.
+pub(crate) fn remove<'b>(by: Filter, from: &[u8], into: &'b mut OutBuf) -> &'b [u8]
+    requires { length from.now ≤ 8192 }
+    ensures kept { result.now ≡ filter (λ b. not (set_has by.entry.set b)) from.now }
+    ensures within { length result.now ≤ length from.now }
+{
+    let pairs = Pairs {
+        before: from,
+        bytes: from,
+    };
+    let count = filter_pairs(by, pairs, into, 0);
+    &into[..count]
+}
+
+/// Copies `from` without the repeats of bytes of the set to the front of `into`, and returns what was copied. `last` is
+/// the byte before `from`, if there is one.
+pub(crate) fn squeeze<'b>(
+    by: Filter,
+    last: Option<u8>,
+    from: &'b [u8],
+    into: &'b mut OutBuf,
+) -> &'b [u8]
+    requires { length from.now ≤ 8192 }
+    ensures { result.now ≡ squeeze_from (set_has by.entry.set) last from.now }
+{
+    if from.is_empty() {
+        return from;
+    }
+    let first = from[0];
+    let repeats = (last == Some(first)) & by.set.contains(first);
+    into[0] = first;
+    let pairs = Pairs {
+        before: from,
+        bytes: &from[1..],
+    };
+    let count = filter_pairs(by, pairs, into, usize::from(!repeats));
+    &into[..count]
 }

@@ -69,18 +69,12 @@ impl ShiftRange {
     fn of(range: Option<(u8, u8, u8)>) -> ShiftRange
         ensures { (b : ℕ) → b < 256 → range_delta result b ≡ stretch_delta range b }
     {
-        match range {
-            Some((first, last, by)) if first <= last => ShiftRange {
-                first,
-                width: last - first,
-                by,
-            },
-            _ => ShiftRange {
-                first: 0,
-                width: 0,
-                by: 0,
-            },
-        }
+        let (first, last, by) = match range {
+            Some(stretch) if stretch.0 <= stretch.1 => stretch,
+            _ => (0, 0, 0),
+        };
+        let width = last - first;
+        ShiftRange { first, width, by }
     }
 
     // The values that are added to the bytes of a vector.

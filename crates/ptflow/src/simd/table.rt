@@ -1,153 +1,109 @@
 //! Maps bytes by a table of 256 images, 16 bytes at a time. `tr` uses it.
 //!
-//! A shuffle looks up 16 entries by the low nibbles of the bytes. Each further bit of a byte selects one of two halves of
-//! a table. Only the part of the table whose bytes differ from their image is looked up.
+//! A shuffle looks up 16 entries by the low nibbles of the bytes, so an eighth of the table takes two. Only the eighths
+//! that contain a byte which differs from its image are looked up.
 
-ghost use Rattle.std.specs.Prelude.{◌≡◌, ◌<◌, ◌≤◌, ◌+◌, ◌*◌, ◌^◌, ℕ, List, length, map, slice_index};
-ghost use Rattle.ptflow.specs.Private.Vectors.Tables.{entry_of, image_in, image_by_window, IsSameOutside};
+ghost use Rattle.std.specs.Prelude.{◌≡◌, ◌<◌, ◌≤◌, ◌/◌, ◌==◌, ℕ, length, map, take, slice_index, if◌then◌else◌};
+ghost use Rattle.ptflow.specs.Private.Vectors.Tables.{image_in_eighths, HasMoved};
 
 use crate::simd::byte_set::by_low_nibble;
-use crate::simd::shift::ByteMap;
+use crate::simd::shift::{ByteMap, map_bytes};
 use std::simd::prelude::*;
 
-// The images of bytes by a table of 2^(bit + 1) entries, from those by its two halves. The bit of a byte selects one.
+// The images of the bytes that are in the eighth of the table which contains `byte`. Any other byte has its image in
+// `others`.
 #[inline(always)]
-fn select_half(v: u8x16, bit: u8, lower: u8x16, upper: u8x16) -> u8x16
-    requires { bit < 8 }
-    ensures { (table : List ℕ) (start : ℕ) → lower ≡ map (entry_of table start (2 ^ bit)) v
-        → upper ≡ map (entry_of table (start + 2 ^ bit) (2 ^ bit)) v
-        → result ≡ map (entry_of table start (2 * 2 ^ bit)) v }
+fn look_up_eighth(table: &[u8; 256], byte: u8, v: u8x16, others: u8x16) -> u8x16
+    ensures { (image : ℕ → ℕ) → others ≡ map image v
+        → result ≡ map (λ b. if byte / 32 == b / 32 then slice_index table.now b else image b) v }
 {
-    let is_upper = (v & u8x16::splat(1 << bit)).simd_ne(u8x16::splat(0));
-    is_upper.select(upper, lower)
+    let table: &[u8] = table;
+    let eighth = byte / 32;
+    let start = 32 * usize::from(eighth);
+    let lower = by_low_nibble(u8x16::from_slice(&table[start..]), v);
+    let upper = by_low_nibble(u8x16::from_slice(&table[start + 16..]), v);
+    let is_upper = (v & u8x16::splat(16)).simd_ne(u8x16::splat(0));
+    let is_inside = (v >> u8x16::splat(5)).simd_eq(u8x16::splat(eighth));
+    is_inside.select(is_upper.select(upper, lower), others)
 }
 
-// The images of bytes by the 16 entries of a table from index `start` on.
+// The images of the bytes that are in `N` eighths of a table, each given by a byte that it contains. No other byte is
+// changed.
 #[inline(always)]
-fn look_up_16(table: &[u8], start: usize, v: u8x16) -> u8x16
-    requires { start + 16 ≤ length table.now }
-    ensures { result ≡ map (entry_of table.now start 16) v }
+fn look_up<const N: usize>(table: &[u8; 256], eighths: [u8; N], v: u8x16) -> u8x16
+    ensures { result ≡ map (image_in_eighths eighths.entry table.now) v }
 {
-    by_low_nibble(u8x16::from_slice(&table[start..]), v)
-}
-
-// Like `look_up_16`, by 32 entries.
-#[inline(always)]
-fn look_up_32(table: &[u8], start: usize, v: u8x16) -> u8x16
-    requires { start + 32 ≤ length table.now }
-    ensures { result ≡ map (entry_of table.now start 32) v }
-{
-    let lower = look_up_16(table, start, v);
-    select_half(v, 4, lower, look_up_16(table, start + 16, v))
-}
-
-// Like `look_up_16`, by 64 entries.
-#[inline(always)]
-fn look_up_64(table: &[u8], start: usize, v: u8x16) -> u8x16
-    requires { start + 64 ≤ length table.now }
-    ensures { result ≡ map (entry_of table.now start 64) v }
-{
-    let lower = look_up_32(table, start, v);
-    select_half(v, 5, lower, look_up_32(table, start + 32, v))
-}
-
-// Like `look_up_16`, by 128 entries.
-#[inline(always)]
-fn look_up_128(table: &[u8], start: usize, v: u8x16) -> u8x16
-    requires { start + 128 ≤ length table.now }
-    ensures { result ≡ map (entry_of table.now start 128) v }
-{
-    let lower = look_up_64(table, start, v);
-    select_half(v, 6, lower, look_up_64(table, start + 64, v))
-}
-
-// The images of the bytes whose bits from `bits` on are `index`, and any other byte as it is.
-#[inline(always)]
-fn select_window(v: u8x16, bits: u8, index: u8, images: u8x16) -> u8x16
-    requires { bits < 8 }
-    ensures { (table : List ℕ) → images ≡ map (entry_of table (2 ^ bits * index) (2 ^ bits)) v
-        → result ≡ map (image_in bits index table) v }
-{
-    let is_inside = (v >> u8x16::splat(bits)).simd_eq(u8x16::splat(index));
-    is_inside.select(images, v)
-}
-
-/// The first and the last byte that differ from their image. If there is none, 255 and 0.
-pub(crate) fn moved_span(images: &[u8; 256]) -> (u8, u8)
-    ensures { IsSameOutside result.0 result.1 images.now }
-{
-    let mut first = 255;
-    let mut last = 0;
-    for byte in 0..=255 {
-        if images[usize::from(byte)] != byte {
-            first = byte.min(first);
-            last = byte;
-        }
+    let mut images = v;
+    for index in 0..N {
+        images = look_up_eighth(table, eighths[index], v, images);
     }
-    (first, last)
+    images
 }
 
-/// A part of the 256 bytes.
+/// The map by `look_up`.
 #[derive(Clone, Copy)]
-pub(crate) enum Window {
-    /// The eighth that contains this byte.
-    Eighth(u8),
-    /// The quarter that contains this byte.
-    Quarter(u8),
-    /// The half that contains this byte.
-    Half(u8),
-    /// All bytes.
-    Whole,
+struct TableMap<'a, const N: usize> {
+    images: &'a [u8; 256],
+    eighths: [u8; N],
 }
 
-impl Window {
-    /// The least window that contains these bytes, and so all bytes that differ from their image.
-    pub(crate) fn of(first: u8, last: u8) -> Window
-        ensures { (images : List ℕ) → IsSameOutside first last images
-            → (b : ℕ) → b < 256 → image_by_window result images b ≡ slice_index images b }
-    {
-        if first / 32 == last / 32 {
-            Window::Eighth(first)
-        } else if first / 64 == last / 64 {
-            Window::Quarter(first)
-        } else if first / 128 == last / 128 {
-            Window::Half(first)
-        } else {
-            Window::Whole
-        }
-    }
-}
-
-/// The map that a table of images makes of the bytes in a window. No other byte is changed.
-#[derive(Clone, Copy)]
-pub(crate) struct TableMap<'a> {
-    pub images: &'a [u8; 256],
-    pub window: Window,
-}
-
-impl ByteMap for TableMap<'_> {
-    ghost map_byte = { λ by. image_by_window by.window by.images.now };
+impl<const N: usize> ByteMap for TableMap<'_, N> {
+    ghost map_byte = { λ by. image_in_eighths by.eighths by.images.now };
 
     #[inline(always)]
     fn map16(self, v: u8x16) -> u8x16 {
-        let table = self.images;
-        match self.window {
-            Window::Eighth(byte) => {
-                let index = byte / 32;
-                select_window(v, 5, index, look_up_32(table, 32 * usize::from(index), v))
+        look_up(self.images, self.eighths, v)
+    }
+}
+
+/// The eighths of a table of images that contain a byte which differs from its image: the first such byte of each.
+#[derive(Clone, Copy)]
+pub(crate) struct Eighths {
+    pub bytes: [u8; 8],
+    pub count: usize,
+}
+
+impl Eighths {
+    /// The eighths of a table.
+    pub(crate) fn of(images: &[u8; 256]) -> Eighths
+        ensures { HasMoved result images.now }
+    {
+        let mut bytes = [0; 8];
+        let mut count = 0;
+        let mut next = 0;
+        for byte in 0..256 {
+            if usize::from(images[byte]) != byte && byte / 32 >= next {
+                bytes[count] = byte as u8;
+                count += 1;
+                next = byte / 32 + 1;
             }
-            Window::Quarter(byte) => {
-                let index = byte / 64;
-                select_window(v, 6, index, look_up_64(table, 64 * usize::from(index), v))
-            }
-            Window::Half(byte) => {
-                let index = byte / 128;
-                select_window(v, 7, index, look_up_128(table, 128 * usize::from(index), v))
-            }
-            Window::Whole => {
-                let lower = look_up_128(table, 0, v);
-                select_half(v, 7, lower, look_up_128(table, 128, v))
-            }
+        }
+        Eighths { bytes, count }
+    }
+
+    // The map by the first `N` eighths.
+    fn first<const N: usize>(self, images: &[u8; 256]) -> TableMap<'_, N>
+        requires { N ≤ 8 }
+        ensures images { result.images.now ≡ images.now }
+        ensures eighths { result.eighths ≡ take N self.bytes }
+    {
+        let mut eighths = [0; N];
+        eighths.copy_from_slice(&self.bytes[..N]);
+        TableMap { images, eighths }
+    }
+
+    /// Stores the images of the bytes of `from` in `to`, which is as long.
+    pub(crate) fn store_images(self, images: &[u8; 256], from: &[u8], to: &mut [u8])
+        requires moved { HasMoved self images.now }
+        requires long { length to.old ≡ length from.now }
+        ensures { to.new ≡ map (slice_index images.now) from.now }
+    {
+        match self.count {
+            0 | 1 => map_bytes(self.first::<1>(images), from, to),
+            2 => map_bytes(self.first::<2>(images), from, to),
+            3 => map_bytes(self.first::<3>(images), from, to),
+            4 => map_bytes(self.first::<4>(images), from, to),
+            _ => map_bytes(self.first::<8>(images), from, to),
         }
     }
 }

@@ -6,17 +6,17 @@ ghost use Rattle.std.specs.Prelude.{◌≡◌, ◌≢◌, ◌≤◌, length, map
 ghost use Rattle.ptlangs.specs.TrTables.{deletes, image, squeezes};
 ghost use Rattle.ptflow.specs.Passes.{PassPre, StorelessPost, no_store};
 ghost use Rattle.ptflow.specs.TrOutput.{tr_tool};
-ghost use Rattle.ptflow.specs.Private.Tr.MapKinds.{IsMapKind};
+ghost use Rattle.ptflow.specs.Private.Tr.MapKinds.{IsMapKind, IsMapKind-prop};
 ghost use Rattle.ptflow.specs.Private.Tr.TrFrom.{IsOptionalSet, IsOptionalSet-prop, squeeze_from};
 
 mod map_kind;
 
 use crate::block_loop::{BlockFilter, run_blocks};
 use crate::faults::FlowFault;
-use crate::simd::byte_set::{ByteSet, FlagSet};
+use crate::simd::byte_set::ByteSet;
 use crate::simd::compress::{CompressTable, OutBuf};
-use crate::simd::filter::filter_out;
-use crate::simd::squeeze::squeeze_block;
+use crate::simd::filter::{Filter, remove, squeeze};
+use crate::simd::shift::{map_bytes, translate};
 use crate::tools::tr::map_kind::MapKind;
 use ptlangs::CharPlan;
 use ptlines::{LineReader, Out, Sink, Source, WriteFault};
@@ -31,7 +31,7 @@ struct Translation<'a> {
     squeezing: Option<ByteSet>,
     table: CompressTable,
     ghost is_deleting: { IsOptionalSet deleting plan.now.deleted } by { IsOptionalSet-prop deleting plan.now.deleted },
-    ghost is_map_kind: { IsMapKind map_kind plan.now },
+    ghost is_map_kind: { IsMapKind map_kind plan.now.images } by { IsMapKind-prop map_kind plan.now.images },
     ghost is_squeezing: { IsOptionalSet squeezing plan.now.squeezed } by { IsOptionalSet-prop squeezing plan.now.squeezed },
 }
 
@@ -39,11 +39,7 @@ struct Translation<'a> {
 fn optional_set(flags: &[bool; 256]) -> Option<ByteSet>
     ensures { IsOptionalSet result flags.now }
 {
-    if flags.contains(&true) {
-        Some(ByteSet::of(flags))
-    } else {
-        None
-    }
+    flags.contains(&true).then_some(ByteSet::of(flags))
 }
 
 impl<'a> Translation<'a> {
@@ -65,29 +61,26 @@ impl<'a> Translation<'a> {
         ensures kept { result.now ≡ filter (λ b. not (deletes self.now.plan.now b)) block.now }
         ensures within { length result.now ≤ length block.now }
     {
+        let table = &self.table;
         match self.deleting {
-            Some(set) => {
-                let flags = self.plan.deleted();
-                let table = &self.table;
-                let count = filter_out(FlagSet { set, flags, table }, block, into);
-                &into[..count]
-            }
+            Some(set) => remove(Filter { set, table }, block, into),
             None => block,
         }
     }
 
-    // The images of `bytes`, in `into`.
+    // The images of `bytes`, which are stored in `into` if any byte changes.
     fn mapped<'b>(&self, bytes: &'b [u8], into: &'b mut OutBuf) -> &'b [u8]
         requires { length bytes.now ≤ 8192 }
         ensures { result.now ≡ map (image self.now.plan.now) bytes.now }
     {
-        if let MapKind::Identity = self.map_kind {
-            return bytes;
+        let to = &mut into[..bytes.len()];
+        match &self.map_kind {
+            MapKind::Identity => return bytes,
+            MapKind::Shifts(shifts) => translate(shifts, bytes, to),
+            MapKind::SetToByte(set_map) => map_bytes(*set_map, bytes, to),
+            MapKind::Table(eighths) => eighths.store_images(self.plan.images(), bytes, to),
         }
-        let images = &mut into[..bytes.len()];
-        self.map_kind
-            .store_images(self.plan.images(), bytes, images);
-        images
+        to
     }
 
     // The bytes that are left after squeezing, in `into`. `last` is the byte before `bytes`, if there is one.
@@ -95,13 +88,9 @@ impl<'a> Translation<'a> {
         requires { length bytes.now ≤ 8192 }
         ensures { result.now ≡ squeeze_from (squeezes self.now.plan.now) last bytes.now }
     {
+        let table = &self.table;
         match self.squeezing {
-            Some(set) => {
-                let flags = self.plan.squeezed();
-                let table = &self.table;
-                let count = squeeze_block(FlagSet { set, flags, table }, last, bytes, into);
-                &into[..count]
-            }
+            Some(set) => squeeze(Filter { set, table }, last, bytes, into),
             None => bytes,
         }
     }

@@ -1,5 +1,5 @@
 -- The output of `tr` for the rest of a text, which depends on the last byte of the output so far.
-use Rattle.std.specs.Prelude.{◌≡◌, ◌<◌, ◌≤◌, ℕ, List, Bool, false, Option, None, Some, length, slice_index_or}
+use Rattle.std.specs.Prelude.{◌≡◌, ℕ, List, Bool, false, Option, None, Some, slice_index_or}
 use Rattle.std.proofs.Props.{props}
 use Rattle.ptlangs.specs.TrTables.{Tables, squeezes}
 use Rattle.ptflow.specs.declared.simd.byte_set.ByteSet.{ByteSet}
@@ -10,12 +10,6 @@ use Rattle.ptflow.specs.Private.Vectors.ByteSets.{IsSetOf}
 abbrev pub squeeze_from : (ℕ → Bool) → Option ℕ → List ℕ → List ℕ
 squeeze_from squeezed None bytes = squeeze squeezed bytes
 squeeze_from squeezed (Some last) bytes = squeeze_after squeezed last bytes
-
--- index `at` is in the bytes and not the first one, and `count`, the number of bytes kept before it, is at most `at`
-pub record SqueezePre (bytes : List ℕ) (at count : ℕ) : Type 0 where
-  pub not_first : 0 < at
-  pub within : at ≤ length bytes
-  pub counted : count ≤ at
 
 -- the output for the rest of a text, where `last` is the last byte of the output so far, if there is one
 abbrev pub tr_from : Tables → Option ℕ → List ℕ → List ℕ

@@ -1,7 +1,9 @@
 -- Sets of bytes as two bit tables.
-use Rattle.std.specs.Prelude.{◌≡◌, ◌<◌, ◌≤◌, ℕ, ◌/◌, ◌%◌, ◌==◌, Bool, false, List, nat_lt, length, map, filter, take}
+use Rattle.std.specs.Prelude.{◌≡◌, ◌<◌, ◌≤◌, ℕ, ◌+◌, ◌/◌, ◌%◌, ◌==◌, Bool, false, List, nat_lt, length, map, filter, zip}
 use Rattle.std.specs.Prelude.{slice_index, slice_index_or, if◌then◌else◌, ℤ, pos, negsuc}
 use Rattle.std.specs.Int.{bit_at}
+use Rattle.std.specs.Simd.Lanes.{zip2}
+use Rattle.ptflow.specs.TrOutput.{is_not_repeat}
 use Rattle.ptflow.specs.declared.simd.byte_set.ByteSet.{ByteSet}
 
 -- A table of 128 bytes: the low nibble of a byte selects the entry, and the high nibble the bit that is set.
@@ -20,9 +22,15 @@ IsSetOf set flags = (b : ℕ) → b < 256 → set_has set b ≡ slice_index_or f
 abbrev pub mask_of : (ℕ → Bool) → List ℕ → List ℤ
 mask_of test v = map (λ b. if test b then negsuc 0 else pos 0) v
 
--- the first `count` bytes of a buffer are those of the first `at` bytes of a text that pass the test
-pub record IsFilteredTo (test : ℕ → Bool) (from : List ℕ) (at : ℕ) (into : List ℕ) (count : ℕ) : Type 0 where
-  pub within : at ≤ length from
-  pub few : count ≤ at
-  pub room : length into ≡ 8224
-  pub kept : take count into ≡ filter test (take at from)
+-- which bytes are kept: one that passes the test is removed if it is equal to the one at its index in `before`
+abbrev pub keep_flags : (ℕ → Bool) → List ℕ → List ℕ → List Bool
+keep_flags test before bytes = zip2 (λ a b. is_not_repeat test (a, b)) before bytes
+
+-- the bytes that are kept
+abbrev pub kept_bytes : (ℕ → Bool) → List ℕ → List ℕ → List ℕ
+kept_bytes test before bytes = map (λ (pair : ℕ × ℕ). pair.1) (filter (is_not_repeat test) (zip before bytes))
+
+-- index `at` is in the bytes, and the buffer has room for those from there on after the `count` bytes kept before
+pub record FilterPre (bytes : List ℕ) (at count : ℕ) : Type 0 where
+  pub within : at ≤ length bytes
+  pub room : count + length bytes ≤ 8192 + at

@@ -20,10 +20,10 @@ pub record IsCompressRow (flags : List Bool) (row : List ℕ) : Type 0 where
   pub long : length row ≡ 16
   pub lanes : All (λ index. index < 16) row
 
--- a chunk of 64 bytes begins at index `at`, and `count`, the number of bytes kept before it, is at most `at`
+-- a chunk of 64 bytes begins at index `at`, and the buffer has room for it after the `count` bytes kept before
 pub record ChunkPre (bytes : List ℕ) (at count : ℕ) : Type 0 where
   pub lanes : at + 64 ≤ length bytes
-  pub few : count ≤ at
+  pub room : count + 64 ≤ 8192
 
 -- the table has the row of each mask of eight flags
 abbrev pub IsCompressTable : List (List ℕ) → Type 0

@@ -1,11 +1,11 @@
 //! The ways to compute the images of bytes for `tr`, with vectors if the plan allows it.
 
-ghost use Rattle.std.specs.Prelude.{◌≡◌, ◌<◌, ℕ, IfSome, length, map, slice_index};
-ghost use Rattle.ptflow.specs.Private.Tr.MapKinds.{IsMapKind, set_to_byte, image_of_kind};
+ghost use Rattle.std.specs.Prelude.{◌≡◌, ◌<◌, ℕ, IfSome, slice_index};
+ghost use Rattle.ptflow.specs.Private.Tr.MapKinds.{IsMapKind, set_to_byte};
 
 use crate::simd::byte_set::ByteSet;
-use crate::simd::shift::{ByteMap, map_bytes, translate};
-use crate::simd::table::{TableMap, Window, moved_span};
+use crate::simd::shift::ByteMap;
+use crate::simd::table::Eighths;
 use ptlangs::{CharPlan, Shifts};
 use std::simd::prelude::*;
 
@@ -37,10 +37,8 @@ impl MapSetToByte {
                 return None;
             }
         }
-        Some(MapSetToByte {
-            set: ByteSet::of(&flags),
-            byte,
-        })
+        let set = ByteSet::of(&flags);
+        Some(MapSetToByte { set, byte })
     }
 }
 
@@ -53,47 +51,28 @@ pub(crate) enum MapKind {
     Shifts(Shifts),
     /// By a set of bytes that all have the same image.
     SetToByte(MapSetToByte),
-    /// By the plan's table, in a window that contains all bytes that change.
-    Table(Window),
+    /// By the plan's table, in the eighths that contain a byte that changes.
+    Table(Eighths),
 }
 
 impl MapKind {
-    /// The kind for a plan: its shifts, if there are few.
+    /// The fastest kind for a plan. Two eighths of its table are looked up faster than more than two shifts are added.
     pub(crate) fn of(plan: &CharPlan) -> MapKind
-        ensures { IsMapKind result plan.now }
-    {
-        match plan.shifts() {
-            Some(shifts) if shifts.stretch(0).is_none() => MapKind::Identity,
-            Some(shifts) => MapKind::Shifts(shifts),
-            None => MapKind::of_images(plan),
-        }
-    }
-
-    // The kind for a plan that has too many shifts.
-    fn of_images(plan: &CharPlan) -> MapKind
-        ensures { IsMapKind result plan.now }
+        ensures { IsMapKind result plan.now.images }
     {
         let images = plan.images();
-        let (first, last) = moved_span(images);
-        match MapSetToByte::of(images, images[usize::from(first)]) {
-            Some(set_map) => MapKind::SetToByte(set_map),
-            None => MapKind::Table(Window::of(first, last)),
+        let eighths = Eighths::of(images);
+        if eighths.count == 0 {
+            return MapKind::Identity;
         }
-    }
-
-    /// Stores the images of the bytes of `from` in `to`, which is as long. `images` is the plan's table.
-    pub(crate) fn store_images(&self, images: &[u8; 256], from: &[u8], to: &mut [u8])
-        requires { length to.old ≡ length from.now }
-        ensures { to.new ≡ map (image_of_kind self.now images.now) from.now }
-    {
-        match self {
-            MapKind::Identity => to.copy_from_slice(from),
-            MapKind::Shifts(shifts) => translate(shifts, from, to),
-            MapKind::SetToByte(set_map) => map_bytes(*set_map, from, to),
-            MapKind::Table(window) => {
-                let window = *window;
-                map_bytes(TableMap { images, window }, from, to);
-            }
+        match plan.shifts() {
+            Some(shifts) if eighths.count > 2 || shifts.stretch(2).is_none() => MapKind::Shifts(
+                shifts,
+            ),
+            _ => match MapSetToByte::of(images, images[usize::from(eighths.bytes[0])]) {
+                Some(set_map) => MapKind::SetToByte(set_map),
+                None => MapKind::Table(eighths),
+            },
         }
     }
 }

@@ -1,7 +1,7 @@
 use Rattle.ptflow.proofs.Common.{◌+◌, arith, chunk, take_more_put_chunk, length-chunk}
 use Rattle.ptflow.proofs.simd.compress.copy_chunk.Goals as goal
 
-pub returns : goal.returns
-returns c =
-    take_more_put_chunk c.args.count c.args.into.now (chunk c.args.at 64 c.args.block.bytes.now) (c.args.count + 64)
-    (omega (arith, length-chunk c.args.at 64 c.args.block.bytes.now c.requires.lanes)) (omega arith)
+pub returns-clause-copied : goal.returns-clause-copied
+returns-clause-copied c =
+    take_more_put_chunk c.args.count c.args.into.now (chunk c.args.at 64 c.args.from.now) (c.args.count + 64)
+    (omega (arith, length-chunk c.args.at 64 c.args.from.now c.requires.lanes)) (omega arith)

@@ -1,24 +1,39 @@
--- If no lane is set in the union of the four masks, all 64 bytes are kept. Otherwise each vector appends its own bytes.
-use Rattle.ptflow.proofs.Common.{ℕ, ◌∙◌, not, take, map, arith, chunk, length-chunk, length-map, set_has, ◌+◌, ap, ◌++◌}
-use Rattle.ptflow.proofs.Common.{sym, cast_unsigned, w8}
-use Rattle.ptflow.proofs.Vectors.Lanes.{lanes_of_mask, none_of_four, all_selected_in_four, kept_after}
+-- If no byte is equal to the one that it is compared with, or the four masks are full, all 64 bytes are kept. Otherwise
+-- each of the four vectors appends those of its bytes that are kept.
+use Rattle.ptflow.proofs.Common.{ℕ, ◌+◌, ◌++◌, ◌∙◌, ap, sym, arith, take, set_has, is_not_repeat}
+use Rattle.ptflow.proofs.Vectors.Filter.{all_kept_in_four, flags_at, kept_in_four, none_equal_in_four, pairs_long}
+use Rattle.ptflow.proofs.Vectors.Filter.{select_kept_at}
 use Rattle.ptflow.proofs.simd.filter.filter64.Goals as goal
 
-pub returns-then-removed-eq0-clause-kept : goal.returns-then-removed-eq0-clause-kept
-returns-then-removed-eq0-clause-kept c =
-    let at = c.args.at in
-    let from = c.args.block.bytes.now in
-    let test = set_has c.args.by.set in
-    let bytes = map (cast_unsigned w8) in
-    let lanes = λ (k : ℕ). lanes_of_mask test (chunk k 16 from) in
-    let none = none_of_four (λ k. map test (chunk k 16 from)) at
-    (λ k low high. length-map (chunk k 16 from) test ∙ length-chunk k 16 from (omega (arith, c.requires.lanes)))
-    (ap bytes c.test.ensures ∙ lanes at) (ap bytes c.test-2.ensures ∙ lanes (at + 16))
-    (ap bytes c.test-3.ensures ∙ lanes (at + 32)) (ap bytes c.test-4.ensures ∙ lanes (at + 48))
-    c.if-removed-eq0.true in
-    c.copy_chunk.ensures ∙ ap (◌++◌ (take c.args.count c.args.into.now)) (sym (all_selected_in_four test at from none))
+pub returns-then-same_ab-same16-eq0-clause-kept : goal.returns-then-same_ab-same16-eq0-clause-kept
+returns-then-same_ab-same16-eq0-clause-kept c =
+    let pairs = c.args.pairs in
+    let all = none_equal_in_four (set_has c.args.by.set) pairs.before.now pairs.bytes.now pairs.paired c.args.at
+    c.requires.lanes c.same16.ensures c.same16-2.ensures c.same16-3.ensures c.same16-4.ensures
+    c.if-same_ab-same16-eq0.true in
+    c.copy_chunk.ensures.copied ∙ ap (◌++◌ (take c.args.count c.args.into.now)) (sym all)
+
+pub returns-then-keep_a-keep_b-eq65535-clause-kept : goal.returns-then-keep_a-keep_b-eq65535-clause-kept
+returns-then-keep_a-keep_b-eq65535-clause-kept c =
+    let pairs = c.args.pairs in
+    let all = all_kept_in_four (set_has c.args.by.set) pairs.before.now pairs.bytes.now pairs.paired c.args.at
+    c.requires.lanes c.keep16-keep_a.ensures c.keep16-keep_b.ensures c.keep16-keep_c.ensures c.keep16-keep_d.ensures
+    c.if-keep_a-keep_b-eq65535.true in
+    c.copy_chunk-then-keep_a-keep_b-eq65535.ensures.copied ∙ ap (◌++◌ (take c.args.count c.args.into.now)) (sym all)
 
 pub returns-clause-kept : goal.returns-clause-kept
 returns-clause-kept c =
-    kept_after (λ b. not (set_has c.args.by.set b)) (take c.args.count c.args.into.now) c.args.at c.args.block.bytes.now
-    c.filter16-first.ensures.kept c.filter16-second.ensures.kept c.filter16-third.ensures.kept c.filter16.ensures.kept
+    let at = c.args.at in
+    let test = set_has c.args.by.set in
+    let pairs = c.args.pairs in
+    let flags = flags_at test pairs.before.now pairs.bytes.now in
+    let long = pairs_long (λ a b. is_not_repeat test (a, b)) pairs.before.now pairs.bytes.now pairs.paired in
+    let kept = λ (k : ℕ). select_kept_at test pairs.before.now pairs.bytes.now k in
+    kept_in_four test pairs.before.now pairs.bytes.now pairs.paired at c.requires.lanes _
+    (c.compress16-first.ensures.packed (flags at) (long at (omega arith)) c.keep16-keep_a.ensures ∙ kept at _)
+    (c.compress16-second.ensures.packed (flags (at + 16)) (long (at + 16) (omega arith)) c.keep16-keep_b.ensures
+    ∙ kept (at + 16) _)
+    (c.compress16-third.ensures.packed (flags (at + 32)) (long (at + 32) (omega arith)) c.keep16-keep_c.ensures
+    ∙ kept (at + 32) _)
+    (c.compress16.ensures.packed (flags (at + 48)) (long (at + 48) (omega arith)) c.keep16-keep_d.ensures
+    ∙ kept (at + 48) _)

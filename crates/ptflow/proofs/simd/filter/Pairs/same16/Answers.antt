@@ -1,0 +1,11 @@
+use Rattle.ptflow.proofs.Common.{chunk, eqb, arith, mask_l-mod, tops_compared, w8, zip2}
+use Rattle.ptflow.proofs.Vectors.Filter.{pairs_long}
+use Rattle.ptflow.proofs.simd.filter.Pairs.same16.Goals as goal
+
+pub returns : goal.returns
+returns c =
+    let pairs = c.args.self in
+    let before = chunk c.args.at 16 pairs.before.now in
+    let bytes = chunk c.args.at 16 pairs.bytes.now in
+    let long = pairs_long eqb pairs.before.now pairs.bytes.now pairs.paired c.args.at c.requires in
+    cc (tops_compared w8 eqb before bytes, mask_l-mod (zip2 eqb before bytes) 64 (omega (arith, long)))

@@ -1,8 +1,0 @@
-use Rattle.std.proofs.Common.{arith}
-use Rattle.ptflow.proofs.Vectors.Lanes.{filter_piece}
-use Rattle.ptflow.proofs.simd.filter.filter_by_64.Goals as goal
-
-pub loop-at-preserved : goal.loop-at-preserved
-loop-at-preserved c =
-    filter_piece c.loop-at.invariant 64
-    (omega arith) c.filter64-count.ensures.end c.filter64-count.array_long c.filter64-count.ensures.kept

@@ -1,0 +1,14 @@
+-- The stored bytes, and then those that are kept of the rest, are the bytes that are kept.
+use Rattle.ptflow.proofs.Common.{◌≤◌, ◌+◌, ◌-◌, ◌++◌, length, take, kept_bytes, set_has}
+use Rattle.ptflow.proofs.Vectors.Filter.{FilterInvariant}
+use Rattle.ptflow.proofs.simd.filter.filter_pairs.Given as goal
+
+abbrev pub invariant-loop-at : goal.invariant-loop-at
+invariant-loop-at l = record {
+  kept : FilterInvariant (set_has l.by.set) l.pairs.before.now l.pairs.bytes.now l.into l.at l.count
+      (take l.fn.count l.fn.into ++ kept_bytes (set_has l.by.set) l.pairs.before.now l.pairs.bytes.now);
+  few : l.count ≤ l.fn.count + l.at;
+}
+
+abbrev pub decreases-loop-at : goal.decreases-loop-at
+decreases-loop-at l = length l.pairs.bytes.now - l.at

@@ -1,0 +1,8 @@
+use Rattle.ptflow.proofs.Common.{arith, set_has}
+use Rattle.ptflow.proofs.Vectors.Filter.{filter_done}
+use Rattle.ptflow.proofs.simd.filter.filter_tail.Goals as goal
+
+pub returns-clause-kept : goal.returns-clause-kept
+returns-clause-kept c =
+    filter_done (set_has c.args.by.set) c.args.pairs.before.now c.args.pairs.bytes.now c.loop-at.invariant.kept
+    (omega arith)

@@ -1,0 +1,12 @@
+-- The stored bytes, and then those that are kept of the rest, are the bytes that are kept.
+use Rattle.ptflow.proofs.Common.{◌≤◌, ◌+◌, ◌++◌, take, drop, kept_bytes, set_has}
+use Rattle.ptflow.proofs.Vectors.Filter.{FilterInvariant}
+use Rattle.ptflow.proofs.simd.filter.filter_tail.Given as goal
+
+abbrev pub invariant-loop-at : goal.invariant-loop-at
+invariant-loop-at l = record {
+  kept : FilterInvariant (set_has l.by.set) l.pairs.before.now l.pairs.bytes.now l.into l.at l.count
+      (take l.fn.count l.fn.into
+      ++ kept_bytes (set_has l.by.set) (drop l.start l.pairs.before.now) (drop l.start l.pairs.bytes.now));
+  few : l.count + l.start ≤ l.fn.count + l.at;
+}
