@@ -7,19 +7,19 @@ use Rattle.ptflow.proofs.tools.cut.fields.next_step.Goals as goal
 
 pub returns-then-cursor-selected : goal.returns-then-cursor-selected
 returns-then-cursor-selected c =
-    let line = c.args.line.now in
-    none_remaining line.delimiter c.args.selected.now (take line.to line.bytes.now) c.args.cursor (omega arith)
+    let d = c.args.delimiters.now in
+    none_remaining d.byte c.args.selected.now (take c.args.to d.bytes.now) c.args.cursor (omega arith)
 
 pub returns-in_default : goal.returns-in_default
 returns-in_default c =
-    ends_before c.args.line.now.delimiter c.args.selected.now c.requires.cursor (omega arith) c.in_default.ensures.found
+    ends_before c.args.delimiters.now.byte c.args.selected.now c.requires.cursor (omega arith) c.in_default.ensures
 
-pub returns-in_default-field_start_after : goal.returns-in_default-field_start_after
-returns-in_default-field_start_after c =
-    last_fields c.args.line.now.delimiter c.args.selected.now c.requires.cursor (omega arith)
-    c.in-Some.ensures.found c.in_default-field_start_after.ensures.found
+pub returns-in_default-field_start : goal.returns-in_default-field_start
+returns-in_default-field_start c =
+    last_fields c.args.delimiters.now.byte c.args.selected.now c.requires.cursor (omega arith) c.in-Some.ensures
+    c.in_default-field_start.ensures
 
 pub returns : goal.returns
 returns c =
-    next_slice c.args.line.now.delimiter c.args.selected.now c.requires.cursor (omega arith)
-    c.in-Some.ensures.found c.in-Some-field_start_after.ensures.found c.in-Some-field_start_after.ensures.start
+    next_slice c.args.delimiters.now.byte c.args.selected.now c.requires.cursor (omega arith) c.in-Some.ensures
+    c.in-Some-field_start.ensures
