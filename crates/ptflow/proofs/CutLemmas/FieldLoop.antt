@@ -6,7 +6,7 @@ use Rattle.ptflow.proofs.Common.{refl, sym, ◌∙◌, ap, arith, length-append,
 use Rattle.ptflow.proofs.Common.{take_all, drop_all, drop_more, drop-drop, drop-take, drop-append-le, length-take-le}
 use Rattle.ptflow.proofs.Common.{Cut, cut_fields, join_with_byte, is_selected, AreSeparated, Interval, select_from}
 use Rattle.ptflow.proofs.Common.{fields, prefixed_fields}
-use Rattle.ptflow.proofs.Common.{IsFieldStart, IsFieldCursor, IsNextSlice, IsRest, output_from_cursor}
+use Rattle.ptflow.proofs.Common.{IsFieldStart, IsFieldCursor, IsNextSlice, output_from_cursor}
 use Rattle.ptflow.specs.declared.tools.cut.fields.FieldCursor.{FieldCursor}
 use Rattle.ptflow.proofs.Vectors.Select.{not_selected, select_none, select_first, select_slice, select_skip}
 use Rattle.ptflow.proofs.CutLemmas.FieldOffsets.{prefixed_fields-append, prefixed_of_fields, join_prefixed}
@@ -181,13 +181,17 @@ module _ (d : ℕ) (all : List Interval) {line : List ℕ} {cursor : FieldCursor
           apart = apart.2;
           low_is = refl;
         };
-        later = refl;
+        later = omega arith;
         bound = omega arith;
       }
 
     -- the interval reaches the end of the line
-    pub last_fields : length (fields d rest) ≤ size → IsRest d all line cursor (from - cursor.sep)
-    last_fields few =
+    pub last_slice : length (fields d rest) ≤ size → IsNextSlice d all line cursor (record {
+      start = from - cursor.sep;
+      end = length line;
+      next = record { index = length all; number = cursor.number; at = cursor.at; sep = cursor.sep };
+    })
+    last_slice few =
         let number_of : length here ≤ skip + size =
         omega (
           arith,
@@ -197,6 +201,9 @@ module _ (d : ℕ) (all : List Interval) {line : List ℕ} {cursor : FieldCursor
         ) in
         let none = λ (m : ℕ) (low : cursor.number ≤ m) (high : m < cursor.number + length here).
         not_selected rs (r.last + 1) m apart.2 (omega (arith, number_of, not_past, apart.1)) in
+        let start = from - cursor.sep in
+        let next = record cursor { index = length all } in
+        let end : drop (length all) all ≡ [] = drop_all (length all) all (omega arith) in
         record {
           output =
               cc (
@@ -207,8 +214,23 @@ module _ (d : ℕ) (all : List Interval) {line : List ℕ} {cursor : FieldCursor
                 append-nil (fields d rest),
                 sep_drop,
                 prefixed_of_fields d rest,
+                take_all (length line - start) (drop start line) (omega (arith, length-drop start line)),
+                none_remaining d all line next (omega arith),
+                append-nil (drop start line),
               );
-          within = omega (arith, from_fits);
+          order = omega (arith, from_fits);
+          within = omega arith;
+          next = record {
+            fits = w.fits;
+            begun = w.begun;
+            passed = w.passed;
+            count = w.count;
+            low = w.low;
+            apart = rw end tt;
+            low_is = w.low_is;
+          };
+          later = omega (arith, within);
+          bound = omega arith;
         }
 
 -- ---- the output of a line is not longer than the line

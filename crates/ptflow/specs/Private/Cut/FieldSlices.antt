@@ -1,13 +1,11 @@
 -- The slices of a line that are its selected fields, one after another.
-use Rattle.std.specs.Prelude.{◌≡◌, ℕ, ◌+◌, ◌-◌, ◌≤◌, List, [], ◌++◌, length, take, drop}
+use Rattle.std.specs.Prelude.{◌≡◌, ℕ, ◌+◌, ◌-◌, ◌<◌, ◌≤◌, List, ◌++◌, length, take, drop}
 use Rattle.ptlangs.specs.CutLists.{AreSeparated, is_selected}
 use Rattle.ptlangs.specs.declared.ranges.Interval.{Interval}
 use Rattle.ptflow.specs.Cuts.{select_from}
 use Rattle.ptflow.specs.Private.Cut.FieldOffsets.{fields, prefixed_fields}
 use Rattle.ptflow.specs.declared.tools.cut.fields.FieldCursor.{FieldCursor}
 use Rattle.ptflow.specs.declared.tools.cut.fields.FieldSlice.{FieldSlice}
-use Rattle.ptflow.specs.declared.tools.cut.fields.FieldStep.{FieldStep}
-use Rattle.ptflow.specs.declared.tools.cut.fields.FieldStep.TheVariants.{Slice, Rest, End}
 
 -- the output that is left from the cursor on: the fields that the intervals from there on select
 abbrev pub output_from_cursor : ℕ → List Interval → List ℕ → FieldCursor → List ℕ
@@ -33,17 +31,5 @@ pub record IsNextSlice (delimiter : ℕ) (all : List Interval) (line : List ℕ)
   pub order : slice.start ≤ slice.end
   pub within : slice.end ≤ length line
   pub next : IsFieldCursor all line slice.next
-  pub later : slice.next.index ≡ cursor.index + 1
+  pub later : cursor.index < slice.next.index
   pub bound : slice.next.index ≤ length all
-
--- the output that is left is the line from an index on
-pub record IsRest (delimiter : ℕ) (all : List Interval) (line : List ℕ) (cursor : FieldCursor) (start : ℕ) : Type 0
-  where
-    pub output : output_from_cursor delimiter all line cursor ≡ drop start line
-    pub within : start ≤ length line
-
--- the next part of the output that is left
-abbrev pub IsNextStep : ℕ → List Interval → List ℕ → FieldCursor → FieldStep → Type 0
-IsNextStep delimiter all line cursor (Slice slice) = IsNextSlice delimiter all line cursor slice
-IsNextStep delimiter all line cursor (Rest start) = IsRest delimiter all line cursor start
-IsNextStep delimiter all line cursor End = output_from_cursor delimiter all line cursor ≡ []

@@ -9,7 +9,7 @@ ghost use Rattle.ptflow.specs.Cuts.{cut_fields, cut_lines, cut_tool};
 ghost use Rattle.ptflow.specs.Passes.{PassPost};
 ghost use Rattle.ptflow.specs.Private.Passes.LineLoop.{RunLinesPre};
 ghost use Rattle.ptflow.specs.Private.Cut.FieldOffsets.{fields, IsFieldStart};
-ghost use Rattle.ptflow.specs.Private.Cut.FieldSlices.{IsFieldCursor, IsNextStep};
+ghost use Rattle.ptflow.specs.Private.Cut.FieldSlices.{IsFieldCursor, IsNextSlice, output_from_cursor};
 ghost use Rattle.ptflow.specs.Private.Cut.CutFrom.{CopyLinesPost};
 
 use crate::faults::FlowFault;
@@ -57,7 +57,8 @@ const LINE_START: FieldCursor = FieldCursor {
     sep: 0,
 };
 
-// A slice of a line, and where the fields after it are.
+// A slice of a line: adjacent selected fields, with the delimiter before them if they are not the first. `next` is the
+// cursor after them.
 #[derive(Clone, Copy)]
 struct FieldSlice {
     start: usize,
@@ -65,40 +66,36 @@ struct FieldSlice {
     next: FieldCursor,
 }
 
-// The next part of the output for a line.
-#[derive(Clone, Copy)]
-enum FieldStep {
-    // Adjacent fields, with the delimiter before them if they are not the first.
-    Slice(FieldSlice),
-    // The line from this index on, which is the last part.
-    Rest(usize),
-    // No field is left.
-    End,
-}
-
-// The next part of the output for a line, which is the first `to` bytes, from the cursor on.
+// The next slice of the output for a line, which is the first `to` bytes, from the cursor on. `None` if no field is
+// left.
 #[inline(always)]
-fn next_step(
+fn next_slice(
     delimiters: &ByteMatches,
     to: usize,
     selected: &[Interval],
     cursor: FieldCursor,
-) -> FieldStep
+) -> Option<FieldSlice>
     requires within { to ≤ length delimiters.now.bytes.now }
     requires cursor { IsFieldCursor selected.now (take to delimiters.now.bytes.now) cursor }
-    ensures { IsNextStep delimiters.now.byte selected.now (take to delimiters.now.bytes.now) cursor result }
+    ensures { MatchOption result
+        (output_from_cursor delimiters.now.byte selected.now (take to delimiters.now.bytes.now) cursor ≡ [])
+        (IsNextSlice delimiters.now.byte selected.now (take to delimiters.now.bytes.now) cursor) }
 {
     if cursor.index >= selected.len() {
-        return FieldStep::End;
+        return None;
     }
     let Interval { first, last } = selected[cursor.index];
-    let Some(skipped) = field_start(delimiters, cursor.at, to, first - cursor.number) else {
-        return FieldStep::End;
-    };
-    let from = cursor.at + skipped;
+    let from = cursor.at + field_start(delimiters, cursor.at, to, first - cursor.number)?;
     let start = from - cursor.sep;
     let Some(passed) = field_start(delimiters, from, to, last - first + 1) else {
-        return FieldStep::Rest(start);
+        return Some(FieldSlice {
+            start,
+            end: to,
+            next: FieldCursor {
+                index: selected.len(),
+                ..cursor
+            },
+        });
     };
     let next = FieldCursor {
         index: cursor.index + 1,
@@ -107,7 +104,7 @@ fn next_step(
         sep: 1,
     };
     let end = next.at - 1;
-    FieldStep::Slice(FieldSlice { start, end, next })
+    Some(FieldSlice { start, end, next })
 }
 
 // Pushes the selected fields of a line of any length.
@@ -124,16 +121,11 @@ fn write_fields<A: Allocator + Copy, W: Sink>(
     let selected = job.list.intervals();
     let line = delimiters.bytes;
     let mut cursor = LINE_START;
-    'slices: loop {
-        match next_step(delimiters, line.len(), selected, cursor) {
-            FieldStep::Slice(slice) => {
-                out.push(&line[slice.start..slice.end])?;
-                cursor = slice.next;
-            }
-            FieldStep::Rest(start) => return out.push(&line[start..]),
-            FieldStep::End => return Ok(()),
-        }
+    'slices: while let Some(slice) = next_slice(delimiters, line.len(), selected, cursor) {
+        out.push(&line[slice.start..slice.end])?;
+        cursor = slice.next;
     }
+    Ok(())
 }
 
 // A job that selects fields, and the terminator.
@@ -188,23 +180,13 @@ fn copy_fields<A: Allocator + Copy>(
     let bytes = delimiters.bytes;
     let mut cursor = LINE_START;
     let mut end = start;
-    'slices: loop {
-        match next_step(delimiters, to, selected, cursor) {
-            FieldStep::Slice(slice) => {
-                copy_short(bytes, slice.start, slice.end, room, end);
-                end += slice.end - slice.start;
-                cursor = slice.next;
-            }
-            FieldStep::Rest(from) => {
-                copy_short(bytes, from, to + 1, room, end);
-                return end + (to + 1 - from);
-            }
-            FieldStep::End => {
-                room[end] = bytes[to];
-                return end + 1;
-            }
-        }
+    'slices: while let Some(slice) = next_slice(delimiters, to, selected, cursor) {
+        copy_short(bytes, slice.start, slice.end, room, end);
+        end += slice.end - slice.start;
+        cursor = slice.next;
     }
+    room[end] = bytes[to];
+    end + 1
 }
 
 // The length of the complete lines before index `up_to`, or of the first line, which ends at `to`, if that is longer.
