@@ -2,9 +2,8 @@
 -- n, starts after the n-th delimiter.
 use Rattle.ptflow.proofs.Common.{◌≡◌, ℕ, ◌+◌, ◌<◌, ◌==◌, ◌-◌, ◌≤◌, Bool, true, false, cond}
 use Rattle.ptflow.proofs.Common.{List, [], ◌∷◌, ◌++◌, length, take, drop}
-use Rattle.ptflow.proofs.Common.{refl, sym, ap, arith, onto_first, join_with_byte, take-add}
+use Rattle.ptflow.proofs.Common.{refl, sym, ap, arith, onto_first, join_with_byte}
 use Rattle.ptflow.proofs.Common.{append-nil, take-take}
-use Rattle.ptflow.proofs.Common.{drop-append-le}
 use Rattle.ptflow.proofs.Common.{flat_map-append, length-slice_split, byte_eq, fields, prefixed_fields, IsFieldStart}
 use Rattle.ptflow.proofs.Common.{zero, suc}
 use lib.Seq.{take-nil}
@@ -55,13 +54,3 @@ pub slice_of : (from size : ℕ) {to : ℕ} (bytes : List ℕ) → from + size �
     → take size (drop from (take to bytes)) ≡ take size (drop from bytes)
 slice_of from size {to} bytes le = cc
     (rest_of from to bytes, take-take size (to - from) (drop from bytes) (omega arith))
-
--- the end of a line, and the byte after it
-pub rest_with_end : (from to : ℕ) (bytes : List ℕ) → from ≤ length (take to bytes)
-    → drop from (take to bytes) ++ take 1 (drop to bytes) ≡ take (to + 1 - from) (drop from bytes)
-rest_with_end from to bytes le =
-    cc (
-      rest_of from (to + 1) bytes,
-      take-add to 1 bytes,
-      drop-append-le from (take to bytes) (take 1 (drop to bytes)) le,
-    )

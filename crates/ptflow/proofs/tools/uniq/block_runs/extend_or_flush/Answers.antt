@@ -12,12 +12,12 @@ returns-then-pending-line-clause-waits g c =
     (c.has_count.ensures c.if-not-has_count.true c.args.count)
     (sym c.has_output.ensures ∙ c.if-not-has_output.false)
 
-pub returns-in_err-flush_pending-clause-wrote : goal.returns-in_err-flush_pending-clause-wrote
-returns-in_err-flush_pending-clause-wrote g c =
+pub returns-in_err-write_count-clause-wrote : goal.returns-in_err-write_count-clause-wrote
+returns-in_err-write_count-clause-wrote g c =
     let pending = span_of c.args.block.now c.args.pending in
     let line = span_of c.args.block.now c.args.line in
-    on_err c.from_residual.result (subst (PushEffect c.args.out.now c.flush_pending.new.out)
+    on_err c.from_residual.result (subst (PushEffect c.args.out.now c.write_count.new.out)
     (append_assoc pending (count_prefix c.args.show c.args.count) line
     ∙ ap (◌++◌ pending) (run_text_shown c.args.show c.args.count line
     (sym c.has_output.ensures ∙ c.if-not-has_output.false)))
-    (push_past_failure _ _ _ line c.in_err-flush_pending.ensures.fault c.flush_pending.ensures.wrote))
+    (push_past_failure _ _ _ line c.in_err-write_count.ensures.fault c.write_count.ensures.wrote))
