@@ -291,14 +291,14 @@ module _ {d : ℕ} {block : List ℕ} {from all marked : ℕ} (n start : ℕ) (h
       let v = chunk from 64 block in
       let bit = count_trailing_zeros 64 marked in
       let room : from + 64 ≤ length block = omega arith in
-      let stands : IsNth p 0 n v bit = after_set p v n (omega (arith, length-chunk from 64 block room))
+      let nth : IsNth p 0 n v bit = after_set p v n (omega (arith, length-chunk from 64 block room))
       (omega (arith, ap count_ones h.is, ones-mask_l p v)) bits in
-      let close : bit < 64 = near p block 64 from n bit room stands in
+      let close : bit < 64 = near p block 64 from n bit room nth in
       let fits : from + bit < length block = omega (arith, close, room) in
-      let (_, passes, _) = stands in
+      let (_, passes, _) = nth in
       let is : p (get_or block (from + bit) 0) ≡ true = cc (get_or-chunk from 64 block bit 0 close, passes) in
       let as_many : count_by p (take (from + bit) block) ≡ count_by p (take start block) =
-      count_in_prefix p block 64 from n bit room stands ∙ sym ends in
+      count_in_prefix p block 64 from n bit room nth ∙ sym ends in
       record {
         near = close;
         order = in_order p block start _ fits is as_many;

@@ -108,11 +108,6 @@ impl<'a> LineFilter for LineUniq<'a> {
 
     ghost counted = { count_of };
 
-    #[inline(always)]
-    fn slots(&self) -> usize {
-        2
-    }
-
     // Adds the line to the current run, or starts the next run with it.
     fn process_line<A: Allocator + Copy, W: Sink>(
         &self,
@@ -197,5 +192,5 @@ pub fn uniq<A: Allocator + Copy, S: Source, R: Source, W: Sink>(
         job,
         terminator: reader.terminator(),
     };
-    run_lines(&tool, &mut run, reader, store, out)
+    run_lines(&tool, 2, &mut run, reader, store, out)
 }

@@ -40,7 +40,7 @@ fn field_start(delimiters: &ByteMatches, from: usize, to: usize, count: u64) -> 
     Some(at + 1)
 }
 
-// Where the fields of a line are that the intervals from `index` on select: field `number` starts at index `at`, and
+// The fields of a line that the intervals from `index` on select: field `number` starts at index `at` of the line, and
 // `sep` delimiters belong to the next slice: one, unless it is the first.
 #[derive(Clone, Copy)]
 struct FieldCursor {
@@ -263,11 +263,6 @@ impl<'a, A: Allocator + Copy> LineFilter for FieldCut<'a, A> {
 
     ghost counted = { λ u. 1 };
 
-    #[inline(always)]
-    fn slots(&self) -> usize {
-        1
-    }
-
     fn process_line<B: Allocator + Copy, W: Sink>(
         &self,
         _room: &mut OutBuf,
@@ -337,5 +332,5 @@ pub(crate) fn cut_by_fields<
         terminator: reader.terminator(),
     };
     let mut room = [0; 8192 + 16];
-    run_lines(&by, &mut room, reader, store, out)
+    run_lines(&by, 1, &mut room, reader, store, out)
 }
