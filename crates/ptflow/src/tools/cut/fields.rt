@@ -150,12 +150,12 @@ fn write_line<A: Allocator + Copy, W: Sink>(
     let delimiters = ByteMatches::new(by.job.delim, line);
     if delimiters.first().is_some() {
         write_fields(by.job, &delimiters, out)?;
-    } else if by.job.only {
-        return Ok(());
-    } else {
-        out.push(line)?;
+        return out.push(&[by.terminator]);
     }
-    out.push(&[by.terminator])
+    if by.job.only {
+        return Ok(());
+    }
+    out.push_line(b"", line, &[by.terminator])
 }
 
 // Copies the selected fields of a line, which is the first `to` bytes, and its terminator, which is the byte after it,
