@@ -26,16 +26,6 @@ fn has_output(show: Show, count: u64) -> bool
     }
 }
 
-// Checks whether a count is written before a run's line.
-fn has_count(show: Show) -> bool
-    ensures { result ≡ false → (count : ℕ) → count_prefix show count ≡ [] }
-{
-    match show {
-        Show::Counts => true,
-        Show::All | Show::Repeated | Show::Single => false,
-    }
-}
-
 // Pushes other bytes, and then the count that is written before a run's line, if there is one. Out of line, since most
 // output is pushed without it.
 #[inline(never)]
@@ -136,7 +126,7 @@ fn extend_or_flush<W: Sink>(
     if !has_output(show, count) {
         return Ok(pending);
     }
-    if !has_count(show) && pending.to == line.from {
+    if show != Show::Counts && pending.to == line.from {
         return Ok(Span {
             from: pending.from,
             to: line.to,

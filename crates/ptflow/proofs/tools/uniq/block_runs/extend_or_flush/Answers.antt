@@ -1,15 +1,25 @@
 -- Two adjacent ranges are one range, so the run joins the deferred output. Otherwise that is pushed, and a failed push
 -- leaves a prefix of both.
-use Rattle.ptflow.proofs.Common.{◌++◌, sym, ◌∙◌, ap, subst, PushEffect, push_past_failure, append_assoc, span_of}
+use Rattle.ptflow.proofs.Common.{ℕ, true, not, ◌≡◌, [], refl, ◌++◌, sym, ◌∙◌, ap, subst, PushEffect, push_past_failure, append_assoc, span_of}
 use Rattle.ptflow.specs.Private.Uniq.RunsFrom.{count_prefix}
 use Rattle.ptflow.proofs.Passes.StepOutput.{on_err}
 use Rattle.ptflow.proofs.UniqLemmas.BlockRuns.{pending_joined, run_text_shown}
 use Rattle.ptflow.proofs.tools.uniq.block_runs.extend_or_flush.Goals as goal
+use Rattle.ptlangs.specs.contracts.jobs.Show.{the_type}
+use Rattle.ptlangs.specs.declared.jobs.Show.{Show}
+use Rattle.ptlangs.specs.declared.jobs.Show.TheVariants.{All, Counts, Repeated, Single}
+use denote.Enum.Bare.{sameb}
+
+no_count : (show : Show) → true ≡ not (sameb the_type show Counts) → (count : ℕ) → count_prefix show count ≡ []
+no_count All differs count = refl
+no_count Counts differs count = cc
+no_count Repeated differs count = refl
+no_count Single differs count = refl
 
 pub returns-then-pending-line-clause-waits : goal.returns-then-pending-line-clause-waits
 returns-then-pending-line-clause-waits g c =
     pending_joined c.args.show c.args.count c.requires.pending c.requires.line c.if-pending-line.true
-    (c.has_count.ensures c.if-not-has_count.true c.args.count)
+    (no_count c.args.show c.if-ne.ensures c.args.count)
     (sym c.has_output.ensures ∙ c.if-not-has_output.false)
 
 pub returns-in_err-write_count-clause-wrote : goal.returns-in_err-write_count-clause-wrote
