@@ -59,6 +59,7 @@ pub use Rattle.ptlines.proofs.PartLaws.{the_lines_of_parts}
 pub use Rattle.ptlines.proofs.Push.{push_nothing, push_past_failure, push_trans}
 pub use Rattle.ptlines.proofs.LineSearch.{line_before_terminator, drop_at_terminator, advance_ok_take}
 pub use Rattle.ptlines.proofs.LineSearch.{line_if_not_found, take_with_terminator}
+pub use Rattle.ptlines.proofs.MatchMasks.{first_at_lowest_bit, none_if_zero_mask, nowhere_trans}
 pub use Rattle.ptlines.proofs.Lag.{bounded_lag_after, bounded_lag_now}
 pub use Rattle.ptlines.proofs.TextLaws.{AreLines_push, complete_lines_cons, complete_lines_none}
 pub use Rattle.ptlines.proofs.TextLaws.{complete_lines_of_unlines, lines-unlines, lines_are, lines_cons, lines_of_last}
@@ -100,7 +101,7 @@ pub use Rattle.ptflow.specs.Private.Cut.CutFrom.{ExtendsCut, CutChunkPost, HasTe
 pub use Rattle.ptflow.specs.Private.Cut.CutFrom.{CopyLinesPost, cut_piece, cut_fields_from, cut_bytes_from}
 pub use Rattle.ptflow.specs.Private.Cut.CutFrom.{cut_list_from, cut_lines_from}
 pub use Rattle.ptflow.specs.Private.Cut.FieldOffsets.{IsFieldStart, fields, prefixed_fields}
-pub use Rattle.ptflow.specs.Private.Cut.FieldSlices.{IsFieldCursor, IsNextSlice, IsRest, remaining_fields}
+pub use Rattle.ptflow.specs.Private.Cut.FieldSlices.{IsFieldCursor, IsNextSlice, output_from_cursor}
 pub use Rattle.ptflow.specs.Private.Passes.StepOutput.{OutputPart, OutputFailed}
 pub use Rattle.ptflow.specs.Private.Passes.LineLoop.{SlotsCleared, IsLineFilter, IsSwapped, LinesFailed, LinesWritten}
 pub use Rattle.ptflow.specs.Private.Passes.LineLoop.{IsLinesLength}

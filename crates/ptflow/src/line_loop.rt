@@ -21,6 +21,7 @@ pub(crate) trait LineFilter {
     /// The state carried from line to line, apart from the lines in the slots.
     type State;
 
+    /// The number of slots that the tool uses.
     ghost SLOTS: { ℕ };
 
     ghost tool: { Self → ToolSpec };
@@ -40,10 +41,6 @@ pub(crate) trait LineFilter {
 
     /// The number of lines whose output is not pushed yet.
     ghost counted: { Model → ℕ };
-
-    /// The number of slots that the tool uses.
-    fn slots(&self) -> usize
-        ensures { result ≡ SLOTS };
 
     /// Processes the line in the last slot.
     fn process_line<A: Allocator + Copy, W: Sink>(
@@ -93,9 +90,10 @@ pub(crate) trait LineFilter {
         ensures same { OnErr result (store.new ≡ store.old) };
 }
 
-/// Runs a tool over the lines of a reader. The output is written out before each read that may block.
+/// Runs a tool that uses `slots` slots over the lines of a reader. The output is written out before each read that may block.
 pub(crate) fn run_lines<T: LineFilter, A: Allocator + Copy, S: Source, R: Source, W: Sink>(
     tool: &T,
+    slots: usize,
     state: &mut T::State,
     reader: &mut LineReader<S, R>,
     store: &mut Store<A>,
@@ -103,10 +101,10 @@ pub(crate) fn run_lines<T: LineFilter, A: Allocator + Copy, S: Source, R: Source
 ) -> Result<(), FlowFault>
     requires tool { IsLineFilter (T.tool tool.now) T.model (T.rest tool.now) (T.written tool.now) T.counted
         T.SLOTS state.old }
+    requires slots { slots ≡ T.SLOTS }
     requires begins { RunLinesPre (T.tool tool.now).end reader.old out.old store.old }
     ensures { PassPost (T.tool tool.now) reader.old reader.new out.old out.new store.old store.new result }
 {
-    let slots = tool.slots();
     ensure_slots(store, slots)?;
     'reading: loop {
         reader.write_out_before_blocking(out)?;

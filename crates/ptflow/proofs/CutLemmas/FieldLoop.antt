@@ -6,7 +6,7 @@ use Rattle.ptflow.proofs.Common.{refl, sym, ◌∙◌, ap, arith, length-append,
 use Rattle.ptflow.proofs.Common.{take_all, drop_all, drop_more, drop-drop, drop-take, drop-append-le, length-take-le}
 use Rattle.ptflow.proofs.Common.{Cut, cut_fields, join_with_byte, is_selected, AreSeparated, Interval, select_from}
 use Rattle.ptflow.proofs.Common.{fields, prefixed_fields}
-use Rattle.ptflow.proofs.Common.{IsFieldStart, IsFieldCursor, IsNextSlice, IsRest, remaining_fields}
+use Rattle.ptflow.proofs.Common.{IsFieldStart, IsFieldCursor, IsNextSlice, output_from_cursor}
 use Rattle.ptflow.specs.declared.tools.cut.fields.FieldCursor.{FieldCursor}
 use Rattle.ptflow.proofs.Vectors.Select.{not_selected, select_none, select_first, select_slice, select_skip}
 use Rattle.ptflow.proofs.CutLemmas.FieldOffsets.{prefixed_fields-append, prefixed_of_fields, join_prefixed}
@@ -17,13 +17,11 @@ line_start = record { index = 0; number = 1; at = 0; sep = 0 }
 
 -- all selected fields of a line are left
 pub all_remaining : (d : ℕ) (all : List Interval) (line : List ℕ)
-    → join_with_byte d (select_from (is_selected all) 1 (fields d line)) ≡ remaining_fields d all line line_start
+    → join_with_byte d (select_from (is_selected all) 1 (fields d line)) ≡ output_from_cursor d all line line_start
 all_remaining d all line = cc (join_prefixed d (select_from (is_selected all) 1 (fields d line)))
 
-pub cursor_starts : {all : List Interval} {line : List ℕ} {first : ℕ} → AreSeparated 0 all
-    → IsFieldCursor all line first line_start
+pub cursor_starts : {all : List Interval} {line : List ℕ} → AreSeparated 0 all → IsFieldCursor all line line_start
 cursor_starts apart = record {
-  known = λ le. refl;
   fits = omega arith;
   begun = omega arith;
   passed = omega arith;
@@ -35,7 +33,7 @@ cursor_starts apart = record {
 
 -- no interval is left
 pub none_remaining : (d : ℕ) (all : List Interval) (line : List ℕ) (cursor : FieldCursor) → length all ≤ cursor.index
-    → remaining_fields d all line cursor ≡ []
+    → output_from_cursor d all line cursor ≡ []
 none_remaining d all line cursor past =
     let here = fields d (drop cursor.at line) in
     cc (
@@ -44,8 +42,8 @@ none_remaining d all line cursor past =
       drop_all (1 - cursor.sep) (prefixed_fields d []) (omega arith),
     )
 
-module _ (d : ℕ) (all : List Interval) {line : List ℕ} {first : ℕ} {cursor : FieldCursor}
-    (w : IsFieldCursor all line first cursor) (within : cursor.index < length all) where
+module _ (d : ℕ) (all : List Interval) {line : List ℕ} {cursor : FieldCursor} (w : IsFieldCursor all line cursor)
+    (within : cursor.index < length all) where
   -- the fields from the cursor on, the next interval, and those after it
   abbrev here : List (List ℕ)
   here = fields d (drop cursor.at line)
@@ -76,7 +74,7 @@ module _ (d : ℕ) (all : List Interval) {line : List ℕ} {first : ℕ} {cursor
   in_order = apart.1
 
   -- the line ends before the interval
-  pub ends_before : length here ≤ skip → remaining_fields d all line cursor ≡ []
+  pub ends_before : length here ≤ skip → output_from_cursor d all line cursor ≡ []
   ends_before few =
       let far : AreSeparated (r.first - 1) (r ∷ rs) = (omega (arith, not_past), apart.1, apart.2) in
       let none = λ (m : ℕ) (low : cursor.number ≤ m) (high : m < cursor.number + length here).
@@ -133,9 +131,9 @@ module _ (d : ℕ) (all : List Interval) {line : List ℕ} {first : ℕ} {cursor
       next_fits = omega (arith, from_fits, p.fits, length-drop from line)
 
       -- the slice, and then the output that is left
-      output : remaining_fields d all line cursor
+      output : output_from_cursor d all line cursor
           ≡ take ((from + passed - 1) - (from - cursor.sep)) (drop (from - cursor.sep) line)
-          ++ remaining_fields d all line next
+          ++ output_from_cursor d all line next
       output =
           let front = take size (fields d rest) in
           let more = select_from (is_selected rs) (r.last + 1) (fields d (drop (from + passed) line)) in
@@ -168,15 +166,13 @@ module _ (d : ℕ) (all : List Interval) {line : List ℕ} {first : ℕ} {cursor
             drop-append-le (1 - cursor.sep) (prefixed_fields d front) (prefixed_fields d more) long,
           )
 
-      pub next_slice : (from + passed ≤ first → from + passed ≡ 0)
-          → IsNextSlice d all line first cursor
+      pub next_slice : IsNextSlice d all line cursor
           (record { start = from - cursor.sep; end = from + passed - 1; next = next })
-      next_slice known = record {
+      next_slice = record {
         output = output;
         order = omega (arith, p.count);
         within = omega (arith, next_fits);
         next = record {
-          known = known;
           fits = next_fits;
           begun = omega arith;
           passed = omega (arith, p.count);
@@ -185,13 +181,17 @@ module _ (d : ℕ) (all : List Interval) {line : List ℕ} {first : ℕ} {cursor
           apart = apart.2;
           low_is = refl;
         };
-        later = refl;
+        later = omega arith;
         bound = omega arith;
       }
 
     -- the interval reaches the end of the line
-    pub last_fields : length (fields d rest) ≤ size → IsRest d all line cursor (from - cursor.sep)
-    last_fields few =
+    pub last_slice : length (fields d rest) ≤ size → IsNextSlice d all line cursor (record {
+      start = from - cursor.sep;
+      end = length line;
+      next = record { index = length all; number = cursor.number; at = cursor.at; sep = cursor.sep };
+    })
+    last_slice few =
         let number_of : length here ≤ skip + size =
         omega (
           arith,
@@ -201,6 +201,9 @@ module _ (d : ℕ) (all : List Interval) {line : List ℕ} {first : ℕ} {cursor
         ) in
         let none = λ (m : ℕ) (low : cursor.number ≤ m) (high : m < cursor.number + length here).
         not_selected rs (r.last + 1) m apart.2 (omega (arith, number_of, not_past, apart.1)) in
+        let start = from - cursor.sep in
+        let next = record cursor { index = length all } in
+        let end : drop (length all) all ≡ [] = drop_all (length all) all (omega arith) in
         record {
           output =
               cc (
@@ -211,8 +214,23 @@ module _ (d : ℕ) (all : List Interval) {line : List ℕ} {first : ℕ} {cursor
                 append-nil (fields d rest),
                 sep_drop,
                 prefixed_of_fields d rest,
+                take_all (length line - start) (drop start line) (omega (arith, length-drop start line)),
+                none_remaining d all line next (omega arith),
+                append-nil (drop start line),
               );
-          within = omega (arith, from_fits);
+          order = omega (arith, from_fits);
+          within = omega arith;
+          next = record {
+            fits = w.fits;
+            begun = w.begun;
+            passed = w.passed;
+            count = w.count;
+            low = w.low;
+            apart = rw end tt;
+            low_is = w.low_is;
+          };
+          later = omega (arith, within);
+          bound = omega arith;
         }
 
 -- ---- the output of a line is not longer than the line
@@ -261,7 +279,7 @@ output_is_near start end was now out part rest copied room place =
 
 -- all selected fields of a line are left, by the list of a job
 pub selected_remaining : (job : Cut) (list : List Interval) {d : ℕ} (line : List ℕ) → d ≡ job.delimiter
-    → is_selected list ≡ job.selected → cut_fields job line ≡ remaining_fields d list line line_start
+    → is_selected list ≡ job.selected → cut_fields job line ≡ output_from_cursor d list line line_start
 selected_remaining job list {d} line same selected =
     (λ i. join_with_byte (sym same i) (select_from (sym selected i) 1 (fields (sym same i) line)))
     ∙ all_remaining d list line

@@ -1,10 +1,9 @@
 -- The fields of a line, and where they start. Each delimiter ends one field, so the rest of the fields, after the first
 -- n, starts after the n-th delimiter.
-use Rattle.ptflow.proofs.Common.{◌≡◌, ℕ, ◌+◌, ◌<◌, ◌==◌, ◌-◌, ◌≤◌, Bool, true, false, cond, Option, None, Some}
-use Rattle.ptflow.proofs.Common.{MatchOption, ◌⊎◌, inl, inr, List, [], ◌∷◌, ◌++◌, length, take, drop}
-use Rattle.ptflow.proofs.Common.{refl, sym, ap, arith, length-drop, IfSome, onto_first, join_with_byte, take-add}
-use Rattle.ptflow.proofs.Common.{append-nil, drop-drop, take-take, length-take-le}
-use Rattle.ptflow.proofs.Common.{drop-append-le}
+use Rattle.ptflow.proofs.Common.{◌≡◌, ℕ, ◌+◌, ◌<◌, ◌==◌, ◌-◌, ◌≤◌, Bool, true, false, cond}
+use Rattle.ptflow.proofs.Common.{List, [], ◌∷◌, ◌++◌, length, take, drop}
+use Rattle.ptflow.proofs.Common.{refl, sym, ap, arith, onto_first, join_with_byte}
+use Rattle.ptflow.proofs.Common.{append-nil, take-take}
 use Rattle.ptflow.proofs.Common.{flat_map-append, length-slice_split, byte_eq, fields, prefixed_fields, IsFieldStart}
 use Rattle.ptflow.proofs.Common.{zero, suc}
 use lib.Seq.{take-nil}
@@ -43,42 +42,6 @@ module _ (d : ℕ) where
   pub starts_first : (line : List ℕ) → IsFieldStart d 0 line 0
   starts_first line = record { fits = omega arith; count = omega arith; front = refl; behind = refl; later = refl }
 
-  -- the start of a field that is counted from the start of another
-  module _ {m n a p : ℕ} {line : List ℕ} (s : IsFieldStart d m line a) (t : IsFieldStart d n (drop a line) p) where
-    pub starts_more : IsFieldStart d (m + n) line (a + p)
-    starts_more = record {
-      fits = omega (arith, length-drop a line);
-      count = omega arith;
-      front =
-          cc (
-            take-add a p (d ∷ line),
-            prefixed_fields-append (take m (fields d line))
-                (take n (drop m (fields d line))),
-            take-add m n (fields d line),
-          );
-      behind = cc (drop-drop p a (d ∷ line), drop-drop p a line);
-      later = cc (drop-drop n m (fields d line), drop-drop p a line);
-    }
-
-  -- few fields are left after a start
-  pub few_left : {m n a : ℕ} {line : List ℕ} → IsFieldStart d m line a → length (fields d (drop a line)) ≤ n
-      → length (fields d line) ≤ m + n
-  few_left {m} {line} s few = omega (arith, ap length s.later, length-drop m (fields d line))
-
-  -- no field is skipped
-  pub starts_at_zero : {line : List ℕ} {at : ℕ} → IsFieldStart d 0 line at → at ≡ 0
-  starts_at_zero {line} {at} s = omega (arith, ap length s.front, length-take-le at (d ∷ line) (omega (arith, s.fits)))
-
-  -- the index is still the start of the line, or after its first delimiter
-  pub start_kept : (few : Type 0) (line : List ℕ) (o : Option ℕ) (from first count : ℕ) → (from ≤ first → from ≡ 0)
-      → ((count ≡ 0) ⊎ (first < from)) → MatchOption o few (IsFieldStart d count line)
-      → IfSome o (λ passed. from + passed ≤ first → from + passed ≡ 0)
-  start_kept few line None from first count start how found = tt
-  start_kept few line (Some passed) from first count start (inl none) found = λ le.
-      let zero : passed ≡ 0 = starts_at_zero (rw none at found) in
-      omega (arith, start (omega (arith, zero, le)))
-  start_kept few line (Some passed) from first count start (inr past) found = λ le. absurd (omega arith)
-
 -- the rest of a line from an index on
 pub rest_of : (from to : ℕ) (bytes : List ℕ) → drop from (take to bytes) ≡ take (to - from) (drop from bytes)
 rest_of zero to bytes = let whole : to - 0 ≡ to = omega arith in cc
@@ -91,13 +54,3 @@ pub slice_of : (from size : ℕ) {to : ℕ} (bytes : List ℕ) → from + size �
     → take size (drop from (take to bytes)) ≡ take size (drop from bytes)
 slice_of from size {to} bytes le = cc
     (rest_of from to bytes, take-take size (to - from) (drop from bytes) (omega arith))
-
--- the end of a line, and the byte after it
-pub rest_with_end : (from to : ℕ) (bytes : List ℕ) → from ≤ length (take to bytes)
-    → drop from (take to bytes) ++ take 1 (drop to bytes) ≡ take (to + 1 - from) (drop from bytes)
-rest_with_end from to bytes le =
-    cc (
-      rest_of from (to + 1) bytes,
-      take-add to 1 bytes,
-      drop-append-le from (take to bytes) (take 1 (drop to bytes)) le,
-    )

@@ -43,7 +43,3 @@ module _ {whole rest : List ℕ} {was is : Output} (f : WrittenPrefix whole rest
 
     pub front_fails : is'.write_failed ≡ true → PushEffect was is' whole
     front_fails fault = rw all_split (push_past_failure _ _ _ more fault (wrote_then _ _ _ f.wrote wrote))
-
-  -- all that was left was pushed
-  pub front_ends : {is' : Output} {bytes : List ℕ} → rest ≡ bytes → PushEffect is is' bytes → PushEffect was is' whole
-  front_ends {is'} same wrote = subst (PushEffect was is') (sym (cc)) (wrote_then _ _ _ f.wrote wrote)

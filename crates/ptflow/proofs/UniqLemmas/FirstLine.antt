@@ -1,14 +1,15 @@
 -- The current run of `uniq`, for one line and for the lines of a block. The items of the tool are runs: a line of
 -- another key ends the current run, whose output is known then.
-use Rattle.ptflow.proofs.Common.{◌≡◌, ℕ, ◌+◌, ◌<◌, ◌&&◌, Bool, true, false, List, [], ◌∷◌, ◌++◌, Option, None, Some}
+use Rattle.ptflow.proofs.Common.{◌≡◌, ℕ, ◌+◌, ◌<◌, ◌&&◌, Bool, true, false, List, [], ◌∷◌, ◌++◌, Some}
 use Rattle.ptflow.proofs.Common.{length, take, drop, refl, sym, ◌∙◌, common_steps, ap, subst, arith, append_assoc}
-use Rattle.ptflow.proofs.Common.{length-append, take-append-drop, nat_lt, swap, is_some, take-append-add, append-nil}
+use Rattle.ptflow.proofs.Common.{length-append, take-append-drop, nat_lt, swap, take-append-add, append-nil}
 use Rattle.ptflow.proofs.Common.{length-take-le, get_or-set_other, sum_by-cons, IsFirstByte, is_byte, Output}
 use Rattle.ptflow.proofs.Common.{PushEffect, known_lines, Slots, line, total_bytes, with_line, unlines, complete_lines}
-use Rattle.ptflow.proofs.Common.{IsLine, push_nothing, line_if_not_found, unlines-append, complete_lines_none, Uniq}
+use Rattle.ptflow.proofs.Common.{IsLine, push_nothing, unlines-append, complete_lines_none, Uniq}
 use Rattle.ptflow.proofs.Common.{Run, is_same, runs, output_of, uniq_tool, SlotsCleared, IsLineFilter, first_line}
 use Rattle.ptflow.proofs.Common.{current_run_of, RunsWritten, RunsFailed, CountRepeatsPost, run_of, count_of}
-use Rattle.ptflow.proofs.Common.{current_run, runs_after, run_output}
+use Rattle.ptflow.proofs.Common.{current_run, runs_after, run_output, Result}
+use Rattle.ptlines.specs.Outputs.{PushPost}
 use Rattle.ptflow.specs.declared.tools.uniq.CurrentRun.{CurrentRun}
 use Rattle.ptflow.specs.declared.tools.uniq.block_runs.RepeatCount.{RepeatCount}
 use Rattle.ptflow.proofs.UniqLemmas.BlockRuns.{other_count}
@@ -49,11 +50,12 @@ first_emptied {store} {after} some is = by_lines store.lines refl
         }
 
 -- the pushed bytes are the output of the run with this first line
-pub run_wrote : (job : Uniq) (count : ℕ) {bytes first behind : List ℕ} {is is' : Output} → bytes ≡ first
-    → behind ≡ job.terminator ∷ [] → PushEffect is is' (run_output job.show count (bytes ++ behind))
-    → PushEffect is is' (output_of job (current_run (run_of first count)))
-run_wrote job count {first} {is} {is'} bytes_are behind_is wrote =
-    subst (PushEffect is is') (cc (current_run_is job (run_of first count))) wrote
+pub run_pushed : {E : Type 0} (job : Uniq) (count : ℕ) {bytes first after : List ℕ} {was is : Output}
+    {result : Result (Unit {0}) E} → bytes ≡ first → after ≡ job.terminator ∷ []
+    → PushPost was is (run_output job.show count (bytes ++ after)) result
+    → PushPost was is (output_of job (current_run (run_of first count))) result
+run_pushed job count {first} {was} {is} {result} bytes_are after_is =
+    subst (λ bytes. PushPost was is bytes result) (cc (current_run_is job (run_of first count)))
 
 -- `uniq` is a line tool: the first of two slots may hold the first line of the current run, and the decided output
 -- leaves out that run.
@@ -120,23 +122,6 @@ module _ (job : Uniq) (run : Run) (next : List ℕ) where
         }
 
 -- ---- a block
-
-pub not_found : (end : ℕ) (block : List ℕ) (r : Option ℕ) → IsFirstByte (is_byte end) block r → is_some r ≡ false
-    → IsLine end block
-not_found end block None none said = line_if_not_found end block none
-not_found end block (Some at) first said = cc
-
--- it has no complete line
-pub block_none : (job : Uniq) (end : ℕ) (run : Run) (block : List ℕ) (was : Output) → IsLine end block
-    → RunsWritten job run run (complete_lines end block) was was
-block_none job end run block was none = record {
-  passed = [];
-  wrote = push_nothing was;
-  clean = λ clean. clean;
-  on = λ more. cc (complete_lines_none end block none);
-  count = omega arith;
-  some = λ h. absurd (omega (arith, ap length (complete_lines_none end block none)));
-}
 
 -- the current run continues for some lines of a block
 module _ {job : Uniq} {end : ℕ} {first block : List ℕ} {same : RepeatCount}

@@ -7,14 +7,16 @@ use Rattle.ptflow.proofs.Common.{count_ones, count_by, prefix_len, mask_l, chunk
 use Rattle.ptflow.proofs.Common.{drop_more, take_at, drop_at, length-take-le, length-slice_split, get_or-le-sum_by}
 use Rattle.ptflow.proofs.Common.{sum_by-cons, sum_by-append, sum_by-take-le, count_by-le-length, trailing_mask_l}
 use Rattle.ptflow.proofs.Common.{ones-mask_l, get_or-chunk, length-chunk, IsFirstByte, NoneBefore, Passes, is_byte}
-use Rattle.ptflow.proofs.Common.{IsLine, line_before_terminator, byte_ne, IsNth, HasTerminators, fields, IsFieldStart}
+use Rattle.ptflow.proofs.Common.{Nowhere, None, option_map, nowhere_trans, IsLine, byte_ne, IsNth, HasTerminators, fields, IsFieldStart}
 use Rattle.ptflow.proofs.Common.{put_chunk, take_more_put_chunk, length-put_chunk, length-set, unwrap_or, delim_at}
 use Rattle.ptflow.proofs.Common.{with_cycle, slice_set, count_by_more_yes, cases_lt, length-map}
-use Rattle.std.proofs.lemmas.List.{get_or-drop}
+use Rattle.std.proofs.lemmas.List.{get_or-drop, drop-map}
+use Rattle.std.proofs.Common.{pow-suc, mul_comm, div-one}
+use Rattle.std.proofs.Math.Nat.{div-div-eq-div-mul, zero-div}
 use Rattle.ptflow.proofs.Vectors.Lanes.{map-id}
 use lib.Bits.{bit_and, and_step, and_self, and_zero_l}
 use lib.Count.{count_trailing_zeros}
-use Rattle.ptflow.proofs.CutLemmas.FieldOffsets.{fields-append, prefixed_of_fields, starts_more, few_left}
+use Rattle.ptflow.proofs.CutLemmas.FieldOffsets.{fields-append, prefixed_of_fields, rest_of}
 use Rattle.ptflow.proofs.PasteLemmas.Cycle.{first_replaced, replaced_next, all_replaced, set_in_chunk}
 
 -- ---- bits of a mask
@@ -117,6 +119,45 @@ after_set p xs n few lt is =
     subst (IsNth p 0 n xs)
     (sym (cc (is, lowest_set (without n bits) (omega (arith, long)) (omega (arith, long, within))))) here
 
+-- the lowest n bits are shifted out
+shifted : (n : ℕ) (bits : List Bool) → mask_l bits / 2 ^ n ≡ mask_l (drop n bits)
+shifted zero bits = div-one (mask_l bits)
+shifted (suc n) [] = zero-div (2 ^ suc n)
+shifted (suc n) (b ∷ bits) =
+    let half : (b : Bool) → (cond b 1 0 + 2 * mask_l bits) / 2 ≡ mask_l bits =
+    elim [ true ↦ omega arith | false ↦ omega arith ] in
+    ap (λ k. mask_l (b ∷ bits) / k) (pow-suc 2 n ∙ mul_comm (2 ^ n) 2)
+    ∙ sym (div-div-eq-div-mul (mask_l (b ∷ bits)) 2 (2 ^ n)) ∙ ap (λ x. x / 2 ^ n) (half b) ∙ shifted n bits
+
+-- the mask of the first bytes, without those before an index
+pub mask_from : (p : ℕ → Bool) (size from : ℕ) (bytes : List ℕ) {mask : ℕ} → mask ≡ mask_l (map p (take size bytes))
+    → mask / 2 ^ from ≡ mask_l (map p (take (size - from) (drop from bytes)))
+mask_from p size from bytes is =
+    ap (λ m. m / 2 ^ from) is ∙ shifted from (map p (take size bytes)) ∙ ap mask_l (drop-map p from (take size bytes)
+    ∙ ap (map p) (rest_of from size bytes))
+
+-- the first item that passes if none of the first `size` does
+module _ (p : ℕ → Bool) (bytes : List ℕ) (size : ℕ) (within : size ≤ length bytes)
+    (front : Nowhere (Passes p bytes) 0 size) where
+  there : (k : ℕ) → size ≤ k → Passes p bytes k → Passes p (drop size bytes) (k - size)
+  there k low passes =
+      let whole : size + (k - size) ≡ k = omega arith in
+      cc (get_or-drop size bytes (k - size) 0, passes)
+
+  pub first_in_rest : (r : Option ℕ) → IsFirstByte p (drop size bytes) r → IsFirstByte p bytes
+      (option_map (λ at. size + at) r)
+  first_in_rest None first = nowhere_trans (Passes p bytes) 0 size (length bytes) front (λ k low high passes.
+      first (k - size) (omega arith) (omega (arith, length-drop size bytes)) (there k low passes))
+  first_in_rest (Some at) (first, found) = (
+    record {
+      low = omega arith;
+      high = omega (arith, first.high, length-drop size bytes);
+      before = nowhere_trans (Passes p bytes) 0 size (size + at) front
+          (λ k low high passes. first.before (k - size) (omega arith) (omega arith) (there k low passes));
+    },
+    cc (get_or-drop size bytes at 0, found),
+  )
+
 -- ---- in a chunk of some bytes
 
 module _ (p : ℕ → Bool) (bytes : List ℕ) where
@@ -199,40 +240,10 @@ module _ (d : ℕ) (line : List ℕ) where
   none_counted (b ∷ bytes) (differs, free) =
       cc (sum_by-cons (λ x. cond (is_byte d x) 1 0) b bytes, byte_ne d b differs, none_counted bytes free)
 
-  -- the first delimiter, which is among the first `end` bytes
-  module _ {end at : ℕ} (first : NoneBefore (Passes (is_byte d) line) 0 end at) (is : Passes (is_byte d) line at)
-      (within : end ≤ length line) where
-    pub none_before : count_by (is_byte d) (take at line) ≡ 0
-    none_before =
-        let all : IsFirstByte (is_byte d) line (Some at) =
-        (record { low = omega arith; high = omega (arith, first.high); before = first.before }, is) in
-        none_counted (take at line) (line_before_terminator d line at all)
-
-    pub first_is_nth : {to : ℕ} → at < to → to ≤ length line → IsNth (is_byte d) 0 0 (take to line) at
-    first_is_nth {to} lt le = (
-      omega (arith, length-take-le to line le),
-      cc (get_or-take to line at 0 lt),
-      cc (take-take at to line (omega arith), none_before),
-    )
-
-  pub starts_after_first : (at : ℕ) → IsFirstByte (is_byte d) line (Some at) → IsFieldStart d 1 line (at + 1)
-  starts_after_first at (first, is) = starts_behind 0 at (first.high, is, none_before first is (omega arith))
-
   pub starts_after_nth : {n : ℕ} (at : ℕ) → 0 < n → IsNth (is_byte d) 0 (n - 1) line at → IsFieldStart d n line (at + 1)
   starts_after_nth {n} at some h =
       let whole : n - 1 + 1 ≡ n = omega arith in
       rw whole at (starts_behind (n - 1) at h)
-
-  -- after the first delimiter
-  module _ (first n : ℕ) (here : IsFirstByte (is_byte d) line (Some first)) (some : 0 < n) where
-    pub few_after_first : length (fields d (drop (first + 1) line)) ≤ n - 1 → length (fields d line) ≤ n
-    few_after_first few = omega (arith, few_left d (starts_after_first first here) few)
-
-    pub starts_past_first : {passed : ℕ} → IsFieldStart d (n - 1) (drop (first + 1) line) passed
-        → IsFieldStart d n line (first + 1 + passed)
-    starts_past_first s =
-        let whole : 1 + (n - 1) ≡ n = omega arith in
-        rw whole at (starts_more d (starts_after_first first here) s)
 
 -- the next item that passes, if no item between an earlier index and this one passes
 module _ (p : ℕ → Bool) (bytes : List ℕ) (start end : ℕ) (fits : end < length bytes)
@@ -280,14 +291,14 @@ module _ {d : ℕ} {block : List ℕ} {from all marked : ℕ} (n start : ℕ) (h
       let v = chunk from 64 block in
       let bit = count_trailing_zeros 64 marked in
       let room : from + 64 ≤ length block = omega arith in
-      let stands : IsNth p 0 n v bit = after_set p v n (omega (arith, length-chunk from 64 block room))
+      let nth : IsNth p 0 n v bit = after_set p v n (omega (arith, length-chunk from 64 block room))
       (omega (arith, ap count_ones h.is, ones-mask_l p v)) bits in
-      let close : bit < 64 = near p block 64 from n bit room stands in
+      let close : bit < 64 = near p block 64 from n bit room nth in
       let fits : from + bit < length block = omega (arith, close, room) in
-      let (_, passes, _) = stands in
+      let (_, passes, _) = nth in
       let is : p (get_or block (from + bit) 0) ≡ true = cc (get_or-chunk from 64 block bit 0 close, passes) in
       let as_many : count_by p (take (from + bit) block) ≡ count_by p (take start block) =
-      count_in_prefix p block 64 from n bit room stands ∙ sym ends in
+      count_in_prefix p block 64 from n bit room nth ∙ sym ends in
       record {
         near = close;
         order = in_order p block start _ fits is as_many;

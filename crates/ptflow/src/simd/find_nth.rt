@@ -1,14 +1,13 @@
-//! Finds occurrences of a byte by match masks of 64 bytes. `cut` by fields calls `nth_index` for the one after a given
-//! number of others and `find_line_end` for the first; `paste` calls `nth_index`. `cut` by bytes, `replace` and `cycle`
-//! use a `match_mask` alone.
+//! Finds occurrences of a byte by match masks of 64 bytes. `cut` by fields finds delimiters and terminators by
+//! `ByteMatches`; `paste` calls `nth_index`. `cut` by bytes, `replace` and `cycle` use a `match_mask` alone.
 
-ghost use Rattle.std.specs.Prelude.{◌≡◌, ◌<◌, ◌≤◌, ◌+◌, ℕ, Bool, List, length, map, take};
+ghost use Rattle.std.specs.Prelude.{◌≡◌, ◌<◌, ◌≤◌, ◌+◌, ◌-◌, ℕ, Bool, List, length, map, take, drop};
 ghost use Rattle.std.specs.List.{count_by};
 ghost use Rattle.std.specs.Simd.Lanes.{mask_l, chunk};
 ghost use Rattle.memchr.specs.Find.{IsFirstByte, is_byte};
 ghost use Rattle.ptflow.specs.Private.Vectors.FindNth.{IsNth, IsNthResult};
 
-use ptlines::{find_byte, find_in_chunk};
+use ptlines::find_byte;
 use std::simd::prelude::*;
 
 // The match mask of a byte in the 64 bytes at index `at`: bit `i` is set if the byte at `at + i` is equal to it.
@@ -54,10 +53,10 @@ fn nth_tail(byte: u8, bytes: &[u8], from: usize, to: usize, before: u64) -> Opti
     None
 }
 
-// The index of the match after `before` others, among the first `to` bytes, 64 at a time. Out of line, so that the
-// first match is found without a call.
+/// The index of the match after `before` others, among the first `to` bytes, 64 at a time. May read bytes after these,
+/// since a whole vector is as cheap as a part of it.
 #[inline(never)]
-fn nth_by_64(byte: u8, bytes: &[u8], to: usize, before: u64) -> Option<usize>
+pub(crate) fn nth_index(byte: u8, bytes: &[u8], to: usize, before: u64) -> Option<usize>
     requires { to ≤ length bytes.now }
     ensures { IsNthResult (is_byte byte) before (take to bytes.now) result }
 {
@@ -76,43 +75,68 @@ fn nth_by_64(byte: u8, bytes: &[u8], to: usize, before: u64) -> Option<usize>
     nth_tail(byte, bytes, at, to, left)
 }
 
-// The index of the first match among the first `to` bytes.
-#[inline(always)]
-fn first_index(byte: u8, bytes: &[u8], to: usize) -> Option<usize>
-    requires { to ≤ length bytes.now }
-    ensures { IsNthResult (is_byte byte) 0 (take to bytes.now) result }
-{
-    if bytes.len() >= 16 {
-        if let Some(index) = find_in_chunk::<16>(byte, bytes, 0) {
-            return if index < to { Some(index) } else { None };
-        }
-    }
-    nth_by_64(byte, bytes, to, 0)
+/// Bytes in which another one is searched several times. Those of its matches that are among the first 64 bytes are
+/// found by one mask, unless there are fewer than 64 bytes.
+#[derive(Clone, Copy)]
+pub(crate) struct ByteMatches<'a> {
+    pub(crate) byte: u8,
+    pub(crate) bytes: &'a [u8],
+    // The match mask of the first `size` bytes.
+    mask: u64,
+    size: usize,
+    ghost few: { size ≤ 64 },
+    ghost within: { size ≤ length bytes.now },
+    ghost is: { mask ≡ mask_l (map (is_byte byte) (take size bytes.now)) },
 }
 
-/// The index of the match after `before` others, among the first `to` bytes. May read bytes after these, since a whole
-/// vector is as cheap as a part of it.
-#[inline(always)]
-pub(crate) fn nth_index(byte: u8, bytes: &[u8], to: usize, before: u64) -> Option<usize>
-    requires { to ≤ length bytes.now }
-    ensures { IsNthResult (is_byte byte) before (take to bytes.now) result }
-{
-    if before == 0 {
-        return first_index(byte, bytes, to);
-    }
-    nth_by_64(byte, bytes, to, before)
-}
-
-/// The index of the first match, for a byte that is often among the first 64, such as a line terminator.
-#[inline(always)]
-pub(crate) fn find_line_end(byte: u8, bytes: &[u8]) -> Option<usize>
-    ensures { IsFirstByte (is_byte byte) bytes.now result }
-{
-    if bytes.len() >= 64 {
-        let near = find_in_chunk::<64>(byte, bytes, 0);
-        if near.is_some() {
-            return near;
+impl<'a> ByteMatches<'a> {
+    #[inline(always)]
+    pub(crate) fn new(byte: u8, bytes: &'a [u8]) -> Self
+        ensures byte { result.byte ≡ byte }
+        ensures bytes { result.bytes.now ≡ bytes.now }
+    {
+        let (mask, size) = if bytes.len() < 64 {
+            (0, 0)
+        } else {
+            (match_mask(byte, bytes, 0), 64)
+        };
+        ByteMatches {
+            byte,
+            bytes,
+            mask,
+            size,
         }
     }
-    find_byte(byte, bytes)
+
+    /// The index of the first match.
+    #[inline(always)]
+    pub(crate) fn first(&self) -> Option<usize>
+        ensures { IsFirstByte (is_byte self.now.byte) self.now.bytes.now result }
+    {
+        if self.mask != 0 {
+            return Some(self.mask.trailing_zeros() as usize);
+        }
+        let at = find_byte(self.byte, &self.bytes[self.size..])?;
+        Some(self.size + at)
+    }
+
+    /// The index of the match after `before` others among `bytes[from..to]`, counted from `from`.
+    #[inline(always)]
+    pub(crate) fn nth(&self, from: usize, to: usize, before: u64) -> Option<usize>
+        requires { (from ≤ to) × (to ≤ length self.now.bytes.now) }
+        ensures { IsNthResult (is_byte self.now.byte) before (take (to - from) (drop from self.now.bytes.now)) result }
+    {
+        let len = to - from;
+        if from < self.size {
+            let mask = self.mask >> from;
+            if before < u64::from(mask.count_ones()) {
+                let at = nth_bit(mask, before);
+                return if at < len { Some(at) } else { None };
+            }
+        }
+        if before >= len as u64 {
+            return None;
+        }
+        nth_index(self.byte, &self.bytes[from..], len, before)
+    }
 }

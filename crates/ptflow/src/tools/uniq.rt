@@ -3,12 +3,13 @@
 //! `line_key` has the part of a line that is compared, and `block_runs` the loop over the runs of the lines of a block.
 
 ghost use Rattle.std.specs.Prelude.{◌≡◌, ◌<◌, ◌≤◌, ◌&&◌, length, nat_lt};
+ghost use Rattle.ptlines.specs.Outputs.{PushPost};
 ghost use Rattle.ptlines.specs.Slots.{Slots};
 ghost use Rattle.ptlangs.specs.Jobs.{uniq_job};
 ghost use Rattle.ptflow.specs.Passes.{PassPre, PassPost};
-ghost use Rattle.ptflow.specs.Uniqs.{is_same, uniq_tool};
+ghost use Rattle.ptflow.specs.Uniqs.{is_same, output_of, uniq_tool};
 ghost use Rattle.ptflow.specs.Private.Uniq.FirstLine.{first_line, current_run_of};
-ghost use Rattle.ptflow.specs.Private.Uniq.RunsFrom.{run_of};
+ghost use Rattle.ptflow.specs.Private.Uniq.RunsFrom.{current_run, run_of};
 
 mod block_runs;
 mod line_key;
@@ -68,6 +69,21 @@ pub(crate) struct LineUniq<'a> {
     ghost ends: { terminator ≡ (uniq_job job.now).terminator },
 }
 
+// Pushes the output of the current run.
+fn write_current<A: Allocator + Copy, W: Sink>(
+    by: &LineUniq,
+    run: &CurrentRun,
+    store: &Store<A>,
+    out: &mut Out<W>,
+) -> Result<(), WriteFault>
+    requires { 0 < length store.now.lines }
+    ensures { PushPost out.old out.new
+        (output_of (uniq_job by.now.job.now) (current_run (current_run_of run.now store.now))) result }
+{
+    let first = first_line(run, store);
+    write_run(by.job.show, run.count, first, &[by.terminator], out)
+}
+
 impl<'a> LineFilter for LineUniq<'a> {
     ghost use Rattle.ptlangs.specs.Jobs.{uniq_job};
     ghost use Rattle.ptflow.specs.Uniqs.{Run, output_of, uniq_tool};
@@ -92,11 +108,6 @@ impl<'a> LineFilter for LineUniq<'a> {
 
     ghost counted = { count_of };
 
-    #[inline(always)]
-    fn slots(&self) -> usize {
-        2
-    }
-
     // Adds the line to the current run, or starts the next run with it.
     fn process_line<A: Allocator + Copy, W: Sink>(
         &self,
@@ -108,13 +119,7 @@ impl<'a> LineFilter for LineUniq<'a> {
             run.count += 1;
             return Ok(());
         }
-        write_run(
-            self.job.show,
-            run.count,
-            first_line(run, store),
-            &[self.terminator],
-            out,
-        )?;
+        write_current(self, run, store, out)?;
         store.swap(0, 1);
         run.count = 1;
         run.is_copied = false;
@@ -129,23 +134,13 @@ impl<'a> LineFilter for LineUniq<'a> {
         store: &Store<A>,
         out: &mut Out<W>,
     ) -> Result<usize, WriteFault> {
-        let LineUniq { job, terminator } = *self;
-        if find_byte(terminator, block).is_none() {
-            return Ok(0);
-        }
         let same = count_repeats(self, first_line(run, store), block);
         run.count += same.count;
         let rest = &block[same.passed..];
-        let Some(at) = find_byte(terminator, rest) else {
+        let Some(at) = find_byte(self.terminator, rest) else {
             return Ok(same.passed);
         };
-        write_run(
-            job.show,
-            run.count,
-            first_line(run, store),
-            &[terminator],
-            out,
-        )?;
+        write_current(self, run, store, out)?;
         let last = write_runs(self, at, rest, out)?;
         start_run(run, last.count, &rest[last.line.from..last.line.to - 1]);
         Ok(same.passed + last.passed)
@@ -157,13 +152,7 @@ impl<'a> LineFilter for LineUniq<'a> {
         store: &mut Store<A>,
         out: &mut Out<W>,
     ) -> Result<(), WriteFault> {
-        write_run(
-            self.job.show,
-            run.count,
-            first_line(run, store),
-            &[self.terminator],
-            out,
-        )?;
+        write_current(self, run, store, out)?;
         store.clear(0);
         Ok(())
     }
@@ -203,5 +192,5 @@ pub fn uniq<A: Allocator + Copy, S: Source, R: Source, W: Sink>(
         job,
         terminator: reader.terminator(),
     };
-    run_lines(&tool, &mut run, reader, store, out)
+    run_lines(&tool, 2, &mut run, reader, store, out)
 }

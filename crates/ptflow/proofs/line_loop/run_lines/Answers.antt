@@ -31,7 +31,7 @@ line_taken : (g : given.Over) (c : In_ok-process_line-in-Ok-true g) → let T = 
 line_taken g c =
     let r = run_sent c.requires.tool c.reading.invariant c.write_out_before_blocking.ensures.pushed.wrote
     c.in_ok-write_out_before_blocking.ensures.pushed.clean in
-    let e = filled_line c.slots-slots.ensures c.in-Ok-true.field-0-test
+    let e = filled_line c.requires.slots c.in-Ok-true.field-0-test
     (c.in-Ok-true.ensures.fills r.reached.advance_ok.fault) in
     let took = c.in_ok-process_line-in-Ok-true.ensures in
     run_line c.requires.tool r e {next = g.T.LineFilter.model c.process_line.new.state c.process_line.new.store}
@@ -45,7 +45,7 @@ sent_again : (g : given.Over) (c : In_ok-write_out_before_blocking-2 g) → let 
 sent_again g c =
     let r = run_sent c.requires.tool c.reading.invariant c.write_out_before_blocking.ensures.pushed.wrote
     c.in_ok-write_out_before_blocking.ensures.pushed.clean in
-    let e = filled_line c.slots-slots.ensures c.in-Ok-true.field-0-test
+    let e = filled_line c.requires.slots c.in-Ok-true.field-0-test
     (c.in-Ok-true.ensures.fills r.reached.advance_ok.fault) in
     let took = c.in_ok-process_line-in-Ok-true.ensures in
     let v = run_line c.requires.tool r e {next = g.T.LineFilter.model c.process_line.new.state c.process_line.new.store}
@@ -56,16 +56,16 @@ sent_again g c =
 pub returns-in_err-ensure_slots : goal.returns-in_err-ensure_slots
 returns-in_err-ensure_slots g c =
     let (_, is_err, is_fault) = returned_err c.from_residual.result c.from_residual.ensures in
-    let adds = rw c.slots-slots.ensures at c.ensure_slots.ensures.adds in
+    let adds = rw c.requires.slots at c.ensure_slots.ensures.adds in
     rw (is_err, is_fault, c.in_err-ensure_slots.ensures.err)
     (run_unslotted c.requires.tool c.requires.begins.ends c.requires.begins.ready c.requires.begins.sound
     c.requires.begins.clean adds
-    (rw c.slots-slots.ensures at c.in_err-ensure_slots.ensures.few)
+    (rw c.requires.slots at c.in_err-ensure_slots.ensures.few)
     c.ensure_slots.ensures.same_peak c.in_err-ensure_slots.ensures.denied)
 
 pub reading-init : goal.reading-init
 reading-init g c =
-    let adds = rw c.slots-slots.ensures at c.ensure_slots.ensures.adds in
+    let adds = rw c.requires.slots at c.ensure_slots.ensures.adds in
     run_starts c.requires.tool c.requires.begins.ends c.requires.begins.ready c.requires.begins.clean
     (bounds_start adds c.in_ok-ensure_slots.ensures.allowed
     (cc) c.ensure_slots.ensures.same_peak)
@@ -85,14 +85,14 @@ process_line-requires-clause-room g c = same_room c.fill.ensures.slots (run_room
 pub process_line-requires-clause-few : goal.process_line-requires-clause-few
 process_line-requires-clause-few g c =
     let r = c.reading.invariant in
-    let e = filled_line c.slots-slots.ensures c.in-Ok-true.field-0-test
+    let e = filled_line c.requires.slots c.in-Ok-true.field-0-test
     (c.in-Ok-true.ensures.fills r.reached.advance_ok.fault) in
     filled_count c.requires.tool r c.requires.begins.sound c.fill.ensures.was_sound e.line e.stored
 
 pub returns-in_err-process_line-in-Ok-true : goal.returns-in_err-process_line-in-Ok-true
 returns-in_err-process_line-in-Ok-true g c =
     let r = written_out g (goal.at.returns-in_err-process_line-in-Ok-true g c).In_ok-write_out_before_blocking in
-    let e = filled_line c.slots-slots.ensures c.in-Ok-true.field-0-test
+    let e = filled_line c.requires.slots c.in-Ok-true.field-0-test
     (c.in-Ok-true.ensures.fills r.reached.advance_ok.fault) in
     let (_, is_err, is_fault) =
     returned_err c.from_residual-in_err-process_line-in-Ok-true.result
@@ -104,7 +104,7 @@ returns-in_err-process_line-in-Ok-true g c =
 pub returns-in_err-finish-in-Ok-false : goal.returns-in_err-finish-in-Ok-false
 returns-in_err-finish-in-Ok-false g c =
     let r = written_out g (goal.at.returns-in_err-finish-in-Ok-false g c).In_ok-write_out_before_blocking in
-    let (advance_ok, done, emptied) = rw (c.in-Ok-false.field-0-test, c.slots-slots.ensures) at
+    let (advance_ok, done, emptied) = rw (c.in-Ok-false.field-0-test, c.requires.slots) at
     (c.in-Ok-false.ensures.fills r.reached.advance_ok.fault) in
     let end = c.in_err-finish-in-Ok-false.ensures.pushed r.reached.clean in
     let (_, is_err, is_fault) =
@@ -116,7 +116,7 @@ returns-in_err-finish-in-Ok-false g c =
 pub returns-in-Ok-false : goal.returns-in-Ok-false
 returns-in-Ok-false g c =
     let r = written_out g (goal.at.returns-in-Ok-false g c).In_ok-write_out_before_blocking in
-    let (advance_ok, done, emptied) = rw (c.in-Ok-false.field-0-test, c.slots-slots.ensures) at
+    let (advance_ok, done, emptied) = rw (c.in-Ok-false.field-0-test, c.requires.slots) at
     (c.in-Ok-false.ensures.fills r.reached.advance_ok.fault) in
     let end = c.in_ok-finish-in-Ok-false.ensures in
     let pushed = end.pushed r.reached.clean in
@@ -126,7 +126,7 @@ returns-in-Ok-false g c =
 pub returns-in-Err-Read : goal.returns-in-Err-Read
 returns-in-Err-Read g c =
     let r = written_out g (goal.at.returns-in-Err-Read g c).In_ok-write_out_before_blocking in
-    let e = rw (c.in-Err-Read.field-0-is, c.slots-slots.ensures) at
+    let e = rw (c.in-Err-Read.field-0-is, c.requires.slots) at
     (c.in-Err-Read.ensures.fills r.reached.advance_ok.fault) in
     let free = subst (λ b. IsLine b e.piece) (r.reached.advance_ok.reads.terminator ∙ r.terminator) e.faults.whole in
     run_broken c.requires.tool r c.requires.begins.ready c.fill.ensures.was_sound e.faults.reads free
@@ -135,7 +135,7 @@ returns-in-Err-Read g c =
 pub returns-in-Err-Memory : goal.returns-in-Err-Memory
 returns-in-Err-Memory g c =
     let r = written_out g (goal.at.returns-in-Err-Memory g c).In_ok-write_out_before_blocking in
-    let e = rw (c.in-Err-Memory.field-0-is, c.slots-slots.ensures) at
+    let e = rw (c.in-Err-Memory.field-0-is, c.requires.slots) at
     (c.in-Err-Memory.ensures.fills r.reached.advance_ok.fault) in
     let free = subst (λ b. IsLine b e.piece) (r.reached.advance_ok.reads.terminator ∙ r.terminator) e.faults.whole in
     run_memory c.requires.tool r c.requires.begins.ready c.fill.ensures.was_sound e.faults.reads free
@@ -154,7 +154,7 @@ returns-in_err-write_out_before_blocking-2 g c =
 
 pub reading-smaller : goal.reading-smaller
 reading-smaller g c =
-    let e = filled_line c.slots-slots.ensures c.in-Ok-true.field-0-test
+    let e = filled_line c.requires.slots c.in-Ok-true.field-0-test
     (c.in-Ok-true.ensures.fills c.reading.invariant.reached.advance_ok.fault) in
     let (refilled, shown, _) = (rw c.in-Ok.is at c.block.follows.holds-at-none.shows) e.advance_ok.fault in
     budget_of_line c.reading.reader c.in_ok-passed-in-Ok.passed e.less refilled c.consume.ensures.consumed

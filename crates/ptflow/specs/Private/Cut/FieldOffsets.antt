@@ -1,7 +1,6 @@
 -- The start of each field of a line.
-use Rattle.std.specs.Prelude.{◌≡◌, ℕ, ◌≤◌, ◌==◌, List, ◌∷◌, Some, length, take, drop}
+use Rattle.std.specs.Prelude.{◌≡◌, ℕ, ◌≤◌, ◌==◌, List, ◌∷◌, length, take, drop}
 use Rattle.std.specs.List.{flat_map, slice_split}
-use Rattle.memchr.specs.Find.{IsFirstByte, is_byte}
 
 -- a line is split at every delimiter
 abbrev pub fields : ℕ → List ℕ → List (List ℕ)
@@ -18,14 +17,3 @@ pub record IsFieldStart (delimiter n : ℕ) (line : List ℕ) (at : ℕ) : Type 
   pub front : take at (delimiter ∷ line) ≡ prefixed_fields delimiter (take n (fields delimiter line))
   pub behind : drop at (delimiter ∷ line) ≡ delimiter ∷ drop at line
   pub later : drop n (fields delimiter line) ≡ fields delimiter (drop at line)
-
--- the first `to` bytes are a line, and its first delimiter is at this index
-pub record HasFirstDelimiter (delimiter : ℕ) (bytes : List ℕ) (to first : ℕ) : Type 0 where
-  pub found : IsFirstByte (is_byte delimiter) (take to bytes) (Some first)
-  pub within : to ≤ length bytes
-
--- the search begins at the start of such a line, or after its first delimiter
-pub record FieldStartPre (delimiter : ℕ) (bytes : List ℕ) (to first from : ℕ) : Type 0 where
-  pub line : HasFirstDelimiter delimiter bytes to first
-  pub start : from ≤ first → from ≡ 0
-  pub near : from ≤ to

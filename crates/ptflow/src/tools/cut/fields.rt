@@ -1,81 +1,46 @@
 //! `cut -f`: selects fields of each line, line by line. `cut` calls it.
 
 ghost use Rattle.std.specs.Prelude.{◌≡◌, ◌+◌, ◌-◌, ◌<◌, ◌≤◌, ◌++◌, ◌⊎◌, length, take, drop, slice_index, true, false};
-ghost use Rattle.std.specs.Prelude.{[], ◌∷◌, Some, IfSome, OnOk, OnErr, MatchOption};
+ghost use Rattle.std.specs.Prelude.{[], ◌∷◌, Some, OnOk, OnErr, MatchOption};
 ghost use Rattle.memchr.specs.Find.{IsFirstByte, is_byte};
 ghost use Rattle.ptlines.specs.Outputs.{PushEffect};
 ghost use Rattle.ptlangs.specs.Jobs.{cut_job};
 ghost use Rattle.ptflow.specs.Cuts.{cut_fields, cut_lines, cut_tool};
 ghost use Rattle.ptflow.specs.Passes.{PassPost};
 ghost use Rattle.ptflow.specs.Private.Passes.LineLoop.{RunLinesPre};
-ghost use Rattle.ptflow.specs.Private.Cut.FieldOffsets.{fields, IsFieldStart, HasFirstDelimiter, FieldStartPre};
-ghost use Rattle.ptflow.specs.Private.Cut.FieldSlices.{IsFieldCursor, IsNextStep};
+ghost use Rattle.ptflow.specs.Private.Cut.FieldOffsets.{fields, IsFieldStart};
+ghost use Rattle.ptflow.specs.Private.Cut.FieldSlices.{IsFieldCursor, IsNextSlice, output_from_cursor};
 ghost use Rattle.ptflow.specs.Private.Cut.CutFrom.{CopyLinesPost};
 
 use crate::faults::FlowFault;
 use crate::line_loop::{LineFilter, run_lines};
-use crate::simd::find_nth::{find_line_end, nth_index};
+use crate::simd::find_nth::ByteMatches;
 use memchr::memrchr;
 use ptlangs::jobs::CutJob;
 use ptlangs::ranges::Interval;
-use ptlines::{LineReader, Out, Sink, Source, Store, WriteFault, copy_short, find_byte};
+use ptlines::{LineReader, Out, Sink, Source, Store, WriteFault, copy_short};
 use std::alloc::Allocator;
 
 // The output of the lines of a block, and 16 bytes more, which a short copy may change.
 type OutBuf = [u8; 8192 + 16];
 
-// A line, which is the first `to` bytes. Its first delimiter is at index `first`.
-#[derive(Clone, Copy)]
-struct DelimitedLine<'a> {
-    delimiter: u8,
-    first: usize,
-    bytes: &'a [u8],
-    to: usize,
-}
-
-// The index at which field `count`, counted from 0, starts in a line, which is the first `to` bytes. `None` if the line
-// has no such field.
+// How many bytes after index `from` of a line, which is the first `to` bytes, field `count` starts, counted from 0 and
+// from that index on. `None` if there is no such field.
 #[inline(always)]
-fn field_start(delimiter: u8, bytes: &[u8], to: usize, count: u64) -> Option<usize>
-    requires { to ≤ length bytes.now }
-    ensures { MatchOption result (length (fields delimiter (take to bytes.now)) ≤ count)
-        (IsFieldStart delimiter count (take to bytes.now)) }
+fn field_start(delimiters: &ByteMatches, from: usize, to: usize, count: u64) -> Option<usize>
+    requires { (from ≤ to) × (to ≤ length delimiters.now.bytes.now) }
+    ensures { MatchOption result
+        (length (fields delimiters.now.byte (drop from (take to delimiters.now.bytes.now))) ≤ count)
+        (IsFieldStart delimiters.now.byte count (drop from (take to delimiters.now.bytes.now))) }
 {
-    // A line has at most one field more than bytes.
-    if count > to as u64 {
-        return None;
-    }
     if count == 0 {
         return Some(0);
     }
-    let at = nth_index(delimiter, bytes, to, count - 1)?;
+    let at = delimiters.nth(from, to, count - 1)?;
     Some(at + 1)
 }
 
-// Like `field_start`, but counts fields and bytes from index `from`, which is the line's start or is after its first
-// delimiter. That delimiter is not searched again.
-#[inline(always)]
-fn field_start_after(line: &DelimitedLine, from: usize, count: u64) -> Option<usize>
-    requires { FieldStartPre line.now.delimiter line.now.bytes.now line.now.to line.now.first from }
-    ensures found { MatchOption result
-        (length (fields line.now.delimiter (drop from (take line.now.to line.now.bytes.now))) ≤ count)
-        (IsFieldStart line.now.delimiter count (drop from (take line.now.to line.now.bytes.now))) }
-    ensures start { IfSome result (λ passed. from + passed ≤ line.now.first → from + passed ≡ 0) }
-{
-    if count == 0 || from > line.first {
-        return field_start(line.delimiter, &line.bytes[from..], line.to - from, count);
-    }
-    let after = line.first + 1;
-    let passed = field_start(
-        line.delimiter,
-        &line.bytes[after..],
-        line.to - after,
-        count - 1,
-    )?;
-    Some(after + passed)
-}
-
-// Where the fields of a line are that the intervals from `index` on select: field `number` starts at index `at`, and
+// The fields of a line that the intervals from `index` on select: field `number` starts at index `at` of the line, and
 // `sep` delimiters belong to the next slice: one, unless it is the first.
 #[derive(Clone, Copy)]
 struct FieldCursor {
@@ -92,7 +57,8 @@ const LINE_START: FieldCursor = FieldCursor {
     sep: 0,
 };
 
-// A slice of a line, and where the fields after it are.
+// A slice of a line: adjacent selected fields, with the delimiter before them if they are not the first. `next` is the
+// cursor after them.
 #[derive(Clone, Copy)]
 struct FieldSlice {
     start: usize,
@@ -100,36 +66,36 @@ struct FieldSlice {
     next: FieldCursor,
 }
 
-// The next part of the output for a line.
-#[derive(Clone, Copy)]
-enum FieldStep {
-    // Adjacent fields, with the delimiter before them if they are not the first.
-    Slice(FieldSlice),
-    // The line from this index on, which is the last part.
-    Rest(usize),
-    // No field is left.
-    End,
-}
-
-// The next part of the output for a line, from the cursor on.
+// The next slice of the output for a line, which is the first `to` bytes, from the cursor on. `None` if no field is
+// left.
 #[inline(always)]
-fn next_step(line: &DelimitedLine, selected: &[Interval], cursor: FieldCursor) -> FieldStep
-    requires line { HasFirstDelimiter line.now.delimiter line.now.bytes.now line.now.to line.now.first }
-    requires cursor { IsFieldCursor selected.now (take line.now.to line.now.bytes.now) line.now.first cursor }
-    ensures { IsNextStep line.now.delimiter selected.now (take line.now.to line.now.bytes.now) line.now.first cursor
-        result }
+fn next_slice(
+    delimiters: &ByteMatches,
+    to: usize,
+    selected: &[Interval],
+    cursor: FieldCursor,
+) -> Option<FieldSlice>
+    requires within { to ≤ length delimiters.now.bytes.now }
+    requires cursor { IsFieldCursor selected.now (take to delimiters.now.bytes.now) cursor }
+    ensures { MatchOption result
+        (output_from_cursor delimiters.now.byte selected.now (take to delimiters.now.bytes.now) cursor ≡ [])
+        (IsNextSlice delimiters.now.byte selected.now (take to delimiters.now.bytes.now) cursor) }
 {
     if cursor.index >= selected.len() {
-        return FieldStep::End;
+        return None;
     }
     let Interval { first, last } = selected[cursor.index];
-    let Some(skipped) = field_start_after(line, cursor.at, first - cursor.number) else {
-        return FieldStep::End;
-    };
-    let from = cursor.at + skipped;
+    let from = cursor.at + field_start(delimiters, cursor.at, to, first - cursor.number)?;
     let start = from - cursor.sep;
-    let Some(passed) = field_start_after(line, from, last - first + 1) else {
-        return FieldStep::Rest(start);
+    let Some(passed) = field_start(delimiters, from, to, last - first + 1) else {
+        return Some(FieldSlice {
+            start,
+            end: to,
+            next: FieldCursor {
+                index: selected.len(),
+                ..cursor
+            },
+        });
     };
     let next = FieldCursor {
         index: cursor.index + 1,
@@ -138,39 +104,28 @@ fn next_step(line: &DelimitedLine, selected: &[Interval], cursor: FieldCursor) -
         sep: 1,
     };
     let end = next.at - 1;
-    FieldStep::Slice(FieldSlice { start, end, next })
+    Some(FieldSlice { start, end, next })
 }
 
 // Pushes the selected fields of a line of any length.
 fn write_fields<A: Allocator + Copy, W: Sink>(
     job: &CutJob<A>,
-    first: usize,
-    line: &[u8],
+    delimiters: &ByteMatches,
     out: &mut Out<W>,
 ) -> Result<(), WriteFault>
-    requires { IsFirstByte (is_byte job.now.delim) line.now (Some first) }
-    ensures wrote { PushEffect out.old out.new (cut_fields (cut_job job.now) line.now) }
+    requires { delimiters.now.byte ≡ job.now.delim }
+    ensures wrote { PushEffect out.old out.new (cut_fields (cut_job job.now) delimiters.now.bytes.now) }
     ensures clean { OnOk result (out.old.write_failed ≡ false → out.new.write_failed ≡ false) }
     ensures fault { OnErr result (out.new.write_failed ≡ true) }
 {
     let selected = job.list.intervals();
-    let fields = DelimitedLine {
-        delimiter: job.delim,
-        first,
-        bytes: line,
-        to: line.len(),
-    };
+    let line = delimiters.bytes;
     let mut cursor = LINE_START;
-    'slices: loop {
-        match next_step(&fields, selected, cursor) {
-            FieldStep::Slice(slice) => {
-                out.push(&line[slice.start..slice.end])?;
-                cursor = slice.next;
-            }
-            FieldStep::Rest(start) => return out.push(&line[start..]),
-            FieldStep::End => return Ok(()),
-        }
+    'slices: while let Some(slice) = next_slice(delimiters, line.len(), selected, cursor) {
+        out.push(&line[slice.start..slice.end])?;
+        cursor = slice.next;
     }
+    Ok(())
 }
 
 // A job that selects fields, and the terminator.
@@ -192,56 +147,46 @@ fn write_line<A: Allocator + Copy, W: Sink>(
     ensures clean { OnOk result (out.old.write_failed ≡ false → out.new.write_failed ≡ false) }
     ensures fault { OnErr result (out.new.write_failed ≡ true) }
 {
-    match find_byte(by.job.delim, line) {
-        Some(first) => write_fields(by.job, first, line, out)?,
-        None => {
-            if by.job.only {
-                return Ok(());
-            }
-            out.push(line)?;
-        }
+    let delimiters = ByteMatches::new(by.job.delim, line);
+    if delimiters.first().is_some() {
+        write_fields(by.job, &delimiters, out)?;
+        return out.push(&[by.terminator]);
     }
-    out.push(&[by.terminator])
+    if by.job.only {
+        return Ok(());
+    }
+    out.push_line(b"", line, &[by.terminator])
 }
 
-// Copies the selected fields of a line and its terminator, which is the byte after it, to index `start` of `room`.
-// Returns the index after the copied bytes.
+// Copies the selected fields of a line, which is the first `to` bytes, and its terminator, which is the byte after it,
+// to index `start` of `room`. Returns the index after the copied bytes.
 #[inline(always)]
 fn copy_fields<A: Allocator + Copy>(
     job: &CutJob<A>,
-    line: DelimitedLine,
+    delimiters: &ByteMatches,
+    to: usize,
     room: &mut [u8],
     start: usize,
 ) -> usize
-    requires line { HasFirstDelimiter line.delimiter line.bytes.now line.to line.first }
-    requires delimiter { line.delimiter ≡ job.now.delim }
-    requires room { (line.to < length line.bytes.now) × (start + line.to + 17 ≤ length room.old) }
+    requires delimiter { delimiters.now.byte ≡ job.now.delim }
+    requires room { (to < length delimiters.now.bytes.now) × (start + to + 17 ≤ length room.old) }
     ensures long { length room.new ≡ length room.old }
     ensures put { take result room.new ≡ take start room.old
-        ++ (cut_fields (cut_job job.now) (take line.entry.to line.entry.bytes.now)
-        ++ take 1 (drop line.entry.to line.entry.bytes.now)) }
-    ensures end { (start ≤ result) × (result ≤ start + line.entry.to + 1) }
+        ++ (cut_fields (cut_job job.now) (take to delimiters.now.bytes.now)
+        ++ take 1 (drop to delimiters.now.bytes.now)) }
+    ensures end { (start ≤ result) × (result ≤ start + to + 1) }
 {
     let selected = job.list.intervals();
+    let bytes = delimiters.bytes;
     let mut cursor = LINE_START;
     let mut end = start;
-    'slices: loop {
-        match next_step(&line, selected, cursor) {
-            FieldStep::Slice(slice) => {
-                copy_short(line.bytes, slice.start, slice.end, room, end);
-                end += slice.end - slice.start;
-                cursor = slice.next;
-            }
-            FieldStep::Rest(from) => {
-                copy_short(line.bytes, from, line.to + 1, room, end);
-                return end + (line.to + 1 - from);
-            }
-            FieldStep::End => {
-                room[end] = line.bytes[line.to];
-                return end + 1;
-            }
-        }
+    'slices: while let Some(slice) = next_slice(delimiters, to, selected, cursor) {
+        copy_short(bytes, slice.start, slice.end, room, end);
+        end += slice.end - slice.start;
+        cursor = slice.next;
     }
+    room[end] = bytes[to];
+    end + 1
 }
 
 // The length of the complete lines before index `up_to`, or of the first line, which ends at `to`, if that is longer.
@@ -280,15 +225,10 @@ fn copy_lines<A: Allocator + Copy>(
     ensures end { (start ≤ result.1) × (result.1 ≤ start + result.0) }
 {
     let FieldCut { job, terminator } = *by;
-    let first = find_byte(job.delim, bytes).unwrap_or(bytes.len());
+    let delimiters = ByteMatches::new(job.delim, bytes);
+    let first = delimiters.first().unwrap_or(bytes.len());
     if first < to {
-        let line = DelimitedLine {
-            delimiter: job.delim,
-            first,
-            bytes,
-            to,
-        };
-        return (to + 1, copy_fields(job, line, room, start));
+        return (to + 1, copy_fields(job, &delimiters, to, room, start));
     }
     let size = whole_lines_len(terminator, bytes, to, first);
     if job.only {
@@ -323,11 +263,6 @@ impl<'a, A: Allocator + Copy> LineFilter for FieldCut<'a, A> {
 
     ghost counted = { λ u. 1 };
 
-    #[inline(always)]
-    fn slots(&self) -> usize {
-        1
-    }
-
     fn process_line<B: Allocator + Copy, W: Sink>(
         &self,
         _room: &mut OutBuf,
@@ -355,7 +290,7 @@ impl<'a, A: Allocator + Copy> LineFilter for FieldCut<'a, A> {
         };
         let mut end = 0;
         let mut rest = block;
-        'lines: while let Some(to) = find_line_end(by.terminator, rest) {
+        'lines: while let Some(to) = ByteMatches::new(by.terminator, rest).first() {
             let (size, put) = copy_lines(&by, to, rest, room, end);
             rest = &rest[size..];
             end = put;
@@ -397,5 +332,5 @@ pub(crate) fn cut_by_fields<
         terminator: reader.terminator(),
     };
     let mut room = [0; 8192 + 16];
-    run_lines(&by, &mut room, reader, store, out)
+    run_lines(&by, 1, &mut room, reader, store, out)
 }

@@ -26,27 +26,23 @@ fn has_output(show: Show, count: u64) -> bool
     }
 }
 
-// Checks whether a count is written before a run's line.
-fn has_count(show: Show) -> bool
-    ensures { result ≡ false → (count : ℕ) → count_prefix show count ≡ [] }
-{
-    match show {
-        Show::Counts => true,
-        Show::All | Show::Repeated | Show::Single => false,
-    }
-}
-
-// Pushes the count that is written before a run's line, if there is one.
-fn write_count<W: Sink>(show: Show, count: u64, out: &mut Out<W>) -> Result<(), WriteFault>
-    ensures { PushPost out.old out.new (count_prefix show count) result }
+// Pushes other bytes, and then the count that is written before a run's line, if there is one. Out of line, since most
+// output is pushed without it.
+#[inline(never)]
+fn write_count<W: Sink>(
+    show: Show,
+    count: u64,
+    before: &[u8],
+    out: &mut Out<W>,
+) -> Result<(), WriteFault>
+    ensures { PushPost out.old out.new (before.now ++ count_prefix show count) result }
 {
     match show {
         Show::Counts => {
             let mut buffer = Buffer::new();
-            out.push(buffer.format(count).as_bytes())?;
-            out.push(b" ")
+            out.push_line(before, buffer.format(count).as_bytes(), b" ")
         }
-        Show::All | Show::Repeated | Show::Single => out.push(b""),
+        Show::All | Show::Repeated | Show::Single => out.push(before),
     }
 }
 
@@ -63,9 +59,8 @@ pub(crate) fn write_run<W: Sink>(
     if !has_output(show, count) {
         return out.push(b"");
     }
-    write_count(show, count, out)?;
-    out.push(bytes)?;
-    out.push(terminator)
+    write_count(show, count, b"", out)?;
+    out.push_line(b"", bytes, terminator)
 }
 
 // The number of lines that repeat a key, and their length in bytes with their terminators.
@@ -108,20 +103,6 @@ pub(crate) struct Span {
     pub to: usize,
 }
 
-// Pushes the deferred output, and then the count of the next run. Out of line, since it is seldom needed.
-#[inline(never)]
-fn flush_pending<W: Sink>(
-    show: Show,
-    count: u64,
-    pending: &[u8],
-    out: &mut Out<W>,
-) -> Result<(), WriteFault>
-    ensures { PushPost out.old out.new (pending.now ++ count_prefix show count) result }
-{
-    out.push(pending)?;
-    write_count(show, count, out)
-}
-
 // Extends the deferred output by a run if the two are contiguous in the block; otherwise pushes the deferred output
 // first. The run has `count` lines, and `line` is its first line with the terminator. Returns the range of the deferred
 // output.
@@ -145,13 +126,13 @@ fn extend_or_flush<W: Sink>(
     if !has_output(show, count) {
         return Ok(pending);
     }
-    if !has_count(show) && pending.to == line.from {
+    if show != Show::Counts && pending.to == line.from {
         return Ok(Span {
             from: pending.from,
             to: line.to,
         });
     }
-    flush_pending(show, count, &block[pending.from..pending.to], out)?;
+    write_count(show, count, &block[pending.from..pending.to], out)?;
     Ok(line)
 }
 

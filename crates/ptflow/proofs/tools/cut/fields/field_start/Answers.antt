@@ -1,28 +1,23 @@
--- Field n starts after the n-th delimiter, and a line has at most one field more than bytes.
-use Rattle.ptflow.proofs.Common.{take, arith, length-take-le, count_by-le-length, is_byte}
-use Rattle.ptflow.proofs.CutLemmas.FieldOffsets.{starts_first}
+-- Field n starts after the n-th delimiter.
+use Rattle.ptflow.proofs.Common.{take, drop, arith}
+use Rattle.ptflow.proofs.CutLemmas.FieldOffsets.{starts_first, rest_of}
 use Rattle.ptflow.proofs.Vectors.FindNth.{few_fields, starts_after_nth}
 use Rattle.ptflow.proofs.tools.cut.fields.field_start.Goals as goal
 
-pub returns-then-count-to : goal.returns-then-count-to
-returns-then-count-to c =
-    let line = take c.args.to c.args.bytes.now in
-    few_fields c.args.delimiter line
-    (omega (
-      arith,
-      count_by-le-length (is_byte c.args.delimiter) line,
-      length-take-le c.args.to c.args.bytes.now
-          c.requires,
-    ))
-
 pub returns-then-count-eq0 : goal.returns-then-count-eq0
 returns-then-count-eq0 c =
-    rw c.if-count-eq0.true (starts_first c.args.delimiter (take c.args.to c.args.bytes.now))
+    let d = c.args.delimiters.now in
+    rw c.if-count-eq0.true (starts_first d.byte (drop c.args.from (take c.args.to d.bytes.now)))
 
 pub returns-in_err-at : goal.returns-in_err-at
-returns-in_err-at c = rw c.from_residual.ensures
-    (few_fields c.args.delimiter (take c.args.to c.args.bytes.now) (omega (arith, c.in_err-at.ensures)))
+returns-in_err-at c =
+    let d = c.args.delimiters.now in
+    let line = drop c.args.from (take c.args.to d.bytes.now) in
+    let few = rw (← (rest_of c.args.from c.args.to d.bytes.now)) at c.in_err-at.ensures in
+    rw c.from_residual.ensures (few_fields d.byte line (omega (arith, few)))
 
 pub returns : goal.returns
-returns c = starts_after_nth c.args.delimiter (take c.args.to c.args.bytes.now) c.in_ok-at.at (omega arith)
-    c.in_ok-at.ensures
+returns c =
+    let d = c.args.delimiters.now in
+    starts_after_nth d.byte (drop c.args.from (take c.args.to d.bytes.now)) c.in_ok-at.at (omega arith)
+    (rw (← (rest_of c.args.from c.args.to d.bytes.now)) at c.in_ok-at.ensures)

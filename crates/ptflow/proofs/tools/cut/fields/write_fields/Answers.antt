@@ -1,60 +1,53 @@
 -- Each iteration pushes the next slice. A push may fail: then the pushed bytes are a prefix of the selected fields.
-use Rattle.ptflow.proofs.Common.{◌≡◌, ◌+◌, ◌-◌, ◌≤◌, ◌++◌, take, drop, length, refl, ◌∙◌, ap, arith, take_all}
-use Rattle.ptflow.proofs.Common.{take_rest, is_selected, cut_job, remaining_fields}
-use Rattle.ptflow.proofs.Passes.Prefix.{prefix_starts, front_more, front_fails, front_ends}
+use Rattle.ptflow.proofs.Common.{◌≡◌, ◌+◌, ◌-◌, ◌≤◌, ◌++◌, take, drop, length, ◌∙◌, ap, arith, take_all}
+use Rattle.ptflow.proofs.Common.{is_selected, cut_job, output_from_cursor}
+use Rattle.ptflow.proofs.Passes.Prefix.{prefix_starts, front_more, front_fails}
 use Rattle.ptflow.proofs.CutLemmas.FieldLoop.{cursor_starts, selected_remaining}
 use Rattle.ptflow.proofs.CutLemmas.FieldOffsets.{slice_of}
 use Rattle.ptflow.proofs.tools.cut.fields.write_fields.Given as given
 use Rattle.ptflow.proofs.tools.cut.fields.write_fields.Goals as goal
-use Rattle.ptflow.proofs.tools.cut.fields.write_fields.Goals.{In-Slice}
+use Rattle.ptflow.proofs.tools.cut.fields.write_fields.Goals.{In-Some}
 
 pub slices-init : goal.slices-init
 slices-init g c =
     let list = c.intervals-selected.result.now in
-    let line = c.args.line.now in
+    let line = c.args.delimiters.now.bytes.now in
     let job = cut_job c.args.job.now in
     let kept = ap is_selected c.intervals-selected.ensures.kept in
     let all : take (length line) line ≡ line = take_all (length line) line (omega arith) in record {
-      front = prefix_starts (rw all (selected_remaining job list line refl kept));
+      front = prefix_starts (rw all (selected_remaining job list line c.requires kept));
       cursor = cursor_starts c.intervals-selected.ensures.separated;
       clean = λ clean. clean;
     }
 
 -- the output that is left is the next slice, and then the rest
-next : (g : given.Over) (c : In-Slice g)
-    → remaining_fields c.args.job.now.delim c.intervals-selected.result.now
-    (take (length c.args.line.now) c.args.line.now) c.slices.cursor
-    ≡ take (c.in-Slice.slice.end - c.in-Slice.slice.start) (drop c.in-Slice.slice.start c.args.line.now)
-    ++ remaining_fields c.args.job.now.delim c.intervals-selected.result.now
-    (take (length c.args.line.now) c.args.line.now) c.in-Slice.slice.next
+next : (g : given.Over) (c : In-Some g)
+    → output_from_cursor c.args.delimiters.now.byte c.intervals-selected.result.now
+    (take (length c.args.delimiters.now.bytes.now) c.args.delimiters.now.bytes.now) c.slices.cursor
+    ≡ take (c.in-Some.slice.end - c.in-Some.slice.start) (drop c.in-Some.slice.start c.args.delimiters.now.bytes.now)
+    ++ output_from_cursor c.args.delimiters.now.byte c.intervals-selected.result.now
+    (take (length c.args.delimiters.now.bytes.now) c.args.delimiters.now.bytes.now) c.in-Some.slice.next
 next g c =
-    let line = c.args.line.now in
-    let slice = c.in-Slice.slice in
+    let line = c.args.delimiters.now.bytes.now in
+    let slice = c.in-Some.slice in
     let whole = take (length line) line in
     let all : length whole ≡ length line = ap length (take_all (length line) line (omega arith)) in
     let within : slice.start + (slice.end - slice.start) ≤ length line =
-    omega (arith, all, c.in-Slice.ensures.within, c.in-Slice.ensures.order) in
-    c.in-Slice.ensures.output
-    ∙ ap (λ bytes. bytes ++ remaining_fields c.args.job.now.delim c.intervals-selected.result.now whole slice.next)
+    omega (arith, all, c.in-Some.ensures.within, c.in-Some.ensures.order) in
+    c.in-Some.ensures.output
+    ∙ ap (λ bytes. bytes ++ output_from_cursor c.args.delimiters.now.byte c.intervals-selected.result.now whole slice.next)
     (slice_of slice.start (slice.end - slice.start) line within)
 
-pub returns-in_err-push-in-Slice-clause-wrote : goal.returns-in_err-push-in-Slice-clause-wrote
-returns-in_err-push-in-Slice-clause-wrote g c =
-    let pushed = c.in_err-push-in-Slice.ensures.pushed in
-    front_fails c.slices.invariant.front _ (next g (goal.at.returns-in_err-push-in-Slice-clause-wrote g c).In-Slice)
+pub returns-in_err-push-clause-wrote : goal.returns-in_err-push-clause-wrote
+returns-in_err-push-clause-wrote g c =
+    let pushed = c.in_err-push.ensures.pushed in
+    front_fails c.slices.invariant.front _ (next g (goal.at.returns-in_err-push-clause-wrote g c).In-Some)
     pushed.wrote pushed.fault
 
 pub slices-preserved : goal.slices-preserved
 slices-preserved g c = record {
-  front = front_more c.slices.invariant.front _ (next g (goal.at.slices-preserved g c).In-Slice)
-      c.in_ok-push-in-Slice.ensures.pushed.wrote;
-  cursor = c.in-Slice.ensures.next;
-  clean = λ was_clean. c.in_ok-push-in-Slice.ensures.pushed.clean;
+  front = front_more c.slices.invariant.front _ (next g (goal.at.slices-preserved g c).In-Some)
+      c.in_ok-push.ensures.pushed.wrote;
+  cursor = c.in-Some.ensures.next;
+  clean = λ was_clean. c.in_ok-push.ensures.pushed.clean;
 }
-
-pub returns-in-Rest-clause-wrote : goal.returns-in-Rest-clause-wrote
-returns-in-Rest-clause-wrote g c =
-    let line = c.args.line.now in
-    let all = ap (drop c.in-Rest.start) (take_all (length line) line (omega arith)) in
-    front_ends c.slices.invariant.front (c.in-Rest.ensures.output ∙ all)
-    (rw take_rest at c.push-in-Rest.ensures.pushed.wrote)

@@ -1,6 +1,6 @@
--- The output of a run is pushed in three parts, and a failed push leaves a prefix of the whole.
+-- The output of a run is pushed in two parts, and a failed push leaves a prefix of the whole.
 use Rattle.ptflow.proofs.Common.{◌≡◌, ◌++◌, true, sym, ◌∙◌, push_past_failure, has_output}
-use Rattle.ptflow.proofs.Passes.Prefix.{push_failed, wrote_then, push_then}
+use Rattle.ptflow.proofs.Passes.Prefix.{push_failed, push_then}
 use Rattle.ptflow.proofs.Passes.StepOutput.{returned_err}
 use Rattle.ptflow.proofs.tools.uniq.block_runs.write_run.Goals as goal
 
@@ -12,15 +12,7 @@ returns-in_err-write_count g c =
     (push_failed is_err (push_past_failure _ _ _ (c.args.bytes.now ++ c.args.terminator.now)
     c.in_err-write_count.ensures.fault c.write_count.ensures.wrote) c.in_err-write_count.ensures.fault)
 
-pub returns-in_err-push : goal.returns-in_err-push
-returns-in_err-push g c =
-    let shown : has_output c.args.show c.args.count ≡ true = sym c.has_output.ensures ∙ c.if-not-has_output.false in
-    let (_, is_err, _) = returned_err c.from_residual-in_err-push.result c.from_residual-in_err-push.ensures in
-    rw shown (push_failed is_err (wrote_then _ _ _ c.write_count.ensures.wrote
-    (push_past_failure _ _ _ c.args.terminator.now c.in_err-push.ensures.pushed.fault c.push-2.ensures.pushed.wrote))
-    c.in_err-push.ensures.pushed.fault)
-
 pub returns : goal.returns
 returns g c =
     let shown : has_output c.args.show c.args.count ≡ true = sym c.has_output.ensures ∙ c.if-not-has_output.false in
-    rw shown (push_then c.write_count.ensures.wrote (push_then c.push-2.ensures.pushed.wrote c.push-3.ensures.pushed))
+    rw shown (push_then c.write_count.ensures.wrote c.push_line.ensures.pushed)

@@ -40,7 +40,7 @@ returns-clause-continues g c =
     let l = c.lines in
     let job = cut_job c.args.self.now.job.now in
     let none = complete_lines_none _ l.rest.now
-    (line_if_not_found _ l.rest.now (rw c.args.self.now.ends at c.in_default.ensures)) in record {
+    (line_if_not_found _ l.rest.now (rw (c.new.ensures.byte, c.new.ensures.bytes, c.args.self.now.ends) at c.in_default.ensures)) in record {
       passed = take l.end l.room;
       wrote = c.in_ok-push.ensures.pushed.wrote;
       clean = λ was_clean. c.in_ok-push.ensures.pushed.clean;
@@ -52,6 +52,6 @@ returns-clause-continues g c =
 pub returns-clause-passed : goal.returns-clause-passed
 returns-clause-passed g c = (
   omega arith,
-  taken_all _ (line_if_not_found _ c.lines.rest.now (rw c.args.self.now.ends at c.in_default.ensures))
+  taken_all _ (line_if_not_found _ c.lines.rest.now (rw (c.new.ensures.byte, c.new.ensures.bytes, c.args.self.now.ends) at c.in_default.ensures))
       c.lines.invariant.taken,
 )

@@ -2,8 +2,8 @@
 use Rattle.ptflow.proofs.Common.{◌≡◌, ◌+◌, take, ◌∙◌, ap, arith, count_ones, count_by, chunk, length-chunk, ones-mask_l}
 use Rattle.ptflow.proofs.Common.{is_byte, IsNth}
 use Rattle.ptflow.proofs.Vectors.FindNth.{count_up_to, count_chunk, count_in_prefix, nth_in_prefix, near}
-use Rattle.ptflow.proofs.simd.find_nth.nth_by_64.Goals as goal
-use Rattle.ptflow.proofs.simd.find_nth.nth_by_64.Goals.{After-nth_bit}
+use Rattle.ptflow.proofs.simd.find_nth.nth_index.Goals as goal
+use Rattle.ptflow.proofs.simd.find_nth.nth_index.Goals.{After-nth_bit}
 
 -- the index that the mask of a chunk gives
 here : (c : After-nth_bit)
