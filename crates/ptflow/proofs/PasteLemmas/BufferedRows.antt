@@ -8,6 +8,12 @@ use Rattle.ptflow.proofs.Common.{Reader, AdvanceOk, IsSound, Slots, with_line, F
 use Rattle.ptflow.proofs.Common.{line_before_terminator, take_with_terminator, advance_ok_take, reader_at, uses_of}
 use Rattle.ptflow.proofs.Common.{CellsFilled, after_cell, cells_text, RowShape, BegunText, BufferedRowsPre, IsConsumed}
 use Rattle.ptflow.proofs.Common.{AreConsumed, IsFieldCopied, CopyColumnsPost, CopyRowsPost, RowsTaken}
+use Rattle.memchr.specs.Find.{IsFirst, Passes}
+use Rattle.ptlines.proofs.CopyFacts.{copied_prefix}
+use Rattle.ptflow.proofs.Common.{put_chunk, chunk, length-chunk, length-put_chunk, take_more_put_chunk}
+use Rattle.std.proofs.Math.Seq.{take-append-add}
+use borrow.Rule.Slice.PartMut.{mid_of, put_mid}
+use Rattle.ptflow.specs.Private.Paste.BufferedRows.{LineCopied}
 use Rattle.ptflow.proofs.PasteLemmas.RowsTaken.{cells_text-push, rows_taken_trans, row_taken}
 use Rattle.ptflow.proofs.PasteLemmas.FillRow.{at_same, at_other, fill_starts, fill_next}
 
@@ -125,6 +131,37 @@ pub prefix_is_kept : (at end : ℕ) (now old written : List ℕ) → at ≤ end 
 prefix_is_kept at end now old written low fits is =
     sym (take-take at end now low) ∙ ap (take at) is ∙ take-append-le at (take at old) written
     (omega (arith, length-take-le at old fits)) ∙ take-take at at old (omega arith)
+
+-- A vector was stored at `at`.
+vector_stored : (at k n : ℕ) (was lanes : List ℕ) → length lanes ≡ n → n ≤ k → at + k ≡ length was
+    → take (at + n) (put_mid at k was (put_chunk 0 (mid_of at k was) lanes)) ≡ take at was ++ lanes
+vector_stored at k n was lanes long room all =
+    let mid = mid_of at k was in
+    let size : length mid ≡ k = length-take-le k (drop at was) (omega (arith, length-drop at was, all)) in
+    ap (λ (m : ℕ). take (m + n) (put_mid at k was (put_chunk 0 mid lanes)))
+    (sym (length-take-le at was (omega (arith, all))))
+    ∙ take-append-add (take at was) (put_chunk 0 mid lanes ++ drop k (drop at was)) n
+    ∙ ap (λ (l : List ℕ). take at was ++ l)
+    (take-append-le n (put_chunk 0 mid lanes) (drop k (drop at was)) (omega (arith, length-put_chunk 0 mid lanes, size))
+    ∙ take_more_put_chunk 0 mid lanes n (omega (arith, long)) (omega (arith, size)))
+
+-- A vector was stored at `at`, and the line that it begins with was consumed.
+pub vector_line : (at k n : ℕ) (was : List ℕ) {end count : ℕ} {old new : Reader} {bytes : List ℕ}
+    → bytes ≡ old.buffered → n ≤ length bytes → n ≤ k → at + k ≡ length was
+    → IsFirst (Passes (is_byte end) bytes) 0 (0 + n) (Some count)
+    → new ≡ record old { buffered = drop (count + 1) old.buffered }
+    → LineCopied end old new (take at was)
+    (take (at + count) (put_mid at k was (put_chunk 0 (mid_of at k was) (chunk 0 n bytes))))
+vector_line at k n was {count = count} {bytes = bytes} same long room all first consumed = record {
+  at = count;
+  found = rw (sym same) (
+    record { low = omega arith; high = omega (arith, first.0.high, long); before = first.0.before },
+    first.1,
+  );
+  consumed = consumed;
+  is = rw (sym same) (copied_prefix at count n was _ bytes (omega (arith, all)) (omega (arith, first.0.high))
+      (vector_stored at k n was (chunk 0 n bytes) (length-chunk 0 n bytes (omega (arith, long))) room all));
+}
 
 -- ---- the columns of a row
 
