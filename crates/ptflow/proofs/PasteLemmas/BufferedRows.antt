@@ -1,6 +1,7 @@
 -- Columns that are copied from the buffers of the readers. A line that is complete in a buffer is the line that `fill`
 -- would return, so a column is filled by it in the same way.
 use Rattle.ptflow.proofs.Common.{◌≡◌, ⊎_elim, inl, ℕ, ◌+◌, ◌<◌, ◌≤◌, ◌^◌, ◌||◌, Bool, true, false, List, [], ◌∷◌, ◌++◌}
+use Rattle.ptflow.proofs.Common.{◌%◌, eq-eqb, ne_eqb, option_to_list, slice_index_or}
 use Rattle.ptflow.proofs.Common.{None, Some, Ok, length, take, drop, set, get_or, refl, sym, ◌∙◌, ap, subst, arith}
 use Rattle.ptflow.proofs.Common.{append_assoc, length-append, length-drop, cases_eq, append-nil, take-take}
 use Rattle.ptflow.proofs.Common.{take-append-le, length-take-le, length-set, drop-drop, drop_at, IsFirstByte, is_byte}
@@ -169,6 +170,14 @@ columns_text : (before text field after : List ℕ) {copied cell next more : Lis
     → cell ≡ copied ++ field → next ≡ cell ++ after → more ≡ text ++ (field ++ after) → next ≡ before ++ more
 columns_text before text field after a b c d = rw (c, b, a, d) (simp append_assoc)
 
+-- The byte after the last column, and after any other.
+pub after_last : (row : RowShape) (c : ℕ) → c + 1 ≡ length row.cells → row.terminator ∷ [] ≡ after_cell row c
+after_last row c last = rw (eq-eqb (c + 1) (length row.cells) last) refl
+
+pub after_other : (row : RowShape) (c index : ℕ) → ¬ (c + 1 ≡ length row.cells) → index ≡ c % length row.delims
+    → option_to_list (slice_index_or row.delims index None) ≡ after_cell row c
+after_other row c index other at = rw (ne_eqb (c + 1) (length row.cells) other, at) refl
+
 module _ {row : RowShape} where
   pub columns_start : {begun : BegunText} → CopyColumnsPost row begun begun
   columns_start {begun} = record {
@@ -232,9 +241,10 @@ module _ {row : RowShape} where
       }
 
     -- One more column was copied, and the byte after it.
-    pub columns_more : {next : List ℕ} → IsFieldCopied row.terminator b r now.text copied has
-        → next ≡ copied ++ after_cell row now.count → CopyColumnsPost row begun (with_column next)
-    columns_more field after = one_more (field_copied has clean ends sound field) after
+    pub columns_more : {next byte : List ℕ} → IsFieldCopied row.terminator b r now.text copied has
+        → next ≡ copied ++ byte → byte ≡ after_cell row now.count → CopyColumnsPost row begun (with_column next)
+    columns_more field stored after = one_more (field_copied has clean ends sound field)
+        (stored ∙ ap (λ (l : List ℕ). copied ++ l) after)
 
   -- The first columns of a row were copied after whole rows.
   pub rows_and_begun : {old now new : List Reader} {n at to : ℕ} {any_line : Bool} (into next : List ℕ)

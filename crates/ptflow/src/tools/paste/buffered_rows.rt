@@ -167,28 +167,27 @@ pub(crate) fn copy_columns<S: Source, R: Source>(
         terminator,
         cells,
     } = row;
+    let mut column = begun.count;
     let mut end = begun.end;
     let mut any_line = begun.any_line;
     let mut index = begun.count % delims.len();
-    for column in begun.count..cells.len() {
+    'cells: while column < cells.len() {
         let input = cells[column];
-        match copy_cell(terminator, &mut readers[input], into, end) {
-            Some(field) => {
-                any_line |= field.is_line;
-                end = copy_option(byte_after(row, column, index), into, field.end);
-            }
-            None => {
-                return BegunRow {
-                    count: column,
-                    end,
-                    any_line,
-                };
-            }
+        let Some(field) = copy_cell(terminator, &mut readers[input], into, end) else {
+            break;
+        };
+        any_line |= field.is_line;
+        column += 1;
+        if column == cells.len() {
+            into[field.end] = terminator;
+            end = field.end + 1;
+            break;
         }
+        end = copy_option(delims[index], into, field.end);
         index = next_index(index, delims.len());
     }
     BegunRow {
-        count: cells.len(),
+        count: column,
         end,
         any_line,
     }
