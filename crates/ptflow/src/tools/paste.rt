@@ -21,8 +21,7 @@ use crate::slots::ensure_slots;
 use crate::tools::paste::buffered_rows::{
     byte_after, copy_columns, copy_rows, copy_slot, move_to_front,
 };
-use crate::tools::paste::row::{BegunRow, RowFormat};
-use crate::tools::paste::serial::OutBuf;
+use crate::tools::paste::row::{BegunRow, OutBuf, RowFormat};
 use crate::tools::paste::shared_input::{shared_cycle, write_shared_rows};
 use ptlangs::jobs::PasteJob;
 use ptlines::{LineFault, LineReader, Out, Sink, Source, Store, WriteFault};

@@ -9,8 +9,7 @@ ghost use Rattle.ptflow.specs.Private.Paste.RowCells.{after_cell, begun_after, b
 ghost use Rattle.ptflow.specs.Private.Paste.BufferedRows.{BufferedRowsPre, CopyCellPost, CopyColumnsPost, CopyRowsPost};
 ghost use Rattle.ptflow.specs.Private.Paste.BufferedRows.{LineCopied};
 
-use crate::tools::paste::row::{BegunRow, CopiedField, CopiedRows, RowFormat};
-use crate::tools::paste::serial::{OutBuf, copy_option};
+use crate::tools::paste::row::{BegunRow, CopiedField, CopiedRows, OutBuf, RowFormat, copy_option};
 use ptlines::{LineReader, Source, copy_short, find_byte, find_in_chunk};
 use std::simd::prelude::*;
 

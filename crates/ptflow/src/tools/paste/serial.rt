@@ -13,6 +13,7 @@ ghost use Rattle.ptflow.specs.Private.Paste.SerialRest.{IsOnlyDelimiter};
 use crate::block_loop::{BlockFilter, run_blocks};
 use crate::faults::FlowFault;
 use crate::simd::replace::{ReplaceTerminator, replace_cyclic, replace_terminators};
+use crate::tools::paste::row::{OutBuf, copy_option};
 use ptlangs::delims::Delims;
 use ptlangs::jobs::PasteJob;
 use ptlines::{LineReader, Out, Sink, Source, Store, WriteFault, copy_short, find_byte};
@@ -24,20 +25,6 @@ use std::alloc::Allocator;
 pub(crate) struct ColumnPos {
     pub number: u64,
     pub complete: bool,
-}
-
-// Writes the delimiter after column `number`.
-fn write_delimiter<A: Allocator, W: Sink>(
-    delims: &Delims<A>,
-    number: u64,
-    out: &mut Out<W>,
-) -> Result<(), WriteFault>
-    ensures { PushPost out.old out.new (delimiter delims.now number) result }
-{
-    match delims.at(number) {
-        Some(byte) => out.push(&[byte]),
-        None => out.push(b""),
-    }
 }
 
 // Moves to the column of the next byte: writes the delimiter if the line of the current column is complete.
@@ -52,32 +39,19 @@ fn start_cell<A: Allocator, W: Sink>(
     ensures clean { OnOk result (out.new.write_failed ≡ false) }
     ensures fault { OnErr result (out.new.write_failed ≡ true) }
 {
-    if !cell.complete {
-        out.push(b"")?;
-        return Ok(cell);
+    let delim = if cell.complete {
+        delims.at(cell.number)
+    } else {
+        None
+    };
+    match delim {
+        Some(byte) => out.push(&[byte])?,
+        None => out.push(b"")?,
     }
-    write_delimiter(delims, cell.number, out)?;
     Ok(ColumnPos {
-        number: cell.number + 1,
+        number: cell.number + u64::from(cell.complete),
         complete: false,
     })
-}
-
-// The output of one block, and 16 bytes more that a copy may overwrite.
-pub(crate) type OutBuf = [u8; 8208];
-
-// Copies a byte, if there is one, to `at`. Returns the offset after it.
-#[inline(always)]
-pub(crate) fn copy_option(byte: Option<u8>, into: &mut OutBuf, at: usize) -> usize
-    requires { at < 8192 }
-    ensures copied { take result into.new ≡ take at into.old ++ option_to_list byte }
-    ensures size_bound { (at ≤ result) × (result ≤ at + 1) }
-{
-    let Some(byte) = byte else {
-        return at;
-    };
-    into[at] = byte;
-    at + 1
 }
 
 // The delimiter of a list that has only one element; `None` if it has more, or if the element is empty.
@@ -167,23 +141,12 @@ fn copy_block<A: Allocator>(
     ensures bound { result.1.number ≤ number + length bytes.now }
 {
     let (at, number) = copy_cells(delims, terminator, number, bytes, into);
-    if last == terminator {
-        return (
-            at,
-            ColumnPos {
-                number,
-                complete: true,
-            },
-        );
+    let complete = last == terminator;
+    if complete {
+        return (at, ColumnPos { number, complete });
     }
     into[at] = last;
-    (
-        at + 1,
-        ColumnPos {
-            number,
-            complete: false,
-        },
-    )
+    (at + 1, ColumnPos { number, complete })
 }
 
 /// The filter for `run_blocks`: the delimiters, the terminator, the position of the next byte, and a buffer for the

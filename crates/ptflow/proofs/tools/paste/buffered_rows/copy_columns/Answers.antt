@@ -54,28 +54,38 @@ returns-clause-cells g c =
     let cells = c.args.row.cells.now in
     let n = c.cells.column in
     let inv = c.cells.invariant in
+    let readers = c.cells.readers in
     let input = get_or cells n 0 in
     let ready = still_readable inv.copied.consumed c.requires.readable in
     elim c.cells-test.branch [
       | else-cells-test w ↦ rw (w.readers-is, w.into-is, w.column-is, w.end-is, w.any_line-is) inv.copied
       | then-cells-test+in_default w ↦
-          let same : set c.cells.readers input w.copy_cell.new.reader ≡ c.cells.readers =
-          ap (set c.cells.readers input) w.in_default.ensures.none ∙ set-get_or c.cells.readers input w.index-readers-input.result in
-          rw (w.readers-is, w.into-is, w.column-is, w.end-is, w.any_line-is) (rw (same, w.in_default.ensures.prefix_kept) inv.copied)
+          let none = w.in_default.ensures in
+          let same : set readers input w.copy_cell.new.reader ≡ readers = ap (set readers input) none.none
+          ∙ set-get_or readers input w.index-readers-input.result in
+          rw (w.readers-is, w.into-is, w.column-is, w.end-is, w.any_line-is)
+          (rw (same, none.prefix_kept) inv.copied)
       | then-cells-test+in-Some+then-column-cells w ↦
+          let end = w.in-Some.field.end in
+          let into = w.copy_cell.new.into in
+          let stored = take_more_set into end c.args.row.terminator
+          (omega (arith, w.copy_cell.array_long, w.in-Some.ensures.size_bound)) in
           rw (w.readers-is, w.into-is, w.column-is, w.end-is, w.any_line-is)
           (columns_more inv.copied w.cells-test.true ready
           (omega (arith, uses_before_lt cells n w.cells-test.true)) w.copy_cell.new.reader
-          (at_index c.cells.readers input w.index-readers-input.result (ready.within n 0 w.cells-test.true))
-          w.in-Some.ensures.was_sound w.in-Some.field.is_line
-          (take w.in-Some.field.end w.copy_cell.new.into) w.in-Some.ensures.cell
-          (take_more_set w.copy_cell.new.into w.in-Some.field.end c.args.row.terminator (omega (arith, w.copy_cell.array_long, w.in-Some.ensures.size_bound)))
+          (at_index readers input w.index-readers-input.result (ready.within n 0 w.cells-test.true))
+          w.in-Some.ensures.was_sound w.in-Some.field.is_line (take end into) w.in-Some.ensures.cell stored
           (after_last _ n w.if-column-cells.true))
     ]
 
 pub returns-clause-within : goal.returns-clause-within
-returns-clause-within g c = elim c.cells-test.branch [
-  | else-cells-test w ↦ (omega (arith, w.column-is, c.cells.invariant.within), omega (arith, w.end-is, c.cells.invariant.grows))
-  | then-cells-test+in_default w ↦ (omega (arith, w.column-is, c.cells.invariant.within), omega (arith, w.end-is, c.cells.invariant.grows))
-  | then-cells-test+in-Some+then-column-cells w ↦ (omega (arith, w.column-is, w.cells-test.true), omega (arith, w.end-is, c.cells.invariant.grows, w.in-Some.ensures.size_bound))
-]
+returns-clause-within g c =
+    let inv = c.cells.invariant in
+    elim c.cells-test.branch [
+      | else-cells-test w ↦ (omega (arith, w.column-is, inv.within), omega (arith, w.end-is, inv.grows))
+      | then-cells-test+in_default w ↦ (omega (arith, w.column-is, inv.within), omega (arith, w.end-is, inv.grows))
+      | then-cells-test+in-Some+then-column-cells w ↦ (
+        omega (arith, w.column-is, w.cells-test.true),
+        omega (arith, w.end-is, inv.grows, w.in-Some.ensures.size_bound),
+      )
+    ]
