@@ -33,11 +33,12 @@ cells-preserved g c =
     let cells = c.args.row.cells.now in
     let n = c.cells.column in
     let inv = c.cells.invariant in
+    let input = get_or cells n 0 in
     let ready = still_readable inv.copied.consumed c.requires.readable in
     record {
       copied = columns_more inv.copied c.cells-test.true ready
           (omega (arith, uses_before_lt cells n c.cells-test.true)) c.copy_cell.new.reader
-          (at_index c.cells.readers (get_or cells n 0) c.index-readers-input.result (ready.within n 0 c.cells-test.true))
+          (at_index c.cells.readers input c.index-readers-input.result (ready.within n 0 c.cells-test.true))
           c.in-Some.ensures.was_sound c.in-Some.field.is_line
           (take c.in-Some.field.end c.copy_cell.new.into) c.in-Some.ensures.cell
           c.copy_option-end.ensures.copied (after_other _ n c.cells.index c.if-column-cells.false inv.at);
