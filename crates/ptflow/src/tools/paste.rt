@@ -107,14 +107,15 @@ fn fill_row<A: Allocator + Copy, S: Source, R: Source, W: Sink>(
             any_line: begun.any_line | has_line,
         };
         match copy_slot(row, column, store.line(column), into, filled) {
-            Some(next) => begun = copy_columns(row, readers, into, next),
+            Some(next) => {
+                begun = copy_columns(row, readers, into, next);
+                column = begun.count;
+            }
             None => {
                 begun = filled;
                 column += 1;
-                continue;
             }
         }
-        column = begun.count;
     }
     Ok(begun)
 }
