@@ -8,7 +8,6 @@ ghost use Rattle.ptflow.specs.Passes.{PassPre, PassPost};
 ghost use Rattle.ptflow.specs.PasteText.{delimiter, paste_serial_tool};
 ghost use Rattle.ptflow.specs.Private.Passes.BlockLoop.{HasRoom};
 ghost use Rattle.ptflow.specs.Private.Paste.SerialRest.{next_position, leading_delimiter, CopyCellsPost, CopyBlockPost};
-ghost use Rattle.ptflow.specs.Private.Paste.SerialRest.{IsOnlyDelimiter};
 
 use crate::block_loop::{BlockFilter, run_blocks};
 use crate::faults::FlowFault;
@@ -52,16 +51,6 @@ fn start_cell<A: Allocator, W: Sink>(
         number: cell.number + u64::from(cell.complete),
         complete: false,
     })
-}
-
-// The delimiter of a list that has only one element; `None` if it has more, or if the element is empty.
-fn only_delimiter<A: Allocator>(delims: &Delims<A>) -> Option<u8>
-    ensures { IfSome result (λ delim. IsOnlyDelimiter delims.now delim) }
-{
-    if delims.count() == 1 {
-        return delims.at(0);
-    }
-    None
 }
 
 // Copies bytes that begin in column `number`, with each terminator replaced by the delimiter after its column. Returns
@@ -108,12 +97,12 @@ fn copy_cells<A: Allocator>(
 {
     let count = bytes.len();
     let list = delims.as_slice();
-    if let Some(delim) = only_delimiter(delims) {
-        replace_terminators(
-            ReplaceTerminator { terminator, delim },
-            bytes,
-            &mut into[..count],
-        );
+    if let [Some(delim)] = list {
+        let by = ReplaceTerminator {
+            terminator,
+            delim: *delim,
+        };
+        replace_terminators(by, bytes, &mut into[..count]);
         return (count, number);
     }
     if list.contains(&None) {
