@@ -1,6 +1,6 @@
 //! `paste -s`: the engine that writes all lines of one input in one row, block by block. `ptrun` runs it over one input
 //! after the other.
-ghost use Rattle.std.specs.Prelude.{◌≡◌, ◌<◌, ◌≤◌, ◌+◌, ◌^◌, ◌++◌, ◌∷◌, [], true, false, OnOk, OnErr, IfOk, IfSome};
+ghost use Rattle.std.specs.Prelude.{◌≡◌, ◌<◌, ◌≤◌, ◌+◌, ◌^◌, ◌++◌, ◌∷◌, [], true, false, OnOk, OnErr, IfOk};
 ghost use Rattle.std.specs.Prelude.{length, option_to_list, take};
 ghost use Rattle.ptlines.specs.Outputs.{PushEffect, PushPost};
 ghost use Rattle.ptlangs.specs.Jobs.{paste_job};
