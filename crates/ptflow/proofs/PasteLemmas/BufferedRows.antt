@@ -1,6 +1,7 @@
 -- Columns that are copied from the buffers of the readers. A line that is complete in a buffer is the line that `fill`
 -- would return, so a column is filled by it in the same way.
 use Rattle.ptflow.proofs.Common.{◌≡◌, ⊎_elim, inl, ℕ, ◌+◌, ◌<◌, ◌≤◌, ◌^◌, ◌||◌, Bool, true, false, List, [], ◌∷◌, ◌++◌}
+use Rattle.ptflow.proofs.Common.{◌%◌, eq-eqb, ne_eqb, option_to_list, slice_index_or}
 use Rattle.ptflow.proofs.Common.{None, Some, Ok, length, take, drop, set, get_or, refl, sym, ◌∙◌, ap, subst, arith}
 use Rattle.ptflow.proofs.Common.{append_assoc, length-append, length-drop, cases_eq, append-nil, take-take}
 use Rattle.ptflow.proofs.Common.{take-append-le, length-take-le, length-set, drop-drop, drop_at, IsFirstByte, is_byte}
@@ -8,6 +9,12 @@ use Rattle.ptflow.proofs.Common.{Reader, AdvanceOk, IsSound, Slots, with_line, F
 use Rattle.ptflow.proofs.Common.{line_before_terminator, take_with_terminator, advance_ok_take, reader_at, uses_of}
 use Rattle.ptflow.proofs.Common.{CellsFilled, after_cell, cells_text, RowShape, BegunText, BufferedRowsPre, IsConsumed}
 use Rattle.ptflow.proofs.Common.{AreConsumed, IsFieldCopied, CopyColumnsPost, CopyRowsPost, RowsTaken}
+use Rattle.memchr.specs.Find.{IsFirst, Passes}
+use Rattle.ptlines.proofs.CopyFacts.{copied_prefix}
+use Rattle.ptflow.proofs.Common.{put_chunk, chunk, length-chunk, length-put_chunk, take_more_put_chunk}
+use Rattle.std.proofs.Math.Seq.{take-append-add}
+use borrow.Rule.Slice.PartMut.{mid_of, put_mid}
+use Rattle.ptflow.specs.Private.Paste.BufferedRows.{LineCopied}
 use Rattle.ptflow.proofs.PasteLemmas.RowsTaken.{cells_text-push, rows_taken_trans, row_taken}
 use Rattle.ptflow.proofs.PasteLemmas.FillRow.{at_same, at_other, fill_starts, fill_next}
 
@@ -126,11 +133,50 @@ prefix_is_kept at end now old written low fits is =
     sym (take-take at end now low) ∙ ap (take at) is ∙ take-append-le at (take at old) written
     (omega (arith, length-take-le at old fits)) ∙ take-take at at old (omega arith)
 
+-- A vector was stored at `at`.
+vector_stored : (at k n : ℕ) (was lanes : List ℕ) → length lanes ≡ n → n ≤ k → at + k ≡ length was
+    → take (at + n) (put_mid at k was (put_chunk 0 (mid_of at k was) lanes)) ≡ take at was ++ lanes
+vector_stored at k n was lanes long room all =
+    let mid = mid_of at k was in
+    let size : length mid ≡ k = length-take-le k (drop at was) (omega (arith, length-drop at was, all)) in
+    ap (λ (m : ℕ). take (m + n) (put_mid at k was (put_chunk 0 mid lanes)))
+    (sym (length-take-le at was (omega (arith, all))))
+    ∙ take-append-add (take at was) (put_chunk 0 mid lanes ++ drop k (drop at was)) n
+    ∙ ap (λ (l : List ℕ). take at was ++ l)
+    (take-append-le n (put_chunk 0 mid lanes) (drop k (drop at was)) (omega (arith, length-put_chunk 0 mid lanes, size))
+    ∙ take_more_put_chunk 0 mid lanes n (omega (arith, long)) (omega (arith, size)))
+
+-- A vector was stored at `at`, and the line that it begins with was consumed.
+pub vector_line : (at k n : ℕ) (was : List ℕ) {end count : ℕ} {old new : Reader} {bytes : List ℕ}
+    → bytes ≡ old.buffered → n ≤ length bytes → n ≤ k → at + k ≡ length was
+    → IsFirst (Passes (is_byte end) bytes) 0 (0 + n) (Some count)
+    → new ≡ record old { buffered = drop (count + 1) old.buffered }
+    → LineCopied end old new (take at was)
+    (take (at + count) (put_mid at k was (put_chunk 0 (mid_of at k was) (chunk 0 n bytes))))
+vector_line at k n was {count = count} {bytes = bytes} same long room all first consumed = record {
+  at = count;
+  found = rw (sym same) (
+    record { low = omega arith; high = omega (arith, first.0.high, long); before = first.0.before },
+    first.1,
+  );
+  consumed = consumed;
+  is = rw (sym same) (copied_prefix at count n was _ bytes (omega (arith, all)) (omega (arith, first.0.high))
+      (vector_stored at k n was (chunk 0 n bytes) (length-chunk 0 n bytes (omega (arith, long))) room all));
+}
+
 -- ---- the columns of a row
 
 columns_text : (before text field after : List ℕ) {copied cell next more : List ℕ} → copied ≡ before ++ text
     → cell ≡ copied ++ field → next ≡ cell ++ after → more ≡ text ++ (field ++ after) → next ≡ before ++ more
 columns_text before text field after a b c d = rw (c, b, a, d) (simp append_assoc)
+
+-- The byte after the last column, and after any other.
+pub after_last : (row : RowShape) (c : ℕ) → c + 1 ≡ length row.cells → row.terminator ∷ [] ≡ after_cell row c
+after_last row c last = rw (eq-eqb (c + 1) (length row.cells) last) refl
+
+pub after_other : (row : RowShape) (c index : ℕ) → ¬ (c + 1 ≡ length row.cells) → index ≡ c % length row.delims
+    → option_to_list (slice_index_or row.delims index None) ≡ after_cell row c
+after_other row c index other at = rw (ne_eqb (c + 1) (length row.cells) other, at) refl
 
 module _ {row : RowShape} where
   pub columns_start : {begun : BegunText} → CopyColumnsPost row begun begun
@@ -195,9 +241,10 @@ module _ {row : RowShape} where
       }
 
     -- One more column was copied, and the byte after it.
-    pub columns_more : {next : List ℕ} → IsFieldCopied row.terminator b r now.text copied has
-        → next ≡ copied ++ after_cell row now.count → CopyColumnsPost row begun (with_column next)
-    columns_more field after = one_more (field_copied has clean ends sound field) after
+    pub columns_more : {next byte : List ℕ} → IsFieldCopied row.terminator b r now.text copied has
+        → next ≡ copied ++ byte → byte ≡ after_cell row now.count → CopyColumnsPost row begun (with_column next)
+    columns_more field stored after = one_more (field_copied has clean ends sound field)
+        (stored ∙ ap (λ (l : List ℕ). copied ++ l) after)
 
   -- The first columns of a row were copied after whole rows.
   pub rows_and_begun : {old now new : List Reader} {n at to : ℕ} {any_line : Bool} (into next : List ℕ)

@@ -52,26 +52,26 @@ module _ (end : ℕ) (delims : List (Option ℕ)) where
   -- One more terminator is replaced.
   pub replaced_next : (n number : ℕ) (bytes : List ℕ) (k : ℕ) → IsNth (is_byte end) 0 n bytes k
       → slice_set (first_replaced n number bytes) k (cycle_pos (number + n)) ≡ first_replaced (suc n) number bytes
-  replaced_next n number [] k h = absurd (omega (arith, h.0))
-  replaced_next zero number (b ∷ bytes) zero h = let same : number + 0 ≡ number = omega arith in
-      rw h.1 (ap (λ (k : ℕ). cycle_pos k ∷ bytes) same)
-  replaced_next (suc m) number (b ∷ bytes) zero h = absurd (omega (arith, h.2))
-  replaced_next zero number (b ∷ bytes) (suc k) h = ⊎_elim
-      (λ is. absurd (omega (arith, h.2, counted b (take k bytes) is)))
+  replaced_next n number [] k (low, test, before) = absurd (omega (arith, low))
+  replaced_next zero number (b ∷ bytes) zero (low, test, before) = let same : number + 0 ≡ number = omega arith in
+      rw test (ap (λ (k : ℕ). cycle_pos k ∷ bytes) same)
+  replaced_next (suc m) number (b ∷ bytes) zero (low, test, before) = absurd (omega (arith, before))
+  replaced_next zero number (b ∷ bytes) (suc k) (low, test, before) = ⊎_elim
+      (λ is. absurd (omega (arith, before, counted b (take k bytes) is)))
       (λ is. rw is (ap (λ (l : List ℕ). b ∷ l) (replaced_next zero number bytes k (
-        omega (arith, h.0),
-        h.1,
-        omega (arith, h.2, counted b (take k bytes) is),
+        omega (arith, low),
+        test,
+        omega (arith, before, counted b (take k bytes) is),
       ))))
       (cases_Bool (b == end))
-  replaced_next (suc m) number (b ∷ bytes) (suc k) h = ⊎_elim
+  replaced_next (suc m) number (b ∷ bytes) (suc k) (low, test, before) = ⊎_elim
       (λ is. let shifted : number + suc m ≡ number + 1 + m = omega arith in
       rw is (rw shifted (ap (λ (l : List ℕ). cycle_pos number ∷ l) (replaced_next m (number + 1) bytes k
-      (omega (arith, h.0), h.1, omega (arith, h.2, counted b (take k bytes) is))))))
+      (omega (arith, low), test, omega (arith, before, counted b (take k bytes) is))))))
       (λ is. rw is (ap (λ (l : List ℕ). b ∷ l) (replaced_next (suc m) number bytes k (
-        omega (arith, h.0),
-        h.1,
-        omega (arith, h.2, counted b (take k bytes) is),
+        omega (arith, low),
+        test,
+        omega (arith, before, counted b (take k bytes) is),
       ))))
       (cases_Bool (b == end))
 
@@ -117,18 +117,18 @@ module _ (end : ℕ) (delims : List (Option ℕ)) where
       → next.index ≡ next.number % length delims
       → take (at + size) to' ≡ take at to ++ with_cycle end delims cycle_pos.number (take size (drop at from))
       → IsReplacedTo end delims number next (at + size) from to'
-  replaced_more number at size cycle_pos next from to to' h room long is index more =
+  replaced_more number at size cycle_pos next from to to' (within, same, count, was, replaced) room long is index more =
       let all : count_by (is_byte end) (take (at + size) from) ≡ count_by (is_byte end) (take at from) + count_by
       (is_byte end) (take size (drop at from)) =
       ap (count_by (is_byte end)) (take-add at size from) ∙ sum_by-append (λ b. cond (is_byte end b) 1 0) (take at from)
       (take size (drop at from)) in (
         room,
         long,
-        omega (arith, is, h.2, all),
+        omega (arith, is, count, all),
         index,
-        more ∙ ap (λ (l : List ℕ). l ++ with_cycle end delims cycle_pos.number (take size (drop at from))) h.4
+        more ∙ ap (λ (l : List ℕ). l ++ with_cycle end delims cycle_pos.number (take size (drop at from))) replaced
             ∙ ap (λ (n : ℕ). with_cycle end delims number (take at from) ++ with_cycle end delims n
-            (take size (drop at from))) h.2
+            (take size (drop at from))) count
             ∙ sym (cycle-append number (take at from) (take size (drop at from))) ∙ ap (with_cycle end delims number)
             (sym (take-add at size from)),
       )
@@ -145,14 +145,15 @@ module _ (end : ℕ) (delims : List (Option ℕ)) where
         → to' ≡ slice_set (slice_set to at (get_or from at 0)) at v → length to' ≡ length from
         → IsReplacedTo end delims number next (at + 1) from to'
     replaced_terminator next to' v ends is later index set long =
+        let (within, same, count, was, replaced) = h in
         let test : (get_or from at 0 == end) ≡ true = eq-eqb (get_or from at 0) end ends in
         let here : v ≡ unwrap_or (delim_at delims cycle_pos.number) end = is
-        ∙ ap (λ (n : ℕ). unwrap_or (get_or delims n None) end) h.3 in
+        ∙ ap (λ (n : ℕ). unwrap_or (get_or delims n None) end) was in
         replaced_more number at 1 cycle_pos next from to to' h (omega (arith, room)) long
         (later ∙ ap (λ (n : ℕ). cycle_pos.number + n) (sym (ap (count_by (is_byte end)) one
         ∙ counted (get_or from at 0) [] test))) index
         (ap (take (at + 1)) set ∙ take_more_set (slice_set to at (get_or from at 0)) at v
-        (omega (arith, room, h.1, length-set to at (get_or from at 0)))
+        (omega (arith, room, same, length-set to at (get_or from at 0)))
         ∙ (λ i. take-set to at (get_or from at 0) i ++ here i ∷ [])
         ∙ ap (λ (l : List ℕ). take at to ++ l) (sym (ap (with_cycle end delims cycle_pos.number) one
         ∙ ap (λ (t : Bool). cond t (unwrap_or (delim_at delims cycle_pos.number) end ∷ []) (get_or from at 0 ∷ []))
@@ -161,10 +162,11 @@ module _ (end : ℕ) (delims : List (Option ℕ)) where
     pub replaced_other : (to' : List ℕ) → (get_or from at 0 ≡ end → ⊥) → to' ≡ slice_set to at (get_or from at 0)
         → length to' ≡ length from → IsReplacedTo end delims number cycle_pos (at + 1) from to'
     replaced_other to' other set long =
+        let (within, same, count, was, replaced) = h in
         let test : (get_or from at 0 == end) ≡ false = byte_ne end (get_or from at 0) other in
         replaced_more number at 1 cycle_pos cycle_pos from to to' h (omega (arith, room)) long
-        (omega (arith, ap (count_by (is_byte end)) one ∙ counted (get_or from at 0) [] test)) h.3
-        (ap (take (at + 1)) set ∙ take_more_set to at (get_or from at 0) (omega (arith, room, h.1))
+        (omega (arith, ap (count_by (is_byte end)) one ∙ counted (get_or from at 0) [] test)) was
+        (ap (take (at + 1)) set ∙ take_more_set to at (get_or from at 0) (omega (arith, room, same))
         ∙ ap (λ (l : List ℕ). take at to ++ l) (sym (ap (with_cycle end delims cycle_pos.number) one
         ∙ ap (λ (t : Bool). cond t (unwrap_or (delim_at delims cycle_pos.number) end ∷ []) (get_or from at 0 ∷ []))
         test)))
@@ -182,18 +184,18 @@ set_in_chunk to front xs at size k v is long near =
 pub chunk_is_in_text : (end : ℕ) {delims : List (Option ℕ)} {number : ℕ} {cycle_pos : CyclePos} {at : ℕ}
     {from was to : List ℕ} → ReplacePre delims number from was → IsReplacedTo end delims number cycle_pos at from to
     → 64 ≤ length from - at → ReplaceChunkPre delims cycle_pos at from to
-chunk_is_in_text end {at = at} {from = from} all turned more = record {
+chunk_is_in_text end {at = at} {from = from} all (within, long, count, index, replaced) more = record {
   cycle = record {
     some = all.some;
-    index = turned.3;
+    index = index;
     short = omega (
       arith,
-      turned.2,
+      count,
       count_by-le-length (is_byte end) (take at from),
-      length-take-le at from turned.0,
+      length-take-le at from within,
       all.short,
     );
   };
-  room = omega (arith, turned.0);
-  same = turned.1;
+  room = omega (arith, within);
+  same = long;
 }

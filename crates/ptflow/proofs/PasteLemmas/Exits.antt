@@ -95,7 +95,7 @@ module _ {job : Paste} {cells : List ℕ} {old set now : List Reader} {was is : 
     abbrev written : List ℕ
     written = rows_text job s.taken_rows ++ pushed
 
-    -- What is to be shown of an exit with this result.
+    -- An exit with this result: the facts from which its postcondition follows.
     record IsExit (after : Slots) (result : Result (Unit {0}) FlowFault) : Type 0 where
       ends : PasteOutcome cells old new is' after result
       begins : (texts : ℕ → List ℕ) → ((p : ℕ) → IsConsistent (given p) (texts p))

@@ -21,8 +21,7 @@ use crate::slots::ensure_slots;
 use crate::tools::paste::buffered_rows::{
     byte_after, copy_columns, copy_rows, copy_slot, move_to_front,
 };
-use crate::tools::paste::row::{BegunRow, RowFormat};
-use crate::tools::paste::serial::OutBuf;
+use crate::tools::paste::row::{BegunRow, OutBuf, RowFormat};
 use crate::tools::paste::shared_input::{shared_cycle, write_shared_rows};
 use ptlangs::jobs::PasteJob;
 use ptlines::{LineFault, LineReader, Out, Sink, Source, Store, WriteFault};
@@ -108,14 +107,15 @@ fn fill_row<A: Allocator + Copy, S: Source, R: Source, W: Sink>(
             any_line: begun.any_line | has_line,
         };
         match copy_slot(row, column, store.line(column), into, filled) {
-            Some(next) => begun = copy_columns(row, readers, into, next),
+            Some(next) => {
+                begun = copy_columns(row, readers, into, next);
+                column = begun.count;
+            }
             None => {
                 begun = filled;
                 column += 1;
-                continue;
             }
         }
-        column = begun.count;
     }
     Ok(begun)
 }

@@ -10,7 +10,7 @@ use Rattle.ptflow.specs.declared.tools.paste.row.BegunRow.{BegunRow}
 use Rattle.ptflow.specs.declared.tools.paste.row.CopiedRows.{CopiedRows}
 use Rattle.ptflow.specs.declared.tools.paste.row.RowFormat.{RowFormat}
 
--- What all rows have in common: the input of each column, the list of delimiters, and the terminator of lines and rows.
+-- The shape of all rows: the input of each column, the list of delimiters, and the terminator of lines and rows.
 pub record RowShape : Type 0 where
   pub cells : List ℕ
   pub delims : List (Option ℕ)

@@ -7,9 +7,9 @@ ghost use Rattle.memchr.specs.Find.{IsFirstByte, is_byte};
 ghost use Rattle.ptlines.specs.Readers.{Reader, IsSound};
 ghost use Rattle.ptflow.specs.Private.Paste.RowCells.{after_cell, begun_after, begun_in, shape_of};
 ghost use Rattle.ptflow.specs.Private.Paste.BufferedRows.{BufferedRowsPre, CopyCellPost, CopyColumnsPost, CopyRowsPost};
+ghost use Rattle.ptflow.specs.Private.Paste.BufferedRows.{LineCopied};
 
-use crate::tools::paste::row::{BegunRow, CopiedField, CopiedRows, RowFormat};
-use crate::tools::paste::serial::{OutBuf, copy_option};
+use crate::tools::paste::row::{BegunRow, CopiedField, CopiedRows, OutBuf, RowFormat, copy_option};
 use ptlines::{LineReader, Source, copy_short, find_byte, find_in_chunk};
 use std::simd::prelude::*;
 
@@ -38,70 +38,84 @@ fn next_index(index: usize, count: usize) -> usize
     index + 1
 }
 
-// Copies the first `N` bytes to `at`.
+// Copies the next line of a reader to `at` and consumes it, if it ends within the next `N` bytes: the vector that is
+// searched for the terminator is stored as it is. Returns the offset after the copy. The line is consumed before the
+// vector is stored, so that the position of the reader is not loaded again.
 #[inline(always)]
-fn copy_first<const N: usize>(bytes: &[u8], into: &mut [u8], at: usize)
-    requires { (N ≤ length bytes.now) × (at + N ≤ length into.old) }
-    ensures long { length into.new ≡ length into.old }
-    ensures copied { take (at + N) into.new ≡ take at into.old ++ take N bytes.now }
+fn copy_line_in<const N: usize, S: Source, R: Source>(
+    terminator: u8,
+    reader: &mut LineReader<S, R>,
+    into: &mut OutBuf,
+    at: usize,
+) -> Option<usize>
+    requires { N ≤ 64 }
+    ensures line { IfSome result
+        (λ end. LineCopied terminator reader.old reader.new (take at into.old) (take end into.new)) }
+    ensures size_bound { IfSome result (λ end. (at ≤ end) × (end < 8192)) }
+    ensures none { IfNone result ((reader.new ≡ reader.old) × (into.new ≡ into.old)) }
+    ensures prefix_kept { take at into.new ≡ take at into.old }
+    ensures was_sound { IsSound reader.old }
 {
-    Simd::<u8, N>::from_slice(bytes).copy_to_slice(&mut into[at..]);
+    let bytes = reader.buffered();
+    if bytes.len() < N || at >= 8192 - N {
+        return None;
+    }
+    let first = Simd::<u8, N>::from_slice(bytes);
+    let count = find_in_chunk::<N>(terminator, bytes, 0)?;
+    reader.consume(count + 1);
+    first.copy_to_slice(&mut into[at..]);
+    Some(at + count)
 }
 
-// Copies the line at the start of `bytes`, of any length, and returns its length; `None` if it is not complete or does
-// not fit. Out of line, so that the common case in `copy_line_long` needs no call.
+// Like `copy_line_in`, for a line of any length; `None` if it is not complete in the buffer or does not fit. Out of
+// line, so that the common cases need no call.
 #[inline(never)]
-fn copy_line_slow(terminator: u8, bytes: &[u8], into: &mut OutBuf, at: usize) -> Option<usize>
-    ensures line { IfSome result (λ count. IsFirstByte (is_byte terminator) bytes.now (Some count)) }
-    ensures copied { IfSome result (λ count. take (at + count) into.new ≡ take at into.old ++ take count bytes.now) }
-    ensures size_bound { IfSome result (λ count. at + count < 8192) }
+fn copy_line_slow<S: Source, R: Source>(
+    terminator: u8,
+    reader: &mut LineReader<S, R>,
+    into: &mut OutBuf,
+    at: usize,
+) -> Option<usize>
+    ensures line { IfSome result
+        (λ end. LineCopied terminator reader.old reader.new (take at into.old) (take end into.new)) }
+    ensures size_bound { IfSome result (λ end. (at ≤ end) × (end < 8192)) }
+    ensures none { IfNone result ((reader.new ≡ reader.old) × (into.new ≡ into.old)) }
     ensures prefix_kept { take at into.new ≡ take at into.old }
+    ensures was_sound { IsSound reader.old }
 {
+    let bytes = reader.buffered();
     let count = find_byte(terminator, bytes)?;
     if at.saturating_add(count) >= 8192 {
         return None;
     }
     copy_short(bytes, 0, count, into, at);
-    Some(count)
+    reader.consume(count + 1);
+    Some(at + count)
 }
 
-// Like `copy_line_slow`, with a fast path for lines of at most 63 bytes: the vector that is searched for the terminator
-// is stored as it is. Out of line, so that the common case in `copy_line` needs no call.
+// Like `copy_line_slow`, with fast paths for lines of at most 63 bytes. Out of line, so that the loop over columns is
+// short.
 #[inline(never)]
-fn copy_line_long(terminator: u8, bytes: &[u8], into: &mut OutBuf, at: usize) -> Option<usize>
-    ensures line { IfSome result (λ count. IsFirstByte (is_byte terminator) bytes.now (Some count)) }
-    ensures copied { IfSome result (λ count. take (at + count) into.new ≡ take at into.old ++ take count bytes.now) }
-    ensures size_bound { IfSome result (λ count. at + count < 8192) }
+fn copy_line_long<S: Source, R: Source>(
+    terminator: u8,
+    reader: &mut LineReader<S, R>,
+    into: &mut OutBuf,
+    at: usize,
+) -> Option<usize>
+    ensures line { IfSome result
+        (λ end. LineCopied terminator reader.old reader.new (take at into.old) (take end into.new)) }
+    ensures size_bound { IfSome result (λ end. (at ≤ end) × (end < 8192)) }
+    ensures none { IfNone result ((reader.new ≡ reader.old) × (into.new ≡ into.old)) }
     ensures prefix_kept { take at into.new ≡ take at into.old }
+    ensures was_sound { IsSound reader.old }
 {
-    if bytes.len() >= 64 && at < 8128 {
-        if let Some(count) = find_in_chunk::<32>(terminator, bytes, 0) {
-            copy_first::<32>(bytes, into, at);
-            return Some(count);
-        }
-        if let Some(count) = find_in_chunk::<64>(terminator, bytes, 0) {
-            copy_first::<64>(bytes, into, at);
-            return Some(count);
-        }
+    if let Some(end) = copy_line_in::<32, S, R>(terminator, reader, into, at) {
+        return Some(end);
     }
-    copy_line_slow(terminator, bytes, into, at)
-}
-
-// Like `copy_line_slow`, with a fast path for lines of at most 15 bytes, inlined into the loop over columns.
-#[inline(always)]
-fn copy_line(terminator: u8, bytes: &[u8], into: &mut OutBuf, at: usize) -> Option<usize>
-    ensures line { IfSome result (λ count. IsFirstByte (is_byte terminator) bytes.now (Some count)) }
-    ensures copied { IfSome result (λ count. take (at + count) into.new ≡ take at into.old ++ take count bytes.now) }
-    ensures size_bound { IfSome result (λ count. at + count < 8192) }
-    ensures prefix_kept { take at into.new ≡ take at into.old }
-{
-    if bytes.len() >= 16 && at < 8176 {
-        if let Some(count) = find_in_chunk::<16>(terminator, bytes, 0) {
-            copy_short(bytes, 0, count, into, at);
-            return Some(count);
-        }
+    if let Some(end) = copy_line_in::<64, S, R>(terminator, reader, into, at) {
+        return Some(end);
     }
-    copy_line_long(terminator, bytes, into, at)
+    copy_line_slow(terminator, reader, into, at)
 }
 
 // Copies the next line of a reader to `at` and consumes it. A reader that is at the end of its input gives an empty
@@ -119,19 +133,17 @@ fn copy_cell<S: Source, R: Source>(
     ensures prefix_kept { take at into.new ≡ take at into.old }
     ensures was_sound { IsSound reader.old }
 {
-    let rest = reader.buffered();
-    if rest.is_empty() && reader.at_eof() && at < 8192 {
+    if let Some(end) = copy_line_in::<16, S, R>(terminator, reader, into, at) {
+        return Some(CopiedField { end, is_line: true });
+    }
+    if reader.buffered().is_empty() && reader.at_eof() && at < 8192 {
         return Some(CopiedField {
             end: at,
             is_line: false,
         });
     }
-    let count = copy_line(terminator, rest, into, at)?;
-    reader.consume(count + 1);
-    Some(CopiedField {
-        end: at + count,
-        is_line: true,
-    })
+    let end = copy_line_long(terminator, reader, into, at)?;
+    Some(CopiedField { end, is_line: true })
 }
 
 // Copies the next columns of a begun row, each with the byte after it, up to the end of the row or to the first column
@@ -154,28 +166,27 @@ pub(crate) fn copy_columns<S: Source, R: Source>(
         terminator,
         cells,
     } = row;
+    let mut column = begun.count;
     let mut end = begun.end;
     let mut any_line = begun.any_line;
     let mut index = begun.count % delims.len();
-    for column in begun.count..cells.len() {
+    'cells: while column < cells.len() {
         let input = cells[column];
-        match copy_cell(terminator, &mut readers[input], into, end) {
-            Some(field) => {
-                any_line |= field.is_line;
-                end = copy_option(byte_after(row, column, index), into, field.end);
-            }
-            None => {
-                return BegunRow {
-                    count: column,
-                    end,
-                    any_line,
-                };
-            }
+        let Some(field) = copy_cell(terminator, &mut readers[input], into, end) else {
+            break;
+        };
+        any_line |= field.is_line;
+        column += 1;
+        if column == cells.len() {
+            into[field.end] = terminator;
+            end = field.end + 1;
+            break;
         }
+        end = copy_option(delims[index], into, field.end);
         index = next_index(index, delims.len());
     }
     BegunRow {
-        count: cells.len(),
+        count: column,
         end,
         any_line,
     }

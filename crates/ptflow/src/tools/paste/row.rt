@@ -1,6 +1,6 @@
-//! A row of `paste`: the shape that all rows have, and how much of one is copied.
+//! A row of `paste`: the shape that all rows have, how much of one is copied, and the buffer for its output.
 
-ghost use Rattle.std.specs.Prelude.{◌<◌, ◌≤◌, length};
+ghost use Rattle.std.specs.Prelude.{◌≡◌, ◌<◌, ◌≤◌, ◌+◌, ◌++◌, length, option_to_list, take};
 
 // The columns of a row: the index of the reader of each, the list of delimiters, and the terminator of lines and rows.
 #[derive(Clone, Copy)]
@@ -33,4 +33,21 @@ pub(crate) struct CopiedRows {
     pub end: usize,
     pub begun: BegunRow,
     ghost order: { end ≤ begun.end },
+}
+
+// The output of one block, and 16 bytes more that a copy may overwrite.
+pub(crate) type OutBuf = [u8; 8208];
+
+// Copies a byte, if there is one, to `at`. Returns the offset after it.
+#[inline(always)]
+pub(crate) fn copy_option(byte: Option<u8>, into: &mut OutBuf, at: usize) -> usize
+    requires { at < 8192 }
+    ensures copied { take result into.new ≡ take at into.old ++ option_to_list byte }
+    ensures size_bound { (at ≤ result) × (result ≤ at + 1) }
+{
+    let Some(byte) = byte else {
+        return at;
+    };
+    into[at] = byte;
+    at + 1
 }

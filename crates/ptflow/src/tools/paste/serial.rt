@@ -1,6 +1,6 @@
 //! `paste -s`: the engine that writes all lines of one input in one row, block by block. `ptrun` runs it over one input
 //! after the other.
-ghost use Rattle.std.specs.Prelude.{◌≡◌, ◌<◌, ◌≤◌, ◌+◌, ◌^◌, ◌++◌, ◌∷◌, [], true, false, OnOk, OnErr, IfOk, IfSome};
+ghost use Rattle.std.specs.Prelude.{◌≡◌, ◌<◌, ◌≤◌, ◌+◌, ◌^◌, ◌++◌, ◌∷◌, [], true, false, OnOk, OnErr, IfOk};
 ghost use Rattle.std.specs.Prelude.{length, option_to_list, take};
 ghost use Rattle.ptlines.specs.Outputs.{PushEffect, PushPost};
 ghost use Rattle.ptlangs.specs.Jobs.{paste_job};
@@ -8,11 +8,11 @@ ghost use Rattle.ptflow.specs.Passes.{PassPre, PassPost};
 ghost use Rattle.ptflow.specs.PasteText.{delimiter, paste_serial_tool};
 ghost use Rattle.ptflow.specs.Private.Passes.BlockLoop.{HasRoom};
 ghost use Rattle.ptflow.specs.Private.Paste.SerialRest.{next_position, leading_delimiter, CopyCellsPost, CopyBlockPost};
-ghost use Rattle.ptflow.specs.Private.Paste.SerialRest.{IsOnlyDelimiter};
 
 use crate::block_loop::{BlockFilter, run_blocks};
 use crate::faults::FlowFault;
 use crate::simd::replace::{ReplaceTerminator, replace_cyclic, replace_terminators};
+use crate::tools::paste::row::{OutBuf, copy_option};
 use ptlangs::delims::Delims;
 use ptlangs::jobs::PasteJob;
 use ptlines::{LineReader, Out, Sink, Source, Store, WriteFault, copy_short, find_byte};
@@ -24,20 +24,6 @@ use std::alloc::Allocator;
 pub(crate) struct ColumnPos {
     pub number: u64,
     pub complete: bool,
-}
-
-// Writes the delimiter after column `number`.
-fn write_delimiter<A: Allocator, W: Sink>(
-    delims: &Delims<A>,
-    number: u64,
-    out: &mut Out<W>,
-) -> Result<(), WriteFault>
-    ensures { PushPost out.old out.new (delimiter delims.now number) result }
-{
-    match delims.at(number) {
-        Some(byte) => out.push(&[byte]),
-        None => out.push(b""),
-    }
 }
 
 // Moves to the column of the next byte: writes the delimiter if the line of the current column is complete.
@@ -52,42 +38,19 @@ fn start_cell<A: Allocator, W: Sink>(
     ensures clean { OnOk result (out.new.write_failed ≡ false) }
     ensures fault { OnErr result (out.new.write_failed ≡ true) }
 {
-    if !cell.complete {
-        out.push(b"")?;
-        return Ok(cell);
+    let delim = if cell.complete {
+        delims.at(cell.number)
+    } else {
+        None
+    };
+    match delim {
+        Some(byte) => out.push(&[byte])?,
+        None => out.push(b"")?,
     }
-    write_delimiter(delims, cell.number, out)?;
     Ok(ColumnPos {
-        number: cell.number + 1,
+        number: cell.number + u64::from(cell.complete),
         complete: false,
     })
-}
-
-// The output of one block, and 16 bytes more that a copy may overwrite.
-pub(crate) type OutBuf = [u8; 8208];
-
-// Copies a byte, if there is one, to `at`. Returns the offset after it.
-#[inline(always)]
-pub(crate) fn copy_option(byte: Option<u8>, into: &mut OutBuf, at: usize) -> usize
-    requires { at < 8192 }
-    ensures copied { take result into.new ≡ take at into.old ++ option_to_list byte }
-    ensures size_bound { (at ≤ result) × (result ≤ at + 1) }
-{
-    let Some(byte) = byte else {
-        return at;
-    };
-    into[at] = byte;
-    at + 1
-}
-
-// The delimiter of a list that has only one element; `None` if it has more, or if the element is empty.
-fn only_delimiter<A: Allocator>(delims: &Delims<A>) -> Option<u8>
-    ensures { IfSome result (λ delim. IsOnlyDelimiter delims.now delim) }
-{
-    if delims.count() == 1 {
-        return delims.at(0);
-    }
-    None
 }
 
 // Copies bytes that begin in column `number`, with each terminator replaced by the delimiter after its column. Returns
@@ -134,12 +97,12 @@ fn copy_cells<A: Allocator>(
 {
     let count = bytes.len();
     let list = delims.as_slice();
-    if let Some(delim) = only_delimiter(delims) {
-        replace_terminators(
-            ReplaceTerminator { terminator, delim },
-            bytes,
-            &mut into[..count],
-        );
+    if let [Some(delim)] = list {
+        let by = ReplaceTerminator {
+            terminator,
+            delim: *delim,
+        };
+        replace_terminators(by, bytes, &mut into[..count]);
         return (count, number);
     }
     if list.contains(&None) {
@@ -167,23 +130,12 @@ fn copy_block<A: Allocator>(
     ensures bound { result.1.number ≤ number + length bytes.now }
 {
     let (at, number) = copy_cells(delims, terminator, number, bytes, into);
-    if last == terminator {
-        return (
-            at,
-            ColumnPos {
-                number,
-                complete: true,
-            },
-        );
+    let complete = last == terminator;
+    if complete {
+        return (at, ColumnPos { number, complete });
     }
     into[at] = last;
-    (
-        at + 1,
-        ColumnPos {
-            number,
-            complete: false,
-        },
-    )
+    (at + 1, ColumnPos { number, complete })
 }
 
 /// The filter for `run_blocks`: the delimiters, the terminator, the position of the next byte, and a buffer for the

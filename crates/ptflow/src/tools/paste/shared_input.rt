@@ -13,8 +13,7 @@ ghost use Rattle.ptflow.specs.Private.Paste.SharedInput.{IsSharedCycle, IsWholeR
 
 use crate::simd::cycle::{CycleTables, UnrolledCycle, replace_unrolled, unroll};
 use crate::simd::find_nth::nth_index;
-use crate::tools::paste::row::RowFormat;
-use crate::tools::paste::serial::OutBuf;
+use crate::tools::paste::row::{OutBuf, RowFormat};
 use arrayvec::ArrayVec;
 use memchr::memrchr;
 use ptlines::{LineReader, Out, Sink, Source, WriteFault};

@@ -100,9 +100,9 @@ pub copy_columns-begun-requires-clause-readable : goal.copy_columns-begun-requir
 copy_columns-begun-requires-clause-readable g c = ready g (goal.at.copy_columns-begun-requires-clause-readable g
     c).After-fill_cell c.in_ok-has_line.has_line c.in_ok-has_line.ensures.fills
 
-pub cells-preserved : goal.cells-preserved
-cells-preserved g c =
-    let here = (goal.at.cells-preserved g c).After-fill_cell in
+pub cells-preserved-in-Some : goal.cells-preserved-in-Some
+cells-preserved-in-Some g c =
+    let here = (goal.at.cells-preserved-in-Some g c).After-fill_cell in
     let has = c.in_ok-has_line.has_line in
     let fills = c.in_ok-has_line.ensures.fills in
     let p = c.copy_columns-begun.ensures.cells in
@@ -122,9 +122,9 @@ cells-preserved g c =
       clean = c.in_ok-has_line.ensures.write_failed;
     }
 
-pub cells-preserved-in-None : goal.cells-preserved-in-None
-cells-preserved-in-None g c =
-    let here = (goal.at.cells-preserved-in-None g c).After-fill_cell in
+pub cells-preserved : goal.cells-preserved
+cells-preserved g c =
+    let here = (goal.at.cells-preserved g c).After-fill_cell in
     let has = c.in_ok-has_line.has_line in
     let fills = c.in_ok-has_line.ensures.fills in
     record {
