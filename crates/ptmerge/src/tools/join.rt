@@ -65,7 +65,7 @@ fn write_unpaired_entry<B: Allocator, W: Sink>(
 
 // Writes the output line of `line` with each line of the group, which is in the slots from `from` to before `end`.
 #[inline(always)]
-fn write_pair_entries<A: Allocator + Copy, B: Allocator + Copy, W: Sink>(
+fn write_pair_entries<A: Allocator + Copy, B: Allocator, W: Sink>(
     job: &JoinJob<B>,
     key: &[u8],
     line: &[u8],
@@ -91,14 +91,7 @@ fn write_pair_entries<A: Allocator + Copy, B: Allocator + Copy, W: Sink>(
 
 // Writes the output line of an input's current line, which is unpaired, and advances the input.
 #[inline(always)]
-fn write_unpaired<
-    K: KeyOrder,
-    A: Allocator + Copy,
-    B: Allocator + Copy,
-    S: Source,
-    R: Source,
-    W: Sink,
->(
+fn write_unpaired<K: KeyOrder, A: Allocator + Copy, B: Allocator, S: Source, R: Source, W: Sink>(
     merge: &mut Merge<K>,
     job: &JoinJob<B>,
     side: Side,
@@ -123,14 +116,7 @@ fn write_unpaired<
 }
 
 // Writes the output lines of the first input's current line with each line of the group, and advances the first input.
-fn write_pairs<
-    K: KeyOrder,
-    A: Allocator + Copy,
-    B: Allocator + Copy,
-    S: Source,
-    R: Source,
-    W: Sink,
->(
+fn write_pairs<K: KeyOrder, A: Allocator + Copy, B: Allocator, S: Source, R: Source, W: Sink>(
     merge: &mut Merge<K>,
     job: &JoinJob<B>,
     end: usize,
@@ -168,14 +154,7 @@ enum JoinPhase {
 }
 
 // Runs `join` in an order of join fields. The terminator of both readers is already set.
-fn join_with_order<
-    K: KeyOrder,
-    A: Allocator + Copy,
-    B: Allocator + Copy,
-    S: Source,
-    R: Source,
-    W: Sink,
->(
+fn join_with_order<K: KeyOrder, A: Allocator + Copy, B: Allocator, S: Source, R: Source, W: Sink>(
     order: K,
     job: &JoinJob<B>,
     first: &mut LineReader<S, R>,
