@@ -28,7 +28,7 @@ use crate::key_order::{Descending, FieldKeys, KeyOrder, Side};
 use crate::merging::four_slots::clear_four_slots;
 use crate::merging::{Merge, Step};
 use crate::tools::join::key_group::{clear_group, group_slots, read_group_line};
-use crate::tools::join::output::{write_first, write_pair, write_second};
+use crate::tools::join::output::write_entry;
 use ptlangs::jobs::JoinJob;
 use ptlines::{LineReader, Out, Sink, Source, Store, WriteFault};
 use std::alloc::Allocator;
@@ -48,18 +48,9 @@ fn write_unpaired_entry<B: Allocator, W: Sink>(
         WriteBytesPost out.old out.new (unlines terminator entry) result }
 {
     match side {
-        First => {
-            if !job.unpaired[0] {
-                return Ok(());
-            }
-            write_first(job, key, line, terminator, out)
-        }
-        Second => {
-            if !job.unpaired[1] {
-                return Ok(());
-            }
-            write_second(job, key, line, terminator, out)
-        }
+        First if job.unpaired[0] => write_entry(job, key, Some(line), None, terminator, out),
+        Second if job.unpaired[1] => write_entry(job, key, None, Some(line), terminator, out),
+        _ => Ok(()),
     }
 }
 
@@ -84,7 +75,8 @@ fn write_pair_entries<A: Allocator + Copy, B: Allocator, W: Sink>(
         return Ok(());
     }
     for slot in from..end {
-        write_pair(job, key, line, store.line(slot), terminator, out)?;
+        let other = store.line(slot);
+        write_entry(job, key, Some(line), Some(other), terminator, out)?;
     }
     Ok(())
 }
