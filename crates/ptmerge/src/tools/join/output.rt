@@ -191,7 +191,9 @@ fn write_listed_fields<A: Allocator, W: Sink>(
     Ok(())
 }
 
-// Writes an output line, without its terminator.
+// Writes an output line field by field, without its terminator. Not inlined, so that the code for canonical lines stays
+// short.
+#[inline(never)]
 fn write_fields<A: Allocator, W: Sink>(
     entry: &Entry<'_, A>,
     out: &mut Out<W>,
