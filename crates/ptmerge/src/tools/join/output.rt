@@ -223,8 +223,8 @@ fn is_canonical(separator: Option<u8>, number: u64, line: &[u8]) -> bool
 
 // Writes the output line of a pair of lines or of an unpaired line, whose join field is `key`, and its terminator.
 // Canonical lines are written without splitting them: the first line, and after it the second one without its join
-// field. Not inlined, so that the loop over the lines of a key stays short.
-#[inline(never)]
+// field.
+#[inline(always)]
 pub(crate) fn write_entry<'a, A: Allocator, W: Sink>(
     job: &'a JoinJob<A>,
     key: &'a [u8],
