@@ -97,9 +97,10 @@ impl<K: KeyOrder> Merge<K> {
         ensures { let cursor = both self.now.first self.now.second in
             StepPost (K.order self.now.order) (K.key_of self.now.order) cursor store.now result }
     {
-        // `Disorder` carries the line's number, but the number is also the count of lines read, and is taken from
-        // there.
         match (self.first.status, self.second.status) {
+            (CursorStatus::Ended, CursorStatus::Ended) => Step::End,
+            (CursorStatus::Head, CursorStatus::Ended) => Step::First,
+            (CursorStatus::Ended, CursorStatus::Head) => Step::Second,
             (CursorStatus::Head, CursorStatus::Head) => {
                 let a = self.key(Side::First, store);
                 let b = self.key(Side::Second, store);
@@ -109,44 +110,38 @@ impl<K: KeyOrder> Merge<K> {
                     std::cmp::Ordering::Greater => Step::Second,
                 }
             }
-            (CursorStatus::Head, CursorStatus::Ended) => Step::First,
-            (CursorStatus::Head, CursorStatus::Disorder(_)) => {
+            (CursorStatus::Head, CursorStatus::Disorder(number)) => {
                 let a = self.key(Side::First, store);
                 let last = self.previous_key(Side::Second, store);
                 if self.order.cmp(a, last).is_gt() {
-                    Step::Stop(Side::Second, self.second.number)
-                } else {
-                    Step::First
+                    return Step::Stop(Side::Second, number);
                 }
+                Step::First
             }
-            (CursorStatus::Ended, CursorStatus::Head) => Step::Second,
-            (CursorStatus::Ended, CursorStatus::Ended) => Step::End,
-            (CursorStatus::Ended, CursorStatus::Disorder(_)) => Step::Stop(
-                Side::Second,
-                self.second.number,
-            ),
-            (CursorStatus::Disorder(_), CursorStatus::Head) => {
+            (CursorStatus::Disorder(number), CursorStatus::Head) => {
                 let b = self.key(Side::Second, store);
                 let last = self.previous_key(Side::First, store);
                 if self.order.cmp(b, last).is_gt() {
-                    Step::Stop(Side::First, self.first.number)
-                } else {
-                    Step::Second
+                    return Step::Stop(Side::First, number);
                 }
+                Step::Second
             }
-            (CursorStatus::Disorder(_), CursorStatus::Ended) => Step::Stop(
-                Side::First,
-                self.first.number,
-            ),
-            (CursorStatus::Disorder(_), CursorStatus::Disorder(_)) => {
+            (CursorStatus::Disorder(one), CursorStatus::Disorder(two)) => {
                 let a = self.previous_key(Side::First, store);
                 let b = self.previous_key(Side::Second, store);
                 if self.order.cmp(a, b).is_gt() {
-                    Step::Stop(Side::Second, self.second.number)
-                } else {
-                    Step::Stop(Side::First, self.first.number)
+                    return Step::Stop(Side::Second, two);
                 }
+                Step::Stop(Side::First, one)
             }
+            (CursorStatus::Disorder(number), CursorStatus::Ended) => Step::Stop(
+                Side::First,
+                number,
+            ),
+            (CursorStatus::Ended, CursorStatus::Disorder(number)) => Step::Stop(
+                Side::Second,
+                number,
+            ),
         }
     }
 
@@ -157,10 +152,7 @@ impl<K: KeyOrder> Merge<K> {
         requires status_is { (both self.now.first self.now.second side).status ≡ status_is.Head }
         ensures { result.now ≡ line store.now (both self.now.first self.now.second side).current_slot }
     {
-        match side {
-            Side::First => store.line(self.first.current_slot),
-            Side::Second => store.line(self.second.current_slot),
-        }
+        store.line(self.cursor(side).current_slot)
     }
 
     /// Reads the next line of an input, which becomes its current line. `reader` must be the reader of this input.
@@ -193,6 +185,17 @@ impl<K: KeyOrder> Merge<K> {
         }
     }
 
+    // Returns the cursor of an input.
+    #[inline(always)]
+    fn cursor(&self, side: Side) -> &Sorted
+        ensures { result.now ≡ both self.now.first self.now.second side }
+    {
+        match side {
+            Side::First => &self.first,
+            Side::Second => &self.second,
+        }
+    }
+
     // Returns the key of an input's current line.
     #[inline(always)]
     pub(crate) fn key<'a, A: Allocator + Copy>(&self, side: Side, store: &'a Store<A>) -> &'a [u8]
@@ -201,16 +204,9 @@ impl<K: KeyOrder> Merge<K> {
         ensures { let cursor = both self.now.first self.now.second side in
             result.now ≡ K.key_of self.now.order side (line store.now cursor.current_slot) }
     {
-        match side {
-            Side::First => {
-                let line = store.line(self.first.current_slot);
-                self.order.key(side, self.first.key, line)
-            }
-            Side::Second => {
-                let line = store.line(self.second.current_slot);
-                self.order.key(side, self.second.key, line)
-            }
-        }
+        let cursor = self.cursor(side);
+        self.order
+            .key(side, cursor.key, store.line(cursor.current_slot))
     }
 
     // Returns the key of an input's previous line. Its span is not stored, so the key is searched for again.
@@ -220,10 +216,7 @@ impl<K: KeyOrder> Merge<K> {
         ensures { let cursor = both self.now.first self.now.second side in
             result.now ≡ K.key_of self.now.order side (line store.now cursor.previous_slot) }
     {
-        let line = match side {
-            Side::First => store.line(self.first.previous_slot),
-            Side::Second => store.line(self.second.previous_slot),
-        };
+        let line = store.line(self.cursor(side).previous_slot);
         self.order.key(side, self.order.span(side, line), line)
     }
 
@@ -232,10 +225,7 @@ impl<K: KeyOrder> Merge<K> {
     pub(crate) fn previous_slot_of(&self, side: Side) -> usize
         ensures { result ≡ (both self.now.first self.now.second side).previous_slot }
     {
-        match side {
-            Side::First => self.first.previous_slot,
-            Side::Second => self.second.previous_slot,
-        }
+        self.cursor(side).previous_slot
     }
 
     // Checks whether an input is at a line with the same key as its previous line.
@@ -243,10 +233,7 @@ impl<K: KeyOrder> Merge<K> {
     pub(crate) fn has_same_key(&self, side: Side) -> bool
         ensures { result ≡ (both self.now.first self.now.second side).same }
     {
-        match side {
-            Side::First => self.first.same,
-            Side::Second => self.second.same,
-        }
+        self.cursor(side).same
     }
 
     // Writes out the buffered output if the next line may not be available without blocking, and then advances the

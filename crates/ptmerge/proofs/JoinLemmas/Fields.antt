@@ -1,7 +1,7 @@
--- Fields of a line of `join`: how they are found (`fields`) and written (`output`). A line is split by repeatedly taking
--- the bytes before the first separator, so a field starts at the index at which the split finds it, and its span is the
--- difference of two lengths. Writing the fields of a canonical line gives the line back, since joining undoes splitting;
--- so the fields after a field are the bytes after it.
+-- Fields of a line of `join`: how they are found and written. A line is split by repeatedly taking the bytes before the
+-- first separator, so a field starts at the index at which the split finds it, and its span is the difference of two
+-- lengths. Writing the fields of a canonical line gives the line back, since joining undoes splitting; so the fields
+-- after a field are the bytes after it.
 use Rattle.std.proofs.lemmas.Bool.{false_from_ne_true}
 use Rattle.ptmerge.proofs.Common.{nil_from_length, drop_more, length-drop, length-append, ◌≡◌, ℕ, suc, ◌+◌, ◌-◌, ◌≤◌}
 use Rattle.ptmerge.proofs.Common.{Bool, true, false, ltb, List, [], ◌∷◌, Option, None, Some, length, drop, get_or, refl}
@@ -133,19 +133,6 @@ first_piece_span c number end line low e =
     let first : number - 1 ≡ 0 = omega (arith, low) in
     front_span line (nth_field number (remaining_fields (Some c) (Some line))) end e.within
     (sym ((λ i. get_or (e.is i) (first i) [])))
-
-word_first : (line bytes : List ℕ) (end : ℕ) (remainder : List (List ℕ)) → 0 < end → end ≤ length line
-    → get_or (filter is_nonempty (take end line ∷ remainder)) 0 [] ≡ take end line
-word_first [] bytes end remainder some within = absurd (omega (arith, some, within))
-word_first (x ∷ xs) bytes zero remainder some within = absurd (omega (arith, some))
-word_first (x ∷ xs) bytes (suc end) remainder some within = refl
-
-pub first_word_span : (end : ℕ) (line : List ℕ) → IsFirstPieceEnd None line end → 0 < end
-    → IsKeySpan line (nth_field 1 (remaining_fields None (Some line))) (record { start = 0; end = end })
-first_word_span end line e some =
-    front_span line (nth_field 1 (remaining_fields None (Some line))) end
-    e.within (sym (ap (λ fs. get_or (filter is_nonempty fs) 0 []) e.is
-    ∙ word_first line [] end e.remainder some e.within))
 
 -- ---- an empty word is skipped
 

@@ -22,14 +22,15 @@ pub enum CursorStatus {
 
 // An input of a merge, with its order check. `current_slot` and `previous_slot` are the slots of its current and
 // previous line, `number` is the count of lines read, `same` is true if the current line has the key of the previous
-// one, and `key` is the span of the key in the current line. The reader is passed to each call that reads.
+// one, and `key` is the span of the key in the current line. The reader is passed to each call that reads. `same` is the
+// first field, since a fault shares the first bytes of a result with a merge, and the compiler splits fields that do.
 #[derive(Clone, Copy, Drop)]
 pub struct Sorted {
+    pub same: bool,
     pub current_slot: usize,
     pub previous_slot: usize,
     pub number: u64,
     pub status: CursorStatus,
-    pub same: bool,
     pub key: Span,
 }
 

@@ -8,7 +8,6 @@ ghost use Rattle.ptlines.specs.Text.{unlines};
 ghost use Rattle.ptmerge.specs.Comm.{comm_with, comm_tool, tab_if_shown, column_entries};
 ghost use Rattle.ptmerge.specs.MergeCall.{MergeRunPre, MergePost, MergePre, IsMergeUnread, IsMergeUntouched, IsUnreadWithoutSlots, merge_state};
 ghost use Rattle.ptmerge.specs.WriteAndAdvance.{WriteThenAdvancePost, AdvancePre};
-ghost use Rattle.ptmerge.specs.Write.{WriteBytesPost};
 ghost use Rattle.ptmerge.specs.Sides.{both};
 ghost use Rattle.ptlines.specs.Slots.{AddedSlots};
 ghost use Rattle.ptmerge.specs.declared.key_order.Side.{Side as SideType};
@@ -19,7 +18,7 @@ use crate::key_order::{Descending, KeyOrder, Side, WholeLine};
 use crate::merging::four_slots::clear_four_slots;
 use crate::merging::{Merge, Step};
 use ptlangs::jobs::CommJob;
-use ptlines::{LineReader, Out, Sink, Source, Store, WriteFault};
+use ptlines::{LineReader, Out, Sink, Source, Store};
 use std::alloc::Allocator;
 
 // Returns a tab for each of the first two columns that is shown.
@@ -33,25 +32,7 @@ fn tabs(hide1: bool, hide2: bool) -> &'static [u8]
     }
 }
 
-// Writes `line` after the tabs of its column, unless the column is hidden.
-#[inline(always)]
-#[tactic(auto, using(crate::proofs::MergeLemmas::Write::push_is_write))]
-fn write_entry<W: Sink>(
-    hidden: bool,
-    tabs: &[u8],
-    line: &[u8],
-    terminator: u8,
-    out: &mut Out<W>,
-) -> Result<(), WriteFault>
-    ensures { WriteBytesPost out.old out.new (unlines terminator (column_entries hidden tabs.now 1 line.now)) result }
-{
-    if hidden {
-        return Ok(());
-    }
-    out.push_line(tabs, line, &[terminator])
-}
-
-// Writes the current line of an input in its column, and advances the input.
+// Writes the current line of an input after the tabs of its column, unless the column is hidden, and advances the input.
 #[inline(always)]
 fn write_head<K: KeyOrder, A: Allocator + Copy, S: Source, R: Source, W: Sink>(
     merge: &mut Merge<K>,
@@ -73,7 +54,9 @@ fn write_head<K: KeyOrder, A: Allocator + Copy, S: Source, R: Source, W: Sink>(
         merge.new.first merge.new.second reader.old reader.new store.old store.new out.new result }
     ensures order { merge.new.order ≡ merge.old.order }
 {
-    write_entry(hidden, tabs, merge.head(side, store), terminator, out)?;
+    if !hidden {
+        out.push_line(tabs, merge.head(side, store), &[terminator])?;
+    }
     merge.write_out_and_advance(side, reader, store, out)
 }
 

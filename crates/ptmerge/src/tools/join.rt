@@ -28,13 +28,14 @@ use crate::key_order::{Descending, FieldKeys, KeyOrder, Side};
 use crate::merging::four_slots::clear_four_slots;
 use crate::merging::{Merge, Step};
 use crate::tools::join::key_group::{clear_group, group_slots, read_group_line};
-use crate::tools::join::output::{write_first, write_pair, write_second};
+use crate::tools::join::output::write_entry;
 use ptlangs::jobs::JoinJob;
 use ptlines::{LineReader, Out, Sink, Source, Store, WriteFault};
 use std::alloc::Allocator;
 
-// Writes the output line of an unpaired line, if the options ask for it.
-#[inline(always)]
+// Writes the output line of an unpaired line, if the options ask for it. Not inlined, so that the loop of the merge stays
+// short.
+#[inline(never)]
 fn write_unpaired_entry<B: Allocator, W: Sink>(
     job: &JoinJob<B>,
     side: Side,
@@ -48,24 +49,16 @@ fn write_unpaired_entry<B: Allocator, W: Sink>(
         WriteBytesPost out.old out.new (unlines terminator entry) result }
 {
     match side {
-        First => {
-            if !job.unpaired[0] {
-                return Ok(());
-            }
-            write_first(job, key, line, terminator, out)
-        }
-        Second => {
-            if !job.unpaired[1] {
-                return Ok(());
-            }
-            write_second(job, key, line, terminator, out)
-        }
+        First if job.unpaired[0] => write_entry(job, key, Some(line), None, terminator, out),
+        Second if job.unpaired[1] => write_entry(job, key, None, Some(line), terminator, out),
+        _ => Ok(()),
     }
 }
 
 // Writes the output line of `line` with each line of the group, which is in the slots from `from` to before `end`.
-#[inline(always)]
-fn write_pair_entries<A: Allocator + Copy, B: Allocator + Copy, W: Sink>(
+// Not inlined, like `write_unpaired_entry`.
+#[inline(never)]
+fn write_pair_entries<A: Allocator + Copy, B: Allocator, W: Sink>(
     job: &JoinJob<B>,
     key: &[u8],
     line: &[u8],
@@ -84,21 +77,15 @@ fn write_pair_entries<A: Allocator + Copy, B: Allocator + Copy, W: Sink>(
         return Ok(());
     }
     for slot in from..end {
-        write_pair(job, key, line, store.line(slot), terminator, out)?;
+        let other = store.line(slot);
+        write_entry(job, key, Some(line), Some(other), terminator, out)?;
     }
     Ok(())
 }
 
 // Writes the output line of an input's current line, which is unpaired, and advances the input.
 #[inline(always)]
-fn write_unpaired<
-    K: KeyOrder,
-    A: Allocator + Copy,
-    B: Allocator + Copy,
-    S: Source,
-    R: Source,
-    W: Sink,
->(
+fn write_unpaired<K: KeyOrder, A: Allocator + Copy, B: Allocator, S: Source, R: Source, W: Sink>(
     merge: &mut Merge<K>,
     job: &JoinJob<B>,
     side: Side,
@@ -123,14 +110,7 @@ fn write_unpaired<
 }
 
 // Writes the output lines of the first input's current line with each line of the group, and advances the first input.
-fn write_pairs<
-    K: KeyOrder,
-    A: Allocator + Copy,
-    B: Allocator + Copy,
-    S: Source,
-    R: Source,
-    W: Sink,
->(
+fn write_pairs<K: KeyOrder, A: Allocator + Copy, B: Allocator, S: Source, R: Source, W: Sink>(
     merge: &mut Merge<K>,
     job: &JoinJob<B>,
     end: usize,
@@ -168,14 +148,7 @@ enum JoinPhase {
 }
 
 // Runs `join` in an order of join fields. The terminator of both readers is already set.
-fn join_with_order<
-    K: KeyOrder,
-    A: Allocator + Copy,
-    B: Allocator + Copy,
-    S: Source,
-    R: Source,
-    W: Sink,
->(
+fn join_with_order<K: KeyOrder, A: Allocator + Copy, B: Allocator, S: Source, R: Source, W: Sink>(
     order: K,
     job: &JoinJob<B>,
     first: &mut LineReader<S, R>,

@@ -1,7 +1,7 @@
 //! Fields of a line of `join`, between separators (`-t`) or else between blanks. `output` finds fields in a `SplitLine`
 //! or one after another (`next_field`), and `key_order` finds the span of the join field (`field_span`).
 
-ghost use Rattle.std.specs.Prelude.{◌≡◌, ◌∷◌, [], None, Some, ◌<◌, ◌+◌, true, length, position, option_copied, IfSome, MatchOption};
+ghost use Rattle.std.specs.Prelude.{◌≡◌, ◌∷◌, [], None, Some, ◌<◌, ◌+◌, length, position, option_copied, IfSome, MatchOption};
 ghost use Rattle.std.specs.List.{slice_split};
 ghost use Rattle.ptmerge.specs.Join.{nth_field};
 ghost use Rattle.ptmerge.specs.JoinFields.{AreBlanks, IsFieldFound, IsFirstPieceEnd, IsFieldIn, IsPiece, is_evenly_separated, is_separator, remaining_fields};
@@ -90,15 +90,11 @@ fn find_by_pieces(separator: Option<u8>, number: u64, line: &[u8]) -> Option<Spa
 {
     let mut left = Some(line);
     for _passed in 0..number.saturating_sub(1) {
-        let Some((_, remainder)) = next_field(separator, left) else {
-            return None;
-        };
+        let (_, remainder) = next_field(separator, left)?;
         left = remainder;
     }
-    match next_field(separator, left) {
-        Some((field, remainder)) => Some(span_of_field(separator, line, field, remainder)),
-        None => None,
-    }
+    let (field, remainder) = next_field(separator, left)?;
+    Some(span_of_field(separator, line, field, remainder))
 }
 
 // Returns the blanks of a short line without separators. The result for others does not matter.
@@ -170,10 +166,7 @@ impl<'a> SplitLine<'a> {
 fn first_piece_end(separator: Option<u8>, bytes: &[u8]) -> usize
     ensures { IsFirstPieceEnd separator bytes.now result }
 {
-    match field_end(separator, bytes) {
-        Some(end) => end,
-        None => bytes.len(),
-    }
+    field_end(separator, bytes).unwrap_or(bytes.len())
 }
 
 // Returns the span of the field with this number, or an empty span if there is none. This is the general case of
@@ -182,23 +175,9 @@ fn first_piece_end(separator: Option<u8>, bytes: &[u8]) -> usize
 fn field_span_slow(separator: Option<u8>, number: u64, line: &[u8]) -> Span
     ensures { IsKeySpan line.now (nth_field number (remaining_fields separator (Some line.now))) result }
 {
-    match SplitLine::new(separator, line).find(number) {
-        Some(span) => span,
-        None => Span { start: 0, end: 0 },
-    }
-}
-
-// Returns the span of the first word of a line.
-#[inline(always)]
-#[tactic(auto, using(crate::proofs::JoinLemmas::Fields::first_word_span))]
-fn word_span(line: &[u8]) -> Span
-    ensures { IsKeySpan line.now (nth_field 1 (remaining_fields None (Some line.now))) result }
-{
-    let end = first_piece_end(None, line);
-    if end == 0 {
-        return field_span_slow(None, 1, line);
-    }
-    Span { start: 0, end }
+    SplitLine::new(separator, line)
+        .find(number)
+        .unwrap_or(Span { start: 0, end: 0 })
 }
 
 // Returns the span of the field with this number, counted from 1, or an empty span if there is none. The join field
@@ -208,12 +187,11 @@ fn word_span(line: &[u8]) -> Span
 pub(crate) fn field_span(separator: Option<u8>, number: u64, line: &[u8]) -> Span
     ensures { IsKeySpan line.now (nth_field number (remaining_fields separator (Some line.now))) result }
 {
-    match separator {
-        Some(byte) if number <= 1 => Span {
-            start: 0,
-            end: first_piece_end(Some(byte), line),
-        },
-        None if number <= 1 => word_span(line),
-        _ => field_span_slow(separator, number, line),
+    if number <= 1 {
+        let end = first_piece_end(separator, line);
+        if separator.is_some() || end > 0 {
+            return Span { start: 0, end };
+        }
     }
+    field_span_slow(separator, number, line)
 }

@@ -4,7 +4,7 @@ ghost use Rattle.std.specs.Prelude.{◌≡◌, ◌≤◌, ◌++◌, IfSome, leng
 ghost use Rattle.std.proofs.Props.{props};
 ghost use Rattle.ptlines.specs.Outputs.{PushPost};
 ghost use Rattle.ptlangs.specs.Jobs.{join_job};
-ghost use Rattle.ptmerge.specs.Join.{join_fields, other_fields, output_separator, or_filler, field_named, entry, join_key};
+ghost use Rattle.ptmerge.specs.Join.{join_fields, other_fields, output_separator, or_filler, field_named};
 ghost use Rattle.ptmerge.specs.JoinFields.{IsCanonical, IsKeyOf, IsSplit, around, entry_with_list, remaining_fields, with_prefix};
 ghost use Rattle.ptmerge.specs.Write.{WriteBytesPost};
 ghost use Rattle.ptmerge.specs.declared.key_order.Side.TheVariants.{First, Second};
@@ -191,7 +191,9 @@ fn write_listed_fields<A: Allocator, W: Sink>(
     Ok(())
 }
 
-// Writes an output line, without its terminator.
+// Writes an output line field by field, without its terminator. Not inlined, so that the code for canonical lines stays
+// short.
+#[inline(never)]
 fn write_fields<A: Allocator, W: Sink>(
     entry: &Entry<'_, A>,
     out: &mut Out<W>,
@@ -219,113 +221,38 @@ fn is_canonical(separator: Option<u8>, number: u64, line: &[u8]) -> bool
     number <= 1 && SplitLine::new(separator, line).is_single_spaced()
 }
 
-// Writes an output line field by field, and its terminator. Not inlined, so that the code for canonical lines stays
-// short.
-#[inline(never)]
-fn write_entry<A: Allocator, W: Sink>(
-    entry: &Entry<'_, A>,
-    terminator: u8,
-    out: &mut Out<W>,
-) -> Result<(), WriteFault>
-    ensures { let job = join_job entry.now.job.now in
-        let one = option_copied entry.now.one in
-        let two = option_copied entry.now.two in
-        PushPost out.old out.new (entry_with_list job job.list entry.now.key.now one two ++ terminator ∷ []) result }
-{
-    write_fields(entry, out)?;
-    out.push(&[terminator])
-}
-
-// Writes the output line of a pair of lines, whose join field is `key`, and its terminator. Canonical lines are written
-// without splitting them: the first line, and the second one without its join field. Not inlined, so that the loop over
-// the lines of a key stays short.
-#[inline(never)]
-pub(crate) fn write_pair<'a, A: Allocator, W: Sink>(
+// Writes the output line of a pair of lines or of an unpaired line, whose join field is `key`, and its terminator.
+// Canonical lines are written without splitting them: the first line, and after it the second one without its join
+// field.
+#[inline(always)]
+pub(crate) fn write_entry<'a, A: Allocator, W: Sink>(
     job: &'a JoinJob<A>,
     key: &'a [u8],
-    first: &'a [u8],
-    second: &'a [u8],
+    one: Option<&'a [u8]>,
+    two: Option<&'a [u8]>,
     terminator: u8,
     out: &mut Out<W>,
 ) -> Result<(), WriteFault>
-    requires { let of = join_key (join_job job.now) in
-        (of First first.now ≡ key.now) × (of Second second.now ≡ key.now) }
-    ensures { let of = join_fields (join_job job.now).separator in
-        let bytes = entry (join_job job.now) key.now (of first.now) (of second.now) in
+    requires one { IsKeyOf (join_job job.now) First key.now (option_copied one) }
+    requires two { IsKeyOf (join_job job.now) Second key.now (option_copied two) }
+    ensures { let job = join_job job.now in
+        let bytes = entry_with_list job job.list key.now (option_copied one.entry) (option_copied two.entry) in
         PushPost out.old out.new (bytes ++ terminator ∷ []) result }
 {
-    match &job.list {
-        None
+    match (&job.list, one, two) {
+        (None, Some(first), Some(second))
             if is_canonical(job.sep, job.field[0], first)
                 && is_canonical(job.sep, job.field[1], second) => {
-            out.push_line(first, &second[key.len()..], &[terminator])
+            return out.push_line(first, &second[key.len()..], &[terminator]);
         }
-        _ => {
-            let entry = Entry {
-                job,
-                key,
-                one: Some(first),
-                two: Some(second),
-            };
-            write_entry(&entry, terminator, out)
+        (None, Some(line), None) if is_canonical(job.sep, job.field[0], line) => {
+            return out.push_line(line, b"", &[terminator]);
         }
+        (None, None, Some(line)) if is_canonical(job.sep, job.field[1], line) => {
+            return out.push_line(b"", line, &[terminator]);
+        }
+        _ => {}
     }
-}
-
-// Writes the output line of an unpaired line of the first input, and its terminator. Not inlined, like `write_pair`.
-#[inline(never)]
-pub(crate) fn write_first<'a, A: Allocator, W: Sink>(
-    job: &'a JoinJob<A>,
-    key: &'a [u8],
-    line: &'a [u8],
-    terminator: u8,
-    out: &mut Out<W>,
-) -> Result<(), WriteFault>
-    requires { join_key (join_job job.now) First line.now ≡ key.now }
-    ensures { let of = join_fields (join_job job.now).separator in
-        PushPost out.old out.new (entry (join_job job.now) key.now (of line.now) [] ++ terminator ∷ []) result }
-{
-    match &job.list {
-        None if is_canonical(job.sep, job.field[0], line) => {
-            out.push_line(line, b"", &[terminator])
-        }
-        _ => {
-            let entry = Entry {
-                job,
-                key,
-                one: Some(line),
-                two: None,
-            };
-            write_entry(&entry, terminator, out)
-        }
-    }
-}
-
-// Writes the output line of an unpaired line of the second input, like `write_first`.
-#[inline(never)]
-pub(crate) fn write_second<'a, A: Allocator, W: Sink>(
-    job: &'a JoinJob<A>,
-    key: &'a [u8],
-    line: &'a [u8],
-    terminator: u8,
-    out: &mut Out<W>,
-) -> Result<(), WriteFault>
-    requires { join_key (join_job job.now) Second line.now ≡ key.now }
-    ensures { let of = join_fields (join_job job.now).separator in
-        PushPost out.old out.new (entry (join_job job.now) key.now [] (of line.now) ++ terminator ∷ []) result }
-{
-    match &job.list {
-        None if is_canonical(job.sep, job.field[1], line) => {
-            out.push_line(b"", line, &[terminator])
-        }
-        _ => {
-            let entry = Entry {
-                job,
-                key,
-                one: None,
-                two: Some(line),
-            };
-            write_entry(&entry, terminator, out)
-        }
-    }
+    write_fields(&Entry { job, key, one, two }, out)?;
+    out.push(&[terminator])
 }

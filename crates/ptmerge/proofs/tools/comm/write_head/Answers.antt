@@ -1,6 +1,13 @@
-use Rattle.ptmerge.proofs.MergeLemmas.Step.{wrote_and_sent}
+use Rattle.ptmerge.proofs.Common.{push_trans}
+use Rattle.ptmerge.proofs.tools.comm.write_head.Goals.{then-not-hidden+in_ok-push_line, else-not-hidden}
 use Rattle.ptmerge.proofs.tools.comm.write_head.Goals as goal
 
+-- the line is pushed if its column is shown, and then buffered output may be written out
 pub returns-clause-wrote : goal.returns-clause-wrote
-returns-clause-wrote g c = wrote_and_sent _ _ _ _ (c.in_ok-write_entry.ensures.clean c.requires.clean)
-    (rw c.head.ensures at c.write_entry.ensures.wrote) c.write_out_and_advance.ensures.written_out
+returns-clause-wrote g c =
+    let sent = c.write_out_and_advance.ensures.written_out in
+    elim c.if-not-hidden.branch [
+      | then-not-hidden+in_ok-push_line w ↦ rw w.if-not-hidden.true (push_trans _ _ _ _ _ w.in_ok-push_line.ensures.pushed.clean
+          (rw w.head.ensures at w.push_line.ensures.pushed.wrote) (rw w.out-is at sent))
+      | else-not-hidden w ↦ rw w.if-not-hidden.false (rw w.out-is at sent)
+    ]

@@ -3,39 +3,39 @@ use Rattle.ptmerge.proofs.Common.{◌-◌, ◌∙◌, ◌∷◌, ◌≡◌, Some
 use Rattle.ptmerge.proofs.JoinLemmas.Fields.{after_piece, drop_next, field_in, none_past, remaining_after}
 use Rattle.ptmerge.proofs.tools.join.fields.find_by_pieces.Goals as goal
 
-pub returns-in_default : goal.returns-in_default
-returns-in_default c = none_past _ c.loop-passed._passed (c.args.number - 1)
-    (c.loop-passed.invariant.passed ∙ c.in_default.ensures.first)
-    (omega (arith, c.loop-passed-test.true, c.saturating_sub-passed-end.ensures))
+pub returns-in_err-remainder : goal.returns-in_err-remainder
+returns-in_err-remainder c = rw c.from_residual.ensures (none_past _ c.loop-passed._passed (c.args.number - 1)
+    (c.loop-passed.invariant.passed ∙ c.in_err-remainder.ensures.first)
+    (omega (arith, c.loop-passed-test.true, c.saturating_sub-passed-end.ensures)))
 
-pub returns-in-Some-next_field : goal.returns-in-Some-next_field
-returns-in-Some-next_field c =
+pub returns : goal.returns
+returns c =
     let span = c.span_of_field.ensures.span in
-    let remainder = option_copied c.in-Some-next_field.remainder in
+    let remainder = option_copied c.in_ok-field.remainder in
     let passed : c.loop-passed._passed ≡ c.args.number - 1 = omega
     (arith, c.loop-passed-test.false, c.loop-passed.auto._passed-end, c.saturating_sub-passed-end.ensures) in
     let piece = field_in c.args.separator (Some c.args.line.now) (option_copied c.loop-passed.left)
-    c.in-Some-next_field.field.now remainder c.loop-passed.invariant.ends c.in-Some-next_field.ensures.is_piece in
+    c.in_ok-field.field.now remainder c.loop-passed.invariant.ends c.in_ok-field.ensures.is_piece in
     record {
       more = remaining_fields c.args.separator remainder;
       is = ap (λ n. drop n (remaining_fields c.args.separator (Some c.args.line.now))) (sym passed)
-          ∙ c.loop-passed.invariant.passed ∙ c.in-Some-next_field.ensures.first
+          ∙ c.loop-passed.invariant.passed ∙ c.in_ok-field.ensures.first
           ∙ ap (λ f. f ∷ remaining_fields c.args.separator remainder) (sym span.bytes_are);
       ordered = span.ordered;
       within = span.within;
-      after = after_piece c.args.separator c.args.line.now c.in-Some-next_field.field.now remainder
+      after = after_piece c.args.separator c.args.line.now c.in_ok-field.field.now remainder
           c.span_of_field.result.end piece c.span_of_field.ensures.end;
     }
 
 pub loop-passed-preserved : goal.loop-passed-preserved
 loop-passed-preserved c = record {
-  passed = drop_next _ _ _ c.loop-passed._passed (c.loop-passed.invariant.passed ∙ c.in-Some.ensures.first);
+  passed = drop_next _ _ _ c.loop-passed._passed (c.loop-passed.invariant.passed ∙ c.in_ok-remainder.ensures.first);
   ends = remaining_after c.args.separator (Some c.args.line.now) (option_copied c.loop-passed.left)
-      c.in-Some.field-0-0.now (option_copied c.in-Some.remainder) c.loop-passed.invariant.ends
-      c.in-Some.ensures.is_piece;
+      c.in_ok-remainder.field-0-0.now (option_copied c.in_ok-remainder.remainder) c.loop-passed.invariant.ends
+      c.in_ok-remainder.ensures.is_piece;
 }
 
 pub span_of_field-requires : goal.span_of_field-requires
 span_of_field-requires c =
-    field_in c.args.separator (Some c.args.line.now) (option_copied c.loop-passed.left) c.in-Some-next_field.field.now
-    (option_copied c.in-Some-next_field.remainder) c.loop-passed.invariant.ends c.in-Some-next_field.ensures.is_piece
+    field_in c.args.separator (Some c.args.line.now) (option_copied c.loop-passed.left) c.in_ok-field.field.now
+    (option_copied c.in_ok-field.remainder) c.loop-passed.invariant.ends c.in_ok-field.ensures.is_piece

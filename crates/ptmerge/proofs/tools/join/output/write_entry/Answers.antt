@@ -1,6 +1,54 @@
+-- A canonical line is its key and its other fields, so it is written unchanged.
+use Rattle.ptmerge.proofs.Common.{◌≡◌, List, [], ◌∷◌, ◌++◌, ℕ, Option, Result, append-nil, ap, refl, subst, sym, ◌∙◌}
+use Rattle.ptmerge.proofs.Common.{First, Join, Output, PushPost, Second, entry_with_list, join_job, option_copied}
 use Rattle.ptmerge.proofs.Common.{push_past_failure}
 use Rattle.ptmerge.proofs.MergeLemmas.Write.{push_fails, then_pushes}
+use Rattle.ptmerge.proofs.JoinLemmas.Fields.{first_is, pair_is, second_is}
+use Rattle.ptmerge.specs.JoinFields.{IsKeyOf}
 use Rattle.ptmerge.proofs.tools.join.output.write_entry.Goals as goal
+
+-- these bytes are the output line of the lines that are there
+pushes_entry : {E : Type 0} {was is : Output} {r : Result (Unit {0}) E} (job : Join) (k : List ℕ) (end : ℕ)
+    {one one2 two two2 : Option (List ℕ)} → one2 ≡ one → two2 ≡ two → {bytes : List ℕ}
+    → bytes ≡ entry_with_list job job.list k one two ++ end ∷ [] → PushPost was is bytes r
+    → PushPost was is (entry_with_list job job.list k one2 two2 ++ end ∷ []) r
+pushes_entry {was = was} {is} {r} job k end first second same p = subst (λ (b : List ℕ). PushPost was is b r)
+    (same ∙ (λ i. entry_with_list job job.list k (sym first i) (sym second i) ++ end ∷ [])) p
+
+pub returns-in-None-Some-Some : goal.returns-in-None-Some-Some
+returns-in-None-Some-Some g c =
+    let job = join_job c.args.job.now in
+    let key = c.args.key.now in
+    let at = c.in-None-Some-Some in
+    let one = ap option_copied at.is-1 in
+    let two = ap option_copied at.is-2 in
+    pushes_entry job key c.args.terminator one two (pair_is job key at.is-0 c.args.terminator
+    (c.is_canonical.ensures c.if-is_canonical.true)
+    (c.is_canonical-then-is_canonical.ensures c.if-is_canonical-2.true)
+    (subst (IsKeyOf job First key) one c.requires.one) (subst (IsKeyOf job Second key) two c.requires.two))
+    c.push_line.ensures.pushed
+
+pub returns-in-None-Some-None : goal.returns-in-None-Some-None
+returns-in-None-Some-None g c =
+    let job = join_job c.args.job.now in
+    let key = c.args.key.now in
+    let at = c.in-None-Some-None in
+    let one = ap option_copied at.is-1 in
+    let two = ap option_copied at.is-2 in
+    pushes_entry job key c.args.terminator one two (ap (λ (l : List ℕ). l ++ c.args.terminator ∷ [])
+    (append-nil at.line.now ∙ first_is job key at.is-0 (c.if-is_canonical-3.ensures refl)
+    (subst (IsKeyOf job First key) one c.requires.one))) c.push_line-in-None-Some-None.ensures.pushed
+
+pub returns-in-None-None-Some : goal.returns-in-None-None-Some
+returns-in-None-None-Some g c =
+    let job = join_job c.args.job.now in
+    let key = c.args.key.now in
+    let at = c.in-None-None-Some in
+    let one = ap option_copied at.is-1 in
+    let two = ap option_copied at.is-2 in
+    pushes_entry job key c.args.terminator one two (ap (λ (l : List ℕ). l ++ c.args.terminator ∷ [])
+    (second_is job key at.is-0 (c.if-is_canonical-4.ensures refl) (subst (IsKeyOf job Second key) two c.requires.two)))
+    c.push_line-in-None-None-Some.ensures.pushed
 
 pub returns-in_err-write_fields : goal.returns-in_err-write_fields
 returns-in_err-write_fields g c = push_fails _ c.from_residual.ensures.1 c.in_err-write_fields.ensures.fault
