@@ -280,7 +280,7 @@ pub record OperandPre (operands : List ℕ) (inputs : List Reader) (store : Slot
   pub within : only_operand operands < length inputs
   pub ready : PassPre (reader_at inputs (only_operand operands)) store
 
--- Its postcondition: the reader at position `p` was passed over, and the other inputs are unchanged.
+-- Its postcondition: the tool was run over the reader at position `p`, and the other inputs are unchanged.
 pub record OperandPost (t : ToolSpec) (p : ℕ) (old new : List Reader) (was is : Output) (before store : Slots)
     (result : Result Completion FlowFault) : Type 0 where
   pub reader : Reader

@@ -1,4 +1,4 @@
-//! The trait of all tools: a run drives them by it alone. `tools` implements it.
+//! The trait of all tools, by which `driver` runs each of them. `tools` and `merge` implement it.
 
 ghost use Rattle.std.specs.Prelude.{◌≡◌, ℕ, List, false};
 ghost use Rattle.ptrun.specs.Tools.{ToolInRun, reads_together};
@@ -13,7 +13,8 @@ use std::alloc::Allocator;
 pub(crate) enum Completion {
     /// The whole output was written.
     AllWritten,
-    /// The output was written, except that of inputs that could not be opened; these were reported.
+    /// The output was written, except that of inputs that could not be opened; these were reported. (Only a run of
+    /// several operands ends so, and no tool.)
     Unopened,
     /// A line is out of order, and the output before it was written: the position of its input, and the line's number,
     /// counted from 1.
