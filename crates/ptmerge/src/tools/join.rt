@@ -33,9 +33,8 @@ use ptlangs::jobs::JoinJob;
 use ptlines::{LineReader, Out, Sink, Source, Store, WriteFault};
 use std::alloc::Allocator;
 
-// Writes the output line of an unpaired line, if the options ask for it. Not inlined, so that the loop of the merge stays
-// short.
-#[inline(never)]
+// Writes the output line of an unpaired line, if the options ask for it.
+#[inline(always)]
 fn write_unpaired_entry<B: Allocator, W: Sink>(
     job: &JoinJob<B>,
     side: Side,
@@ -56,7 +55,7 @@ fn write_unpaired_entry<B: Allocator, W: Sink>(
 }
 
 // Writes the output line of `line` with each line of the group, which is in the slots from `from` to before `end`.
-// Not inlined, like `write_unpaired_entry`.
+// Not inlined, so that the loop of the merge stays short.
 #[inline(never)]
 fn write_pair_entries<A: Allocator + Copy, B: Allocator, W: Sink>(
     job: &JoinJob<B>,
