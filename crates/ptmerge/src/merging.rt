@@ -1,6 +1,6 @@
 //! The merge of two inputs, on which `comm` and `join` are built: it selects the current line with the least key.
 //!
-//! `cursor` is one input of the merge, with its order check; `slots` manages the store slots that both inputs use.
+//! `cursor` is one input of the merge, with its order check; `four_slots` manages the store slots that both inputs use.
 
 ghost use Rattle.std.specs.Prelude.{◌≡◌, None, false, [], OnOk, IfOk, IfErr};
 ghost use Rattle.ptlines.specs.Outputs.{PushEffect};

@@ -1,11 +1,11 @@
 -- The current run of `uniq`, for one line and for the lines of a block. The items of the tool are runs: a line of
 -- another key ends the current run, whose output is known then.
-use Rattle.ptflow.proofs.Common.{◌≡◌, ℕ, ◌+◌, ◌<◌, ◌&&◌, Bool, true, false, List, [], ◌∷◌, ◌++◌, Some}
+use Rattle.ptflow.proofs.Common.{◌≡◌, ℕ, ◌+◌, ◌<◌, ◌&&◌, Bool, true, false, List, [], ◌∷◌, ◌++◌, None, Some}
 use Rattle.ptflow.proofs.Common.{length, take, drop, refl, sym, ◌∙◌, common_steps, ap, subst, arith, append_assoc}
-use Rattle.ptflow.proofs.Common.{length-append, take-append-drop, nat_lt, swap, take-append-add, append-nil}
+use Rattle.ptflow.proofs.Common.{length-append, take-append-drop, nat_lt, swap, is_some, take-append-add, append-nil}
 use Rattle.ptflow.proofs.Common.{length-take-le, get_or-set_other, sum_by-cons, IsFirstByte, is_byte, Output}
 use Rattle.ptflow.proofs.Common.{PushEffect, known_lines, Slots, line, total_bytes, with_line, unlines, complete_lines}
-use Rattle.ptflow.proofs.Common.{IsLine, push_nothing, unlines-append, complete_lines_none, Uniq}
+use Rattle.ptflow.proofs.Common.{IsLine, push_nothing, line_if_not_found, unlines-append, complete_lines_none, Uniq, Option}
 use Rattle.ptflow.proofs.Common.{Run, is_same, runs, output_of, uniq_tool, SlotsCleared, IsLineFilter, first_line}
 use Rattle.ptflow.proofs.Common.{current_run_of, RunsWritten, RunsFailed, CountRepeatsPost, run_of, count_of}
 use Rattle.ptflow.proofs.Common.{current_run, runs_after, run_output, Result}
@@ -122,6 +122,23 @@ module _ (job : Uniq) (run : Run) (next : List ℕ) where
         }
 
 -- ---- a block
+
+pub not_found : (end : ℕ) (block : List ℕ) (r : Option ℕ) → IsFirstByte (is_byte end) block r → is_some r ≡ false
+    → IsLine end block
+not_found end block None none said = line_if_not_found end block none
+not_found end block (Some at) first said = cc
+
+-- it has no complete line
+pub block_none : (job : Uniq) (end : ℕ) (run : Run) (block : List ℕ) (was : Output) → IsLine end block
+    → RunsWritten job run run (complete_lines end block) was was
+block_none job end run block was none = record {
+  passed = [];
+  wrote = push_nothing was;
+  clean = λ clean. clean;
+  on = λ more. cc (complete_lines_none end block none);
+  count = omega arith;
+  some = λ h. absurd (omega (arith, ap length (complete_lines_none end block none)));
+}
 
 -- the current run continues for some lines of a block
 module _ {job : Uniq} {end : ℕ} {first block : List ℕ} {same : RepeatCount}

@@ -52,7 +52,7 @@ impl Pairs<'_> {
 }
 
 // Appends those of the 64 bytes at index `at` that are kept. Returns the new count. If no byte is equal to the one that
-// it is compared with, which is tested first, or all are kept, the chunk is copied whole.
+// it is compared with, which is tested first for the sake of squeezing, or all are kept, the chunk is copied whole.
 #[inline(always)]
 fn filter64(by: Filter, pairs: Pairs, at: usize, into: &mut OutBuf, count: usize) -> usize
     requires { ChunkPre pairs.bytes.now at count }

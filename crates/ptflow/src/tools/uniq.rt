@@ -134,6 +134,9 @@ impl<'a> LineFilter for LineUniq<'a> {
         store: &Store<A>,
         out: &mut Out<W>,
     ) -> Result<usize, WriteFault> {
+        if find_byte(self.terminator, block).is_none() {
+            return Ok(0);
+        }
         let same = count_repeats(self, first_line(run, store), block);
         run.count += same.count;
         let rest = &block[same.passed..];

@@ -32,7 +32,8 @@ fn tabs(hide1: bool, hide2: bool) -> &'static [u8]
     }
 }
 
-// Writes the current line of an input after the tabs of its column, unless the column is hidden, and advances the input.
+// Writes the current line of an input after the tabs of its column, unless the column is hidden. Then advances the
+// input.
 #[inline(always)]
 fn write_head<K: KeyOrder, A: Allocator + Copy, S: Source, R: Source, W: Sink>(
     merge: &mut Merge<K>,

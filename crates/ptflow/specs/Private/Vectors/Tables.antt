@@ -8,7 +8,7 @@ image_in_eighths [] table b = b
 image_in_eighths (byte ∷ eighths) table b =
     if byte / 32 == b / 32 then slice_index table b else image_in_eighths eighths table b
 
--- every byte that differs from its image is in one of the eighths
+-- the eighths contain every byte that differs from its image: looking up bytes in them alone gives all images
 pub record HasMoved (eighths : Eighths) (table : List ℕ) : Type 0 where
   pub few : eighths.count ≤ 8
   pub images : (b : ℕ) → b < 256 → image_in_eighths (take eighths.count eighths.bytes) table b ≡ slice_index table b

@@ -2,10 +2,10 @@
 -- with that of the runs that end in the block (`BlockRuns`). The last run becomes the current one. The processed bytes
 -- are the complete lines.
 use Rattle.ptflow.proofs.Common.{length, drop, sym, ap, subst, arith, length-drop, take_rest}
-use Rattle.ptflow.proofs.Common.{length-take-le, complete_lines, line_if_not_found}
+use Rattle.ptflow.proofs.Common.{length-take-le, unlines, complete_lines, line_if_not_found, complete_lines_none}
 use Rattle.ptflow.proofs.Common.{uniq_job, RunsWritten, CountRepeatsPost, first_line, current_run_of}
 use Rattle.ptflow.proofs.Passes.StepOutput.{on_err}
-use Rattle.ptflow.proofs.UniqLemmas.FirstLine.{block_on, block_on_passed}
+use Rattle.ptflow.proofs.UniqLemmas.FirstLine.{not_found, block_none, block_on, block_on_passed}
 use Rattle.ptflow.proofs.UniqLemmas.FirstLine.{block_run_halts, block_turns, block_halts, block_passed}
 use Rattle.ptflow.proofs.UniqLemmas.BlockRuns.{text_long}
 use Rattle.ptflow.proofs.tools.uniq.LineUniqLineFilter.process_lines.Given as given
@@ -18,6 +18,22 @@ continued : (g : given.Over) (c : After-count_repeats-same g)
     (first_line c.args.run.now c.args.store.now) c.args.block.now
     c.count_repeats-same.result
 continued g c = rw c.first_line.ensures at c.count_repeats-same.ensures
+
+pub returns-then-is_none-clause-continues : goal.returns-then-is_none-clause-continues
+returns-then-is_none-clause-continues g c =
+    block_none (uniq_job c.args.self.now.job.now) (uniq_job c.args.self.now.job.now).terminator
+    (current_run_of c.args.run.now c.args.store.now) c.args.block.now c.args.out.now
+    (not_found _ c.args.block.now c.find_byte.result (rw c.args.self.now.ends at c.find_byte.ensures)
+    c.if-is_none.ensures)
+
+pub returns-then-is_none-clause-passed : goal.returns-then-is_none-clause-passed
+returns-then-is_none-clause-passed g c = (
+  omega arith,
+  sym (ap (unlines (uniq_job c.args.self.now.job.now).terminator)
+      (complete_lines_none (uniq_job c.args.self.now.job.now).terminator c.args.block.now
+      (not_found _ c.args.block.now c.find_byte.result (rw c.args.self.now.ends at c.find_byte.ensures)
+      c.if-is_none.ensures))),
+)
 
 pub overflow_add-run : goal.overflow_add-run
 overflow_add-run g c =
