@@ -7,6 +7,7 @@ use Rattle.ptflow.proofs.Common.{count_ones, count_by, prefix_len, mask_l, chunk
 use Rattle.ptflow.proofs.Common.{drop_more, take_at, drop_at, length-take-le, length-slice_split, get_or-le-sum_by}
 use Rattle.ptflow.proofs.Common.{sum_by-cons, sum_by-append, sum_by-take-le, count_by-le-length, trailing_mask_l}
 use Rattle.ptflow.proofs.Common.{ones-mask_l, get_or-chunk, length-chunk, IsFirstByte, NoneBefore, Passes, is_byte}
+use Rattle.ptflow.proofs.Common.{line_before_terminator, line_if_not_found, take_all}
 use Rattle.ptflow.proofs.Common.{Nowhere, None, option_map, nowhere_trans, IsLine, byte_ne, IsNth, HasTerminators, fields, IsFieldStart}
 use Rattle.ptflow.proofs.Common.{put_chunk, take_more_put_chunk, length-put_chunk, length-set, unwrap_or, delim_at}
 use Rattle.ptflow.proofs.Common.{with_cycle, slice_set, count_by_more_yes, cases_lt, length-map}
@@ -239,6 +240,32 @@ module _ (d : ℕ) (line : List ℕ) where
   none_counted [] free = refl
   none_counted (b ∷ bytes) (differs, free) =
       cc (sum_by-cons (λ x. cond (is_byte d x) 1 0) b bytes, byte_ne d b differs, none_counted bytes free)
+
+  -- the first delimiter is the one after 0 others
+  module _ (to : ℕ) (le : to ≤ length line) where
+    pub first_is_nth : (at : ℕ) → IsFirstByte (is_byte d) line (Some at) → at < to
+        → IsNth (is_byte d) 0 0 (take to line) at
+    first_is_nth at first lt = (
+      omega (arith, lt, length-take-le to line le),
+      cc (get_or-take to line at 0 lt, first.1),
+      cc (take-take at to line (omega (arith, lt)), none_counted (take at line) (line_before_terminator d line at first)),
+    )
+
+    pub no_nth_before_first : (at : ℕ) → IsFirstByte (is_byte d) line (Some at) → to ≤ at
+        → count_by (is_byte d) (take to line) ≤ 0
+    no_nth_before_first at first ge = omega (
+      arith,
+      count_up_to (is_byte d) line to at ge,
+      none_counted (take at line) (line_before_terminator d line at first),
+    )
+
+    pub no_nth : IsFirstByte (is_byte d) line None → count_by (is_byte d) (take to line) ≤ 0
+    no_nth none = omega (
+      arith,
+      count_up_to (is_byte d) line to (length line) le,
+      ap (count_by (is_byte d)) (take_all (length line) line (omega arith)),
+      none_counted line (line_if_not_found d line none),
+    )
 
   pub starts_after_nth : {n : ℕ} (at : ℕ) → 0 < n → IsNth (is_byte d) 0 (n - 1) line at → IsFieldStart d n line (at + 1)
   starts_after_nth {n} at some h =

@@ -5,7 +5,7 @@ ghost use Rattle.std.specs.Prelude.{◌≡◌, ◌<◌, ◌≤◌, ◌+◌, ◌-
 ghost use Rattle.std.specs.List.{count_by};
 ghost use Rattle.std.specs.Simd.Lanes.{mask_l, chunk};
 ghost use Rattle.memchr.specs.Find.{IsFirstByte, is_byte};
-ghost use Rattle.ptflow.specs.Private.Vectors.FindNth.{IsNth, IsNthResult};
+ghost use Rattle.ptflow.specs.Private.Vectors.FindNth.{IsFirstByte-prop, IsNth, IsNthResult};
 
 use ptlines::find_byte;
 use std::simd::prelude::*;
@@ -84,9 +84,27 @@ pub(crate) struct ByteMatches<'a> {
     // The match mask of the first `size` bytes.
     mask: u64,
     size: usize,
+    // The index of the first match, which may be after these bytes.
+    first_match: Option<usize>,
     ghost few: { size ≤ 64 },
     ghost within: { size ≤ length bytes.now },
     ghost is: { mask ≡ mask_l (map (is_byte byte) (take size bytes.now)) },
+    ghost found: { IsFirstByte (is_byte byte) bytes.now first_match } by { IsFirstByte-prop (is_byte byte) bytes.now first_match },
+}
+
+// The index of the first match, given the match mask of the first `size` bytes.
+#[inline(always)]
+fn first_match(byte: u8, bytes: &[u8], mask: u64, size: usize) -> Option<usize>
+    requires few { size ≤ 64 }
+    requires within { size ≤ length bytes.now }
+    requires is { mask ≡ mask_l (map (is_byte byte) (take size bytes.now)) }
+    ensures { IsFirstByte (is_byte byte) bytes.now result }
+{
+    if mask != 0 {
+        return Some(mask.trailing_zeros() as usize);
+    }
+    let at = find_byte(byte, &bytes[size..])?;
+    Some(size + at)
 }
 
 impl<'a> ByteMatches<'a> {
@@ -100,11 +118,13 @@ impl<'a> ByteMatches<'a> {
         } else {
             (match_mask(byte, bytes, 0), 64)
         };
+        let first_match = first_match(byte, bytes, mask, size);
         ByteMatches {
             byte,
             bytes,
             mask,
             size,
+            first_match,
         }
     }
 
@@ -113,11 +133,7 @@ impl<'a> ByteMatches<'a> {
     pub(crate) fn first(&self) -> Option<usize>
         ensures { IsFirstByte (is_byte self.now.byte) self.now.bytes.now result }
     {
-        if self.mask != 0 {
-            return Some(self.mask.trailing_zeros() as usize);
-        }
-        let at = find_byte(self.byte, &self.bytes[self.size..])?;
-        Some(self.size + at)
+        self.first_match
     }
 
     /// The index of the match after `before` others among `bytes[from..to]`, counted from `from`.
@@ -126,6 +142,10 @@ impl<'a> ByteMatches<'a> {
         requires { (from ≤ to) × (to ≤ length self.now.bytes.now) }
         ensures { IsNthResult (is_byte self.now.byte) before (take (to - from) (drop from self.now.bytes.now)) result }
     {
+        if from == 0 && before == 0 {
+            let at = self.first_match?;
+            return if at < to { Some(at) } else { None };
+        }
         let len = to - from;
         if from < self.size {
             let mask = self.mask >> from;

@@ -1,9 +1,11 @@
--- The mask of the first bytes, shifted, is that of the bytes from an index on.
+-- The first match is known. Another one is found by the mask of the first bytes: shifted, it is that of the bytes from an
+-- index on.
 use Rattle.ptflow.proofs.Common.{◌≡◌, ◌+◌, ◌-◌, ◌<◌, take, drop, length, ◌∙◌, ap, arith, count_ones, count_by}
 use Rattle.ptflow.proofs.Common.{ones-mask_l, length-take-le, length-drop, count_by-le-length, is_byte, IsNth}
+use Rattle.ptflow.proofs.Vectors.FindNth.{first_is_nth, no_nth_before_first, no_nth}
 use Rattle.ptflow.proofs.Vectors.FindNth.{count_up_to, count_in_prefix, nth_in_prefix, mask_from}
 use Rattle.ptflow.proofs.simd.find_nth.ByteMatches.nth.Goals as goal
-use Rattle.ptflow.proofs.simd.find_nth.ByteMatches.nth.Goals.{After-nth_bit-at}
+use Rattle.ptflow.proofs.simd.find_nth.ByteMatches.nth.Goals.{After-nth_bit-at, then-at-to, else-at-to}
 
 -- the index that the shifted mask gives
 here : (c : After-nth_bit-at)
@@ -23,6 +25,26 @@ here c =
       length-take-le (m.size - c.args.from) (drop c.args.from m.bytes.now)
           (omega (arith, m.within, length-drop c.args.from m.bytes.now)),
     )) is (omega (arith, counted))
+
+pub returns-in_err-at : goal.returns-in_err-at
+returns-in_err-at c =
+    let m = c.args.self.now in
+    let whole : c.args.to - 0 ≡ c.args.to = omega arith in
+    rw (c.if-from-eq0.true, c.if-before-eq0.true, c.from_residual.ensures, whole)
+    (no_nth m.byte m.bytes.now c.args.to c.requires.1 (rw c.in_err-at.was at m.found))
+
+pub returns-then-before-eq0 : goal.returns-then-before-eq0
+returns-then-before-eq0 c =
+    let m = c.args.self.now in
+    let first = rw c.in_ok-at.was at m.found in
+    let whole : c.args.to - 0 ≡ c.args.to = omega arith in
+    rw (c.if-from-eq0.true, c.if-before-eq0.true, whole) (elim c.if-at-to.branch [
+      | then-at-to w ↦ rw w.result-is
+          (first_is_nth m.byte m.bytes.now c.args.to c.requires.1 c.in_ok-at.at first w.if-at-to.true)
+      | else-at-to w ↦ rw w.result-is
+          (no_nth_before_first m.byte m.bytes.now c.args.to c.requires.1 c.in_ok-at.at first
+          (omega (arith, w.if-at-to.false)))
+    ])
 
 pub returns-then-at-len : goal.returns-then-at-len
 returns-then-at-len c =

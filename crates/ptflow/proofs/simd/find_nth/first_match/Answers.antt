@@ -1,0 +1,35 @@
+-- The first match is the lowest bit of the mask, or is after the first bytes.
+use Rattle.ptflow.proofs.Common.{◌≡◌, ℕ, List, ◌+◌, ◌≤◌, map, take, None, Some, arith, first_at_lowest_bit, is_byte}
+use Rattle.ptflow.proofs.Common.{none_if_zero_mask, Nowhere, Passes, take_rest, mask_l, length}
+use lib.Count.{count_trailing_zeros}
+use Rattle.ptflow.proofs.Vectors.FindNth.{first_in_rest}
+use Rattle.ptflow.proofs.simd.find_nth.first_match.Goals as goal
+
+pub returns-then-mask-ne0 : goal.returns-then-mask-ne0
+returns-then-mask-ne0 c =
+    let a = c.args in
+    let at : 0 + count_trailing_zeros 64 a.mask ≡ count_trailing_zeros 64 a.mask = omega arith in
+    let (first, found) = rw at at (first_at_lowest_bit (is_byte a.byte) a.bytes.now 0 a.size a.mask c.requires.few
+    (omega (arith, c.requires.within)) c.requires.is c.if-mask-ne0.true) in
+    (record { low = first.low; high = omega (arith, first.high, c.requires.within); before = first.before }, found)
+
+-- no match is among the first bytes
+front : (byte : ℕ) (bytes : List ℕ) (size : ℕ) {mask : ℕ} → size ≤ length bytes
+    → mask ≡ mask_l (map (is_byte byte) (take size bytes)) → mask ≡ 0 → Nowhere (Passes (is_byte byte) bytes) 0 size
+front byte bytes size {mask} within is none =
+    let start : 0 + size ≡ size = omega arith in
+    rw start at (none_if_zero_mask (is_byte byte) bytes 0 size mask (omega (arith, within)) is none)
+
+pub returns-in_err-at : goal.returns-in_err-at
+returns-in_err-at c =
+    let a = c.args in
+    rw c.from_residual.ensures (first_in_rest (is_byte a.byte) a.bytes.now a.size c.requires.within
+    (front a.byte a.bytes.now a.size c.requires.within c.requires.is c.if-mask-ne0.false) None
+    (rw take_rest at c.in_err-at.ensures))
+
+pub returns : goal.returns
+returns c =
+    let a = c.args in
+    first_in_rest (is_byte a.byte) a.bytes.now a.size c.requires.within
+    (front a.byte a.bytes.now a.size c.requires.within c.requires.is c.if-mask-ne0.false) (Some c.in_ok-at.at)
+    (rw take_rest at c.in_ok-at.ensures)
