@@ -91,7 +91,7 @@ abbrev pub named_file_count : Result Command Fault → ℕ
 named_file_count (Ok command) = length command.names
 named_file_count (Err fault) = 0
 
--- The same, of the result that parsing returned.
+-- The number of input files of the command that parsing returned, and 0 if it returned a fault.
 abbrev pub file_count : {A : Type 0} → Result (code.Command A) UseFault → ℕ
 file_count (Ok command) = length (command_view command).names
 file_count (Err fault) = 0
