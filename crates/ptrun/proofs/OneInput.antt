@@ -199,16 +199,12 @@ pub last_earlier : (t : ToolSpec) (came : List Received) (g : Received) (b : Lag
 last_earlier t came g b P holds done last is = let (before, same) = last_same came done g last is in
     rw (sym before, sym same) (b, holds)
 
--- a pass over one input has a bounded lag; its decided output may be given by either of two equal functions
-pub passed_on : (f g : Received → List ℕ) {came : Received} {was is : Output} {pushed : List ℕ}
-    → ((e : Received) → f e ≡ g e) → BoundedLag {I = Unit {0}} (λ given. f (given tt)) (λ u. came) was is pushed
-    → (cut : LaggedInput came) × IsPushedUpToBlock (g cut.earlier) was is pushed
-passed_on f g {came} {was} {is} {pushed} same up =
-    let cut = up.processing.before tt in (
-      cut,
-      subst (λ l. IsPushedUpToBlock l was is pushed) (same cut.earlier)
-          (record { begins = up.processing.begins; buffering = up.buffering }),
-    )
+-- a call with a bounded lag has pushed what was decided by less of one input
+pub lagged_output : (f : Received → List ℕ) {came : Received} {was is : Output} {pushed : List ℕ}
+    → BoundedLag {I = Unit {0}} (λ given. f (given tt)) (λ u. came) was is pushed
+    → (cut : LaggedInput came) × IsPushedUpToBlock (f cut.earlier) was is pushed
+lagged_output f up =
+    (up.processing.before tt, record { begins = up.processing.begins; buffering = up.buffering })
 
 -- ---- less was received from one input
 

@@ -2,19 +2,18 @@
 use Rattle.std.specs.Prelude.{◌≡◌, ◌≢◌, ◌⊎◌, ℕ, ◌+◌, ◌<◌, ◌≤◌, ◌^◌, Bool, true, false, List, [], All, Option, Some}
 use Rattle.std.specs.Prelude.{None, Result, Ok, Err, length, max, set, if◌then◌else◌}
 use Rattle.std.specs.List.{list_any}
-use Rattle.ptlines.specs.Readers.{Reader, IsDone, IsSound, HasReadCause}
+use Rattle.ptlines.specs.Calls.{CallState, call_state, CallEnd, Complete, OutOfOrder, ReadFault, WriteFault}
+use Rattle.ptlines.specs.Calls.{MemoryFault, CallPost}
+use Rattle.ptlines.specs.Readers.{Reader, IsSound}
 use Rattle.ptlines.specs.Outputs.{Output, PushEffect}
 use Rattle.ptlines.specs.Slots.{Slots, total_bytes}
 use Rattle.ptlines.specs.Sinks.{SinkState, flushes_after}
-use Rattle.ptlines.specs.Received.{Received, IsPrefix, IsConsistent, HasReceived}
-use Rattle.ptlines.specs.Lag.{LaggedInput}
-use Rattle.ptflow.specs.PasteCall.{update_at}
+use Rattle.ptlines.specs.Received.{Received, IsPrefix}
 use Rattle.ptflow.specs.Passes.{PassPre, PassPost}
 use Rattle.ptflow.specs.ToolSpec.{ToolSpec}
 use Rattle.ptflow.specs.declared.faults.FlowFault.{FlowFault}
 use Rattle.ptflow.specs.declared.faults.FlowFault.TheVariants.{Read, Write, Memory}
 use Rattle.ptmerge.specs.declared.faults.MergeFault.{MergeFault}
-use Rattle.ptmerge.specs.declared.faults.MergeFault.TheVariants as faults
 use Rattle.ptmerge.specs.declared.key_order.Side.{Side}
 use Rattle.ptmerge.specs.MergeCall.{IsUnreadWithoutSlots, MergePost, MergeState}
 use Rattle.ptmerge.specs.MergeSpec.{MergeTool}
@@ -25,6 +24,7 @@ use Rattle.ptrun.specs.Files.{IsNewOrUnopened, HasReadFailed, AreInputsConsisten
 use Rattle.ptlines.specs.Readers.{reader_at}
 use Rattle.ptrun.specs.CommandSpec.{CommandSpec, operand_messages, unopened_messages, ended_operands, IsUnfinished}
 use Rattle.ptrun.specs.Lag.{IsPushedUpToBlock, HasBoundedLag}
+use Rattle.ptrun.specs.Engines.{operand_inputs, in_run, end_at, pass_end, merge_end}
 use Rattle.ptrun.specs.Joint.{JointTool, only_operand}
 use Rattle.ptrun.specs.Tools.{ToolInRun, OneByOne, Together}
 use Rattle.ptrun.specs.MessageWrites.{HasSaid}
@@ -102,26 +102,29 @@ pub record FinishPost (old new : Output) (run_result final_result : Result Compl
   pub unfinished : new.write_failed ≡ true → new.flushes ≡ old.flushes
   pub broken : new.write_failed ≡ true → final_result ≡ Err Write
 
--- ---- processing the inputs
+-- ---- a call over the operands
 
--- The failure of a call over one reader, as that of the input at position `p`.
-abbrev pub fault_at : ℕ → FlowFault → FlowFault
-fault_at p (Read position) = Read p
-fault_at p Write = Write
-fault_at p Memory = Memory
+-- The readers at all positions, the output and the store.
+abbrev pub run_state : List Reader → Output → Slots → CallState ℕ
+run_state readers out store = call_state (reader_at readers) out store
+
+-- The result of a run over operands, by how the call ended.
+abbrev pub run_result : CallEnd ℕ → Result Completion FlowFault
+run_result Complete = Ok AllWritten
+run_result (OutOfOrder position line) = Ok (Disorder position line)
+run_result (ReadFault position) = Err (Read position)
+run_result WriteFault = Err Write
+run_result MemoryFault = Err Memory
+
+-- ---- processing the inputs
 
 -- The result of a call over one reader as that of a run, with the position of the reader.
 abbrev pub operand_completion : ℕ → Result (Unit {0}) FlowFault → Result Completion FlowFault
-operand_completion p (Ok u) = Ok AllWritten
-operand_completion p (Err fault) = Err (fault_at p fault)
+operand_completion p result = run_result (end_at (λ u. p) (pass_end result))
 
 -- The result of a merge as that of a run, with the position of each side.
 abbrev pub merge_completion : (Side → ℕ) → Result (Unit {0}) MergeFault → Result Completion FlowFault
-merge_completion position (Ok u) = Ok AllWritten
-merge_completion position (Err (faults.Read side)) = Err (Read (position side))
-merge_completion position (Err faults.Write) = Err Write
-merge_completion position (Err faults.Memory) = Err Memory
-merge_completion position (Err (faults.Disorder side line)) = Ok (Disorder (position side) line)
+merge_completion position result = run_result (end_at position (merge_end result))
 
 -- How processing ended after `n` operands: with the whole output, or with a failure and its cause.
 abbrev pub RunInputsEnd : CommandSpec → ReceivedInputs → List Reader → List Reader → List ℕ → Bool → Bool → ℕ
@@ -184,85 +187,16 @@ pub record JointPre (t : JointTool) (positions : List ℕ) (inputs : List Reader
   pub not_denied : store.denied ≡ false
   pub empty : total_bytes store.lines ≡ 0
 
--- The completion of such a tool: `found` is the position of an input and the number of its line that is out of order.
-abbrev pub completion_of : Option (ℕ × ℕ) → Completion
-completion_of None = AllWritten
-completion_of (Some found) = Disorder found.0 found.1
-
--- The texts at these positions are consistent with what was received from them.
-abbrev pub AreConsistentAt : List ℕ → (ℕ → Received) → (ℕ → List ℕ) → Type 0
-AreConsistentAt positions given texts = (q : ℕ) → is_in positions q ≡ true → IsConsistent (given q) (texts q)
-
--- No read of an input at these positions failed.
-abbrev pub NoReadFailed : List ℕ → List Reader → List Reader → Type 0
-NoReadFailed positions old new = (q : ℕ) → is_in positions q ≡ true
-    → (reader_at new q).failed ≡ (reader_at old q).failed
-
--- All input was read and all output was pushed, up to a line out of order if there is one.
-pub record JointComplete (t : JointTool) (positions : List ℕ) (given : ℕ → Received) (old new : List Reader)
-    (pushed : List ℕ) (failed denied : Bool) (done : Completion) : Type 0 where
-  pub out : (texts : ℕ → List ℕ) → AreConsistentAt positions given texts → pushed ≡ t.text positions texts
-  pub is_done : (texts : ℕ → List ℕ) → AreConsistentAt positions given texts
-      → done ≡ completion_of (t.disorder positions texts)
-  pub ended : done ≡ AllWritten → (q : ℕ) → is_in positions q ≡ true → IsDone (reader_at new q)
-  pub position : HasIndexBelow (length old) (Ok done)
-  pub unfailed : NoReadFailed positions old new
-  pub short : (q : ℕ) → is_in positions q ≡ true → (reader_at new q).pulled < 2 ^ 63
-  pub no_write_failed : failed ≡ false
-  pub not_denied : denied ≡ false
-
--- A read of the input at position `p` failed, or it has 2^63 bytes or more; no other call failed.
-pub record JointReadFailed (positions : List ℕ) (old new : List Reader) (failed denied : Bool) (p : ℕ) : Type 0 where
-  pub named : is_in positions p ≡ true
-  pub not_failed_before : (reader_at old p).failed ≡ false
-  pub cause : HasReadCause (reader_at old p) (reader_at new p)
-  pub others : (q : ℕ) → is_in positions q ≡ true → p ≢ q → (reader_at new q).failed ≡ (reader_at old q).failed
-  pub no_write_failed : failed ≡ false
-  pub not_denied : denied ≡ false
-
--- How such a tool ended, by its result. The failure that it reports is one that happened.
-abbrev pub JointEnd : JointTool → List ℕ → (ℕ → Received) → List Reader → List Reader → List ℕ → Bool → Bool
-    → Result Completion FlowFault → Type 0
-JointEnd t positions given old new pushed failed denied (Ok done) =
-    JointComplete t positions given old new pushed failed denied done
-JointEnd t positions given old new pushed failed denied (Err (Read p)) =
-    JointReadFailed positions old new failed denied p
-JointEnd t positions given old new pushed failed denied (Err Write) = failed ≡ true
-JointEnd t positions given old new pushed failed denied (Err Memory) =
-    (denied ≡ true) × (failed ≡ false) × NoReadFailed positions old new
-
--- Something was left to do: an input at these positions was not read to its end. If the tool keeps groups, all may have
--- ended, but then some output was left to push.
-abbrev pub IsJointUnfinished : JointTool → List ℕ → (ℕ → Received) → List Reader → List ℕ → Type 0
-IsJointUnfinished t positions given new pushed =
-    ((q : ℕ) × (is_in positions q ≡ true) × (IsDone (reader_at new q) → ⊥))
-    ⊎ ((t.keeps_groups ≡ true) × ((texts : ℕ → List ℕ) → AreConsistentAt positions given texts
-    → pushed ≢ t.text positions texts))
-
--- The postcondition of such a tool. `given` is what was received from each input, by position, and `texts` are bytes
--- that are consistent with it. The inputs at other positions are unchanged.
+-- The postcondition of such a tool: what its engine has done over the inputs at these positions. Other inputs have no
+-- part in the decided output.
 pub record JointPost (t : JointTool) (positions : List ℕ) (old new : List Reader) (was is : Output)
     (before store : Slots) (result : Result Completion FlowFault) : Type 0 where
-  pub given : ℕ → Received
-  pub came : (q : ℕ) → is_in positions q ≡ true → HasReceived (reader_at old q) (reader_at new q) (given q)
-  pub untouched : (q : ℕ) → is_in positions q ≡ false → reader_at new q ≡ reader_at old q
-  pub pushed : List ℕ
-  pub wrote : PushEffect was is pushed
-  pub ends : JointEnd t positions given old new pushed is.write_failed store.denied result
-  pub is_prefix : (texts : ℕ → List ℕ) → AreConsistentAt positions given texts
-      → IsPrefix pushed (t.text positions texts)
-  pub decided_is_written : (q : ℕ) → is_in positions q ≡ true → (reader_at new q).failed ≡ true
-      → is.write_failed ≡ false → IsPrefix (t.decided positions given) pushed
-  pub bounded_lag : (q : ℕ) → is_in positions q ≡ true
-      → (cut : LaggedInput (given q)) × IsPushedUpToBlock (t.decided positions (update_at q cut.earlier given))
-      was is pushed
+  pub end : CallEnd ℕ
+  pub result_is : result ≡ run_result end
+  pub call : CallPost (operand_inputs positions) (in_run (t.engine positions)) (run_state old was before)
+      (run_state new is store) end
   pub same : (f g : ℕ → Received) → ((q : ℕ) → is_in positions q ≡ true → f q ≡ g q)
-      → t.decided positions f ≡ t.decided positions g
-  pub peak : (texts : ℕ → List ℕ) → AreConsistentAt positions given texts
-      → store.peak ≤ max before.peak (t.size positions texts)
-  pub slots : (texts : ℕ → List ℕ) → AreConsistentAt positions given texts
-      → length store.lines ≤ max (length before.lines) (t.slots positions texts)
-  pub left : result ≡ Err Memory → IsJointUnfinished t positions given new pushed
+      → (t.engine positions).decided f ≡ (t.engine positions).decided g
 
 -- ---- two merged inputs
 

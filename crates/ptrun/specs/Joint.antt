@@ -3,33 +3,22 @@
 use Rattle.std.specs.Prelude.{ℕ, ◌==◌, ◌&&◌, Bool, false, List, [], Option, Some, None, length, nat_le, unwrap_or}
 use Rattle.std.specs.Prelude.{slice_index_or, option_map, not, if◌then◌else◌}
 use Rattle.std.specs.List.{list_any}
+use Rattle.ptlines.specs.Calls.{EngineSpec}
 use Rattle.ptlines.specs.Received.{Received, empty_input}
 use Rattle.ptlangs.specs.Jobs.{Paste}
 use Rattle.ptflow.specs.ToolSpec.{ToolSpec}
-use Rattle.ptflow.specs.PasteText.{paste, paste_decided, paste_size}
 use Rattle.ptmerge.specs.declared.key_order.Side.{Side}
 use Rattle.ptmerge.specs.declared.key_order.Side.TheVariants.{First, Second}
-use Rattle.ptmerge.specs.MergeSpec.{merge_output, lines_of}
-use Rattle.ptmerge.specs.MergeSpec as keyed
+use Rattle.ptmerge.specs.MergeSpec.{MergeTool}
 use Rattle.ptrun.specs.Files.{InputBytes, ReceivedInputs, at, is_unopened}
 use Rattle.ptrun.specs.CommandSpec.{CommandSpec}
+use Rattle.ptrun.specs.Engines.{at_positions, pass_engine, merge_engine, paste_engine}
 use Rattle.ptrun.specs.Messages.{disorder_message}
 
--- A tool that reads its inputs together. The operands are given as positions, and the inputs as functions of the
--- position.
+-- A tool that reads its inputs together. The operands are given as positions.
 pub record JointTool : Type 0 where
-  -- the output
-  pub text : List ℕ → (ℕ → List ℕ) → List ℕ
-  -- the output that is decided by what was received from each input
-  pub decided : List ℕ → (ℕ → Received) → List ℕ
-  -- the most bytes of lines that are stored at any moment
-  pub size : List ℕ → (ℕ → List ℕ) → ℕ
-  -- the most slots that the store needs for them
-  pub slots : List ℕ → (ℕ → List ℕ) → ℕ
-  -- whether it may request memory once its inputs have ended, as `join` does for a group
-  pub keeps_groups : Bool
-  -- the position of an input that is out of order, and the number of the line, counted from 1
-  pub disorder : List ℕ → (ℕ → List ℕ) → Option (ℕ × ℕ)
+  -- its engine, over the inputs at these positions
+  pub engine : List ℕ → EngineSpec ℕ
   -- whether the tool accepts these operands
   pub accepts : List ℕ → Bool
 
@@ -40,24 +29,14 @@ only_operand positions = slice_index_or positions 0 0
 -- A tool with one input.
 abbrev pub one_input_tool : ToolSpec → JointTool
 one_input_tool t = record {
-  text = λ positions texts. t.text (texts (only_operand positions));
-  decided = λ positions given. t.decided (given (only_operand positions));
-  size = λ positions texts. t.size (texts (only_operand positions));
-  slots = λ positions texts. t.slots;
-  keeps_groups = false;
-  disorder = λ positions texts. None;
+  engine = λ positions. at_positions (pass_engine t) (λ u. only_operand positions);
   accepts = λ positions. length positions == 1;
 }
 
 -- `paste` without `-s`, over at most 512 operands.
 abbrev pub paste_rows_tool : Paste → JointTool
 paste_rows_tool job = record {
-  text = paste job;
-  decided = paste_decided job;
-  size = paste_size job;
-  slots = λ positions texts. length positions;
-  keeps_groups = false;
-  disorder = λ positions texts. None;
+  engine = λ positions. at_positions (paste_engine job positions) (λ position. position);
   accepts = λ positions. nat_le (length positions) 512;
 }
 
@@ -66,20 +45,10 @@ abbrev pub operand : List ℕ → Side → ℕ
 operand positions First = slice_index_or positions 0 0
 operand positions Second = slice_index_or positions 1 0
 
--- A function of positions, as one of the two sides.
-abbrev pub by_side : {X : Type 0} → List ℕ → (ℕ → X) → Side → X
-by_side positions f side = f (operand positions side)
-
 -- A tool with two inputs, which must be different ones.
-abbrev pub two_input_tool : keyed.MergeTool → JointTool
+abbrev pub two_input_tool : MergeTool → JointTool
 two_input_tool t = record {
-  text = λ positions texts. merge_output t (by_side positions texts);
-  decided = λ positions given. keyed.decided_output t (by_side positions given);
-  size = λ positions texts. t.size (lines_of t (by_side positions texts));
-  slots = λ positions texts. t.slots (lines_of t (by_side positions texts));
-  keeps_groups = t.keeps_groups;
-  disorder = λ positions texts. option_map (λ d. (operand positions d.file, d.first_disorder.line))
-      (keyed.disorder t (lines_of t (by_side positions texts)));
+  engine = λ positions. at_positions (merge_engine t) (operand positions);
   accepts = λ positions. (length positions == 2) && not (operand positions First == operand positions Second);
 }
 
@@ -108,15 +77,15 @@ has_unopened positions xs = list_any (is_unopened xs) positions
 -- The specification of the tool named `word` with operands at these positions and files of these names.
 abbrev pub joint_spec : List ℕ → JointTool → List (List ℕ) → List ℕ → CommandSpec
 joint_spec word t names positions = record {
-  out = λ w. if has_unopened positions w then [] else t.text positions (bytes_of w);
-  status = λ w. if has_unopened positions w then 1 else disorder_status (t.disorder positions (bytes_of w));
-  memory_bound = λ w. if has_unopened positions w then 0 else t.size positions (bytes_of w);
-  slot_bound = λ w. if has_unopened positions w then 0 else t.slots positions (bytes_of w);
-  keeps_groups = t.keeps_groups;
-  decided = λ r. if has_unopened positions r then [] else t.decided positions (received_in r);
+  out = λ w. if has_unopened positions w then [] else (t.engine positions).text (bytes_of w);
+  status = λ w. if has_unopened positions w then 1 else disorder_status ((t.engine positions).disorder (bytes_of w));
+  memory_bound = λ w. if has_unopened positions w then 0 else (t.engine positions).size (bytes_of w);
+  slot_bound = λ w. if has_unopened positions w then 0 else (t.engine positions).slots (bytes_of w);
+  keeps_groups = (t.engine positions).keeps_groups;
+  decided = λ r. if has_unopened positions r then [] else (t.engine positions).decided (received_in r);
   sequential = None;
   final_message = λ w. if has_unopened positions w then [] else disorder_text word names
-      (t.disorder positions (bytes_of w));
+      ((t.engine positions).disorder (bytes_of w));
   reads_nothing = λ is_unopened_at. list_any is_unopened_at positions;
   accepts = t.accepts positions;
   positions = positions;
