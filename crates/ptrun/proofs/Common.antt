@@ -45,11 +45,11 @@ pub use Rattle.ptopts.specs.declared.inputs.Input.{Input}
 pub use Rattle.ptopts.specs.declared.inputs.Input.TheVariants.{File, Standard}
 pub use Rattle.ptrun.specs.SpecOfArgs.{spec_of_args, spec_of_parsed, command_spec, is_memory_fault, tool_of_job, word_of_job}
 pub use Rattle.ptrun.specs.SpecOfArgs.{spec_of_result, message_only, tool_name}
-pub use Rattle.ptrun.specs.Driver.{AreConsistentAt, AreSoundAt, IsJointUnfinished, InputsPre, JointPre, MergeCallPost}
+pub use Rattle.ptrun.specs.Driver.{AreSoundAt, InputsPre, JointPre, MergeCallPost, run_state, run_result}
 pub use Rattle.ptrun.specs.Driver.{OperandPre, OperandPost, RunOnPre, RunOnPost, operand_completion}
-pub use Rattle.ptrun.specs.Driver.{ReportUnopenedPost, FinishPost, JointPost, JointReadFailed, RunInputsPre}
-pub use Rattle.ptrun.specs.Driver.{HasIndexBelow, JointEnd, NoReadFailed, RunInputsPost, RunInputsEnd, fault_at}
-pub use Rattle.ptrun.specs.Driver.{completion_of, result_message, result_status, merge_completion}
+pub use Rattle.ptrun.specs.Driver.{ReportUnopenedPost, FinishPost, JointPost, RunInputsPre}
+pub use Rattle.ptrun.specs.Driver.{HasIndexBelow, RunInputsPost, RunInputsEnd, fault_at}
+pub use Rattle.ptrun.specs.Driver.{result_message, result_status, merge_completion}
 pub use Rattle.ptrun.specs.Lag.{LagOfAny, HasBoundedLag, BoundedLagAs, IsWrittenUpToBlock, LagOfLast, IsPushedUpToBlock}
 pub use Rattle.ptrun.specs.CommandSpec.{CommandSpec, messages, operand_messages, unopened_messages, ended_operands}
 pub use Rattle.ptrun.specs.Messages.{name_of, unopened_message, usage_message, usage_status}
@@ -61,7 +61,7 @@ pub use Rattle.ptrun.specs.Runs.{HasCause, RunEnd, IsExactUnlessFailed, IsExact,
 pub use Rattle.ptrun.specs.Runs.{outcome, sinks}
 pub use Rattle.ptrun.specs.MessageWrites.{SayPost, HasSaid, line_of, texts}
 pub use Rattle.ptrun.specs.Joint.{JointTool, disorder_status, disorder_text, received_in, has_unopened, one_input_tool, only_operand}
-pub use Rattle.ptrun.specs.Joint.{by_side, paste_rows_tool, two_input_tool, operand, bytes_of, joint_spec}
+pub use Rattle.ptrun.specs.Joint.{paste_rows_tool, two_input_tool, operand, bytes_of, joint_spec}
 pub use Rattle.ptrun.specs.Files.{IsConsistentAt, AreNewInputs, HasReceivedAt, HasReadFailed, IsNewOrUnopened, IsNew}
 pub use Rattle.ptrun.specs.Files.{HaveReceived, IsTooLong, ReceivedInputs, HasBytesAt, InputBytes, at, input_of_operand}
 pub use Rattle.ptrun.specs.Files.{inputs_of_operands, is_in, is_unopened, AreInputsConsistent, AreReadToEnd}

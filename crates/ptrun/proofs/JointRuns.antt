@@ -2,7 +2,32 @@
 --
 -- If an operand could not be opened, nothing but messages is required. Otherwise what the engine of such a tool has done
 -- at the positions of its operands is what processing the inputs has to do.
-use Rattle.ptrun.proofs.Common.{AreReadToEnd, ended_operands, IsDone, Unopened, Disorder}
+use Rattle.ptrun.proofs.Common.{AreReadToEnd, ended_operands, IsDone, Unopened, Disorder, cases_lt, or_left, or_right}
+use Rattle.ptrun.proofs.Common.{sum, get_or_default, no_reader, cases_eq, cases_Bool, ◌≡◌, ◌⊎◌, ⊎_elim, inl}
+use Rattle.ptrun.proofs.Common.{inr, ℕ, zero, suc, ◌+◌, ◌<◌, ◌≤◌, ◌^◌, ◌||◌, ◌==◌, Bool, true, false, cond, List, []}
+use Rattle.ptrun.proofs.Common.{◌∷◌, ◌++◌, Option, Some, None, Result, Ok, Err, length, take, drop, get_or, set, refl}
+use Rattle.ptrun.proofs.Common.{sym, ◌∙◌, ap, subst, arith, take-append-drop, slice_get, list_any, get_or-set_same}
+use Rattle.ptrun.proofs.Common.{get_or-set_other, All-nil, All-cons, list_any-append, false≢true, eqb-true, eqb_tells}
+use Rattle.ptrun.proofs.Common.{Reader, Output, Slots, SinkState, Received, IsPrefix, HasReceived, LaggedInput}
+use Rattle.ptrun.proofs.Common.{FlowFault, Read, Write, Memory}
+use Rattle.ptrun.proofs.Common.{Completion, AllWritten, InputBytes, ReceivedInputs, at, is_unopened}
+use Rattle.ptrun.proofs.Common.{AreInputsConsistent, is_in, reader_at, is_reader_unopened, HaveReceived}
+use Rattle.ptrun.proofs.Common.{IsNewOrUnopened, HasReadFailed, IsTooLong, unopened_messages, unopened_message}
+use Rattle.ptrun.proofs.Common.{name_of, IsPushedUpToBlock, position, positions, JointTool, one_input_tool, bytes_of}
+use Rattle.ptrun.proofs.Common.{received_in, has_unopened, disorder_text, disorder_status, joint_spec}
+use Rattle.ptrun.proofs.Common.{RunInputsPre, JointPre, HasIndexBelow, result_message}
+use Rattle.ptrun.proofs.Common.{result_status, RunInputsEnd, RunInputsPost}
+use Rattle.ptrun.proofs.Common.{JointPost, map, max, append-nil, All-from_get_or, list_any_at}
+use Rattle.ptrun.proofs.Common.{run_state, run_result, update_at}
+use Rattle.ptlines.specs.Calls.{CallEnd, Complete, OutOfOrder, ReadFault, WriteFault, MemoryFault, CallPost}
+use Rattle.ptlines.specs.Calls.{CallOutcome, AllPushed, AreAllConsistent, NoReadFault, IsCallUnfinished}
+use Rattle.ptrun.specs.Engines.{operand_inputs, in_run}
+use Rattle.ptrun.proofs.OneInput.{at_set, opened_set, lagged_output, none_received, received_of, receives_none, never_long}
+use Rattle.ptrun.proofs.OneInput.{not_long, consistent_bytes, consistent_whole, unopened_agrees, unopened_received}
+use Rattle.ptrun.proofs.MessageWrites.{said_nothing}
+use Rattle.ptrun.proofs.OperandInputs.{some_same, any_same, is_in-same, by_position, neither, each_listed, none_passes}
+use Rattle.ptrun.proofs.OperandInputs.{put_here, put_other, fresh_all, same_here}
+
 -- ---- an operand could not be opened
 
 -- if each was opened, none is reported

@@ -4,7 +4,7 @@ use Rattle.ptrun.proofs.Common.{get_or, set, refl, sym, ◌∙◌, ap, subst, ar
 use Rattle.ptrun.proofs.Common.{get_or-set_same, get_or-set_other, no_reader, Reader, IsDone, Output, Slots, Received}
 use Rattle.ptrun.proofs.Common.{ToolSpec, PassPre, PassPost, PassOutcome, FlowFault, Read, Write, Memory, is_in}
 use Rattle.ptrun.proofs.Common.{reader_at, is_reader_unopened, IsNew, JointTool, one_input_tool, only_operand, JointPre}
-use Rattle.ptrun.proofs.Common.{JointPost, operand_completion, IsConsistent}
+use Rattle.ptrun.proofs.Common.{JointPost, operand_completion, run_result, or-false, inl}
 use Rattle.ptlines.specs.Calls.{CallPost, CallOutcome, CallState, call_state}
 use Rattle.ptrun.specs.Engines.{only_input, pass_engine, pass_end, end_at}
 use Rattle.ptrun.proofs.OneInput.{consistent_whole}
@@ -82,7 +82,7 @@ only_operand_of positions d one = absurd (omega (arith, eqb-true (length positio
 one_placed : (p : ℕ) → Placement only_input (λ u. p) (p ∷ [])
 one_placed p = record {
   listed = λ u read. is_in-same [] p;
-  name_at = λ q named. (tt, refl, eqb-true p q (or-false (p == q) ∙ named));
+  name_at = λ q named. (tt, refl, eqb-true p q (sym (or-false (p == q)) ∙ named));
   same = λ u v. same_here p;
   placed = λ f q. f tt;
   placed_at = λ f u. refl;
@@ -125,8 +125,8 @@ module _ {j : JointTool} {positions : List ℕ} {old : List Reader} {was : Outpu
         subst (λ ps. JointPost (one_input_tool t) ps old (set old p new) was is before store
         (operand_completion p result)) (sym (only_operand_of positions d one)) (record {
           end = end_at (λ u. p) (pass_end result);
-          result_is = refl;
-          call = placed_call (pass_engine t) (λ u. p) (one_placed p) (λ q other. get_or-set_other old p q new no_reader
+          result_is = completes result;
+          call = placed_call (pass_engine t) (λ u. p) (one_placed p) old (set old p new) (λ q other. get_or-set_other old p q new no_reader
               (λ same. false≢true (sym other ∙ ap (is_in (p ∷ [])) same ∙ is_in-same [] p))) ready.writable
               (λ few. (tt, refl, new_here.eof))
               (pass_call t ready.writable ((ready.sound p named).unfailed opened new_here.fault)
@@ -136,3 +136,10 @@ module _ {j : JointTool} {positions : List ℕ} {old : List Reader} {was : Outpu
       where
         here : reader_at (set old p new) p ≡ new
         here = get_or-set_same old p new no_reader (only_operand_within d)
+
+        completes : (r : Result (Unit {0}) FlowFault)
+            → operand_completion p r ≡ run_result (end_at (λ u. p) (pass_end r))
+        completes (Ok u) = refl
+        completes (Err (Read place)) = refl
+        completes (Err Write) = refl
+        completes (Err Memory) = refl

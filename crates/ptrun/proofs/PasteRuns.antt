@@ -6,7 +6,7 @@ use Rattle.ptrun.proofs.Common.{arith, false≢true, Reader, Output, Slots, Rece
 use Rattle.ptrun.proofs.Common.{Write, Memory, Completion, AllWritten, is_in, reader_at, is_reader_unopened, JointPre}
 use Rattle.ptrun.proofs.Common.{JointPost, max, map, append-nil, All-from_get_or, list_any_at, known_lines, IsConsistent}
 use Rattle.ptrun.proofs.Common.{Paste, IsReadable, IsReadToEnd, PasteOutcome, PastePost, paste_rows_tool, or_left}
-use Rattle.ptrun.proofs.Common.{or_right, eqb-true}
+use Rattle.ptrun.proofs.Common.{or_right, run_result}
 use Rattle.std.proofs.lemmas.List.Sums.{sum-map}
 use Rattle.ptlines.specs.Calls.{CallPost, CallOutcome, CallState, call_state, AreAllConsistent}
 use Rattle.ptlines.specs.Text.{lines, max_line_length}
@@ -197,10 +197,10 @@ module _ (job : Paste) {positions : List ℕ} {old : List Reader} {was : Output}
   pub rows_post : {new : List Reader} {is : Output} {store : Slots} {result : Result (Unit {0}) FlowFault}
       → PastePost job positions old new was is before store result
       → JointPost (paste_rows_tool job) positions old new was is before store (rows_completion result)
-  rows_post {store = store} {result} k = record {
+  rows_post {new} {result = result} k = record {
     end = end_at (λ p. p) (paste_end result);
     result_is = completes result;
-    call = placed_call (paste_engine job positions) (λ p. p) in_place (λ q other. k.untouched q (not_in positions q other))
+    call = placed_call (paste_engine job positions) (λ p. p) in_place old new (λ q other. k.untouched q (not_in positions q other))
         ready.writable (λ few. let first = cell_in positions 0 (omega arith) in let q = get_or positions 0 0 in
         (q, first, (fresh_all old ready.fresh q (open_at q first)).eof)) (rows_call job ready.writable k);
     same = decided_same job positions;

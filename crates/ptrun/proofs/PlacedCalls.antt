@@ -6,7 +6,7 @@ use Rattle.ptrun.proofs.Common.{BoundedLag, HasReadCause, is_in, reader_at, run_
 use Rattle.ptlines.specs.Calls.{InputNames, EngineSpec, CallState, call_state, CallEnd, Complete, OutOfOrder, ReadFault}
 use Rattle.ptlines.specs.Calls.{WriteFault, MemoryFault, CallPost, CallOutcome, AllPushed, AreAllConsistent}
 use Rattle.ptlines.specs.Calls.{IsCallUnfinished, with_input}
-use Rattle.ptrun.specs.Engines.{operand_inputs, at_positions, in_run, end_at}
+use Rattle.ptrun.specs.Engines.{operand_inputs, at_positions, in_run, end_at, line_at}
 
 -- The names that are read are those of the positions in a list, one for each.
 pub record Placement {I : Type 0} (names : InputNames I) (position : I → ℕ) (positions : List ℕ) : Type 0 where
@@ -17,18 +17,25 @@ pub record Placement {I : Type 0} (names : InputNames I) (position : I → ℕ) 
   pub placed : (I → Received) → ℕ → Received
   pub placed_at : (f : I → Received) (i : I) → placed f (position i) ≡ f i
 
+module _ {I : Type 0} {names : InputNames I} {position : I → ℕ} {positions : List ℕ}
+    (by : Placement names position positions) where
+  each : (P : ℕ → Type 0) → ((i : I) → names.is_read i ≡ true → P (position i)) → (q : ℕ) → is_in positions q ≡ true
+      → P q
+  each P all q named = let (i, read, at) = by.name_at q named in subst P at (all i read)
+
+none_found : {I : Type 0} (position : I → ℕ) (found : Option (I × ℕ))
+    → option_map (line_at position) found ≡ None → found ≡ None
+none_found position None none = refl
+none_found position (Some f) none = cc
+
 module _ {I : Type 0} {names : InputNames I} (engine : EngineSpec I) (position : I → ℕ) {positions : List ℕ}
-    (by : Placement names position positions) {old new : List Reader} {was is : Output} {before store : Slots}
+    (by : Placement names position positions) (old new : List Reader) {was is : Output} {before store : Slots}
     {end : CallEnd I} (others : (q : ℕ) → is_in positions q ≡ false → reader_at new q ≡ reader_at old q)
     (clean : was.write_failed ≡ false)
     (unread_input : length store.lines < engine.first_slots
     → (i : I) × (names.is_read i ≡ true) × ((reader_at old (position i)).eof ≡ false))
     (call : CallPost names engine (call_state (λ i. reader_at old (position i)) was before)
     (call_state (λ i. reader_at new (position i)) is store) end) where
-  each : (P : ℕ → Type 0) → ((i : I) → names.is_read i ≡ true → P (position i)) → (q : ℕ) → is_in positions q ≡ true
-      → P q
-  each P all q named = let (i, read, at) = by.name_at q named in subst P at (all i read)
-
   abbrev given : ℕ → Received
   given = by.placed call.given
 
@@ -40,23 +47,19 @@ module _ {I : Type 0} {names : InputNames I} (engine : EngineSpec I) (position :
   agree texts a i read =
       subst (λ g. IsConsistent g (texts (position i))) (by.placed_at call.given i) (a (position i) (by.listed i read))
 
-  none_found : (found : Option (I × ℕ)) → option_map (λ f. (position f.0, f.1)) found ≡ None → found ≡ None
-  none_found None none = refl
-  none_found (Some f) none = cc
-
   all_pushed : (found : Option (I × ℕ))
       → AllPushed names engine (call_state (λ i. reader_at old (position i)) was before)
       (call_state (λ i. reader_at new (position i)) is store) call.given call.pushed found
       → AllPushed (operand_inputs positions) (in_run (at_positions engine position)) (run_state old was before)
-      (run_state new is store) given call.pushed (option_map (λ f. (position f.0, f.1)) found)
+      (run_state new is store) given call.pushed (option_map (line_at position) found)
   all_pushed found e = record {
     out = λ texts a. e.out (λ i. texts (position i)) (agree texts a);
-    disorder = λ texts a. ap (option_map (λ f. (position f.0, f.1)))
+    disorder = λ texts a. ap (option_map (line_at position))
         (e.disorder (λ i. texts (position i)) (agree texts a));
-    ended = λ none. each (λ q. IsDone (reader_at new q)) (e.ended (none_found found none));
-    fault = each (λ q. (reader_at new q).fault ≡ None) e.fault;
-    short = each (λ q. (reader_at new q).pulled < 2 ^ 63) e.short;
-    unfailed = each (λ q. (reader_at new q).failed ≡ (reader_at old q).failed) e.unfailed;
+    ended = λ none. each by (λ q. IsDone (reader_at new q)) (e.ended (none_found position found none));
+    fault = each by (λ q. (reader_at new q).fault ≡ None) e.fault;
+    short = each by (λ q. (reader_at new q).pulled < 2 ^ 63) e.short;
+    unfailed = each by (λ q. (reader_at new q).failed ≡ (reader_at old q).failed) e.unfailed;
     clean = e.clean;
     not_denied = e.not_denied;
     empty = e.empty;
@@ -91,27 +94,27 @@ module _ {I : Type 0} {names : InputNames I} (engine : EngineSpec I) (position :
     named = by.listed i e.named;
     unfailed = e.unfailed;
     cause = e.cause;
-    others = each (λ q. (q ≡ position i → ⊥) → (reader_at new q).failed ≡ (reader_at old q).failed)
+    others = each by (λ q. (q ≡ position i → ⊥) → (reader_at new q).failed ≡ (reader_at old q).failed)
         (λ j read differs. e.others j read (λ same. differs (ap position same)));
     clean = e.clean;
     not_denied = e.not_denied;
   }
   ends WriteFault e = record {
     write_failed = e.write_failed;
-    unfailed = each (λ q. (reader_at new q).failed ≡ (reader_at old q).failed) e.unfailed;
+    unfailed = each by (λ q. (reader_at new q).failed ≡ (reader_at old q).failed) e.unfailed;
     not_denied = e.not_denied;
   }
   ends MemoryFault e = record {
     denied = e.denied;
-    unfailed = each (λ q. (reader_at new q).failed ≡ (reader_at old q).failed) e.unfailed;
+    unfailed = each by (λ q. (reader_at new q).failed ≡ (reader_at old q).failed) e.unfailed;
     clean = e.clean;
     left = λ _. ⊎_elim unread (λ enough. unfinished (e.left enough)) (cases_lt (length store.lines) engine.first_slots);
   }
 
   -- less was received from one input, and the others are unchanged
-  decided_is : (i : I) → (λ (came : Unit {0} → Received). engine.decided (with_input names i (came tt) call.given))
-      ≡ (λ came. engine.decided
-      (λ j. with_input (operand_inputs positions) (position i) (came tt) given (position j)))
+  decided_is : (i : I) → ◌≡◌ {A = (Unit {0} → Received) → List ℕ}
+      (λ came. engine.decided (with_input names i (came tt) call.given))
+      (λ came. engine.decided (λ j. with_input (operand_inputs positions) (position i) (came tt) given (position j)))
   decided_is i = λ k came. engine.decided
       (λ j. cond (sym (by.same j i) k) (came tt) (sym (by.placed_at call.given j) k))
 
@@ -119,7 +122,7 @@ module _ {I : Type 0} {names : InputNames I} (engine : EngineSpec I) (position :
       (run_state new is store) (end_at position end)
   placed_call = record {
     given = given;
-    came = each (λ q. HasReceived (reader_at old q) (reader_at new q) (given q)) (λ i read. subst
+    came = each by (λ q. HasReceived (reader_at old q) (reader_at new q) (given q)) (λ i read. subst
         (λ g. HasReceived (reader_at old (position i)) (reader_at new (position i)) g)
         (sym (by.placed_at call.given i)) (call.came i read));
     untouched = others;
@@ -127,11 +130,11 @@ module _ {I : Type 0} {names : InputNames I} (engine : EngineSpec I) (position :
     wrote = call.wrote;
     ends = ends end call.ends;
     is_prefix = λ texts a. call.is_prefix (λ i. texts (position i)) (agree texts a);
-    decided_is_written = each (λ q. (reader_at new q).failed ≡ true → is.write_failed ≡ false
+    decided_is_written = each by (λ q. (reader_at new q).failed ≡ true → is.write_failed ≡ false
         → IsPrefix (engine.decided (λ i. given (position i))) call.pushed) (λ i read failed fine.
         subst (λ g. IsPrefix (engine.decided g) call.pushed) (sym given_is)
         (call.decided_is_written i read failed fine));
-    bounded_lag = each (λ q. was.write_failed ≡ false → BoundedLag {I = Unit {0}}
+    bounded_lag = each by (λ q. was.write_failed ≡ false → BoundedLag {I = Unit {0}}
         (λ came. engine.decided (λ j. with_input (operand_inputs positions) q (came tt) given (position j)))
         (λ u. given q) was is call.pushed) (λ i read fine.
         subst (λ (g : Received). BoundedLag {I = Unit {0}} (λ came. engine.decided

@@ -1,26 +1,127 @@
--- Tools with two inputs. What the merge ensures about its two readers is what the tool has to ensure about the list
--- from which both were lent; no other reader changes.
-use Rattle.ptrun.proofs.Common.{IsDone, subst, JointReadFailed, HasReadCause, positions, length-append, ◌≡◌}
-use Rattle.ptrun.proofs.Common.{◌≢◌, ℕ, ◌<◌, ◌^◌, ◌||◌, ◌&&◌, ◌==◌, true, false, List, [], ◌∷◌, Option, Some}
-use Rattle.ptrun.proofs.Common.{None, Memory, cases_lt, ⊎_elim, inl, inr, IsJointUnfinished, Result, Ok, Err, length}
-use Rattle.ptrun.proofs.Common.{get_or, refl, sym, ◌∙◌, ap, arith, option_map, not, All-nil, All-cons, false≢true}
-use Rattle.ptrun.proofs.Common.{nat_tests, Reader, Output, Slots, Received, IsPrefix, HasReceived, LaggedInput}
-use Rattle.ptrun.proofs.Common.{update_at, First, Second, disorder, lines_of, decided_output, Disorder, is_in}
-use Rattle.ptrun.proofs.Common.{reader_at, is_reader_unopened, IsNew, IsPushedUpToBlock, two_input_tool}
-use Rattle.ptrun.proofs.Common.{operand, by_side, JointPre, MergeCallPost, merge_completion, completion_of}
-use Rattle.ptrun.proofs.Common.{AreConsistentAt, NoReadFailed, JointEnd, JointPost, ◌-◌, ◌++◌, set, length-set}
-use Rattle.ptrun.proofs.Common.{set-append_left, set-append_right, get_or_append_left, get_or-append_right}
-use Rattle.ptrun.proofs.Common.{get_or_default, get_or-set_same, get_or-set_other, no_reader, IsSound}
+-- Tools with two inputs. What the merge has done to its two readers is what the tool has to do with the list from which
+-- both were lent; no other reader changes.
+use Rattle.ptrun.proofs.Common.{subst, length-append, ◌≡◌, ◌≢◌, ℕ, ◌<◌, ◌≤◌, ◌^◌, ◌||◌, ◌&&◌, ◌==◌, Bool, true, false, List}
+use Rattle.ptrun.proofs.Common.{[], ◌∷◌, Option, Some, None, ⊎_elim, inl, inr, Result, Ok, Err, length, get_or, refl}
+use Rattle.ptrun.proofs.Common.{sym, ◌∙◌, ap, arith, option_map, not, All-nil, All-cons, false≢true, nat_tests, eqb_tells}
+use Rattle.ptrun.proofs.Common.{Reader, Output, Slots, Received, HasReadCause, update_at, First, Second, disorder}
+use Rattle.ptrun.proofs.Common.{lines_of, decided_output, is_in, reader_at, is_reader_unopened, IsNew, BoundedLag}
+use Rattle.ptrun.proofs.Common.{two_input_tool, operand, JointPre, JointPost, MergeCallPost, merge_completion, run_result}
+use Rattle.ptrun.proofs.Common.{◌-◌, ◌++◌, set, length-set, set-append_left, set-append_right, get_or_append_left}
+use Rattle.ptrun.proofs.Common.{get_or-append_right, get_or_default, get_or-set_same, get_or-set_other, no_reader}
+use Rattle.ptlines.specs.Calls.{CallPost, CallOutcome, CallState, call_state, AreAllConsistent, IsCallUnfinished}
+use Rattle.ptlines.specs.Calls.{AllPushed, with_input}
 use Rattle.ptmerge.specs.declared.faults.MergeFault.{MergeFault}
 use Rattle.ptmerge.specs.declared.key_order.Side.{Side}
 use Rattle.ptmerge.specs.MergeCall.{MergePre, MergePost, MergeEndPost, AreConsistent, IsExactMerge, IsDisorderAt}
-use Rattle.ptmerge.specs.MergeCall.{IsMergeUnfinished, NeitherReadFailed as NoneBroke, MergeState}
-use Rattle.ptmerge.specs.MergeCall.{merge_state}
-use Rattle.ptmerge.specs.Sides.{both, with_side}
+use Rattle.ptmerge.specs.MergeCall.{IsMergeUnfinished, MergeState, merge_state, IsUnreadWithoutSlots}
+use Rattle.ptmerge.specs.MergeSpec.{MergeTool, MergeDisorder, merge_output}
+use Rattle.ptmerge.specs.Sides.{both, other, with_side}
 use Rattle.ptmerge.specs.declared.faults.MergeFault.TheVariants as faults
-use Rattle.ptmerge.specs.MergeSpec as keyed
-use Rattle.ptrun.proofs.OneInput.{passed_on}
+use Rattle.ptrun.specs.Engines.{both_sides, is_same_side, disordered_line, merge_engine, merge_end, end_at}
 use Rattle.ptrun.proofs.OperandInputs.{same_here, is_in-same, none_passes, each_listed, put_here, put_other, fresh_all}
+use Rattle.ptrun.proofs.PlacedCalls.{Placement, placed_call}
+
+-- ---- a merge
+
+-- a side that is not this one is the other one
+failed_other : (old new : Side → Reader) (side : Side)
+    → ((new (other side)).failed ≡ (old (other side)).failed) → (j : Side) → (j ≡ side → ⊥)
+    → (new j).failed ≡ (old j).failed
+failed_other old new First others First differs = absurd (differs refl)
+failed_other old new First others Second differs = others
+failed_other old new Second others First differs = others
+failed_other old new Second others Second differs = absurd (differs refl)
+
+with_is : {X : Type 0} (side : Side) (x : X) (f : Side → X) (j : Side) → with_side side x f j ≡ with_input both_sides side x f j
+with_is First x f First = refl
+with_is First x f Second = refl
+with_is Second x f First = refl
+with_is Second x f Second = refl
+
+disorder_is : (d : Option MergeDisorder) (side : Side) (line : ℕ) → IsDisorderAt d side line
+    → option_map disordered_line d ≡ Some (side, line)
+disorder_is None side line k = absurd k
+disorder_is (Some d) side line k = λ i. Some (k.0 i, k.1 i)
+
+module _ (t : MergeTool) {old new : MergeState} {result : Result (Unit {0}) MergeFault}
+    (clean : old.out.write_failed ≡ false) (unfailed : (side : Side) → (old.reader side).failed ≡ false)
+    (m : MergePost t old new result) (unread : IsUnreadWithoutSlots t.terminator old new) where
+  abbrev old_state : CallState Side
+  old_state = call_state old.reader old.out old.store
+
+  abbrev new_state : CallState Side
+  new_state = call_state new.reader new.out new.store
+
+  unfinished : IsMergeUnfinished t new m.given m.pushed
+      → IsCallUnfinished both_sides (merge_engine t) new_state m.given m.pushed
+  unfinished (inl (side, left)) = inl (side, refl, left)
+  unfinished (inr (keeps, unwritten)) = inr (keeps, λ texts a. unwritten texts (λ side. a side refl))
+
+  ends : (r : Result (Unit {0}) MergeFault) → MergeEndPost old new r
+      → ((texts : Side → List ℕ) → AreConsistent m.given texts → IsExactMerge t texts m.pushed r)
+      → (r ≡ Err faults.Memory → 4 ≤ length new.store.lines → IsMergeUnfinished t new m.given m.pushed)
+      → CallOutcome both_sides (merge_engine t) old_state new_state m.given m.pushed (merge_end r)
+  ends (Ok u) k exact left = record {
+    out = λ texts a. (exact texts (λ side. a side refl)).0;
+    disorder = λ texts a. ap (option_map disordered_line) (exact texts (λ side. a side refl)).1;
+    ended = λ none side read. k.done side;
+    fault = λ side read. k.fault side;
+    short = λ side read. k.short side;
+    unfailed = λ side read. k.failed side;
+    clean = k.clean;
+    not_denied = k.denied;
+    empty = k.empty;
+  }
+  ends (Err (faults.Read side)) k exact left = record {
+    named = refl;
+    unfailed = unfailed side;
+    cause = k.cause;
+    others = λ j read. failed_other old.reader new.reader side k.others j;
+    clean = k.clean;
+    not_denied = k.denied;
+  }
+  ends (Err faults.Write) k exact left =
+      record { write_failed = k.write_failed; unfailed = λ side read. k.failed side; not_denied = k.denied }
+  ends (Err faults.Memory) k exact left = record {
+    denied = k.denied;
+    unfailed = λ side read. k.failed side;
+    clean = k.clean;
+    left = λ enough. unfinished (left refl enough);
+  }
+  ends (Err (faults.Disorder side line)) k exact left = record {
+    named = refl;
+    pushed_all = record {
+      out = λ texts a. (exact texts (λ side. a side refl)).0;
+      disorder = λ texts a. disorder_is (disorder t (lines_of t texts)) side line
+          (exact texts (λ side. a side refl)).1;
+      ended = λ none. cc;
+      fault = λ side read. k.fault side;
+      short = λ side read. k.short side;
+      unfailed = λ side read. k.failed side;
+      clean = k.clean;
+      not_denied = k.denied;
+      empty = k.empty;
+    };
+  }
+
+  merge_call : CallPost both_sides (merge_engine t) old_state new_state (merge_end result)
+  merge_call = record {
+    given = m.given;
+    came = λ side read. m.came side;
+    untouched = λ side none. absurd (false≢true (sym none));
+    pushed = m.pushed;
+    wrote = m.wrote;
+    ends = ends result m.ends m.is_exact m.unfinished;
+    is_prefix = λ texts a. m.is_prefix texts (λ side. a side refl);
+    decided_is_written = λ side read. m.decided_is_written side;
+    bounded_lag = λ side read fine. subst (λ (f : (Unit {0} → Received) → List ℕ).
+        BoundedLag f (λ u. m.given side) old.out new.out m.pushed)
+        (λ i came. decided_output t (λ j. with_is side (came tt) m.given j i)) (m.bounded_lag side fine);
+    peak = λ texts a. m.peak texts (λ side. a side refl);
+    slots = λ texts a. m.slots texts (λ side. a side refl);
+    unread = λ fine few. let none = unread fine few in
+        record { readers = λ side read. none.readers side; output = none.output };
+  }
 
 -- ---- two operands
 
@@ -28,15 +129,6 @@ use Rattle.ptrun.proofs.OperandInputs.{same_here, is_in-same, none_passes, each_
 pub record TwoPositions (positions : List ℕ) (p q : ℕ) : Type 0 where
   pub are : positions ≡ p ∷ q ∷ []
   pub apart : p ≡ q → ⊥
-
-side_of_operand : (p q : ℕ) (side : Side) → both p q side ≡ operand (p ∷ q ∷ []) side
-side_of_operand p q First = refl
-side_of_operand p q Second = refl
-
-pub both_sound : {first second : Reader} → IsSound first → IsSound second → (side : Side)
-    → IsSound (both first second side)
-both_sound first second First = first
-both_sound first second Second = second
 
 abbrev AcceptsTwo : List ℕ → Type 0
 AcceptsTwo positions =
@@ -50,23 +142,23 @@ two_of (p ∷ q ∷ []) d accepts_operands = record {
 }
 two_of positions d accepts_operands = absurd (grind (arith, nat_tests, accepts_operands))
 
-module _ (t : keyed.MergeTool) {old : List Reader} {was : Output} {before : Slots} {p q : ℕ} (apart : p ≡ q → ⊥)
+module _ (t : MergeTool) {old : List Reader} {was : Output} {before : Slots} {p q : ℕ} (apart : p ≡ q → ⊥)
     (ready : JointPre (two_input_tool t) (p ∷ q ∷ []) old was before) where
   abbrev two : List ℕ
   two = p ∷ q ∷ []
 
-  named : (side : Side) → is_in two (both p q side) ≡ true
+  named : (side : Side) → is_in two (operand two side) ≡ true
   named First = ap (λ b. b || ((q == p) || false)) (same_here p)
   named Second = is_in-same (p ∷ []) q
 
-  open_at : (side : Side) → (reader_at old (both p q side)).refused ≡ false
-  open_at side = none_passes (is_reader_unopened old) two ready.opened (both p q side) (named side)
+  open_at : (side : Side) → (reader_at old (operand two side)).refused ≡ false
+  open_at side = none_passes (is_reader_unopened old) two ready.opened (operand two side) (named side)
 
-  new_at : (side : Side) → IsNew (reader_at old (both p q side))
-  new_at side = fresh_all old ready.fresh (both p q side) (open_at side)
+  new_at : (side : Side) → IsNew (reader_at old (operand two side))
+  new_at side = fresh_all old ready.fresh (operand two side) (open_at side)
 
-  pub within_at : (side : Side) → both p q side < length old
-  within_at side = each_listed (λ k. k < length old) two ready.in_range (both p q side) (named side)
+  pub within_at : (side : Side) → operand two side < length old
+  within_at side = each_listed (λ k. k < length old) two ready.in_range (operand two side) (named side)
 
   -- both can be read
   pub ready_at : MergePre (reader_at old p) (reader_at old q) before
@@ -80,180 +172,67 @@ module _ (t : keyed.MergeTool) {old : List Reader} {was : Output} {before : Slot
         empty = ready.empty;
       }
 
-  -- a fact about both positions
-  each : (P : ℕ → Type 0) → P p → P q → (k : ℕ) → is_in two k ≡ true → P k
-  each P first second = each_listed P two (All-cons P p (q ∷ []) first (All-cons P q [] second (All-nil P)))
+  not_same : (a b : ℕ) → (a ≡ b → ⊥) → (a == b) ≡ false
+  not_same a b differs = ⊎_elim (λ same. absurd (differs same.1)) (λ differ. differ.0) (eqb_tells a b)
 
-  module _ (new : List Reader) (is : Output) (store : Slots) (result : Result (Unit {0}) MergeFault)
-      (others : (k : ℕ) → (p ≡ k → ⊥) → (q ≡ k → ⊥) → reader_at new k ≡ reader_at old k)
-      (call : MergeCallPost t (merge_state (reader_at old p) (reader_at old q) was before) (merge_state
-      (reader_at new p) (reader_at new q) is store) result) where
-    abbrev old_state : MergeState
-    old_state = merge_state (reader_at old p) (reader_at old q) was before
+  abbrev IsSide : ℕ → Type 0
+  IsSide k = (side : Side) × (true ≡ true) × (operand two side ≡ k)
 
-    abbrev new_state : MergeState
-    new_state = merge_state (reader_at new p) (reader_at new q) is store
+  two_placed : Placement both_sides (operand two) two
+  two_placed = record {
+    listed = λ side read. named side;
+    name_at = each_listed IsSide two (All-cons IsSide p (q ∷ []) (First, refl, refl)
+        (All-cons IsSide q [] (Second, refl, refl) (All-nil IsSide)));
+    same = same;
+    placed = λ f. update_at p (f First) (λ k. f Second);
+    placed_at = placed_at;
+  }
+    where
+      same : (i j : Side) → (operand two i == operand two j) ≡ is_same_side i j
+      same First First = same_here p
+      same First Second = not_same p q apart
+      same Second First = not_same q p (λ is. apart (sym is))
+      same Second Second = same_here q
 
-    e : MergePost t old_state new_state result
-    e = call.merged
+      placed_at : (f : Side → Received) (side : Side) → update_at p (f First) (λ k. f Second) (operand two side) ≡ f side
+      placed_at f First = put_here p (f First) (λ k. f Second)
+      placed_at f Second = put_other p q (f First) (λ k. f Second) apart
 
-    not_failed_before : (side : Side) → (reader_at old (both p q side)).failed ≡ false
-    not_failed_before side =
-        (ready.sound (both p q side) (named side)).unfailed (open_at side) (new_at side).fault
+  -- what holds of both readers, by side
+  by_side : (readers : List Reader) (side : Side)
+      → both (reader_at readers p) (reader_at readers q) side ≡ reader_at readers (operand two side)
+  by_side readers First = refl
+  by_side readers Second = refl
 
-    -- ---- the inputs received
+  position_is : (side : Side) → both p q side ≡ operand two side
+  position_is First = refl
+  position_is Second = refl
 
-    abbrev given : ℕ → Received
-    given = update_at p (e.given First) (λ k. e.given Second)
+  not_failed : (side : Side) → (both (reader_at old p) (reader_at old q) side).failed ≡ false
+  not_failed side = rw (by_side old side)
+      ((ready.sound (operand two side) (named side)).unfailed (open_at side) (new_at side).fault)
 
-    given_at : (side : Side) → given (both p q side) ≡ e.given side
-    given_at First = put_here p (e.given First) (λ k. e.given Second)
-    given_at Second = put_other p q (e.given First) (λ k. e.given Second) apart
-
-    given_is : by_side two given ≡ e.given
-    given_is = λ i side. (ap given (sym (side_of_operand p q side)) ∙ given_at side) i
-
-    agree : (texts : ℕ → List ℕ) → AreConsistentAt two given texts → AreConsistent e.given (by_side two texts)
-    agree texts agrees First = rw (given_at First) at (agrees p (named First))
-    agree texts agrees Second = rw (given_at Second) at (agrees q (named Second))
-
-    -- less was received from one input, and the other is unchanged
-    put_is : (side : Side) (g : Received) → with_side side g e.given ≡ by_side two (update_at (both p q side) g given)
-    put_is side g = λ i other. at_side side other i
-      where
-        at_side : (side other : Side)
-            → with_side side g e.given other ≡ update_at (both p q side) g given (operand two other)
-        at_side First First = sym (put_here p g given)
-        at_side First Second = sym (put_other p q g given apart ∙ given_at Second)
-        at_side Second First = sym (put_other q p g given (λ same. apart (sym same)) ∙ given_at First)
-        at_side Second Second = sym (put_here q g given)
-
-    -- ---- how it ended
-
-    none_failed : NoneBroke old_state new_state → NoReadFailed two old new
-    none_failed none = each (λ k. (reader_at new k).failed ≡ (reader_at old k).failed) (none First) (none Second)
-
-    -- a read of one side failed, and none of the other
-    module _ (side : Side) (cause : HasReadCause (reader_at old (both p q side)) (reader_at new (both p q side))) where
-      abbrev Other : ℕ → Type 0
-      Other k = both p q side ≢ k → (reader_at new k).failed ≡ (reader_at old k).failed
-
-      read_broke : Other p → Other q → is.write_failed ≡ false → store.denied ≡ false
-          → JointReadFailed two old new is.write_failed store.denied (both p q side)
-      read_broke first second clean not_denied =
-          record {
-            named = named side;
-            not_failed_before = not_failed_before side;
-            cause = cause;
-            others = each Other first second;
-            no_write_failed = clean;
-            not_denied = not_denied;
-          }
-
-    is_named : (d : Option keyed.MergeDisorder) (side : Side) (line : ℕ) → IsDisorderAt d side line
-        → Disorder (both p q side) line ≡ completion_of
-        (option_map (λ d. (operand two d.file, d.first_disorder.line)) d)
-    is_named None side line k = absurd k
-    is_named (Some d) side line k = λ i. Disorder ((side_of_operand p q side ∙ ap (operand two) (sym k.0)) i)
-        (sym k.1 i)
-
-    ends : (r : Result (Unit {0}) MergeFault) → MergeEndPost old_state new_state r
-        → ((texts : ℕ → List ℕ) → AreConsistentAt two given texts → IsExactMerge t (by_side two texts) e.pushed r)
-        → JointEnd (two_input_tool t) two given old new e.pushed is.write_failed store.denied
-        (merge_completion (both p q) r)
-    ends (Ok u) k is_exact = record {
-      out = λ texts agrees. (is_exact texts agrees).0;
-      is_done =
-          λ texts agrees. ap (λ d. completion_of (option_map (λ d. (operand two d.file, d.first_disorder.line)) d))
-          (sym (is_exact texts agrees).1);
-      ended = λ written. each (λ k. IsDone (reader_at new k)) (k.done First) (k.done Second);
-      position = tt;
-      unfailed = none_failed k.failed;
-      short = each (λ k. (reader_at new k).pulled < 2 ^ 63) (k.short First) (k.short Second);
-      no_write_failed = k.clean;
-      not_denied = k.denied;
-    }
-    ends (Err (faults.Read First)) k is_exact =
-        read_broke First k.cause (λ differs. absurd (differs refl)) (λ differs. k.others) k.clean k.denied
-    ends (Err (faults.Read Second)) k is_exact =
-        read_broke Second k.cause (λ differs. k.others) (λ differs. absurd (differs refl)) k.clean k.denied
-    ends (Err faults.Write) k is_exact = k.write_failed
-    ends (Err faults.Memory) k is_exact = (k.denied, k.clean, none_failed k.failed)
-    ends (Err (faults.Disorder side line)) k is_exact = record {
-      out = λ texts agrees. (is_exact texts agrees).0;
-      is_done = λ texts agrees. is_named (disorder t (lines_of t (by_side two texts))) side line
-          (is_exact texts agrees).1;
-      ended = λ written. cc;
-      position = within_at side;
-      unfailed = none_failed k.failed;
-      short = each (λ k. (reader_at new k).pulled < 2 ^ 63) ((call.sound First).long (k.fault First))
-          ((call.sound Second).long (k.fault Second));
-      no_write_failed = k.clean;
-      not_denied = k.denied;
-    }
-
-    pub two_inputs_post : JointPost (two_input_tool t) (p ∷ q ∷ []) old new was is before store
-        (merge_completion (both p q) result)
-    two_inputs_post = record {
-      given = given;
-      came = each (λ k. HasReceived (reader_at old k) (reader_at new k) (given k)) (rw (given_at First) (e.came First))
-          (rw (given_at Second) (e.came Second));
-      untouched = λ k other. others k (λ same. false≢true (sym other ∙ ap (is_in two) (sym same) ∙ named First))
-          (λ same. false≢true (sym other ∙ ap (is_in two) (sym same) ∙ named Second));
-      pushed = e.pushed;
-      wrote = e.wrote;
-      ends = ends result e.ends (λ texts agrees. e.is_exact (by_side two texts) (agree texts agrees));
-      is_prefix = λ texts agrees. e.is_prefix (by_side two texts) (agree texts agrees);
-      decided_is_written =
-          each (λ k. (reader_at new k).failed ≡ true → is.write_failed ≡ false
-          → IsPrefix (decided_output t (by_side two given)) e.pushed)
-          (λ failed clean. subst (λ g. IsPrefix (decided_output t g) e.pushed) (sym given_is)
-          (e.decided_is_written First failed clean))
-          (λ failed clean. subst (λ g. IsPrefix (decided_output t g) e.pushed) (sym given_is)
-          (e.decided_is_written Second failed clean));
-      bounded_lag =
-          each
-          (λ k. (cut : LaggedInput (given k))
-          × IsPushedUpToBlock (decided_output t (by_side two (update_at k cut.earlier given))) was is e.pushed)
-          (keeps First) (keeps Second);
-      same =
-          λ f g same. ap (decided_output t) (λ i side. rw (side_of_operand p q side) at
-          (same (both p q side) (named side)) i);
-      peak = λ texts agrees. e.peak (by_side two texts) (agree texts agrees);
-      slots = λ texts agrees. e.slots (by_side two texts) (agree texts agrees);
-      left = λ memory. ⊎_elim (λ few. inl (p, named First, first_left few))
-          (λ enough. unfinished (e.unfinished (memory_of result memory) enough)) (cases_lt (length store.lines) 4);
-    }
-      where
-        memory_of : (r : Result (Unit {0}) MergeFault) → merge_completion (both p q) r ≡ Err Memory
-            → r ≡ Err faults.Memory
-        memory_of (Ok u) same = cc
-        memory_of (Err (faults.Read side)) same = cc
-        memory_of (Err faults.Write) same = cc
-        memory_of (Err faults.Memory) same = refl
-        memory_of (Err (faults.Disorder side line)) same = cc
-
-        -- without all slots nothing was read
-        first_left : length store.lines < 4 → IsDone (reader_at new p) → ⊥
-        first_left few done =
-            false≢true (sym (new_at First).eof
-            ∙ ap (λ r. r.eof) (sym ((call.unread_without_slots ready.writable few).readers First)) ∙ done.eof)
-
-        unfinished : IsMergeUnfinished t new_state e.given e.pushed
-            → IsJointUnfinished (two_input_tool t) two given new e.pushed
-        unfinished (inl (First, left)) = inl (p, named First, left)
-        unfinished (inl (Second, left)) = inl (q, named Second, left)
-        unfinished (inr (keeps, unwritten)) =
-            inr (keeps, λ texts agrees. unwritten (by_side two texts) (agree texts agrees))
-
-        keeps : (side : Side)
-            → (cut : LaggedInput (given (both p q side)))
-            × IsPushedUpToBlock (decided_output t (by_side two (update_at (both p q side) cut.earlier given)))
-            was is e.pushed
-        keeps side =
-            rw (given_at side) (passed_on (λ g. decided_output t (with_side side g e.given))
-            (λ g. decided_output t (by_side two (update_at (both p q side) g given)))
-            (λ g. ap (decided_output t) (put_is side g)) (e.bounded_lag side ready.writable))
+  pub two_inputs_post : {new : List Reader} {is : Output} {store : Slots} {result : Result (Unit {0}) MergeFault}
+      → ((k : ℕ) → (p ≡ k → ⊥) → (q ≡ k → ⊥) → reader_at new k ≡ reader_at old k)
+      → MergeCallPost t (merge_state (reader_at old p) (reader_at old q) was before)
+      (merge_state (reader_at new p) (reader_at new q) is store) result
+      → JointPost (two_input_tool t) two old new was is before store (merge_completion (both p q) result)
+  two_inputs_post {new} {is} {store} {result} others call = record {
+    end = end_at (operand two) (merge_end result);
+    result_is = λ i. run_result (end_at (λ side. position_is side i) (merge_end result));
+    call = placed_call (merge_engine t) (operand two) two_placed old new (λ k other. others k
+        (λ same. false≢true (sym other ∙ ap (is_in two) (sym same) ∙ named First))
+        (λ same. false≢true (sym other ∙ ap (is_in two) (sym same) ∙ named Second))) ready.writable
+        (λ few. (First, refl, (new_at First).eof))
+        (subst (λ (rs : Side → Reader). CallPost both_sides (merge_engine t) (call_state rs was before)
+        (call_state (λ side. reader_at new (operand two side)) is store) (merge_end result))
+        (λ i side. by_side old side i)
+        (subst (λ (rs : Side → Reader). CallPost both_sides (merge_engine t)
+        (call_state (both (reader_at old p) (reader_at old q)) was before) (call_state rs is store) (merge_end result))
+        (λ i side. by_side new side i)
+        (merge_call t ready.writable not_failed call.merged call.unread_without_slots)));
+    same = λ f g same. ap (decided_output t) (λ i side. same (operand two side) (named side) i);
+  }
 
 -- ---- two readers of a list that was split between them
 

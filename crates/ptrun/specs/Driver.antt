@@ -24,7 +24,7 @@ use Rattle.ptrun.specs.Files.{IsNewOrUnopened, HasReadFailed, AreInputsConsisten
 use Rattle.ptlines.specs.Readers.{reader_at}
 use Rattle.ptrun.specs.CommandSpec.{CommandSpec, operand_messages, unopened_messages, ended_operands, IsUnfinished}
 use Rattle.ptrun.specs.Lag.{IsPushedUpToBlock, HasBoundedLag}
-use Rattle.ptrun.specs.Engines.{operand_inputs, in_run, end_at, pass_end, merge_end}
+use Rattle.ptrun.specs.Engines.{operand_inputs, in_run, end_at, merge_end}
 use Rattle.ptrun.specs.Joint.{JointTool, only_operand}
 use Rattle.ptrun.specs.Tools.{ToolInRun, OneByOne, Together}
 use Rattle.ptrun.specs.MessageWrites.{HasSaid}
@@ -118,9 +118,16 @@ run_result MemoryFault = Err Memory
 
 -- ---- processing the inputs
 
+-- The failure of a call over one reader, as that of the input at position `p`.
+abbrev pub fault_at : ℕ → FlowFault → FlowFault
+fault_at p (Read position) = Read p
+fault_at p Write = Write
+fault_at p Memory = Memory
+
 -- The result of a call over one reader as that of a run, with the position of the reader.
 abbrev pub operand_completion : ℕ → Result (Unit {0}) FlowFault → Result Completion FlowFault
-operand_completion p result = run_result (end_at (λ u. p) (pass_end result))
+operand_completion p (Ok u) = Ok AllWritten
+operand_completion p (Err fault) = Err (fault_at p fault)
 
 -- The result of a merge as that of a run, with the position of each side.
 abbrev pub merge_completion : (Side → ℕ) → Result (Unit {0}) MergeFault → Result Completion FlowFault
@@ -200,11 +207,10 @@ pub record JointPost (t : JointTool) (positions : List ℕ) (old new : List Read
 
 -- ---- two merged inputs
 
--- The postcondition of a merge: besides, if slots were missing nothing was read, and the invariants of both readers hold.
+-- The postcondition of a merge: besides, if slots were missing nothing was read.
 pub record MergeCallPost (t : MergeTool) (old new : MergeState) (result : Result (Unit {0}) MergeFault) : Type 0 where
   pub merged : MergePost t old new result
   pub unread_without_slots : IsUnreadWithoutSlots t.terminator old new
-  pub sound : (side : Side) → IsSound (new.reader side)
 
 -- ---- the run of a tool
 

@@ -12,7 +12,7 @@ use Rattle.ptmerge.specs.declared.faults.MergeFault.{MergeFault}
 use Rattle.ptmerge.specs.declared.faults.MergeFault.TheVariants as faults
 use Rattle.ptmerge.specs.declared.key_order.Side.{Side}
 use Rattle.ptmerge.specs.declared.key_order.Side.TheVariants.{First, Second}
-use Rattle.ptmerge.specs.MergeSpec.{MergeTool, merge_output, decided_output, disorder, lines_of}
+use Rattle.ptmerge.specs.MergeSpec.{MergeTool, MergeDisorder, merge_output, decided_output, disorder, lines_of}
 use Rattle.ptrun.specs.Files.{is_in}
 
 -- ---- one input
@@ -54,12 +54,16 @@ is_same_side Second Second = true
 abbrev pub both_sides : InputNames Side
 both_sides = record { is_read = λ side. true; is_same = is_same_side }
 
+-- The input that is out of order, and the number of its line.
+abbrev pub disordered_line : MergeDisorder → Side × ℕ
+disordered_line d = (d.file, d.first_disorder.line)
+
 -- The engine of a tool that merges two inputs.
 abbrev pub merge_engine : MergeTool → EngineSpec Side
 merge_engine t = record {
   text = merge_output t;
   decided = decided_output t;
-  disorder = λ texts. option_map (λ d. (d.file, d.first_disorder.line)) (disorder t (lines_of t texts));
+  disorder = λ texts. option_map disordered_line (disorder t (lines_of t texts));
   size = λ texts. t.size (lines_of t texts);
   slots = λ texts. t.slots (lines_of t texts);
   first_slots = 4;
@@ -101,12 +105,16 @@ paste_end (Err (Read position)) = ReadFault position
 paste_end (Err Write) = WriteFault
 paste_end (Err Memory) = MemoryFault
 
+-- A line that is out of order, with the position of its input in place of the name.
+abbrev pub line_at : {I : Type 0} → (I → ℕ) → I × ℕ → ℕ × ℕ
+line_at position found = (position found.0, found.1)
+
 -- An engine over the inputs at the positions of names, in place of the names.
 abbrev pub at_positions : {I : Type 0} → EngineSpec I → (I → ℕ) → EngineSpec ℕ
 at_positions engine position = record {
   text = λ texts. engine.text (λ i. texts (position i));
   decided = λ given. engine.decided (λ i. given (position i));
-  disorder = λ texts. option_map (λ found. (position found.0, found.1)) (engine.disorder (λ i. texts (position i)));
+  disorder = λ texts. option_map (line_at position) (engine.disorder (λ i. texts (position i)));
   size = λ texts. engine.size (λ i. texts (position i));
   slots = λ texts. engine.slots (λ i. texts (position i));
   first_slots = engine.first_slots;

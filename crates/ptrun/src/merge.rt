@@ -34,13 +34,10 @@ impl<B: Allocator + Copy> MergeJob<B> {
         ensures { MergeCallPost (merge_tool self.now) (merge_state first.old second.old out.old store.old)
             (merge_state first.new second.new out.new store.new) result }
     {
-        let result = match self {
+        match self {
             MergeJob::Comm(job) => comm(job, first, second, store, out),
             MergeJob::Join(job) => join(job, first, second, store, out),
-        };
-        // Regardless of the answers, the invariants of the readers hold: they bound the bytes read before a disorder.
-        let _ = (first.is_refused(), second.is_refused());
-        result
+        }
     }
 
     // Merges the inputs at two different positions.

@@ -14,5 +14,5 @@ returns g c =
     let two = two_of c.args.operands.now 0 c.requires.accepts_operands in
     let m = c.merge_at-merge_result in
     rw (c.completion_at.ensures, two.are)
-    (two_inputs_post (merge_tool c.args.self.now) two.apart (rw two.are at c.requires)
-    m.new.inputs m.new.out m.new.store m.result m.ensures.others m.ensures.merged)
+    (two_inputs_post (merge_tool c.args.self.now) two.apart (rw two.are at c.requires) m.ensures.others
+    m.ensures.merged)

@@ -3,7 +3,7 @@
 use Rattle.ptrun.proofs.Common.{paste_job}
 use Rattle.std.proofs.lemmas.Result.{err_from_is_err_and}
 use Rattle.ptrun.proofs.tools.PasteJobTool.run_on.Goals as goal
-use Rattle.ptrun.proofs.JointRuns.{cells_ready, rows_post}
+use Rattle.ptrun.proofs.PasteRuns.{cells_ready, rows_post}
 use Rattle.ptrun.proofs.ToolRuns.{operand_passed}
 
 pub returns-then-self : goal.returns-then-self

@@ -1,5 +1,5 @@
 -- `uniq` accepts one operand only, so its pass over the reader of this operand is the pass over all operands.
-use Rattle.ptrun.proofs.JointRuns.{only_operand_ready, only_operand_post}
+use Rattle.ptrun.proofs.OneOperand.{only_operand_ready, only_operand_post}
 use Rattle.ptrun.proofs.tools.UniqJobTool.run_on.Goals as goal
 
 pub uniq-requires : goal.uniq-requires
