@@ -47,7 +47,7 @@ pub use Rattle.ptrun.specs.SpecOfArgs.{spec_of_args, spec_of_parsed, command_spe
 pub use Rattle.ptrun.specs.SpecOfArgs.{spec_of_result, message_only, tool_name}
 pub use Rattle.ptrun.specs.Driver.{AreSoundAt, InputsPre, JointPre, MergeCallPost, run_state, run_result}
 pub use Rattle.ptrun.specs.Driver.{OperandPre, OperandPost, RunOnPre, RunOnPost, operand_completion}
-pub use Rattle.ptrun.specs.Driver.{ReportUnopenedPost, FinishPost, JointPost, RunInputsPre}
+pub use Rattle.ptrun.specs.Driver.{ReportUnopenedPost, FinishPost, EndRunPost, JointPost, RunInputsPre}
 pub use Rattle.ptrun.specs.Driver.{HasIndexBelow, RunInputsPost, RunInputsEnd, fault_at}
 pub use Rattle.ptrun.specs.Driver.{result_message, result_status, merge_completion}
 pub use Rattle.ptrun.specs.Lag.{LagOfAny, HasBoundedLag, BoundedLagAs, IsWrittenUpToBlock, LagOfLast, IsPushedUpToBlock}

@@ -77,16 +77,16 @@ ends_with word names (Some found) = (refl, refl)
 
 module _ (word : List ℕ) {t : JointTool} (names : List (List ℕ)) {positions : List ℕ} {old new : List Reader}
     {was is : Output} (messages_old : SinkState) {before store : Slots} {result : Result Completion FlowFault}
-    (start : RunInputsPre (joint_spec word t names positions) old was before)
+    (start : JointPre t positions old was before)
     (post : JointPost t positions old new was is before store result) where
   k : CallPost (operand_inputs positions) (in_run (t.engine positions)) (run_state old was before) (run_state new is store) post.end
   k = post.call
 
   open_at : (q : ℕ) → is_in positions q ≡ true → is_reader_unopened old q ≡ false
-  open_at = none_passes (is_reader_unopened old) positions start.complete
+  open_at = none_passes (is_reader_unopened old) positions start.opened
 
   fresh : (q : ℕ) → IsNewOrUnopened (reader_at old q)
-  fresh = fresh_all old start.given.fresh
+  fresh = fresh_all old start.fresh
 
   -- ---- the inputs received
 
@@ -119,7 +119,7 @@ module _ (word : List ℕ) {t : JointTool} (names : List (List ℕ)) {positions 
   complete : (w : InputBytes) → AreInputsConsistent received w → has_unopened positions w ≡ false
   complete w agrees =
       sym (any_same (is_reader_unopened old) (is_unopened w) positions (unopened_agrees old new received w came agrees))
-      ∙ start.complete
+      ∙ start.opened
 
   agree : (w : InputBytes) → AreInputsConsistent received w → AreAllConsistent (operand_inputs positions) k.given (bytes_of w)
   agree w agrees q named = let input =
@@ -133,7 +133,7 @@ module _ (word : List ℕ) {t : JointTool} (names : List (List ℕ)) {positions 
   decided_is r f opened same = ap (λ b. cond b [] ((t.engine positions).decided (received_in r)))
       (any_same (is_unopened r) (is_unopened received) positions opened
       ∙ sym (any_same (is_reader_unopened old) (is_unopened received) positions
-      (λ q. unopened_received (reader_at old q) (reader_at new q) (at received q) (came q))) ∙ start.complete)
+      (λ q. unopened_received (reader_at old q) (reader_at new q) (at received q) (came q))) ∙ start.opened)
       ∙ post.same (received_in r) f same
 
   -- less was received from one input, and the others are unchanged
@@ -211,7 +211,7 @@ module _ (word : List ℕ) {t : JointTool} (names : List (List ℕ)) {positions 
       k.given k.pushed end → Ending (run_result end)
   ending Complete e = all_pushed None e tt
   ending (OutOfOrder p line) e = all_pushed (Some (p, line)) e.pushed_all
-      (each_listed (λ q. q < length old) positions start.given.in_range p e.named)
+      (each_listed (λ q. q < length old) positions start.in_range p e.named)
   ending (ReadFault p) e =
       let f = first_at positions p e.named in
       let cause : HasReadFailed old new p ⊎ IsTooLong (at received p) =
@@ -224,7 +224,7 @@ module _ (word : List ℕ) {t : JointTool} (names : List (List ℕ)) {positions 
         operands_done = f.0;
         within = f.1;
         ends = (f.2, f.3, cause, e.clean, e.not_denied);
-        position = each_listed (λ q. q < length old) positions start.given.in_range p e.named;
+        position = each_listed (λ q. q < length old) positions start.in_range p e.named;
         names_failed_read = λ q failed clean. ⊎_elim (λ same. ap (λ n. Err (Read n)) (sym same))
             (λ other. absurd (false≢true (sym failed.1 ∙ sym (e.others q (failed_is_in q failed) other) ∙ failed.2)))
             (cases_eq q p);
@@ -297,4 +297,3 @@ module _ (word : List ℕ) {t : JointTool} (names : List (List ℕ)) {positions 
     peak = λ w agrees. rw (complete w agrees) (k.peak (bytes_of w) (agree w agrees));
     slots = λ w agrees. rw (complete w agrees) (k.slots (bytes_of w) (agree w agrees));
   }
-

@@ -79,8 +79,12 @@ module _ {I : Type 0} {names : InputNames I} (engine : EngineSpec I) (position :
       call.pushed
   unread few =
       let (i, read, new_input) = unread_input few in
-      inl (position i, by.listed i read, λ done. false≢true (sym new_input
-      ∙ ap (λ r. r.eof) (sym ((call.unread clean few).readers i read)) ∙ done.eof))
+      inl (
+        position i,
+        by.listed i read,
+        λ done. false≢true (sym new_input
+            ∙ ap (λ r. r.eof) (sym ((call.unread clean few).readers i read)) ∙ done.eof),
+      )
 
   ends : (e : CallEnd I)
       → CallOutcome names engine (call_state (λ i. reader_at old (position i)) was before)

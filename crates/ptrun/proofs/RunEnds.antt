@@ -15,7 +15,7 @@ use Rattle.ptrun.proofs.Common.{ReceivedInputs, at, IsConsistentAt, AreInputsCon
 use Rattle.ptrun.proofs.Common.{is_unopened, HasReceivedAt, IsNewOrUnopened, HasReadFailed, IsTooLong, HasBytesAt}
 use Rattle.ptrun.proofs.Common.{HasSaid, CommandSpec, operand_messages, messages, unopened_messages, Sinks, sinks}
 use Rattle.ptrun.proofs.Common.{Outcome, HasCause, RunEnd, IsRun, IsRunInStore, IsExact, IsExactUnlessFailed}
-use Rattle.ptrun.proofs.Common.{ReportUnopenedPost, RunInputsEnd, RunInputsPost, FinishPost, result_message}
+use Rattle.ptrun.proofs.Common.{EndRunPost, RunInputsEnd, RunInputsPost, FinishPost, result_message}
 use Rattle.ptrun.proofs.Common.{result_status, HasIndexBelow, IsPushedUpToBlock, IsWrittenUpToBlock, message_only, ◌+◌}
 use Rattle.ptrun.proofs.Common.{◌<◌, ◌==◌, is_none, not, nat_le, length-map, All-map, nat_tests, eqb_tells, Input}
 use Rattle.ptrun.proofs.Common.{Standard, File, Fault, Command, Job, RunCut, RunPaste, RunUniq, RunComm, RunJoin, RunTr}
@@ -141,7 +141,7 @@ none_failed : (old : List Reader) (q : ℕ) → HasReadFailed old old q → ⊥
 none_failed old q failed = false≢true (sym failed.1 ∙ failed.2)
 
 -- There is nothing to read, the output is unchanged, and `text` is the only message.
-unread : (m : CommandSpec) {old : List Reader} {out messages_old messages_new : SinkState} {text : List ℕ} (status : ℕ)
+pub unread : (m : CommandSpec) {old : List Reader} {out messages_old messages_new : SinkState} {text : List ℕ} (status : ℕ)
     → m.sequential ≡ None → m.reads_nothing (is_reader_unopened old) ≡ true
     → ((r : ReceivedInputs) → ((q : ℕ) → is_reader_unopened old q ≡ is_unopened r q) → m.decided r ≡ [])
     → All IsNewOrUnopened old → out.failed ≡ false → HasSaid messages_old messages_new text
@@ -201,26 +201,6 @@ message_only_run {text} {is} {old = old} {status = status} fresh fine has_said s
     no_operand true q named = absurd (false≢true named)
     no_operand false q named = absurd (false≢true named)
 
--- A file that the tool cannot run without could not be opened, and every such file was reported.
-pub any_unopened : {m : CommandSpec} {old : List Reader} {out messages_old messages_new : SinkState}
-    {has_unopened : Bool}
-    → All IsNewOrUnopened old → out.failed ≡ false → ReportUnopenedPost m old messages_old messages_new has_unopened
-    → has_unopened ≡ true
-    → IsRun m old old (sinks out messages_old)
-    (record { out = out; messages = messages_new; status = 1; peak = 0; denied = false })
-any_unopened {m} {old} fresh fine k has_unopened =
-    unread m 1 (k.at_once has_unopened) (sym k.is ∙ has_unopened) (k.undecided has_unopened) fresh fine
-    (rw has_unopened at k.has_said)
-    (λ w agrees.
-    let same = unopened_agrees old old (map received_of old) w (nothing_read old (fresh_all old fresh)) agrees in
-    let nothing = k.nothing has_unopened w same in (
-      nothing.0,
-      rw (nothing.1, take-length m.positions, append-nil (unopened_messages m.tool m.names (is_unopened w) m.positions))
-          (unopened_same m.tool m.names (is_reader_unopened old) (is_unopened w) m.positions same),
-      sym nothing.2,
-    ))
-    (rw (k.at_once has_unopened) (λ q named. absurd (false≢true named)))
-
 -- ---- the end of a run
 
 abbrev fault_of : Result Completion FlowFault → Option FlowFault
@@ -233,33 +213,36 @@ ended_after_all : (m : CommandSpec) (readers : List Reader) (n : ℕ) (r : Resul
 ended_after_all m readers n r ended = ⊎_elim (λ together. rw together (λ q named. absurd (false≢true named)))
     (λ in_turn. rw in_turn (rw in_turn at ended)) (cases_Bool (is_none m.sequential))
 
--- an input that a result names has an index below the number of readers
-pub index_below : {m : CommandSpec} {old new : List Reader} {was is is' : Output}
-    {messages_old messages_new : SinkState} {before store : Slots}
-    {run_result final_result : Result Completion FlowFault}
-    → RunInputsPost m old new was is messages_old messages_new before store run_result
-    → FinishPost is is' run_result final_result → HasIndexBelow (length old) final_result
-index_below {is' = is'} k f = ⊎_elim (λ write_failed. rw (f.broken write_failed) tt)
-    (λ clean. rw (f.same_result clean) k.position) (cases_Bool is'.write_failed)
+-- the end of the inputs, unless a write failed after that
+end_of : (m : CommandSpec) (r : ReceivedInputs) (old new : List Reader) (pushed : List ℕ) (denied : Bool) (n : ℕ)
+    (run_result final_result : Result Completion FlowFault) (failed : Bool) → (failed ≡ true → final_result ≡ Err Write)
+    → (failed ≡ false → final_result ≡ run_result)
+    → (failed ≡ false → RunInputsEnd m r old new pushed false denied n run_result)
+    → RunInputsEnd m r old new pushed failed denied n final_result
+end_of m r old new pushed denied n run_result final_result true broken same k = rw (broken refl) refl
+end_of m r old new pushed denied n run_result final_result false broken same k = rw (same refl) (k refl)
 
-module _ {m : CommandSpec} {old new : List Reader} {was is is' : Output}
+module _ {m : CommandSpec} {old new : List Reader} {was is : Output}
     {messages_first messages_old messages_new : SinkState} {before store : Slots}
-    {run_result final_result : Result Completion FlowFault} (out : SinkState) (o : Outcome)
+    {run_result : Result Completion FlowFault} (out : SinkState) (o : Outcome)
     (nothing_said : HasSaid messages_first messages_old [])
     (k : RunInputsPost m old new was is messages_old messages_new before store run_result)
-    (f : FinishPost is is' run_result final_result)
-    (says : HasSaid messages_new o.messages (result_message m.tool m.names final_result))
-    (status_is : o.status ≡ result_status final_result)
-    (made : was ≡ record {
+    (last : EndRunPost m.tool m.names is messages_new run_result store o) (made : was ≡ record {
       accepted = out.accepted;
       buffered = [];
       write_failed = false;
       unflushed = out.unflushed;
       flushes = out.flushes;
-    }) (last_accepted : o.out.accepted ≡ is'.accepted)
-    (last_failed : o.out.failed ≡ is'.write_failed) (last_unflushed : o.out.unflushed ≡ is'.unflushed)
-    (last_flushes : o.out.flushes ≡ is'.flushes)
-    (low : before.peak ≡ 0) (peak_is : o.peak ≡ store.peak) (denied_is : o.denied ≡ store.denied) where
+    }) (low : before.peak ≡ 0) where
+  abbrev is' : Output
+  is' = last.last
+
+  abbrev final_result : Result Completion FlowFault
+  final_result = last.final_result
+
+  f : FinishPost is is' run_result final_result
+  f = last.finished
+
   -- the last output, except for the count of flushes
   abbrev sent : Output
   sent = record is' { flushes = is.flushes }
@@ -279,8 +262,8 @@ module _ {m : CommandSpec} {old new : List Reader} {was is is' : Output}
   flushes_before = k.wrote.flushes ∙ ap (λ o. o.flushes) made
 
   flushed_once : o.out.flushes ≡ (if o.out.failed then out.flushes else flushes_after out.flushes)
-  flushed_once = ⊎_elim (λ failed. rw failed (last_flushes ∙ f.unfinished (sym last_failed ∙ failed) ∙ flushes_before))
-      (λ fine. rw fine (last_flushes ∙ f.flushes (sym last_failed ∙ fine) ∙ ap flushes_after flushes_before))
+  flushed_once = ⊎_elim (λ failed. rw failed (last.flushes ∙ f.unfinished (sym last.failed ∙ failed) ∙ flushes_before))
+      (λ fine. rw fine (last.flushes ∙ f.flushes (sym last.failed ∙ fine) ∙ ap flushes_after flushes_before))
       (cases_Bool o.out.failed)
 
   begins : (w : InputBytes) → AreInputsConsistent k.received w → IsPrefix reached.front (m.out w)
@@ -294,31 +277,31 @@ module _ {m : CommandSpec} {old new : List Reader} {was is is' : Output}
       sym (reached.split ∙ ap (λ l. reached.front ++ l) (reached.whole clean (f.emptied clean))
       ∙ append-nil reached.front)
 
-  abbrev last : List ℕ
-  last = result_message m.tool m.names final_result
+  abbrev last_message : List ℕ
+  last_message = result_message m.tool m.names final_result
 
   ends_as : (r : Result Completion FlowFault) → final_result ≡ r
       → RunInputsEnd m k.received old new k.pushed is'.write_failed store.denied k.operands_done r
-      → RunEnd m k.received old new reached.front (k.message ++ last) o k.operands_done (fault_of r)
+      → RunEnd m k.received old new reached.front (k.message ++ last_message) o k.operands_done (fault_of r)
   ends_as (Ok done) same (complete, says) = (
     record {
       all = complete.all;
       out = λ w agrees. all_front complete.no_write_failed ∙ complete.out w agrees;
-      no_write_failed = last_failed ∙ complete.no_write_failed;
-      not_denied = denied_is ∙ complete.not_denied;
+      no_write_failed = last.failed ∙ complete.no_write_failed;
+      not_denied = last.denied ∙ complete.not_denied;
       read = complete.read;
     },
     λ w agrees. let (message, status) = says w agrees in (
       (λ i. (k.names w agrees ∙ ap (λ n. operand_messages m w n) complete.all) i
           ++ (ap (result_message m.tool m.names) same ∙ message) i),
-      status_is ∙ ap result_status same ∙ status,
+      last.status_is ∙ ap result_status same ∙ status,
     ),
   )
   ends_as (Err fault) same e = record {
     within = k.within;
     messages = λ w agrees i. k.names w agrees i ++ result_message m.tool m.names (same i);
-    cause = rw (last_failed, denied_is) e;
-    status_is = status_is ∙ ap result_status same;
+    cause = rw (last.failed, last.denied) e;
+    status_is = last.status_is ∙ ap result_status same;
   }
 
   not_memory : final_result ≡ Err Write → fault_of final_result ≡ Some Memory → ⊥
@@ -333,20 +316,20 @@ module _ {m : CommandSpec} {old new : List Reader} {was is is' : Output}
     received = k.received;
     came = k.came;
     written = reached.front;
-    output = last_accepted ∙ reached.accepted
+    output = last.accepted ∙ reached.accepted
         ∙ ap (λ t. append_known t reached.front) (ap (λ o. o.accepted) made);
-    flushed = λ _ fine. last_unflushed ∙ f.flushed (sym last_failed ∙ fine);
+    flushed = λ _ fine. last.unflushed ∙ f.flushed (sym last.failed ∙ fine);
     flushes = λ _. flushed_once;
-    message = k.message ++ last;
-    has_said = said_trans nothing_said (said_trans k.has_said says);
+    message = k.message ++ last_message;
+    has_said = said_trans nothing_said (said_trans k.has_said last.has_said);
     operands_done = k.operands_done;
     fault = fault_of final_result;
-    ends = ends_as final_result refl (⊎_elim (λ write_failed. rw (f.broken write_failed) write_failed)
-        (λ (clean : is'.write_failed ≡ false). rw (clean, f.same_result clean) (rw (f.was_clean clean) at k.ends))
-        (cases_Bool is'.write_failed));
+    ends = ends_as final_result refl (end_of m k.received old new k.pushed store.denied k.operands_done
+        run_result final_result is'.write_failed f.broken f.same_result
+        (λ clean. rw (f.was_clean clean) at k.ends));
     untouched = k.untouched;
     ended =
-        rw status_is
+        rw last.status_is
         (⊎_elim (λ write_failed. rw (f.broken write_failed)
         (ended_after_all m new k.operands_done run_result k.ended))
         (λ clean. rw (f.same_result clean) k.ended) (cases_Bool is'.write_failed));
@@ -354,14 +337,14 @@ module _ {m : CommandSpec} {old new : List Reader} {was is is' : Output}
         (λ clean. rw (all_front clean) (k.left (sym (f.same_result clean) ∙ err_of final_result memory)))
         (cases_Bool is'.write_failed);
     is_prefix = begins;
-    names_failed_read = λ position failed fine. let clean = sym last_failed ∙ fine in
+    names_failed_read = λ position failed fine. let clean = sym last.failed ∙ fine in
         ap fault_of (f.same_result clean ∙ k.names_failed_read position failed (f.was_clean clean));
-    decided_is_written = λ position failed fine. let clean = sym last_failed ∙ fine in
+    decided_is_written = λ position failed fine. let clean = sym last.failed ∙ fine in
         let b = k.decided_is_written position failed (f.was_clean clean) in
         record { rest = b.rest; is = all_front clean ∙ b.is };
     bounded_lag = earlier_map m k.received k.operands_done (λ decided. IsPushedUpToBlock decided was is k.pushed)
         (λ decided. IsWrittenUpToBlock decided reached.front o.out.failed) kept k.bounded_lag;
-    bounded = λ w agrees. omega (arith, k.peak w agrees, low, peak_is);
+    bounded = λ w agrees. omega (arith, k.peak w agrees, low, last.peak);
   }
     where
       kept : (bytes : List ℕ) → IsPushedUpToBlock bytes was is k.pushed
@@ -369,7 +352,7 @@ module _ {m : CommandSpec} {old new : List Reader} {was is is' : Output}
       kept bytes up =
           kept_up bytes was is is' k.pushed reached.front reached.rest up (ap (λ o. o.buffered) made)
           reached.split reached.accepted f.wrote.kept reached.unknown o.out.failed
-          (λ fine. let clean = sym last_failed ∙ fine in reached.whole clean (f.emptied clean))
+          (λ fine. let clean = sym last.failed ∙ fine in reached.whole clean (f.emptied clean))
 
   pub run_in_store : IsRunInStore m old new (sinks out messages_first) o before store
   unfolding run_of

@@ -9,8 +9,10 @@ use Rattle.ptrun.proofs.Common.{get_or, set, get_or_default, no_reader, PassPost
 use Rattle.ptrun.proofs.Common.{operand_completion}
 use Rattle.ptrun.proofs.Common.{◌∙◌, ⊎_elim, cases_Bool, is_unopened}
 use Rattle.ptrun.proofs.JointRuns.{none_unopened, joint_post}
-use Rattle.ptrun.proofs.OperandInputs.{any_same}
-use Rattle.ptrun.proofs.MessageWrites.{said_nothing}
+use Rattle.ptrun.proofs.OneInput.{received_of, nothing_read, unopened_agrees}
+use Rattle.ptrun.proofs.OperandInputs.{any_same, fresh_all, unopened_same}
+use Rattle.ptrun.proofs.RunEnds.{unread}
+use Rattle.ptrun.proofs.Common.{All, map, take-length, append-nil, IsNewOrUnopened, total_bytes, IsRun, sinks, joint_spec}
 
 -- the tool, if it reads one operand after another
 abbrev pub one_tool : ToolInRun → ToolSpec
@@ -27,68 +29,79 @@ module _ (word : List ℕ) (names : List (List ℕ)) (positions : List ℕ) wher
   few_of (OneByOne t law) together k = absurd (false≢true together)
   few_of (Together t) together k = k.few refl
 
-  -- ---- messages
+  -- ---- a file could not be opened
 
-  pub nothing_reported : (s : ToolInRun) (inputs : List Reader) (messages : SinkState) → reads_together s ≡ false
-      → ReportUnopenedPost (spec_of_tool word s names positions) inputs messages messages false
-  nothing_reported (OneByOne t law) inputs messages in_turn = record {
-    is = refl;
-    has_said = said_nothing messages;
-    nothing = λ some. absurd (false≢true some);
-    at_once = λ some. absurd (false≢true some);
-    sound = λ none. cc;
-    undecided = λ some. absurd (false≢true some);
-  }
-  nothing_reported (Together t) inputs messages in_turn = absurd (false≢true (sym in_turn))
-
-  pub all_reported : (s : ToolInRun) (inputs : List Reader) {messages_old messages_new : SinkState}
-      {any_unopened : Bool}
-      → reads_together s ≡ true → any_unopened ≡ list_any (is_reader_unopened inputs) positions
-      → HasSaid messages_old messages_new (unopened_messages word names (is_reader_unopened inputs) positions)
-      → AreSoundAt positions inputs
-      → ReportUnopenedPost (spec_of_tool word s names positions) inputs messages_old messages_new any_unopened
-  all_reported (OneByOne t law) inputs together is has_said sound = absurd (false≢true together)
-  all_reported (Together t) inputs {any_unopened = any_unopened} together is has_said sound = record {
-    is = is;
-    has_said =
-        ⊎_elim (λ some. rw some has_said)
-        (λ none. rw none (rw (none_unopened word names (is_reader_unopened inputs) positions (sym is ∙ none))
-        at has_said)) (cases_Bool any_unopened);
-    nothing = λ some w same. rw (has_unopened_as (is_unopened w) same some) (refl, refl, refl);
-    at_once = λ _. refl;
-    sound = λ _. sound;
-    undecided = λ some r same. rw (has_unopened_as (is_unopened r) same some) refl;
-  }
+  pub unopened_run : (s : ToolInRun) {inputs : List Reader} {out messages_old messages_new : SinkState}
+      {any_unopened : Bool} → reads_together s ≡ true → All IsNewOrUnopened inputs → out.failed ≡ false
+      → ReportUnopenedPost word names positions inputs messages_old messages_new any_unopened → any_unopened ≡ true
+      → IsRun (spec_of_tool word s names positions) inputs inputs (sinks out messages_old)
+      (record { out = out; messages = messages_new; status = 1; peak = 0; denied = false })
+  unopened_run (OneByOne t law) together fresh fine k some = absurd (false≢true together)
+  unopened_run (Together t) {inputs} together fresh fine k some =
+      unread (joint_spec word t names positions) 1 refl any
+      (λ r same. rw (any_of (is_unopened r) same) refl) fresh fine k.has_said
+      (λ w agrees.
+      let same = unopened_agrees inputs inputs (map received_of inputs) w (nothing_read inputs (fresh_all inputs fresh))
+      agrees in
+      rw (any_of (is_unopened w) same) (
+        refl,
+        rw (take-length positions, append-nil (unopened_messages word names (is_unopened w) positions))
+            (unopened_same word names (is_reader_unopened inputs) (is_unopened w) positions same),
+        refl,
+      ))
+      (λ q named. absurd (false≢true named))
     where
-      has_unopened_as : (test : ℕ → Bool) → ((q : ℕ) → is_reader_unopened inputs q ≡ test q) → any_unopened ≡ true
-          → list_any test positions ≡ true
-      has_unopened_as test same some = sym (any_same (is_reader_unopened inputs) test positions same) ∙ sym is ∙ some
+      any : list_any (is_reader_unopened inputs) positions ≡ true
+      any = sym k.is ∙ some
+
+      any_of : (test : ℕ → Bool) → ((q : ℕ) → is_reader_unopened inputs q ≡ test q) → list_any test positions ≡ true
+      any_of test same = sym (any_same (is_reader_unopened inputs) test positions same) ∙ any
+
+  -- no file is reported if each was opened
+  pub together_says : {inputs : List Reader} {messages_old messages_new : SinkState} {any_unopened : Bool}
+      → ReportUnopenedPost word names positions inputs messages_old messages_new any_unopened → any_unopened ≡ false
+      → HasSaid messages_old messages_new []
+  together_says {inputs} k none =
+      rw (none_unopened word names (is_reader_unopened inputs) positions (sym k.is ∙ none)) at k.has_said
+
+  -- a tool reads something unless it reads its operands together and one was not opened
+  pub reads_if : (s : ToolInRun) (test : ℕ → Bool) → (reads_together s ≡ true → list_any test positions ≡ false)
+      → (spec_of_tool word s names positions).reads_nothing test ≡ true → ⊥
+  reads_if (OneByOne t law) test opened none = false≢true none
+  reads_if (Together t) test opened none = false≢true (sym (opened refl) ∙ none)
 
   -- ---- processing the inputs
 
-  module _ {was : Output} {before : Slots} where
-    pub together_pre : (s : ToolInRun) {inputs : List Reader} → reads_together s ≡ true
-        → RunInputsPre (spec_of_tool word s names positions) inputs was before
-        → RunOnPre s positions inputs was before
-    together_pre (OneByOne t law) together k = absurd (false≢true together)
-    together_pre (Together t) together k = record {
-      accepts_operands = k.given.accepts_operands;
-      fresh = k.given.fresh;
-      in_range = k.given.in_range;
-      opened = k.complete;
-      sound = k.sound refl;
-      writable = k.writable;
-      not_denied = k.not_denied;
-      empty = k.empty;
-    }
+  pub together_pre : (s : ToolInRun) (was : Output) (before : Slots) {inputs : List Reader} {messages_old messages_new : SinkState}
+      {any_unopened : Bool} → reads_together s ≡ true → InputsPre (spec_of_tool word s names positions) inputs
+      → ReportUnopenedPost word names positions inputs messages_old messages_new any_unopened
+      → any_unopened ≡ false → was.write_failed ≡ false → before.denied ≡ false → total_bytes before.lines ≡ 0
+      → RunOnPre s positions inputs was before
+  together_pre (OneByOne t law) was before together given k none writable not_denied empty = absurd (false≢true together)
+  together_pre (Together t) was before together given k none writable not_denied empty = record {
+    accepts_operands = given.accepts_operands;
+    fresh = given.fresh;
+    in_range = given.in_range;
+    opened = sym k.is ∙ none;
+    sound = k.sound;
+    writable = writable;
+    not_denied = not_denied;
+    empty = empty;
+  }
 
+  module _ {was : Output} {before : Slots} where
     module _ {old new : List Reader} {is : Output} {store : Slots} {result : Result Completion FlowFault} where
-      pub together_post : (s : ToolInRun) (messages : SinkState) → reads_together s ≡ true
-          → RunInputsPre (spec_of_tool word s names positions) old was before
+      pub together_post : (s : ToolInRun) (messages : SinkState) {messages_old messages_new : SinkState}
+          {any_unopened : Bool} → reads_together s ≡ true → InputsPre (spec_of_tool word s names positions) old
+          → ReportUnopenedPost word names positions old messages_old messages_new any_unopened
+          → any_unopened ≡ false → was.write_failed ≡ false → before.denied ≡ false → total_bytes before.lines ≡ 0
           → RunOnPost s positions old new was is before store result
           → RunInputsPost (spec_of_tool word s names positions) old new was is messages messages before store result
-      together_post (OneByOne t law) messages together k post = absurd (false≢true together)
-      together_post (Together t) messages together k post = joint_post word names messages k post
+      together_post (OneByOne t law) messages together given k none writable not_denied empty post =
+          absurd (false≢true together)
+      together_post (Together t) messages together given k none writable not_denied empty post =
+          joint_post word names messages
+          (together_pre (Together t) was before together given k none writable not_denied empty) post
 
       pub sequential_post : (s : ToolInRun) {messages_old messages_new : SinkState} → reads_together s ≡ false
           → RunInputsPost (sequential_spec word (one_tool s) names positions) old new was is messages_old messages_new

@@ -45,27 +45,17 @@ pub record InputsPre (m : CommandSpec) (inputs : List Reader) : Type 0 where
 abbrev pub AreSoundAt : List ℕ → List Reader → Type 0
 AreSoundAt positions inputs = (q : ℕ) → is_in positions q ≡ true → IsSound (reader_at inputs q)
 
--- The postcondition of reporting unopened files before anything is read. `any_unopened` holds if the tool cannot run
--- without one of them: then all of them were reported, and there is nothing else to read, write or say.
-pub record ReportUnopenedPost (m : CommandSpec) (inputs : List Reader) (messages_old messages_new : SinkState)
-    (any_unopened : Bool) : Type 0 where
-  pub is : any_unopened ≡ m.reads_nothing (is_reader_unopened inputs)
+-- The postcondition of reporting the operands that could not be opened: each was reported, in order.
+pub record ReportUnopenedPost (tool : List ℕ) (names : List (List ℕ)) (positions : List ℕ) (inputs : List Reader)
+    (messages_old messages_new : SinkState) (any_unopened : Bool) : Type 0 where
+  pub is : any_unopened ≡ list_any (is_reader_unopened inputs) positions
   pub has_said : HasSaid messages_old messages_new
-      (if any_unopened then unopened_messages m.tool m.names (is_reader_unopened inputs) m.positions else [])
-  pub nothing : any_unopened ≡ true → (w : InputBytes)
-      → ((position : ℕ) → is_reader_unopened inputs position ≡ is_unopened w position)
-      → (m.out w ≡ []) × (m.final_message w ≡ []) × (m.status w ≡ 1)
-  pub at_once : any_unopened ≡ true → m.sequential ≡ None
-  pub sound : m.sequential ≡ None → AreSoundAt m.positions inputs
-  pub undecided : any_unopened ≡ true → (r : ReceivedInputs)
-      → ((position : ℕ) → is_reader_unopened inputs position ≡ is_unopened r position) → m.decided r ≡ []
+      (unopened_messages tool names (is_reader_unopened inputs) positions)
+  pub sound : AreSoundAt positions inputs
 
--- The precondition of processing the inputs: all files that the tool cannot run without were opened, no write has
--- failed, and the store is empty and was not denied memory.
+-- The precondition of processing the inputs: no write has failed, and the store is empty and was not denied memory.
 pub record RunInputsPre (m : CommandSpec) (inputs : List Reader) (out : Output) (store : Slots) : Type 0 where
   pub given : InputsPre m inputs
-  pub complete : m.reads_nothing (is_reader_unopened inputs) ≡ false
-  pub sound : m.sequential ≡ None → AreSoundAt m.positions inputs
   pub writable : out.write_failed ≡ false
   pub not_denied : store.denied ≡ false
   pub empty : total_bytes store.lines ≡ 0
@@ -101,6 +91,21 @@ pub record FinishPost (old new : Output) (run_result final_result : Result Compl
   pub flushes : new.write_failed ≡ false → new.flushes ≡ flushes_after old.flushes
   pub unfinished : new.write_failed ≡ true → new.flushes ≡ old.flushes
   pub broken : new.write_failed ≡ true → final_result ≡ Err Write
+
+-- The postcondition of the end of a run: the output was finished, and the last message said.
+pub record EndRunPost (tool : List ℕ) (names : List (List ℕ)) (was : Output) (messages_old : SinkState)
+    (run_result : Result Completion FlowFault) (store : Slots) (o : Outcome) : Type 0 where
+  pub final_result : Result Completion FlowFault
+  pub last : Output
+  pub finished : FinishPost was last run_result final_result
+  pub has_said : HasSaid messages_old o.messages (result_message tool names final_result)
+  pub status_is : o.status ≡ result_status final_result
+  pub accepted : o.out.accepted ≡ last.accepted
+  pub failed : o.out.failed ≡ last.write_failed
+  pub unflushed : o.out.unflushed ≡ last.unflushed
+  pub flushes : o.out.flushes ≡ last.flushes
+  pub peak : o.peak ≡ store.peak
+  pub denied : o.denied ≡ store.denied
 
 -- ---- a call over the operands
 

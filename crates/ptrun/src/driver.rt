@@ -1,13 +1,13 @@
 //! Runs a tool over its operands: reports unopened files, processes the inputs, finishes the output and says the last
 //! message. Used by `running`.
 
-ghost use Rattle.std.specs.Prelude.{◌≡◌, ◌+◌, length};
+ghost use Rattle.std.specs.Prelude.{◌≡◌, ◌<◌, ◌+◌, false, length, All};
 ghost use Rattle.ptopts.specs.View.{words_view};
-ghost use Rattle.ptrun.specs.Driver.{InputsPre, ReportUnopenedPost, RunInputsPre, RunInputsPost, RunWithStorePost, FinishPost, HasIndexBelow, result_message, result_status};
+ghost use Rattle.ptrun.specs.Driver.{InputsPre, ReportUnopenedPost, RunInputsPre, RunInputsPost, RunWithStorePost, FinishPost, EndRunPost, HasIndexBelow, result_message, result_status};
 ghost use Rattle.ptrun.specs.Operands.{positions};
 ghost use Rattle.ptrun.specs.Runs.{RunPre, sinks, outcome};
 ghost use Rattle.ptrun.specs.MessageWrites.{HasSaid};
-ghost use Rattle.ptrun.specs.Tools.{spec_of_tool};
+ghost use Rattle.ptrun.specs.Tools.{spec_of_tool, reads_together};
 
 use crate::messages::Messages;
 use crate::operands::{name_at, position_of, positions_of, say_unopened};
@@ -46,48 +46,45 @@ where
     let mut messages = messages;
     let order: &[Input] = &operands.order;
     let names: &[&str] = &operands.names;
-    if report_unopened(tool, order, names, inputs, &mut messages) {
-        return report_unread(1, out, messages);
+    if tool.reads_together() {
+        if report_unopened(tool.name(), order, names, inputs, &mut messages) {
+            return report_unread(1, out, messages);
+        }
+        let mut out = Out::new(out);
+        let run_result = tool.run_on(&positions_of(order), inputs, store, &mut out);
+        return end_run(tool.name(), names, run_result, store, out, messages);
     }
     let mut out = Out::new(out);
-    let run_result = run_inputs(tool, order, names, inputs, store, &mut out, &mut messages);
-    let final_result = finish(&mut out, run_result);
-    let status = say_final_message(tool.name(), names, final_result, &mut messages);
-    report_of(store, status, out, messages)
+    let run_result = run_one_by_one(tool, order, names, inputs, store, &mut out, &mut messages);
+    end_run(tool.name(), names, run_result, store, out, messages)
 }
 
-// If the tool reads its operands together, reports each one that could not be opened, and returns whether there is one;
-// then nothing else is read or written.
-fn report_unopened<A: Allocator + Copy, T: Tool<A>, S: Source, R: Source, E: Sink>(
-    tool: &T,
+// Reports each operand that could not be opened, and returns whether there is one.
+fn report_unopened<S: Source, R: Source, E: Sink>(
+    tool: &str,
     order: &[Input],
     names: &[&str],
     inputs: &[LineReader<S, R>],
     messages: &mut Messages<E>,
 ) -> bool
-    requires { InputsPre (spec_of_tool (T.word tool.now) (T.tool tool.now) (words_view names.now) (positions order.now))
-        inputs.now }
-    ensures { ReportUnopenedPost
-        (spec_of_tool (T.word tool.now) (T.tool tool.now) (words_view names.now) (positions order.now))
-        inputs.now messages.old messages.new result }
+    requires in_range { All (λ p. p < length inputs.now) (positions order.now) }
+    requires named { length inputs.now ≡ length (words_view names.now) + 1 }
+    ensures { ReportUnopenedPost tool.now (words_view names.now) (positions order.now) inputs.now
+        messages.old messages.new result }
 {
-    if !tool.reads_together() {
-        return false;
-    }
     let mut any = false;
     for input in order {
         let position = position_of(*input);
         if inputs[position].is_refused() {
-            say_unopened(tool.name(), name_at(names, position), messages);
+            say_unopened(tool, name_at(names, position), messages);
             any = true;
         }
     }
     any
 }
 
-// Reads the inputs and writes the output to `out`: over all operands together, or over one after another. In the latter
-// case, reports each one that could not be opened when its turn comes.
-fn run_inputs<A: Allocator + Copy, T: Tool<A>, S: Source, R: Source, W: Sink, E: Sink>(
+// Runs the tool over one operand after another, and reports each one that could not be opened when its turn comes.
+fn run_one_by_one<A: Allocator + Copy, T: Tool<A>, S: Source, R: Source, W: Sink, E: Sink>(
     tool: &T,
     order: &[Input],
     names: &[&str],
@@ -96,16 +93,14 @@ fn run_inputs<A: Allocator + Copy, T: Tool<A>, S: Source, R: Source, W: Sink, E:
     out: &mut Out<W>,
     messages: &mut Messages<E>,
 ) -> Result<Completion, FlowFault>
-    requires { RunInputsPre
+    requires in_turn { reads_together (T.tool tool.now) ≡ false }
+    requires ready { RunInputsPre
         (spec_of_tool (T.word tool.now) (T.tool tool.now) (words_view names.now) (positions order.now))
         inputs.old out.old store.old }
     ensures { RunInputsPost
         (spec_of_tool (T.word tool.now) (T.tool tool.now) (words_view names.now) (positions order.now))
         inputs.old inputs.new out.old out.new messages.old messages.new store.old store.new result }
 {
-    if tool.reads_together() {
-        return tool.run_on(&positions_of(order), inputs, store, out);
-    }
     let mut done = Completion::AllWritten;
     for input in order {
         let position = position_of(*input);
@@ -113,10 +108,7 @@ fn run_inputs<A: Allocator + Copy, T: Tool<A>, S: Source, R: Source, W: Sink, E:
             say_unopened(tool.name(), name_at(names, position), messages);
             done = Completion::Unopened;
         } else {
-            match tool.run_on(&[position], inputs, store, out) {
-                Ok(_) => {}
-                Err(fault) => return Err(fault),
-            }
+            tool.run_on(&[position], inputs, store, out)?;
         }
     }
     Ok(done)
@@ -133,6 +125,25 @@ fn finish<W: Sink>(
         Ok(()) => run_result,
         Err(_) => Err(FlowFault::Write),
     }
+}
+
+// Finishes the output, says the last message, and returns the report.
+fn end_run<A: Allocator + Copy, W: Sink, E: Sink>(
+    tool: &str,
+    names: &[&str],
+    run_result: Result<Completion, FlowFault>,
+    store: &Store<A>,
+    out: Out<W>,
+    messages: Messages<E>,
+) -> Report<W, E>
+    requires { HasIndexBelow (length names.now + 1) run_result }
+    ensures { EndRunPost tool.now (words_view names.now) out messages run_result store.now
+        (outcome W.state E.state result) }
+{
+    let (mut out, mut messages) = (out, messages);
+    let final_result = finish(&mut out, run_result);
+    let status = say_final_message(tool, names, final_result, &mut messages);
+    report_of(store, status, out, messages)
 }
 
 // Says the last message of a run, if there is one, and returns the exit status.

@@ -6,13 +6,7 @@ use Rattle.ptrun.proofs.driver.report_unopened.Goals as goal
 use Rattle.ptrun.proofs.OperandInputs.{names_counted, operand_low, operand_step, position_in_range, positions_end, said_more, any_now, any_before}
 use Rattle.ptrun.proofs.OperandInputs.{holds_more}
 use Rattle.ptrun.proofs.MessageWrites.{said_nothing}
-use Rattle.ptrun.proofs.ToolRuns.{nothing_reported, all_reported}
 use Rattle.ptrun.proofs.driver.report_unopened.Goals.{then-is_refused, else-is_refused}
-
-pub returns-then-not-reads_together : goal.returns-then-not-reads_together
-returns-then-not-reads_together g c =
-    nothing_reported _ _ _ (g.T.Tool.tool c.args.tool.now) c.args.inputs.now c.args.messages.now
-    (sym c.reads_together.ensures ∙ c.if-not-reads_together.true)
 
 pub loop-input-init : goal.loop-input-init
 loop-input-init g c =
@@ -20,7 +14,7 @@ loop-input-init g c =
 
 pub loop-input-preserved : goal.loop-input-preserved
 loop-input-preserved g c =
-    let word = g.T.Tool.word c.args.tool.now in
+    let word = c.args.tool.now in
     let names = words_view c.args.names.now in
     let inputs = c.args.inputs.now in
     let p = c.position_of-position.result in
@@ -36,7 +30,7 @@ loop-input-preserved g c =
     elim c.if-is_refused.branch [
       | then-is_refused w ↦ rw (w.messages-is, w.any-is, turn.next) (record {
         message = said_more word names (is_reader_unopened inputs) done p k.message
-            (rw (refused ∙ w.if-is_refused.true) (rw (w.name.ensures, w.name_at.ensures) at w.say_unopened.ensures));
+            (rw (refused ∙ w.if-is_refused.true) (rw w.name_at.ensures at w.say_unopened.ensures));
         any_is = sym (any_now (is_reader_unopened inputs) done p (refused ∙ w.if-is_refused.true));
         sound = sound;
       })
@@ -79,6 +73,4 @@ pub returns : goal.returns
 returns g c =
     let k = c.loop-input.invariant in
     let all = positions_end c.args.order.now c.loop-input.input-index c.loop-input-test.false in
-    all_reported _ _ _ (g.T.Tool.tool c.args.tool.now) c.args.inputs.now
-    (sym c.reads_together.ensures ∙ c.if-not-reads_together.false) (rw all at k.any_is) (rw all at k.message)
-    (rw all at k.sound)
+    record { is = rw all at k.any_is; has_said = rw all at k.message; sound = rw all at k.sound }

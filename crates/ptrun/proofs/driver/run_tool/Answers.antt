@@ -1,45 +1,87 @@
--- If a file that the tool cannot run without could not be opened, nothing is read. Otherwise the tool processes its
--- inputs, and the end of the run follows from its result.
-use Rattle.ptrun.proofs.Common.{ℕ, arith, refl, sym, ◌∙◌, subst, false≢true, HasIndexBelow}
-use Rattle.ptrun.proofs.Common.{length, outcome}
-use Rattle.ptrun.proofs.RunEnds.{run_in_store, any_unopened, index_below}
-use Rattle.ptrun.proofs.OperandInputs.{names_counted}
+-- A tool that reads its operands together reads nothing if one could not be opened. Otherwise, and if it reads one
+-- operand after another, its inputs are processed, and the end of the run follows from the result.
+use Rattle.ptrun.proofs.Common.{◌+◌, ℕ, arith, ap, false≢true, refl, sym, ◌∙◌, subst, HasIndexBelow, length, outcome, Output}
+use Rattle.ptrun.proofs.RunEnds.{run_in_store}
+use Rattle.ptrun.proofs.OperandInputs.{names_counted, position_in_range}
+use Rattle.ptrun.proofs.MessageWrites.{said_nothing}
+use Rattle.ptrun.proofs.ToolRuns.{unopened_run, together_pre, together_post, together_says, reads_if}
 use Rattle.ptrun.proofs.driver.run_tool.Goals as goal
 
-pub say_final_message-status-requires : goal.say_final_message-status-requires
-say_final_message-status-requires g c =
-    subst (λ (n : ℕ). HasIndexBelow n c.finish-final_result.result)
+pub positions_of-requires-clause-in_range : goal.positions_of-requires-clause-in_range
+positions_of-requires-clause-in_range g c = rw c.deref-order.ensures.value (λ k d within. omega (
+  arith,
+  position_in_range c.args.operands.now.order.items (length c.args.inputs.now) c.requires.given.in_range k d within,
+))
+
+pub run_on-run_result-requires : goal.run_on-run_result-requires
+run_on-run_result-requires g c =
+    let reported = rw (c.name.ensures, c.deref-order.ensures.value, c.deref-names.ensures.value) at
+    c.report_unopened.ensures in
+    rw (c.deref.ensures.0 ∙ c.positions_of.ensures, c.deref-order.ensures.value)
+    (together_pre _ _ _ (g.T.Tool.tool c.args.tool.now) c.new-out.result c.args.store.now
+    (sym c.reads_together.ensures ∙ c.if-reads_together.true) c.requires.given reported c.if-report_unopened.false
+    (ap (λ (o : Output). o.write_failed) c.new-out.ensures) c.requires.unused.store.not_denied
+    c.requires.unused.store.empty)
+
+pub end_run-requires : goal.end_run-requires
+end_run-requires g c =
+    let reported = rw (c.name.ensures, c.deref-order.ensures.value, c.deref-names.ensures.value) at
+    c.report_unopened.ensures in
+    let post = together_post _ _ _ (g.T.Tool.tool c.args.tool.now) c.report_unopened.new.messages
+    (sym c.reads_together.ensures ∙ c.if-reads_together.true) c.requires.given reported c.if-report_unopened.false
+    (ap (λ (o : Output). o.write_failed) c.new-out.ensures) c.requires.unused.store.not_denied
+    c.requires.unused.store.empty
+    (rw (c.deref.ensures.0 ∙ c.positions_of.ensures, c.deref-order.ensures.value) at c.run_on-run_result.ensures) in
+    subst (λ (n : ℕ). HasIndexBelow n c.run_on-run_result.result)
     (rw c.deref-names.ensures.value
-    (names_counted c.args.operands.now.names.items (length c.args.inputs.now) c.requires.given.named))
-    (index_below c.run_inputs-run_result.ensures c.finish-final_result.ensures)
+    (names_counted c.args.operands.now.names.items (length c.args.inputs.now) c.requires.given.named)) post.position
 
 pub returns-then-report_unopened : goal.returns-then-report_unopened
 returns-then-report_unopened g c =
-    let reported = rw (c.deref-order.ensures.value, c.deref-names.ensures.value) at c.report_unopened.ensures in
+    let reported = rw (c.name.ensures, c.deref-order.ensures.value, c.deref-names.ensures.value) at
+    c.report_unopened.ensures in
     rw c.report_unread.ensures (record {
       run = record {
-        run = any_unopened c.requires.given.fresh c.requires.unused.writable reported c.if-report_unopened.true;
+        run = unopened_run _ _ _ (g.T.Tool.tool c.args.tool.now)
+            (sym c.reads_together.ensures ∙ c.if-reads_together.true) c.requires.given.fresh c.requires.unused.writable
+            reported c.if-report_unopened.true;
         slots = λ w agrees. omega arith;
       };
       reads_nothing = (λ reads_none. (refl, (refl, refl, refl)), λ reads_none. refl);
       store = (sym c.requires.unused.store.never, sym c.requires.unused.store.not_denied);
     })
 
+pub returns-then-reads_together : goal.returns-then-reads_together
+returns-then-reads_together g c =
+    let s = g.T.Tool.tool c.args.tool.now in
+    let in_together = sym c.reads_together.ensures ∙ c.if-reads_together.true in
+    let reported = rw (c.name.ensures, c.deref-order.ensures.value, c.deref-names.ensures.value) at
+    c.report_unopened.ensures in
+    let post = together_post _ _ _ s c.report_unopened.new.messages in_together c.requires.given reported
+    c.if-report_unopened.false
+    (ap (λ (o : Output). o.write_failed) c.new-out.ensures) c.requires.unused.store.not_denied
+    c.requires.unused.store.empty
+    (rw (c.deref.ensures.0 ∙ c.positions_of.ensures, c.deref-order.ensures.value) at c.run_on-run_result.ensures) in
+    let reads = reads_if _ _ _ s _ (λ together. sym reported.is ∙ c.if-report_unopened.false) in
+    record {
+      run = run_in_store (g.W.Sink.state c.args.out) (outcome (g.W.Sink.state) (g.E.Sink.state) c.end_run.result)
+          (together_says _ _ _ reported c.if-report_unopened.false) post
+          (rw (c.name-then-reads_together.ensures, c.deref-names.ensures.value) at c.end_run.ensures)
+          c.new-out.ensures c.requires.unused.store.never;
+      reads_nothing = (λ none. absurd (reads none), λ none. absurd (reads none));
+      store = (c.end_run.ensures.peak, c.end_run.ensures.denied);
+    }
+
 pub returns : goal.returns
 returns g c =
-    let r = c.report_of.ensures in
-    let reported = rw (c.deref-order.ensures.value, c.deref-names.ensures.value) at c.report_unopened.ensures in
-    let ran = rw (c.deref-order.ensures.value, c.deref-names.ensures.value) at c.run_inputs-run_result.ensures in
-    let last = rw (c.name.ensures, c.deref-names.ensures.value) at c.say_final_message-status.ensures.message in
+    let ran = rw (c.deref-order.ensures.value, c.deref-names.ensures.value) at c.run_one_by_one-run_result.ensures in
+    let in_turn = sym c.reads_together.ensures ∙ c.if-reads_together.false in
+    let reads = reads_if _ _ _ (g.T.Tool.tool c.args.tool.now) _ (λ together. absurd (false≢true (sym in_turn ∙ together))) in
     record {
-      run = run_in_store (g.W.Sink.state c.args.out) (outcome (g.W.Sink.state) (g.E.Sink.state) c.report_of.result)
-          (rw c.if-report_unopened.false at reported.has_said) ran c.finish-final_result.ensures
-          (rw r.messages last)
-          (r.status ∙ c.say_final_message-status.ensures.status)
-          c.new-out.ensures r.out.0 r.out.1 r.out.2 r.flushes c.requires.unused.store.never r.store.0 r.store.1;
-      reads_nothing = (
-        λ reads_none. absurd (false≢true (sym c.if-report_unopened.false ∙ reported.is ∙ reads_none)),
-        λ reads_none. absurd (false≢true (sym c.if-report_unopened.false ∙ reported.is ∙ reads_none)),
-      );
-      store = r.store;
+      run = run_in_store (g.W.Sink.state c.args.out) (outcome (g.W.Sink.state) (g.E.Sink.state) c.end_run-2.result)
+          (said_nothing c.args.messages) ran
+          (rw (c.name-2.ensures, c.deref-names.ensures.value) at c.end_run-2.ensures) c.new-out-2.ensures
+          c.requires.unused.store.never;
+      reads_nothing = (λ none. absurd (reads none), λ none. absurd (reads none));
+      store = (c.end_run-2.ensures.peak, c.end_run-2.ensures.denied);
     }

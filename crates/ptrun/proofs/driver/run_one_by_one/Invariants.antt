@@ -3,7 +3,7 @@
 use Rattle.ptrun.proofs.Common.{take, words_view, positions}
 use Rattle.ptrun.proofs.Sequential.{OperandsDone}
 use Rattle.ptrun.proofs.ToolRuns.{one_tool}
-use Rattle.ptrun.proofs.driver.run_inputs.Given as goal
+use Rattle.ptrun.proofs.driver.run_one_by_one.Given as goal
 
 abbrev pub invariant-loop-input : goal.invariant-loop-input
 invariant-loop-input g l =
