@@ -12,7 +12,7 @@ pub use Rattle.std.proofs.lemmas.Bool.Decides.{eqb_tells, nat_tests}
 pub use Rattle.std.proofs.lemmas.List.{append-nil, append_cancel_left, get_or-append_right, get_or-map}
 pub use Rattle.std.proofs.lemmas.List.{get_or-set_other, get_or-set_same, get_or_append_left, get_or_default}
 pub use Rattle.std.proofs.lemmas.List.{length-map, length-take-le, map-append, nil_from_length, set-append_left}
-pub use Rattle.std.proofs.lemmas.List.{set-append_right, set-get_or, take_all, take_more}
+pub use Rattle.std.proofs.lemmas.List.{set-append_right, take_all, take_more}
 pub use Rattle.std.proofs.lemmas.List.Concat.{flat_map-append}
 pub use Rattle.std.proofs.lemmas.List.Elements.{All-cons, All-from_get_or, All-map, All-nil, filter_map-append}
 pub use Rattle.std.proofs.lemmas.List.Folds.{Any-from_list_any, list_any-append, list_any_at}
@@ -47,7 +47,7 @@ pub use Rattle.ptrun.specs.SpecOfArgs.{spec_of_args, spec_of_parsed, command_spe
 pub use Rattle.ptrun.specs.SpecOfArgs.{spec_of_result, message_only, tool_name}
 pub use Rattle.ptrun.specs.Driver.{AreSoundAt, InputsPre, JointPre, MergeCallPost, run_state, run_result}
 pub use Rattle.ptrun.specs.Driver.{OperandPre, OperandPost, RunOnPre, RunOnPost, operand_completion}
-pub use Rattle.ptrun.specs.Driver.{ReportUnopenedPost, FinishPost, EndRunPost, JointPost, RunInputsPre}
+pub use Rattle.ptrun.specs.Driver.{ReportUnopenedPost, FinishPost, EndRunPost, JointPost}
 pub use Rattle.ptrun.specs.Driver.{HasIndexBelow, RunInputsPost, RunInputsEnd, fault_at}
 pub use Rattle.ptrun.specs.Driver.{result_message, result_status, merge_completion}
 pub use Rattle.ptrun.specs.Lag.{LagOfAny, HasBoundedLag, BoundedLagAs, IsWrittenUpToBlock, LagOfLast, IsPushedUpToBlock}

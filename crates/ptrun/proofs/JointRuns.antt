@@ -2,31 +2,31 @@
 --
 -- If an operand could not be opened, nothing but messages is required. Otherwise what the engine of such a tool has done
 -- at the positions of its operands is what processing the inputs has to do.
-use Rattle.ptrun.proofs.Common.{AreReadToEnd, ended_operands, IsDone, Unopened, Disorder, cases_lt, or_left, or_right}
-use Rattle.ptrun.proofs.Common.{sum, get_or_default, no_reader, cases_eq, cases_Bool, ◌≡◌, ◌⊎◌, ⊎_elim, inl}
-use Rattle.ptrun.proofs.Common.{inr, ℕ, zero, suc, ◌+◌, ◌<◌, ◌≤◌, ◌^◌, ◌||◌, ◌==◌, Bool, true, false, cond, List, []}
-use Rattle.ptrun.proofs.Common.{◌∷◌, ◌++◌, Option, Some, None, Result, Ok, Err, length, take, drop, get_or, set, refl}
-use Rattle.ptrun.proofs.Common.{sym, ◌∙◌, ap, subst, arith, take-append-drop, slice_get, list_any, get_or-set_same}
-use Rattle.ptrun.proofs.Common.{get_or-set_other, All-nil, All-cons, list_any-append, false≢true, eqb-true, eqb_tells}
-use Rattle.ptrun.proofs.Common.{Reader, Output, Slots, SinkState, Received, IsPrefix, HasReceived, LaggedInput}
-use Rattle.ptrun.proofs.Common.{FlowFault, Read, Write, Memory}
+use Rattle.ptrun.proofs.Common.{AreReadToEnd, ended_operands, IsDone, Disorder}
+use Rattle.ptrun.proofs.Common.{cases_eq, cases_Bool, ◌≡◌, ◌⊎◌, ⊎_elim, inl}
+use Rattle.ptrun.proofs.Common.{inr, ℕ, zero, suc, ◌+◌, ◌<◌, ◌≤◌, ◌^◌, ◌||◌, Bool, true, false, cond, List, []}
+use Rattle.ptrun.proofs.Common.{◌∷◌, ◌++◌, Option, Some, None, Result, Ok, Err, length, take, drop, set, refl}
+use Rattle.ptrun.proofs.Common.{sym, ◌∙◌, ap, subst, arith, take-append-drop, slice_get, list_any}
+use Rattle.ptrun.proofs.Common.{get_or-set_other, list_any-append, false≢true, eqb_tells}
+use Rattle.ptrun.proofs.Common.{Reader, Output, Slots, SinkState, Received}
+use Rattle.ptrun.proofs.Common.{FlowFault, Read, Memory}
 use Rattle.ptrun.proofs.Common.{Completion, AllWritten, InputBytes, ReceivedInputs, at, is_unopened}
 use Rattle.ptrun.proofs.Common.{AreInputsConsistent, is_in, reader_at, is_reader_unopened, HaveReceived}
 use Rattle.ptrun.proofs.Common.{IsNewOrUnopened, HasReadFailed, IsTooLong, unopened_messages, unopened_message}
-use Rattle.ptrun.proofs.Common.{name_of, IsPushedUpToBlock, position, positions, JointTool, one_input_tool, bytes_of}
+use Rattle.ptrun.proofs.Common.{name_of, position, positions, JointTool, bytes_of}
 use Rattle.ptrun.proofs.Common.{received_in, has_unopened, disorder_text, disorder_status, joint_spec}
-use Rattle.ptrun.proofs.Common.{RunInputsPre, JointPre, HasIndexBelow, result_message}
+use Rattle.ptrun.proofs.Common.{JointPre, HasIndexBelow, result_message}
 use Rattle.ptrun.proofs.Common.{result_status, RunInputsEnd, RunInputsPost}
-use Rattle.ptrun.proofs.Common.{JointPost, map, max, append-nil, All-from_get_or, list_any_at}
+use Rattle.ptrun.proofs.Common.{JointPost}
 use Rattle.ptrun.proofs.Common.{run_state, run_result, update_at}
 use Rattle.ptlines.specs.Calls.{CallEnd, Complete, OutOfOrder, ReadFault, WriteFault, MemoryFault, CallPost}
 use Rattle.ptlines.specs.Calls.{CallOutcome, AllPushed, AreAllConsistent, NoReadFault, IsCallUnfinished}
 use Rattle.ptrun.specs.Engines.{operand_inputs, in_run}
 use Rattle.ptrun.proofs.OneInput.{at_set, opened_set, lagged_output, none_received, received_of, receives_none, never_long}
-use Rattle.ptrun.proofs.OneInput.{not_long, consistent_bytes, consistent_whole, unopened_agrees, unopened_received}
+use Rattle.ptrun.proofs.OneInput.{not_long, consistent_bytes, unopened_agrees, unopened_received}
 use Rattle.ptrun.proofs.MessageWrites.{said_nothing}
-use Rattle.ptrun.proofs.OperandInputs.{some_same, any_same, is_in-same, by_position, neither, each_listed, none_passes}
-use Rattle.ptrun.proofs.OperandInputs.{put_here, put_other, fresh_all, same_here}
+use Rattle.ptrun.proofs.OperandInputs.{some_same, any_same, by_position, neither, each_listed, none_passes}
+use Rattle.ptrun.proofs.OperandInputs.{put_here, put_other, fresh_all}
 
 -- ---- an operand could not be opened
 
@@ -79,7 +79,8 @@ module _ (word : List ℕ) {t : JointTool} (names : List (List ℕ)) {positions 
     {was is : Output} (messages_old : SinkState) {before store : Slots} {result : Result Completion FlowFault}
     (start : JointPre t positions old was before)
     (post : JointPost t positions old new was is before store result) where
-  k : CallPost (operand_inputs positions) (in_run (t.engine positions)) (run_state old was before) (run_state new is store) post.end
+  k : CallPost (operand_inputs positions) (in_run (t.engine positions)) (run_state old was before)
+      (run_state new is store) post.end
   k = post.call
 
   open_at : (q : ℕ) → is_in positions q ≡ true → is_reader_unopened old q ≡ false
@@ -147,6 +148,14 @@ module _ (word : List ℕ) {t : JointTool} (names : List (List ℕ)) {positions 
 
   -- ---- how it ended
 
+  abbrev AllPushedAt : Option (ℕ × ℕ) → Type 0
+  AllPushedAt found = AllPushed (operand_inputs positions) (in_run (t.engine positions)) (run_state old was before)
+      (run_state new is store) k.given k.pushed found
+
+  abbrev EndedAs : CallEnd ℕ → Type 0
+  EndedAs end = CallOutcome (operand_inputs positions) (in_run (t.engine positions)) (run_state old was before)
+      (run_state new is store) k.given k.pushed end
+
   failed_is_in : (q : ℕ) → HasReadFailed old new q → is_in positions q ≡ true
   failed_is_in q failed =
       ⊎_elim (λ named. named)
@@ -186,8 +195,7 @@ module _ (word : List ℕ) {t : JointTool} (names : List (List ℕ)) {positions 
   ended_if_written (Some found) ended = none_ended
 
   all_pushed : (found : Option (ℕ × ℕ))
-      → AllPushed (operand_inputs positions) (in_run (t.engine positions)) (run_state old was before) (run_state new is store)
-      k.given k.pushed found → HasIndexBelow (length old) (Ok (completion_of found)) → Ending (Ok (completion_of found))
+      → AllPushedAt found → HasIndexBelow (length old) (Ok (completion_of found)) → Ending (Ok (completion_of found))
   all_pushed found e below = record {
     operands_done = length positions;
     within = omega arith;
@@ -207,8 +215,7 @@ module _ (word : List ℕ) {t : JointTool} (names : List (List ℕ)) {positions 
   }
 
   ending : (end : CallEnd ℕ)
-      → CallOutcome (operand_inputs positions) (in_run (t.engine positions)) (run_state old was before) (run_state new is store)
-      k.given k.pushed end → Ending (run_result end)
+      → EndedAs end → Ending (run_result end)
   ending Complete e = all_pushed None e tt
   ending (OutOfOrder p line) e = all_pushed (Some (p, line)) e.pushed_all
       (each_listed (λ q. q < length old) positions start.in_range p e.named)
@@ -251,8 +258,7 @@ module _ (word : List ℕ) {t : JointTool} (names : List (List ℕ)) {positions 
 
   -- memory ran out, so something was left
   left_by : (end : CallEnd ℕ)
-      → CallOutcome (operand_inputs positions) (in_run (t.engine positions)) (run_state old was before) (run_state new is store)
-      k.given k.pushed end → run_result end ≡ Err Memory
+      → EndedAs end → run_result end ≡ Err Memory
       → IsCallUnfinished (operand_inputs positions) (in_run (t.engine positions)) (run_state new is store) k.given k.pushed
   left_by Complete e memory = cc
   left_by (OutOfOrder p line) e memory = cc

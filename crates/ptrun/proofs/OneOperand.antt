@@ -1,9 +1,9 @@
 -- A tool with one input that accepts one operand: the pass over the reader of this operand is its run.
-use Rattle.ptrun.proofs.Common.{◌≡◌, ℕ, ◌==◌, ◌<◌, ◌≤◌, ◌^◌, true, false, List, [], ◌∷◌, None, Result, Ok, Err, length}
+use Rattle.ptrun.proofs.Common.{◌≡◌, ℕ, ◌==◌, ◌<◌, ◌≤◌, true, false, List, [], ◌∷◌, Result, Ok, Err, length}
 use Rattle.ptrun.proofs.Common.{get_or, set, refl, sym, ◌∙◌, ap, subst, arith, eqb-true, false≢true, get_or_default}
-use Rattle.ptrun.proofs.Common.{get_or-set_same, get_or-set_other, no_reader, Reader, IsDone, Output, Slots, Received}
+use Rattle.ptrun.proofs.Common.{get_or-set_same, get_or-set_other, no_reader, Reader, IsDone, Output, Slots}
 use Rattle.ptrun.proofs.Common.{ToolSpec, PassPre, PassPost, PassOutcome, FlowFault, Read, Write, Memory, is_in}
-use Rattle.ptrun.proofs.Common.{reader_at, is_reader_unopened, IsNew, JointTool, one_input_tool, only_operand, JointPre}
+use Rattle.ptrun.proofs.Common.{reader_at, is_reader_unopened, IsNew, JointTool, one_input_tool, JointPre}
 use Rattle.ptrun.proofs.Common.{JointPost, operand_completion, run_result, or-false, inl}
 use Rattle.ptlines.specs.Calls.{CallPost, CallOutcome, CallState, call_state}
 use Rattle.ptrun.specs.Engines.{only_input, pass_engine, pass_end, end_at}

@@ -1,8 +1,8 @@
 -- `paste`: facts about columns, as facts about operands. Each operand is a column, so the pass over the columns is the
 -- run of the tool.
-use Rattle.ptrun.proofs.Common.{sum, cases_eq, cases_Bool, ◌≡◌, ⊎_elim, inl, ℕ, ◌<◌, ◌≤◌, ◌^◌, ◌==◌, true, false, cond}
-use Rattle.ptrun.proofs.Common.{List, [], ◌∷◌, None, Result, Ok, Err, length, take, get_or, refl, sym, ◌∙◌, ap, subst}
-use Rattle.ptrun.proofs.Common.{arith, false≢true, Reader, Output, Slots, Received, IsPrefix, IsDone, FlowFault, Read}
+use Rattle.ptrun.proofs.Common.{sum, cases_eq, cases_Bool, ◌≡◌, ⊎_elim, inl, ℕ, ◌<◌, ◌≤◌, ◌==◌, true, false, cond}
+use Rattle.ptrun.proofs.Common.{List, [], ◌∷◌, Result, Ok, Err, length, take, get_or, refl, sym, ◌∙◌, ap, subst}
+use Rattle.ptrun.proofs.Common.{arith, false≢true, Reader, Output, Slots, Received, IsPrefix, FlowFault, Read}
 use Rattle.ptrun.proofs.Common.{Write, Memory, Completion, AllWritten, is_in, reader_at, is_reader_unopened, JointPre}
 use Rattle.ptrun.proofs.Common.{JointPost, max, map, append-nil, All-from_get_or, list_any_at, known_lines, IsConsistent}
 use Rattle.ptrun.proofs.Common.{Paste, IsReadable, IsReadToEnd, PasteOutcome, PastePost, paste_rows_tool, or_left}

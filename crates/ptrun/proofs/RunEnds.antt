@@ -8,15 +8,15 @@
 use Rattle.ptrun.proofs.Common.{AreReadToEnd, ended_operands, cases_Bool, ◌≡◌, ⊎_elim, ℕ, Bool, true, false, cond, List}
 use Rattle.ptrun.proofs.Common.{[], ◌++◌, Option, Some, None, Result, Ok, Err, length, map, refl, sym, ◌∙◌, ap, arith}
 use Rattle.ptrun.proofs.Common.{append_assoc, subst, length-append, All, append_known, prepend_known, IsAtEnd}
-use Rattle.ptrun.proofs.Common.{append-nil, append_cancel_left, nil_from_length, false≢true, take-length, Reader}
+use Rattle.ptrun.proofs.Common.{append-nil, append_cancel_left, nil_from_length, false≢true, Reader}
 use Rattle.ptrun.proofs.Common.{Output, PushEffect, Slots, SinkState, append_known-nil, push_trans, Received}
 use Rattle.ptrun.proofs.Common.{IsConsistent, IsPrefix, FlowFault, Read, Write, Memory, Completion, InputBytes}
 use Rattle.ptrun.proofs.Common.{ReceivedInputs, at, IsConsistentAt, AreInputsConsistent, reader_at, is_reader_unopened}
 use Rattle.ptrun.proofs.Common.{is_unopened, HasReceivedAt, IsNewOrUnopened, HasReadFailed, IsTooLong, HasBytesAt}
-use Rattle.ptrun.proofs.Common.{HasSaid, CommandSpec, operand_messages, messages, unopened_messages, Sinks, sinks}
+use Rattle.ptrun.proofs.Common.{HasSaid, CommandSpec, operand_messages, messages, Sinks, sinks}
 use Rattle.ptrun.proofs.Common.{Outcome, HasCause, RunEnd, IsRun, IsRunInStore, IsExact, IsExactUnlessFailed}
 use Rattle.ptrun.proofs.Common.{EndRunPost, RunInputsEnd, RunInputsPost, FinishPost, result_message}
-use Rattle.ptrun.proofs.Common.{result_status, HasIndexBelow, IsPushedUpToBlock, IsWrittenUpToBlock, message_only, ◌+◌}
+use Rattle.ptrun.proofs.Common.{result_status, IsPushedUpToBlock, IsWrittenUpToBlock, message_only, ◌+◌}
 use Rattle.ptrun.proofs.Common.{◌<◌, ◌==◌, is_none, not, nat_le, length-map, All-map, nat_tests, eqb_tells, Input}
 use Rattle.ptrun.proofs.Common.{Standard, File, Fault, Command, Job, RunCut, RunPaste, RunUniq, RunComm, RunJoin, RunTr}
 use Rattle.ptrun.proofs.Common.{command_of_args, input_operands, fault_view, command_view, CommandPost, usage_message}
@@ -35,9 +35,9 @@ use Rattle.ptopts.proofs.InputCounts.{AreTwo}
 use Rattle.ptopts.proofs.EachTool.{AreInputsOf, are_inputs}
 use Rattle.ptopts.specs.declared.command.Command as code
 use Rattle.ptrun.proofs.OneInput.{kept_up, earlier_map, nothing_decided, nothing_read, never_long, received_at}
-use Rattle.ptrun.proofs.OneInput.{received_of, unopened_agrees, unopened_received}
+use Rattle.ptrun.proofs.OneInput.{received_of, unopened_received}
 use Rattle.ptrun.proofs.MessageWrites.{said_trans}
-use Rattle.ptrun.proofs.OperandInputs.{some_same, fresh_all, unopened_same, positions_within}
+use Rattle.ptrun.proofs.OperandInputs.{some_same, fresh_all, positions_within}
 
 -- ---- the bytes that reached the sink
 

@@ -2,12 +2,12 @@
 -- another, or of one that reads them together.
 use Rattle.ptrun.proofs.Common.{◌≡◌, ℕ, ◌≤◌, Bool, true, false, List, [], ◌∷◌, Result, length, refl, sym}
 use Rattle.ptrun.proofs.Common.{false≢true, list_any, Reader, Output, Slots, SinkState, ToolSpec, FlowFault, Completion}
-use Rattle.ptrun.proofs.Common.{HasSaid, is_reader_unopened, unopened_messages, sequential_spec, InputsPre, AreSoundAt}
-use Rattle.ptrun.proofs.Common.{ReportUnopenedPost, RunInputsPre, RunInputsPost, OperandPre, OperandPost, RunOnPre}
+use Rattle.ptrun.proofs.Common.{HasSaid, is_reader_unopened, unopened_messages, sequential_spec, InputsPre}
+use Rattle.ptrun.proofs.Common.{ReportUnopenedPost, RunInputsPost, OperandPre, OperandPost, RunOnPre}
 use Rattle.ptrun.proofs.Common.{RunOnPost, DecidesAll, OneByOne, Together, ToolInRun, reads_together, spec_of_tool}
 use Rattle.ptrun.proofs.Common.{get_or, set, get_or_default, no_reader, PassPost, only_operand}
 use Rattle.ptrun.proofs.Common.{operand_completion}
-use Rattle.ptrun.proofs.Common.{◌∙◌, ⊎_elim, cases_Bool, is_unopened}
+use Rattle.ptrun.proofs.Common.{◌∙◌, is_unopened}
 use Rattle.ptrun.proofs.JointRuns.{none_unopened, joint_post}
 use Rattle.ptrun.proofs.OneInput.{received_of, nothing_read, unopened_agrees}
 use Rattle.ptrun.proofs.OperandInputs.{any_same, fresh_all, unopened_same}

@@ -1,6 +1,6 @@
 -- The contracts between a tool and the driver that runs it: the conditions before and after each of the driver's steps.
-use Rattle.std.specs.Prelude.{◌≡◌, ◌≢◌, ◌⊎◌, ℕ, ◌+◌, ◌<◌, ◌≤◌, ◌^◌, Bool, true, false, List, [], All, Option, Some}
-use Rattle.std.specs.Prelude.{None, Result, Ok, Err, length, max, set, if◌then◌else◌}
+use Rattle.std.specs.Prelude.{◌≡◌, ℕ, ◌+◌, ◌<◌, ◌≤◌, Bool, true, false, List, [], All}
+use Rattle.std.specs.Prelude.{None, Result, Ok, Err, length, max, set}
 use Rattle.std.specs.List.{list_any}
 use Rattle.ptlines.specs.Calls.{CallState, call_state, CallEnd, Complete, OutOfOrder, ReadFault, WriteFault}
 use Rattle.ptlines.specs.Calls.{MemoryFault, CallPost}
@@ -19,7 +19,7 @@ use Rattle.ptmerge.specs.MergeCall.{IsUnreadWithoutSlots, MergePost, MergeState}
 use Rattle.ptmerge.specs.MergeSpec.{MergeTool}
 use Rattle.ptrun.specs.declared.tool.Completion.{Completion}
 use Rattle.ptrun.specs.declared.tool.Completion.TheVariants.{AllWritten, Unopened, Disorder}
-use Rattle.ptrun.specs.Files.{InputBytes, ReceivedInputs, is_in, is_unopened, is_reader_unopened, HaveReceived}
+use Rattle.ptrun.specs.Files.{InputBytes, ReceivedInputs, is_in, is_reader_unopened, HaveReceived}
 use Rattle.ptrun.specs.Files.{IsNewOrUnopened, HasReadFailed, AreInputsConsistent, AreReadToEnd}
 use Rattle.ptlines.specs.Readers.{reader_at}
 use Rattle.ptrun.specs.CommandSpec.{CommandSpec, operand_messages, unopened_messages, ended_operands, IsUnfinished}

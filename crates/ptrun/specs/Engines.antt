@@ -1,6 +1,6 @@
 -- The engines as `ptlines` specifies them (its specs/Calls): over one input, over the two sides of a merge, over the
 -- columns of `paste`, and each of them over the inputs at the positions of operands.
-use Rattle.std.specs.Prelude.{ℕ, ◌==◌, Bool, true, false, List, Option, None, Result, Ok, Err, length, option_map}
+use Rattle.std.specs.Prelude.{ℕ, ◌==◌, Bool, true, false, List, None, Result, Ok, Err, length, option_map}
 use Rattle.ptlines.specs.Calls.{InputNames, EngineSpec, CallEnd, Complete, OutOfOrder, ReadFault, WriteFault}
 use Rattle.ptlines.specs.Calls.{MemoryFault}
 use Rattle.ptlangs.specs.Jobs.{Paste}

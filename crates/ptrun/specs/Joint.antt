@@ -1,7 +1,7 @@
 -- Tools that read all their operands together: `paste`, `uniq`, `comm` and `join`. If an operand could not be opened,
 -- every such file is reported and nothing else is done.
-use Rattle.std.specs.Prelude.{ℕ, ◌==◌, ◌&&◌, Bool, false, List, [], Option, Some, None, length, nat_le, unwrap_or}
-use Rattle.std.specs.Prelude.{slice_index_or, option_map, not, if◌then◌else◌}
+use Rattle.std.specs.Prelude.{ℕ, ◌==◌, ◌&&◌, Bool, List, [], Option, Some, None, length, nat_le, unwrap_or}
+use Rattle.std.specs.Prelude.{slice_index_or, not, if◌then◌else◌}
 use Rattle.std.specs.List.{list_any}
 use Rattle.ptlines.specs.Calls.{EngineSpec}
 use Rattle.ptlines.specs.Received.{Received, empty_input}

@@ -1,6 +1,6 @@
 -- A tool that reads its operands together reads nothing if one could not be opened. Otherwise, and if it reads one
 -- operand after another, its inputs are processed, and the end of the run follows from the result.
-use Rattle.ptrun.proofs.Common.{◌+◌, ℕ, arith, ap, false≢true, refl, sym, ◌∙◌, subst, HasIndexBelow, length, outcome, Output}
+use Rattle.ptrun.proofs.Common.{ℕ, arith, ap, false≢true, refl, sym, ◌∙◌, subst, HasIndexBelow, length, outcome, Output}
 use Rattle.ptrun.proofs.RunEnds.{run_in_store}
 use Rattle.ptrun.proofs.OperandInputs.{names_counted, position_in_range}
 use Rattle.ptrun.proofs.MessageWrites.{said_nothing}
