@@ -84,6 +84,7 @@ pub record MergeMemoryFaultPost (old new : MergeState) : Type 0 where
 pub record MergeDisorderPost (old new : MergeState) : Type 0 where
   pub fault : (side : Side) → (new.reader side).fault ≡ None
   pub failed : NeitherReadFailed old new
+  pub short : (side : Side) → (new.reader side).pulled < 2 ^ 63
   pub clean : new.out.write_failed ≡ false
   pub denied : new.store.denied ≡ false
   pub empty : total_bytes new.store.lines ≡ 0

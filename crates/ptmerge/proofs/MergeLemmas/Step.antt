@@ -1,7 +1,7 @@
 -- The steps of a merge. A line that precedes everything in the other input is processed, and its input advances; the
 -- next line has no lesser key, so the invariant holds again. A step ends the loop when both inputs are at their ends or
 -- a disorder is reported, and a fault of a write or read ends it with a prefix of the output.
-use Rattle.ptmerge.proofs.Common.{◌≡◌, ◌≢◌, ⊎_elim, inl, inr, ℕ, ◌+◌, ◌≤◌, true, false, List, [], ◌∷◌, ◌++◌, Option}
+use Rattle.ptmerge.proofs.Common.{◌≡◌, ◌≢◌, ⊎_elim, inl, inr, ℕ, ◌+◌, ◌^◌, ◌≤◌, true, false, List, [], ◌∷◌, ◌++◌, Option}
 use Rattle.ptmerge.proofs.Common.{Some, None, Err, length, refl, sym, ◌∙◌, arith, is_lt, is_le, false≢true, append-nil}
 use Rattle.ptmerge.proofs.Common.{Output, PushEffect, Reader, ReaderAdvance, IsDone, IsSound, Slots, line, with_line}
 use Rattle.ptmerge.proofs.Common.{unlines, IsLine, push_nothing, MergeFault, Read, Memory, Side, First, Second, Sorted}
@@ -561,12 +561,13 @@ module _ {tool : MergeTool} {old : MergeState} (w : IsOpenMerge tool old) {reade
     denied : after.denied ≡ false
     denied = clear.denied ∙ a.holds.denied
 
+    short : (side : Side) → (reader side).pulled < 2 ^ 63
+    short side = (a.sides side).lines_read.advance_ok.short ((w.sound side).long (w.readable side))
+
     pub ends_well : ((side : Side) → (cursor side).status ≡ Ended)
         → MergePost tool old (state_by_side reader out after) (Ok tt)
     ends_well step =
         let e = all_ended tool _ _ _ _ _ _ _ a.sides step in
-        let short =
-        λ (side : Side). (a.sides side).lines_read.advance_ok.short ((w.sound side).long (w.readable side)) in
         concludes (Ok tt) (record {
           done = λ side. (let (_, done) = e side in done);
           fault = fault;
@@ -582,7 +583,14 @@ module _ {tool : MergeTool} {old : MergeState} (w : IsOpenMerge tool old) {reade
         → MergePost tool old (state_by_side reader out after) (Err (faults.Disorder s n))
     ends_fallen {s} {n} step =
         concludes (Err (faults.Disorder s n))
-        (record { fault = fault; failed = none_failed; clean = clean; denied = denied; empty = empty })
+        (record {
+          fault = fault;
+          failed = none_failed;
+          short = short;
+          clean = clean;
+          denied = denied;
+          empty = empty;
+        })
         (stops_at tool w.o _ _ _ _ _ _ _ a.sides s n step)
 
   -- an input advances
