@@ -312,8 +312,8 @@ module _ {job : Join} {cmp : Cmp} {key : Side → Key} {old : MergeState} {phase
     at_first : IsAtGroupLine r.q First
     at_first = record { slots = slots t; at_key = r.head }
 
-    module _ {new : Output} {e : ℕ} (ends : e ≡ (old.reader First).terminator)
-        (pushed : PushEffect now.out new (unlines e (pair_entries job (key First (line now.store one.current_slot)) z
+    module _ {new : Output}
+        (pushed : PushEffect now.out new (unlines (now.reader First).terminator (pair_entries job (key First (line now.store one.current_slot)) z
         (group now.store (group_first_slot two end) (group_end_slot two end))))) where
       wrote_more : PushEffect r.q.mid new (unlines job.terminator (pair_entries job r.k (r.g First ++ z) (r.g Second)))
       wrote_more = rw (
@@ -321,7 +321,7 @@ module _ {job : Join} {cmp : Cmp} {key : Side → Key} {old : MergeState} {phase
         unlines-append job.terminator
             (pair_entries job r.k (r.g First) (r.g Second)) (pair_entries job r.k z (r.g Second)),
       )
-          (push_trans _ _ _ _ _ t.clean r.q.wrote (wrote_as _ _ _ _ _ _ (ends ∙ t.opened.w.terminator First)
+          (push_trans _ _ _ _ _ t.clean r.q.wrote (wrote_as _ _ _ _ _ _ (r.q.sides First).lines_read.terminator
           (sym (group_pairs_are z) ∙ (λ j. pair_entries job (sym r.head.is j) z
           (group now.store (group_first_slot two end) (group_end_slot two end)))) pushed))
 

@@ -326,9 +326,9 @@ module _ {job : Join} {cmp : Cmp} {key : Side → Key} {old : MergeState} {phase
         record { sides = r.sides; holds = store_between_groups (join_call_of t.opened) r.keeps slots; slots = slots }
 
     -- a step for an unpaired line
-    module _ {s : Side} (step : HasOnlyLeastKey cmp key (both one two) now.store s) {new : Output} {e : ℕ}
-        (ends : e ≡ (old.reader First).terminator)
-        (pushed : PushEffect now.out new (unlines e (unpaired_entry job s (head_of now (both one two) s)))) where
+    module _ {s : Side} (step : HasOnlyLeastKey cmp key (both one two) now.store s) {new : Output}
+        (pushed : PushEffect now.out new (unlines (now.reader s).terminator
+        (unpaired_entry job s (head_of now (both one two) s)))) where
       wrote_unpaired : MergeInvariant (join_with job cmp key) r.b (with_side s (r.ls s) r.p) old.out new
           × LagInvariant (join_with job cmp key) r.b (with_side s (r.ls s) r.p) old.out new
       wrote_unpaired =
@@ -337,7 +337,7 @@ module _ {job : Join} {cmp : Cmp} {key : Side → Key} {old : MergeState} {phase
           let (above, under) = current_key_is_above cmp o _ _ _ _ _ _ _ _ _ step.before (r.sides (other s)).status_is in
           rw h.all (write_one_line _ o (is_line_by_line job cmp key) s x r.b r.p _ _ _ t.clean r.merge_invariant h.bound
           above under
-          (wrote_as _ _ _ _ _ _ (ends ∙ t.opened.w.terminator First) (entries_alone job cmp key s x (t.opened.keys s x))
+          (wrote_as _ _ _ _ _ _ (r.sides s).lines_read.terminator (entries_alone job cmp key s x (t.opened.keys s x))
           pushed))
 
       pub alone_continues : {one2 two2 : Sorted} {reader : Reader} {after : Slots}

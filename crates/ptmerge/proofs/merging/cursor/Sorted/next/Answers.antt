@@ -14,11 +14,12 @@ returns-clause-moves g c =
     let before = c.args.store.now in
     let after = c.fill.new.store in
     let span = c.span-self.result in
-    let some : 0 < old.number = grind (arith, nat_tests, c.if-number-eq0.false) in
-    let e = rw c.in-Ok-true.field-0-test at (c.in-Ok-true.ensures.fills c.requires.own_reader.clean) in
-    let last_is : line after old.current_slot ≡ line before old.current_slot = rw e.stored
+    let some : 0 < old.number = grind (arith, nat_tests, c.if-self-eq1.false) in
+    let swap = c.swap.ensures in
+    let e = rw (c.in-Ok-true.field-0-test, swap.x_after) at (c.in-Ok-true.ensures.fills c.requires.own_reader.clean) in
+    let last_is : line after c.swap.new.y ≡ line before old.current_slot = rw (swap.y_after, e.stored)
     (line_other before old.previous_slot old.current_slot e.line (λ is. c.requires.distinct_slots.apart (sym is))) in
-    let next_is : line after old.previous_slot ≡ e.line = rw e.stored
+    let next_is : line after c.swap.new.x ≡ e.line = rw (swap.x_after, e.stored)
     (line_of_with_line before old.previous_slot e.line c.requires.distinct_slots.previous_slot) in
     let last : c.key-last.result.now ≡ key (line before old.current_slot) = c.key-last.ensures
     ∙ ap key (c.line-2.ensures ∙ last_is) in
@@ -33,8 +34,8 @@ returns-clause-moves g c =
     inl (record {
       next_line = e;
       cursor = λ i. record {
-        current_slot = old.previous_slot;
-        previous_slot = old.current_slot;
+        current_slot = swap.x_after i;
+        previous_slot = swap.y_after i;
         number = old.number + 1;
         status = status i;
         same = same i;
