@@ -185,7 +185,7 @@ ReadFactsOf call now side new piece ls p b =
 -- no read has failed, so the case of a failed read is void
 pub not_failed : (call : JoinCall) (side : Side) {b : Bool} {X : Type 0} → b ≡ (call.old.reader side).failed → b ≡ true
     → X
-not_failed call side same fail = absurd (false≢true (sym (same ∙ call.unfailed side) ∙ fail))
+not_failed call side same fail = cc (call.unfailed side)
 
 -- ---- the bytes in the store
 

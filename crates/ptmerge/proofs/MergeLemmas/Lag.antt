@@ -48,8 +48,8 @@ sorted_from_parts cmp key last (x ∷ xs) ys (here, more) =
 sorted_from_whole : (cmp : Cmp) (key : Key) (last : Option (List ℕ)) (n : ℕ) (ls : Lines) → IsSortedFrom cmp key last ls
     → (sorted_after cmp key last ls ≡ ls) × (disorder_after cmp key last n ls ≡ None)
 sorted_from_whole cmp key last n [] r = (refl, refl)
-sorted_from_whole cmp key last n (x ∷ ls) (here, more) = let (whole, none) =
-    sorted_from_whole cmp key (Some (key x)) (n + 1) ls more in rw here (ap (λ (l : Lines). x ∷ l) whole, none)
+sorted_from_whole cmp key last n (x ∷ ls) (here, more) =
+    let ih = sorted_from_whole cmp key (Some (key x)) (n + 1) ls more in grind (arith, here, ih)
 
 sorted_from_start : (cmp : Cmp) (key : Key) (ls : Lines) → IsSortedFrom cmp key None ls
     → (sorted_prefix cmp key ls ≡ ls) × (first_disorder cmp key ls ≡ None)
@@ -66,11 +66,11 @@ module _ (cmp : Cmp) (o : IsKeyOrder cmp) (key : Key) where
   none_below : (xs ys : Lines) → IsSortedFrom cmp key None (xs ++ ys)
       → EachKey (λ k. is_below cmp k (last_or None (map key xs)) ≡ false) key ys
   none_below xs ys r =
-      elim (last_or None (map key xs)) as
-      (λ l. IsSortedFrom cmp key l ys → EachKey (λ k. is_below cmp k l ≡ false) key ys) [
-        | None ↦ λ h. Each-all (λ k. false ≡ false) (λ k. refl) (map key ys)
-        | Some x ↦ λ h. EachKey-weaker _ _ (λ k a. not_below cmp o k x a) _ _ (from_key x ys h)
-      ] (let (_, rest) = sorted_from_parts cmp key None xs ys r in rest)
+      let (_, rest) = sorted_from_parts cmp key None xs ys r in by (last_or None (map key xs)) rest
+    where
+      by : (l : Option (List ℕ)) → IsSortedFrom cmp key l ys → EachKey (λ k. is_below cmp k l ≡ false) key ys
+      by None h = Each-all _ (λ k. refl) (map key ys)
+      by (Some x) h = EachKey-weaker _ _ (λ k a. not_below cmp o k x a) _ _ (from_key x ys h)
 
 -- ---- the bytes received
 
@@ -190,10 +190,8 @@ of_other : (cmp : Cmp) (s : Side) (f : Side → Option FirstDisorder) (test : Op
     → test None ≡ false
     → ((d : FirstDisorder) → f (other s) ≡ Some d → test (Some (record { file = other s; first_disorder = d })) ≡ false)
     → test (earlier_disorder cmp (f First) (f Second)) ≡ false
-of_other cmp First f test none calm some = rw none (elim (f Second) as (λ g. f Second ≡ g
-    → test (earlier_disorder cmp None g) ≡ false) [ None ↦ λ e. calm | Some d ↦ λ e. some d e ] refl)
-of_other cmp Second f test none calm some = rw none (elim (f First) as (λ g. f First ≡ g
-    → test (earlier_disorder cmp g None) ≡ false) [ None ↦ λ e. calm | Some d ↦ λ e. some d e ] refl)
+of_other cmp First f test none calm some = grind (arith, none, calm, some)
+of_other cmp Second f test none calm some = grind (arith, none, calm, some)
 
 -- one input is in order, and has not ended
 module _ (tool : MergeTool) (o : IsKeyOrder tool.cmp) (eof : Side → Bool) (ls : Side → Lines) (of : Side)
@@ -218,9 +216,7 @@ module _ (tool : MergeTool) (o : IsKeyOrder tool.cmp) (eof : Side → Bool) (ls 
       ∙ (λ i. entries_by_key tool all_keys (λ side. kept side i)) ∙ by_keys_kept dec tool o p all_keys in
       record {
         rest = unlines terminator rest;
-        is = ap (unlines terminator)
-            (is ∙ ap (λ (l : Lines). l ++ rest) (sym known)) ∙ unlines-append terminator (decided_entries tool eof ls)
-            rest;
+        is = cc (is, known, unlines-append terminator (decided_entries tool eof ls) rest);
       }
     where
       kept : (side : Side)
@@ -309,9 +305,12 @@ module _ (tool : MergeTool) (o : IsKeyOrder tool.cmp) (given : Side → Received
     others side = record {
       rest = [];
       tail = tail side ++ (future side).rest;
-      same = append-nil (sorted_prefix cmp (tool.key side) (known_lines terminator (given side))) ∙ (future side).is
-          ∙ ap (λ (l : Lines). l ++ (future side).rest) (split side)
-          ∙ append_assoc (p side) (tail side) (future side).rest;
+      same = cc (
+        append-nil (sorted_prefix cmp (tool.key side) (known_lines terminator (given side))),
+        (future side).is,
+        split side,
+        append_assoc (p side) (tail side) (future side).rest,
+      );
       none_rest = tt;
       none_tail = above side;
     }

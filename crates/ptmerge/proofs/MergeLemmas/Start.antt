@@ -1,7 +1,7 @@
 -- The start of a merge: slots are added and the first line of each input is read. Nothing is processed yet, so the
 -- invariant holds with an empty output.
-use Rattle.ptmerge.proofs.Common.{◌≡◌, inl, inr, ◌≤◌, ◌<◌, Bool, cond, [], None, Err, length, refl, sym, ap, ◌+◌, ◌∙◌}
-use Rattle.ptmerge.proofs.Common.{arith, false≢true, terminator, Reader, Slots, max_length, push_nothing, MergeFault}
+use Rattle.ptmerge.proofs.Common.{◌≡◌, inl, inr, ◌≤◌, ◌<◌, Bool, cond, [], None, Err, length, refl, ap, ◌+◌, ◌∙◌}
+use Rattle.ptmerge.proofs.Common.{arith, terminator, Reader, Slots, max_length, push_nothing, MergeFault}
 use Rattle.ptmerge.proofs.Common.{Memory, Side, First, Second, Sorted, Lines, MergeTool, MergeState, MergePost}
 use Rattle.ptmerge.proofs.Common.{IsMergeUnread, NextOkPost, HasSlots, initial_cursor, base_slot, both, MergeInputs}
 use Rattle.ptmerge.proofs.Common.{StartErrPost, StartOkPost, AddedSlots, StartFirstPost, StartSlotFaultPost, ⊎_elim}
@@ -106,7 +106,7 @@ module _ {tool : MergeTool} {old : MergeState} (w : IsOpenMerge tool old) where
         (merge_invariant_starts tool old.out)
         (lag_invariant_starts _ _ _ _ _ _ w.writable (push_nothing old.out) (push_nothing old.out))
         (Err Memory) (record { denied = u.slots.denied; failed = same; clean = w.writable })
-        (λ side fail. absurd (false≢true (sym (same side ∙ w.unfailed side) ∙ fail)))
+        (λ side fail. cc (same side, w.unfailed side))
         (λ four. absurd (omega (arith, four, u.slots.few)))
         (record { first = inr (u.unread Second); second = inr (omega arith) })
         (λ all l. omega (arith, u.slots.peak, u.slots.few, w.fits all)))
@@ -151,7 +151,7 @@ module _ {tool : MergeTool} {old : MergeState} (w : IsOpenMerge tool old) where
     start_slots c = ⊎_elim (λ u. record {
       least = u.slots.least;
       most = omega (arith, u.slots.few);
-      all = λ allowed. absurd (false≢true (sym allowed ∙ u.slots.denied));
+      all = λ allowed. cc;
     }) adds_of (slots_then c)
 
     -- nothing was read if one of the first four slots could not be added

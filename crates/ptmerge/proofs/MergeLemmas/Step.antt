@@ -2,7 +2,7 @@
 -- next line has no lesser key, so the invariant holds again. A step ends the loop when both inputs are at their ends or
 -- a disorder is reported, and a fault of a write or read ends it with a prefix of the output.
 use Rattle.ptmerge.proofs.Common.{◌≡◌, ◌≢◌, ⊎_elim, inl, inr, ℕ, ◌+◌, ◌^◌, ◌≤◌, true, false, List, [], ◌∷◌, ◌++◌, Option}
-use Rattle.ptmerge.proofs.Common.{Some, None, Err, length, refl, sym, ◌∙◌, arith, is_lt, is_le, false≢true, append-nil}
+use Rattle.ptmerge.proofs.Common.{Some, None, Err, length, refl, sym, ◌∙◌, arith, is_lt, is_le, append-nil}
 use Rattle.ptmerge.proofs.Common.{Output, PushEffect, Reader, ReaderAdvance, IsDone, IsSound, Slots, line, with_line}
 use Rattle.ptmerge.proofs.Common.{unlines, IsLine, push_nothing, MergeFault, Read, Memory, Side, First, Second, Sorted}
 use Rattle.ptmerge.proofs.Common.{CursorStatus, Head, Ended, Disorder, Lines, MergeTool, FirstDisorder, entries_by_key}
@@ -271,7 +271,7 @@ module _ (tool : MergeTool) (o : IsKeyOrder tool.cmp) (old now : MergeState) (ls
 
   fails_not : (side : Side) (r : Reader) → r.failed ≡ (old.reader side).failed → r.failed ≡ true
       → IsFailedRead cmp (key side) r (ls side) (q side)
-  fails_not side r same fail = absurd (false≢true (sym (same ∙ unfailed side) ∙ fail))
+  fails_not side r same fail = cc (unfailed side)
 
   lag_invariant : LagInvariant tool b q old.out now.out
   lag_invariant = lag_invariant_starts _ _ _ _ _ _ clean m.wrote (push_nothing now.out)
@@ -497,7 +497,7 @@ module _ {tool : MergeTool} {old : MergeState} (w : IsOpenMerge tool old) {reade
   none_failed side = (a.sides side).lines_read.advance_ok.failed
 
   no_failure : (X : Side → Type 0) (side : Side) → (reader side).failed ≡ true → X side
-  no_failure X side fail = absurd (false≢true (sym (none_failed side ∙ w.unfailed side) ∙ fail))
+  no_failure X side fail = cc (none_failed side, w.unfailed side)
 
   begun : (side : Side) → HasBegun (reader side) (ls side)
   begun side = (a.sides side).begun

@@ -53,10 +53,8 @@ module _ (p : List ℕ → Bool) where
   kept_parts : (key : Key) (xs ys : Lines) → EachKey (λ k. p k ≡ true) key xs → EachKey (λ k. p k ≡ false) key ys
       → (kept key (xs ++ ys) ≡ xs) × (filter (λ line. not (p (key line))) (xs ++ ys) ≡ ys)
   kept_parts key [] [] e f = (refl, refl)
-  kept_parts key [] (y ∷ ys) e (here, more) = let (none, all) = kept_parts key [] ys tt more in
-      rw here (none, ap (λ l. y ∷ l) all)
-  kept_parts key (x ∷ xs) ys (here, more) f = let (all, none) = kept_parts key xs ys more f in
-      rw here (ap (λ l. x ∷ l) all, none)
+  kept_parts key [] (y ∷ ys) e (here, more) = let ih = kept_parts key [] ys tt more in grind (arith, here, ih)
+  kept_parts key (x ∷ xs) ys (here, more) f = let ih = kept_parts key xs ys more f in grind (arith, here, ih)
 
   -- all lines of a key pass the test if the key does
   with_key_kept : (key : Key) (k : List ℕ) (ls : Lines) → p k ≡ true
