@@ -20,7 +20,7 @@ use Rattle.ptmerge.proofs.MergeLemmas.Slots.{put_other, put_same}
 use Rattle.ptmerge.proofs.MergeLemmas.Invariant.{LagInvariant, MergeInvariant, line_is_least_run, lag_invariant_starts}
 use Rattle.ptmerge.proofs.MergeLemmas.Invariant.{write_least_run, all_keys}
 use Rattle.ptmerge.proofs.MergeLemmas.Exits.{at_current_line, state_by_side}
-use Rattle.ptmerge.proofs.MergeLemmas.Start.{start_ok, start_fault, start_slots, start_unread}
+use Rattle.ptmerge.proofs.MergeLemmas.Step.{start_ok, start_fault, start_slots, start_unread}
 use Rattle.ptmerge.specs.declared.faults.MergeFault.TheVariants as faults
 
 -- ---- each line adds one entry

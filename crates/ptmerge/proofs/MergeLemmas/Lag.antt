@@ -17,7 +17,7 @@ use Rattle.ptmerge.proofs.MergeLemmas.Invariant.{AtLeast}
 use Rattle.ptmerge.proofs.MergeLemmas.LinesRead.{IsReadAs}
 use Rattle.ptmerge.proofs.MergeLemmas.Orders.{EachKey, Each-all, EachKey-weaker, Each-parts, kept_none, IsKeyOrder}
 use Rattle.ptmerge.proofs.MergeLemmas.Orders.{AtMost, at_most_trans, self_at_most}
-use Rattle.ptmerge.proofs.Parts.Concatenation.{by_keys_kept}
+use Rattle.ptmerge.proofs.Parts.{by_keys_kept}
 use Rattle.ptmerge.proofs.MergeLemmas.Slots.{put_each, put_other, put_same}
 use Rattle.ptlines.proofs.LineSearch.{IsLine-append}
 use Rattle.ptmerge.specs.MergeSpec.{MergeDisorder}

@@ -1,9 +1,9 @@
 -- Each iteration preserves the invariant by one lemma of `Iteration` or `GroupIteration`, and each exit has the
 -- postconditions by another.
 use Rattle.ptmerge.proofs.Common.{sym, ◌∙◌, err_from_is_err_and, join_job}
-use Rattle.ptmerge.proofs.JoinLemmas.GroupIteration.{read_group_pre, read_group_fails, read_group_continues}
-use Rattle.ptmerge.proofs.JoinLemmas.GroupIteration.{group_closed, group_there, write_pairs_group, write_pairs_pre}
-use Rattle.ptmerge.proofs.JoinLemmas.GroupIteration.{pair_fails, write_pairs_next, write_pairs_continues}
+use Rattle.ptmerge.proofs.JoinLemmas.Iteration.{read_group_pre, read_group_fails, read_group_continues}
+use Rattle.ptmerge.proofs.JoinLemmas.Iteration.{group_closed, group_there, write_pairs_group, write_pairs_pre}
+use Rattle.ptmerge.proofs.JoinLemmas.Iteration.{pair_fails, write_pairs_next, write_pairs_continues}
 use Rattle.ptmerge.proofs.JoinLemmas.Iteration.{alone_continues, alone_fails, begins, end_in, eof, disordered}
 use Rattle.ptmerge.proofs.JoinLemmas.Iteration.{measure_decreases, joins, exit_as, opened, group_opens}
 use Rattle.ptmerge.proofs.JoinLemmas.Iteration.{group_opens_decreases, advance_pre, start_fails, iteration_as}
