@@ -205,6 +205,7 @@ fn write_fields<A: Allocator, W: Sink>(
 
 // Checks whether a line equals the output of its own fields, with the field of this number first.
 #[inline(always)]
+#[tactic(auto, using(crate::proofs::JoinLemmas::Fields::even_prefixed))]
 fn is_canonical(separator: Option<u8>, number: u64, line: &[u8]) -> bool
     ensures { result ≡ true → IsCanonical separator number line.now }
 {
