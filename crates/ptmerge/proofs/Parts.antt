@@ -165,8 +165,7 @@ module _ (cmp : Cmp) (o : IsKeyOrder cmp) (key : Key) where
   appended last n (x ∷ xs) ys e h (below, below_all) =
       let (calm, later) = no_disorder (is_disordered cmp last (key x)) (disorder_at last n)
       (disorder_after cmp key (Some (key x)) (n + 1) xs) e in
-      let (is, without) = appended (Some (key x)) (n + 1) xs ys later below below_all in
-      rw calm (ap (λ l. x ∷ l) is, without)
+      let ih = appended (Some (key x)) (n + 1) xs ys later below below_all in grind (arith, calm, ih)
 
   together : (xs ys : Lines) → first_disorder cmp key xs ≡ None → EachKey (λ k. EachKey (AtMost cmp k) key ys) key xs
       → (sorted_prefix cmp key (xs ++ ys) ≡ xs ++ sorted_prefix cmp key ys)
@@ -345,9 +344,7 @@ lines_of_each : (end : ℕ) (f : List ℕ → Lines) (ks es : Lines)
 lines_of_each end f [] [] = refl
 lines_of_each end f (k ∷ ks) [] = lines_of_each end f ks (f k)
 lines_of_each end f ks (e ∷ es) = the_lines_of_parts end (e ++ end ∷ []) (unlines end (es ++ flat_map f ks))
-    (inr (e, refl))
-    ∙ ap (λ l. lines end (e ++ end ∷ []) ++ l) (lines_of_each end f ks es)
-    ∙ sym (append_assoc (lines end (e ++ end ∷ [])) _ _)
+    (inr (e, refl)) ∙ rw (lines_of_each end f ks es, append_assoc) refl
 
 -- a text made of lines of another text has these lines
 lines_dealt : (end : ℕ) (q : List ℕ → Bool) (bytes : List ℕ)

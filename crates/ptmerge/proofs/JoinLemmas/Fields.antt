@@ -259,10 +259,12 @@ module _ (job : Join) (key : List ℕ) (none : job.list ≡ None) where
       (drop (length key) two) ++ end ∷ [] ≡ entry job key (of one) (of two) ++ end ∷ []
   pair_is {one} {two} end w1 w2 keyed1 keyed2 =
       let ys = with_prefix prefix (other_fields job.field2 (of two)) in
-      ap (λ (l : List ℕ). one ++ l ++ end ∷ []) (after_key key ys two (canonical_is w2 keyed2))
-      ∙ ap (λ (l : List ℕ). l ++ ys ++ end ∷ []) (canonical_is w1 keyed1)
-      ∙ ap (λ (l : List ℕ). l ++ end ∷ []) (append_assoc key (with_prefix prefix (other_fields job.field1 (of one))) ys
-      ∙ sym (entry_plain job key (Some one) (Some two) none))
+      cc (
+        after_key key ys two (canonical_is w2 keyed2),
+        canonical_is w1 keyed1,
+        append_assoc key (with_prefix prefix (other_fields job.field1 (of one))) ys,
+        entry_plain job key (Some one) (Some two) none,
+      )
 
   -- the output line for one canonical line
   pub first_is : {line : List ℕ} → IsCanonical job.separator job.field1 line → nth_field job.field1 (of line) ≡ key
@@ -299,8 +301,7 @@ pub blank_mask : (bytes : List ℕ) (at n : ℕ) → at + n ≤ length bytes →
 blank_mask bytes at n within few =
     let v = chunk at n bytes in
     let long = length-chunk at n bytes within in
-    ap (λ (ms : List Bool). mask_l ms % 2 ^ 64) (blank_lanes v n long)
-    ∙ mask_l-mod (map is_blank v) 64 (omega (arith, length-map v is_blank, long, few))
+    rw (blank_lanes v n long) (mask_l-mod (map is_blank v) 64 (omega (arith, length-map v is_blank, long, few)))
 
 -- a blank among single spaces is a space
 pub space_is : (blank : Bool) (b : ℕ) (v : List ℕ) → is_blank b ≡ true → is_single_spaced blank (b ∷ v) ≡ true
@@ -383,7 +384,7 @@ around_is separator number line (Some span) f even = whole ∙ by span.start lon
     whole = rw (remove_at fs (number - 1) word f.more f.is, flat_map-append, f.after even) refl
 
     with_word : with_prefix c (word ∷ f.more) ≡ c ∷ (word ++ rest)
-    with_word = ap (λ (l : List ℕ). c ∷ (word ++ l)) (f.after even)
+    with_word = cc (f.after even)
 
     line_is : before ++ (c ∷ (word ++ rest)) ≡ c ∷ line
     line_is =
@@ -406,10 +407,8 @@ around_is separator number line (Some span) f even = whole ∙ by span.start lon
 
     by : (start : ℕ) → length before ≡ start
         → before ++ rest ≡ cond (start == 0) rest (c ∷ take (start - 1) line ++ rest)
-    by zero none = ap (λ (l : List ℕ). l ++ rest) (nil_from_length before none)
+    by zero none = cc (nil_from_length before none)
     by (suc start) size =
         let one : suc start - 1 ≡ start = omega arith in
         let some : (suc start == 0) ≡ false = grind (arith, nat_tests) in
-        let front : before ≡ c ∷ take start line = sym (take_at before (c ∷ (word ++ rest)) (suc start) size)
-        ∙ ap (take (suc start)) line_is in
-        rw (some, one) (ap (λ (l : List ℕ). l ++ rest) front)
+        rw (some, one) (cc (take_at before (c ∷ (word ++ rest)) (suc start) size, line_is))

@@ -3,7 +3,7 @@
 -- inputs are past the key, the group is complete, and counts as processed.
 use Rattle.ptmerge.proofs.Common.{◌≡◌, ⊎_elim, inl, inr, ℕ, ◌+◌, ◌*◌, ◌≤◌, ◌<◌, ◌&&◌, Bool, true, false, List, [], ◌∷◌}
 use Rattle.ptmerge.proofs.Common.{◌++◌, Some, Err, length, max, refl, sym, ◌∙◌, ap, subst, arith, append_assoc}
-use Rattle.ptmerge.proofs.Common.{bytes_eq, bytes_decides, is_gt, false≢true, append-nil, Output, PushEffect, Reader}
+use Rattle.ptmerge.proofs.Common.{bytes_eq, bytes_decides, is_gt, append-nil, Output, PushEffect, Reader}
 use Rattle.ptmerge.proofs.Common.{ReaderAdvance, IsSound, Slots, line, total_bytes, with_line, unlines, IsLine}
 use Rattle.ptmerge.proofs.Common.{max_length, push_trans, unlines-append, MergeFault, Read, Memory, Side, First, Second}
 use Rattle.ptmerge.proofs.Common.{Sorted, CursorStatus, Head, Ended, Disorder, is_head, length-append, Lines, MergeTool}
@@ -275,8 +275,7 @@ module _ (call : JoinCall) {was mid : Output} {p g : Side → Lines} {d : Side �
         let (rest, is) = starts_pairs (g First) (lines_with_key (key First) (r First) k) (g Second) some in (
           rest ++ entries_by_key tool w (others_of tool o k r),
           front_is tool o w k g r m.own (λ side. m.beyond side (r side) (c side)) (laws.alone.none k)
-              ∙ (rw (wanted, none, append-nil (g Second), is)
-              (append_assoc (pairs k (g First) (g Second)) rest (entries_by_key tool w (others_of tool o k r)))),
+              ∙ rw (wanted, none, append-nil (g Second), is) (append_assoc (pairs k (g First) (g Second)) rest _),
         );
   }
 
@@ -455,7 +454,7 @@ module _ {call : JoinCall} {now : MergeState} {cursor : Side → Sorted} {end : 
   fails_in new buffered eof = record {
     buffered = buffered;
     eof = eof;
-    all = with_head ∙ sym (ap (λ (l : Lines). q.p s ++ l) (put_same s (g s ++ x ∷ []) g));
+    all = cc (with_head, put_same s (g s ++ x ∷ []) g);
     last = Some (key s x);
     sorted_up_to = rw put_same (rw with_head at at_head.sorted_up_to);
   }
@@ -537,14 +536,14 @@ module _ {call : JoinCall} {now : MergeState} {cursor : Side → Sorted} {end : 
     says =
         next_same_key cmp o (key s) (cursor s) next (now.reader s) reader now.store after at_head.some
         (omega (arith, q.keeps.four, (low_slot s (cursor s) (l.slots s)).previous)) comes
-        ∙ ap (λ (z : List ℕ). is_head next.status && bytes_eq z (key s (line after next.current_slot))) l.is
+        ∙ cc l.is
 
     -- whether the next line has the key of the group, too
     pub continues_key : next.same ≡ true → (next.status ≡ Head) × (key s (line after next.current_slot) ≡ k)
     continues_key same = has_key next.status k (key s (line after next.current_slot)) (sym says ∙ same)
 
     pub leaves_key : next.same ≡ false → next.status ≡ Head → ¬ (key s (line after next.current_slot) ≡ k)
-    leaves_key same head is = false≢true (sym same ∙ says ∙ (rw (head, is, same_bytes (refl {a = k})) refl))
+    leaves_key same head is = cc (says, same_bytes (refl {a = k}))
 
     -- the previous line belongs to the group
     pub record AdvancedGroup (new : Output) : Type 0 where

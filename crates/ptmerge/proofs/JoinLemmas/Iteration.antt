@@ -14,7 +14,7 @@ use Rattle.ptmerge.proofs.Common.{JoinStepPre, AdvancePre, push_nothing, other, 
 use Rattle.ptmerge.proofs.Common.{max_group_lines, inl, inr, ReadGroupLineOkPost, ReadGroupLinePost, IsGroup}
 use Rattle.ptmerge.proofs.Common.{ClearGroupPost, group_end_slot, group_first_slot, group, JoinLinePre, ⊎_elim, ◌-◌}
 use Rattle.ptmerge.proofs.Common.{◌==◌, push_trans, nat_tests, length_push, unlines-append, append_assoc}
-use Rattle.ptmerge.proofs.Common.{merged_entries, nil_from_length, CopyToGroupPost, ReadGroupLineErrPost, false≢true}
+use Rattle.ptmerge.proofs.Common.{merged_entries, nil_from_length, CopyToGroupPost, ReadGroupLineErrPost}
 use Rattle.ptmerge.proofs.MergeLemmas.Step.{open_merge, slots_of, wrote_as, IsLineByLine, alone, current_key_is_above}
 use Rattle.ptmerge.proofs.MergeLemmas.Step.{IsOpenMerge as OpenMerge, write_one_line, IsAbove, reads_ahead}
 use Rattle.ptmerge.proofs.MergeLemmas.Step.{measure_less, own_reader_kept, place_is, LoopInvariant, CursorsInvariant}
@@ -83,8 +83,7 @@ module _ (job : Join) (cmp : Cmp) (key : Side → Key) where
     none = λ k g. cond_of_empty job.pairs;
     more = λ k f g c.
         let each = λ (a : List ℕ). map (pair_of job k a) c in
-        ap (λ l. cond job.pairs l []) (flat_map-append each f g)
-        ∙ cond_of_append job.pairs (flat_map each f) (flat_map each g);
+        cc (flat_map-append each f g, cond_of_append job.pairs (flat_map each f) (flat_map each g));
     whole = λ k a b f g. refl;
     written = λ keeps k a b f g. rw keeps (omega arith);
     unwritten = λ none k f g. rw none;
@@ -552,9 +551,9 @@ module _ {job : Join} {cmp : Cmp} {key : Side → Key} {old : MergeState} {phase
           where
             by : (t : Bool) → call.keeps_groups ≡ t → (f : Lines)
                 → call.pairs a.k f (y ∷ []) ≡ call.pairs a.k f (a.g ++ y ∷ [])
-            by true keeps f = ap (λ (l : Lines). call.pairs a.k f (l ++ y ∷ [])) (sym none ∙ all_copied keeps)
+            by true keeps f = cc (all_copied keeps)
             by false without f =
-                call.laws.unwritten without a.k f (y ∷ []) ∙ sym (call.laws.unwritten without a.k f (a.g ++ y ∷ []))
+                cc (call.laws.unwritten without a.k f (y ∷ []), call.laws.unwritten without a.k f (a.g ++ y ∷ []))
 
         -- the previous line was copied, too
         module _ {after : Slots} (keeps : call.keeps_groups ≡ true)
@@ -571,13 +570,14 @@ module _ {job : Join} {cmp : Cmp} {key : Side → Key} {old : MergeState} {phase
               (omega (arith, a.q.at, length_push a.kept y))
 
           all_copied_too : a.kept ++ y ∷ [] ≡ a.g ++ y ∷ []
-          all_copied_too = ap (λ (l : Lines). l ++ y ∷ []) (all_copied keeps)
+          all_copied_too = cc (all_copied keeps)
 
           reads_more : two2.same ≡ true
               → ReadGroup call (state_after_read now Second reader out after) (with_side Second two2 (both one two))
               (end + 1)
           reads_more more =
-              reads_by after kept_too.same group_on more (all_copied_too ∙ sym (λ i. cond (keeps i) (a.g ++ y ∷ []) []))
+              reads_by after kept_too.same group_on more
+              (all_copied_too ∙ sym (λ i. cond (keeps i) (a.g ++ y ∷ []) []))
 
       module _ {one2 two2 : Sorted} {reader : Reader} {after : Slots} {to : ℕ}
           (h : ReadGroupLineOkPost call.keeps_groups (key Second) cmp two two2 (now.reader Second) reader now.store
@@ -585,7 +585,7 @@ module _ {job : Join} {cmp : Cmp} {key : Side → Key} {old : MergeState} {phase
         pub read_group_continues : two2.same ≡ true
             → IterationInvariant job cmp key old phase (state_after_read now Second reader out after) one2 two2 to
         read_group_continues same = iteration_continues t {next = phase} Second continues (rw is (⊎_elim (λ e.
-            let without = ⊎_elim (λ none. none) (λ (differs, _). absurd (false≢true (sym differs ∙ same))) e.stays in
+            let without = ⊎_elim (λ none. none) (λ (differs, _). cc) e.stays in
             rw (e.end_is, e.store_is) (reads_by h.came _ (λ i low. refl) (on_second h.came).group same
             (none_copied without ∙ sym (λ i. cond (without i) (a.g ++ y ∷ []) []))))
             (λ e. rw e.end_is (reads_more h.came e.keeps e.copied same)) h.kept))
@@ -707,7 +707,7 @@ module _ {job : Join} {cmp : Cmp} {key : Side → Key} {old : MergeState} {phase
         two.previous_slot ∷ []
         = rw (is_alone h.none) (group_one now.store two.previous_slot
         (omega (arith, written.q.keeps.four, (low_slot Second two (slots t Second)).previous))) in
-        ap (λ (l : Lines). pair_entries job written.k f l) one ∙ h.same_pairs f) written.lines_in
+        cc (one, h.same_pairs f)) written.lines_in
 
     pub write_pairs_group : IsGroup (join_key job Second) two now.store end
         (key First (line now.store one.current_slot))

@@ -73,8 +73,7 @@ ends_mask test bytes n first all few =
     (rw size at (mask_l-lt (drop last bits))) (omega (arith, all, first, few)) in
     let whole : mask_l (drop last bits) * 2 ^ last % 2 ^ 64 ≡ 2 ^ last * mask_l (drop last bits) = omega
     (arith, small, mul_comm (mask_l (drop last bits)) (2 ^ last), mod-eq_of_lt small) in
-    (λ i. bit_or (mask_l (front i)) (mask_l (tail i) * 2 ^ last % 2 ^ 64)) ∙ ap (bit_or (mask_l (take n bits))) whole
-    ∙ or_ends last n bits (omega (arith, all, first))
+    cc (front, tail, whole, or_ends last n bits (omega (arith, all, first)))
   where
     fits : (m n last : ℕ) → m < 2 ^ n → n + last ≤ 64 → m * 2 ^ last < 2 ^ 64
     fits m n last low le =
@@ -291,7 +290,7 @@ word_end v = prefix_len not (after_run (marks v))
 
 split_byte : (b : ℕ) (v : List ℕ) {t : Bool} → is_blank b ≡ t
     → slice_split is_blank (b ∷ v) ≡ cond t ([] ∷ slice_split is_blank v) (onto_first b (slice_split is_blank v))
-split_byte b v e = ap (λ (t : Bool). cond t ([] ∷ slice_split is_blank v) (onto_first b (slice_split is_blank v))) e
+split_byte b v e = rw e refl
 
 -- the bytes continue a word for `size` bytes
 record InWord (v : List ℕ) (size : ℕ) (cleared : List Bool) : Type 0 where
@@ -322,10 +321,9 @@ in_word (b ∷ v) = by (in_word v) (is_blank b) refl
           more = slice_split is_blank v;
           split = split;
           words = sym (ap (filter is_nonempty) split);
-          rest = ap (λ (t : Bool). not t ∷ marks v) (sym e);
+          rest = cc;
           next = λ s. s;
-          spaced = λ s. let space = space_is false b v e s in single_spaced_words true v space.1
-              ∙ ap (λ (x : ℕ). x ∷ v) (sym space.0);
+          spaced = λ s. (let (is_space, spaced) = space_is false b v e s in cc (single_spaced_words true v spaced));
         }
     by w false e =
         let n = prefix_len not (after_ones (marks v)) in
@@ -333,9 +331,9 @@ in_word (b ∷ v) = by (in_word v) (is_blank b) refl
         subst (λ (k : ℕ). InWord (b ∷ v) k (false ∷ clear_ones (marks v))) one (record {
           high = omega (arith, w.high);
           more = w.more;
-          split = split_byte b v e ∙ ap (onto_first b) w.split;
+          split = cc (split_byte b v e, w.split);
           words = w.words;
-          rest = ap (λ (l : List Bool). false ∷ l) w.rest;
+          rest = cc w.rest;
           next = λ s. w.next (letter_is false b v e s);
           spaced = λ s. w.spaced (letter_is false b v e s);
         })
@@ -369,9 +367,8 @@ word_at (b ∷ v) some = by (word_at v) (is_blank b) refl some
         (subst (λ (k : ℕ). WordAt (b ∷ v) (suc start) k (false ∷ clear_run (marks v))) one_end (record {
           low = omega (arith, w.low);
           high = omega (arith, w.high);
-          is = ap (filter is_nonempty) (split_byte b v e) ∙ w.is
-              ∙ ap (λ (n : ℕ). take n (drop start v) ∷ join_fields None (drop end v)) (sym size);
-          rest = ap (λ (l : List Bool). false ∷ l) w.rest;
+          is = cc (split_byte b v e, w.is, size);
+          rest = cc w.rest;
           next = λ blank s. w.next true (space_is blank b v e s).1;
           spaced = λ blank s. w.spaced true (space_is blank b v e s).1;
         }))
@@ -383,13 +380,10 @@ word_at (b ∷ v) some = by (word_at v) (is_blank b) refl some
         subst (λ (k : ℕ). WordAt (b ∷ v) 0 k (false ∷ clear_ones (marks v))) one (record {
           low = omega arith;
           high = omega (arith, w.high);
-          is = ap (filter is_nonempty) (split_byte b v e)
-              ∙ ap (λ (l : Lines). filter is_nonempty (onto_first b l)) w.split
-              ∙ ap (λ (l : Lines). (b ∷ take n v) ∷ l) w.words
-              ∙ ap (λ (m : ℕ). take m (b ∷ v) ∷ join_fields None (drop n v)) (sym size);
-          rest = ap (λ (l : List Bool). false ∷ l) w.rest;
+          is = cc (split_byte b v e, w.split, w.words, size);
+          rest = cc w.rest;
           next = λ blank s. w.next (letter_is blank b v e s);
-          spaced = λ blank s. ap (with_prefix 32) (sym w.words) ∙ w.spaced (letter_is blank b v e s);
+          spaced = λ blank s. cc (w.words, w.spaced (letter_is blank b v e s));
         })
 
 no_words : (v : List ℕ) → mask_l (marks v) ≡ 0 → join_fields None v ≡ []
@@ -398,7 +392,7 @@ no_words (b ∷ v) none = by (no_words v) (is_blank b) refl none
   where
     by : (mask_l (marks v) ≡ 0 → join_fields None v ≡ []) → (t : Bool) → is_blank b ≡ t → mask_l (not t ∷ marks v) ≡ 0
         → join_fields None (b ∷ v) ≡ []
-    by more true e none = ap (filter is_nonempty) (split_byte b v e) ∙ more (omega (arith, none))
+    by more true e none = cc (split_byte b v e, more (omega (arith, none)))
     by more false e none = absurd (omega (arith, none))
 
 -- ---- after some bytes
@@ -493,16 +487,19 @@ module _ {line : List ℕ} {passed words : ℕ} (short : length line < 64) (left
     after = bit_or words (words - 1) + 1
 
     after_is : after ≡ mask_l (after_run bits)
-    after_is = ap (λ (x : ℕ). bit_or x (x - 1) + 1) left.mask ∙ or_less bits some_bits
+    after_is = cc (left.mask, or_less bits some_bits)
 
     start_is : count_trailing_zeros 64 words ≡ left.at + word_start rest
-    start_is = ap (count_trailing_zeros 64) left.mask ∙ lowest bits (omega (arith, bits_long, short)) some_bits
-        ∙ from_prefix_len left.at (marks rest)
+    start_is =
+        cc (left.mask, lowest bits (omega (arith, bits_long, short)) some_bits, from_prefix_len left.at (marks rest))
 
     end_is : count_trailing_zeros 64 after ≡ left.at + word_end rest
-    end_is = ap (count_trailing_zeros 64) after_is ∙ lowest (after_run bits)
-        (omega (arith, length-after_run bits, bits_long, short)) (some_after_run bits some_bits)
-        ∙ ap (prefix_len not) (from_after left.at (marks rest)) ∙ from_prefix_len left.at (after_run (marks rest))
+    end_is = cc (
+      after_is,
+      lowest (after_run bits) (omega (arith, length-after_run bits, bits_long, short)) (some_after_run bits some_bits),
+      from_after left.at (marks rest),
+      from_prefix_len left.at (after_run (marks rest)),
+    )
 
     -- the first of them is passed
     pub word_passed : WordsLeft line (passed + 1) (bit_and words after)
@@ -514,12 +511,16 @@ module _ {line : List ℕ} {passed words : ℕ} (short : length line < 64) (left
         record {
           at = left.at + end;
           within = omega (arith, w.high, length-drop left.at line, left.within);
-          mask = (λ i. bit_and (left.mask i) (after_is i)) ∙ and_run bits
-              ∙ ap mask_l (from_clear left.at (marks rest) ∙ ap (from left.at) w.rest
-              ∙ from_from left.at end (marks (drop end rest))
-              ∙ ap (λ (l : List ℕ). from (left.at + end) (marks l)) there);
-          fields = sym (drop-drop 1 passed (join_fields None line)) ∙ ap (drop 1) (left.fields ∙ w.is)
-              ∙ ap (join_fields None) there;
+          mask = cc (
+            left.mask,
+            after_is,
+            and_run bits,
+            from_clear left.at (marks rest),
+            w.rest,
+            from_from left.at end (marks (drop end rest)),
+            there,
+          );
+          fields = cc (drop-drop 1 passed (join_fields None line), left.fields, w.is, there);
           spaced = λ s. (false, rw there at (w.next (left.spaced s).0 (left.spaced s).1));
         }
 
@@ -538,8 +539,7 @@ module _ {line : List ℕ} {passed words : ℕ} (short : length line < 64) (left
         omega (arith, start_is, end_is) in
         record {
           more = join_fields None (drop end rest);
-          is = ap (λ (n : ℕ). drop n (join_fields None line)) (sym is) ∙ left.fields ∙ w.is
-              ∙ (λ i. take (size i) (here i) ∷ join_fields None (drop end rest));
+          is = cc (left.fields, w.is, size, here);
           ordered = omega (arith, start_is, end_is, w.low);
           within = omega (arith, end_is, w.high, length-drop left.at line, left.within);
           after = λ s. w.spaced (left.spaced s).0 (left.spaced s).1 ∙ there;

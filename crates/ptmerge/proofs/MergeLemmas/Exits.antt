@@ -204,7 +204,7 @@ module _ (end : ℕ) (cmp : Cmp) (o : IsKeyOrder cmp) (key : Key) (old now new :
     at_fall (Some k) apart sorted_up_to (_, is) falls_now =
         let kept : line after cursor.current_slot ≡ line before cursor.current_slot = rw e.stored
         (line_other before cursor.previous_slot cursor.current_slot e.line (λ i. apart (sym i))) in
-        let key_is : k ≡ key (line after cursor.current_slot) = is ∙ ap key (sym kept) in
+        let key_is : k ≡ key (line after cursor.current_slot) = cc in
         at_next (Some k) (e.line ∷ []) e.line (next_cursor (Disorder (cursor.number + 1)) (cursor.number + 1) same)
         (AfterDisorder (record { last_key = k; line = length ls + 1 })) (lines_read_more lines_read e)
         (inr (omega (arith, length_push ls e.line))) sound

@@ -291,10 +291,12 @@ module _ (tool : MergeTool) where
     split = λ w r c.
         let none = λ (side : Side). rw append-nil at (u side [] (may_follow_none cmp (key side) (d side))) in
         (λ i. entries_by_key tool w (λ side. append_assoc (p side) (f side) (r side) i))
-        ∙ s.split w (λ side. f side ++ r side) (λ side. u side (r side) (c side))
-        ∙ ap (λ l. entries_by_key tool w p ++ l) (front w r c)
-        ∙ sym (append_assoc (entries_by_key tool w p) (entries_by_key tool w f) (entries_by_key tool w r))
-        ∙ ap (λ l. l ++ entries_by_key tool w r) (sym (s.split w f none));
+        ∙ cc (
+          s.split w (λ side. f side ++ r side) (λ side. u side (r side) (c side)),
+          s.split w f none,
+          front w r c,
+          append_assoc (entries_by_key tool w p) (entries_by_key tool w f) (entries_by_key tool w r),
+        );
   }
 
 -- ---- the bytes written
@@ -520,5 +522,4 @@ input_split {tool} o {b} {p} {ls} m s =
     (λ k u1 u2. written_is_wanted tool.cmp o (b First) (b Second) (first_disorder tool.cmp (tool.key First) (ls First))
     (first_disorder tool.cmp (tool.key Second) (ls Second)) k
     (s.may_disorder First) (s.may_disorder Second) u1 u2) (p side) (m.under First side) (m.under Second side)) in
-    (λ i. entries_by_key tool w (λ side. s.parts side i)) ∙ m.splits.split w s.r s.may_follow
-    ∙ ap (λ l. l ++ entries_by_key tool w s.r) first
+    (λ i. entries_by_key tool w (λ side. s.parts side i)) ∙ cc (m.splits.split w s.r s.may_follow, first)
