@@ -103,27 +103,24 @@ record EnsuredSlot (before made : Slots) (slot : ℕ) : Type 0 where
 
 ensured_slot : (before made : Slots) (slot : ℕ) → EnsureSlotPost before made slot → EnsuredSlot before made slot
 ensured_slot before made slot g =
-    let kept : slot < length before.lines → length made.lines ≡ length before.lines =
-    λ low. ap (λ (s : Slots). length s.lines) (g.there low) in
-    ⊎_elim (λ e.
-    let same = ap (λ (s : Slots). length s.lines) e in
-    record {
+    let kept : slot < length before.lines → length made.lines ≡ length before.lines = λ low. cc (g.there low) in
+    ⊎_elim (λ e. rw e (record {
       more = [];
-      lines = ap (λ (s : Slots). s.lines) e ∙ sym (append-nil before.lines);
+      lines = sym (append-nil before.lines);
       empty = refl;
-      slots = omega (arith, same);
-      peak = rw e refl;
-      denied = rw e refl;
-    })
+      slots = omega arith;
+      peak = refl;
+      denied = refl;
+    }))
     (λ e.
-    let more = ap (λ (s : Slots). length s.lines) e ∙ length_push before.lines [] in
+    let more : length made.lines ≡ length before.lines + 1 = cc (length_push before.lines []) in
     record {
       more = [] ∷ [];
-      lines = rw e refl;
+      lines = cc;
       empty = refl;
       slots = (omega (arith, more), grind (arith, more, kept));
-      peak = rw e refl;
-      denied = rw e refl;
+      peak = cc;
+      denied = cc;
     }) g.grown
 
 pub failed_copy : (before made : Slots) (to : ℕ) → EnsureSlotPost before made to
@@ -288,7 +285,7 @@ group_store_line {store = store} {after} {ls} {now} {g} s cursor slots x k up fi
       lines = inside;
       bounds = λ all more e.
           let bounds = k.bounds all (continues_key.more ++ more)
-          (e ∙ ap (λ (l : Lines). l ++ more) continues_key.is ∙ append_assoc (ls Second) continues_key.more more) in
+          (cc (continues_key.is, append_assoc (ls Second) continues_key.more more)) in
           omega (arith, bounds, up First, up Second, sum, size);
       least = omega (arith, k.least, size);
       four = omega (arith, k.four, size);
@@ -365,7 +362,7 @@ module _ {most : GroupBounds} {before store : Slots} {ls : Side → Lines} {g : 
             store_holds = by_tail (k.tail ++ w.more)
                 (omega (arith, sum_by-append length k.tail w.more, k.empty, w.empty))
                 (omega (arith, within, at, ap length split, length-drop 4 made.lines))
-                (rw at (drop-set-add 4 made.lines (length g) y) ∙ ap (λ (l : Lines). set l (length g) y) split);
+                (cc (drop-set-add 4 made.lines (length g) y));
             same = first_same;
           }
 

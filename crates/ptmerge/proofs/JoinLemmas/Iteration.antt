@@ -256,15 +256,27 @@ module _ {job : Join} {cmp : Cmp} {key : Side → Key} {old : MergeState} (a : I
         slots = record { least = adds.least; all = λ fine. omega (arith, adds.all fine) };
       })
 
+-- the number of slots after the group could not be extended
+pub read_group_slots : {keep : Bool} {key : Key} {cmp : Cmp} {cursor next : Sorted} {was is : Reader}
+    {before after : Slots} {end : ℕ} (fault : MergeFault)
+    → ReadGroupLineErrPost keep key cmp cursor next was is before after end fault
+    → length before.lines ≤ length after.lines
+read_group_slots fault (inl e) = omega (arith, next_keeps_slot_count _ _ _ _ _ _ _ _ e.came, e.copy_failed.slots)
+read_group_slots {cursor = cursor} {was = was} {is = is} {before = before} {after = after} fault (inr e) =
+    omega (arith, next_error_keeps_slot_count Second cursor was is before after fault e)
+
 module _ {job : Join} {cmp : Cmp} {key : Side → Key} {old : MergeState} {phase : JoinPhase} {now : MergeState}
     {one two : Sorted} {end : ℕ}
     (t : IterationInvariant job cmp key old phase now one two end) where
   open t.opened.w use {o}
 
+  abbrev call : JoinCall
+  call = join_call_of t.opened
+
   pub slots : (side : Side) → HasSlots side (both one two side)
   slots = slots_of one two now.store t.valid_cursors
 
-  bounds : (p : JoinPhase) → PhaseInvariant (join_call_of t.opened) p now (both one two) end
+  bounds : (p : JoinPhase) → PhaseInvariant call p now (both one two) end
       → GroupSlotsExist old.store now.store end
   bounds phases.BetweenGroups (r, at) = record { end_in = omega (arith, at, r.keeps.four); least = r.keeps.least }
   bounds phases.ReadGroup r =
@@ -289,12 +301,12 @@ module _ {job : Join} {cmp : Cmp} {key : Side → Key} {old : MergeState} {phase
 
   pub iteration_continues : {next : JoinPhase} (s : Side) {one2 two2 : Sorted} {reader : Reader} {after : Slots}
       {new : Output} {to : ℕ} → IsReadyToContinue key s one two one2 two2 reader after new
-      → PhaseInvariant (join_call_of t.opened) next (state_after_read now s reader new after)
+      → PhaseInvariant call next (state_after_read now s reader new after)
       (with_side s (both one2 two2 s) (both one two)) to → IterationInvariant job cmp key old next
       (state_after_read now s reader new after) one2 two2 to
   iteration_continues {next} s {one2} {two2} {reader} {after} {new} {to} continues phased = record {
     opened = t.opened;
-    phased = subst (λ (cursor : Side → Sorted). PhaseInvariant (join_call_of t.opened) next
+    phased = subst (λ (cursor : Side → Sorted). PhaseInvariant call next
         (state_after_read now s reader new after) cursor to) (place_is s one two one2 two2 continues.others) phased;
     valid_cursors = continues.valid_cursors;
     own_reader =
@@ -324,10 +336,10 @@ module _ {job : Join} {cmp : Cmp} {key : Side → Key} {old : MergeState} {phase
   -- ---- between groups
 
   module _ (is : phase ≡ phases.BetweenGroups) where
-    between : BetweenGroups (join_call_of t.opened) now (both one two) × (end ≡ 4)
+    between : BetweenGroups call now (both one two) × (end ≡ 4)
     between = rw is at t.phased
 
-    r : BetweenGroups (join_call_of t.opened) now (both one two)
+    r : BetweenGroups call now (both one two)
     r = let (here, _) = between in here
 
     no_copies : end ≡ 4
@@ -335,7 +347,7 @@ module _ {job : Join} {cmp : Cmp} {key : Side → Key} {old : MergeState} {phase
 
     stood_at : CursorsInvariant (join_with job cmp key) old now.reader (both one two) now.store r.ls r.p r.b
     stood_at =
-        record { sides = r.sides; holds = store_between_groups (join_call_of t.opened) r.keeps slots; slots = slots }
+        record { sides = r.sides; holds = store_between_groups call r.keeps slots; slots = slots }
 
     -- a step for an unpaired line
     module _ {s : Side} (step : HasOnlyLeastKey cmp key (both one two) now.store s) {new : Output}
@@ -434,28 +446,6 @@ module _ {job : Join} {cmp : Cmp} {key : Side → Key} {old : MergeState} {phase
       disordered step = exit_post refl (omega (arith, clear.slots))
           (ends_fallen t.opened.w stood_at r.merge_invariant t.clean clear step)
 
--- ---- within a group
-
--- The second input is read, or the pairs of a line of the first are written. Each preserves the invariant of the group,
--- since it adds one line to it.
-
--- the number of slots after the group could not be extended
-pub read_group_slots : {keep : Bool} {key : Key} {cmp : Cmp} {cursor next : Sorted} {was is : Reader}
-    {before after : Slots} {end : ℕ} (fault : MergeFault)
-    → ReadGroupLineErrPost keep key cmp cursor next was is before after end fault
-    → length before.lines ≤ length after.lines
-read_group_slots fault (inl e) = omega (arith, next_keeps_slot_count _ _ _ _ _ _ _ _ e.came, e.copy_failed.slots)
-read_group_slots {cursor = cursor} {was = was} {is = is} {before = before} {after = after} fault (inr e) =
-    omega (arith, next_error_keeps_slot_count Second cursor was is before after fault e)
-
-module _ {job : Join} {cmp : Cmp} {key : Side → Key} {old : MergeState} {phase : JoinPhase} {now : MergeState}
-    {one two : Sorted} {end : ℕ}
-    (t : IterationInvariant job cmp key old phase now one two end) where
-  open t.opened.w use {o}
-
-  abbrev call : JoinCall
-  call = join_call_of t.opened
-
   -- ---- reading the group
 
   module _ (is : phase ≡ phases.ReadGroup) where
@@ -463,7 +453,7 @@ module _ {job : Join} {cmp : Cmp} {key : Side → Key} {old : MergeState} {phase
     a = rw is at t.phased
 
     pub read_group_pre : AdvancePre key Second one two (now.reader Second) now.store
-    read_group_pre = advance_pre t Second (a.heads Second).head
+    read_group_pre = advance_pre Second (a.heads Second).head
 
     -- the copied lines are all lines read, or none
     all_copied : call.keeps_groups ≡ true → a.kept ≡ a.g
@@ -476,7 +466,7 @@ module _ {job : Join} {cmp : Cmp} {key : Side → Key} {old : MergeState} {phase
     y = line now.store two.current_slot
 
     at_second : IsAtGroupLine a.q Second
-    at_second = record { slots = slots t; at_key = a.heads Second }
+    at_second = record { slots = slots; at_key = a.heads Second }
 
     -- the output buffered before the group was written out
     module _ {out : Output} (written_out : PushEffect now.out out []) where
@@ -504,7 +494,7 @@ module _ {job : Join} {cmp : Cmp} {key : Side → Key} {old : MergeState} {phase
         module _ (after : Slots) (same : (i : ℕ) → i < 4 → line after i ≡ line made i) where
           key1_on : key First (line after one.current_slot) ≡ a.k
           key1_on = let (stays, _) = others_stay at_second comes in
-              rw (same one.current_slot (low_slot First one (slots t First)).current, stays) (a.heads First).is
+              rw (same one.current_slot (low_slot First one (slots First)).current, stays) (a.heads First).is
 
           stays : line after two2.current_slot ≡ line made two2.current_slot
           stays = same two2.current_slot (low_slot Second two2 (next_slots at_second comes Second)).current
@@ -584,7 +574,7 @@ module _ {job : Join} {cmp : Cmp} {key : Side → Key} {old : MergeState} {phase
           after end to) (continues : IsReadyToContinue key Second one two one2 two2 reader after out) where
         pub read_group_continues : two2.same ≡ true
             → IterationInvariant job cmp key old phase (state_after_read now Second reader out after) one2 two2 to
-        read_group_continues same = iteration_continues t {next = phase} Second continues (rw is (⊎_elim (λ e.
+        read_group_continues same = iteration_continues {next = phase} Second continues (rw is (⊎_elim (λ e.
             let without = ⊎_elim (λ none. none) (λ (differs, _). cc) e.stays in
             rw (e.end_is, e.store_is) (reads_by h.came _ (λ i low. refl) (on_second h.came).group same
             (none_copied without ∙ sym (λ i. cond (without i) (a.g ++ y ∷ []) []))))
@@ -592,7 +582,7 @@ module _ {job : Join} {cmp : Cmp} {key : Side → Key} {old : MergeState} {phase
 
         pub write_pairs_next : two2.same ≡ false → IterationInvariant job cmp key old phases.WritePairs
             (state_after_read now Second reader out after) one2 two2 to
-        write_pairs_next same = iteration_continues t {next = phases.WritePairs} Second continues (⊎_elim (λ e.
+        write_pairs_next same = iteration_continues {next = phases.WritePairs} Second continues (⊎_elim (λ e.
             let none = ⊎_elim none_copied (λ (_, four). nil_from_length a.kept (omega (arith, four, a.q.at))) e.stays in
             rw (e.end_is, e.store_is) (pairs_by h.came _ (λ i low. refl) (on_second h.came).group same
             (inr (one_for_all h.came none))))
@@ -658,14 +648,14 @@ module _ {job : Join} {cmp : Cmp} {key : Side → Key} {old : MergeState} {phase
           → r ≡ Err fault
           → ReadGroupLinePost call.keeps_groups (key Second) cmp two two2 (now.reader Second) reader now.store after out
           end (Err fault) → ExitPost job cmp key old (state_after_read now Second reader out after) r
-      read_group_fails {reader = reader} is_fault (inl (is_write, e)) = exit_post t is_fault
+      read_group_fails {reader = reader} is_fault (inl (is_write, e)) = exit_post is_fault
           (omega (arith, ap (λ (z : Slots). length z.lines) e.store)) (same_state _ _ Second now _ reader _ _ is_write e
           (group_exit o _ _ a.q.within (group_read_facts a.q) (starts_none call a.q.within) wrote_none (group_begun a.q)
           (record { write_failed = e.write_failed; failed = none_failed a.q; denied = a.q.keeps.denied })
           (λ side. not_failed call side (none_failed a.q side)) (λ input pushed. tt) tt
           (fits_kept call a.q.keeps now.store (omega arith) refl)))
       read_group_fails {fault = fault} is_fault (inr (fine, e)) =
-          exit_post t is_fault (read_group_slots fault e) (read_group_fault fine fault e)
+          exit_post is_fault (read_group_slots fault e) (read_group_fault fine fault e)
 
   -- ---- writing pairs
 
@@ -674,7 +664,7 @@ module _ {job : Join} {cmp : Cmp} {key : Side → Key} {old : MergeState} {phase
     written = rw is at t.phased
 
     pub write_pairs_pre : JoinLinePre job key First one two (now.reader First) now.store now.out
-    write_pairs_pre = record { status_is = advance_pre t First written.head.head; joins = joins t }
+    write_pairs_pre = record { status_is = advance_pre First written.head.head; joins = joins }
 
     is_kept : written.kept ≡ written.g Second → (end == 4) ≡ false
     is_kept same = let more : 4 < end = omega (arith, written.q.at, ap length same, written.some) in grind (arith, nat_tests)
@@ -706,13 +696,13 @@ module _ {job : Join} {cmp : Cmp} {key : Side → Key} {old : MergeState} {phase
         let one : group now.store (group_first_slot two end) (group_end_slot two end) ≡ line now.store
         two.previous_slot ∷ []
         = rw (is_alone h.none) (group_one now.store two.previous_slot
-        (omega (arith, written.q.keeps.four, (low_slot Second two (slots t Second)).previous))) in
+        (omega (arith, written.q.keeps.four, (low_slot Second two (slots Second)).previous))) in
         cc (one, h.same_pairs f)) written.lines_in
 
     pub write_pairs_group : IsGroup (join_key job Second) two now.store end
         (key First (line now.store one.current_slot))
     write_pairs_group = record {
-      within = end_in t;
+      within = end_in;
       keyed = λ slot from low. sym
           (t.opened.keys Second (line now.store slot)) ∙ keyed_slot slot from low ∙ sym written.head.is;
     }
@@ -721,7 +711,7 @@ module _ {job : Join} {cmp : Cmp} {key : Side → Key} {old : MergeState} {phase
     z = line now.store one.current_slot ∷ []
 
     at_first : IsAtGroupLine written.q First
-    at_first = record { slots = slots t; at_key = written.head }
+    at_first = record { slots = slots; at_key = written.head }
 
     module _ {new : Output}
         (pushed : PushEffect now.out new (unlines (now.reader First).terminator (pair_entries job (key First (line now.store one.current_slot)) z
@@ -743,7 +733,7 @@ module _ {job : Join} {cmp : Cmp} {key : Side → Key} {old : MergeState} {phase
       pub pair_fails : {reader : Reader} {after : Slots} {fault : MergeFault} {r : Result (Unit {0}) MergeFault}
           → r ≡ Err fault → AdvanceErrPost First one (now.reader First) reader now.store after new fault
           → ExitPost job cmp key old (state_after_read now First reader new after) r
-      pair_fails {reader} is_fault (inl (is_write, e)) = exit_post t is_fault
+      pair_fails {reader} is_fault (inl (is_write, e)) = exit_post is_fault
           (omega (arith, ap (λ (z : Slots). length z.lines) e.store)) (same_state _ _ First now _ reader _ _ is_write e
           (group_exit o old (record now { out = new }) {now = now.reader} {piece = λ side. []} {ls = written.q.ls}
           (within_more at_first)
@@ -756,7 +746,7 @@ module _ {job : Join} {cmp : Cmp} {key : Side → Key} {old : MergeState} {phase
           (record { write_failed = e.write_failed; failed = none_failed written.q; denied = written.q.keeps.denied })
           (λ side. not_failed call side (none_failed written.q side)) (λ input pushed. tt) tt
           (fits_kept call written.q.keeps now.store (omega arith) refl)))
-      pair_fails {reader} {fault = fault} is_fault (inr (fine, e)) = exit_post t is_fault
+      pair_fails {reader} {fault = fault} is_fault (inr (fine, e)) = exit_post is_fault
           (omega (arith, next_error_keeps_slot_count First one _ _ _ _ fault e))
           (group_breaks at_first fine pairs_begin wrote_more reader fault e)
 
@@ -769,11 +759,11 @@ module _ {job : Join} {cmp : Cmp} {key : Side → Key} {old : MergeState} {phase
         above_on = rw on_first.bound written.above
 
         pub group_there : (4 ≤ end) × (end ≤ length after.lines)
-        group_there = omega (arith, end_in t, next_keeps_slot_count _ _ _ _ _ _ _ _ h.came)
+        group_there = omega (arith, end_in, next_keeps_slot_count _ _ _ _ _ _ _ _ h.came)
 
         pub write_pairs_continues : one2.same ≡ true
             → IterationInvariant job cmp key old phase (state_after_read now First reader new after) one2 two2 end
-        write_pairs_continues same = iteration_continues t {next = phase} First h.continues (rw is (record {
+        write_pairs_continues same = iteration_continues {next = phase} First h.continues (rw is (record {
           k = written.k;
           g = with_added_line now (both one two) First written.g;
           kept = written.kept;
@@ -789,7 +779,7 @@ module _ {job : Join} {cmp : Cmp} {key : Side → Key} {old : MergeState} {phase
             one2 two2 4
         group_closed {cleared} clear same =
             let q = on_first.group in
-            iteration_continues t {next = phases.BetweenGroups} First
+            iteration_continues {next = phases.BetweenGroups} First
             (record {
               clean = h.continues.clean;
               others = h.continues.others;

@@ -85,8 +85,7 @@ shape_of end given ls now (inr (is, _)) = let (all, ends) =
 
 last_of : {A : Type 0} (xs : List A) → (xs ≡ []) ⊎ ((front : List A) × (x : A) × (xs ≡ front ++ x ∷ []))
 last_of [] = inl refl
-last_of (x ∷ xs) = ⊎_elim (λ none. inr ([], x, ap (λ l. x ∷ l) none))
-    (λ (front, y, is). inr (x ∷ front, y, ap (λ l. x ∷ l) is)) (last_of xs)
+last_of (x ∷ xs) = ⊎_elim (λ none. inr ([], x, cc)) (λ (front, y, is). inr (x ∷ front, y, cc)) (last_of xs)
 
 are_split : (end : ℕ) (xs : Lines) (x : List ℕ) → AreLines end (xs ++ x ∷ []) → AreLines end xs × IsLine end x
 are_split end [] x (line, _) = (tt, line)
@@ -122,7 +121,7 @@ module _ (end : ℕ) (given piece : List ℕ) (ls p : Lines) (now new : Reader) 
         };
     going = refl;
     whole = whole;
-    whole_is = ap (complete_lines end) is ∙ complete_lines_of_unlines end whole tail all line;
+    whole_is = cc (complete_lines_of_unlines end whole tail all line);
     rest = rest;
     split = split;
   }
@@ -132,9 +131,8 @@ module _ (end : ℕ) (given piece : List ℕ) (ls p : Lines) (now new : Reader) 
       → (rest : Lines) → p ≡ w ++ rest → LagPoint end (received_with (given ++ piece) new) p
   open_line w y last all is rest split =
       let (lines, line) = are_split end w y (rw last at all) in
-      let same : given ++ end ∷ [] ≡ (unlines end w ++ y) ++ end ∷ [] =
-      is ∙ (rw (last, unlines_push end w y, append_assoc (unlines end w) y (end ∷ []))) in
-      let ends : given ≡ unlines end w ++ y = append_cancel_right given (unlines end w ++ y) (end ∷ []) same in
+      let ends : given ≡ unlines end w ++ y = append_cancel_right given (unlines end w ++ y) (end ∷ [])
+      (is ∙ (rw (last, unlines_push end w y, append_assoc (unlines end w) y (end ∷ [])))) in
       unheld w (y ++ piece) (rw (ends, append_assoc (unlines end w) y piece)) lines
       (IsLine-append end y piece line free) rest split
 
