@@ -7,12 +7,13 @@ use Rattle.ptmerge.proofs.Common.{bytes_eq, bytes_decides, is_gt, append-nil, Ou
 use Rattle.ptmerge.proofs.Common.{ReaderAdvance, IsSound, Slots, line, total_bytes, with_line, unlines, IsLine}
 use Rattle.ptmerge.proofs.Common.{max_length, push_trans, unlines-append, MergeFault, Read, Memory, Side, First, Second}
 use Rattle.ptmerge.proofs.Common.{Sorted, CursorStatus, Head, Ended, Disorder, is_head, length-append, Lines, MergeTool}
-use Rattle.ptmerge.proofs.Common.{entries_by_key, entries_of_key, lines_with_key, MergeState, MergePost, NextErrPost}
+use Rattle.ptmerge.proofs.Common.{entries_by_key, entries_of_key, lines_with_key, MergeState, MergePost}
 use Rattle.ptmerge.proofs.Common.{NextOkPost, HasSlots, with_side, other, PrecedesInput, disorder, merged_entries}
 use Rattle.ptmerge.proofs.Common.{sorted_prefixes, is_up_to, MergeEndPost, IsExactMerge, Cmp, Key, Write}
 use Rattle.ptmerge.proofs.MergeLemmas.Step.{slots_on, SidesInvariant, IsAbove, IsLineByLine, current_key_is_above}
 use Rattle.ptmerge.proofs.MergeLemmas.Step.{next_at, own_slots, passed_at, sides_invariant_continues, slots_apart}
-use Rattle.ptmerge.proofs.MergeLemmas.Step.{StoreInvariant, buffered_not_done}
+use Rattle.ptmerge.proofs.MergeLemmas.Step.{StoreInvariant, buffered_not_done, AdvanceErrPost}
+use Rattle.ptmerge.proofs.MergeLemmas.LinesRead.{reads_nothing}
 use Rattle.ptmerge.proofs.MergeLemmas.Invariant.{Bound, AtLeast, MayFollow, IsUnder, MergeInvariant, InputSplit}
 use Rattle.ptmerge.proofs.MergeLemmas.Invariant.{MayCome, all_keys, splits_step, all_wanted, written_is_wanted}
 use Rattle.ptmerge.proofs.JoinLemmas.GroupSlots.{AllSlots, Extends, GroupBounds, InGroup, largest_group, GroupStore}
@@ -226,7 +227,8 @@ module _ (call : JoinCall) {store : Slots} {ls : Side → Lines} {g : Lines}
 
   -- a store with no more bytes and no more slots stays within the measure
   pub fits_kept : (after : Slots) → after.peak ≤ max store.peak (total_bytes store.lines)
-      → length after.lines ≡ length store.lines → Fits call.tool call.old.store now ls (λ side. []) after
+      → length after.lines ≡ length store.lines → {piece : Side → List ℕ}
+      → Fits call.tool call.old.store now ls piece after
   fits_kept after peak same all w =
       omega (arith, peak, same, size_of call h all (λ side. omega (arith, (w side).longest)) (extends (w Second)))
 
@@ -237,7 +239,7 @@ store_between_groups call {cursor = cursor} h slots =
     record {
       lines = h.lines;
       denied = h.denied;
-      fits = fits_kept call h;
+      fits = λ after peak same. fits_kept call h after peak same;
       line = λ s. peak_line call h s (cursor s) (slots s);
     }
 
@@ -469,13 +471,25 @@ module _ {call : JoinCall} {now : MergeState} {cursor : Side → Sorted} {end : 
       (rw at_head.bound (read_facts_after_line o (q.sides s).lines_read reads free sound at_head.sorted_up_to))))
       (simp put_other (group_read_facts q (other s)))
 
-  -- reading the next line failed, after a prefix of the group's output was written
-  module _ {out : Output} (clean : out.write_failed ≡ false) {extra : Lines}
+  -- writing failed, or reading the next line, after a prefix of the group's output was written
+  module _ {out : Output} {extra : Lines}
       (begins : OutputStartsWith tool (with_added_line now cursor s g) q.d k extra)
       (wrote : PushEffect q.mid out (unlines call.terminator extra)) (new : Reader) where
-    pub group_breaks : {after : Slots} (fault : MergeFault) → NextErrPost s (cursor s) (now.reader s) new now.store
-        after fault → MergePost tool old (state_after_read now s new out after) (Err fault)
-    group_breaks {after} (Read file) (e, file_is, sound) =
+    failed : (r : Reader) → r.failed ≡ (now.reader s).failed → (side : Side)
+        → (with_side s r now.reader side).failed ≡ (old.reader side).failed
+    failed r same = put_each (λ side (r : Reader). r.failed ≡ (old.reader side).failed) s r now.reader
+        (same ∙ none_failed q s) (none_failed q)
+
+    pub group_breaks : {after : Slots} (fault : MergeFault)
+        → AdvanceErrPost s (cursor s) (now.reader s) new now.store after out fault
+        → MergePost tool old (state_after_read now s new out after) (Err fault)
+    group_breaks fault (inl (is_write, e)) =
+        rw (is_write, e.unread, e.store) (group_exit o _ _ within_more
+        (passing (now.reader s) [] (reads_nothing (now.reader s)) tt (q.sides s).sound) begins wrote (group_begun q)
+        (record { write_failed = e.write_failed; failed = failed (now.reader s) refl; denied = q.keeps.denied })
+        (λ side. not_failed call side (failed (now.reader s) refl side)) (λ input pushed. tt) tt
+        (fits_kept call q.keeps now.store (omega arith) refl))
+    group_breaks {after} (Read file) (inr (clean, (e, file_is, sound))) =
         rw file_is (group_exit o _ _ within_more (passing new e.piece e.faults.reads e.faults.whole sound) begins wrote
         (group_begun q) (record {
           cause = rw (put_same s new now.reader) (⊎_elim (λ h. inl h) (λ (long, same). inr
@@ -489,17 +503,16 @@ module _ {call : JoinCall} {now : MergeState} {cursor : Side → Sorted} {end : 
         (λ (_, same). not_failed call s (same ∙ none_failed q s) fail) e.cause)
         (λ side. not_failed call side (none_failed q side)))
         (λ input pushed. tt) tt (rw e.stored (peak_line call q.keeps s (cursor s) (l.slots s) e.piece)))
-    group_breaks Write moves = absurd moves
-    group_breaks {after} Memory (e, sound) =
-        let failed = put_each (λ side (r : Reader). r.failed ≡ (old.reader side).failed) s new now.reader
-        (e.failed ∙ none_failed q s) (none_failed q) in
+    group_breaks Write (inr (_, moves)) = absurd moves
+    group_breaks {after} Memory (inr (clean, (e, sound))) =
+        let failed = failed new e.failed in
         group_exit o _ _ within_more (passing new e.piece e.faults.reads e.faults.whole sound) begins wrote
         (group_begun q)
         (record { denied = ap (λ (t : Slots). t.denied) e.stored; failed = failed; clean = clean })
         (λ side. not_failed call side (failed side))
         (λ input pushed. tt) (λ four. inl (s, rw (put_same s new now.reader) (buffered_not_done e.left)))
         (rw e.stored (peak_line call q.keeps s (cursor s) (l.slots s) e.piece))
-    group_breaks (faults.Disorder file number) moves = absurd moves
+    group_breaks (faults.Disorder file number) (inr (_, moves)) = absurd moves
 
   -- the input advances
   module _ {reader : Reader} {next : Sorted} {after : Slots}

@@ -20,11 +20,11 @@ use Rattle.ptmerge.proofs.MergeLemmas.Step.{IsOpenMerge as OpenMerge, write_one_
 use Rattle.ptmerge.proofs.MergeLemmas.Step.{measure_less, own_reader_kept, place_is, LoopInvariant, CursorsInvariant}
 use Rattle.ptmerge.proofs.MergeLemmas.Step.{AdvanceErrPost, advance_keeps_slot_count, iteration_fails}
 use Rattle.ptmerge.proofs.MergeLemmas.Step.{read_facts_current, runs_on, n, ends_well, ends_fallen, start_fault}
-use Rattle.ptmerge.proofs.MergeLemmas.Step.{start_ok, start_unread, start_slots, next_keeps_slot_count, same_state}
+use Rattle.ptmerge.proofs.MergeLemmas.Step.{start_ok, start_unread, start_slots, next_keeps_slot_count}
 use Rattle.ptmerge.proofs.MergeLemmas.Step.{next_error_keeps_slot_count, valid_cursors_kept, wrote_and_sent}
 use Rattle.std.specs.List.{flat_map}
 use Rattle.ptmerge.proofs.JoinLemmas.GroupInvariant.{IsPairTool, IsAtKey, head_of, JoinCall, state_after_read}
-use Rattle.ptmerge.proofs.JoinLemmas.GroupInvariant.{GroupState, store_between_groups, fits_kept, not_failed}
+use Rattle.ptmerge.proofs.JoinLemmas.GroupInvariant.{GroupState, store_between_groups, not_failed}
 use Rattle.ptmerge.proofs.JoinLemmas.GroupInvariant.{IsAtGroupLine, AdvancedGroup, closes, continues_key, leaves_key}
 use Rattle.ptmerge.proofs.JoinLemmas.GroupInvariant.{advanced_group, group_breaks, with_added_line, is_past, next_slots}
 use Rattle.ptmerge.proofs.JoinLemmas.GroupInvariant.{others_stay, passing, extends, front_is_not_all, has_entries}
@@ -640,20 +640,17 @@ module _ {job : Join} {cmp : Cmp} {key : Side → Key} {old : MergeState} {phase
               length_push a.g y,
             ),
           )))
-      read_group_fault {reader = reader} fine fault (inr e) = group_breaks at_second fine
-          (starts_none call (within_more at_second)) wrote_none reader fault e
+      read_group_fault {reader = reader} fine fault (inr e) =
+          group_breaks at_second (starts_none call (within_more at_second)) wrote_none reader fault (inr (fine, e))
 
       pub read_group_fails : {two2 : Sorted} {reader : Reader} {after : Slots} {fault : MergeFault}
           {r : Result (Unit {0}) MergeFault}
           → r ≡ Err fault
           → ReadGroupLinePost call.keeps_groups (key Second) cmp two two2 (now.reader Second) reader now.store after out
           end (Err fault) → ExitPost job cmp key old (state_after_read now Second reader out after) r
-      read_group_fails {reader = reader} is_fault (inl (is_write, e)) = exit_post is_fault
-          (omega (arith, ap (λ (z : Slots). length z.lines) e.store)) (same_state _ _ Second now _ reader _ _ is_write e
-          (group_exit o _ _ a.q.within (group_read_facts a.q) (starts_none call a.q.within) wrote_none (group_begun a.q)
-          (record { write_failed = e.write_failed; failed = none_failed a.q; denied = a.q.keeps.denied })
-          (λ side. not_failed call side (none_failed a.q side)) (λ input pushed. tt) tt
-          (fits_kept call a.q.keeps now.store (omega arith) refl)))
+      read_group_fails {reader = reader} {fault = fault} is_fault (inl e) = exit_post is_fault
+          (omega (arith, advance_keeps_slot_count (key Second) cmp Second two two _ _ _ _ _ fault (inl e)))
+          (group_breaks at_second (starts_none call (within_more at_second)) wrote_none reader fault (inl e))
       read_group_fails {fault = fault} is_fault (inr (fine, e)) =
           exit_post is_fault (read_group_slots fault e) (read_group_fault fine fault e)
 
@@ -733,22 +730,9 @@ module _ {job : Join} {cmp : Cmp} {key : Side → Key} {old : MergeState} {phase
       pub pair_fails : {reader : Reader} {after : Slots} {fault : MergeFault} {r : Result (Unit {0}) MergeFault}
           → r ≡ Err fault → AdvanceErrPost First one (now.reader First) reader now.store after new fault
           → ExitPost job cmp key old (state_after_read now First reader new after) r
-      pair_fails {reader} is_fault (inl (is_write, e)) = exit_post is_fault
-          (omega (arith, ap (λ (z : Slots). length z.lines) e.store)) (same_state _ _ First now _ reader _ _ is_write e
-          (group_exit o old (record now { out = new }) {now = now.reader} {piece = λ side. []} {ls = written.q.ls}
-          (within_more at_first)
-          (elim [
-            | First ↦ passing at_first (now.reader First) [] (reads_nothing (now.reader First)) tt
-                (written.q.sides First).sound First
-            | Second ↦ group_read_facts written.q Second
-          ])
-          pairs_begin wrote_more (group_begun written.q)
-          (record { write_failed = e.write_failed; failed = none_failed written.q; denied = written.q.keeps.denied })
-          (λ side. not_failed call side (none_failed written.q side)) (λ input pushed. tt) tt
-          (fits_kept call written.q.keeps now.store (omega arith) refl)))
-      pair_fails {reader} {fault = fault} is_fault (inr (fine, e)) = exit_post is_fault
-          (omega (arith, next_error_keeps_slot_count First one _ _ _ _ fault e))
-          (group_breaks at_first fine pairs_begin wrote_more reader fault e)
+      pair_fails {reader} {fault = fault} is_fault h = exit_post is_fault
+          (omega (arith, advance_keeps_slot_count (key First) cmp First one one _ _ _ _ _ fault h))
+          (group_breaks at_first pairs_begin wrote_more reader fault h)
 
       module _ {one2 two2 : Sorted} {reader : Reader} {after : Slots}
           (h : AdvanceOkPost key cmp First one two one2 two2 (now.reader First) reader now.store after new) where

@@ -4,7 +4,7 @@
 use Rattle.ptmerge.proofs.Common.{◌≡◌, ◌⊎◌, ⊎_elim, inl, inr, ℕ, ◌+◌, ◌≤◌, false, List, [], ◌∷◌, ◌++◌, Option, Some}
 use Rattle.ptmerge.proofs.Common.{None, length, map, refl, sym, ◌∙◌, ap, arith, append_assoc, length-append, last_or}
 use Rattle.ptmerge.proofs.Common.{append-nil, append_cancel_right, Received, known_lines, LaggedInput, Reader, unlines}
-use Rattle.ptmerge.proofs.Common.{complete_lines, IsLine, AreLines, received_with, complete_lines_of_unlines}
+use Rattle.ptmerge.proofs.Common.{IsLine, AreLines, received_with, complete_lines_of_unlines}
 use Rattle.ptmerge.proofs.Common.{unlines_push, the_lines, Lines, first_disorder, is_below, sorted_prefix, Cmp, Key}
 use Rattle.ptmerge.proofs.Common.{Bool, filter-append, filter, IsPrefix, unlines-append, Side, First, Second, MergeTool}
 use Rattle.ptmerge.proofs.Common.{entries_by_key, decided_entries, disorder, earlier_disorder, is_decided}
