@@ -2,6 +2,5 @@ pub mod PartialWrite
 pub mod Fields
 pub mod GroupSlots
 pub mod GroupInvariant
-pub mod GroupIteration
 pub mod Iteration
 pub mod Words

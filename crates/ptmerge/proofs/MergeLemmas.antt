@@ -1,9 +1,7 @@
 pub mod LinesRead
 pub mod Orders
 pub mod Invariant
-pub mod Write
 pub mod Slots
-pub mod Start
 pub mod Exits
 pub mod Step
 pub mod Lag

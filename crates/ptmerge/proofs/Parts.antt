@@ -1,2 +1,390 @@
-pub mod ByKey
-pub mod Concatenation
+-- Output of inputs in parts. Inputs that are split at the same key: the keys of the first parts are below those of the
+-- second, so the distinct keys of the whole are those of the first parts followed by those of the second, and so are the
+-- entries; a disorder can only be in the second parts. Inputs that are distributed over parts by a function of the key: a
+-- filter by keys commutes with computing the distinct keys, so each part has the entries of its keys, and the entries of
+-- all parts are a permutation of all entries.
+use Rattle.ptmerge.proofs.Common.{arith, append-nil, ◌≡◌, ℕ, ◌+◌, List, [], ◌∷◌, ◌++◌, Bool, true, false, cond, Option}
+use Rattle.ptmerge.proofs.Common.{Some, None, refl, ap, sym, ◌∙◌, filter, Less, Side, First, Second, Lines, MergeTool}
+use Rattle.ptmerge.proofs.Common.{FirstDisorder, entries_by_key, disorder, earlier_disorder, first_disorder, keys}
+use Rattle.ptmerge.proofs.Common.{merged_entries, sorted_prefixes, sorted_prefix, is_up_to, lines_of, Cmp, Key, unlines}
+use Rattle.ptmerge.proofs.Common.{the_lines_of_parts, unlines-append, comm_tool, join_tool, IsConcatOfParts}
+use Rattle.ptmerge.proofs.Common.{CommOfParts, JoinOfParts, ◌&&◌, not, map, tied_itself, bytes_eq, flat_map, is_gt}
+use Rattle.ptmerge.proofs.Common.{is_lt, Equal, bytes_decides, insert_key, distinct_keys, lines_with_key}
+use Rattle.ptmerge.proofs.Common.{entries_of_key, filter-append, IsLine, zero, suc, ◌<◌, ◌==◌, nat_lt, append_assoc}
+use Rattle.ptmerge.proofs.Common.{inr, nat_tests, range_with_len, lines, CommByKey, IsSplittableByKey, JoinByKey}
+use Rattle.ptmerge.proofs.Common.{text_of_part, output_lines}
+use Rattle.ptmerge.proofs.MergeLemmas.Invariant.{IsDisorderFrom, after_from, disorder_after, disorder_at}
+use Rattle.ptmerge.proofs.MergeLemmas.Invariant.{first_disorder_is, is_disordered, sorted_after, sorted_prefix_is}
+use Rattle.ptmerge.proofs.MergeLemmas.Invariant.{Ascends, IsDownwardClosed, all_keys, all_wanted, ascends_distinct}
+use Rattle.ptmerge.proofs.MergeLemmas.Invariant.{downward_splits, up_to_from}
+use Rattle.ptmerge.proofs.MergeLemmas.Orders.{Each, Each-weaker, EachKey, Each-all, EachKey-weaker, insert_least}
+use Rattle.ptmerge.proofs.MergeLemmas.Orders.{Each-parts, IsKeyOrder, AtMost, above_trans, at_most_trans, greater_flips}
+use Rattle.ptmerge.proofs.MergeLemmas.Orders.{line_order}
+use Rattle.std.proofs.lemmas.List.Elements.{All-filter, All-from_recursion, recursion_from_All}
+use Rattle.std.proofs.lemmas.List.Sorted.{IsPermutation-refl, IsPermutation-trans, IsPermutation-append_left}
+use Rattle.std.proofs.lemmas.List.Sorted.{IsPermutation-append_right, IsPermutation-append_comm}
+use Rattle.std.specs.List.Sorted.{IsPermutation}
+use Rattle.ptlines.proofs.TextLaws.{lines-unlines, lines_are}
+
+-- ---- lines with some of the keys
+
+module _ (p : List ℕ → Bool) where
+  each_kept : (P : List ℕ → Type 0) (ks : Lines) → Each P ks → Each P (filter p ks)
+  each_kept P [] e = tt
+  each_kept P (k ∷ ks) (here, more) = grind (arith, each_kept P ks more)
+
+  module _ (cmp : Cmp) (o : IsKeyOrder cmp) where
+    insert_kept : (k : List ℕ) (xs : Lines) → Ascends cmp xs
+        → filter p (insert_key cmp k xs) ≡ cond (p k) (insert_key cmp k (filter p xs)) (filter p xs)
+    insert_kept k [] a = refl
+    insert_kept k (x ∷ xs) (above, more) =
+        let least : cmp k x ≡ Less → insert_key cmp k (filter p xs) ≡ k ∷ filter p xs =
+        λ e. insert_least cmp o k (filter p xs)
+        (each_kept _ xs (Each-weaker _ _ (λ y g. above_trans cmp o k x y (ap is_gt e) g) xs above)) in
+        let same : cmp k x ≡ Equal → p k ≡ p x = λ e. ap p (o.exact k x e) in
+        grind (arith, insert_kept k xs more, least, same)
+
+    -- filtering and computing the distinct keys commute
+    distinct_kept : (ks : Lines) → filter p (distinct_keys cmp ks) ≡ distinct_keys cmp (filter p ks)
+    distinct_kept [] = refl
+    distinct_kept (k ∷ ks) =
+        grind (arith, distinct_kept ks, insert_kept k (distinct_keys cmp ks) (ascends_distinct cmp o ks))
+
+  -- the lines whose keys pass the test
+  abbrev kept : Key → Lines → Lines
+  kept key ls = filter (λ line. p (key line)) ls
+
+  keys_kept : (key : Key) (ls : Lines) → map key (kept key ls) ≡ filter p (map key ls)
+  keys_kept key [] = refl
+  keys_kept key (x ∷ ls) = grind (arith, keys_kept key ls)
+
+  -- two lists, appended, of which the first passes the test and the second does not
+  kept_parts : (key : Key) (xs ys : Lines) → EachKey (λ k. p k ≡ true) key xs → EachKey (λ k. p k ≡ false) key ys
+      → (kept key (xs ++ ys) ≡ xs) × (filter (λ line. not (p (key line))) (xs ++ ys) ≡ ys)
+  kept_parts key [] [] e f = (refl, refl)
+  kept_parts key [] (y ∷ ys) e (here, more) = let ih = kept_parts key [] ys tt more in grind (arith, here, ih)
+  kept_parts key (x ∷ xs) ys (here, more) f = let ih = kept_parts key xs ys more f in grind (arith, here, ih)
+
+  -- all lines of a key pass the test if the key does
+  with_key_kept : (key : Key) (k : List ℕ) (ls : Lines) → p k ≡ true
+      → lines_with_key key (kept key ls) k ≡ lines_with_key key ls k
+  with_key_kept key k [] h = refl
+  with_key_kept key k (x ∷ ls) h = let same : bytes_eq (key x) k ≡ true → p (key x) ≡ true =
+      λ e. ap p ((bytes_decides (key x) k).0 e) ∙ h in grind (arith, with_key_kept key k ls h, same)
+
+  module _ (tool : MergeTool) (o : IsKeyOrder tool.cmp) (ls : Side → Lines) where
+    open tool use {cmp, entries, key}
+
+    abbrev part : Side → Lines
+    part side = kept (key side) (ls side)
+
+    keys_of_part : keys tool part ≡ filter p (keys tool ls)
+    keys_of_part = simp (keys_kept, filter-append)
+
+    -- the entries of the lines that pass the test are those of the keys that pass it
+    pub by_keys_kept : (w : List ℕ → Bool) → entries_by_key tool w (λ side. filter (λ line. p (key side line))
+        (ls side)) ≡ entries_by_key tool (λ k. w k && p k) ls
+    by_keys_kept w = (λ i. flat_map (entries_of_key tool part)
+        (filter w ((ap (distinct_keys cmp) keys_of_part ∙ sym (distinct_kept cmp o (keys tool ls))) i)))
+        ∙ each_of (distinct_keys cmp (keys tool ls))
+      where
+        each_of : (ds : Lines)
+            → flat_map (entries_of_key tool part) (filter w (filter p ds))
+            ≡ flat_map (entries_of_key tool ls) (filter (λ k. w k && p k) ds)
+        each_of [] = refl
+        each_of (d ∷ ds) =
+            let same : p d ≡ true → entries_of_key tool part d ≡ entries_of_key tool ls d =
+            λ h i. entries d (with_key_kept (key First) d (ls First) h i)
+            (with_key_kept (key Second) d (ls Second) h i) in
+            grind (arith, each_of ds, same)
+
+-- ---- keys below others
+
+-- a property of the keys of two lists holds for each list
+key_split : (tool : MergeTool) (side : Side) (P : List ℕ → Type 0) (ls : Side → Lines) → Each P (keys tool ls)
+    → EachKey P (tool.key side) (ls side)
+key_split tool First P ls e = (Each-parts P (map (tool.key First) (ls First)) (map (tool.key Second) (ls Second)) e).0
+key_split tool Second P ls e = (Each-parts P (map (tool.key First) (ls First)) (map (tool.key Second) (ls Second)) e).1
+
+-- the key is below all of these
+abbrev is_under : Cmp → Lines → List ℕ → Bool
+is_under cmp [] k = true
+is_under cmp (x ∷ ls) k = is_lt (cmp k x) && is_under cmp ls k
+
+module _ (cmp : Cmp) (o : IsKeyOrder cmp) where
+  below_under : (ls : Lines) (k : List ℕ) → Each (λ l. cmp k l ≡ Less) ls → is_under cmp ls k ≡ true
+  below_under [] k e = refl
+  below_under (x ∷ ls) k (here, more) = rw here (below_under ls k more)
+
+  downward_under : (ls : Lines) → IsDownwardClosed cmp (is_under cmp ls)
+  downward_under [] a b g h = refl
+  downward_under (x ∷ ls) a b g h = let less : cmp b x ≡ Less → cmp a x ≡ Less =
+      λ l. o.total.trans a b x (greater_flips cmp o b a g) l in grind (arith, downward_under ls a b g, less)
+
+  none_under : (ls : Lines) → Each (λ l. is_under cmp ls l ≡ false) ls
+  none_under [] = tt
+  none_under (x ∷ ls) = (rw (tied_itself o.total x) refl, Each-weaker _ _ (λ l h. grind (arith, h)) ls (none_under ls))
+
+-- ---- lists in order
+
+-- no reported disorder means that neither list has one
+no_fall_first : (cmp : Cmp) (f g : Option FirstDisorder) → earlier_disorder cmp f g ≡ None → (f ≡ None) × (g ≡ None)
+no_fall_first cmp f g e = grind arith
+
+-- the last key in order before a disorder, without the line number
+abbrev without_line_number : Option FirstDisorder → Option FirstDisorder
+without_line_number None = None
+without_line_number (Some d) = Some (record { last_key = d.last_key; line = 0 })
+
+-- the keys up to a disorder do not depend on its line number
+by_limits : (cmp : Cmp) (f g : Option FirstDisorder) (k : List ℕ)
+    → is_up_to cmp (earlier_disorder cmp f g) k ≡ is_up_to cmp
+    (earlier_disorder cmp (without_line_number f) (without_line_number g)) k
+by_limits cmp f g k = grind arith
+
+-- the first line is in order, and so are those after it
+no_disorder : (b : Bool) (d : FirstDisorder) (f : Option FirstDisorder) → cond b (Some d) f ≡ None
+    → (b ≡ false) × (f ≡ None)
+no_disorder b d f e = grind arith
+
+module _ (cmp : Cmp) (o : IsKeyOrder cmp) (key : Key) where
+  -- the last key in order does not depend on the number of lines before
+  uncounted : (last : Option (List ℕ)) (n m : ℕ) (ys : Lines)
+      → without_line_number (disorder_after cmp key last n ys) ≡ without_line_number (disorder_after cmp key last m ys)
+  uncounted last n m [] = refl
+  uncounted last n m (y ∷ ys) = grind (arith, uncounted (Some (key y)) (n + 1) (m + 1) ys)
+
+  -- A list appended to a sorted list with keys of at most its own has its own disorder.
+  appended : (last : Option (List ℕ)) (n : ℕ) (xs ys : Lines) → disorder_after cmp key last n xs ≡ None
+      → EachKey (λ k. is_disordered cmp last k ≡ false) key ys → EachKey (λ k. EachKey (AtMost cmp k) key ys) key xs
+      → (sorted_after cmp key last (xs ++ ys) ≡ xs ++ sorted_after cmp key None ys)
+      × (without_line_number (disorder_after cmp key last n (xs ++ ys))
+      ≡ without_line_number (disorder_after cmp key None 0 ys))
+  appended last n [] [] e h b = (refl, refl)
+  appended last n [] (y ∷ ys) e (here, _) b = rw here (refl, uncounted (Some (key y)) (n + 1) 1 ys)
+  appended last n (x ∷ xs) ys e h (below, below_all) =
+      let (calm, later) = no_disorder (is_disordered cmp last (key x)) (disorder_at last n)
+      (disorder_after cmp key (Some (key x)) (n + 1) xs) e in
+      let ih = appended (Some (key x)) (n + 1) xs ys later below below_all in grind (arith, calm, ih)
+
+  together : (xs ys : Lines) → first_disorder cmp key xs ≡ None → EachKey (λ k. EachKey (AtMost cmp k) key ys) key xs
+      → (sorted_prefix cmp key (xs ++ ys) ≡ xs ++ sorted_prefix cmp key ys)
+      × (without_line_number (first_disorder cmp key (xs ++ ys)) ≡ without_line_number (first_disorder cmp key ys))
+  together xs ys e b =
+      let all = appended None 0 xs ys (sym (first_disorder_is cmp key xs) ∙ e)
+      (Each-all (λ k. is_disordered cmp None k ≡ false) (λ k. refl) (map key ys)) b in
+      rw (
+        first_disorder_is cmp key (xs ++ ys),
+        first_disorder_is cmp key ys,
+        sorted_prefix_is cmp key (xs ++ ys),
+        sorted_prefix_is cmp key ys,
+      ) all
+
+  -- a list without a disorder is its own sorted prefix
+  ordered_whole : (xs : Lines) → first_disorder cmp key xs ≡ None → sorted_prefix cmp key xs ≡ xs
+  ordered_whole xs e = simp append-nil at (together xs [] e (Each-all (λ k. Unit {0}) (λ k. tt) (map key xs))).0
+
+  -- a property of each line holds for each line of the sorted prefix
+  each_ordered : (P : List ℕ → Type 0) (ys : Lines) → EachKey P key ys → EachKey P key (sorted_prefix cmp key ys)
+  each_ordered P [] e = tt
+  each_ordered P (x ∷ []) e = e
+  each_ordered P (x ∷ y ∷ ys) (here, more) = grind (arith, each_ordered P (y ∷ ys) more)
+
+  -- the last key in order is at least a lower bound of all keys
+  from_below : (k : List ℕ) (ys : Lines) → EachKey (AtMost cmp k) key ys
+      → IsDisorderFrom cmp k (first_disorder cmp key ys)
+  from_below k [] e = tt
+  from_below k (y ∷ ys) (here, _) =
+      rw (first_disorder_is cmp key (y ∷ ys)) (rw here at (after_from cmp o key k 0 (y ∷ ys)).1)
+
+  kept_after : (p : List ℕ → Bool) (last from : Option (List ℕ)) (n m : ℕ) (xs : Lines)
+      → ((k : List ℕ) → is_disordered cmp last k ≡ false → is_disordered cmp from k ≡ false)
+      → disorder_after cmp key last n xs ≡ None
+      → disorder_after cmp key from m (filter p xs) ≡ None
+  kept_after p last from n m [] up e = refl
+  kept_after p last from n m (x ∷ xs) up e =
+      let (calm, later) = no_disorder (is_disordered cmp last (key x)) (disorder_at last n)
+      (disorder_after cmp key (Some (key x)) (n + 1) xs) e in
+      let rise = up (key x) calm in
+      let left_out = kept_after p (Some (key x)) from (n + 1) m xs (λ k g. grind (arith, at_most_trans, rise, g))
+      later in
+      grind (arith, rise, left_out, kept_after p (Some (key x)) (Some (key x)) (n + 1) (m + 1) xs (λ k g. g) later)
+
+  -- a sublist of a sorted list is sorted
+  in_order_kept : (p : List ℕ → Bool) (xs : Lines) → first_disorder cmp key xs ≡ None
+      → first_disorder cmp key (filter p xs) ≡ None
+  in_order_kept p xs e = first_disorder_is cmp key (filter p xs)
+      ∙ kept_after p None None 0 0 xs (λ k h. h) (sym (first_disorder_is cmp key xs) ∙ e)
+
+module _ (tool : MergeTool) (o : IsKeyOrder tool.cmp) where
+  open tool use {cmp, key}
+
+  none_disordered : (ls : Side → Lines) → disorder tool ls ≡ None → (side : Side)
+      → first_disorder cmp (key side) (ls side) ≡ None
+  none_disordered ls e First = (no_fall_first cmp _ _ e).0
+  none_disordered ls e Second = (no_fall_first cmp _ _ e).1
+
+  -- sublists of sorted lists are sorted
+  pub kept_in_order : (p : Side → List ℕ → Bool) (ls : Side → Lines) → disorder tool ls ≡ None
+      → disorder tool (λ side. filter (p side) (ls side)) ≡ None
+  kept_in_order p ls e = let none = λ (side : Side). in_order_kept cmp o (key side) (p side) (ls side)
+      (none_disordered ls e side) in λ i. earlier_disorder cmp (none First i) (none Second i)
+
+  -- the output for sorted lists is that of all their keys
+  pub merged_in_order : (ls : Side → Lines) → disorder tool ls ≡ None
+      → merged_entries tool ls ≡ entries_by_key tool all_keys ls
+  merged_in_order ls e = λ i. entries_by_key tool (is_up_to cmp (e i))
+      (λ side. ordered_whole cmp o (key side) (ls side) (none_disordered ls e side) i)
+
+  -- sorted lists whose keys pass a test, and lists whose keys, which are at least those, do not
+  module _ (p : List ℕ → Bool) (down : IsDownwardClosed cmp p) (a b : Side → Lines) (in_order : disorder tool a ≡ None)
+      (low : (side : Side) → EachKey (λ k. p k ≡ true) (key side) (a side))
+      (high : (side : Side) → EachKey (λ k. p k ≡ false) (key side) (b side)) where
+    at_most_high : (side : Side) (k : List ℕ) → p k ≡ true → EachKey (AtMost cmp k) (key side) (b side)
+    at_most_high side k h = EachKey-weaker (λ l. p l ≡ false) (AtMost cmp k) (λ l g. grind (arith, down l k)) (key side)
+        (b side) (high side)
+
+    both_go_on : (side : Side)
+        → (sorted_prefix cmp (key side) (a side ++ b side) ≡ a side ++ sorted_prefix cmp (key side) (b side))
+        × (without_line_number (first_disorder cmp (key side) (a side ++ b side))
+        ≡ without_line_number (first_disorder cmp (key side) (b side)))
+    both_go_on side = together cmp o (key side) (a side) (b side) (none_disordered a in_order side)
+        (EachKey-weaker _ _ (at_most_high side) (key side) (a side) (low side))
+
+    -- the same keys are wanted
+    same_wanted : (k : List ℕ)
+        → is_up_to cmp (disorder tool (λ side. a side ++ b side)) k ≡ is_up_to cmp (disorder tool b) k
+    same_wanted k = by_limits cmp _ _ k ∙ (λ i. is_up_to cmp (earlier_disorder cmp ((both_go_on First).1 i)
+        ((both_go_on Second).1 i)) k) ∙ sym (by_limits cmp _ _ k)
+
+    -- all keys of the first lists are wanted
+    low_wanted : (k : List ℕ) → p k ≡ true → is_up_to cmp (disorder tool b) k ≡ true
+    low_wanted k h = let from = λ (side : Side). from_below cmp o (key side) k (b side) (at_most_high side k h) in
+        up_to_from cmp o k _ _ (from First) (from Second)
+
+    -- The entries of the appended lists are those of the first lists, followed by those of the second.
+    entries_together : merged_entries tool (λ side. a side ++ b side) ≡ merged_entries tool a ++ merged_entries tool b
+    entries_together =
+        let w = is_up_to cmp (disorder tool b) in
+        let first_wanted = λ (side : Side). EachKey-weaker _ (λ k. w k ≡ true) low_wanted (key side) (a side)
+        (low side) in
+        let all : Side → Lines = λ side. a side ++ sorted_prefixes tool b side in
+        let parts = λ (side : Side). kept_parts p (key side) (a side) (sorted_prefixes tool b side) (low side)
+        (each_ordered cmp o (key side) (λ k. p k ≡ false) (b side) (high side)) in
+        (λ i. entries_by_key tool (λ k. same_wanted k i) (λ side. (both_go_on side).0 i))
+        ∙ downward_splits tool o w p down all
+        ∙ (λ i. sym (by_keys_kept p tool o all w) i ++ sym (by_keys_kept (λ k. not (p k)) tool o all w) i)
+        ∙ (λ i. entries_by_key tool w (λ side. (parts side).0 i) ++ entries_by_key tool w (λ side. (parts side).1 i))
+        ∙ ap (λ l. l ++ merged_entries tool b) (all_wanted tool w a first_wanted ∙ sym (merged_in_order a in_order))
+
+-- ---- texts in parts
+
+of_parts : (tool : MergeTool) → IsKeyOrder tool.cmp → IsConcatOfParts tool
+of_parts tool o first second cut =
+    let a : Side → Lines = lines_of tool first in
+    let b : Side → Lines = lines_of tool second in
+    let p : List ℕ → Bool = is_under tool.cmp (keys tool b) in
+    let low = λ (side : Side). key_split tool side (λ k. p k ≡ true) a
+    (Each-weaker _ (λ k. p k ≡ true) (below_under tool.cmp o (keys tool b)) (keys tool a) cut.below) in
+    let high = λ (side : Side). key_split tool side (λ k. p k ≡ false) b (none_under tool.cmp o (keys tool b)) in
+    ap (unlines tool.terminator)
+    ((λ i. merged_entries tool (λ side. the_lines_of_parts tool.terminator (first side) (second side)
+    (cut.whole side) i))
+    ∙ entries_together tool o p (downward_under tool.cmp o (keys tool b)) a b cut.in_order low high)
+    ∙ unlines-append tool.terminator (merged_entries tool a) (merged_entries tool b)
+
+pub comm_of_parts : CommOfParts
+comm_of_parts job = of_parts (comm_tool job) (line_order job.descending)
+
+pub join_of_parts : JoinOfParts
+join_of_parts job = of_parts (join_tool job) (line_order job.descending)
+
+-- ---- permutations
+
+module _ {A : Type 0} where
+  -- two lists are swapped
+  changed : (u v w : List A) → IsPermutation (u ++ (v ++ w)) (v ++ (u ++ w))
+  changed u v w = rw (← append_assoc u v w, ← append_assoc v u w)
+      (IsPermutation-append_left w (u ++ v) (v ++ u) (IsPermutation-append_comm u v))
+
+  -- the keys that pass a test, followed by the others
+  of_some : (f : List ℕ → List A) (p q : List ℕ → Bool) → ((k : List ℕ) → q k ≡ true → p k ≡ true) → (ks : Lines)
+      → IsPermutation (flat_map f (filter p ks))
+      (flat_map f (filter q ks) ++ flat_map f (filter (λ k. p k && not (q k)) ks))
+  of_some f p q all [] = IsPermutation-refl []
+  of_some f p q all (k ∷ ks) =
+      let own : List A = flat_map f (filter q ks) in
+      let rest : List A = flat_map f (filter (λ k. p k && not (q k)) ks) in
+      let more = IsPermutation-append_right (f k) _ _ (of_some f p q all ks) in
+      let second : IsPermutation (f k ++ flat_map f (filter p ks)) (own ++ (f k ++ rest)) =
+      IsPermutation-trans _ _ _ more (changed (f k) own rest) in
+      let first : IsPermutation (f k ++ flat_map f (filter p ks)) ((f k ++ own) ++ rest) =
+      rw (append_assoc (f k) own rest) more in
+      grind (arith, all k, of_some f p q all ks, first, second)
+
+  -- The keys of each part from `a` on.
+  of_each : (f : List ℕ → List A) (part_of : List ℕ → ℕ) (w : List ℕ → Bool) (a n : ℕ)
+      → ((k : List ℕ) → (w k ≡ not (nat_lt (part_of k) a)) × part_of k < a + n) → (ks : Lines)
+      → IsPermutation (flat_map f (filter w ks))
+      (flat_map (λ i. flat_map f (filter (λ k. part_of k == i) ks)) (range_with_len a n))
+  of_each f part_of w a zero h [] = IsPermutation-refl []
+  of_each f part_of w a zero h (k ∷ ks) = let out : w k ≡ false = grind (arith, nat_tests, h k) in
+      rw out (of_each f part_of w a zero h ks)
+  of_each f part_of w a (suc n) h ks =
+      IsPermutation-trans _ _ _ (of_some f w (λ k. part_of k == a) (λ k here. grind (arith, nat_tests, h k, here)) ks)
+      (IsPermutation-append_right _ _ _ (of_each f part_of (λ k. w k && not (part_of k == a)) (a + 1) n
+      (λ k. (grind (arith, nat_tests, h k), omega (arith, h k))) ks))
+
+-- ---- texts
+
+-- the lines of the output: of some entries, followed by those of each key
+lines_of_each : (end : ℕ) (f : List ℕ → Lines) (ks es : Lines)
+    → lines end (unlines end (es ++ flat_map f ks)) ≡ flat_map (λ e. lines end (e ++ end ∷ [])) es ++ flat_map
+    (λ k. flat_map (λ e. lines end (e ++ end ∷ [])) (f k)) ks
+lines_of_each end f [] [] = refl
+lines_of_each end f (k ∷ ks) [] = lines_of_each end f ks (f k)
+lines_of_each end f ks (e ∷ es) = the_lines_of_parts end (e ++ end ∷ []) (unlines end (es ++ flat_map f ks))
+    (inr (e, refl)) ∙ rw (lines_of_each end f ks es, append_assoc) refl
+
+-- a text made of lines of another text has these lines
+lines_dealt : (end : ℕ) (q : List ℕ → Bool) (bytes : List ℕ)
+    → lines end (unlines end (filter q (lines end bytes))) ≡ filter q (lines end bytes)
+lines_dealt end q bytes = lines-unlines end (filter q (lines end bytes))
+    (recursion_from_All (IsLine end) _ (All-filter q (IsLine end) _ (All-from_recursion (IsLine end) _
+    (lines_are end bytes))))
+
+pub split_by_key : (tool : MergeTool) → IsKeyOrder tool.cmp → IsSplittableByKey tool
+split_by_key tool o inputs part_of parts in_order below = simp (whole, of_part)
+    (of_each each part_of all_keys 0 parts (λ k. (grind (arith, nat_tests), omega (arith, below k))) ds)
+  where
+    ls : Side → Lines
+    ls = lines_of tool inputs
+
+    ds : Lines
+    ds = distinct_keys tool.cmp (keys tool ls)
+
+    each : List ℕ → Lines
+    each k = flat_map (λ e. lines tool.terminator (e ++ tool.terminator ∷ [])) (entries_of_key tool ls k)
+
+    of_part : (i : ℕ)
+        → output_lines tool (text_of_part tool part_of inputs i) ≡ flat_map each (filter (λ k. part_of k == i) ds)
+    of_part i =
+        let advance_ok : List ℕ → Bool = λ k. part_of k == i in
+        let part : Side → Lines = λ side. filter (λ line. advance_ok (tool.key side line)) (ls side) in
+        let in_part = merged_in_order tool o part (kept_in_order tool o (λ side line. advance_ok (tool.key side line))
+        ls in_order) ∙ by_keys_kept advance_ok tool o ls all_keys in
+        (λ t. lines tool.terminator (unlines tool.terminator
+        (merged_entries tool (λ side. lines_dealt tool.terminator (λ line. advance_ok (tool.key side line))
+        (inputs side) t))))
+        ∙ ap (λ es. lines tool.terminator (unlines tool.terminator es)) in_part
+        ∙ lines_of_each tool.terminator (entries_of_key tool ls) (filter advance_ok ds) []
+
+    whole : output_lines tool inputs ≡ flat_map each (filter all_keys ds)
+    whole = ap (λ es. lines tool.terminator (unlines tool.terminator es)) (merged_in_order tool o ls in_order)
+        ∙ lines_of_each tool.terminator (entries_of_key tool ls) (filter all_keys ds) []
+
+pub comm_of_keys : CommByKey
+comm_of_keys job = split_by_key (comm_tool job) (line_order job.descending)
+
+pub join_of_keys : JoinByKey
+join_of_keys job = split_by_key (join_tool job) (line_order job.descending)

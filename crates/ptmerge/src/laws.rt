@@ -9,7 +9,7 @@ ghost use Rattle.ptmerge.specs.Parts.{CommOfParts, JoinOfParts, CommByKey, JoinB
 /// all choices of columns. Splitting the rest again gives any number of parts, of which only the last may be out of
 /// order.
 /// The call does nothing at run time; its contract states the law.
-#[tactic(auto, using(crate::proofs::Parts::Concatenation::comm_of_parts))]
+#[tactic(auto, using(crate::proofs::Parts::comm_of_parts))]
 pub fn parts_of_comm()
     ensures { CommOfParts }
 {}
@@ -20,7 +20,7 @@ pub fn parts_of_comm()
 /// both orders and all options. Splitting the rest again gives any number of parts, of which only the last may be out
 /// of order.
 /// The call does nothing at run time; its contract states the law.
-#[tactic(auto, using(crate::proofs::Parts::Concatenation::join_of_parts))]
+#[tactic(auto, using(crate::proofs::Parts::join_of_parts))]
 pub fn parts_of_join()
     ensures { JoinOfParts }
 {}

@@ -3,22 +3,26 @@
 //! `cursor` is one input of the merge, with its order check; `four_slots` manages the store slots that both inputs use.
 
 ghost use Rattle.std.specs.Prelude.{◌≡◌, None, false, [], OnOk, IfOk, IfErr};
+ghost use Rattle.std.specs.Ordering.{is_gt};
 ghost use Rattle.ptlines.specs.Outputs.{PushEffect};
 ghost use Rattle.ptlines.specs.Slots.{line};
 ghost use Rattle.ptmerge.specs.WriteAndAdvance.{WriteThenAdvancePost, AdvancePre};
 ghost use Rattle.ptmerge.specs.Cursor.{NextPost};
 ghost use Rattle.ptmerge.specs.Sides.{both, other};
-ghost use Rattle.ptmerge.specs.MergeSteps.{merge_inputs, AreValidCursors, IsReaderOf, StepPost, StartOkPost, StartErrPost};
+ghost use Rattle.ptmerge.specs.MergeSteps.{merge_inputs, AreValidCursors, IsReaderOf, StepPost, StartOkPost, StartErrPost, previous_key};
 
 pub(crate) mod cursor;
 pub(crate) mod four_slots;
 
 use crate::faults::MergeFault;
+use crate::key_order::Side::{First, Second};
 use crate::key_order::{KeyOrder, Side};
-use crate::merging::cursor::{CursorStatus, Sorted};
+use crate::merging::cursor::CursorStatus::{Disorder, Ended, Head};
+use crate::merging::cursor::Sorted;
 use crate::merging::four_slots::ensure_four_slots;
 use ptlines::{LineReader, Out, Sink, Source, Store};
 use std::alloc::Allocator;
+use std::cmp::Ordering;
 
 /// The input whose current line has the least key, or the reason why no line is next.
 #[derive(Clone, Copy, Debug, PartialEq, Eq)]
@@ -76,10 +80,7 @@ impl<K: KeyOrder> Merge<K> {
     {
         let mut one = Sorted::unread(Side::First, first);
         let mut two = Sorted::unread(Side::Second, second);
-        match ensure_four_slots(store) {
-            Ok(()) => {}
-            Err(_) => return Err(MergeFault::Memory),
-        }
+        ensure_four_slots(store).map_err(|_| MergeFault::Memory)?;
         one.next(&order, Side::First, first, store)?;
         two.next(&order, Side::Second, second, store)?;
         Ok(Merge {
@@ -98,50 +99,29 @@ impl<K: KeyOrder> Merge<K> {
             StepPost (K.order self.now.order) (K.key_of self.now.order) cursor store.now result }
     {
         match (self.first.status, self.second.status) {
-            (CursorStatus::Ended, CursorStatus::Ended) => Step::End,
-            (CursorStatus::Head, CursorStatus::Ended) => Step::First,
-            (CursorStatus::Ended, CursorStatus::Head) => Step::Second,
-            (CursorStatus::Head, CursorStatus::Head) => {
-                let a = self.key(Side::First, store);
-                let b = self.key(Side::Second, store);
-                match self.order.cmp(a, b) {
-                    std::cmp::Ordering::Less => Step::First,
-                    std::cmp::Ordering::Equal => Step::Both,
-                    std::cmp::Ordering::Greater => Step::Second,
-                }
+            (Head, Head) => match self
+                .order
+                .cmp(self.key(First, store), self.key(Second, store))
+            {
+                Ordering::Less => Step::First,
+                Ordering::Equal => Step::Both,
+                Ordering::Greater => Step::Second,
+            },
+            (Head, Disorder(number)) if self.is_past(self.key(First, store), Second, store) => {
+                Step::Stop(Second, number)
             }
-            (CursorStatus::Head, CursorStatus::Disorder(number)) => {
-                let a = self.key(Side::First, store);
-                let last = self.previous_key(Side::Second, store);
-                if self.order.cmp(a, last).is_gt() {
-                    return Step::Stop(Side::Second, number);
-                }
-                Step::First
+            (Disorder(number), Head) if self.is_past(self.key(Second, store), First, store) => {
+                Step::Stop(First, number)
             }
-            (CursorStatus::Disorder(number), CursorStatus::Head) => {
-                let b = self.key(Side::Second, store);
-                let last = self.previous_key(Side::First, store);
-                if self.order.cmp(b, last).is_gt() {
-                    return Step::Stop(Side::First, number);
-                }
-                Step::Second
+            (Disorder(_), Disorder(number))
+                if self.is_past(self.previous_key(First, store), Second, store) => {
+                Step::Stop(Second, number)
             }
-            (CursorStatus::Disorder(one), CursorStatus::Disorder(two)) => {
-                let a = self.previous_key(Side::First, store);
-                let b = self.previous_key(Side::Second, store);
-                if self.order.cmp(a, b).is_gt() {
-                    return Step::Stop(Side::Second, two);
-                }
-                Step::Stop(Side::First, one)
-            }
-            (CursorStatus::Disorder(number), CursorStatus::Ended) => Step::Stop(
-                Side::First,
-                number,
-            ),
-            (CursorStatus::Ended, CursorStatus::Disorder(number)) => Step::Stop(
-                Side::Second,
-                number,
-            ),
+            (Head, _) => Step::First,
+            (_, Head) => Step::Second,
+            (Disorder(number), _) => Step::Stop(First, number),
+            (Ended, Disorder(number)) => Step::Stop(Second, number),
+            (Ended, Ended) => Step::End,
         }
     }
 
@@ -218,6 +198,16 @@ impl<K: KeyOrder> Merge<K> {
     {
         let line = store.line(self.cursor(side).previous_slot);
         self.order.key(side, self.order.span(side, line), line)
+    }
+
+    // Checks whether a key is greater than the last key in order of an input.
+    #[inline(always)]
+    fn is_past<A: Allocator + Copy>(&self, key: &[u8], side: Side, store: &Store<A>) -> bool
+        requires { AreValidCursors (K.key_of self.now.order) self.now.first self.now.second store.now }
+        ensures { let last = previous_key (K.key_of self.now.order) (both self.now.first self.now.second) store.now side in
+            result ≡ is_gt (K.order self.now.order key.now last) }
+    {
+        self.order.cmp(key, self.previous_key(side, store)).is_gt()
     }
 
     // Returns the slot of an input's previous line.

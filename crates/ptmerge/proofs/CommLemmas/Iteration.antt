@@ -20,7 +20,7 @@ use Rattle.ptmerge.proofs.MergeLemmas.Slots.{put_other, put_same}
 use Rattle.ptmerge.proofs.MergeLemmas.Invariant.{LagInvariant, MergeInvariant, line_is_least_run, lag_invariant_starts}
 use Rattle.ptmerge.proofs.MergeLemmas.Invariant.{write_least_run, all_keys}
 use Rattle.ptmerge.proofs.MergeLemmas.Exits.{at_current_line, state_by_side}
-use Rattle.ptmerge.proofs.MergeLemmas.Start.{start_ok, start_fault, start_slots, start_unread}
+use Rattle.ptmerge.proofs.MergeLemmas.Step.{start_ok, start_fault, start_slots, start_unread}
 use Rattle.ptmerge.specs.declared.faults.MergeFault.TheVariants as faults
 
 -- ---- each line adds one entry
@@ -197,8 +197,8 @@ module _ {job : Comm} {cmp : Cmp} {key : Side → Key} {old now : MergeState} {o
     alone_decreases {one2} {two2} {reader} {after} h = measure_less (key s) cmp s one two one2 two2 now.reader reader
         now.store after step.status_is h.continues.others h.came
 
-    module _ {new : Output} {e : ℕ} (ends : e ≡ job.terminator) {tabs : List ℕ} (led : tabs ≡ tabs_of job s)
-        (pushed : PushEffect now.out new (unlines e (column_entries (hidden_of job s) tabs 1 (head s)))) where
+    module _ {new : Output} {tabs : List ℕ} (led : tabs ≡ tabs_of job s) (pushed : PushEffect now.out new
+        (unlines (now.reader s).terminator (column_entries (hidden_of job s) tabs 1 (head s)))) where
       wrote_line : MergeInvariant tool b (with_side s (ls s) p) old.out new
           × LagInvariant tool b (with_side s (ls s) p) old.out new
       wrote_line =
@@ -206,7 +206,8 @@ module _ {job : Comm} {cmp : Cmp} {key : Side → Key} {old now : MergeState} {o
           let (above, under) = current_key_is_above _ w.o _ _ _ _ _ _ _ _ _ step.before (sides (other s)).status_is in
           rw h.all (write_one_line _ w.o (is_line_by_line job cmp key) s (head s) _ _ _ _ _ clean merge_invariant
           h.bound above under
-          (rw (entries_alone job cmp key s (head s) (whole_line_keys s (head s))) (rw (ends, led) at pushed)))
+          (rw (entries_alone job cmp key s (head s) (whole_line_keys s (head s)))
+          (rw ((sides s).lines_read.terminator, led) at pushed)))
 
       pub alone_continues : {one2 two2 : Sorted} {reader : Reader} {after : Slots}
           → AdvanceOkPost key cmp s one two one2 two2 (now.reader s) reader now.store after new
@@ -273,13 +274,13 @@ module _ {job : Comm} {cmp : Cmp} {key : Side → Key} {old now : MergeState} {o
         (λ r c. entries_both job (key First x) (length (lines_with_key (key First) (r First) (key First x)))
         (length (lines_with_key (key Second) (r Second) (key First x)))) clean merge_invariant wrote
 
-    module _ {mid : Output} {e : ℕ} (ends : e ≡ job.terminator) {tabs : List ℕ}
-        (led : tabs ≡ tab_if_shown job.hide1 ++ tab_if_shown job.hide2)
-        (pushed : PushEffect now.out mid (unlines e (column_entries job.hide3 tabs 1 (head First)))) where
+    module _ {mid : Output} {tabs : List ℕ} (led : tabs ≡ tab_if_shown job.hide1 ++ tab_if_shown job.hide2)
+        (pushed : PushEffect now.out mid (unlines (now.reader First).terminator
+        (column_entries job.hide3 tabs 1 (head First)))) where
       wrote_pair : PushEffect now.out mid
           (unlines job.terminator (entries_by_key tool all_keys (both (head First ∷ []) (head Second ∷ []))))
       wrote_pair = rw (entries_of_pair job cmp key w.o (head First) (head Second) (whole_line_keys First (head First))
-          (sym step.same)) (rw (ends, led) at pushed)
+          (sym step.same)) (rw ((sides First).lines_read.terminator, led) at pushed)
 
       pub pair_fails : {reader : Reader} {after : Slots} {fault : MergeFault} {r : Result (Unit {0}) MergeFault}
           → r ≡ Err fault → AdvanceErrPost First one (now.reader First) reader now.store after mid fault

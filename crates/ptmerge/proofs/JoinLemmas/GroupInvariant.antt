@@ -3,16 +3,17 @@
 -- inputs are past the key, the group is complete, and counts as processed.
 use Rattle.ptmerge.proofs.Common.{◌≡◌, ⊎_elim, inl, inr, ℕ, ◌+◌, ◌*◌, ◌≤◌, ◌<◌, ◌&&◌, Bool, true, false, List, [], ◌∷◌}
 use Rattle.ptmerge.proofs.Common.{◌++◌, Some, Err, length, max, refl, sym, ◌∙◌, ap, subst, arith, append_assoc}
-use Rattle.ptmerge.proofs.Common.{bytes_eq, bytes_decides, is_gt, false≢true, append-nil, Output, PushEffect, Reader}
+use Rattle.ptmerge.proofs.Common.{bytes_eq, bytes_decides, is_gt, append-nil, Output, PushEffect, Reader}
 use Rattle.ptmerge.proofs.Common.{ReaderAdvance, IsSound, Slots, line, total_bytes, with_line, unlines, IsLine}
 use Rattle.ptmerge.proofs.Common.{max_length, push_trans, unlines-append, MergeFault, Read, Memory, Side, First, Second}
 use Rattle.ptmerge.proofs.Common.{Sorted, CursorStatus, Head, Ended, Disorder, is_head, length-append, Lines, MergeTool}
-use Rattle.ptmerge.proofs.Common.{entries_by_key, entries_of_key, lines_with_key, MergeState, MergePost, NextErrPost}
+use Rattle.ptmerge.proofs.Common.{entries_by_key, entries_of_key, lines_with_key, MergeState, MergePost}
 use Rattle.ptmerge.proofs.Common.{NextOkPost, HasSlots, with_side, other, PrecedesInput, disorder, merged_entries}
 use Rattle.ptmerge.proofs.Common.{sorted_prefixes, is_up_to, MergeEndPost, IsExactMerge, Cmp, Key, Write}
 use Rattle.ptmerge.proofs.MergeLemmas.Step.{slots_on, SidesInvariant, IsAbove, IsLineByLine, current_key_is_above}
 use Rattle.ptmerge.proofs.MergeLemmas.Step.{next_at, own_slots, passed_at, sides_invariant_continues, slots_apart}
-use Rattle.ptmerge.proofs.MergeLemmas.Step.{StoreInvariant, buffered_not_done}
+use Rattle.ptmerge.proofs.MergeLemmas.Step.{StoreInvariant, buffered_not_done, AdvanceErrPost}
+use Rattle.ptmerge.proofs.MergeLemmas.LinesRead.{reads_nothing}
 use Rattle.ptmerge.proofs.MergeLemmas.Invariant.{Bound, AtLeast, MayFollow, IsUnder, MergeInvariant, InputSplit}
 use Rattle.ptmerge.proofs.MergeLemmas.Invariant.{MayCome, all_keys, splits_step, all_wanted, written_is_wanted}
 use Rattle.ptmerge.proofs.JoinLemmas.GroupSlots.{AllSlots, Extends, GroupBounds, InGroup, largest_group, GroupStore}
@@ -185,7 +186,7 @@ ReadFactsOf call now side new piece ls p b =
 -- no read has failed, so the case of a failed read is void
 pub not_failed : (call : JoinCall) (side : Side) {b : Bool} {X : Type 0} → b ≡ (call.old.reader side).failed → b ≡ true
     → X
-not_failed call side same fail = absurd (false≢true (sym (same ∙ call.unfailed side) ∙ fail))
+not_failed call side same fail = cc (call.unfailed side)
 
 -- ---- the bytes in the store
 
@@ -226,7 +227,8 @@ module _ (call : JoinCall) {store : Slots} {ls : Side → Lines} {g : Lines}
 
   -- a store with no more bytes and no more slots stays within the measure
   pub fits_kept : (after : Slots) → after.peak ≤ max store.peak (total_bytes store.lines)
-      → length after.lines ≡ length store.lines → Fits call.tool call.old.store now ls (λ side. []) after
+      → length after.lines ≡ length store.lines → {piece : Side → List ℕ}
+      → Fits call.tool call.old.store now ls piece after
   fits_kept after peak same all w =
       omega (arith, peak, same, size_of call h all (λ side. omega (arith, (w side).longest)) (extends (w Second)))
 
@@ -237,7 +239,7 @@ store_between_groups call {cursor = cursor} h slots =
     record {
       lines = h.lines;
       denied = h.denied;
-      fits = fits_kept call h;
+      fits = λ after peak same. fits_kept call h after peak same;
       line = λ s. peak_line call h s (cursor s) (slots s);
     }
 
@@ -275,8 +277,7 @@ module _ (call : JoinCall) {was mid : Output} {p g : Side → Lines} {d : Side �
         let (rest, is) = starts_pairs (g First) (lines_with_key (key First) (r First) k) (g Second) some in (
           rest ++ entries_by_key tool w (others_of tool o k r),
           front_is tool o w k g r m.own (λ side. m.beyond side (r side) (c side)) (laws.alone.none k)
-              ∙ (rw (wanted, none, append-nil (g Second), is)
-              (append_assoc (pairs k (g First) (g Second)) rest (entries_by_key tool w (others_of tool o k r)))),
+              ∙ rw (wanted, none, append-nil (g Second), is) (append_assoc (pairs k (g First) (g Second)) rest _),
         );
   }
 
@@ -455,7 +456,7 @@ module _ {call : JoinCall} {now : MergeState} {cursor : Side → Sorted} {end : 
   fails_in new buffered eof = record {
     buffered = buffered;
     eof = eof;
-    all = with_head ∙ sym (ap (λ (l : Lines). q.p s ++ l) (put_same s (g s ++ x ∷ []) g));
+    all = cc (with_head, put_same s (g s ++ x ∷ []) g);
     last = Some (key s x);
     sorted_up_to = rw put_same (rw with_head at at_head.sorted_up_to);
   }
@@ -470,13 +471,25 @@ module _ {call : JoinCall} {now : MergeState} {cursor : Side → Sorted} {end : 
       (rw at_head.bound (read_facts_after_line o (q.sides s).lines_read reads free sound at_head.sorted_up_to))))
       (simp put_other (group_read_facts q (other s)))
 
-  -- reading the next line failed, after a prefix of the group's output was written
-  module _ {out : Output} (clean : out.write_failed ≡ false) {extra : Lines}
+  -- writing failed, or reading the next line, after a prefix of the group's output was written
+  module _ {out : Output} {extra : Lines}
       (begins : OutputStartsWith tool (with_added_line now cursor s g) q.d k extra)
       (wrote : PushEffect q.mid out (unlines call.terminator extra)) (new : Reader) where
-    pub group_breaks : {after : Slots} (fault : MergeFault) → NextErrPost s (cursor s) (now.reader s) new now.store
-        after fault → MergePost tool old (state_after_read now s new out after) (Err fault)
-    group_breaks {after} (Read file) (e, file_is, sound) =
+    failed : (r : Reader) → r.failed ≡ (now.reader s).failed → (side : Side)
+        → (with_side s r now.reader side).failed ≡ (old.reader side).failed
+    failed r same = put_each (λ side (r : Reader). r.failed ≡ (old.reader side).failed) s r now.reader
+        (same ∙ none_failed q s) (none_failed q)
+
+    pub group_breaks : {after : Slots} (fault : MergeFault)
+        → AdvanceErrPost s (cursor s) (now.reader s) new now.store after out fault
+        → MergePost tool old (state_after_read now s new out after) (Err fault)
+    group_breaks fault (inl (is_write, e)) =
+        rw (is_write, e.unread, e.store) (group_exit o _ _ within_more
+        (passing (now.reader s) [] (reads_nothing (now.reader s)) tt (q.sides s).sound) begins wrote (group_begun q)
+        (record { write_failed = e.write_failed; failed = failed (now.reader s) refl; denied = q.keeps.denied })
+        (λ side. not_failed call side (failed (now.reader s) refl side)) (λ input pushed. tt) tt
+        (fits_kept call q.keeps now.store (omega arith) refl))
+    group_breaks {after} (Read file) (inr (clean, (e, file_is, sound))) =
         rw file_is (group_exit o _ _ within_more (passing new e.piece e.faults.reads e.faults.whole sound) begins wrote
         (group_begun q) (record {
           cause = rw (put_same s new now.reader) (⊎_elim (λ h. inl h) (λ (long, same). inr
@@ -490,17 +503,16 @@ module _ {call : JoinCall} {now : MergeState} {cursor : Side → Sorted} {end : 
         (λ (_, same). not_failed call s (same ∙ none_failed q s) fail) e.cause)
         (λ side. not_failed call side (none_failed q side)))
         (λ input pushed. tt) tt (rw e.stored (peak_line call q.keeps s (cursor s) (l.slots s) e.piece)))
-    group_breaks Write moves = absurd moves
-    group_breaks {after} Memory (e, sound) =
-        let failed = put_each (λ side (r : Reader). r.failed ≡ (old.reader side).failed) s new now.reader
-        (e.failed ∙ none_failed q s) (none_failed q) in
+    group_breaks Write (inr (_, moves)) = absurd moves
+    group_breaks {after} Memory (inr (clean, (e, sound))) =
+        let failed = failed new e.failed in
         group_exit o _ _ within_more (passing new e.piece e.faults.reads e.faults.whole sound) begins wrote
         (group_begun q)
         (record { denied = ap (λ (t : Slots). t.denied) e.stored; failed = failed; clean = clean })
         (λ side. not_failed call side (failed side))
         (λ input pushed. tt) (λ four. inl (s, rw (put_same s new now.reader) (buffered_not_done e.left)))
         (rw e.stored (peak_line call q.keeps s (cursor s) (l.slots s) e.piece))
-    group_breaks (faults.Disorder file number) moves = absurd moves
+    group_breaks (faults.Disorder file number) (inr (_, moves)) = absurd moves
 
   -- the input advances
   module _ {reader : Reader} {next : Sorted} {after : Slots}
@@ -537,14 +549,14 @@ module _ {call : JoinCall} {now : MergeState} {cursor : Side → Sorted} {end : 
     says =
         next_same_key cmp o (key s) (cursor s) next (now.reader s) reader now.store after at_head.some
         (omega (arith, q.keeps.four, (low_slot s (cursor s) (l.slots s)).previous)) comes
-        ∙ ap (λ (z : List ℕ). is_head next.status && bytes_eq z (key s (line after next.current_slot))) l.is
+        ∙ cc l.is
 
     -- whether the next line has the key of the group, too
     pub continues_key : next.same ≡ true → (next.status ≡ Head) × (key s (line after next.current_slot) ≡ k)
     continues_key same = has_key next.status k (key s (line after next.current_slot)) (sym says ∙ same)
 
     pub leaves_key : next.same ≡ false → next.status ≡ Head → ¬ (key s (line after next.current_slot) ≡ k)
-    leaves_key same head is = false≢true (sym same ∙ says ∙ (rw (head, is, same_bytes (refl {a = k})) refl))
+    leaves_key same head is = cc (says, same_bytes (refl {a = k}))
 
     -- the previous line belongs to the group
     pub record AdvancedGroup (new : Output) : Type 0 where

@@ -2,7 +2,7 @@
 -- line or copying one changes one slot, so the bytes stored are the sum of both parts. The group is a part of the lines
 -- of one key, so it is bounded by the largest group.
 use Rattle.ptmerge.proofs.Common.{◌≡◌, ⊎_elim, inl, inr, ℕ, ◌+◌, ◌-◌, ◌≤◌, ◌<◌, suc, true, false, length-drop, List, []}
-use Rattle.ptmerge.proofs.Common.{◌∷◌, ◌++◌, length, map, take, drop, get_or, set, max, refl, sym, ap, ◌∙◌, subst}
+use Rattle.ptmerge.proofs.Common.{◌∷◌, ◌++◌, length, map, drop, get_or, set, max, refl, sym, ap, ◌∙◌, subst}
 use Rattle.ptmerge.proofs.Common.{arith, ◌*◌, cond, Option, append_assoc, length-append, append-nil, length-set}
 use Rattle.ptmerge.proofs.Common.{drop_more, get_or-drop, drop-set-add, take_more, length_push, drop-append-le}
 use Rattle.ptmerge.proofs.Common.{drop-set-lt, set_at, take_at, bytes_eq, sum_by_push, sum_by-append, sum_by-cons}
@@ -23,7 +23,7 @@ pub group_from : (store : Slots) (end slot : ℕ) → end ≤ length store.lines
     → group store slot end ≡ line store slot ∷ group store (slot + 1) end
 group_from store end slot fits low =
     let more : end - slot ≡ suc (end - (slot + 1)) = omega arith in
-    rw more (ap (λ (l : Lines). take (suc (end - (slot + 1))) l) (drop_more store.lines slot [] (omega arith)))
+    rw (more, drop_more store.lines slot [] (omega arith)) refl
 
 pub group_end : (store : Slots) (end slot : ℕ) → end ≤ slot → group store slot end ≡ []
 group_end store end slot past = let none : end - slot ≡ 0 = omega arith in rw none refl
@@ -34,16 +34,17 @@ group_more store from end least within =
     let rest = drop from store.lines in
     let next : (end + 1) - from ≡ (end - from) + 1 = omega arith in
     let back : from + (end - from) ≡ end = omega arith in
-    ap (λ n. take n rest) next ∙ take_more rest (end - from) [] (omega (arith, length-drop from store.lines))
-    ∙ ap (λ (l : List ℕ). take (end - from) rest ++ l ∷ [])
-    (get_or-drop from store.lines (end - from) [] ∙ ap (λ i. get_or store.lines i []) back)
+    cc (
+      next,
+      back,
+      take_more rest (end - from) [] (omega (arith, length-drop from store.lines)),
+      get_or-drop from store.lines (end - from) [],
+    )
 
 -- the lines of one slot
 pub group_one : (store : Slots) (slot : ℕ) → slot < length store.lines
     → group store slot (slot + 1) ≡ line store slot ∷ []
-group_one store slot within = let none : slot - slot ≡ 0 = omega arith in
-    group_more store slot slot (omega arith) within ∙ ap (λ n. take n (drop slot store.lines) ++ line store slot ∷ [])
-    none
+group_one store slot within = group_more store slot slot (omega arith) within ∙ cc (group_end store slot slot (omega arith))
 
 -- ---- the output
 
@@ -53,7 +54,7 @@ pair_of job k first second = entry job k (join_fields job.separator first) (join
 
 pub pairs_text : (job : Join) (end : ℕ) (x k : List ℕ) (g : Lines) → job.pairs ≡ true
     → unlines end (pair_entries job k (x ∷ []) g) ≡ unlines end (map (pair_of job k x) g)
-pairs_text job end x k g asked = rw asked (ap (unlines end) (append-nil (map (pair_of job k x) g)))
+pairs_text job end x k g asked = rw (asked, append-nil (map (pair_of job k x) g)) refl
 
 -- ---- emptying the group
 
@@ -74,10 +75,9 @@ clears_more a s t slot from within c is =
     let rest = drop 4 s.lines in
     let all = total_bytes_set s.lines slot [] (omega (arith, c.slots)) in
     let back : 4 + (slot - 4) ≡ slot = omega arith in
-    let at : get_or rest (slot - 4) [] ≡ line a slot = get_or-drop 4 s.lines (slot - 4) []
-    ∙ ap (λ i. get_or s.lines i []) back ∙ c.others slot (inr (omega arith)) in
-    let d : drop 4 (set s.lines slot []) ≡ set rest (slot - 4) [] = ap (λ i. drop 4 (set s.lines i [])) (sym back)
-    ∙ drop-set-add 4 s.lines (slot - 4) [] in
+    let at : get_or rest (slot - 4) [] ≡ line a slot =
+    cc (back, get_or-drop 4 s.lines (slot - 4) [], c.others slot (inr (omega arith))) in
+    let d : drop 4 (set s.lines slot []) ≡ set rest (slot - 4) [] = cc (back, drop-set-add 4 s.lines (slot - 4) []) in
     let here = total_bytes_set rest (slot - 4) [] (omega (arith, c.slots, length-drop 4 s.lines)) in
     let grows = ap total_bytes (group_more a 4 slot from within) ∙ sum_by_push length (group a 4 slot) (line a slot) in
     rw is (record {
@@ -103,27 +103,24 @@ record EnsuredSlot (before made : Slots) (slot : ℕ) : Type 0 where
 
 ensured_slot : (before made : Slots) (slot : ℕ) → EnsureSlotPost before made slot → EnsuredSlot before made slot
 ensured_slot before made slot g =
-    let kept : slot < length before.lines → length made.lines ≡ length before.lines =
-    λ low. ap (λ (s : Slots). length s.lines) (g.there low) in
-    ⊎_elim (λ e.
-    let same = ap (λ (s : Slots). length s.lines) e in
-    record {
+    let kept : slot < length before.lines → length made.lines ≡ length before.lines = λ low. cc (g.there low) in
+    ⊎_elim (λ e. rw e (record {
       more = [];
-      lines = ap (λ (s : Slots). s.lines) e ∙ sym (append-nil before.lines);
+      lines = sym (append-nil before.lines);
       empty = refl;
-      slots = omega (arith, same);
-      peak = rw e refl;
-      denied = rw e refl;
-    })
+      slots = omega arith;
+      peak = refl;
+      denied = refl;
+    }))
     (λ e.
-    let more = ap (λ (s : Slots). length s.lines) e ∙ length_push before.lines [] in
+    let more : length made.lines ≡ length before.lines + 1 = cc (length_push before.lines []) in
     record {
       more = [] ∷ [];
-      lines = rw e refl;
+      lines = cc;
       empty = refl;
       slots = (omega (arith, more), grind (arith, more, kept));
-      peak = rw e refl;
-      denied = rw e refl;
+      peak = cc;
+      denied = cc;
     }) g.grown
 
 pub failed_copy : (before made : Slots) (to : ℕ) → EnsureSlotPost before made to
@@ -288,7 +285,7 @@ group_store_line {store = store} {after} {ls} {now} {g} s cursor slots x k up fi
       lines = inside;
       bounds = λ all more e.
           let bounds = k.bounds all (continues_key.more ++ more)
-          (e ∙ ap (λ (l : Lines). l ++ more) continues_key.is ∙ append_assoc (ls Second) continues_key.more more) in
+          (cc (continues_key.is, append_assoc (ls Second) continues_key.more more)) in
           omega (arith, bounds, up First, up Second, sum, size);
       least = omega (arith, k.least, size);
       four = omega (arith, k.four, size);
@@ -321,8 +318,7 @@ module _ {most : GroupBounds} {before store : Slots} {ls : Side → Lines} {g : 
 
   module _ {made : Slots} {to : ℕ} (w : EnsuredSlot store made to) where
     made_same : (i : ℕ) → i < 4 → line made i ≡ line store i
-    made_same i low = ap (λ (l : Lines). get_or l i []) w.lines
-        ∙ get_or-append store.lines w.more [] i (omega (arith, k.four, low))
+    made_same i low = cc (w.lines, get_or-append store.lines w.more [] i (omega (arith, k.four, low)))
 
     module _ (y : List ℕ) (at : to ≡ 4 + length g) (within : to < length made.lines)
         (largest : (l : Lines) → InGroup most (g ++ y ∷ []) (ls Second ++ l)) where
@@ -360,14 +356,13 @@ module _ {most : GroupBounds} {before store : Slots} {ls : Side → Lines} {g : 
 
       kept : CopiedLine (with_line made to y) y
       kept =
-          let split : drop 4 made.lines ≡ g ++ (k.tail ++ w.more)
-          = ap (λ (l : Lines). drop 4 l) w.lines ∙ drop-append-le 4 store.lines w.more k.four
-          ∙ ap (λ (l : Lines). l ++ w.more) k.split ∙ append_assoc g k.tail w.more in
+          let split : drop 4 made.lines ≡ g ++ (k.tail ++ w.more) =
+          cc (w.lines, drop-append-le 4 store.lines w.more k.four, k.split, append_assoc g k.tail w.more) in
           record {
             store_holds = by_tail (k.tail ++ w.more)
                 (omega (arith, sum_by-append length k.tail w.more, k.empty, w.empty))
                 (omega (arith, within, at, ap length split, length-drop 4 made.lines))
-                (rw at (drop-set-add 4 made.lines (length g) y) ∙ ap (λ (l : Lines). set l (length g) y) split);
+                (cc (drop-set-add 4 made.lines (length g) y));
             same = first_same;
           }
 
@@ -381,9 +376,12 @@ module _ {most : GroupBounds} {before store : Slots} {ls : Side → Lines} {g : 
   pub kept_line : (slot : ℕ) → 4 ≤ slot → slot < 4 + length g → line store slot ≡ get_or g (slot - 4) []
   kept_line slot from low =
       let back : 4 + (slot - 4) ≡ slot = omega arith in
-      sym (ap (λ i. get_or store.lines i []) back) ∙ sym (get_or-drop 4 store.lines (slot - 4) [])
-      ∙ ap (λ (l : Lines). get_or l (slot - 4) []) k.split
-      ∙ get_or-append g k.tail [] (slot - 4) (omega (arith, from, low))
+      cc (
+        back,
+        k.split,
+        get_or-drop 4 store.lines (slot - 4) [],
+        get_or-append g k.tail [] (slot - 4) (omega (arith, from, low)),
+      )
 
   pub group_is : {end : ℕ} → end ≡ 4 + length g → group store 4 end ≡ g
   group_is at = rw k.split (take_at g k.tail _ (omega (arith, at)))

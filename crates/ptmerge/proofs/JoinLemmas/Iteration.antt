@@ -11,23 +11,36 @@ use Rattle.ptmerge.proofs.Common.{MergeState, MergePost, IsMergeUnread, merge_st
 use Rattle.ptmerge.proofs.Common.{HaveEqualKeys, StartErrPost, HasOnlyLeastKey, IsDisorderDecided, IsReaderOf}
 use Rattle.ptmerge.proofs.Common.{AreValidCursors, StartOkPost, merge_inputs, ClearFourSlotsPost, ◌⊎◌, MergeRunPre}
 use Rattle.ptmerge.proofs.Common.{JoinStepPre, AdvancePre, push_nothing, other, if◌then◌else◌, max_group_bytes}
-use Rattle.ptmerge.proofs.Common.{max_group_lines}
+use Rattle.ptmerge.proofs.Common.{max_group_lines, inl, inr, ReadGroupLineOkPost, ReadGroupLinePost, IsGroup}
+use Rattle.ptmerge.proofs.Common.{ClearGroupPost, group_end_slot, group_first_slot, group, JoinLinePre, ⊎_elim, ◌-◌}
+use Rattle.ptmerge.proofs.Common.{◌==◌, push_trans, nat_tests, length_push, unlines-append, append_assoc}
+use Rattle.ptmerge.proofs.Common.{merged_entries, nil_from_length, CopyToGroupPost, ReadGroupLineErrPost}
 use Rattle.ptmerge.proofs.MergeLemmas.Step.{open_merge, slots_of, wrote_as, IsLineByLine, alone, current_key_is_above}
 use Rattle.ptmerge.proofs.MergeLemmas.Step.{IsOpenMerge as OpenMerge, write_one_line, IsAbove, reads_ahead}
 use Rattle.ptmerge.proofs.MergeLemmas.Step.{measure_less, own_reader_kept, place_is, LoopInvariant, CursorsInvariant}
 use Rattle.ptmerge.proofs.MergeLemmas.Step.{AdvanceErrPost, advance_keeps_slot_count, iteration_fails}
-use Rattle.ptmerge.proofs.MergeLemmas.Step.{read_facts_current, runs_on, n, ends_well, ends_fallen}
+use Rattle.ptmerge.proofs.MergeLemmas.Step.{read_facts_current, runs_on, n, ends_well, ends_fallen, start_fault}
+use Rattle.ptmerge.proofs.MergeLemmas.Step.{start_ok, start_unread, start_slots, next_keeps_slot_count}
+use Rattle.ptmerge.proofs.MergeLemmas.Step.{next_error_keeps_slot_count, valid_cursors_kept, wrote_and_sent}
 use Rattle.std.specs.List.{flat_map}
 use Rattle.ptmerge.proofs.JoinLemmas.GroupInvariant.{IsPairTool, IsAtKey, head_of, JoinCall, state_after_read}
-use Rattle.ptmerge.proofs.JoinLemmas.GroupInvariant.{GroupState, store_between_groups}
+use Rattle.ptmerge.proofs.JoinLemmas.GroupInvariant.{GroupState, store_between_groups, not_failed}
+use Rattle.ptmerge.proofs.JoinLemmas.GroupInvariant.{IsAtGroupLine, AdvancedGroup, closes, continues_key, leaves_key}
+use Rattle.ptmerge.proofs.JoinLemmas.GroupInvariant.{advanced_group, group_breaks, with_added_line, is_past, next_slots}
+use Rattle.ptmerge.proofs.JoinLemmas.GroupInvariant.{others_stay, passing, extends, front_is_not_all, has_entries}
+use Rattle.ptmerge.proofs.JoinLemmas.GroupInvariant.{group_begun, same_cursors, group_read_facts, starts, none_failed}
+use Rattle.ptmerge.proofs.JoinLemmas.GroupInvariant.{within_more, group_kept, last_stays, own_more, size_of}
+use Rattle.ptmerge.proofs.JoinLemmas.GroupInvariant.{starts_none, with_head, OutputStartsWith, group_exit}
 use Rattle.ptmerge.proofs.MergeLemmas.Invariant.{all_keys, AtLeast, LagInvariant, MergeInvariant, Bound}
 use Rattle.ptmerge.specs.declared.tools.join.JoinPhase.{JoinPhase}
 use Rattle.ptmerge.proofs.JoinLemmas.GroupSlots.{GroupBounds, end_within, pair_of, GroupStore, group_store_next}
-use Rattle.ptmerge.proofs.JoinLemmas.GroupSlots.{group_store_starts}
-use Rattle.ptmerge.proofs.MergeLemmas.Orders.{IsKeyOrder, same_bytes, self_at_most}
+use Rattle.ptmerge.proofs.JoinLemmas.GroupSlots.{group_store_starts, group_is, kept_line, group_store_cleared, low_slot}
+use Rattle.ptmerge.proofs.JoinLemmas.GroupSlots.{group_one, InGroup, largest_group, CopiedLine, group_in}
+use Rattle.ptmerge.proofs.JoinLemmas.GroupSlots.{group_store_copied}
+use Rattle.ptmerge.proofs.MergeLemmas.Orders.{IsKeyOrder, same_bytes, self_at_most, EachKey-at}
 use Rattle.ptmerge.proofs.MergeLemmas.Slots.{put_other, put_same}
-use Rattle.ptmerge.proofs.MergeLemmas.Start.{start_fault, start_ok, start_unread, start_slots}
 use Rattle.ptmerge.proofs.MergeLemmas.Exits.{at_current_line}
+use Rattle.ptmerge.proofs.MergeLemmas.LinesRead.{Continues, reads_nothing}
 use Rattle.ptmerge.specs.declared.faults.MergeFault.TheVariants as faults
 use Rattle.ptmerge.specs.declared.tools.join.JoinPhase.TheVariants as phases
 
@@ -70,8 +83,7 @@ module _ (job : Join) (cmp : Cmp) (key : Side → Key) where
     none = λ k g. cond_of_empty job.pairs;
     more = λ k f g c.
         let each = λ (a : List ℕ). map (pair_of job k a) c in
-        ap (λ l. cond job.pairs l []) (flat_map-append each f g)
-        ∙ cond_of_append job.pairs (flat_map each f) (flat_map each g);
+        cc (flat_map-append each f g, cond_of_append job.pairs (flat_map each f) (flat_map each g));
     whole = λ k a b f g. refl;
     written = λ keeps k a b f g. rw keeps (omega arith);
     unwritten = λ none k f g. rw none;
@@ -244,15 +256,27 @@ module _ {job : Join} {cmp : Cmp} {key : Side → Key} {old : MergeState} (a : I
         slots = record { least = adds.least; all = λ fine. omega (arith, adds.all fine) };
       })
 
+-- the number of slots after the group could not be extended
+pub read_group_slots : {keep : Bool} {key : Key} {cmp : Cmp} {cursor next : Sorted} {was is : Reader}
+    {before after : Slots} {end : ℕ} (fault : MergeFault)
+    → ReadGroupLineErrPost keep key cmp cursor next was is before after end fault
+    → length before.lines ≤ length after.lines
+read_group_slots fault (inl e) = omega (arith, next_keeps_slot_count _ _ _ _ _ _ _ _ e.came, e.copy_failed.slots)
+read_group_slots {cursor = cursor} {was = was} {is = is} {before = before} {after = after} fault (inr e) =
+    omega (arith, next_error_keeps_slot_count Second cursor was is before after fault e)
+
 module _ {job : Join} {cmp : Cmp} {key : Side → Key} {old : MergeState} {phase : JoinPhase} {now : MergeState}
     {one two : Sorted} {end : ℕ}
     (t : IterationInvariant job cmp key old phase now one two end) where
   open t.opened.w use {o}
 
+  abbrev call : JoinCall
+  call = join_call_of t.opened
+
   pub slots : (side : Side) → HasSlots side (both one two side)
   slots = slots_of one two now.store t.valid_cursors
 
-  bounds : (p : JoinPhase) → PhaseInvariant (join_call_of t.opened) p now (both one two) end
+  bounds : (p : JoinPhase) → PhaseInvariant call p now (both one two) end
       → GroupSlotsExist old.store now.store end
   bounds phases.BetweenGroups (r, at) = record { end_in = omega (arith, at, r.keeps.four); least = r.keeps.least }
   bounds phases.ReadGroup r =
@@ -277,12 +301,12 @@ module _ {job : Join} {cmp : Cmp} {key : Side → Key} {old : MergeState} {phase
 
   pub iteration_continues : {next : JoinPhase} (s : Side) {one2 two2 : Sorted} {reader : Reader} {after : Slots}
       {new : Output} {to : ℕ} → IsReadyToContinue key s one two one2 two2 reader after new
-      → PhaseInvariant (join_call_of t.opened) next (state_after_read now s reader new after)
+      → PhaseInvariant call next (state_after_read now s reader new after)
       (with_side s (both one2 two2 s) (both one two)) to → IterationInvariant job cmp key old next
       (state_after_read now s reader new after) one2 two2 to
   iteration_continues {next} s {one2} {two2} {reader} {after} {new} {to} continues phased = record {
     opened = t.opened;
-    phased = subst (λ (cursor : Side → Sorted). PhaseInvariant (join_call_of t.opened) next
+    phased = subst (λ (cursor : Side → Sorted). PhaseInvariant call next
         (state_after_read now s reader new after) cursor to) (place_is s one two one2 two2 continues.others) phased;
     valid_cursors = continues.valid_cursors;
     own_reader =
@@ -312,10 +336,10 @@ module _ {job : Join} {cmp : Cmp} {key : Side → Key} {old : MergeState} {phase
   -- ---- between groups
 
   module _ (is : phase ≡ phases.BetweenGroups) where
-    between : BetweenGroups (join_call_of t.opened) now (both one two) × (end ≡ 4)
+    between : BetweenGroups call now (both one two) × (end ≡ 4)
     between = rw is at t.phased
 
-    r : BetweenGroups (join_call_of t.opened) now (both one two)
+    r : BetweenGroups call now (both one two)
     r = let (here, _) = between in here
 
     no_copies : end ≡ 4
@@ -323,12 +347,12 @@ module _ {job : Join} {cmp : Cmp} {key : Side → Key} {old : MergeState} {phase
 
     stood_at : CursorsInvariant (join_with job cmp key) old now.reader (both one two) now.store r.ls r.p r.b
     stood_at =
-        record { sides = r.sides; holds = store_between_groups (join_call_of t.opened) r.keeps slots; slots = slots }
+        record { sides = r.sides; holds = store_between_groups call r.keeps slots; slots = slots }
 
     -- a step for an unpaired line
-    module _ {s : Side} (step : HasOnlyLeastKey cmp key (both one two) now.store s) {new : Output} {e : ℕ}
-        (ends : e ≡ (old.reader First).terminator)
-        (pushed : PushEffect now.out new (unlines e (unpaired_entry job s (head_of now (both one two) s)))) where
+    module _ {s : Side} (step : HasOnlyLeastKey cmp key (both one two) now.store s) {new : Output}
+        (pushed : PushEffect now.out new (unlines (now.reader s).terminator
+        (unpaired_entry job s (head_of now (both one two) s)))) where
       wrote_unpaired : MergeInvariant (join_with job cmp key) r.b (with_side s (r.ls s) r.p) old.out new
           × LagInvariant (join_with job cmp key) r.b (with_side s (r.ls s) r.p) old.out new
       wrote_unpaired =
@@ -337,7 +361,7 @@ module _ {job : Join} {cmp : Cmp} {key : Side → Key} {old : MergeState} {phase
           let (above, under) = current_key_is_above cmp o _ _ _ _ _ _ _ _ _ step.before (r.sides (other s)).status_is in
           rw h.all (write_one_line _ o (is_line_by_line job cmp key) s x r.b r.p _ _ _ t.clean r.merge_invariant h.bound
           above under
-          (wrote_as _ _ _ _ _ _ (ends ∙ t.opened.w.terminator First) (entries_alone job cmp key s x (t.opened.keys s x))
+          (wrote_as _ _ _ _ _ _ (r.sides s).lines_read.terminator (entries_alone job cmp key s x (t.opened.keys s x))
           pushed))
 
       pub alone_continues : {one2 two2 : Sorted} {reader : Reader} {after : Slots}
@@ -421,3 +445,343 @@ module _ {job : Join} {cmp : Cmp} {key : Side → Key} {old : MergeState} {phase
           → ExitPost job cmp key old (record now { store = after }) (Err (faults.Disorder s n))
       disordered step = exit_post refl (omega (arith, clear.slots))
           (ends_fallen t.opened.w stood_at r.merge_invariant t.clean clear step)
+
+  -- ---- reading the group
+
+  module _ (is : phase ≡ phases.ReadGroup) where
+    a : ReadGroup call now (both one two) end
+    a = rw is at t.phased
+
+    pub read_group_pre : AdvancePre key Second one two (now.reader Second) now.store
+    read_group_pre = advance_pre Second (a.heads Second).head
+
+    -- the copied lines are all lines read, or none
+    all_copied : call.keeps_groups ≡ true → a.kept ≡ a.g
+    all_copied keeps = a.copied ∙ (λ i. cond (keeps i) a.g [])
+
+    none_copied : call.keeps_groups ≡ false → a.kept ≡ []
+    none_copied none = a.copied ∙ (λ i. cond (none i) a.g [])
+
+    abbrev y : List ℕ
+    y = line now.store two.current_slot
+
+    at_second : IsAtGroupLine a.q Second
+    at_second = record { slots = slots; at_key = a.heads Second }
+
+    -- the output buffered before the group was written out
+    module _ {out : Output} (written_out : PushEffect now.out out []) where
+      -- no output of the group is written
+      wrote_none : PushEffect a.q.mid out []
+      wrote_none = wrote_and_sent _ _ _ _ t.clean (rw (call.laws.none a.k a.g) at a.q.wrote) written_out
+
+      -- the second input advanced
+      module _ {reader : Reader} {two2 : Sorted} {made : Slots}
+          (comes : NextOkPost (key Second) cmp two two2 (now.reader Second) reader now.store made) where
+        on_second : AdvancedGroup at_second comes out
+        on_second = advanced_group at_second comes (rw (call.laws.none a.k (a.g ++ y ∷ [])) wrote_none)
+
+        inside : (l : Lines) → InGroup (largest_group (key Second)) (a.g ++ y ∷ []) (on_second.group.ls Second ++ l)
+        inside l = rw (
+          on_second.more.is,
+          append_assoc (a.q.ls Second) on_second.more.more l,
+          with_head at_second,
+          ← append_assoc (a.q.p Second) a.g (y ∷ []),
+        )
+            (group_in (key Second) a.k (a.q.p Second) a.g y (on_second.more.more ++ l) (own_more at_second Second)
+            (a.heads Second).is)
+
+        -- the first four slots are unchanged
+        module _ (after : Slots) (same : (i : ℕ) → i < 4 → line after i ≡ line made i) where
+          key1_on : key First (line after one.current_slot) ≡ a.k
+          key1_on = let (stays, _) = others_stay at_second comes in
+              rw (same one.current_slot (low_slot First one (slots First)).current, stays) (a.heads First).is
+
+          stays : line after two2.current_slot ≡ line made two2.current_slot
+          stays = same two2.current_slot (low_slot Second two2 (next_slots at_second comes Second)).current
+
+          pairs_by : {to : ℕ} {kept : Lines} → GroupState call (state_after_read now Second reader out after)
+              (with_side Second two2 (both one two)) to a.k (both [] (a.g ++ y ∷ [])) kept → two2.same ≡ false
+              → IsGroupIn call a.k (line after two2.previous_slot) kept (a.g ++ y ∷ [])
+              → WritePairs call (state_after_read now Second reader out after) (with_side Second two2 (both one two)) to
+          pairs_by {kept = kept} q other lines_in = record {
+            k = a.k;
+            g = both [] (a.g ++ y ∷ []);
+            kept = kept;
+            q = q;
+            lines_in = lines_in;
+            some = omega (arith, length_push a.g y);
+            above = is_past q Second (λ e is. leaves_key at_second comes other e (rw stays at is));
+            head = record { head = (a.heads First).head; is = key1_on };
+          }
+
+          reads_by : {to : ℕ} {kept : Lines} → GroupState call (state_after_read now Second reader out after)
+              (with_side Second two2 (both one two)) to a.k (both [] (a.g ++ y ∷ [])) kept → two2.same ≡ true
+              → kept ≡ cond call.keeps_groups (a.g ++ y ∷ []) []
+              → ReadGroup call (state_after_read now Second reader out after) (with_side Second two2 (both one two)) to
+          reads_by {kept = kept} q more copied = record {
+            k = a.k;
+            g = a.g ++ y ∷ [];
+            kept = kept;
+            q = q;
+            copied = copied;
+            heads = elim [
+              | First ↦ record { head = (a.heads First).head; is = key1_on }
+              | Second ↦ (let (head, is) = continues_key at_second comes more in
+                  record { head = head; is = rw stays is })
+            ];
+          }
+
+        -- the previous line stands for the group, if none is copied
+        one_for_all : a.kept ≡ [] → IsOneForAll call a.k (line made two2.previous_slot) a.kept (a.g ++ y ∷ [])
+        one_for_all none = record {
+          none = none;
+          own = rw (last_stays at_second comes) (a.heads Second).is;
+          same_pairs = rw (last_stays at_second comes) (by call.keeps_groups refl);
+        }
+          where
+            by : (t : Bool) → call.keeps_groups ≡ t → (f : Lines)
+                → call.pairs a.k f (y ∷ []) ≡ call.pairs a.k f (a.g ++ y ∷ [])
+            by true keeps f = cc (all_copied keeps)
+            by false without f =
+                cc (call.laws.unwritten without a.k f (y ∷ []), call.laws.unwritten without a.k f (a.g ++ y ∷ []))
+
+        -- the previous line was copied, too
+        module _ {after : Slots} (keeps : call.keeps_groups ≡ true)
+            (kept : CopyToGroupPost made after two2.previous_slot end) where
+          kept_too : CopiedLine on_second.group.keeps after y
+          kept_too = group_store_copied on_second.group.keeps
+              on_second.group.at (low_slot Second two2 (next_slots at_second comes Second)).previous kept
+              (last_stays at_second comes)
+              (λ l. rw (all_copied keeps) (call.laws.largest keeps _ _ (inside l)))
+
+          group_on : GroupState call (state_after_read now Second reader out after)
+              (with_side Second two2 (both one two)) (end + 1) a.k (both [] (a.g ++ y ∷ [])) (a.kept ++ y ∷ [])
+          group_on = group_kept on_second.group (next_slots at_second comes) kept_too.same kept_too.store_holds
+              (omega (arith, a.q.at, length_push a.kept y))
+
+          all_copied_too : a.kept ++ y ∷ [] ≡ a.g ++ y ∷ []
+          all_copied_too = cc (all_copied keeps)
+
+          reads_more : two2.same ≡ true
+              → ReadGroup call (state_after_read now Second reader out after) (with_side Second two2 (both one two))
+              (end + 1)
+          reads_more more =
+              reads_by after kept_too.same group_on more
+              (all_copied_too ∙ sym (λ i. cond (keeps i) (a.g ++ y ∷ []) []))
+
+      module _ {one2 two2 : Sorted} {reader : Reader} {after : Slots} {to : ℕ}
+          (h : ReadGroupLineOkPost call.keeps_groups (key Second) cmp two two2 (now.reader Second) reader now.store
+          after end to) (continues : IsReadyToContinue key Second one two one2 two2 reader after out) where
+        pub read_group_continues : two2.same ≡ true
+            → IterationInvariant job cmp key old phase (state_after_read now Second reader out after) one2 two2 to
+        read_group_continues same = iteration_continues {next = phase} Second continues (rw is (⊎_elim (λ e.
+            let without = ⊎_elim (λ none. none) (λ (differs, _). cc) e.stays in
+            rw (e.end_is, e.store_is) (reads_by h.came _ (λ i low. refl) (on_second h.came).group same
+            (none_copied without ∙ sym (λ i. cond (without i) (a.g ++ y ∷ []) []))))
+            (λ e. rw e.end_is (reads_more h.came e.keeps e.copied same)) h.kept))
+
+        pub write_pairs_next : two2.same ≡ false → IterationInvariant job cmp key old phases.WritePairs
+            (state_after_read now Second reader out after) one2 two2 to
+        write_pairs_next same = iteration_continues {next = phases.WritePairs} Second continues (⊎_elim (λ e.
+            let none = ⊎_elim none_copied (λ (_, four). nil_from_length a.kept (omega (arith, four, a.q.at))) e.stays in
+            rw (e.end_is, e.store_is) (pairs_by h.came _ (λ i low. refl) (on_second h.came).group same
+            (inr (one_for_all h.came none))))
+            (λ e. rw e.end_is (pairs_by h.came _ (kept_too h.came e.keeps e.copied).same
+            (group_on h.came e.keeps e.copied) same (inl (all_copied_too h.came e.keeps e.copied)))) h.kept)
+
+      -- the pairs of the first input's current line and the group are not written yet
+      pairs_are_missing : {reader : Reader} {two2 : Sorted} {made : Slots}
+          (comes : NextOkPost (key Second) cmp two two2 (now.reader Second) reader now.store made)
+          → call.keeps_groups ≡ true
+          → (all : Side → Lines) → ((side : Side) → Continues (with_side Second reader now.reader side)
+          ((on_second comes).group.ls side) (all side))
+          → ¬ (merged_entries call.tool all ≡ entries_by_key call.tool all_keys (on_second comes).group.p ++ [])
+      pairs_are_missing {reader} {two2} {made} comes keeps all w =
+          let q = (on_second comes).group in
+          let first : IsAtGroupLine q First = record {
+            slots = next_slots at_second comes;
+            at_key = record { head = (a.heads First).head; is = key1_on comes made (λ i low. refl) };
+          } in
+          front_is_not_all o old (state_after_read now Second reader out made)
+          {now = with_side Second reader now.reader} {piece = λ side. []} {ls = q.ls} (within_more first)
+          (elim [
+            | First ↦ passing first (now.reader First) [] (reads_nothing (now.reader First)) tt
+                (q.sides First).sound First
+            | Second ↦ group_read_facts q Second
+          ])
+          all w (has_entries call (within_more first) keeps
+          (elim [ First ↦ omega arith | Second ↦ omega (arith, length_push a.g y) ]))
+
+      -- a line could not be copied, or the next one could not be read
+      read_group_fault : {two2 : Sorted} {reader : Reader} {after : Slots} → out.write_failed ≡ false
+          → (fault : MergeFault)
+          → ReadGroupLineErrPost call.keeps_groups (key Second) cmp two two2 (now.reader Second) reader now.store after
+          end fault → MergePost (join_with job cmp key) old (state_after_read now Second reader out after) (Err fault)
+      read_group_fault fine fault (inl e) =
+          let q = (on_second e.came).group in
+          rw e.memory (group_exit o _ _ q.within (group_read_facts q) (starts_none call q.within)
+          (rw (call.laws.none a.k (a.g ++ y ∷ [])) at q.wrote) (group_begun q)
+          (record { denied = e.copy_failed.denied; failed = none_failed q; clean = fine })
+          (λ side. not_failed call side (none_failed q side)) (λ input pushed. tt)
+          (λ four. inr (e.keeps, pairs_are_missing e.came e.keeps)) (λ all w.
+          let size = size_of call q.keeps all (λ side. omega (arith, (w side).longest)) (extends (w Second)) in
+          let (_, many) = call.laws.largest e.keeps _ _ (inside e.came (w Second).continues.more) in
+          let all_is = ap call.most.lines (w Second).continues.is in (
+            omega (arith, e.copy_failed.peak, size),
+            omega (
+              arith,
+              e.copy_failed.most,
+              q.at,
+              ap length (all_copied e.keeps),
+              size,
+              many,
+              all_is,
+              call.laws.slots all,
+              length_push a.g y,
+            ),
+          )))
+      read_group_fault {reader = reader} fine fault (inr e) =
+          group_breaks at_second (starts_none call (within_more at_second)) wrote_none reader fault (inr (fine, e))
+
+      pub read_group_fails : {two2 : Sorted} {reader : Reader} {after : Slots} {fault : MergeFault}
+          {r : Result (Unit {0}) MergeFault}
+          → r ≡ Err fault
+          → ReadGroupLinePost call.keeps_groups (key Second) cmp two two2 (now.reader Second) reader now.store after out
+          end (Err fault) → ExitPost job cmp key old (state_after_read now Second reader out after) r
+      read_group_fails {reader = reader} {fault = fault} is_fault (inl e) = exit_post is_fault
+          (omega (arith, advance_keeps_slot_count (key Second) cmp Second two two _ _ _ _ _ fault (inl e)))
+          (group_breaks at_second (starts_none call (within_more at_second)) wrote_none reader fault (inl e))
+      read_group_fails {fault = fault} is_fault (inr (fine, e)) =
+          exit_post is_fault (read_group_slots fault e) (read_group_fault fine fault e)
+
+  -- ---- writing pairs
+
+  module _ (is : phase ≡ phases.WritePairs) where
+    written : WritePairs call now (both one two) end
+    written = rw is at t.phased
+
+    pub write_pairs_pre : JoinLinePre job key First one two (now.reader First) now.store now.out
+    write_pairs_pre = record { status_is = advance_pre First written.head.head; joins = joins }
+
+    is_kept : written.kept ≡ written.g Second → (end == 4) ≡ false
+    is_kept same = let more : 4 < end = omega (arith, written.q.at, ap length same, written.some) in grind (arith, nat_tests)
+
+    is_alone : written.kept ≡ [] → (end == 4) ≡ true
+    is_alone none = let four : end ≡ 4 = omega (arith, written.q.at, ap length none) in grind (arith, nat_tests)
+
+    -- the lines of the group have its key
+    keyed_slot : (slot : ℕ) → group_first_slot two end ≤ slot → slot < group_end_slot two end
+        → key Second (line now.store slot) ≡ written.k
+    keyed_slot slot from low = ⊎_elim (λ same.
+        let least : 4 ≤ slot = rw (is_kept same) at from in
+        let most : slot < end = rw (is_kept same) at low in
+        ap (key Second) (kept_line written.q.keeps slot least (omega (arith, most, written.q.at)))
+        ∙ EachKey-at (λ x. x ≡ written.k) (key Second) written.kept (slot - 4) (omega (arith, least, most, written.q.at))
+        (rw same (written.q.within.own Second)))
+        (λ h.
+        let least : two.previous_slot ≤ slot = rw (is_alone h.none) at from in
+        let most : slot < two.previous_slot + 1 = rw (is_alone h.none) at low in
+        let is : slot ≡ two.previous_slot = omega (arith, least, most) in
+        rw is h.own) written.lines_in
+
+    -- the lines in the slots of the group have the pairs of the group
+    group_pairs_are : (f : Lines) → pair_entries job written.k f (group now.store (group_first_slot two end)
+        (group_end_slot two end)) ≡ pair_entries job written.k f (written.g Second)
+    group_pairs_are f = ⊎_elim (λ same. ap (λ (l : Lines). pair_entries job written.k f l)
+        (rw (is_kept same) (group_is written.q.keeps written.q.at ∙ same)))
+        (λ h.
+        let one : group now.store (group_first_slot two end) (group_end_slot two end) ≡ line now.store
+        two.previous_slot ∷ []
+        = rw (is_alone h.none) (group_one now.store two.previous_slot
+        (omega (arith, written.q.keeps.four, (low_slot Second two (slots Second)).previous))) in
+        cc (one, h.same_pairs f)) written.lines_in
+
+    pub write_pairs_group : IsGroup (join_key job Second) two now.store end
+        (key First (line now.store one.current_slot))
+    write_pairs_group = record {
+      within = end_in;
+      keyed = λ slot from low. sym
+          (t.opened.keys Second (line now.store slot)) ∙ keyed_slot slot from low ∙ sym written.head.is;
+    }
+
+    abbrev z : Lines
+    z = line now.store one.current_slot ∷ []
+
+    at_first : IsAtGroupLine written.q First
+    at_first = record { slots = slots; at_key = written.head }
+
+    module _ {new : Output}
+        (pushed : PushEffect now.out new (unlines (now.reader First).terminator (pair_entries job (key First (line now.store one.current_slot)) z
+        (group now.store (group_first_slot two end) (group_end_slot two end))))) where
+      wrote_more : PushEffect written.q.mid new (unlines job.terminator (pair_entries job written.k (written.g First ++ z) (written.g Second)))
+      wrote_more = rw (
+        call.laws.more written.k (written.g First) z (written.g Second),
+        unlines-append job.terminator
+            (pair_entries job written.k (written.g First) (written.g Second)) (pair_entries job written.k z (written.g Second)),
+      )
+          (push_trans _ _ _ _ _ t.clean written.q.wrote (wrote_as _ _ _ _ _ _ (written.q.sides First).lines_read.terminator
+          (sym (group_pairs_are z) ∙ (λ j. pair_entries job (sym written.head.is j) z
+          (group now.store (group_first_slot two end) (group_end_slot two end)))) pushed))
+
+      pairs_begin : OutputStartsWith (join_with job cmp key) (with_added_line now (both one two) First written.g) written.q.d written.k
+          (pair_entries job written.k (written.g First ++ z) (written.g Second))
+      pairs_begin = starts call (within_more at_first) written.some written.above
+
+      pub pair_fails : {reader : Reader} {after : Slots} {fault : MergeFault} {r : Result (Unit {0}) MergeFault}
+          → r ≡ Err fault → AdvanceErrPost First one (now.reader First) reader now.store after new fault
+          → ExitPost job cmp key old (state_after_read now First reader new after) r
+      pair_fails {reader} {fault = fault} is_fault h = exit_post is_fault
+          (omega (arith, advance_keeps_slot_count (key First) cmp First one one _ _ _ _ _ fault h))
+          (group_breaks at_first pairs_begin wrote_more reader fault h)
+
+      module _ {one2 two2 : Sorted} {reader : Reader} {after : Slots}
+          (h : AdvanceOkPost key cmp First one two one2 two2 (now.reader First) reader now.store after new) where
+        on_first : AdvancedGroup at_first h.came new
+        on_first = advanced_group at_first h.came wrote_more
+
+        above_on : IsAbove cmp (key Second) written.k (on_first.group.d Second)
+        above_on = rw on_first.bound written.above
+
+        pub group_there : (4 ≤ end) × (end ≤ length after.lines)
+        group_there = omega (arith, end_in, next_keeps_slot_count _ _ _ _ _ _ _ _ h.came)
+
+        pub write_pairs_continues : one2.same ≡ true
+            → IterationInvariant job cmp key old phase (state_after_read now First reader new after) one2 two2 end
+        write_pairs_continues same = iteration_continues {next = phase} First h.continues (rw is (record {
+          k = written.k;
+          g = with_added_line now (both one two) First written.g;
+          kept = written.kept;
+          q = on_first.group;
+          lines_in = let (_, stays) = others_stay at_first h.came in rw stays written.lines_in;
+          some = written.some;
+          above = above_on;
+          head = let (head, is) = continues_key at_first h.came same in record { head = head; is = is };
+        }))
+
+        pub group_closed : {cleared : Slots} → ClearGroupPost after cleared end → one2.same ≡ false
+            → IterationInvariant job cmp key old phases.BetweenGroups (state_after_read now First reader new cleared)
+            one2 two2 4
+        group_closed {cleared} clear same =
+            let q = on_first.group in
+            iteration_continues {next = phases.BetweenGroups} First
+            (record {
+              clean = h.continues.clean;
+              others = h.continues.others;
+              own_reader = h.continues.own_reader;
+              valid_cursors = valid_cursors_kept _ _ _ _ _ h.continues.valid_cursors (omega (arith, clear.slots))
+                  (λ i low. clear.others i (inl low));
+            }) (
+              record {
+                ls = q.ls;
+                p = λ side. q.p side ++ with_added_line now (both one two) First written.g side;
+                b = q.d;
+                sides = same_cursors call.tool q.sides (next_slots at_first h.came) (λ i low. clear.others i (inl low));
+                merge_invariant = closes call q.within (elim [
+                  | First ↦ omega (arith, length_push (written.g First) (line now.store one.current_slot))
+                  | Second ↦ written.some
+                ])
+                    (elim [ First ↦ is_past q First (leaves_key at_first h.came same) | Second ↦ above_on ]) q.wrote;
+                keeps = group_store_cleared q.keeps q.at clear;
+              },
+              refl,
+            )

@@ -1,10 +1,10 @@
 -- Words of a line by masks of its blanks. A mask is the number of a list of bits, so each fact is by induction on that
 -- list: two masks that overlap make one; no blank is misplaced if a mask is zero; and the first run of set bits is the
 -- first word, after which the words of the rest of the line follow.
-use Rattle.ptmerge.proofs.Common.{◌≡◌, ◌≢◌, ℕ, zero, suc, ◌+◌, ◌-◌, ◌*◌, ◌^◌, ◌%◌, ◌<◌, ◌≤◌, max, min, Bool, true}
+use Rattle.ptmerge.proofs.Common.{◌≡◌, ◌≢◌, ℕ, zero, suc, ◌+◌, ◌-◌, ◌*◌, ◌^◌, ◌%◌, ◌<◌, ◌≤◌, Bool, true}
 use Rattle.ptmerge.proofs.Common.{false, cond, not, ◌&&◌, ◌||◌, eqb, ◌==◌, List, [], ◌∷◌, ◌++◌, None, length, map, take}
 use Rattle.ptmerge.proofs.Common.{drop, replicate, filter, refl, sym, ◌∙◌, ap, subst, arith, bit_and, bit_or, take_all}
-use Rattle.ptmerge.proofs.Common.{length-map, length-drop, take-append-drop, false≢true, drop-drop, nat_tests, Lines}
+use Rattle.ptmerge.proofs.Common.{length-map, length-drop, take-append-drop, drop-drop, nat_tests, Lines}
 use Rattle.ptmerge.proofs.Common.{is_blank, is_nonempty, join_fields, is_single_spaced, has_single_spaces, slice_split}
 use Rattle.ptmerge.proofs.Common.{onto_first, with_prefix}
 use Rattle.std.proofs.lemmas.Simd.{mask_l-lt, trailing_mask_l}
@@ -27,43 +27,21 @@ abbrev bit : Bool → ℕ
 bit b = cond b 1 0
 
 halves : (b : Bool) (x : ℕ) → ((bit b + 2 * x) / 2 ≡ x) × ((bit b + 2 * x) % 2 ≡ bit b)
-halves true x = (omega arith, omega arith)
-halves false x = (omega arith, omega arith)
+halves b x = grind arith
 
 or_bits : (b c : Bool) (x y : ℕ) → bit_or (bit b + 2 * x) (bit c + 2 * y) ≡ bit (b || c) + 2 * bit_or x y
-or_bits b c x y = or_step (bit b + 2 * x) (bit c + 2 * y)
-    ∙ rw ((halves b x).0, (halves b x).1, (halves c y).0, (halves c y).1) (low b c)
-  where
-    low : (b c : Bool) → bit_or x y * 2 + max (bit b) (bit c) ≡ bit (b || c) + 2 * bit_or x y
-    low true true = omega arith
-    low true false = omega arith
-    low false true = omega arith
-    low false false = omega arith
+or_bits b c x y = grind (arith, halves b x, halves c y, or_step (bit b + 2 * x) (bit c + 2 * y))
 
 and_bits : (b c : Bool) (x y : ℕ) → bit_and (bit b + 2 * x) (bit c + 2 * y) ≡ bit (b && c) + 2 * bit_and x y
-and_bits b c x y = and_step (bit b + 2 * x) (bit c + 2 * y)
-    ∙ rw ((halves b x).0, (halves b x).1, (halves c y).0, (halves c y).1) (low b c)
-  where
-    low : (b c : Bool) → bit_and x y * 2 + min (bit b) (bit c) ≡ bit (b && c) + 2 * bit_and x y
-    low true true = omega arith
-    low true false = omega arith
-    low false true = omega arith
-    low false false = omega arith
-
-or_same : (b : Bool) → (b || b) ≡ b
-or_same true = refl
-or_same false = refl
-
-or_false : (b : Bool) → (b || false) ≡ b
-or_false true = refl
-or_false false = refl
+and_bits b c x y = grind (arith, halves b x, halves c y, and_step (bit b + 2 * x) (bit c + 2 * y))
 
 -- ---- masks of the first and of the last bytes
 
 or_prefix : (n : ℕ) (bits : List Bool) → bit_or (mask_l (take n bits)) (mask_l bits) ≡ mask_l bits
 or_prefix zero bits = or_zero_l (mask_l bits)
 or_prefix (suc n) [] = or_zero_l 0
-or_prefix (suc n) (b ∷ bits) = or_bits b b (mask_l (take n bits)) (mask_l bits) ∙ rw (or_same b, or_prefix n bits) refl
+or_prefix (suc n) (b ∷ bits) =
+    or_bits b b (mask_l (take n bits)) (mask_l bits) ∙ grind (arith, or_prefix n bits)
 
 or_ends : (last n : ℕ) (bits : List Bool) → last ≤ n
     → bit_or (mask_l (take n bits)) (2 ^ last * mask_l (drop last bits)) ≡ mask_l bits
@@ -77,7 +55,7 @@ or_ends (suc last) (suc n) (b ∷ bits) le =
     ap (λ (p : ℕ). p * mask_l (drop last bits)) double ∙ mul_assoc 2 (2 ^ last) (mask_l (drop last bits))
     ∙ omega arith in
     ap (bit_or (mask_l (b ∷ take n bits))) twice ∙ or_bits b false (mask_l (take n bits))
-    (2 ^ last * mask_l (drop last bits)) ∙ rw (or_false b, or_ends last n bits (omega (arith, le))) refl
+    (2 ^ last * mask_l (drop last bits)) ∙ grind (arith, or_ends last n bits (omega (arith, le)))
 
 -- the mask of n to 2 n bytes, from those of the first n and of the last n
 pub ends_mask : (test : ℕ → Bool) (bytes : List ℕ) (n : ℕ) → n ≤ length bytes → length bytes ≤ n + n → n ≤ 32
@@ -95,8 +73,7 @@ ends_mask test bytes n first all few =
     (rw size at (mask_l-lt (drop last bits))) (omega (arith, all, first, few)) in
     let whole : mask_l (drop last bits) * 2 ^ last % 2 ^ 64 ≡ 2 ^ last * mask_l (drop last bits) = omega
     (arith, small, mul_comm (mask_l (drop last bits)) (2 ^ last), mod-eq_of_lt small) in
-    (λ i. bit_or (mask_l (front i)) (mask_l (tail i) * 2 ^ last % 2 ^ 64)) ∙ ap (bit_or (mask_l (take n bits))) whole
-    ∙ or_ends last n bits (omega (arith, all, first))
+    cc (front, tail, whole, or_ends last n bits (omega (arith, all, first)))
   where
     fits : (m n last : ℕ) → m < 2 ^ n → n + last ≤ 64 → m * 2 ^ last < 2 ^ 64
     fits m n last low le =
@@ -110,31 +87,17 @@ ends_mask test bytes n first all few =
 -- ---- single spaces
 
 zero_bits : (b : Bool) (x : ℕ) → eqb (bit b + 2 * x) 0 ≡ cond b false (eqb x 0)
-zero_bits true x = grind (arith, nat_tests)
-zero_bits false zero = grind (arith, nat_tests)
-zero_bits false (suc x) = grind (arith, nat_tests)
+zero_bits b x = grind (arith, nat_tests)
 
 no_misplaced : (blank : Bool) (bytes : List ℕ)
     → eqb (bit_or (mask_l (map (is_byte 9) bytes)) (bit_and (mask_l (map is_blank bytes))
     (bit blank + 2 * mask_l (map is_blank bytes)))) 0 ≡ has_single_spaces blank bytes
-no_misplaced blank [] = ap (λ (x : ℕ). eqb (bit_or 0 x) 0) (and_zero_l (bit blank + 2 * 0))
-    ∙ ap (λ (x : ℕ). eqb x 0) (or_zero_l 0)
+no_misplaced blank [] = cc
 no_misplaced blank (b ∷ bytes) =
     let m = mask_l (map is_blank bytes) in
     let t = mask_l (map (is_byte 9) bytes) in
-    ap (λ (x : ℕ). eqb (bit_or (bit (b == 9) + 2 * t) x) 0) (and_bits (is_blank b) blank m (bit (is_blank b) + 2 * m))
-    ∙ ap (λ (x : ℕ). eqb x 0) (or_bits (b == 9) (is_blank b && blank) t (bit_and m (bit (is_blank b) + 2 * m)))
-    ∙ zero_bits (b == 9 || (is_blank b && blank)) (bit_or t (bit_and m (bit (is_blank b) + 2 * m)))
-    ∙ ap (λ (x : Bool). cond (b == 9 || (is_blank b && blank)) false x) (no_misplaced (is_blank b) bytes)
-    ∙ by (b == 9) (b == 32) blank
-  where
-    by : (tab space blank : Bool) → cond (tab || ((space || tab) && blank)) false
-        (has_single_spaces (space || tab) bytes) ≡ cond (tab || (blank && space)) false (has_single_spaces space bytes)
-    by true space blank = refl
-    by false true true = refl
-    by false true false = refl
-    by false false true = refl
-    by false false false = refl
+    rw (and_bits (is_blank b) blank m (bit (is_blank b) + 2 * m), or_bits (b == 9), zero_bits)
+    (let ih = no_misplaced (is_blank b) bytes in grind (arith, ih))
 
 pub single_spaces_is : (any before : ℕ) (bytes : List ℕ) → before ≤ 1 → length bytes ≤ 64
     → any ≡ mask_l (map is_blank bytes)
@@ -148,16 +111,11 @@ single_spaces_is any before bytes low few is =
     let with_before : bit_or (any * 2 % 2 ^ 64) before ≡ (any * 2 + before) % 2 ^ 64 = or_even any before low in
     let whole : bit_and any ((any * 2 + before) % 2 ^ 64) ≡ bit_and any (bit (before == 1) + 2 * any) =
     let sum : any * 2 + before ≡ bit (before == 1) + 2 * any = omega (arith, one) in
-    ap (λ (x : ℕ). bit_and any (x % 2 ^ 64)) sum ∙ and_low any (bit (before == 1) + 2 * any) small in
-    ap (λ (x : ℕ). eqb (bit_or (mask_l (map (is_byte 9) bytes)) (bit_and any x)) 0) with_before
-    ∙ ap (λ (x : ℕ). eqb (bit_or (mask_l (map (is_byte 9) bytes)) x) 0) whole
-    ∙ ap (λ (x : ℕ). eqb (bit_or (mask_l (map (is_byte 9) bytes)) (bit_and x (bit (before == 1) + 2 * x))) 0) is
-    ∙ no_misplaced (before == 1) bytes
+    rw sum (and_low any (bit (before == 1) + 2 * any) small) in
+    rw (with_before, whole, is) (no_misplaced (before == 1) bytes)
   where
     of_bit : (before : ℕ) → before ≤ 1 → bit (before == 1) ≡ before
-    of_bit zero low = refl
-    of_bit (suc zero) low = refl
-    of_bit (suc (suc n)) low = absurd (omega (arith, low))
+    of_bit before low = grind (arith, nat_tests)
 
     or_even : (any before : ℕ) → before ≤ 1 → bit_or (any * 2 % 2 ^ 64) before ≡ (any * 2 + before) % 2 ^ 64
     or_even any before low =
@@ -165,14 +123,12 @@ single_spaces_is any before bytes low few is =
         let even : any * 2 % 2 ^ 64 ≡ bit false + 2 * half = omega arith in
         let one : bit (before == 1) + 2 * 0 ≡ before = omega (arith, of_bit before low) in
         let sum : bit (before == 1) + 2 * half ≡ (any * 2 + before) % 2 ^ 64 = omega (arith, of_bit before low, low) in
-        (λ i. bit_or (even i) (sym one i)) ∙ or_bits false (before == 1) half 0
-        ∙ ap (λ (x : ℕ). bit (before == 1) + 2 * x) (or_zero_r half) ∙ sum
+        cc (even, one, sum, or_bits false (before == 1) half 0, or_zero_r half)
 
     and_low : (x y : ℕ) → x < 2 ^ 64 → bit_and x (y % 2 ^ 64) ≡ bit_and x y
     and_low x y low =
-        let same : x % 2 ^ 64 ≡ x = mod-eq_of_lt low in
-        ap (λ (z : ℕ). bit_and z (y % 2 ^ 64)) (sym same) ∙ sym (and_mod x y 64)
-        ∙ mod-eq_of_lt (omega (arith, and_le_l x y, low))
+        let small : bit_and x y % 2 ^ 64 ≡ bit_and x y = mod-eq_of_lt (omega (arith, and_le_l x y, low)) in
+        cc (mod-eq_of_lt low, and_mod x y 64)
 
 -- a line that ends after these bytes, as if a space followed it
 pub with_end : (bytes : List ℕ) (any tabs : ℕ) → length bytes < 64 → any ≡ mask_l (map is_blank bytes)
@@ -201,10 +157,8 @@ with_end bytes any tabs short any_is tabs_is =
 
 pub spaced_to_end : (blank : Bool) (bytes : List ℕ)
     → has_single_spaces blank (bytes ++ 32 ∷ []) ≡ is_single_spaced blank bytes
-spaced_to_end true [] = refl
-spaced_to_end false [] = refl
-spaced_to_end blank (b ∷ bytes) =
-    ap (λ (x : Bool). cond (b == 9 || (blank && (b == 32))) false x) (spaced_to_end (b == 32) bytes)
+spaced_to_end blank [] = grind arith
+spaced_to_end blank (b ∷ bytes) = cc (spaced_to_end (b == 32) bytes)
 
 -- ---- the next 64 bytes of a line
 
@@ -215,56 +169,32 @@ last_blank blank (b ∷ bytes) = last_blank (b == 32) bytes
 pub spaced_append : (blank : Bool) (v back : List ℕ) → is_single_spaced blank (v ++ back) ≡ cond
     (has_single_spaces blank v) (is_single_spaced (last_blank blank v) back) false
 spaced_append blank [] back = refl
-spaced_append blank (b ∷ v) back = by (b == 9 || (blank && (b == 32))) (spaced_append (b == 32) v back)
-  where
-    by : (t : Bool)
-        → is_single_spaced (b == 32) (v ++ back)
-        ≡ cond (has_single_spaces (b == 32) v) (is_single_spaced (last_blank (b == 32) v) back) false
-        → cond t false (is_single_spaced (b == 32) (v ++ back))
-        ≡ cond (cond t false (has_single_spaces (b == 32) v)) (is_single_spaced (last_blank (b == 32) v) back) false
-    by true e = refl
-    by false e = e
+spaced_append blank (b ∷ v) back = let ih = spaced_append (b == 32) v back in grind (arith, ih)
 
 -- the highest bit says whether the last byte is a blank
 pub top_bit : (n : ℕ) (blank : Bool) (v : List ℕ) → length v ≡ suc n → has_single_spaces blank v ≡ true
     → mask_l (map is_blank v) / 2 ^ n ≡ bit (last_blank blank v)
 top_bit n blank [] size spaced = absurd (omega (arith, size))
-top_bit zero blank (b ∷ []) size spaced = by (b == 9) (b == 32) blank spaced
-  where
-    by : (tab space blank : Bool) → cond (tab || (blank && space)) false true ≡ true
-        → (bit (space || tab) + 2 * 0) / 2 ^ 0 ≡ bit space
-    by true space blank h = absurd (false≢true h)
-    by false true blank h = refl
-    by false false blank h = refl
+top_bit zero blank (b ∷ []) size spaced = grind (arith, spaced)
 top_bit zero blank (b ∷ c ∷ v) size spaced = absurd (omega (arith, size))
 top_bit (suc n) blank (b ∷ v) size spaced =
-    let rest : has_single_spaces (b == 32) v ≡ true = by (b == 9 || (blank && (b == 32))) spaced in
+    let rest : has_single_spaces (b == 32) v ≡ true = grind (arith, spaced) in
     let m = mask_l (map is_blank v) in
     let twice : 2 ^ suc n ≡ 2 * 2 ^ n = omega (arith, two-pow-succ n) in
-    let half : (bit (is_blank b) + 2 * m) / 2 ^ suc n ≡ m / 2 ^ n =
-    ap (λ (p : ℕ). (bit (is_blank b) + 2 * m) / p) twice ∙ sym (div-div-eq-div-mul (bit (is_blank b) + 2 * m) 2 (2 ^ n))
-    ∙ ap (λ (x : ℕ). x / 2 ^ n) (halves (is_blank b) m).0 in
-    half ∙ top_bit n (b == 32) v (omega (arith, size)) rest
-  where
-    by : (t : Bool) → cond t false (has_single_spaces (b == 32) v) ≡ true → has_single_spaces (b == 32) v ≡ true
-    by true h = absurd (false≢true h)
-    by false h = h
+    let (half, _) = halves (is_blank b) m in
+    cc (top_bit n (b == 32) v (omega (arith, size)) rest, div-div-eq-div-mul (bit (is_blank b) + 2 * m) 2 (2 ^ n))
 
 pub chunk_spaced : (blank : Bool) (bytes : List ℕ) (at : ℕ) → at + 64 ≤ length bytes
     → is_single_spaced blank (drop at bytes) ≡ cond (has_single_spaces blank (chunk at 64 bytes))
     (is_single_spaced (last_blank blank (chunk at 64 bytes)) (drop (at + 64) bytes)) false
 chunk_spaced blank bytes at room =
-    ap (is_single_spaced blank) (sym (take-append-drop 64 (drop at bytes))
-    ∙ ap (λ (l : List ℕ). chunk at 64 bytes ++ l) (drop-drop 64 at bytes))
-    ∙ spaced_append blank (chunk at 64 bytes) (drop (at + 64) bytes)
+    rw (← spaced_append, ← drop-drop 64 at bytes, take-append-drop 64 (drop at bytes)) refl
 
 pub bit_is : (b : Bool) → (bit b == 1) ≡ b
-bit_is true = refl
-bit_is false = refl
+bit_is b = grind arith
 
 pub bit_low : (b : Bool) → bit b ≤ 1
-bit_low true = omega arith
-bit_low false = omega arith
+bit_low b = grind arith
 
 -- ---- the words of a line
 
@@ -273,12 +203,7 @@ is_word b = not (is_blank b)
 
 pub word_mask : (bytes : List ℕ) → mask_l (map is_word bytes) + mask_l (map is_blank bytes) + 1 ≡ 2 ^ length bytes
 word_mask [] = refl
-word_mask (b ∷ bytes) = by (is_blank b) (mask_l (map is_word bytes)) (mask_l (map is_blank bytes)) (word_mask bytes)
-  where
-    by : (t : Bool) (x y : ℕ) → x + y + 1 ≡ 2 ^ length bytes
-        → bit (not t) + 2 * x + (bit t + 2 * y) + 1 ≡ 2 ^ suc (length bytes)
-    by true x y e = omega (arith, e, two-pow-succ (length bytes))
-    by false x y e = omega (arith, e, two-pow-succ (length bytes))
+word_mask (b ∷ bytes) = let ih = word_mask bytes in grind (arith, ih, two-pow-succ (length bytes))
 
 -- ---- the first run of set bits
 
@@ -308,47 +233,40 @@ clear_run (false ∷ bits) = false ∷ clear_run bits
 
 plus_one : (bits : List Bool) → mask_l bits + 1 ≡ mask_l (after_ones bits)
 plus_one [] = refl
-plus_one (true ∷ bits) = omega (arith, plus_one bits)
-plus_one (false ∷ bits) = omega arith
+plus_one (b ∷ bits) = grind (arith, plus_one bits)
 
 or_less : (bits : List Bool) → 0 < mask_l bits → bit_or (mask_l bits) (mask_l bits - 1) + 1 ≡ mask_l (after_run bits)
 or_less [] some = absurd (omega (arith, some))
 or_less (true ∷ bits) some =
     let m = mask_l bits in
     let less : bit true + 2 * m - 1 ≡ bit false + 2 * m = omega arith in
-    let or_is : bit_or (bit true + 2 * m) (bit true + 2 * m - 1) ≡ bit true + 2 * m = ap (bit_or (bit true + 2 * m))
-    less ∙ or_bits true false m m ∙ ap (λ (x : ℕ). bit true + 2 * x) (or_self m) in
-    omega (arith, or_is, plus_one bits)
+    rw less (omega (arith, or_bits true false m m, or_self m, plus_one bits))
 or_less (false ∷ bits) some =
     let m = mask_l bits in
     let less : bit false + 2 * m - 1 ≡ bit true + 2 * (m - 1) = omega (arith, some) in
-    let or_is : bit_or (bit false + 2 * m) (bit false + 2 * m - 1) ≡ bit true + 2 * bit_or m (m - 1) = ap
-    (bit_or (bit false + 2 * m)) less ∙ or_bits false true m (m - 1) in
-    omega (arith, or_is, or_less bits (omega (arith, some)))
+    rw less (omega (arith, or_bits false true m (m - 1), or_less bits (omega (arith, some))))
 
 and_ones : (bits : List Bool) → bit_and (mask_l bits) (mask_l (after_ones bits)) ≡ mask_l (clear_ones bits)
 and_ones [] = and_zero_l 1
-and_ones (true ∷ bits) = and_bits true false (mask_l bits) (mask_l (after_ones bits))
-    ∙ ap (λ (x : ℕ). bit false + 2 * x) (and_ones bits)
-and_ones (false ∷ bits) = and_bits false true (mask_l bits) (mask_l bits)
-    ∙ ap (λ (x : ℕ). bit false + 2 * x) (and_self (mask_l bits))
+and_ones (b ∷ bits) =
+    let ih = and_ones bits in
+    let m = mask_l bits in
+    grind (arith, ih, and_self m, and_bits true false m (mask_l (after_ones bits)), and_bits false true m m)
 
 and_run : (bits : List Bool) → bit_and (mask_l bits) (mask_l (after_run bits)) ≡ mask_l (clear_run bits)
 and_run [] = and_zero_l 1
-and_run (true ∷ bits) = and_bits true false (mask_l bits) (mask_l (after_ones bits))
-    ∙ ap (λ (x : ℕ). bit false + 2 * x) (and_ones bits)
-and_run (false ∷ bits) = and_bits false false (mask_l bits) (mask_l (after_run bits))
-    ∙ ap (λ (x : ℕ). bit false + 2 * x) (and_run bits)
+and_run (b ∷ bits) =
+    let ih = and_run bits in
+    let bits_of = λ (c : Bool). and_bits b c (mask_l bits) in
+    grind (arith, ih, and_ones bits, bits_of false (mask_l (after_ones bits)), bits_of false (mask_l (after_run bits)))
 
 length-after_ones : (bits : List Bool) → length (after_ones bits) ≤ suc (length bits)
 length-after_ones [] = omega arith
-length-after_ones (true ∷ bits) = omega (arith, length-after_ones bits)
-length-after_ones (false ∷ bits) = omega arith
+length-after_ones (b ∷ bits) = grind (arith, length-after_ones bits)
 
 length-after_run : (bits : List Bool) → length (after_run bits) ≤ suc (length bits)
 length-after_run [] = omega arith
-length-after_run (true ∷ bits) = omega (arith, length-after_ones bits)
-length-after_run (false ∷ bits) = omega (arith, length-after_run bits)
+length-after_run (b ∷ bits) = grind (arith, length-after_ones bits, length-after_run bits)
 
 some_after_run : (bits : List Bool) → 0 < mask_l bits → 0 < mask_l (after_run bits)
 some_after_run bits some = omega (arith, or_less bits some)
@@ -372,7 +290,7 @@ word_end v = prefix_len not (after_run (marks v))
 
 split_byte : (b : ℕ) (v : List ℕ) {t : Bool} → is_blank b ≡ t
     → slice_split is_blank (b ∷ v) ≡ cond t ([] ∷ slice_split is_blank v) (onto_first b (slice_split is_blank v))
-split_byte b v e = ap (λ (t : Bool). cond t ([] ∷ slice_split is_blank v) (onto_first b (slice_split is_blank v))) e
+split_byte b v e = rw e refl
 
 -- the bytes continue a word for `size` bytes
 record InWord (v : List ℕ) (size : ℕ) (cleared : List Bool) : Type 0 where
@@ -387,15 +305,7 @@ record InWord (v : List ℕ) (size : ℕ) (cleared : List Bool) : Type 0 where
 -- a byte of a word among single spaces
 letter_is : (blank : Bool) (b : ℕ) (v : List ℕ) → is_blank b ≡ false → is_single_spaced blank (b ∷ v) ≡ true
     → is_single_spaced false v ≡ true
-letter_is blank b v here spaced = by (b == 9) (b == 32) blank here spaced
-  where
-    by : (tab space blank : Bool) → (space || tab) ≡ false → cond (tab || (blank && space)) false
-        (is_single_spaced space v) ≡ true → is_single_spaced false v ≡ true
-    by true true blank h s = absurd (false≢true (sym h))
-    by true false blank h s = absurd (false≢true (sym h))
-    by false true blank h s = absurd (false≢true (sym h))
-    by false false true h s = s
-    by false false false h s = s
+letter_is blank b v here spaced = grind (arith, here, spaced)
 
 in_word : (v : List ℕ) → InWord v (prefix_len not (after_ones (marks v))) (clear_ones (marks v))
 in_word [] =
@@ -411,10 +321,9 @@ in_word (b ∷ v) = by (in_word v) (is_blank b) refl
           more = slice_split is_blank v;
           split = split;
           words = sym (ap (filter is_nonempty) split);
-          rest = ap (λ (t : Bool). not t ∷ marks v) (sym e);
+          rest = cc;
           next = λ s. s;
-          spaced = λ s. let space = space_is false b v e s in single_spaced_words true v space.1
-              ∙ ap (λ (x : ℕ). x ∷ v) (sym space.0);
+          spaced = λ s. (let (is_space, spaced) = space_is false b v e s in cc (single_spaced_words true v spaced));
         }
     by w false e =
         let n = prefix_len not (after_ones (marks v)) in
@@ -422,9 +331,9 @@ in_word (b ∷ v) = by (in_word v) (is_blank b) refl
         subst (λ (k : ℕ). InWord (b ∷ v) k (false ∷ clear_ones (marks v))) one (record {
           high = omega (arith, w.high);
           more = w.more;
-          split = split_byte b v e ∙ ap (onto_first b) w.split;
+          split = cc (split_byte b v e, w.split);
           words = w.words;
-          rest = ap (λ (l : List Bool). false ∷ l) w.rest;
+          rest = cc w.rest;
           next = λ s. w.next (letter_is false b v e s);
           spaced = λ s. w.spaced (letter_is false b v e s);
         })
@@ -458,9 +367,8 @@ word_at (b ∷ v) some = by (word_at v) (is_blank b) refl some
         (subst (λ (k : ℕ). WordAt (b ∷ v) (suc start) k (false ∷ clear_run (marks v))) one_end (record {
           low = omega (arith, w.low);
           high = omega (arith, w.high);
-          is = ap (filter is_nonempty) (split_byte b v e) ∙ w.is
-              ∙ ap (λ (n : ℕ). take n (drop start v) ∷ join_fields None (drop end v)) (sym size);
-          rest = ap (λ (l : List Bool). false ∷ l) w.rest;
+          is = cc (split_byte b v e, w.is, size);
+          rest = cc w.rest;
           next = λ blank s. w.next true (space_is blank b v e s).1;
           spaced = λ blank s. w.spaced true (space_is blank b v e s).1;
         }))
@@ -472,13 +380,10 @@ word_at (b ∷ v) some = by (word_at v) (is_blank b) refl some
         subst (λ (k : ℕ). WordAt (b ∷ v) 0 k (false ∷ clear_ones (marks v))) one (record {
           low = omega arith;
           high = omega (arith, w.high);
-          is = ap (filter is_nonempty) (split_byte b v e)
-              ∙ ap (λ (l : Lines). filter is_nonempty (onto_first b l)) w.split
-              ∙ ap (λ (l : Lines). (b ∷ take n v) ∷ l) w.words
-              ∙ ap (λ (m : ℕ). take m (b ∷ v) ∷ join_fields None (drop n v)) (sym size);
-          rest = ap (λ (l : List Bool). false ∷ l) w.rest;
+          is = cc (split_byte b v e, w.split, w.words, size);
+          rest = cc w.rest;
           next = λ blank s. w.next (letter_is blank b v e s);
-          spaced = λ blank s. ap (with_prefix 32) (sym w.words) ∙ w.spaced (letter_is blank b v e s);
+          spaced = λ blank s. cc (w.words, w.spaced (letter_is blank b v e s));
         })
 
 no_words : (v : List ℕ) → mask_l (marks v) ≡ 0 → join_fields None v ≡ []
@@ -487,7 +392,7 @@ no_words (b ∷ v) none = by (no_words v) (is_blank b) refl none
   where
     by : (mask_l (marks v) ≡ 0 → join_fields None v ≡ []) → (t : Bool) → is_blank b ≡ t → mask_l (not t ∷ marks v) ≡ 0
         → join_fields None (b ∷ v) ≡ []
-    by more true e none = ap (filter is_nonempty) (split_byte b v e) ∙ more (omega (arith, none))
+    by more true e none = cc (split_byte b v e, more (omega (arith, none)))
     by more false e none = absurd (omega (arith, none))
 
 -- ---- after some bytes
@@ -501,16 +406,15 @@ from_prefix_len (suc n) bits = omega (arith, from_prefix_len n bits)
 
 from_after : (n : ℕ) (bits : List Bool) → after_run (from n bits) ≡ from n (after_run bits)
 from_after zero bits = refl
-from_after (suc n) bits = ap (λ (l : List Bool). false ∷ l) (from_after n bits)
+from_after (suc n) bits = cc (from_after n bits)
 
 from_clear : (n : ℕ) (bits : List Bool) → clear_run (from n bits) ≡ from n (clear_run bits)
 from_clear zero bits = refl
-from_clear (suc n) bits = ap (λ (l : List Bool). false ∷ l) (from_clear n bits)
+from_clear (suc n) bits = cc (from_clear n bits)
 
 from_from : (m n : ℕ) (bits : List Bool) → from m (from n bits) ≡ from (m + n) bits
 from_from zero n bits = ap (λ (k : ℕ). from k bits) (omega arith)
-from_from (suc m) n bits = let more : suc (m + n) ≡ suc m + n =
-    omega arith in ap (λ (l : List Bool). false ∷ l) (from_from m n bits) ∙ ap (λ (k : ℕ). from k bits) more
+from_from (suc m) n bits = let more : suc (m + n) ≡ suc m + n = omega arith in rw (← more) (cc (from_from m n bits))
 
 from_some : (n : ℕ) (bits : List Bool) → 0 < mask_l (from n bits) → 0 < mask_l bits
 from_some zero bits some = some
@@ -583,16 +487,19 @@ module _ {line : List ℕ} {passed words : ℕ} (short : length line < 64) (left
     after = bit_or words (words - 1) + 1
 
     after_is : after ≡ mask_l (after_run bits)
-    after_is = ap (λ (x : ℕ). bit_or x (x - 1) + 1) left.mask ∙ or_less bits some_bits
+    after_is = cc (left.mask, or_less bits some_bits)
 
     start_is : count_trailing_zeros 64 words ≡ left.at + word_start rest
-    start_is = ap (count_trailing_zeros 64) left.mask ∙ lowest bits (omega (arith, bits_long, short)) some_bits
-        ∙ from_prefix_len left.at (marks rest)
+    start_is =
+        cc (left.mask, lowest bits (omega (arith, bits_long, short)) some_bits, from_prefix_len left.at (marks rest))
 
     end_is : count_trailing_zeros 64 after ≡ left.at + word_end rest
-    end_is = ap (count_trailing_zeros 64) after_is ∙ lowest (after_run bits)
-        (omega (arith, length-after_run bits, bits_long, short)) (some_after_run bits some_bits)
-        ∙ ap (prefix_len not) (from_after left.at (marks rest)) ∙ from_prefix_len left.at (after_run (marks rest))
+    end_is = cc (
+      after_is,
+      lowest (after_run bits) (omega (arith, length-after_run bits, bits_long, short)) (some_after_run bits some_bits),
+      from_after left.at (marks rest),
+      from_prefix_len left.at (after_run (marks rest)),
+    )
 
     -- the first of them is passed
     pub word_passed : WordsLeft line (passed + 1) (bit_and words after)
@@ -604,12 +511,16 @@ module _ {line : List ℕ} {passed words : ℕ} (short : length line < 64) (left
         record {
           at = left.at + end;
           within = omega (arith, w.high, length-drop left.at line, left.within);
-          mask = (λ i. bit_and (left.mask i) (after_is i)) ∙ and_run bits
-              ∙ ap mask_l (from_clear left.at (marks rest) ∙ ap (from left.at) w.rest
-              ∙ from_from left.at end (marks (drop end rest))
-              ∙ ap (λ (l : List ℕ). from (left.at + end) (marks l)) there);
-          fields = sym (drop-drop 1 passed (join_fields None line)) ∙ ap (drop 1) (left.fields ∙ w.is)
-              ∙ ap (join_fields None) there;
+          mask = cc (
+            left.mask,
+            after_is,
+            and_run bits,
+            from_clear left.at (marks rest),
+            w.rest,
+            from_from left.at end (marks (drop end rest)),
+            there,
+          );
+          fields = cc (drop-drop 1 passed (join_fields None line), left.fields, w.is, there);
           spaced = λ s. (false, rw there at (w.next (left.spaced s).0 (left.spaced s).1));
         }
 
@@ -628,8 +539,7 @@ module _ {line : List ℕ} {passed words : ℕ} (short : length line < 64) (left
         omega (arith, start_is, end_is) in
         record {
           more = join_fields None (drop end rest);
-          is = ap (λ (n : ℕ). drop n (join_fields None line)) (sym is) ∙ left.fields ∙ w.is
-              ∙ (λ i. take (size i) (here i) ∷ join_fields None (drop end rest));
+          is = cc (left.fields, w.is, size, here);
           ordered = omega (arith, start_is, end_is, w.low);
           within = omega (arith, end_is, w.high, length-drop left.at line, left.within);
           after = λ s. w.spaced (left.spaced s).0 (left.spaced s).1 ∙ there;

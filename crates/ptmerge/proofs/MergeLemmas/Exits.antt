@@ -2,7 +2,7 @@
 -- others are known for each input, and the contract of the tool follows from these and from the output.
 use Rattle.ptmerge.proofs.Common.{◌≡◌, ◌≢◌, inl, inr, ℕ, ◌+◌, ◌<◌, ◌≤◌, ◌&&◌, Bool, true, false, cond, List, [], ◌∷◌}
 use Rattle.ptmerge.proofs.Common.{◌++◌, Option, Some, None, length, refl, sym, ◌∙◌, ap, subst, arith, nat_lt, bytes_eq}
-use Rattle.ptmerge.proofs.Common.{Ordering, is_eq, is_gt, false≢true, nat_tests, append-nil, length_push, FillLine}
+use Rattle.ptmerge.proofs.Common.{Ordering, is_eq, is_gt, nat_tests, append-nil, length_push, FillLine}
 use Rattle.ptmerge.proofs.Common.{Reader, IsDone, IsSound, budget, Slots, line, with_line, max_length}
 use Rattle.ptmerge.proofs.Common.{line_of_with_line, Sorted, CursorStatus, Head, Ended, Disorder, Lines, Cmp, Key}
 use Rattle.ptmerge.proofs.Common.{is_head, status_at, same_key_at, NextOkPost, Result, Ok, Err, max, Received}
@@ -10,7 +10,7 @@ use Rattle.ptmerge.proofs.Common.{known_lines, Output, ReaderAdvance, unlines, �
 use Rattle.ptmerge.proofs.Common.{lines, IsLine, received_with, has_received, has_received_set, cause_set}
 use Rattle.ptmerge.proofs.Common.{advance_trans, append_assoc, PushEffect, push_trans, push_nothing, bounded_lag_after}
 use Rattle.ptmerge.proofs.Common.{unlines-append, MergeFault, Read, Write, Side, First, Second, MergeTool}
-use Rattle.ptmerge.proofs.Common.{entries_by_key, decided_output, disorder, earlier_disorder, first_disorder, lines_of}
+use Rattle.ptmerge.proofs.Common.{entries_by_key, decided_output, disorder, first_disorder, lines_of}
 use Rattle.ptmerge.proofs.Common.{merge_output, merged_entries, sorted_prefix, is_up_to, MergeState, AreConsistent}
 use Rattle.ptmerge.proofs.Common.{MergeEndPost, MergePost, IsMergeUnread, IsExactMerge, IsUnreadWithoutSlots, HasNoLine}
 use Rattle.ptmerge.proofs.Common.{with_terminator, other, with_side}
@@ -58,15 +58,8 @@ pub side_invariant_kept : {end : ℕ} {cmp : Cmp} {key : Key} {old now : Reader}
     → line after cursor.current_slot ≡ line before cursor.current_slot
     → line after cursor.previous_slot ≡ line before cursor.previous_slot
     → SideInvariant end cmp key old now cursor after ls p b
-side_invariant_kept {cmp = cmp} {key} {now = now} {cursor} {before} {after} {ls} {p} {b} s same1 same2 = record {
-  lines_read = s.lines_read;
-  begun = s.begun;
-  sound = s.sound;
-  processed_nearly = s.processed_nearly;
-  number = s.number;
-  processed_prefix = s.processed_prefix;
-  status_is = by cursor.status s.status_is;
-}
+side_invariant_kept {cmp = cmp} {key} {now = now} {cursor} {before} {after} {ls} {p} {b} s same1 same2 =
+    let status_is = by cursor.status s.status_is in assumption
   where
     by : (t : CursorStatus) → MatchesStatus cmp key t cursor before now ls p b
         → MatchesStatus cmp key t cursor after now ls p b
@@ -177,15 +170,7 @@ module _ (end : ℕ) (cmp : Cmp) (o : IsKeyOrder cmp) (key : Key) (old now new :
       stored fits = record {
         now_ls = ls ++ more;
         bound = b;
-        side_invariant = record {
-          lines_read = lines_read;
-          begun = begun;
-          sound = sound;
-          processed_nearly = processed_nearly;
-          number = number;
-          processed_prefix = processed_prefix;
-          status_is = status_is;
-        };
+        side_invariant = assumption;
         may_follow = may_follow;
         under = under;
         bytes = bytes;
@@ -215,11 +200,11 @@ module _ (end : ℕ) (cmp : Cmp) (o : IsKeyOrder cmp) (key : Key) (old now new :
     at_fall : (last : Option (List ℕ)) → cursor.current_slot ≢ cursor.previous_slot → IsSortedUpTo cmp key ls last
         → IsLastKey key last cursor before → is_disordered cmp last (key e.line) ≡ true
         → Goal last (next_cursor (Disorder (cursor.number + 1)) (cursor.number + 1) same)
-    at_fall None apart sorted_up_to is falls_now = absurd (false≢true falls_now)
+    at_fall None apart sorted_up_to is falls_now = cc
     at_fall (Some k) apart sorted_up_to (_, is) falls_now =
         let kept : line after cursor.current_slot ≡ line before cursor.current_slot = rw e.stored
         (line_other before cursor.previous_slot cursor.current_slot e.line (λ i. apart (sym i))) in
-        let key_is : k ≡ key (line after cursor.current_slot) = is ∙ ap key (sym kept) in
+        let key_is : k ≡ key (line after cursor.current_slot) = cc in
         at_next (Some k) (e.line ∷ []) e.line (next_cursor (Disorder (cursor.number + 1)) (cursor.number + 1) same)
         (AfterDisorder (record { last_key = k; line = length ls + 1 })) (lines_read_more lines_read e)
         (inr (omega (arith, length_push ls e.line))) sound
@@ -228,22 +213,21 @@ module _ (end : ℕ) (cmp : Cmp) (o : IsKeyOrder cmp) (key : Key) (old now new :
         (rw (← key_is, number) refl) (nothing_follows cmp key (Some k)) (λ j u. u) e.stored
         (omega (arith, max_length-append ls (e.line ∷ [])))
 
+    at_line : (last : Option (List ℕ)) → cursor.previous_slot < length before.lines
+        → cursor.current_slot ≢ cursor.previous_slot → IsSortedUpTo cmp key ls last → IsLastKey key last cursor before
+        → (t : Bool) → is_disordered cmp last (key e.line) ≡ t
+        → Goal last (next_cursor (cond t (Disorder (cursor.number + 1)) Head) (cursor.number + 1) same)
+    at_line last within apart sorted_up_to is true h = at_fall last apart sorted_up_to is h
+    at_line last within apart sorted_up_to is false h = at_head last within sorted_up_to h
+
   pub next_invariant : {last : Option (List ℕ)} → cursor.previous_slot < length before.lines
       → cursor.current_slot ≢ cursor.previous_slot → LinesRead end old now ls → cursor.number ≡ length ls
       → IsSortedUpTo cmp key ls last → IsLastKey key last cursor before
       → NextOkPost key cmp cursor next now new before after → Goal last next
   next_invariant {last} within apart lines_read number sorted_up_to is (inl e) =
       let same = same_key_at key cmp cursor.number (line before cursor.current_slot) e.next_line.line in
-      subst (Goal last)
-      (sym
-      (e.cursor
-      ∙ (λ i. next_cursor (status_after_next cmp key last cursor before e.next_line.line is i) (cursor.number + 1)
-      same)))
-      (elim (is_disordered cmp last (key e.next_line.line)) as (λ t. is_disordered cmp last (key e.next_line.line) ≡ t
-      → Goal last (next_cursor (cond t (Disorder (cursor.number + 1)) Head) (cursor.number + 1) same)) [
-        | true ↦ λ h. at_fall e.next_line e.sound lines_read number same last apart sorted_up_to is h
-        | false ↦ λ h. at_head e.next_line e.sound lines_read number same last within sorted_up_to h
-      ] refl)
+      rw (e.cursor, status_after_next cmp key last cursor before e.next_line.line is)
+      (at_line e.next_line e.sound lines_read number same last within apart sorted_up_to is _ refl)
   next_invariant {last} within apart lines_read number sorted_up_to is (inr e) =
       let all = append-nil ls in
       subst (Goal last) (sym e.cursor) (at_next last [] [] (next_cursor Ended cursor.number false) NothingMore
@@ -304,30 +288,23 @@ pub record ReadFacts (end : ℕ) (cmp : Cmp) (key : Key) (old now new : Reader) 
 pub read_facts_at_line : {end : ℕ} {cmp : Cmp} {key : Key} {old now : Reader} {cursor : Sorted} {store : Slots}
     {ls p : Lines} {b : Bound} → SideInvariant end cmp key old now cursor store ls p b
     → ReadFacts end cmp key old now now [] ls p b
-read_facts_at_line {cmp = cmp} {key} {now = now} {cursor} {store} {ls} {p} {b} s = record {
-  lines_read = s.lines_read;
-  reads = reads_nothing now;
-  line = tt;
-  sound = s.sound;
-  processed_nearly = s.processed_nearly;
-  processed_prefix = s.processed_prefix;
-  nothing_follows =
-      elim cursor.status as (λ t. MatchesStatus cmp key t cursor store now ls p b → b ≡ NothingMore → IsDone now) [
-        | Head ↦ λ (_, _, bound) e. (let bad = sym bound ∙ e in cc)
-        | Ended ↦ λ (_, done) e. done
-        | Disorder n ↦ λ st e. (let bad = sym st ∙ e in cc)
-      ] s.status_is;
-}
+read_facts_at_line {cmp = cmp} {key} {now = now} {cursor} {store} {ls} {p} {b} s =
+    let nothing_follows = by cursor.status s.status_is in assumption (reads_nothing now)
+  where
+    by : (t : CursorStatus) → MatchesStatus cmp key t cursor store now ls p b → b ≡ NothingMore → IsDone now
+    by Head (_, _, bound) e = cc
+    by Ended (_, done) e = done
+    by (Disorder n) st e = cc
 
 -- an input whose lines are all processed, and a piece of a further line
 pub read_facts_after_line : {end : ℕ} {cmp : Cmp} (o : IsKeyOrder cmp) {key : Key} {old now new : Reader}
     {piece : List ℕ} {ls : Lines} {k : List ℕ} → LinesRead end old now ls
     → ReaderAdvance now new piece → IsLine now.terminator piece → IsSound new → IsSortedUpTo cmp key ls (Some k)
     → ReadFacts end cmp key old now new piece ls ls (AtLeast k)
-read_facts_after_line o lines_read reads line sound sorted_up_to = record {
+read_facts_after_line o lines_read reads is_line sound sorted_up_to = record {
   lines_read = lines_read;
   reads = reads;
-  line = line;
+  line = is_line;
   sound = sound;
   processed_nearly = inl refl;
   processed_prefix = processed_to_line o sorted_up_to;
@@ -487,21 +464,23 @@ module _ (tool : MergeTool) (o : IsKeyOrder tool.cmp) (old new : MergeState) (no
           let f = failed side fail in
           let e = (known side).exact f.buffered f.eof ∙ f.all in
           let b = decided_of_passed tool o (λ s. (new.reader s).eof) (λ s. known_lines tool.terminator (given s))
-          side f.eof
-          (ap (first_disorder cmp (key side)) (e ∙ sym (append-nil (p side))) ∙ f.sorted_up_to.may_disorder []) front
+          side f.eof (cc (e, append-nil (p side), f.sorted_up_to.may_disorder [])) front
           (λ s. record {
             rest = [];
             tail = tail s ++ (future s).rest;
-            same = append-nil (sorted_prefix cmp (key s) (known_lines tool.terminator (given s))) ∙ (future s).is
-                ∙ ap (λ (l : Lines). l ++ (future s).rest) (split s) ∙ append_assoc (front s) (tail s) (future s).rest;
+            same = cc (
+              append-nil (sorted_prefix cmp (key s) (known_lines tool.terminator (given s))),
+              (future s).is,
+              split s,
+              append_assoc (front s) (tail s) (future s).rest,
+            );
             none_rest = tt;
             none_tail = rw e (past_none cmp o (key side) (key s) (bound s) (p side) (tail s ++ (future s).rest)
                 (under s side) (future s).may_follow);
           }) in
           record {
             rest = b.rest ++ bytes;
-            is = sym is ∙ ap (λ (l : List ℕ). l ++ bytes) b.is
-                ∙ append_assoc (decided_output tool given) b.rest bytes;
+            is = cc (b.is, append_assoc (decided_output tool given) b.rest bytes);
           };
       -- everything was written that was decided two blocks of an input earlier
       bounded_lag = λ of clean_then. rw is at (bounded_lag_after (λ came. decided_output tool
@@ -543,8 +522,7 @@ module _ (tool : MergeTool) (o : IsKeyOrder tool.cmp) (old new : MergeState) (no
             → unlines tool.terminator done ≡ merge_output tool input → merged_entries tool (lines_of tool input) ≡ done
         none_missing input a same =
             let (rest, is) = all (lines_of tool input) (λ side. (input_lines input a side).continues) in
-            is ∙ ap (λ (l : Lines). done ++ l) (no_lines_left tool.terminator done rest
-            (same ∙ ap (unlines tool.terminator) is)) ∙ append-nil done
+            cc (is, append-nil done, no_lines_left tool.terminator done rest (same ∙ ap (unlines tool.terminator) is))
 
   pub exit_is_merge_post : MergeInvariant tool b p old.out new.out → LagInvariant tool b p old.out new.out
       → (result : Result (Unit {0}) MergeFault) → MergeEndPost old new result
@@ -590,12 +568,12 @@ module _ (tool : MergeTool) (o : IsKeyOrder tool.cmp) (old new : MergeState) (no
             sym (all_of input a ∙ ap (unlines tool.terminator)
                 ((λ i. done ++ entries_by_key tool (is_up_to cmp (disorder tool (lines_of tool input)))
                 (λ side. none side i)) ∙ append-nil done)),
-            λ i. earlier_disorder cmp (no_disorder First i) (no_disorder Second i),
+            cc (no_disorder First, no_disorder Second),
           )
       by (Err (faults.Disorder side number)) stop input a =
           let s = input_split_in input a in
           let (none, named) = stop (lines_of tool input) s.r s.may_follow s.may_disorder in
-          (sym (all_of input a ∙ ap (unlines tool.terminator) (ap (λ l. done ++ l) none ∙ append-nil done)), named)
+          (cc (all_of input a, none, append-nil done), named)
       by other c input a = tt
 
 -- ---- a merge of readers whose terminator was set
@@ -626,10 +604,7 @@ module _ (old new : MergeState) (set : Side → Reader) (end : ℕ)
         decided_is_written = m.decided_is_written;
         bounded_lag = m.bounded_lag;
         stops_at_disorder = m.stops_at_disorder;
-        first_reads = λ clean. record {
-          second_unread = (m.first_reads clean).second_unread;
-          first_waits = (m.first_reads clean).first_waits;
-        };
+        first_reads = λ clean. (let reads = m.first_reads clean in assumption);
         unfinished = m.unfinished;
         peak = m.peak;
         slots = m.slots;
@@ -652,10 +627,10 @@ merge_halted tool old allowed fault = record {
   wrote = push_nothing old.out;
   ends = record { write_failed = fault; failed = λ side. refl; denied = allowed };
   is_prefix = λ input a. record { rest = merge_output tool input; is = refl };
-  decided_is_written = λ side fail clean. absurd (false≢true (sym clean ∙ fault));
-  bounded_lag = λ side clean. absurd (false≢true (sym clean ∙ fault));
-  stops_at_disorder = λ side clean. absurd (false≢true (sym clean ∙ fault));
-  first_reads = λ clean. absurd (false≢true (sym clean ∙ fault));
+  decided_is_written = λ side fail clean. cc;
+  bounded_lag = λ side clean. cc;
+  stops_at_disorder = λ side clean. cc;
+  first_reads = λ clean. cc;
   unfinished = λ memory. cc;
   peak = λ input a. omega arith;
   slots = λ input a. omega arith;

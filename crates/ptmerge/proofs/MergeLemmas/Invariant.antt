@@ -4,8 +4,8 @@
 use Rattle.ptmerge.proofs.Common.{nat_tests, ◌≡◌, ℕ, ◌+◌, List, [], ◌∷◌, ◌++◌, Bool, true, false, cond, Option, Some}
 use Rattle.ptmerge.proofs.Common.{None, length, refl, ◌∙◌, map, append_assoc, arith, nat_lt, unwrap_or, if◌then◌else◌}
 use Rattle.ptmerge.proofs.Common.{last_or, is_gt, length_push, Lines, sorted_prefix, first_disorder, FirstDisorder, Cmp}
-use Rattle.ptmerge.proofs.Common.{Key, ◌&&◌, not, ap, sym, append-nil, flat_map-append, filter, flat_map, Less, Equal}
-use Rattle.ptmerge.proofs.Common.{Greater, match_ordering, Side, First, Second, MergeTool, insert_key, distinct_keys}
+use Rattle.ptmerge.proofs.Common.{Key, ◌&&◌, not, ap, sym, append-nil, flat_map-append, filter, flat_map, Less}
+use Rattle.ptmerge.proofs.Common.{Greater, Side, First, Second, MergeTool, insert_key, distinct_keys}
 use Rattle.ptmerge.proofs.Common.{keys, entries_of_key, entries_by_key, earlier_disorder, is_up_to, ◌⊎◌, inl, inr}
 use Rattle.ptmerge.proofs.Common.{subst, is_lt, Output, PushEffect, unlines, push_trans, push_nothing, unlines-append}
 use Rattle.ptmerge.proofs.Common.{disorder, is_below, is_decided, is_past, merged_entries, lines_with_key, IsDisorderAt}
@@ -65,15 +65,9 @@ sorted_up_to_none {cmp} {key} = record { ordered = sorted_prefix_is cmp key; may
 pub sorted_up_to_more : {cmp : Cmp} {key : Key} {q : Lines} {last : Option (List ℕ)} (x : List ℕ)
     → IsSortedUpTo cmp key q last → is_disordered cmp last (key x) ≡ false
     → IsSortedUpTo cmp key (q ++ x ∷ []) (Some (key x))
-sorted_up_to_more {cmp} {key} {q} x b no_disorder = record {
-  ordered =
-      λ w. rw (
-        append_assoc q (x ∷ []) w,
-        b.ordered (x ∷ w),
-        no_disorder,
-        append_assoc q (x ∷ []) (sorted_after cmp key (Some (key x)) w),
-      );
-  may_disorder = λ w. rw (append_assoc q (x ∷ []) w, b.may_disorder (x ∷ w), no_disorder, length_push q x);
+sorted_up_to_more {q = q} x b no_disorder = record {
+  ordered = λ w. rw (append_assoc, b.ordered (x ∷ w), no_disorder, append_assoc);
+  may_disorder = λ w. rw (append_assoc, b.may_disorder (x ∷ w), no_disorder, length_push q x);
 }
 
 -- the disorder, if there is one, comes after a key that is at least k
@@ -169,7 +163,7 @@ processed_before_line {cmp} o {key} {p} {x} g = record {
       let (more, later) = after_from cmp o key (key x) (length (p ++ x ∷ [])) w in
       record {
         rest = x ∷ sorted_after cmp key (Some (key x)) w;
-        is = g.ordered w ∙ append_assoc p (x ∷ []) (sorted_after cmp key (Some (key x)) w);
+        is = cc (g.ordered w, append_assoc p (x ∷ []) (sorted_after cmp key (Some (key x)) w));
         may_follow = (self_at_most cmp o (key x), more);
         may_disorder = rw (g.may_disorder w) later;
       };
@@ -195,7 +189,7 @@ all_keys k = true
 
 filter_all : (w : List ℕ → Bool) (ks : Lines) → Each (λ k. w k ≡ true) ks → filter w ks ≡ ks
 filter_all w [] e = refl
-filter_all w (k ∷ ks) (here, more) = rw here (ap (λ l. k ∷ l) (filter_all w ks more))
+filter_all w (k ∷ ks) (here, more) = cc (filter_all w ks more)
 
 filter_none : (w : List ℕ → Bool) (ks : Lines) → Each (λ k. w k ≡ false) ks → filter w ks ≡ []
 filter_none w [] e = refl
@@ -213,15 +207,11 @@ IsDownwardClosed cmp w = (a b : List ℕ) → cmp b a ≡ Greater → w b ≡ tr
 module _ (cmp : Cmp) (o : IsKeyOrder cmp) where
   ascends_insert : (k : List ℕ) (ks : Lines) → Ascends cmp ks → Ascends cmp (insert_key cmp k ks)
   ascends_insert k [] a = (tt, tt)
-  ascends_insert k (x ∷ ks) (above, more) = elim (cmp k x) as (λ r. cmp k x ≡ r
-      → Ascends cmp (match_ordering r (k ∷ x ∷ ks) (x ∷ ks) (x ∷ insert_key cmp k ks))) [
-        | Less ↦ λ e. (
-          (less_flips cmp o k x e, Each-weaker _ _ (λ y h. above_trans cmp o k x y (ap is_gt e) h) _ above),
-          (above, more),
-        )
-        | Equal ↦ λ e. (above, more)
-        | Greater ↦ λ e. (Each-insert cmp (Above cmp x) k ks e above, ascends_insert k ks more)
-      ] refl
+  ascends_insert k (x ∷ ks) (above, more) =
+      let less = λ (e : cmp k x ≡ Less). Each-weaker _ (Above cmp k)
+      (λ y h. above_trans cmp o k x y (ap is_gt e) h) ks above in
+      let greater = λ (e : cmp k x ≡ Greater). Each-insert cmp (Above cmp x) k ks e above in
+      grind (arith, less, greater, less_flips cmp o k x, ascends_insert k ks more)
 
   pub ascends_distinct : (ks : Lines) → Ascends cmp (distinct_keys cmp ks)
   ascends_distinct [] = tt
@@ -301,10 +291,12 @@ module _ (tool : MergeTool) where
     split = λ w r c.
         let none = λ (side : Side). rw append-nil at (u side [] (may_follow_none cmp (key side) (d side))) in
         (λ i. entries_by_key tool w (λ side. append_assoc (p side) (f side) (r side) i))
-        ∙ s.split w (λ side. f side ++ r side) (λ side. u side (r side) (c side))
-        ∙ ap (λ l. entries_by_key tool w p ++ l) (front w r c)
-        ∙ sym (append_assoc (entries_by_key tool w p) (entries_by_key tool w f) (entries_by_key tool w r))
-        ∙ ap (λ l. l ++ entries_by_key tool w r) (sym (s.split w f none));
+        ∙ cc (
+          s.split w (λ side. f side ++ r side) (λ side. u side (r side) (c side)),
+          s.split w f none,
+          front w r c,
+          append_assoc (entries_by_key tool w p) (entries_by_key tool w f) (entries_by_key tool w r),
+        );
   }
 
 -- ---- the bytes written
@@ -468,14 +460,12 @@ module _ (cmp : Cmp) (o : IsKeyOrder cmp) where
   -- no line that may follow in one input is below the last processed key of the other
   pub past_none : (key other_key : Key) (b : Bound) (p r : Lines) → EachKey (IsUnder cmp b) key p
       → MayFollow cmp other_key b r → EachKey (λ k. is_below cmp k (last_or None (map key p)) ≡ false) other_key r
-  past_none key other_key b p r u c = elim (last_or None (map key p)) as (λ l. last_or None (map key p) ≡ l
-      → EachKey (λ k. is_below cmp k l ≡ false) other_key r) [
-        | None ↦ λ e. Each-all (λ k. false ≡ false) (λ k. refl) (map other_key r)
-        | Some x ↦ λ e. (
-            let ux = last_has key (IsUnder cmp b) None p x e (λ y bad. cc) u in
-            EachKey-weaker _ _ (λ k h. not_below k x h) _ _ (coming_under other_key b x r ux c)
-            )
-      ] refl
+  past_none key other_key b p r u c = by (last_or None (map key p)) refl
+    where
+      by : (l : Option (List ℕ)) → last_or None (map key p) ≡ l → EachKey (λ k. is_below cmp k l ≡ false) other_key r
+      by None e = Each-all _ (λ k. refl) (map other_key r)
+      by (Some x) e = EachKey-weaker _ _ (λ k h. not_below k x h) _ _
+          (coming_under other_key b x r (last_has key (IsUnder cmp b) None p x e (λ y bad. cc) u) c)
 
   -- the tests of `is_decided` hold for all keys below a key for which they hold
   downward_lt : (l a b : List ℕ) → cmp b a ≡ Greater → is_lt (cmp b l) ≡ true → is_lt (cmp a l) ≡ true
@@ -532,5 +522,4 @@ input_split {tool} o {b} {p} {ls} m s =
     (λ k u1 u2. written_is_wanted tool.cmp o (b First) (b Second) (first_disorder tool.cmp (tool.key First) (ls First))
     (first_disorder tool.cmp (tool.key Second) (ls Second)) k
     (s.may_disorder First) (s.may_disorder Second) u1 u2) (p side) (m.under First side) (m.under Second side)) in
-    (λ i. entries_by_key tool w (λ side. s.parts side i)) ∙ m.splits.split w s.r s.may_follow
-    ∙ ap (λ l. l ++ entries_by_key tool w s.r) first
+    (λ i. entries_by_key tool w (λ side. s.parts side i)) ∙ cc (m.splits.split w s.r s.may_follow, first)

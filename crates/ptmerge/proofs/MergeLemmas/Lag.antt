@@ -4,7 +4,7 @@
 use Rattle.ptmerge.proofs.Common.{◌≡◌, ◌⊎◌, ⊎_elim, inl, inr, ℕ, ◌+◌, ◌≤◌, false, List, [], ◌∷◌, ◌++◌, Option, Some}
 use Rattle.ptmerge.proofs.Common.{None, length, map, refl, sym, ◌∙◌, ap, arith, append_assoc, length-append, last_or}
 use Rattle.ptmerge.proofs.Common.{append-nil, append_cancel_right, Received, known_lines, LaggedInput, Reader, unlines}
-use Rattle.ptmerge.proofs.Common.{complete_lines, IsLine, AreLines, received_with, complete_lines_of_unlines}
+use Rattle.ptmerge.proofs.Common.{IsLine, AreLines, received_with, complete_lines_of_unlines}
 use Rattle.ptmerge.proofs.Common.{unlines_push, the_lines, Lines, first_disorder, is_below, sorted_prefix, Cmp, Key}
 use Rattle.ptmerge.proofs.Common.{Bool, filter-append, filter, IsPrefix, unlines-append, Side, First, Second, MergeTool}
 use Rattle.ptmerge.proofs.Common.{entries_by_key, decided_entries, disorder, earlier_disorder, is_decided}
@@ -17,7 +17,7 @@ use Rattle.ptmerge.proofs.MergeLemmas.Invariant.{AtLeast}
 use Rattle.ptmerge.proofs.MergeLemmas.LinesRead.{IsReadAs}
 use Rattle.ptmerge.proofs.MergeLemmas.Orders.{EachKey, Each-all, EachKey-weaker, Each-parts, kept_none, IsKeyOrder}
 use Rattle.ptmerge.proofs.MergeLemmas.Orders.{AtMost, at_most_trans, self_at_most}
-use Rattle.ptmerge.proofs.Parts.Concatenation.{by_keys_kept}
+use Rattle.ptmerge.proofs.Parts.{by_keys_kept}
 use Rattle.ptmerge.proofs.MergeLemmas.Slots.{put_each, put_other, put_same}
 use Rattle.ptlines.proofs.LineSearch.{IsLine-append}
 use Rattle.ptmerge.specs.MergeSpec.{MergeDisorder}
@@ -48,8 +48,8 @@ sorted_from_parts cmp key last (x ∷ xs) ys (here, more) =
 sorted_from_whole : (cmp : Cmp) (key : Key) (last : Option (List ℕ)) (n : ℕ) (ls : Lines) → IsSortedFrom cmp key last ls
     → (sorted_after cmp key last ls ≡ ls) × (disorder_after cmp key last n ls ≡ None)
 sorted_from_whole cmp key last n [] r = (refl, refl)
-sorted_from_whole cmp key last n (x ∷ ls) (here, more) = let (whole, none) =
-    sorted_from_whole cmp key (Some (key x)) (n + 1) ls more in rw here (ap (λ (l : Lines). x ∷ l) whole, none)
+sorted_from_whole cmp key last n (x ∷ ls) (here, more) =
+    let ih = sorted_from_whole cmp key (Some (key x)) (n + 1) ls more in grind (arith, here, ih)
 
 sorted_from_start : (cmp : Cmp) (key : Key) (ls : Lines) → IsSortedFrom cmp key None ls
     → (sorted_prefix cmp key ls ≡ ls) × (first_disorder cmp key ls ≡ None)
@@ -66,11 +66,11 @@ module _ (cmp : Cmp) (o : IsKeyOrder cmp) (key : Key) where
   none_below : (xs ys : Lines) → IsSortedFrom cmp key None (xs ++ ys)
       → EachKey (λ k. is_below cmp k (last_or None (map key xs)) ≡ false) key ys
   none_below xs ys r =
-      elim (last_or None (map key xs)) as
-      (λ l. IsSortedFrom cmp key l ys → EachKey (λ k. is_below cmp k l ≡ false) key ys) [
-        | None ↦ λ h. Each-all (λ k. false ≡ false) (λ k. refl) (map key ys)
-        | Some x ↦ λ h. EachKey-weaker _ _ (λ k a. not_below cmp o k x a) _ _ (from_key x ys h)
-      ] (let (_, rest) = sorted_from_parts cmp key None xs ys r in rest)
+      let (_, rest) = sorted_from_parts cmp key None xs ys r in by (last_or None (map key xs)) rest
+    where
+      by : (l : Option (List ℕ)) → IsSortedFrom cmp key l ys → EachKey (λ k. is_below cmp k l ≡ false) key ys
+      by None h = Each-all _ (λ k. refl) (map key ys)
+      by (Some x) h = EachKey-weaker _ _ (λ k a. not_below cmp o k x a) _ _ (from_key x ys h)
 
 -- ---- the bytes received
 
@@ -85,8 +85,7 @@ shape_of end given ls now (inr (is, _)) = let (all, ends) =
 
 last_of : {A : Type 0} (xs : List A) → (xs ≡ []) ⊎ ((front : List A) × (x : A) × (xs ≡ front ++ x ∷ []))
 last_of [] = inl refl
-last_of (x ∷ xs) = ⊎_elim (λ none. inr ([], x, ap (λ l. x ∷ l) none))
-    (λ (front, y, is). inr (x ∷ front, y, ap (λ l. x ∷ l) is)) (last_of xs)
+last_of (x ∷ xs) = ⊎_elim (λ none. inr ([], x, cc)) (λ (front, y, is). inr (x ∷ front, y, cc)) (last_of xs)
 
 are_split : (end : ℕ) (xs : Lines) (x : List ℕ) → AreLines end (xs ++ x ∷ []) → AreLines end xs × IsLine end x
 are_split end [] x (line, _) = (tt, line)
@@ -122,7 +121,7 @@ module _ (end : ℕ) (given piece : List ℕ) (ls p : Lines) (now new : Reader) 
         };
     going = refl;
     whole = whole;
-    whole_is = ap (complete_lines end) is ∙ complete_lines_of_unlines end whole tail all line;
+    whole_is = cc (complete_lines_of_unlines end whole tail all line);
     rest = rest;
     split = split;
   }
@@ -132,9 +131,8 @@ module _ (end : ℕ) (given piece : List ℕ) (ls p : Lines) (now new : Reader) 
       → (rest : Lines) → p ≡ w ++ rest → LagPoint end (received_with (given ++ piece) new) p
   open_line w y last all is rest split =
       let (lines, line) = are_split end w y (rw last at all) in
-      let same : given ++ end ∷ [] ≡ (unlines end w ++ y) ++ end ∷ [] =
-      is ∙ (rw (last, unlines_push end w y, append_assoc (unlines end w) y (end ∷ []))) in
-      let ends : given ≡ unlines end w ++ y = append_cancel_right given (unlines end w ++ y) (end ∷ []) same in
+      let ends : given ≡ unlines end w ++ y = append_cancel_right given (unlines end w ++ y) (end ∷ [])
+      (is ∙ (rw (last, unlines_push end w y, append_assoc (unlines end w) y (end ∷ [])))) in
       unheld w (y ++ piece) (rw (ends, append_assoc (unlines end w) y piece)) lines
       (IsLine-append end y piece line free) rest split
 
@@ -190,10 +188,8 @@ of_other : (cmp : Cmp) (s : Side) (f : Side → Option FirstDisorder) (test : Op
     → test None ≡ false
     → ((d : FirstDisorder) → f (other s) ≡ Some d → test (Some (record { file = other s; first_disorder = d })) ≡ false)
     → test (earlier_disorder cmp (f First) (f Second)) ≡ false
-of_other cmp First f test none calm some = rw none (elim (f Second) as (λ g. f Second ≡ g
-    → test (earlier_disorder cmp None g) ≡ false) [ None ↦ λ e. calm | Some d ↦ λ e. some d e ] refl)
-of_other cmp Second f test none calm some = rw none (elim (f First) as (λ g. f First ≡ g
-    → test (earlier_disorder cmp g None) ≡ false) [ None ↦ λ e. calm | Some d ↦ λ e. some d e ] refl)
+of_other cmp First f test none calm some = grind (arith, none, calm, some)
+of_other cmp Second f test none calm some = grind (arith, none, calm, some)
 
 -- one input is in order, and has not ended
 module _ (tool : MergeTool) (o : IsKeyOrder tool.cmp) (eof : Side → Bool) (ls : Side → Lines) (of : Side)
@@ -218,9 +214,7 @@ module _ (tool : MergeTool) (o : IsKeyOrder tool.cmp) (eof : Side → Bool) (ls 
       ∙ (λ i. entries_by_key tool all_keys (λ side. kept side i)) ∙ by_keys_kept dec tool o p all_keys in
       record {
         rest = unlines terminator rest;
-        is = ap (unlines terminator)
-            (is ∙ ap (λ (l : Lines). l ++ rest) (sym known)) ∙ unlines-append terminator (decided_entries tool eof ls)
-            rest;
+        is = cc (is, known, unlines-append terminator (decided_entries tool eof ls) rest);
       }
     where
       kept : (side : Side)
@@ -309,9 +303,12 @@ module _ (tool : MergeTool) (o : IsKeyOrder tool.cmp) (given : Side → Received
     others side = record {
       rest = [];
       tail = tail side ++ (future side).rest;
-      same = append-nil (sorted_prefix cmp (tool.key side) (known_lines terminator (given side))) ∙ (future side).is
-          ∙ ap (λ (l : Lines). l ++ (future side).rest) (split side)
-          ∙ append_assoc (p side) (tail side) (future side).rest;
+      same = cc (
+        append-nil (sorted_prefix cmp (tool.key side) (known_lines terminator (given side))),
+        (future side).is,
+        split side,
+        append_assoc (p side) (tail side) (future side).rest,
+      );
       none_rest = tt;
       none_tail = above side;
     }

@@ -2,7 +2,7 @@
 -- terminator. So every input that begins with these bytes begins with these lines.
 use Rattle.ptmerge.proofs.Common.{◌≡◌, ◌⊎◌, ⊎_elim, inl, inr, ℕ, ◌+◌, ◌<◌, ◌≤◌, Bool, true, false, List, [], ◌∷◌, ◌++◌}
 use Rattle.ptmerge.proofs.Common.{None, length, max, refl, sym, ◌∙◌, ap, arith, append_assoc, length-append, append-nil}
-use Rattle.ptmerge.proofs.Common.{nil_from_length, false≢true, FillLine, Received, IsConsistent, known_lines, Reader}
+use Rattle.ptmerge.proofs.Common.{nil_from_length, FillLine, Received, IsConsistent, known_lines, Reader}
 use Rattle.ptmerge.proofs.Common.{ReaderAdvance, AdvanceOk, IsDone, remaining_bytes, Slots, unlines, lines}
 use Rattle.ptmerge.proofs.Common.{complete_lines, IsLine, AreLines, max_length, received_with, advance_ok_trans}
 use Rattle.ptmerge.proofs.Common.{lines_of_unlines, lines_of_last, unlines_push, IsSound, HasNoLine, IsFirstLineAndBlock}
@@ -14,11 +14,12 @@ use Rattle.ptlines.proofs.MaxLength.{max_length-append, piece_le_max_length}
 ended_more : (end : ℕ) (ls : List (List ℕ)) (bytes : List ℕ) → AreLines end ls
     → complete_lines end (unlines end ls ++ bytes) ≡ ls ++ complete_lines end bytes
 ended_more end [] bytes w = refl
-ended_more end (line ∷ ls) bytes (free, more) =
-    ap (complete_lines end) (append_assoc (line ++ end ∷ []) (unlines end ls) bytes
-    ∙ append_assoc line (end ∷ []) (unlines end ls ++ bytes))
-    ∙ complete_lines_cons end line (unlines end ls ++ bytes) free
-    ∙ ap (λ (l : List (List ℕ)). line ∷ l) (ended_more end ls bytes more)
+ended_more end (line ∷ ls) bytes (free, more) = cc (
+  append_assoc (line ++ end ∷ []) (unlines end ls) bytes,
+  append_assoc line (end ∷ []) (unlines end ls ++ bytes),
+  complete_lines_cons end line (unlines end ls ++ bytes) free,
+  ended_more end ls bytes more,
+)
 
 -- `ls` are the lines of the bytes `given`: all of them have their terminator, or the last one lacks it at the end of
 -- the source
@@ -186,7 +187,7 @@ module _ (end : ℕ) (old now new : Reader) (ls : List (List ℕ)) (piece : List
           })).continues in
           record {
             known = record { more = w.more; is = all ∙ w.is; done = w.done };
-            exact = λ _ going. absurd (false≢true (sym going ∙ e));
+            exact = λ _ going. cc;
           }
       by_end false e = ⊎_elim (λ (given_is, all).
           let is : known_lines end (received_with (c.given ++ piece) new)
@@ -197,15 +198,15 @@ module _ (end : ℕ) (old now new : Reader) (ls : List (List ℕ)) (piece : List
             known = record {
               more = complete_lines end (piece ++ (new.buffered ++ []));
               is = is;
-              done = λ d. absurd (false≢true (sym e ∙ (done_gives_nothing d reads).eof));
+              done = λ d. cc (done_gives_nothing d reads).eof;
             };
             exact = λ empty _. is ∙ (rw (empty, append-nil piece, complete_lines_none end piece free) (append-nil ls));
-          }) (λ (_, done). absurd (false≢true (sym e ∙ (done_gives_nothing done reads).eof))) c.so_far
+          }) (λ (_, done). cc (done_gives_nothing done reads).eof) c.so_far
 
   -- after the first line or the end was read, one of both was received
   pub begun_gives_line : HasBegun now ls → ¬ HasNoLine end (received_with (c.given ++ piece) new)
   begun_gives_line begun none =
-      ⊎_elim (λ done. false≢true (sym none.eof ∙ (done_gives_nothing done reads).eof)) (λ some.
+      ⊎_elim (λ done. cc (none.eof, (done_gives_nothing done reads).eof)) (λ some.
       let nothing : known_lines end (received_with (c.given ++ piece) new) ≡ [] = rw none.eof
       (complete_lines_none end ((c.given ++ piece) ++ new.buffered) none.unterminated) in
       let known = lines_read_known.known in

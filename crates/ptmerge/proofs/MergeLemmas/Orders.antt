@@ -1,6 +1,6 @@
 -- Consequences of the laws of an order of keys. Distinct keys are sorted, so the entries of the least key come first,
 -- followed by the entries of the lines with other keys.
-use Rattle.ptmerge.proofs.Common.{◌≡◌, ◌⊎◌, ⊎_elim, inl, inr, ℕ, List, Bool, true, false, refl, sym, ◌∙◌, ap, arith}
+use Rattle.ptmerge.proofs.Common.{◌≡◌, ◌⊎◌, ⊎_elim, inl, inr, ℕ, List, Bool, true, false, refl, sym, ◌∙◌, ap, arith, false≢true}
 use Rattle.ptmerge.proofs.Common.{bytes_eq, Ordering, Less, Equal, Greater, is_eq, is_gt, is_le, ordering_reverse}
 use Rattle.ptmerge.proofs.Common.{bytes_decides, back_total, nat_list_cmp_total, tied_itself, upto, Cmp, byte_cmp}
 use Rattle.ptmerge.proofs.Common.{line_cmp, ◌<◌, length, get_or, suc, zero, [], ◌∷◌, ◌++◌, cond, map, append_assoc}
@@ -37,9 +37,7 @@ module _ (cmp : Cmp) (o : IsKeyOrder cmp) where
 
   -- keys that differ in the order differ in their bytes
   not_equal : (a b : List ℕ) → is_eq (cmp a b) ≡ false → bytes_eq a b ≡ false
-  not_equal a b n =
-      not_same a b
-      (λ e. (let bad : false ≡ true = sym n ∙ ap is_eq (ap (λ z. cmp a z) (sym e) ∙ tied_itself o.total a) in cc))
+  not_equal a b n = not_same a b (λ e. cc (tied_itself o.total a))
 
   pub equal_is : (a b : List ℕ) → is_eq (cmp a b) ≡ bytes_eq a b
   equal_is a b = grind (arith, not_equal a b, o.exact a b, bytes_decides a b)
@@ -62,12 +60,8 @@ module _ (cmp : Cmp) (o : IsKeyOrder cmp) where
   -- k equals y, or is less
   pub least_or_above : (k y : List ℕ) → AtMost cmp k y
       → ((bytes_eq y k ≡ true) × (y ≡ k)) ⊎ ((bytes_eq y k ≡ false) × (cmp y k ≡ Greater))
-  least_or_above k y h = elim (cmp k y) as (λ r. cmp k y ≡ r → is_gt r ≡ false → ((bytes_eq y k ≡ true) × (y ≡ k))
-      ⊎ ((bytes_eq y k ≡ false) × (cmp y k ≡ Greater))) [
-        | Less ↦ λ l g. inr (above_not_same k y (less_flips k y l), less_flips k y l)
-        | Equal ↦ λ e g. (let same = sym (o.exact k y e) in inl (same_bytes same, same))
-        | Greater ↦ λ l g. cc
-      ] refl h
+  least_or_above k y h =
+      grind (arith, h, o.exact k y, less_flips k y, above_not_same k y, same_bytes {a = y} {b = k})
 
   -- a ≤ b < c
   pub above_trans : (a b c : List ℕ) → AtMost cmp a b → cmp c b ≡ Greater → cmp c a ≡ Greater
@@ -175,8 +169,7 @@ module _ (cmp : Cmp) (o : IsKeyOrder cmp) where
           ⊎ ((insert_key cmp y (distinct_keys cmp ks) ≡ distinct_keys cmp (others k (y ∷ ks)))
           × Each (λ z. bytes_eq z k ≡ false) (y ∷ ks))
       by (inl (is, same)) (inl d) = inl (rw (is, same, d, tied_itself o.total k))
-      by (inl (is, same)) (inr (without_k, _)) =
-          inl (rw (is, same, without_k, insert_least k (distinct_keys cmp (others k ks)) above))
+      by (inl (is, same)) (inr (without_k, _)) = inl (rw (is, same, without_k, insert_least k _ above))
       by (inr (apart, greater)) (inl d) = inl (rw (apart, d, greater))
       by (inr (apart, _)) (inr (without_k, none)) = inr (rw (apart, without_k), (apart, none))
 
@@ -199,7 +192,7 @@ with_key_without key k q [] n = refl
 with_key_without key k q (x ∷ xs) n =
     let ih = with_key_without key k q xs n in
     let apart : key x ≡ k → bytes_eq (key x) q ≡ false = λ e. not_same (key x) q
-    (λ f. (let bad : true ≡ false = sym (same_bytes (sym f ∙ e)) ∙ n in cc)) in
+    (λ f. false≢true (sym n ∙ same_bytes (sym f ∙ e))) in
     grind (arith, ih, apart, bytes_decides (key x) k)
 
 module _ (tool : MergeTool) (o : IsKeyOrder tool.cmp) where

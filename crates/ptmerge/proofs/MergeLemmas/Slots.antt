@@ -87,18 +87,12 @@ pub set_line : (s : Side) (cursor : Sorted) (xs : List (List ℕ)) (m k : Side �
     → HasLines k more (set xs cursor.previous_slot x)
 set_line s cursor (a ∷ b ∷ c ∷ d ∷ rest) m k more x slots h up l = by s slots l
   where
-    first : (length a ≤ k First) × (length b ≤ k First)
-    first = omega (arith, h, up First)
-
-    second : (length c ≤ k Second) × (length d ≤ k Second)
-    second = omega (arith, h, up Second)
-
     by : (t : Side) → HasSlots t cursor → length x ≤ k t
         → HasLines k more (set (a ∷ b ∷ c ∷ d ∷ rest) cursor.previous_slot x)
-    by First (inl (_, is)) l = rw is (first.0, l, second.0, second.1, h.4)
-    by First (inr (_, is)) l = rw is (l, first.1, second.0, second.1, h.4)
-    by Second (inl (_, is)) l = rw is (first.0, first.1, second.0, l, h.4)
-    by Second (inr (_, is)) l = rw is (first.0, first.1, l, second.1, h.4)
+    by First (inl (_, is)) l = rw is (omega (arith, h, up First, up Second))
+    by First (inr (_, is)) l = rw is (omega (arith, h, up First, up Second))
+    by Second (inl (_, is)) l = rw is (omega (arith, h, up First, up Second))
+    by Second (inr (_, is)) l = rw is (omega (arith, h, up First, up Second))
 set_line s cursor few m k more x slots h up l = absurd h
 
 -- The invariant of the store of a merge: two lines of each input, of at most `m` bytes each.

@@ -82,9 +82,7 @@ impl Sorted {
         ensures slots { length store.new.lines ≡ length store.old.lines }
         ensures cursor_valid { OnOk result (IsValidCursor (K.key_of order.now side) self.new store.new) }
     {
-        let slot = self.current_slot;
-        self.current_slot = self.previous_slot;
-        self.previous_slot = slot;
+        std::mem::swap(&mut self.current_slot, &mut self.previous_slot);
         match reader.fill(store, self.current_slot) {
             Ok(true) => {}
             Ok(false) => {
@@ -97,9 +95,8 @@ impl Sorted {
         }
         let last_span = self.key;
         self.key = order.span(side, store.line(self.current_slot));
-        let number = self.number;
         self.number += 1;
-        if number == 0 {
+        if self.number == 1 {
             self.status = CursorStatus::Head;
             self.same = false;
             return Ok(());

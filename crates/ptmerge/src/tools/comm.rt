@@ -40,7 +40,6 @@ fn write_head<K: KeyOrder, A: Allocator + Copy, S: Source, R: Source, W: Sink>(
     side: Side,
     hidden: bool,
     tabs: &[u8],
-    terminator: u8,
     reader: &mut LineReader<S, R>,
     store: &mut Store<A>,
     out: &mut Out<W>,
@@ -49,14 +48,14 @@ fn write_head<K: KeyOrder, A: Allocator + Copy, S: Source, R: Source, W: Sink>(
         AdvancePre key side merge.old.first merge.old.second reader.old store.old }
     requires clean { out.old.write_failed ≡ false }
     ensures wrote { let current = line store.old (both merge.old.first merge.old.second side).current_slot in
-        PushEffect out.old out.new (unlines terminator (column_entries hidden tabs.now 1 current)) }
+        PushEffect out.old out.new (unlines reader.old.terminator (column_entries hidden tabs.now 1 current)) }
     ensures advances { let key = K.key_of merge.old.order in
         WriteThenAdvancePost key (K.order merge.old.order) side merge.old.first merge.old.second
         merge.new.first merge.new.second reader.old reader.new store.old store.new out.new result }
     ensures order { merge.new.order ≡ merge.old.order }
 {
     if !hidden {
-        out.push_line(tabs, merge.head(side, store), &[terminator])?;
+        out.push_line(tabs, merge.head(side, store), &[reader.terminator()])?;
     }
     merge.write_out_and_advance(side, reader, store, out)
 }
@@ -79,23 +78,16 @@ fn comm_with_order<K: KeyOrder, A: Allocator + Copy, S: Source, R: Source, W: Si
         length store.new.lines < 4 → IsMergeUnread was (merge_state first.new second.new out.new store.new) }
     ensures slots { AddedSlots store.old store.new 4 }
 {
-    let terminator = first.terminator();
     let [hide1, hide2, hide3] = job.hide;
     let tabs2 = tabs(hide1, true);
     let tabs3 = tabs(hide1, hide2);
     let mut merge = Merge::start(order, first, second, store)?;
     'steps: loop {
         match merge.step(store) {
-            Step::First => write_head(
-                &mut merge, First, hide1, b"", terminator, first, store, out,
-            )?,
-            Step::Second => write_head(
-                &mut merge, Second, hide2, tabs2, terminator, second, store, out,
-            )?,
+            Step::First => write_head(&mut merge, First, hide1, b"", first, store, out)?,
+            Step::Second => write_head(&mut merge, Second, hide2, tabs2, second, store, out)?,
             Step::Both => {
-                write_head(
-                    &mut merge, First, hide3, tabs3, terminator, first, store, out,
-                )?;
+                write_head(&mut merge, First, hide3, tabs3, first, store, out)?;
                 merge.write_out_and_advance(Second, second, store, out)?;
             }
             Step::End => {

@@ -88,7 +88,6 @@ fn write_unpaired<K: KeyOrder, A: Allocator + Copy, B: Allocator, S: Source, R: 
     merge: &mut Merge<K>,
     job: &JoinJob<B>,
     side: Side,
-    terminator: u8,
     reader: &mut LineReader<S, R>,
     store: &mut Store<A>,
     out: &mut Out<W>,
@@ -97,14 +96,16 @@ fn write_unpaired<K: KeyOrder, A: Allocator + Copy, B: Allocator, S: Source, R: 
         AdvancePre key side merge.old.first merge.old.second reader.old store.old }
     requires joins { JoinStepPre (join_job job.now) (K.key_of merge.old.order) out.old }
     ensures wrote { let current = line store.old (both merge.old.first merge.old.second side).current_slot in
-        PushEffect out.old out.new (unlines terminator (unpaired_entry (join_job job.now) side current)) }
+        let entry = unpaired_entry (join_job job.now) side current in
+        PushEffect out.old out.new (unlines reader.old.terminator entry) }
     ensures advances { let key = K.key_of merge.old.order in
         WriteThenAdvancePost key (K.order merge.old.order) side merge.old.first merge.old.second
         merge.new.first merge.new.second reader.old reader.new store.old store.new out.new result }
     ensures order { merge.new.order ≡ merge.old.order }
 {
     let key = merge.key(side, store);
-    write_unpaired_entry(job, side, key, merge.head(side, store), terminator, out)?;
+    let line = merge.head(side, store);
+    write_unpaired_entry(job, side, key, line, reader.terminator(), out)?;
     merge.write_out_and_advance(side, reader, store, out)
 }
 
@@ -113,7 +114,6 @@ fn write_pairs<K: KeyOrder, A: Allocator + Copy, B: Allocator, S: Source, R: Sou
     merge: &mut Merge<K>,
     job: &JoinJob<B>,
     end: usize,
-    terminator: u8,
     reader: &mut LineReader<S, R>,
     store: &mut Store<A>,
     out: &mut Out<W>,
@@ -125,7 +125,8 @@ fn write_pairs<K: KeyOrder, A: Allocator + Copy, B: Allocator, S: Source, R: Sou
     ensures wrote { let current = line store.old merge.old.first.current_slot in
         let key = K.key_of merge.old.order sides.First current in
         let lines = group store.old (group_first_slot merge.old.second end) (group_end_slot merge.old.second end) in
-        PushEffect out.old out.new (unlines terminator (pair_entries (join_job job.now) key (current ∷ []) lines)) }
+        let pairs = pair_entries (join_job job.now) key (current ∷ []) lines in
+        PushEffect out.old out.new (unlines reader.old.terminator pairs) }
     ensures advances { let key = K.key_of merge.old.order in
         WriteThenAdvancePost key (K.order merge.old.order) sides.First merge.old.first merge.old.second
         merge.new.first merge.new.second reader.old reader.new store.old store.new out.new result }
@@ -134,7 +135,7 @@ fn write_pairs<K: KeyOrder, A: Allocator + Copy, B: Allocator, S: Source, R: Sou
     let key = merge.key(First, store);
     let line = merge.head(First, store);
     let (from, to) = group_slots(merge, end);
-    write_pair_entries(job, key, line, from, to, store, terminator, out)?;
+    write_pair_entries(job, key, line, from, to, store, reader.terminator(), out)?;
     merge.write_out_and_advance(First, reader, store, out)
 }
 
@@ -165,19 +166,14 @@ fn join_with_order<K: KeyOrder, A: Allocator + Copy, B: Allocator, S: Source, R:
         length store.new.lines < 4 → IsMergeUnread was (merge_state first.new second.new out.new store.new) }
     ensures slots { AddedAtLeast store.old store.new 4 }
 {
-    let terminator = first.terminator();
     let mut merge = Merge::start(order, first, second, store)?;
     let mut phase = JoinPhase::BetweenGroups;
     let mut end = 4;
     'steps: loop {
         match phase {
             JoinPhase::BetweenGroups => match merge.step(store) {
-                Step::First => write_unpaired(
-                    &mut merge, job, First, terminator, first, store, out,
-                )?,
-                Step::Second => write_unpaired(
-                    &mut merge, job, Second, terminator, second, store, out,
-                )?,
+                Step::First => write_unpaired(&mut merge, job, First, first, store, out)?,
+                Step::Second => write_unpaired(&mut merge, job, Second, second, store, out)?,
                 Step::Both => phase = JoinPhase::ReadGroup,
                 Step::End => {
                     clear_four_slots(store);
@@ -195,7 +191,7 @@ fn join_with_order<K: KeyOrder, A: Allocator + Copy, B: Allocator, S: Source, R:
                 }
             }
             JoinPhase::WritePairs => {
-                write_pairs(&mut merge, job, end, terminator, first, store, out)?;
+                write_pairs(&mut merge, job, end, first, store, out)?;
                 if !merge.has_same_key(First) {
                     clear_group(store, end);
                     end = 4;

@@ -1,4 +1,4 @@
-use Rattle.ptmerge.proofs.Parts.ByKey.{comm_of_keys}
+use Rattle.ptmerge.proofs.Parts.{comm_of_keys}
 use Rattle.ptmerge.proofs.laws.comm_by_key.Goals as goal
 
 pub returns : goal.returns

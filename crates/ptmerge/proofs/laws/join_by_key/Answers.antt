@@ -1,4 +1,4 @@
-use Rattle.ptmerge.proofs.Parts.ByKey.{join_of_keys}
+use Rattle.ptmerge.proofs.Parts.{join_of_keys}
 use Rattle.ptmerge.proofs.laws.join_by_key.Goals as goal
 
 pub returns : goal.returns

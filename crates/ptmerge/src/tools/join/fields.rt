@@ -26,7 +26,7 @@ fn field_end(separator: Option<u8>, bytes: &[u8]) -> Option<usize>
 // Splits `bytes` at the first separator or blank, which is dropped: the bytes before it and, if there is one, those
 // after it.
 #[inline(always)]
-#[tactic(auto, using(ptlangs::proofs::ListElements::split_whole, ptlangs::proofs::ListElements::split_around))]
+#[tactic(auto, using(ptlangs::proofs::ListElements::split_whole, ptlangs::proofs::ListElements::split_around, crate::proofs::JoinLemmas::Fields::piece_at))]
 fn first_piece(separator: Option<u8>, bytes: &[u8]) -> (&[u8], Option<&[u8]>)
     ensures first { MatchOption result.1
         (slice_split (is_separator separator) bytes.now ≡ result.0.now ∷ [])

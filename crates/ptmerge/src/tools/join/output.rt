@@ -71,12 +71,8 @@ fn write_around<W: Sink>(
 {
     match span {
         None => write_prefixed_field(prefix, line, out),
-        Some(span) => {
-            if span.start == 0 {
-                return out.push(&line[span.end..]);
-            }
-            out.push_line(&[prefix], &line[..span.start - 1], &line[span.end..])
-        }
+        Some(span) if span.start == 0 => out.push(&line[span.end..]),
+        Some(span) => out.push_line(&[prefix], &line[..span.start - 1], &line[span.end..]),
     }
 }
 
@@ -129,18 +125,12 @@ fn item_field<'a, A: Allocator>(
 {
     match item {
         OutField::Join => entry.key,
-        OutField::Field(File::First, number) => {
-            if entry.one.is_some() && number == entry.job.field[0] {
-                return entry.key;
-            }
-            one.nth(number)
-        }
-        OutField::Field(File::Second, number) => {
-            if entry.two.is_some() && number == entry.job.field[1] {
-                return entry.key;
-            }
-            two.nth(number)
-        }
+        OutField::Field(File::First, n) if entry.one.is_some() && n == entry.job.field[0] =>
+            entry.key,
+        OutField::Field(File::Second, n) if entry.two.is_some() && n == entry.job.field[1] =>
+            entry.key,
+        OutField::Field(File::First, n) => one.nth(n),
+        OutField::Field(File::Second, n) => two.nth(n),
     }
 }
 
@@ -215,6 +205,7 @@ fn write_fields<A: Allocator, W: Sink>(
 
 // Checks whether a line equals the output of its own fields, with the field of this number first.
 #[inline(always)]
+#[tactic(auto, using(crate::proofs::JoinLemmas::Fields::even_prefixed))]
 fn is_canonical(separator: Option<u8>, number: u64, line: &[u8]) -> bool
     ensures { result ≡ true → IsCanonical separator number line.now }
 {

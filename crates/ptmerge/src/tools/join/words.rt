@@ -66,6 +66,7 @@ pub(crate) fn blanks_of(bytes: &[u8]) -> Blanks
 
 // Returns the index of the first blank among the N bytes from `at` on.
 #[inline(always)]
+#[tactic(auto, using(ptlines::proofs::MatchMasks::none_if_zero_mask, ptlines::proofs::MatchMasks::first_at_lowest_bit))]
 fn find_blank_in<const N: usize>(bytes: &[u8], at: usize) -> Option<usize>
     requires { HasChunk N at bytes.now }
     ensures { IsFirst (Passes is_blank bytes.now) at (at + N) result }

@@ -52,8 +52,7 @@ write_out_and_advance-requires-clause-status_is g c = rw c.write_head-in-Both.en
 pub steps-preserved-in-Continue-branch-2 : goal.steps-preserved-in-Continue-branch-2
 steps-preserved-in-Continue-branch-2 g c =
     let p = c.write_head.ensures in
-    let iteration = alone_continues c.steps.invariant.iteration c.in-First.ensures
-    (c.terminator-terminator.ensures ∙ c.requires.begins.terminator1) refl p.wrote
+    let iteration = alone_continues c.steps.invariant.iteration c.in-First.ensures refl p.wrote
     c.in_ok-write_head-in-First.ensures.advances in
     record {
       iteration = iteration_as g.K.KeyOrder.order g.K.KeyOrder.key_of p.order iteration;
@@ -65,8 +64,7 @@ pub steps-preserved-in-Continue-branch-3 : goal.steps-preserved-in-Continue-bran
 steps-preserved-in-Continue-branch-3 g c =
     let i = c.steps.invariant in
     let p = c.write_head-in-Second.ensures in
-    let iteration = alone_continues i.iteration c.in-Second.ensures
-    (c.terminator-terminator.ensures ∙ c.requires.begins.terminator1) c.tabs-tabs2.ensures p.wrote
+    let iteration = alone_continues i.iteration c.in-Second.ensures c.tabs-tabs2.ensures p.wrote
     c.in_ok-write_head-in-Second.ensures.advances in
     record {
       iteration = iteration_as g.K.KeyOrder.order g.K.KeyOrder.key_of p.order iteration;
@@ -80,8 +78,7 @@ steps-preserved g c =
     let p = c.write_head-in-Both.ensures in
     let q = c.write_out_and_advance.ensures in
     let continues = rw p.order at c.in_ok-write_out_and_advance-in-Both.ensures.advances in
-    let iteration = pair_continues i.iteration c.in-Both.ensures
-    (c.terminator-terminator.ensures ∙ c.requires.begins.terminator1) c.tabs-tabs3.ensures p.wrote
+    let iteration = pair_continues i.iteration c.in-Both.ensures c.tabs-tabs3.ensures p.wrote
     c.in_ok-write_head-in-Both.ensures.advances q.written_out continues in
     record {
       iteration = iteration_as g.K.KeyOrder.order g.K.KeyOrder.key_of (q.order ∙ p.order) iteration;
@@ -104,23 +101,20 @@ steps-smaller g c = pair_decreases c.steps.invariant.iteration c.in-Both.ensures
 pub returns-in_err-write_head-in-First : goal.returns-in_err-write_head-in-First
 returns-in_err-write_head-in-First g c =
     exit_as g.K.KeyOrder.order g.K.KeyOrder.key_of (comm_job c.args.job.now) c.steps.invariant.order
-    (alone_fails c.steps.invariant.iteration c.in-First.ensures
-    (c.terminator-terminator.ensures ∙ c.requires.begins.terminator1) refl c.write_head.ensures.wrote
+    (alone_fails c.steps.invariant.iteration c.in-First.ensures refl c.write_head.ensures.wrote
     (is_told c.from_residual-in_err-write_head-in-First.ensures.1) c.in_err-write_head-in-First.ensures.advances)
 
 pub returns-in_err-write_head-in-Second : goal.returns-in_err-write_head-in-Second
 returns-in_err-write_head-in-Second g c =
     exit_as g.K.KeyOrder.order g.K.KeyOrder.key_of (comm_job c.args.job.now) c.steps.invariant.order
-    (alone_fails c.steps.invariant.iteration c.in-Second.ensures
-    (c.terminator-terminator.ensures ∙ c.requires.begins.terminator1) c.tabs-tabs2.ensures
+    (alone_fails c.steps.invariant.iteration c.in-Second.ensures c.tabs-tabs2.ensures
     c.write_head-in-Second.ensures.wrote
     (is_told c.from_residual-in_err-write_head-in-Second.ensures.1) c.in_err-write_head-in-Second.ensures.advances)
 
 pub returns-in_err-write_head-in-Both : goal.returns-in_err-write_head-in-Both
 returns-in_err-write_head-in-Both g c =
     exit_as g.K.KeyOrder.order g.K.KeyOrder.key_of (comm_job c.args.job.now) c.steps.invariant.order
-    (pair_fails c.steps.invariant.iteration c.in-Both.ensures
-    (c.terminator-terminator.ensures ∙ c.requires.begins.terminator1) c.tabs-tabs3.ensures
+    (pair_fails c.steps.invariant.iteration c.in-Both.ensures c.tabs-tabs3.ensures
     c.write_head-in-Both.ensures.wrote
     (is_told c.from_residual-in_err-write_head-in-Both.ensures.1) c.in_err-write_head-in-Both.ensures.advances)
 
@@ -128,7 +122,7 @@ pub returns-in_err-write_out_and_advance-in-Both : goal.returns-in_err-write_out
 returns-in_err-write_out_and_advance-in-Both g c =
     let i = c.steps.invariant in
     exit_as g.K.KeyOrder.order g.K.KeyOrder.key_of (comm_job c.args.job.now) i.order
-    (second_fails i.iteration c.in-Both.ensures (c.terminator-terminator.ensures ∙ c.requires.begins.terminator1)
+    (second_fails i.iteration c.in-Both.ensures
     c.tabs-tabs3.ensures c.write_head-in-Both.ensures.wrote
     c.in_ok-write_head-in-Both.ensures.advances c.write_out_and_advance.ensures.written_out
     (is_told c.from_residual-in_err-write_out_and_advance-in-Both.ensures.1)

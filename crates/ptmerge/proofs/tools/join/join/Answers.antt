@@ -1,6 +1,6 @@
 -- If the output has failed, nothing is done. Otherwise both orders have one proof, over the order that the job selects.
 use Rattle.ptmerge.proofs.Common.{sym, ◌∙◌, join_job, join_tool, merge_state}
-use Rattle.ptmerge.proofs.MergeLemmas.Start.{set_is}
+use Rattle.ptmerge.proofs.MergeLemmas.Step.{set_is}
 use Rattle.ptmerge.proofs.MergeLemmas.Exits.{merge_halted, merge_set, unread_set}
 use Rattle.ptmerge.proofs.tools.join.join.Goals as goal
 

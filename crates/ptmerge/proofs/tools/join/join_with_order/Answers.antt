@@ -1,9 +1,9 @@
 -- Each iteration preserves the invariant by one lemma of `Iteration` or `GroupIteration`, and each exit has the
 -- postconditions by another.
 use Rattle.ptmerge.proofs.Common.{sym, ◌∙◌, err_from_is_err_and, join_job}
-use Rattle.ptmerge.proofs.JoinLemmas.GroupIteration.{read_group_pre, read_group_fails, read_group_continues}
-use Rattle.ptmerge.proofs.JoinLemmas.GroupIteration.{group_closed, group_there, write_pairs_group, write_pairs_pre}
-use Rattle.ptmerge.proofs.JoinLemmas.GroupIteration.{pair_fails, write_pairs_next, write_pairs_continues}
+use Rattle.ptmerge.proofs.JoinLemmas.Iteration.{read_group_pre, read_group_fails, read_group_continues}
+use Rattle.ptmerge.proofs.JoinLemmas.Iteration.{group_closed, group_there, write_pairs_group, write_pairs_pre}
+use Rattle.ptmerge.proofs.JoinLemmas.Iteration.{pair_fails, write_pairs_next, write_pairs_continues}
 use Rattle.ptmerge.proofs.JoinLemmas.Iteration.{alone_continues, alone_fails, begins, end_in, eof, disordered}
 use Rattle.ptmerge.proofs.JoinLemmas.Iteration.{measure_decreases, joins, exit_as, opened, group_opens}
 use Rattle.ptmerge.proofs.JoinLemmas.Iteration.{group_opens_decreases, advance_pre, start_fails, iteration_as}
@@ -50,7 +50,7 @@ pub steps-preserved-in-Continue-branch-2 : goal.steps-preserved-in-Continue-bran
 steps-preserved-in-Continue-branch-2 g c =
     let i = c.steps.invariant in
     let p = c.write_unpaired.ensures in
-    let iteration = alone_continues i.iteration c.in-BetweenGroups.is c.in-First.ensures c.terminator-terminator.ensures
+    let iteration = alone_continues i.iteration c.in-BetweenGroups.is c.in-First.ensures
     p.wrote c.in_ok-write_unpaired-in-First.ensures.advances in
     record {
       order = p.order ∙ i.order;
@@ -62,7 +62,7 @@ steps-preserved-in-Continue-branch-3 g c =
     let i = c.steps.invariant in
     let p = c.write_unpaired-in-Second.ensures in
     let iteration = alone_continues i.iteration c.in-BetweenGroups.is c.in-Second.ensures
-    c.terminator-terminator.ensures p.wrote c.in_ok-write_unpaired-in-Second.ensures.advances in
+    p.wrote c.in_ok-write_unpaired-in-Second.ensures.advances in
     record {
       order = p.order ∙ i.order;
       iteration = iteration_as g.K.KeyOrder.order g.K.KeyOrder.key_of p.order iteration;
@@ -81,7 +81,7 @@ steps-smaller-in-Continue-branch-3 g c = let h = c.in_ok-write_unpaired-in-Secon
 pub returns-in_err-write_unpaired-in-First : goal.returns-in_err-write_unpaired-in-First
 returns-in_err-write_unpaired-in-First g c =
     exit_as g.K.KeyOrder.order g.K.KeyOrder.key_of (join_job c.args.job.now) c.steps.invariant.order
-    (alone_fails c.steps.invariant.iteration c.in-BetweenGroups.is c.in-First.ensures c.terminator-terminator.ensures
+    (alone_fails c.steps.invariant.iteration c.in-BetweenGroups.is c.in-First.ensures
     c.write_unpaired.ensures.wrote
     (err_is (err_from_is_err_and _ c.from_residual-in_err-write_unpaired-in-First.ensures.1))
     c.in_err-write_unpaired-in-First.ensures.advances)
@@ -89,7 +89,7 @@ returns-in_err-write_unpaired-in-First g c =
 pub returns-in_err-write_unpaired-in-Second : goal.returns-in_err-write_unpaired-in-Second
 returns-in_err-write_unpaired-in-Second g c =
     exit_as g.K.KeyOrder.order g.K.KeyOrder.key_of (join_job c.args.job.now) c.steps.invariant.order
-    (alone_fails c.steps.invariant.iteration c.in-BetweenGroups.is c.in-Second.ensures c.terminator-terminator.ensures
+    (alone_fails c.steps.invariant.iteration c.in-BetweenGroups.is c.in-Second.ensures
     c.write_unpaired-in-Second.ensures.wrote
     (err_is (err_from_is_err_and _ c.from_residual-in_err-write_unpaired-in-Second.ensures.1))
     c.in_err-write_unpaired-in-Second.ensures.advances)
@@ -185,13 +185,13 @@ write_pairs-requires-clause-group g c = write_pairs_group c.steps.invariant.iter
 pub returns-in_err-write_pairs-in-WritePairs : goal.returns-in_err-write_pairs-in-WritePairs
 returns-in_err-write_pairs-in-WritePairs g c =
     exit_as g.K.KeyOrder.order g.K.KeyOrder.key_of (join_job c.args.job.now) c.steps.invariant.order
-    (pair_fails c.steps.invariant.iteration c.in-WritePairs.is c.terminator-terminator.ensures
+    (pair_fails c.steps.invariant.iteration c.in-WritePairs.is
     c.write_pairs.ensures.wrote
     (err_is (err_from_is_err_and _ c.from_residual-in_err-write_pairs-in-WritePairs.ensures.1))
     c.in_err-write_pairs-in-WritePairs.ensures.advances)
 
 pub clear_group-requires : goal.clear_group-requires
-clear_group-requires g c = group_there c.steps.invariant.iteration c.in-WritePairs.is c.terminator-terminator.ensures
+clear_group-requires g c = group_there c.steps.invariant.iteration c.in-WritePairs.is
     c.write_pairs.ensures.wrote c.in_ok-write_pairs-in-WritePairs.ensures.advances
 
 pub steps-preserved-then-not-has_same_key-2 : goal.steps-preserved-then-not-has_same_key-2
@@ -199,7 +199,7 @@ steps-preserved-then-not-has_same_key-2 g c =
     let i = c.steps.invariant in
     let p = c.write_pairs.ensures in
     let continues =
-    group_closed i.iteration c.in-WritePairs.is c.terminator-terminator.ensures p.wrote
+    group_closed i.iteration c.in-WritePairs.is p.wrote
     c.in_ok-write_pairs-in-WritePairs.ensures.advances in
     let iteration =
     continues c.clear_group.ensures (sym c.has_same_key-in-WritePairs.ensures ∙ c.if-not-has_same_key-2.true) in
@@ -212,7 +212,7 @@ pub steps-preserved : goal.steps-preserved
 steps-preserved g c =
     let i = c.steps.invariant in
     let p = c.write_pairs.ensures in
-    let continues = write_pairs_continues i.iteration c.in-WritePairs.is c.terminator-terminator.ensures p.wrote
+    let continues = write_pairs_continues i.iteration c.in-WritePairs.is p.wrote
     c.in_ok-write_pairs-in-WritePairs.ensures.advances in
     record {
       order = p.order ∙ i.order;

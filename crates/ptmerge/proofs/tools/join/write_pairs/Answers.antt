@@ -7,6 +7,6 @@ returns-clause-wrote g c =
     let slots = c.group_slots-from.ensures in
     wrote_and_sent _ _ _ _ (c.in_ok-write_pair_entries.ensures.clean c.requires.joins.joins.clean)
     (subst (λ (l : List ℕ). PushEffect c.args.out.now c.write_pair_entries.new.out l)
-    (λ i. unlines c.args.terminator (pair_entries (join_job c.args.job.now) (c.key-key.ensures i)
+    (λ i. unlines (c.terminator.ensures i) (pair_entries (join_job c.args.job.now) (c.key-key.ensures i)
     (c.head-line.ensures i ∷ []) (group c.args.store.now (slots.0 i) (slots.1 i)))) c.write_pair_entries.ensures.wrote)
     c.write_out_and_advance.ensures.written_out

@@ -14,17 +14,23 @@ returns-clause-moves g c =
     let before = c.args.store.now in
     let after = c.fill.new.store in
     let span = c.span-self.result in
-    let some : 0 < old.number = grind (arith, nat_tests, c.if-number-eq0.false) in
-    let e = rw c.in-Ok-true.field-0-test at (c.in-Ok-true.ensures.fills c.requires.own_reader.clean) in
-    let last_is : line after old.current_slot ≡ line before old.current_slot = rw e.stored
+    let some : 0 < old.number = grind (arith, nat_tests, c.if-self-eq1.false) in
+    let swap = c.swap.ensures in
+    let e = rw (c.in-Ok-true.field-0-test, swap.x_after) at (c.in-Ok-true.ensures.fills c.requires.own_reader.clean) in
+    let last_is : line after c.swap.new.y ≡ line before old.current_slot = rw (swap.y_after, e.stored)
     (line_other before old.previous_slot old.current_slot e.line (λ is. c.requires.distinct_slots.apart (sym is))) in
-    let next_is : line after old.previous_slot ≡ e.line = rw e.stored
+    let next_is : line after c.swap.new.x ≡ e.line = rw (swap.x_after, e.stored)
     (line_of_with_line before old.previous_slot e.line c.requires.distinct_slots.previous_slot) in
-    let last : c.key-last.result.now ≡ key (line before old.current_slot) = c.key-last.ensures
-    ∙ ap key (c.line-2.ensures ∙ last_is) in
-    let next : c.key-head.result.now ≡ key e.line = c.key-head.ensures ∙ ap key (c.line-3.ensures ∙ next_is) in
-    let is : c.cmp-ordering.result ≡ cmp (key (line before old.current_slot)) (key e.line) = c.cmp-ordering.ensures
-    ∙ (λ i. cmp (last i) (next i)) in
+    let is : c.cmp-ordering.result ≡ cmp (key (line before old.current_slot)) (key e.line) =
+    cc (
+      c.cmp-ordering.ensures,
+      c.key-last.ensures,
+      c.line-2.ensures,
+      last_is,
+      c.key-head.ensures,
+      c.line-3.ensures,
+      next_is,
+    ) in
     let status_is =
     later_status key cmp old.number (line before old.current_slot) e.line c.cmp-ordering.result some is in
     let status = c.status_at-self.ensures ∙ ap (λ t. if t then Disorder (old.number + 1) else Head) c.is_gt.ensures
@@ -33,8 +39,8 @@ returns-clause-moves g c =
     inl (record {
       next_line = e;
       cursor = λ i. record {
-        current_slot = old.previous_slot;
-        previous_slot = old.current_slot;
+        current_slot = swap.x_after i;
+        previous_slot = swap.y_after i;
         number = old.number + 1;
         status = status i;
         same = same i;

@@ -1,5 +1,5 @@
 -- The span is that of the next field in the rest of the line, which is a field of the line too.
-use Rattle.ptmerge.proofs.Common.{◌-◌, ◌∙◌, ◌∷◌, ◌≡◌, Some, ap, arith, drop, option_copied, remaining_fields, sym}
+use Rattle.ptmerge.proofs.Common.{◌-◌, ◌∙◌, ◌≡◌, Some, arith, option_copied, remaining_fields}
 use Rattle.ptmerge.proofs.JoinLemmas.Fields.{after_piece, drop_next, field_in, none_past, remaining_after}
 use Rattle.ptmerge.proofs.tools.join.fields.find_by_pieces.Goals as goal
 
@@ -18,9 +18,7 @@ returns c =
     c.in_ok-field.field.now remainder c.loop-passed.invariant.ends c.in_ok-field.ensures.is_piece in
     record {
       more = remaining_fields c.args.separator remainder;
-      is = ap (λ n. drop n (remaining_fields c.args.separator (Some c.args.line.now))) (sym passed)
-          ∙ c.loop-passed.invariant.passed ∙ c.in_ok-field.ensures.first
-          ∙ ap (λ f. f ∷ remaining_fields c.args.separator remainder) (sym span.bytes_are);
+      is = cc (passed, c.loop-passed.invariant.passed, c.in_ok-field.ensures.first, span.bytes_are);
       ordered = span.ordered;
       within = span.within;
       after = after_piece c.args.separator c.args.line.now c.in_ok-field.field.now remainder

@@ -1,6 +1,6 @@
 -- A field of the rest of a line is a field of the line. An empty word between two blanks is skipped, and does not
 -- change the remaining fields.
-use Rattle.ptmerge.proofs.Common.{◌≡◌, ◌∷◌, [], None, Some, ap, option_copied, subst, sym, ◌∙◌, MatchOption}
+use Rattle.ptmerge.proofs.Common.{◌≡◌, ◌∷◌, [], None, Some, option_copied, subst, sym, ◌∙◌, MatchOption}
 use Rattle.ptmerge.proofs.Common.{slice_split, is_separator, remaining_fields}
 use Rattle.ptmerge.proofs.JoinLemmas.Fields.{IsRemainderOf, field_in, remaining_after, skip_empty_word}
 use Rattle.ptmerge.proofs.tools.join.fields.next_field.Goals as goal
@@ -28,8 +28,7 @@ pieces-preserved c =
       | Some b ↦ λ m. skip_empty_word c.args.separator c.in-Some.bytes.now field (Some b.now) none empty m
     ] in
     record {
-      same = word c.first_piece.ensures.first
-          ∙ ap (λ o. remaining_fields c.args.separator (option_copied o)) (sym c.in-Some.is) ∙ c.pieces.invariant.same;
+      same = cc (word c.first_piece.ensures.first, c.in-Some.is, c.pieces.invariant.same);
       ends = remaining_after c.args.separator (option_copied c.args.line) (Some c.in-Some.bytes.now) field
           (option_copied c.first_piece.result.1) ends c.first_piece.ensures.is_piece;
     }

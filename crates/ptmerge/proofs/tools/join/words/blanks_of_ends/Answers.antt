@@ -1,4 +1,4 @@
-use Rattle.ptmerge.proofs.Common.{◌-◌, ◌*◌, ◌%◌, ◌^◌, length, bit_or, ◌∙◌, is_blank}
+use Rattle.ptmerge.proofs.Common.{is_blank}
 use Rattle.memchr.specs.Find.{is_byte}
 use Rattle.ptmerge.proofs.JoinLemmas.Words.{ends_mask}
 use Rattle.ptmerge.proofs.tools.join.words.blanks_of_ends.Goals as goal
@@ -10,8 +10,6 @@ returns g c =
     let back = c.blanks_in-back.ensures in
     let ends = c.requires.ends in
     record {
-      any = (λ i. bit_or (front.any i) (back.any i * 2 ^ (length bytes - g.row.N) % 2 ^ 64))
-          ∙ ends_mask is_blank bytes g.row.N ends.first ends.all c.requires.few;
-      tabs = (λ i. bit_or (front.tabs i) (back.tabs i * 2 ^ (length bytes - g.row.N) % 2 ^ 64))
-          ∙ ends_mask (is_byte 9) bytes g.row.N ends.first ends.all c.requires.few;
+      any = rw (front.any, back.any) (ends_mask is_blank bytes g.row.N ends.first ends.all c.requires.few);
+      tabs = rw (front.tabs, back.tabs) (ends_mask (is_byte 9) bytes g.row.N ends.first ends.all c.requires.few);
     }

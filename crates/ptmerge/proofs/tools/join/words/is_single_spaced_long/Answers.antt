@@ -1,5 +1,4 @@
-use Rattle.ptmerge.proofs.Common.{◌==◌, ◌∙◌, ◌+◌, ◌^◌, ◌≤◌, Bool, length, false, ap, arith, cond, drop, sym}
-use Rattle.ptmerge.proofs.Common.{is_single_spaced}
+use Rattle.ptmerge.proofs.Common.{◌==◌, ◌∙◌, ◌+◌, ◌^◌, ◌≤◌, length, ap, arith, sym}
 use Rattle.std.proofs.Common.{◌/◌}
 use Rattle.std.proofs.lemmas.Simd.{length-chunk}
 use Rattle.std.specs.Simd.Lanes.{chunk}
@@ -16,8 +15,7 @@ returns-then-not-are_single_spaces c =
     let few : length v ≤ 64 = omega (arith, length-chunk at 64 bytes room) in
     let misplaced = sym (c.are_single_spaces.ensures v few c.blanks_in-blanks.ensures)
     ∙ c.if-not-are_single_spaces.true in
-    sym (c.loop-at.invariant.same ∙ chunk_spaced blank bytes at room
-    ∙ ap (λ (t : Bool). cond t (is_single_spaced (last_blank blank v) (drop (at + 64) bytes)) false) misplaced)
+    sym (c.loop-at.invariant.same ∙ rw misplaced at (chunk_spaced blank bytes at room))
 
 pub loop-at-preserved : goal.loop-at-preserved
 loop-at-preserved c =
@@ -34,8 +32,6 @@ loop-at-preserved c =
     record {
       within = room;
       bit = omega (arith, before, bit_low (last_blank blank v));
-      same = c.loop-at.invariant.same ∙ chunk_spaced blank bytes at room
-          ∙ ap (λ (t : Bool). cond t (is_single_spaced (last_blank blank v) (drop (at + 64) bytes)) false) spaced
-          ∙ ap (λ (b : Bool). is_single_spaced b (drop (at + 64) bytes))
-          (sym (ap (λ x. x == 1) before ∙ bit_is (last_blank blank v)));
+      same = c.loop-at.invariant.same
+          ∙ rw (spaced, ← bit_is (last_blank blank v), ← before) at (chunk_spaced blank bytes at room);
     }
