@@ -119,7 +119,7 @@ pub use Rattle.ptflow.specs.Private.Paste.BufferedRows.{BufferedRowsPre, IsConsu
 pub use Rattle.ptflow.specs.Private.Paste.BufferedRows.{RowsTaken, IsFieldCopied, LineCopied, EofCopied}
 pub use Rattle.ptflow.specs.Private.Paste.BufferedRows.{CopyColumnsPost, CopyRowsPost, RowsWritten}
 pub use Rattle.ptflow.specs.Private.Tr.TrFrom.{squeeze_from, tr_from}
-pub use Rattle.ptflow.specs.Private.Uniq.BlockRuns.{CountRepeatsPost, IsSpan, RunsFailed, RunsWritten, IsPending}
+pub use Rattle.ptflow.specs.Private.Uniq.BlockRuns.{IsSpan, RunsFailed, RunsWritten, IsPending}
 pub use Rattle.ptflow.specs.Private.Uniq.BlockRuns.{span_of}
 pub use Rattle.ptflow.specs.Private.Uniq.FirstLine.{first_line, current_run_of}
 pub use Rattle.ptflow.specs.Private.Uniq.RunsFrom.{count_of, has_output, current_run, run_of, run_output, runs_after}

@@ -1,5 +1,5 @@
 use Rattle.ptflow.proofs.Common.{◌≡◌, ◌∷◌, [], ◌∙◌, append_assoc, decimal}
-use Rattle.ptflow.proofs.tools.uniq.block_runs.write_count.Goals as goal
+use Rattle.ptflow.proofs.tools.uniq.block_runs.flush_with_count.Goals as goal
 
 pub returns-in-Counts : goal.returns-in-Counts
 returns-in-Counts g c =
