@@ -100,7 +100,7 @@ pub use Rattle.ptflow.specs.Private.Vectors.Tables.{HasMoved, image_in_eighths}
 pub use Rattle.ptflow.specs.Private.Cut.CutFrom.{ExtendsCut, CutChunkPost, HasTerminators, IsCutPart, IsSameLine}
 pub use Rattle.ptflow.specs.Private.Cut.CutFrom.{CopyLinesPost, cut_piece, cut_fields_from, cut_bytes_from}
 pub use Rattle.ptflow.specs.Private.Cut.CutFrom.{cut_list_from, cut_lines_from}
-pub use Rattle.ptflow.specs.Private.Cut.FieldOffsets.{IsFieldStart, fields, prefixed_fields}
+pub use Rattle.ptflow.specs.Private.Cut.FieldOffsets.{IsFieldOffset, fields, prefixed_fields}
 pub use Rattle.ptflow.specs.Private.Cut.FieldSlices.{IsFieldCursor, IsNextSlice, output_from_cursor}
 pub use Rattle.ptflow.specs.Private.Passes.StepOutput.{OutputPart, OutputFailed}
 pub use Rattle.ptflow.specs.Private.Passes.LineLoop.{SlotsCleared, IsLineFilter, IsSwapped, LinesFailed, LinesWritten}
