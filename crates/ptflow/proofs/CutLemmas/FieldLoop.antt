@@ -1,12 +1,10 @@
 -- The selected fields of a line, in one pass. The fields of an interval, with the delimiter before each, are one slice
 -- of the line; so the output is these slices, the first without the delimiter before it.
 use Rattle.ptflow.proofs.Common.{◌≡◌, ℕ, zero, suc, Bool, true, false, cond, ◌+◌, ◌-◌, ◌<◌, ◌≤◌, List, [], ◌∷◌, ◌++◌}
-use Rattle.ptflow.proofs.Common.{length, take, drop, get_or}
-use Rattle.ptflow.proofs.Common.{refl, sym, ◌∙◌, ap, arith, length-append, length-drop, append-nil}
-use Rattle.ptflow.proofs.Common.{take_all, drop_all, drop_more, drop-drop, drop-take, drop-append-le, length-take-le}
-use Rattle.ptflow.proofs.Common.{Cut, cut_fields, join_with_byte, is_selected, AreSeparated, Interval, select_from}
-use Rattle.ptflow.proofs.Common.{fields, prefixed_fields}
-use Rattle.ptflow.proofs.Common.{IsFieldOffset, IsFieldCursor, IsNextSlice, output_from_cursor, min}
+use Rattle.ptflow.proofs.Common.{length, take, drop, get_or, refl, sym, ◌∙◌, ap, arith, length-append, length-drop}
+use Rattle.ptflow.proofs.Common.{drop_all, drop_more, drop-drop, drop-take, drop-append-le, length-take-le, Cut}
+use Rattle.ptflow.proofs.Common.{cut_fields, join_with_byte, is_selected, AreSeparated, Interval, select_from, fields}
+use Rattle.ptflow.proofs.Common.{prefixed_fields, IsFieldOffset, IsFieldCursor, IsNextSlice, output_from_cursor, min}
 use Rattle.ptflow.specs.declared.tools.cut.fields.FieldCursor.{FieldCursor}
 use Rattle.ptflow.proofs.Vectors.Select.{not_selected, select_none, select_first, select_slice, select_skip}
 use Rattle.ptflow.proofs.CutLemmas.FieldOffsets.{prefixed_fields-append, prefixed_of_fields, join_prefixed}

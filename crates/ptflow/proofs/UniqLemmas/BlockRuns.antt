@@ -2,14 +2,13 @@
 -- count, or ends it. Output that is contiguous in the block is deferred, so the pushed bytes and the deferred ones
 -- together are the output so far.
 use Rattle.ptflow.proofs.Common.{◌≡◌, ℕ, ◌+◌, ◌-◌, ◌<◌, ◌≤◌, ◌&&◌, Bool, true, false, List, [], ◌∷◌, ◌++◌, Some, None}
-use Rattle.ptflow.proofs.Common.{Option, length, take, drop, refl, sym, subst, ◌∙◌, ap, arith, append_assoc, length-append}
-use Rattle.ptflow.proofs.Common.{common_steps, bytes_eq, nat_lt, slice_range, nat_tests, drop_split, append-nil}
-use Rattle.ptflow.proofs.Common.{take_at, drop_at, IsFirstByte, is_byte, Output, PushEffect, unlines, complete_lines}
-use Rattle.ptflow.proofs.Common.{IsLine, IfSome, push_nothing, unlines_push, complete_lines_none, Uniq, Run, key, is_same}
-use Rattle.ptflow.proofs.Common.{output_of, run_of, current_run, runs_after, run_output, has_output}
-use Rattle.ptflow.proofs.Common.{RunsWritten, RunsFailed, span_of, IsSpan, IsPending}
+use Rattle.ptflow.proofs.Common.{Option, length, take, drop, refl, sym, subst, ◌∙◌, ap, arith, append_assoc}
+use Rattle.ptflow.proofs.Common.{length-append, common_steps, bytes_eq, nat_lt, slice_range, nat_tests, drop_split}
+use Rattle.ptflow.proofs.Common.{append-nil, take_at, drop_at, IsFirstByte, is_byte, Output, PushEffect, unlines}
+use Rattle.ptflow.proofs.Common.{complete_lines, IsLine, push_nothing, unlines_push, complete_lines_none, Uniq, Run}
+use Rattle.ptflow.proofs.Common.{key, is_same, output_of, run_of, current_run, runs_after, has_output, RunsWritten}
+use Rattle.ptflow.proofs.Common.{RunsFailed, span_of, IsSpan, IsPending}
 use Rattle.ptlines.proofs.Consume.{length_range}
-use Rattle.ptlangs.specs.declared.jobs.Show.{Show}
 use Rattle.ptflow.specs.Private.Uniq.BlockRuns.{EndRunPre, IsLineSpan, first_of}
 use Rattle.ptflow.specs.Private.Uniq.RunsFrom.{count_prefix, run_text}
 use Rattle.ptflow.specs.declared.tools.uniq.block_runs.Span.{Span}

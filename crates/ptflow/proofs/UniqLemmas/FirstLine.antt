@@ -1,8 +1,8 @@
 -- The current run of `uniq`, for one line and for the lines of a block. The items of the tool are runs: a line of
 -- another key ends the current run, whose output is known then.
-use Rattle.ptflow.proofs.Common.{◌≡◌, ℕ, ◌<◌, false, List, [], ◌∷◌, ◌++◌, None, Some, length, sym, ◌∙◌, common_steps, ap}
-use Rattle.ptflow.proofs.Common.{subst, arith, swap, is_some, append-nil, get_or-set_other, sum_by-cons, IsFirstByte}
-use Rattle.ptflow.proofs.Common.{is_byte, known_lines, Slots, line, total_bytes, with_line, complete_lines}
+use Rattle.ptflow.proofs.Common.{◌≡◌, ℕ, ◌<◌, false, List, [], ◌∷◌, ◌++◌, None, Some, length, sym, ◌∙◌, common_steps}
+use Rattle.ptflow.proofs.Common.{ap, subst, arith, swap, is_some, append-nil, get_or-set_other, sum_by-cons}
+use Rattle.ptflow.proofs.Common.{IsFirstByte, is_byte, known_lines, Slots, line, total_bytes, with_line, complete_lines}
 use Rattle.ptflow.proofs.Common.{line_if_not_found, complete_lines_none, Uniq, Option, runs, output_of, uniq_tool}
 use Rattle.ptflow.proofs.Common.{SlotsCleared, IsLineFilter, Output, first_line, current_run_of, run_of, count_of}
 use Rattle.ptflow.proofs.Common.{current_run, runs_after, run_output, Result, refl}

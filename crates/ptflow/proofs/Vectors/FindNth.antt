@@ -2,15 +2,13 @@
 -- after the n-th delimiter. Then the terminators in 64 bytes, which are processed in order by clearing the lowest bit.
 use Rattle.ptflow.proofs.Common.{◌≡◌, ⊎_elim, ℕ, zero, suc, ◌+◌, ◌-◌, ◌*◌, ◌/◌, ◌%◌, ◌^◌, ◌<◌, ◌≤◌, min, Bool, true}
 use Rattle.ptflow.proofs.Common.{false, cond, not, Option, Some, List, [], ◌∷◌, ◌++◌, length, map, take, drop, get_or}
-use Rattle.ptflow.proofs.Common.{refl, sym, ◌∙◌, ap, subst, arith, get_or-take, take-append-drop, length-drop}
-use Rattle.ptflow.proofs.Common.{count_ones, count_by, prefix_len, mask_l, chunk, take-add, eqb-true, take-take}
-use Rattle.ptflow.proofs.Common.{drop_more, take_at, drop_at, length-take-le, length-slice_split, get_or-le-sum_by}
-use Rattle.ptflow.proofs.Common.{sum_by-cons, sum_by-append, sum_by-take-le, count_by-le-length, trailing_mask_l}
-use Rattle.ptflow.proofs.Common.{ones-mask_l, get_or-chunk, length-chunk, IsFirstByte, NoneBefore, Passes, is_byte}
-use Rattle.ptflow.proofs.Common.{line_before_terminator, line_if_not_found, take_all}
-use Rattle.ptflow.proofs.Common.{Nowhere, None, option_map, nowhere_trans, IsLine, byte_ne, IsNth, HasTerminators}
-use Rattle.ptflow.proofs.Common.{put_chunk, take_more_put_chunk, length-put_chunk, length-set, unwrap_or, delim_at}
-use Rattle.ptflow.proofs.Common.{with_cycle, slice_set, count_by_more_yes, cases_lt, length-map}
+use Rattle.ptflow.proofs.Common.{refl, sym, ◌∙◌, ap, subst, arith, get_or-take, length-drop, count_ones, count_by}
+use Rattle.ptflow.proofs.Common.{prefix_len, mask_l, chunk, take-add, take-take, length-take-le, get_or-le-sum_by}
+use Rattle.ptflow.proofs.Common.{sum_by-cons, sum_by-append, sum_by-take-le, trailing_mask_l, ones-mask_l, get_or-chunk}
+use Rattle.ptflow.proofs.Common.{length-chunk, IsFirstByte, NoneBefore, Passes, is_byte, line_before_terminator}
+use Rattle.ptflow.proofs.Common.{line_if_not_found, take_all, Nowhere, None, option_map, nowhere_trans, IsLine, byte_ne}
+use Rattle.ptflow.proofs.Common.{IsNth, HasTerminators, put_chunk, take_more_put_chunk, length-put_chunk, length-set}
+use Rattle.ptflow.proofs.Common.{unwrap_or, delim_at, with_cycle, slice_set, count_by_more_yes, cases_lt, length-map}
 use Rattle.std.proofs.lemmas.List.{get_or-drop, drop-map}
 use Rattle.std.proofs.Common.{pow-suc, mul_comm, div-one}
 use Rattle.std.proofs.Math.Nat.{div-div-eq-div-mul, zero-div}

@@ -1,7 +1,6 @@
 -- Each iteration copies the next slice. The copied bytes are not longer than the line, so there is room for the rest.
 use Rattle.ptflow.proofs.Common.{◌≡◌, ◌+◌, ◌-◌, ◌≤◌, ◌++◌, length, take, drop, refl, ap, arith, append_assoc}
-use Rattle.ptflow.proofs.Common.{length-take-le, length-drop, is_selected, cut_job, cut_fields}
-use Rattle.ptflow.proofs.Common.{output_from_cursor}
+use Rattle.ptflow.proofs.Common.{length-take-le, length-drop, is_selected, cut_job, cut_fields, output_from_cursor}
 use Rattle.ptflow.proofs.CutLemmas.FieldLoop.{cursor_starts, selected_remaining, output_is_short, output_is_near}
 use Rattle.ptflow.proofs.CutLemmas.FieldOffsets.{slice_of}
 use Rattle.ptflow.proofs.tools.cut.fields.copy_fields.Given as given

@@ -1,7 +1,7 @@
 -- Two adjacent ranges are one range, so the run joins the deferred output. Otherwise that is pushed, and a failed push
 -- leaves a prefix of both.
-use Rattle.ptflow.proofs.Common.{ℕ, true, not, ◌≡◌, [], ◌∷◌, refl, ◌++◌, sym, ◌∙◌, ap, subst, PushEffect, append-nil}
-use Rattle.ptflow.proofs.Common.{push_past_failure, append_assoc, span_of, uniq_job}
+use Rattle.ptflow.proofs.Common.{ℕ, true, not, ◌≡◌, [], refl, sym, ◌∙◌, subst, PushEffect, push_past_failure}
+use Rattle.ptflow.proofs.Common.{append_assoc, span_of, uniq_job}
 use Rattle.ptflow.specs.Private.Uniq.RunsFrom.{count_prefix}
 use Rattle.ptflow.proofs.Passes.StepOutput.{on_err}
 use Rattle.ptflow.proofs.UniqLemmas.BlockRuns.{due_is, pending_joined}
