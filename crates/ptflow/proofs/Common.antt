@@ -100,7 +100,7 @@ pub use Rattle.ptflow.specs.Private.Vectors.Tables.{HasMoved, image_in_eighths}
 pub use Rattle.ptflow.specs.Private.Cut.CutFrom.{ExtendsCut, CutChunkPost, HasTerminators, IsCutPart, IsSameLine}
 pub use Rattle.ptflow.specs.Private.Cut.CutFrom.{CopyLinesPost, cut_piece, cut_fields_from, cut_bytes_from}
 pub use Rattle.ptflow.specs.Private.Cut.CutFrom.{cut_list_from, cut_lines_from}
-pub use Rattle.ptflow.specs.Private.Cut.FieldOffsets.{IsFieldStart, fields, prefixed_fields}
+pub use Rattle.ptflow.specs.Private.Cut.FieldOffsets.{IsFieldOffset, fields, prefixed_fields}
 pub use Rattle.ptflow.specs.Private.Cut.FieldSlices.{IsFieldCursor, IsNextSlice, output_from_cursor}
 pub use Rattle.ptflow.specs.Private.Passes.StepOutput.{OutputPart, OutputFailed}
 pub use Rattle.ptflow.specs.Private.Passes.LineLoop.{SlotsCleared, IsLineFilter, IsSwapped, LinesFailed, LinesWritten}
@@ -119,7 +119,7 @@ pub use Rattle.ptflow.specs.Private.Paste.BufferedRows.{BufferedRowsPre, IsConsu
 pub use Rattle.ptflow.specs.Private.Paste.BufferedRows.{RowsTaken, IsFieldCopied, LineCopied, EofCopied}
 pub use Rattle.ptflow.specs.Private.Paste.BufferedRows.{CopyColumnsPost, CopyRowsPost, RowsWritten}
 pub use Rattle.ptflow.specs.Private.Tr.TrFrom.{squeeze_from, tr_from}
-pub use Rattle.ptflow.specs.Private.Uniq.BlockRuns.{CountRepeatsPost, IsSpan, RunsFailed, RunsWritten, IsPending}
+pub use Rattle.ptflow.specs.Private.Uniq.BlockRuns.{IsSpan, RunsFailed, RunsWritten, IsPending}
 pub use Rattle.ptflow.specs.Private.Uniq.BlockRuns.{span_of}
 pub use Rattle.ptflow.specs.Private.Uniq.FirstLine.{first_line, current_run_of}
 pub use Rattle.ptflow.specs.Private.Uniq.RunsFrom.{count_of, has_output, current_run, run_of, run_output, runs_after}

@@ -6,8 +6,7 @@ use Rattle.ptflow.proofs.Common.{flat_map, mask_l, chunk, length-chunk, chunk-dr
 use Rattle.ptflow.proofs.Common.{drop_all, append_cancel_right, map-append, IsFirstByte, is_byte, unlines, lines}
 use Rattle.ptflow.proofs.Common.{IsLine, complete_lines, lines_cons, byte_ne, lines_of_unlines, unlines-append}
 use Rattle.ptflow.proofs.Common.{line_before_terminator, select_from, cut_line, cut, cut_decided, cut_lines_from}
-use Rattle.ptflow.proofs.Common.{cut_bytes_from, cut_list_from}
-use Rattle.ptflow.proofs.Common.{IsPrefix, Cut, Interval, ExtendsCut}
+use Rattle.ptflow.proofs.Common.{cut_bytes_from, cut_list_from, IsPrefix, Cut, Interval, ExtendsCut}
 use Rattle.ptflow.proofs.Passes.Lines.{split_of, line_of, end_of, LineSplit, line_split}
 
 module _ (end : ℕ) (selected : ℕ → Bool) where

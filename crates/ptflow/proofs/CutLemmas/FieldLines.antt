@@ -3,15 +3,13 @@
 -- the output for two lists of lines is the output for each, one after the other.
 use Rattle.ptflow.proofs.Common.{◌≡◌, ℕ, ◌==◌, true, false, arith, List, [], ◌∷◌, ◌++◌, refl, ◌∙◌, ap, Option, None}
 use Rattle.ptflow.proofs.Common.{Some, is_some, flat_map, list_any, list_any_at, IsFirstByte, is_byte}
-use Rattle.ptflow.proofs.Common.{line_if_not_found}
-use Rattle.ptflow.proofs.Common.{append-nil, flat_map-append, unlines, IsLine, byte_ne, unlines-append, Cut}
-use Rattle.ptflow.proofs.Common.{is_field_delimiter, cut_fields, cut_line, cut_lines, cut_tool, cut_fields_from}
-use Rattle.ptflow.proofs.Common.{IsPrefix, known_lines}
-use Rattle.ptflow.proofs.Common.{IsLineFilter, zero, suc, ◌+◌, ◌-◌, ◌<◌, ◌≤◌, ◌⊎◌, inl, inr, length, take, drop}
-use Rattle.ptflow.proofs.Common.{common_steps, get_or, sym, ap₂, subst, append_assoc, get_or-take, take-append-drop}
-use Rattle.ptflow.proofs.Common.{unwrap_or, take-take, take_more, take_all, length-take-le, complete_lines, AreLines}
-use Rattle.ptflow.proofs.Common.{line_before_terminator, take_with_terminator, drop_at_terminator, complete_lines_cons}
-use Rattle.ptflow.proofs.Common.{the_lines, the_complete_lines, CopyLinesPost}
+use Rattle.ptflow.proofs.Common.{line_if_not_found, append-nil, flat_map-append, unlines, IsLine, byte_ne}
+use Rattle.ptflow.proofs.Common.{unlines-append, Cut, is_field_delimiter, cut_fields, cut_line, cut_lines, cut_tool}
+use Rattle.ptflow.proofs.Common.{cut_fields_from, IsPrefix, known_lines, IsLineFilter, zero, suc, ◌+◌, ◌-◌, ◌<◌, ◌≤◌}
+use Rattle.ptflow.proofs.Common.{◌⊎◌, inl, inr, length, take, drop, common_steps, get_or, sym, ap₂, subst, append_assoc}
+use Rattle.ptflow.proofs.Common.{get_or-take, take-append-drop, unwrap_or, take-take, take_more, take_all}
+use Rattle.ptflow.proofs.Common.{length-take-le, complete_lines, AreLines, line_before_terminator, take_with_terminator}
+use Rattle.ptflow.proofs.Common.{drop_at_terminator, complete_lines_cons, the_lines, the_complete_lines, CopyLinesPost}
 use Rattle.ptflow.proofs.Common.{lines, the_lines_of_parts, CutOfParts}
 use Rattle.ptflow.proofs.Passes.Lines.{ended_next, line_split}
 

@@ -1,237 +1,183 @@
 -- The selected fields of a line, in one pass. The fields of an interval, with the delimiter before each, are one slice
 -- of the line; so the output is these slices, the first without the delimiter before it.
 use Rattle.ptflow.proofs.Common.{◌≡◌, ℕ, zero, suc, Bool, true, false, cond, ◌+◌, ◌-◌, ◌<◌, ◌≤◌, List, [], ◌∷◌, ◌++◌}
-use Rattle.ptflow.proofs.Common.{length, take, drop, get_or}
-use Rattle.ptflow.proofs.Common.{refl, sym, ◌∙◌, ap, arith, length-append, length-drop, append-nil}
-use Rattle.ptflow.proofs.Common.{take_all, drop_all, drop_more, drop-drop, drop-take, drop-append-le, length-take-le}
-use Rattle.ptflow.proofs.Common.{Cut, cut_fields, join_with_byte, is_selected, AreSeparated, Interval, select_from}
-use Rattle.ptflow.proofs.Common.{fields, prefixed_fields}
-use Rattle.ptflow.proofs.Common.{IsFieldStart, IsFieldCursor, IsNextSlice, output_from_cursor}
+use Rattle.ptflow.proofs.Common.{length, take, drop, get_or, refl, sym, ◌∙◌, ap, arith, length-append, length-drop}
+use Rattle.ptflow.proofs.Common.{drop_all, drop_more, drop-drop, drop-take, drop-append-le, length-take-le, Cut}
+use Rattle.ptflow.proofs.Common.{cut_fields, join_with_byte, is_selected, AreSeparated, Interval, select_from, fields}
+use Rattle.ptflow.proofs.Common.{prefixed_fields, IsFieldOffset, IsFieldCursor, IsNextSlice, output_from_cursor, min}
 use Rattle.ptflow.specs.declared.tools.cut.fields.FieldCursor.{FieldCursor}
 use Rattle.ptflow.proofs.Vectors.Select.{not_selected, select_none, select_first, select_slice, select_skip}
 use Rattle.ptflow.proofs.CutLemmas.FieldOffsets.{prefixed_fields-append, prefixed_of_fields, join_prefixed}
+use Rattle.ptflow.proofs.CutLemmas.FieldOffsets.{offset_start, offset_add, rest_at, none_left}
 
 -- the cursor at the start of a line
 abbrev pub line_start : FieldCursor
-line_start = record { index = 0; number = 1; at = 0; sep = 0 }
+line_start = record { index = 0; passed = 0; at = 0 }
 
--- all selected fields of a line are left
-pub all_remaining : (d : ℕ) (all : List Interval) (line : List ℕ)
-    → join_with_byte d (select_from (is_selected all) 1 (fields d line)) ≡ output_from_cursor d all line line_start
-all_remaining d all line = cc (join_prefixed d (select_from (is_selected all) 1 (fields d line)))
+pub cursor_starts : (d : ℕ) {all : List Interval} (line : List ℕ) → AreSeparated 0 all
+    → IsFieldCursor d all line line_start
+cursor_starts d line apart =
+    record { offset = offset_start d line; apart = apart }
 
-pub cursor_starts : {all : List Interval} {line : List ℕ} → AreSeparated 0 all → IsFieldCursor all line line_start
-cursor_starts apart = record {
-  fits = omega arith;
-  begun = omega arith;
-  passed = omega arith;
-  count = omega arith;
-  low = 0;
-  apart = apart;
-  low_is = refl;
-}
+-- all selected fields of a line are left, by the list of a job
+pub selected_remaining : (job : Cut) (list : List Interval) {d : ℕ} (line : List ℕ) → d ≡ job.delimiter
+    → is_selected list ≡ job.selected → cut_fields job line ≡ output_from_cursor d list line line_start
+selected_remaining job list {d} line same selected =
+    (λ i. join_with_byte (sym same i) (select_from (sym selected i) 1 (fields (sym same i) line)))
+    ∙ join_prefixed d (select_from (is_selected list) 1 (fields d line))
 
--- no interval is left
-pub none_remaining : (d : ℕ) (all : List Interval) (line : List ℕ) (cursor : FieldCursor) → length all ≤ cursor.index
-    → output_from_cursor d all line cursor ≡ []
-none_remaining d all line cursor past =
-    let here = fields d (drop cursor.at line) in
-    cc (
-      drop_all cursor.index all past,
-      select_none (is_selected []) cursor.number here (λ m low high. refl),
-      drop_all (1 - cursor.sep) (prefixed_fields d []) (omega arith),
-    )
+module _ (d : ℕ) (all : List Interval) (line : List ℕ) (cursor : FieldCursor) where
+  -- no selected field is left
+  none_selected : select_from (is_selected (drop cursor.index all)) (cursor.passed + 1)
+      (drop cursor.passed (fields d line)) ≡ [] → output_from_cursor d all line cursor ≡ []
+  none_selected none = cc (none, drop_all (1 - min cursor.index 1) (prefixed_fields d []) (omega arith))
 
-module _ (d : ℕ) (all : List Interval) {line : List ℕ} {cursor : FieldCursor} (w : IsFieldCursor all line cursor)
-    (within : cursor.index < length all) where
-  -- the fields from the cursor on, the next interval, and those after it
-  abbrev here : List (List ℕ)
-  here = fields d (drop cursor.at line)
+  -- no interval is left
+  pub no_interval : length all ≤ cursor.index → output_from_cursor d all line cursor ≡ []
+  no_interval past = none_selected (cc (
+    drop_all cursor.index all past,
+    select_none (is_selected []) (cursor.passed + 1) (drop cursor.passed (fields d line)) (λ m low high. refl),
+  ))
 
-  abbrev r : Interval
-  r = get_or all cursor.index (record { first = 0; last = 0 })
+  module _ (w : IsFieldCursor d all line cursor) where
+    -- the line ends before the cursor
+    pub no_field : length line < cursor.at → output_from_cursor d all line cursor ≡ []
+    no_field past = none_selected (cc (none_left d line w.offset past))
 
-  abbrev rs : List Interval
-  rs = drop (cursor.index + 1) all
+    module _ (fits : cursor.at ≤ length line) (within : cursor.index < length all) where
+      -- the next interval, and those after it
+      abbrev r : Interval
+      r = get_or all cursor.index (record { first = 0; last = 0 })
 
-  -- how many fields are before the interval, and how many are in it
-  abbrev skip : ℕ
-  skip = r.first - cursor.number
+      abbrev rs : List Interval
+      rs = drop (cursor.index + 1) all
 
-  abbrev size : ℕ
-  size = r.last - r.first + 1
+      -- the fields from the cursor on; how many of them are before the interval, and how many in it
+      abbrev here : List (List ℕ)
+      here = drop cursor.passed (fields d line)
 
-  these : drop cursor.index all ≡ r ∷ rs
-  these = drop_more all cursor.index (record { first = 0; last = 0 }) within
+      abbrev skip : ℕ
+      skip = r.first - 1 - cursor.passed
 
-  apart : AreSeparated w.low (r ∷ rs)
-  apart = rw these at w.apart
+      abbrev size : ℕ
+      size = r.last - r.first + 1
 
-  pub not_past : cursor.number + cursor.sep ≤ r.first
-  not_past = omega (arith, w.low_is, apart.0)
+      these : drop cursor.index all ≡ r ∷ rs
+      these = drop_more all cursor.index (record { first = 0; last = 0 }) within
 
-  pub in_order : r.first ≤ r.last
-  in_order = apart.1
+      apart : AreSeparated (cursor.passed + min cursor.index 1) (r ∷ rs)
+      apart = rw these at w.apart
 
-  -- the line ends before the interval
-  pub ends_before : length here ≤ skip → output_from_cursor d all line cursor ≡ []
-  ends_before few =
-      let far : AreSeparated (r.first - 1) (r ∷ rs) = (omega (arith, not_past), apart.1, apart.2) in
-      let none = λ (m : ℕ) (low : cursor.number ≤ m) (high : m < cursor.number + length here).
-      not_selected (r ∷ rs) (r.first - 1) m far (omega (arith, not_past)) in
-      cc (
-        these,
-        select_none (is_selected (r ∷ rs)) cursor.number here none,
-        drop_all (1 - cursor.sep) (prefixed_fields d []) (omega arith),
-      )
+      pub not_past : cursor.passed + min cursor.index 1 < r.first
+      not_past = omega (arith, apart.0)
 
-  module _ {skipped : ℕ} (s : IsFieldStart d skip (drop cursor.at line) skipped) where
-    abbrev from : ℕ
-    from = cursor.at + skipped
+      pub in_order : r.first ≤ r.last
+      in_order = apart.1
 
-    abbrev rest : List ℕ
-    rest = drop from line
+      module _ {from : ℕ} (near : cursor.at ≤ from) (s : IsFieldOffset d skip (drop cursor.at line) (from - cursor.at)) where
+        starts : IsFieldOffset d (cursor.passed + skip) line from
+        starts = let is : cursor.at + (from - cursor.at) ≡ from = omega (arith, near) in
+            rw is at (offset_add d line w.offset fits s)
 
-    pub from_fits : from ≤ length line
-    from_fits = omega (arith, w.fits, s.fits, length-drop cursor.at line)
+        left : drop skip here ≡ drop (cursor.passed + skip) (fields d line)
+        left = drop-drop skip cursor.passed (fields d line)
 
-    -- the start of the interval, with or without the delimiter before it
-    sep_drop : drop (from - cursor.sep) line ≡ drop (1 - cursor.sep) (d ∷ rest)
-    sep_drop = by_sep cursor.sep refl
-      where
-        at_delimiter : (q : ℕ) → skipped ≡ suc q → drop (cursor.at + q) line ≡ d ∷ rest
-        at_delimiter q is = cc (drop-drop q cursor.at line, drop-drop skipped cursor.at line)
+        -- the line ends before the interval
+        pub ends_before : length line < from → output_from_cursor d all line cursor ≡ []
+        ends_before past = none_selected (cc (
+          these,
+          select_skip (is_selected (r ∷ rs)) (cursor.passed + 1) skip here
+              (λ m low high. not_selected (r ∷ rs) (r.first - 1) m (omega (arith, not_past), apart.1, apart.2)
+              (omega (arith, high, not_past))),
+          left,
+          none_left d line starts past,
+        ))
 
-        by_sep : (n : ℕ) → n ≡ cursor.sep → drop (from - n) line ≡ drop (1 - n) (d ∷ rest)
-        by_sep zero is = let same : from - 0 ≡ from = omega arith in rw same refl
-        by_sep (suc zero) is =
-            let some : skipped ≡ suc (skipped - 1) = omega (arith, not_past, s.count) in
-            let same : from - 1 ≡ cursor.at + (skipped - 1) = omega (arith, some) in
-            rw same (at_delimiter (skipped - 1) some)
-        by_sep (suc (suc n)) is = absurd (omega (arith, w.begun))
+        module _ (begun : from ≤ length line) where
+          abbrev rest : List ℕ
+          rest = drop from line
 
-    -- the fields in the interval, and those that the others select
-    here_is : select_from (is_selected (r ∷ rs)) cursor.number here ≡ take size (fields d rest)
-        ++ select_from (is_selected rs) cursor.number here
-    here_is =
-        let b = r.last + 1 - cursor.number in
-        let many : b - skip ≡ size = omega (arith, not_past, apart.1) in
-        cc (
-          select_first r rs cursor.number here apart.2,
-          select_slice r cursor.number here skip b refl refl,
-          drop-drop skipped cursor.at line,
-        )
+          sep_fits : min cursor.index 1 ≤ from
+          sep_fits = omega (arith, s.some, not_past)
 
-    -- the line continues after the interval
-    module _ {passed : ℕ} (p : IsFieldStart d size rest passed) where
-      abbrev next : FieldCursor
-      next = record { index = cursor.index + 1; number = r.last + 1; at = from + passed; sep = 1 }
+          -- the start of the interval, with or without the delimiter before it
+          sep_drop : drop (from - min cursor.index 1) line ≡ drop (1 - min cursor.index 1) (d ∷ rest)
+          sep_drop = by_sep (min cursor.index 1) from (omega arith) sep_fits (rest_at d line starts begun)
+            where
+              by_sep : (sep n : ℕ) → sep ≤ 1 → sep ≤ n → drop n (d ∷ line) ≡ d ∷ drop n line
+                  → drop (n - sep) line ≡ drop (1 - sep) (d ∷ drop n line)
+              by_sep zero n one fits split = let same : n - 0 ≡ n = omega arith in rw same refl
+              by_sep (suc zero) zero one fits split = absurd (omega arith)
+              by_sep (suc zero) (suc n) one fits split = let same : suc n - 1 ≡ n = omega arith in cc
+              by_sep (suc (suc sep)) n one fits split = absurd (omega arith)
 
-      pub next_fits : from + passed ≤ length line
-      next_fits = omega (arith, from_fits, p.fits, length-drop from line)
+          module _ {at : ℕ} (later : from ≤ at) (p : IsFieldOffset d size rest (at - from)) where
+            abbrev next : FieldCursor
+            next = record { index = cursor.index + 1; passed = r.last; at = at }
 
-      -- the slice, and then the output that is left
-      output : output_from_cursor d all line cursor
-          ≡ take ((from + passed - 1) - (from - cursor.sep)) (drop (from - cursor.sep) line)
-          ++ output_from_cursor d all line next
-      output =
-          let front = take size (fields d rest) in
-          let more = select_from (is_selected rs) (r.last + 1) (fields d (drop (from + passed) line)) in
-          let some : 1 ≤ passed = omega (arith, p.count) in
-          let before : 1 - cursor.sep ≤ 1 = omega arith in
-          let many : (from + passed - 1) - (from - cursor.sep) ≡ (passed - 1) + cursor.sep =
-          omega (arith, some, w.begun, w.passed) in
-          let all_of : (1 - cursor.sep) + ((passed - 1) + cursor.sep) ≡ passed = omega (arith, some, w.begun) in
-          let count : cursor.number + (skip + size) ≡ r.last + 1 = omega (arith, not_past, apart.1) in
-          let left : drop (skip + size) here ≡ fields d (drop (from + passed) line) =
-          cc (
-            s.later,
-            p.later,
-            drop-drop size skip here,
-            drop-drop skipped cursor.at line,
-            drop-drop passed from line,
-          ) in
-          let long : 1 - cursor.sep ≤ length (prefixed_fields d front) =
-          omega (arith, some, ap length (sym p.front), length-take-le passed (d ∷ rest) (omega (arith, p.fits))) in
-          let none = λ (m : ℕ) (low : cursor.number ≤ m) (high : m < cursor.number + (skip + size)).
-          not_selected rs (r.last + 1) m apart.2 (omega (arith, count)) in
-          cc (
-            sep_drop,
-            p.front,
-            drop-take (1 - cursor.sep) ((passed - 1) + cursor.sep) (d ∷ rest),
-            these,
-            here_is,
-            select_skip (is_selected rs) cursor.number (skip + size) here none,
-            prefixed_fields-append d front more,
-            drop-append-le (1 - cursor.sep) (prefixed_fields d front) (prefixed_fields d more) long,
-          )
+            ends : IsFieldOffset d r.last line at
+            ends =
+                let is : from + (at - from) ≡ at = omega (arith, later) in
+                let last : cursor.passed + skip + size ≡ r.last = omega (arith, not_past, apart.1) in
+                rw (is, last) at (offset_add d line starts begun p)
 
-      pub next_slice : IsNextSlice d all line cursor
-          (record { start = from - cursor.sep; end = from + passed - 1; next = next })
-      next_slice = record {
-        output = output;
-        order = omega (arith, p.count);
-        within = omega (arith, next_fits);
-        next = record {
-          fits = next_fits;
-          begun = omega arith;
-          passed = omega (arith, p.count);
-          count = omega (arith, p.count, s.count, w.count, not_past, apart.1);
-          low = r.last + 1;
-          apart = apart.2;
-          low_is = refl;
-        };
-        later = omega arith;
-        bound = omega arith;
-      }
+            some : 0 < at - from
+            some = omega (arith, p.some)
 
-    -- the interval reaches the end of the line
-    pub last_slice : length (fields d rest) ≤ size → IsNextSlice d all line cursor (record {
-      start = from - cursor.sep;
-      end = length line;
-      next = record { index = length all; number = cursor.number; at = cursor.at; sep = cursor.sep };
-    })
-    last_slice few =
-        let number_of : length here ≤ skip + size =
-        omega (
-          arith,
-          few,
-          ap length (s.later ∙ ap (fields d) (drop-drop skipped cursor.at line)),
-          length-drop skip here,
-        ) in
-        let none = λ (m : ℕ) (low : cursor.number ≤ m) (high : m < cursor.number + length here).
-        not_selected rs (r.last + 1) m apart.2 (omega (arith, number_of, not_past, apart.1)) in
-        let start = from - cursor.sep in
-        let next = record cursor { index = length all } in
-        let end : drop (length all) all ≡ [] = drop_all (length all) all (omega arith) in
-        record {
-          output =
-              cc (
-                these,
-                here_is,
-                take_all size (fields d rest) few,
-                select_none (is_selected rs) cursor.number here none,
-                append-nil (fields d rest),
-                sep_drop,
-                prefixed_of_fields d rest,
-                take_all (length line - start) (drop start line) (omega (arith, length-drop start line)),
-                none_remaining d all line next (omega arith),
-                append-nil (drop start line),
-              );
-          order = omega (arith, from_fits);
-          within = omega arith;
-          next = record {
-            fits = w.fits;
-            begun = w.begun;
-            passed = w.passed;
-            count = w.count;
-            low = w.low;
-            apart = rw end tt;
-            low_is = w.low_is;
-          };
-          later = omega (arith, within);
-          bound = omega arith;
-        }
+            -- the fields in the interval, and those that the others select
+            selected : select_from (is_selected (r ∷ rs)) (cursor.passed + 1) here ≡ take size (fields d rest)
+                ++ select_from (is_selected rs) (r.last + 1) (drop r.last (fields d line))
+            selected =
+                let b = r.last + 1 - (cursor.passed + 1) in
+                let many : b - skip ≡ size = omega (arith, not_past, apart.1) in
+                let count : (cursor.passed + 1) + (skip + size) ≡ r.last + 1 = omega (arith, not_past, apart.1) in
+                let all_of : cursor.passed + (skip + size) ≡ r.last = omega (arith, not_past, apart.1) in
+                cc (
+                  select_first r rs (cursor.passed + 1) here apart.2,
+                  select_slice r (cursor.passed + 1) here skip b (omega arith) refl,
+                  left,
+                  starts.later begun,
+                  select_skip (is_selected rs) (cursor.passed + 1) (skip + size) here
+                      (λ m low high. not_selected rs (r.last + 1) m apart.2 (omega (arith, count, high))),
+                  drop-drop (skip + size) cursor.passed (fields d line),
+                )
+
+            -- the slice, and then the output that is left
+            output : output_from_cursor d all line cursor
+                ≡ take ((at - 1) - (from - min cursor.index 1)) (drop (from - min cursor.index 1) line)
+                ++ output_from_cursor d all line next
+            output =
+                let sep = min cursor.index 1 in
+                let front = take size (fields d rest) in
+                let more = select_from (is_selected rs) (r.last + 1) (drop r.last (fields d line)) in
+                let many : (at - 1) - (from - sep) ≡ (at - from - 1) + sep = omega (arith, some, sep_fits) in
+                let whole : (1 - sep) + ((at - from - 1) + sep) ≡ at - from = omega (arith, some) in
+                let none : 1 - min (cursor.index + 1) 1 ≡ 0 = omega arith in
+                let long : 1 - sep ≤ length (prefixed_fields d front) =
+                omega (arith, some, ap length (sym p.front), length-take-le (at - from) (d ∷ rest) (omega (arith, p.fits))) in
+                cc (
+                  sep_drop,
+                  p.front,
+                  drop-take (1 - sep) ((at - from - 1) + sep) (d ∷ rest),
+                  these,
+                  selected,
+                  prefixed_fields-append d front more,
+                  drop-append-le (1 - sep) (prefixed_fields d front) (prefixed_fields d more) long,
+                )
+
+            one : min (cursor.index + 1) 1 ≡ 1
+            one = omega arith
+
+            pub next_slice : IsNextSlice d all line cursor
+                (record { start = from - min cursor.index 1; end = at - 1; next = next })
+            next_slice = record {
+              output = output;
+              order = omega (arith, some);
+              within = omega (arith, ends.fits);
+              next = record { offset = ends; apart = rw one apart.2 };
+              later = omega arith;
+              bound = omega arith;
+            }
 
 -- ---- the output of a line is not longer than the line
 
@@ -276,10 +222,3 @@ output_is_near start end was now out part rest copied room place =
       length-take-le start was room,
       length-take-le end now place,
     )
-
--- all selected fields of a line are left, by the list of a job
-pub selected_remaining : (job : Cut) (list : List Interval) {d : ℕ} (line : List ℕ) → d ≡ job.delimiter
-    → is_selected list ≡ job.selected → cut_fields job line ≡ output_from_cursor d list line line_start
-selected_remaining job list {d} line same selected =
-    (λ i. join_with_byte (sym same i) (select_from (sym selected i) 1 (fields (sym same i) line)))
-    ∙ all_remaining d list line

@@ -1,11 +1,11 @@
 -- The fields of a line, and where they start. Each delimiter ends one field, so the rest of the fields, after the first
 -- n, starts after the n-th delimiter.
-use Rattle.ptflow.proofs.Common.{◌≡◌, ℕ, ◌+◌, ◌<◌, ◌==◌, ◌-◌, ◌≤◌, Bool, true, false, cond}
-use Rattle.ptflow.proofs.Common.{List, [], ◌∷◌, ◌++◌, length, take, drop}
-use Rattle.ptflow.proofs.Common.{refl, sym, ap, arith, onto_first, join_with_byte}
-use Rattle.ptflow.proofs.Common.{append-nil, take-take}
-use Rattle.ptflow.proofs.Common.{flat_map-append, length-slice_split, byte_eq, fields, prefixed_fields, IsFieldStart}
-use Rattle.ptflow.proofs.Common.{zero, suc}
+use Rattle.ptflow.proofs.Common.{◌≡◌, ℕ, zero, suc, ◌+◌, ◌<◌, ◌==◌, ◌-◌, ◌≤◌, Bool, true, false, cond, List, [], ◌∷◌}
+use Rattle.ptflow.proofs.Common.{◌++◌, length, take, drop, get_or, refl, sym, ◌∙◌, ap, arith, onto_first}
+use Rattle.ptflow.proofs.Common.{join_with_byte, append-nil, take-take, take-add, take_all, drop_all, take_at, drop_at}
+use Rattle.ptflow.proofs.Common.{drop_more, drop-drop, length-drop, length-take-le, take-append-drop, flat_map-append}
+use Rattle.ptflow.proofs.Common.{length-slice_split, count_by, is_byte, byte_eq, eqb-true, fields, prefixed_fields}
+use Rattle.ptflow.proofs.Common.{IsFieldOffset, IsNth}
 use lib.Seq.{take-nil}
 
 module _ (d : ℕ) where
@@ -39,8 +39,89 @@ module _ (d : ℕ) where
 
   -- ---- where a field starts
 
-  pub starts_first : (line : List ℕ) → IsFieldStart d 0 line 0
-  starts_first line = record { fits = omega arith; count = omega arith; front = refl; behind = refl; later = refl }
+  module _ (line : List ℕ) where
+    pub offset_start : IsFieldOffset d 0 line 0
+    offset_start = record {
+      fits = omega arith;
+      some = omega arith;
+      front = refl;
+      back = sym (prefixed_of_fields line);
+      later = λ fits. refl;
+    }
+
+    -- after the last field
+    pub offset_end : {n : ℕ} → count_by (is_byte d) line < n → IsFieldOffset d n line (length line + 1)
+    offset_end {n} lt =
+        let few : length (fields d line) ≤ n = omega (arith, length-slice_split (is_byte d) line) in
+        let all : length (d ∷ line) ≤ length line + 1 = omega arith in
+        record {
+          fits = omega arith;
+          some = omega arith;
+          front = cc (take_all (length line + 1) (d ∷ line) all, take_all n (fields d line) few, prefixed_of_fields line);
+          back = cc (drop_all (length line + 1) (d ∷ line) all, drop_all n (fields d line) few);
+          later = λ fits. absurd (omega (arith, fits));
+        }
+
+    -- after the delimiter that comes after n - 1 others
+    pub offset_after_nth : {n : ℕ} (at : ℕ) → 0 < n → IsNth (is_byte d) 0 (n - 1) line at → IsFieldOffset d n line (at + 1)
+    offset_after_nth {n} at some (within, passes, before) =
+        let xs = take at line in
+        let ys = drop (at + 1) line in
+        let one : at + 1 ≡ suc at = omega arith in
+        let long : length xs ≡ at = length-take-le at line (omega arith) in
+        let here : drop at line ≡ d ∷ ys = cc (drop_more line at 0 within, eqb-true (get_or line at 0) d passes) in
+        let number : length (fields d xs) ≡ n = omega (arith, length-slice_split (is_byte d) xs, before) in
+        let split : fields d line ≡ fields d xs ++ fields d ys = cc (take-append-drop at line, fields-append xs ys) in
+        let rest : drop n (fields d line) ≡ fields d ys = cc (drop_at (fields d xs) (fields d ys) n number) in
+        record {
+          fits = omega (arith, within);
+          some = omega arith;
+          front = cc (prefixed_of_fields xs, take_at (fields d xs) (fields d ys) n number);
+          back = cc (prefixed_of_fields ys);
+          later = λ fits. rest;
+        }
+
+    module _ {n at : ℕ} (o : IsFieldOffset d n line at) where
+      pub rest_at : at ≤ length line → drop at (d ∷ line) ≡ d ∷ drop at line
+      rest_at fits = cc (o.back, o.later fits, prefixed_of_fields (drop at line))
+
+      -- after the line no field is left
+      pub none_left : length line < at → drop n (fields d line) ≡ []
+      none_left past = none (drop n (fields d line)) (sym o.back ∙ drop_all at (d ∷ line) (omega arith))
+        where
+          none : (fs : List (List ℕ)) → prefixed_fields d fs ≡ [] → fs ≡ []
+          none [] is = refl
+          none (f ∷ fs) is = cc
+
+      -- k fields later
+      pub offset_add : at ≤ length line → {k size : ℕ} → IsFieldOffset d k (drop at line) size
+          → IsFieldOffset d (n + k) line (at + size)
+      offset_add fits {k} {size} next = record {
+        fits = omega (arith, next.fits, length-drop at line);
+        some = omega (arith, o.some, next.some);
+        front = cc (
+          take-add at size (d ∷ line),
+          o.front,
+          rest_at fits,
+          next.front,
+          o.later fits,
+          take-add n k (fields d line),
+          prefixed_fields-append (take n (fields d line)) (take k (drop n (fields d line))),
+        );
+        back = cc (
+          drop-drop size at (d ∷ line),
+          rest_at fits,
+          next.back,
+          o.later fits,
+          drop-drop k n (fields d line),
+        );
+        later = λ near. cc (
+          next.later (omega (arith, near, length-drop at line)),
+          o.later fits,
+          drop-drop k n (fields d line),
+          drop-drop size at line,
+        );
+      }
 
 -- the rest of a line from an index on
 pub rest_of : (from to : ℕ) (bytes : List ℕ) → drop from (take to bytes) ≡ take (to - from) (drop from bytes)

@@ -1,16 +1,15 @@
 -- The shuffles of `cut`. A row has the selected indices in order, so a shuffle moves the selected bytes of 16 bytes to
 -- the front; the counts are how many of them a piece of each length has. A line is cut piece by piece.
 use Rattle.ptflow.proofs.Common.{◌≡◌, ℕ, zero, suc, ◌+◌, ◌-◌, ◌<◌, ◌≤◌, Bool, true, false, cond, List, [], ◌∷◌, ◌++◌}
-use Rattle.ptflow.proofs.Common.{map, length, take, drop, set, ⊎_elim, ◌&&◌, get_or, length-append}
-use Rattle.ptflow.proofs.Common.{append_assoc, refl, sym, ◌∙◌, ap, arith, w8, All, nat_le, false≢true}
-use Rattle.ptflow.proofs.Common.{range_with_len, list_all, nat_tests, take-add, pick_l, Each1, Each1-from_get_or}
-use Rattle.ptflow.proofs.Common.{swz_l, pick_l-range_with_len, take_more, take_at, drop_at, take-map, take-take}
-use Rattle.ptflow.proofs.Common.{take-append-le, take_all, take_more_set, length-take-le, append-nil, All-set}
-use Rattle.ptflow.proofs.Common.{length-range_with_len, select_from, is_selected, Interval, cut_piece, cases_eq}
+use Rattle.ptflow.proofs.Common.{map, length, take, drop, set, ⊎_elim, ◌&&◌, get_or, length-append, append_assoc, refl}
+use Rattle.ptflow.proofs.Common.{sym, ◌∙◌, ap, arith, w8, All, nat_le, false≢true, range_with_len, list_all, nat_tests}
+use Rattle.ptflow.proofs.Common.{take-add, pick_l, Each1, Each1-from_get_or, swz_l, pick_l-range_with_len, take_more}
+use Rattle.ptflow.proofs.Common.{take_at, drop_at, take-map, take-take, take-append-le, take_all, take_more_set}
+use Rattle.ptflow.proofs.Common.{length-take-le, append-nil, All-set, length-range_with_len, select_from, is_selected}
+use Rattle.ptflow.proofs.Common.{Interval, cut_piece, cases_eq, put_chunk, length-drop, length-swz_l}
 use Rattle.std.proofs.Common.{get_or-set_same, get_or-set_other, length-set}
 use Rattle.ptflow.proofs.Vectors.Select.{above, select_none}
 use mir.Val.{bool_byte}
-use Rattle.ptflow.proofs.Common.{put_chunk, length-drop, length-swz_l}
 use Rattle.ptflow.specs.Private.Cut.ShortLines.{selected_indices, selected_after, IsPieceShuffle}
 use Rattle.ptflow.specs.declared.tools.cut.shuffle.PieceShuffle.{PieceShuffle}
 use Rattle.ptflow.proofs.Vectors.Compress.{selected_stored, shuffle_result}

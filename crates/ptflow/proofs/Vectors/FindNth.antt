@@ -2,22 +2,20 @@
 -- after the n-th delimiter. Then the terminators in 64 bytes, which are processed in order by clearing the lowest bit.
 use Rattle.ptflow.proofs.Common.{◌≡◌, ⊎_elim, ℕ, zero, suc, ◌+◌, ◌-◌, ◌*◌, ◌/◌, ◌%◌, ◌^◌, ◌<◌, ◌≤◌, min, Bool, true}
 use Rattle.ptflow.proofs.Common.{false, cond, not, Option, Some, List, [], ◌∷◌, ◌++◌, length, map, take, drop, get_or}
-use Rattle.ptflow.proofs.Common.{refl, sym, ◌∙◌, ap, subst, arith, get_or-take, take-append-drop, length-drop}
-use Rattle.ptflow.proofs.Common.{count_ones, count_by, prefix_len, mask_l, chunk, take-add, eqb-true, take-take}
-use Rattle.ptflow.proofs.Common.{drop_more, take_at, drop_at, length-take-le, length-slice_split, get_or-le-sum_by}
-use Rattle.ptflow.proofs.Common.{sum_by-cons, sum_by-append, sum_by-take-le, count_by-le-length, trailing_mask_l}
-use Rattle.ptflow.proofs.Common.{ones-mask_l, get_or-chunk, length-chunk, IsFirstByte, NoneBefore, Passes, is_byte}
-use Rattle.ptflow.proofs.Common.{line_before_terminator, line_if_not_found, take_all}
-use Rattle.ptflow.proofs.Common.{Nowhere, None, option_map, nowhere_trans, IsLine, byte_ne, IsNth, HasTerminators, fields, IsFieldStart}
-use Rattle.ptflow.proofs.Common.{put_chunk, take_more_put_chunk, length-put_chunk, length-set, unwrap_or, delim_at}
-use Rattle.ptflow.proofs.Common.{with_cycle, slice_set, count_by_more_yes, cases_lt, length-map}
+use Rattle.ptflow.proofs.Common.{refl, sym, ◌∙◌, ap, subst, arith, get_or-take, length-drop, count_ones, count_by}
+use Rattle.ptflow.proofs.Common.{prefix_len, mask_l, chunk, take-add, take-take, length-take-le, get_or-le-sum_by}
+use Rattle.ptflow.proofs.Common.{sum_by-cons, sum_by-append, sum_by-take-le, trailing_mask_l, ones-mask_l, get_or-chunk}
+use Rattle.ptflow.proofs.Common.{length-chunk, IsFirstByte, NoneBefore, Passes, is_byte, line_before_terminator}
+use Rattle.ptflow.proofs.Common.{line_if_not_found, take_all, Nowhere, None, option_map, nowhere_trans, IsLine, byte_ne}
+use Rattle.ptflow.proofs.Common.{IsNth, HasTerminators, put_chunk, take_more_put_chunk, length-put_chunk, length-set}
+use Rattle.ptflow.proofs.Common.{unwrap_or, delim_at, with_cycle, slice_set, count_by_more_yes, cases_lt, length-map}
 use Rattle.std.proofs.lemmas.List.{get_or-drop, drop-map}
 use Rattle.std.proofs.Common.{pow-suc, mul_comm, div-one}
 use Rattle.std.proofs.Math.Nat.{div-div-eq-div-mul, zero-div}
 use Rattle.ptflow.proofs.Vectors.Lanes.{map-id}
 use lib.Bits.{bit_and, and_step, and_self, and_zero_l}
 use lib.Count.{count_trailing_zeros}
-use Rattle.ptflow.proofs.CutLemmas.FieldOffsets.{fields-append, prefixed_of_fields, rest_of}
+use Rattle.ptflow.proofs.CutLemmas.FieldOffsets.{rest_of}
 use Rattle.ptflow.proofs.PasteLemmas.Cycle.{first_replaced, replaced_next, all_replaced, set_in_chunk}
 
 -- ---- bits of a mask
@@ -213,29 +211,9 @@ module _ (p : ℕ → Bool) (bytes : List ℕ) where
   some_counted [] lt = absurd (omega arith)
   some_counted (x ∷ xs) lt = grind (arith, some_counted xs, sum_by-cons (λ b. cond (p b) 1 0) x xs)
 
--- ---- fields
+-- ---- by the first match
 
 module _ (d : ℕ) (line : List ℕ) where
-  pub few_fields : {n : ℕ} → count_by (is_byte d) line < n → length (fields d line) ≤ n
-  few_fields lt = omega (arith, length-slice_split (is_byte d) line)
-
-  starts_behind : (n at : ℕ) → IsNth (is_byte d) 0 n line at → IsFieldStart d (n + 1) line (at + 1)
-  starts_behind n at (within, passes, before) =
-      let xs = take at line in
-      let ys = drop (at + 1) line in
-      let one : at + 1 ≡ suc at = omega arith in
-      let long : length xs ≡ at = length-take-le at line (omega arith) in
-      let here : drop at line ≡ d ∷ ys = cc (drop_more line at 0 within, eqb-true (get_or line at 0) d passes) in
-      let number : length (fields d xs) ≡ n + 1 = omega (arith, length-slice_split (is_byte d) xs, before) in
-      let split : fields d line ≡ fields d xs ++ fields d ys = cc (take-append-drop at line, fields-append d xs ys) in
-      record {
-        fits = omega (arith, within);
-        count = omega (arith, count_by-le-length (is_byte d) xs, before);
-        front = cc (prefixed_of_fields d xs, take_at (fields d xs) (fields d ys) (n + 1) number);
-        behind = cc;
-        later = cc (drop_at (fields d xs) (fields d ys) (n + 1) number);
-      }
-
   pub none_counted : (bytes : List ℕ) → IsLine d bytes → count_by (is_byte d) bytes ≡ 0
   none_counted [] free = refl
   none_counted (b ∷ bytes) (differs, free) =
@@ -266,11 +244,6 @@ module _ (d : ℕ) (line : List ℕ) where
       ap (count_by (is_byte d)) (take_all (length line) line (omega arith)),
       none_counted line (line_if_not_found d line none),
     )
-
-  pub starts_after_nth : {n : ℕ} (at : ℕ) → 0 < n → IsNth (is_byte d) 0 (n - 1) line at → IsFieldStart d n line (at + 1)
-  starts_after_nth {n} at some h =
-      let whole : n - 1 + 1 ≡ n = omega arith in
-      rw whole at (starts_behind (n - 1) at h)
 
 -- the next item that passes, if no item between an earlier index and this one passes
 module _ (p : ℕ → Bool) (bytes : List ℕ) (start end : ℕ) (fits : end < length bytes)

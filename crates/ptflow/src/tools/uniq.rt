@@ -2,12 +2,13 @@
 //!
 //! `line_key` has the part of a line that is compared, and `block_runs` the loop over the runs of the lines of a block.
 
-ghost use Rattle.std.specs.Prelude.{◌≡◌, ◌<◌, ◌≤◌, ◌&&◌, length, nat_lt};
+ghost use Rattle.std.specs.Prelude.{◌≡◌, ◌<◌, ◌≤◌, ◌&&◌, IfSome, length, nat_lt};
 ghost use Rattle.ptlines.specs.Outputs.{PushPost};
 ghost use Rattle.ptlines.specs.Slots.{Slots};
 ghost use Rattle.ptlangs.specs.Jobs.{uniq_job};
 ghost use Rattle.ptflow.specs.Passes.{PassPre, PassPost};
 ghost use Rattle.ptflow.specs.Uniqs.{is_same, output_of, uniq_tool};
+ghost use Rattle.ptflow.specs.Private.Uniq.BlockRuns.{first_of};
 ghost use Rattle.ptflow.specs.Private.Uniq.FirstLine.{first_line, current_run_of};
 ghost use Rattle.ptflow.specs.Private.Uniq.RunsFrom.{current_run, run_of};
 
@@ -16,7 +17,7 @@ mod line_key;
 
 use crate::faults::FlowFault;
 use crate::line_loop::{LineFilter, run_lines};
-use crate::tools::uniq::block_runs::{count_repeats, write_run, write_runs};
+use crate::tools::uniq::block_runs::{LastRun, write_run, write_runs};
 use crate::tools::uniq::line_key::key;
 use arrayvec::ArrayVec;
 use ptlangs::jobs::UniqJob;
@@ -50,15 +51,21 @@ fn first_line<'a, A: Allocator + Copy>(run: &'a CurrentRun, store: &'a Store<A>)
     store.line(0)
 }
 
-// Starts a run of `count` lines with the first line `line`.
-fn start_run(run: &mut CurrentRun, count: u64, line: &[u8])
-    requires { length line.now ≤ 8192 }
-    ensures { (store : Slots) → current_run_of run.new store ≡ run_of line.now count }
+// Makes the last run of the lines of a block the current one, and copies its first line if that is in the block.
+fn set_current_run(run: &mut CurrentRun, last: LastRun, block: &[u8])
+    requires span { IfSome last.line (λ line. (line.from < line.to) × (line.to ≤ length block.now)) }
+    requires few { length block.now ≤ 8192 }
+    ensures { (store : Slots) → current_run_of run.new store
+        ≡ run_of (first_of (first_line run.old store) block.now last.line) last.count }
 {
-    run.count = count;
-    run.is_copied = true;
-    run.bytes.clear();
-    let _ = run.bytes.try_extend_from_slice(line);
+    run.count = last.count;
+    if let Some(line) = last.line {
+        run.is_copied = true;
+        run.bytes.clear();
+        let _ = run
+            .bytes
+            .try_extend_from_slice(&block[line.from..line.to - 1]);
+    }
 }
 
 // The job, and the terminator.
@@ -137,16 +144,9 @@ impl<'a> LineFilter for LineUniq<'a> {
         if find_byte(self.terminator, block).is_none() {
             return Ok(0);
         }
-        let same = count_repeats(self, first_line(run, store), block);
-        run.count += same.count;
-        let rest = &block[same.passed..];
-        let Some(at) = find_byte(self.terminator, rest) else {
-            return Ok(same.passed);
-        };
-        write_current(self, run, store, out)?;
-        let last = write_runs(self, at, rest, out)?;
-        start_run(run, last.count, &rest[last.line.from..last.line.to - 1]);
-        Ok(same.passed + last.passed)
+        let last = write_runs(self, run.count, first_line(run, store), block, out)?;
+        set_current_run(run, last, block);
+        Ok(last.passed)
     }
 
     fn finish<A: Allocator + Copy, W: Sink>(

@@ -1,11 +1,11 @@
 -- Each iteration processes one block, and the contract of `process_block` preserves the invariant. Each exit is a lemma
 -- of `Exits` or of `BlockLoop`. The budget decreases, since a block that is not empty is consumed.
-use Rattle.ptflow.proofs.Common.{◌≡◌, [], ◌++◌, length, refl, sym, ◌∙◌, ap, append_assoc, arith, eqb-true, eqb-false}
+use Rattle.ptflow.proofs.Common.{◌≡◌, [], ◌++◌, length, refl, sym, ◌∙◌, ap, append_assoc, arith, eqb-true}
 use Rattle.ptflow.proofs.Common.{nil_from_length}
-use Rattle.ptflow.proofs.Passes.BlockLoop.{pass_state_starts, pass_state_more, block_room, not_empty, counted_more}
-use Rattle.ptflow.proofs.Passes.BlockLoop.{block_read, block_write, block_flush_failed, block_done, block_unended}
+use Rattle.ptflow.proofs.Passes.BlockLoop.{pass_state_starts, pass_state_more, counted_more, block_read, block_write}
+use Rattle.ptflow.proofs.Passes.BlockLoop.{block_flush_failed, block_done, block_unended}
 use Rattle.ptflow.proofs.Passes.Exits.{PassState, pass_state_flushed}
-use Rattle.ptflow.proofs.Passes.Readers.{advance_none, budget_of_block}
+use Rattle.ptflow.proofs.Passes.Readers.{advance_none}
 use Rattle.ptflow.proofs.Passes.StepOutput.{returned_err}
 use Rattle.ptflow.proofs.block_loop.run_blocks.Given as given
 use Rattle.ptflow.proofs.block_loop.run_blocks.Goals as goal
@@ -44,16 +44,6 @@ returns-in-Err g c =
     let (failed, cause, _) = (rw c.in-Err.is at b.shows) midway.reached.advance_ok.fault in
     λ t tool store ready. block_read tool
     midway ready b.was_sound failed.reads b.is_sound c.reading.invariant.holds c.reading.invariant.all cause
-
-pub process_block-requires-clause-some : goal.process_block-requires-clause-some
-process_block-requires-clause-some g c = not_empty c.in-Ok.block.now (sym c.is_empty.ensures ∙ c.if-is_empty.false)
-
-pub process_block-requires-clause-room : goal.process_block-requires-clause-room
-process_block-requires-clause-room g c =
-    let b = c.block.follows.holds-at-none in
-    let i = c.reading.invariant in
-    let (refilled, shown, ended) = (rw c.in-Ok.is at b.shows) i.midway.reached.advance_ok.fault in
-    block_room refilled shown b.was_sound i.counted b.is_sound
 
 pub returns-in_err-process_block-in-Ok : goal.returns-in_err-process_block-in-Ok
 returns-in_err-process_block-in-Ok g c =
@@ -112,11 +102,3 @@ reading-preserved g c =
       holds = λ same. e.holds c.args.tool.now (i.holds same);
       counted = counted_more refilled shown b.was_sound i.counted c.consume.ensures.consumed e.counts;
     }
-
-pub reading-smaller : goal.reading-smaller
-reading-smaller g c =
-    let (refilled, shown, ended) =
-    (rw c.in-Ok.is at c.block.follows.holds-at-none.shows) c.reading.invariant.midway.reached.advance_ok.fault in
-    let some = eqb-false (length c.in-Ok.block.now) 0 (sym c.is_empty.ensures ∙ c.if-is_empty.false) in
-    budget_of_block refilled shown c.block.follows.holds-at-none.is_sound.count some c.consume.ensures.consumed
-    (c.block.follows.holds-at-none.is_sound.long refilled.fault)

@@ -79,9 +79,6 @@ returns-in_err-write_out_before_blocking g c =
     c.write_out_before_blocking.ensures.sound
     c.write_out_before_blocking.ensures.pushed.wrote c.in_err-write_out_before_blocking.ensures.pushed.fault)
 
-pub process_line-requires-clause-room : goal.process_line-requires-clause-room
-process_line-requires-clause-room g c = same_room c.fill.ensures.slots (run_room c.requires.tool c.reading.invariant)
-
 pub process_line-requires-clause-few : goal.process_line-requires-clause-few
 process_line-requires-clause-few g c =
     let r = c.reading.invariant in

@@ -1,12 +1,11 @@
 -- The runs of the lines of a block: their output that was pushed, and that which is deferred.
-use Rattle.std.specs.Prelude.{◌≡◌, ℕ, ◌+◌, ◌≤◌, ◌<◌, false, List, ◌∷◌, ◌++◌, length, take, drop, slice_range}
+use Rattle.std.specs.Prelude.{◌≡◌, ℕ, ◌-◌, ◌≤◌, ◌<◌, List, [], ◌∷◌, ◌++◌, Option, None, Some, IfSome, length}
+use Rattle.std.specs.Prelude.{slice_range}
 use Rattle.ptlines.specs.Outputs.{Output, PushEffect}
-use Rattle.ptlines.specs.Text.{unlines, complete_lines}
 use Rattle.ptlangs.specs.Jobs.{Uniq}
-use Rattle.ptflow.specs.Uniqs.{Run, output_of, is_same}
+use Rattle.ptflow.specs.Uniqs.{Run, output_of}
 use Rattle.ptflow.specs.Private.Passes.LineLoop.{LinesWritten, LinesFailed}
-use Rattle.ptflow.specs.Private.Uniq.RunsFrom.{count_of, runs_after, run_of}
-use Rattle.ptflow.specs.declared.tools.uniq.block_runs.RepeatCount.{RepeatCount}
+use Rattle.ptflow.specs.Private.Uniq.RunsFrom.{count_of, runs_after}
 use Rattle.ptflow.specs.declared.tools.uniq.block_runs.Span.{Span}
 
 -- these lines were processed: some runs were written, and the current run is `after`
@@ -17,18 +16,6 @@ RunsWritten job before after ls was is = LinesWritten (runs_after job) (output_o
 abbrev pub RunsFailed : Uniq → Run → List (List ℕ) → Output → Output → Type 0
 RunsFailed job before ls was is = LinesFailed (runs_after job) (output_of job) before ls was is
 
--- The first `count` lines of a block belong to the run, and the next complete line does not.
-pub record CountRepeatsPost (job : Uniq) (end : ℕ) (first block : List ℕ) (same : RepeatCount) : Type 0 where
-  pub front : List (List ℕ)
-  pub number : length front ≡ same.count
-  pub split : complete_lines end block ≡ front ++ complete_lines end (drop same.passed block)
-  pub within : same.passed ≤ length block
-  pub texts : take same.passed block ≡ unlines end front
-  pub on : (count : ℕ) → 0 < count → (more : List (List ℕ))
-      → runs_after job (run_of first count) (front ++ more) ≡ runs_after job (run_of first (count + same.count)) more
-  pub turns : (line : List ℕ) (more : List (List ℕ)) → complete_lines end (drop same.passed block) ≡ line ∷ more
-      → is_same job first line ≡ false
-
 -- the bytes of a range
 abbrev pub span_of : List ℕ → Span → List ℕ
 span_of block span = slice_range block span.from span.to
@@ -38,10 +25,22 @@ pub record IsSpan (block : List ℕ) (span : Span) : Type 0 where
   pub ordered : span.from ≤ span.to
   pub within : span.to ≤ length block
 
--- the deferred output, and the first line of a run, are in the block
-pub record ExtendOrFlushPre (block : List ℕ) (a b : Span) : Type 0 where
-  pub pending : IsSpan block a
-  pub line : IsSpan block b
+-- the first line of a run, which is before a block or, with its terminator, in this range of it
+abbrev pub first_of : List ℕ → List ℕ → Option Span → List ℕ
+first_of first block None = first
+first_of first block (Some line) = slice_range block line.from (line.to - 1)
+
+-- the range of a line with its terminator
+pub record IsLineSpan (end : ℕ) (block : List ℕ) (line : Span) : Type 0 where
+  pub some : line.from < line.to
+  pub within : line.to ≤ length block
+  pub text : span_of block line ≡ slice_range block line.from (line.to - 1) ++ end ∷ []
+
+-- The deferred output is in the block. There is none if the first line of the run is before the block.
+pub record EndRunPre (end : ℕ) (block : List ℕ) (line : Option Span) (pending : Span) : Type 0 where
+  pub pending_in : IsSpan block pending
+  pub line_in : IfSome line (IsLineSpan end block)
+  pub none : line ≡ None → span_of block pending ≡ []
 
 -- Some of these bytes were pushed, and the others are this range of the block.
 pub record IsPending (bytes block : List ℕ) (pending : Span) (was is : Output) : Type 0 where

@@ -45,3 +45,7 @@ count_prefix Single count = []
 -- the output for a run of `count` lines, where `bytes` is its first line with the terminator
 abbrev pub run_output : Show → ℕ → List ℕ → List ℕ
 run_output show count bytes = if has_output show count then count_prefix show count ++ bytes else []
+
+-- the output for a run
+abbrev pub run_text : Uniq → Run → List ℕ
+run_text job run = run_output job.show run.count (run.line ++ job.terminator ∷ [])

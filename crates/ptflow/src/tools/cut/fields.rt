@@ -8,7 +8,7 @@ ghost use Rattle.ptlangs.specs.Jobs.{cut_job};
 ghost use Rattle.ptflow.specs.Cuts.{cut_fields, cut_lines, cut_tool};
 ghost use Rattle.ptflow.specs.Passes.{PassPost};
 ghost use Rattle.ptflow.specs.Private.Passes.LineLoop.{RunLinesPre};
-ghost use Rattle.ptflow.specs.Private.Cut.FieldOffsets.{fields, IsFieldStart};
+ghost use Rattle.ptflow.specs.Private.Cut.FieldOffsets.{IsFieldOffset};
 ghost use Rattle.ptflow.specs.Private.Cut.FieldSlices.{IsFieldCursor, IsNextSlice, output_from_cursor};
 ghost use Rattle.ptflow.specs.Private.Cut.CutFrom.{CopyLinesPost};
 
@@ -24,37 +24,37 @@ use std::alloc::Allocator;
 // The output of the lines of a block, and 16 bytes more, which a short copy may change.
 type OutBuf = [u8; 8192 + 16];
 
-// How many bytes after index `from` of a line, which is the first `to` bytes, field `count` starts, counted from 0 and
-// from that index on. `None` if there is no such field.
+// The index at which a field of a line starts, which is the first `to` bytes: the field after `count` others from the
+// one at index `from` on. If there is no such field, the index after the end of the line.
 #[inline(always)]
-fn field_start(delimiters: &ByteMatches, from: usize, to: usize, count: u64) -> Option<usize>
+fn skip_fields(delimiters: &ByteMatches, from: usize, to: usize, count: u64) -> usize
     requires { (from ≤ to) × (to ≤ length delimiters.now.bytes.now) }
-    ensures { MatchOption result
-        (length (fields delimiters.now.byte (drop from (take to delimiters.now.bytes.now))) ≤ count)
-        (IsFieldStart delimiters.now.byte count (drop from (take to delimiters.now.bytes.now))) }
+    ensures near { (from ≤ result) × (result ≤ to + 1) }
+    ensures offset { IsFieldOffset delimiters.now.byte count (drop from (take to delimiters.now.bytes.now))
+        (result - from) }
 {
     if count == 0 {
-        return Some(0);
+        return from;
     }
-    let at = delimiters.nth(from, to, count - 1)?;
-    Some(at + 1)
+    match delimiters.nth(from, to, count - 1) {
+        Some(at) => from + at + 1,
+        None => to + 1,
+    }
 }
 
-// The fields of a line that the intervals from `index` on select: field `number` starts at index `at` of the line, and
-// `sep` delimiters belong to the next slice: one, unless it is the first.
+// The fields of a line that the intervals from `index` on select. The field after the first `passed` ones starts at
+// index `at` of the line; if there is no such field, `at` is after its end.
 #[derive(Clone, Copy)]
 struct FieldCursor {
     index: usize,
-    number: u64,
+    passed: u64,
     at: usize,
-    sep: usize,
 }
 
 const LINE_START: FieldCursor = FieldCursor {
     index: 0,
-    number: 1,
+    passed: 0,
     at: 0,
-    sep: 0,
 };
 
 // A slice of a line: adjacent selected fields, with the delimiter before them if they are not the first. `next` is the
@@ -76,35 +76,29 @@ fn next_slice(
     cursor: FieldCursor,
 ) -> Option<FieldSlice>
     requires within { to ≤ length delimiters.now.bytes.now }
-    requires cursor { IsFieldCursor selected.now (take to delimiters.now.bytes.now) cursor }
+    requires cursor { IsFieldCursor delimiters.now.byte selected.now (take to delimiters.now.bytes.now) cursor }
     ensures { MatchOption result
         (output_from_cursor delimiters.now.byte selected.now (take to delimiters.now.bytes.now) cursor ≡ [])
         (IsNextSlice delimiters.now.byte selected.now (take to delimiters.now.bytes.now) cursor) }
 {
-    if cursor.index >= selected.len() {
+    if cursor.index >= selected.len() || cursor.at > to {
         return None;
     }
     let Interval { first, last } = selected[cursor.index];
-    let from = cursor.at + field_start(delimiters, cursor.at, to, first - cursor.number)?;
-    let start = from - cursor.sep;
-    let Some(passed) = field_start(delimiters, from, to, last - first + 1) else {
-        return Some(FieldSlice {
-            start,
-            end: to,
-            next: FieldCursor {
-                index: selected.len(),
-                ..cursor
-            },
-        });
-    };
-    let next = FieldCursor {
-        index: cursor.index + 1,
-        number: last + 1,
-        at: from + passed,
-        sep: 1,
-    };
-    let end = next.at - 1;
-    Some(FieldSlice { start, end, next })
+    let from = skip_fields(delimiters, cursor.at, to, first - 1 - cursor.passed);
+    if from > to {
+        return None;
+    }
+    let at = skip_fields(delimiters, from, to, last - first + 1);
+    Some(FieldSlice {
+        start: from - cursor.index.min(1),
+        end: at - 1,
+        next: FieldCursor {
+            index: cursor.index + 1,
+            passed: last,
+            at,
+        },
+    })
 }
 
 // Pushes the selected fields of a line of any length.

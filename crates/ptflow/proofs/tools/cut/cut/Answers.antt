@@ -1,7 +1,7 @@
 -- On an output that has failed nothing is done. Setting the terminator does not change the input, so the contract of
 -- each way carries over.
 use Rattle.ptflow.proofs.Common.{cond, sym, ◌∙◌, cut_job, cut_tool}
-use Rattle.ptflow.proofs.Passes.Exits.{pass_unchanged, pass_set, storeless_set}
+use Rattle.ptflow.proofs.Passes.Exits.{pass_unchanged, pass_set}
 use Rattle.ptflow.proofs.tools.cut.cut.Goals as goal
 
 pub returns-then-has_failed : goal.returns-then-has_failed
@@ -12,10 +12,3 @@ pub returns-then-job : goal.returns-then-job
 returns-then-job g c =
     pass_set _ (cond c.args.job.now.zero 0 10) c.args.reader.now _ _ _
     _ _ c.set_ending.ensures.set (cc) c.cut_by_fields.ensures
-
-pub returns : goal.returns
-returns g c =
-    storeless_set (cut_tool (cut_job c.args.job.now)) (cond c.args.job.now.zero 0 10) _ _ c.cut_by_bytes.new.reader
-    c.args.out.now c.cut_by_bytes.new.out
-    _ c.set_ending.ensures.set c.cut_by_bytes.result (sym c.has_failed.ensures ∙ c.if-has_failed.false) c.requires
-    c.cut_by_bytes.ensures

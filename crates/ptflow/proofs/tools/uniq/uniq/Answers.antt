@@ -1,7 +1,7 @@
 -- On an output that has failed nothing is done. `uniq` is a line tool, and setting the terminator does not change the
 -- input, so the contract of `run_lines` is that of the call.
-use Rattle.ptflow.proofs.Common.{cond, refl, sym, ◌∙◌, uniq_job, uniq_tool}
-use Rattle.ptflow.proofs.Passes.Exits.{pass_unchanged, pass_set}
+use Rattle.ptflow.proofs.Common.{refl, uniq_job, uniq_tool}
+use Rattle.ptflow.proofs.Passes.Exits.{pass_unchanged}
 use Rattle.ptflow.proofs.UniqLemmas.FirstLine.{uniq_line_tool}
 use Rattle.ptflow.proofs.tools.uniq.uniq.Goals as goal
 
@@ -10,8 +10,3 @@ returns-then-has_failed g c = pass_unchanged (uniq_tool (uniq_job c.args.job.now
 
 pub run_lines-requires-clause-tool : goal.run_lines-requires-clause-tool
 run_lines-requires-clause-tool g c = uniq_line_tool (uniq_job c.args.job.now) _ refl
-
-pub returns : goal.returns
-returns g c =
-    pass_set _ (cond c.args.job.now.zero 0 10) c.args.reader.now _ _ _
-    _ _ c.set_ending.ensures.set (sym c.has_failed.ensures ∙ c.if-has_failed.false) c.run_lines.ensures

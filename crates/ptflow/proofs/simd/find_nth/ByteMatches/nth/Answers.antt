@@ -2,8 +2,8 @@
 -- index on.
 use Rattle.ptflow.proofs.Common.{◌≡◌, ◌+◌, ◌-◌, ◌<◌, take, drop, length, ◌∙◌, ap, arith, count_ones, count_by}
 use Rattle.ptflow.proofs.Common.{ones-mask_l, length-take-le, length-drop, count_by-le-length, is_byte, IsNth}
-use Rattle.ptflow.proofs.Vectors.FindNth.{first_is_nth, no_nth_before_first, no_nth}
-use Rattle.ptflow.proofs.Vectors.FindNth.{count_up_to, count_in_prefix, nth_in_prefix, mask_from}
+use Rattle.ptflow.proofs.Vectors.FindNth.{first_is_nth, no_nth_before_first, no_nth, count_up_to, count_in_prefix}
+use Rattle.ptflow.proofs.Vectors.FindNth.{nth_in_prefix, mask_from}
 use Rattle.ptflow.proofs.simd.find_nth.ByteMatches.nth.Goals as goal
 use Rattle.ptflow.proofs.simd.find_nth.ByteMatches.nth.Goals.{After-nth_bit-at, then-at-to, else-at-to}
 

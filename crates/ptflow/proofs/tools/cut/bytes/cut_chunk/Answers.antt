@@ -1,8 +1,8 @@
 -- The lowest bit that is left is the next terminator. The line up to it is cut, the next line begins after it, and the
 -- bit is cleared. Each set bit of the mask has one iteration, so no bit is left at the end.
 use Rattle.ptflow.proofs.Common.{◌≡◌, ◌+◌, ◌-◌, suc, map, take, drop, ◌∙◌, ap, arith, count_ones, chunk, length-chunk}
-use Rattle.ptflow.proofs.Common.{take_more_put_chunk, take_rest, drop-drop, length-drop, ones-mask_l}
-use Rattle.ptflow.proofs.Common.{is_byte, is_selected, cut_piece}
+use Rattle.ptflow.proofs.Common.{take_more_put_chunk, take_rest, drop-drop, ones-mask_l, is_byte, is_selected}
+use Rattle.ptflow.proofs.Common.{cut_piece}
 use lib.Count.{count_trailing_zeros}
 use Rattle.ptflow.proofs.CutLemmas.CutBytes.{line_on, terminators_next, cut_next}
 use Rattle.ptflow.proofs.Vectors.FindNth.{NextTerminator, cleared, next_terminator, some_counted}
@@ -35,16 +35,6 @@ next c = next_terminator c.loop-end._end c.loop-end.cursor.start c.requires.ends
 
 pub overflow_sub-part : goal.overflow_sub-part
 overflow_sub-part c = (next (goal.at.overflow_sub-part c).In-loop-end).order
-
-pub copy_line-requires-clause-within : goal.copy_line-requires-clause-within
-copy_line-requires-clause-within c =
-    let e = next (goal.at.copy_line-requires-clause-within c).In-loop-end in omega
-    (arith, length-drop c.loop-end.cursor.start c.args.block.now)
-
-pub copy_line-requires-clause-room : goal.copy_line-requires-clause-room
-copy_line-requires-clause-room c =
-    let e = next (goal.at.copy_line-requires-clause-room c).In-loop-end in record
-    { short = omega arith; small = omega arith }
 
 pub loop-end-preserved : goal.loop-end-preserved
 loop-end-preserved c =

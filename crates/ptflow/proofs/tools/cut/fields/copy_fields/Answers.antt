@@ -1,7 +1,6 @@
 -- Each iteration copies the next slice. The copied bytes are not longer than the line, so there is room for the rest.
 use Rattle.ptflow.proofs.Common.{◌≡◌, ◌+◌, ◌-◌, ◌≤◌, ◌++◌, length, take, drop, refl, ap, arith, append_assoc}
-use Rattle.ptflow.proofs.Common.{length-take-le, length-drop, is_selected, cut_job, cut_fields}
-use Rattle.ptflow.proofs.Common.{output_from_cursor}
+use Rattle.ptflow.proofs.Common.{length-take-le, length-drop, is_selected, cut_job, cut_fields, output_from_cursor}
 use Rattle.ptflow.proofs.CutLemmas.FieldLoop.{cursor_starts, selected_remaining, output_is_short, output_is_near}
 use Rattle.ptflow.proofs.CutLemmas.FieldOffsets.{slice_of}
 use Rattle.ptflow.proofs.tools.cut.fields.copy_fields.Given as given
@@ -15,7 +14,7 @@ slices-init g c =
     let kept = ap is_selected c.intervals-selected.ensures.kept in record {
       copied = ap (◌++◌ (take c.args.start c.args.room.now))
           (selected_remaining (cut_job c.args.job.now) list line c.requires.delimiter kept);
-      cursor = cursor_starts c.intervals-selected.ensures.separated;
+      cursor = cursor_starts c.args.delimiters.now.byte line c.intervals-selected.ensures.separated;
       low = omega arith;
       high = omega arith;
       long = refl;

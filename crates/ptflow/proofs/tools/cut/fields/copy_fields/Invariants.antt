@@ -8,7 +8,7 @@ invariant-slices g l =
     let line = take l.to l.delimiters.bytes.now in record {
       copied : take l.start l.fn.room ++ cut_fields (cut_job l.job) line
           ≡ take l.end l.room ++ output_from_cursor l.delimiters.byte l.selected line l.cursor;
-      cursor : IsFieldCursor l.selected line l.cursor;
+      cursor : IsFieldCursor l.delimiters.byte l.selected line l.cursor;
       low : l.start ≤ l.end;
       high : l.end ≤ l.start + l.to;
       long : length l.room ≡ length l.fn.room;

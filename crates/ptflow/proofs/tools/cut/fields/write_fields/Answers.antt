@@ -1,6 +1,6 @@
 -- Each iteration pushes the next slice. A push may fail: then the pushed bytes are a prefix of the selected fields.
-use Rattle.ptflow.proofs.Common.{◌≡◌, ◌+◌, ◌-◌, ◌≤◌, ◌++◌, take, drop, length, ◌∙◌, ap, arith, take_all}
-use Rattle.ptflow.proofs.Common.{is_selected, cut_job, output_from_cursor}
+use Rattle.ptflow.proofs.Common.{◌≡◌, ◌+◌, ◌-◌, ◌≤◌, ◌++◌, take, drop, length, ◌∙◌, ap, arith, take_all, is_selected}
+use Rattle.ptflow.proofs.Common.{cut_job, output_from_cursor}
 use Rattle.ptflow.proofs.Passes.Prefix.{prefix_starts, front_more, front_fails}
 use Rattle.ptflow.proofs.CutLemmas.FieldLoop.{cursor_starts, selected_remaining}
 use Rattle.ptflow.proofs.CutLemmas.FieldOffsets.{slice_of}
@@ -16,7 +16,7 @@ slices-init g c =
     let kept = ap is_selected c.intervals-selected.ensures.kept in
     let all : take (length line) line ≡ line = take_all (length line) line (omega arith) in record {
       front = prefix_starts (rw all (selected_remaining job list line c.requires kept));
-      cursor = cursor_starts c.intervals-selected.ensures.separated;
+      cursor = cursor_starts c.args.delimiters.now.byte (take (length line) line) c.intervals-selected.ensures.separated;
       clean = λ clean. clean;
     }
 

@@ -7,7 +7,7 @@ abbrev pub invariant-slices : goal.invariant-slices
 invariant-slices g l = record {
   front : WrittenPrefix (cut_fields (cut_job l.job) l.delimiters.bytes.now)
       (output_from_cursor l.delimiters.byte l.selected (take (length l.line) l.line) l.cursor) l.fn.out l.out;
-  cursor : IsFieldCursor l.selected (take (length l.line) l.line) l.cursor;
+  cursor : IsFieldCursor l.delimiters.byte l.selected (take (length l.line) l.line) l.cursor;
   clean : l.fn.out.write_failed ≡ false → l.out.write_failed ≡ false;
 }
 

@@ -1,11 +1,11 @@
 -- Of the lines so far, the output of the runs that ended was pushed, except for the deferred part; the others are one
--- run, which begins with `line` and has the key `run_key`.
+-- run, which has the key `run_key`.
 use Rattle.ptflow.proofs.Common.{length, uniq_job}
 use Rattle.ptflow.proofs.UniqLemmas.BlockRuns.{RunsInvariant}
 use Rattle.ptflow.proofs.tools.uniq.block_runs.write_runs.Given as goal
 
 abbrev pub invariant-lines : goal.invariant-lines
-invariant-lines g l = RunsInvariant (uniq_job l.job) l.block l.rest l.count l.line l.pending l.run_key l.fn.out l.out
+invariant-lines g l = RunsInvariant (uniq_job l.job) l.fn.first l.block l.rest l.fn.count l.count l.line l.pending l.run_key l.fn.out l.out
 
 abbrev pub decreases-lines : goal.decreases-lines
 decreases-lines g l = length l.rest

@@ -3,9 +3,6 @@ use Rattle.ptflow.proofs.Common.{◌≡◌, ◌-◌, ◌+◌, [], length, sym, �
 use Rattle.ptflow.proofs.UniqLemmas.Keys.{suffix_at, suffix_none, suffix_zero, suffix_is, suffix_step}
 use Rattle.ptflow.proofs.tools.uniq.line_key.skip_fields_cold.Goals as goal
 
-pub loop-field-init : goal.loop-field-init
-loop-field-init c = ap (λ n. suffix_at n c.args.line.now) (omega arith)
-
 pub returns-then-is_empty : goal.returns-then-is_empty
 returns-then-is_empty c =
     let rest = c.loop-field.rest.now in

@@ -1,5 +1,5 @@
 -- The output of one line is all that is pushed, since no state is carried from line to line.
-use Rattle.ptflow.proofs.Common.{◌∷◌, [], arith, line, cut_job, cut_lines}
+use Rattle.ptflow.proofs.Common.{◌∷◌, [], line, cut_job, cut_lines}
 use Rattle.ptflow.proofs.CutLemmas.FieldLines.{cut_lines-append}
 use Rattle.ptflow.proofs.Passes.StepOutput.{on_err}
 use Rattle.ptflow.proofs.tools.cut.fields.FieldCutLineFilter.process_line.Goals as goal
@@ -15,15 +15,3 @@ returns-in_err-write_line-clause-halts g c =
       fault = c.in_err-write_line.ensures.fault;
       is_prefix = λ more. (cut_lines job more, cut_lines-append job ls more);
     })
-
-pub returns-clause-continues : goal.returns-clause-continues
-returns-clause-continues g c =
-    let job = cut_job c.args.self.now.job.now in
-    let ls = line c.args.store.now 0 ∷ [] in record {
-      passed = cut_lines job ls;
-      wrote = rw c.line.ensures at c.write_line.ensures.wrote;
-      clean = c.in_ok-write_line.ensures.clean;
-      on = λ more. cut_lines-append job ls more;
-      count = omega arith;
-      some = λ h. omega arith;
-    }

@@ -1,8 +1,8 @@
 -- Each iteration tests one index, and the next entry of the counts is the number of selected ones so far.
-use Rattle.ptflow.proofs.Common.{◌≡◌, ◌+◌, set, ◌∙◌, ap, subst, arith, is_selected}
+use Rattle.ptflow.proofs.Common.{◌≡◌, ◌+◌, set, ◌∙◌, ap, arith, is_selected}
 use mir.Val.{bool_byte}
 use Rattle.ptflow.specs.Private.Cut.ShortLines.{selected_after}
-use Rattle.ptflow.proofs.CutLemmas.ShortLines.{PickBegun, shuffle_next, shuffle_done}
+use Rattle.ptflow.proofs.CutLemmas.ShortLines.{shuffle_next}
 use Rattle.ptflow.proofs.tools.cut.shuffle.PieceShuffle.of.Goals as goal
 
 pub loop-index-preserved : goal.loop-index-preserved
@@ -14,10 +14,3 @@ loop-index-preserved g c =
     shuffle_next (selected_after selected start) (omega arith) loop.invariant
     (c.from-count.ensures ∙ ap bool_byte c.contains.ensures ∙ ap (λ n. bool_byte (selected n)) position)
     (ap (λ n. set loop.counts (n + 1) (loop.count + c.from-count.result)) c.from-in-loop-index.ensures)
-
-pub returns : goal.returns
-returns g c =
-    let loop = c.loop-index in
-    let selected = selected_after (is_selected c.args.list.now) c.args.start in
-    let all : loop.index ≡ 16 = omega (arith, c.loop-index-test.false, loop.auto) in
-    shuffle_done selected (subst (λ n. PickBegun selected n loop.count loop.row loop.counts) all loop.invariant)

@@ -1,0 +1,31 @@
+-- Field n starts after the n-th delimiter.
+use Rattle.ptflow.proofs.Common.{◌≡◌, ◌+◌, ◌-◌, take, drop, length, arith, length-drop, length-take-le}
+use Rattle.ptflow.proofs.CutLemmas.FieldOffsets.{offset_start, offset_end, offset_after_nth, rest_of}
+use Rattle.ptflow.proofs.tools.cut.fields.skip_fields.Goals as goal
+
+pub returns-then-count-eq0-clause-offset : goal.returns-then-count-eq0-clause-offset
+returns-then-count-eq0-clause-offset c =
+    let d = c.args.delimiters.now in
+    let none : c.args.from - c.args.from ≡ 0 = omega arith in
+    rw (none, c.if-count-eq0.true) (offset_start d.byte (drop c.args.from (take c.args.to d.bytes.now)))
+
+pub returns-in-Some-clause-offset : goal.returns-in-Some-clause-offset
+returns-in-Some-clause-offset c =
+    let d = c.args.delimiters.now in
+    let passed : c.args.from + c.in-Some.at + 1 - c.args.from ≡ c.in-Some.at + 1 = omega arith in
+    rw passed (offset_after_nth d.byte (drop c.args.from (take c.args.to d.bytes.now)) c.in-Some.at (omega arith)
+    (rw (← (rest_of c.args.from c.args.to d.bytes.now)) at c.in-Some.ensures))
+
+pub returns-in-None-clause-offset : goal.returns-in-None-clause-offset
+returns-in-None-clause-offset c =
+    let d = c.args.delimiters.now in
+    let line = drop c.args.from (take c.args.to d.bytes.now) in
+    let few = rw (← (rest_of c.args.from c.args.to d.bytes.now)) at c.in-None.ensures in
+    let long : c.args.to + 1 - c.args.from ≡ length line + 1 =
+    omega (
+      arith,
+      length-drop c.args.from (take c.args.to d.bytes.now),
+      length-take-le c.args.to d.bytes.now
+          c.requires.1,
+    ) in
+    rw long (offset_end d.byte line (omega (arith, few)))

@@ -1,0 +1,37 @@
+-- Two adjacent ranges are one range, so the run joins the deferred output. Otherwise that is pushed, and a failed push
+-- leaves a prefix of both.
+use Rattle.ptflow.proofs.Common.{ℕ, true, not, ◌≡◌, [], refl, sym, ◌∙◌, subst, PushEffect, push_past_failure}
+use Rattle.ptflow.proofs.Common.{append_assoc, span_of, uniq_job}
+use Rattle.ptflow.specs.Private.Uniq.RunsFrom.{count_prefix}
+use Rattle.ptflow.proofs.Passes.StepOutput.{on_err}
+use Rattle.ptflow.proofs.UniqLemmas.BlockRuns.{due_is, pending_joined}
+use Rattle.ptflow.proofs.tools.uniq.block_runs.end_run.Goals as goal
+use Rattle.ptlangs.specs.contracts.jobs.Show.{the_type}
+use Rattle.ptlangs.specs.declared.jobs.Show.{Show}
+use Rattle.ptlangs.specs.declared.jobs.Show.TheVariants.{All, Counts, Repeated, Single}
+use denote.Enum.Bare.{sameb}
+
+no_count : (show : Show) → true ≡ not (sameb the_type show Counts) → (count : ℕ) → count_prefix show count ≡ []
+no_count All differs count = refl
+no_count Counts differs count = cc
+no_count Repeated differs count = refl
+no_count Single differs count = refl
+
+pub returns-then-pending-line-clause-waits : goal.returns-then-pending-line-clause-waits
+returns-then-pending-line-clause-waits g c =
+    let job = uniq_job c.args.by.now.job.now in
+    pending_joined job c.args.first.now c.args.count c.requires c.in-Some.is
+    (sym c.has_output.ensures ∙ c.if-not-has_output.false) c.if-pending-line.true
+    (no_count job.show c.if-ne.ensures c.args.count)
+
+pub returns-in_err-flush_with_count-clause-wrote : goal.returns-in_err-flush_with_count-clause-wrote
+returns-in_err-flush_with_count-clause-wrote g c =
+    let job = uniq_job c.args.by.now.job.now in
+    let block = c.args.block.now in
+    let line = span_of block c.in-Some.line in
+    on_err c.from_residual-in_err-flush_with_count.result
+    (rw (due_is job c.args.first.now c.args.count c.requires c.in-Some.is
+    (sym c.has_output.ensures ∙ c.if-not-has_output.false))
+    (subst (PushEffect c.args.out.now c.flush_with_count.new.out)
+    (append_assoc (span_of block c.args.pending) (count_prefix job.show c.args.count) line)
+    (push_past_failure _ _ _ line c.in_err-flush_with_count.ensures.fault c.flush_with_count.ensures.wrote)))
