@@ -34,7 +34,7 @@ module _ (row : RowShape) where
       ∙ ap (λ (l : List ℕ). cells_text row c xs ++ l) (append-nil (x ++ after_cell row k))
 
   -- The columns from c to the last one.
-  row_text : (c : ℕ) (xs : List (List ℕ)) → c + length xs ≡ length row.cells → 0 < length xs
+  pub row_text : (c : ℕ) (xs : List (List ℕ)) → c + length xs ≡ length row.cells → 0 < length xs
       → cells_text row c xs ≡ join_with_cycle row.delims c xs ++ row.terminator ∷ []
   row_text c [] all some = absurd (omega (arith, some))
   row_text c (x ∷ []) all some = append-nil (x ++ after_cell row c)
