@@ -85,11 +85,14 @@ module _ {row : RowShape} where
     count = q.count ∙ p.count;
   }
 
+  pub no_rows : {old : List Reader} → AreFirstRows row old old (λ p. []) []
+  no_rows = record { lines_taken = λ p. nothing_taken (omega arith); on = λ more may. refl; count = refl }
+
   pub rows_taken_none : {old : List Reader} → RowsTaken row old old []
   rows_taken_none = record {
     ls = λ p. [];
     taken_rows = [];
-    first_rows = record { lines_taken = λ p. nothing_taken (omega arith); on = λ more may. refl; count = refl };
+    first_rows = no_rows;
     least = omega arith;
     is = refl;
   }

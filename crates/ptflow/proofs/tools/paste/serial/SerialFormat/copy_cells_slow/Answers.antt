@@ -8,15 +8,6 @@ use Rattle.ptflow.proofs.PasteLemmas.Replaced.{replaced_none}
 use Rattle.ptflow.proofs.PasteLemmas.SerialRest.{next_piece}
 use Rattle.ptflow.proofs.tools.paste.serial.SerialFormat.copy_cells_slow.Goals as goal
 
-pub pieces-init : goal.pieces-init
-pieces-init c = record {
-  is = refl;
-  later = refl;
-  low = c.requires.low;
-  size_bound = omega arith;
-  buffer_size = c.told-into;
-}
-
 pub pieces-preserved : goal.pieces-preserved
 pieces-preserved c =
     let delims = c.args.self.now.delims.now in
