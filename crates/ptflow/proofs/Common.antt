@@ -105,15 +105,15 @@ pub use Rattle.ptflow.specs.Private.Cut.FieldSlices.{IsFieldCursor, IsNextSlice,
 pub use Rattle.ptflow.specs.Private.Passes.StepOutput.{OutputPart, OutputFailed}
 pub use Rattle.ptflow.specs.Private.Passes.LineLoop.{SlotsCleared, IsLineFilter, IsSwapped, LinesFailed, LinesWritten}
 pub use Rattle.ptflow.specs.Private.Passes.LineLoop.{IsLinesLength}
-pub use Rattle.ptflow.specs.Private.Paste.SharedInput.{IsWholeRows, IsRowCycle, IsSharedCycle}
+pub use Rattle.ptflow.specs.Private.Paste.SharedInput.{IsWholeRows, IsSharedCycle}
+pub use Rattle.ptflow.specs.Private.Paste.Replaced.{IsDelimiterCycle, IsReplacedTo, byte_of, replaced, with_byte}
+pub use Rattle.ptflow.specs.Private.Paste.Unrolled.{AreDelimiterBytes, IsUnrolled}
 pub use Rattle.ptflow.specs.Private.Paste.FillRow.{SetTerminatorsPost, FillCellPost, FillRowPost, SlotsBound, SlotsKept}
 pub use Rattle.ptflow.specs.Private.Paste.FillRow.{NotRead, RowAmid, RowFailed, RowFilled, ClearSlotsPost}
 pub use Rattle.ptflow.specs.Private.Paste.FillRow.{is_write_fault}
 pub use Rattle.ptflow.specs.Private.Paste.RowCells.{RowShape, BegunText, CellsFilled, CellsTaken, after_cell}
 pub use Rattle.ptflow.specs.Private.Paste.RowCells.{begun_after, begun_in, cells_text, job_shape, shape_of, slots_text}
-pub use Rattle.ptflow.specs.Private.Paste.SerialRest.{IsOnlyDelimiter, IsReplacedTo, CopyCellsPost, CopyBlockPost}
-pub use Rattle.ptflow.specs.Private.Paste.SerialRest.{next_position, leading_delimiter, row_from, row_rest, serial_rest}
-pub use Rattle.ptflow.specs.Private.Paste.SerialRest.{with_delimiter, with_cycle}
+pub use Rattle.ptflow.specs.Private.Paste.SerialRest.{CopyCellsPost, row_rest, serial_rest}
 pub use Rattle.ptflow.specs.Private.Paste.TakenLines.{AreReceivedLines, LinesTaken}
 pub use Rattle.ptflow.specs.Private.Paste.BufferedRows.{BufferedRowsPre, IsConsumed, AreConsumed, AreFirstRows}
 pub use Rattle.ptflow.specs.Private.Paste.BufferedRows.{RowsTaken, IsFieldCopied, LineCopied, EofCopied}

@@ -12,5 +12,5 @@ pub mod FillRow
 pub mod RowAmid
 pub mod SerialRest
 pub mod LinesTaken
-pub mod Cycle
+pub mod Replaced
 pub mod BufferedRows

@@ -3,11 +3,10 @@
 //! - `find_nth` finds bytes: match masks of 64 bytes, the n-th index of a byte, the end of a line.
 //! - `byte_set` tests 16 bytes for membership in a set.
 //! - `shift` maps 16 bytes at a time by any `ByteMap`; `table` is the one for a table of 256 images.
-//! - `replace` replaces line terminators by delimiters in turn; `cycle` is faster, for at most 64 delimiters.
+//! - `replace` replaces line terminators by the bytes of a cycle.
 //! - `compress` moves the selected bytes of a vector to the front; `filter` chooses which bytes these are.
 pub(crate) mod byte_set;
 pub(crate) mod compress;
-pub(crate) mod cycle;
 pub(crate) mod filter;
 pub(crate) mod find_nth;
 pub(crate) mod replace;

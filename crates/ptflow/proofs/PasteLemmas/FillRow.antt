@@ -75,12 +75,6 @@ module _ (input : ℕ) (ls : List (List ℕ)) (input_lines : ℕ → List (List 
   lines_at_none none = ⊎_elim (λ same. lines_at_here same ∙ ap (λ (l : List (List ℕ)). input_lines q ++ l) none
       ∙ append-nil (input_lines q)) lines_at_other (cases_eq q input)
 
-  lines_at_longest : max_length (input_lines q) ≤ max_length (lines_at input ls input_lines q)
-  lines_at_longest = ⊎_elim
-      (λ same. omega (arith, ap max_length (lines_at_here same), max_length-append (input_lines q) ls))
-      (λ differ. omega (arith, ap max_length (lines_at_other differ)))
-      (cases_eq q input)
-
 -- The line of a column.
 abbrev cell_of : List ℕ → (ℕ → List (List ℕ)) → ℕ → List ℕ
 cell_of cells input_lines c = slice_index_or (input_lines (get_or cells c 0)) (uses_of (take c cells)

@@ -12,7 +12,7 @@ use Rattle.ptflow.proofs.Common.{paste_decided, SetTerminatorsPost, SlotsBound, 
 use Rattle.ptflow.proofs.Common.{AreReceivedLines, AreFirstRows, RowsTaken, RowsWritten, cells_text, job_shape}
 use Rattle.ptflow.proofs.Common.{BufferedRowsPre}
 use Rattle.ptflow.proofs.PasteLemmas.CellSlots.{slots_bound_start, slots_kept_by_lines}
-use Rattle.ptflow.proofs.PasteLemmas.RowsTaken.{first_rows_trans, filled_row_is_first, filled_row_text}
+use Rattle.ptflow.proofs.PasteLemmas.RowsTaken.{no_rows, first_rows_trans, filled_row_is_first, filled_row_text}
 use Rattle.ptflow.proofs.PasteLemmas.Grid.{Column, last_use, rows_text-append}
 use Rattle.ptflow.proofs.Passes.Lines.{max_length-append}
 use Rattle.ptflow.proofs.Passes.LinesRead.{lines_on}
@@ -195,7 +195,7 @@ invariant_starts {job} {cells} {was = was} {first = first} {store = store} start
   starts = starts;
   ls = λ p. [];
   taken_rows = [];
-  first_rows = record { lines_taken = λ p. nothing_taken (omega arith); on = λ more may. refl; count = refl };
+  first_rows = no_rows;
   wrote = push_nothing was;
   clean = starts.writable;
   kept = λ top high. slots_bound_start adds allowed empty peak;

@@ -34,7 +34,7 @@ module _ (row : RowShape) where
       ∙ ap (λ (l : List ℕ). cells_text row c xs ++ l) (append-nil (x ++ after_cell row k))
 
   -- The columns from c to the last one.
-  row_text : (c : ℕ) (xs : List (List ℕ)) → c + length xs ≡ length row.cells → 0 < length xs
+  pub row_text : (c : ℕ) (xs : List (List ℕ)) → c + length xs ≡ length row.cells → 0 < length xs
       → cells_text row c xs ≡ join_with_cycle row.delims c xs ++ row.terminator ∷ []
   row_text c [] all some = absurd (omega (arith, some))
   row_text c (x ∷ []) all some = append-nil (x ++ after_cell row c)
@@ -85,11 +85,14 @@ module _ {row : RowShape} where
     count = q.count ∙ p.count;
   }
 
+  pub no_rows : {old : List Reader} → AreFirstRows row old old (λ p. []) []
+  no_rows = record { lines_taken = λ p. nothing_taken (omega arith); on = λ more may. refl; count = refl }
+
   pub rows_taken_none : {old : List Reader} → RowsTaken row old old []
   rows_taken_none = record {
     ls = λ p. [];
     taken_rows = [];
-    first_rows = record { lines_taken = λ p. nothing_taken (omega arith); on = λ more may. refl; count = refl };
+    first_rows = no_rows;
     least = omega arith;
     is = refl;
   }

@@ -1,193 +1,138 @@
--- The output of `paste -s` from a position on, by cases of the next byte: a terminator completes the line of the
--- column, and the delimiter is written only when another byte follows. Concatenating the parts gives the output for a
--- whole block.
-use Rattle.ptflow.proofs.Common.{◌≡◌, ◌≢◌, ⊎_elim, ℕ, ◌+◌, ◌==◌, ◌<◌, ◌≤◌, Bool, true, false, cond, List, [], ◌∷◌, ◌++◌}
-use Rattle.ptflow.proofs.Common.{Option, Some, length, map, take, drop, length-append, refl, sym, ◌∙◌, ap, arith}
-use Rattle.ptflow.proofs.Common.{append_assoc, option_to_list, unwrap_or, onto_first, count_by, cases_Bool, append-nil}
-use Rattle.ptflow.proofs.Common.{append_cancel_right, sum_by-cons, IsFirstByte, is_byte, lines, complete_lines, IsLine}
-use Rattle.ptflow.proofs.Common.{IsPrefix, line_before_terminator, lines_cons, lines_of_unlines, byte_ne, delim_at}
-use Rattle.ptflow.proofs.Common.{Paste, delimiter, join_with_cycle, paste_serial_decided, row_rest, row_from}
-use Rattle.ptflow.proofs.Common.{serial_rest, next_position, leading_delimiter, CopyCellsPost, CopyBlockPost}
-use Rattle.ptflow.proofs.Common.{IsOnlyDelimiter, with_delimiter, with_cycle, ColumnPos}
+-- The output of `paste -s` from a position on: the bytes with their terminators replaced, as long as more bytes follow.
+-- So the terminator of a line that is the last byte so far is held back.
+use Rattle.ptflow.proofs.Common.{◌≡◌, ⊎_elim, ℕ, ◌+◌, ◌%◌, ◌==◌, ◌<◌, Bool, true, false, cond, List, [], ◌∷◌}
+use Rattle.ptflow.proofs.Common.{◌++◌, Option, length, length-append, refl, sym, ◌∙◌, ap, arith, append_assoc, onto_first}
+use Rattle.ptflow.proofs.Common.{count_by, cases_Bool, append-nil, append_cancel_right, is_byte, lines, complete_lines}
+use Rattle.ptflow.proofs.Common.{IsPrefix, lines_of_unlines, Paste, delimiter, join_with_cycle, mod-add-mod}
+use Rattle.ptflow.proofs.Common.{paste_serial_decided, replaced, row_rest, mod-eq_of_lt, byte_eq, option_to_list, None, Some}
+use Rattle.ptflow.proofs.Common.{IsFirstByte, take, drop, line_before_terminator, sum_by-append, mod-lt}
+use Rattle.ptflow.proofs.Vectors.FindNth.{none_counted}
+use Rattle.std.specs.Prelude.{slice_index_or}
 use Rattle.ptflow.proofs.Passes.Lines.{line_split, split_of}
-
-pub next_position_number : (cell : ColumnPos) → (next_position cell).number ≤ cell.number + 1
-next_position_number cell = by_ended cell.complete
-  where
-    by_ended : (t : Bool) → cond t (cell.number + 1) cell.number ≤ cell.number + 1
-    by_ended true = omega arith
-    by_ended false = omega arith
+use Rattle.ptflow.proofs.PasteLemmas.Replaced.{counted, replaced_line, replaced_mod}
 
 module _ (end : ℕ) (delims : List (Option ℕ)) where
-  -- A line, and then what follows its column.
-  pub row_line : (number : ℕ) (line : List ℕ) (more : List (List ℕ))
-      → row_rest end delims number false (line ∷ more) ≡ line ++ row_rest end delims number true more
-  row_line number line [] = refl
-  row_line number line (l ∷ more) = simp append_assoc
-
-  -- One more byte of the first line.
-  row_byte : (number b : ℕ) (ls : List (List ℕ))
-      → row_rest end delims number false (onto_first b ls) ≡ b ∷ row_rest end delims number false ls
-  row_byte number b [] = refl
-  row_byte number b (l ∷ []) = refl
-  row_byte number b (l ∷ m ∷ ls) = refl
-
-  -- The delimiter before the next line, and then the line.
-  pub row_next : (cell : ColumnPos) (line : List ℕ) (more : List (List ℕ))
-      → row_rest end delims cell.number cell.complete (line ∷ more) ≡ leading_delimiter delims cell
-      ++ row_rest end delims (next_position cell).number false (line ∷ more)
-  row_next cell line more = by_ended cell.complete
+  -- A byte of a line.
+  pub row_byte : (number b : ℕ) (bytes : List ℕ) → (b == end) ≡ false
+      → row_rest end delims number (b ∷ bytes) ≡ b ∷ row_rest end delims number bytes
+  row_byte number b bytes other = rw other (onto (lines end bytes))
     where
-      by_ended : (t : Bool) → row_rest end delims cell.number t (line ∷ more) ≡ cond t (delimiter delims cell.number) []
-          ++ row_rest end delims (cond t (cell.number + 1) cell.number) false (line ∷ more)
-      by_ended true = refl
-      by_ended false = refl
+      onto : (ls : List (List ℕ)) → join_with_cycle delims number (onto_first b ls) ++ end ∷ []
+          ≡ b ∷ (join_with_cycle delims number ls ++ end ∷ [])
+      onto [] = refl
+      onto (l ∷ []) = refl
+      onto (l ∷ m ∷ ls) = refl
 
-  next_lines : (cell : ColumnPos) (ls : List (List ℕ)) → ls ≢ []
-      → row_rest end delims cell.number cell.complete ls ≡ leading_delimiter delims cell
-      ++ row_rest end delims (next_position cell).number false ls
-  next_lines cell [] some = absurd (some refl)
-  next_lines cell (l ∷ ls) some = row_next cell l ls
-
-  some_lines : (b : ℕ) (bytes : List ℕ) → lines end (b ∷ bytes) ≢ []
-  some_lines b bytes = by_test (b == end) (lines end bytes)
+  -- A terminator, if more bytes follow.
+  row_next : (number b : ℕ) (bytes : List ℕ) → (b == end) ≡ true → 0 < length bytes
+      → row_rest end delims number (b ∷ bytes) ≡ delimiter delims number ++ row_rest end delims (number + 1) bytes
+  row_next number b [] is some = absurd (omega (arith, some))
+  row_next number b (x ∷ bytes) is some = rw is (by_test (x == end) (lines end bytes))
     where
-      by_test : (t : Bool) (ls : List (List ℕ)) → cond t ([] ∷ ls) (onto_first b ls) ≢ []
-      by_test true ls e = cc
-      by_test false [] e = cc
-      by_test false (l ∷ ls) e = cc
+      by_test : (t : Bool) (ls : List (List ℕ)) → (let next = cond t ([] ∷ ls) (onto_first x ls) in
+          join_with_cycle delims number ([] ∷ next) ++ end ∷ []
+          ≡ delimiter delims number ++ (join_with_cycle delims (number + 1) next ++ end ∷ []))
+      by_test true ls = simp append_assoc
+      by_test false [] = simp append_assoc
+      by_test false (l ∷ ls) = simp append_assoc
 
-  -- Likewise for a non-empty text.
-  next_some : (cell : ColumnPos) (bytes : List ℕ) → 0 < length bytes
-      → serial_rest end delims cell bytes ≡ leading_delimiter delims cell
-      ++ serial_rest end delims (next_position cell) bytes
-  next_some cell [] some = absurd (omega (arith, some))
-  next_some cell (b ∷ bytes) some = next_lines cell (lines end (b ∷ bytes)) (some_lines b bytes)
+  pub row_rest_on : (number : ℕ) (bytes more : List ℕ) → 0 < length more
+      → row_rest end delims number (bytes ++ more) ≡ replaced end (delimiter delims) number bytes
+      ++ row_rest end delims (number + count_by (is_byte end) bytes) more
+  row_rest_on number [] more some =
+      let same : number + 0 ≡ number = omega arith in ap (λ n. row_rest end delims n more) (sym same)
+  row_rest_on number (b ∷ bytes) more some = ⊎_elim
+      (λ is.
+      let next : number + count_by (is_byte end) (b ∷ bytes) ≡ number + 1 + count_by (is_byte end) bytes =
+      omega (arith, counted end b bytes is) in
+      row_next number b (bytes ++ more) is (omega (arith, some, length-append bytes more))
+      ∙ rw next (rw is (ap (◌++◌ (delimiter delims number)) (row_rest_on (number + 1) bytes more some)
+      ∙ sym (append_assoc (delimiter delims number) _ _))))
+      (λ is.
+      let next : number + count_by (is_byte end) (b ∷ bytes) ≡ number + count_by (is_byte end) bytes =
+      omega (arith, counted end b bytes is) in
+      row_byte number b (bytes ++ more) is
+      ∙ rw next (rw is (ap (λ (l : List ℕ). b ∷ l) (row_rest_on number bytes more some))))
+      (cases_Bool (b == end))
 
-  pub next_on : (cell : ColumnPos) (rest : List ℕ) → 0 < length rest → (more : List ℕ)
-      → serial_rest end delims cell (rest ++ more) ≡ leading_delimiter delims cell ++ serial_rest end delims
-      (next_position cell) (rest ++ more)
-  next_on cell rest some more = next_some cell (rest ++ more) (omega (arith, some, length-append rest more))
+  -- Only the index of the delimiter matters.
+  row_rest_mod : (m n : ℕ) → m % length delims ≡ n % length delims → (bytes : List ℕ)
+      → row_rest end delims m bytes ≡ row_rest end delims n bytes
+  row_rest_mod m n same bytes = ap (λ (l : List ℕ). l ++ end ∷ []) (joined_mod m n same (lines end bytes))
+    where
+      joined_mod : (m n : ℕ) → m % length delims ≡ n % length delims → (ls : List (List ℕ))
+          → join_with_cycle delims m ls ≡ join_with_cycle delims n ls
+      joined_mod m n same [] = refl
+      joined_mod m n same (x ∷ []) = refl
+      joined_mod m n same (x ∷ y ∷ ls) =
+          let len = length delims in
+          let next = sym (mod-add-mod m len 1) ∙ ap (λ k. (k + 1) % len) same ∙ mod-add-mod n len 1 in
+          λ i. x ++ option_to_list (slice_index_or delims (same i) None) ++ joined_mod (m + 1) (n + 1) next (y ∷ ls) i
 
-  -- A line of the column, up to its terminator.
-  pub cell_on : (number : ℕ) (rest : List ℕ) (at : ℕ) → IsFirstByte (is_byte end) rest (Some at) → (more : List ℕ)
-      → serial_rest end delims (record { number = number; complete = false }) (rest ++ more) ≡ take at rest
-      ++ serial_rest end delims (record { number = number; complete = true }) (drop (at + 1) rest ++ more)
-  cell_on number rest at first more =
-      ap (λ (l : List ℕ). row_rest end delims number false (lines end l)) (ap (λ (l : List ℕ). l ++ more)
-      (split_of end rest at first) ∙ append_assoc (take at rest) (end ∷ drop (at + 1) rest) more)
-      ∙ ap (row_rest end delims number false) (lines_cons end (take at rest) (drop (at + 1) rest ++ more)
-      (line_before_terminator end rest at first))
-      ∙ row_line number (take at rest) (lines end (drop (at + 1) rest ++ more))
+  -- Two pieces were copied, and at least one byte follows.
+  pub copied_on : (index : ℕ) (held bytes more : List ℕ) {first second : ℕ} {before after : List ℕ} → 0 < length more
+      → before ≡ replaced end (delimiter delims) index held
+      → first ≡ (index + count_by (is_byte end) held) % length delims
+      → after ≡ before ++ replaced end (delimiter delims) first bytes
+      → second ≡ (first + count_by (is_byte end) bytes) % length delims → second < length delims → first < length delims
+      → row_rest end delims index (held ++ (bytes ++ more)) ≡ after ++ row_rest end delims second more
+  copied_on index held bytes more {first} {second} {before} some one at two after low less =
+      row_rest_on index held (bytes ++ more) (omega (arith, some, length-append bytes more))
+      ∙ (λ i. sym one i ++ (row_rest_mod _ first (sym at ∙ sym (mod-eq_of_lt less)) (bytes ++ more)
+      ∙ row_rest_on first bytes more some
+      ∙ ap (λ (l : List ℕ). replaced end (delimiter delims) first bytes ++ l)
+      (row_rest_mod _ second (sym after ∙ sym (mod-eq_of_lt low)) more)) i)
+      ∙ sym (append_assoc before (replaced end (delimiter delims) first bytes) (row_rest end delims second more))
+      ∙ ap (λ (l : List ℕ). l ++ row_rest end delims second more) (sym two)
 
-  -- A part of a line, without terminator.
-  pub piece_on : (number : ℕ) (piece : List ℕ) → IsLine end piece → (more : List ℕ)
-      → row_rest end delims number false (lines end (piece ++ more)) ≡ piece
-      ++ row_rest end delims number false (lines end more)
-  piece_on number [] free more = refl
-  piece_on number (b ∷ piece) free more =
-      rw (byte_ne end b free.0) (row_byte number b (lines end (piece ++ more)) ∙ ap (λ (l : List ℕ). b ∷ l)
-      (piece_on number piece free.1 more))
+  -- A line, its delimiter, and the bytes after them.
+  pub piece_replaced : 0 < length delims → (index : ℕ) (rest : List ℕ) (at : ℕ) → IsFirstByte (is_byte end) rest (Some at)
+      → (replaced end (delimiter delims) index rest ≡ (take at rest ++ delimiter delims index)
+      ++ replaced end (delimiter delims) ((index + 1) % length delims) (drop (at + 1) rest))
+      × (count_by (is_byte end) rest ≡ count_by (is_byte end) (drop (at + 1) rest) + 1)
+  piece_replaced some index rest at first =
+      let line = take at rest in
+      let more = drop (at + 1) rest in
+      let split = split_of end rest at first in
+      let free = line_before_terminator end rest at first in
+      let next = sym (mod-eq_of_lt (mod-lt (index + 1) some)) in (
+        ap (replaced end (delimiter delims) index) split
+            ∙ replaced_line end (delimiter delims) index line more free
+            ∙ ap (λ (l : List ℕ). line ++ (delimiter delims index ++ l))
+            (replaced_mod end (λ k. option_to_list (slice_index_or delims k None)) (length delims) _ _ next more)
+            ∙ sym (append_assoc line (delimiter delims index) _),
+        omega (
+          arith,
+          ap (count_by (is_byte end)) split,
+          sum_by-append (λ b. cond (is_byte end b) 1 0) line (end ∷ more),
+          counted end end more (byte_eq end),
+          none_counted end [] line free,
+        ),
+      )
 
-  -- ---- copied bytes, if more bytes follow
-
-  -- A line of a column and the delimiter after it.
-  pub copied_line : (number now : ℕ) (bytes rest written is delim : List ℕ) (at : ℕ)
-      → CopyCellsPost end delims number bytes now rest written → IsFirstByte (is_byte end) rest (Some at)
-      → is ≡ (written ++ take at rest) ++ delim → delim ≡ delimiter delims now → CopyCellsPost end delims number bytes
-      (now + 1) (drop (at + 1) rest) is
-  copied_line number now bytes rest written is delim at puts first copied delim_is more some =
-      puts more some
-      ∙ ap (λ (l : List ℕ). written ++ l) (cell_on now rest at first more
-      ∙ ap (λ (l : List ℕ). take at rest ++ l) (next_some (record { number = now; complete = true })
-      (drop (at + 1) rest ++ more) (omega (arith, some, length-append (drop (at + 1) rest) more))))
-      ∙ rw (copied, delim_is) (simp append_assoc)
-
-  -- A part of a line.
-  pub copied_piece : (number now : ℕ) (bytes rest written is : List ℕ)
-      → CopyCellsPost end delims number bytes now rest written → IsLine end rest → is ≡ written ++ rest
-      → CopyCellsPost end delims number bytes now [] is
-  copied_piece number now bytes rest written is puts free copied more some =
-      puts more some ∙ ap (λ (l : List ℕ). written ++ l) (piece_on now rest free more) ∙ rw copied (simp append_assoc)
-
-  -- The last byte of a block is part of a line.
-  pub copied_last : (number now last : ℕ) (bytes written : List ℕ)
-      → CopyCellsPost end delims number bytes now [] written → (last ≡ end → ⊥)
-      → CopyBlockPost end delims number (bytes ++ last ∷ []) (record { number = now; complete = false })
-      (written ++ last ∷ [])
-  copied_last number now last bytes written puts other more =
-      ap (λ (l : List ℕ). row_rest end delims number false (lines end l)) (append_assoc bytes (last ∷ []) more)
-      ∙ puts (last ∷ more) (omega arith)
-      ∙ ap (λ (l : List ℕ). written ++ l) (piece_on now (last ∷ []) (other, tt) more) ∙ simp append_assoc
-
-  -- ---- one delimiter for all columns
-
-  module _ (delim : ℕ) (always : IsOnlyDelimiter delims delim) where
-    same_joined : (n m : ℕ) (ls : List (List ℕ)) → join_with_cycle delims n ls ≡ join_with_cycle delims m ls
-    same_joined n m [] = refl
-    same_joined n m (x ∷ []) = refl
-    same_joined n m (x ∷ y ∷ ls) = λ i. (x ++ option_to_list ((always n ∙ sym (always m)) i)) ++ same_joined (n + 1)
-        (m + 1) (y ∷ ls) i
-
-    only_delimiter_copied : (n m : ℕ) (bytes more : List ℕ) → 0 < length more
-        → row_rest end delims n false (lines end (bytes ++ more))
-        ≡ map (with_delimiter (record { terminator = end; delim = delim })) bytes
-        ++ row_rest end delims m false (lines end more)
-    only_delimiter_copied n m [] more some = ap (λ (l : List ℕ). l ++ end ∷ []) (same_joined n m (lines end more))
-    only_delimiter_copied n m (b ∷ bytes) more some = ⊎_elim
-        (λ is. rw is (row_line n [] (lines end (bytes ++ more)) ∙ next_some (record { number = n; complete = true })
-        (bytes ++ more) (omega (arith, some, length-append bytes more))
-        ∙ (λ i. option_to_list (always n i) ++ only_delimiter_copied (n + 1) m bytes more some i)))
-        (λ is. rw is (row_byte n b (lines end (bytes ++ more)) ∙ ap (λ (l : List ℕ). b ∷ l)
-        (only_delimiter_copied n m bytes more some)))
-        (cases_Bool (b == end))
-
-    pub copied_with_delimiter : (number : ℕ) (bytes written : List ℕ)
-        → written ≡ map (with_delimiter (record { terminator = end; delim = delim })) bytes
-        → CopyCellsPost end delims number bytes number [] written
-    copied_with_delimiter number bytes written is more some = only_delimiter_copied number number bytes more some
-        ∙ ap (λ (l : List ℕ). l ++ row_rest end delims number false (lines end more)) (sym is)
-
-  -- ---- delimiters that are all one byte
-
-  module _ (bytes_only : (number : ℕ) → delimiter delims number ≡ unwrap_or (delim_at delims number) end ∷ []) where
-    cycle_copied : (n : ℕ) (bytes more : List ℕ) → 0 < length more
-        → row_rest end delims n false (lines end (bytes ++ more)) ≡ with_cycle end delims n bytes ++ row_rest end delims
-        (n + count_by (is_byte end) bytes) false (lines end more)
-    cycle_copied n [] more some = let same : n + 0 ≡ n = omega arith in ap (λ (k : ℕ). row_rest end delims k false
-        (lines end more)) (sym same)
-    cycle_copied n (b ∷ bytes) more some = ⊎_elim
-        (λ is. let next : n + count_by (is_byte end) (b ∷ bytes) ≡ n + 1 + count_by (is_byte end) bytes = omega
-        (arith, counted b bytes is) in
-        rw next (rw is (row_line n [] (lines end (bytes ++ more)) ∙ next_some (record { number = n; complete = true })
-        (bytes ++ more) (omega (arith, some, length-append bytes more))
-        ∙ (λ i. bytes_only n i ++ cycle_copied (n + 1) bytes more some i))))
-        (λ is. let next : n + count_by (is_byte end) (b ∷ bytes) ≡ n + count_by (is_byte end) bytes = omega
-        (arith, counted b bytes is) in
-        rw next (rw is (row_byte n b (lines end (bytes ++ more)) ∙ ap (λ (l : List ℕ). b ∷ l)
-        (cycle_copied n bytes more some))))
-        (cases_Bool (b == end))
-      where
-        counted : (b : ℕ) (bytes : List ℕ) {t : Bool} → (b == end) ≡ t → count_by (is_byte end) (b ∷ bytes) ≡ cond t 1 0
-            + count_by (is_byte end) bytes
-        counted b bytes is = sum_by-cons (λ x. cond (is_byte end x) 1 0) b bytes
-            ∙ ap (λ (t : Bool). cond t 1 0 + count_by (is_byte end) bytes) is
-
-    pub copied_with_cycle : (number now : ℕ) (bytes written : List ℕ) → now ≡ number + count_by (is_byte end) bytes
-        → written ≡ with_cycle end delims number bytes → CopyCellsPost end delims number bytes now [] written
-    copied_with_cycle number now bytes written count is more some =
-        cycle_copied number bytes more some ∙ (λ i. sym is i ++ row_rest end delims (sym count i) false
-        (lines end more))
-
-  -- ---- the part of the output that is determined
+  -- The pieces of a block, as they were copied.
+  pub next_piece : (some : 0 < length delims) (index : ℕ) {next at : ℕ} (rest before : List ℕ) {line text all : List ℕ} {count : ℕ}
+      → IsFirstByte (is_byte end) rest (Some at) → next ≡ (index + 1) % length delims
+      → line ≡ before ++ take at rest → text ≡ line ++ delimiter delims index
+      → before ++ replaced end (delimiter delims) index rest ≡ all
+      → (index + count_by (is_byte end) rest) % length delims ≡ count
+      → (text ++ replaced end (delimiter delims) next (drop (at + 1) rest) ≡ all)
+      × ((next + count_by (is_byte end) (drop (at + 1) rest)) % length delims ≡ count)
+  next_piece some index {next} {at} rest before first next_is line_is text_is all_is count_is =
+      let (is, number) = piece_replaced some index rest at first in
+      let more = count_by (is_byte end) (drop (at + 1) rest) in
+      let same : index + 1 + more ≡ index + count_by (is_byte end) rest = omega (arith, number) in (
+        rw (text_is, line_is, next_is) (simp append_assoc) ∙ ap (◌++◌ before) (sym (simp append_assoc at is)) ∙ all_is,
+        ap (λ k. (k + more) % length delims) next_is ∙ mod-add-mod (index + 1) (length delims) more
+            ∙ ap (λ k. k % length delims) same ∙ count_is,
+      )
 
   joined_begins : (number : ℕ) (xs ys : List (List ℕ)) → IsPrefix (join_with_cycle delims number xs)
       (join_with_cycle delims number (xs ++ ys))
   joined_begins number [] ys = record { rest = join_with_cycle delims number ys; is = refl }
   joined_begins number (x ∷ []) [] = record { rest = []; is = sym (append-nil x) }
   joined_begins number (x ∷ []) (y ∷ ys) = record {
-    rest = delimiter delims number
-        ++ join_with_cycle delims (number + 1) (y ∷ ys);
+    rest = delimiter delims number ++ join_with_cycle delims (number + 1) (y ∷ ys);
     is = append_assoc x (delimiter delims number) (join_with_cycle delims (number + 1) (y ∷ ys));
   }
   joined_begins number (x ∷ z ∷ xs) ys =
@@ -196,30 +141,26 @@ module _ (end : ℕ) (delims : List (Option ℕ)) where
         is = ap (λ (l : List ℕ). (x ++ delimiter delims number) ++ l) b.is ∙ simp append_assoc;
       }
 
-  pub row_end : (cell : ColumnPos) → row_from end delims cell [] ≡ end ∷ []
-  row_end cell = by_ended cell.complete
-    where
-      by_ended : (t : Bool) → row_rest end delims cell.number t [] ≡ end ∷ []
-      by_ended true = refl
-      by_ended false = refl
-
 -- The output for the received bytes begins with their complete lines.
-pub serial_is_decided : (job : Paste) (given pushed : List ℕ) (now : ColumnPos)
-    → ((rest : List ℕ) → serial_rest job.terminator job.delimiters (record { number = 0; complete = false })
-    (given ++ rest) ≡ pushed ++ serial_rest job.terminator job.delimiters now rest)
+pub serial_is_decided : (job : Paste) (given pushed : List ℕ) (index : ℕ) (held : Bool)
+    → row_rest job.terminator job.delimiters 0 (given ++ [])
+    ≡ pushed ++ row_rest job.terminator job.delimiters index (cond held (job.terminator ∷ []) [])
     → IsPrefix (paste_serial_decided job (record { bytes = given; eof = false })) pushed
-serial_is_decided job given pushed now on =
-    let p = line_split job.terminator given in
-    let ls = complete_lines job.terminator given in
-    let all : lines job.terminator given ≡ ls ++ lines job.terminator p.piece = ap (lines job.terminator) p.is
-    ∙ lines_of_unlines job.terminator ls p.piece p.whole in
-    let pushed_is : join_with_cycle job.delimiters 0 (lines job.terminator given) ≡ pushed =
-    append_cancel_right (join_with_cycle job.delimiters 0 (lines job.terminator given)) pushed (job.terminator ∷ []) (
-    ap (λ (l : List ℕ). join_with_cycle job.delimiters 0 (lines job.terminator l) ++ job.terminator ∷ [])
-    (sym (append-nil given)) ∙ on [] ∙ ap (λ (l : List ℕ). pushed ++ l) (row_end job.terminator job.delimiters now)
-    ) in
-    let b = joined_begins job.terminator job.delimiters 0 ls (lines job.terminator p.piece) in record {
+serial_is_decided job given pushed index held on =
+    let end = job.terminator in
+    let join = join_with_cycle job.delimiters 0 in
+    let p = line_split end given in
+    let ls = complete_lines end given in
+    let all : lines end given ≡ ls ++ lines end p.piece = ap (lines end) p.is ∙ lines_of_unlines end ls p.piece p.whole in
+    let pushed_is : join (lines end given) ≡ pushed = append_cancel_right (join (lines end given)) pushed (end ∷ [])
+    (ap (λ (l : List ℕ). join (lines end l) ++ end ∷ []) (sym (append-nil given)) ∙ on
+    ∙ ap (λ (l : List ℕ). pushed ++ l) (row_end held)) in
+    let b = joined_begins end job.delimiters 0 ls (lines end p.piece) in record {
       rest = b.rest;
-      is = sym pushed_is ∙ ap (join_with_cycle job.delimiters 0) all ∙ b.is ∙ ap (λ (l : List ℕ). l ++ b.rest)
-          (sym (append-nil (join_with_cycle job.delimiters 0 ls)));
+      is = sym pushed_is ∙ ap join all ∙ b.is ∙ ap (λ (l : List ℕ). l ++ b.rest) (sym (append-nil (join ls)));
     }
+  where
+    row_end : (t : Bool)
+        → row_rest job.terminator job.delimiters index (cond t (job.terminator ∷ []) []) ≡ job.terminator ∷ []
+    row_end true = rw (byte_eq job.terminator) refl
+    row_end false = refl

@@ -2,67 +2,26 @@
 -- of these lines are replaced by the cycle (the delimiters of the row, and a last entry that keeps the terminator),
 -- they become the row. So bytes with count * n terminators, the last at the end, become `count` rows.
 use Rattle.ptflow.proofs.Common.{◌≡◌, ◌≢◌, ℕ, zero, suc, ◌+◌, ◌-◌, ◌*◌, ◌%◌, ◌<◌, ◌≤◌, Bool, cond, List, [], ◌∷◌, ◌++◌}
-use Rattle.ptflow.proofs.Common.{Option, None, Some, length, map, take, drop, set, get_or, refl, sym, ◌∙◌, ap, subst}
-use Rattle.ptflow.proofs.Common.{arith, append_assoc, length-append, length-drop, take-append-drop, ⊎_elim, inl}
-use Rattle.ptflow.proofs.Common.{unwrap_or, option_to_list, count_by, cases_eq, cases_lt, eq-eqb, ne_eqb, mod-mul-add}
-use Rattle.ptflow.proofs.Common.{take_more, take_all, nil_from_length, length-take-le, length-set, get_or_append_left}
-use Rattle.ptflow.proofs.Common.{get_or_push, take_at, All-get_or, All-take, All-drop, All-from_recursion}
+use Rattle.ptflow.proofs.Common.{None, length, map, take, drop, set, get_or, refl, sym, ◌∙◌, ap, subst}
+use Rattle.ptflow.proofs.Common.{arith, append_assoc, length-drop, take-append-drop, ⊎_elim, inl}
+use Rattle.ptflow.proofs.Common.{count_by, cases_eq, cases_lt, eq-eqb, ne_eqb, mod-mul-add}
+use Rattle.ptflow.proofs.Common.{take_more, take_all, nil_from_length, length-take-le, length-set}
+use Rattle.ptflow.proofs.Common.{All-get_or, All-take, All-drop, All-from_recursion}
 use Rattle.ptflow.proofs.Common.{recursion_from_All, sum_by-cons, sum_by-append, sum_by-set, is_byte, unlines, lines}
 use Rattle.ptflow.proofs.Common.{IsLine, AreLines, EndsWithByte, Output, PushEffect, push_nothing, Reader, IsSound}
-use Rattle.ptflow.proofs.Common.{budget, advance_ok_take, byte_eq, byte_ne, unlines-append, lines_are, the_lines}
-use Rattle.ptflow.proofs.Common.{delim_at, no_reader, reader_at, update_at, delimiter, join_with_cycle, uses_of}
-use Rattle.ptflow.proofs.Common.{columns, rows, IsRowCycle, IsSharedCycle, IsWholeRows, with_cycle, LinesTaken}
+use Rattle.ptflow.proofs.Common.{budget, advance_ok_take, byte_eq, unlines-append, lines_are, the_lines}
+use Rattle.ptflow.proofs.Common.{no_reader, reader_at, update_at, join_with_cycle, uses_of}
+use Rattle.ptflow.proofs.Common.{columns, rows, IsSharedCycle, IsWholeRows, LinesTaken, replaced, byte_of, after_cell, cells_text, mod-eq_of_lt}
 use Rattle.ptflow.proofs.Common.{RowShape, BufferedRowsPre, RowsTaken, RowsWritten}
-use Rattle.std.specs.Prelude.{slice_index_or}
 use Rattle.ptflow.proofs.Vectors.FindNth.{none_counted}
 use Rattle.ptflow.proofs.PasteLemmas.Grid.{Column, for_each_cell_unique, top_of, grid_step, uses_here, uses_before_lt}
 use Rattle.ptflow.proofs.PasteLemmas.Grid.{last_use, update_here, update_there}
 use Rattle.ptflow.proofs.PasteLemmas.FillRow.{at_same, at_other, at_index}
 use Rattle.ptflow.proofs.PasteLemmas.LinesTaken.{nothing_taken}
-use Rattle.ptflow.proofs.PasteLemmas.RowsTaken.{rows_taken_none}
+use Rattle.ptflow.proofs.PasteLemmas.RowsTaken.{rows_taken_none, row_text}
 use Rattle.ptflow.proofs.PasteLemmas.BufferedRows.{consumed_none, consumed_more}
-use Rattle.ptflow.proofs.PasteLemmas.Cycle.{cycle-append, length-cycle}
-
--- ---- the cycle of one row
-
--- The cycle so far: the delimiters after the columns before column `n`.
-pub record CyclePrefix (delims : List (Option ℕ)) (n : ℕ) (cycle : List (Option ℕ)) : Type 0 where
-  pub count : length cycle + 1 ≡ n
-  pub between : (c : ℕ) → c + 1 < n → (d : ℕ) × (slice_index_or cycle c None ≡ Some d) × (delimiter delims c ≡ d ∷ [])
-
-module _ {delims : List (Option ℕ)} {n : ℕ} {cycle : List (Option ℕ)} (t : CyclePrefix delims n cycle) where
-  -- A push does not change the entries before it.
-  stays : (turn : Option ℕ) (c : ℕ) → c + 1 < n
-      → (d : ℕ) × (slice_index_or (cycle ++ turn ∷ []) c None ≡ Some d) × (delimiter delims c ≡ d ∷ [])
-  stays turn c low =
-      let (d, there, is) = t.between c low in
-      (d, get_or_append_left cycle (turn ∷ []) None c (omega (arith, low, t.count)) ∙ there, is)
-
-  pub cycle_few : (turn : Option ℕ) {after : List (Option ℕ)} {size : ℕ} → after ≡ cycle ++ turn ∷ [] → n < size
-      → size ≤ 64 → length after < 64
-  cycle_few turn is low few = omega (arith, ap length is, length-append cycle (turn ∷ []), t.count)
-
-  pub cycle_more : {d : ℕ} {after : List (Option ℕ)} → after ≡ cycle ++ Some d ∷ [] → delim_at delims (n - 1) ≡ Some d
-      → CyclePrefix delims (n + 1) after
-  cycle_more {d} is delim = rw is (record {
-    count = omega (arith, length-append cycle (Some d ∷ []), t.count);
-    between = λ c low. ⊎_elim
-        (stays (Some d) c)
-        (λ here. (
-          d,
-          get_or_push cycle (Some d) None c (omega (arith, here, low, t.count)),
-          (let number : c ≡ n - 1 = omega (arith, here, low) in ap (delimiter delims) number ∙ ap option_to_list delim),
-        ))
-        (cases_lt (c + 1) n);
-  })
-
-  pub cycle_done : {size : ℕ} {after : List (Option ℕ)} → n ≡ size → after ≡ cycle ++ None ∷ []
-      → IsRowCycle delims size after
-  cycle_done all is = rw (is, ← all) (record {
-    count = omega (arith, length-append cycle (None ∷ []), t.count);
-    between = stays None;
-    last = λ c here. get_or_push cycle None None c (omega (arith, here, t.count));
-  })
+use Rattle.ptflow.proofs.PasteLemmas.Replaced.{replaced-append, replaced_line}
+use Rattle.ptflow.specs.declared.simd.replace.Cycle.{Cycle}
 
 -- ---- complete rows are known by the number of terminators
 
@@ -116,18 +75,6 @@ AreLines-drop end n ls are_lines =
     recursion_from_All (IsLine end) (drop n ls)
     (All-drop (IsLine end) n ls (All-from_recursion (IsLine end) ls are_lines))
 
--- Replacing commutes with taking a prefix.
-pub cycle-take : (end : ℕ) (cycle : List (Option ℕ)) (at number : ℕ) (bytes : List ℕ) → at ≤ length bytes
-    → take at (with_cycle end cycle number bytes) ≡ with_cycle end cycle number (take at bytes)
-cycle-take end cycle at number bytes within =
-    let front = take at bytes in
-    let long : length (with_cycle end cycle number front) ≡ at = length-cycle end cycle number front
-    ∙ length-take-le at bytes within in
-    ap (λ (l : List ℕ). take at (with_cycle end cycle number l)) (sym (take-append-drop at bytes))
-    ∙ ap (take at) (cycle-append end cycle number front (drop at bytes))
-    ∙ take_at (with_cycle end cycle number front)
-    (with_cycle end cycle (number + count_by (is_byte end) front) (drop at bytes)) at long
-
 -- The lines `ls` in rows of n.
 abbrev pub rows_in : ℕ → ℕ → List (List ℕ) → List (List (List ℕ))
 rows_in n zero ls = []
@@ -137,47 +84,38 @@ length-rows : (n k : ℕ) (ls : List (List ℕ)) → length (rows_in n k ls) ≡
 length-rows n zero ls = refl
 length-rows n (suc k) ls = ap suc (length-rows n k (drop n ls))
 
-module _ (end n : ℕ) (delims cycle : List (Option ℕ)) (t : IsRowCycle delims n cycle) where
-  -- A line contains no terminator, so its bytes stay.
-  line_stays : (number : ℕ) (line rest : List ℕ) → IsLine end line
-      → with_cycle end cycle number (line ++ rest) ≡ line ++ with_cycle end cycle number rest
-  line_stays number [] rest free = refl
-  line_stays number (b ∷ line) rest (other, free) =
-      rw (byte_ne end b other) (ap (λ (l : List ℕ). b ∷ l) (line_stays number line rest free))
+module _ {row : RowShape} {cycle : Cycle} (t : IsSharedCycle row cycle) where
+  abbrev n : ℕ
+  n = length row.cells
 
-  line_with_cycle : (number : ℕ) (line rest : List ℕ) → IsLine end line
-      → with_cycle end cycle number ((line ++ end ∷ []) ++ rest) ≡ line ++ unwrap_or (delim_at cycle number) end
-      ∷ with_cycle end cycle (number + 1) rest
-  line_with_cycle number line rest free =
-      ap (with_cycle end cycle number) (append_assoc line (end ∷ []) rest) ∙ line_stays number line (end ∷ rest) free
-      ∙ rw (byte_eq end) refl
-
-  cycle_at : (k c : ℕ) → c < n → delim_at cycle (k * n + c) ≡ slice_index_or cycle c None
-  cycle_at k c low = ap (λ (m : ℕ). slice_index_or cycle m None)
-      (ap (λ (size : ℕ). (k * n + c) % size) t.count ∙ mod-mul-add k n c low)
+  abbrev all_replaced : ℕ → List ℕ → List ℕ
+  all_replaced = replaced row.terminator (byte_of cycle)
 
   -- The fields of a row from column c on.
-  row_with_cycle : (k c : ℕ) (ls : List (List ℕ)) → AreLines end ls → c + length ls ≡ n → 0 < length ls
-      → with_cycle end cycle (k * n + c) (unlines end ls) ≡ join_with_cycle delims c ls ++ end ∷ []
-  row_with_cycle k c [] are_lines all some = absurd (omega (arith, some))
-  row_with_cycle k c (line ∷ []) (free, none) all some =
-      let last : delim_at cycle (k * n + c) ≡ None = cycle_at k c (omega (arith, all))
-      ∙ t.last c (omega (arith, all)) in
-      line_with_cycle (k * n + c) line [] free ∙ ap (λ (d : Option ℕ). line ++ unwrap_or d end ∷ []) last
-  row_with_cycle k c (line ∷ next ∷ ls) (free, are_lines) all some =
-      let (d, there, is) = t.between c (omega (arith, all)) in
-      let here : delim_at cycle (k * n + c) ≡ Some d = cycle_at k c (omega (arith, all)) ∙ there in
+  row_replaced : (k c : ℕ) (ls : List (List ℕ)) → AreLines row.terminator ls → c + length ls ≡ n
+      → all_replaced (k * n + c) (unlines row.terminator ls) ≡ cells_text row c ls
+  row_replaced k c [] are_lines all = refl
+  row_replaced k c (line ∷ ls) (free, are_lines) all =
+      let rest = unlines row.terminator ls in
+      let low : c < n = omega (arith, all) in
+      let less : c < cycle.len = omega (arith, low, t.len) in
+      let index : (k * n + c) % cycle.len ≡ c % cycle.len =
+      ap (λ (size : ℕ). (k * n + c) % size) t.len ∙ mod-mul-add k n c low ∙ sym (mod-eq_of_lt less) in
+      let byte = ap (λ m. get_or cycle.unrolled m 0 ∷ []) index ∙ t.bytes c low in
       let number : k * n + c + 1 ≡ k * n + (c + 1) = omega arith in
-      line_with_cycle (k * n + c) line (unlines end (next ∷ ls)) free
-      ∙ rw (here, number, row_with_cycle k (c + 1) (next ∷ ls) are_lines (omega (arith, all)) (omega arith), is)
-      (simp append_assoc)
+      let more = ap (λ m. all_replaced m rest) number ∙ row_replaced k (c + 1) ls are_lines (omega (arith, all)) in
+      ap (all_replaced (k * n + c)) (append_assoc line (row.terminator ∷ []) rest)
+      ∙ replaced_line row.terminator (byte_of cycle) (k * n + c) line rest free
+      ∙ (λ i. line ++ (byte i ++ more i)) ∙ sym (append_assoc line (after_cell row c) (cells_text row (c + 1) ls))
 
-  -- All rows from row k on, each with its terminator.
-  pub rows_with_cycle : (some : 0 < n) (k more : ℕ) (ls : List (List ℕ)) → AreLines end ls → length ls ≡ more * n
-      → with_cycle end cycle (k * n) (unlines end ls) ≡ unlines end (map (join_with_cycle delims 0) (rows_in n more ls))
-  rows_with_cycle some k zero [] are_lines long = refl
-  rows_with_cycle some k zero (line ∷ ls) are_lines long = absurd (omega (arith, long))
-  rows_with_cycle some k (suc more) ls are_lines long =
+  -- All rows from row k on.
+  rows_replaced : (k more : ℕ) (ls : List (List ℕ)) → AreLines row.terminator ls → length ls ≡ more * n
+      → all_replaced (k * n) (unlines row.terminator ls)
+      ≡ unlines row.terminator (map (join_with_cycle row.delims 0) (rows_in n more ls))
+  rows_replaced k zero [] are_lines long = refl
+  rows_replaced k zero (line ∷ ls) are_lines long = absurd (omega (arith, long))
+  rows_replaced k (suc more) ls are_lines long =
+      let end = row.terminator in
       let size : suc more * n ≡ n + more * n = omega arith in
       let first = take n ls in
       let rest = drop n ls in
@@ -186,13 +124,13 @@ module _ (end n : ℕ) (delims cycle : List (Option ℕ)) (t : IsRowCycle delims
       let start : k * n ≡ k * n + 0 = omega arith in
       let next : k * n + count_by (is_byte end) (unlines end first) ≡ (k + 1) * n =
       omega (arith, ends_of_lines end first whole_first, first_long) in
-      ap (λ (l : List (List ℕ)). with_cycle end cycle (k * n) (unlines end l)) (sym (take-append-drop n ls))
-      ∙ ap (with_cycle end cycle (k * n)) (unlines-append end first rest)
-      ∙ cycle-append end cycle (k * n) (unlines end first) (unlines end rest)
-      ∙ (λ i. (ap (λ (m : ℕ). with_cycle end cycle m (unlines end first)) start
-      ∙ row_with_cycle k 0 first whole_first (omega (arith, first_long)) (omega (arith, first_long, some))) i
-      ++ (ap (λ (m : ℕ). with_cycle end cycle m (unlines end rest)) next
-      ∙ rows_with_cycle some (k + 1) more rest (AreLines-drop end n ls are_lines)
+      ap (λ (l : List (List ℕ)). all_replaced (k * n) (unlines end l)) (sym (take-append-drop n ls))
+      ∙ ap (all_replaced (k * n)) (unlines-append end first rest)
+      ∙ replaced-append end (byte_of cycle) (k * n) (unlines end first) (unlines end rest)
+      ∙ (λ i. (ap (λ (m : ℕ). all_replaced m (unlines end first)) start ∙ row_replaced k 0 first whole_first (omega (arith, first_long))
+      ∙ row_text row 0 first (omega (arith, first_long)) (omega (arith, first_long, t.some))) i
+      ++ (ap (λ (m : ℕ). all_replaced m (unlines end rest)) next
+      ∙ rows_replaced (k + 1) more rest (AreLines-drop end n ls are_lines)
       (omega (arith, length-drop n ls, long, size))) i)
 
 -- ---- the grid of one input
@@ -265,7 +203,7 @@ module _ (cells : List ℕ) (input : ℕ) (same : (c : ℕ) → c < length cells
 
 -- ---- the complete rows in the buffer
 
-module _ {row : RowShape} {cycle : List (Option ℕ)} (t : IsSharedCycle row cycle) (old : List Reader)
+module _ {row : RowShape} {cycle : Cycle} (t : IsSharedCycle row cycle) (old : List Reader)
     (low : get_or row.cells 0 0 < length old) (clean : (reader_at old (get_or row.cells 0 0)).fault ≡ None)
     (sound : IsSound (reader_at old (get_or row.cells 0 0))) {count : ℕ} (some : 0 < count)
     (within : count ≤ length (reader_at old (get_or row.cells 0 0)).buffered)
@@ -328,7 +266,7 @@ module _ {row : RowShape} {cycle : List (Option ℕ)} (t : IsSharedCycle row cyc
       ) (nothing_taken (omega arith)))
       (cases_eq q input)
 
-  rows_of_input : RowsTaken row old (set old input now) (with_cycle end cycle 0 (take count was.buffered))
+  rows_of_input : RowsTaken row old (set old input now) (replaced end (byte_of cycle) 0 (take count was.buffered))
   rows_of_input = record {
     taken_rows = rows_in (length cells) rs.count rs.ls;
     ls = lines_of_input input rs.ls;
@@ -348,20 +286,20 @@ module _ {row : RowShape} {cycle : List (Option ℕ)} (t : IsSharedCycle row cyc
     );
     is =
         let start : 0 ≡ 0 * length cells = omega arith in
-        ap (with_cycle end cycle 0) rs.is ∙ ap (λ (m : ℕ). with_cycle end cycle m (unlines end rs.ls)) start
-        ∙ rows_with_cycle end (length cells) row.delims cycle t.is_cycle t.some 0 rs.count rs.ls rs.are_lines rs.long;
+        (λ i. replaced end (byte_of cycle) (start i) (rs.is i))
+        ∙ rows_replaced t 0 rs.count rs.ls rs.are_lines rs.long;
   }
 
 -- The rows in the buffer, by the bytes that were copied and pushed.
-pub copied_rows : {row : RowShape} {cycle : List (Option ℕ)} → IsSharedCycle row cycle → {old : List Reader}
+pub copied_rows : {row : RowShape} {cycle : Cycle} → IsSharedCycle row cycle → {old : List Reader}
     → BufferedRowsPre row old → (d : Reader) → IsSound (get_or old (get_or row.cells 0 0) d)
     → {count : ℕ} → 0 < count → count ≤ length (get_or old (get_or row.cells 0 0) d).buffered
-    → IsWholeRows row.terminator (length cycle) (take count (get_or old (get_or row.cells 0 0) d).buffered)
+    → IsWholeRows cycle.terminator cycle.len (take count (get_or old (get_or row.cells 0 0) d).buffered)
     → (e : Reader) {r : Reader} → r ≡ record (get_or old (get_or row.cells 0 0) e) {
       buffered = drop count (get_or old (get_or row.cells 0 0) e).buffered;
     }
     → {written : List ℕ}
-    → written ≡ with_cycle row.terminator cycle 0 (take count (get_or old (get_or row.cells 0 0) d).buffered)
+    → written ≡ replaced cycle.terminator (byte_of cycle) 0 (take count (get_or old (get_or row.cells 0 0) d).buffered)
     → {out pushed : Output} → PushEffect out pushed written
     → RowsWritten row old (set old (get_or row.cells 0 0) r) out pushed
 copied_rows {row} {cycle} t {old} ready d sound {count} some few rs e {r} step {written} copied wrote =
@@ -370,11 +308,11 @@ copied_rows {row} {cycle} t {old} ready d sound {count} some few rs e {r} step {
     let is_read = at_index old p d low in
     record {
       written = written;
-      rows = rw (copied, is_read, step, at_index old p e low)
+      rows = rw (copied, t.terminator, is_read, step, at_index old p e low)
           (rows_of_input t old low (ready.unfailed p (omega (arith, uses_before_lt row.cells 0 t.some)))
           (subst IsSound is_read sound) some
           (omega (arith, few, ap (λ (x : Reader). length x.buffered) is_read))
-          (rw (is_read, t.is_cycle.count) at rs));
+          (rw (is_read, t.terminator, t.len) at rs));
       consumed = consumed_more consumed_none low (at_index old p e low) (record { size = count; is = step });
       wrote = wrote;
     }

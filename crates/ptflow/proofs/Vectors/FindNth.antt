@@ -1,14 +1,14 @@
 -- The n-th item of a list that passes a test, by the bits of a mask of which the lowest n are cleared; a field starts
 -- after the n-th delimiter. Then the terminators in 64 bytes, which are processed in order by clearing the lowest bit.
 use Rattle.ptflow.proofs.Common.{◌≡◌, ⊎_elim, ℕ, zero, suc, ◌+◌, ◌-◌, ◌*◌, ◌/◌, ◌%◌, ◌^◌, ◌<◌, ◌≤◌, min, Bool, true}
-use Rattle.ptflow.proofs.Common.{false, cond, not, Option, Some, List, [], ◌∷◌, ◌++◌, length, map, take, drop, get_or}
+use Rattle.ptflow.proofs.Common.{false, cond, not, Option, Some, List, [], ◌∷◌, length, map, take, drop, get_or}
 use Rattle.ptflow.proofs.Common.{refl, sym, ◌∙◌, ap, subst, arith, get_or-take, length-drop, count_ones, count_by}
 use Rattle.ptflow.proofs.Common.{prefix_len, mask_l, chunk, take-add, take-take, length-take-le, get_or-le-sum_by}
-use Rattle.ptflow.proofs.Common.{sum_by-cons, sum_by-append, sum_by-take-le, trailing_mask_l, ones-mask_l, get_or-chunk}
-use Rattle.ptflow.proofs.Common.{length-chunk, IsFirstByte, NoneBefore, Passes, is_byte, line_before_terminator}
-use Rattle.ptflow.proofs.Common.{line_if_not_found, take_all, Nowhere, None, option_map, nowhere_trans, IsLine, byte_ne}
-use Rattle.ptflow.proofs.Common.{IsNth, HasTerminators, put_chunk, take_more_put_chunk, length-put_chunk, length-set}
-use Rattle.ptflow.proofs.Common.{unwrap_or, delim_at, with_cycle, slice_set, count_by_more_yes, cases_lt, length-map}
+use Rattle.ptflow.proofs.Common.{sum_by-cons, sum_by-append, sum_by-take-le, trailing_mask_l, ones-mask_l}
+use Rattle.ptflow.proofs.Common.{get_or-chunk, length-chunk, IsFirstByte, NoneBefore, Passes, is_byte}
+use Rattle.ptflow.proofs.Common.{line_before_terminator, line_if_not_found, take_all, Nowhere, None, option_map}
+use Rattle.ptflow.proofs.Common.{nowhere_trans, IsLine, byte_ne, IsNth, HasTerminators}
+use Rattle.ptflow.proofs.Common.{count_by_more_yes, cases_lt, length-map}
 use Rattle.std.proofs.lemmas.List.{get_or-drop, drop-map}
 use Rattle.std.proofs.Common.{pow-suc, mul_comm, div-one}
 use Rattle.std.proofs.Math.Nat.{div-div-eq-div-mul, zero-div}
@@ -16,7 +16,6 @@ use Rattle.ptflow.proofs.Vectors.Lanes.{map-id}
 use lib.Bits.{bit_and, and_step, and_self, and_zero_l}
 use lib.Count.{count_trailing_zeros}
 use Rattle.ptflow.proofs.CutLemmas.FieldOffsets.{rest_of}
-use Rattle.ptflow.proofs.PasteLemmas.Cycle.{first_replaced, replaced_next, all_replaced, set_in_chunk}
 
 -- ---- bits of a mask
 
@@ -305,75 +304,3 @@ module _ {d : ℕ} {block : List ℕ} {from all marked : ℕ} (n start : ℕ) (h
         first = next_is p block start _ fits is as_many;
         counted = omega (arith, one_after p block start _ fits is as_many, as_many, ends);
       }
-
--- ---- the terminators of a chunk, replaced one after another
-
--- n terminators of the 64 bytes at an index were replaced, and the mask has the others
-pub record ReplaceInvariant (end : ℕ) (delims : List (Option ℕ)) (first at : ℕ) (from was : List ℕ) (n marked : ℕ)
-    (to : List ℕ) : Type 0 where
-  pub room : at + 64 ≤ length from
-  pub same : length was ≡ length from
-  pub bits : marked ≡ mask_l (without n (map (is_byte end) (chunk at 64 from)))
-  pub long : length to ≡ length from
-  pub replaced : take (at + 64) to ≡ take at was ++ first_replaced end delims n first (chunk at 64 from)
-
-pub replace_starts : (end : ℕ) (delims : List (Option ℕ)) (first at : ℕ) (from was : List ℕ) {marked : ℕ}
-    → at + 64 ≤ length from → length was ≡ length from → marked ≡ mask_l (map (is_byte end) (chunk at 64 from))
-    → ReplaceInvariant end delims first at from was 0 marked (put_chunk at was (chunk at 64 from))
-replace_starts end delims first at from was room same is =
-    let ends = chunk at 64 from in
-    let long : length ends ≡ 64 = length-chunk at 64 from room in
-    record {
-      room = room;
-      same = same;
-      bits = is;
-      long = cc (length-put_chunk at was ends);
-      replaced = take_more_put_chunk at was ends (at + 64) (omega arith) (omega arith);
-    }
-
-module _ {end : ℕ} {delims : List (Option ℕ)} {first at : ℕ} {from was : List ℕ} {n marked : ℕ} {to : List ℕ}
-    (r : ReplaceInvariant end delims first at from was n marked to)
-    {all : ℕ} (is : all ≡ mask_l (map (is_byte end) (chunk at 64 from))) where
-  abbrev ends : List ℕ
-  ends = chunk at 64 from
-
-  ends_counted : count_ones all ≡ count_by (is_byte end) ends
-  ends_counted = ap count_ones is ∙ ones-mask_l (is_byte end) ends
-
-  module _ (some : n < count_ones all) where
-    abbrev bit_at : ℕ
-    bit_at = count_trailing_zeros 64 marked
-
-    bit_at_index : IsNth (is_byte end) 0 n ends bit_at
-    bit_at_index = after_set (is_byte end) ends n (omega (arith, length-chunk at 64 from r.room))
-        (omega (arith, ends_counted)) r.bits
-
-    bit_at_low : bit_at < 64
-    bit_at_low = let (within, _, _) = bit_at_index in omega (arith, within, length-chunk at 64 from r.room)
-
-    pub end_within : at + bit_at < length to
-    end_within = omega (arith, bit_at_low, r.room, r.long)
-
-    -- the lowest one is replaced by its delimiter
-    pub replace_next : {rest put : ℕ} {to' : List ℕ} → marked < 2 ^ 64
-        → put ≡ unwrap_or (delim_at delims (first + n)) end → rest ≡ bit_and marked ((marked + (2 ^ 64 - 1)) % 2 ^ 64)
-        → to' ≡ slice_set to (at + bit_at) put → ReplaceInvariant end delims first at from was (n + 1) rest to'
-    replace_next {rest} {put} {to'} small put_is rest_is to_is =
-        let next : suc n ≡ n + 1 = omega arith in
-        let front : length (take at was) ≡ at = length-take-le at was (omega (arith, r.room, r.same)) in
-        record {
-          room = r.room;
-          same = r.same;
-          bits = cc (cleared n (map (is_byte end) ends) small r.bits);
-          long = cc (length-set to (at + bit_at) put, r.long);
-          replaced =
-              cc (
-                set_in_chunk to (take at was) (first_replaced end delims n first ends) at 64 bit_at put r.replaced
-                    front bit_at_low,
-                replaced_next end delims n first ends bit_at bit_at_index,
-              );
-        }
-
-  pub replace_end : n ≡ count_ones all
-      → (n ≡ count_by (is_byte end) ends) × (take (at + 64) to ≡ take at was ++ with_cycle end delims first ends)
-  replace_end over = (over ∙ ends_counted, cc (all_replaced end delims first ends n (over ∙ ends_counted), r.replaced))

@@ -1,157 +1,146 @@
-//! Replaces line terminators by delimiters, many at a time. `paste -s` uses it, and `cycle` its last part.
+//! Replaces line terminators by the bytes of a cycle, many at a time. `paste -s` uses it, and `paste` for rows whose
+//! columns share one input.
 
-ghost use Rattle.std.specs.Prelude.{◌≡◌, ◌<◌, ◌+◌, ◌%◌, ◌++◌, length, map, take};
+ghost use Rattle.std.specs.Prelude.{◌≡◌, ◌<◌, ◌≤◌, ◌+◌, ◌%◌, ◌++◌, [], ◌∷◌, ℕ, length, take, slice_index_or};
 ghost use Rattle.std.specs.List.{count_by};
 ghost use Rattle.std.specs.Simd.Lanes.{chunk};
 ghost use Rattle.memchr.specs.Find.{is_byte};
-ghost use Rattle.ptflow.specs.Private.Paste.SerialRest.{with_delimiter, with_cycle, ReplaceChunkPre, ReplacePre};
-ghost use Rattle.ptflow.specs.Private.Paste.SerialRest.{CyclePosPre, IsCyclePosAfter, IsReplacedTo};
+ghost use Rattle.ptflow.specs.Private.Paste.Unrolled.{IsUnrolled};
 
 use crate::simd::find_nth::match_mask;
 use crate::simd::shift::{ByteMap, map_bytes};
 use std::simd::prelude::*;
 
-/// The map that replaces the line terminator by one delimiter.
+/// The map that replaces the terminator by one byte.
 #[derive(Clone, Copy)]
 pub(crate) struct ReplaceTerminator {
     pub terminator: u8,
-    pub delim: u8,
+    pub byte: u8,
 }
 
 impl ByteMap for ReplaceTerminator {
-    ghost map_byte = { with_delimiter };
+    ghost use Rattle.ptflow.specs.Private.Paste.Replaced.{with_byte};
+
+    ghost map_byte = { with_byte };
 
     #[inline(always)]
     fn map16(self, v: u8x16) -> u8x16 {
         v.simd_eq(u8x16::splat(self.terminator))
-            .select(u8x16::splat(self.delim), v)
+            .select(u8x16::splat(self.byte), v)
     }
 }
 
-/// Copies `from` to `to`, with each terminator replaced by the delimiter. Both slices have the same length.
-pub(crate) fn replace_terminators(by: ReplaceTerminator, from: &[u8], to: &mut [u8])
-    requires { length to.old ≡ length from.now }
-    ensures { to.new ≡ map (with_delimiter by) from.now }
-{
-    map_bytes(by, from, to);
+/// At most 64 bytes that replace the terminators in turn: after the last one comes the first one again. They are
+/// unrolled to 128, so that 64 can be read from any start below 64.
+#[derive(Clone, Copy, Drop)]
+pub(crate) struct Cycle {
+    pub terminator: u8,
+    pub len: usize,
+    pub unrolled: [u8; 128],
+    ghost is_unrolled: { IsUnrolled len unrolled },
 }
 
-// A position in the cycle of delimiters: how many terminators were replaced, and the index of the next delimiter in the
-// list.
-#[derive(Clone, Copy)]
-pub(crate) struct CyclePos {
-    pub number: u64,
-    pub index: usize,
-}
+impl Cycle {
+    ghost use Rattle.ptflow.specs.Private.Paste.Replaced.{IsReplacedTo, byte_of, replaced};
 
-impl CyclePos {
-    // The position after one more terminator.
-    #[inline(always)]
-    fn next(self, delims: &[Option<u8>]) -> CyclePos
-        requires { CyclePosPre delims.now self 1 }
-        ensures { IsCyclePosAfter delims.now self 1 result }
+    /// The cycle of these bytes.
+    pub(crate) fn new(bytes: &[u8], terminator: u8) -> Cycle
+        requires { (0 < length bytes.now) × (length bytes.now ≤ 64) }
+        ensures terminator { result.terminator ≡ terminator }
+        ensures len { result.len ≡ length bytes.now }
+        ensures bytes { (number : ℕ) → byte_of result number
+            ≡ slice_index_or bytes.now (number % length bytes.now) 0 ∷ [] }
     {
-        let after = self.index + 1;
-        CyclePos {
-            number: self.number + 1,
-            index: if after == delims.len() { 0 } else { after },
+        let len = bytes.len();
+        let mut unrolled = [0; 128];
+        for number in 0..128usize {
+            unrolled[number] = bytes[number % len];
+        }
+        Cycle {
+            terminator,
+            len,
+            unrolled,
         }
     }
 
-    // The position after `count` more terminators.
+    // The index of the byte that is `count` bytes after the one at `index`.
     #[inline(always)]
-    pub(crate) fn after(self, count: usize, delims: &[Option<u8>]) -> CyclePos
-        requires { CyclePosPre delims.now self count }
-        ensures { IsCyclePosAfter delims.now self count result }
+    fn after(&self, index: usize, count: usize) -> usize
+        requires { (index < self.now.len) × (count ≤ 64) }
+        ensures { result ≡ (index + count) % self.now.len }
     {
-        let index = self.index + count;
-        CyclePos {
-            number: self.number + count as u64,
-            index: if index < delims.len() {
-                index
-            } else {
-                index % delims.len()
-            },
+        let next = index + count;
+        if next < self.len {
+            next
+        } else {
+            next % self.len
         }
     }
-}
 
-// Copies the 64 bytes at index `at`, with the terminators replaced by the next delimiters of the cycle. Returns the
-// position after them.
-#[inline(never)]
-fn replace_chunk(
-    delims: &[Option<u8>],
-    terminator: u8,
-    cycle_pos: CyclePos,
-    from: &[u8],
-    at: usize,
-    to: &mut [u8],
-) -> CyclePos
-    requires { ReplaceChunkPre delims.now cycle_pos at from.now to.old }
-    ensures long { length to.new ≡ length from.now }
-    ensures next { IsCyclePosAfter delims.now cycle_pos (count_by (is_byte terminator) (chunk at 64 from.now)) result }
-    ensures replaced { take (at + 64) to.new
-        ≡ take at to.old ++ with_cycle terminator delims.now cycle_pos.number (chunk at 64 from.now) }
-{
-    u8x64::from_slice(&from[at..]).copy_to_slice(&mut to[at..]);
-    let mut mask = match_mask(terminator, from, at);
-    let mut cycle_pos = cycle_pos;
-    for _end in 0..mask.count_ones() {
-        let end = at + mask.trailing_zeros() as usize;
-        to[end] = delims[cycle_pos.index].unwrap_or(terminator);
-        cycle_pos = cycle_pos.next(delims);
-        mask &= mask.wrapping_sub(1);
-    }
-    cycle_pos
-}
-
-// Like `replace_chunk`, for all chunks of 64 bytes, from the position after `number` terminators on. Returns the
-// position after them, and how many bytes they are.
-#[inline(always)]
-fn replace_chunks(
-    delims: &[Option<u8>],
-    terminator: u8,
-    number: u64,
-    from: &[u8],
-    to: &mut [u8],
-) -> (CyclePos, usize)
-    requires { ReplacePre delims.now number from.now to.old }
-    ensures { IsReplacedTo terminator delims.now number result.0 result.1 from.now to.new }
-{
-    let mut cycle_pos = CyclePos {
-        number,
-        index: (number % delims.len() as u64) as usize,
-    };
-    let mut at = 0;
-    while from.len() - at >= 64 {
-        cycle_pos = replace_chunk(delims, terminator, cycle_pos, from, at, to);
-        at += 64;
-    }
-    (cycle_pos, at)
-}
-
-/// Copies `from` to `to`, with the terminators replaced by the delimiters of the cycle, from the position after
-/// `number` terminators on; a terminator stays if its delimiter is empty. Returns the number after the last one. Both
-/// slices have the same length.
-pub(crate) fn replace_cyclic(
-    delims: &[Option<u8>],
-    terminator: u8,
-    number: u64,
-    from: &[u8],
-    to: &mut [u8],
-) -> u64
-    requires { ReplacePre delims.now number from.now to.old }
-    ensures number { result ≡ number + count_by (is_byte terminator) from.now }
-    ensures replaced { to.new ≡ with_cycle terminator delims.now number from.now }
-{
-    let (mut cycle_pos, mut at) = replace_chunks(delims, terminator, number, from, to);
-    while at < from.len() {
-        to[at] = from[at];
-        if from[at] == terminator {
-            to[at] = delims[cycle_pos.index].unwrap_or(terminator);
-            cycle_pos = cycle_pos.next(delims);
+    // Copies the 64 bytes at index `at`, with their terminators replaced from the byte at `index` on. Returns the index
+    // of the next byte of the cycle.
+    #[inline(never)]
+    fn replace_chunk(&self, index: usize, from: &[u8], at: usize, to: &mut [u8]) -> usize
+        requires index { index < self.now.len }
+        requires room { at + 64 ≤ length from.now }
+        requires same { length to.old ≡ length from.now }
+        ensures long { length to.new ≡ length from.now }
+        ensures next { result ≡ (index + count_by (is_byte self.now.terminator) (chunk at 64 from.now)) % self.now.len }
+        ensures replaced { take (at + 64) to.new
+            ≡ take at to.old ++ replaced self.now.terminator (byte_of self.now) index (chunk at 64 from.now) }
+    {
+        let terminator = self.terminator;
+        u8x64::from_slice(&from[at..]).copy_to_slice(&mut to[at..]);
+        let mut mask = match_mask(terminator, from, at);
+        let count = mask.count_ones() as usize;
+        for after in 0..count {
+            let end = at + mask.trailing_zeros() as usize;
+            to[end] = self.unrolled[index + after];
+            mask &= mask.wrapping_sub(1);
         }
-        at += 1;
+        self.after(index, count)
     }
-    cycle_pos.number
+
+    /// Copies `from` to `to`, with the terminators replaced from the byte at `index` on. Returns the index of the next
+    /// byte of the cycle. Both slices have the same length.
+    pub(crate) fn replace(&self, index: usize, from: &[u8], to: &mut [u8]) -> usize
+        requires index { index < self.now.len }
+        requires same { length to.old ≡ length from.now }
+        ensures next { result ≡ (index + count_by (is_byte self.now.terminator) from.now) % self.now.len }
+        ensures replaced { to.new ≡ replaced self.now.terminator (byte_of self.now) index from.now }
+    {
+        let terminator = self.terminator;
+        if self.len == 1 {
+            let byte = self.unrolled[0];
+            map_bytes(ReplaceTerminator { terminator, byte }, from, to);
+            return 0;
+        }
+        let (mut index, mut at) = self.replace_chunks(index, from, to);
+        while at < from.len() {
+            to[at] = from[at];
+            if from[at] == terminator {
+                to[at] = self.unrolled[index];
+                index = self.after(index, 1);
+            }
+            at += 1;
+        }
+        index
+    }
+
+    // Like `replace`, for all chunks of 64 bytes. Returns the index of the next byte of the cycle, and how many bytes
+    // were copied.
+    #[inline(always)]
+    fn replace_chunks(&self, index: usize, from: &[u8], to: &mut [u8]) -> (usize, usize)
+        requires index { index < self.now.len }
+        requires same { length to.old ≡ length from.now }
+        ensures { IsReplacedTo self.now index result.0 result.1 from.now to.new }
+    {
+        let mut index = index;
+        let mut at = 0;
+        while from.len() - at >= 64 {
+            index = self.replace_chunk(index, from, at, to);
+            at += 64;
+        }
+        (index, at)
+    }
 }

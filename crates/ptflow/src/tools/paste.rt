@@ -18,9 +18,7 @@ mod shared_input;
 
 use crate::faults::FlowFault;
 use crate::slots::ensure_slots;
-use crate::tools::paste::buffered_rows::{
-    byte_after, copy_columns, copy_rows, copy_slot, move_to_front,
-};
+use crate::tools::paste::buffered_rows::{copy_columns, copy_rows, copy_slot, move_to_front};
 use crate::tools::paste::row::{BegunRow, OutBuf, RowFormat};
 use crate::tools::paste::shared_input::{shared_cycle, write_shared_rows};
 use ptlangs::jobs::PasteJob;
@@ -133,7 +131,7 @@ fn write_slot<A: Allocator + Copy, W: Sink>(
         (line store.now column ++ after_cell (shape_of row.entry) column) result }
 {
     let line = store.line(column);
-    match byte_after(row, column, column % row.delims.len()) {
+    match row.byte_after(column) {
         Some(byte) => out.push_line(b"", line, &[byte]),
         None => out.push_line(b"", line, b""),
     }

@@ -9,34 +9,11 @@ ghost use Rattle.ptflow.specs.Private.Paste.RowCells.{after_cell, begun_after, b
 ghost use Rattle.ptflow.specs.Private.Paste.BufferedRows.{BufferedRowsPre, CopyCellPost, CopyColumnsPost, CopyRowsPost};
 ghost use Rattle.ptflow.specs.Private.Paste.BufferedRows.{LineCopied};
 
-use crate::tools::paste::row::{BegunRow, CopiedField, CopiedRows, OutBuf, RowFormat, copy_option};
+use crate::tools::paste::row::{
+    BegunRow, CopiedField, CopiedRows, OutBuf, RowFormat, copy_option, next_index,
+};
 use ptlines::{LineReader, Source, copy_short, find_byte, find_in_chunk};
 use std::simd::prelude::*;
-
-// The byte after a column: the delimiter with this index in the list, or after the last column the terminator.
-#[inline(always)]
-pub(crate) fn byte_after(row: RowFormat, column: usize, index: usize) -> Option<u8>
-    requires low { column < length row.cells.now }
-    requires index { index ≡ column % length row.delims.now }
-    ensures { option_to_list result ≡ after_cell (shape_of row.entry) column }
-{
-    if column + 1 == row.cells.len() {
-        return Some(row.terminator);
-    }
-    row.delims[index]
-}
-
-// The index of the next delimiter in a list of `count`.
-#[inline(always)]
-fn next_index(index: usize, count: usize) -> usize
-    requires { index < count }
-    ensures { result ≡ (index + 1) % count }
-{
-    if index + 1 == count {
-        return 0;
-    }
-    index + 1
-}
 
 // Copies the next line of a reader to `at` and consumes it, if it ends within the next `N` bytes: the vector that is
 // searched for the terminator is stored as it is. Returns the offset after the copy. The line is consumed before the
@@ -254,10 +231,9 @@ pub(crate) fn copy_slot(
     }
     copy_short(line, 0, line.len(), into, begun.end);
     let end = begun.end + line.len();
-    let index = column % row.delims.len();
     Some(BegunRow {
         count: column + 1,
-        end: copy_option(byte_after(row, column, index), into, end),
+        end: copy_option(row.byte_after(column), into, end),
         any_line: begun.any_line,
     })
 }

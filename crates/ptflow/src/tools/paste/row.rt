@@ -1,6 +1,9 @@
 //! A row of `paste`: the shape that all rows have, how much of one is copied, and the buffer for its output.
 
-ghost use Rattle.std.specs.Prelude.{◌≡◌, ◌<◌, ◌≤◌, ◌+◌, ◌++◌, length, option_to_list, take};
+ghost use Rattle.std.specs.Prelude.{◌≡◌, ◌<◌, ◌≤◌, ◌+◌, ◌%◌, ◌++◌, IfSome, length, option_to_list, take};
+ghost use Rattle.ptflow.specs.Private.Paste.Unrolled.{AreDelimiterBytes};
+
+use arrayvec::ArrayVec;
 
 // The columns of a row: the index of the reader of each, the list of delimiters, and the terminator of lines and rows.
 #[derive(Clone, Copy)]
@@ -9,6 +12,22 @@ pub(crate) struct RowFormat<'a> {
     pub terminator: u8,
     pub cells: &'a [usize],
     ghost some: { 0 < length delims.now },
+}
+
+impl<'a> RowFormat<'a> {
+    ghost use Rattle.ptflow.specs.Private.Paste.RowCells.{after_cell, shape_of};
+
+    // The byte after a column: its delimiter, or after the last column the terminator.
+    #[inline(always)]
+    pub(crate) fn byte_after(self, column: usize) -> Option<u8>
+        requires { column < length self.cells.now }
+        ensures { option_to_list result ≡ after_cell (shape_of self.entry) column }
+    {
+        if column + 1 == self.cells.len() {
+            return Some(self.terminator);
+        }
+        self.delims[column % self.delims.len()]
+    }
 }
 
 // A field that was copied up to `end`, and whether it is a line. The input has ended if it is not.
@@ -50,4 +69,32 @@ pub(crate) fn copy_option(byte: Option<u8>, into: &mut OutBuf, at: usize) -> usi
     };
     into[at] = byte;
     at + 1
+}
+
+// The index of the delimiter after the one at `index`, in a list of `count`.
+#[inline(always)]
+pub(crate) fn next_index(index: usize, count: usize) -> usize
+    requires { index < count }
+    ensures { result ≡ (index + 1) % count }
+{
+    if index + 1 == count {
+        return 0;
+    }
+    index + 1
+}
+
+// The delimiters after the first `count` columns, if these are at most 63, and no delimiter is empty.
+pub(crate) fn delimiter_bytes(delims: &[Option<u8>], count: usize) -> Option<ArrayVec<u8, 64>>
+    requires { 0 < length delims.now }
+    ensures { IfSome result (λ bytes. AreDelimiterBytes delims.now count bytes.items) }
+{
+    if count > 63 {
+        return None;
+    }
+    let mut bytes = ArrayVec::new();
+    for column in 0..count {
+        let byte = delims[column % delims.len()]?;
+        bytes.push(byte);
+    }
+    Some(bytes)
 }

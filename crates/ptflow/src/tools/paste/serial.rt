@@ -1,174 +1,137 @@
 //! `paste -s`: the engine that writes all lines of one input in one row, block by block. `ptrun` runs it over one input
 //! after the other.
-ghost use Rattle.std.specs.Prelude.{◌≡◌, ◌<◌, ◌≤◌, ◌+◌, ◌^◌, ◌++◌, ◌∷◌, [], true, false, OnOk, OnErr, IfOk};
-ghost use Rattle.std.specs.Prelude.{length, option_to_list, take};
-ghost use Rattle.ptlines.specs.Outputs.{PushEffect, PushPost};
+
+ghost use Rattle.std.specs.Prelude.{◌≡◌, ◌<◌, ◌≤◌, ◌+◌, ◌++◌, List, length, take, ℕ};
+ghost use Rattle.std.specs.Option.{ForSome};
 ghost use Rattle.ptlangs.specs.Jobs.{paste_job};
 ghost use Rattle.ptflow.specs.Passes.{PassPre, PassPost};
-ghost use Rattle.ptflow.specs.PasteText.{delimiter, paste_serial_tool};
-ghost use Rattle.ptflow.specs.Private.Passes.BlockLoop.{HasRoom};
-ghost use Rattle.ptflow.specs.Private.Paste.SerialRest.{next_position, leading_delimiter, CopyCellsPost, CopyBlockPost};
+ghost use Rattle.ptflow.specs.PasteText.{paste_serial_tool};
+ghost use Rattle.ptflow.specs.Private.Paste.Replaced.{IsDelimiterCycle};
 
 use crate::block_loop::{BlockFilter, run_blocks};
 use crate::faults::FlowFault;
-use crate::simd::replace::{ReplaceTerminator, replace_cyclic, replace_terminators};
-use crate::tools::paste::row::{OutBuf, copy_option};
-use ptlangs::delims::Delims;
+use crate::simd::replace::Cycle;
+use crate::tools::paste::row::{OutBuf, copy_option, delimiter_bytes, next_index};
 use ptlangs::jobs::PasteJob;
 use ptlines::{LineReader, Out, Sink, Source, Store, WriteFault, copy_short, find_byte};
 use std::alloc::Allocator;
 
-/// A position in a row: the number of the column, and whether its line is complete, so that a delimiter precedes the
-/// next byte.
+// The delimiters of a row, the terminator, and the cycle of the delimiters if there is one.
+#[derive(Clone, Copy)]
+struct SerialFormat<'a> {
+    delims: &'a [Option<u8>],
+    terminator: u8,
+    cycle: Option<Cycle>,
+    ghost some: { 0 < length delims.now },
+    ghost is_cycle: { ForSome cycle (IsDelimiterCycle delims.now terminator) },
+}
+
+// The cycle of the delimiters, if they are at most 63 and none is empty.
+fn delimiter_cycle(delims: &[Option<u8>], terminator: u8) -> Option<Cycle>
+    requires { 0 < length delims.now }
+    ensures { ForSome result (IsDelimiterCycle delims.now terminator) }
+{
+    let bytes = delimiter_bytes(delims, delims.len())?;
+    Some(Cycle::new(&bytes, terminator))
+}
+
+/// A position in a row: the index of the delimiter after the column, and whether the line of the column is complete, so
+/// that this delimiter precedes the next byte.
 #[derive(Clone, Copy)]
 pub(crate) struct ColumnPos {
-    pub number: u64,
+    pub index: usize,
     pub complete: bool,
 }
 
-// Moves to the column of the next byte: writes the delimiter if the line of the current column is complete.
-fn start_cell<A: Allocator, W: Sink>(
-    delims: &Delims<A>,
-    cell: ColumnPos,
-    out: &mut Out<W>,
-) -> Result<ColumnPos, WriteFault>
-    requires short { cell.number < 2 ^ 63 }
-    ensures next_position { IfOk result (λ after. after ≡ next_position cell) }
-    ensures wrote { PushEffect out.old out.new (leading_delimiter delims.now cell) }
-    ensures clean { OnOk result (out.new.write_failed ≡ false) }
-    ensures fault { OnErr result (out.new.write_failed ≡ true) }
-{
-    let delim = if cell.complete {
-        delims.at(cell.number)
-    } else {
-        None
-    };
-    match delim {
-        Some(byte) => out.push(&[byte])?,
-        None => out.push(b"")?,
-    }
-    Ok(ColumnPos {
-        number: cell.number + u64::from(cell.complete),
-        complete: false,
-    })
-}
+impl<'a> SerialFormat<'a> {
+    ghost use Rattle.ptflow.specs.Private.Paste.SerialRest.{CopyCellsPre, CopyCellsPost, serial_rest};
 
-// Copies bytes that begin in column `number`, with each terminator replaced by the delimiter after its column. Returns
-// the offset after the copy, and the column of the byte that follows.
-fn copy_cells_slow<A: Allocator>(
-    delims: &Delims<A>,
-    terminator: u8,
-    number: u64,
-    bytes: &[u8],
-    into: &mut OutBuf,
-) -> (usize, u64)
-    requires { HasRoom number 0 (length bytes.now) }
-    ensures copied_as { CopyCellsPost terminator delims.now number bytes.now result.1 [] (take result.0 into.new) }
-    ensures size_bound { result.0 ≤ length bytes.now }
-    ensures bound { result.1 ≤ number + length bytes.now }
-{
-    let mut number = number;
-    let mut rest = bytes;
-    let mut at = 0;
-    'pieces: while let Some(count) = find_byte(terminator, rest) {
-        copy_short(rest, 0, count, into, at);
-        at = copy_option(delims.at(number), into, at + count);
-        number += 1;
-        rest = &rest[count + 1..];
+    // Copies bytes to `at`, with each terminator replaced by the delimiter after its column, from the delimiter with
+    // this index on. Returns the offset after the copy, and the index of the next delimiter.
+    fn copy_cells_slow(
+        &self,
+        index: usize,
+        bytes: &[u8],
+        into: &mut OutBuf,
+        at: usize,
+    ) -> (usize, usize)
+        requires { CopyCellsPre self.now index bytes.now at }
+        ensures copied { CopyCellsPost self.now index bytes.now (take at into.old) result.1 (take result.0 into.new) }
+        ensures size_bound { result.0 ≤ at + length bytes.now }
+    {
+        let mut index = index;
+        let mut rest = bytes;
+        let mut at = at;
+        'pieces: while let Some(count) = find_byte(self.terminator, rest) {
+            copy_short(rest, 0, count, into, at);
+            at = copy_option(self.delims[index], into, at + count);
+            index = next_index(index, self.delims.len());
+            rest = &rest[count + 1..];
+        }
+        copy_short(rest, 0, rest.len(), into, at);
+        (at + rest.len(), index)
     }
-    copy_short(rest, 0, rest.len(), into, at);
-    (at + rest.len(), number)
-}
 
-// Like `copy_cells_slow`, but many bytes at a time if no delimiter is empty, so that the output is as long as the
-// input.
-#[inline(always)]
-fn copy_cells<A: Allocator>(
-    delims: &Delims<A>,
-    terminator: u8,
-    number: u64,
-    bytes: &[u8],
-    into: &mut OutBuf,
-) -> (usize, u64)
-    requires { HasRoom number 0 (length bytes.now) }
-    ensures copied_as { CopyCellsPost terminator delims.now number bytes.now result.1 [] (take result.0 into.new) }
-    ensures size_bound { result.0 ≤ length bytes.now }
-    ensures bound { result.1 ≤ number + length bytes.now }
-{
-    let count = bytes.len();
-    let list = delims.as_slice();
-    if let [Some(delim)] = list {
-        let by = ReplaceTerminator {
-            terminator,
-            delim: *delim,
+    // Like `copy_cells_slow`, but many bytes at a time if the delimiters are a cycle of bytes.
+    #[inline(always)]
+    fn copy_cells(&self, index: usize, bytes: &[u8], into: &mut OutBuf, at: usize) -> (usize, usize)
+        requires { CopyCellsPre self.now index bytes.now at }
+        ensures copied { CopyCellsPost self.now index bytes.now (take at into.old) result.1 (take result.0 into.new) }
+        ensures size_bound { result.0 ≤ at + length bytes.now }
+    {
+        let Some(cycle) = &self.cycle else {
+            return self.copy_cells_slow(index, bytes, into, at);
         };
-        replace_terminators(by, bytes, &mut into[..count]);
-        return (count, number);
+        let end = at + bytes.len();
+        (end, cycle.replace(index, bytes, &mut into[at..end]))
     }
-    if list.contains(&None) {
-        return copy_cells_slow(delims, terminator, number, bytes, into);
+
+    // Copies a block that begins at a position. If it ends with a terminator, the delimiter for it is left to the next
+    // block, as the line may be the last one. Returns the length of the copy, and the position of the next block.
+    fn copy_block(&self, cell: ColumnPos, block: &[u8], into: &mut OutBuf) -> (usize, ColumnPos)
+        requires index { cell.index < length self.now.delims.now }
+        requires some { (0 < length block.now) × (length block.now ≤ 8192) }
+        ensures copied { (more : List ℕ) → serial_rest self.now cell (block.now ++ more)
+            ≡ take result.0 into.new ++ serial_rest self.now result.1 more }
+        ensures size_bound { result.0 ≤ 8200 }
+        ensures index { result.1.index < length self.now.delims.now }
+    {
+        let held = [self.terminator];
+        let size = usize::from(cell.complete);
+        let (at, index) = self.copy_cells(cell.index, &held[..size], into, 0);
+        let count = block.len() - 1;
+        let (end, index) = self.copy_cells(index, &block[..count], into, at);
+        let complete = block[count] == self.terminator;
+        if complete {
+            return (end, ColumnPos { index, complete });
+        }
+        into[end] = block[count];
+        (end + 1, ColumnPos { index, complete })
     }
-    let number = replace_cyclic(list, terminator, number, bytes, &mut into[..count]);
-    (count, number)
 }
 
-// Copies a block that begins in column `number`, given as `bytes` and a last byte. If the block ends with a terminator,
-// the delimiter for it is not written yet, as the line may be the last one. Returns the offset after the copy, and the
-// position at which the next block begins.
-fn copy_block<A: Allocator>(
-    delims: &Delims<A>,
-    terminator: u8,
-    number: u64,
-    bytes: &[u8],
-    last: u8,
-    into: &mut OutBuf,
-) -> (usize, ColumnPos)
-    requires { HasRoom number 0 (length bytes.now) }
-    ensures copied_as { CopyBlockPost terminator delims.now number (bytes.now ++ last ∷ []) result.1
-        (take result.0 into.new) }
-    ensures size_bound { result.0 ≤ length bytes.now + 1 }
-    ensures bound { result.1.number ≤ number + length bytes.now }
-{
-    let (at, number) = copy_cells(delims, terminator, number, bytes, into);
-    let complete = last == terminator;
-    if complete {
-        return (at, ColumnPos { number, complete });
-    }
-    into[at] = last;
-    (at + 1, ColumnPos { number, complete })
-}
-
-/// The filter for `run_blocks`: the delimiters, the terminator, the position of the next byte, and a buffer for the
+/// The filter for `run_blocks`: the delimiters and the terminator, the position of the next byte, and a buffer for the
 /// output of a block.
 #[derive(Drop)]
-struct SerialPaste<'a, A: Allocator> {
-    delims: &'a Delims<A>,
-    terminator: u8,
+struct SerialPaste<'a> {
+    format: SerialFormat<'a>,
     cell: ColumnPos,
     buffer: OutBuf,
+    ghost index: { cell.index < length format.delims.now },
 }
 
-impl<'a, A: Allocator> BlockFilter for SerialPaste<'a, A> {
+impl<'a> BlockFilter for SerialPaste<'a> {
     ghost use Rattle.std.specs.Prelude.{◌≡◌};
     ghost use Rattle.ptflow.specs.Private.Paste.SerialRest.{serial_rest};
 
-    ghost rest = { λ t. serial_rest t.terminator t.delims.now t.cell };
+    ghost rest = { λ t. serial_rest t.format t.cell };
 
-    ghost counted = { λ t. t.cell.number };
+    ghost counted = { λ t. 0 };
 
-    ghost IsUnchanged = { λ s t. (t.delims.now ≡ s.delims.now) × (t.terminator ≡ s.terminator) };
+    ghost IsUnchanged = { λ s t. t.format ≡ s.format };
 
     fn process_block<W: Sink>(&mut self, block: &[u8], out: &mut Out<W>) -> Result<(), WriteFault> {
-        let next_position = start_cell(self.delims, self.cell, out)?;
-        let count = block.len() - 1;
-        let (end, after) = copy_block(
-            self.delims,
-            self.terminator,
-            next_position.number,
-            &block[..count],
-            block[count],
-            &mut self.buffer,
-        );
+        let (end, after) = self.format.copy_block(self.cell, block, &mut self.buffer);
         out.push(&self.buffer[..end])?;
         self.cell = after;
         Ok(())
@@ -176,7 +139,7 @@ impl<'a, A: Allocator> BlockFilter for SerialPaste<'a, A> {
 
     // Writes the terminator of the row.
     fn finish<W: Sink>(&self, out: &mut Out<W>) -> Result<(), WriteFault> {
-        out.push(&[self.terminator])
+        out.push(&[self.format.terminator])
     }
 }
 
@@ -204,11 +167,16 @@ pub fn paste_serial<A: Allocator + Copy, B: Allocator + Copy, S: Source, R: Sour
         return Err(FlowFault::Write);
     }
     reader.set_ending(job.zero);
+    let delims = job.delims.as_slice();
+    let terminator = reader.terminator();
     let mut tool = SerialPaste {
-        delims: &job.delims,
-        terminator: reader.terminator(),
+        format: SerialFormat {
+            delims,
+            terminator,
+            cycle: delimiter_cycle(delims, terminator),
+        },
         cell: ColumnPos {
-            number: 0,
+            index: 0,
             complete: false,
         },
         buffer: [0; 8208],

@@ -8,63 +8,36 @@ ghost use Rattle.memchr.specs.Find.{is_byte};
 ghost use Rattle.ptlines.specs.Readers.{IsSound};
 ghost use Rattle.ptflow.specs.Private.Paste.BufferedRows.{BufferedRowsPre, RowsWritten};
 ghost use Rattle.ptflow.specs.Private.Paste.RowCells.{shape_of};
-ghost use Rattle.ptflow.specs.Private.Paste.SerialRest.{with_cycle};
-ghost use Rattle.ptflow.specs.Private.Paste.SharedInput.{IsSharedCycle, IsWholeRows, IsUnrolled};
+ghost use Rattle.ptflow.specs.Private.Paste.Replaced.{byte_of, replaced};
+ghost use Rattle.ptflow.specs.Private.Paste.SharedInput.{IsSharedCycle, IsWholeRows};
 
-use crate::simd::cycle::{CycleTables, UnrolledCycle, replace_unrolled, unroll};
 use crate::simd::find_nth::nth_index;
-use crate::tools::paste::row::{OutBuf, RowFormat};
-use arrayvec::ArrayVec;
+use crate::simd::replace::Cycle;
+use crate::tools::paste::row::{OutBuf, RowFormat, delimiter_bytes};
 use memchr::memrchr;
 use ptlines::{LineReader, Out, Sink, Source, WriteFault};
 
-/// The replacements of the terminators of one row: each delimiter, and `None` for the terminator of the row, which
-/// stays. `unrolled` repeats them over 128 entries.
-#[derive(Drop)]
-pub(crate) struct DelimiterCycle {
-    list: ArrayVec<Option<u8>, 64>,
-    unrolled: UnrolledCycle,
-    terminator: u8,
-    ghost is_unrolled: { IsUnrolled terminator list.items unrolled.items },
-}
-
-// The replacements for one row, if there are at most 64 columns, all with the same reader, and every delimiter between
-// them is one byte.
-fn shared_cycle_list(row: RowFormat) -> Option<ArrayVec<Option<u8>, 64>>
-    ensures { IfSome result (λ cycle. IsSharedCycle (shape_of row.entry) cycle.items) }
+// The replacements of the terminators of a row: after each column but the last its delimiter, and at the end the
+// terminator of the row. `None` unless there are at most 64 columns, all with the same reader, and every delimiter
+// between them is one byte.
+pub(crate) fn shared_cycle(row: RowFormat) -> Option<Cycle>
+    ensures { IfSome result (IsSharedCycle (shape_of row.entry)) }
 {
-    let RowFormat { delims, cells, .. } = row;
-    if cells.is_empty() || cells.len() > 64 {
+    if row.cells.is_empty() {
         return None;
     }
-    let mut cycle = ArrayVec::new();
-    for column in 1..cells.len() {
-        if cells[column] != cells[0] {
+    for input in row.cells {
+        if *input != row.cells[0] {
             return None;
         }
-        let delim = delims[(column - 1) % delims.len()]?;
-        cycle.push(Some(delim));
     }
-    cycle.push(None);
-    Some(cycle)
-}
-
-// The cycle of delimiters for columns that all read one input; `None` if `shared_cycle_list` does not apply.
-pub(crate) fn shared_cycle(row: RowFormat) -> Option<DelimiterCycle>
-    ensures { IfSome result (λ cycle. IsSharedCycle (shape_of row.entry) cycle.list.items
-        × (cycle.terminator ≡ row.entry.terminator)) }
-{
-    let list = shared_cycle_list(row)?;
-    let unrolled = unroll(&list, row.terminator);
-    Some(DelimiterCycle {
-        list,
-        unrolled,
-        terminator: row.terminator,
-    })
+    let mut bytes = delimiter_bytes(row.delims, row.cells.len() - 1)?;
+    bytes.push(row.terminator);
+    Some(Cycle::new(&bytes, row.terminator))
 }
 
 // The offset after the last terminator that is followed by exactly `extra` more terminators; 0 if there is none.
-fn rows_end(terminator: u8, bytes: &[u8], extra: u64) -> usize
+fn rows_end(terminator: u8, bytes: &[u8], extra: usize) -> usize
     requires { extra ≤ count_by (is_byte terminator) bytes.now }
     ensures within { result ≤ length bytes.now }
     ensures counted { count_by (is_byte terminator) (take result bytes.now) + extra
@@ -87,44 +60,35 @@ fn rows_end(terminator: u8, bytes: &[u8], extra: u64) -> usize
 // Copies all complete rows in the reader's buffer, with the delimiters, and returns their length. A buffer without a
 // complete row is only searched, which matters if the lines are long.
 fn copy_shared_rows<S: Source, R: Source>(
-    row: &DelimiterCycle,
+    cycle: &Cycle,
     reader: &LineReader<S, R>,
     into: &mut OutBuf,
 ) -> usize
     ensures within { result ≤ length reader.now.buffered }
-    ensures rows { IsWholeRows row.now.terminator (length row.now.list.items) (take result reader.now.buffered) }
+    ensures rows { IsWholeRows cycle.now.terminator cycle.now.len (take result reader.now.buffered) }
     ensures copied { take result into.new
-        ≡ with_cycle row.now.terminator row.now.list.items 0 (take result reader.now.buffered) }
+        ≡ replaced cycle.now.terminator (byte_of cycle.now) 0 (take result reader.now.buffered) }
     ensures sound { IsSound reader.now }
 {
-    let cycle: &[Option<u8>] = &row.list;
-    let unrolled: &[u8] = &row.unrolled;
-    let terminator = row.terminator;
     let bytes = reader.buffered();
     let count = bytes.len();
-    if nth_index(terminator, bytes, count, cycle.len() as u64 - 1).is_none() {
+    if nth_index(cycle.terminator, bytes, count, cycle.len as u64 - 1).is_none() {
         return 0;
     }
-    let by = CycleTables {
-        cycle,
-        unrolled,
-        terminator,
-    };
-    let number = replace_unrolled(&by, bytes, &mut into[..count]);
-    rows_end(terminator, bytes, number % cycle.len() as u64)
+    let extra = cycle.replace(0, bytes, &mut into[..count]);
+    rows_end(cycle.terminator, bytes, extra)
 }
 
 // Writes all complete rows in the buffer of the reader that all columns share. Without a cycle, since they do not share
 // one, it does nothing.
 pub(crate) fn write_shared_rows<S: Source, R: Source, W: Sink>(
-    cycle: &Option<DelimiterCycle>,
+    cycle: &Option<Cycle>,
     row: RowFormat,
     readers: &mut [LineReader<S, R>],
     into: &mut OutBuf,
     out: &mut Out<W>,
 ) -> Result<(), WriteFault>
-    requires is_cycle { IfSome cycle.now (λ some. IsSharedCycle (shape_of row) some.list.items
-        × (some.terminator ≡ row.terminator)) }
+    requires is_cycle { IfSome cycle.now (IsSharedCycle (shape_of row)) }
     requires readable { BufferedRowsPre (shape_of row) readers.old }
     requires clean { out.old.write_failed ≡ false }
     ensures rows { RowsWritten (shape_of row.entry) readers.old readers.new out.old out.new }

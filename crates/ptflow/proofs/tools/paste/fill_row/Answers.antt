@@ -31,15 +31,6 @@ fill_cell-requires-clause-readable g c =
     (ready.within c.cells.column 0 c.cells-test.true))
     ∙ ready.unfailed input (omega (arith, uses_before_lt cells c.cells.column c.cells-test.true))
 
-pub fill_cell-requires-clause-slot : goal.fill_cell-requires-clause-slot
-fill_cell-requires-clause-slot g c = omega (arith, c.cells-test.true, c.cells.invariant.slots)
-
-pub line-requires : goal.line-requires
-line-requires g c = omega (arith, c.cells-test.true, c.cells.invariant.slots, c.fill_cell.ensures.slots)
-
-pub fill_cell-requires-clause-clean : goal.fill_cell-requires-clause-clean
-fill_cell-requires-clause-clean g c = c.cells.invariant.clean
-
 pub returns-in_err-has_line-clause-fills : goal.returns-in_err-has_line-clause-fills
 returns-in_err-has_line-clause-fills g c =
     let (fault, same, is) = err_from_is_err_and c.from_residual.result c.from_residual.ensures.1 in
@@ -54,9 +45,6 @@ returns-in_err-has_line-clause-fills g c =
 pub returns-in_err-has_line-clause-wrote : goal.returns-in_err-has_line-clause-wrote
 returns-in_err-has_line-clause-wrote g c = push_trans c.args.out.now c.cells.out c.fill_cell.new.out [] []
     c.cells.invariant.clean c.cells.invariant.wrote c.fill_cell.ensures.wrote
-
-pub invariant_of-filled : goal.invariant_of-filled
-invariant_of-filled g c = record { size_bound = c.cells.begun.size_bound }
 
 module _ (g : given.Over) (c : After-fill_cell g) (has : Bool) where
   abbrev input : ℕ

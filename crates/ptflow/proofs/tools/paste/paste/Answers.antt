@@ -19,9 +19,6 @@ use Rattle.ptflow.proofs.tools.paste.paste.Given as given
 use Rattle.ptflow.proofs.tools.paste.paste.Goals as goal
 use Rattle.ptflow.proofs.tools.paste.paste.Goals.{After-ensure_slots, After-fill_row}
 
-pub set_terminators-requires : goal.set_terminators-requires
-set_terminators-requires g c = c.requires.within
-
 pub returns-then-has_failed : goal.returns-then-has_failed
 returns-then-has_failed g c = paste_on_failed_output c.requires (sym c.has_failed.ensures ∙ c.if-has_failed.true)
 
@@ -52,9 +49,6 @@ rows-init g c = record {
 pub write_shared_rows-requires-clause-readable : goal.write_shared_rows-requires-clause-readable
 write_shared_rows-requires-clause-readable g c =
     rw c.row_format-row.ensures (now_readable c.rows.invariant.invariant_holds c.set_terminators.auto.readers)
-
-pub write_shared_rows-requires-clause-clean : goal.write_shared_rows-requires-clause-clean
-write_shared_rows-requires-clause-clean g c = c.rows.invariant.invariant_holds.clean
 
 pub returns-in_err-write_shared_rows : goal.returns-in_err-write_shared_rows
 returns-in_err-write_shared_rows g c =

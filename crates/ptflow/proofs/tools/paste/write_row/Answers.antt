@@ -105,9 +105,3 @@ loop-column-preserved g c =
       clean = c.in_ok-write_slot.ensures.clean;
       within = omega (arith, c.loop-column-test.true);
     }
-
-pub returns : goal.returns
-returns g c =
-    let all : c.loop-column.column ≡ length c.args.row.cells.now = omega
-    (arith, c.loop-column-test.false, c.loop-column.invariant.within) in
-    record { wrote = rw all at c.loop-column.invariant.wrote; clean = c.loop-column.invariant.clean; fault = tt }

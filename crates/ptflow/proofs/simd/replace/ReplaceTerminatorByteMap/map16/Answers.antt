@@ -7,6 +7,6 @@ returns c =
     let v = c.args.v in
     let (long, _) = c.fits-v in
     let by = c.args.self in
-    sel_maps (λ b. eqb b by.terminator) (λ _. by.delim) (λ b. b) v (mask_right eqb v by.terminator long)
-    (splat_is_map v 16 by.delim long)
+    sel_maps (λ b. eqb b by.terminator) (λ _. by.byte) (λ b. b) v (mask_right eqb v by.terminator long)
+    (splat_is_map v 16 by.byte long)
     (sym (map-id v))

@@ -1,6 +1,6 @@
--- `SerialPaste` is a block filter for `paste -s`: at the start of a row the rest of the row is the whole output, and
--- the delimiters and the terminator do not change from block to block.
-use Rattle.ptflow.proofs.Common.{◌≡◌, ℕ, false, cond, ◌++◌, refl, sym, ◌∙◌, ap, paste_job, paste_serial_tool}
+-- `SerialPaste` is a block filter for `paste -s`: at the start of a row the rest of the row is the whole output, and the
+-- delimiters and the terminator do not change from block to block.
+use Rattle.ptflow.proofs.Common.{◌≡◌, ◌++◌, cond, [], ◌∷◌, refl, sym, ◌∙◌, paste_job, paste_serial_tool, row_rest}
 use Rattle.ptflow.proofs.Common.{serial_rest}
 use Rattle.std.proofs.Common.{rules}
 use Rattle.ptflow.proofs.Passes.Exits.{pass_unchanged, storeless_set}
@@ -14,7 +14,8 @@ returns-then-has_failed g c = pass_unchanged (paste_serial_tool (paste_job c.arg
 pub returns : goal.returns
 returns g c =
     let job = paste_job c.args.job.now in
-    let end : c.terminator.result ≡ job.terminator = search rules in
+    let end : c.terminator-terminator.result ≡ job.terminator = search rules in
+    let delims = c.as_slice-delims.ensures.all in
     storeless_set (paste_serial_tool job) (cond c.args.job.now.zero 0 10) c.args.reader.now c.set_ending.new.self
     c.run_blocks.new.reader c.args.out.now c.run_blocks.new.out
     c.args._store.now c.set_ending.ensures.set c.run_blocks.result (sym c.has_failed.ensures ∙ c.if-has_failed.false)
@@ -22,13 +23,13 @@ returns g c =
     (λ store ready.
     c.run_blocks.ensures (paste_serial_tool job)
     (record {
-      text = λ bytes. ap (λ (e : ℕ). serial_rest e job.delimiters (record { number = 0; complete = false }) bytes) end;
-      decided = λ given pushed now holds on.
-          serial_is_decided job given pushed now.cell
-          (λ rest. (λ i. serial_rest (sym end i) job.delimiters (record { number = 0; complete = false })
-          (given ++ rest)) ∙ on rest
-          ∙ (λ i. pushed ++ serial_rest ((holds.1 ∙ end) i) (holds.0 i) now.cell rest));
-      holds = (refl, refl);
+      text = λ bytes i. row_rest (end i) (delims i) 0 bytes;
+      decided = λ given pushed now same on.
+          let start : row_rest c.terminator-terminator.result c.as_slice-delims.result.now 0 (given ++ []) ≡ row_rest job.terminator job.delimiters 0 (given ++ []) = λ i. row_rest (end i) (delims i) 0 (given ++ []) in
+          serial_is_decided job given pushed now.cell.index now.cell.complete
+          (sym start ∙ on [] ∙ (λ i. pushed ++ serial_rest (same i) now.cell [])
+          ∙ (λ i. pushed ++ row_rest (end i) (delims i) now.cell.index (cond now.cell.complete (end i ∷ []) [])));
+      holds = refl;
       slots = refl;
     })
     store ready)

@@ -1,5 +1,5 @@
 -- The buffer of the only reader begins with complete rows, and their copy is pushed.
-use Rattle.ptflow.proofs.Common.{◌<◌, length, get_or, sym, ◌∙◌, ap, arith, Reader}
+use Rattle.ptflow.proofs.Common.{◌<◌, length, get_or, sym, ◌∙◌, ap, arith, Reader, IsSharedCycle, shape_of}
 use borrow.Author.Rules.{scaled_Fits}
 use Rattle.ptflow.proofs.PasteLemmas.SharedInput.{copied_rows, no_rows_written}
 use Rattle.ptflow.proofs.PasteLemmas.FillRow.{at_index}
@@ -7,10 +7,12 @@ use Rattle.ptflow.proofs.tools.paste.shared_input.write_shared_rows.Given as giv
 use Rattle.ptflow.proofs.tools.paste.shared_input.write_shared_rows.Goals as goal
 use Rattle.ptflow.proofs.tools.paste.shared_input.write_shared_rows.Goals.{In-Some}
 
+shared : (g : given.Over) (c : In-Some g) → IsSharedCycle (shape_of c.args.row) c.in-Some.cycle
+shared g c = rw c.in-Some.is at c.requires.is_cycle
+
 low : (g : given.Over) (c : In-Some g) → get_or c.args.row.cells.now 0 0 < length c.args.readers.now
 low g c =
-    let (shared, same_end) = rw c.in-Some.is at c.requires.is_cycle in
-    c.requires.readable.within 0 0 shared.some
+    c.requires.readable.within 0 0 (shared g c).some
 
 pub returns-in_default-clause-rows : goal.returns-in_default-clause-rows
 returns-in_default-clause-rows g c = no_rows_written
@@ -21,14 +23,13 @@ returns-then-count-eq0-clause-rows g c = no_rows_written
 pub returns-clause-rows : goal.returns-clause-rows
 returns-clause-rows g c =
     let copied = c.copy_shared_rows-count.ensures in
-    let (shared, same_end) = rw c.in-Some.is at c.requires.is_cycle in
-    copied_rows shared c.requires.readable
+    copied_rows (shared g (goal.at.returns-clause-rows g c).In-Some) c.requires.readable
     c.index-readers-input.result copied.sound (omega (arith, c.if-count-eq0.false)) copied.within
-    (rw same_end at copied.rows)
-    c.index-readers-input-2.result c.consume.ensures.consumed (rw same_end at copied.copied) c.push.ensures.pushed.wrote
+    copied.rows
+    c.index-readers-input-2.result c.consume.ensures.consumed copied.copied c.push.ensures.pushed.wrote
 
 pub bounds-row-0 : goal.bounds-row-0
-bounds-row-0 g c = let (shared, same_end) = rw c.in-Some.is at c.requires.is_cycle in shared.some
+bounds-row-0 g c = (shared g (goal.at.bounds-row-0 g c).In-Some).some
 
 pub bounds-readers-input : goal.bounds-readers-input
 bounds-readers-input g c = low g (goal.at.bounds-readers-input g c).In-Some

@@ -1,0 +1,267 @@
+-- Bytes of which each terminator is replaced, and how the code replaces them: 64 at a time, where the terminators are the
+-- bits of a mask, and then byte by byte.
+use Rattle.ptflow.proofs.Common.{◌≡◌, ◌≢◌, ⊎_elim, ℕ, zero, suc, ◌+◌, ◌-◌, ◌%◌, ◌^◌, ◌==◌, ◌<◌, ◌≤◌, Bool}
+use Rattle.ptflow.proofs.Common.{cond, List, [], ◌∷◌, ◌++◌, length, map, take, drop, get_or, slice_set, refl, sym, ◌∙◌}
+use Rattle.ptflow.proofs.Common.{ap, arith, append_assoc, bit_and, count_by, count_ones, mask_l, chunk, mod-lt}
+use Rattle.ptflow.proofs.Common.{mod-add-mod, mod-eq_of_lt, take-add, take_at, take-append-drop, take-set-lt, cases_Bool}
+use Rattle.ptflow.proofs.Common.{eq-eqb, set-append_right, drop_more, take_more_set, take-set, length-set, sum_by-cons}
+use Rattle.ptflow.proofs.Common.{sum_by-append, is_byte, byte_eq, byte_ne, IsLine, IsNth, length-take-le, length-chunk}
+use Rattle.ptflow.proofs.Common.{length-put_chunk, take_more_put_chunk, put_chunk, ones-mask_l, replaced, byte_of}
+use Rattle.ptflow.proofs.Common.{IsReplacedTo}
+use lib.Count.{count_trailing_zeros}
+use Rattle.ptflow.proofs.Vectors.FindNth.{after_set, cleared, without}
+use Rattle.ptflow.specs.declared.simd.replace.Cycle.{Cycle}
+
+module _ (end : ℕ) where
+  pub counted : (b : ℕ) (bytes : List ℕ) {t : Bool} → (b == end) ≡ t
+      → count_by (is_byte end) (b ∷ bytes) ≡ cond t 1 0 + count_by (is_byte end) bytes
+  counted b bytes is = sum_by-cons (λ x. cond (is_byte end x) 1 0) b bytes
+      ∙ ap (λ (t : Bool). cond t 1 0 + count_by (is_byte end) bytes) is
+
+  module _ (text_of : ℕ → List ℕ) where
+    pub replaced-append : (number : ℕ) (xs ys : List ℕ) → replaced end text_of number (xs ++ ys)
+        ≡ replaced end text_of number xs ++ replaced end text_of (number + count_by (is_byte end) xs) ys
+    replaced-append number [] ys =
+        let same : number + 0 ≡ number = omega arith in ap (λ n. replaced end text_of n ys) (sym same)
+    replaced-append number (b ∷ xs) ys = ⊎_elim
+        (λ is.
+        let next : number + count_by (is_byte end) (b ∷ xs) ≡ number + 1 + count_by (is_byte end) xs =
+        omega (arith, counted b xs is) in
+        rw next (rw is (ap (◌++◌ (text_of number)) (replaced-append (number + 1) xs ys)
+        ∙ sym (append_assoc (text_of number) _ _))))
+        (λ is.
+        let next : number + count_by (is_byte end) (b ∷ xs) ≡ number + count_by (is_byte end) xs =
+        omega (arith, counted b xs is) in
+        rw next (rw is (ap (λ (l : List ℕ). b ∷ l) (replaced-append number xs ys))))
+        (cases_Bool (b == end))
+
+    -- A line contains no terminator, so its bytes stay.
+    pub replaced_line : (number : ℕ) (line rest : List ℕ) → IsLine end line
+        → replaced end text_of number (line ++ end ∷ rest) ≡ line ++ (text_of number ++ replaced end text_of (number + 1) rest)
+    replaced_line number [] rest free = rw (byte_eq end) refl
+    replaced_line number (b ∷ line) rest (other, free) =
+        rw (byte_ne end b other) (ap (λ (l : List ℕ). b ∷ l) (replaced_line number line rest free))
+
+    pub replaced_none : (number : ℕ) (line : List ℕ) → IsLine end line → replaced end text_of number line ≡ line
+    replaced_none number [] free = refl
+    replaced_none number (b ∷ line) (other, free) =
+        rw (byte_ne end b other) (ap (λ (l : List ℕ). b ∷ l) (replaced_none number line free))
+
+  -- Only the index in the cycle matters.
+  pub replaced_mod : (text_at : ℕ → List ℕ) (len m n : ℕ) → m % len ≡ n % len → (bytes : List ℕ)
+      → replaced end (λ k. text_at (k % len)) m bytes ≡ replaced end (λ k. text_at (k % len)) n bytes
+  replaced_mod text_at len m n same [] = refl
+  replaced_mod text_at len m n same (b ∷ bytes) =
+      let next = sym (mod-add-mod m len 1) ∙ ap (λ k. (k + 1) % len) same ∙ mod-add-mod n len 1 in
+      λ i. cond (b == end) (text_at (same i) ++ replaced_mod text_at len (m + 1) (n + 1) next bytes i)
+      (b ∷ replaced_mod text_at len m n same bytes i)
+
+  -- ---- one byte for each terminator
+
+  module _ (byte : ℕ → ℕ) where
+    abbrev all : ℕ → List ℕ → List ℕ
+    all = replaced end (λ n. byte n ∷ [])
+
+    pub length-replaced : (number : ℕ) (bytes : List ℕ) → length (all number bytes) ≡ length bytes
+    length-replaced number [] = refl
+    length-replaced number (b ∷ bytes) = ⊎_elim
+        (λ is. rw is (ap suc (length-replaced (number + 1) bytes)))
+        (λ is. rw is (ap suc (length-replaced number bytes)))
+        (cases_Bool (b == end))
+
+    -- One byte for all terminators.
+    pub replaced_by_map : (b : ℕ) → ((n : ℕ) → byte n ≡ b) → (number : ℕ) (bytes : List ℕ)
+        → all number bytes ≡ map (λ x. cond (x == end) b x) bytes
+    replaced_by_map b same number [] = refl
+    replaced_by_map b same number (x ∷ bytes) = ⊎_elim
+        (λ is. rw is (λ i. same number i ∷ replaced_by_map b same (number + 1) bytes i))
+        (λ is. rw is (ap (λ (l : List ℕ). x ∷ l) (replaced_by_map b same number bytes)))
+        (cases_Bool (x == end))
+
+    pub take-replaced : (at number : ℕ) (bytes : List ℕ) → at ≤ length bytes
+        → take at (all number bytes) ≡ all number (take at bytes)
+    take-replaced at number bytes within =
+        let front = take at bytes in
+        let long = length-replaced number front ∙ length-take-le at bytes within in
+        ap (λ (l : List ℕ). take at (all number l)) (sym (take-append-drop at bytes))
+        ∙ ap (take at) (replaced-append (λ n. byte n ∷ []) number front (drop at bytes))
+        ∙ take_at (all number front) _ at long
+
+    -- The bytes, with their first n terminators replaced.
+    abbrev first_replaced : ℕ → ℕ → List ℕ → List ℕ
+    first_replaced zero number bytes = bytes
+    first_replaced (suc n) number [] = []
+    first_replaced (suc n) number (b ∷ bytes) = cond (b == end) (byte number ∷ first_replaced n (number + 1) bytes)
+        (b ∷ first_replaced (suc n) number bytes)
+
+    -- One more terminator is replaced.
+    replaced_next : (n number : ℕ) (bytes : List ℕ) (k : ℕ) → IsNth (is_byte end) 0 n bytes k
+        → slice_set (first_replaced n number bytes) k (byte (number + n)) ≡ first_replaced (suc n) number bytes
+    replaced_next n number [] k (low, test, before) = absurd (omega (arith, low))
+    replaced_next zero number (b ∷ bytes) zero (low, test, before) =
+        let same : number + 0 ≡ number = omega arith in rw test (ap (λ k. byte k ∷ bytes) same)
+    replaced_next (suc m) number (b ∷ bytes) zero (low, test, before) = absurd (omega (arith, before))
+    replaced_next zero number (b ∷ bytes) (suc k) (low, test, before) = ⊎_elim
+        (λ is. absurd (omega (arith, before, counted b (take k bytes) is)))
+        (λ is. rw is (ap (λ (l : List ℕ). b ∷ l) (replaced_next zero number bytes k
+        (omega (arith, low), test, omega (arith, before, counted b (take k bytes) is)))))
+        (cases_Bool (b == end))
+    replaced_next (suc m) number (b ∷ bytes) (suc k) (low, test, before) = ⊎_elim
+        (λ is. let shifted : number + suc m ≡ number + 1 + m = omega arith in
+        rw is (rw shifted (ap (λ (l : List ℕ). byte number ∷ l) (replaced_next m (number + 1) bytes k
+        (omega (arith, low), test, omega (arith, before, counted b (take k bytes) is))))))
+        (λ is. rw is (ap (λ (l : List ℕ). b ∷ l) (replaced_next (suc m) number bytes k
+        (omega (arith, low), test, omega (arith, before, counted b (take k bytes) is)))))
+        (cases_Bool (b == end))
+
+    all_replaced : (number : ℕ) (bytes : List ℕ) (n : ℕ) → n ≡ count_by (is_byte end) bytes
+        → first_replaced n number bytes ≡ all number bytes
+    all_replaced number [] zero e = refl
+    all_replaced number [] (suc n) e = refl
+    all_replaced number (b ∷ bytes) zero e = ⊎_elim
+        (λ is. absurd (omega (arith, e, counted b bytes is)))
+        (λ is. rw is (ap (λ (l : List ℕ). b ∷ l) (all_replaced number bytes zero (omega (arith, e, counted b bytes is)))))
+        (cases_Bool (b == end))
+    all_replaced number (b ∷ bytes) (suc m) e = ⊎_elim
+        (λ is. rw is (ap (λ (l : List ℕ). byte number ∷ l) (all_replaced (number + 1) bytes m
+        (omega (arith, e, counted b bytes is)))))
+        (λ is. rw is (ap (λ (l : List ℕ). b ∷ l) (all_replaced number bytes (suc m)
+        (omega (arith, e, counted b bytes is)))))
+        (cases_Bool (b == end))
+
+-- ---- the terminators of a chunk, replaced one after another
+
+-- n terminators of the 64 bytes at an index were replaced, and the mask has the others.
+pub record ReplaceInvariant (end : ℕ) (byte : ℕ → ℕ) (first at : ℕ) (from was : List ℕ) (n marked : ℕ)
+    (to : List ℕ) : Type 0 where
+  pub room : at + 64 ≤ length from
+  pub same : length was ≡ length from
+  pub bits : marked ≡ mask_l (without n (map (is_byte end) (chunk at 64 from)))
+  pub long : length to ≡ length from
+  pub is : take (at + 64) to ≡ take at was ++ first_replaced end byte n first (chunk at 64 from)
+
+module _ {end : ℕ} {byte : ℕ → ℕ} where
+  pub replace_starts : {first at marked : ℕ} {from was : List ℕ} → at + 64 ≤ length from
+      → length was ≡ length from → marked ≡ mask_l (map (is_byte end) (chunk at 64 from))
+      → ReplaceInvariant end byte first at from was 0 marked (put_chunk at was (chunk at 64 from))
+  replace_starts {at = at} {from = from} {was} room same is =
+      let ends = chunk at 64 from in
+      let long : length ends ≡ 64 = length-chunk at 64 from room in
+      record {
+        room = room;
+        same = same;
+        bits = is;
+        long = cc (length-put_chunk at was ends);
+        is = take_more_put_chunk at was ends (at + 64) (omega arith) (omega arith);
+      }
+
+  module _ {first at : ℕ} {from was : List ℕ} {n marked : ℕ} {to : List ℕ}
+      (r : ReplaceInvariant end byte first at from was n marked to)
+      {mask : ℕ} (is : mask ≡ mask_l (map (is_byte end) (chunk at 64 from))) where
+    abbrev ends : List ℕ
+    ends = chunk at 64 from
+
+    ends_counted : count_ones mask ≡ count_by (is_byte end) ends
+    ends_counted = ap count_ones is ∙ ones-mask_l (is_byte end) ends
+
+    module _ (some : n < count_ones mask) where
+      abbrev bit : ℕ
+      bit = count_trailing_zeros 64 marked
+
+      nth : IsNth (is_byte end) 0 n ends bit
+      nth = after_set (is_byte end) ends n (omega (arith, length-chunk at 64 from r.room))
+          (omega (arith, ends_counted)) r.bits
+
+      low : bit < 64
+      low = let (within, _, _) = nth in omega (arith, within, length-chunk at 64 from r.room)
+
+      pub end_within : at + bit < length to
+      end_within = omega (arith, low, r.room, r.long)
+
+      -- One byte of the chunk is set. The bytes before it do not change.
+      set_in_chunk : (v : ℕ) → take (at + 64) (slice_set to (at + bit) v)
+          ≡ take at was ++ slice_set (first_replaced end byte n first ends) bit v
+      set_in_chunk v =
+          let there : at + bit - at ≡ bit = omega arith in
+          let front = length-take-le at was (omega (arith, r.room, r.same)) in
+          take-set-lt (at + 64) to (at + bit) v (omega (arith, low)) ∙ ap (λ (l : List ℕ). slice_set l (at + bit) v) r.is
+          ∙ set-append_right (take at was) (first_replaced end byte n first ends) at (at + bit) v front (omega arith)
+          ∙ ap (λ k. take at was ++ slice_set (first_replaced end byte n first ends) k v) there
+
+      pub replace_next : {rest put : ℕ} {to' : List ℕ} → marked < 2 ^ 64 → put ≡ byte (first + n)
+          → rest ≡ bit_and marked ((marked + (2 ^ 64 - 1)) % 2 ^ 64) → to' ≡ slice_set to (at + bit) put
+          → ReplaceInvariant end byte first at from was (n + 1) rest to'
+      replace_next {rest} {put} {to'} small put_is rest_is to_is =
+          let next : suc n ≡ n + 1 = omega arith in
+          record {
+            room = r.room;
+            same = r.same;
+            bits = cc (cleared n (map (is_byte end) ends) small r.bits);
+            long = cc (length-set to (at + bit) put, r.long);
+            is = cc (set_in_chunk put, replaced_next end byte n first ends bit nth);
+          }
+
+    pub replace_end : n ≡ count_ones mask
+        → (n ≡ count_by (is_byte end) ends) × (take (at + 64) to ≡ take at was ++ all end byte first ends)
+    replace_end over = (over ∙ ends_counted, cc (all_replaced end byte first ends n (over ∙ ends_counted), r.is))
+
+-- ---- some more bytes, from a cycle
+
+one_byte : (at : ℕ) (from : List ℕ) → at < length from → take 1 (drop at from) ≡ get_or from at 0 ∷ []
+one_byte at from room = ap (take 1) (drop_more from at 0 room)
+
+module _ {cycle : Cycle} {first index at : ℕ} {from to to' : List ℕ} (long : length to' ≡ length from)
+    (r : IsReplacedTo cycle first index at from to) where
+  -- Bytes were replaced from the one at `index` on.
+  pub replaced_more : (size : ℕ) {next : ℕ} → at + size ≤ length from → next ≡ (index + count_by (is_byte cycle.terminator) (take size (drop at from))) % cycle.len
+      → take (at + size) to' ≡ take at to ++ replaced cycle.terminator (byte_of cycle) index (take size (drop at from))
+      → IsReplacedTo cycle first next (at + size) from to'
+  replaced_more size {next} room is more =
+      let front = take at from in
+      let here = take size (drop at from) in
+      let split : take (at + size) from ≡ front ++ here = take-add at size from in
+      let count : count_by (is_byte cycle.terminator) (take (at + size) from)
+      ≡ count_by (is_byte cycle.terminator) front + count_by (is_byte cycle.terminator) here =
+      ap (count_by (is_byte cycle.terminator)) split ∙ sum_by-append (λ b. cond (is_byte cycle.terminator b) 1 0) front here in
+      let same : first + count_by (is_byte cycle.terminator) (take (at + size) from) ≡ so_far + count_by (is_byte cycle.terminator) here =
+      omega (arith, count) in
+      record {
+        within = room;
+        same = long;
+        next = is ∙ ap (λ k. (k + count_by (is_byte cycle.terminator) here) % cycle.len) r.next
+            ∙ mod-add-mod so_far cycle.len (count_by (is_byte cycle.terminator) here) ∙ ap (λ k. k % cycle.len) (sym same);
+        is = more
+            ∙ (λ i. r.is i ++ replaced_mod cycle.terminator (λ k. get_or cycle.unrolled k 0 ∷ []) cycle.len index so_far index_is here i)
+            ∙ sym (replaced-append cycle.terminator (byte_of cycle) first front here)
+            ∙ ap (replaced cycle.terminator (byte_of cycle) first) (sym split);
+      }
+    where
+      so_far : ℕ
+      so_far = first + count_by (is_byte cycle.terminator) (take at from)
+
+      index_is : index % cycle.len ≡ so_far % cycle.len
+      index_is = mod-eq_of_lt (omega (arith, r.next, mod-lt so_far cycle.is_unrolled.some)) ∙ r.next
+
+  module _ (room : at < length from) where
+    pub replaced_terminator : {next v : ℕ} → get_or from at 0 ≡ cycle.terminator → v ∷ [] ≡ byte_of cycle index
+        → next ≡ (index + 1) % cycle.len → to' ≡ slice_set (slice_set to at (get_or from at 0)) at v
+        → IsReplacedTo cycle first next (at + 1) from to'
+    replaced_terminator {next} {v} is_end is later set =
+        let test = eq-eqb (get_or from at 0) cycle.terminator is_end in
+        let number : count_by (is_byte cycle.terminator) (take 1 (drop at from)) ≡ 1 =
+        ap (count_by (is_byte cycle.terminator)) (one_byte at from room) ∙ counted cycle.terminator (get_or from at 0) [] test in
+        replaced_more 1 (omega (arith, room)) (later ∙ ap (λ n. (index + n) % cycle.len) (sym number))
+        (ap (take (at + 1)) set ∙ take_more_set (slice_set to at (get_or from at 0)) at v
+        (omega (arith, room, r.same, length-set to at (get_or from at 0)))
+        ∙ (λ i. take-set to at (get_or from at 0) i ++ is i)
+        ∙ ap (λ (l : List ℕ). take at to ++ l) (sym (ap (replaced cycle.terminator (byte_of cycle) index) (one_byte at from room) ∙ rw test refl)))
+
+    pub replaced_other : get_or from at 0 ≢ cycle.terminator → to' ≡ slice_set to at (get_or from at 0)
+        → index < cycle.len → IsReplacedTo cycle first index (at + 1) from to'
+    replaced_other other set less =
+        let test = byte_ne cycle.terminator (get_or from at 0) other in
+        let number : index + count_by (is_byte cycle.terminator) (take 1 (drop at from)) ≡ index =
+        omega (arith, ap (count_by (is_byte cycle.terminator)) (one_byte at from room) ∙ counted cycle.terminator (get_or from at 0) [] test) in
+        replaced_more 1 (omega (arith, room)) (sym (ap (λ n. n % cycle.len) number ∙ mod-eq_of_lt less))
+        (ap (take (at + 1)) set ∙ take_more_set to at (get_or from at 0) (omega (arith, room, r.same))
+        ∙ ap (λ (l : List ℕ). take at to ++ l) (sym (ap (replaced cycle.terminator (byte_of cycle) index) (one_byte at from room) ∙ rw test refl)))

@@ -1,0 +1,9 @@
+-- The first entries of the unrolled cycle are set.
+use Rattle.ptflow.proofs.Common.{◌≡◌, ◌<◌, ◌%◌, ℕ, length, slice_index_or}
+use Rattle.ptflow.proofs.simd.replace.Cycle.new.Given as goal
+
+abbrev pub invariant-loop-number : goal.invariant-loop-number
+invariant-loop-number l = record {
+  size : length l.unrolled ≡ 128;
+  at : (k : ℕ) → k < l.number → slice_index_or l.unrolled k 0 ≡ slice_index_or l.bytes (k % l.len) 0;
+}

@@ -1,0 +1,8 @@
+use Rattle.ptflow.proofs.Common.{◌-◌, length, IsReplacedTo}
+use Rattle.ptflow.proofs.simd.replace.Cycle.replace.Given as goal
+
+abbrev pub invariant-loop-at : goal.invariant-loop-at
+invariant-loop-at l = IsReplacedTo l.self l.fn.index l.index l.at l.from l.to
+
+abbrev pub decreases-loop-at : goal.decreases-loop-at
+decreases-loop-at l = length l.from - l.at

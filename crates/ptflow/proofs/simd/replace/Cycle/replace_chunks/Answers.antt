@@ -1,0 +1,8 @@
+use Rattle.std.proofs.Common.{arith}
+use Rattle.ptflow.proofs.PasteLemmas.Replaced.{replaced_more}
+use Rattle.ptflow.proofs.simd.replace.Cycle.replace_chunks.Goals as goal
+
+pub loop-at-preserved : goal.loop-at-preserved
+loop-at-preserved c =
+    let made = c.replace_chunk-index.ensures in
+    replaced_more made.long c.loop-at.invariant 64 (omega (arith, c.loop-at-test.true)) made.next made.replaced

@@ -1,0 +1,9 @@
+-- The bytes of the delimiters so far.
+use Rattle.ptflow.proofs.Common.{◌≡◌, ◌<◌, ℕ, [], ◌∷◌, length, slice_index_or, delimiter}
+use Rattle.ptflow.proofs.tools.paste.row.delimiter_bytes.Given as goal
+
+abbrev pub invariant-loop-column : goal.invariant-loop-column
+invariant-loop-column l = record {
+  size : length l.bytes.items ≡ l.column;
+  at : (c : ℕ) → c < l.column → delimiter l.delims c ≡ slice_index_or l.bytes.items c 0 ∷ [];
+}

@@ -1,0 +1,66 @@
+-- The terminator that was held back comes first. Then a block is its bytes up to the last one, and the last one.
+use Rattle.ptflow.proofs.Common.{◌≡◌, ◌+◌, ◌-◌, ◌<◌, ◌++◌, ℕ, Bool, true, false, cond, List, [], ◌∷◌, length, take, get_or}
+use Rattle.ptflow.proofs.Common.{refl, sym, ◌∙◌, ap, arith, append_assoc, take_more, take_all, take_more_set, from_bool}
+use Rattle.ptflow.proofs.Common.{eq-eqb, ne_eqb, byte_eq, mod-lt, count_by, is_byte, serial_rest, row_rest}
+use Rattle.std.proofs.lemmas.List.{length-take}
+use Rattle.ptflow.proofs.PasteLemmas.SerialRest.{copied_on, row_byte}
+use Rattle.ptflow.proofs.tools.paste.serial.SerialFormat.copy_block.Goals as goal
+use Rattle.ptflow.proofs.tools.paste.serial.SerialFormat.copy_block.Goals.{After-copy_cells-end}
+
+held_is : (complete : Bool) (end : ℕ) (rest : List ℕ) {size : ℕ} → size ≡ from_bool complete
+    → cond complete (end ∷ rest) rest ≡ take size (end ∷ []) ++ rest
+held_is true end rest is = rw is refl
+held_is false end rest is = rw is refl
+
+parts : (block : List ℕ) → 0 < length block
+    → take (length block - 1) block ++ get_or block (length block - 1) 0 ∷ [] ≡ block
+parts block some = sym (take_more block (length block - 1) 0 (omega (arith, some)))
+    ∙ take_all (length block - 1 + 1) block (omega arith)
+
+module _ (c : After-copy_cells-end) (more : List ℕ) where
+  abbrev last : ℕ
+  last = get_or c.args.block.now (length c.args.block.now - 1) 0
+
+  copied : serial_rest c.args.self.now c.args.cell (c.args.block.now ++ more)
+      ≡ take c.copy_cells-end.result.0 c.copy_cells-end.new.into
+      ++ row_rest c.args.self.now.terminator c.args.self.now.delims.now c.copy_cells-end.result.1 (last ∷ more)
+  copied =
+      let end = c.args.self.now.terminator in
+      let delims = c.args.self.now.delims.now in
+      let block = c.args.block.now in
+      let held = take c.from-size.result (end ∷ []) in
+      let bytes = take (length block - 1) block in
+      let first = c.copy_cells-at.ensures.copied in
+      let second = c.copy_cells-end.ensures.copied in
+      let some : 0 < length delims = omega (arith, c.requires.index) in
+      ap (row_rest end delims c.args.cell.index) (held_is c.args.cell.complete end (block ++ more) c.from-size.ensures
+      ∙ ap (◌++◌ held) (ap (λ (l : List ℕ). l ++ more) (sym (parts block c.requires.some.0))
+      ∙ append_assoc bytes (last ∷ []) more))
+      ∙ copied_on end delims c.args.cell.index held bytes (last ∷ more) (omega arith) first.is first.later second.is
+      second.later (rw (sym second.later) at (mod-lt (c.copy_cells-at.result.1 + count_by (is_byte end) bytes) some))
+      (rw (sym first.later) at (mod-lt (c.args.cell.index + count_by (is_byte end) held) some))
+
+pub returns-then-complete-clause-copied : goal.returns-then-complete-clause-copied
+returns-then-complete-clause-copied c = λ more.
+    let end = c.args.self.now.terminator in
+    copied (goal.at.returns-then-complete-clause-copied c).After-copy_cells-end more
+    ∙ rw (eq-eqb _ end c.if-complete.true, byte_eq end) refl
+
+pub returns-clause-copied : goal.returns-clause-copied
+returns-clause-copied c = λ more.
+    let end = c.args.self.now.terminator in
+    let delims = c.args.self.now.delims.now in
+    let last = get_or c.args.block.now (length c.args.block.now - 1) 0 in
+    let other = ne_eqb last end c.if-complete.false in
+    let front = take c.copy_cells-end.result.0 c.copy_cells-end.new.into in
+    let low : c.copy_cells-end.result.0 < length c.copy_cells-end.new.into =
+    omega (
+      arith,
+      c.copy_cells-end.array_long,
+      length-take c.from-size.result (end ∷ []),
+      length-take (length c.args.block.now - 1) c.args.block.now,
+    ) in
+    copied (goal.at.returns-clause-copied c).After-copy_cells-end more
+    ∙ ap (◌++◌ front) (row_byte end delims c.copy_cells-end.result.1 last more other)
+    ∙ rw (other, take_more_set c.copy_cells-end.new.into c.copy_cells-end.result.0 last low)
+    (sym (append_assoc front (last ∷ []) (row_rest end delims c.copy_cells-end.result.1 more)))

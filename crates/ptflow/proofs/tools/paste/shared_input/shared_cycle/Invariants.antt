@@ -1,0 +1,8 @@
+-- The columns so far have the reader of the first one.
+use Rattle.ptflow.proofs.Common.{◌≡◌, ◌<◌, ℕ, get_or}
+use Rattle.ptflow.proofs.tools.paste.shared_input.shared_cycle.Given as goal
+
+abbrev pub invariant-loop-input : goal.invariant-loop-input
+invariant-loop-input l = record {
+  same : (c : ℕ) → c < l.input-index → get_or l.row.cells.now c 0 ≡ get_or l.row.cells.now 0 0;
+}

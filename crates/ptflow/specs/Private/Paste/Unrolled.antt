@@ -1,0 +1,15 @@
+-- The bytes of a cycle: those of the delimiters, and the table of 128 that repeats them.
+use Rattle.std.specs.Prelude.{◌≡◌, ◌<◌, ◌≤◌, ℕ, ◌%◌, List, [], ◌∷◌, Option, length, slice_index_or}
+use Rattle.ptflow.specs.PasteText.{delimiter}
+
+-- The first `len` bytes, repeated over 128.
+pub record IsUnrolled (len : ℕ) (bytes : List ℕ) : Type 0 where
+  pub some : 0 < len
+  pub few : len ≤ 64
+  pub at : (number : ℕ) → number < 128 → slice_index_or bytes number 0 ≡ slice_index_or bytes (number % len) 0
+
+-- The delimiters after the first `count` columns, each of which is one byte.
+pub record AreDelimiterBytes (delims : List (Option ℕ)) (count : ℕ) (bytes : List ℕ) : Type 0 where
+  pub few : count ≤ 63
+  pub size : length bytes ≡ count
+  pub at : (c : ℕ) → c < count → delimiter delims c ≡ slice_index_or bytes c 0 ∷ []
