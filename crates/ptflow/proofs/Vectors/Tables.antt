@@ -4,16 +4,12 @@ use Rattle.ptflow.proofs.Common.{◌≡◌, ◌<◌, ◌≤◌, ◌∙◌, ℕ, 
 use Rattle.ptflow.proofs.Common.{length, length-map, length-set, set, slice_index, slice_index_or, sel_l, eqb, bit_and}
 use Rattle.ptflow.proofs.Common.{All-set, and_mask, ap, arith, cases_eq, cond, get_or, get_or-chunk, get_or-map, ⊎_elim}
 use Rattle.ptflow.proofs.Common.{Bool, Each1, Fits, cases_lt, chunk, ext_get_or, false, get_or-set_other, ltb, w8, ◌^◌}
-use Rattle.ptflow.proofs.Common.{get_or-set_same, get_or_default, get_or_past, le-ltb, lt-ltb, replicate, sym, zip2}
+use Rattle.ptflow.proofs.Common.{get_or-set_same, get_or_default, get_or_past, inl, inr, ◌⊎◌, le-ltb, lt-ltb, replicate, sym, zip2}
 use Rattle.ptflow.proofs.Common.{zip2_splat}
 use Rattle.std.proofs.lemmas.Simd.{Each1-get_or, get_or-sel_l, length-sel_l}
 use Rattle.ptflow.proofs.Common.{top}
 use Rattle.ptflow.proofs.Vectors.Lanes.{tests_are}
 use Rattle.ptflow.specs.Private.Vectors.Tables.{image_from, lane_of}
-
-pub row_entries : (images v : List ℕ) (row : ℕ)
-    → map (λ b. get_or (chunk (16 * row) 16 images) (b % 16) 0) v ≡ map (λ b. get_or images (16 * row + b % 16) 0) v
-row_entries images v row = λ i. map (λ b. get_or-chunk (16 * row) 16 images (b % 16) 0 (omega arith) i) v
 
 -- one value more is stored
 pub stored_next : {X : Type 0} (f : ℕ → X) (kept : List X) (index : ℕ) (x d : X) → index < length kept
@@ -89,15 +85,42 @@ shifted_lane rows lane long low =
 
 -- ---- the images of 16 bytes
 
-module _ (first n : ℕ) (images v : List ℕ) (within : first + 16 * n ≤ 256) (size : length images ≡ 16 * n)
-    (long : length v ≡ 16) (fit : Each1 (Fits w8) v)
+module _ (first n : ℕ) (table : List (List ℕ)) (within : first + 16 * n ≤ 256) (size : length table ≡ n)
+    (lanes : All (λ row. length row ≡ 16) table)
   where
+    -- the images of the rows that were made of a list, which has its own image at each byte out of them
+    pub image_is : (images : List ℕ) → ((i : ℕ) → i < n → get_or table i [] ≡ chunk (first + 16 * i) 16 images)
+        → length images ≡ 256
+        → ((b : ℕ) → b < 256 → (b < first) ⊎ (first + 16 * n ≤ b) → b ≡ get_or images b 0)
+        → (b : ℕ) → b < 256 → image_from first table b ≡ get_or images b 0
+    image_is images made long others b byte = ⊎_elim
+        (λ below. cc (lt-ltb b first below, others b byte (inl below)))
+        (λ above. ⊎_elim
+        (λ inside.
+        let i = (b - first) / 16 in
+        let few : i < n = omega arith in
+        let same : first + 16 * i + (b - first) % 16 ≡ b = omega arith in
+        cc (
+          le-ltb b first above,
+          made i few,
+          get_or-chunk (first + 16 * i) 16 images ((b - first) % 16) b (omega arith),
+          get_or_default images b b 0 (omega arith),
+        ))
+        (λ past. cc (
+          le-ltb b first above,
+          get_or_past table ((b - first) / 16) [] (omega arith),
+          others b byte (inr past),
+        ))
+        (cases_lt b (first + 16 * n)))
+        (cases_lt b first)
+
     -- the distance from the first byte
     abbrev pub offset : ℕ → ℕ
     offset b = (b + (256 - first)) % 256
 
     entry : (b : ℕ) → b < 256
-        → cond (ltb (offset b / 16) n) (get_or images (offset b) 0) b ≡ image_from first images b
+        → cond (ltb (offset b / 16) n) (get_or (get_or table (offset b / 16) []) (offset b % 16) 0) b
+        ≡ image_from first table b
     entry b byte = ⊎_elim
         (λ below. cc (lt-ltb b first below, le-ltb (offset b / 16) n (omega arith)))
         (λ above.
@@ -106,59 +129,55 @@ module _ (first n : ℕ) (images v : List ℕ) (within : first + 16 * n ≤ 256)
         (λ inside. cc (
           le-ltb b first above,
           lt-ltb (offset b / 16) n inside,
-          get_or_default images (b - first) 0 b (omega arith),
+          get_or_default (get_or table ((b - first) / 16) []) ((b - first) % 16) 0 b
+              (omega (arith, lanes ((b - first) / 16) [] (omega arith))),
         ))
-        (λ past. cc (le-ltb b first above, le-ltb (offset b / 16) n past, get_or_past images (b - first) b (omega arith)))
+        (λ past. cc (
+          le-ltb b first above,
+          le-ltb (offset b / 16) n past,
+          get_or_past table ((b - first) / 16) [] (omega arith),
+        ))
         (cases_lt (offset b / 16) n))
         (cases_lt b first)
 
-    module _ {offsets rows : List ℕ} (found : List ℕ) (rows_found : List (List ℕ)) (offsets_are : offsets ≡ map offset v)
-        (rows_are : rows ≡ map (λ b. offset b / 16) v)
+    module _ (v : List ℕ) (long : length v ≡ 16) (fit : Each1 (Fits w8) v) {offsets rows : List ℕ} (found : List ℕ)
+        (found_in_rows : List (List ℕ)) (offsets_are : offsets ≡ map offset v) (rows_are : rows ≡ map (λ b. offset b / 16) v)
         (looked_up : (row : ℕ) → row < n
-        → get_or rows_found row [] ≡ map (λ o. get_or images (16 * row + o % 16) 0) offsets)
+        → get_or found_in_rows row [] ≡ map (λ o. get_or (get_or table row []) (o % 16) 0) offsets)
         (size_of_found : length found ≡ 16)
         (selected : (lane : ℕ) → lane < 16 → get_or rows lane 0 < n
-        → get_or found lane 0 ≡ lane_of rows_found rows lane)
+        → get_or found lane 0 ≡ lane_of found_in_rows rows lane)
       where
-        found_lane : (lane : ℕ) → lane < 16 → offset (get_or v lane 0) / 16 < n
-            → get_or found lane 0 ≡ get_or images (offset (get_or v lane 0)) 0
+        found_lane : (lane : ℕ) → lane < 16 → offset (get_or v lane 0) / 16 < n → get_or found lane 0
+            ≡ get_or (get_or table (offset (get_or v lane 0) / 16) []) (offset (get_or v lane 0) % 16) 0
         found_lane lane low inside =
             let b = get_or v lane 0 in
             let row : get_or rows lane 0 ≡ offset b / 16 =
             ap (λ l. get_or l lane 0) rows_are ∙ get_or-map (λ b. offset b / 16) v lane 0 0 (omega arith) in
-            let there = selected lane low (omega (arith, row, inside)) in
             let is : get_or offsets lane 0 ≡ offset b =
             ap (λ l. get_or l lane 0) offsets_are ∙ get_or-map offset v lane 0 0 (omega arith) in
             let offsets_long : length offsets ≡ 16 = ap length offsets_are ∙ length-map v offset ∙ long in
-            there ∙ ap (λ k. get_or (get_or rows_found k []) lane 0) row
+            selected lane low (omega (arith, row, inside)) ∙ ap (λ k. get_or (get_or found_in_rows k []) lane 0) row
             ∙ ap (λ l. get_or l lane 0) (looked_up (offset b / 16) inside)
-            ∙ get_or-map (λ o. get_or images (16 * (offset b / 16) + o % 16) 0) offsets lane 0 0 (omega arith)
-            ∙ ap (λ k. get_or images k 0) (omega (arith, is))
+            ∙ get_or-map (λ o. get_or (get_or table (offset b / 16) []) (o % 16) 0) offsets lane 0 0 (omega arith)
+            ∙ ap (λ o. get_or (get_or table (offset b / 16) []) (o % 16) 0) is
 
         pub images_of : {flags : List Bool} → flags ≡ map (λ b. ltb (offset b / 16) n) v
-            → sel_l flags found v ≡ map (image_from first images) v
+            → sel_l flags found v ≡ map (image_from first table) v
         images_of {flags} flags_are =
             let flags_long : length flags ≡ 16 = ap length flags_are ∙ length-map v (λ b. ltb (offset b / 16) n) ∙ long in
             let sizes = length-sel_l flags found v (omega arith) (omega arith) in
-            ext_get_or 0 (sel_l flags found v) (map (image_from first images) v)
-            (sizes ∙ flags_long ∙ sym (length-map v (image_from first images) ∙ long)) (λ lane low.
+            ext_get_or 0 (sel_l flags found v) (map (image_from first table) v)
+            (sizes ∙ flags_long ∙ sym (length-map v (image_from first table) ∙ long)) (λ lane low.
             let few : lane < 16 = omega (arith, low, sizes) in
             let b = get_or v lane 0 in
             let byte = (Each1-get_or (Fits w8) v lane 0 (omega arith) fit).fits in
+            let image = get_or-map (image_from first table) v lane 0 0 (omega arith) in
             get_or-sel_l flags found v lane 0 (omega arith) (omega arith) (omega arith)
             ∙ ap (λ flag. cond flag (get_or found lane 0) b)
             (ap (λ l. get_or l lane false) flags_are
             ∙ get_or-map (λ b. ltb (offset b / 16) n) v lane 0 false (omega arith))
             ∙ ⊎_elim
-            (λ inside. cc (
-              lt-ltb (offset b / 16) n inside,
-              found_lane lane few inside,
-              entry b byte,
-              get_or-map (image_from first images) v lane 0 0 (omega arith),
-            ))
-            (λ past. cc (
-              le-ltb (offset b / 16) n past,
-              entry b byte,
-              get_or-map (image_from first images) v lane 0 0 (omega arith),
-            ))
+            (λ inside. cc (lt-ltb (offset b / 16) n inside, found_lane lane few inside, entry b byte, image))
+            (λ past. cc (le-ltb (offset b / 16) n past, entry b byte, image))
             (cases_lt (offset b / 16) n))

@@ -13,15 +13,14 @@ use std::simd::prelude::*;
 
 // The entries of each row, indexed by the low nibbles of the bytes.
 #[inline(always)]
-fn look_up_rows<const N: usize>(images: &[u8], v: u8x16) -> [u8x16; N]
-    requires { length images.now ≡ 16 * N }
-    ensures lanes { All (λ v. length v ≡ 16) result }
+fn look_up_rows<const N: usize>(rows: [u8x16; N], v: u8x16) -> [u8x16; N]
+    ensures lanes { All (λ row. length row ≡ 16) result }
     ensures found { (row : ℕ) → row < N
-        → slice_index_or result row [] ≡ map (λ b. slice_index images.now (16 * row + b % 16)) v }
+        → slice_index_or result row [] ≡ map (λ b. slice_index (slice_index_or rows.entry row []) (b % 16)) v }
 {
     let mut found = [v; N];
     for row in 0..N {
-        found[row] = by_low_nibble(u8x16::from_slice(&images[16 * row..]), v);
+        found[row] = by_low_nibble(rows[row], v);
     }
     found
 }
@@ -66,24 +65,25 @@ fn select_rows<const N: usize>(found: [u8x16; N], rows: u8x16) -> u8x16
     left[0]
 }
 
-/// The map by a table of `16 * N` images, those of the bytes from `first` on. Other bytes are not changed.
+/// The map by rows of 16 images, those of the bytes from `first` on. Other bytes are not changed.
 #[derive(Clone, Copy)]
-struct TableMap<'a, const N: usize> {
+struct TableMap<const N: usize> {
     first: u8,
-    images: &'a [u8],
+    rows: [u8x16; N],
     ghost some: { 0 < N },
     ghost within: { first + 16 * N ≤ 256 },
-    ghost long: { length images.now ≡ 16 * N },
+    ghost size: { length rows ≡ N },
+    ghost lanes: { All (λ row. length row ≡ 16) rows },
 }
 
-impl<const N: usize> ByteMap for TableMap<'_, N> {
-    ghost map_byte = { λ by. image_from by.first by.images.now };
+impl<const N: usize> ByteMap for TableMap<N> {
+    ghost map_byte = { λ by. image_from by.first by.rows };
 
     #[inline(always)]
     fn map16(self, v: u8x16) -> u8x16 {
         let offsets = v - u8x16::splat(self.first);
         let rows = offsets >> u8x16::splat(4);
-        let found = select_rows::<N>(look_up_rows(self.images, offsets), rows);
+        let found = select_rows(look_up_rows(self.rows, offsets), rows);
         rows.simd_lt(u8x16::splat(N as u8)).select(found, v)
     }
 }
@@ -114,19 +114,21 @@ impl MovedRange {
         Some(MovedRange { first, last })
     }
 
-    // The map by the rows from the first byte on, of which there are `N`.
-    fn map<const N: usize>(self, images: &[u8; 256]) -> TableMap<'_, N>
-        requires few { N ≤ 16 }
+    // The map by `N` rows, which begin with the first byte or before it.
+    fn map<const N: usize>(self, images: &[u8; 256]) -> TableMap<N>
+        requires few { (0 < N) × (N ≤ 16) }
         requires enough { self.last < self.first + 16 * N }
         requires moved { HasMoved self images.now }
-        ensures { (b : ℕ) → b < 256
-            → image_from result.first result.images.now b ≡ slice_index images.now b }
+        ensures { (b : ℕ) → b < 256 → image_from result.first result.rows b ≡ slice_index images.now b }
     {
+        let table: &[u8] = images;
         let first = self.first.min(256 - 16 * N);
-        TableMap {
-            first: first as u8,
-            images: &images[first..first + 16 * N],
+        let mut rows = [u8x16::splat(0); N];
+        for row in 0..N {
+            rows[row] = u8x16::from_slice(&table[first + 16 * row..]);
         }
+        let first = first as u8;
+        TableMap { first, rows }
     }
 
     /// Stores the images of the bytes of `from` in `to`, which is as long. (Four rows have room for the letters of both

@@ -1,14 +1,15 @@
 -- Byte maps as tables of images.
-use Rattle.std.specs.Prelude.{◌≡◌, ◌<◌, ◌≤◌, ℕ, ◌-◌, ◌⊎◌, List, [], nat_lt, slice_index, slice_index_or, if◌then◌else◌}
+use Rattle.std.specs.Prelude.{◌≡◌, ◌<◌, ◌≤◌, ℕ, ◌-◌, ◌/◌, ◌%◌, ◌⊎◌, List, [], nat_lt, slice_index, slice_index_or, if◌then◌else◌}
 use Rattle.ptflow.specs.declared.simd.table.MovedRange.{MovedRange}
 
 -- what the vectors of all rows have in a lane, in the row that the lane of `rows` names
 abbrev pub lane_of : List (List ℕ) → List ℕ → ℕ → ℕ
 lane_of found rows lane = slice_index (slice_index_or found (slice_index rows lane) []) lane
 
--- the image of a byte, if it is one of those from `first` on whose images are listed; another byte stays as it is
-abbrev pub image_from : ℕ → List ℕ → ℕ → ℕ
-image_from first images b = if nat_lt b first then b else slice_index_or images (b - first) b
+-- the image of a byte, if it is one of those from `first` on whose images the rows list; another byte stays as it is
+abbrev pub image_from : ℕ → List (List ℕ) → ℕ → ℕ
+image_from first rows b =
+    if nat_lt b first then b else slice_index_or (slice_index_or rows ((b - first) / 16) []) ((b - first) % 16) b
 
 -- every byte is its own image
 abbrev pub IsIdentity : List ℕ → Type 0
