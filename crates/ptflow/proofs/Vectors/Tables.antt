@@ -1,123 +1,183 @@
--- Tables of images. The entry of a byte in its eighth of the table is that of its low nibble, in the half that the bit
--- above the nibble selects.
-use Rattle.ptflow.proofs.Common.{◌≡◌, ℕ, zero, suc, ◌+◌, ◌*◌, ◌/◌, ◌%◌, ◌<◌, ◌≤◌, ◌^◌, ◌∙◌, ◌==◌, List, [], ◌∷◌, ◌++◌}
-use Rattle.ptflow.proofs.Common.{map, cond, not, eqb, get_or, bit_and, bit_at, ap, arith, refl, sym, take, ⊎_elim}
-use Rattle.ptflow.proofs.Common.{cases_eq, eq-eqb, ne_eqb, image_in_eighths, chunk, get_or-chunk}
-use Rattle.ptflow.proofs.Common.{HasMoved, length, length-set, set, take_more_set, ◌⊎◌, inl, inr}
-use Rattle.ptflow.specs.declared.simd.table.Eighths.{Eighths}
-use Rattle.ptflow.proofs.Common.{Fits, w8}
-use Rattle.std.proofs.Math.Seq.{take-nil}
-use Rattle.ptflow.proofs.Vectors.Lanes.{images_same}
-use Rattle.std.proofs.lemmas.Nat.Bits.{and_pow, bit_at-lt}
+-- Tables of images. Of each lane, the vectors that are left have in the row of the lane what was found for it. Each
+-- step halves the rows, and takes of two vectors the one that the lowest bit of the row names.
+use Rattle.ptflow.proofs.Common.{◌≡◌, ◌<◌, ◌≤◌, ◌∙◌, ℕ, zero, suc, ◌*◌, ◌+◌, ◌-◌, ◌/◌, ◌%◌, List, [], All, map, min, not}
+use Rattle.ptflow.proofs.Common.{length, length-map, length-set, set, slice_index, slice_index_or, sel_l, eqb, bit_and}
+use Rattle.ptflow.proofs.Common.{All-set, and_mask, ap, arith, cases_eq, cond, get_or, get_or-chunk, get_or-map, ⊎_elim}
+use Rattle.ptflow.proofs.Common.{Bool, Each1, Fits, cases_lt, chunk, ext_get_or, false, get_or-set_other, ltb, w8, ◌^◌}
+use Rattle.ptflow.proofs.Common.{get_or-set_same, get_or_default, get_or_past, inl, inr, ◌⊎◌, le-ltb, lt-ltb, replicate, sym, zip2}
+use Rattle.ptflow.proofs.Common.{zip2_splat}
+use Rattle.std.proofs.lemmas.Simd.{Each1-get_or, get_or-sel_l, length-sel_l}
+use Rattle.ptflow.proofs.Common.{top}
+use Rattle.ptflow.proofs.Vectors.Lanes.{tests_are}
+use Rattle.ptflow.specs.Private.Vectors.Tables.{image_from, lane_of}
 
--- an eighth more
-pub eighths_push : (eighths table : List ℕ) (byte b : ℕ)
-    → image_in_eighths (eighths ++ byte ∷ []) table b
-    ≡ cond (byte / 32 == b / 32) (get_or table b 0) (image_in_eighths eighths table b)
-eighths_push [] table byte b = refl
-eighths_push (e ∷ eighths) table byte b = grind (arith, eighths_push eighths table byte b)
+-- one value more is stored
+pub stored_next : {X : Type 0} (f : ℕ → X) (kept : List X) (index : ℕ) (x d : X) → index < length kept
+    → ((i : ℕ) → i < index → get_or kept i d ≡ f i) → x ≡ f index
+    → (i : ℕ) → i < index + 1 → get_or (set kept index x) i d ≡ f i
+stored_next f kept index x d room before is i low = ⊎_elim
+    (λ same. cc (get_or-set_same kept index x d room))
+    (λ other. get_or-set_other kept index i x d other ∙ before i (omega (arith, low, other)))
+    (cases_eq i index)
 
--- a byte that is its own image has it in any eighths
-same_image : (eighths table : List ℕ) (b : ℕ) → b ≡ get_or table b 0
-    → image_in_eighths eighths table b ≡ get_or table b 0
-same_image [] table b same = same
-same_image (e ∷ eighths) table b same = grind (arith, same_image eighths table b same)
+module _ (rows : List ℕ) (found : List (List ℕ)) (count : ℕ) where
+  abbrev pub odd : ℕ → ℕ
+  odd i = min (2 * i + 1) (count - 1)
 
--- more eighths give the images that some of them give
-pub more_eighths : (n m : ℕ) (eighths table : List ℕ) (b : ℕ) → n ≤ m
-    → image_in_eighths (take n eighths) table b ≡ get_or table b 0
-    → image_in_eighths (take m eighths) table b ≡ get_or table b 0
-more_eighths n m [] table b more is = cc (take-nil n, take-nil m, is)
-more_eighths zero m (e ∷ eighths) table b more is = same_image (take m (e ∷ eighths)) table b is
-more_eighths (suc n) zero (e ∷ eighths) table b more is = absurd (omega arith)
-more_eighths (suc n) (suc m) (e ∷ eighths) table b more is =
-    grind (arith, more_eighths n m eighths table b)
+  -- of two vectors, the lanes of the second one where the row is odd
+  abbrev pub halved : ℕ → List ℕ
+  halved i = sel_l (map (λ row. not (eqb (bit_and row 1) 0)) rows) (get_or found (odd i) []) (get_or found (2 * i) [])
 
--- the first eighths, if they have all bytes that differ from their image
-pub first_images : {eighths : Eighths} {table : List ℕ} → HasMoved eighths table → (n : ℕ) → eighths.count ≤ n
-    → (v : List ℕ) → ((k : ℕ) → Fits w8 (get_or v k 0)) → {images bytes to : List ℕ} → images ≡ table
-    → bytes ≡ take n eighths.bytes → to ≡ map (image_in_eighths bytes images) v → to ≡ map (λ b. get_or table b 0) v
-first_images {eighths} {table} moved n few v fit same first stored =
-    let same_images = images_same {f = image_in_eighths (take n eighths.bytes) table} v
-    (λ b small. more_eighths eighths.count n eighths.bytes table b few (moved.images b small)) fit in
-    cc (same_images, same, first, stored)
+  module _ (long : length rows ≡ 16) (lanes : All (λ v. length v ≡ 16) found) (few : count ≤ length found) where
+    first_long : (i : ℕ) → 2 * i < count → length (get_or found (2 * i) []) ≡ 16
+    first_long i within = lanes (2 * i) [] (omega arith)
 
--- ---- the eighths that contain a byte which differs from its image
+    second_long : (i : ℕ) → 2 * i < count → length (get_or found (odd i) []) ≡ 16
+    second_long i within = lanes (odd i) [] (omega arith)
 
--- Each byte below `byte`, and each byte of an eighth below `next`, has its image in the eighths so far.
-pub record EighthsSoFar (table bytes : List ℕ) (count next byte : ℕ) : Type 0 where
-  pub long : length bytes ≡ 8
-  pub few : count ≤ next
-  pub low : next ≤ 8
-  pub images : (b : ℕ) → (b < byte) ⊎ (b / 32 < next)
-      → image_in_eighths (take count bytes) table b ≡ get_or table b 0
+    bits_long : length (map (λ row. not (eqb (bit_and row 1) 0)) rows) ≡ 16
+    bits_long = length-map rows (λ row. not (eqb (bit_and row 1) 0)) ∙ long
 
-module _ {table bytes : List ℕ} {count next byte : ℕ} (so_far : EighthsSoFar table bytes count next byte) where
-  -- a byte that is its own image, or is in one of the eighths
-  pub eighths_skip : (get_or table byte 0 ≡ byte) ⊎ (byte / 32 < next)
-      → EighthsSoFar table bytes count next (byte + 1)
-  eighths_skip why = record {
-    long = so_far.long;
-    few = so_far.few;
-    low = so_far.low;
-    images = λ b before. ⊎_elim
-        (λ same. ⊎_elim
-        (λ unmoved. same_image (take count bytes) table b (rw same (sym unmoved)))
-        (λ begun. so_far.images b (inr (omega (arith, same, begun)))) why)
-        (λ other. so_far.images b (⊎_elim (λ low. inl (omega (arith, low, other))) inr before)) (cases_eq b byte);
-  }
+    pub halved_long : (i : ℕ) → 2 * i < count → length (halved i) ≡ 16
+    halved_long i within =
+        let first = first_long i within in
+        let second = second_long i within in
+        length-sel_l _ (get_or found (odd i) []) (get_or found (2 * i) []) (omega (arith, bits_long, second))
+        (omega (arith, bits_long, first)) ∙ bits_long
 
-  -- the first byte of another eighth that differs from its image
-  pub eighths_begin : byte < 256 → next ≤ byte / 32
-      → EighthsSoFar table (set bytes count byte) (count + 1) (byte / 32 + 1) (byte + 1)
-  eighths_begin small new = record {
-    long = length-set bytes count byte ∙ so_far.long;
-    few = omega (arith, so_far.few);
-    low = omega arith;
-    images = λ b before. ap (λ es. image_in_eighths es table b)
-        (take_more_set bytes count byte (omega (arith, so_far.few, so_far.long)))
-        ∙ eighths_push (take count bytes) table byte b ∙ image b before;
-  }
-    where
-      image : (b : ℕ) → (b < byte + 1) ⊎ (b / 32 < byte / 32 + 1)
-          → cond (byte / 32 == b / 32) (get_or table b 0) (image_in_eighths (take count bytes) table b)
-          ≡ get_or table b 0
-      image b before = ⊎_elim
-          (λ same. cc (eq-eqb (byte / 32) (b / 32) same))
-          (λ other.
-          let below : b < byte =
-          ⊎_elim (λ low. omega (arith, low, other)) (λ low. omega (arith, low, other)) before in
-          cc (ne_eqb (byte / 32) (b / 32) other, so_far.images b (inl below)))
-          (cases_eq (byte / 32) (b / 32))
+    pub halved_is : (i : ℕ) {second : ℕ} → second ≡ odd i
+        → sel_l (map (top 7) (zip2 (λ a b. cond (not (eqb a b)) 255 0) (zip2 bit_and rows (replicate 16 1))
+        (replicate 16 0))) (get_or found second []) (get_or found (2 * i) []) ≡ halved i
+    halved_is i is =
+        let bits = tests_are (λ a b. not (eqb a b)) (λ row. bit_and row 1) rows 0 long (zip2_splat bit_and rows 16 1 long) in
+        cc (bits, is)
 
-  pub eighths_done : (eighths : Eighths) → eighths.bytes ≡ bytes → eighths.count ≡ count → 256 ≤ byte
-      → HasMoved eighths table
-  eighths_done eighths bytes_is count_is all = record {
-    few = omega (arith, so_far.few, so_far.low);
-    images = λ b small. cc (bytes_is, count_is, so_far.images b (inl (omega arith)));
-  }
+    pub halved_lane : (lane : ℕ) → lane < 16 → get_or rows lane 0 < count
+        → get_or (halved (get_or rows lane 0 / 2)) lane 0 ≡ lane_of found rows lane
+    halved_lane lane low within =
+        let row = get_or rows lane 0 in
+        let i = row / 2 in
+        let inside : 2 * i < count = omega arith in
+        get_or-sel_l _ (get_or found (odd i) []) (get_or found (2 * i) []) lane 0 (omega (arith, bits_long))
+        (omega (arith, second_long i inside)) (omega (arith, first_long i inside))
+        ∙ ap (λ bit. cond bit (get_or (get_or found (odd i) []) lane 0) (get_or (get_or found (2 * i) []) lane 0))
+        (get_or-map (λ row. not (eqb (bit_and row 1) 0)) rows lane 0 false (omega arith))
+        ∙ by_bit (bit_and row 1) (and_mask row 1)
+      where
+        by_bit : (bit : ℕ) → bit ≡ get_or rows lane 0 % 2
+            → cond (not (eqb bit 0)) (get_or (get_or found (odd (get_or rows lane 0 / 2)) []) lane 0)
+            (get_or (get_or found (2 * (get_or rows lane 0 / 2)) []) lane 0) ≡ lane_of found rows lane
+        by_bit zero is = ap (λ k. get_or (get_or found k []) lane 0) (omega arith)
+        by_bit (suc zero) is = ap (λ k. get_or (get_or found k []) lane 0) (omega arith)
+        by_bit (suc (suc bit)) is = absurd (omega arith)
 
--- the entry of a byte, by the half of its eighth
-pub entry_in_eighth : (table : List ℕ) (byte b : ℕ) (other : ℕ) {eighth : ℕ} → eighth ≡ byte / 32
-    → cond (eqb (b / 2 ^ 5) (byte / 32))
-    (cond (not (eqb (bit_and b 16) 0)) (get_or (chunk (32 * eighth + 16) 16 table) (b % 16) 0)
-    (get_or (chunk (32 * eighth) 16 table) (b % 16) 0)) other
-    ≡ cond (byte / 32 == b / 32) (get_or table b 0) other
-entry_in_eighth table byte b other {eighth} is = ⊎_elim
-    (λ same. cc (
-      eq-eqb (b / 32) (byte / 32) same,
-      eq-eqb (byte / 32) (b / 32) (sym same),
-      get_or-chunk (32 * eighth + 16) 16 table (b % 16) 0 (omega arith),
-      get_or-chunk (32 * eighth) 16 table (b % 16) 0 (omega arith),
-      and_pow b 4,
-      by_bit same (bit_at b 4) refl (bit_at-lt b 4),
-    ))
-    (λ other. cc (ne_eqb (b / 32) (byte / 32) other, ne_eqb (byte / 32) (b / 32) (λ e. other (sym e))))
-    (cases_eq (b / 32) (byte / 32))
+  -- the vectors so far, of `n`
+  pub record HalvedTo (n index : ℕ) (kept : List (List ℕ)) : Type 0 where
+    pub size : length found ≡ n
+    pub long : length kept ≡ n
+    pub lanes : All (λ v. length v ≡ 16) kept
+    pub made : (i : ℕ) → i < index → get_or kept i [] ≡ halved i
+
+pub shifted_lane : (rows : List ℕ) (lane : ℕ) → length rows ≡ 16 → lane < 16
+    → get_or (zip2 (λ a b. a / 2 ^ b) rows (replicate 16 1)) lane 0 ≡ get_or rows lane 0 / 2
+shifted_lane rows lane long low =
+    cc (zip2_splat (λ a b. a / 2 ^ b) rows 16 1 long, get_or-map (λ b. b / 2 ^ 1) rows lane 0 0 (omega arith))
+
+-- ---- the images of 16 bytes
+
+module _ (first n : ℕ) (table : List (List ℕ)) (within : first + 16 * n ≤ 256) (size : length table ≡ n)
+    (lanes : All (λ row. length row ≡ 16) table)
   where
-    by_bit : b / 32 ≡ byte / 32 → (x : ℕ) → x ≡ bit_at b 4 → x < 2
-        → cond (not (eqb (x * 2 ^ 4) 0)) (get_or table (32 * eighth + 16 + b % 16) 0)
-        (get_or table (32 * eighth + b % 16) 0) ≡ get_or table b 0
-    by_bit same zero half few = ap (λ k. get_or table k 0) (omega (arith, same, half, is))
-    by_bit same (suc zero) half few = ap (λ k. get_or table k 0) (omega (arith, same, half, is))
-    by_bit same (suc (suc x)) half few = absurd (omega arith)
+    -- the images of the rows that were made of a list, which has its own image at each byte out of them
+    pub image_is : (images : List ℕ) → ((i : ℕ) → i < n → get_or table i [] ≡ chunk (first + 16 * i) 16 images)
+        → length images ≡ 256
+        → ((b : ℕ) → b < 256 → (b < first) ⊎ (first + 16 * n ≤ b) → b ≡ get_or images b 0)
+        → (b : ℕ) → b < 256 → image_from first table b ≡ get_or images b 0
+    image_is images made long others b byte = ⊎_elim
+        (λ below. cc (lt-ltb b first below, others b byte (inl below)))
+        (λ above. ⊎_elim
+        (λ inside.
+        let i = (b - first) / 16 in
+        let few : i < n = omega arith in
+        let same : first + 16 * i + (b - first) % 16 ≡ b = omega arith in
+        cc (
+          le-ltb b first above,
+          made i few,
+          get_or-chunk (first + 16 * i) 16 images ((b - first) % 16) b (omega arith),
+          get_or_default images b b 0 (omega arith),
+        ))
+        (λ past. cc (
+          le-ltb b first above,
+          get_or_past table ((b - first) / 16) [] (omega arith),
+          others b byte (inr past),
+        ))
+        (cases_lt b (first + 16 * n)))
+        (cases_lt b first)
+
+    -- the distance from the first byte
+    abbrev pub offset : ℕ → ℕ
+    offset b = (b + (256 - first)) % 256
+
+    entry : (b : ℕ) → b < 256
+        → cond (ltb (offset b / 16) n) (get_or (get_or table (offset b / 16) []) (offset b % 16) 0) b
+        ≡ image_from first table b
+    entry b byte = ⊎_elim
+        (λ below. cc (lt-ltb b first below, le-ltb (offset b / 16) n (omega arith)))
+        (λ above.
+        let same : offset b ≡ b - first = omega arith in
+        ⊎_elim
+        (λ inside. cc (
+          le-ltb b first above,
+          lt-ltb (offset b / 16) n inside,
+          get_or_default (get_or table ((b - first) / 16) []) ((b - first) % 16) 0 b
+              (omega (arith, lanes ((b - first) / 16) [] (omega arith))),
+        ))
+        (λ past. cc (
+          le-ltb b first above,
+          le-ltb (offset b / 16) n past,
+          get_or_past table ((b - first) / 16) [] (omega arith),
+        ))
+        (cases_lt (offset b / 16) n))
+        (cases_lt b first)
+
+    module _ (v : List ℕ) (long : length v ≡ 16) (fit : Each1 (Fits w8) v) {offsets rows : List ℕ} (found : List ℕ)
+        (found_in_rows : List (List ℕ)) (offsets_are : offsets ≡ map offset v) (rows_are : rows ≡ map (λ b. offset b / 16) v)
+        (looked_up : (row : ℕ) → row < n
+        → get_or found_in_rows row [] ≡ map (λ o. get_or (get_or table row []) (o % 16) 0) offsets)
+        (size_of_found : length found ≡ 16)
+        (selected : (lane : ℕ) → lane < 16 → get_or rows lane 0 < n
+        → get_or found lane 0 ≡ lane_of found_in_rows rows lane)
+      where
+        found_lane : (lane : ℕ) → lane < 16 → offset (get_or v lane 0) / 16 < n → get_or found lane 0
+            ≡ get_or (get_or table (offset (get_or v lane 0) / 16) []) (offset (get_or v lane 0) % 16) 0
+        found_lane lane low inside =
+            let b = get_or v lane 0 in
+            let row : get_or rows lane 0 ≡ offset b / 16 =
+            ap (λ l. get_or l lane 0) rows_are ∙ get_or-map (λ b. offset b / 16) v lane 0 0 (omega arith) in
+            let is : get_or offsets lane 0 ≡ offset b =
+            ap (λ l. get_or l lane 0) offsets_are ∙ get_or-map offset v lane 0 0 (omega arith) in
+            let offsets_long : length offsets ≡ 16 = ap length offsets_are ∙ length-map v offset ∙ long in
+            selected lane low (omega (arith, row, inside)) ∙ ap (λ k. get_or (get_or found_in_rows k []) lane 0) row
+            ∙ ap (λ l. get_or l lane 0) (looked_up (offset b / 16) inside)
+            ∙ get_or-map (λ o. get_or (get_or table (offset b / 16) []) (o % 16) 0) offsets lane 0 0 (omega arith)
+            ∙ ap (λ o. get_or (get_or table (offset b / 16) []) (o % 16) 0) is
+
+        pub images_of : {flags : List Bool} → flags ≡ map (λ b. ltb (offset b / 16) n) v
+            → sel_l flags found v ≡ map (image_from first table) v
+        images_of {flags} flags_are =
+            let flags_long : length flags ≡ 16 = ap length flags_are ∙ length-map v (λ b. ltb (offset b / 16) n) ∙ long in
+            let sizes = length-sel_l flags found v (omega arith) (omega arith) in
+            ext_get_or 0 (sel_l flags found v) (map (image_from first table) v)
+            (sizes ∙ flags_long ∙ sym (length-map v (image_from first table) ∙ long)) (λ lane low.
+            let few : lane < 16 = omega (arith, low, sizes) in
+            let b = get_or v lane 0 in
+            let byte = (Each1-get_or (Fits w8) v lane 0 (omega arith) fit).fits in
+            let image = get_or-map (image_from first table) v lane 0 0 (omega arith) in
+            get_or-sel_l flags found v lane 0 (omega arith) (omega arith) (omega arith)
+            ∙ ap (λ flag. cond flag (get_or found lane 0) b)
+            (ap (λ l. get_or l lane false) flags_are
+            ∙ get_or-map (λ b. ltb (offset b / 16) n) v lane 0 false (omega arith))
+            ∙ ⊎_elim
+            (λ inside. cc (lt-ltb (offset b / 16) n inside, found_lane lane few inside, entry b byte, image))
+            (λ past. cc (le-ltb (offset b / 16) n past, entry b byte, image))
+            (cases_lt (offset b / 16) n))

@@ -39,7 +39,10 @@ struct Translation<'a> {
 fn optional_set(flags: &[bool; 256]) -> Option<ByteSet>
     ensures { IsOptionalSet result flags.now }
 {
-    flags.contains(&true).then_some(ByteSet::of(flags))
+    if !flags.contains(&true) {
+        return None;
+    }
+    Some(ByteSet::of(flags))
 }
 
 impl<'a> Translation<'a> {
@@ -78,7 +81,7 @@ impl<'a> Translation<'a> {
             MapKind::Identity => return bytes,
             MapKind::Shifts(shifts) => translate(shifts, bytes, to),
             MapKind::SetToByte(set_map) => map_bytes(*set_map, bytes, to),
-            MapKind::Table(eighths) => eighths.store_images(self.plan.images(), bytes, to),
+            MapKind::Table(moved) => moved.store_images(self.plan.images(), bytes, to),
         }
         to
     }

@@ -1,14 +1,22 @@
--- Byte maps as tables of 256 images.
-use Rattle.std.specs.Prelude.{◌≡◌, ◌≤◌, ◌<◌, ℕ, ◌/◌, ◌==◌, List, [], ◌∷◌, take, slice_index, if◌then◌else◌}
-use Rattle.ptflow.specs.declared.simd.table.Eighths.{Eighths}
+-- Byte maps as tables of images.
+use Rattle.std.specs.Prelude.{◌≡◌, ◌<◌, ◌≤◌, ℕ, ◌-◌, ◌/◌, ◌%◌, ◌⊎◌, List, [], nat_lt, slice_index, slice_index_or, if◌then◌else◌}
+use Rattle.ptflow.specs.declared.simd.table.MovedRange.{MovedRange}
 
--- the image of a byte, if it is in an eighth of the table that contains one of `eighths`; another byte stays as it is
-abbrev pub image_in_eighths : List ℕ → List ℕ → ℕ → ℕ
-image_in_eighths [] table b = b
-image_in_eighths (byte ∷ eighths) table b =
-    if byte / 32 == b / 32 then slice_index table b else image_in_eighths eighths table b
+-- what the vectors of all rows have in a lane, in the row that the lane of `rows` names
+abbrev pub lane_of : List (List ℕ) → List ℕ → ℕ → ℕ
+lane_of found rows lane = slice_index (slice_index_or found (slice_index rows lane) []) lane
 
--- the eighths contain every byte that differs from its image: looking up bytes in them alone gives all images
-pub record HasMoved (eighths : Eighths) (table : List ℕ) : Type 0 where
-  pub few : eighths.count ≤ 8
-  pub images : (b : ℕ) → b < 256 → image_in_eighths (take eighths.count eighths.bytes) table b ≡ slice_index table b
+-- the image of a byte, if it is one of those from `first` on whose images the rows list; another byte stays as it is
+abbrev pub image_from : ℕ → List (List ℕ) → ℕ → ℕ
+image_from first rows b =
+    if nat_lt b first then b else slice_index_or (slice_index_or rows ((b - first) / 16) []) ((b - first) % 16) b
+
+-- every byte is its own image
+abbrev pub IsIdentity : List ℕ → Type 0
+IsIdentity table = (b : ℕ) → b < 256 → b ≡ slice_index table b
+
+-- every byte that is not in the range is its own image
+pub record HasMoved (moved : MovedRange) (table : List ℕ) : Type 0 where
+  pub ordered : moved.first ≤ moved.last
+  pub bytes : moved.last < 256
+  pub others : (b : ℕ) → b < 256 → (b < moved.first) ⊎ (moved.last < b) → b ≡ slice_index table b

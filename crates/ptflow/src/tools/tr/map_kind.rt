@@ -5,7 +5,7 @@ ghost use Rattle.ptflow.specs.Private.Tr.MapKinds.{IsMapKind, set_to_byte};
 
 use crate::simd::byte_set::ByteSet;
 use crate::simd::shift::ByteMap;
-use crate::simd::table::Eighths;
+use crate::simd::table::MovedRange;
 use ptlangs::{CharPlan, Shifts};
 use std::simd::prelude::*;
 
@@ -51,27 +51,26 @@ pub(crate) enum MapKind {
     Shifts(Shifts),
     /// By a set of bytes that all have the same image.
     SetToByte(MapSetToByte),
-    /// By the plan's table, in the eighths that contain a byte that changes.
-    Table(Eighths),
+    /// By the part of the plan's table for the bytes that change.
+    Table(MovedRange),
 }
 
 impl MapKind {
-    /// The fastest kind for a plan. Two eighths of its table are looked up faster than more than two shifts are added.
+    /// The fastest kind for a plan. Four rows of its table are looked up faster than more than two shifts are added.
     pub(crate) fn of(plan: &CharPlan) -> MapKind
         ensures { IsMapKind result plan.now.images }
     {
         let images = plan.images();
-        let eighths = Eighths::of(images);
-        if eighths.count == 0 {
+        let Some(moved) = MovedRange::of(images) else {
             return MapKind::Identity;
-        }
+        };
         match plan.shifts() {
-            Some(shifts) if eighths.count > 2 || shifts.stretch(2).is_none() => MapKind::Shifts(
-                shifts,
-            ),
-            _ => match MapSetToByte::of(images, images[usize::from(eighths.bytes[0])]) {
+            Some(shifts) if moved.last >= moved.first + 64 || shifts.stretch(2).is_none() => {
+                MapKind::Shifts(shifts)
+            }
+            _ => match MapSetToByte::of(images, images[moved.first]) {
                 Some(set_map) => MapKind::SetToByte(set_map),
-                None => MapKind::Table(eighths),
+                None => MapKind::Table(moved),
             },
         }
     }
