@@ -15,8 +15,7 @@ use Rattle.ptmerge.specs.Join.{join_tool}
 use Rattle.ptmerge.specs.MergeSpec.{Lines, MergeTool, keys, lines_of, merge_output}
 use Rattle.ptmerge.specs.Parts.{AllKeysBelow, AreSplitByKey, AreInputsSorted, text_of_part, output_lines}
 use Rattle.ptmerge.specs.Sides.{both}
-use Rattle.ptmerge.proofs.Parts.ByKey.{comm_of_keys, join_of_keys}
-use Rattle.ptmerge.proofs.Parts.Concatenation.{comm_of_parts, join_of_parts}
+use Rattle.ptmerge.proofs.Parts.{comm_of_keys, join_of_keys, comm_of_parts, join_of_parts}
 
 abbrev compares : MergeTool
 compares = comm_tool default_comm
