@@ -8,7 +8,8 @@ use Rattle.ptlines.specs.Readers.{Reader, IsDone, HasReadCause}
 use Rattle.ptlines.specs.Received.{Received, IsPrefix, IsConsistent, HasReceived}
 use Rattle.ptlines.specs.Slots.{Slots, total_bytes}
 
--- The names of the inputs: which of them a call reads, and whether two of them name one input.
+-- The names of the inputs: which of them a call reads, and whether two of them name one input, as they do if they are
+-- equal.
 pub record InputNames (I : Type 0) : Type 0 where
   pub is_read : I → Bool
   pub is_same : I → I → Bool
@@ -19,12 +20,12 @@ pub record EngineSpec (I : Type 0) : Type 0 where
   pub text : (I → List ℕ) → List ℕ
   -- the output that is decided by what was received from each input
   pub decided : (I → Received) → List ℕ
-  -- an input that is out of order, and the number of its line, counted from 1
+  -- the input that is reported as out of order, if any, and the number of its line, counted from 1
   pub disorder : (I → List ℕ) → Option (I × ℕ)
   -- the most bytes of lines that are stored at any moment, and the most slots that are needed for them
   pub size : (I → List ℕ) → ℕ
   pub slots : (I → List ℕ) → ℕ
-  -- the slots that are added before anything is read
+  -- how many slots are added before anything is read
   pub first_slots : ℕ
   -- whether memory may be requested once the inputs have ended, as `join` does for a group
   pub keeps_groups : Bool
@@ -59,11 +60,11 @@ module _ {I : Type 0} (names : InputNames I) where
   AreAllConsistent given texts = (i : I) → names.is_read i ≡ true → IsConsistent (given i) (texts i)
 
   -- No read failed.
-  abbrev pub NoReadFault : CallState I → CallState I → Type 0
-  NoReadFault old new = (i : I) → names.is_read i ≡ true → (new.reader i).failed ≡ (old.reader i).failed
+  abbrev pub NoReadFailed : CallState I → CallState I → Type 0
+  NoReadFailed old new = (i : I) → names.is_read i ≡ true → (new.reader i).failed ≡ (old.reader i).failed
 
   -- A read of this input failed, or it has 2^63 bytes or more; no other call failed.
-  pub record ReadFailed (old new : CallState I) (input : I) : Type 0 where
+  pub record ReadFaultPost (old new : CallState I) (input : I) : Type 0 where
     pub named : names.is_read input ≡ true
     pub unfailed : (old.reader input).failed ≡ false
     pub cause : HasReadCause (old.reader input) (new.reader input)
@@ -72,9 +73,9 @@ module _ {I : Type 0} (names : InputNames I) where
     pub not_denied : new.store.denied ≡ false
 
   -- A write failed, and no other call.
-  pub record WriteFailed (old new : CallState I) : Type 0 where
+  pub record WriteFaultPost (old new : CallState I) : Type 0 where
     pub write_failed : new.out.write_failed ≡ true
-    pub unfailed : NoReadFault old new
+    pub unfailed : NoReadFailed old new
     pub not_denied : new.store.denied ≡ false
 
   module _ (engine : EngineSpec I) where
@@ -87,7 +88,7 @@ module _ {I : Type 0} (names : InputNames I) where
           pub ended : found ≡ None → (i : I) → names.is_read i ≡ true → IsDone (new.reader i)
           pub fault : (i : I) → names.is_read i ≡ true → (new.reader i).fault ≡ None
           pub short : (i : I) → names.is_read i ≡ true → (new.reader i).pulled < 2 ^ 63
-          pub unfailed : NoReadFault old new
+          pub unfailed : NoReadFailed old new
           pub clean : new.out.write_failed ≡ false
           pub not_denied : new.store.denied ≡ false
           pub empty : total_bytes new.store.lines ≡ 0
@@ -107,9 +108,9 @@ module _ {I : Type 0} (names : InputNames I) where
 
     -- The store could not grow, and no other call failed. Memory was requested for the first slots, or for something
     -- that was left to do.
-    pub record MemoryFailed (old new : CallState I) (given : I → Received) (pushed : List ℕ) : Type 0 where
+    pub record MemoryFaultPost (old new : CallState I) (given : I → Received) (pushed : List ℕ) : Type 0 where
       pub denied : new.store.denied ≡ true
-      pub unfailed : NoReadFault old new
+      pub unfailed : NoReadFailed old new
       pub clean : new.out.write_failed ≡ false
       pub left : engine.first_slots ≤ length new.store.lines → IsCallUnfinished new given pushed
 
@@ -117,9 +118,9 @@ module _ {I : Type 0} (names : InputNames I) where
     abbrev pub CallOutcome : CallState I → CallState I → (I → Received) → List ℕ → CallEnd I → Type 0
     CallOutcome old new given pushed Complete = AllPushed old new given pushed None
     CallOutcome old new given pushed (OutOfOrder input line) = FoundDisorder old new given pushed input line
-    CallOutcome old new given pushed (ReadFault input) = ReadFailed old new input
-    CallOutcome old new given pushed WriteFault = WriteFailed old new
-    CallOutcome old new given pushed MemoryFault = MemoryFailed old new given pushed
+    CallOutcome old new given pushed (ReadFault input) = ReadFaultPost old new input
+    CallOutcome old new given pushed WriteFault = WriteFaultPost old new
+    CallOutcome old new given pushed MemoryFault = MemoryFaultPost old new given pushed
 
     -- A slot could not be added: nothing was read or pushed. Only the terminator of the readers was set.
     pub record IsCallUnread (old new : CallState I) : Type 0 where
@@ -127,8 +128,8 @@ module _ {I : Type 0} (names : InputNames I) where
           → new.reader i ≡ record (old.reader i) { terminator = engine.terminator }
       pub output : new.out ≡ old.out
 
-    -- The postcondition of a call. `given` is what was received from each input, and `texts` are inputs from which it
-    -- may come.
+    -- The postcondition of a call, before which no write and no read of an input had failed. `given` is what was
+    -- received from each input, and `texts` are inputs from which it may come.
     pub record CallPost (old new : CallState I) (end : CallEnd I) : Type 0 where
       pub given : I → Received
       pub came : (i : I) → names.is_read i ≡ true → HasReceived (old.reader i) (new.reader i) (given i)

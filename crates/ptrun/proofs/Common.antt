@@ -45,7 +45,7 @@ pub use Rattle.ptopts.specs.declared.inputs.Input.{Input}
 pub use Rattle.ptopts.specs.declared.inputs.Input.TheVariants.{File, Standard}
 pub use Rattle.ptrun.specs.SpecOfArgs.{spec_of_args, spec_of_parsed, command_spec, is_memory_fault, tool_of_job, word_of_job}
 pub use Rattle.ptrun.specs.SpecOfArgs.{spec_of_result, message_only, tool_name}
-pub use Rattle.ptrun.specs.Driver.{AreSoundAt, InputsPre, JointPre, MergeCallPost, run_state, run_result}
+pub use Rattle.ptrun.specs.Driver.{AreSoundAt, InputsPre, JointPre, MergeCallPost, run_state, result_of_end}
 pub use Rattle.ptrun.specs.Driver.{OperandPre, OperandPost, RunOnPre, RunOnPost, operand_completion}
 pub use Rattle.ptrun.specs.Driver.{ReportUnopenedPost, FinishPost, EndRunPost, JointPost}
 pub use Rattle.ptrun.specs.Driver.{HasIndexBelow, RunInputsPost, RunInputsEnd, fault_at}

@@ -18,9 +18,9 @@ use Rattle.ptrun.proofs.Common.{received_in, has_unopened, disorder_text, disord
 use Rattle.ptrun.proofs.Common.{JointPre, HasIndexBelow, result_message}
 use Rattle.ptrun.proofs.Common.{result_status, RunInputsEnd, RunInputsPost}
 use Rattle.ptrun.proofs.Common.{JointPost}
-use Rattle.ptrun.proofs.Common.{run_state, run_result, update_at}
+use Rattle.ptrun.proofs.Common.{run_state, result_of_end, update_at}
 use Rattle.ptlines.specs.Calls.{CallEnd, Complete, OutOfOrder, ReadFault, WriteFault, MemoryFault, CallPost}
-use Rattle.ptlines.specs.Calls.{CallOutcome, AllPushed, AreAllConsistent, NoReadFault, IsCallUnfinished}
+use Rattle.ptlines.specs.Calls.{CallOutcome, AllPushed, AreAllConsistent, NoReadFailed, IsCallUnfinished}
 use Rattle.ptrun.specs.Engines.{operand_inputs, in_run}
 use Rattle.ptrun.proofs.OneInput.{at_set, opened_set, lagged_output, none_received, received_of, receives_none, never_long}
 use Rattle.ptrun.proofs.OneInput.{not_long, consistent_bytes, unopened_agrees, unopened_received}
@@ -163,7 +163,7 @@ module _ (word : List ℕ) {t : JointTool} (names : List (List ℕ)) {positions 
       (false≢true (sym failed.1 ∙ sym (ap (λ r. r.failed) (k.untouched q other)) ∙ failed.2)))
       (cases_Bool (is_in positions q))
 
-  none_failed : NoReadFault (operand_inputs positions) (run_state old was before) (run_state new is store) → (q : ℕ) → HasReadFailed old new q → ⊥
+  none_failed : NoReadFailed (operand_inputs positions) (run_state old was before) (run_state new is store) → (q : ℕ) → HasReadFailed old new q → ⊥
   none_failed none q failed = false≢true (sym failed.1 ∙ sym (none q (failed_is_in q failed)) ∙ failed.2)
 
   none_long : ((q : ℕ) → is_in positions q ≡ true → (reader_at new q).pulled < 2 ^ 63) → (q : ℕ)
@@ -215,7 +215,7 @@ module _ (word : List ℕ) {t : JointTool} (names : List (List ℕ)) {positions 
   }
 
   ending : (end : CallEnd ℕ)
-      → EndedAs end → Ending (run_result end)
+      → EndedAs end → Ending (result_of_end end)
   ending Complete e = all_pushed None e tt
   ending (OutOfOrder p line) e = all_pushed (Some (p, line)) e.pushed_all
       (each_listed (λ q. q < length old) positions start.in_range p e.named)
@@ -258,7 +258,7 @@ module _ (word : List ℕ) {t : JointTool} (names : List (List ℕ)) {positions 
 
   -- memory ran out, so something was left
   left_by : (end : CallEnd ℕ)
-      → EndedAs end → run_result end ≡ Err Memory
+      → EndedAs end → result_of_end end ≡ Err Memory
       → IsCallUnfinished (operand_inputs positions) (in_run (t.engine positions)) (run_state new is store) k.given k.pushed
   left_by Complete e memory = cc
   left_by (OutOfOrder p line) e memory = cc

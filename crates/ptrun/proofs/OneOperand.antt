@@ -4,7 +4,7 @@ use Rattle.ptrun.proofs.Common.{get_or, set, refl, sym, ◌∙◌, ap, subst, ar
 use Rattle.ptrun.proofs.Common.{get_or-set_same, get_or-set_other, no_reader, Reader, IsDone, Output, Slots}
 use Rattle.ptrun.proofs.Common.{ToolSpec, PassPre, PassPost, PassOutcome, FlowFault, Read, Write, Memory, is_in}
 use Rattle.ptrun.proofs.Common.{reader_at, is_reader_unopened, IsNew, JointTool, one_input_tool, JointPre}
-use Rattle.ptrun.proofs.Common.{JointPost, operand_completion, run_result, or-false, inl}
+use Rattle.ptrun.proofs.Common.{JointPost, operand_completion, result_of_end, or-false, inl}
 use Rattle.ptlines.specs.Calls.{CallPost, CallOutcome, CallState, call_state}
 use Rattle.ptrun.specs.Engines.{only_input, pass_engine, pass_end, end_at}
 use Rattle.ptrun.proofs.OneInput.{consistent_whole}
@@ -138,7 +138,7 @@ module _ {j : JointTool} {positions : List ℕ} {old : List Reader} {was : Outpu
         here = get_or-set_same old p new no_reader (only_operand_within d)
 
         completes : (r : Result (Unit {0}) FlowFault)
-            → operand_completion p r ≡ run_result (end_at (λ u. p) (pass_end r))
+            → operand_completion p r ≡ result_of_end (end_at (λ u. p) (pass_end r))
         completes (Ok u) = refl
         completes (Err (Read place)) = refl
         completes (Err Write) = refl

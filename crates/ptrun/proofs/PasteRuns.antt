@@ -6,7 +6,7 @@ use Rattle.ptrun.proofs.Common.{arith, false≢true, Reader, Output, Slots, Rece
 use Rattle.ptrun.proofs.Common.{Write, Memory, Completion, AllWritten, is_in, reader_at, is_reader_unopened, JointPre}
 use Rattle.ptrun.proofs.Common.{JointPost, max, map, append-nil, All-from_get_or, list_any_at, known_lines, IsConsistent}
 use Rattle.ptrun.proofs.Common.{Paste, IsReadable, IsReadToEnd, PasteOutcome, PastePost, paste_rows_tool, or_left}
-use Rattle.ptrun.proofs.Common.{or_right, run_result}
+use Rattle.ptrun.proofs.Common.{or_right, result_of_end}
 use Rattle.std.proofs.lemmas.List.Sums.{sum-map}
 use Rattle.ptlines.specs.Calls.{CallPost, CallOutcome, CallState, call_state, AreAllConsistent}
 use Rattle.ptlines.specs.Text.{lines, max_line_length}
@@ -188,7 +188,7 @@ module _ (job : Paste) {positions : List ℕ} {old : List Reader} {was : Output}
     placed_at = λ f q. refl;
   }
 
-  completes : (r : Result (Unit {0}) FlowFault) → rows_completion r ≡ run_result (end_at (λ p. p) (paste_end r))
+  completes : (r : Result (Unit {0}) FlowFault) → rows_completion r ≡ result_of_end (end_at (λ p. p) (paste_end r))
   completes (Ok u) = refl
   completes (Err (Read p)) = refl
   completes (Err Write) = refl

@@ -1,6 +1,6 @@
 -- The steps of the driver, by how a tool reads its operands: each is the step of a tool that reads them one after
 -- another, or of one that reads them together.
-use Rattle.ptrun.proofs.Common.{◌≡◌, ℕ, ◌≤◌, Bool, true, false, List, [], ◌∷◌, Result, length, refl, sym}
+use Rattle.ptrun.proofs.Common.{◌≡◌, ℕ, Bool, true, false, List, [], ◌∷◌, Result, refl, sym}
 use Rattle.ptrun.proofs.Common.{false≢true, list_any, Reader, Output, Slots, SinkState, ToolSpec, FlowFault, Completion}
 use Rattle.ptrun.proofs.Common.{HasSaid, is_reader_unopened, unopened_messages, sequential_spec, InputsPre}
 use Rattle.ptrun.proofs.Common.{ReportUnopenedPost, RunInputsPost, OperandPre, OperandPost, RunOnPre}
@@ -24,11 +24,6 @@ decides_all (OneByOne t law) = law
 decides_all (Together t) = λ bytes. refl
 
 module _ (word : List ℕ) (names : List (List ℕ)) (positions : List ℕ) where
-  pub few_of : (s : ToolInRun) {inputs : List Reader} → reads_together s ≡ true
-      → InputsPre (spec_of_tool word s names positions) inputs → length positions ≤ 512
-  few_of (OneByOne t law) together k = absurd (false≢true together)
-  few_of (Together t) together k = k.few refl
-
   -- ---- a file could not be opened
 
   pub unopened_run : (s : ToolInRun) {inputs : List Reader} {out messages_old messages_new : SinkState}

@@ -5,7 +5,7 @@ use Rattle.ptrun.proofs.Common.{[], ◌∷◌, Option, Some, None, ⊎_elim, inl
 use Rattle.ptrun.proofs.Common.{sym, ◌∙◌, ap, arith, option_map, not, All-nil, All-cons, false≢true, nat_tests, eqb_tells}
 use Rattle.ptrun.proofs.Common.{Reader, Output, Slots, Received, update_at, First, Second, disorder}
 use Rattle.ptrun.proofs.Common.{lines_of, decided_output, is_in, reader_at, is_reader_unopened, IsNew, BoundedLag}
-use Rattle.ptrun.proofs.Common.{two_input_tool, operand, JointPre, JointPost, MergeCallPost, merge_completion, run_result}
+use Rattle.ptrun.proofs.Common.{two_input_tool, operand, JointPre, JointPost, MergeCallPost, merge_completion, result_of_end}
 use Rattle.ptrun.proofs.Common.{◌-◌, ◌++◌, set, length-set, set-append_left, set-append_right, get_or_append_left}
 use Rattle.ptrun.proofs.Common.{get_or-append_right, get_or_default, get_or-set_same, get_or-set_other, no_reader}
 use Rattle.ptlines.specs.Calls.{CallPost, CallOutcome, CallState, call_state, IsCallUnfinished}
@@ -219,7 +219,7 @@ module _ (t : MergeTool) {old : List Reader} {was : Output} {before : Slots} {p 
       → JointPost (two_input_tool t) two old new was is before store (merge_completion (both p q) result)
   two_inputs_post {new} {is} {store} {result} others call = record {
     end = end_at (operand two) (merge_end result);
-    result_is = λ i. run_result (end_at (λ side. position_is side i) (merge_end result));
+    result_is = λ i. result_of_end (end_at (λ side. position_is side i) (merge_end result));
     call = placed_call (merge_engine t) (operand two) two_placed old new (λ k other. others k
         (λ same. false≢true (sym other ∙ ap (is_in two) (sym same) ∙ named First))
         (λ same. false≢true (sym other ∙ ap (is_in two) (sym same) ∙ named Second))) ready.writable

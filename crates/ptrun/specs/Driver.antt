@@ -45,7 +45,8 @@ pub record InputsPre (m : CommandSpec) (inputs : List Reader) : Type 0 where
 abbrev pub AreSoundAt : List ℕ → List Reader → Type 0
 AreSoundAt positions inputs = (q : ℕ) → is_in positions q ≡ true → IsSound (reader_at inputs q)
 
--- The postcondition of reporting the operands that could not be opened: each was reported, in order.
+-- The postcondition of reporting the operands that could not be opened: each was reported, in order, and the invariants
+-- of all readers hold.
 pub record ReportUnopenedPost (tool : List ℕ) (names : List (List ℕ)) (positions : List ℕ) (inputs : List Reader)
     (messages_old messages_new : SinkState) (any_unopened : Bool) : Type 0 where
   pub is : any_unopened ≡ list_any (is_reader_unopened inputs) positions
@@ -96,6 +97,7 @@ pub record FinishPost (old new : Output) (run_result final_result : Result Compl
 pub record EndRunPost (tool : List ℕ) (names : List (List ℕ)) (was : Output) (messages_old : SinkState)
     (run_result : Result Completion FlowFault) (store : Slots) (o : Outcome) : Type 0 where
   pub final_result : Result Completion FlowFault
+  -- the output once it was finished
   pub last : Output
   pub finished : FinishPost was last run_result final_result
   pub has_said : HasSaid messages_old o.messages (result_message tool names final_result)
@@ -114,12 +116,12 @@ abbrev pub run_state : List Reader → Output → Slots → CallState ℕ
 run_state readers out store = call_state (reader_at readers) out store
 
 -- The result of a run over operands, by how the call ended.
-abbrev pub run_result : CallEnd ℕ → Result Completion FlowFault
-run_result Complete = Ok AllWritten
-run_result (OutOfOrder position line) = Ok (Disorder position line)
-run_result (ReadFault position) = Err (Read position)
-run_result WriteFault = Err Write
-run_result MemoryFault = Err Memory
+abbrev pub result_of_end : CallEnd ℕ → Result Completion FlowFault
+result_of_end Complete = Ok AllWritten
+result_of_end (OutOfOrder position line) = Ok (Disorder position line)
+result_of_end (ReadFault position) = Err (Read position)
+result_of_end WriteFault = Err Write
+result_of_end MemoryFault = Err Memory
 
 -- ---- processing the inputs
 
@@ -136,7 +138,7 @@ operand_completion p (Err fault) = Err (fault_at p fault)
 
 -- The result of a merge as that of a run, with the position of each side.
 abbrev pub merge_completion : (Side → ℕ) → Result (Unit {0}) MergeFault → Result Completion FlowFault
-merge_completion position result = run_result (end_at position (merge_end result))
+merge_completion position result = result_of_end (end_at position (merge_end result))
 
 -- How processing ended after `n` operands: with the whole output, or with a failure and its cause.
 abbrev pub RunInputsEnd : CommandSpec → ReceivedInputs → List Reader → List Reader → List ℕ → Bool → Bool → ℕ
@@ -204,7 +206,7 @@ pub record JointPre (t : JointTool) (positions : List ℕ) (inputs : List Reader
 pub record JointPost (t : JointTool) (positions : List ℕ) (old new : List Reader) (was is : Output)
     (before store : Slots) (result : Result Completion FlowFault) : Type 0 where
   pub end : CallEnd ℕ
-  pub result_is : result ≡ run_result end
+  pub result_is : result ≡ result_of_end end
   pub call : CallPost (operand_inputs positions) (in_run (t.engine positions)) (run_state old was before)
       (run_state new is store) end
   pub same : (f g : ℕ → Received) → ((q : ℕ) → is_in positions q ≡ true → f q ≡ g q)

@@ -1,5 +1,5 @@
--- The engines as `ptlines` specifies them (its specs/Calls): over one input, over the two sides of a merge, over the
--- columns of `paste`, and each of them over the inputs at the positions of operands.
+-- The engines as records of the type `EngineSpec` (ptlines/specs/Calls): over one input, over the two sides of a merge,
+-- over the columns of `paste`, and each of them over the inputs at the positions of operands.
 use Rattle.std.specs.Prelude.{ℕ, ◌==◌, Bool, true, false, List, None, Result, Ok, Err, length, option_map}
 use Rattle.ptlines.specs.Calls.{InputNames, EngineSpec, CallEnd, Complete, OutOfOrder, ReadFault, WriteFault}
 use Rattle.ptlines.specs.Calls.{MemoryFault}
@@ -122,8 +122,8 @@ at_positions engine position = record {
   terminator = engine.terminator;
 }
 
--- An engine in a run. All inputs are new, so one is left to read even if a first slot could not be added: no slots count
--- as the first ones.
+-- An engine in a run. All inputs are new, so one is left to read even if a first slot is missing: `left` of a call then
+-- holds without its condition, and `unread` states nothing.
 abbrev pub in_run : EngineSpec ℕ → EngineSpec ℕ
 in_run engine = record engine { first_slots = 0 }
 

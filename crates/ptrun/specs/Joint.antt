@@ -36,7 +36,7 @@ one_input_tool t = record {
 -- `paste` without `-s`, over at most 512 operands.
 abbrev pub paste_rows_tool : Paste → JointTool
 paste_rows_tool job = record {
-  engine = λ positions. at_positions (paste_engine job positions) (λ position. position);
+  engine = paste_engine job;
   accepts = λ positions. nat_le (length positions) 512;
 }
 

@@ -108,6 +108,7 @@ fn run_one_by_one<A: Allocator + Copy, T: Tool<A>, S: Source, R: Source, W: Sink
             say_unopened(tool.name(), name_at(names, position), messages);
             done = Completion::Unopened;
         } else {
+            // Such a tool always ends with `AllWritten`.
             tool.run_on(&[position], inputs, store, out)?;
         }
     }

@@ -13,8 +13,8 @@ use std::alloc::Allocator;
 pub(crate) enum Completion {
     /// The whole output was written.
     AllWritten,
-    /// The output was written, except that of inputs that could not be opened; these were reported. (Only a run of
-    /// several operands ends so, and no tool.)
+    /// The output was written, except that of inputs that could not be opened; these were reported. (Only a run over
+    /// one operand after another ends so, and no tool.)
     Unopened,
     /// A line is out of order, and the output before it was written: the position of its input, and the line's number,
     /// counted from 1.
