@@ -202,7 +202,7 @@ module _ {job : Comm} {cmp : Cmp} {key : Side → Key} {old now : MergeState} {o
       wrote_line : MergeInvariant tool b (with_side s (ls s) p) old.out new
           × LagInvariant tool b (with_side s (ls s) p) old.out new
       wrote_line =
-          let h = at_current_line step.status_is (sides s) in
+          let h = at_current_line (sides s) step.status_is in
           let (above, under) = current_key_is_above _ w.o _ _ _ _ _ _ _ _ _ step.before (sides (other s)).status_is in
           rw h.all (write_one_line _ w.o (is_line_by_line job cmp key) s (head s) _ _ _ _ _ clean merge_invariant
           h.bound above under
@@ -265,8 +265,8 @@ module _ {job : Comm} {cmp : Cmp} {key : Side → Key} {old now : MergeState} {o
         (unlines job.terminator (entries_by_key tool all_keys (both (head First ∷ []) (head Second ∷ []))))
         → MergeInvariant tool b both_written old.out new × LagInvariant tool b both_written old.out new
     wrote_both {new} wrote =
-        let h1 = at_current_line step.first (sides First) in
-        let h2 = at_current_line step.second (sides Second) in
+        let h1 = at_current_line (sides First) step.first in
+        let h2 = at_current_line (sides Second) step.second in
         let x = head First in
         write_least_run w.o (key First x) both_written (both (x ∷ []) (head Second ∷ []))
         (elim [ First ↦ line_is_least_run w.o h1.bound refl | Second ↦ line_is_least_run w.o h2.bound (sym step.same) ])

@@ -357,7 +357,7 @@ module _ {job : Join} {cmp : Cmp} {key : Side → Key} {old : MergeState} {phase
           × LagInvariant (join_with job cmp key) r.b (with_side s (r.ls s) r.p) old.out new
       wrote_unpaired =
           let x = head_of now (both one two) s in
-          let h = at_current_line step.status_is (r.sides s) in
+          let h = at_current_line (r.sides s) step.status_is in
           let (above, under) = current_key_is_above cmp o _ _ _ _ _ _ _ _ _ step.before (r.sides (other s)).status_is in
           rw h.all (write_one_line _ o (is_line_by_line job cmp key) s x r.b r.p _ _ _ t.clean r.merge_invariant h.bound
           above under
@@ -389,8 +389,8 @@ module _ {job : Join} {cmp : Cmp} {key : Side → Key} {old : MergeState} {phase
         let k = key First (head_of now (both one two) First) in
         let bounds : (side : Side) → r.b side ≡ AtLeast
         k = elim [
-          | First ↦ (at_current_line step.first (r.sides First)).bound
-          | Second ↦ rw step.same (at_current_line step.second (r.sides Second)).bound
+          | First ↦ (at_current_line (r.sides First) step.first).bound
+          | Second ↦ rw step.same (at_current_line (r.sides Second) step.second).bound
         ] in
         let none : (side : Side) → r.p side ≡ r.p side ++ both [] []
         side = elim [ First ↦ sym (append-nil (r.p First)) | Second ↦ sym (append-nil (r.p Second)) ] in

@@ -133,7 +133,7 @@ module _ (tool : MergeTool) (o : IsKeyOrder tool.cmp) (old now : Side → Reader
   open tool use {cmp, key, terminator}
 
   pub passed_at : IsAtCurrentLine cmp (key s) (cursor s) store (ls s) (p s) (b s)
-  passed_at = at_current_line head (sides s)
+  passed_at = at_current_line (sides s) head
 
   abbrev NextOf : Reader → Sorted → Slots → Type 0
   NextOf new next after = SideAfterNext terminator cmp (key s) (old s) new next (cursor s).previous_slot store after
@@ -520,7 +520,7 @@ module _ {tool : MergeTool} {old : MergeState} (w : IsOpenMerge tool old) {reade
   passing : (s : Side) → (cursor s).status ≡ Head → (new : Reader) (piece : List ℕ) → ReaderAdvance (reader s) new piece
       → IsLine (reader s).terminator piece → IsSound new
       → ReadFacts tool.terminator cmp (key s) (old.reader s) (reader s) new piece (ls s) (ls s) (b s)
-  passing s head new piece reads free sound = let h = at_current_line head (a.sides s) in
+  passing s head new piece reads free sound = let h = at_current_line (a.sides s) head in
       rw h.bound (read_facts_after_line w.o (a.sides s).lines_read reads free sound h.sorted_up_to)
 
   pub passing_now : (s : Side) → (cursor s).status ≡ Head → ReadFactsBy s (ls s)
@@ -538,7 +538,7 @@ module _ {tool : MergeTool} {old : MergeState} (w : IsOpenMerge tool old) {reade
       (record { write_failed = e.write_failed; failed = none_failed; denied = a.holds.denied })
       (no_failure _) tt (both_begun begun) (a.holds.fits store (omega arith) refl))
   iteration_fails s head {q} {out} (m, _) same rest {new} {after} {fault} (inr (clean, e)) =
-      let h = at_current_line head (a.sides s) in
+      let h = at_current_line (a.sides s) head in
       fails tool w.o old (state_by_side reader out store) ls q b m w.unfailed none_failed clean s (cursor s) new after
       fault
       (λ r piece reads free sound. rw same (passing s head r piece reads free sound)) (sym same)
