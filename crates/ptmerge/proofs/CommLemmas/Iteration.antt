@@ -117,10 +117,10 @@ ExitPost tool old new result = record {
 
 -- the invariant and the postconditions depend only on the order, and a call leaves the order of a merge unchanged
 pub iteration_as : {K : Type 0} (order : K → Cmp) (key_of : K → Side → Key)
-    {a b : K} {job : Comm} {old now : MergeState} {one two : Sorted}
-    → b ≡ a → IterationInvariant job (order a) (key_of a) old now one two
-    → IterationInvariant job (order b) (key_of b) old now one two
-iteration_as order key_of is t = rw is t
+    {a b c : K} {job : Comm} {old now : MergeState} {one two : Sorted}
+    → b ≡ a → a ≡ c → IterationInvariant job (order a) (key_of a) old now one two
+    → record { iteration : IterationInvariant job (order b) (key_of b) old now one two; order : b ≡ c }
+iteration_as order key_of is same t = record { iteration = rw is t; order = is ∙ same }
 
 pub exit_as : {K : Type 0} (order : K → Cmp) (key_of : K → Side → Key) {a b : K}
     (job : Comm) {old new : MergeState} {r : Result (Unit {0}) MergeFault}

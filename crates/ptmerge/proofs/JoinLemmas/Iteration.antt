@@ -207,9 +207,9 @@ ExitPost job cmp key old new result = record {
 -- the invariant and the postconditions depend only on the order, and a call leaves the order of a merge unchanged
 module _ {K : Type 0} (order : K → Cmp) (key_of : K → Side → Key) {a b : K} where
   pub iteration_as : {job : Join} {old : MergeState} {phase : JoinPhase} {now : MergeState} {one two : Sorted} {end : ℕ}
-      → b ≡ a → IterationInvariant job (order a) (key_of a) old phase now one two end
-      → IterationInvariant job (order b) (key_of b) old phase now one two end
-  iteration_as is t = rw is t
+      → b ≡ a → {c : K} → a ≡ c → IterationInvariant job (order a) (key_of a) old phase now one two end
+      → record { iteration : IterationInvariant job (order b) (key_of b) old phase now one two end; order : b ≡ c }
+  iteration_as is same t = record { iteration = rw is t; order = is ∙ same }
 
   pub exit_as : (job : Join) {old new : MergeState} {r : Result (Unit {0}) MergeFault}
       → a ≡ b → ExitPost job (order a) (key_of a) old new r → ExitPost job (order b) (key_of b) old new r
