@@ -387,9 +387,9 @@ module _ {call : JoinCall} {now : MergeState} {cursor : Side → Sorted} {end : 
           → PrecedesInput cmp k t (key s (head_of now cursor s)) (key s (line now.store (cursor s).previous_slot))
       by Head (_, _, bound) other = ap is_gt (⊎_elim (λ (_, same). absurd (other refl same)) (λ (_, greater). greater)
           (least_or_above cmp o k (key s (head_of now cursor s))
-          (subst (λ b. IsUnder cmp b k) bound (q.within.under s))))
+          (rw bound at (q.within.under s))))
       by Ended st other = tt
-      by (Disorder n) st other = subst (λ b. IsUnder cmp b k) st (q.within.under s)
+      by (Disorder n) st other = rw st at (q.within.under s)
 
   pub none_failed : (side : Side) → (now.reader side).failed ≡ (old.reader side).failed
   none_failed side = (q.sides side).lines_read.advance_ok.failed
@@ -588,7 +588,7 @@ module _ {call : JoinCall} {now : MergeState} {cursor : Side → Sorted} {end : 
               beyond =
                   put_each (λ side (b : Bound). (r : Lines) → MayFollow cmp (key side) b r
                   → EachKey (AtMost cmp k) (key side) r) s n.bound q.d
-                  (λ r c. subst (λ (z : List ℕ). EachKey (AtMost cmp z) (key s) r) l.is (n.may_follow r c))
+                  (λ r c. rw l.is at (n.may_follow r c))
                   q.within.beyond;
               under = put_each (λ side (b : Bound). IsUnder cmp b k) s n.bound q.d
                   (n.under k (rw l.is (self_at_most cmp o k))) q.within.under;

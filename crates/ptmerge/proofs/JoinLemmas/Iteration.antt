@@ -306,8 +306,7 @@ module _ {job : Join} {cmp : Cmp} {key : Side → Key} {old : MergeState} {phase
       (state_after_read now s reader new after) one2 two2 to
   iteration_continues {next} s {one2} {two2} {reader} {after} {new} {to} continues phased = record {
     opened = t.opened;
-    phased = subst (λ (cursor : Side → Sorted). PhaseInvariant call next
-        (state_after_read now s reader new after) cursor to) (place_is s one two one2 two2 continues.others) phased;
+    phased = rw (← place_is s one two one2 two2 continues.others) phased;
     valid_cursors = continues.valid_cursors;
     own_reader =
         own_reader_kept s one two one2 two2 now.reader reader continues.others continues.own_reader t.own_reader;

@@ -10,7 +10,7 @@ use Rattle.ptmerge.proofs.Common.{earlier_disorder, first_disorder, lines_with_k
 use Rattle.ptmerge.proofs.Common.{NextErrPost, NextOkPost, HasSlots, base_slot, with_side, other, PrecedesInput}
 use Rattle.ptmerge.proofs.Common.{IsDisorderDecided, IsReportable, previous_key, ap, ◌⊎◌, ◌*◌, max, length-set}
 use Rattle.ptmerge.proofs.Common.{total_bytes, max_length, Write, MergeRunPre, merge_state, WriteFaultPost}
-use Rattle.ptmerge.proofs.Common.{WriteThenNextPost, both, AreValidCursors, budget, IsReaderOf, subst, push_trans, ◌&&◌}
+use Rattle.ptmerge.proofs.Common.{WriteThenNextPost, both, AreValidCursors, budget, IsReaderOf, push_trans, ◌&&◌}
 use Rattle.ptmerge.proofs.Common.{cond, nat_lt, Ordering, is_eq, is_gt, nat_tests, length_push, CopyToGroupPost}
 use Rattle.ptmerge.proofs.Common.{same_key_at, status_at, IsValidCursor, AddedSlots, ◌<◌, Result, ClearFourSlotsPost}
 use Rattle.ptmerge.proofs.Common.{MergeEndPost, Ok, Bool, terminator, IsMergeUnread, initial_cursor, MergeInputs}
@@ -673,8 +673,8 @@ own_reader_kept s one two one2 two2 f reader same h all =
 -- writing out buffered output does not change what was pushed
 pub wrote_and_sent : (was mid is : Output) (pushed : List ℕ) → mid.write_failed ≡ false → PushEffect was mid pushed
     → PushEffect mid is [] → PushEffect was is pushed
-wrote_and_sent was mid is pushed clean wrote written_out = subst (λ (bytes : List ℕ). PushEffect was is bytes)
-    (append-nil pushed) (push_trans was mid is pushed [] clean wrote written_out)
+wrote_and_sent was mid is pushed clean wrote written_out =
+    rw append-nil at (push_trans was mid is pushed [] clean wrote written_out)
 
 -- ---- keys in slots
 
