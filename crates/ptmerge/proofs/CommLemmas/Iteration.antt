@@ -228,7 +228,7 @@ module _ {job : Comm} {cmp : Cmp} {key : Side → Key} {old now : MergeState} {o
           → r ≡ Err fault → AdvanceErrPost s (both one two s) (now.reader s) reader now.store after new fault
           → ExitPost tool old (state_by_side (with_side s reader now.reader) new after) r
       alone_fails {fault = fault} is h = rw is
-          (exit_post (advance_keeps_slot_count (key s) cmp s (both one two s) (both one two s) _ _ _ _ _ fault h)
+          (exit_post (advance_keeps_slot_count s (both one two s) fault h)
           (iteration_fails w stood_at s step.status_is wrote_line (put_same s (ls s) p)
           (rw (put_other s (ls s) p) (read_facts_current w stood_at (other s))) h))
 
@@ -286,7 +286,7 @@ module _ {job : Comm} {cmp : Cmp} {key : Side → Key} {old now : MergeState} {o
           → r ≡ Err fault → AdvanceErrPost First one (now.reader First) reader now.store after mid fault
           → ExitPost tool old (state_by_side (with_side First reader now.reader) mid after) r
       pair_fails {fault = fault} is h = rw is
-          (exit_post (advance_keeps_slot_count (key First) cmp First one one _ _ _ _ _ fault h)
+          (exit_post (advance_keeps_slot_count First one fault h)
           (iteration_fails w stood_at First step.first (wrote_both wrote_pair) refl
           (passing_now w stood_at Second step.second) h))
 
@@ -305,8 +305,8 @@ module _ {job : Comm} {cmp : Cmp} {key : Side → Key} {old now : MergeState} {o
             let m = goes_merging w stood_at First step.first h.came wrote_line_out in
             let (before, _) = wrote_both wrote_pair in
             rw is
-            (exit_post (advance_keeps_slot_count (key Second) cmp Second two2 two2 _ _ _ _ _ fault k
-            ∙ next_keeps_slot_count _ _ _ _ _ _ _ _ h.came)
+            (exit_post (advance_keeps_slot_count Second two2 fault k
+            ∙ next_keeps_slot_count h.came)
             (iteration_fails w g Second step.second
             (m, lag_invariant_starts _ _ _ _ _ _ h.continues.clean before.wrote written_out) refl
             (read_facts_current w g First) (rw h.continues.others at k)))

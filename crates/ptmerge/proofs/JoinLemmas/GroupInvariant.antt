@@ -431,7 +431,7 @@ module _ {call : JoinCall} {now : MergeState} {cursor : Side → Sorted} {end : 
   x = head_of now cursor s
 
   at_head : IsAtCurrentLine cmp (key s) (cursor s) now.store (q.ls s) (q.p s ++ g s) (q.d s)
-  at_head = passed_at tool o _ _ _ _ _ _ _ q.sides l.slots q.keeps.four s l.head
+  at_head = passed_at tool o q.sides l.slots q.keeps.four s l.head
 
   -- all lines read, including the current one
   pub with_head : q.ls s ≡ q.p s ++ (g s ++ head_of now cursor s ∷ [])
@@ -519,7 +519,7 @@ module _ {call : JoinCall} {now : MergeState} {cursor : Side → Sorted} {end : 
       (comes : NextOkPost (key s) cmp (cursor s) next (now.reader s) reader now.store after) where
     gone_to : SideAfterNext call.terminator cmp (key s) (old.reader s) reader next (cursor s).previous_slot now.store
         after (q.ls s) (Some (key s (head_of now cursor s)))
-    gone_to = next_at tool o _ _ _ _ _ _ _ q.sides l.slots q.keeps.four s l.head reader next after comes
+    gone_to = next_at tool o q.sides l.slots q.keeps.four s l.head reader next after comes
 
     pub next_slots : AllSlots (with_side s next cursor)
     next_slots = put_each HasSlots s next cursor (slots_on s (l.slots s) comes) l.slots
@@ -579,7 +579,7 @@ module _ {call : JoinCall} {now : MergeState} {cursor : Side → Sorted} {end : 
                 (with_side s next cursor) after (with_side s n.now_ls q.ls) f (with_side s n.bound q.d))
                 (λ i side. put_both (λ side (l m : Lines). l ≡ q.p side ++ m) s (q.ls s) (λ side. q.p side ++ g side)
                 (g s ++ x ∷ []) g with_head refl side i)
-                (sides_invariant_continues tool o _ _ _ _ _ _ _ q.sides l.slots q.keeps.four s l.head reader next after
+                (sides_invariant_continues tool o q.sides l.slots q.keeps.four s l.head reader next after
                 n);
             within = record {
               merge_invariant = q.within.merge_invariant;

@@ -261,7 +261,7 @@ pub read_group_slots : {keep : Bool} {key : Key} {cmp : Cmp} {cursor next : Sort
     {before after : Slots} {end : ℕ} (fault : MergeFault)
     → ReadGroupLineErrPost keep key cmp cursor next was is before after end fault
     → length before.lines ≤ length after.lines
-read_group_slots fault (inl e) = omega (arith, next_keeps_slot_count _ _ _ _ _ _ _ _ e.came, e.copy_failed.slots)
+read_group_slots fault (inl e) = omega (arith, next_keeps_slot_count e.came, e.copy_failed.slots)
 read_group_slots {cursor = cursor} {was = was} {is = is} {before = before} {after = after} fault (inr e) =
     omega (arith, next_error_keeps_slot_count Second cursor was is before after fault e)
 
@@ -377,7 +377,7 @@ module _ {job : Join} {cmp : Cmp} {key : Side → Key} {old : MergeState} {phase
           → r ≡ Err fault → AdvanceErrPost s (both one two s) (now.reader s) reader now.store after new fault
           → ExitPost job cmp key old (state_after_read now s reader new after) r
       alone_fails {fault = fault} is_fault h = exit_post is_fault
-          (omega (arith, advance_keeps_slot_count (key s) cmp s (both one two s) (both one two s) _ _ _ _ _ fault h))
+          (omega (arith, advance_keeps_slot_count s (both one two s) fault h))
           (iteration_fails t.opened.w stood_at s step.status_is wrote_unpaired (put_same s (r.ls s) r.p)
           (rw (put_other s (r.ls s) r.p) (read_facts_current t.opened.w stood_at (other s))) h)
 
@@ -648,7 +648,7 @@ module _ {job : Join} {cmp : Cmp} {key : Side → Key} {old : MergeState} {phase
           → ReadGroupLinePost call.keeps_groups (key Second) cmp two two2 (now.reader Second) reader now.store after out
           end (Err fault) → ExitPost job cmp key old (state_after_read now Second reader out after) r
       read_group_fails {reader = reader} {fault = fault} is_fault (inl e) = exit_post is_fault
-          (omega (arith, advance_keeps_slot_count (key Second) cmp Second two two _ _ _ _ _ fault (inl e)))
+          (omega (arith, advance_keeps_slot_count Second two fault (inl e)))
           (group_breaks at_second (starts_none call (within_more at_second)) wrote_none reader fault (inl e))
       read_group_fails {fault = fault} is_fault (inr (fine, e)) =
           exit_post is_fault (read_group_slots fault e) (read_group_fault fine fault e)
@@ -730,7 +730,7 @@ module _ {job : Join} {cmp : Cmp} {key : Side → Key} {old : MergeState} {phase
           → r ≡ Err fault → AdvanceErrPost First one (now.reader First) reader now.store after new fault
           → ExitPost job cmp key old (state_after_read now First reader new after) r
       pair_fails {reader} {fault = fault} is_fault h = exit_post is_fault
-          (omega (arith, advance_keeps_slot_count (key First) cmp First one one _ _ _ _ _ fault h))
+          (omega (arith, advance_keeps_slot_count First one fault h))
           (group_breaks at_first pairs_begin wrote_more reader fault h)
 
       module _ {one2 two2 : Sorted} {reader : Reader} {after : Slots}
@@ -742,7 +742,7 @@ module _ {job : Join} {cmp : Cmp} {key : Side → Key} {old : MergeState} {phase
         above_on = rw on_first.bound written.above
 
         pub group_there : (4 ≤ end) × (end ≤ length after.lines)
-        group_there = omega (arith, end_in, next_keeps_slot_count _ _ _ _ _ _ _ _ h.came)
+        group_there = omega (arith, end_in, next_keeps_slot_count h.came)
 
         pub write_pairs_continues : one2.same ≡ true
             → IterationInvariant job cmp key old phase (state_after_read now First reader new after) one2 two2 end

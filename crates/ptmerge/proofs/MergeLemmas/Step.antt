@@ -10,7 +10,7 @@ use Rattle.ptmerge.proofs.Common.{earlier_disorder, first_disorder, lines_with_k
 use Rattle.ptmerge.proofs.Common.{NextErrPost, NextOkPost, HasSlots, base_slot, with_side, other, PrecedesInput}
 use Rattle.ptmerge.proofs.Common.{IsDisorderDecided, IsReportable, previous_key, ap, ◌⊎◌, ◌*◌, max, length-set}
 use Rattle.ptmerge.proofs.Common.{total_bytes, max_length, Write, MergeRunPre, merge_state, WriteFaultPost}
-use Rattle.ptmerge.proofs.Common.{WriteThenNextPost, both, AreValidCursors, budget, IsReaderOf, push_trans, ◌&&◌}
+use Rattle.ptmerge.proofs.Common.{both, AreValidCursors, budget, IsReaderOf, push_trans, ◌&&◌}
 use Rattle.ptmerge.proofs.Common.{cond, nat_lt, Ordering, is_eq, is_gt, nat_tests, length_push, CopyToGroupPost}
 use Rattle.ptmerge.proofs.Common.{same_key_at, status_at, IsValidCursor, AddedSlots, ◌<◌, Result, ClearFourSlotsPost}
 use Rattle.ptmerge.proofs.Common.{MergeEndPost, Ok, Bool, terminator, IsMergeUnread, initial_cursor, MergeInputs}
@@ -125,8 +125,8 @@ SidesInvariant tool old now cursor store ls p b = (side : Side)
     → SideInvariant tool.terminator tool.cmp (tool.key side) (old side) (now side) (cursor side) store (ls side)
     (p side) (b side)
 
-module _ (tool : MergeTool) (o : IsKeyOrder tool.cmp) (old now : Side → Reader) (cursor : Side → Sorted) (store : Slots)
-    (ls p : Side → Lines) (b : Side → Bound)
+module _ (tool : MergeTool) (o : IsKeyOrder tool.cmp) {old now : Side → Reader} {cursor : Side → Sorted} {store : Slots}
+    {ls p : Side → Lines} {b : Side → Bound}
     (sides : SidesInvariant tool old now cursor store ls p b)
     (slots : (side : Side) → HasSlots side (cursor side)) (four : 4 ≤ length store.lines) (s : Side)
     (head : (cursor s).status ≡ Head) where
@@ -361,10 +361,10 @@ wrote_as end e xs ys was is same list wrote = rw (list, ← same) wrote
 -- ---- the number of slots
 
 -- after advancing
-pub next_keeps_slot_count : (key : Key) (cmp : Cmp) (cursor next : Sorted) (was is : Reader) (before after : Slots)
+pub next_keeps_slot_count : {key : Key} {cmp : Cmp} {cursor next : Sorted} {was is : Reader} {before after : Slots}
     → NextOkPost key cmp cursor next was is before after → length after.lines ≡ length before.lines
-next_keeps_slot_count key cmp cursor next was is before after (inl e) = rw (e.next_line.stored, length-set)
-next_keeps_slot_count key cmp cursor next was is before after (inr e) = rw (e.empty, length-set)
+next_keeps_slot_count (inl e) = rw (e.next_line.stored, length-set)
+next_keeps_slot_count (inr e) = rw (e.empty, length-set)
 
 -- after a failed read
 pub next_error_keeps_slot_count : (s : Side) (cursor : Sorted) (was is : Reader) (before after : Slots)
@@ -373,18 +373,17 @@ next_error_keeps_slot_count s cursor was is before after (Read file) (e, _, _) =
 next_error_keeps_slot_count s cursor was is before after Memory (e, _) = rw (e.stored, length-set)
 next_error_keeps_slot_count s cursor was is before after other e = absurd e
 
-pub advance_keeps_slot_count : (key : Key) (cmp : Cmp) (s : Side) (cursor next : Sorted) (was is : Reader)
-    (before after : Slots) (out : Output) (fault : MergeFault)
-    → WriteThenNextPost key cmp s cursor next was is before after out (Err fault)
-    → length after.lines ≡ length before.lines
-advance_keeps_slot_count key cmp s cursor next was is before after out fault (inl (_, e)) = rw e.store
-advance_keeps_slot_count key cmp s cursor next was is before after out fault (inr (_, e)) =
-    next_error_keeps_slot_count s cursor was is before after fault e
-
 -- a write failed, or reading the next line did
 abbrev pub AdvanceErrPost : Side → Sorted → Reader → Reader → Slots → Slots → Output → MergeFault → Type 0
 AdvanceErrPost s cursor was is before after out fault = ((fault ≡ Write) × WriteFaultPost was is before after out)
     ⊎ ((out.write_failed ≡ false) × NextErrPost s cursor was is before after fault)
+
+pub advance_keeps_slot_count : (s : Side) (cursor : Sorted) {was is : Reader} {before after : Slots} {out : Output}
+    (fault : MergeFault) → AdvanceErrPost s cursor was is before after out fault
+    → length after.lines ≡ length before.lines
+advance_keeps_slot_count s cursor fault (inl (_, e)) = rw e.store
+advance_keeps_slot_count s cursor {was} {is} {before} {after} fault (inr (_, e)) =
+    next_error_keeps_slot_count s cursor was is before after fault e
 
 -- all missing slots were added
 pub adds_of : {before after : Slots} → length after.lines ≡ max (length before.lines) 4 → AddedSlots before after 4
@@ -601,7 +600,7 @@ module _ {tool : MergeTool} {old : MergeState} (w : IsOpenMerge tool old) {reade
       (comes : NextOkPost (key s) cmp (cursor s) next (reader s) new store after) where
     pub n : SideAfterNext tool.terminator cmp (key s) (old.reader s) new next (cursor s).previous_slot store after
         (ls s) (Some (key s (line store (cursor s).current_slot)))
-    n = next_at tool w.o _ _ _ _ _ _ _ a.sides a.slots four s head _ _ _ comes
+    n = next_at tool w.o a.sides a.slots four s head _ _ _ comes
 
     pub keeps_two : StoreHoldsTwoLines old.store store ls → StoreHoldsTwoLines old.store after (with_side s n.now_ls ls)
     keeps_two keeps = store_with_line s (cursor s) (λ side. max_length (with_side s n.now_ls ls side)) n.bytes
@@ -611,7 +610,7 @@ module _ {tool : MergeTool} {old : MergeState} (w : IsOpenMerge tool old) {reade
 
     sides_next : SidesInvariant tool old.reader (with_side s new reader) (with_side s next cursor) after
         (with_side s n.now_ls ls) (with_side s (ls s) p) (with_side s n.bound b)
-    sides_next = sides_invariant_continues tool w.o _ _ _ _ _ _ _ a.sides a.slots four s head _ _ _ n
+    sides_next = sides_invariant_continues tool w.o a.sides a.slots four s head _ _ _ n
 
     pub advance_ok : HoldsTwoLines tool → StoreHoldsTwoLines old.store store ls
         → CursorsInvariant tool old (with_side s new reader) (with_side s next cursor) after (with_side s n.now_ls ls)
@@ -622,7 +621,7 @@ module _ {tool : MergeTool} {old : MergeState} (w : IsOpenMerge tool old) {reade
     -- the output comes first, as before
     pub goes_merging : {q : Side → Lines} {out : Output} → MergeInvariant tool b q old.out out
         → MergeInvariant tool (with_side s n.bound b) q old.out out
-    goes_merging m = merge_invariant_continues tool w.o _ _ _ _ _ _ _ a.sides a.slots four s head _ _ _ n _ _ _ m
+    goes_merging m = merge_invariant_continues tool w.o a.sides a.slots four s head _ _ _ n _ _ _ m
 
     pub runs_on : {Keep : Slots → (Side → Lines) → Type 0} {out : Output} → Keep after (with_side s n.now_ls ls)
         → MergeInvariant tool b (with_side s (ls s) p) old.out out

@@ -1,4 +1,4 @@
--- Each iteration preserves the invariant by one lemma of `Iteration` or `GroupIteration`, and each exit has the
+-- Each iteration preserves the invariant by one lemma of `Iteration`, and each exit has the
 -- postconditions by another.
 use Rattle.ptmerge.proofs.Common.{refl, sym, ◌∙◌, err_from_is_err_and, join_job}
 use Rattle.ptmerge.proofs.JoinLemmas.Iteration.{read_group_pre, read_group_fails, read_group_continues}
