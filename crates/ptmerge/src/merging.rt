@@ -207,7 +207,8 @@ impl<K: KeyOrder> Merge<K> {
     #[inline(always)]
     fn is_past<A: Allocator + Copy>(&self, key: &[u8], side: Side, store: &Store<A>) -> bool
         requires { AreValidCursors (K.key_of self.now.order) self.now.first self.now.second store.now }
-        ensures { let last = previous_key (K.key_of self.now.order) (both self.now.first self.now.second) store.now side in
+        ensures { let cursor = both self.now.first self.now.second in
+            let last = previous_key (K.key_of self.now.order) cursor store.now side in
             result ≡ is_gt (K.order self.now.order key.now last) }
     {
         self.order.cmp(key, self.previous_key(side, store)).is_gt()

@@ -172,7 +172,8 @@ pub entry_plain : (job : Join) (k : List ℕ) (one two : Option (List ℕ)) → 
     ++ (with_prefix (output_separator job.separator) (other_fields job.field1 (remaining_fields job.separator one))
     ++ with_prefix (output_separator job.separator) (other_fields job.field2 (remaining_fields job.separator two)))
 entry_plain job k one two none = rw (none, join_is_prefixed) (ap (λ (l : List ℕ). k ++ l)
-    (flat_map-append (λ f. output_separator job.separator ∷ f) (other_fields job.field1 (remaining_fields job.separator one)) _))
+    (flat_map-append (λ f. output_separator job.separator ∷ f)
+    (other_fields job.field1 (remaining_fields job.separator one)) _))
 
 pub between_is : (separator : Option ℕ) → output_separator separator ≡ unwrap_or separator 32
 between_is separator = grind arith

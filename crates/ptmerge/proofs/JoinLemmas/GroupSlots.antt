@@ -44,7 +44,8 @@ group_more store from end least within =
 -- the lines of one slot
 pub group_one : (store : Slots) (slot : ℕ) → slot < length store.lines
     → group store slot (slot + 1) ≡ line store slot ∷ []
-group_one store slot within = group_more store slot slot (omega arith) within ∙ cc (group_end store slot slot (omega arith))
+group_one store slot within =
+    group_more store slot slot (omega arith) within ∙ cc (group_end store slot slot (omega arith))
 
 -- ---- the output
 

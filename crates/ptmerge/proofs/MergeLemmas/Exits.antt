@@ -72,7 +72,8 @@ pub record ReadFacts (end : ℕ) (cmp : Cmp) (key : Key) (old now new : Reader) 
   pub processed_prefix : IsProcessedPrefix cmp key ls p b
   pub nothing_follows : b ≡ NothingMore → IsDone now
 
-module _ {end : ℕ} {cmp : Cmp} {key : Key} {old now : Reader} {cursor : Sorted} {store : Slots} {ls p : Lines} {b : Bound}
+module _ {end : ℕ} {cmp : Cmp} {key : Key} {old now : Reader} {cursor : Sorted} {store : Slots} {ls p : Lines}
+    {b : Bound}
     (s : SideInvariant end cmp key old now cursor store ls p b) where
   -- other slots may change
   pub side_invariant_kept : {after : Slots} → line after cursor.current_slot ≡ line store cursor.current_slot

@@ -754,25 +754,25 @@ module _ {tool : MergeTool} {old : MergeState} (w : IsOpenMerge tool old) where
   -- the first input was advanced to its first line
   module _ {first : Sorted} {new : MergeInputs} {Then : Slots → Type 0}
       (s : StartFirstPost key cmp first unstarted new Then) where
-    first_read : SideAfterNext terminator cmp (key First) (old.reader First) (new.reader First) first (base_slot First) s.made
-        s.mid [] None
-    first_read = first_line First (omega (arith, s.four.slots)) s.came
+    began : SideAfterNext terminator cmp (key First) (old.reader First) (new.reader First) first (base_slot First)
+        s.made s.mid [] None
+    began = first_line First (omega (arith, s.four.slots)) s.came
 
-    half_store : StoreOfLines old.store s.mid (λ side. max_length (both first_read.now_ls [] side))
-    half_store = store_with_line First (initial_cursor First) (λ side. max_length (both first_read.now_ls [] side)) first_read.bytes
-        (fresh_slots First) (store_of_no_lines s.four w.allowed w.empty)
-        (elim [ First ↦ omega arith | Second ↦ omega arith ]) first_read.fits first_read.stored
+    half_store : StoreOfLines old.store s.mid (λ side. max_length (both began.now_ls [] side))
+    half_store = store_with_line First (initial_cursor First) (λ side. max_length (both began.now_ls [] side))
+        began.bytes (fresh_slots First) (store_of_no_lines s.four w.allowed w.empty)
+        (elim [ First ↦ omega arith | Second ↦ omega arith ]) began.fits began.stored
 
-    half_invariant : MergeInvariant tool (both first_read.bound NoBound) no_lines old.out old.out
-    half_invariant = bound_changes First first_read.bound (merge_invariant_starts tool old.out) first_read.may_follow first_read.under
+    half_invariant : MergeInvariant tool (both began.bound NoBound) no_lines old.out old.out
+    half_invariant = bound_changes First began.bound (merge_invariant_starts tool old.out) began.may_follow began.under
 
     -- at most one line of it was read
-    first_line_only : length first_read.now_ls + 0 ≤ 1
-    first_line_only = ⊎_elim (λ e. omega (arith, first_read.side_invariant.number, ap (λ (c : Sorted). c.number) e.cursor))
-        (λ e. omega (arith, first_read.side_invariant.number, ap (λ (c : Sorted). c.number) e.cursor)) s.came
+    first_line_only : length began.now_ls + 0 ≤ 1
+    first_line_only = ⊎_elim (λ e. omega (arith, began.side_invariant.number, ap (λ (c : Sorted). c.number) e.cursor))
+        (λ e. omega (arith, began.side_invariant.number, ap (λ (c : Sorted). c.number) e.cursor)) s.came
 
     mid_four : 4 ≤ length s.mid.lines
-    mid_four = (has_lines_total s.mid.lines (λ side. max_length (both first_read.now_ls [] side)) 0 half_store.lines).four
+    mid_four = (has_lines_total s.mid.lines (λ side. max_length (both began.now_ls [] side)) 0 half_store.lines).four
 
   pub start_ok : (new : MergeInputs) (cursor : Side → Sorted) → HasSlots First (cursor First)
       → StartOkPost key cmp cursor unstarted new
@@ -780,7 +780,7 @@ module _ {tool : MergeTool} {old : MergeState} (w : IsOpenMerge tool old) where
       (state_by_side (both (new.reader First) (new.reader Second)) old.out new.store)
       (both (cursor First) (cursor Second))
   start_ok new cursor slots s =
-      let f = first_read s in
+      let f = began s in
       let k = first_line Second (mid_four s) s.later in
       let (apart, apart_previous) = slots_apart Second (initial_cursor Second) (cursor First) (fresh_slots Second) slots
       in
@@ -833,7 +833,7 @@ module _ {tool : MergeTool} {old : MergeState} (w : IsOpenMerge tool old) where
         (λ side. omega (arith, (l side).longest)) (omega (arith, (l First).longest))) f.fails)
     start_fault (inr (inr f)) =
         let s = f.begins in
-        let g = first_read s in
+        let g = began s in
         fails tool w.o old (state_by_side (both new1 (old.reader Second)) old.out s.mid) (both g.now_ls []) no_lines
         (both g.bound NoBound) (half_invariant s) w.unfailed
         (elim [ First ↦ g.side_invariant.lines_read.advance_ok.failed | Second ↦ refl ]) w.writable

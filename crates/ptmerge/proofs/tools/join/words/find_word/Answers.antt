@@ -30,5 +30,6 @@ after_first_run-requires c = (c.if-words-eq0-2.false, words_small c.requires.sho
 
 pub returns : goal.returns
 returns c =
-    rw c.after_first_run.ensures (word_found c.requires.short c.loop-passed.invariant c.if-words-eq0-2.false c.args.number
+    rw c.after_first_run.ensures (word_found c.requires.short c.loop-passed.invariant c.if-words-eq0-2.false
+    c.args.number
     (omega (arith, c.loop-passed-test.false, c.loop-passed.auto._passed-end, c.saturating_sub-passed-end.ensures)))
