@@ -107,7 +107,7 @@ module _ {tool : MergeTool} (o : IsKeyOrder tool.cmp) (old new : MergeState) {no
         × (merged_entries tool all ≡ (front ++ extra) ++ rest)
     all_is {extra} starts =
         let (rest, is) = starts.rest is_wanted seen.r seen.may_follow (wanted k (self_at_most cmp o k)) in
-        (rest, parts is_wanted ∙ (λ i. front_is_first i ++ is i) ∙ sym (append_assoc front extra rest))
+        (rest, cc (parts is_wanted, front_is_first, is, append_assoc front extra rest))
 
     -- the entries of lesser keys are not all, if the group has entries
     pub front_is_not_all : HasEntries tool g d k → ¬ (merged_entries tool all ≡ front ++ [])
