@@ -98,30 +98,33 @@ impl<K: KeyOrder> Merge<K> {
         ensures { let cursor = both self.now.first self.now.second in
             StepPost (K.order self.now.order) (K.key_of self.now.order) cursor store.now result }
     {
-        match (self.first.status, self.second.status) {
-            (Head, Head) => match self
-                .order
-                .cmp(self.key(First, store), self.key(Second, store))
-            {
-                Ordering::Less => Step::First,
-                Ordering::Equal => Step::Both,
-                Ordering::Greater => Step::Second,
+        match self.first.status {
+            Head => match self.second.status {
+                Head => match self
+                    .order
+                    .cmp(self.key(First, store), self.key(Second, store))
+                {
+                    Ordering::Less => Step::First,
+                    Ordering::Equal => Step::Both,
+                    Ordering::Greater => Step::Second,
+                },
+                Disorder(number) if self.is_past(self.key(First, store), Second, store) => {
+                    Step::Stop(Second, number)
+                }
+                _ => Step::First,
             },
-            (Head, Disorder(number)) if self.is_past(self.key(First, store), Second, store) => {
-                Step::Stop(Second, number)
-            }
-            (Disorder(number), Head) if self.is_past(self.key(Second, store), First, store) => {
-                Step::Stop(First, number)
-            }
-            (Disorder(_), Disorder(number))
-                if self.is_past(self.previous_key(First, store), Second, store) => {
-                Step::Stop(Second, number)
-            }
-            (Head, _) => Step::First,
-            (_, Head) => Step::Second,
-            (Disorder(number), _) => Step::Stop(First, number),
-            (Ended, Disorder(number)) => Step::Stop(Second, number),
-            (Ended, Ended) => Step::End,
+            Disorder(number) => match self.second.status {
+                Head if !self.is_past(self.key(Second, store), First, store) => Step::Second,
+                Disorder(other) if self.is_past(self.previous_key(First, store), Second, store) => {
+                    Step::Stop(Second, other)
+                }
+                _ => Step::Stop(First, number),
+            },
+            Ended => match self.second.status {
+                Head => Step::Second,
+                Disorder(number) => Step::Stop(Second, number),
+                Ended => Step::End,
+            },
         }
     }
 
@@ -204,7 +207,8 @@ impl<K: KeyOrder> Merge<K> {
     #[inline(always)]
     fn is_past<A: Allocator + Copy>(&self, key: &[u8], side: Side, store: &Store<A>) -> bool
         requires { AreValidCursors (K.key_of self.now.order) self.now.first self.now.second store.now }
-        ensures { let last = previous_key (K.key_of self.now.order) (both self.now.first self.now.second) store.now side in
+        ensures { let cursor = both self.now.first self.now.second in
+            let last = previous_key (K.key_of self.now.order) cursor store.now side in
             result ≡ is_gt (K.order self.now.order key.now last) }
     {
         self.order.cmp(key, self.previous_key(side, store)).is_gt()

@@ -117,10 +117,10 @@ ExitPost tool old new result = record {
 
 -- the invariant and the postconditions depend only on the order, and a call leaves the order of a merge unchanged
 pub iteration_as : {K : Type 0} (order : K → Cmp) (key_of : K → Side → Key)
-    {a b : K} {job : Comm} {old now : MergeState} {one two : Sorted}
-    → b ≡ a → IterationInvariant job (order a) (key_of a) old now one two
-    → IterationInvariant job (order b) (key_of b) old now one two
-iteration_as order key_of is t = rw is t
+    {a b c : K} {job : Comm} {old now : MergeState} {one two : Sorted}
+    → b ≡ a → a ≡ c → IterationInvariant job (order a) (key_of a) old now one two
+    → record { iteration : IterationInvariant job (order b) (key_of b) old now one two; order : b ≡ c }
+iteration_as order key_of is same t = record { iteration = rw is t; order = is ∙ same }
 
 pub exit_as : {K : Type 0} (order : K → Cmp) (key_of : K → Side → Key) {a b : K}
     (job : Comm) {old new : MergeState} {r : Result (Unit {0}) MergeFault}
@@ -202,7 +202,7 @@ module _ {job : Comm} {cmp : Cmp} {key : Side → Key} {old now : MergeState} {o
       wrote_line : MergeInvariant tool b (with_side s (ls s) p) old.out new
           × LagInvariant tool b (with_side s (ls s) p) old.out new
       wrote_line =
-          let h = at_current_line step.status_is (sides s) in
+          let h = at_current_line (sides s) step.status_is in
           let (above, under) = current_key_is_above _ w.o _ _ _ _ _ _ _ _ _ step.before (sides (other s)).status_is in
           rw h.all (write_one_line _ w.o (is_line_by_line job cmp key) s (head s) _ _ _ _ _ clean merge_invariant
           h.bound above under
@@ -228,7 +228,7 @@ module _ {job : Comm} {cmp : Cmp} {key : Side → Key} {old now : MergeState} {o
           → r ≡ Err fault → AdvanceErrPost s (both one two s) (now.reader s) reader now.store after new fault
           → ExitPost tool old (state_by_side (with_side s reader now.reader) new after) r
       alone_fails {fault = fault} is h = rw is
-          (exit_post (advance_keeps_slot_count (key s) cmp s (both one two s) (both one two s) _ _ _ _ _ fault h)
+          (exit_post (advance_keeps_slot_count s (both one two s) fault h)
           (iteration_fails w stood_at s step.status_is wrote_line (put_same s (ls s) p)
           (rw (put_other s (ls s) p) (read_facts_current w stood_at (other s))) h))
 
@@ -265,8 +265,8 @@ module _ {job : Comm} {cmp : Cmp} {key : Side → Key} {old now : MergeState} {o
         (unlines job.terminator (entries_by_key tool all_keys (both (head First ∷ []) (head Second ∷ []))))
         → MergeInvariant tool b both_written old.out new × LagInvariant tool b both_written old.out new
     wrote_both {new} wrote =
-        let h1 = at_current_line step.first (sides First) in
-        let h2 = at_current_line step.second (sides Second) in
+        let h1 = at_current_line (sides First) step.first in
+        let h2 = at_current_line (sides Second) step.second in
         let x = head First in
         write_least_run w.o (key First x) both_written (both (x ∷ []) (head Second ∷ []))
         (elim [ First ↦ line_is_least_run w.o h1.bound refl | Second ↦ line_is_least_run w.o h2.bound (sym step.same) ])
@@ -286,7 +286,7 @@ module _ {job : Comm} {cmp : Cmp} {key : Side → Key} {old now : MergeState} {o
           → r ≡ Err fault → AdvanceErrPost First one (now.reader First) reader now.store after mid fault
           → ExitPost tool old (state_by_side (with_side First reader now.reader) mid after) r
       pair_fails {fault = fault} is h = rw is
-          (exit_post (advance_keeps_slot_count (key First) cmp First one one _ _ _ _ _ fault h)
+          (exit_post (advance_keeps_slot_count First one fault h)
           (iteration_fails w stood_at First step.first (wrote_both wrote_pair) refl
           (passing_now w stood_at Second step.second) h))
 
@@ -305,8 +305,8 @@ module _ {job : Comm} {cmp : Cmp} {key : Side → Key} {old now : MergeState} {o
             let m = goes_merging w stood_at First step.first h.came wrote_line_out in
             let (before, _) = wrote_both wrote_pair in
             rw is
-            (exit_post (advance_keeps_slot_count (key Second) cmp Second two2 two2 _ _ _ _ _ fault k
-            ∙ next_keeps_slot_count _ _ _ _ _ _ _ _ h.came)
+            (exit_post (advance_keeps_slot_count Second two2 fault k
+            ∙ next_keeps_slot_count h.came)
             (iteration_fails w g Second step.second
             (m, lag_invariant_starts _ _ _ _ _ _ h.continues.clean before.wrote written_out) refl
             (read_facts_current w g First) (rw h.continues.others at k)))

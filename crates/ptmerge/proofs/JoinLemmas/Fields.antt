@@ -91,8 +91,10 @@ piece_at separator bytes at is = let (within, found, _) = position-Some (is_sepa
       is = sym (take-append-drop at bytes);
       ends = (
         get_or bytes at 0,
-        drop_more bytes at 0 within ∙ ap (λ (l : List ℕ). get_or bytes at 0 ∷ l)
-            (sym (take_all _ (drop (at + 1) bytes) (omega (arith, length-drop (at + 1) bytes)))),
+        cc (
+          drop_more bytes at 0 within,
+          take_all (length bytes - (at + 1)) (drop (at + 1) bytes) (omega (arith, length-drop (at + 1) bytes)),
+        ),
         found,
       );
     }
@@ -110,8 +112,7 @@ pub ends_whole : (separator : Option ℕ) (bytes : List ℕ) (end : Option ℕ)
     → end ≡ position (is_separator separator) bytes → end ≡ None → IsFirstPieceEnd separator bytes (length bytes)
 ends_whole separator bytes end first is_none = let none = sym first ∙ is_none in record {
   remainder = [];
-  is = split_whole (is_separator separator) bytes none
-      ∙ ap (λ (l : List ℕ). l ∷ []) (sym (take_all (length bytes) bytes (omega arith)));
+  is = cc (split_whole (is_separator separator) bytes none, take_all (length bytes) bytes (omega arith));
   within = omega arith;
 }
 
@@ -119,7 +120,7 @@ ends_whole separator bytes end first is_none = let none = sym first ∙ is_none 
 front_span : (line bytes : List ℕ) (end : ℕ) → end ≤ length line → take end line ≡ bytes
     → IsKeySpan line bytes (record { start = 0; end = end })
 front_span line bytes end within is = let whole : end - 0 ≡ end =
-    omega arith in record { ordered = omega arith; within = within; bytes_are = ap (λ (n : ℕ). take n line) whole ∙ is }
+    omega arith in record { ordered = omega arith; within = within; bytes_are = cc }
 
 pub first_piece_span : (c number end : ℕ) (line : List ℕ) → number ≤ 1 → IsFirstPieceEnd (Some c) line end
     → IsKeySpan line (nth_field number (remaining_fields (Some c) (Some line))) (record { start = 0; end = end })
@@ -172,7 +173,8 @@ pub entry_plain : (job : Join) (k : List ℕ) (one two : Option (List ℕ)) → 
     ++ (with_prefix (output_separator job.separator) (other_fields job.field1 (remaining_fields job.separator one))
     ++ with_prefix (output_separator job.separator) (other_fields job.field2 (remaining_fields job.separator two)))
 entry_plain job k one two none = rw (none, join_is_prefixed) (ap (λ (l : List ℕ). k ++ l)
-    (flat_map-append (λ f. output_separator job.separator ∷ f) (other_fields job.field1 (remaining_fields job.separator one)) _))
+    (flat_map-append (λ f. output_separator job.separator ∷ f)
+    (other_fields job.field1 (remaining_fields job.separator one)) _))
 
 pub between_is : (separator : Option ℕ) → output_separator separator ≡ unwrap_or separator 32
 between_is separator = grind arith

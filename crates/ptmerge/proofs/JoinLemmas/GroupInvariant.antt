@@ -107,7 +107,7 @@ module _ {tool : MergeTool} (o : IsKeyOrder tool.cmp) (old new : MergeState) {no
         × (merged_entries tool all ≡ (front ++ extra) ++ rest)
     all_is {extra} starts =
         let (rest, is) = starts.rest is_wanted seen.r seen.may_follow (wanted k (self_at_most cmp o k)) in
-        (rest, parts is_wanted ∙ (λ i. front_is_first i ++ is i) ∙ sym (append_assoc front extra rest))
+        (rest, cc (parts is_wanted, front_is_first, is, append_assoc front extra rest))
 
     -- the entries of lesser keys are not all, if the group has entries
     pub front_is_not_all : HasEntries tool g d k → ¬ (merged_entries tool all ≡ front ++ [])
@@ -387,9 +387,9 @@ module _ {call : JoinCall} {now : MergeState} {cursor : Side → Sorted} {end : 
           → PrecedesInput cmp k t (key s (head_of now cursor s)) (key s (line now.store (cursor s).previous_slot))
       by Head (_, _, bound) other = ap is_gt (⊎_elim (λ (_, same). absurd (other refl same)) (λ (_, greater). greater)
           (least_or_above cmp o k (key s (head_of now cursor s))
-          (subst (λ b. IsUnder cmp b k) bound (q.within.under s))))
+          (rw bound at (q.within.under s))))
       by Ended st other = tt
-      by (Disorder n) st other = subst (λ b. IsUnder cmp b k) st (q.within.under s)
+      by (Disorder n) st other = rw st at (q.within.under s)
 
   pub none_failed : (side : Side) → (now.reader side).failed ≡ (old.reader side).failed
   none_failed side = (q.sides side).lines_read.advance_ok.failed
@@ -431,7 +431,7 @@ module _ {call : JoinCall} {now : MergeState} {cursor : Side → Sorted} {end : 
   x = head_of now cursor s
 
   at_head : IsAtCurrentLine cmp (key s) (cursor s) now.store (q.ls s) (q.p s ++ g s) (q.d s)
-  at_head = passed_at tool o _ _ _ _ _ _ _ q.sides l.slots q.keeps.four s l.head
+  at_head = passed_at tool o q.sides l.slots q.keeps.four s l.head
 
   -- all lines read, including the current one
   pub with_head : q.ls s ≡ q.p s ++ (g s ++ head_of now cursor s ∷ [])
@@ -519,7 +519,7 @@ module _ {call : JoinCall} {now : MergeState} {cursor : Side → Sorted} {end : 
       (comes : NextOkPost (key s) cmp (cursor s) next (now.reader s) reader now.store after) where
     gone_to : SideAfterNext call.terminator cmp (key s) (old.reader s) reader next (cursor s).previous_slot now.store
         after (q.ls s) (Some (key s (head_of now cursor s)))
-    gone_to = next_at tool o _ _ _ _ _ _ _ q.sides l.slots q.keeps.four s l.head reader next after comes
+    gone_to = next_at tool o q.sides l.slots q.keeps.four s l.head reader next after comes
 
     pub next_slots : AllSlots (with_side s next cursor)
     next_slots = put_each HasSlots s next cursor (slots_on s (l.slots s) comes) l.slots
@@ -579,7 +579,7 @@ module _ {call : JoinCall} {now : MergeState} {cursor : Side → Sorted} {end : 
                 (with_side s next cursor) after (with_side s n.now_ls q.ls) f (with_side s n.bound q.d))
                 (λ i side. put_both (λ side (l m : Lines). l ≡ q.p side ++ m) s (q.ls s) (λ side. q.p side ++ g side)
                 (g s ++ x ∷ []) g with_head refl side i)
-                (sides_invariant_continues tool o _ _ _ _ _ _ _ q.sides l.slots q.keeps.four s l.head reader next after
+                (sides_invariant_continues tool o q.sides l.slots q.keeps.four s l.head reader next after
                 n);
             within = record {
               merge_invariant = q.within.merge_invariant;
@@ -588,7 +588,7 @@ module _ {call : JoinCall} {now : MergeState} {cursor : Side → Sorted} {end : 
               beyond =
                   put_each (λ side (b : Bound). (r : Lines) → MayFollow cmp (key side) b r
                   → EachKey (AtMost cmp k) (key side) r) s n.bound q.d
-                  (λ r c. subst (λ (z : List ℕ). EachKey (AtMost cmp z) (key s) r) l.is (n.may_follow r c))
+                  (λ r c. rw l.is at (n.may_follow r c))
                   q.within.beyond;
               under = put_each (λ side (b : Bound). IsUnder cmp b k) s n.bound q.d
                   (n.under k (rw l.is (self_at_most cmp o k))) q.within.under;

@@ -2,7 +2,7 @@
 -- line or copying one changes one slot, so the bytes stored are the sum of both parts. The group is a part of the lines
 -- of one key, so it is bounded by the largest group.
 use Rattle.ptmerge.proofs.Common.{◌≡◌, ⊎_elim, inl, inr, ℕ, ◌+◌, ◌-◌, ◌≤◌, ◌<◌, suc, true, false, length-drop, List, []}
-use Rattle.ptmerge.proofs.Common.{◌∷◌, ◌++◌, length, map, drop, get_or, set, max, refl, sym, ap, ◌∙◌, subst}
+use Rattle.ptmerge.proofs.Common.{◌∷◌, ◌++◌, length, map, drop, get_or, set, max, refl, sym, ap, ◌∙◌}
 use Rattle.ptmerge.proofs.Common.{arith, ◌*◌, cond, Option, append_assoc, length-append, append-nil, length-set}
 use Rattle.ptmerge.proofs.Common.{drop_more, get_or-drop, drop-set-add, take_more, length_push, drop-append-le}
 use Rattle.ptmerge.proofs.Common.{drop-set-lt, set_at, take_at, bytes_eq, sum_by_push, sum_by-append, sum_by-cons}
@@ -44,7 +44,8 @@ group_more store from end least within =
 -- the lines of one slot
 pub group_one : (store : Slots) (slot : ℕ) → slot < length store.lines
     → group store slot (slot + 1) ≡ line store slot ∷ []
-group_one store slot within = group_more store slot slot (omega arith) within ∙ cc (group_end store slot slot (omega arith))
+group_one store slot within =
+    group_more store slot slot (omega arith) within ∙ cc (group_end store slot slot (omega arith))
 
 -- ---- the output
 
@@ -306,7 +307,7 @@ pub group_store_next : {most : GroupBounds} {own : Key} {before store after : Sl
     cursor.previous_slot store after (ls s) last) → GroupStore most before after (with_side s n.now_ls ls) g
 group_store_next {ls = ls} s cursor slots k n = group_store_line s cursor slots n.bytes k
     (put_each (λ side (l : Lines). max_length (ls side) ≤ max_length l) s n.now_ls ls n.longer (λ side. omega arith))
-    (subst (λ (l : Lines). length n.bytes ≤ max_length l) (sym (put_same s n.now_ls ls)) n.fits)
+    (rw (put_same s n.now_ls ls) n.fits)
     (put_more s ls n.now_ls n.more n.continues_key) n.stored
 
 module _ {most : GroupBounds} {before store : Slots} {ls : Side → Lines} {g : Lines}

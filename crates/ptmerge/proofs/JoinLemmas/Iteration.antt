@@ -207,9 +207,9 @@ ExitPost job cmp key old new result = record {
 -- the invariant and the postconditions depend only on the order, and a call leaves the order of a merge unchanged
 module _ {K : Type 0} (order : K → Cmp) (key_of : K → Side → Key) {a b : K} where
   pub iteration_as : {job : Join} {old : MergeState} {phase : JoinPhase} {now : MergeState} {one two : Sorted} {end : ℕ}
-      → b ≡ a → IterationInvariant job (order a) (key_of a) old phase now one two end
-      → IterationInvariant job (order b) (key_of b) old phase now one two end
-  iteration_as is t = rw is t
+      → b ≡ a → {c : K} → a ≡ c → IterationInvariant job (order a) (key_of a) old phase now one two end
+      → record { iteration : IterationInvariant job (order b) (key_of b) old phase now one two end; order : b ≡ c }
+  iteration_as is same t = record { iteration = rw is t; order = is ∙ same }
 
   pub exit_as : (job : Join) {old new : MergeState} {r : Result (Unit {0}) MergeFault}
       → a ≡ b → ExitPost job (order a) (key_of a) old new r → ExitPost job (order b) (key_of b) old new r
@@ -261,7 +261,7 @@ pub read_group_slots : {keep : Bool} {key : Key} {cmp : Cmp} {cursor next : Sort
     {before after : Slots} {end : ℕ} (fault : MergeFault)
     → ReadGroupLineErrPost keep key cmp cursor next was is before after end fault
     → length before.lines ≤ length after.lines
-read_group_slots fault (inl e) = omega (arith, next_keeps_slot_count _ _ _ _ _ _ _ _ e.came, e.copy_failed.slots)
+read_group_slots fault (inl e) = omega (arith, next_keeps_slot_count e.came, e.copy_failed.slots)
 read_group_slots {cursor = cursor} {was = was} {is = is} {before = before} {after = after} fault (inr e) =
     omega (arith, next_error_keeps_slot_count Second cursor was is before after fault e)
 
@@ -306,8 +306,7 @@ module _ {job : Join} {cmp : Cmp} {key : Side → Key} {old : MergeState} {phase
       (state_after_read now s reader new after) one2 two2 to
   iteration_continues {next} s {one2} {two2} {reader} {after} {new} {to} continues phased = record {
     opened = t.opened;
-    phased = subst (λ (cursor : Side → Sorted). PhaseInvariant call next
-        (state_after_read now s reader new after) cursor to) (place_is s one two one2 two2 continues.others) phased;
+    phased = rw (← place_is s one two one2 two2 continues.others) phased;
     valid_cursors = continues.valid_cursors;
     own_reader =
         own_reader_kept s one two one2 two2 now.reader reader continues.others continues.own_reader t.own_reader;
@@ -357,7 +356,7 @@ module _ {job : Join} {cmp : Cmp} {key : Side → Key} {old : MergeState} {phase
           × LagInvariant (join_with job cmp key) r.b (with_side s (r.ls s) r.p) old.out new
       wrote_unpaired =
           let x = head_of now (both one two) s in
-          let h = at_current_line step.status_is (r.sides s) in
+          let h = at_current_line (r.sides s) step.status_is in
           let (above, under) = current_key_is_above cmp o _ _ _ _ _ _ _ _ _ step.before (r.sides (other s)).status_is in
           rw h.all (write_one_line _ o (is_line_by_line job cmp key) s x r.b r.p _ _ _ t.clean r.merge_invariant h.bound
           above under
@@ -378,7 +377,7 @@ module _ {job : Join} {cmp : Cmp} {key : Side → Key} {old : MergeState} {phase
           → r ≡ Err fault → AdvanceErrPost s (both one two s) (now.reader s) reader now.store after new fault
           → ExitPost job cmp key old (state_after_read now s reader new after) r
       alone_fails {fault = fault} is_fault h = exit_post is_fault
-          (omega (arith, advance_keeps_slot_count (key s) cmp s (both one two s) (both one two s) _ _ _ _ _ fault h))
+          (omega (arith, advance_keeps_slot_count s (both one two s) fault h))
           (iteration_fails t.opened.w stood_at s step.status_is wrote_unpaired (put_same s (r.ls s) r.p)
           (rw (put_other s (r.ls s) r.p) (read_facts_current t.opened.w stood_at (other s))) h)
 
@@ -389,8 +388,8 @@ module _ {job : Join} {cmp : Cmp} {key : Side → Key} {old : MergeState} {phase
         let k = key First (head_of now (both one two) First) in
         let bounds : (side : Side) → r.b side ≡ AtLeast
         k = elim [
-          | First ↦ (at_current_line step.first (r.sides First)).bound
-          | Second ↦ rw step.same (at_current_line step.second (r.sides Second)).bound
+          | First ↦ (at_current_line (r.sides First) step.first).bound
+          | Second ↦ rw step.same (at_current_line (r.sides Second) step.second).bound
         ] in
         let none : (side : Side) → r.p side ≡ r.p side ++ both [] []
         side = elim [ First ↦ sym (append-nil (r.p First)) | Second ↦ sym (append-nil (r.p Second)) ] in
@@ -649,7 +648,7 @@ module _ {job : Join} {cmp : Cmp} {key : Side → Key} {old : MergeState} {phase
           → ReadGroupLinePost call.keeps_groups (key Second) cmp two two2 (now.reader Second) reader now.store after out
           end (Err fault) → ExitPost job cmp key old (state_after_read now Second reader out after) r
       read_group_fails {reader = reader} {fault = fault} is_fault (inl e) = exit_post is_fault
-          (omega (arith, advance_keeps_slot_count (key Second) cmp Second two two _ _ _ _ _ fault (inl e)))
+          (omega (arith, advance_keeps_slot_count Second two fault (inl e)))
           (group_breaks at_second (starts_none call (within_more at_second)) wrote_none reader fault (inl e))
       read_group_fails {fault = fault} is_fault (inr (fine, e)) =
           exit_post is_fault (read_group_slots fault e) (read_group_fault fine fault e)
@@ -657,81 +656,84 @@ module _ {job : Join} {cmp : Cmp} {key : Side → Key} {old : MergeState} {phase
   -- ---- writing pairs
 
   module _ (is : phase ≡ phases.WritePairs) where
-    written : WritePairs call now (both one two) end
-    written = rw is at t.phased
+    state : WritePairs call now (both one two) end
+    state = rw is at t.phased
 
     pub write_pairs_pre : JoinLinePre job key First one two (now.reader First) now.store now.out
-    write_pairs_pre = record { status_is = advance_pre First written.head.head; joins = joins }
+    write_pairs_pre = record { status_is = advance_pre First state.head.head; joins = joins }
 
-    is_kept : written.kept ≡ written.g Second → (end == 4) ≡ false
-    is_kept same = let more : 4 < end = omega (arith, written.q.at, ap length same, written.some) in grind (arith, nat_tests)
+    is_kept : state.kept ≡ state.g Second → (end == 4) ≡ false
+    is_kept same =
+        let more : 4 < end = omega (arith, state.q.at, ap length same, state.some) in grind (arith, nat_tests)
 
-    is_alone : written.kept ≡ [] → (end == 4) ≡ true
-    is_alone none = let four : end ≡ 4 = omega (arith, written.q.at, ap length none) in grind (arith, nat_tests)
+    is_alone : state.kept ≡ [] → (end == 4) ≡ true
+    is_alone none = let four : end ≡ 4 = omega (arith, state.q.at, ap length none) in grind (arith, nat_tests)
 
     -- the lines of the group have its key
     keyed_slot : (slot : ℕ) → group_first_slot two end ≤ slot → slot < group_end_slot two end
-        → key Second (line now.store slot) ≡ written.k
+        → key Second (line now.store slot) ≡ state.k
     keyed_slot slot from low = ⊎_elim (λ same.
         let least : 4 ≤ slot = rw (is_kept same) at from in
         let most : slot < end = rw (is_kept same) at low in
-        ap (key Second) (kept_line written.q.keeps slot least (omega (arith, most, written.q.at)))
-        ∙ EachKey-at (λ x. x ≡ written.k) (key Second) written.kept (slot - 4) (omega (arith, least, most, written.q.at))
-        (rw same (written.q.within.own Second)))
+        ap (key Second) (kept_line state.q.keeps slot least (omega (arith, most, state.q.at)))
+        ∙ EachKey-at (λ x. x ≡ state.k) (key Second) state.kept (slot - 4) (omega (arith, least, most, state.q.at))
+        (rw same (state.q.within.own Second)))
         (λ h.
         let least : two.previous_slot ≤ slot = rw (is_alone h.none) at from in
         let most : slot < two.previous_slot + 1 = rw (is_alone h.none) at low in
         let is : slot ≡ two.previous_slot = omega (arith, least, most) in
-        rw is h.own) written.lines_in
+        rw is h.own) state.lines_in
 
     -- the lines in the slots of the group have the pairs of the group
-    group_pairs_are : (f : Lines) → pair_entries job written.k f (group now.store (group_first_slot two end)
-        (group_end_slot two end)) ≡ pair_entries job written.k f (written.g Second)
-    group_pairs_are f = ⊎_elim (λ same. ap (λ (l : Lines). pair_entries job written.k f l)
-        (rw (is_kept same) (group_is written.q.keeps written.q.at ∙ same)))
+    group_pairs_are : (f : Lines) → pair_entries job state.k f (group now.store (group_first_slot two end)
+        (group_end_slot two end)) ≡ pair_entries job state.k f (state.g Second)
+    group_pairs_are f = ⊎_elim (λ same. ap (λ (l : Lines). pair_entries job state.k f l)
+        (rw (is_kept same) (group_is state.q.keeps state.q.at ∙ same)))
         (λ h.
         let one : group now.store (group_first_slot two end) (group_end_slot two end) ≡ line now.store
         two.previous_slot ∷ []
         = rw (is_alone h.none) (group_one now.store two.previous_slot
-        (omega (arith, written.q.keeps.four, (low_slot Second two (slots Second)).previous))) in
-        cc (one, h.same_pairs f)) written.lines_in
+        (omega (arith, state.q.keeps.four, (low_slot Second two (slots Second)).previous))) in
+        cc (one, h.same_pairs f)) state.lines_in
 
     pub write_pairs_group : IsGroup (join_key job Second) two now.store end
         (key First (line now.store one.current_slot))
     write_pairs_group = record {
       within = end_in;
       keyed = λ slot from low. sym
-          (t.opened.keys Second (line now.store slot)) ∙ keyed_slot slot from low ∙ sym written.head.is;
+          (t.opened.keys Second (line now.store slot)) ∙ keyed_slot slot from low ∙ sym state.head.is;
     }
 
     abbrev z : Lines
     z = line now.store one.current_slot ∷ []
 
-    at_first : IsAtGroupLine written.q First
-    at_first = record { slots = slots; at_key = written.head }
+    at_first : IsAtGroupLine state.q First
+    at_first = record { slots = slots; at_key = state.head }
 
     module _ {new : Output}
-        (pushed : PushEffect now.out new (unlines (now.reader First).terminator (pair_entries job (key First (line now.store one.current_slot)) z
+        (pushed : PushEffect now.out new (unlines (now.reader First).terminator
+        (pair_entries job (key First (line now.store one.current_slot)) z
         (group now.store (group_first_slot two end) (group_end_slot two end))))) where
-      wrote_more : PushEffect written.q.mid new (unlines job.terminator (pair_entries job written.k (written.g First ++ z) (written.g Second)))
+      wrote_more : PushEffect state.q.mid new
+          (unlines job.terminator (pair_entries job state.k (state.g First ++ z) (state.g Second)))
       wrote_more = rw (
-        call.laws.more written.k (written.g First) z (written.g Second),
+        call.laws.more state.k (state.g First) z (state.g Second),
         unlines-append job.terminator
-            (pair_entries job written.k (written.g First) (written.g Second)) (pair_entries job written.k z (written.g Second)),
+            (pair_entries job state.k (state.g First) (state.g Second)) (pair_entries job state.k z (state.g Second)),
       )
-          (push_trans _ _ _ _ _ t.clean written.q.wrote (wrote_as _ _ _ _ _ _ (written.q.sides First).lines_read.terminator
-          (sym (group_pairs_are z) ∙ (λ j. pair_entries job (sym written.head.is j) z
+          (push_trans _ _ _ _ _ t.clean state.q.wrote (wrote_as _ _ _ _ _ _ (state.q.sides First).lines_read.terminator
+          (sym (group_pairs_are z) ∙ (λ j. pair_entries job (sym state.head.is j) z
           (group now.store (group_first_slot two end) (group_end_slot two end)))) pushed))
 
-      pairs_begin : OutputStartsWith (join_with job cmp key) (with_added_line now (both one two) First written.g) written.q.d written.k
-          (pair_entries job written.k (written.g First ++ z) (written.g Second))
-      pairs_begin = starts call (within_more at_first) written.some written.above
+      pairs_begin : OutputStartsWith (join_with job cmp key) (with_added_line now (both one two) First state.g)
+          state.q.d state.k (pair_entries job state.k (state.g First ++ z) (state.g Second))
+      pairs_begin = starts call (within_more at_first) state.some state.above
 
       pub pair_fails : {reader : Reader} {after : Slots} {fault : MergeFault} {r : Result (Unit {0}) MergeFault}
           → r ≡ Err fault → AdvanceErrPost First one (now.reader First) reader now.store after new fault
           → ExitPost job cmp key old (state_after_read now First reader new after) r
       pair_fails {reader} {fault = fault} is_fault h = exit_post is_fault
-          (omega (arith, advance_keeps_slot_count (key First) cmp First one one _ _ _ _ _ fault h))
+          (omega (arith, advance_keeps_slot_count First one fault h))
           (group_breaks at_first pairs_begin wrote_more reader fault h)
 
       module _ {one2 two2 : Sorted} {reader : Reader} {after : Slots}
@@ -739,21 +741,21 @@ module _ {job : Join} {cmp : Cmp} {key : Side → Key} {old : MergeState} {phase
         on_first : AdvancedGroup at_first h.came new
         on_first = advanced_group at_first h.came wrote_more
 
-        above_on : IsAbove cmp (key Second) written.k (on_first.group.d Second)
-        above_on = rw on_first.bound written.above
+        above_on : IsAbove cmp (key Second) state.k (on_first.group.d Second)
+        above_on = rw on_first.bound state.above
 
         pub group_there : (4 ≤ end) × (end ≤ length after.lines)
-        group_there = omega (arith, end_in, next_keeps_slot_count _ _ _ _ _ _ _ _ h.came)
+        group_there = omega (arith, end_in, next_keeps_slot_count h.came)
 
         pub write_pairs_continues : one2.same ≡ true
             → IterationInvariant job cmp key old phase (state_after_read now First reader new after) one2 two2 end
         write_pairs_continues same = iteration_continues {next = phase} First h.continues (rw is (record {
-          k = written.k;
-          g = with_added_line now (both one two) First written.g;
-          kept = written.kept;
+          k = state.k;
+          g = with_added_line now (both one two) First state.g;
+          kept = state.kept;
           q = on_first.group;
-          lines_in = let (_, stays) = others_stay at_first h.came in rw stays written.lines_in;
-          some = written.some;
+          lines_in = let (_, stays) = others_stay at_first h.came in rw stays state.lines_in;
+          some = state.some;
           above = above_on;
           head = let (head, is) = continues_key at_first h.came same in record { head = head; is = is };
         }))
@@ -773,12 +775,12 @@ module _ {job : Join} {cmp : Cmp} {key : Side → Key} {old : MergeState} {phase
             }) (
               record {
                 ls = q.ls;
-                p = λ side. q.p side ++ with_added_line now (both one two) First written.g side;
+                p = λ side. q.p side ++ with_added_line now (both one two) First state.g side;
                 b = q.d;
                 sides = same_cursors call.tool q.sides (next_slots at_first h.came) (λ i low. clear.others i (inl low));
                 merge_invariant = closes call q.within (elim [
-                  | First ↦ omega (arith, length_push (written.g First) (line now.store one.current_slot))
-                  | Second ↦ written.some
+                  | First ↦ omega (arith, length_push (state.g First) (line now.store one.current_slot))
+                  | Second ↦ state.some
                 ])
                     (elim [ First ↦ is_past q First (leaves_key at_first h.came same) | Second ↦ above_on ]) q.wrote;
                 keeps = group_store_cleared q.keeps q.at clear;

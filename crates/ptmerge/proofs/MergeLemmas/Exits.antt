@@ -14,6 +14,7 @@ use Rattle.ptmerge.proofs.Common.{entries_by_key, decided_output, disorder, firs
 use Rattle.ptmerge.proofs.Common.{merge_output, merged_entries, sorted_prefix, is_up_to, MergeState, AreConsistent}
 use Rattle.ptmerge.proofs.Common.{MergeEndPost, MergePost, IsMergeUnread, IsExactMerge, IsUnreadWithoutSlots, HasNoLine}
 use Rattle.ptmerge.proofs.Common.{with_terminator, other, with_side}
+use Rattle.ptmerge.proofs.Common.{terminator, Bool, cond}
 use Rattle.ptmerge.proofs.MergeLemmas.Lag.{ProcessedNearly, LinesToCome, LagPoint, back, decided_of_passed, unsettled}
 use Rattle.ptmerge.proofs.MergeLemmas.Lag.{lag_bound}
 use Rattle.ptmerge.proofs.MergeLemmas.Invariant.{Bound, NoBound, AtLeast, AfterDisorder, NothingMore, MayFollow}
@@ -52,21 +53,6 @@ pub record SideInvariant (end : ℕ) (cmp : Cmp) (key : Key) (old now : Reader) 
   pub processed_prefix : IsProcessedPrefix cmp key ls p b
   pub status_is : MatchesStatus cmp key cursor.status cursor store now ls p b
 
--- other slots may change
-pub side_invariant_kept : {end : ℕ} {cmp : Cmp} {key : Key} {old now : Reader} {cursor : Sorted} {before after : Slots}
-    {ls p : Lines} {b : Bound} → SideInvariant end cmp key old now cursor before ls p b
-    → line after cursor.current_slot ≡ line before cursor.current_slot
-    → line after cursor.previous_slot ≡ line before cursor.previous_slot
-    → SideInvariant end cmp key old now cursor after ls p b
-side_invariant_kept {cmp = cmp} {key} {now = now} {cursor} {before} {after} {ls} {p} {b} s same1 same2 =
-    let status_is = by cursor.status s.status_is in assumption
-  where
-    by : (t : CursorStatus) → MatchesStatus cmp key t cursor before now ls p b
-        → MatchesStatus cmp key t cursor after now ls p b
-    by Head st = rw same1 st
-    by Ended st = st
-    by (Disorder n) st = rw same2 st
-
 -- the current line becomes a processed line
 pub record IsAtCurrentLine (cmp : Cmp) (key : Key) (cursor : Sorted) (store : Slots) (ls p : Lines)
     (b : Bound) : Type 0 where
@@ -75,18 +61,49 @@ pub record IsAtCurrentLine (cmp : Cmp) (key : Key) (cursor : Sorted) (store : Sl
   pub bound : b ≡ AtLeast (key (line store cursor.current_slot))
   pub some : 0 < cursor.number
 
-pub at_current_line : {end : ℕ} {cmp : Cmp} {key : Key} {old now : Reader} {cursor : Sorted} {store : Slots}
-    {ls p : Lines} {b : Bound}
-    → cursor.status ≡ Head → SideInvariant end cmp key old now cursor store ls p b
-    → IsAtCurrentLine cmp key cursor store ls p b
-at_current_line {cmp = cmp} {key} {now = now} {cursor} {store} {ls} {p} {b} e s =
-    let (all, sorted_up_to, bound) = subst (λ t. MatchesStatus cmp key t cursor store now ls p b) e s.status_is in
-    record {
-      all = all;
-      sorted_up_to = sorted_up_to;
-      bound = bound;
-      some = omega (arith, s.number, ap length all, length_push p (line store cursor.current_slot));
-    }
+-- an input at an exit: the lines `ls` are read, `p` of them are processed, and a piece of a further line is read
+pub record ReadFacts (end : ℕ) (cmp : Cmp) (key : Key) (old now new : Reader) (piece : List ℕ) (ls p : Lines)
+    (b : Bound) : Type 0 where
+  pub lines_read : LinesRead end old now ls
+  pub reads : ReaderAdvance now new piece
+  pub line : IsLine now.terminator piece
+  pub sound : IsSound new
+  pub processed_nearly : ProcessedNearly ls p piece
+  pub processed_prefix : IsProcessedPrefix cmp key ls p b
+  pub nothing_follows : b ≡ NothingMore → IsDone now
+
+module _ {end : ℕ} {cmp : Cmp} {key : Key} {old now : Reader} {cursor : Sorted} {store : Slots} {ls p : Lines}
+    {b : Bound}
+    (s : SideInvariant end cmp key old now cursor store ls p b) where
+  -- other slots may change
+  pub side_invariant_kept : {after : Slots} → line after cursor.current_slot ≡ line store cursor.current_slot
+      → line after cursor.previous_slot ≡ line store cursor.previous_slot
+      → SideInvariant end cmp key old now cursor after ls p b
+  side_invariant_kept {after} same1 same2 = let status_is = by cursor.status s.status_is in assumption
+    where
+      by : (t : CursorStatus) → MatchesStatus cmp key t cursor store now ls p b
+          → MatchesStatus cmp key t cursor after now ls p b
+      by Head st = rw same1 st
+      by Ended st = st
+      by (Disorder n) st = rw same2 st
+
+  pub at_current_line : cursor.status ≡ Head → IsAtCurrentLine cmp key cursor store ls p b
+  at_current_line head =
+      let (all, sorted_up_to, bound) = rw head at s.status_is in
+      record {
+        all = all;
+        sorted_up_to = sorted_up_to;
+        bound = bound;
+        some = omega (arith, s.number, ap length all, length_push p (line store cursor.current_slot));
+      }
+
+  pub read_facts_at_line : ReadFacts end cmp key old now now [] ls p b
+  read_facts_at_line = let nothing_follows = by cursor.status s.status_is in assumption (reads_nothing now)
+    where
+      by : (t : CursorStatus) → MatchesStatus cmp key t cursor store now ls p b → b ≡ NothingMore → IsDone now
+      by Head (_, _, bound) e = cc
+      by Ended (_, done) e = done
+      by (Disorder n) st e = cc
 
 -- the bound of an input after the last key, or before any line
 abbrev pub bound_after : Option (List ℕ) → Bound
@@ -272,29 +289,6 @@ next_same_key cmp o key cursor next now new before after some within (inr e) = r
 
 abbrev pub state_by_side : (Side → Reader) → Output → Slots → MergeState
 state_by_side reader out store = record { reader = reader; out = out; store = store }
-
--- an input at an exit: the lines `ls` are read, `p` of them are processed, and a piece of a further line is read
-pub record ReadFacts (end : ℕ) (cmp : Cmp) (key : Key) (old now new : Reader) (piece : List ℕ) (ls p : Lines)
-    (b : Bound) : Type 0 where
-  pub lines_read : LinesRead end old now ls
-  pub reads : ReaderAdvance now new piece
-  pub line : IsLine now.terminator piece
-  pub sound : IsSound new
-  pub processed_nearly : ProcessedNearly ls p piece
-  pub processed_prefix : IsProcessedPrefix cmp key ls p b
-  pub nothing_follows : b ≡ NothingMore → IsDone now
-
--- an input at its current line
-pub read_facts_at_line : {end : ℕ} {cmp : Cmp} {key : Key} {old now : Reader} {cursor : Sorted} {store : Slots}
-    {ls p : Lines} {b : Bound} → SideInvariant end cmp key old now cursor store ls p b
-    → ReadFacts end cmp key old now now [] ls p b
-read_facts_at_line {cmp = cmp} {key} {now = now} {cursor} {store} {ls} {p} {b} s =
-    let nothing_follows = by cursor.status s.status_is in assumption (reads_nothing now)
-  where
-    by : (t : CursorStatus) → MatchesStatus cmp key t cursor store now ls p b → b ≡ NothingMore → IsDone now
-    by Head (_, _, bound) e = cc
-    by Ended (_, done) e = done
-    by (Disorder n) st e = cc
 
 -- an input whose lines are all processed, and a piece of a further line
 pub read_facts_after_line : {end : ℕ} {cmp : Cmp} (o : IsKeyOrder cmp) {key : Key} {old now new : Reader}

@@ -5,7 +5,8 @@ use Rattle.ptmerge.proofs.Common.{None, length, max, refl, sym, ◌∙◌, ap, a
 use Rattle.ptmerge.proofs.Common.{nil_from_length, FillLine, Received, IsConsistent, known_lines, Reader}
 use Rattle.ptmerge.proofs.Common.{ReaderAdvance, AdvanceOk, IsDone, remaining_bytes, Slots, unlines, lines}
 use Rattle.ptmerge.proofs.Common.{complete_lines, IsLine, AreLines, max_length, received_with, advance_ok_trans}
-use Rattle.ptmerge.proofs.Common.{lines_of_unlines, lines_of_last, unlines_push, IsSound, HasNoLine, IsFirstLineAndBlock}
+use Rattle.ptmerge.proofs.Common.{lines_of_unlines, lines_of_last, unlines_push, IsSound, HasNoLine}
+use Rattle.ptmerge.proofs.Common.{IsFirstLineAndBlock}
 use Rattle.ptmerge.proofs.Common.{AreLines_push, complete_lines_none, complete_lines_cons}
 use Rattle.ptlines.proofs.KnownBytes.{prepend_known-nil}
 use Rattle.ptlines.proofs.MaxLength.{max_length-append, piece_le_max_length}

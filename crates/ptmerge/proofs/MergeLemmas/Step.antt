@@ -10,7 +10,7 @@ use Rattle.ptmerge.proofs.Common.{earlier_disorder, first_disorder, lines_with_k
 use Rattle.ptmerge.proofs.Common.{NextErrPost, NextOkPost, HasSlots, base_slot, with_side, other, PrecedesInput}
 use Rattle.ptmerge.proofs.Common.{IsDisorderDecided, IsReportable, previous_key, ap, ◌⊎◌, ◌*◌, max, length-set}
 use Rattle.ptmerge.proofs.Common.{total_bytes, max_length, Write, MergeRunPre, merge_state, WriteFaultPost}
-use Rattle.ptmerge.proofs.Common.{WriteThenNextPost, both, AreValidCursors, budget, IsReaderOf, subst, push_trans, ◌&&◌}
+use Rattle.ptmerge.proofs.Common.{both, AreValidCursors, budget, IsReaderOf, push_trans, ◌&&◌}
 use Rattle.ptmerge.proofs.Common.{cond, nat_lt, Ordering, is_eq, is_gt, nat_tests, length_push, CopyToGroupPost}
 use Rattle.ptmerge.proofs.Common.{same_key_at, status_at, IsValidCursor, AddedSlots, ◌<◌, Result, ClearFourSlotsPost}
 use Rattle.ptmerge.proofs.Common.{MergeEndPost, Ok, Bool, terminator, IsMergeUnread, initial_cursor, MergeInputs}
@@ -125,15 +125,15 @@ SidesInvariant tool old now cursor store ls p b = (side : Side)
     → SideInvariant tool.terminator tool.cmp (tool.key side) (old side) (now side) (cursor side) store (ls side)
     (p side) (b side)
 
-module _ (tool : MergeTool) (o : IsKeyOrder tool.cmp) (old now : Side → Reader) (cursor : Side → Sorted) (store : Slots)
-    (ls p : Side → Lines) (b : Side → Bound)
+module _ (tool : MergeTool) (o : IsKeyOrder tool.cmp) {old now : Side → Reader} {cursor : Side → Sorted} {store : Slots}
+    {ls p : Side → Lines} {b : Side → Bound}
     (sides : SidesInvariant tool old now cursor store ls p b)
     (slots : (side : Side) → HasSlots side (cursor side)) (four : 4 ≤ length store.lines) (s : Side)
     (head : (cursor s).status ≡ Head) where
   open tool use {cmp, key, terminator}
 
   pub passed_at : IsAtCurrentLine cmp (key s) (cursor s) store (ls s) (p s) (b s)
-  passed_at = at_current_line head (sides s)
+  passed_at = at_current_line (sides s) head
 
   abbrev NextOf : Reader → Sorted → Slots → Type 0
   NextOf new next after = SideAfterNext terminator cmp (key s) (old s) new next (cursor s).previous_slot store after
@@ -361,10 +361,10 @@ wrote_as end e xs ys was is same list wrote = rw (list, ← same) wrote
 -- ---- the number of slots
 
 -- after advancing
-pub next_keeps_slot_count : (key : Key) (cmp : Cmp) (cursor next : Sorted) (was is : Reader) (before after : Slots)
+pub next_keeps_slot_count : {key : Key} {cmp : Cmp} {cursor next : Sorted} {was is : Reader} {before after : Slots}
     → NextOkPost key cmp cursor next was is before after → length after.lines ≡ length before.lines
-next_keeps_slot_count key cmp cursor next was is before after (inl e) = rw (e.next_line.stored, length-set)
-next_keeps_slot_count key cmp cursor next was is before after (inr e) = rw (e.empty, length-set)
+next_keeps_slot_count (inl e) = rw (e.next_line.stored, length-set)
+next_keeps_slot_count (inr e) = rw (e.empty, length-set)
 
 -- after a failed read
 pub next_error_keeps_slot_count : (s : Side) (cursor : Sorted) (was is : Reader) (before after : Slots)
@@ -373,18 +373,17 @@ next_error_keeps_slot_count s cursor was is before after (Read file) (e, _, _) =
 next_error_keeps_slot_count s cursor was is before after Memory (e, _) = rw (e.stored, length-set)
 next_error_keeps_slot_count s cursor was is before after other e = absurd e
 
-pub advance_keeps_slot_count : (key : Key) (cmp : Cmp) (s : Side) (cursor next : Sorted) (was is : Reader)
-    (before after : Slots) (out : Output) (fault : MergeFault)
-    → WriteThenNextPost key cmp s cursor next was is before after out (Err fault)
-    → length after.lines ≡ length before.lines
-advance_keeps_slot_count key cmp s cursor next was is before after out fault (inl (_, e)) = rw e.store
-advance_keeps_slot_count key cmp s cursor next was is before after out fault (inr (_, e)) =
-    next_error_keeps_slot_count s cursor was is before after fault e
-
 -- a write failed, or reading the next line did
 abbrev pub AdvanceErrPost : Side → Sorted → Reader → Reader → Slots → Slots → Output → MergeFault → Type 0
 AdvanceErrPost s cursor was is before after out fault = ((fault ≡ Write) × WriteFaultPost was is before after out)
     ⊎ ((out.write_failed ≡ false) × NextErrPost s cursor was is before after fault)
+
+pub advance_keeps_slot_count : (s : Side) (cursor : Sorted) {was is : Reader} {before after : Slots} {out : Output}
+    (fault : MergeFault) → AdvanceErrPost s cursor was is before after out fault
+    → length after.lines ≡ length before.lines
+advance_keeps_slot_count s cursor fault (inl (_, e)) = rw e.store
+advance_keeps_slot_count s cursor {was} {is} {before} {after} fault (inr (_, e)) =
+    next_error_keeps_slot_count s cursor was is before after fault e
 
 -- all missing slots were added
 pub adds_of : {before after : Slots} → length after.lines ≡ max (length before.lines) 4 → AddedSlots before after 4
@@ -520,7 +519,7 @@ module _ {tool : MergeTool} {old : MergeState} (w : IsOpenMerge tool old) {reade
   passing : (s : Side) → (cursor s).status ≡ Head → (new : Reader) (piece : List ℕ) → ReaderAdvance (reader s) new piece
       → IsLine (reader s).terminator piece → IsSound new
       → ReadFacts tool.terminator cmp (key s) (old.reader s) (reader s) new piece (ls s) (ls s) (b s)
-  passing s head new piece reads free sound = let h = at_current_line head (a.sides s) in
+  passing s head new piece reads free sound = let h = at_current_line (a.sides s) head in
       rw h.bound (read_facts_after_line w.o (a.sides s).lines_read reads free sound h.sorted_up_to)
 
   pub passing_now : (s : Side) → (cursor s).status ≡ Head → ReadFactsBy s (ls s)
@@ -538,7 +537,7 @@ module _ {tool : MergeTool} {old : MergeState} (w : IsOpenMerge tool old) {reade
       (record { write_failed = e.write_failed; failed = none_failed; denied = a.holds.denied })
       (no_failure _) tt (both_begun begun) (a.holds.fits store (omega arith) refl))
   iteration_fails s head {q} {out} (m, _) same rest {new} {after} {fault} (inr (clean, e)) =
-      let h = at_current_line head (a.sides s) in
+      let h = at_current_line (a.sides s) head in
       fails tool w.o old (state_by_side reader out store) ls q b m w.unfailed none_failed clean s (cursor s) new after
       fault
       (λ r piece reads free sound. rw same (passing s head r piece reads free sound)) (sym same)
@@ -601,7 +600,7 @@ module _ {tool : MergeTool} {old : MergeState} (w : IsOpenMerge tool old) {reade
       (comes : NextOkPost (key s) cmp (cursor s) next (reader s) new store after) where
     pub n : SideAfterNext tool.terminator cmp (key s) (old.reader s) new next (cursor s).previous_slot store after
         (ls s) (Some (key s (line store (cursor s).current_slot)))
-    n = next_at tool w.o _ _ _ _ _ _ _ a.sides a.slots four s head _ _ _ comes
+    n = next_at tool w.o a.sides a.slots four s head _ _ _ comes
 
     pub keeps_two : StoreHoldsTwoLines old.store store ls → StoreHoldsTwoLines old.store after (with_side s n.now_ls ls)
     keeps_two keeps = store_with_line s (cursor s) (λ side. max_length (with_side s n.now_ls ls side)) n.bytes
@@ -611,7 +610,7 @@ module _ {tool : MergeTool} {old : MergeState} (w : IsOpenMerge tool old) {reade
 
     sides_next : SidesInvariant tool old.reader (with_side s new reader) (with_side s next cursor) after
         (with_side s n.now_ls ls) (with_side s (ls s) p) (with_side s n.bound b)
-    sides_next = sides_invariant_continues tool w.o _ _ _ _ _ _ _ a.sides a.slots four s head _ _ _ n
+    sides_next = sides_invariant_continues tool w.o a.sides a.slots four s head _ _ _ n
 
     pub advance_ok : HoldsTwoLines tool → StoreHoldsTwoLines old.store store ls
         → CursorsInvariant tool old (with_side s new reader) (with_side s next cursor) after (with_side s n.now_ls ls)
@@ -622,7 +621,7 @@ module _ {tool : MergeTool} {old : MergeState} (w : IsOpenMerge tool old) {reade
     -- the output comes first, as before
     pub goes_merging : {q : Side → Lines} {out : Output} → MergeInvariant tool b q old.out out
         → MergeInvariant tool (with_side s n.bound b) q old.out out
-    goes_merging m = merge_invariant_continues tool w.o _ _ _ _ _ _ _ a.sides a.slots four s head _ _ _ n _ _ _ m
+    goes_merging m = merge_invariant_continues tool w.o a.sides a.slots four s head _ _ _ n _ _ _ m
 
     pub runs_on : {Keep : Slots → (Side → Lines) → Type 0} {out : Output} → Keep after (with_side s n.now_ls ls)
         → MergeInvariant tool b (with_side s (ls s) p) old.out out
@@ -673,8 +672,8 @@ own_reader_kept s one two one2 two2 f reader same h all =
 -- writing out buffered output does not change what was pushed
 pub wrote_and_sent : (was mid is : Output) (pushed : List ℕ) → mid.write_failed ≡ false → PushEffect was mid pushed
     → PushEffect mid is [] → PushEffect was is pushed
-wrote_and_sent was mid is pushed clean wrote written_out = subst (λ (bytes : List ℕ). PushEffect was is bytes)
-    (append-nil pushed) (push_trans was mid is pushed [] clean wrote written_out)
+wrote_and_sent was mid is pushed clean wrote written_out =
+    rw append-nil at (push_trans was mid is pushed [] clean wrote written_out)
 
 -- ---- keys in slots
 
@@ -755,25 +754,25 @@ module _ {tool : MergeTool} {old : MergeState} (w : IsOpenMerge tool old) where
   -- the first input was advanced to its first line
   module _ {first : Sorted} {new : MergeInputs} {Then : Slots → Type 0}
       (s : StartFirstPost key cmp first unstarted new Then) where
-    first_read : SideAfterNext terminator cmp (key First) (old.reader First) (new.reader First) first (base_slot First) s.made
-        s.mid [] None
-    first_read = first_line First (omega (arith, s.four.slots)) s.came
+    began : SideAfterNext terminator cmp (key First) (old.reader First) (new.reader First) first (base_slot First)
+        s.made s.mid [] None
+    began = first_line First (omega (arith, s.four.slots)) s.came
 
-    half_store : StoreOfLines old.store s.mid (λ side. max_length (both first_read.now_ls [] side))
-    half_store = store_with_line First (initial_cursor First) (λ side. max_length (both first_read.now_ls [] side)) first_read.bytes
-        (fresh_slots First) (store_of_no_lines s.four w.allowed w.empty)
-        (elim [ First ↦ omega arith | Second ↦ omega arith ]) first_read.fits first_read.stored
+    half_store : StoreOfLines old.store s.mid (λ side. max_length (both began.now_ls [] side))
+    half_store = store_with_line First (initial_cursor First) (λ side. max_length (both began.now_ls [] side))
+        began.bytes (fresh_slots First) (store_of_no_lines s.four w.allowed w.empty)
+        (elim [ First ↦ omega arith | Second ↦ omega arith ]) began.fits began.stored
 
-    half_invariant : MergeInvariant tool (both first_read.bound NoBound) no_lines old.out old.out
-    half_invariant = bound_changes First first_read.bound (merge_invariant_starts tool old.out) first_read.may_follow first_read.under
+    half_invariant : MergeInvariant tool (both began.bound NoBound) no_lines old.out old.out
+    half_invariant = bound_changes First began.bound (merge_invariant_starts tool old.out) began.may_follow began.under
 
     -- at most one line of it was read
-    first_line_only : length first_read.now_ls + 0 ≤ 1
-    first_line_only = ⊎_elim (λ e. omega (arith, first_read.side_invariant.number, ap (λ (c : Sorted). c.number) e.cursor))
-        (λ e. omega (arith, first_read.side_invariant.number, ap (λ (c : Sorted). c.number) e.cursor)) s.came
+    first_line_only : length began.now_ls + 0 ≤ 1
+    first_line_only = ⊎_elim (λ e. omega (arith, began.side_invariant.number, ap (λ (c : Sorted). c.number) e.cursor))
+        (λ e. omega (arith, began.side_invariant.number, ap (λ (c : Sorted). c.number) e.cursor)) s.came
 
     mid_four : 4 ≤ length s.mid.lines
-    mid_four = (has_lines_total s.mid.lines (λ side. max_length (both first_read.now_ls [] side)) 0 half_store.lines).four
+    mid_four = (has_lines_total s.mid.lines (λ side. max_length (both began.now_ls [] side)) 0 half_store.lines).four
 
   pub start_ok : (new : MergeInputs) (cursor : Side → Sorted) → HasSlots First (cursor First)
       → StartOkPost key cmp cursor unstarted new
@@ -781,7 +780,7 @@ module _ {tool : MergeTool} {old : MergeState} (w : IsOpenMerge tool old) where
       (state_by_side (both (new.reader First) (new.reader Second)) old.out new.store)
       (both (cursor First) (cursor Second))
   start_ok new cursor slots s =
-      let f = first_read s in
+      let f = began s in
       let k = first_line Second (mid_four s) s.later in
       let (apart, apart_previous) = slots_apart Second (initial_cursor Second) (cursor First) (fresh_slots Second) slots
       in
@@ -834,7 +833,7 @@ module _ {tool : MergeTool} {old : MergeState} (w : IsOpenMerge tool old) where
         (λ side. omega (arith, (l side).longest)) (omega (arith, (l First).longest))) f.fails)
     start_fault (inr (inr f)) =
         let s = f.begins in
-        let g = first_read s in
+        let g = began s in
         fails tool w.o old (state_by_side (both new1 (old.reader Second)) old.out s.mid) (both g.now_ls []) no_lines
         (both g.bound NoBound) (half_invariant s) w.unfailed
         (elim [ First ↦ g.side_invariant.lines_read.advance_ok.failed | Second ↦ refl ]) w.writable

@@ -102,17 +102,23 @@ fn comm_with_order<K: KeyOrder, A: Allocator + Copy, S: Source, R: Source, W: Si
     }
 }
 
-/// Writes the lines of two sorted inputs in three columns: lines only in the first input, lines only in the second, and
-/// lines in both (POSIX.1-2017, XCU, `comm`). A line that one input has more often than the other is written as common
-/// as often as both have it, and then in the column of the input that has it more often; POSIX leaves this unspecified.
-/// As extensions, `-r` reverses the byte order, and with `-z` lines end with byte 0.
+/// Selects the lines that two sorted inputs have in common or alone (`comm`: POSIX.1-2017, XCU, Utilities).
 ///
-/// The slots 0 to 3 of the store are used, and added if they are missing. After `Ok` and `Disorder` they are empty. If
-/// one of them could not be added, nothing is read or written. If the output has failed before, the call does nothing.
-/// The second input is not read before the first one has given a line or its end; until the second one has, no more
-/// than a block after the first one's first line is read. However the call ends, everything was pushed that was decided two blocks (16,384 bytes) of either
-/// input earlier, regardless of the content of the other input; and a disorder was not yet decided then. Tests check,
-/// but no clause states, that buffered output is written out before a read that may block.
+/// Lines are written in three columns, in one pass and in the order of both inputs: lines only in the first input,
+/// lines only in the second after a tab, and lines in both after two; a hidden column takes no tab. A line that
+/// one input has more often than the other is written as common as often as both have it, and then in the column
+/// of the input that has it more often; POSIX leaves this unspecified. As extensions, `-r` reverses the byte
+/// order, and with `-z` lines end with byte 0.
+///
+/// The readers and the output are borrowed until the call returns, and the caller finishes the output. The slots 0
+/// to 3 of the store are used, and added if they are missing. After `Ok` and `Disorder` they are empty. If one of
+/// them could not be added, nothing is read or written. If the output has failed before, the call does nothing.
+///
+/// The second input is not read before the first one has given a line or its end; until the second one has, no
+/// more than a block after the first one's first line is read. However the call ends, everything was pushed that
+/// was decided two blocks (16,384 bytes) of either input earlier, regardless of the content of the other input;
+/// and a disorder was not yet decided then. Tests check, but no clause states, that buffered output is written out
+/// before a read that may block.
 /// # Errors
 /// `Read`, with the input, if a read failed; `Write` if a write failed; `Memory` if the store could not grow while
 /// something was left to do, and `Store::denied` is then true; `Disorder`, with the input and the line, if an input is

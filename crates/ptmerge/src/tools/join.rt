@@ -202,22 +202,27 @@ fn join_with_order<K: KeyOrder, A: Allocator + Copy, B: Allocator, S: Source, R:
     }
 }
 
-/// Pairs the lines of two sorted inputs by their join fields, and writes a line for each pair: the join field and then
-/// the other fields of each line, or the fields of the output list (POSIX.1-2017, XCU, `join`). Fields are separated by
-/// blanks or by the separator. Output is ordered by key; the pairs of one key are ordered by the first input's line and
-/// then by the second one's, and unpaired lines, if asked for, are in the order of their input. A line without the join
-/// field has an empty key; POSIX leaves this unspecified. As extensions, `-r` reverses the byte order, and with `-z`
-/// lines end with byte 0.
+/// Pairs the lines of two sorted inputs by their join fields (`join`: POSIX.1-2017, XCU, Utilities).
 ///
-/// The slots 0 to 3 of the store are used, and added if they are missing; after them, if pairs are written, at most one
-/// slot is added for each of the second input's lines of one key. After `Ok` and `Disorder` all slots are empty. If one
-/// of the first four could not be added, nothing is read or written. If the output has failed before, the call does
-/// nothing. The second input is not read before the first one has given a line or its end; until the second one has, no
-/// more than a block after the first one's first line is read. However the call ends, everything was pushed that was decided two blocks (16,384 bytes)
-/// of either input earlier, regardless of the content of the other input; and a disorder was not yet decided then. The
-/// pairs of a key are written once all lines of the second input with this key are read. A line that is the only one of
-/// its key takes no further slot: this is stated by the contract of the function that copies the lines of a key, not by
-/// this one. Tests check, but no clause states, that buffered output is written out before a read that may block.
+/// A line is written for each pair: the join field and then the other fields of each line, or the fields of the
+/// output list. Fields are separated by blanks or by the separator. Output is ordered by key; the pairs of one key
+/// are ordered by the first input's line and then by the second one's, and unpaired lines, if asked for, are in
+/// the order of their input. A line without the join field has an empty key; POSIX leaves this unspecified. As
+/// extensions, `-r` reverses the byte order, and with `-z` lines end with byte 0.
+///
+/// The readers and the output are borrowed until the call returns, and the caller finishes the output. The slots 0
+/// to 3 of the store are used, and added if they are missing; after them, if pairs are written, at most one slot
+/// is added for each of the second input's lines of one key. After `Ok` and `Disorder` all slots are empty. If one
+/// of the first four could not be added, nothing is read or written. If the output has failed before, the call
+/// does nothing. A line that is the only one of its key takes no further slot: this is stated by the contract of
+/// the function that copies the lines of a key, not by this one.
+///
+/// The second input is not read before the first one has given a line or its end; until the second one has, no
+/// more than a block after the first one's first line is read. The pairs of a key are written once all lines of
+/// the second input with this key are read. However the call ends, everything was pushed that was decided two
+/// blocks (16,384 bytes) of either input earlier, regardless of the content of the other input; and a disorder was
+/// not yet decided then. Tests check, but no clause states, that buffered output is written out before a read that
+/// may block.
 /// # Errors
 /// `Read`, with the input, if a read failed; `Write` if a write failed; `Memory` if the store could not grow while
 /// something was left to do, and `Store::denied` is then true; `Disorder`, with the input and the line, if an input is

@@ -29,9 +29,9 @@ returns-in_err-merge g c = start_fails (comm_job c.args.job.now)
 pub steps-init : goal.steps-init
 steps-init g c =
     let p = c.in_ok-merge.ensures in
-    let iteration = starts (comm_job c.args.job.now) (opened g (goal.at.steps-init g c).After-start)
-    c.requires.whole_line_keys p.starts (rw p.order at p.valid_cursors) p.own_reader in
-    record { iteration = iteration_as g.K.KeyOrder.order g.K.KeyOrder.key_of p.order iteration; order = p.order }
+    iteration_as g.K.KeyOrder.order g.K.KeyOrder.key_of p.order refl (starts (comm_job c.args.job.now)
+    (opened g (goal.at.steps-init g c).After-start) c.requires.whole_line_keys p.starts
+    (rw p.order at p.valid_cursors) p.own_reader)
 
 pub write_head-requires-clause-status_is : goal.write_head-requires-clause-status_is
 write_head-requires-clause-status_is g c =
@@ -51,39 +51,28 @@ write_out_and_advance-requires-clause-status_is g c = rw c.write_head-in-Both.en
 
 pub steps-preserved-in-Continue-branch-2 : goal.steps-preserved-in-Continue-branch-2
 steps-preserved-in-Continue-branch-2 g c =
+    let i = c.steps.invariant in
     let p = c.write_head.ensures in
-    let iteration = alone_continues c.steps.invariant.iteration c.in-First.ensures refl p.wrote
-    c.in_ok-write_head-in-First.ensures.advances in
-    record {
-      iteration = iteration_as g.K.KeyOrder.order g.K.KeyOrder.key_of p.order iteration;
-      order = p.order
-          ∙ c.steps.invariant.order;
-    }
+    iteration_as g.K.KeyOrder.order g.K.KeyOrder.key_of p.order i.order
+    (alone_continues i.iteration c.in-First.ensures refl p.wrote c.in_ok-write_head-in-First.ensures.advances)
 
 pub steps-preserved-in-Continue-branch-3 : goal.steps-preserved-in-Continue-branch-3
 steps-preserved-in-Continue-branch-3 g c =
     let i = c.steps.invariant in
     let p = c.write_head-in-Second.ensures in
-    let iteration = alone_continues i.iteration c.in-Second.ensures c.tabs-tabs2.ensures p.wrote
-    c.in_ok-write_head-in-Second.ensures.advances in
-    record {
-      iteration = iteration_as g.K.KeyOrder.order g.K.KeyOrder.key_of p.order iteration;
-      order = p.order
-          ∙ i.order;
-    }
+    iteration_as g.K.KeyOrder.order g.K.KeyOrder.key_of p.order i.order
+    (alone_continues i.iteration c.in-Second.ensures c.tabs-tabs2.ensures p.wrote
+    c.in_ok-write_head-in-Second.ensures.advances)
 
 pub steps-preserved : goal.steps-preserved
 steps-preserved g c =
     let i = c.steps.invariant in
     let p = c.write_head-in-Both.ensures in
     let q = c.write_out_and_advance.ensures in
-    let continues = rw p.order at c.in_ok-write_out_and_advance-in-Both.ensures.advances in
-    let iteration = pair_continues i.iteration c.in-Both.ensures c.tabs-tabs3.ensures p.wrote
-    c.in_ok-write_head-in-Both.ensures.advances q.written_out continues in
-    record {
-      iteration = iteration_as g.K.KeyOrder.order g.K.KeyOrder.key_of (q.order ∙ p.order) iteration;
-      order = q.order ∙ p.order ∙ i.order;
-    }
+    iteration_as g.K.KeyOrder.order g.K.KeyOrder.key_of (q.order ∙ p.order) i.order
+    (pair_continues i.iteration c.in-Both.ensures c.tabs-tabs3.ensures p.wrote
+    c.in_ok-write_head-in-Both.ensures.advances q.written_out
+    (rw p.order at c.in_ok-write_out_and_advance-in-Both.ensures.advances))
 
 pub steps-smaller-in-Continue-branch-2 : goal.steps-smaller-in-Continue-branch-2
 steps-smaller-in-Continue-branch-2 g c =

@@ -1,6 +1,6 @@
--- Each iteration preserves the invariant by one lemma of `Iteration` or `GroupIteration`, and each exit has the
+-- Each iteration preserves the invariant by one lemma of `Iteration`, and each exit has the
 -- postconditions by another.
-use Rattle.ptmerge.proofs.Common.{sym, ◌∙◌, err_from_is_err_and, join_job}
+use Rattle.ptmerge.proofs.Common.{refl, sym, ◌∙◌, err_from_is_err_and, join_job}
 use Rattle.ptmerge.proofs.JoinLemmas.Iteration.{read_group_pre, read_group_fails, read_group_continues}
 use Rattle.ptmerge.proofs.JoinLemmas.Iteration.{group_closed, group_there, write_pairs_group, write_pairs_pre}
 use Rattle.ptmerge.proofs.JoinLemmas.Iteration.{pair_fails, write_pairs_next, write_pairs_continues}
@@ -25,12 +25,8 @@ steps-init g c =
     (record { total = g.met.K.KeyOrder.total c.args.order; exact = g.met.K.KeyOrder.exact c.args.order })
     c.requires.keys c.requires.begins in
     let e = c.in_ok-merge.ensures in
-    let valid_cursors = rw e.order at e.valid_cursors in
-    record {
-      order = e.order;
-      iteration = iteration_as g.K.KeyOrder.order g.K.KeyOrder.key_of e.order
-          (begins a e.starts valid_cursors e.own_reader);
-    }
+    iteration_as g.K.KeyOrder.order g.K.KeyOrder.key_of e.order refl
+    (begins a e.starts (rw e.order at e.valid_cursors) e.own_reader)
 
 pub write_unpaired-requires-clause-status_is : goal.write_unpaired-requires-clause-status_is
 write_unpaired-requires-clause-status_is g c =
@@ -50,23 +46,17 @@ pub steps-preserved-in-Continue-branch-2 : goal.steps-preserved-in-Continue-bran
 steps-preserved-in-Continue-branch-2 g c =
     let i = c.steps.invariant in
     let p = c.write_unpaired.ensures in
-    let iteration = alone_continues i.iteration c.in-BetweenGroups.is c.in-First.ensures
-    p.wrote c.in_ok-write_unpaired-in-First.ensures.advances in
-    record {
-      order = p.order ∙ i.order;
-      iteration = iteration_as g.K.KeyOrder.order g.K.KeyOrder.key_of p.order iteration;
-    }
+    iteration_as g.K.KeyOrder.order g.K.KeyOrder.key_of p.order i.order
+    (alone_continues i.iteration c.in-BetweenGroups.is c.in-First.ensures
+    p.wrote c.in_ok-write_unpaired-in-First.ensures.advances)
 
 pub steps-preserved-in-Continue-branch-3 : goal.steps-preserved-in-Continue-branch-3
 steps-preserved-in-Continue-branch-3 g c =
     let i = c.steps.invariant in
     let p = c.write_unpaired-in-Second.ensures in
-    let iteration = alone_continues i.iteration c.in-BetweenGroups.is c.in-Second.ensures
-    p.wrote c.in_ok-write_unpaired-in-Second.ensures.advances in
-    record {
-      order = p.order ∙ i.order;
-      iteration = iteration_as g.K.KeyOrder.order g.K.KeyOrder.key_of p.order iteration;
-    }
+    iteration_as g.K.KeyOrder.order g.K.KeyOrder.key_of p.order i.order
+    (alone_continues i.iteration c.in-BetweenGroups.is c.in-Second.ensures
+    p.wrote c.in_ok-write_unpaired-in-Second.ensures.advances)
 
 pub steps-smaller-in-Continue-branch-2 : goal.steps-smaller-in-Continue-branch-2
 steps-smaller-in-Continue-branch-2 g c = let h = c.in_ok-write_unpaired-in-First.ensures.advances in
@@ -133,24 +123,18 @@ steps-preserved-then-not-has_same_key g c =
     let i = c.steps.invariant in
     let p = c.read_group_line.ensures in
     let ok = c.in_ok-end-in-ReadGroup.ensures in
-    let iteration = write_pairs_next i.iteration c.in-ReadGroup.is p.written_out ok.reads_line ok.continues
-    (sym c.has_same_key.ensures ∙ c.if-not-has_same_key.true) in
-    record {
-      order = p.order ∙ i.order;
-      iteration = iteration_as g.K.KeyOrder.order g.K.KeyOrder.key_of p.order iteration;
-    }
+    iteration_as g.K.KeyOrder.order g.K.KeyOrder.key_of p.order i.order
+    (write_pairs_next i.iteration c.in-ReadGroup.is p.written_out ok.reads_line ok.continues
+    (sym c.has_same_key.ensures ∙ c.if-not-has_same_key.true))
 
 pub steps-preserved-else-not-has_same_key : goal.steps-preserved-else-not-has_same_key
 steps-preserved-else-not-has_same_key g c =
     let i = c.steps.invariant in
     let p = c.read_group_line.ensures in
     let ok = c.in_ok-end-in-ReadGroup.ensures in
-    let iteration = read_group_continues i.iteration c.in-ReadGroup.is p.written_out ok.reads_line ok.continues
-    (sym c.has_same_key.ensures ∙ c.if-not-has_same_key.false) in
-    record {
-      order = p.order ∙ i.order;
-      iteration = iteration_as g.K.KeyOrder.order g.K.KeyOrder.key_of p.order iteration;
-    }
+    iteration_as g.K.KeyOrder.order g.K.KeyOrder.key_of p.order i.order
+    (read_group_continues i.iteration c.in-ReadGroup.is p.written_out ok.reads_line ok.continues
+    (sym c.has_same_key.ensures ∙ c.if-not-has_same_key.false))
 
 pub steps-smaller-else-not-has_same_key : goal.steps-smaller-else-not-has_same_key
 steps-smaller-else-not-has_same_key g c =
@@ -201,12 +185,8 @@ steps-preserved-then-not-has_same_key-2 g c =
     let continues =
     group_closed i.iteration c.in-WritePairs.is p.wrote
     c.in_ok-write_pairs-in-WritePairs.ensures.advances in
-    let iteration =
-    continues c.clear_group.ensures (sym c.has_same_key-in-WritePairs.ensures ∙ c.if-not-has_same_key-2.true) in
-    record {
-      order = p.order ∙ i.order;
-      iteration = iteration_as g.K.KeyOrder.order g.K.KeyOrder.key_of p.order iteration;
-    }
+    iteration_as g.K.KeyOrder.order g.K.KeyOrder.key_of p.order i.order
+    (continues c.clear_group.ensures (sym c.has_same_key-in-WritePairs.ensures ∙ c.if-not-has_same_key-2.true))
 
 pub steps-preserved : goal.steps-preserved
 steps-preserved g c =
@@ -214,8 +194,5 @@ steps-preserved g c =
     let p = c.write_pairs.ensures in
     let continues = write_pairs_continues i.iteration c.in-WritePairs.is p.wrote
     c.in_ok-write_pairs-in-WritePairs.ensures.advances in
-    record {
-      order = p.order ∙ i.order;
-      iteration = iteration_as g.K.KeyOrder.order g.K.KeyOrder.key_of p.order
-          (continues (sym c.has_same_key-in-WritePairs.ensures ∙ c.if-not-has_same_key-2.false));
-    }
+    iteration_as g.K.KeyOrder.order g.K.KeyOrder.key_of p.order i.order
+    (continues (sym c.has_same_key-in-WritePairs.ensures ∙ c.if-not-has_same_key-2.false))

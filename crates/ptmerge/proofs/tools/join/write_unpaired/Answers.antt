@@ -3,4 +3,5 @@ use Rattle.ptmerge.proofs.tools.join.write_unpaired.Goals as goal
 
 pub returns-clause-wrote : goal.returns-clause-wrote
 returns-clause-wrote g c = wrote_and_sent _ _ _ _ (c.in_ok-write_unpaired_entry.ensures.clean c.requires.joins.clean)
-    (rw (c.terminator.ensures, c.head-line.ensures) at c.write_unpaired_entry.ensures.wrote) c.write_out_and_advance.ensures.written_out
+    (rw (c.terminator.ensures, c.head-line.ensures) at c.write_unpaired_entry.ensures.wrote)
+    c.write_out_and_advance.ensures.written_out

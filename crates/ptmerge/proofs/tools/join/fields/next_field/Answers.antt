@@ -1,21 +1,19 @@
 -- A field of the rest of a line is a field of the line. An empty word between two blanks is skipped, and does not
 -- change the remaining fields.
-use Rattle.ptmerge.proofs.Common.{◌≡◌, ◌∷◌, [], None, Some, option_copied, subst, sym, ◌∙◌, MatchOption}
+use Rattle.ptmerge.proofs.Common.{◌≡◌, ◌∷◌, [], None, Some, option_copied, sym, ◌∙◌, MatchOption}
 use Rattle.ptmerge.proofs.Common.{slice_split, is_separator, remaining_fields}
-use Rattle.ptmerge.proofs.JoinLemmas.Fields.{IsRemainderOf, field_in, remaining_after, skip_empty_word}
+use Rattle.ptmerge.proofs.JoinLemmas.Fields.{field_in, remaining_after, skip_empty_word}
 use Rattle.ptmerge.proofs.tools.join.fields.next_field.Goals as goal
 
 pub returns-then-is_some-clause-is_piece : goal.returns-then-is_some-clause-is_piece
 returns-then-is_some-clause-is_piece c =
-    let ends =
-    subst (λ o. IsRemainderOf (option_copied c.args.line) (option_copied o)) c.in-Some.is c.pieces.invariant.ends in
+    let ends = rw c.in-Some.is at c.pieces.invariant.ends in
     field_in c.args.separator (option_copied c.args.line) (Some c.in-Some.bytes.now) c.first_piece.result.0.now
     (option_copied c.first_piece.result.1) ends c.first_piece.ensures.is_piece
 
 pub pieces-preserved : goal.pieces-preserved
 pieces-preserved c =
-    let ends =
-    subst (λ o. IsRemainderOf (option_copied c.args.line) (option_copied o)) c.in-Some.is c.pieces.invariant.ends in
+    let ends = rw c.in-Some.is at c.pieces.invariant.ends in
     let splits = slice_split (is_separator c.args.separator) in
     let field = c.first_piece.result.0.now in
     let none = sym c.is_some.ensures ∙ c.if-is_some.false in

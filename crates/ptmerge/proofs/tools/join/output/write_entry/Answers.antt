@@ -1,5 +1,5 @@
 -- A canonical line is its key and its other fields, so it is written unchanged.
-use Rattle.ptmerge.proofs.Common.{◌≡◌, List, [], ◌∷◌, ◌++◌, ℕ, Option, Result, append-nil, ap, refl, subst, sym, ◌∙◌}
+use Rattle.ptmerge.proofs.Common.{◌≡◌, List, [], ◌∷◌, ◌++◌, ℕ, Option, Result, append-nil, ap, refl, subst, ◌∙◌}
 use Rattle.ptmerge.proofs.Common.{First, Join, Output, PushPost, Second, entry_with_list, join_job, option_copied}
 use Rattle.ptmerge.proofs.Common.{push_past_failure}
 use Rattle.ptmerge.proofs.JoinLemmas.PartialWrite.{push_fails, then_pushes}
@@ -12,8 +12,7 @@ pushes_entry : {E : Type 0} {was is : Output} {r : Result (Unit {0}) E} (job : J
     {one one2 two two2 : Option (List ℕ)} → one2 ≡ one → two2 ≡ two → {bytes : List ℕ}
     → bytes ≡ entry_with_list job job.list k one two ++ end ∷ [] → PushPost was is bytes r
     → PushPost was is (entry_with_list job job.list k one2 two2 ++ end ∷ []) r
-pushes_entry {was = was} {is} {r} job k end first second same p = subst (λ (b : List ℕ). PushPost was is b r)
-    (same ∙ (λ i. entry_with_list job job.list k (sym first i) (sym second i) ++ end ∷ [])) p
+pushes_entry job k end first second same p = rw (first, second, ← same) p
 
 pub returns-in-None-Some-Some : goal.returns-in-None-Some-Some
 returns-in-None-Some-Some g c =

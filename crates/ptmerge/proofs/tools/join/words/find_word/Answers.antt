@@ -1,7 +1,6 @@
 -- The set bits are the words that were not passed, so the first run of them is the next word.
-use Rattle.ptmerge.proofs.Common.{arith, subst, sym, ℕ, bit_and, ◌+◌, IsFieldAt, None}
-use lib.Count.{count_trailing_zeros}
-use Rattle.ptmerge.proofs.JoinLemmas.Words.{WordsLeft, any_fits, none_left, word_found, word_passed, words_small}
+use Rattle.ptmerge.proofs.Common.{arith}
+use Rattle.ptmerge.proofs.JoinLemmas.Words.{any_fits, none_left, word_found, word_passed, words_small}
 use Rattle.ptmerge.proofs.JoinLemmas.Words.{words_start}
 use Rattle.ptmerge.proofs.tools.join.words.find_word.Goals as goal
 
@@ -20,9 +19,7 @@ after_first_run-words-requires c = (c.if-words-eq0.false, words_small c.requires
 
 pub loop-passed-preserved : goal.loop-passed-preserved
 loop-passed-preserved c =
-    subst (λ (x : ℕ). WordsLeft c.args.line.now (c.loop-passed._passed + 1) (bit_and c.loop-passed.words x))
-    (sym c.after_first_run-words.ensures)
-    (word_passed c.requires.short c.loop-passed.invariant c.if-words-eq0.false)
+    rw c.after_first_run-words.ensures (word_passed c.requires.short c.loop-passed.invariant c.if-words-eq0.false)
 
 pub returns-then-words-eq0-2 : goal.returns-then-words-eq0-2
 returns-then-words-eq0-2 c = none_left c.requires.short c.loop-passed.invariant c.args.number c.if-words-eq0-2.true
@@ -33,8 +30,6 @@ after_first_run-requires c = (c.if-words-eq0-2.false, words_small c.requires.sho
 
 pub returns : goal.returns
 returns c =
-    subst (λ (x : ℕ). IsFieldAt None c.args.number c.args.line.now
-    (record { start = count_trailing_zeros 64 c.loop-passed.words; end = count_trailing_zeros 64 x }))
-    (sym c.after_first_run.ensures)
-    (word_found c.requires.short c.loop-passed.invariant c.if-words-eq0-2.false c.args.number
+    rw c.after_first_run.ensures (word_found c.requires.short c.loop-passed.invariant c.if-words-eq0-2.false
+    c.args.number
     (omega (arith, c.loop-passed-test.false, c.loop-passed.auto._passed-end, c.saturating_sub-passed-end.ensures)))
