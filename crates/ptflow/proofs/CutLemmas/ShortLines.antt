@@ -107,10 +107,6 @@ module _ (selected : ℕ → Bool) where
         (bit (selected (index + 1))).1,
       )
 
-  pub shuffle_done : {count : ℕ} {row counts : List ℕ} → PickBegun 16 count row counts
-      → IsPieceShuffle selected (record { row = row; counts = counts })
-  shuffle_done begun = record { indices = cc; long = begun.long; lanes = begun.lanes; counts = begun.counted }
-
   -- no byte of a line after its first `start` bytes is selected
   pub none_later : {X : Type 0} {max_len start count : ℕ} (xs : List X)
       → ((index : ℕ) → start < index → index ≤ max_len → selected index ≡ false) → start ≤ count → count ≤ max_len

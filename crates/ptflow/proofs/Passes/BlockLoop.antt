@@ -4,15 +4,12 @@ use Rattle.ptflow.proofs.Common.{◌≡◌, ℕ, ◌+◌, ◌-◌, ◌≤◌, �
 use Rattle.ptflow.proofs.Common.{drop, refl, sym, ◌∙◌, ap, subst, arith, append_assoc, length-drop, false≢true}
 use Rattle.ptflow.proofs.Common.{append-nil, take_all, Reader, ReaderAdvance, AdvanceOk, IsDone, IsSound, HasReadCause}
 use Rattle.ptflow.proofs.Common.{IsPrefix, Output, PushEffect, Slots, advance_ok_trans, push_trans, ToolSpec, PassPre}
-use Rattle.ptflow.proofs.Common.{PassPost, Read, Write, OutputPart, OutputFailed, received_with, eqb, eqb-false}
-use Rattle.ptflow.specs.Private.Passes.BlockLoop.{HasRoom, IsBlockFilter}
+use Rattle.ptflow.proofs.Common.{PassPost, Read, Write, OutputPart, OutputFailed, received_with}
+use Rattle.ptflow.specs.Private.Passes.BlockLoop.{IsBlockFilter}
 use Rattle.ptflow.proofs.Passes.StepOutput.{failed_before}
 use Rattle.ptflow.proofs.Passes.Readers.{may_follow, advance_past}
 use Rattle.ptflow.proofs.Passes.Exits.{PassState, LaggedOutput, StoreBounds, store_unchanged, progress_none, pass_read}
 use Rattle.ptflow.proofs.Passes.Exits.{pass_write, pass_done, pass_unended}
-
-pub not_empty : (block : List ℕ) → eqb (length block) 0 ≡ false → 0 < length block
-not_empty block other = omega (arith, eqb-false (length block) 0 other)
 
 -- a counter is at most the number of bytes that were processed
 module _ {reader shown : Reader} {block : List ℕ} (advance_ok : AdvanceOk reader shown [])
@@ -20,13 +17,6 @@ module _ {reader shown : Reader} {block : List ℕ} (advance_ok : AdvanceOk read
     (few : counted ≤ reader.pulled - length reader.buffered) where
   counted_block : counted + length block ≤ shown.pulled
   counted_block = omega (arith, ap length buffered)
-
-  pub block_room : IsSound shown → HasRoom counted 0 (length block)
-  block_room is_sound =
-      record {
-        short = omega (arith, counted_block, is_sound.long advance_ok.fault);
-        small = omega (arith, is_sound.buffered, ap length buffered);
-      }
 
   pub counted_more : {new : Reader} {more : ℕ} → new ≡ record shown { buffered = drop (length block) shown.buffered }
       → more ≤ counted + length block → more ≤ new.pulled - length new.buffered

@@ -1,7 +1,7 @@
 -- Facts about readers and outputs that each engine starts from. Each follows from the records of one call.
-use Rattle.ptflow.proofs.Common.{◌≡◌, ℕ, ◌+◌, ◌<◌, ◌≤◌, ◌^◌, false, true, List, [], ◌++◌, None, length, take, drop}
-use Rattle.ptflow.proofs.Common.{refl, sym, ap, arith, length-drop, nil_from_length, Reader, ReaderAdvance, AdvanceOk}
-use Rattle.ptflow.proofs.Common.{IsDone, IsSound, remaining_bytes, budget, Slots, advance_ok_trans, prepend_known-nil}
+use Rattle.ptflow.proofs.Common.{◌≡◌, ℕ, ◌+◌, ◌<◌, ◌≤◌, false, true, List, [], ◌++◌, None, length, take, drop, refl}
+use Rattle.ptflow.proofs.Common.{sym, ap, arith, length-drop, nil_from_length, Reader, ReaderAdvance, AdvanceOk, IsDone}
+use Rattle.ptflow.proofs.Common.{IsSound, remaining_bytes, budget, Slots, advance_ok_trans, prepend_known-nil}
 use Rattle.ptflow.proofs.Common.{advance_ok_take, PassPre}
 
 -- nothing was read yet
@@ -54,24 +54,6 @@ advance_past {shown} count advance_ok buffered fits consumed =
     advance_ok_trans _ _ _ _ _ advance_ok
     (rw (ap (take count) buffered) at (advance_ok_take shown _ count advance_ok.fault
     (omega (arith, ap length buffered)) consumed))
-
--- a block that is not empty was consumed
-pub budget_of_block : {now shown new : Reader} {block : List ℕ} → AdvanceOk now shown [] → shown.buffered ≡ block
-    → length shown.buffered ≤ shown.pulled → (length block ≡ 0 → ⊥)
-    → new ≡ record shown { buffered = drop (length block) shown.buffered } → shown.pulled < 2 ^ 63
-    → budget new < budget now
-budget_of_block {shown} {block} advance_ok buffered count some consumed short =
-    omega (
-      arith,
-      advance_ok.reads.count,
-      count,
-      some,
-      ap length buffered,
-      short,
-      ap (λ r. r.pulled) consumed,
-      ap (λ r. length r.buffered) consumed,
-      length-drop (length block) shown.buffered,
-    )
 
 -- a line was read, and after it some of the next block
 pub budget_of_line : (old : Reader) {now shown new : Reader} (count : ℕ) → budget now < budget old

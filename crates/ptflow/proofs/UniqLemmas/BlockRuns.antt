@@ -4,9 +4,9 @@
 use Rattle.ptflow.proofs.Common.{◌≡◌, ℕ, ◌+◌, ◌-◌, ◌<◌, ◌≤◌, ◌&&◌, Bool, true, false, List, [], ◌∷◌, ◌++◌, Some, None}
 use Rattle.ptflow.proofs.Common.{Option, length, take, drop, refl, sym, subst, ◌∙◌, ap, arith, append_assoc}
 use Rattle.ptflow.proofs.Common.{length-append, common_steps, bytes_eq, nat_lt, slice_range, nat_tests, drop_split}
-use Rattle.ptflow.proofs.Common.{append-nil, take_at, drop_at, IsFirstByte, is_byte, Output, PushEffect, unlines}
-use Rattle.ptflow.proofs.Common.{complete_lines, IsLine, push_nothing, unlines_push, complete_lines_none, Uniq, Run}
-use Rattle.ptflow.proofs.Common.{key, is_same, output_of, run_of, current_run, runs_after, has_output, RunsWritten}
+use Rattle.ptflow.proofs.Common.{append-nil, length-drop, take_at, drop_at, IsFirstByte, is_byte, Output, PushEffect}
+use Rattle.ptflow.proofs.Common.{unlines, complete_lines, IsLine, push_nothing, unlines_push, complete_lines_none, Uniq}
+use Rattle.ptflow.proofs.Common.{Run, key, is_same, output_of, run_of, current_run, runs_after, has_output, RunsWritten}
 use Rattle.ptflow.proofs.Common.{RunsFailed, span_of, IsSpan, IsPending}
 use Rattle.ptlines.proofs.Consume.{length_range}
 use Rattle.ptflow.specs.Private.Uniq.BlockRuns.{EndRunPre, IsLineSpan, first_of}
@@ -59,12 +59,15 @@ module _ {end : ℕ} {block rest : List ℕ} {front : List (List ℕ)} (lies : B
     }
 
     -- the next line
-    module _ (from to : ℕ) (from_is : from ≡ length block - length rest) (to_is : to ≡ from + at + 1) where
+    module _ (from to : ℕ) (from_is : from ≡ to - at - 1) (to_is : to ≡ length block - length (drop (at + 1) rest)) where
+      starts : (from ≡ length block - length rest) × (to ≡ from + at + 1)
+      starts = omega (arith, front_size, length-drop (at + 1) rest, first.0.high)
+
       next_is : slice_range block from (to - 1) ≡ take at rest
-      next_is = let size : to - 1 - from ≡ at = omega arith in cc (front_drop)
+      next_is = let size : to - 1 - from ≡ at = omega (arith, starts) in cc (starts.0, front_drop)
 
       next_span : IsLineSpan end block (record { from = from; to = to })
-      next_span = grind (arith, common_steps)
+      next_span = let (here, there) = starts in grind (arith, common_steps)
 
 -- ---- deferred output
 
@@ -275,7 +278,7 @@ module _ {job : Uniq} {first block rest : List ℕ} {start count : ℕ} {line : 
 
       pub runs_loop_next : {is' : Output} {now : Span}
           → IsPending (span_of block pending ++ run_text job run) block now is is'
-          → {from to : ℕ} → from ≡ length block - length rest → to ≡ from + at + 1
+          → {from to : ℕ} → from ≡ to - at - 1 → to ≡ length block - length (drop (at + 1) rest)
           → RunsInvariant job first block (drop (at + 1) rest) start 1 (Some (record { from = from; to = to })) now next
           was is'
       runs_loop_next waits {from} {to} from_is to_is =
