@@ -1,13 +1,13 @@
 -- The current run of `uniq`, for one line and for the lines of a block. The items of the tool are runs: a line of
 -- another key ends the current run, whose output is known then.
 use Rattle.ptflow.proofs.Common.{◌≡◌, ℕ, ◌<◌, false, List, [], ◌∷◌, ◌++◌, None, Some, length, sym, ◌∙◌, common_steps}
-use Rattle.ptflow.proofs.Common.{ap, subst, arith, swap, is_some, append-nil, get_or-set_other, IsFirstByte, is_byte}
+use Rattle.ptflow.proofs.Common.{ap, arith, swap, is_some, append-nil, get_or-set_other, IsFirstByte, is_byte}
 use Rattle.ptflow.proofs.Common.{known_lines, Slots, line, complete_lines, line_if_not_found, complete_lines_none, Uniq}
 use Rattle.ptflow.proofs.Common.{Option, runs, output_of, uniq_tool, IsLineFilter, Output, first_line, current_run_of}
 use Rattle.ptflow.proofs.Common.{run_of, count_of, current_run, runs_after, run_output, Result, refl}
 use Rattle.ptlines.specs.Outputs.{PushPost}
 use Rattle.ptflow.specs.declared.tools.uniq.CurrentRun.{CurrentRun}
-use Rattle.ptflow.proofs.UniqLemmas.RunsFrom.{entries-append, current_run_is, init_current}
+use Rattle.ptflow.proofs.UniqLemmas.RunsFrom.{entries-append, init_current}
 
 -- after the first two slots were swapped
 pub swapped_first : (store : Slots) {after : Slots} → 1 < length store.lines
@@ -19,8 +19,7 @@ pub run_pushed : {E : Type 0} (job : Uniq) (count : ℕ) {bytes first after : Li
     {result : Result (Unit {0}) E} → bytes ≡ first → after ≡ job.terminator ∷ []
     → PushPost was is (run_output job.show count (bytes ++ after)) result
     → PushPost was is (output_of job (current_run (run_of first count))) result
-run_pushed job count {first} {was} {is} {result} bytes_are after_is =
-    subst (λ bytes. PushPost was is bytes result) (cc (current_run_is job (run_of first count)))
+run_pushed job count {first} {was} {is} {result} bytes_are after_is = grind (arith, common_steps)
 
 -- `uniq` is a line tool: the first of two slots may hold the first line of the current run, and the decided output
 -- leaves out that run.

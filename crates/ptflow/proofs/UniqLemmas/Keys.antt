@@ -105,9 +105,6 @@ blanks_later [] (suc at) high none = refl
 blanks_later (b ∷ bytes) (suc at) high none = other_here b bytes (none 0 (omega arith))
     ∙ blanks_later bytes at (omega arith) (λ k lt. none (suc k) (omega arith))
 
-neither : (b : ℕ) → ((b == 32) ≡ true → ⊥) → ((b == 9) ≡ true → ⊥) → is_blank b ≡ true → ⊥
-neither b space tab = grind arith
-
 is_space : (b : ℕ) → (b == 32) ≡ true → is_blank b ≡ true
 is_space b e = cc
 
@@ -118,8 +115,7 @@ is_tab b e = grind arith
 module _ (line : List ℕ) (a b : ℕ) (no_space : Nowhere (Passes (is_byte 32) line) 0 a)
     (no_tab : Nowhere (Passes (is_byte 9) line) 0 b) where
   none_here : (k : ℕ) → k < min a b → is_blank (get_or line k 0) ≡ true → ⊥
-  none_here k lt = neither (get_or line k 0) (no_space k (omega arith) (omega arith))
-      (no_tab k (omega arith) (omega arith))
+  none_here k lt = grind (arith, common_steps)
 
   pub both_later : min a b ≤ length line → after_nonblanks line ≡ after_nonblanks (drop (min a b) line)
   both_later high = blanks_later line _ high none_here
