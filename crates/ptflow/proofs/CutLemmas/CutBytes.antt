@@ -117,7 +117,8 @@ pub cut_next : (end : ℕ) (list : List Interval) (line_offset now next : ℕ) (
     {is : List ℕ} (bytes : List ℕ) → ExtendsCut end list line_offset from old now rest was → is ≡ was ++ bytes
     → ((more : List ℕ) → cut_list_from end list now (rest ++ more) ≡ bytes
     ++ cut_list_from end list next (rest' ++ more)) → ExtendsCut end list line_offset from old next rest' is
-cut_next end list line_offset now next from rest rest' old was bytes cut copied on start block so_far more = grind (arith, common_steps)
+cut_next end list line_offset now next from rest rest' old was bytes cut copied on start block so_far more =
+    grind (arith, common_steps)
 
 module _ (job : Cut) (by_bytes : job.fields ≡ false) where
   abbrev end : ℕ

@@ -59,7 +59,8 @@ module _ {end : ℕ} {block rest : List ℕ} {front : List (List ℕ)} (lies : B
     }
 
     -- the next line
-    module _ (from to : ℕ) (from_is : from ≡ to - at - 1) (to_is : to ≡ length block - length (drop (at + 1) rest)) where
+    module _ (from to : ℕ) (from_is : from ≡ to - at - 1)
+        (to_is : to ≡ length block - length (drop (at + 1) rest)) where
       starts : (from ≡ length block - length rest) × (to ≡ from + at + 1)
       starts = omega (arith, front_size, length-drop (at + 1) rest, first.0.high)
 
@@ -196,7 +197,10 @@ module _ {job : Uniq} {before after : Run} {ls : List (List ℕ)} {passed : List
       passed = passed;
       wrote = wrote;
       fault = fault;
-      is_prefix = λ more. (runs_after job after (later ++ more), cc (append_assoc ls later more, steps.on (later ++ more)));
+      is_prefix = λ more. (
+        runs_after job after (later ++ more),
+        cc (append_assoc ls later more, steps.on (later ++ more)),
+      );
     }
 
 -- ---- between two lines of a block
