@@ -22,13 +22,7 @@ module _ (end : ℕ) (selected : ℕ → Bool) where
   pub rest_line : (line_offset : ℕ) (line rest : List ℕ) → IsLine end line
       → cut_bytes_from end selected line_offset (line ++ end ∷ rest)
       ≡ (select_from selected (line_offset + 1) line ++ end ∷ []) ++ cut_bytes_from end selected 0 rest
-  rest_line line_offset line rest whole =
-      cc (
-        lines_cons end line rest whole,
-        append_assoc (select_from selected (line_offset + 1) line) (end ∷ [])
-            (cut_text (lines end rest)),
-        rest_of_all (lines end rest),
-      )
+  rest_line line_offset line rest whole = grind (arith, common_steps, lines_cons, append_assoc, rest_of_all)
 
   -- one byte of a line
   rest_onto : (line_offset b : ℕ) (ls : List (List ℕ))
@@ -124,7 +118,7 @@ pub cut_next : (end : ℕ) (list : List Interval) (line_offset now next : ℕ) (
     → ((more : List ℕ) → cut_list_from end list now (rest ++ more) ≡ bytes
     ++ cut_list_from end list next (rest' ++ more)) → ExtendsCut end list line_offset from old next rest' is
 cut_next end list line_offset now next from rest rest' old was bytes cut copied on start block so_far more =
-    cc (cut start block so_far more, on more, append_assoc was bytes (cut_list_from end list next (rest' ++ more)))
+    grind (arith, common_steps)
 
 module _ (job : Cut) (by_bytes : job.fields ≡ false) where
   abbrev end : ℕ

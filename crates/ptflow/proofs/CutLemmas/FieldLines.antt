@@ -1,16 +1,15 @@
 -- The output of `cut` by fields for a line, with or without the delimiter, and for the first lines of a block: the
 -- fields of a line with the delimiter, and lines without it unchanged, or nothing with `-s`. No state is carried, so
 -- the output for two lists of lines is the output for each, one after the other.
-use Rattle.ptflow.proofs.Common.{◌≡◌, ℕ, ◌==◌, true, false, arith, List, [], ◌∷◌, ◌++◌, refl, ◌∙◌, ap, Option, None}
-use Rattle.ptflow.proofs.Common.{Some, is_some, flat_map, list_any, list_any_at, IsFirstByte, is_byte}
-use Rattle.ptflow.proofs.Common.{line_if_not_found, append-nil, flat_map-append, unlines, IsLine, byte_ne}
-use Rattle.ptflow.proofs.Common.{unlines-append, Cut, is_field_delimiter, cut_fields, cut_line, cut_lines, cut_tool}
-use Rattle.ptflow.proofs.Common.{cut_fields_from, IsPrefix, known_lines, IsLineFilter, zero, suc, ◌+◌, ◌-◌, ◌<◌, ◌≤◌}
-use Rattle.ptflow.proofs.Common.{◌⊎◌, inl, inr, length, take, drop, common_steps, get_or, sym, ap₂, subst, append_assoc}
-use Rattle.ptflow.proofs.Common.{get_or-take, take-append-drop, unwrap_or, take-take, take_more, take_all}
-use Rattle.ptflow.proofs.Common.{length-take-le, complete_lines, AreLines, line_before_terminator, take_with_terminator}
-use Rattle.ptflow.proofs.Common.{drop_at_terminator, complete_lines_cons, the_lines, the_complete_lines, CopyLinesPost}
-use Rattle.ptflow.proofs.Common.{lines, the_lines_of_parts, CutOfParts}
+use Rattle.ptflow.proofs.Common.{◌≡◌, ℕ, ◌==◌, true, false, arith, List, [], ◌∷◌, ◌++◌, refl, ◌∙◌, Option, None, Some}
+use Rattle.ptflow.proofs.Common.{is_some, flat_map, list_any, list_any_at, IsFirstByte, is_byte, line_if_not_found}
+use Rattle.ptflow.proofs.Common.{append-nil, unlines, IsLine, byte_ne, unlines-append, Cut, is_field_delimiter}
+use Rattle.ptflow.proofs.Common.{cut_fields, cut_line, cut_lines, cut_tool, cut_fields_from, IsPrefix, known_lines}
+use Rattle.ptflow.proofs.Common.{IsLineFilter, zero, suc, ◌+◌, ◌-◌, ◌<◌, ◌≤◌, ◌⊎◌, inl, inr, length, take, drop}
+use Rattle.ptflow.proofs.Common.{common_steps, get_or, sym, ap₂, subst, append_assoc, get_or-take, take-append-drop}
+use Rattle.ptflow.proofs.Common.{unwrap_or, take-take, take_all, length-take-le, complete_lines, AreLines}
+use Rattle.ptflow.proofs.Common.{line_before_terminator, take_with_terminator, drop_at_terminator, complete_lines_cons}
+use Rattle.ptflow.proofs.Common.{the_lines, the_complete_lines, CopyLinesPost, the_lines_of_parts, CutOfParts}
 use Rattle.ptflow.proofs.Passes.Lines.{ended_next, line_split}
 
 pub none_of : (d : ℕ) (line : List ℕ) → IsLine d line → list_any (λ b. b == d) line ≡ false
@@ -40,15 +39,11 @@ module _ (job : Cut) (line : List ℕ) where
   line_written bytes is = cc (append-nil (cut_line job line), append-nil (bytes ++ job.terminator ∷ []))
 
   pub line_dropped : cut_line job line ≡ [] → cut_lines job (line ∷ []) ≡ []
-  line_dropped is = ap (unlines job.terminator) (append-nil (cut_line job line) ∙ is)
+  line_dropped is = cc
 
 module _ (job : Cut) where
   pub cut_lines-append : (xs ys : List (List ℕ)) → cut_lines job (xs ++ ys) ≡ cut_lines job xs ++ cut_lines job ys
-  cut_lines-append xs ys = cc (
-    flat_map-append (cut_line job) xs ys,
-    unlines-append job.terminator (flat_map (cut_line job) xs)
-        (flat_map (cut_line job) ys),
-  )
+  cut_lines-append xs ys = grind (arith, common_steps)
 
   -- all output that was pushed is decided
   cut_sure : (ls : List (List ℕ)) (pushed : List ℕ) → cut_lines job (ls ++ []) ≡ pushed ++ cut_lines job []
@@ -151,9 +146,7 @@ module _ (job : Cut) (by_fields : job.fields ≡ true) {end : ℕ} (same : end �
     front = complete_lines end (take size bytes)
 
     is_ended : take size bytes ≡ take (size - 1) bytes ++ end ∷ []
-    is_ended =
-        let whole : size - 1 + 1 ≡ size = omega arith in
-        cc (take_more bytes (size - 1) 0 (omega arith))
+    is_ended = grind (arith, common_steps)
 
     texts : unlines end front ≡ take size bytes
     texts = cc (is_ended, text_of_ended end (take (size - 1) bytes))
@@ -214,8 +207,4 @@ first_within d bytes (Some at) to first lt le = (
 
 -- a text that is cut after a line
 pub cut_of_parts : CutOfParts
-cut_of_parts job a b whole = cc (
-  the_lines_of_parts job.terminator a b whole,
-  cut_lines-append job (lines job.terminator a)
-      (lines job.terminator b),
-)
+cut_of_parts job a b whole = grind (arith, common_steps, the_lines_of_parts, cut_lines-append)

@@ -74,7 +74,8 @@ module _ (d : ℕ) (all : List Interval) (line : List ℕ) (cursor : FieldCursor
       pub in_order : r.first ≤ r.last
       in_order = apart.1
 
-      module _ {from : ℕ} (near : cursor.at ≤ from) (s : IsFieldOffset d skip (drop cursor.at line) (from - cursor.at)) where
+      module _ {from : ℕ} (near : cursor.at ≤ from)
+          (s : IsFieldOffset d skip (drop cursor.at line) (from - cursor.at)) where
         starts : IsFieldOffset d (cursor.passed + skip) line from
         starts = let is : cursor.at + (from - cursor.at) ≡ from = omega (arith, near) in
             rw is at (offset_add d line w.offset fits s)
@@ -154,7 +155,8 @@ module _ (d : ℕ) (all : List Interval) (line : List ℕ) (cursor : FieldCursor
                 let whole : (1 - sep) + ((at - from - 1) + sep) ≡ at - from = omega (arith, some) in
                 let none : 1 - min (cursor.index + 1) 1 ≡ 0 = omega arith in
                 let long : 1 - sep ≤ length (prefixed_fields d front) =
-                omega (arith, some, ap length (sym p.front), length-take-le (at - from) (d ∷ rest) (omega (arith, p.fits))) in
+                omega
+                (arith, some, ap length (sym p.front), length-take-le (at - from) (d ∷ rest) (omega (arith, p.fits))) in
                 cc (
                   sep_drop,
                   p.front,

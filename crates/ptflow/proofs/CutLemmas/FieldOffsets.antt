@@ -57,13 +57,18 @@ module _ (d : ℕ) where
         record {
           fits = omega arith;
           some = omega arith;
-          front = cc (take_all (length line + 1) (d ∷ line) all, take_all n (fields d line) few, prefixed_of_fields line);
+          front = cc (
+            take_all (length line + 1) (d ∷ line) all,
+            take_all n (fields d line) few,
+            prefixed_of_fields line,
+          );
           back = cc (drop_all (length line + 1) (d ∷ line) all, drop_all n (fields d line) few);
           later = λ fits. absurd (omega (arith, fits));
         }
 
     -- after the delimiter that comes after n - 1 others
-    pub offset_after_nth : {n : ℕ} (at : ℕ) → 0 < n → IsNth (is_byte d) 0 (n - 1) line at → IsFieldOffset d n line (at + 1)
+    pub offset_after_nth : {n : ℕ} (at : ℕ) → 0 < n → IsNth (is_byte d) 0 (n - 1) line at
+        → IsFieldOffset d n line (at + 1)
     offset_after_nth {n} at some (within, passes, before) =
         let xs = take at line in
         let ys = drop (at + 1) line in

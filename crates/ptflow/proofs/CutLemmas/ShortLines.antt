@@ -1,12 +1,12 @@
 -- The shuffles of `cut`. A row has the selected indices in order, so a shuffle moves the selected bytes of 16 bytes to
 -- the front; the counts are how many of them a piece of each length has. A line is cut piece by piece.
-use Rattle.ptflow.proofs.Common.{◌≡◌, ℕ, zero, suc, ◌+◌, ◌-◌, ◌<◌, ◌≤◌, Bool, true, false, cond, List, [], ◌∷◌, ◌++◌}
-use Rattle.ptflow.proofs.Common.{map, length, take, drop, set, ⊎_elim, ◌&&◌, get_or, length-append, append_assoc, refl}
-use Rattle.ptflow.proofs.Common.{sym, ◌∙◌, ap, arith, w8, All, nat_le, false≢true, range_with_len, list_all, nat_tests}
-use Rattle.ptflow.proofs.Common.{take-add, pick_l, Each1, Each1-from_get_or, swz_l, pick_l-range_with_len, take_more}
-use Rattle.ptflow.proofs.Common.{take_at, drop_at, take-map, take-take, take-append-le, take_all, take_more_set}
-use Rattle.ptflow.proofs.Common.{length-take-le, append-nil, All-set, length-range_with_len, select_from, is_selected}
-use Rattle.ptflow.proofs.Common.{Interval, cut_piece, cases_eq, put_chunk, length-drop, length-swz_l}
+use Rattle.ptflow.proofs.Common.{common_steps, ◌≡◌, ℕ, zero, suc, ◌+◌, ◌-◌, ◌<◌, ◌≤◌, Bool, true, false, cond, List, []}
+use Rattle.ptflow.proofs.Common.{◌∷◌, ◌++◌, map, length, take, drop, set, ⊎_elim, ◌&&◌, get_or, length-append}
+use Rattle.ptflow.proofs.Common.{append_assoc, refl, sym, ◌∙◌, ap, arith, w8, All, nat_le, false≢true, range_with_len}
+use Rattle.ptflow.proofs.Common.{list_all, nat_tests, take-add, pick_l, Each1, Each1-from_get_or, swz_l}
+use Rattle.ptflow.proofs.Common.{pick_l-range_with_len, take-map, take-take, take-append-le, take_all, length-take-le}
+use Rattle.ptflow.proofs.Common.{append-nil, All-set, length-range_with_len, select_from, is_selected, Interval}
+use Rattle.ptflow.proofs.Common.{cut_piece, cases_eq, put_chunk, length-drop, length-swz_l}
 use Rattle.std.proofs.Common.{get_or-set_same, get_or-set_other, length-set}
 use Rattle.ptflow.proofs.Vectors.Select.{above, select_none}
 use mir.Val.{bool_byte}
@@ -106,10 +106,6 @@ module _ (selected : ℕ → Bool) where
             (cond (selected (index + 1)) (index ∷ []) []),
         (bit (selected (index + 1))).1,
       )
-
-  pub shuffle_done : {count : ℕ} {row counts : List ℕ} → PickBegun 16 count row counts
-      → IsPieceShuffle selected (record { row = row; counts = counts })
-  shuffle_done begun = record { indices = cc; long = begun.long; lanes = begun.lanes; counts = begun.counted }
 
   -- no byte of a line after its first `start` bytes is selected
   pub none_later : {X : Type 0} {max_len start count : ℕ} (xs : List X)
@@ -224,16 +220,4 @@ pub line_copied : (list : List Interval) {before count : ℕ} (end : ℕ) (bytes
     → take end into ≡ was ++ select_from (is_selected list) 1 (take count bytes)
     → take (end + 1) (set into end (get_or bytes count 0)) ≡ was
     ++ cut_piece list before count (take (count + 1) bytes)
-line_copied list {count} end bytes was into none within room put =
-    let x = get_or bytes count 0 in
-    let selected = is_selected list in
-    let front = take count bytes in
-    let long : length front ≡ count = length-take-le count bytes (omega arith) in
-    let more : take (count + 1) bytes ≡ front ++ x ∷ [] = take_more bytes count 0 within in
-    cc (
-      take_more_set into end x room,
-      append_assoc was (select_from selected 1 front) (x ∷ []),
-      take_at front (x ∷ [])
-          count long,
-      drop_at front (x ∷ []) count long,
-    )
+line_copied list {count} end bytes was into none within room put = grind (arith, common_steps)

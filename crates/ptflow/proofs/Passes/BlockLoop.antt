@@ -1,18 +1,15 @@
 -- A tool that works block by block. The output of each block is pushed before the next is read, so the input with no
 -- output yet is in the reader's buffer.
-use Rattle.ptflow.proofs.Common.{◌≡◌, ℕ, ◌+◌, ◌-◌, ◌≤◌, ◌<◌, ◌^◌, true, false, List, [], ◌++◌, None, Ok, Err, length}
-use Rattle.ptflow.proofs.Common.{drop, refl, sym, ◌∙◌, ap, subst, arith, append_assoc, length-drop, false≢true}
-use Rattle.ptflow.proofs.Common.{append-nil, take_all, Reader, ReaderAdvance, AdvanceOk, IsDone, IsSound, HasReadCause}
-use Rattle.ptflow.proofs.Common.{IsPrefix, Output, PushEffect, Slots, advance_ok_trans, push_trans, ToolSpec, PassPre}
-use Rattle.ptflow.proofs.Common.{PassPost, Read, Write, OutputPart, OutputFailed, received_with, eqb, eqb-false}
-use Rattle.ptflow.specs.Private.Passes.BlockLoop.{HasRoom, IsBlockFilter}
+use Rattle.ptflow.proofs.Common.{common_steps, ◌≡◌, ℕ, ◌+◌, ◌-◌, ◌≤◌, ◌<◌, ◌^◌, true, false, List, [], ◌++◌, None, Ok}
+use Rattle.ptflow.proofs.Common.{Err, length, drop, refl, sym, ◌∙◌, ap, subst, arith, false≢true, append-nil, take_all}
+use Rattle.ptflow.proofs.Common.{Reader, ReaderAdvance, AdvanceOk, IsDone, IsSound, HasReadCause, IsPrefix, Output}
+use Rattle.ptflow.proofs.Common.{PushEffect, Slots, advance_ok_trans, push_trans, ToolSpec, PassPre, PassPost, Read}
+use Rattle.ptflow.proofs.Common.{Write, OutputFailed, received_with}
+use Rattle.ptflow.specs.Private.Passes.BlockLoop.{IsBlockFilter}
 use Rattle.ptflow.proofs.Passes.StepOutput.{failed_before}
-use Rattle.ptflow.proofs.Passes.Readers.{may_follow, advance_past}
-use Rattle.ptflow.proofs.Passes.Exits.{PassState, LaggedOutput, StoreBounds, store_unchanged, progress_none, pass_read}
+use Rattle.ptflow.proofs.Passes.Readers.{advance_past}
+use Rattle.ptflow.proofs.Passes.Exits.{Progress, PassState, LaggedOutput, StoreBounds, store_unchanged, pass_read}
 use Rattle.ptflow.proofs.Passes.Exits.{pass_write, pass_done, pass_unended}
-
-pub not_empty : (block : List ℕ) → eqb (length block) 0 ≡ false → 0 < length block
-not_empty block other = omega (arith, eqb-false (length block) 0 other)
 
 -- a counter is at most the number of bytes that were processed
 module _ {reader shown : Reader} {block : List ℕ} (advance_ok : AdvanceOk reader shown [])
@@ -21,82 +18,47 @@ module _ {reader shown : Reader} {block : List ℕ} (advance_ok : AdvanceOk read
   counted_block : counted + length block ≤ shown.pulled
   counted_block = omega (arith, ap length buffered)
 
-  pub block_room : IsSound shown → HasRoom counted 0 (length block)
-  block_room is_sound =
-      record {
-        short = omega (arith, counted_block, is_sound.long advance_ok.fault);
-        small = omega (arith, is_sound.buffered, ap length buffered);
-      }
-
   pub counted_more : {new : Reader} {more : ℕ} → new ≡ record shown { buffered = drop (length block) shown.buffered }
       → more ≤ counted + length block → more ≤ new.pulled - length new.buffered
-  counted_more consumed least =
-      omega (
-        arith,
-        least,
-        counted_block,
-        ap (λ r. r.pulled) consumed,
-        ap (λ r. length r.buffered) consumed,
-        length-drop (length block) shown.buffered,
-        ap length buffered,
-      )
+  counted_more consumed least = grind (arith, common_steps)
 
-unfoldable pub pass_state_starts : {X : Type 0} {rest_from : X → List ℕ → List ℕ} {start : X} {old : Reader}
-    {was : Output}
-    → old.fault ≡ None → was.write_failed ≡ false → PassState rest_from start start old old was was
-pass_state_starts {old} {was} readable clean =
-    record { given = []; pushed = []; reached = progress_none old was readable clean; on = λ rest may. refl }
-
-module _ {X : Type 0} {rest_from : X → List ℕ → List ℕ} {start : X} {now : X} {old reader shown : Reader}
-    {block : List ℕ} {was is : Output}
-    (midway : PassState rest_from start now old reader was is) (advance_ok : AdvanceOk reader shown [])
-    (buffered : shown.buffered ≡ block) where
-  -- the output of the block was pushed, and the block consumed
-  unfoldable pub pass_state_more : {next : X} {new : Reader} {is' : Output}
-      → new ≡ record shown { buffered = drop (length block) shown.buffered }
-      → OutputPart rest_from now next block is is' → PassState rest_from start next old new was is'
-  pass_state_more {next} {new} consumed part = record {
-    given = midway.given ++ block;
-    pushed = midway.pushed ++ part.pushed;
-    reached = record {
-      advance_ok = advance_ok_trans _ _ _ _ _ midway.reached.advance_ok whole;
-      wrote = push_trans _ _ _ _ _ midway.reached.clean midway.reached.wrote part.wrote;
-      clean = part.clean;
-    };
-    on = λ rest may.
-        cc (
-          append_assoc midway.given block rest,
-          midway.on (block ++ rest) (may_follow _ _ _ rest whole.reads may),
-          part.on rest,
-          append_assoc midway.pushed part.pushed (rest_from next rest),
-        );
-  }
-    where
-      whole : AdvanceOk reader new block
-      whole = rw (take_all (length block) block (omega arith)) at
-          (advance_past (length block) advance_ok buffered (omega arith) consumed)
+-- the output of a block was pushed, and the block consumed
+pub block_taken : {old reader shown new : Reader} {was is is' : Output} {given pushed block bytes : List ℕ}
+    → Progress old reader was is given pushed → AdvanceOk reader shown [] → shown.buffered ≡ block
+    → new ≡ record shown { buffered = drop (length block) shown.buffered } → PushEffect is is' bytes
+    → is'.write_failed ≡ false → Progress old new was is' (given ++ block) (pushed ++ bytes)
+block_taken {block} reached advance_ok buffered consumed wrote clean = record {
+  advance_ok = advance_ok_trans _ _ _ _ _ reached.advance_ok
+      (rw (take_all (length block) block (omega arith)) at
+      (advance_past (length block) advance_ok buffered (omega arith) consumed));
+  wrote = push_trans _ _ _ _ _ reached.clean reached.wrote wrote;
+  clean = clean;
+}
 
 module _ {X : Type 0} {tool : ToolSpec} {rest_from : X → List ℕ → List ℕ} {IsUnchanged : X → X → Type 0} {start : X}
     (block_filter : IsBlockFilter tool rest_from IsUnchanged start)
-    {now : X} {old reader new : Reader} {was is : Output} {store : Slots}
-    (midway : PassState rest_from start now old reader was is) (ready : PassPre old store) (sound : IsSound reader)
+    {now : X} {old reader new : Reader} {was is : Output} {store : Slots} {given pushed : List ℕ}
+    (reached : Progress old reader was is given pushed) (ready : PassPre old store) (sound : IsSound reader)
     (reads : ReaderAdvance reader new [])
     (is_sound : IsSound new) (holds : IsUnchanged start start → IsUnchanged start now)
-    (all : (rest : List ℕ) → rest_from start (midway.given ++ rest) ≡ midway.pushed ++ rest_from now rest) where
+    (all : (rest : List ℕ) → rest_from start (given ++ rest) ≡ pushed ++ rest_from now rest) where
+  abbrev midway : PassState rest_from start now old reader was is
+  midway = record { given = given; pushed = pushed; reached = reached; on = λ rest may. all rest }
+
   -- the output that was pushed before this block
-  processing : LaggedOutput tool (received_with (midway.given ++ []) new) midway.pushed
+  processing : LaggedOutput tool (received_with (given ++ []) new) pushed
   processing = record {
     before = λ u. record {
-      earlier = record { bytes = midway.given; eof = false };
+      earlier = record { bytes = given; eof = false };
       last = new.buffered;
-      split = cc (append-nil midway.given);
+      split = cc (append-nil given);
       short = omega arith;
       eof = λ never. absurd (false≢true never);
     };
-    begins = block_filter.decided midway.given midway.pushed now (holds block_filter.holds) all;
+    begins = block_filter.decided given pushed now (holds block_filter.holds) all;
   }
 
-  stored : StoreBounds tool store store (received_with (midway.given ++ []) new)
+  stored : StoreBounds tool store store (received_with (given ++ []) new)
   stored = store_unchanged block_filter.slots
 
   pub block_read : HasReadCause reader new → PassPost tool old new was is store store (Err (Read 0))
@@ -104,15 +66,15 @@ module _ {X : Type 0} {tool : ToolSpec} {rest_from : X → List ℕ → List ℕ
       pass_read block_filter.text midway ready sound reads stored processing cause ready.not_denied decided
     where
       decided : new.buffered ≡ [] → new.eof ≡ false
-          → IsPrefix (tool.decided (received_with (midway.given ++ []) new)) midway.pushed
+          → IsPrefix (tool.decided (received_with (given ++ []) new)) pushed
       decided empty going =
-          subst (λ g. IsPrefix (tool.decided g) midway.pushed) (λ i. record {
+          subst (λ g. IsPrefix (tool.decided g) pushed) (λ i. record {
             bytes =
-                (sym (append-nil midway.given) ∙ sym (append-nil (midway.given ++ []))
-                ∙ ap (◌++◌ (midway.given ++ [])) (sym empty)) i;
+                (sym (append-nil given) ∙ sym (append-nil (given ++ []))
+                ∙ ap (◌++◌ (given ++ [])) (sym empty)) i;
             eof = sym going i;
           })
-          (block_filter.decided midway.given midway.pushed now (holds block_filter.holds) all)
+          (block_filter.decided given pushed now (holds block_filter.holds) all)
 
   -- a write failed at the block
   pub block_write : {is' : Output} {block : List ℕ} → new.buffered ≡ block → OutputFailed rest_from now block is is'

@@ -9,6 +9,8 @@ use Rattle.ptflow.proofs.Common.{HasReadCause, Received, IsPrefix, IsConsistent,
 use Rattle.ptflow.proofs.Common.{received_with, has_received, has_received_set, advance_trans, push_nothing, push_trans}
 use Rattle.ptflow.proofs.Common.{ToolSpec, PassPre, PassOutcome, AddedSlots, PassPost, StorelessPost, ProcessLag}
 use Rattle.ptflow.proofs.Common.{BoundedLag, bounded_lag_now, bounded_lag_after, FlowFault, Read, Write, Memory}
+use Rattle.std.specs.Prelude.{IsErrAnd}
+use Rattle.ptflow.proofs.Passes.StepOutput.{returned_err}
 use Rattle.ptflow.proofs.Passes.Readers.{advance_none, never_failed, stays_at_eof}
 
 -- these bytes were read, and these pushed
@@ -41,17 +43,6 @@ pub record PassState {X : Type 0} (rest_from : X → List ℕ → List ℕ) (sta
   pub on : (rest : List ℕ) → (IsDone reader → rest ≡ [])
       → rest_from start (given ++ rest) ≡ pushed ++ rest_from now rest
 
-abbrev pub pass_state_flushed : {X : Type 0} {rest_from : X → List ℕ → List ℕ} {start now : X} {old reader : Reader}
-    {was is is' : Output}
-    → PassState rest_from start now old reader was is → PushEffect is is' [] → is'.write_failed ≡ false
-    → PassState rest_from start now old reader was is'
-pass_state_flushed midway wrote clean = record {
-  given = midway.given;
-  pushed = midway.pushed;
-  reached = progress_flushed midway.reached wrote clean;
-  on = midway.on;
-}
-
 -- the output that was decided two blocks earlier, or less, was pushed
 abbrev pub LaggedOutput : ToolSpec → Received → List ℕ → Type 0
 LaggedOutput tool came pushed = ProcessLag {I = Unit {0}} (λ given. tool.decided (given tt)) (λ u. came) pushed
@@ -72,6 +63,13 @@ store_unchanged none = record {
   room = omega (arith, none);
   keeps_store = λ h. refl;
 }
+
+-- `?` returns that a write failed
+pub by_write : {A : Type 0} {tool : ToolSpec} {old new : Reader} {was is : Output} {before store : Slots}
+    {result : Result (Unit {0}) FlowFault}
+    → A × IsErrAnd result (λ fault. fault ≡ Write)
+    → PassPost tool old new was is before store (Err Write) → PassPost tool old new was is before store result
+by_write {result} returned post = let (_, is, fault) = returned_err result returned in rw (is, fault) post
 
 -- on an output that has failed, nothing is done
 pub pass_unchanged : (tool : ToolSpec) (old : Reader) (was : Output) (before : Slots) → PassPre old before
@@ -199,9 +197,7 @@ module _ (tool : ToolSpec) {old : Reader} (was : Output) {before store : Slots} 
 pub never_memory : {tool : ToolSpec} {old new : Reader} {was is : Output} {store : Slots}
     {result : Result (Unit {0}) FlowFault}
     → store.denied ≡ false → PassPost tool old new was is store store result → result ≡ Err Memory → ⊥
-never_memory {old} {new} {is} {store} not_denied post is_memory =
-    let ends : PassOutcome old new is store (Err Memory) = rw is_memory at post.ends in
-    false≢true (cc)
+never_memory {old} {new} {is} {store} not_denied post is_memory = grind (arith, common_steps)
 
 module _ {X : Type 0} {rest_from : X → List ℕ → List ℕ} {start : X} {tool : ToolSpec}
     (is_text : (bytes : List ℕ) → rest_from start bytes ≡ tool.text bytes)

@@ -1,15 +1,15 @@
 -- A tool that works line by line. The items written for the lines so far, and then those of the rest, are the items of
 -- the whole for every continuation; so the state between two lines is a `PassState`, and each exit is a lemma of
 -- `Exits`.
-use Rattle.ptflow.proofs.Common.{◌≡◌, Bool, ℕ, ◌+◌, ◌-◌, ◌*◌, ◌<◌, ◌≤◌, ◌^◌, true, false, List, [], ◌∷◌, ◌++◌, Ok, Err}
-use Rattle.ptflow.proofs.Common.{length, drop, max, refl, ◌∙◌, ap, subst, arith, append_assoc, length-append}
-use Rattle.ptflow.proofs.Common.{mul-le-mul_left, false≢true, nil_from_length, get_or-set_same, lines, complete_lines}
-use Rattle.ptflow.proofs.Common.{IsLine, max_length, max_line_length, Received, known_lines, IsPrefix, IsConsistent}
-use Rattle.ptflow.proofs.Common.{Output, PushEffect, Reader, ReaderAdvance, AdvanceOk, IsDone, IsSound, HasReadCause}
-use Rattle.ptflow.proofs.Common.{Slots, line, with_line, with_denied, FillPost, FillLine, advance_ok_trans, push_trans}
-use Rattle.ptflow.proofs.Common.{ToolSpec, PassPre, PassPost, AddedSlots, AreReceivedLines, LinesWritten, LinesFailed}
-use Rattle.ptflow.proofs.Common.{IsLinesLength, IsSwapped, SlotsCleared, IsLineFilter, Read, Write, Memory}
-use Rattle.ptflow.proofs.Common.{received_with}
+use Rattle.ptflow.proofs.Common.{common_steps, ◌≡◌, Bool, ℕ, ◌+◌, ◌-◌, ◌*◌, ◌<◌, ◌≤◌, ◌^◌, true, false, List, [], ◌∷◌}
+use Rattle.ptflow.proofs.Common.{◌++◌, Ok, Err, length, drop, max, refl, ◌∙◌, ap, subst, arith, append_assoc}
+use Rattle.ptflow.proofs.Common.{length-append, mul-le-mul_left, false≢true, nil_from_length, get_or-set_same, lines}
+use Rattle.ptflow.proofs.Common.{complete_lines, IsLine, max_length, max_line_length, Received, known_lines, IsPrefix}
+use Rattle.ptflow.proofs.Common.{IsConsistent, Output, PushEffect, Reader, ReaderAdvance, AdvanceOk, IsDone, IsSound}
+use Rattle.ptflow.proofs.Common.{HasReadCause, Slots, line, with_line, with_denied, FillPost, FillLine}
+use Rattle.ptflow.proofs.Common.{advance_ok_trans, push_trans, ToolSpec, PassPre, PassPost, AddedSlots}
+use Rattle.ptflow.proofs.Common.{AreReceivedLines, LinesWritten, LinesFailed, IsLinesLength, IsSwapped, SlotsCleared}
+use Rattle.ptflow.proofs.Common.{IsLineFilter, Read, Write, Memory, received_with}
 use Rattle.ptflow.proofs.Passes.Lines.{line_split, complete_prefix, max_length-append}
 use Rattle.ptflow.proofs.Passes.LinesRead.{lines_none, lines_few, lines_on, lines_more, lines_block, line_prefix}
 use Rattle.ptflow.proofs.Passes.LinesRead.{received_longest, piece_longest, whole_before, before_line, after_line}
@@ -217,8 +217,7 @@ module _ {S X E : Type 0} {tool : ToolSpec} {state : S → Slots → X} {rest_fr
       kept : {after : Slots} {most : ℕ} (given : Received) → SlotBounds width most before after
           → ((input : List ℕ) → IsConsistent given input → most ≤ max_line_length end input)
           → StoreBounds tool before after given
-      kept {most} given bounds = stored _ most given bounds.peak bounds.adds
-          (omega (arith, bounds.adds.all bounds.denied))
+      kept {most} given bounds = grind (arith, common_steps)
 
       keeps_last : {after : Slots} (bytes : List ℕ) → after ≡ with_line store (width - 1) bytes
           → SlotBounds width (max (max_length run.ls) (length bytes)) before after

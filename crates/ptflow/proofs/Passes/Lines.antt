@@ -1,11 +1,10 @@
 -- Laws of the lines of a text: complete lines and the unfinished line after them, the maximum length, and the lines of
 -- a block one by one. All of them use the first terminator in some bytes, before which there is no other.
-use Rattle.ptflow.proofs.Common.{◌≡◌, ℕ, ◌+◌, ◌==◌, Bool, true, false, cond, List, [], ◌∷◌, ◌++◌, length, refl, ap}
-use Rattle.ptflow.proofs.Common.{arith, take-append-drop, ◌-◌, Some, take, drop, append_assoc, length-append, eqb-true}
-use Rattle.ptflow.proofs.Common.{eqb-false, unlines, lines, complete_lines, onto_first_if_any, IsLine, AreLines}
-use Rattle.ptflow.proofs.Common.{lines_of_unlines, complete_lines_none, complete_lines_cons, append-nil, take_at}
-use Rattle.ptflow.proofs.Common.{take-append-le, drop-append-le, take_all, drop_all, length-take-le, IsFirstByte}
-use Rattle.ptflow.proofs.Common.{is_byte, line_before_terminator, take_with_terminator, drop_at_terminator}
+use Rattle.ptflow.proofs.Common.{common_steps, ◌≡◌, ℕ, ◌+◌, ◌==◌, Bool, true, false, cond, List, [], ◌∷◌, ◌++◌, length}
+use Rattle.ptflow.proofs.Common.{refl, ap, arith, take-append-drop, ◌-◌, Some, take, drop, append_assoc, length-append}
+use Rattle.ptflow.proofs.Common.{eqb-true, eqb-false, unlines, lines, complete_lines, onto_first_if_any, IsLine}
+use Rattle.ptflow.proofs.Common.{AreLines, lines_of_unlines, complete_lines_none, complete_lines_cons, append-nil}
+use Rattle.ptflow.proofs.Common.{take_at, IsFirstByte, is_byte, line_before_terminator, drop_at_terminator}
 pub use Rattle.ptlines.proofs.MaxLength.{max_length-append, piece_le_max_length}
 
 -- the complete lines of a text, and the unfinished line after them
@@ -45,22 +44,10 @@ complete_prefix end bytes rest =
 -- the bytes before the first terminator, and those after it
 module _ (end : ℕ) (bytes : List ℕ) (at : ℕ) (first : IsFirstByte (is_byte end) bytes (Some at)) where
   pub line_of : take at (take (at + 1) bytes) ≡ take at bytes
-  line_of =
-      let long : length (take at bytes) ≡ at = length-take-le at bytes (omega arith) in
-      cc (
-        take_with_terminator end bytes at first,
-        take-append-le at (take at bytes) (end ∷ []) (omega arith),
-        take_all at (take at bytes) (omega arith),
-      )
+  line_of = grind (arith, common_steps)
 
   pub end_of : drop at (take (at + 1) bytes) ≡ end ∷ []
-  end_of =
-      let long : length (take at bytes) ≡ at = length-take-le at bytes (omega arith) in
-      cc (
-        take_with_terminator end bytes at first,
-        drop-append-le at (take at bytes) (end ∷ []) (omega arith),
-        drop_all at (take at bytes) (omega arith),
-      )
+  end_of = grind (arith, common_steps)
 
   pub split_of : bytes ≡ take at bytes ++ end ∷ drop (at + 1) bytes
   split_of = cc (take-append-drop at bytes, drop_at_terminator end bytes at first)

@@ -1,8 +1,8 @@
 -- Facts about readers and outputs that each engine starts from. Each follows from the records of one call.
-use Rattle.ptflow.proofs.Common.{◌≡◌, ℕ, ◌+◌, ◌<◌, ◌≤◌, ◌^◌, false, true, List, [], ◌++◌, None, length, take, drop}
-use Rattle.ptflow.proofs.Common.{refl, sym, ap, arith, length-drop, nil_from_length, Reader, ReaderAdvance, AdvanceOk}
-use Rattle.ptflow.proofs.Common.{IsDone, IsSound, remaining_bytes, budget, Slots, advance_ok_trans, prepend_known-nil}
-use Rattle.ptflow.proofs.Common.{advance_ok_take, PassPre}
+use Rattle.ptflow.proofs.Common.{common_steps, ◌≡◌, ℕ, ◌<◌, ◌≤◌, false, true, List, [], ◌++◌, None, length, take, drop}
+use Rattle.ptflow.proofs.Common.{refl, sym, ap, arith, Reader, ReaderAdvance, AdvanceOk, IsDone, IsSound}
+use Rattle.ptflow.proofs.Common.{remaining_bytes, budget, Slots, advance_ok_trans, prepend_known-nil, advance_ok_take}
+use Rattle.ptflow.proofs.Common.{PassPre}
 
 -- nothing was read yet
 pub advance_none : (r : Reader) → r.fault ≡ None → AdvanceOk r r []
@@ -24,22 +24,15 @@ advance_none r clean = record {
 -- after the end of the input, nothing is read
 pub eof_gives_nothing : (now new : Reader) (bytes : List ℕ) → IsDone now → ReaderAdvance now new bytes
     → (bytes ≡ []) × (new.buffered ≡ []) × (new.eof ≡ true)
-eof_gives_nothing now new bytes done reads =
-    let (pulled, eof) = reads.still done.eof in
-    let none : length bytes + length new.buffered ≡ 0 = omega (arith, ap length done.buffered) in
-    (nil_from_length bytes (omega arith), nil_from_length new.buffered (omega arith), eof)
+eof_gives_nothing now new bytes done reads = grind (arith, common_steps)
 
 pub stays_at_eof : (now new : Reader) (bytes : List ℕ) → IsDone now → ReaderAdvance now new bytes → IsDone new
-stays_at_eof now new bytes done reads =
-    let (_, buffered, eof) = eof_gives_nothing _ _ _ done reads in
-    record { eof = eof; buffered = buffered; left = reads.end (λ _. done.left) eof }
+stays_at_eof now new bytes done reads = grind (arith, common_steps)
 
 -- once the input has ended, the bytes of a read and any continuation after them are empty
 pub may_follow : (now new : Reader) (bytes rest : List ℕ) → ReaderAdvance now new bytes → (IsDone new → rest ≡ [])
     → IsDone now → bytes ++ rest ≡ []
-may_follow now new bytes rest reads may done =
-    let (none, _, _) = eof_gives_nothing _ _ _ done reads in
-    λ i. none i ++ may (stays_at_eof _ _ _ done reads) i
+may_follow now new bytes rest reads may done = grind (arith, common_steps)
 
 -- a sound reader that can be read has not failed
 pub never_failed : {old reader : Reader} {store : Slots} {bytes : List ℕ} → PassPre old store
@@ -55,33 +48,7 @@ advance_past {shown} count advance_ok buffered fits consumed =
     (rw (ap (take count) buffered) at (advance_ok_take shown _ count advance_ok.fault
     (omega (arith, ap length buffered)) consumed))
 
--- a block that is not empty was consumed
-pub budget_of_block : {now shown new : Reader} {block : List ℕ} → AdvanceOk now shown [] → shown.buffered ≡ block
-    → length shown.buffered ≤ shown.pulled → (length block ≡ 0 → ⊥)
-    → new ≡ record shown { buffered = drop (length block) shown.buffered } → shown.pulled < 2 ^ 63
-    → budget new < budget now
-budget_of_block {shown} {block} advance_ok buffered count some consumed short =
-    omega (
-      arith,
-      advance_ok.reads.count,
-      count,
-      some,
-      ap length buffered,
-      short,
-      ap (λ r. r.pulled) consumed,
-      ap (λ r. length r.buffered) consumed,
-      length-drop (length block) shown.buffered,
-    )
-
 -- a line was read, and after it some of the next block
 pub budget_of_line : (old : Reader) {now shown new : Reader} (count : ℕ) → budget now < budget old
     → AdvanceOk now shown [] → new ≡ record shown { buffered = drop count shown.buffered } → budget new < budget old
-budget_of_line old {shown} count less advance_ok consumed =
-    omega (
-      arith,
-      less,
-      advance_ok.reads.count,
-      ap (λ r. r.pulled) consumed,
-      ap (λ r. length r.buffered) consumed,
-      length-drop count shown.buffered,
-    )
+budget_of_line old {shown} count less advance_ok consumed = grind (arith, common_steps)

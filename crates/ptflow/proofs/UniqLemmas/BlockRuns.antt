@@ -3,8 +3,8 @@
 -- together are the output so far.
 use Rattle.ptflow.proofs.Common.{◌≡◌, ℕ, ◌+◌, ◌-◌, ◌<◌, ◌≤◌, ◌&&◌, Bool, true, false, List, [], ◌∷◌, ◌++◌, Some, None}
 use Rattle.ptflow.proofs.Common.{Option, length, take, drop, refl, sym, subst, ◌∙◌, ap, arith, append_assoc}
-use Rattle.ptflow.proofs.Common.{length-append, common_steps, bytes_eq, nat_lt, slice_range, nat_tests, drop_split}
-use Rattle.ptflow.proofs.Common.{append-nil, take_at, drop_at, IsFirstByte, is_byte, Output, PushEffect, unlines}
+use Rattle.ptflow.proofs.Common.{length-append, common_steps, bytes_eq, nat_lt, slice_range, drop_split, append-nil}
+use Rattle.ptflow.proofs.Common.{length-drop, take_at, drop_at, IsFirstByte, is_byte, Output, PushEffect, unlines}
 use Rattle.ptflow.proofs.Common.{complete_lines, IsLine, push_nothing, unlines_push, complete_lines_none, Uniq, Run}
 use Rattle.ptflow.proofs.Common.{key, is_same, output_of, run_of, current_run, runs_after, has_output, RunsWritten}
 use Rattle.ptflow.proofs.Common.{RunsFailed, span_of, IsSpan, IsPending}
@@ -59,12 +59,16 @@ module _ {end : ℕ} {block rest : List ℕ} {front : List (List ℕ)} (lies : B
     }
 
     -- the next line
-    module _ (from to : ℕ) (from_is : from ≡ length block - length rest) (to_is : to ≡ from + at + 1) where
+    module _ (from to : ℕ) (from_is : from ≡ to - at - 1)
+        (to_is : to ≡ length block - length (drop (at + 1) rest)) where
+      starts : (from ≡ length block - length rest) × (to ≡ from + at + 1)
+      starts = omega (arith, front_size, length-drop (at + 1) rest, first.0.high)
+
       next_is : slice_range block from (to - 1) ≡ take at rest
-      next_is = let size : to - 1 - from ≡ at = omega arith in cc (front_drop)
+      next_is = let size : to - 1 - from ≡ at = omega (arith, starts) in cc (starts.0, front_drop)
 
       next_span : IsLineSpan end block (record { from = from; to = to })
-      next_span = grind (arith, common_steps)
+      next_span = let (here, there) = starts in grind (arith, common_steps)
 
 -- ---- deferred output
 
@@ -193,16 +197,11 @@ module _ {job : Uniq} {before after : Run} {ls : List (List ℕ)} {passed : List
       passed = passed;
       wrote = wrote;
       fault = fault;
-      is_prefix = λ more. (runs_after job after (later ++ more), cc (append_assoc ls later more, steps.on (later ++ more)));
+      is_prefix = λ more. (
+        runs_after job after (later ++ more),
+        cc (append_assoc ls later more, steps.on (later ++ more)),
+      );
     }
-
--- two lines are of one run if their keys are equal
-same_by_keys : (job : Uniq) (first line : List ℕ) {run_key next : List ℕ} {same answer : Bool} → run_key ≡ key job first
-    → next ≡ key job line → same ≡ bytes_eq run_key next → same ≡ answer → is_same job first line ≡ answer
-same_by_keys job first line run_key_is next_is is answered = cc
-
-with_count : {n : ℕ} {t answer : Bool} → 0 < n → t ≡ answer → (nat_lt 0 n && t) ≡ answer
-with_count some is = grind (arith, nat_tests)
 
 -- ---- between two lines of a block
 
@@ -245,8 +244,7 @@ module _ {job : Uniq} {first block rest : List ℕ} {start count : ℕ} {line : 
       (key_is : next ≡ key job (take at rest)) (tested : same ≡ bytes_eq run_key next) where
     test : {answer : Bool} → same ≡ answer
         → (nat_lt 0 count && is_same job (first_of first block line) (take at rest)) ≡ answer
-    test answered = with_count so_far.some
-        (same_by_keys job (first_of first block line) (take at rest) so_far.run_key_is key_is tested answered)
+    test answered = grind (arith, common_steps)
 
     pub runs_loop_more : same ≡ true
         → RunsInvariant job first block (drop (at + 1) rest) start (count + 1) line pending run_key was is
@@ -275,7 +273,7 @@ module _ {job : Uniq} {first block rest : List ℕ} {start count : ℕ} {line : 
 
       pub runs_loop_next : {is' : Output} {now : Span}
           → IsPending (span_of block pending ++ run_text job run) block now is is'
-          → {from to : ℕ} → from ≡ length block - length rest → to ≡ from + at + 1
+          → {from to : ℕ} → from ≡ to - at - 1 → to ≡ length block - length (drop (at + 1) rest)
           → RunsInvariant job first block (drop (at + 1) rest) start 1 (Some (record { from = from; to = to })) now next
           was is'
       runs_loop_next waits {from} {to} from_is to_is =
@@ -321,8 +319,4 @@ module _ {job : Uniq} {first block rest : List ℕ} {start count : ℕ} {line : 
 
     pub runs_loop_passed : take (length block - length rest) block
         ≡ unlines job.terminator (complete_lines job.terminator block)
-    runs_loop_passed = cc (
-      all_lines,
-      passed_is so_far.lies,
-      take_at (unlines job.terminator so_far.front) rest (length (unlines job.terminator so_far.front)) refl,
-    )
+    runs_loop_passed = grind (arith, common_steps, all_lines, passed_is, take_at)

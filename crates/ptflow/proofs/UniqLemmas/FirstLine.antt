@@ -1,53 +1,25 @@
 -- The current run of `uniq`, for one line and for the lines of a block. The items of the tool are runs: a line of
 -- another key ends the current run, whose output is known then.
 use Rattle.ptflow.proofs.Common.{◌≡◌, ℕ, ◌<◌, false, List, [], ◌∷◌, ◌++◌, None, Some, length, sym, ◌∙◌, common_steps}
-use Rattle.ptflow.proofs.Common.{ap, subst, arith, swap, is_some, append-nil, get_or-set_other, sum_by-cons}
-use Rattle.ptflow.proofs.Common.{IsFirstByte, is_byte, known_lines, Slots, line, total_bytes, with_line, complete_lines}
-use Rattle.ptflow.proofs.Common.{line_if_not_found, complete_lines_none, Uniq, Option, runs, output_of, uniq_tool}
-use Rattle.ptflow.proofs.Common.{SlotsCleared, IsLineFilter, Output, first_line, current_run_of, run_of, count_of}
-use Rattle.ptflow.proofs.Common.{current_run, runs_after, run_output, Result, refl}
+use Rattle.ptflow.proofs.Common.{ap, arith, swap, is_some, append-nil, get_or-set_other, IsFirstByte, is_byte}
+use Rattle.ptflow.proofs.Common.{known_lines, Slots, line, complete_lines, line_if_not_found, complete_lines_none, Uniq}
+use Rattle.ptflow.proofs.Common.{Option, runs, output_of, uniq_tool, IsLineFilter, Output, first_line, current_run_of}
+use Rattle.ptflow.proofs.Common.{run_of, count_of, current_run, runs_after, run_output, Result, refl}
 use Rattle.ptlines.specs.Outputs.{PushPost}
 use Rattle.ptflow.specs.declared.tools.uniq.CurrentRun.{CurrentRun}
-use Rattle.ptflow.proofs.UniqLemmas.RunsFrom.{entries-append, current_run_is, init_current}
+use Rattle.ptflow.proofs.UniqLemmas.RunsFrom.{entries-append, init_current}
 
 -- after the first two slots were swapped
 pub swapped_first : (store : Slots) {after : Slots} → 1 < length store.lines
     → after ≡ record store { lines = swap store.lines 0 1 } → line after 0 ≡ line store 1
 swapped_first store slots is = grind (arith, common_steps)
 
--- the first slot was cleared
-pub first_emptied : {store after : Slots} → 0 < length store.lines → after ≡ with_line store 0 []
-    → SlotsCleared 1 store after
-first_emptied {store} {after} some is = by_lines store.lines refl
-  where
-    by_lines : (lines : List (List ℕ)) → store.lines ≡ lines → SlotsCleared 1 store after
-    by_lines [] none = absurd (omega (arith, ap length none))
-    by_lines (l ∷ ls) are =
-        let lines_are : after.lines ≡ [] ∷ ls = cc in
-        let left : total_bytes after.lines ≡ total_bytes ls = ap total_bytes lines_are ∙ sum_by-cons length [] ls
-        ∙ omega arith in
-        record {
-          size = cc;
-          denied = cc;
-          left = cc;
-          peak =
-              omega (
-                arith,
-                ap (λ s. s.peak) is,
-                ap (λ s. total_bytes s.lines) is,
-                left,
-                ap total_bytes are
-                    ∙ sum_by-cons length l ls,
-              );
-        }
-
 -- the pushed bytes are the output of the run with this first line
 pub run_pushed : {E : Type 0} (job : Uniq) (count : ℕ) {bytes first after : List ℕ} {was is : Output}
     {result : Result (Unit {0}) E} → bytes ≡ first → after ≡ job.terminator ∷ []
     → PushPost was is (run_output job.show count (bytes ++ after)) result
     → PushPost was is (output_of job (current_run (run_of first count))) result
-run_pushed job count {first} {was} {is} {result} bytes_are after_is =
-    subst (λ bytes. PushPost was is bytes result) (cc (current_run_is job (run_of first count)))
+run_pushed job count {first} {was} {is} {result} bytes_are after_is = grind (arith, common_steps)
 
 -- `uniq` is a line tool: the first of two slots may hold the first line of the current run, and the decided output
 -- leaves out that run.

@@ -52,14 +52,6 @@ suffix_add : (n : ℕ) (bytes : List ℕ) → suffix_at (suc n) bytes ≡ suffix
 suffix_add n [] = sym (suffix_none n)
 suffix_add n (b ∷ bytes) = grind (arith, suffix_add n bytes, suffix_zero bytes)
 
--- the first byte is a blank
-blank_ends : (b : ℕ) (bytes : List ℕ) → is_blank b ≡ true → ends_word b bytes ≡ false
-blank_ends b [] blank = rw blank refl
-blank_ends b (c ∷ bytes) blank = rw blank refl
-
-suffix_blank : (b : ℕ) (bytes : List ℕ) → is_blank b ≡ true → suffix_at 1 (b ∷ bytes) ≡ suffix_at 1 bytes
-suffix_blank b bytes blank = cc (blank_ends b bytes blank)
-
 -- the first byte is not a blank
 suffix_other : (b : ℕ) (bytes : List ℕ) → is_blank b ≡ false → suffix_at 1 (b ∷ bytes) ≡ after_nonblanks bytes
 suffix_other b [] other = rw other refl
@@ -72,12 +64,6 @@ pub suffix_step : (n m : ℕ) (rest : List ℕ) → n ≡ m + 1 → suffix_at n 
 suffix_step n m rest is =
     let more : n ≡ suc m = omega arith in
     cc (suffix_add m rest, after_one rest)
-
--- for a list that is not empty
-pub blank_first : (rest : List ℕ) {behind_it : List ℕ} → 0 < length rest → behind_it ≡ drop 1 rest
-    → is_blank (get_or rest 0 0) ≡ true → suffix_at 1 rest ≡ suffix_at 1 behind_it
-blank_first [] long is blank = absurd (omega arith)
-blank_first (b ∷ bytes) long is blank = cc (suffix_blank b bytes blank)
 
 pub other_first : (rest : List ℕ) → 0 < length rest → is_blank (get_or rest 0 0) ≡ false
     → suffix_at 1 rest ≡ after_nonblanks rest
@@ -111,19 +97,6 @@ after_found line at first = after_at line _ first.0.high (λ k lt. first.0.befor
 pub after_not_found : (line : List ℕ) → IsFirstByte (is_byte2 32 9) line None → after_nonblanks line ≡ []
 after_not_found line none = after_none line (λ k lt. none k (omega arith) lt)
 
--- byte by byte
-pub blank_prefix : (line : List ℕ) (at : ℕ) → at < length line → is_blank (get_or line at 0) ≡ true
-    → after_nonblanks (drop at line) ≡ drop at line
-blank_prefix [] at high blank = absurd (omega arith)
-blank_prefix (b ∷ bytes) zero high blank = blank_here b bytes blank
-blank_prefix (b ∷ bytes) (suc at) high blank = blank_prefix bytes at (omega arith) blank
-
-pub other_prefix : (line : List ℕ) (at : ℕ) → at < length line → is_blank (get_or line at 0) ≡ false
-    → after_nonblanks (drop at line) ≡ after_nonblanks (drop (suc at) line)
-other_prefix [] at high other = absurd (omega arith)
-other_prefix (b ∷ bytes) zero high other = cc
-other_prefix (b ∷ bytes) (suc at) high other = other_prefix bytes at (omega arith) other
-
 -- the bytes before an index at which there are no blanks are skipped
 pub blanks_later : (line : List ℕ) (at : ℕ) → at ≤ length line
     → ((k : ℕ) → k < at → is_blank (get_or line k 0) ≡ true → ⊥) → after_nonblanks line ≡ after_nonblanks (drop at line)
@@ -131,9 +104,6 @@ blanks_later line zero high none = refl
 blanks_later [] (suc at) high none = refl
 blanks_later (b ∷ bytes) (suc at) high none = other_here b bytes (none 0 (omega arith))
     ∙ blanks_later bytes at (omega arith) (λ k lt. none (suc k) (omega arith))
-
-neither : (b : ℕ) → ((b == 32) ≡ true → ⊥) → ((b == 9) ≡ true → ⊥) → is_blank b ≡ true → ⊥
-neither b space tab = grind arith
 
 is_space : (b : ℕ) → (b == 32) ≡ true → is_blank b ≡ true
 is_space b e = cc
@@ -145,8 +115,7 @@ is_tab b e = grind arith
 module _ (line : List ℕ) (a b : ℕ) (no_space : Nowhere (Passes (is_byte 32) line) 0 a)
     (no_tab : Nowhere (Passes (is_byte 9) line) 0 b) where
   none_here : (k : ℕ) → k < min a b → is_blank (get_or line k 0) ≡ true → ⊥
-  none_here k lt = neither (get_or line k 0) (no_space k (omega arith) (omega arith))
-      (no_tab k (omega arith) (omega arith))
+  none_here k lt = grind (arith, common_steps)
 
   pub both_later : min a b ≤ length line → after_nonblanks line ≡ after_nonblanks (drop (min a b) line)
   both_later high = blanks_later line _ high none_here

@@ -1,9 +1,10 @@
 -- `uniq` for a text that is cut between two runs, or whose lines are distributed by their keys. Lines with different
 -- keys are in different runs, so no run is cut or merged.
-use Rattle.ptflow.proofs.Common.{◌≡◌, ◌⊎◌, inl, inr, ⊎_elim, ℕ, ◌+◌, Bool, true, false, cond, List, [], ◌∷◌, ◌++◌, refl}
-use Rattle.ptflow.proofs.Common.{sym, ◌∙◌, ap, filter, AllByRecursion, cases_Bool, bytes_eq-Decides, lines, IsLine}
-use Rattle.ptflow.proofs.Common.{the_lines_of_parts, lines-unlines, lines_are, Uniq, Run, key, is_same, cons_run, runs}
-use Rattle.ptflow.proofs.Common.{BeginsWith, EndsWith, HasGroupedKeys, UniqOfParts, UniqByKey, run_of}
+use Rattle.ptflow.proofs.Common.{common_steps, arith, ◌≡◌, ◌⊎◌, inl, inr, ⊎_elim, ℕ, ◌+◌, Bool, true, false, cond, List}
+use Rattle.ptflow.proofs.Common.{[], ◌∷◌, ◌++◌, refl, sym, ◌∙◌, ap, filter, AllByRecursion, cases_Bool}
+use Rattle.ptflow.proofs.Common.{bytes_eq-Decides, lines, IsLine, the_lines_of_parts, lines-unlines, lines_are, Uniq}
+use Rattle.ptflow.proofs.Common.{Run, key, is_same, cons_run, runs, BeginsWith, EndsWith, HasGroupedKeys, UniqOfParts}
+use Rattle.ptflow.proofs.Common.{UniqByKey, run_of}
 use Rattle.std.specs.Prelude.{◌≢◌}
 use Rattle.ptflow.proofs.UniqLemmas.RunsFrom.{entries-append}
 
@@ -24,9 +25,6 @@ module _ (job : Uniq) where
           ≡ run_of line count ∷ rest)
       by_test true = (run.count + 1, more, refl)
       by_test false = (1, run ∷ more, refl)
-
-  same_key : (a b : List ℕ) → key job a ≡ key job b → is_same job a b ≡ true
-  same_key a b same = let (_, to_same) = bytes_eq-Decides (key job a) (key job b) in to_same same
 
   -- runs followed by other runs
   onto_front : (line : List ℕ) (run : Run) (rs others : List Run)
@@ -60,12 +58,7 @@ module _ (job : Uniq) where
       ∙ ap (λ rs. cons_run job x rs ++ runs job ys) (sym is)
 
 pub uniq_of_parts : UniqOfParts
-uniq_of_parts job a b whole change =
-    cc (
-      the_lines_of_parts job.terminator a b whole,
-      runs-append job (lines job.terminator a) (lines job.terminator b) change,
-      entries-append job (runs job (lines job.terminator a)) (runs job (lines job.terminator b)),
-    )
+uniq_of_parts job a b whole change = grind (arith, common_steps, the_lines_of_parts, runs-append, entries-append)
 
 -- ---- lines that are distributed by their keys
 
@@ -118,8 +111,7 @@ module _ (job : Uniq) (taken : List ℕ → Bool) where
   -- a line of the part before a run of its key
   onto_same : (x : List ℕ) (r : Run) (rs : List Run) → line_taken x ≡ true → key job x ≡ key job r.line
       → cons_run job x (filter run_taken (r ∷ rs)) ≡ filter run_taken (cons_run job x (r ∷ rs))
-  onto_same x r rs is same = let too : run_taken r ≡ true = cc in
-      rw (same_key job x r.line same, is, too) (rw (same_key job x r.line same) refl)
+  onto_same x r rs is same = grind (arith, common_steps)
 
   -- a line before runs of other keys
   onto_other : (x : List ℕ) (rs : List Run) → AllByRecursion (λ run. key job x ≢ key job run.line) rs

@@ -1,10 +1,9 @@
 -- The runs of some lines, from the first line on. A run that is continued by the first of some lines is one of their
 -- runs with a larger count.
 use Rattle.ptflow.proofs.Common.{◌≡◌, ℕ, ◌+◌, ◌&&◌, Bool, true, false, cond, List, [], ◌∷◌, ◌++◌, refl, sym, ◌∙◌, ap}
-use Rattle.ptflow.proofs.Common.{arith, common_steps, bytes_eq, nat_lt, flat_map, nat_tests, append-nil}
-use Rattle.ptflow.proofs.Common.{flat_map-append, bytes_eq-Decides, IsPrefix, unlines-append, Uniq, Run, key, is_same}
-use Rattle.ptflow.proofs.Common.{cons_run, runs, output_of_run, output_of, init, run_of, current_run, runs_from}
-use Rattle.ptflow.proofs.Common.{runs_after, run_output}
+use Rattle.ptflow.proofs.Common.{arith, common_steps, bytes_eq, nat_lt, nat_tests, append-nil, bytes_eq-Decides}
+use Rattle.ptflow.proofs.Common.{IsPrefix, Uniq, Run, key, is_same, cons_run, runs, output_of, init, run_of}
+use Rattle.ptflow.proofs.Common.{current_run, runs_from, runs_after, run_output}
 
 some_lines : (n : ℕ) → nat_lt 0 (n + 1) ≡ true
 some_lines n = grind (arith, nat_tests)
@@ -66,11 +65,7 @@ module _ (job : Uniq) where
   -- ---- the output of runs
 
   pub entries-append : (xs ys : List Run) → output_of job (xs ++ ys) ≡ output_of job xs ++ output_of job ys
-  entries-append xs ys =
-      cc (
-        flat_map-append (output_of_run job.show) xs ys,
-        unlines-append job.terminator (flat_map (output_of_run job.show) xs) (flat_map (output_of_run job.show) ys),
-      )
+  entries-append xs ys = grind (arith, common_steps)
 
 -- the output of one run
 pub current_run_is : (job : Uniq) (run : Run)

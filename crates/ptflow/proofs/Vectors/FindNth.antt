@@ -1,14 +1,14 @@
 -- The n-th item of a list that passes a test, by the bits of a mask of which the lowest n are cleared; a field starts
 -- after the n-th delimiter. Then the terminators in 64 bytes, which are processed in order by clearing the lowest bit.
-use Rattle.ptflow.proofs.Common.{◌≡◌, ⊎_elim, ℕ, zero, suc, ◌+◌, ◌-◌, ◌*◌, ◌/◌, ◌%◌, ◌^◌, ◌<◌, ◌≤◌, min, Bool, true}
-use Rattle.ptflow.proofs.Common.{false, cond, not, Option, Some, List, [], ◌∷◌, length, map, take, drop, get_or}
-use Rattle.ptflow.proofs.Common.{refl, sym, ◌∙◌, ap, subst, arith, get_or-take, length-drop, count_ones, count_by}
+use Rattle.ptflow.proofs.Common.{◌≡◌, ℕ, zero, suc, ◌+◌, ◌-◌, ◌*◌, ◌/◌, ◌%◌, ◌^◌, ◌<◌, ◌≤◌, min, Bool, true}
+use Rattle.ptflow.proofs.Common.{false, cond, not, Option, Some, List, [], ◌∷◌, length, map, take, drop, get_or, refl}
+use Rattle.ptflow.proofs.Common.{sym, ◌∙◌, ap, subst, arith, get_or-take, length-drop, count_ones, count_by}
 use Rattle.ptflow.proofs.Common.{prefix_len, mask_l, chunk, take-add, take-take, length-take-le, get_or-le-sum_by}
 use Rattle.ptflow.proofs.Common.{sum_by-cons, sum_by-append, sum_by-take-le, trailing_mask_l, ones-mask_l}
 use Rattle.ptflow.proofs.Common.{get_or-chunk, length-chunk, IsFirstByte, NoneBefore, Passes, is_byte}
 use Rattle.ptflow.proofs.Common.{line_before_terminator, line_if_not_found, take_all, Nowhere, None, option_map}
-use Rattle.ptflow.proofs.Common.{nowhere_trans, IsLine, byte_ne, IsNth, HasTerminators}
-use Rattle.ptflow.proofs.Common.{count_by_more_yes, cases_lt, length-map}
+use Rattle.ptflow.proofs.Common.{nowhere_trans, IsLine, byte_ne, IsNth, HasTerminators, count_by_more_yes}
+use Rattle.ptflow.proofs.Common.{length-map, common_steps}
 use Rattle.std.proofs.lemmas.List.{get_or-drop, drop-map}
 use Rattle.std.proofs.Common.{pow-suc, mul_comm, div-one}
 use Rattle.std.proofs.Math.Nat.{div-div-eq-div-mul, zero-div}
@@ -85,8 +85,7 @@ lowest_set bits few some =
 module _ {X : Type 0} (p : X → Bool) (d : X) where
   one_more : (x : X) (xs : List X) {t : Bool} {r : ℕ} (s n m : ℕ) → p x ≡ t → r ≡ suc s → n ≡ cond t 1 0 + m
       → IsNth p d m xs s → IsNth p d n (x ∷ xs) r
-  one_more x xs s n m e next count (within, passes, others) =
-      rw next (omega (arith, within), passes, cc (sum_by-cons (λ b. cond (p b) 1 0) x (take s xs)))
+  one_more x xs s n m e next count (within, passes, others) = grind (arith, common_steps)
 
   behind : (xs : List X) (n : ℕ) → n < count_by p xs → IsNth p d n xs (prefix_len not (without n (map p xs)))
   behind [] n lt = absurd (omega arith)
@@ -138,9 +137,7 @@ mask_from p size from bytes is =
 module _ (p : ℕ → Bool) (bytes : List ℕ) (size : ℕ) (within : size ≤ length bytes)
     (front : Nowhere (Passes p bytes) 0 size) where
   there : (k : ℕ) → size ≤ k → Passes p bytes k → Passes p (drop size bytes) (k - size)
-  there k low passes =
-      let whole : size + (k - size) ≡ k = omega arith in
-      cc (get_or-drop size bytes (k - size) 0, passes)
+  there k low passes = grind (arith, common_steps)
 
   pub first_in_rest : (r : Option ℕ) → IsFirstByte p (drop size bytes) r → IsFirstByte p bytes
       (option_map (λ at. size + at) r)
@@ -172,12 +169,7 @@ module _ (p : ℕ → Bool) (bytes : List ℕ) where
     near = omega (arith, length-chunk at size bytes room)
 
     pub count_in_prefix : count_by p (take (at + k) bytes) ≡ count_by p (take at bytes) + m
-    count_in_prefix =
-        cc (
-          take-add at k bytes,
-          sum_by-append (λ b. cond (p b) 1 0) (take at bytes) (take k (drop at bytes)),
-          take-take k size (drop at bytes) (omega (arith, near)),
-        )
+    count_in_prefix = grind (arith, common_steps, take-add, sum_by-append, take-take)
 
     pub nth_in_prefix : {to : ℕ} → at + k < to → to ≤ length bytes
         → IsNth p 0 (count_by p (take at bytes) + m) (take to bytes) (at + k)
@@ -251,10 +243,7 @@ module _ (p : ℕ → Bool) (bytes : List ℕ) (start end : ℕ) (fits : end < l
   one_after = count_by_more_yes p bytes end 0 fits is
 
   pub in_order : start ≤ end
-  in_order =
-      ⊎_elim
-      (λ less. absurd (omega (arith, less, same, one_after, count_up_to p bytes (end + 1) start (omega (arith, less)))))
-      (λ le. le) (cases_lt end start)
+  in_order = grind (arith, common_steps)
 
   pub next_is : NoneBefore (Passes p (drop start bytes)) 0 (length (drop start bytes)) (end - start)
       × Passes p (drop start bytes) (end - start)

@@ -5,6 +5,7 @@ use Rattle.ptflow.proofs.Passes.LineLoop.{LineLoopState, short_block, filled_lin
 use Rattle.ptflow.proofs.Passes.LineLoop.{run_count, run_room, run_flush_failed, run_line, run_line_halts, filled_count}
 use Rattle.ptflow.proofs.Passes.LineLoop.{same_room, some_line, run_broken, run_memory, run_no_block, run_done}
 use Rattle.ptflow.proofs.Passes.LineLoop.{run_unended, run_block, run_block_halts}
+use Rattle.ptflow.proofs.Passes.Exits.{by_write}
 use Rattle.ptflow.proofs.Passes.Readers.{budget_of_line}
 use Rattle.ptflow.proofs.Passes.StepOutput.{returned_err}
 use Rattle.ptflow.proofs.Passes.Slots.{bounds_start, swapped_room}
@@ -72,10 +73,8 @@ reading-init g c =
 
 pub returns-in_err-write_out_before_blocking : goal.returns-in_err-write_out_before_blocking
 returns-in_err-write_out_before_blocking g c =
-    let (_, is_err, is_fault) =
-    returned_err c.from_residual-in_err-write_out_before_blocking.result
-    c.from_residual-in_err-write_out_before_blocking.ensures in
-    rw (is_err, is_fault) (run_flush_failed c.requires.tool c.reading.invariant c.requires.begins.ready
+    by_write c.from_residual-in_err-write_out_before_blocking.ensures
+    (run_flush_failed c.requires.tool c.reading.invariant c.requires.begins.ready
     c.write_out_before_blocking.ensures.sound
     c.write_out_before_blocking.ensures.pushed.wrote c.in_err-write_out_before_blocking.ensures.pushed.fault)
 
@@ -91,12 +90,9 @@ returns-in_err-process_line-in-Ok-true g c =
     let r = written_out g (goal.at.returns-in_err-process_line-in-Ok-true g c).In_ok-write_out_before_blocking in
     let e = filled_line c.requires.slots c.in-Ok-true.field-0-test
     (c.in-Ok-true.ensures.fills r.reached.advance_ok.fault) in
-    let (_, is_err, is_fault) =
-    returned_err c.from_residual-in_err-process_line-in-Ok-true.result
-    c.from_residual-in_err-process_line-in-Ok-true.ensures in
-    rw (is_err, is_fault, c.in_err-process_line-in-Ok-true.ensures.same)
+    rw c.in_err-process_line-in-Ok-true.ensures.same (by_write c.from_residual-in_err-process_line-in-Ok-true.ensures
     (run_line_halts c.requires.tool r e c.requires.begins.ready c.fill.ensures.was_sound c.fill.ensures.is_sound
-    c.in_err-process_line-in-Ok-true.ensures.halts)
+    c.in_err-process_line-in-Ok-true.ensures.halts))
 
 pub returns-in_err-finish-in-Ok-false : goal.returns-in_err-finish-in-Ok-false
 returns-in_err-finish-in-Ok-false g c =
@@ -104,11 +100,9 @@ returns-in_err-finish-in-Ok-false g c =
     let (advance_ok, done, emptied) = rw (c.in-Ok-false.field-0-test, c.requires.slots) at
     (c.in-Ok-false.ensures.fills r.reached.advance_ok.fault) in
     let end = c.in_err-finish-in-Ok-false.ensures.pushed r.reached.clean in
-    let (_, is_err, is_fault) =
-    returned_err c.from_residual-in_err-finish-in-Ok-false.result c.from_residual-in_err-finish-in-Ok-false.ensures in
-    rw (is_err, is_fault, c.in_err-finish-in-Ok-false.ensures.same)
+    rw c.in_err-finish-in-Ok-false.ensures.same (by_write c.from_residual-in_err-finish-in-Ok-false.ensures
     (run_unended c.requires.tool r c.requires.begins.ready c.fill.ensures.was_sound c.fill.ensures.is_sound advance_ok
-    done emptied end.wrote end.fault)
+    done emptied end.wrote end.fault))
 
 pub returns-in-Ok-false : goal.returns-in-Ok-false
 returns-in-Ok-false g c =
@@ -141,10 +135,7 @@ returns-in-Err-Memory g c =
 pub returns-in_err-write_out_before_blocking-2 : goal.returns-in_err-write_out_before_blocking-2
 returns-in_err-write_out_before_blocking-2 g c =
     let v = line_taken g (goal.at.returns-in_err-write_out_before_blocking-2 g c).In_ok-process_line-in-Ok-true in
-    let (_, is_err, is_fault) =
-    returned_err c.from_residual-in_err-write_out_before_blocking-2.result
-    c.from_residual-in_err-write_out_before_blocking-2.ensures in
-    rw (is_err, is_fault)
+    by_write c.from_residual-in_err-write_out_before_blocking-2.ensures
     (run_flush_failed c.requires.tool v c.requires.begins.ready c.fill.ensures.is_sound
     c.write_out_before_blocking-in-reading.ensures.pushed.wrote
     c.in_err-write_out_before_blocking-2.ensures.pushed.fault)
@@ -176,9 +167,7 @@ pub returns-in_err-passed-in-Ok : goal.returns-in_err-passed-in-Ok
 returns-in_err-passed-in-Ok g c =
     let u = sent_again g (goal.at.returns-in_err-passed-in-Ok g c).In_ok-write_out_before_blocking-2 in
     let (refilled, shown, _) = (rw c.in-Ok.is at c.block.follows.holds-at-none.shows) u.reached.advance_ok.fault in
-    let (_, is_err, is_fault) =
-    returned_err c.from_residual-in_err-passed-in-Ok.result c.from_residual-in_err-passed-in-Ok.ensures in
-    rw (is_err, is_fault)
+    by_write c.from_residual-in_err-passed-in-Ok.ensures
     (run_block_halts c.requires.tool u c.requires.begins.ready c.fill.ensures.is_sound
     c.block.follows.holds-at-none.is_sound refilled shown c.in_err-passed-in-Ok.ensures.halts)
 

@@ -10,8 +10,8 @@ fields delimiter line = slice_split (λ b. b == delimiter) line
 abbrev pub prefixed_fields : ℕ → List (List ℕ) → List ℕ
 prefixed_fields delimiter fs = flat_map (λ field. delimiter ∷ field) fs
 
--- Field n, counted from 0, starts at this index, or there are at most n fields, and it is the index after the end of the
--- line. With one more delimiter before the line, the first n fields end there, and the others start there.
+-- Field n, counted from 0, starts at this index; or there are at most n fields, and it is the index after the end of
+-- the line. With one more delimiter before the line, the first n fields end there, and the others start there.
 pub record IsFieldOffset (delimiter n : ℕ) (line : List ℕ) (at : ℕ) : Type 0 where
   pub fits : at ≤ length line + 1
   pub some : min n 1 ≤ at

@@ -306,14 +306,14 @@ pub(crate) fn cut_by_bytes<A: Allocator + Copy, S: Source, R: Source, W: Sink>(
 ) -> Result<(), FlowFault>
     requires by_bytes { job.now.fields ≡ false }
     requires start { RunBlocksPre 0 reader.old out.old }
+    requires ends { reader.old.terminator ≡ (cut_job job.now).terminator }
     ensures { StorelessPost (cut_tool (cut_job job.now)) reader.old reader.new out.old out.new result }
 {
-    let terminator = if job.zero { 0 } else { b'\n' };
     let mut tool = ByteCut {
         by: Selection {
             selected: job.list.intervals(),
             shuffles: LineShuffles::of(&job.list),
-            terminator,
+            terminator: reader.terminator(),
         },
         line_offset: 0,
         buffer: [0; 8208],

@@ -147,15 +147,15 @@ pub(crate) fn write_runs<W: Sink>(
     let mut rest = block;
     'lines: while let Some(at) = find_byte(terminator, rest) {
         let next = key(job, &rest[..at]);
-        let from = size - rest.len();
         rest = &rest[at + 1..];
         if run_key == next {
             count += 1;
         } else {
             pending = end_run(by, count, first, block, line, pending, out)?;
+            let to = size - rest.len();
             line = Some(Span {
-                from,
-                to: from + at + 1,
+                from: to - at - 1,
+                to,
             });
             run_key = next;
             count = 1;

@@ -1,19 +1,13 @@
 -- `cut` by bytes is a block tool: at line offset 0 the output for the rest is that for a text, and the pushed bytes
 -- include the output that is decided.
-use Rattle.ptflow.proofs.Common.{◌≡◌, ◌++◌, refl, sym, ◌∙◌, ap, cond, terminator, cut_job, cut_tool, cut_list_from}
+use Rattle.ptflow.proofs.Common.{◌++◌, refl, sym, ◌∙◌, ap, cond, terminator, cut_job, cut_tool, cut_list_from}
 use Rattle.ptflow.proofs.CutLemmas.CutBytes.{rest_is_cut, rest_is_decided}
 use Rattle.ptflow.proofs.tools.cut.bytes.cut_by_bytes.Goals as goal
-use Rattle.ptflow.proofs.tools.cut.bytes.cut_by_bytes.Goals.{then-job, else-job}
 
 pub returns : goal.returns
 returns g c =
     let job = cut_job c.args.job.now in
-    let end : c.if-job.terminator
-    ≡ job.terminator = elim c.if-job.branch [
-      | then-job w ↦ w.terminator-is
-          ∙ sym (ap terminator w.if-job.true)
-      | else-job w ↦ w.terminator-is ∙ sym (ap terminator w.if-job.false)
-    ] in
+    let end = c.terminator.ensures ∙ c.requires.ends in
     let list = c.intervals.ensures.kept in
     λ store ready.
     c.run_blocks.ensures (cut_tool job)

@@ -16,7 +16,8 @@ slices-init g c =
     let kept = ap is_selected c.intervals-selected.ensures.kept in
     let all : take (length line) line ≡ line = take_all (length line) line (omega arith) in record {
       front = prefix_starts (rw all (selected_remaining job list line c.requires kept));
-      cursor = cursor_starts c.args.delimiters.now.byte (take (length line) line) c.intervals-selected.ensures.separated;
+      cursor = cursor_starts c.args.delimiters.now.byte (take (length line) line)
+          c.intervals-selected.ensures.separated;
       clean = λ clean. clean;
     }
 

@@ -5,7 +5,9 @@ use Rattle.ptflow.proofs.UniqLemmas.BlockRuns.{RunsInvariant}
 use Rattle.ptflow.proofs.tools.uniq.block_runs.write_runs.Given as goal
 
 abbrev pub invariant-lines : goal.invariant-lines
-invariant-lines g l = RunsInvariant (uniq_job l.job) l.fn.first l.block l.rest l.fn.count l.count l.line l.pending l.run_key l.fn.out l.out
+invariant-lines g l =
+    RunsInvariant (uniq_job l.job) l.fn.first l.block l.rest l.fn.count l.count l.line l.pending l.run_key l.fn.out
+    l.out
 
 abbrev pub decreases-lines : goal.decreases-lines
 decreases-lines g l = length l.rest

@@ -1,9 +1,11 @@
 -- Each iteration copies the output of the first lines of the rest to the buffer, which is pushed at the end.
 use Rattle.ptflow.proofs.Common.{ℕ, List, ◌+◌, ◌≤◌, length, drop, ◌++◌, take, ◌∙◌, ap, arith, length-drop, take_rest}
-use Rattle.ptflow.proofs.Common.{complete_lines, line_if_not_found, complete_lines_none, cut_job, cut_lines}
+use Rattle.ptflow.proofs.Common.{IsLine, complete_lines, line_if_not_found, complete_lines_none, cut_job, cut_lines}
 use Rattle.ptflow.proofs.Passes.StepOutput.{on_err}
 use Rattle.ptflow.proofs.Passes.Lines.{taken_more, taken_all}
+use Rattle.ptflow.proofs.tools.cut.fields.FieldCutLineFilter.process_lines.Given as given
 use Rattle.ptflow.proofs.tools.cut.fields.FieldCutLineFilter.process_lines.Goals as goal
+use Rattle.ptflow.proofs.tools.cut.fields.FieldCutLineFilter.process_lines.Goals.{In_default}
 
 less_left : (start size : ℕ) (rest : List ℕ) {end all : ℕ} → size ≤ length rest → end ≤ start + size
     → start + length rest ≤ all → end + length (drop size rest) ≤ all
@@ -35,12 +37,16 @@ returns-in_err-push-clause-halts g c =
       );
     })
 
+-- no complete line is left
+none_left : (g : given.Over) (c : In_default g) → IsLine (cut_job c.args.self.now.job.now).terminator c.lines.rest.now
+none_left g c = line_if_not_found _ c.lines.rest.now
+    (rw (c.new.ensures.byte, c.new.ensures.bytes, c.args.self.now.ends) at c.in_default.ensures)
+
 pub returns-clause-continues : goal.returns-clause-continues
 returns-clause-continues g c =
     let l = c.lines in
     let job = cut_job c.args.self.now.job.now in
-    let none = complete_lines_none _ l.rest.now
-    (line_if_not_found _ l.rest.now (rw (c.new.ensures.byte, c.new.ensures.bytes, c.args.self.now.ends) at c.in_default.ensures)) in record {
+    let none = complete_lines_none _ l.rest.now (none_left g (goal.at.returns-clause-continues g c).In_default) in record {
       passed = take l.end l.room;
       wrote = c.in_ok-push.ensures.pushed.wrote;
       clean = λ was_clean. c.in_ok-push.ensures.pushed.clean;
@@ -52,6 +58,6 @@ returns-clause-continues g c =
 pub returns-clause-passed : goal.returns-clause-passed
 returns-clause-passed g c = (
   omega arith,
-  taken_all _ (line_if_not_found _ c.lines.rest.now (rw (c.new.ensures.byte, c.new.ensures.bytes, c.args.self.now.ends) at c.in_default.ensures))
+  taken_all _ (none_left g (goal.at.returns-clause-passed g c).In_default)
       c.lines.invariant.taken,
 )
