@@ -1,24 +1,31 @@
 -- Tables of images. Of each lane, the vectors that are left have in the row of the lane what was found for it. Each
 -- step halves the rows, and takes of two vectors the one that the lowest bit of the row names.
 use Rattle.ptflow.proofs.Common.{◌≡◌, ◌<◌, ◌≤◌, ◌∙◌, ℕ, zero, suc, ◌*◌, ◌+◌, ◌-◌, ◌/◌, ◌%◌, List, [], All, map, min, not}
-use Rattle.ptflow.proofs.Common.{length, length-map, length-set, set, slice_index, slice_index_or, sel_l, eqb, bit_and}
+use Rattle.ptflow.proofs.Common.{length, length-map, length-set, set, sel_l, eqb, bit_and}
 use Rattle.ptflow.proofs.Common.{All-set, and_mask, ap, arith, cases_eq, cond, get_or, get_or-chunk, get_or-map, ⊎_elim}
 use Rattle.ptflow.proofs.Common.{Bool, Each1, Fits, cases_lt, chunk, ext_get_or, false, get_or-set_other, ltb, w8, ◌^◌}
 use Rattle.ptflow.proofs.Common.{get_or-set_same, get_or_default, get_or_past, inl, inr, ◌⊎◌, le-ltb, lt-ltb, replicate, sym, zip2}
-use Rattle.ptflow.proofs.Common.{zip2_splat}
+use Rattle.ptflow.proofs.Common.{top, zip2_splat}
 use Rattle.std.proofs.lemmas.Simd.{Each1-get_or, get_or-sel_l, length-sel_l}
-use Rattle.ptflow.proofs.Common.{top}
 use Rattle.ptflow.proofs.Vectors.Lanes.{tests_are}
 use Rattle.ptflow.specs.Private.Vectors.Tables.{image_from, lane_of}
 
--- one value more is stored
-pub stored_next : {X : Type 0} (f : ℕ → X) (kept : List X) (index : ℕ) (x d : X) → index < length kept
-    → ((i : ℕ) → i < index → get_or kept i d ≡ f i) → x ≡ f index
-    → (i : ℕ) → i < index + 1 → get_or (set kept index x) i d ≡ f i
-stored_next f kept index x d room before is i low = ⊎_elim
-    (λ same. cc (get_or-set_same kept index x d room))
-    (λ other. get_or-set_other kept index i x d other ∙ before i (omega (arith, low, other)))
-    (cases_eq i index)
+-- of `n` vectors, the first ones are those of a function
+pub record IsFilledTo (n : ℕ) (f : ℕ → List ℕ) (index : ℕ) (kept : List (List ℕ)) : Type 0 where
+  pub long : length kept ≡ n
+  pub lanes : All (λ v. length v ≡ 16) kept
+  pub made : (i : ℕ) → i < index → get_or kept i [] ≡ f i
+
+pub filled_next : {n : ℕ} {f : ℕ → List ℕ} {index : ℕ} {kept : List (List ℕ)} {v : List ℕ} → IsFilledTo n f index kept
+    → index < n → v ≡ f index → length (f index) ≡ 16 → IsFilledTo n f (index + 1) (set kept index v)
+filled_next {f = f} {index} {kept} {v} filled room is size = record {
+  long = length-set kept index v ∙ filled.long;
+  lanes = All-set (λ v. length v ≡ 16) kept index v (ap length is ∙ size) filled.lanes;
+  made = λ i low. ⊎_elim
+      (λ same. cc (get_or-set_same kept index v [] (omega (arith, filled.long))))
+      (λ other. get_or-set_other kept index i v [] other ∙ filled.made i (omega (arith, low, other)))
+      (cases_eq i index);
+}
 
 module _ (rows : List ℕ) (found : List (List ℕ)) (count : ℕ) where
   abbrev pub odd : ℕ → ℕ
@@ -70,13 +77,6 @@ module _ (rows : List ℕ) (found : List (List ℕ)) (count : ℕ) where
         by_bit zero is = ap (λ k. get_or (get_or found k []) lane 0) (omega arith)
         by_bit (suc zero) is = ap (λ k. get_or (get_or found k []) lane 0) (omega arith)
         by_bit (suc (suc bit)) is = absurd (omega arith)
-
-  -- the vectors so far, of `n`
-  pub record HalvedTo (n index : ℕ) (kept : List (List ℕ)) : Type 0 where
-    pub size : length found ≡ n
-    pub long : length kept ≡ n
-    pub lanes : All (λ v. length v ≡ 16) kept
-    pub made : (i : ℕ) → i < index → get_or kept i [] ≡ halved i
 
 pub shifted_lane : (rows : List ℕ) (lane : ℕ) → length rows ≡ 16 → lane < 16
     → get_or (zip2 (λ a b. a / 2 ^ b) rows (replicate 16 1)) lane 0 ≡ get_or rows lane 0 / 2
