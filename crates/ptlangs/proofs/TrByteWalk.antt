@@ -31,7 +31,8 @@ sequence-done (x ∷ done) rest = ap (cons_ok x) (sequence-done done rest) ∙ c
 
 module _ {A : Type 0} {all rest : List (Result A SetFaultKind)} {P : List A → Type 0} (r : ItemsRead all rest P) where
   -- more items were read
-  pub items_more : {after : List (Result A SetFaultKind)} (Q : List A → Type 0) (more : List A) → rest ≡ map Ok more ++ after → (P r.done → Q (r.done ++ more))
+  pub items_more : {after : List (Result A SetFaultKind)} (Q : List A → Type 0) (more : List A)
+      → rest ≡ map Ok more ++ after → (P r.done → Q (r.done ++ more))
       → ItemsRead all after Q
   items_more {after} Q more s h = record {
     done = r.done ++ more;
@@ -50,7 +51,8 @@ module _ {A : Type 0} {all rest : List (Result A SetFaultKind)} {P : List A → 
   items_fault e = cc (sequence-read)
 
   -- the items before and after the current one, if none has a fault
-  pub items_at : {after : List (Result A SetFaultKind)} {x : A} {xs : List A} → rest ≡ Ok x ∷ after → sequence all ≡ Ok xs
+  pub items_at : {after : List (Result A SetFaultKind)} {x : A} {xs : List A}
+      → rest ≡ Ok x ∷ after → sequence all ≡ Ok xs
       → (more : List A) × (xs ≡ r.done ++ x ∷ more)
   items_at {after} {x} {xs} s c = by_rest (sequence after) (cc (sequence-read))
     where

@@ -1,11 +1,11 @@
 -- Tables of images. Of each lane, the vectors that are left have in the row of the lane what was found for it. Each
 -- step halves the rows, and takes of two vectors the one that the lowest bit of the row names.
-use Rattle.ptflow.proofs.Common.{◌≡◌, ◌<◌, ◌≤◌, ◌∙◌, ℕ, zero, suc, ◌*◌, ◌+◌, ◌-◌, ◌/◌, ◌%◌, List, [], All, map, min, not}
+use Rattle.ptflow.proofs.Common.{◌≡◌, ◌<◌, ◌≤◌, ◌∙◌, ℕ, zero, suc, ◌*◌, ◌+◌, ◌-◌, ◌/◌, ◌%◌, List, [], All, map, not}
 use Rattle.ptflow.proofs.Common.{length, length-map, length-set, set, sel_l, eqb, bit_and}
 use Rattle.ptflow.proofs.Common.{All-set, and_mask, ap, arith, cases_eq, cond, get_or, get_or-chunk, get_or-map, ⊎_elim}
 use Rattle.ptflow.proofs.Common.{Bool, Each1, Fits, cases_lt, chunk, ext_get_or, false, get_or-set_other, ltb, w8, ◌^◌}
-use Rattle.ptflow.proofs.Common.{get_or-set_same, get_or_default, get_or_past, inl, inr, ◌⊎◌, le-ltb, lt-ltb, replicate, sym, zip2}
-use Rattle.ptflow.proofs.Common.{top, zip2_splat}
+use Rattle.ptflow.proofs.Common.{get_or-set_same, get_or_default, get_or_past, inl, inr, ◌⊎◌, le-ltb, lt-ltb}
+use Rattle.ptflow.proofs.Common.{min, replicate, sym, top, zip2, zip2_splat}
 use Rattle.std.proofs.lemmas.Simd.{Each1-get_or, get_or-sel_l, length-sel_l}
 use Rattle.ptflow.proofs.Vectors.Lanes.{tests_are}
 use Rattle.ptflow.specs.Private.Vectors.Tables.{image_from, lane_of}
@@ -56,7 +56,8 @@ module _ (rows : List ℕ) (found : List (List ℕ)) (count : ℕ) where
         → sel_l (map (top 7) (zip2 (λ a b. cond (not (eqb a b)) 255 0) (zip2 bit_and rows (replicate 16 1))
         (replicate 16 0))) (get_or found second []) (get_or found (2 * i) []) ≡ halved i
     halved_is i is =
-        let bits = tests_are (λ a b. not (eqb a b)) (λ row. bit_and row 1) rows 0 long (zip2_splat bit_and rows 16 1 long) in
+        let bits = tests_are (λ a b. not (eqb a b)) (λ row. bit_and row 1) rows 0 long
+        (zip2_splat bit_and rows 16 1 long) in
         cc (bits, is)
 
     pub halved_lane : (lane : ℕ) → lane < 16 → get_or rows lane 0 < count
@@ -141,7 +142,8 @@ module _ (first n : ℕ) (table : List (List ℕ)) (within : first + 16 * n ≤ 
         (cases_lt b first)
 
     module _ (v : List ℕ) (long : length v ≡ 16) (fit : Each1 (Fits w8) v) {offsets rows : List ℕ} (found : List ℕ)
-        (found_in_rows : List (List ℕ)) (offsets_are : offsets ≡ map offset v) (rows_are : rows ≡ map (λ b. offset b / 16) v)
+        (found_in_rows : List (List ℕ)) (offsets_are : offsets ≡ map offset v)
+        (rows_are : rows ≡ map (λ b. offset b / 16) v)
         (looked_up : (row : ℕ) → row < n
         → get_or found_in_rows row [] ≡ map (λ o. get_or (get_or table row []) (o % 16) 0) offsets)
         (size_of_found : length found ≡ 16)
@@ -165,7 +167,8 @@ module _ (first n : ℕ) (table : List (List ℕ)) (within : first + 16 * n ≤ 
         pub images_of : {flags : List Bool} → flags ≡ map (λ b. ltb (offset b / 16) n) v
             → sel_l flags found v ≡ map (image_from first table) v
         images_of {flags} flags_are =
-            let flags_long : length flags ≡ 16 = ap length flags_are ∙ length-map v (λ b. ltb (offset b / 16) n) ∙ long in
+            let flags_long : length flags ≡ 16 = ap length flags_are
+            ∙ length-map v (λ b. ltb (offset b / 16) n) ∙ long in
             let sizes = length-sel_l flags found v (omega arith) (omega arith) in
             ext_get_or 0 (sel_l flags found v) (map (image_from first table) v)
             (sizes ∙ flags_long ∙ sym (length-map v (image_from first table) ∙ long)) (λ lane low.

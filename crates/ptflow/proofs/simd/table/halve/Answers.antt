@@ -21,4 +21,5 @@ returns-clause-kept g c lane low within =
     let inv = c.loop-index.invariant in
     let rows = c.args.rows in
     ap (λ v. get_or v lane 0) (inv.filled.made (get_or rows lane 0 / 2) (omega arith))
-    ∙ halved_lane rows c.args.found c.args.count c.fits-rows.0 c.requires.lanes (omega (arith, inv.size)) lane low within
+    ∙ halved_lane rows c.args.found c.args.count c.fits-rows.0 c.requires.lanes (omega (arith, inv.size)) lane
+    low within

@@ -13,5 +13,6 @@ returns g c =
     let by = offset first n self.rows self.within self.size self.lanes in
     let offsets = zip2_splat (λ a b. (a + (256 - b)) % 256) v 16 first long in
     let rows = zip2_of_maps (λ a b. a / 2 ^ b) by (λ _. 4) v offsets (splat_is_map v 16 4 long) in
-    images_of first n self.rows self.within self.size self.lanes v long fit _ _ offsets rows c.look_up_rows.ensures.found
-    c.select_rows-found.ensures.lanes c.select_rows-found.ensures.selected (tests_are ltb (λ b. by b / 16) v n long rows)
+    images_of first n self.rows self.within self.size self.lanes v long fit _ _ offsets rows
+    c.look_up_rows.ensures.found c.select_rows-found.ensures.lanes c.select_rows-found.ensures.selected
+    (tests_are ltb (λ b. by b / 16) v n long rows)

@@ -12,8 +12,8 @@ returns-in_err-member c = λ from to h.
 pub returns-then-is_some : goal.returns-then-is_some
 returns-then-is_some c = λ from to h.
     let step = rw c.in-Some.is at c.in_ok-member.ensures.steps in
-    let unpaired = passing-unpaired (c.loop-member.invariant from to h) (bytes_left c.next.new.self) c.in-Some.member step
-    (sym c.is_some.ensures ∙ c.if-is_some.true) in
+    let unpaired = passing-unpaired (c.loop-member.invariant from to h) (bytes_left c.next.new.self)
+    c.in-Some.member step (sym c.is_some.ensures ∙ c.if-is_some.true) in
     rw unpaired refl
 
 pub loop-member-preserved : goal.loop-member-preserved
