@@ -96,7 +96,6 @@ pub use Rattle.ptflow.specs.Private.Vectors.ByteSets.{set_has, table_has}
 pub use Rattle.ptflow.specs.Private.Vectors.Shift.{IsMappedTo, range_delta, shift_by_ranges, stretch_delta}
 pub use Rattle.ptflow.specs.Private.Vectors.FindNth.{IsNth}
 pub use Rattle.ptflow.specs.Private.Vectors.Compress.{IsCompressTable, IsCompressRow, select_by, true_indices}
-pub use Rattle.ptflow.specs.Private.Vectors.Tables.{HasMoved}
 pub use Rattle.ptflow.specs.Private.Cut.CutFrom.{ExtendsCut, CutChunkPost, HasTerminators, IsCutPart, IsSameLine}
 pub use Rattle.ptflow.specs.Private.Cut.CutFrom.{CopyLinesPost, cut_piece, cut_fields_from, cut_bytes_from}
 pub use Rattle.ptflow.specs.Private.Cut.CutFrom.{cut_list_from, cut_lines_from}

@@ -5,23 +5,24 @@ use Rattle.ptlangs.proofs.Common.{Result, ◌≡◌, Bool, List, None, Ok, Optio
 use Rattle.ptlangs.proofs.Common.{false, get_or, inl, inr, leb, length, ltb, not, refl, subst, suc, sym, take, true, ℕ}
 use Rattle.ptlangs.proofs.Common.{◌&&◌, ◌++◌, ◌+◌, ◌-◌, ◌<◌, ◌||◌, ◌∙◌, ◌∷◌, and_parts, and_right, cases_Bool}
 use Rattle.ptlangs.proofs.Common.{cond-false, cond-true, eqb-false, eqb-true, le-ltb, ltb-false, ne_eqb}
-use Rattle.ptlangs.proofs.Common.{nat_tests, All-append, All-cons, list_any-IsPermutation}
+use Rattle.ptlangs.proofs.Common.{nat_tests, All-cons, list_any-IsPermutation}
 use Rattle.ptlangs.proofs.Common.{join_with_byte-slice_split, length-slice_split, slice_split_at, slice_split_none}
 use Rattle.ptlangs.proofs.Common.{AllPass-from_list_all, is_ascii_digit, All, join_with_byte, list_all, position}
 use Rattle.ptlangs.proofs.Common.{slice_split}
 use Rattle.ptlangs.proofs.Common.{IsValidInterval, cut_list}
 use Rattle.ptlangs.proofs.Common.{element_interval, is_dash}
 use Rattle.ptlangs.proofs.Common.{and_then, traverse, max_u64, is_empty, is_number}
-use Rattle.ptlangs.proofs.Common.{is_list_separator, value, Interval, max, ◌≤◌, append_assoc, list_any-append, list_any}
+use Rattle.ptlangs.proofs.Common.{value, Interval, max, ◌≤◌, append_assoc, list_any-append, list_any}
 use Rattle.std.specs.List.Sorted.{IsNonDecreasingBy, IsPermutation}
 use Rattle.std.proofs.lemmas.Bool.{cond_both}
 use Rattle.ptlangs.specs.declared.ranges.ListFault.{ListFault}
-use Rattle.ptlangs.proofs.ListElements.{split_whole, split_around, some_since, digits_fail, digit_no_list_separator}
+use Rattle.ptlangs.proofs.ListElements.{split_whole, split_around, some_since, digits_fail, Unbroken, unbroken_cons}
+use Rattle.ptlangs.proofs.ListElements.{unbroken_append, unbroken_nil, unbroken_number, matches_grammar}
 use Rattle.ptlangs.specs.CutLists.{CutListMatchesGrammar, AreSeparated, AreSortedFrom, From, FromTo, SpellsInterval}
 use Rattle.ptlangs.specs.CutLists.{IsIntervalElement, One, UpTo, checked_interval, interval_of_bounds, is_bound}
 use Rattle.ptlangs.specs.CutLists.{is_selected, interval_of_parts, selection}
 use Rattle.std.proofs.lemmas.Bool.{and_left, or_from, or_parts}
-use Rattle.ptlangs.proofs.ListElements.{IsSplit, Whole, Cut, splits, reads_first, Accepts, from_grammar, to_grammar}
+use Rattle.ptlangs.proofs.ListElements.{IsSplit, Whole, Cut, splits, reads_first}
 
 -- ---- the elements, split at dashes
 
@@ -176,17 +177,13 @@ accepts_element bs r e proper =
     let (some, parts) = parts_of_element bs r e in
     rw (some, parts) (checked_ok r proper)
 
-no_separator : (bs : List ℕ) (r : Interval) → SpellsInterval bs r → All (λ b. is_list_separator b ≡ false) bs
-no_separator bs r (One n h) = digits_fail is_list_separator digit_no_list_separator n h
-no_separator bs r (FromTo n m h k) =
-    All-append (λ b. is_list_separator b ≡ false) n (45 ∷ m) (digits_fail is_list_separator digit_no_list_separator n h)
-    (All-cons (λ b. is_list_separator b ≡ false) 45 m refl (digits_fail is_list_separator digit_no_list_separator m k))
-no_separator bs r (UpTo m h) =
-    All-cons (λ b. is_list_separator b ≡ false) 45 m refl (digits_fail is_list_separator digit_no_list_separator m h)
-no_separator bs r (From n h) =
-    All-append (λ b. is_list_separator b ≡ false) n (45 ∷ [])
-    (digits_fail is_list_separator digit_no_list_separator n h)
-    (All-cons (λ b. is_list_separator b ≡ false) 45 [] refl (λ k d below. absurd (omega arith)))
+unbroken : (bs : List ℕ) (r : Interval) → SpellsInterval bs r → Unbroken bs
+unbroken bs r (One n h) = unbroken_number n h
+unbroken bs r (FromTo n m h k) =
+    unbroken_append n (45 ∷ m) (unbroken_number n h) (unbroken_cons 45 m refl (unbroken_number m k))
+unbroken bs r (UpTo m h) = unbroken_cons 45 m refl (unbroken_number m h)
+unbroken bs r (From n h) =
+    unbroken_append n (45 ∷ []) (unbroken_number n h) (unbroken_cons 45 [] refl unbroken_nil)
 
 -- ---- from `cut_list` to the grammar
 
@@ -236,18 +233,12 @@ reads_element (b ∷ bs) r h =
     let (parts, valid) = checked_proper (interval_of_parts (slice_split is_dash (b ∷ bs))) r h in
     (spelled (b ∷ bs) (slice_split is_dash (b ∷ bs)) r (splits is_dash (b ∷ bs)) parts, valid)
 
-accepts_elements : Accepts element_interval IsIntervalElement
-accepts_elements = record {
+pub accepts_the_grammar : CutListMatchesGrammar
+accepts_the_grammar = matches_grammar element_interval IsIntervalElement (record {
   from = λ e r (spells, valid). accepts_element e r spells valid;
   to = reads_element;
-  whole = λ e r (spells, _). no_separator e r spells;
-}
-
-pub accepts_the_grammar : CutListMatchesGrammar
-accepts_the_grammar bs rs = (
-  from_grammar element_interval IsIntervalElement accepts_elements bs rs,
-  to_grammar element_interval IsIntervalElement accepts_elements bs rs,
-)
+  whole = λ e r (spells, _). unbroken e r spells;
+})
 
 -- ---- merging sorted intervals
 

@@ -7,7 +7,7 @@ use Rattle.ptlangs.proofs.Common.{slice_split_first, slice_split_none, AllPass-f
 use Rattle.ptlangs.proofs.Common.{is_ascii_digit, All, onto_first, position, position_or_len, slice_split}
 use Rattle.ptlangs.proofs.Common.{and_then, traverse, elements, is_number, is_list_separator, cons_ok, eqb, leb, not}
 use Rattle.ptlangs.proofs.Common.{◌&&◌, ◌*◌, ◌<◌, ◌≤◌, and_from, and_right, cond-false, cond-true, le-leb, lt-leb}
-use Rattle.ptlangs.proofs.Common.{ne_eqb, drop_all, drop_more, digit_value, list_all}
+use Rattle.ptlangs.proofs.Common.{All-append, All-cons, ne_eqb, drop_all, drop_more, digit_value, list_all}
 use Rattle.ptlangs.proofs.Common.{digits_value_after, max_u64, is_empty, value}
 use Rattle.std.proofs.lemmas.Bool.{cond_both}
 use Rattle.ptlangs.specs.Numbers.{IsListOf, number}
@@ -83,8 +83,21 @@ digits_fail p fails [] h = cc
 digits_fail p fails (b ∷ bs) h =
     λ k d below. fails (get_or (b ∷ bs) k d) (AllPass-from_list_all is_ascii_digit (b ∷ bs) h k d below)
 
-pub digit_no_list_separator : (b : ℕ) → is_ascii_digit b ≡ true → is_list_separator b ≡ false
-digit_no_list_separator b h = grind (arith, nat_tests)
+-- a text without a separator
+abbrev pub Unbroken : List ℕ → Type 0
+Unbroken bs = All (λ b. is_list_separator b ≡ false) bs
+
+pub unbroken_number : (n : List ℕ) → is_number n ≡ true → Unbroken n
+unbroken_number = digits_fail is_list_separator (λ b h. grind (arith, nat_tests))
+
+pub unbroken_cons : (b : ℕ) (bs : List ℕ) → is_list_separator b ≡ false → Unbroken bs → Unbroken (b ∷ bs)
+unbroken_cons = All-cons (λ b. is_list_separator b ≡ false)
+
+pub unbroken_append : (xs ys : List ℕ) → Unbroken xs → Unbroken ys → Unbroken (xs ++ ys)
+unbroken_append = All-append (λ b. is_list_separator b ≡ false)
+
+pub unbroken_nil : Unbroken []
+unbroken_nil k d below = absurd (omega arith)
 
 -- a list split at separators: one part, or a part, a separator and the split of the rest
 pub data IsSplit (p : ℕ → Bool) : List ℕ → List (List ℕ) → Type 0 where
@@ -116,38 +129,39 @@ reads_first (Err f) others all h = cc
 reads_first (Ok y) (Err f) all h = cc
 reads_first (Ok y) (Ok ys) all h = record { head = y; tail = ys; read = refl; rest = refl; is = cc }
 
--- the function accepts exactly the elements of the grammar, and these contain no separator
-pub record Accepts {A E : Type 0} (read : List ℕ → Result A E) (Spells : List ℕ → A → Type 0) : Type 0 where
-  pub from : (e : List ℕ) (x : A) → Spells e x → read e ≡ Ok x
-  pub to : (e : List ℕ) (x : A) → read e ≡ Ok x → Spells e x
-  pub whole : (e : List ℕ) (x : A) → Spells e x → All (λ b. is_list_separator b ≡ false) e
+module _ {A E : Type 0} (read : List ℕ → Result A E) (Spells : List ℕ → A → Type 0) where
+  -- the function accepts exactly the elements of the grammar, and these contain no separator
+  pub record Accepts : Type 0 where
+    pub from : (e : List ℕ) (x : A) → Spells e x → read e ≡ Ok x
+    pub to : (e : List ℕ) (x : A) → read e ≡ Ok x → Spells e x
+    pub whole : (e : List ℕ) (x : A) → Spells e x → Unbroken e
 
-pub from_grammar : {A E : Type 0} (read : List ℕ → Result A E) (Spells : List ℕ → A → Type 0) → Accepts read Spells
-    → (bs : List ℕ) (xs : List A) → IsListOf Spells bs xs → traverse read (elements bs) ≡ Ok xs
-from_grammar read Spells a bs xs (Last e x says) =
-    rw (slice_split_none is_list_separator e (a.whole e x says), a.from e x says) refl
-from_grammar read Spells a bs xs (More e s others x xs' says sep list) =
-    rw (
-      slice_split_at is_list_separator e s others (a.whole e x says) sep,
-      a.from e x says,
-      from_grammar read Spells a others xs' list,
-    ) refl
+  module _ (a : Accepts) where
+    from_grammar : (bs : List ℕ) (xs : List A) → IsListOf Spells bs xs → traverse read (elements bs) ≡ Ok xs
+    from_grammar bs xs (Last e x says) =
+        rw (slice_split_none is_list_separator e (a.whole e x says), a.from e x says) refl
+    from_grammar bs xs (More e s others x xs' says sep list) =
+        rw (
+          slice_split_at is_list_separator e s others (a.whole e x says) sep,
+          a.from e x says,
+          from_grammar others xs' list,
+        ) refl
 
-reads_parts : {A E : Type 0} (read : List ℕ → Result A E) (Spells : List ℕ → A → Type 0) → Accepts read Spells
-    → (bs : List ℕ) (parts : List (List ℕ)) (xs : List A) → IsSplit is_list_separator bs parts
-    → traverse read parts ≡ Ok xs → IsListOf Spells bs xs
-reads_parts read Spells a bs parts xs (Whole ys) h =
-    let f = reads_first (read ys) (Ok []) xs h in
-    let one : f.head ∷ [] ≡ xs = cc in
-    subst (IsListOf Spells ys) one (Last ys f.head (a.to ys f.head f.read))
-reads_parts read Spells a bs parts xs (Cut e s ys rest cut split) h =
-    let f = reads_first (read e) (traverse read rest) xs h in
-    subst (IsListOf Spells (e ++ s ∷ ys)) f.is
-    (More e s ys f.head f.tail (a.to e f.head f.read) cut (reads_parts read Spells a ys rest f.tail split f.rest))
+    reads_parts : (bs : List ℕ) (parts : List (List ℕ)) (xs : List A) → IsSplit is_list_separator bs parts
+        → traverse read parts ≡ Ok xs → IsListOf Spells bs xs
+    reads_parts bs parts xs (Whole ys) h =
+        let f = reads_first (read ys) (Ok []) xs h in
+        let one : f.head ∷ [] ≡ xs = cc in
+        subst (IsListOf Spells ys) one (Last ys f.head (a.to ys f.head f.read))
+    reads_parts bs parts xs (Cut e s ys rest cut split) h =
+        let f = reads_first (read e) (traverse read rest) xs h in
+        subst (IsListOf Spells (e ++ s ∷ ys)) f.is
+        (More e s ys f.head f.tail (a.to e f.head f.read) cut (reads_parts ys rest f.tail split f.rest))
 
-pub to_grammar : {A E : Type 0} (read : List ℕ → Result A E) (Spells : List ℕ → A → Type 0) → Accepts read Spells
-    → (bs : List ℕ) (xs : List A) → traverse read (elements bs) ≡ Ok xs → IsListOf Spells bs xs
-to_grammar read Spells a bs xs h = reads_parts read Spells a bs (elements bs) xs (splits is_list_separator bs) h
+    pub matches_grammar : (bs : List ℕ) (xs : List A) → (IsListOf Spells bs xs → traverse read (elements bs) ≡ Ok xs)
+        × (traverse read (elements bs) ≡ Ok xs → IsListOf Spells bs xs)
+    matches_grammar bs xs =
+        (from_grammar bs xs, reads_parts bs (elements bs) xs (splits is_list_separator bs))
 
 -- ---- reading decimal digits from left to right
 

@@ -1,10 +1,10 @@
 -- The output lists of `join`: an element is `0`, or the number of a file, a point and a number, and `element_field`
 -- tests exactly this. So `out_list` agrees with the grammar in both directions.
 use Rattle.ptlangs.proofs.Common.{Result, ◌≡◌, ℕ, ◌≤◌, true, false, not, ltb, eqb, List, [], ◌∷◌, Ok, refl, subst}
-use Rattle.ptlangs.proofs.Common.{arith, All, le-ltb, ltb-false, ne_eqb, eqb-true, eqb-false, All-cons, max_u64}
+use Rattle.ptlangs.proofs.Common.{arith, le-ltb, ltb-false, ne_eqb, eqb-true, eqb-false, max_u64}
 use Rattle.ptlangs.proofs.Common.{is_number, value, is_list_separator}
 use Rattle.std.proofs.lemmas.Bool.{cond_both, not-false}
-use Rattle.ptlangs.proofs.ListElements.{digits_fail, digit_no_list_separator, Accepts, from_grammar, to_grammar}
+use Rattle.ptlangs.proofs.ListElements.{Unbroken, matches_grammar, unbroken_cons, unbroken_nil, unbroken_number}
 use Rattle.ptlangs.specs.declared.outlist.OutFault.{OutFault}
 use Rattle.ptlangs.specs.OutLists.{element_field, SpellsField, IsValidField, IsFieldElement, OutListMatchesGrammar}
 use Rattle.ptlangs.specs.declared.outlist.File.{File}
@@ -30,16 +30,14 @@ accepts_element e f (SecondFileField n h) proper =
     let (positive, fits) = proper in field_accepted Second n h positive fits
 
 after_file_number : (name : ℕ) (n : List ℕ) → is_list_separator name ≡ false → is_number n ≡ true
-    → All (λ b. is_list_separator b ≡ false) (name ∷ 46 ∷ n)
+    → Unbroken (name ∷ 46 ∷ n)
 after_file_number name n plain h =
-    All-cons (λ b. is_list_separator b ≡ false) name (46 ∷ n) plain
-    (All-cons (λ b. is_list_separator b ≡ false) 46 n refl
-    (digits_fail is_list_separator digit_no_list_separator n h))
+    unbroken_cons name (46 ∷ n) plain (unbroken_cons 46 n refl (unbroken_number n h))
 
-no_separator : (e : List ℕ) (f : OutField) → SpellsField e f → All (λ b. is_list_separator b ≡ false) e
-no_separator e f JoinField = All-cons (λ b. is_list_separator b ≡ false) 48 [] refl (λ k d below. absurd (omega arith))
-no_separator e f (FirstFileField n h) = after_file_number 49 n refl h
-no_separator e f (SecondFileField n h) = after_file_number 50 n refl h
+unbroken : (e : List ℕ) (f : OutField) → SpellsField e f → Unbroken e
+unbroken e f JoinField = unbroken_cons 48 [] refl unbroken_nil
+unbroken e f (FirstFileField n h) = after_file_number 49 n refl h
+unbroken e f (SecondFileField n h) = after_file_number 50 n refl h
 
 -- ---- from `out_list` to the grammar
 
@@ -75,15 +73,9 @@ reads_element (b ∷ c ∷ n) f =
     (λ t. rw (eqb-true b 50 t, eqb-true c 46 (not-false (eqb c 46) point))
     (spelled_field Second 50 n f (SecondFileField n))) (λ t h. cc)))
 
-accepts_elements : Accepts element_field IsFieldElement
-accepts_elements = record {
+pub accepts_the_grammar : OutListMatchesGrammar
+accepts_the_grammar = matches_grammar element_field IsFieldElement (record {
   from = λ e f (spells, valid). accepts_element e f spells valid;
   to = reads_element;
-  whole = λ e f (spells, _). no_separator e f spells;
-}
-
-pub accepts_the_grammar : OutListMatchesGrammar
-accepts_the_grammar bs fs = (
-  from_grammar element_field IsFieldElement accepts_elements bs fs,
-  to_grammar element_field IsFieldElement accepts_elements bs fs,
-)
+  whole = λ e f (spells, _). unbroken e f spells;
+})

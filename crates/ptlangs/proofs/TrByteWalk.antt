@@ -24,47 +24,42 @@ pub record ItemsRead {A : Type 0} (all rest : List (Result A SetFaultKind)) (P :
   pub so_far : all ≡ map Ok done ++ rest
   pub holds : P done
 
--- more items were read
-pub items_more : {A : Type 0} {all rest after : List (Result A SetFaultKind)} {P : List A → Type 0}
-    (Q : List A → Type 0) (r : ItemsRead all rest P) (more : List A)
-    → rest ≡ map Ok more ++ after → (P r.done → Q (r.done ++ more)) → ItemsRead all after Q
-items_more {after = after} Q r more s h = record {
-  done = r.done ++ more;
-  so_far =
-      r.so_far ∙ ap (λ xs. map Ok r.done ++ xs) s ∙ sym (append_assoc (map Ok r.done) (map Ok more) after)
-      ∙ ap (λ xs. xs ++ after) (sym (map-append Ok r.done more));
-  holds = h r.holds;
-}
-
 sequence-done : {A : Type 0} (done : List A) (rest : List (Result A SetFaultKind))
     → sequence (map Ok done ++ rest) ≡ onto done (sequence rest)
 sequence-done [] rest = sym (append_ok-nil (sequence rest))
 sequence-done (x ∷ done) rest = ap (cons_ok x) (sequence-done done rest) ∙ cons_ok-append_ok x done (sequence rest)
 
-sequence-read : {A : Type 0} {all rest : List (Result A SetFaultKind)} {P : List A → Type 0} (r : ItemsRead all rest P)
-    → sequence all ≡ onto r.done (sequence rest)
-sequence-read {rest = rest} r = ap sequence r.so_far ∙ sequence-done r.done rest
+module _ {A : Type 0} {all rest : List (Result A SetFaultKind)} {P : List A → Type 0} (r : ItemsRead all rest P) where
+  -- more items were read
+  pub items_more : {after : List (Result A SetFaultKind)} (Q : List A → Type 0) (more : List A)
+      → rest ≡ map Ok more ++ after → (P r.done → Q (r.done ++ more))
+      → ItemsRead all after Q
+  items_more {after} Q more s h = record {
+    done = r.done ++ more;
+    so_far = r.so_far ∙ ap (λ xs. map Ok r.done ++ xs) s ∙ sym (append_assoc (map Ok r.done) (map Ok more) after)
+        ∙ ap (λ xs. xs ++ after) (sym (map-append Ok r.done more));
+    holds = h r.holds;
+  }
 
-pub items_end : {A : Type 0} {all rest : List (Result A SetFaultKind)} {P : List A → Type 0} (r : ItemsRead all rest P)
-    → rest ≡ [] → sequence all ≡ Ok r.done
-items_end r e = sequence-read r ∙ ap (λ xs. onto r.done (sequence xs)) e ∙ ap Ok (append-nil r.done)
+  sequence-read : sequence all ≡ onto r.done (sequence rest)
+  sequence-read = ap sequence r.so_far ∙ sequence-done r.done rest
 
-pub items_fault : {A : Type 0} {all rest : List (Result A SetFaultKind)} {P : List A → Type 0} {k : SetFaultKind}
-    (r : ItemsRead all rest P)
-    → sequence rest ≡ Err k → sequence all ≡ Err k
-items_fault r e = sequence-read r ∙ ap (onto r.done) e
+  pub items_end : rest ≡ [] → sequence all ≡ Ok r.done
+  items_end e = cc (sequence-read, append-nil r.done)
 
--- the items before and after the current one, if none has a fault
-pub items_at : {A : Type 0} {all rest after : List (Result A SetFaultKind)} {P : List A → Type 0} {x : A} {xs : List A}
-    (r : ItemsRead all rest P)
-    → rest ≡ Ok x ∷ after → sequence all ≡ Ok xs → (more : List A) × (xs ≡ r.done ++ x ∷ more)
-items_at {A} {after = after} {x = x} {xs = xs} r s c = by_rest (sequence after)
-    (sym (sequence-read r ∙ ap (λ ys. onto r.done (sequence ys)) s) ∙ c)
-  where
-    by_rest : (t : Result (List A) SetFaultKind) → onto r.done (cons_ok x t) ≡ Ok xs
-        → (more : List A) × (xs ≡ r.done ++ x ∷ more)
-    by_rest (Ok more) e = (more, cc)
-    by_rest (Err k) e = absurd (cc)
+  pub items_fault : {k : SetFaultKind} → sequence rest ≡ Err k → sequence all ≡ Err k
+  items_fault e = cc (sequence-read)
+
+  -- the items before and after the current one, if none has a fault
+  pub items_at : {after : List (Result A SetFaultKind)} {x : A} {xs : List A}
+      → rest ≡ Ok x ∷ after → sequence all ≡ Ok xs
+      → (more : List A) × (xs ≡ r.done ++ x ∷ more)
+  items_at {after} {x} {xs} s c = by_rest (sequence after) (cc (sequence-read))
+    where
+      by_rest : (t : Result (List A) SetFaultKind) → onto r.done (cons_ok x t) ≡ Ok xs
+          → (more : List A) × (xs ≡ r.done ++ x ∷ more)
+      by_rest (Ok more) e = (more, cc)
+      by_rest (Err k) e = absurd (cc)
 
 -- ---- the bytes of segments
 

@@ -11,7 +11,6 @@ use Rattle.ptlangs.proofs.Common.{unwrap_or, complement_of, image_by}
 use Rattle.std.proofs.Math.ListN.{get_or}
 use Rattle.std.proofs.lemmas.Bool.{or_right}
 use Rattle.std.proofs.lemmas.List.Elements.{filter-append}
-use Rattle.std.proofs.lemmas.List.Sums.{length-filter}
 use Rattle.std.specs.Prelude.{count_by}
 use Rattle.ptlangs.specs.TrClasses.{all_bytes}
 use Rattle.ptlangs.specs.TrParsing.{contents_of}
@@ -21,6 +20,8 @@ use Rattle.std.specs.Prelude.{filter}
 use Rattle.std.proofs.lemmas.List.FromFn.{get_or-map-range_with_len, length-map-range_with_len, map-range_with_len_more}
 use Rattle.std.proofs.lemmas.List.{get_or-set_other, get_or-set_same, get_or_default, length-set, map-id, same_lists}
 use Rattle.std.proofs.lemmas.Bool.{cases_lt}
+use Rattle.std.proofs.lemmas.Grind.{common_steps}
+use Rattle.std.proofs.Common.{⊎_elim}
 use Rattle.ptlangs.proofs.TrByteRanges.{slice_get-left, slice_get-right, slice_get-none, repeat_there}
 
 -- the entries of a table of all bytes
@@ -111,11 +112,7 @@ pub others_below-more : (bytes : List ℕ) (n : ℕ) (t : Bool) → has_byte n b
 others_below-more bytes n t e =
     ap (filter (λ b. not (has_byte b bytes))) (range-more 0 n n (omega arith))
     ∙ filter-append (λ b. not (has_byte b bytes)) (range_with_len 0 n) (n ∷ [])
-    ∙ ap (λ xs. others_below bytes n ++ xs) (rw e (choose t))
-  where
-    choose : (t : Bool) → cond (not t) (n ∷ []) [] ≡ cond t [] (n ∷ [])
-    choose true = refl
-    choose false = refl
+    ∙ ap (λ xs. others_below bytes n ++ xs) (grind arith)
 
 pub others_below-all : (bytes : List ℕ) (n : ℕ) → n ≡ 256 → others_below bytes n ≡ complement_of bytes
 unfolding all_bytes
@@ -152,33 +149,12 @@ complement-around bytes b low h =
           ∙ append_assoc (others_below bytes b) (b ∷ []) rest,
     )
 
-has_byte-filter : (p : ℕ → Bool) (b : ℕ) (xs : List ℕ) → has_byte b xs ≡ true → has_byte b (filter p xs) ≡ p b
-has_byte-filter p b xs h = all_of xs ∙ ap (λ t. p b && t) h ∙ and_true (p b)
-  where
-    and_true : (t : Bool) → (t && true) ≡ t
-    and_true true = refl
-    and_true false = refl
-
-    choose : (x : ℕ) (t : Bool) (ys : List ℕ) → p x ≡ t → has_byte b (filter p ys) ≡ (p b && has_byte b ys)
-        → has_byte b (cond t (x ∷ filter p ys) (filter p ys)) ≡ (p b && (eqb x b || has_byte b ys))
-    choose x t ys e h = by_cases t e (cases_eq x b)
-      where
-        by_cases : (t : Bool) → p x ≡ t → ((x ≡ b) ⊎ (x ≡ b → ⊥))
-            → has_byte b (cond t (x ∷ filter p ys) (filter p ys)) ≡ (p b && (eqb x b || has_byte b ys))
-        by_cases true e (inl same) = rw (eq-eqb x b same) (sym (ap (λ t. t && true) (ap p (sym same) ∙ e)))
-        by_cases false e (inl same) =
-            rw (eq-eqb x b same, h) (ap (λ t. t && has_byte b ys) (ap p (sym same) ∙ e)
-            ∙ sym (ap (λ t. t && true) (ap p (sym same) ∙ e)))
-        by_cases true e (inr other) = rw (ne_eqb x b other) h
-        by_cases false e (inr other) = rw (ne_eqb x b other) h
-
-    all_of : (xs : List ℕ) → has_byte b (filter p xs) ≡ (p b && has_byte b xs)
-    all_of [] = sym (and_false (p b))
-      where
-        and_false : (t : Bool) → (t && false) ≡ false
-        and_false true = refl
-        and_false false = refl
-    all_of (x ∷ xs) = choose x (p x) xs refl (all_of xs)
+has_byte-filter : (p : ℕ → Bool) (b : ℕ) (xs : List ℕ) → has_byte b (filter p xs) ≡ (p b && has_byte b xs)
+has_byte-filter p b [] = grind arith
+has_byte-filter p b (x ∷ xs) = ⊎_elim
+    (λ same. grind (arith, eq-eqb x b same, ap p same, has_byte-filter p b xs))
+    (λ other. grind (arith, ne_eqb x b other, has_byte-filter p b xs))
+    (cases_eq x b)
 
 has_byte-range : (n b : ℕ) → b < n → has_byte b (range_with_len 0 n) ≡ true
 has_byte-range zero b low = absurd (omega (arith, low))
@@ -199,20 +175,13 @@ has_byte-all b low = has_byte-range 256 b low
 
 -- the complement contains the bytes that the array does not contain
 pub has_byte-complement : (bytes : List ℕ) (b : ℕ) → b < 256 → has_byte b (complement_of bytes) ≡ not (has_byte b bytes)
-has_byte-complement bytes b low = has_byte-filter (λ c. not (has_byte c bytes)) b all_bytes (has_byte-all b low)
+has_byte-complement bytes b low =
+    has_byte-filter (λ c. not (has_byte c bytes)) b all_bytes
+    ∙ ap (λ t. not (has_byte b bytes) && t) (has_byte-all b low) ∙ grind arith
 
-length-filter-map : (f : ℕ → Bool) (xs : List ℕ)
-    → count_by not (map f xs) ≡ length (filter (λ b. not (f b)) xs)
-length-filter-map f xs = sym (length-filter not (map f xs)) ∙ by_item xs
-  where
-    choose : (t : Bool) {A B : Type 0} (y : A) (ys : List A) (z : B) (zs : List B) → length ys ≡ length zs
-        → length (cond t (y ∷ ys) ys) ≡ length (cond t (z ∷ zs) zs)
-    choose true y ys z zs e = ap (λ n. suc n) e
-    choose false y ys z zs e = e
-
-    by_item : (xs : List ℕ) → length (filter not (map f xs)) ≡ length (filter (λ b. not (f b)) xs)
-    by_item [] = refl
-    by_item (x ∷ xs) = choose (not (f x)) _ _ _ _ (by_item xs)
+length-filter-map : (f : ℕ → Bool) (xs : List ℕ) → count_by not (map f xs) ≡ length (filter (λ b. not (f b)) xs)
+length-filter-map f [] = refl
+length-filter-map f (x ∷ xs) = grind (arith, common_steps, length-filter-map f xs)
 
 -- the complement of an array, from a table and a count of the bytes that the array does not contain
 pub complement-is : (old : Contents) (bytes : List ℕ) (has : List Bool) (count : ℕ) → old ≡ contents_of bytes
@@ -230,12 +199,9 @@ complement-is old bytes has count e long flips counted =
 pub is_kept : (first : Contents) (bytes : List ℕ) (b i : ℕ) (t : Bool) → i ≡ b → b < 256 → get_or first.has i false ≡ t
     → first ≡ contents_of (complement_of bytes) → has_byte b bytes ≡ not t
 is_kept first bytes b i t j low h e =
-    opposite (has_byte b bytes) (sym (has_byte-complement bytes b low)
-    ∙ sym (get_or-has first (complement_of bytes) b false low e) ∙ ap (λ k. get_or first.has k false) (sym j) ∙ h)
-  where
-    opposite : (s : Bool) → not s ≡ t → s ≡ not t
-    opposite true e = ap not e
-    opposite false e = ap not e
+    let is = has_byte-complement bytes b low in
+    let has = get_or-has first (complement_of bytes) b false low e in
+    grind (arith, is, has, j, h)
 
 -- ---- the image of a byte
 

@@ -156,19 +156,6 @@ unmatched : (class : Option CharClass) → classes_match None class ≡ not (is_
 unmatched None = refl
 unmatched (Some class) = refl
 
-pub passing-next : (from to : List Member) (old : Images) (second : Bytes) (t : Member) → IsPassing from to old
-    → bytes_left old.second ≡ Ok t ∷ bytes_left second → is_some t.class ≡ false
-    → IsPassing from to (record { table = old.table; second = second; last = old.last })
-passing-next from to old second t p s plain =
-    let (more, is, left) = split_ok p.rest t (bytes_left second) (sym p.left ∙ s) in
-    record {
-      rest = more;
-      left = left;
-      decides = p.decides ∙ ap (all_paired []) is
-          ∙ rw (unmatched t.class, plain) refl;
-      table = p.table;
-    }
-
 -- no class starts in bytes that are passed as copies of one
 plain-passed : (bytes : List ℕ) (rest : List Member) (after : List (Result Member SetFaultKind))
     → AllOk rest ≡ AllOk (plain_members bytes) ++ after
@@ -179,26 +166,37 @@ plain-passed (b ∷ bytes) rest after e =
     let (more, end, decides) = plain-passed bytes next after (sym left) in
     (more, end, ap (all_paired []) is ∙ decides)
 
-pub passing-copies : (from to : List Member) (old : Images) (second : Bytes) (bytes : List ℕ) → IsPassing from to old
-    → bytes_left old.second ≡ AllOk (plain_members bytes) ++ bytes_left second
-    → IsPassing from to (record { table = old.table; second = second; last = old.last })
-passing-copies from to old second bytes p s =
-    let (more, left, decides) = plain-passed bytes p.rest (bytes_left second) (sym p.left ∙ s) in
-    record { rest = more; left = left; decides = p.decides ∙ decides; table = p.table }
+module _ {from to : List Member} {old : Images} (p : IsPassing from to old) where
+  pub passing-next : (second : Bytes) (t : Member) → bytes_left old.second ≡ Ok t ∷ bytes_left second
+      → is_some t.class ≡ false → IsPassing from to (record { table = old.table; second = second; last = old.last })
+  passing-next second t s plain =
+      let (more, is, left) = split_ok p.rest t (bytes_left second) (sym p.left ∙ s) in
+      record {
+        rest = more;
+        left = left;
+        decides = p.decides ∙ ap (all_paired []) is ∙ rw (unmatched t.class, plain) refl;
+        table = p.table;
+      }
 
-pub passing-unpaired : (from to : List Member) (old : Images) (after : List (Result Member SetFaultKind)) (t : Member)
-    → IsPassing from to old → bytes_left old.second ≡ Ok t ∷ after → is_some t.class ≡ true → all_paired from to ≡ false
-passing-unpaired from to old after t p s class =
-    let (more, is, left) = split_ok p.rest t after (sym p.left ∙ s) in
-    p.decides ∙ ap (all_paired []) is ∙ rw (unmatched t.class, class) refl
+  pub passing-copies : (second : Bytes) (bytes : List ℕ)
+      → bytes_left old.second ≡ AllOk (plain_members bytes) ++ bytes_left second
+      → IsPassing from to (record { table = old.table; second = second; last = old.last })
+  passing-copies second bytes s =
+      let (more, left, decides) = plain-passed bytes p.rest (bytes_left second) (sym p.left ∙ s) in
+      record { rest = more; left = left; decides = p.decides ∙ decides; table = p.table }
 
-pub passing-end : (from to : List Member) (old : Images) → IsPassing from to old → bytes_left old.second ≡ []
-    → all_paired from to ≡ true
-passing-end from to old p s = p.decides ∙ by_rest p.rest (sym p.left ∙ s)
-  where
-    by_rest : (rest : List Member) → AllOk rest ≡ [] → all_paired [] rest ≡ true
-    by_rest [] e = refl
-    by_rest (x ∷ rest) e = absurd (cc)
+  pub passing-unpaired : (after : List (Result Member SetFaultKind)) (t : Member) → bytes_left old.second ≡ Ok t ∷ after
+      → is_some t.class ≡ true → all_paired from to ≡ false
+  passing-unpaired after t s class =
+      let (more, is, left) = split_ok p.rest t after (sym p.left ∙ s) in
+      p.decides ∙ ap (all_paired []) is ∙ rw (unmatched t.class, class) refl
+
+  pub passing-end : bytes_left old.second ≡ [] → all_paired from to ≡ true
+  passing-end s = p.decides ∙ by_rest p.rest (sym p.left ∙ s)
+    where
+      by_rest : (rest : List Member) → AllOk rest ≡ [] → all_paired [] rest ≡ true
+      by_rest [] e = refl
+      by_rest (x ∷ rest) e = absurd (cc)
 
 -- ---- the images of two arrays, or the fault of a class
 

@@ -2,8 +2,8 @@
 -- element and no segment has that fault.
 use Rattle.ptlangs.proofs.Common.{◌≡◌, Bool, Err, List, None, Ok, Option, Result, Some, [], ap, arith, cond, false}
 use Rattle.ptlangs.proofs.Common.{length, map, refl, suc, sym, true, zero, ℕ, ◌++◌, ◌-◌, ◌∙◌, ◌∷◌, ◌≢◌, result_map_both}
-use Rattle.ptlangs.proofs.Common.{and_then, AClass, ADescendingRange, AnInvalidEnd, AnInvalidChar, ARange, ARepeat}
-use Rattle.ptlangs.proofs.Common.{Alone, AnEquivalence, StartsElement, StartsInvalid, InBrackets, StartsBracketed}
+use Rattle.ptlangs.proofs.Common.{and_then, ADescendingRange, AnInvalidEnd, AnInvalidChar, StartsElement, StartsInvalid}
+use Rattle.ptlangs.proofs.Common.{subst}
 use Rattle.ptlangs.proofs.Common.{FirstFault, LaterFault, NoElement, NoSegment, array}
 use Rattle.ptlangs.proofs.Common.{class_offsets, first_array, image_of, in_string, is_deleted}
 use Rattle.ptlangs.proofs.Common.{is_squeezed, has_valid_classes, segment, plan, plan_of}
@@ -18,7 +18,7 @@ use Rattle.ptlangs.specs.declared.tr.contents.Contents.{Contents}
 use Rattle.ptlangs.specs.declared.faults.SetString.TheVariants as string
 use Rattle.ptlangs.specs.declared.faults.SetString.{SetString}
 use Rattle.ptlangs.specs.declared.tr.elements.SetElement.TheVariants as element
-use Rattle.ptlangs.proofs.TrElementGrammar.{faults_are_first}
+use Rattle.ptlangs.proofs.TrElementGrammar.{StartsElement-front, faults_are_first}
 use Rattle.ptlangs.proofs.Common.{complement_of}
 use Rattle.ptlangs.specs.TrParsing.{all_paired, contents_of, first_members, marked_array, ok_map}
 use Rattle.ptlangs.specs.TrTables.{Tables}
@@ -44,7 +44,7 @@ mapped_ok (Err k) f y e = absurd (cc)
 pub mapped_at : (r : Result (List Segment) SetFaultKind) (f : List Segment → Contents) (y : Contents)
     (ps : List Segment)
     → Ok y ≡ result_map_both f (λ (k : SetFaultKind). k) r → r ≡ Ok ps → y ≡ f ps
-mapped_at (Ok qs) f y ps e h = let same : qs ≡ ps = cc in let value : y ≡ f qs = cc in value ∙ ap f same
+mapped_at (Ok qs) f y ps e h = cc
 mapped_at (Err k) f y ps e h = absurd (cc)
 
 -- the segments of a second string, and the plan that they give if a fill has `fill` bytes
@@ -169,22 +169,11 @@ not_memory_after : (us rest : List SetChar) → AreNotMemory (us ++ rest) → Ar
 not_memory_after [] rest fine = fine
 not_memory_after (u ∷ us) rest fine = let (_, others) = fine in not_memory_after us rest others
 
-bracketed_not_memory : (us : List SetChar) (p : SetElement) (rest : List SetChar) → StartsBracketed us p rest
-    → AreNotMemory us → AreNotMemory rest
-bracketed_not_memory us p rest (ARepeat u v digits r m d) fine =
-    not_memory_after (Plain 93 ∷ []) r (not_memory_after (map Plain digits) (Plain 93 ∷ r)
-    (not_memory_after (Plain 91 ∷ u ∷ Plain 42 ∷ []) (map Plain digits ++ Plain 93 ∷ r) fine))
-bracketed_not_memory us p rest (AClass c name r l) fine =
-    not_memory_after (Plain 58 ∷ Plain 93 ∷ []) r (not_memory_after (map Plain (c ∷ name)) (Plain 58 ∷ Plain 93 ∷ r)
-    (not_memory_after (Plain 91 ∷ Plain 58 ∷ []) (map Plain (c ∷ name) ++ Plain 58 ∷ Plain 93 ∷ r) fine))
-bracketed_not_memory us p rest (AnEquivalence u v r m) fine =
-    not_memory_after (Plain 91 ∷ Plain 61 ∷ u ∷ Plain 61 ∷ Plain 93 ∷ []) r fine
-
 element_not_memory : (us : List SetChar) (p : SetElement) (rest : List SetChar) → StartsElement us p rest
     → AreNotMemory us → AreNotMemory rest
-element_not_memory us p rest (InBrackets all q r o) fine = bracketed_not_memory all q r o fine
-element_not_memory us p rest (ARange u v a b r n m w h) fine = not_memory_after (u ∷ Plain 45 ∷ v ∷ []) r fine
-element_not_memory us p rest (Alone u a r n d m) fine = not_memory_after (u ∷ []) r fine
+element_not_memory us p rest begins fine =
+    let (front, all, _) = StartsElement-front us p rest begins in
+    not_memory_after front rest (subst AreNotMemory all fine)
 
 -- ---- neither have segments
 
@@ -220,7 +209,7 @@ segment_not_memory Squeezed has_fill (element.Repeat b count) = repeat_not_memor
 fault_not_memory : {A : Type 0} (r : Result A SetFaultKind) (k : SetFaultKind) → FaultIsNotMemory r → r ≡ Err k
     → k ≢ Memory
 fault_not_memory (Ok x) k speaks e = cc
-fault_not_memory (Err j) k speaks e = let same : j ≡ k = cc in λ memory. speaks (cc)
+fault_not_memory (Err j) k speaks e = λ memory. speaks (cc)
 
 first_not_memory : (role : SetRole) (has_fill : Bool) (us : List SetChar) (k : SetFaultKind)
     → FirstFault role has_fill us k → AreNotMemory us → k ≢ Memory
@@ -253,7 +242,7 @@ second_not_memory form complement firsts (Err k) speaks = speaks
 of_string : {A : Type 0} (string : SetString) (r : Result A SetFaultKind) (fault : SetFault) → FaultIsNotMemory r
     → in_string string r ≡ Err fault → fault.kind ≢ Memory
 of_string string (Ok x) fault speaks e = cc
-of_string string (Err k) fault speaks e = let same : k ≡ fault.kind = cc in λ memory. speaks (cc)
+of_string string (Err k) fault speaks e = λ memory. speaks (cc)
 
 rest_not_memory : (form : Form) (complement : Bool) (firsts : List Segment) (s2 : Option (List ℕ)) (fault : SetFault)
     → plan_from form complement firsts s2 ≡ Err fault → fault.kind ≢ Memory
@@ -268,8 +257,7 @@ plan_not_memory : (string : SetString) (form : Form) (complement : Bool) (s2 : O
     → FaultIsNotMemory r → and_then (in_string string r) (λ firsts. plan_from form complement firsts s2) ≡ Err fault
     → fault.kind ≢ Memory
 plan_not_memory string form complement s2 (Ok firsts) fault speaks e = rest_not_memory form complement firsts s2 fault e
-plan_not_memory string form complement s2 (Err k) fault speaks e = let same : k ≡ fault.kind = cc in
-    λ memory. speaks (cc)
+plan_not_memory string form complement s2 (Err k) fault speaks e = λ memory. speaks (cc)
 
 pub never_memory : NoMemoryFault
 never_memory form complement s1 s2 fault e =

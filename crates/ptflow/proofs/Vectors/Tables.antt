@@ -1,24 +1,31 @@
 -- Tables of images. Of each lane, the vectors that are left have in the row of the lane what was found for it. Each
 -- step halves the rows, and takes of two vectors the one that the lowest bit of the row names.
-use Rattle.ptflow.proofs.Common.{◌≡◌, ◌<◌, ◌≤◌, ◌∙◌, ℕ, zero, suc, ◌*◌, ◌+◌, ◌-◌, ◌/◌, ◌%◌, List, [], All, map, min, not}
-use Rattle.ptflow.proofs.Common.{length, length-map, length-set, set, slice_index, slice_index_or, sel_l, eqb, bit_and}
+use Rattle.ptflow.proofs.Common.{◌≡◌, ◌<◌, ◌≤◌, ◌∙◌, ℕ, zero, suc, ◌*◌, ◌+◌, ◌-◌, ◌/◌, ◌%◌, List, [], All, map, not}
+use Rattle.ptflow.proofs.Common.{length, length-map, length-set, set, sel_l, eqb, bit_and}
 use Rattle.ptflow.proofs.Common.{All-set, and_mask, ap, arith, cases_eq, cond, get_or, get_or-chunk, get_or-map, ⊎_elim}
 use Rattle.ptflow.proofs.Common.{Bool, Each1, Fits, cases_lt, chunk, ext_get_or, false, get_or-set_other, ltb, w8, ◌^◌}
-use Rattle.ptflow.proofs.Common.{get_or-set_same, get_or_default, get_or_past, inl, inr, ◌⊎◌, le-ltb, lt-ltb, replicate, sym, zip2}
-use Rattle.ptflow.proofs.Common.{zip2_splat}
+use Rattle.ptflow.proofs.Common.{get_or-set_same, get_or_default, get_or_past, inl, inr, ◌⊎◌, le-ltb, lt-ltb}
+use Rattle.ptflow.proofs.Common.{min, replicate, sym, top, zip2, zip2_splat}
 use Rattle.std.proofs.lemmas.Simd.{Each1-get_or, get_or-sel_l, length-sel_l}
-use Rattle.ptflow.proofs.Common.{top}
 use Rattle.ptflow.proofs.Vectors.Lanes.{tests_are}
 use Rattle.ptflow.specs.Private.Vectors.Tables.{image_from, lane_of}
 
--- one value more is stored
-pub stored_next : {X : Type 0} (f : ℕ → X) (kept : List X) (index : ℕ) (x d : X) → index < length kept
-    → ((i : ℕ) → i < index → get_or kept i d ≡ f i) → x ≡ f index
-    → (i : ℕ) → i < index + 1 → get_or (set kept index x) i d ≡ f i
-stored_next f kept index x d room before is i low = ⊎_elim
-    (λ same. cc (get_or-set_same kept index x d room))
-    (λ other. get_or-set_other kept index i x d other ∙ before i (omega (arith, low, other)))
-    (cases_eq i index)
+-- of `n` vectors, the first ones are those of a function
+pub record IsFilledTo (n : ℕ) (f : ℕ → List ℕ) (index : ℕ) (kept : List (List ℕ)) : Type 0 where
+  pub long : length kept ≡ n
+  pub lanes : All (λ v. length v ≡ 16) kept
+  pub made : (i : ℕ) → i < index → get_or kept i [] ≡ f i
+
+pub filled_next : {n : ℕ} {f : ℕ → List ℕ} {index : ℕ} {kept : List (List ℕ)} {v : List ℕ} → IsFilledTo n f index kept
+    → index < n → v ≡ f index → length (f index) ≡ 16 → IsFilledTo n f (index + 1) (set kept index v)
+filled_next {f = f} {index} {kept} {v} filled room is size = record {
+  long = length-set kept index v ∙ filled.long;
+  lanes = All-set (λ v. length v ≡ 16) kept index v (ap length is ∙ size) filled.lanes;
+  made = λ i low. ⊎_elim
+      (λ same. cc (get_or-set_same kept index v [] (omega (arith, filled.long))))
+      (λ other. get_or-set_other kept index i v [] other ∙ filled.made i (omega (arith, low, other)))
+      (cases_eq i index);
+}
 
 module _ (rows : List ℕ) (found : List (List ℕ)) (count : ℕ) where
   abbrev pub odd : ℕ → ℕ
@@ -49,7 +56,8 @@ module _ (rows : List ℕ) (found : List (List ℕ)) (count : ℕ) where
         → sel_l (map (top 7) (zip2 (λ a b. cond (not (eqb a b)) 255 0) (zip2 bit_and rows (replicate 16 1))
         (replicate 16 0))) (get_or found second []) (get_or found (2 * i) []) ≡ halved i
     halved_is i is =
-        let bits = tests_are (λ a b. not (eqb a b)) (λ row. bit_and row 1) rows 0 long (zip2_splat bit_and rows 16 1 long) in
+        let bits = tests_are (λ a b. not (eqb a b)) (λ row. bit_and row 1) rows 0 long
+        (zip2_splat bit_and rows 16 1 long) in
         cc (bits, is)
 
     pub halved_lane : (lane : ℕ) → lane < 16 → get_or rows lane 0 < count
@@ -70,13 +78,6 @@ module _ (rows : List ℕ) (found : List (List ℕ)) (count : ℕ) where
         by_bit zero is = ap (λ k. get_or (get_or found k []) lane 0) (omega arith)
         by_bit (suc zero) is = ap (λ k. get_or (get_or found k []) lane 0) (omega arith)
         by_bit (suc (suc bit)) is = absurd (omega arith)
-
-  -- the vectors so far, of `n`
-  pub record HalvedTo (n index : ℕ) (kept : List (List ℕ)) : Type 0 where
-    pub size : length found ≡ n
-    pub long : length kept ≡ n
-    pub lanes : All (λ v. length v ≡ 16) kept
-    pub made : (i : ℕ) → i < index → get_or kept i [] ≡ halved i
 
 pub shifted_lane : (rows : List ℕ) (lane : ℕ) → length rows ≡ 16 → lane < 16
     → get_or (zip2 (λ a b. a / 2 ^ b) rows (replicate 16 1)) lane 0 ≡ get_or rows lane 0 / 2
@@ -141,7 +142,8 @@ module _ (first n : ℕ) (table : List (List ℕ)) (within : first + 16 * n ≤ 
         (cases_lt b first)
 
     module _ (v : List ℕ) (long : length v ≡ 16) (fit : Each1 (Fits w8) v) {offsets rows : List ℕ} (found : List ℕ)
-        (found_in_rows : List (List ℕ)) (offsets_are : offsets ≡ map offset v) (rows_are : rows ≡ map (λ b. offset b / 16) v)
+        (found_in_rows : List (List ℕ)) (offsets_are : offsets ≡ map offset v)
+        (rows_are : rows ≡ map (λ b. offset b / 16) v)
         (looked_up : (row : ℕ) → row < n
         → get_or found_in_rows row [] ≡ map (λ o. get_or (get_or table row []) (o % 16) 0) offsets)
         (size_of_found : length found ≡ 16)
@@ -165,7 +167,8 @@ module _ (first n : ℕ) (table : List (List ℕ)) (within : first + 16 * n ≤ 
         pub images_of : {flags : List Bool} → flags ≡ map (λ b. ltb (offset b / 16) n) v
             → sel_l flags found v ≡ map (image_from first table) v
         images_of {flags} flags_are =
-            let flags_long : length flags ≡ 16 = ap length flags_are ∙ length-map v (λ b. ltb (offset b / 16) n) ∙ long in
+            let flags_long : length flags ≡ 16 = ap length flags_are
+            ∙ length-map v (λ b. ltb (offset b / 16) n) ∙ long in
             let sizes = length-sel_l flags found v (omega arith) (omega arith) in
             ext_get_or 0 (sel_l flags found v) (map (image_from first table) v)
             (sizes ∙ flags_long ∙ sym (length-map v (image_from first table) ∙ long)) (λ lane low.

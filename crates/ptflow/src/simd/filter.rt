@@ -101,8 +101,9 @@ fn filter_tail(by: Filter, pairs: Pairs, start: usize, into: &mut OutBuf, count:
     count
 }
 
-// Appends the bytes that are kept, 64 at a time. Returns the new count.
-#[inline(never)]
+// Appends the bytes that are kept, 64 at a time. Returns the new count. (It is inlined, since bytes that are compared
+// with themselves need no comparison.)
+#[inline(always)]
 fn filter_pairs(by: Filter, pairs: Pairs, into: &mut OutBuf, count: usize) -> usize
     requires { FilterPre pairs.bytes.now 0 count }
     ensures kept { take result into.new

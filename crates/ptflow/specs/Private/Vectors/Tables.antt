@@ -1,5 +1,6 @@
 -- Byte maps as tables of images.
-use Rattle.std.specs.Prelude.{◌≡◌, ◌<◌, ◌≤◌, ℕ, ◌-◌, ◌/◌, ◌%◌, ◌⊎◌, List, [], nat_lt, slice_index, slice_index_or, if◌then◌else◌}
+use Rattle.std.specs.Prelude.{◌≡◌, ◌<◌, ◌≤◌, ℕ, ◌-◌, ◌/◌, ◌%◌, ◌⊎◌, List, [], nat_lt}
+use Rattle.std.specs.Prelude.{slice_index, slice_index_or, if◌then◌else◌}
 use Rattle.ptflow.specs.declared.simd.table.MovedRange.{MovedRange}
 
 -- what the vectors of all rows have in a lane, in the row that the lane of `rows` names

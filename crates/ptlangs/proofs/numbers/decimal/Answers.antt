@@ -1,7 +1,7 @@
 -- A checked multiplication or addition fails only if the number is too large, which further digits do not change.
 -- Otherwise the loop ends with the value of all digits.
-use Rattle.ptlangs.proofs.Common.{◌≡◌, ◌-◌, ◌∙◌, sym, get_or, arith, digit_value, nat_tests}
-use Rattle.ptlangs.proofs.ListElements.{too_large_at, is_its_value, is_empty_by_length, digit_is}
+use Rattle.ptlangs.proofs.Common.{◌≡◌, ◌-◌, get_or, arith, digit_value, nat_tests}
+use Rattle.ptlangs.proofs.ListElements.{too_large_at, digit_is}
 use Rattle.ptlangs.proofs.numbers.decimal.Goals as goal
 
 pub returns-in_err-checked_mul : goal.returns-in_err-checked_mul
@@ -17,9 +17,3 @@ returns-in_err-value c =
     (too_large_at c.args.text.now c.loop-byte.byte-index c.loop-byte.value
     (omega arith) c.loop-byte.invariant.number
     (omega (arith, d, c.in_err-value.ensures, c.in_ok-checked_mul.ensures)))
-
-pub returns : goal.returns
-returns c =
-    is_its_value c.args.text.now c.loop-byte.byte-index c.loop-byte.value
-    (is_empty_by_length c.args.text.now ∙ sym c.is_empty.ensures ∙ c.if-is_empty.false)
-    c.loop-byte-test.false c.loop-byte.invariant.number c.loop-byte.invariant.digits c.loop-byte.invariant.fits

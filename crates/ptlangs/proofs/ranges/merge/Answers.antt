@@ -1,20 +1,9 @@
 -- The next interval extends the current one if they overlap or are adjacent; otherwise the current one is complete, and
 -- there is a gap before the next. Both keep the selected set.
 use Rattle.ptlangs.proofs.Common.{refl, drop_more, drop_all}
-use Rattle.ptlangs.proofs.CutGrammar.{starts, absorbs, starts_next, next_positive}
+use Rattle.ptlangs.proofs.CutGrammar.{absorbs, starts_next}
 use Rattle.ptlangs.proofs.ranges.merge.Goals as goal
 use Rattle.ptlangs.proofs.ranges.merge.Goals.{then-next-current, else-next-current+in_ok-push}
-
-pub loop-next-init : goal.loop-next-init
-loop-next-init g c =
-    rw c.new-kept.ensures.items
-    (starts c.in-Some.first.now c.in-Some.others.now c.args.sorted.now c.in-Some.ensures.cases.0 c.requires)
-
-pub overflow_sub-next : goal.overflow_sub-next
-overflow_sub-next g c =
-    next_positive
-    (rw (drop_more c.in-Some.others.now c.loop-next.next-index (record { first = 0; last = 0 })
-    c.loop-next-test.true) at c.loop-next.invariant)
 
 pub loop-next-preserved : goal.loop-next-preserved
 loop-next-preserved g c =
@@ -27,9 +16,6 @@ loop-next-preserved g c =
       | else-next-current+in_ok-push w ↦ rw (w.kept-is, w.current-is, w.in_ok-push.ensures.items)
           (starts_next _ _ _ _ _ w.if-next-current.false before)
     ]
-
-pub returns-clause-separated : goal.returns-clause-separated
-returns-clause-separated g c = rw c.in_ok-push-2.ensures.items c.loop-next.invariant.separated
 
 pub returns-clause-same : goal.returns-clause-same
 returns-clause-same g c =

@@ -1,6 +1,6 @@
-use Rattle.ptlangs.proofs.Common.{◌<◌, ◌∙◌, ap, sym, length, arith, nat_tests, delims, delim_list}
+use Rattle.ptlangs.proofs.Common.{◌<◌, ◌∙◌, ap, length, arith, nat_tests, delims}
 use Rattle.ptlangs.proofs.DelimGrammar.{delims_of_some}
-use Rattle.ptlangs.proofs.ListElements.{append_ok, append_ok-nil, append_ok-cons_ok}
+use Rattle.ptlangs.proofs.ListElements.{append_ok, append_ok-cons_ok}
 use Rattle.ptlangs.proofs.delims.Delims.read.Goals as goal
 
 pub loop-kept-preserved : goal.loop-kept-preserved
@@ -10,6 +10,3 @@ loop-kept-preserved g c =
     ∙ ap (append_ok c.loop-kept.kept.items) c.in_ok-delim.ensures.first
     ∙ append_ok-cons_ok c.loop-kept.kept.items c.in_ok-delim.delim (delims c.in_ok-delim.rest.now)
     ∙ ap (append_ok _) (delims_of_some c.in_ok-delim.rest.now some))
-
-pub loop-kept-init : goal.loop-kept-init
-loop-kept-init g c = rw c.new-kept.ensures.items (sym (append_ok-nil (delim_list c.args.text.now)))

@@ -1,5 +1,5 @@
 use Rattle.std.proofs.Common.{Some, None, rules}
-use Rattle.ptlangs.proofs.TrCharGrammar.{octal_char, octal_digits}
+use Rattle.ptlangs.proofs.TrCharGrammar.{octal_char}
 use Rattle.ptlangs.proofs.tr.chars.escape.Goals as goal
 
 pub returns-in-Some-number-clause-next_char : goal.returns-in-Some-number-clause-next_char
@@ -11,6 +11,3 @@ pub returns-in-None-clause-next_char : goal.returns-in-None-clause-next_char
 returns-in-None-clause-next_char c =
     octal_char c.args.bytes.now c.in-Some.first c.octal_len-count.result None (search rules) (search rules)
     (search rules) (search rules)
-
-pub number-requires-clause-digits : goal.number-requires-clause-digits
-number-requires-clause-digits c = rw c.octal_len-count.ensures (octal_digits c.args.bytes.now)

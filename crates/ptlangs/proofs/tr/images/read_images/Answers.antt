@@ -28,15 +28,6 @@ returns-in_err-push_ascending c = λ ps to e f l.
     unpaired_answer (all_paired (first_members b ps) to) _ c.from_residual.result _ fault kind
     (ap (λ (t : Bool). all_paired (first_members t ps) to) c.if-complement.true ∙ wrong)
 
-pub returns-in_err-push_string : goal.returns-in_err-push_string
-returns-in_err-push_string c = λ ps to e f l.
-    let b = c.args.complement in
-    let (kind, wrong) = c.in_err-push_string.ensures ps to e
-    (unpaired (goal.at.returns-in_err-push_string c).After-identity to l) in
-    let (_, fault) = c.from_residual-in_err-push_string.ensures in
-    unpaired_answer (all_paired (first_members b ps) to) _ c.from_residual-in_err-push_string.result _ fault kind
-    (ap (λ (t : Bool). all_paired (first_members t ps) to) c.if-complement.false ∙ wrong)
-
 pub returns : goal.returns
 returns c = λ ps to e f l.
     let b = c.args.complement in

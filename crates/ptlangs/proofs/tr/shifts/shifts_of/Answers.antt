@@ -1,11 +1,9 @@
 -- From byte 255 down: a byte with the same shift as the next one extends its stretch, a byte with another shift starts
 -- a new stretch, and a byte that is its own image is in none.
-use Rattle.ptlangs.proofs.Common.{◌≡◌, ◌<◌, ◌≤◌, ◌-◌, List, drop, length, get_or, sym, ◌∙◌, ap, arith, drop_all}
+use Rattle.ptlangs.proofs.Common.{◌≡◌, ◌-◌, List, drop, length, get_or, sym, ◌∙◌, ap, arith, drop_all}
 use Rattle.ptlangs.proofs.Common.{Stretch, stretches_from, prepend_shift, shift_of, image_of_shifts}
-use Rattle.ptlangs.proofs.TrShifts.{moves_all, moved_one, same_one, no_more_behind}
+use Rattle.ptlangs.proofs.TrShifts.{moves_all, moved_one, no_more_behind}
 use Rattle.ptlangs.proofs.tr.shifts.shifts_of.Goals as goal
-use Rattle.ptlangs.proofs.tr.shifts.shifts_of.Goals.{else-by-ne0-via-then-by-ne0+else-not-prepend}
-use Rattle.ptlangs.proofs.tr.shifts.shifts_of.Goals.{else-by-ne0-via-else-by-ne0}
 
 pub loop-index-init : goal.loop-index-init
 loop-index-init c = record {
@@ -22,24 +20,6 @@ returns-then-not-prepend-clause-found c =
     let kept = ap (λ (l : List Stretch). length (prepend_shift (n - 1) (shift_of (n - 1) (get_or images (n - 1) 0)) l))
     c.loop-index.invariant.stretches in
     omega (arith, no_more_behind (n - 1) images, ap length one, c.prepend.ensures.full c.if-not-prepend.true, kept)
-
-pub loop-index-preserved : goal.loop-index-preserved
-loop-index-preserved c =
-    let images = c.args.images.now in
-    let n = c.loop-index.index in
-    let low : 0 < n = c.loop-index-test.true in
-    let within : n ≤ length images = omega (arith, c.told-images, c.loop-index.invariant.within) in
-    record {
-      within = omega (arith, c.loop-index.invariant.within);
-      stretches = elim c.else-by-ne0.branch [
-        | else-by-ne0-via-then-by-ne0+else-not-prepend w ↦
-            w.shifts-is ∙ w.prepend.ensures.put w.if-not-prepend.false
-            ∙ ap (prepend_shift (n - 1) _) c.loop-index.invariant.stretches
-            ∙ sym (moved_one n images low within w.if-by-ne0.true)
-        | else-by-ne0-via-else-by-ne0 w ↦ w.shifts-is ∙ c.loop-index.invariant.stretches
-            ∙ sym (same_one n images low within w.if-by-ne0.false)
-      ];
-    }
 
 pub returns-clause-moves : goal.returns-clause-moves
 returns-clause-moves c = λ b low.

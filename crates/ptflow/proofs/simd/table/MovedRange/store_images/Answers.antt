@@ -13,7 +13,9 @@ pub returns-in-4 : goal.returns-in-4
 returns-in-4 c = c.map_bytes.ensures ∙ images_same c.args.from.now c.map.ensures c.type_inv.from
 
 pub returns-in-5-to-7 : goal.returns-in-5-to-7
-returns-in-5-to-7 c = c.map_bytes-in-5-to-7.ensures ∙ images_same c.args.from.now c.map-in-5-to-7.ensures c.type_inv.from
+returns-in-5-to-7 c =
+    c.map_bytes-in-5-to-7.ensures ∙ images_same c.args.from.now c.map-in-5-to-7.ensures c.type_inv.from
 
 pub returns-in_default : goal.returns-in_default
-returns-in_default c = c.map_bytes-in_default.ensures ∙ images_same c.args.from.now c.map-in_default.ensures c.type_inv.from
+returns-in_default c =
+    c.map_bytes-in_default.ensures ∙ images_same c.args.from.now c.map-in_default.ensures c.type_inv.from

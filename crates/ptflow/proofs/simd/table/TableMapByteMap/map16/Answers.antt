@@ -1,4 +1,4 @@
-use Rattle.ptflow.proofs.Common.{◌/◌, ◌^◌, ◌+◌, ◌-◌, ◌%◌, arith, ltb, zip2_of_maps, zip2_splat, splat_is_map}
+use Rattle.ptflow.proofs.Common.{◌/◌, ◌^◌, ◌+◌, ◌-◌, ◌%◌, ltb, zip2_of_maps, zip2_splat, splat_is_map}
 use Rattle.ptflow.proofs.Vectors.Lanes.{tests_are}
 use Rattle.ptflow.proofs.Vectors.Tables.{images_of, offset}
 use Rattle.ptflow.proofs.simd.table.TableMapByteMap.map16.Goals as goal
@@ -13,5 +13,6 @@ returns g c =
     let by = offset first n self.rows self.within self.size self.lanes in
     let offsets = zip2_splat (λ a b. (a + (256 - b)) % 256) v 16 first long in
     let rows = zip2_of_maps (λ a b. a / 2 ^ b) by (λ _. 4) v offsets (splat_is_map v 16 4 long) in
-    images_of first n self.rows self.within self.size self.lanes v long fit _ _ offsets rows c.look_up_rows.ensures.found
-    c.select_rows-found.ensures.lanes c.select_rows-found.ensures.selected (tests_are ltb (λ b. by b / 16) v n long rows)
+    images_of first n self.rows self.within self.size self.lanes v long fit _ _ offsets rows
+    c.look_up_rows.ensures.found c.select_rows-found.ensures.lanes c.select_rows-found.ensures.selected
+    (tests_are ltb (λ b. by b / 16) v n long rows)

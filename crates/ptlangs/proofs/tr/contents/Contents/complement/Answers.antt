@@ -1,8 +1,7 @@
 -- A byte is in the complement if the array does not contain it, so the tables and the lengths agree.
-use Rattle.ptlangs.proofs.Common.{◌≡◌, arith, false, get_or, not, rules, tests}
+use Rattle.ptlangs.proofs.Common.{◌≡◌, false, get_or, not, rules, tests}
 use Rattle.ptlangs.proofs.TrContents.{complement-is}
 use Rattle.std.specs.Prelude.{count_by}
-use Rattle.std.proofs.lemmas.List.Sums.{count_by-le-length}
 use Rattle.ptlangs.proofs.tr.contents.Contents.complement.Goals as goal
 
 pub returns-clause-is : goal.returns-clause-is
@@ -12,8 +11,3 @@ returns-clause-is c = λ bytes e.
     let (p, q, called) = c.map.ensures.items.at k false false h in
     let same : get_or c.map.result k false ≡ not (get_or c.args.self.now.has k false) = search (rules, tests, called) in
     same) count
-
-pub returns-clause-bound : goal.returns-clause-bound
-returns-clause-bound c =
-    let count : c.count.result ≡ count_by not c.args.self.now.has = search (rules, tests) in
-    omega (arith, count, count_by-le-length not c.args.self.now.has)

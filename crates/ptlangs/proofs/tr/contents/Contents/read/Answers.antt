@@ -39,7 +39,7 @@ loop-member-preserved c =
     ∙ ap (λ bs. member_bytes read.done ++ m.byte ∷ bs) (member_bytes-plain copies) in
     record {
       read =
-          items_more (λ (ms : List Member). c.push.new.self ≡ contents_of (member_bytes ms)) read
+          items_more read (λ (ms : List Member). c.push.new.self ≡ contents_of (member_bytes ms))
           (m ∷ plain_members copies)
           (step ∙ ap (λ rs. Ok m ∷ rs) c.skip_repeats-more.ensures.passed)
           (λ h. c.push.ensures.is (member_bytes read.done) h ∙ ap contents_of (sym bytes));

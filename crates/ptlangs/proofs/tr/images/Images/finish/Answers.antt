@@ -11,24 +11,21 @@ returns-in_err-member c = λ from to h.
 
 pub returns-then-is_some : goal.returns-then-is_some
 returns-then-is_some c = λ from to h.
-    let old = c.loop-member.self in
     let step = rw c.in-Some.is at c.in_ok-member.ensures.steps in
-    let unpaired = passing-unpaired from to old (bytes_left c.next.new.self) c.in-Some.member
-    (c.loop-member.invariant from to h) step (sym c.is_some.ensures ∙ c.if-is_some.true) in
+    let unpaired = passing-unpaired (c.loop-member.invariant from to h) (bytes_left c.next.new.self)
+    c.in-Some.member step (sym c.is_some.ensures ∙ c.if-is_some.true) in
     rw unpaired refl
 
 pub loop-member-preserved : goal.loop-member-preserved
 loop-member-preserved c = λ from to h.
-    let old = c.loop-member.self in
     let step = rw c.in-Some.is at c.in_ok-member.ensures.steps in
-    let next = passing-next from to old c.next.new.self c.in-Some.member (c.loop-member.invariant from to h) step
+    let next = passing-next (c.loop-member.invariant from to h) c.next.new.self c.in-Some.member step
     (sym c.is_some.ensures ∙ c.if-is_some.false) in
-    passing-copies from to (record { table = old.table; second = c.next.new.self; last = old.last })
-    c.skip_repeats.new.self (replicate c.skip_repeats.result c.in-Some.member.byte) next c.skip_repeats.ensures.passed
+    passing-copies next c.skip_repeats.new.self (replicate c.skip_repeats.result c.in-Some.member.byte)
+    c.skip_repeats.ensures.passed
 
 pub returns : goal.returns
 returns c = λ from to h.
-    let old = c.loop-member.self in
     let p = c.loop-member.invariant from to h in
     let (end, _) = rw c.in_default.is at c.in_ok-member.ensures.steps in
-    rw (passing-end from to old p end) (ap Ok p.table)
+    rw (passing-end p end) (ap Ok p.table)

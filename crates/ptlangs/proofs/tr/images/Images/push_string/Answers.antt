@@ -18,8 +18,8 @@ pub loop-member-preserved : goal.loop-member-preserved
 loop-member-preserved c =
     let step = rw c.in-Some.is at c.in_ok-member.ensures.steps in
     let read = c.loop-member.invariant in
-    items_more (λ (ms : List Member). (to : List Member) → HasPaired [] to c.args.self.now
-    → HasPaired ms to c.push.new.self) read (c.in-Some.member ∷ []) step
+    items_more read (λ (ms : List Member). (to : List Member) → HasPaired [] to c.args.self.now
+    → HasPaired ms to c.push.new.self) (c.in-Some.member ∷ []) step
     (λ holds to h. c.in_ok-push.ensures read.done to (holds to h))
 
 pub returns-in_err-push : goal.returns-in_err-push
