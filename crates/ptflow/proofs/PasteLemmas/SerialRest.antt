@@ -85,46 +85,35 @@ module _ (end : ℕ) (delims : List (Option ℕ)) where
       ∙ sym (append_assoc before (replaced end (delimiter delims) first bytes) (row_rest end delims second more))
       ∙ ap (λ (l : List ℕ). l ++ row_rest end delims second more) (sym two)
 
-  -- A line, its delimiter, and the bytes after them.
-  pub piece_replaced : 0 < length delims → (index : ℕ) (rest : List ℕ) (at : ℕ) → IsFirstByte (is_byte end) rest (Some at)
-      → (replaced end (delimiter delims) index rest ≡ (take at rest ++ delimiter delims index)
-      ++ replaced end (delimiter delims) ((index + 1) % length delims) (drop (at + 1) rest))
-      × (count_by (is_byte end) rest ≡ count_by (is_byte end) (drop (at + 1) rest) + 1)
-  piece_replaced some index rest at first =
-      let line = take at rest in
-      let more = drop (at + 1) rest in
-      let split = split_of end rest at first in
-      let free = line_before_terminator end rest at first in
-      let next = sym (mod-eq_of_lt (mod-lt (index + 1) some)) in (
-        ap (replaced end (delimiter delims) index) split
-            ∙ replaced_line end (delimiter delims) index line more free
-            ∙ ap (λ (l : List ℕ). line ++ (delimiter delims index ++ l))
-            (replaced_mod end (λ k. option_to_list (slice_index_or delims k None)) (length delims) _ _ next more)
-            ∙ sym (append_assoc line (delimiter delims index) _),
-        omega (
-          arith,
-          ap (count_by (is_byte end)) split,
-          sum_by-append (λ b. cond (is_byte end b) 1 0) line (end ∷ more),
-          counted end end more (byte_eq end),
-          none_counted end [] line free,
-        ),
-      )
-
-  -- The pieces of a block, as they were copied.
-  pub next_piece : (some : 0 < length delims) (index : ℕ) {next at : ℕ} (rest before : List ℕ) {line text all : List ℕ} {count : ℕ}
-      → IsFirstByte (is_byte end) rest (Some at) → next ≡ (index + 1) % length delims
+  -- A line and its delimiter were copied.
+  pub next_piece : 0 < length delims → (index : ℕ) {next at : ℕ} (rest before : List ℕ) {line text all : List ℕ}
+      {count : ℕ} → IsFirstByte (is_byte end) rest (Some at) → next ≡ (index + 1) % length delims
       → line ≡ before ++ take at rest → text ≡ line ++ delimiter delims index
       → before ++ replaced end (delimiter delims) index rest ≡ all
       → (index + count_by (is_byte end) rest) % length delims ≡ count
       → (text ++ replaced end (delimiter delims) next (drop (at + 1) rest) ≡ all)
       × ((next + count_by (is_byte end) (drop (at + 1) rest)) % length delims ≡ count)
   next_piece some index {next} {at} rest before first next_is line_is text_is all_is count_is =
-      let (is, number) = piece_replaced some index rest at first in
-      let more = count_by (is_byte end) (drop (at + 1) rest) in
-      let same : index + 1 + more ≡ index + count_by (is_byte end) rest = omega (arith, number) in (
-        rw (text_is, line_is, next_is) (simp append_assoc) ∙ ap (◌++◌ before) (sym (simp append_assoc at is)) ∙ all_is,
-        ap (λ k. (k + more) % length delims) next_is ∙ mod-add-mod (index + 1) (length delims) more
-            ∙ ap (λ k. k % length delims) same ∙ count_is,
+      let len = length delims in
+      let all_of = replaced end (delimiter delims) in
+      let head = take at rest in
+      let more = drop (at + 1) rest in
+      let split = split_of end rest at first in
+      let free = line_before_terminator end rest at first in
+      let same : next % len ≡ (index + 1) % len = rw next_is (mod-eq_of_lt (mod-lt (index + 1) some)) in
+      let count : index + count_by (is_byte end) rest ≡ index + 1 + count_by (is_byte end) more = omega (
+        arith,
+        ap (count_by (is_byte end)) split,
+        sum_by-append (λ b. cond (is_byte end b) 1 0) head (end ∷ more),
+        counted end end more (byte_eq end),
+        none_counted end [] head free,
+      ) in (
+        rw (text_is, line_is, replaced_mod end (λ k. option_to_list (slice_index_or delims k None)) len next (index + 1)
+            same more) (simp append_assoc)
+            ∙ ap (◌++◌ before) (sym (ap (all_of index) split
+            ∙ replaced_line end (delimiter delims) index head more free)) ∙ all_is,
+        sym (mod-add-mod next len _) ∙ ap (λ k. (k + count_by (is_byte end) more) % len) same
+            ∙ mod-add-mod (index + 1) len _ ∙ ap (λ k. k % len) (sym count) ∙ count_is,
       )
 
   joined_begins : (number : ℕ) (xs ys : List (List ℕ)) → IsPrefix (join_with_cycle delims number xs)
