@@ -65,10 +65,7 @@ module _ {k j : ℕ} (low : j < k) where
 
   -- The first line of a column, and then the rest of it.
   every_kth_first : (ls : Column) → slice_index_or (every_kth k j ls) 0 [] ≡ slice_index_or ls j []
-  every_kth_first ls = ⊎_elim
-      (λ (is, some). ap (λ (l : Column). slice_index_or l 0 []) is)
-      (λ (none, few, rest). ap (λ (l : Column). slice_index_or l 0 []) none ∙ sym (get_or_past ls j [] few))
-      (chosen_before 0 j k ls (omega arith) (omega arith))
+  every_kth_first ls = grind (arith, chosen_before 0 j k ls (omega arith) (omega arith), get_or_past ls j [])
 
   pub every_kth_rest : (ls : Column) → drop 1 (every_kth k j ls) ≡ every_kth k j (drop k ls)
   every_kth_rest ls = ⊎_elim
@@ -77,9 +74,7 @@ module _ {k j : ℕ} (low : j < k) where
       (chosen_before 0 j k ls (omega arith) (omega arith))
 
   every_kth_some : (ls : Column) → j < length ls → 0 < length (every_kth k j ls)
-  every_kth_some ls some = ⊎_elim (λ (is, low). omega (arith, ap length is))
-      (λ (none, few, rest). absurd (omega (arith, few)))
-      (chosen_before 0 j k ls (omega arith) (omega arith))
+  every_kth_some ls some = grind (arith, chosen_before 0 j k ls (omega arith) (omega arith))
 
   -- A bound on the length of a column.
   pub every_kth_short : (r : ℕ) (ls : Column) → length ls ≤ j + r * k → length (every_kth k j ls) ≤ r
@@ -100,9 +95,7 @@ module _ {k j : ℕ} (low : j < k) where
 row_count_from : (a : ℕ) (cols : List Column) → fold max (a - 1) (map length (map (drop 1) cols)) ≡ fold max a
     (map length cols) - 1
 row_count_from a [] = refl
-row_count_from a (c ∷ cols) =
-    let same : max (a - 1) (length (drop 1 c)) ≡ max a (length c) - 1 = omega (arith, length-drop 1 c) in
-    ap (λ (n : ℕ). fold max n (map length (map (drop 1) cols))) same ∙ row_count_from (max a (length c)) cols
+row_count_from a (c ∷ cols) = grind (arith, length-drop 1 c, row_count_from (max a (length c)) cols)
 
 row_later : (cols : List Column) (r : ℕ) → row_at (map (drop 1) cols) r ≡ row_at cols (r + 1)
 row_later [] r = refl
@@ -189,26 +182,10 @@ last_use (x ∷ cells) p some = ⊎_elim
     let (c, low, is, count) = last_use cells p more in
     (suc c, omega (arith, low), is, omega (arith, count, uses_first cells, uses_first (take c cells))))
     (λ none. ⊎_elim
-    (λ same. (
-      0,
-      omega arith,
-      same,
-      omega (
-        arith,
-        none,
-        uses_first cells,
-        ap (λ (t : Bool). cond {A = ℕ} t 1 0)
-            (eq-eqb x p same),
-      ),
-    ))
-    (λ differ. absurd (omega (
-      arith,
-      some,
-      none,
-      uses_first cells,
-      ap (λ (t : Bool). cond {A = ℕ} t 1 0)
-          (ne_eqb x p differ),
-    )))
+    (λ same. (0, omega arith, same, omega (arith, none, uses_first cells, ap (λ (t : Bool). cond {A = ℕ} t 1 0)
+        (eq-eqb x p same))))
+    (λ differ. absurd (omega (arith, some, none, uses_first cells, ap (λ (t : Bool). cond {A = ℕ} t 1 0)
+        (ne_eqb x p differ))))
     (cases_eq x p))
     (cases_lt 0 (uses_of cells p))
   where
@@ -257,23 +234,13 @@ module _ (cells : List ℕ) where
     ins p = input_lines p ++ more p
 
     rest_is : (p : ℕ) → drop (uses_of cells p) (input_lines p ++ more p) ≡ more p
-    rest_is p = ⊎_elim
-        (λ same. drop_at (input_lines p) (more p) (uses_of cells p) same)
-        (λ (none, few). drop_all (uses_of cells p) (input_lines p ++ more p) (omega (
-          arith,
-          few,
-          ap length none,
-          length-append (input_lines p) (more p),
-        )) ∙ sym none)
-        (t.all p)
+    rest_is p = grind (arith, t.all p, drop_at (input_lines p) (more p) (uses_of cells p),
+      drop_all (uses_of cells p) (input_lines p ++ more p), length-append (input_lines p) (more p))
 
     input_lines_at : (p j : ℕ) → j < uses_of cells p → slice_index_or (input_lines p ++ more p) j [] ≡ slice_index_or
         (input_lines p) j []
-    input_lines_at p j low = ⊎_elim
-        (λ same. get_or_append_left (input_lines p) (more p) [] j (omega (arith, same)))
-        (λ (none, few). ap (λ (l : Column). slice_index_or l j []) (ap (λ (l : Column). input_lines p ++ l) none
-        ∙ append-nil (input_lines p)))
-        (t.all p)
+    input_lines_at p j low = grind (arith, t.all p, append-nil (input_lines p),
+      get_or_append_left (input_lines p) (more p) [] j)
 
     pub grid_step : (c : ℕ) → c < length cells → uses_of (take c cells) (get_or cells c 0) < length
         (input_lines (get_or cells c 0))

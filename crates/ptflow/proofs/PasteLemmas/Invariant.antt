@@ -11,14 +11,14 @@ use Rattle.ptflow.proofs.Common.{reader_at, IsReadable, PastePre, uses_of, colum
 use Rattle.ptflow.proofs.Common.{paste_decided, SetTerminatorsPost, SlotsBound, SlotsKept, CellsTaken, CellsFilled}
 use Rattle.ptflow.proofs.Common.{AreReceivedLines, AreFirstRows, RowsTaken, RowsWritten, cells_text, job_shape}
 use Rattle.ptflow.proofs.Common.{BufferedRowsPre}
-use Rattle.ptflow.proofs.PasteLemmas.CellSlots.{slots_bound_start, slots_kept_by_lines}
+use Rattle.ptflow.proofs.PasteLemmas.FillRow.{slots_bound_start, slots_kept_by_lines}
 use Rattle.ptflow.proofs.PasteLemmas.RowsTaken.{no_rows, first_rows_trans, filled_row_is_first, filled_row_text}
+use Rattle.ptflow.proofs.PasteLemmas.RowsTaken.{nothing_taken}
 use Rattle.ptflow.proofs.PasteLemmas.Grid.{Column, last_use, rows_text-append}
 use Rattle.ptflow.proofs.Passes.Lines.{max_length-append}
 use Rattle.ptflow.proofs.Passes.LinesRead.{lines_on}
 use Rattle.ptflow.proofs.PasteLemmas.Lag.{EarlierPart, LagsAt, lags_here, decided_is_prefix}
 use Rattle.ptflow.proofs.Passes.Readers.{eof_gives_nothing, may_follow}
-use Rattle.ptflow.proofs.PasteLemmas.LinesTaken.{nothing_taken}
 
 -- ---- inputs that columns use
 
@@ -152,8 +152,7 @@ module _ {end : ℕ} {cells : List ℕ} {old set : List Reader} {was : Output} {
   set_end p some = ap (λ (r : Reader). r.terminator) ((s.are_set p).set some)
 
   pub set_failed : (p : ℕ) → (reader_at set p).failed ≡ (reader_at old p).failed
-  set_failed p = ⊎_elim (λ some. ap (λ (r : Reader). r.failed) ((s.are_set p).set some))
-      (λ none. ap (λ (r : Reader). r.failed) ((s.are_set p).left (omega (arith, none)))) (cases_lt 0 (uses_of cells p))
+  set_failed p = grind (arith, (s.are_set p).set, (s.are_set p).left)
 
   pub set_fault : (p : ℕ) → 0 < uses_of cells p → (reader_at set p).fault ≡ None
   set_fault p some = ap (λ (r : Reader). r.fault) ((s.are_set p).set some) ∙ (readable p some).readable

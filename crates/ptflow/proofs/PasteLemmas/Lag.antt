@@ -64,17 +64,9 @@ are_split end (x ∷ xs) l (first, are) = let (more, last) = are_split end xs l 
 
 -- If there are no lines, nothing was given.
 pub none_received : {end : ℕ} {reader : Reader} {given : List ℕ} → AreReceivedLines end reader given [] → given ≡ []
-none_received {end} {reader} {given} k = ⊎_elim
-    (λ (is, are). is)
-    (λ (none, done).
-    let (exists, unique) = the_lines end given in
-    let (are, whole) = exists in
-    ⊎_elim
-    (λ same. sym same ∙ ap (unlines end) none)
-    (λ (some, other, is).
-    absurd (omega (arith, ap length (sym is ∙ ap (unlines end) none), length-append given (end ∷ []))))
-    whole)
-    k.so_far
+none_received {end} {reader} {given} k =
+    let ((are, whole), unique) = the_lines end given in
+    grind (arith, k.so_far, whole, length-append given (end ∷ []))
 
 module _ (end : ℕ) (reader : Reader) (given : List ℕ) (buffered : length reader.buffered ≤ 8192) where
   module _ (most : ℕ) (xs : Column) (l : List ℕ) (few : length xs < most) where
@@ -217,8 +209,8 @@ same_rows f g a (suc m) same = λ i. same a (omega arith) i ∷ same_rows f g (a
 -- A column keeps its lines if more follow.
 every_kth_more : (k j r : ℕ) (xs more : Column) → r < length (every_kth k j xs)
     → slice_index_or (every_kth k j xs) r [] ≡ slice_index_or (every_kth k j (xs ++ more)) r []
-every_kth_more k j r xs more low = rw (select_append (λ i. i % k == j) 0 xs more)
-    (sym (get_or_append_left (every_kth k j xs) (select_from (λ i. i % k == j) (0 + length xs) more) [] r low))
+every_kth_more k j r xs more low = cc (select_append (λ i. i % k == j) 0 xs more,
+    get_or_append_left (every_kth k j xs) (select_from (λ i. i % k == j) (0 + length xs) more) [] r low)
 
 -- ---- the text of rows
 
@@ -244,8 +236,8 @@ module _ (job : Paste) (cells : List ℕ) (came : ℕ → Received) where
 
   update_same : (here : ℕ) (x : Received) → x ≡ came here → update_at here x came ≡ came
   update_same here x same = λ i p. ⊎_elim
-      (λ is. update_here here x came p is ∙ same ∙ ap came (sym is))
-      (λ differ. update_there here x came p differ)
+      (λ is. cc (update_here here x came p is, same, is))
+      (update_there here x came p)
       (cases_eq p here) i
 
   -- The rows that were taken, if the input `here` without its last bytes has fewer lines than one more row takes. That

@@ -35,9 +35,8 @@ module _ (cells : List ℕ) where
   no_rows f none = rows_none (columns cells f) (λ c low.
       let within : c < length cells = omega (arith, low, length-columns cells f) in
       let p = get_or cells c 0 in
-      let j = uses_of (take c cells) p in
-      column_at cells f c within ∙ nil_from_length (every_kth (uses_of cells p) j (f p))
-      (omega (arith, every_kth_short (uses_before_lt cells c within) 0 (f p) (omega (arith, none c within)))))
+      cc (column_at cells f c within, nil_from_length (column_of cells f c p)
+      (omega (arith, every_kth_short (uses_before_lt cells c within) 0 (f p) (omega (arith, none c within))))))
 
   -- ---- the first row
 
@@ -51,14 +50,8 @@ module _ (cells : List ℕ) where
   module _ (ins more : ℕ → Column) (reach : (p : ℕ) → length (ins p) < uses_of cells p → more p ≡ []) where
     first_taken : IsOneRow cells (first ins) (λ p. rest ins p ++ more p)
     first_taken = record {
-      all = λ p. ⊎_elim
-          (λ few. inr (
-            ap (λ (l : Column). l ++ more p) (drop_all (uses_of cells p) (ins p) (omega (arith, few)))
-                ∙ reach p few,
-            omega (arith, ap length (take_all (uses_of cells p) (ins p) (omega (arith, few))), few),
-          ))
-          (λ many. inl (length-take-le (uses_of cells p) (ins p) (omega (arith, many))))
-          (cases_lt (length (ins p)) (uses_of cells p));
+      all = λ p. grind (arith, reach p, append-nil (more p), drop_all (uses_of cells p) (ins p),
+        take_all (uses_of cells p) (ins p), length-take-le (uses_of cells p) (ins p), cases_lt (length (ins p)) (uses_of cells p));
     }
 
     -- The lines of the first row precede all others, for each continuation.
@@ -86,18 +79,14 @@ module _ (cells : List ℕ) where
 
   more_is_empty : (n : ℕ) (ins more : ℕ → Column) → TakesAll (suc n) ins more → (p : ℕ)
       → length (ins p) < uses_of cells p → more p ≡ []
-  more_is_empty n ins more reach p few = ⊎_elim
-      (λ all. let size : suc n * uses_of cells p ≡ uses_of cells p + n * uses_of cells p = omega arith in
-      absurd (omega (arith, all, size, few)))
-      (λ (none, few). none)
-      (reach p (omega (arith, few)))
+  more_is_empty n ins more reach p few =
+      let size : suc n * uses_of cells p ≡ uses_of cells p + n * uses_of cells p = omega arith in
+      grind (arith, size, reach p (omega (arith, few)))
 
   later : (n : ℕ) (ins more : ℕ → Column) → TakesAll (suc n) ins more → TakesAll n (rest ins) more
   later n ins more reach p some =
       let size : suc n * uses_of cells p ≡ uses_of cells p + n * uses_of cells p = omega arith in
-      let long = length-drop (uses_of cells p) (ins p) in
-      ⊎_elim (λ all. inl (omega (arith, all, size, long))) (λ (none, few). inr (none, omega (arith, few, size, long)))
-      (reach p some)
+      grind (arith, size, length-drop (uses_of cells p) (ins p), reach p some)
 
   abbrev Append : (ℕ → Column) → (ℕ → Column) → Type 0
   Append ins more = rows (columns cells (λ p. ins p ++ more p)) ≡ rows (columns cells ins) ++ rows (columns cells more)

@@ -1,11 +1,11 @@
 -- The output of `paste -s` from a position on: the bytes with their terminators replaced, as long as more bytes follow.
 -- So the terminator of a line that is the last byte so far is held back.
-use Rattle.ptflow.proofs.Common.{◌≡◌, ⊎_elim, ℕ, ◌+◌, ◌%◌, ◌==◌, ◌<◌, Bool, true, false, cond, List, [], ◌∷◌}
-use Rattle.ptflow.proofs.Common.{◌++◌, Option, length, length-append, refl, sym, ◌∙◌, ap, arith, append_assoc, onto_first}
+use Rattle.ptflow.proofs.Common.{◌≡◌, ⊎_elim, ℕ, ◌+◌, ◌%◌, ◌==◌, ◌<◌, Bool, true, false, cond, List, [], ◌∷◌, ◌++◌}
+use Rattle.ptflow.proofs.Common.{Option, length, length-append, refl, sym, ◌∙◌, ap, arith, append_assoc, onto_first}
 use Rattle.ptflow.proofs.Common.{count_by, cases_Bool, append-nil, append_cancel_right, is_byte, lines, complete_lines}
 use Rattle.ptflow.proofs.Common.{IsPrefix, lines_of_unlines, Paste, delimiter, join_with_cycle, mod-add-mod}
-use Rattle.ptflow.proofs.Common.{paste_serial_decided, replaced, row_rest, mod-eq_of_lt, byte_eq, option_to_list, None, Some}
-use Rattle.ptflow.proofs.Common.{IsFirstByte, take, drop, line_before_terminator, sum_by-append, mod-lt}
+use Rattle.ptflow.proofs.Common.{paste_serial_decided, replaced, row_rest, mod-eq_of_lt, byte_eq, option_to_list, None}
+use Rattle.ptflow.proofs.Common.{Some, IsFirstByte, take, drop, line_before_terminator, sum_by-append, mod-lt}
 use Rattle.ptflow.proofs.Vectors.FindNth.{none_counted}
 use Rattle.std.specs.Prelude.{slice_index_or}
 use Rattle.ptflow.proofs.Passes.Lines.{line_split, split_of}
@@ -42,17 +42,10 @@ module _ (end : ℕ) (delims : List (Option ℕ)) where
   row_rest_on number [] more some =
       let same : number + 0 ≡ number = omega arith in ap (λ n. row_rest end delims n more) (sym same)
   row_rest_on number (b ∷ bytes) more some = ⊎_elim
-      (λ is.
-      let next : number + count_by (is_byte end) (b ∷ bytes) ≡ number + 1 + count_by (is_byte end) bytes =
-      omega (arith, counted end b bytes is) in
-      row_next number b (bytes ++ more) is (omega (arith, some, length-append bytes more))
-      ∙ rw next (rw is (ap (◌++◌ (delimiter delims number)) (row_rest_on (number + 1) bytes more some)
-      ∙ sym (append_assoc (delimiter delims number) _ _))))
-      (λ is.
-      let next : number + count_by (is_byte end) (b ∷ bytes) ≡ number + count_by (is_byte end) bytes =
-      omega (arith, counted end b bytes is) in
-      row_byte number b (bytes ++ more) is
-      ∙ rw next (rw is (ap (λ (l : List ℕ). b ∷ l) (row_rest_on number bytes more some))))
+      (λ is. grind (arith, append_assoc, counted end b bytes is, row_rest_on (number + 1) bytes more some, is,
+      row_next number b (bytes ++ more) is (omega (arith, some, length-append bytes more))))
+      (λ is. grind (arith, counted end b bytes is, row_rest_on number bytes more some, is,
+      row_byte number b (bytes ++ more) is))
       (cases_Bool (b == end))
 
   -- Only the index of the delimiter matters.

@@ -2,25 +2,24 @@
 -- of these lines are replaced by the cycle (the delimiters of the row, and a last entry that keeps the terminator),
 -- they become the row. So bytes with count * n terminators, the last at the end, become `count` rows.
 use Rattle.ptflow.proofs.Common.{◌≡◌, ◌≢◌, ℕ, zero, suc, ◌+◌, ◌-◌, ◌*◌, ◌%◌, ◌<◌, ◌≤◌, Bool, cond, List, [], ◌∷◌, ◌++◌}
-use Rattle.ptflow.proofs.Common.{None, length, map, take, drop, set, get_or, refl, sym, ◌∙◌, ap, subst}
-use Rattle.ptflow.proofs.Common.{arith, append_assoc, length-drop, take-append-drop, ⊎_elim, inl}
-use Rattle.ptflow.proofs.Common.{count_by, cases_eq, cases_lt, eq-eqb, ne_eqb, mod-mul-add}
-use Rattle.ptflow.proofs.Common.{take_more, take_all, nil_from_length, length-take-le, length-set}
-use Rattle.ptflow.proofs.Common.{All-get_or, All-take, All-drop, All-from_recursion}
-use Rattle.ptflow.proofs.Common.{recursion_from_All, sum_by-cons, sum_by-append, sum_by-set, is_byte, unlines, lines}
-use Rattle.ptflow.proofs.Common.{IsLine, AreLines, EndsWithByte, Output, PushEffect, push_nothing, Reader, IsSound}
-use Rattle.ptflow.proofs.Common.{budget, advance_ok_take, byte_eq, unlines-append, lines_are, the_lines}
-use Rattle.ptflow.proofs.Common.{no_reader, reader_at, update_at, join_with_cycle, uses_of}
-use Rattle.ptflow.proofs.Common.{columns, rows, IsSharedCycle, IsWholeRows, LinesTaken, replaced, byte_of, after_cell, cells_text, mod-eq_of_lt}
-use Rattle.ptflow.proofs.Common.{RowShape, BufferedRowsPre, RowsTaken, RowsWritten}
+use Rattle.ptflow.proofs.Common.{None, length, map, take, drop, set, get_or, refl, sym, ◌∙◌, ap, subst, arith}
+use Rattle.ptflow.proofs.Common.{append_assoc, length-drop, take-append-drop, ⊎_elim, inl, count_by, cases_eq, cases_lt}
+use Rattle.ptflow.proofs.Common.{eq-eqb, ne_eqb, mod-mul-add, take_more, take_all, nil_from_length, length-take-le}
+use Rattle.ptflow.proofs.Common.{length-set, All-get_or, All-take, All-drop, All-from_recursion, recursion_from_All}
+use Rattle.ptflow.proofs.Common.{sum_by-cons, sum_by-append, sum_by-set, is_byte, unlines, lines, IsLine, AreLines}
+use Rattle.ptflow.proofs.Common.{EndsWithByte, Output, PushEffect, push_nothing, Reader, IsSound, budget}
+use Rattle.ptflow.proofs.Common.{advance_ok_take, byte_eq, unlines-append, lines_are, the_lines, no_reader, reader_at}
+use Rattle.ptflow.proofs.Common.{update_at, join_with_cycle, uses_of, columns, rows, IsSharedCycle, IsWholeRows}
+use Rattle.ptflow.proofs.Common.{LinesTaken, replaced, byte_of, after_cell, cells_text, mod-eq_of_lt, RowShape}
+use Rattle.ptflow.proofs.Common.{BufferedRowsPre, RowsTaken, RowsWritten}
 use Rattle.ptflow.proofs.Vectors.FindNth.{none_counted}
+use Rattle.ptflow.proofs.Common.{nat_tests}
 use Rattle.ptflow.proofs.PasteLemmas.Grid.{Column, for_each_cell_unique, top_of, grid_step, uses_here, uses_before_lt}
 use Rattle.ptflow.proofs.PasteLemmas.Grid.{last_use, update_here, update_there}
 use Rattle.ptflow.proofs.PasteLemmas.FillRow.{at_same, at_other, at_index}
-use Rattle.ptflow.proofs.PasteLemmas.LinesTaken.{nothing_taken}
-use Rattle.ptflow.proofs.PasteLemmas.RowsTaken.{rows_taken_none, row_text}
+use Rattle.ptflow.proofs.PasteLemmas.RowsTaken.{nothing_taken, rows_taken_none, row_text}
 use Rattle.ptflow.proofs.PasteLemmas.BufferedRows.{consumed_none, consumed_more}
-use Rattle.ptflow.proofs.PasteLemmas.Replaced.{replaced-append, replaced_line}
+use Rattle.ptflow.proofs.PasteLemmas.Replaced.{counted, replaced-append, replaced_line}
 use Rattle.ptflow.specs.declared.simd.replace.Cycle.{Cycle}
 
 -- ---- complete rows are known by the number of terminators
@@ -29,11 +28,9 @@ use Rattle.ptflow.specs.declared.simd.replace.Cycle.{Cycle}
 ends_of_lines : (end : ℕ) (ls : List (List ℕ)) → AreLines end ls → count_by (is_byte end) (unlines end ls) ≡ length ls
 ends_of_lines end [] are_lines = refl
 ends_of_lines end (line ∷ ls) (free, are_lines) =
-    let one : count_by (is_byte end) (end ∷ []) ≡ 1 = sum_by-cons (λ x. cond (is_byte end x) 1 0) end []
-    ∙ ap (λ (t : Bool). cond t 1 0 + 0) (byte_eq end) in
-    let split = sum_by-append (λ x. cond (is_byte end x) 1 0) (line ++ end ∷ []) (unlines end ls) in
-    let first = sum_by-append (λ x. cond (is_byte end x) 1 0) line (end ∷ []) in
-    omega (arith, one, split, first, none_counted end [] line free, ends_of_lines end ls are_lines)
+    let test = λ (x : ℕ). cond {A = ℕ} (is_byte end x) 1 0 in
+    grind (arith, sum_by-append test (line ++ end ∷ []) (unlines end ls), sum_by-append test line (end ∷ []),
+      counted end end [] (byte_eq end), none_counted end [] line free, ends_of_lines end ls are_lines)
 
 ends_with : (end : ℕ) (bytes : List ℕ) → bytes ≢ [] → (0 < length bytes → get_or bytes (length bytes - 1) 0 ≡ end)
     → EndsWithByte end bytes
@@ -141,8 +138,7 @@ lines_of_input input ls = update_at input ls (λ q. [])
 
 lines_of_input-append : (input : ℕ) (xs ys : Column) (q : ℕ)
     → lines_of_input input (xs ++ ys) q ≡ lines_of_input input xs q ++ lines_of_input input ys q
-lines_of_input-append input xs ys q =
-    ⊎_elim (λ same. rw (eq-eqb q input same) refl) (λ differ. rw (ne_eqb q input differ) refl) (cases_eq q input)
+lines_of_input-append input xs ys q = grind (arith, nat_tests)
 
 module _ (cells : List ℕ) (input : ℕ) (same : (c : ℕ) → c < length cells → get_or cells c 0 ≡ input) where
   uses_before_column : (c : ℕ) → c ≤ length cells → uses_of (take c cells) input ≡ c
@@ -150,8 +146,8 @@ module _ (cells : List ℕ) (input : ℕ) (same : (c : ℕ) → c < length cells
   uses_before_column (suc c) low =
       let next : suc c ≡ c + 1 = omega arith in
       ap (λ (m : ℕ). uses_of (take m cells) input) next
-      ∙ uses_here cells c input (omega (arith, low)) (same c (omega (arith, low)))
-      ∙ omega (arith, uses_before_column c (omega (arith, low)))
+      ∙ omega (arith, uses_here cells c input (omega (arith, low)) (same c (omega (arith, low))),
+        uses_before_column c (omega (arith, low)))
 
   uses_all : uses_of cells input ≡ length cells
   uses_all = ap (λ (l : List ℕ). uses_of l input) (sym (take_all (length cells) cells (omega arith)))

@@ -1,5 +1,5 @@
-use Rattle.ptflow.proofs.Common.{◌≡◌, ◌+◌, ◌-◌, ◌%◌, ◌≤◌, ◌++◌, ℕ, List, length, take, drop, sym, ◌∙◌, ap, arith, replaced}
-use Rattle.ptflow.proofs.Common.{length-take-le, take_at, take-append-add, count_by, is_byte}
+use Rattle.ptflow.proofs.Common.{◌≡◌, ◌+◌, ◌-◌, ◌%◌, ◌≤◌, ◌++◌, ℕ, List, length, take, drop, sym, ◌∙◌, ap, arith}
+use Rattle.ptflow.proofs.Common.{replaced, length-take-le, take_at, take-append-add, count_by, is_byte}
 use borrow.Rule.Slice.PartMut.{put_mid}
 use Rattle.ptflow.proofs.PasteLemmas.Replaced.{length-replaced}
 use Rattle.ptflow.proofs.tools.paste.serial.SerialFormat.copy_cells.Goals as goal

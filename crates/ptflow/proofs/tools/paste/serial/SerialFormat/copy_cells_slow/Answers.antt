@@ -1,8 +1,8 @@
 -- Each step copies one line and the delimiter after its column. After the last terminator the rest is a part of a line,
 -- which is copied as it is.
-use Rattle.ptflow.proofs.Common.{◌≡◌, ◌+◌, ◌-◌, ◌%◌, ◌<◌, ◌++◌, length, take, refl, sym, ◌∙◌, ap, arith}
-use Rattle.ptflow.proofs.Common.{length-drop, take_rest, take_all, line_if_not_found, mod-lt, mod-eq_of_lt}
-use Rattle.ptflow.proofs.Common.{delimiter, count_by, is_byte, None, option_to_list, slice_index_or}
+use Rattle.ptflow.proofs.Common.{◌≡◌, ◌+◌, ◌-◌, ◌%◌, ◌<◌, ◌++◌, length, take, refl, sym, ◌∙◌, ap, arith, length-drop}
+use Rattle.ptflow.proofs.Common.{take_rest, take_all, line_if_not_found, mod-lt, mod-eq_of_lt, delimiter, count_by}
+use Rattle.ptflow.proofs.Common.{is_byte, None, option_to_list, slice_index_or}
 use Rattle.ptflow.proofs.Vectors.FindNth.{none_counted}
 use Rattle.ptflow.proofs.PasteLemmas.Replaced.{replaced_none}
 use Rattle.ptflow.proofs.PasteLemmas.SerialRest.{next_piece}
