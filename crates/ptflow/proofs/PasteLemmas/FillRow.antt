@@ -29,13 +29,8 @@ module _ (top : ℕ → ℕ) where
   front_total [] ls short = omega arith
   front_total (x ∷ cells) [] short = omega arith
   front_total (x ∷ cells) (l ∷ ls) short =
-      omega (
-        arith,
-        sum_by-cons length l (take (length cells) ls),
-        sum_by-cons top x cells,
-        short 0 (omega arith),
-        front_total cells ls (λ c low. short (suc c) (omega (arith, low))),
-      )
+      let more = front_total cells ls (λ c low. short (suc c) (omega (arith, low))) in
+      omega (arith, sum_by-cons length l (take (length cells) ls), sum_by-cons top x cells, short 0 (omega arith), more)
 
 total_split : (width : ℕ) (ls : List (List ℕ)) → total_bytes ls ≡ total_bytes (take width ls) + total_bytes
     (drop width ls)
@@ -177,10 +172,7 @@ set_terminator_more end cells i old now r low within a told sound q = ⊎_elim
   where
     before : (p : ℕ) → (let x : Reader = record (reader_at now p) { terminator = end } in let y : Reader = record
         (reader_at old p) { terminator = end } in x ≡ y)
-    before p = ⊎_elim
-        (λ some. ap (λ (x : Reader). record x { terminator = end }) ((a p).set some))
-        (λ none. ap (λ (x : Reader). record x { terminator = end }) ((a p).left (omega (arith, none))))
-        (cases_lt 0 (uses_of (take i cells) p))
+    before p = grind (arith, (a p).set, (a p).left)
 
 or-true : (t : Bool) → (t || true) ≡ true
 or-true true = refl
@@ -532,13 +524,7 @@ readable_after now {input} {b} r ready low used is_read before after slot has e 
     let (unfailed, same_end) = after_fill b r before after slot has e in
     record {
       within = λ c d within. omega (arith, ready.within c d within, length-set now input r);
-      unfailed = λ p some. ⊎_elim
-          (λ same. rw same (rw (at_same now input r low) unfailed))
-          (λ differ. rw (at_other now input p r differ) (ready.unfailed p some))
-          (cases_eq p input);
-      same_end = λ p some. ⊎_elim
-          (λ same. rw same (rw (at_same now input r low)
-          (same_end ∙ ap (λ (x : Reader). x.terminator) is_read ∙ ready.same_end input used)))
-          (λ differ. rw (at_other now input p r differ) (ready.same_end p some))
-          (cases_eq p input);
+      unfailed = λ p some. grind (arith, at_same now input r low, at_other now input p r, ready.unfailed p some, unfailed);
+      same_end = λ p some. grind (arith, at_same now input r low, at_other now input p r, ready.same_end p some, same_end,
+          ready.same_end input used, ap (λ (x : Reader). x.terminator) is_read);
     }

@@ -26,12 +26,8 @@ module _ {k j : ℕ} (low : j < k) where
   chosen_apart : (n : ℕ) (xs : Column) → select_from (is_kth k j) (k + n) xs ≡ select_from (is_kth k j) n xs
   chosen_apart n [] = refl
   chosen_apart n (x ∷ xs) =
-      let same : (k + n) % k ≡ n % k = add-mod_left k n in
       let next : k + n + 1 ≡ k + (n + 1) = omega arith in
-      ap (λ (m : ℕ). cond (m == j) (x ∷ select_from (is_kth k j) (k + n + 1) xs) (select_from (is_kth k j)
-      (k + n + 1) xs)) same
-      ∙ ap (λ (l : Column). cond (is_kth k j n) (x ∷ l) l) (ap (λ (m : ℕ). select_from (is_kth k j) m xs) next
-      ∙ chosen_apart (n + 1) xs)
+      cc (add-mod_left k n, next, chosen_apart (n + 1) xs)
 
   is_kth_here : (n : ℕ) → n ≡ j → is_kth k j n ≡ true
   is_kth_here n same = let less : n % k ≡ j = mod-eq_of_lt (omega arith) ∙ same in eq-eqb (n % k) j less
@@ -41,8 +37,7 @@ module _ {k j : ℕ} (low : j < k) where
 
   -- After the j-th of the first k.
   chosen_after : (n b : ℕ) (xs : Column) → n + b ≡ k → j < n → select_from (is_kth k j) n xs ≡ every_kth k j (drop b xs)
-  chosen_after n zero xs all past = let same : n ≡ k + 0 = omega arith in ap (λ (m : ℕ). select_from (is_kth k j) m xs)
-      same ∙ chosen_apart 0 xs
+  chosen_after n zero xs all past = let same : n ≡ k + 0 = omega arith in cc (same, chosen_apart 0 xs)
   chosen_after n (suc b) [] all past = refl
   chosen_after n (suc b) (x ∷ xs) all past = rw (is_kth_not n (omega arith) (omega arith)) (chosen_after (n + 1) b xs
       (omega arith) (omega arith))
@@ -58,29 +53,22 @@ module _ {k j : ℕ} (low : j < k) where
         (chosen_after (n + 1) b xs (omega arith) (omega arith))),
     omega arith,
   )
-  chosen_before n (suc a) (suc b) (x ∷ xs) here all = rw (is_kth_not n (omega arith) (omega arith)) (⊎_elim
-      (λ (is, some). inl (is, omega (arith, some)))
-      (λ (none, few, rest). inr (none, omega (arith, few), rest))
-      (chosen_before (n + 1) a b xs (omega arith) (omega arith)))
+  chosen_before n (suc a) (suc b) (x ∷ xs) here all =
+      grind (arith, is_kth_not n (omega arith) (omega arith), chosen_before (n + 1) a b xs (omega arith) (omega arith))
 
   -- The first line of a column, and then the rest of it.
   every_kth_first : (ls : Column) → slice_index_or (every_kth k j ls) 0 [] ≡ slice_index_or ls j []
   every_kth_first ls = grind (arith, chosen_before 0 j k ls (omega arith) (omega arith), get_or_past ls j [])
 
   pub every_kth_rest : (ls : Column) → drop 1 (every_kth k j ls) ≡ every_kth k j (drop k ls)
-  every_kth_rest ls = ⊎_elim
-      (λ (is, some). ap (drop 1) is)
-      (λ (none, few, rest). ap (drop 1) none ∙ ap (every_kth k j) (sym rest))
-      (chosen_before 0 j k ls (omega arith) (omega arith))
+  every_kth_rest ls = grind (arith, chosen_before 0 j k ls (omega arith) (omega arith))
 
   every_kth_some : (ls : Column) → j < length ls → 0 < length (every_kth k j ls)
   every_kth_some ls some = grind (arith, chosen_before 0 j k ls (omega arith) (omega arith))
 
   -- A bound on the length of a column.
   pub every_kth_short : (r : ℕ) (ls : Column) → length ls ≤ j + r * k → length (every_kth k j ls) ≤ r
-  every_kth_short zero ls few = ⊎_elim (λ (is, low). absurd (omega (arith, low, few)))
-      (λ (none, past, rest). omega (arith, ap length none))
-      (chosen_before 0 j k ls (omega arith) (omega arith))
+  every_kth_short zero ls few = grind (arith, chosen_before 0 j k ls (omega arith) (omega arith))
   every_kth_short (suc r) ls few =
       let more : suc r * k ≡ k + r * k = omega arith in
       omega (
@@ -132,9 +120,8 @@ row_count_bound a (col ∷ cols) (suc c) = row_count_bound (max a (length col)) 
 row_count_none : (cols : List Column) → ((c : ℕ) → c < length cols → get_or cols c [] ≡ []) → row_count cols ≡ 0
 row_count_none [] none = refl
 row_count_none (col ∷ cols) none =
-    let empty : length col ≡ 0 = ap length (none 0 (omega arith)) in
-    ap (λ (n : ℕ). fold max n (map length cols)) (omega (arith, empty))
-    ∙ row_count_none cols (λ c low. none (suc c) (omega arith))
+    let empty : max 0 (length col) ≡ 0 = omega (arith, ap length (none 0 (omega arith))) in
+    cc (empty, row_count_none cols (λ c low. none (suc c) (omega arith)))
 
 pub rows_none : (cols : List Column) → ((c : ℕ) → c < length cols → get_or cols c [] ≡ []) → rows cols ≡ []
 rows_none cols none = ap (λ (n : ℕ). map (row_at cols) (range_with_len 0 n)) (row_count_none cols none)
@@ -151,11 +138,12 @@ length-for_each_cell f cells = length-map (enumerate_from 0 cells) (λ (cell : �
 
 get_or-for_each_cell : {Y : Type 0} (f : ℕ → ℕ → Y) (cells : List ℕ) (c : ℕ) (d : Y) → c < length cells
     → get_or (for_each_cell f cells) c d ≡ f c (get_or cells c 0)
-get_or-for_each_cell {Y} f cells c d low =
-    get_or-map (λ (cell : ℕ × ℕ). f cell.0 cell.1) (enumerate_from 0 cells) c (0, 0) d
-    (omega (arith, length-enumerate_from 0 cells))
-    ∙ ap (λ (cell : ℕ × ℕ). f cell.0 cell.1) (get_or-enumerate_from 0 cells c (0, 0) low)
-    ∙ (let same : 0 + c ≡ c = omega arith in ap (λ (n : ℕ). f n (get_or cells c 0)) same)
+get_or-for_each_cell {Y} f cells c d low = let same : 0 + c ≡ c = omega arith in cc (
+  get_or-map (λ (cell : ℕ × ℕ). f cell.0 cell.1) (enumerate_from 0 cells) c (0, 0) d
+      (omega (arith, length-enumerate_from 0 cells)),
+  get_or-enumerate_from 0 cells c (0, 0) low,
+  same,
+)
 
 -- A list that has this value for each column is equal to that.
 pub for_each_cell_unique : {Y : Type 0} (f : ℕ → ℕ → Y) (cells : List ℕ) (ys : List Y) (d : Y)
@@ -290,8 +278,7 @@ is_row_unknown [] eof r c low within going few = absurd (omega arith)
 is_row_unknown (col ∷ cols) [] r c low within going few = absurd (omega arith)
 is_row_unknown (col ∷ cols) (e ∷ eof) r zero low within going few = rw (going, le-ltb r (length col) few) refl
 is_row_unknown (col ∷ cols) (e ∷ eof) r (suc c) low within going few =
-    and_right (e || nat_lt r (length col)) (is_row_known cols eof r) (is_row_unknown cols eof r c (omega arith)
-    (omega arith) going few)
+    grind (arith, nat_tests, is_row_unknown cols eof r c (omega arith) (omega arith) going few)
 
 -- ---- a function that is changed at one index
 

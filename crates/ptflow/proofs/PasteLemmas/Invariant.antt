@@ -35,10 +35,12 @@ all_used P cells all p some =
 ended_more : (end : ℕ) (ls : Column) (bytes : List ℕ) → AreLines end ls
     → complete_lines end (unlines end ls ++ bytes) ≡ ls ++ complete_lines end bytes
 ended_more end [] bytes w = refl
-ended_more end (line ∷ ls) bytes (whole, more) =
-    ap (complete_lines end) (append_assoc (line ++ end ∷ []) (unlines end ls) bytes ∙ append_assoc line (end ∷ [])
-    (unlines end ls ++ bytes)) ∙ complete_lines_cons end line (unlines end ls ++ bytes) whole
-    ∙ ap (λ (l : Column). line ∷ l) (ended_more end ls bytes more)
+ended_more end (line ∷ ls) bytes (whole, more) = cc (
+  append_assoc (line ++ end ∷ []) (unlines end ls) bytes,
+  append_assoc line (end ∷ []) (unlines end ls ++ bytes),
+  complete_lines_cons end line (unlines end ls ++ bytes) whole,
+  ended_more end ls bytes more,
+)
 
 -- The known lines of all received bytes, if `ls` were received first.
 whole_lines_after : (end : ℕ) (now : Reader) (given : List ℕ) (ls : Column) → AreReceivedLines end now given ls

@@ -137,8 +137,8 @@ whole_lines_prefix end eof (b ∷ front) last = by_test eof (b == end) (complete
         × (cond e (cond t ([] ∷ lines end (front ++ last)) (onto_first b (lines end (front ++ last))))
         (cond t ([] ∷ complete_lines end (front ++ last)) (onto_first_if_any b (complete_lines end (front ++ last))))
         ≡ cond t ([] ∷ xs) (onto_first_if_any b xs) ++ more)
-    by_test true true xs (more, is) = (more, ap (λ (l : Column). [] ∷ l) is)
-    by_test false true xs (more, is) = (more, ap (λ (l : Column). [] ∷ l) is)
+    by_test true true xs (more, is) = (more, cc is)
+    by_test false true xs (more, is) = (more, cc is)
     by_test true false [] (more, is) = (onto_first b (lines end (front ++ last)), refl)
     by_test false false [] (more, is) = (onto_first_if_any b (complete_lines end (front ++ last)), refl)
     by_test true false (x ∷ xs) (more, is) = (more, ap (onto_first b) is)
@@ -218,8 +218,7 @@ first_rows_prefix : (job : Paste) (m : ℕ) (rs : List (List (List ℕ))) {first
     → IsPrefix (rows_text job first) (rows_text job rs)
 first_rows_prefix job m rs {first} is = record {
   rest = rows_text job (drop m rs);
-  is = ap (rows_text job) (sym (take-append-drop m rs)) ∙ rows_text-append job.terminator job.delimiters (take m rs)
-      (drop m rs) ∙ ap (λ (x : List (List (List ℕ))). rows_text job x ++ rows_text job (drop m rs)) (sym is);
+  is = cc (is, take-append-drop m rs, rows_text-append job.terminator job.delimiters (take m rs) (drop m rs));
 }
 
 -- Without the last bytes of this input alone, no more output is determined than was pushed.

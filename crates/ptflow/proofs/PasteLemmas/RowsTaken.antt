@@ -131,17 +131,13 @@ module _ (row : RowShape) where
   cells_text-append c (x ∷ xs) ys =
       let next : c + 1 + length xs ≡ c + suc (length xs) = omega arith in
       let cell = x ++ after_cell row c in
-      ap (λ (l : List ℕ). cell ++ l)
-      (cells_text-append (c + 1) xs ys ∙ ap (λ (k : ℕ). cells_text row (c + 1) xs ++ cells_text row k ys) next)
-      ∙ sym (append_assoc cell (cells_text row (c + 1) xs) (cells_text row (c + suc (length xs)) ys))
+      cc (next, cells_text-append (c + 1) xs ys,
+      append_assoc cell (cells_text row (c + 1) xs) (cells_text row (c + suc (length xs)) ys))
 
   -- One more field.
   pub cells_text-push : (c : ℕ) (xs : List (List ℕ)) (x : List ℕ) {k : ℕ} → c + length xs ≡ k
       → cells_text row c (xs ++ x ∷ []) ≡ cells_text row c xs ++ (x ++ after_cell row k)
-  cells_text-push c xs x {k} here =
-      cells_text-append c xs (x ∷ [])
-      ∙ ap (λ (i : ℕ). cells_text row c xs ++ ((x ++ after_cell row i) ++ [])) here
-      ∙ ap (λ (l : List ℕ). cells_text row c xs ++ l) (append-nil (x ++ after_cell row k))
+  cells_text-push c xs x {k} here = cc (here, cells_text-append c xs (x ∷ []), append-nil (x ++ after_cell row k))
 
   -- The columns from c to the last one.
   pub row_text : (c : ℕ) (xs : List (List ℕ)) → c + length xs ≡ length row.cells → 0 < length xs
