@@ -142,12 +142,13 @@ vector_stored : (at k n : ℕ) (was lanes : List ℕ) → length lanes ≡ n →
 vector_stored at k n was lanes long room all =
     let mid = mid_of at k was in
     let size : length mid ≡ k = length-take-le k (drop at was) (omega (arith, length-drop at was, all)) in
-    ap (λ (m : ℕ). take (m + n) (put_mid at k was (put_chunk 0 mid lanes)))
-    (sym (length-take-le at was (omega (arith, all))))
-    ∙ take-append-add (take at was) (put_chunk 0 mid lanes ++ drop k (drop at was)) n
-    ∙ ap (λ (l : List ℕ). take at was ++ l)
-    (take-append-le n (put_chunk 0 mid lanes) (drop k (drop at was)) (omega (arith, length-put_chunk 0 mid lanes, size))
-    ∙ take_more_put_chunk 0 mid lanes n (omega (arith, long)) (omega (arith, size)))
+    cc (
+      length-take-le at was (omega (arith, all)),
+      take-append-add (take at was) (put_chunk 0 mid lanes ++ drop k (drop at was)) n,
+      take-append-le n (put_chunk 0 mid lanes) (drop k (drop at was))
+          (omega (arith, length-put_chunk 0 mid lanes, size)),
+      take_more_put_chunk 0 mid lanes n (omega (arith, long)) (omega (arith, size)),
+    )
 
 -- A vector was stored at `at`, and the line that it begins with was consumed.
 pub vector_line : (at k n : ℕ) (was : List ℕ) {end count : ℕ} {old new : Reader} {bytes : List ℕ}

@@ -130,9 +130,8 @@ module _ {job : Paste} {cells : List ℕ} {old set now : List Reader} {was is : 
       line_left = λ memory there. k.unended memory;
       refused = λ clean few. absurd (omega (arith, few, k.room));
       untouched = λ p none.
-          let nothing : length s.taken_rows * uses_of cells p ≡ 0 =
-          ap (λ (n : ℕ). length s.taken_rows * n) none ∙ omega arith in
-          k.left p none ∙ (so_far p).none nothing ∙ (s.starts.are_set p).left none;
+          let nothing : length s.taken_rows * uses_of cells p ≡ 0 = rw none (omega arith) in
+          cc (k.left p none, (so_far p).none nothing, (s.starts.are_set p).left none);
       unchanged_if_failed = λ fault. cc (s.starts.writable);
     }
 
@@ -193,8 +192,7 @@ module _ {job : Paste} {cells : List ℕ} {old set now : List Reader} {was is : 
             adds = k.adds;
             room = omega (arith, k.adds.all k.denied);
             unended = λ memory. cc;
-            left = λ p none. (all_taken p).none (ap (λ (k : ℕ). length more * k + uses_of (take n cells) p) none
-                ∙ omega (arith, none, uses_before cells n p));
+            left = λ p none. (all_taken p).none (rw none (omega (arith, none, uses_before cells n p)));
           })
 
   more_count : (p : ℕ)
@@ -276,8 +274,7 @@ module _ {job : Paste} {cells : List ℕ} {old set now : List Reader} {was is : 
         (lines_taken_by p).enough
 
     nothing_by : (p : ℕ) → (lines_taken_by p).bytes ≡ []
-    nothing_by p = none_received (subst (AreReceivedLines job.terminator (reader_at new p) (lines_taken_by p).bytes)
-        (none p) (lines_taken_by p).came)
+    nothing_by p = none_received (rw (none p) at (lines_taken_by p).came)
 
     text_is : rows_text job s.taken_rows ≡ paste job cells (λ p. (given_by job s.first_rows read_by p).bytes)
     text_is =

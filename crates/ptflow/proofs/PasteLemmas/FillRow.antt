@@ -265,11 +265,10 @@ module _ {cells : List ℕ} {n : ℕ} {old now : List Reader} {fields : List (Li
     lines_taken = lines_taken_next;
     width = omega (arith, t.width, length-append fields (field ∷ []));
     fields_taken = λ c less. ⊎_elim
-        (λ same. rw same (get_or_push fields field [] n (omega (arith, t.width)) ∙ there
-        ∙ ap (λ (l : List (List ℕ)). slice_index_or l (uses_of (take n cells) input) [])
-        (sym (lines_at_here input ls input_lines input refl))))
-        (λ differ. get_or_append_left fields (field ∷ []) [] c (omega (arith, less, differ, t.width))
-        ∙ t.fields_taken c (omega (arith, less, differ)) ∙ sym (earlier_cell c (omega (arith, less, differ))))
+        (λ same. cc (same, there, get_or_push fields field [] n (omega (arith, t.width)),
+        lines_at_here input ls input_lines input refl))
+        (λ differ. cc (get_or_append_left fields (field ∷ []) [] c (omega (arith, less, differ, t.width)),
+        t.fields_taken c (omega (arith, less, differ)), earlier_cell c (omega (arith, less, differ))))
         (cases_eq c n);
     count = length-set now input r ∙ t.count;
   }
@@ -416,12 +415,9 @@ module _ {row : RowShape} where
           within = omega (arith, a.within);
           is = a.is ∙ ap (cells_text row 0)
               (sym (take-append-le now.count a.fields (field ∷ []) (omega (arith, width, a.within))));
-          held = λ c over under. ⊎_elim
-              (λ same. rw same (get_or-set_same store.lines n field [] room
-              ∙ sym (get_or_push a.fields field [] n (omega (arith, width)))))
-              (λ differ. get_or-set_other store.lines n c field [] differ ∙ a.held c over (omega (arith, under, differ))
-              ∙ sym (get_or_append_left a.fields (field ∷ []) [] c (omega (arith, under, differ, width))))
-              (cases_eq c n);
+          held = λ c over under. grind (arith, a.held c, width, cases_eq c n, get_or-set_same store.lines n field [] room,
+              get_or-set_other store.lines n c field [], get_or_push a.fields field [] n,
+              get_or_append_left a.fields (field ∷ []) [] c);
           slots = slots_kept_line a.slots field width low;
         })
 
@@ -449,11 +445,14 @@ module _ {row : RowShape} where
         fields = a.fields;
         filled = a.filled;
         within = omega arith;
-        is = (λ i. (a.is ∙ ap (λ (k : ℕ). cells_text row 0 (take k a.fields)) here) i
-            ++ (a.held n (omega (arith, here)) (omega arith) i ++ after_cell row n))
-            ∙ sym (cells_text-push row 0 front (get_or a.fields n [])
-            (omega (arith, length-take-le n a.fields (omega (arith, width)))))
-            ∙ ap (cells_text row 0) (sym (take_more a.fields n [] (omega (arith, width))));
+        is = cc (
+          a.is,
+          here,
+          a.held n (omega (arith, here)) (omega arith),
+          cells_text-push row 0 front (get_or a.fields n []) {k = n}
+              (omega (arith, length-take-le n a.fields (omega (arith, width)))),
+          take_more a.fields n [] (omega (arith, width)),
+        );
         held = λ c over under. absurd (omega (arith, over, under));
         slots = a.slots;
       }
@@ -469,13 +468,14 @@ module _ {row : RowShape} where
         fields = all;
         filled = p.filled from a.fields a.filled;
         within = omega arith;
-        is = p.is ∙ ap (λ (l : List ℕ). l ++ cells_text row now.count p.fields)
-            (a.is ∙ ap (cells_text row 0) (take_all now.count a.fields (omega (arith, width))))
-            ∙ (let here : now.count ≡ 0 + length a.fields = omega (arith, width) in
-            ap (λ (k : ℕ). cells_text row 0 a.fields ++ cells_text row k p.fields) here)
-            ∙ sym (cells_text-append row 0 a.fields p.fields)
-            ∙ ap (cells_text row 0) (sym
-            (take_all next.count all (omega (arith, width, p.width, length-append a.fields p.fields))));
+        is = (let here : now.count ≡ 0 + length a.fields = omega (arith, width) in cc (
+          p.is,
+          a.is,
+          here,
+          take_all now.count a.fields (omega (arith, width)),
+          cells_text-append row 0 a.fields p.fields,
+          take_all next.count all (omega (arith, width, p.width, length-append a.fields p.fields)),
+        ));
         held = λ c over under. absurd (omega (arith, over, under));
         slots = slots_kept_more a.slots p.fields;
       }
@@ -505,9 +505,7 @@ module _ {row : RowShape} where
       ∙ a.held (k + i) (omega arith) (omega (arith, low, length-drop k slots, size))
       ∙ sym (get_or-drop k a.fields i [])) in
       let here : k ≡ 0 + length front = omega (arith, long) in
-      (λ i. a.is i ++ cells_text row (here i) (same i))
-      ∙ sym (cells_text-append row 0 front (drop k a.fields))
-      ∙ ap (cells_text row 0) (take-append-drop k a.fields)
+      cc (a.is, here, same, cells_text-append row 0 front (drop k a.fields), take-append-drop k a.fields)
 
 -- ---- the readers, after a line was read
 

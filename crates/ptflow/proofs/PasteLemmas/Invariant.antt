@@ -77,10 +77,11 @@ module _ (job : Paste) {cells : List ℕ} {set now new : List Reader} {ls : ℕ 
         (r.reads p) (λ done i. done.buffered i ++ (a p).whole done.eof i)
 
     lines_by : (p : ℕ) → lines job.terminator (texts p) ≡ ls p ++ lines job.terminator (later p)
-    lines_by p =
-        ap (lines job.terminator) (simp append_assoc at (a p).is)
-        ∙ lines_on job.terminator (reader_at now p) (g.lines_taken p).bytes (ls p) (g.lines_taken p).came (later p)
-        (may_later p)
+    lines_by p = cc (
+      simp append_assoc at (a p).is,
+      lines_on job.terminator (reader_at now p) (g.lines_taken p).bytes (ls p) (g.lines_taken p).came (later p)
+          (may_later p),
+    )
 
     pub rows_by : rows (columns cells (λ p. lines job.terminator (texts p))) ≡ taken_rows ++ rows
         (columns cells (λ p. lines job.terminator (later p)))

@@ -117,11 +117,10 @@ module _ (end : ℕ) (delims : List (Option ℕ)) where
     rest = delimiter delims number ++ join_with_cycle delims (number + 1) (y ∷ ys);
     is = append_assoc x (delimiter delims number) (join_with_cycle delims (number + 1) (y ∷ ys));
   }
-  joined_begins number (x ∷ z ∷ xs) ys =
-      let b = joined_begins (number + 1) (z ∷ xs) ys in record {
-        rest = b.rest;
-        is = ap (λ (l : List ℕ). (x ++ delimiter delims number) ++ l) b.is ∙ simp append_assoc;
-      }
+  joined_begins number (x ∷ z ∷ xs) ys = let b = joined_begins (number + 1) (z ∷ xs) ys in record {
+    rest = b.rest;
+    is = rw b.is (simp append_assoc);
+  }
 
 -- The output for the received bytes begins with their complete lines.
 pub serial_is_decided : (job : Paste) (given pushed : List ℕ) (index : ℕ) (held : Bool)

@@ -39,9 +39,7 @@ ends_with end (b ∷ bs) some last =
     let n = length bs in
     let there : length (b ∷ bs) - 1 ≡ n = omega arith in (
       take n (b ∷ bs),
-      sym (take_all (n + 1) (b ∷ bs) (omega arith)) ∙ take_more (b ∷ bs) n 0 (omega arith)
-          ∙ ap (λ (x : ℕ). take n (b ∷ bs) ++ x ∷ [])
-          (ap (λ (k : ℕ). get_or (b ∷ bs) k 0) (sym there) ∙ last (omega arith)),
+      cc (take_all (n + 1) (b ∷ bs) (omega arith), take_more (b ∷ bs) n 0 (omega arith), there, last (omega arith)),
     )
 
 -- Bytes that end with a terminator and have count * n terminators are `count` complete rows.
@@ -49,9 +47,9 @@ pub whole_rows_counted : (end n count : ℕ) (bytes : List ℕ)
     → (0 < length bytes → get_or bytes (length bytes - 1) 0 ≡ end) → count_by (is_byte end) bytes ≡ count * n
     → IsWholeRows end n bytes
 whole_rows_counted end n count bytes last counted =
+    let ((are_lines, text), only) = the_lines end bytes in
     let is : unlines end (lines end bytes) ≡ bytes =
-    let ((are_lines, is), only) = the_lines end bytes in
-    ⊎_elim (λ same. same) (λ (some, not_ended, missing). absurd (not_ended (ends_with end bytes some last))) is in
+    ⊎_elim (λ same. same) (λ (some, not_ended, missing). absurd (not_ended (ends_with end bytes some last))) text in
     record {
       count = count;
       ls = lines end bytes;
@@ -182,7 +180,7 @@ module _ (cells : List ℕ) (input : ℕ) (same : (c : ℕ) → c < length cells
   rows_on some zero [] more long = λ i. rows (columns cells (λ q. none q i ++ more q))
     where
       none : (q : ℕ) → lines_of_input input [] q ≡ []
-      none q = ⊎_elim (update_here input [] (λ q. []) q) (update_there input [] (λ q. []) q) (cases_eq q input)
+      none q = grind (arith, nat_tests)
   rows_on some zero (line ∷ ls) more long = absurd (omega (arith, long))
   rows_on some (suc k) ls more long =
       let n = length cells in

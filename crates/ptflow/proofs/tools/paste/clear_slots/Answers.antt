@@ -8,11 +8,8 @@ loop-column-preserved g c =
     let n = c.loop-column.column in
     let inv = c.loop-column.invariant in
     rw c.clear.ensures (record {
-      empty = λ k under. ⊎_elim
-          (λ same. rw same (get_or-set_same lines n [] [] (omega
-          (arith, c.loop-column-test.true, c.requires, inv.same))))
-          (λ differ. get_or-set_other lines n k [] [] differ ∙ inv.empty k (omega (arith, under, differ)))
-          (cases_eq k n);
+      empty = λ k under. grind (arith, inv.empty k, cases_eq k n, get_or-set_other lines n k [] [],
+          get_or-set_same lines n [] [] (omega (arith, c.loop-column-test.true, c.requires, inv.same)));
       kept = λ first top before. slots_bound_line (inv.kept first top before) n [] c.loop-column-test.true
           (omega arith);
       same = length-set lines n [] ∙ inv.same;

@@ -9,9 +9,12 @@ moved : (at to : ℕ) (bytes : List ℕ) → at ≤ to → to ≤ length bytes
 moved at to bytes further fits =
     let start : to - at ≡ 0 + (to - at) = omega arith in
     let split : at + (to - at) ≡ to = omega (arith, further) in
-    ap (λ (k : ℕ). take k (paste bytes 0 (drop at bytes) (to - at))) start
-    ∙ take-paste bytes 0 (drop at bytes) (to - at) (omega arith) (omega (arith, length-drop at bytes))
-    ∙ sym (drop-take at (to - at) bytes) ∙ ap (λ (k : ℕ). drop at (take k bytes)) split
+    cc (
+      start,
+      take-paste bytes 0 (drop at bytes) (to - at) (omega arith) (omega (arith, length-drop at bytes)),
+      drop-take at (to - at) bytes,
+      split,
+    )
 
 pub returns : goal.returns
 returns c = λ readers.

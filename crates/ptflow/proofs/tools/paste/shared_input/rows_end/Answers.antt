@@ -28,7 +28,7 @@ module _ (test : ℕ → Bool) (xs : List ℕ) where
       last_low = let (highest, passes) = last in omega (arith, highest.high, length-take-le at xs within)
 
       last_passes : test (get_or xs k 0) ≡ true
-      last_passes = let (highest, passes) = last in sym (ap test (here k last_low)) ∙ passes
+      last_passes = let (highest, passes) = last in cc (here k last_low, passes)
 
       last_ends : count_by test (take at xs) ≡ count_by test (take (k + 1) xs)
       last_ends =
