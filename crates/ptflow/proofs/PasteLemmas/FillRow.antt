@@ -1,24 +1,22 @@
--- A row that is filled column by column. A field comes from the slot of its column, or from the buffer of its reader: the
--- text of the first fields was copied, and the slots hold the others. Each step changes one reader, so the lines of the
--- columns before it stay as they are. The slots hold all bytes of the store, so the total is at most the sum of the
+-- A row that is filled column by column. A field comes from the slot of its column, or from the buffer of its reader:
+-- the text of the first fields was copied, and the slots hold the others. Each step changes one reader, so the lines of
+-- the columns before it stay as they are. The slots hold all bytes of the store, so the total is at most the sum of the
 -- columns' bounds.
-use Rattle.ptflow.proofs.Common.{nat_tests}
-use Rattle.ptflow.proofs.Common.{◌≡◌, ℕ, zero, suc, ◌+◌, ◌<◌, ◌≤◌, false, List, [], ◌∷◌, ◌++◌, length, length-append}
-use Rattle.ptflow.proofs.Common.{get_or_append_left, get_or_push, max_length, take, drop, set, get_or, refl, sym, ◌∙◌}
-use Rattle.ptflow.proofs.Common.{ap, arith, ⊎_elim, take-append-drop, sum_by, cases_eq, length-set, drop-set-lt}
-use Rattle.ptflow.proofs.Common.{get_or-set_same, get_or-set_other, sum_by-cons, sum_by-append, get_or-le-sum_by, Slots}
-use Rattle.ptflow.proofs.Common.{total_bytes, with_line, AddedSlots, SlotsBound, SlotsKept, CellsTaken, Reader, uses_of}
-use Rattle.ptflow.proofs.Common.{◌≢◌, ◌==◌, ◌||◌, Bool, true, cond, None, Ok, subst, cases_lt, eq-eqb, ne_eqb}
-use Rattle.ptflow.proofs.Common.{append-nil, take-take, get_or_past, get_or_at, get_or_default, sum_by-set, AdvanceOk}
-use Rattle.ptflow.proofs.Common.{IsDone, IsSound, budget, FillLine, FillPost, no_reader, reader_at, SetTerminatorsPost}
-use Rattle.ptflow.proofs.Common.{CellsFilled, RowFailed, LinesTaken, Err, ext_get_or, get_or-drop, length-drop}
-use Rattle.ptflow.proofs.Common.{take_all, take_more, take-append-le, length-take-le, line, RowShape, BegunText}
-use Rattle.ptflow.proofs.Common.{after_cell, cells_text, slots_text, CopyColumnsPost, BufferedRowsPre, RowAmid}
-use Rattle.ptflow.proofs.Common.{RowFilled, FillCellPost, NotRead, FillReadErr, FillMemoryErr, FlowFault, Read, Write}
-use Rattle.ptflow.proofs.Common.{Memory}
+use Rattle.ptflow.proofs.Common.{nat_tests, ◌≡◌, ℕ, zero, suc, ◌+◌, ◌<◌, ◌≤◌, false, List, [], ◌∷◌, ◌++◌, length}
+use Rattle.ptflow.proofs.Common.{length-append, get_or_append_left, get_or_push, max_length, take, drop, set, get_or}
+use Rattle.ptflow.proofs.Common.{refl, sym, ◌∙◌, ap, arith, ⊎_elim, take-append-drop, sum_by, cases_eq, length-set}
+use Rattle.ptflow.proofs.Common.{drop-set-lt, get_or-set_same, get_or-set_other, sum_by-cons, sum_by-append}
+use Rattle.ptflow.proofs.Common.{get_or-le-sum_by, Slots, total_bytes, with_line, AddedSlots, SlotsBound, SlotsKept}
+use Rattle.ptflow.proofs.Common.{CellsTaken, Reader, uses_of, ◌≢◌, ◌==◌, ◌||◌, Bool, true, cond, None, Ok, subst}
+use Rattle.ptflow.proofs.Common.{eq-eqb, ne_eqb, append-nil, take-take, get_or_past, get_or_at, get_or_default}
+use Rattle.ptflow.proofs.Common.{sum_by-set, AdvanceOk, IsDone, IsSound, budget, FillLine, FillPost, no_reader}
+use Rattle.ptflow.proofs.Common.{reader_at, SetTerminatorsPost, CellsFilled, RowFailed, LinesTaken, Err, ext_get_or}
+use Rattle.ptflow.proofs.Common.{get_or-drop, length-drop, take_all, take_more, take-append-le, length-take-le, line}
+use Rattle.ptflow.proofs.Common.{RowShape, BegunText, after_cell, cells_text, slots_text, CopyColumnsPost}
+use Rattle.ptflow.proofs.Common.{BufferedRowsPre, RowAmid, RowFilled, FillCellPost, NotRead, FillReadErr, FillMemoryErr}
+use Rattle.ptflow.proofs.Common.{FlowFault, Read, Write, Memory}
 use Rattle.std.specs.Prelude.{slice_index_or}
 use Rattle.ptflow.proofs.PasteLemmas.Grid.{uses_here, uses_other, uses_before}
-use Rattle.ptflow.proofs.Passes.Lines.{max_length-append}
 use Rattle.ptflow.proofs.PasteLemmas.RowsTaken.{nothing_taken, taken_more, taken_line, taken_eof, taken_at_most}
 use Rattle.ptflow.proofs.PasteLemmas.RowsTaken.{none_at_eof, cells_text-append, cells_text-push}
 use Rattle.std.proofs.lemmas.List.{get_or-take}
@@ -85,8 +83,15 @@ slots_bound_line {cells} {top} {before} {store} k column bytes within fits = rec
     size = length-set store.lines column bytes
 
     short : (c : ℕ) → c < length cells → length (get_or lines c []) ≤ top (get_or cells c 0)
-    short c low = grind (arith, fits, k.short c low, within, k.adds.all k.denied,
-      get_or-set_same store.lines column bytes [], get_or-set_other store.lines column c bytes [])
+    short c low = grind (
+      arith,
+      fits,
+      k.short c low,
+      within,
+      k.adds.all k.denied,
+      get_or-set_same store.lines column bytes [],
+      get_or-set_other store.lines column c bytes [],
+    )
 
     others : total_bytes (drop (length cells) lines) ≡ 0
     others = ap total_bytes (drop-set-lt (length cells) store.lines column bytes within) ∙ k.others
@@ -121,8 +126,11 @@ module _ {cells : List ℕ} {fields : List (List ℕ)} {before store : Slots} (s
     slots_kept_line {n} field width low = record {
       same = length-set store.lines n field ∙ s.same;
       kept = λ first top k high. slots_bound_line ((slots_kept_more (field ∷ [])).kept first top k high) n field low
-          (omega (arith, high n (omega (arith, width, length-append fields (field ∷ []))),
-          ap length (get_or_push fields field [] n (omega (arith, width)))));
+          (omega (
+            arith,
+            high n (omega (arith, width, length-append fields (field ∷ []))),
+            ap length (get_or_push fields field [] n (omega (arith, width))),
+          ));
     }
 
     -- The bound on the slots, by the lines that the readers gave.
@@ -265,10 +273,17 @@ module _ {cells : List ℕ} {n : ℕ} {old now : List Reader} {fields : List (Li
     lines_taken = lines_taken_next;
     width = omega (arith, t.width, length-append fields (field ∷ []));
     fields_taken = λ c less. ⊎_elim
-        (λ same. cc (same, there, get_or_push fields field [] n (omega (arith, t.width)),
-        lines_at_here input ls input_lines input refl))
-        (λ differ. cc (get_or_append_left fields (field ∷ []) [] c (omega (arith, less, differ, t.width)),
-        t.fields_taken c (omega (arith, less, differ)), earlier_cell c (omega (arith, less, differ))))
+        (λ same. cc (
+          same,
+          there,
+          get_or_push fields field [] n (omega (arith, t.width)),
+          lines_at_here input ls input_lines input refl,
+        ))
+        (λ differ. cc (
+          get_or_append_left fields (field ∷ []) [] c (omega (arith, less, differ, t.width)),
+          t.fields_taken c (omega (arith, less, differ)),
+          earlier_cell c (omega (arith, less, differ)),
+        ))
         (cases_eq c n);
     count = length-set now input r ∙ t.count;
   }
@@ -415,9 +430,16 @@ module _ {row : RowShape} where
           within = omega (arith, a.within);
           is = a.is ∙ ap (cells_text row 0)
               (sym (take-append-le now.count a.fields (field ∷ []) (omega (arith, width, a.within))));
-          held = λ c over under. grind (arith, a.held c, width, cases_eq c n, get_or-set_same store.lines n field [] room,
-              get_or-set_other store.lines n c field [], get_or_push a.fields field [] n,
-              get_or_append_left a.fields (field ∷ []) [] c);
+          held = λ c over under. grind (
+            arith,
+            a.held c,
+            width,
+            cases_eq c n,
+            get_or-set_same store.lines n field [] room,
+            get_or-set_other store.lines n c field [],
+            get_or_push a.fields field [] n,
+            get_or_append_left a.fields (field ∷ []) [] c,
+          );
           slots = slots_kept_line a.slots field width low;
         })
 
@@ -522,7 +544,20 @@ readable_after now {input} {b} r ready low used is_read before after slot has e 
     let (unfailed, same_end) = after_fill b r before after slot has e in
     record {
       within = λ c d within. omega (arith, ready.within c d within, length-set now input r);
-      unfailed = λ p some. grind (arith, at_same now input r low, at_other now input p r, ready.unfailed p some, unfailed);
-      same_end = λ p some. grind (arith, at_same now input r low, at_other now input p r, ready.same_end p some, same_end,
-          ready.same_end input used, ap (λ (x : Reader). x.terminator) is_read);
+      unfailed = λ p some. grind (
+        arith,
+        at_same now input r low,
+        at_other now input p r,
+        ready.unfailed p some,
+        unfailed,
+      );
+      same_end = λ p some. grind (
+        arith,
+        at_same now input r low,
+        at_other now input p r,
+        ready.same_end p some,
+        same_end,
+        ready.same_end input used,
+        ap (λ (x : Reader). x.terminator) is_read,
+      );
     }

@@ -1,15 +1,15 @@
 -- The columns and rows of a grid of lines. If each input gives one line to each of its columns, exactly the first row
 -- is removed: the first line of each column is that of the row, and the rest of each column is the column of the rest.
 use Rattle.ptflow.proofs.Common.{◌≡◌, ◌≢◌, ◌⊎◌, ⊎_elim, inl, inr, ℕ, zero, suc, ◌+◌, ◌-◌, ◌*◌, ◌%◌, ◌<◌, ◌≤◌, ◌==◌}
-use Rattle.ptflow.proofs.Common.{◌||◌, Bool, true, false, cond, List, [], ◌∷◌, ◌++◌, Option, length, take, drop, get_or}
-use Rattle.ptflow.proofs.Common.{map, max, refl, sym, ◌∙◌, ap, arith, length-append, length-drop, fold, nat_lt}
-use Rattle.ptflow.proofs.Common.{enumerate_from, range_with_len, cases_eq, cases_lt, eq-eqb, ne_eqb, le-ltb, and_right}
-use Rattle.ptflow.proofs.Common.{nat_tests, add-mod_left, mod-eq_of_lt, append-nil, drop_at, drop_all, get_or_past}
-use Rattle.ptflow.proofs.Common.{get_or_append_left, ext_get_or, get_or-map, length-map, map-append}
-use Rattle.ptflow.proofs.Common.{length-enumerate_from, get_or-enumerate_from, sum_by-cons, count_by_more_yes}
-use Rattle.ptflow.proofs.Common.{count_by_more_no, sum_by-take-le, get_or_after_one, map-map, unlines, unlines-append}
-use Rattle.ptflow.proofs.Common.{select_from, update_at, join_with_cycle, every_kth, uses_of, columns, row_count}
-use Rattle.ptflow.proofs.Common.{row_at, rows, is_row_known}
+use Rattle.ptflow.proofs.Common.{Bool, true, false, cond, List, [], ◌∷◌, ◌++◌, Option, length, take, drop, get_or, map}
+use Rattle.ptflow.proofs.Common.{max, refl, sym, ◌∙◌, ap, arith, length-append, length-drop, fold, enumerate_from}
+use Rattle.ptflow.proofs.Common.{range_with_len, cases_eq, cases_lt, eq-eqb, ne_eqb, le-ltb, nat_tests, add-mod_left}
+use Rattle.ptflow.proofs.Common.{mod-eq_of_lt, append-nil, drop_at, drop_all, get_or_past, get_or_append_left}
+use Rattle.ptflow.proofs.Common.{ext_get_or, get_or-map, length-map, map-append, length-enumerate_from}
+use Rattle.ptflow.proofs.Common.{get_or-enumerate_from, sum_by-cons, count_by_more_yes, count_by_more_no}
+use Rattle.ptflow.proofs.Common.{sum_by-take-le, get_or_after_one, map-map, unlines, unlines-append, select_from}
+use Rattle.ptflow.proofs.Common.{update_at, join_with_cycle, every_kth, uses_of, columns, row_count, row_at, rows}
+use Rattle.ptflow.proofs.Common.{is_row_known}
 use Rattle.std.specs.Prelude.{slice_index_or}
 
 abbrev pub Column : Type 0
@@ -104,8 +104,7 @@ rows_step cols some = by_height (row_count cols) refl some
     by_height zero is some = absurd (omega arith)
     by_height (suc h) is some =
         let less : h ≡ row_count (map (drop 1) cols) = omega (arith, row_count_from 0 cols, is) in
-        ap (λ (n : ℕ). map (row_at cols) (range_with_len 0 n)) is ∙ ap (λ (l : List Column). row_at cols 0 ∷ l)
-        (rows_later cols 0 h ∙ ap (λ (n : ℕ). map (row_at (map (drop 1) cols)) (range_with_len 0 n)) less)
+        cc (is, rows_later cols 0 h, less)
 
 row_count_least : (a : ℕ) (cols : List Column) → a ≤ fold max a (map length cols)
 row_count_least a [] = omega arith
@@ -170,10 +169,26 @@ last_use (x ∷ cells) p some = ⊎_elim
     let (c, low, is, count) = last_use cells p more in
     (suc c, omega (arith, low), is, omega (arith, count, uses_first cells, uses_first (take c cells))))
     (λ none. ⊎_elim
-    (λ same. (0, omega arith, same, omega (arith, none, uses_first cells, ap (λ (t : Bool). cond {A = ℕ} t 1 0)
-        (eq-eqb x p same))))
-    (λ differ. absurd (omega (arith, some, none, uses_first cells, ap (λ (t : Bool). cond {A = ℕ} t 1 0)
-        (ne_eqb x p differ))))
+    (λ same. (
+      0,
+      omega arith,
+      same,
+      omega (
+        arith,
+        none,
+        uses_first cells,
+        ap (λ (t : Bool). cond {A = ℕ} t 1 0)
+            (eq-eqb x p same),
+      ),
+    ))
+    (λ differ. absurd (omega (
+      arith,
+      some,
+      none,
+      uses_first cells,
+      ap (λ (t : Bool). cond {A = ℕ} t 1 0)
+          (ne_eqb x p differ),
+    )))
     (cases_eq x p))
     (cases_lt 0 (uses_of cells p))
   where
@@ -222,13 +237,22 @@ module _ (cells : List ℕ) where
     ins p = input_lines p ++ more p
 
     rest_is : (p : ℕ) → drop (uses_of cells p) (input_lines p ++ more p) ≡ more p
-    rest_is p = grind (arith, t.all p, drop_at (input_lines p) (more p) (uses_of cells p),
-      drop_all (uses_of cells p) (input_lines p ++ more p), length-append (input_lines p) (more p))
+    rest_is p = grind (
+      arith,
+      t.all p,
+      drop_at (input_lines p) (more p) (uses_of cells p),
+      drop_all (uses_of cells p) (input_lines p ++ more p),
+      length-append (input_lines p) (more p),
+    )
 
     input_lines_at : (p j : ℕ) → j < uses_of cells p → slice_index_or (input_lines p ++ more p) j [] ≡ slice_index_or
         (input_lines p) j []
-    input_lines_at p j low = grind (arith, t.all p, append-nil (input_lines p),
-      get_or_append_left (input_lines p) (more p) [] j)
+    input_lines_at p j low = grind (
+      arith,
+      t.all p,
+      append-nil (input_lines p),
+      get_or_append_left (input_lines p) (more p) [] j,
+    )
 
     pub grid_step : (c : ℕ) → c < length cells → uses_of (take c cells) (get_or cells c 0) < length
         (input_lines (get_or cells c 0))

@@ -13,7 +13,6 @@ use Rattle.ptflow.proofs.Common.{AreReceivedLines, AreFirstRows, RowsTaken, Rows
 use Rattle.ptflow.proofs.Common.{BufferedRowsPre}
 use Rattle.ptflow.proofs.PasteLemmas.FillRow.{slots_bound_start, slots_kept_by_lines}
 use Rattle.ptflow.proofs.PasteLemmas.RowsTaken.{no_rows, first_rows_trans, filled_row_is_first, filled_row_text}
-use Rattle.ptflow.proofs.PasteLemmas.RowsTaken.{nothing_taken}
 use Rattle.ptflow.proofs.PasteLemmas.Grid.{Column, last_use, rows_text-append}
 use Rattle.ptflow.proofs.Passes.Lines.{max_length-append}
 use Rattle.ptflow.proofs.Passes.LinesRead.{lines_on}

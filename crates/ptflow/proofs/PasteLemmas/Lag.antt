@@ -157,8 +157,8 @@ earlier_before {end} {now = now} {new = new} {given = given} {more = more} {ls =
       few = omega (
         arith,
         few,
-        ap length (sym (lines_are_given end now given ls came)
-            ∙ ap (lines end) (sym (append-nil given)) ∙ is),
+        (let count : length ls ≡ length (complete_lines end given ++ rest) =
+            cc (lines_are_given end now given ls came, append-nil given, is) in count),
         length-append (complete_lines end given) rest,
       );
     }
@@ -209,8 +209,10 @@ same_rows f g a (suc m) same = λ i. same a (omega arith) i ∷ same_rows f g (a
 -- A column keeps its lines if more follow.
 every_kth_more : (k j r : ℕ) (xs more : Column) → r < length (every_kth k j xs)
     → slice_index_or (every_kth k j xs) r [] ≡ slice_index_or (every_kth k j (xs ++ more)) r []
-every_kth_more k j r xs more low = cc (select_append (λ i. i % k == j) 0 xs more,
-    get_or_append_left (every_kth k j xs) (select_from (λ i. i % k == j) (0 + length xs) more) [] r low)
+every_kth_more k j r xs more low = cc (
+  select_append (λ i. i % k == j) 0 xs more,
+  get_or_append_left (every_kth k j xs) (select_from (λ i. i % k == j) (0 + length xs) more) [] r low,
+)
 
 -- ---- the text of rows
 

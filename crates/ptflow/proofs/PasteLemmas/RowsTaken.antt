@@ -1,6 +1,6 @@
--- Lines that were taken from a reader, and rows whose lines were taken. They compose: if lines or rows are taken and then
--- more, the concatenation is taken. One filled row is such a row, since each column takes one line. Its fields, each with
--- the byte after it, are the joined fields and the terminator.
+-- Lines that were taken from a reader, and rows whose lines were taken. They compose: if lines or rows are taken and
+-- then more, the concatenation is taken. One filled row is such a row, since each column takes one line. Its fields,
+-- each with the byte after it, are the joined fields and the terminator.
 use Rattle.ptflow.proofs.Common.{◌≡◌, ◌⊎◌, ⊎_elim, inl, inr, ℕ, ◌+◌, ◌≤◌, List, [], ◌∷◌, ◌++◌, None, length, refl, sym}
 use Rattle.ptflow.proofs.Common.{◌∙◌, ap, arith, length-append, append-nil, lines, AreLines, Reader, ReaderAdvance}
 use Rattle.ptflow.proofs.Common.{AdvanceOk, IsDone, IsSound, remaining_bytes, Slots, FillLine, advance_trans}
@@ -131,8 +131,11 @@ module _ (row : RowShape) where
   cells_text-append c (x ∷ xs) ys =
       let next : c + 1 + length xs ≡ c + suc (length xs) = omega arith in
       let cell = x ++ after_cell row c in
-      cc (next, cells_text-append (c + 1) xs ys,
-      append_assoc cell (cells_text row (c + 1) xs) (cells_text row (c + suc (length xs)) ys))
+      cc (
+        next,
+        cells_text-append (c + 1) xs ys,
+        append_assoc cell (cells_text row (c + 1) xs) (cells_text row (c + suc (length xs)) ys),
+      )
 
   -- One more field.
   pub cells_text-push : (c : ℕ) (xs : List (List ℕ)) (x : List ℕ) {k : ℕ} → c + length xs ≡ k

@@ -42,10 +42,21 @@ module _ (end : ℕ) (delims : List (Option ℕ)) where
   row_rest_on number [] more some =
       let same : number + 0 ≡ number = omega arith in ap (λ n. row_rest end delims n more) (sym same)
   row_rest_on number (b ∷ bytes) more some = ⊎_elim
-      (λ is. grind (arith, append_assoc, counted end b bytes is, row_rest_on (number + 1) bytes more some, is,
-      row_next number b (bytes ++ more) is (omega (arith, some, length-append bytes more))))
-      (λ is. grind (arith, counted end b bytes is, row_rest_on number bytes more some, is,
-      row_byte number b (bytes ++ more) is))
+      (λ is. grind (
+        arith,
+        append_assoc,
+        counted end b bytes is,
+        row_rest_on (number + 1) bytes more some,
+        is,
+        row_next number b (bytes ++ more) is (omega (arith, some, length-append bytes more)),
+      ))
+      (λ is. grind (
+        arith,
+        counted end b bytes is,
+        row_rest_on number bytes more some,
+        is,
+        row_byte number b (bytes ++ more) is,
+      ))
       (cases_Bool (b == end))
 
   -- Only the index of the delimiter matters.
@@ -101,8 +112,12 @@ module _ (end : ℕ) (delims : List (Option ℕ)) where
         counted end end more (byte_eq end),
         none_counted end [] head free,
       ) in (
-        rw (text_is, line_is, replaced_mod end (λ k. option_to_list (slice_index_or delims k None)) len next (index + 1)
-            same more) (simp append_assoc)
+        rw (
+          text_is,
+          line_is,
+          replaced_mod end (λ k. option_to_list (slice_index_or delims k None)) len next (index + 1)
+              same more,
+        ) (simp append_assoc)
             ∙ ap (◌++◌ before) (sym (ap (all_of index) split
             ∙ replaced_line end (delimiter delims) index head more free)) ∙ all_is,
         sym (mod-add-mod next len _) ∙ ap (λ k. (k + count_by (is_byte end) more) % len) same
@@ -132,13 +147,13 @@ serial_is_decided job given pushed index held on =
     let join = join_with_cycle job.delimiters 0 in
     let p = line_split end given in
     let ls = complete_lines end given in
-    let all : lines end given ≡ ls ++ lines end p.piece = ap (lines end) p.is ∙ lines_of_unlines end ls p.piece p.whole in
+    let all : lines end given ≡ ls ++ lines end p.piece = ap (lines end) p.is
+    ∙ lines_of_unlines end ls p.piece p.whole in
     let pushed_is : join (lines end given) ≡ pushed = append_cancel_right (join (lines end given)) pushed (end ∷ [])
-    (ap (λ (l : List ℕ). join (lines end l) ++ end ∷ []) (sym (append-nil given)) ∙ on
-    ∙ ap (λ (l : List ℕ). pushed ++ l) (row_end held)) in
+    (cc (append-nil given, on, row_end held)) in
     let b = joined_begins end job.delimiters 0 ls (lines end p.piece) in record {
       rest = b.rest;
-      is = sym pushed_is ∙ ap join all ∙ b.is ∙ ap (λ (l : List ℕ). l ++ b.rest) (sym (append-nil (join ls)));
+      is = cc (pushed_is, all, b.is, append-nil (join ls));
     }
   where
     row_end : (t : Bool)

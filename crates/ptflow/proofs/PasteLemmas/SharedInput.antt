@@ -1,19 +1,17 @@
 -- Rows of `paste` whose n columns all read one input. Such a row takes n lines, one for each column; if the terminators
 -- of these lines are replaced by the cycle (the delimiters of the row, and a last entry that keeps the terminator),
 -- they become the row. So bytes with count * n terminators, the last at the end, become `count` rows.
-use Rattle.ptflow.proofs.Common.{◌≡◌, ◌≢◌, ℕ, zero, suc, ◌+◌, ◌-◌, ◌*◌, ◌%◌, ◌<◌, ◌≤◌, Bool, cond, List, [], ◌∷◌, ◌++◌}
-use Rattle.ptflow.proofs.Common.{None, length, map, take, drop, set, get_or, refl, sym, ◌∙◌, ap, subst, arith}
-use Rattle.ptflow.proofs.Common.{append_assoc, length-drop, take-append-drop, ⊎_elim, inl, count_by, cases_eq, cases_lt}
-use Rattle.ptflow.proofs.Common.{eq-eqb, ne_eqb, mod-mul-add, take_more, take_all, nil_from_length, length-take-le}
-use Rattle.ptflow.proofs.Common.{length-set, All-get_or, All-take, All-drop, All-from_recursion, recursion_from_All}
-use Rattle.ptflow.proofs.Common.{sum_by-cons, sum_by-append, sum_by-set, is_byte, unlines, lines, IsLine, AreLines}
-use Rattle.ptflow.proofs.Common.{EndsWithByte, Output, PushEffect, push_nothing, Reader, IsSound, budget}
-use Rattle.ptflow.proofs.Common.{advance_ok_take, byte_eq, unlines-append, lines_are, the_lines, no_reader, reader_at}
-use Rattle.ptflow.proofs.Common.{update_at, join_with_cycle, uses_of, columns, rows, IsSharedCycle, IsWholeRows}
-use Rattle.ptflow.proofs.Common.{LinesTaken, replaced, byte_of, after_cell, cells_text, mod-eq_of_lt, RowShape}
-use Rattle.ptflow.proofs.Common.{BufferedRowsPre, RowsTaken, RowsWritten}
+use Rattle.ptflow.proofs.Common.{◌≡◌, ◌≢◌, ℕ, zero, suc, ◌+◌, ◌-◌, ◌*◌, ◌%◌, ◌<◌, ◌≤◌, cond, List, [], ◌∷◌, ◌++◌, None}
+use Rattle.ptflow.proofs.Common.{length, map, take, drop, set, get_or, refl, sym, ◌∙◌, ap, subst, arith, append_assoc}
+use Rattle.ptflow.proofs.Common.{length-drop, take-append-drop, ⊎_elim, inl, count_by, cases_eq, cases_lt, mod-mul-add}
+use Rattle.ptflow.proofs.Common.{take_more, take_all, nil_from_length, length-take-le, length-set, All-get_or, All-take}
+use Rattle.ptflow.proofs.Common.{All-drop, All-from_recursion, recursion_from_All, sum_by-append, sum_by-set, is_byte}
+use Rattle.ptflow.proofs.Common.{unlines, lines, IsLine, AreLines, EndsWithByte, Output, PushEffect, push_nothing}
+use Rattle.ptflow.proofs.Common.{Reader, IsSound, budget, advance_ok_take, byte_eq, unlines-append, lines_are}
+use Rattle.ptflow.proofs.Common.{the_lines, no_reader, reader_at, update_at, join_with_cycle, uses_of, columns, rows}
+use Rattle.ptflow.proofs.Common.{IsSharedCycle, IsWholeRows, LinesTaken, replaced, byte_of, after_cell, cells_text}
+use Rattle.ptflow.proofs.Common.{mod-eq_of_lt, RowShape, BufferedRowsPre, RowsTaken, RowsWritten, nat_tests}
 use Rattle.ptflow.proofs.Vectors.FindNth.{none_counted}
-use Rattle.ptflow.proofs.Common.{nat_tests}
 use Rattle.ptflow.proofs.PasteLemmas.Grid.{Column, for_each_cell_unique, top_of, grid_step, uses_here, uses_before_lt}
 use Rattle.ptflow.proofs.PasteLemmas.Grid.{last_use, update_here, update_there}
 use Rattle.ptflow.proofs.PasteLemmas.FillRow.{at_same, at_other, at_index}
@@ -29,8 +27,14 @@ ends_of_lines : (end : ℕ) (ls : List (List ℕ)) → AreLines end ls → count
 ends_of_lines end [] are_lines = refl
 ends_of_lines end (line ∷ ls) (free, are_lines) =
     let test = λ (x : ℕ). cond {A = ℕ} (is_byte end x) 1 0 in
-    grind (arith, sum_by-append test (line ++ end ∷ []) (unlines end ls), sum_by-append test line (end ∷ []),
-      counted end end [] (byte_eq end), none_counted end [] line free, ends_of_lines end ls are_lines)
+    grind (
+      arith,
+      sum_by-append test (line ++ end ∷ []) (unlines end ls),
+      sum_by-append test line (end ∷ []),
+      counted end end [] (byte_eq end),
+      none_counted end [] line free,
+      ends_of_lines end ls are_lines,
+    )
 
 ends_with : (end : ℕ) (bytes : List ℕ) → bytes ≢ [] → (0 < length bytes → get_or bytes (length bytes - 1) 0 ≡ end)
     → EndsWithByte end bytes
@@ -99,9 +103,13 @@ module _ {row : RowShape} {cycle : Cycle} (t : IsSharedCycle row cycle) where
       let byte = ap (λ m. get_or cycle.unrolled m 0 ∷ []) index ∙ t.bytes c low in
       let number : k * n + c + 1 ≡ k * n + (c + 1) = omega arith in
       let more = ap (λ m. all_replaced m rest) number ∙ row_replaced k (c + 1) ls are_lines (omega (arith, all)) in
-      ap (all_replaced (k * n + c)) (append_assoc line (row.terminator ∷ []) rest)
-      ∙ replaced_line row.terminator (byte_of cycle) (k * n + c) line rest free
-      ∙ (λ i. line ++ (byte i ++ more i)) ∙ sym (append_assoc line (after_cell row c) (cells_text row (c + 1) ls))
+      cc (
+        append_assoc line (row.terminator ∷ []) rest,
+        replaced_line row.terminator (byte_of cycle) (k * n + c) line rest free,
+        byte,
+        more,
+        append_assoc line (after_cell row c) (cells_text row (c + 1) ls),
+      )
 
   -- All rows from row k on.
   rows_replaced : (k more : ℕ) (ls : List (List ℕ)) → AreLines row.terminator ls → length ls ≡ more * n
@@ -119,14 +127,17 @@ module _ {row : RowShape} {cycle : Cycle} (t : IsSharedCycle row cycle) where
       let start : k * n ≡ k * n + 0 = omega arith in
       let next : k * n + count_by (is_byte end) (unlines end first) ≡ (k + 1) * n =
       omega (arith, ends_of_lines end first whole_first, first_long) in
-      ap (λ (l : List (List ℕ)). all_replaced (k * n) (unlines end l)) (sym (take-append-drop n ls))
-      ∙ ap (all_replaced (k * n)) (unlines-append end first rest)
-      ∙ replaced-append end (byte_of cycle) (k * n) (unlines end first) (unlines end rest)
-      ∙ (λ i. (ap (λ (m : ℕ). all_replaced m (unlines end first)) start ∙ row_replaced k 0 first whole_first (omega (arith, first_long))
-      ∙ row_text row 0 first (omega (arith, first_long)) (omega (arith, first_long, t.some))) i
-      ++ (ap (λ (m : ℕ). all_replaced m (unlines end rest)) next
-      ∙ rows_replaced (k + 1) more rest (AreLines-drop end n ls are_lines)
-      (omega (arith, length-drop n ls, long, size))) i)
+      let more_long : length rest ≡ more * n = omega (arith, length-drop n ls, long, size) in
+      cc (
+        take-append-drop n ls,
+        unlines-append end first rest,
+        replaced-append end (byte_of cycle) (k * n) (unlines end first) (unlines end rest),
+        start,
+        next,
+        row_replaced k 0 first whole_first (omega (arith, first_long)),
+        row_text row 0 first (omega (arith, first_long)) (omega (arith, first_long, t.some)),
+        rows_replaced (k + 1) more rest (AreLines-drop end n ls are_lines) more_long,
+      )
 
 -- ---- the grid of one input
 
@@ -144,8 +155,11 @@ module _ (cells : List ℕ) (input : ℕ) (same : (c : ℕ) → c < length cells
   uses_before_column (suc c) low =
       let next : suc c ≡ c + 1 = omega arith in
       ap (λ (m : ℕ). uses_of (take m cells) input) next
-      ∙ omega (arith, uses_here cells c input (omega (arith, low)) (same c (omega (arith, low))),
-        uses_before_column c (omega (arith, low)))
+      ∙ omega (
+        arith,
+        uses_here cells c input (omega (arith, low)) (same c (omega (arith, low))),
+        uses_before_column c (omega (arith, low)),
+      )
 
   uses_all : uses_of cells input ≡ length cells
   uses_all = ap (λ (l : List ℕ). uses_of l input) (sym (take_all (length cells) cells (omega arith)))

@@ -34,8 +34,7 @@ module _ (row : RowShape) (first : ℕ) (lines : List (List ℕ)) where
   text_rest k all over under fits =
       let front = take k lines in
       let more = drop k (take all lines) in
-      let long : length front ≡ k = length-take-le k lines (omega (arith, under, fits)) in
-      (
+      let long : length front ≡ k = length-take-le k lines (omega (arith, under, fits)) in (
         cells_text row (first + length (drop first front)) more,
         cc (
           take-append-drop k (take all lines),

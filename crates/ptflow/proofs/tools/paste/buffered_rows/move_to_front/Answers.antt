@@ -1,4 +1,4 @@
-use Rattle.ptflow.proofs.Common.{◌≡◌, ◌+◌, ◌-◌, ◌≤◌, ℕ, List, length, take, drop, sym, ◌∙◌, ap, arith, length-drop}
+use Rattle.ptflow.proofs.Common.{◌≡◌, ◌+◌, ◌-◌, ◌≤◌, ℕ, List, length, take, drop, ◌∙◌, ap, arith, length-drop}
 use Rattle.ptflow.proofs.Common.{drop-take, begun_in}
 use lib.Seq.{paste}
 use Rattle.std.proofs.lemmas.List.Edits.{take-paste}
