@@ -1,17 +1,17 @@
 -- Columns that are copied from the buffers of the readers. A line that is complete in a buffer is the line that `fill`
 -- would return, so a column is filled by it in the same way.
 use Rattle.ptflow.proofs.Common.{◌≡◌, ⊎_elim, inl, ℕ, ◌+◌, ◌<◌, ◌≤◌, ◌^◌, ◌||◌, Bool, true, false, List, [], ◌∷◌, ◌++◌}
-use Rattle.ptflow.proofs.Common.{◌%◌, eq-eqb, ne_eqb, option_to_list, slice_index_or}
-use Rattle.ptflow.proofs.Common.{None, Some, Ok, length, take, drop, set, get_or, refl, sym, ◌∙◌, ap, subst, arith}
-use Rattle.ptflow.proofs.Common.{append_assoc, length-append, length-drop, cases_eq, append-nil, take-take}
-use Rattle.ptflow.proofs.Common.{take-append-le, length-take-le, length-set, drop-drop, drop_at, IsFirstByte, is_byte}
-use Rattle.ptflow.proofs.Common.{Reader, AdvanceOk, IsSound, Slots, with_line, FillLine, FillPost}
-use Rattle.ptflow.proofs.Common.{line_before_terminator, take_with_terminator, advance_ok_take, reader_at, uses_of}
-use Rattle.ptflow.proofs.Common.{CellsFilled, after_cell, cells_text, RowShape, BegunText, BufferedRowsPre, IsConsumed}
-use Rattle.ptflow.proofs.Common.{AreConsumed, IsFieldCopied, CopyColumnsPost, CopyRowsPost, RowsTaken}
+use Rattle.ptflow.proofs.Common.{◌%◌, eq-eqb, ne_eqb, option_to_list, slice_index_or, None, Some, Ok, length, take}
+use Rattle.ptflow.proofs.Common.{drop, set, get_or, refl, sym, ◌∙◌, ap, subst, arith, append_assoc, length-append}
+use Rattle.ptflow.proofs.Common.{length-drop, cases_eq, append-nil, take-take, take-append-le, length-take-le}
+use Rattle.ptflow.proofs.Common.{length-set, drop-drop, drop_at, IsFirstByte, is_byte, Reader, AdvanceOk, IsSound}
+use Rattle.ptflow.proofs.Common.{Slots, with_line, FillLine, FillPost, line_before_terminator, take_with_terminator}
+use Rattle.ptflow.proofs.Common.{advance_ok_take, reader_at, uses_of, CellsFilled, after_cell, cells_text, RowShape}
+use Rattle.ptflow.proofs.Common.{BegunText, BufferedRowsPre, IsConsumed, AreConsumed, IsFieldCopied, CopyColumnsPost}
+use Rattle.ptflow.proofs.Common.{CopyRowsPost, RowsTaken, put_chunk, chunk, length-chunk, length-put_chunk}
+use Rattle.ptflow.proofs.Common.{take_more_put_chunk}
 use Rattle.memchr.specs.Find.{IsFirst, Passes}
 use Rattle.ptlines.proofs.CopyFacts.{copied_prefix}
-use Rattle.ptflow.proofs.Common.{put_chunk, chunk, length-chunk, length-put_chunk, take_more_put_chunk}
 use Rattle.std.proofs.Math.Seq.{take-append-add}
 use borrow.Rule.Slice.PartMut.{mid_of, put_mid}
 use Rattle.ptflow.specs.Private.Paste.BufferedRows.{LineCopied}
@@ -129,9 +129,12 @@ still_pulled c p = ap (λ (r : Reader). r.pulled) (c.buffered p).is
 -- The bytes before the copy do not change.
 pub prefix_is_kept : (at end : ℕ) (now old written : List ℕ) → at ≤ end → at ≤ length old
     → take end now ≡ take at old ++ written → take at now ≡ take at old
-prefix_is_kept at end now old written low fits is =
-    sym (take-take at end now low) ∙ ap (take at) is ∙ take-append-le at (take at old) written
-    (omega (arith, length-take-le at old fits)) ∙ take-take at at old (omega arith)
+prefix_is_kept at end now old written low fits is = cc (
+  is,
+  take-take at end now low,
+  take-append-le at (take at old) written (omega (arith, length-take-le at old fits)),
+  take-take at at old (omega arith),
+)
 
 -- A vector was stored at `at`.
 vector_stored : (at k n : ℕ) (was lanes : List ℕ) → length lanes ≡ n → n ≤ k → at + k ≡ length was
@@ -139,12 +142,13 @@ vector_stored : (at k n : ℕ) (was lanes : List ℕ) → length lanes ≡ n →
 vector_stored at k n was lanes long room all =
     let mid = mid_of at k was in
     let size : length mid ≡ k = length-take-le k (drop at was) (omega (arith, length-drop at was, all)) in
-    ap (λ (m : ℕ). take (m + n) (put_mid at k was (put_chunk 0 mid lanes)))
-    (sym (length-take-le at was (omega (arith, all))))
-    ∙ take-append-add (take at was) (put_chunk 0 mid lanes ++ drop k (drop at was)) n
-    ∙ ap (λ (l : List ℕ). take at was ++ l)
-    (take-append-le n (put_chunk 0 mid lanes) (drop k (drop at was)) (omega (arith, length-put_chunk 0 mid lanes, size))
-    ∙ take_more_put_chunk 0 mid lanes n (omega (arith, long)) (omega (arith, size)))
+    cc (
+      length-take-le at was (omega (arith, all)),
+      take-append-add (take at was) (put_chunk 0 mid lanes ++ drop k (drop at was)) n,
+      take-append-le n (put_chunk 0 mid lanes) (drop k (drop at was))
+          (omega (arith, length-put_chunk 0 mid lanes, size)),
+      take_more_put_chunk 0 mid lanes n (omega (arith, long)) (omega (arith, size)),
+    )
 
 -- A vector was stored at `at`, and the line that it begins with was consumed.
 pub vector_line : (at k n : ℕ) (was : List ℕ) {end count : ℕ} {old new : Reader} {bytes : List ℕ}

@@ -12,15 +12,15 @@ use Rattle.ptflow.proofs.Common.{paste_decided, paste_size, SlotsBound, SlotsKep
 use Rattle.ptflow.proofs.Common.{ClearSlotsPost, CopyRowsPost, RowsTaken, RowsWritten, AreConsumed, BegunText}
 use Rattle.ptflow.proofs.Common.{job_shape, is_write_fault, AreReceivedLines, LinesTaken, AreFirstRows, FlowFault, Read}
 use Rattle.ptflow.proofs.Common.{Write, Memory}
-use Rattle.ptflow.proofs.PasteLemmas.CellSlots.{slots_bound_line, cells_total, sum_of_zeros}
+use Rattle.ptflow.proofs.PasteLemmas.FillRow.{slots_bound_line, cells_total, sum_of_zeros}
 use Rattle.ptflow.proofs.PasteLemmas.RowsTaken.{first_rows_trans, lines_taken_by_cells, lines_taken_by_row}
+use Rattle.ptflow.proofs.PasteLemmas.RowsTaken.{reads_nothing, lines_trans, taken_at_most, taken_more, nothing_taken}
 use Rattle.ptflow.proofs.PasteLemmas.Grid.{Column, uses_before_lt, uses_before, grid_none, rows_text-append}
 use Rattle.ptflow.proofs.Passes.LinesRead.{received_longest, piece_longest}
 use Rattle.ptflow.proofs.PasteLemmas.Lag.{EarlierPart, earlier_partial, earlier_before, earlier_buffered, earlier_lines}
 use Rattle.ptflow.proofs.PasteLemmas.Lag.{none_received, lags_here}
 use Rattle.ptflow.proofs.Passes.Readers.{eof_gives_nothing, stays_at_eof}
 use Rattle.ptflow.proofs.Passes.Lines.{max_length-append}
-use Rattle.ptflow.proofs.PasteLemmas.LinesTaken.{reads_nothing, lines_trans, taken_at_most, taken_more, nothing_taken}
 use Rattle.ptflow.proofs.PasteLemmas.BufferedRows.{still_pulled}
 use Rattle.ptflow.proofs.PasteLemmas.Invariant.{PasteInvariant, HasStarted, ReadMore, never_failed, set_failed}
 use Rattle.ptflow.proofs.PasteLemmas.Invariant.{received_since, now_end, now_fault, now_failed, now_short, now_buffered}
@@ -130,9 +130,8 @@ module _ {job : Paste} {cells : List ℕ} {old set now : List Reader} {was is : 
       line_left = λ memory there. k.unended memory;
       refused = λ clean few. absurd (omega (arith, few, k.room));
       untouched = λ p none.
-          let nothing : length s.taken_rows * uses_of cells p ≡ 0 =
-          ap (λ (n : ℕ). length s.taken_rows * n) none ∙ omega arith in
-          k.left p none ∙ (so_far p).none nothing ∙ (s.starts.are_set p).left none;
+          let nothing : length s.taken_rows * uses_of cells p ≡ 0 = rw none (omega arith) in
+          cc (k.left p none, (so_far p).none nothing, (s.starts.are_set p).left none);
       unchanged_if_failed = λ fault. cc (s.starts.writable);
     }
 
@@ -193,8 +192,7 @@ module _ {job : Paste} {cells : List ℕ} {old set now : List Reader} {was is : 
             adds = k.adds;
             room = omega (arith, k.adds.all k.denied);
             unended = λ memory. cc;
-            left = λ p none. (all_taken p).none (ap (λ (k : ℕ). length more * k + uses_of (take n cells) p) none
-                ∙ omega (arith, none, uses_before cells n p));
+            left = λ p none. (all_taken p).none (rw none (omega (arith, none, uses_before cells n p)));
           })
 
   more_count : (p : ℕ)
@@ -276,8 +274,7 @@ module _ {job : Paste} {cells : List ℕ} {old set now : List Reader} {was is : 
         (lines_taken_by p).enough
 
     nothing_by : (p : ℕ) → (lines_taken_by p).bytes ≡ []
-    nothing_by p = none_received (subst (AreReceivedLines job.terminator (reader_at new p) (lines_taken_by p).bytes)
-        (none p) (lines_taken_by p).came)
+    nothing_by p = none_received (rw (none p) at (lines_taken_by p).came)
 
     text_is : rows_text job s.taken_rows ≡ paste job cells (λ p. (given_by job s.first_rows read_by p).bytes)
     text_is =
@@ -402,10 +399,7 @@ module _ {job : Paste} {cells : List ℕ} {old set now : List Reader} {was is : 
           (reader_at new p) (last p).part (last p).reads (last p).is_line (texts p) (rw (given_is p) at (a p))
 
       piece_fits : length piece ≤ max_line_length job.terminator (texts here)
-      piece_fits = ⊎_elim
-          (λ (same, is). omega (arith, ap length is, long_to here))
-          (λ (other, none, kept). absurd (other refl))
-          (last here).whose
+      piece_fits = grind (arith, (last here).whose, long_to here)
 
       peak_to : (with_line b.buffered b.column piece).peak ≤ max first.peak (paste_size job cells texts)
       peak_to = (kept_to (λ p. max_line_length job.terminator (texts p)) (λ p. omega (arith, long_to p))
@@ -413,10 +407,7 @@ module _ {job : Paste} {cells : List ℕ} {old set now : List Reader} {was is : 
 
     failed_to : (reader_at new here).failed ≡ (reader_at b.mid here).failed
         → (p : ℕ) → (reader_at new p).failed ≡ (reader_at old p).failed
-    failed_to same p = ⊎_elim
-        (λ (is, whole). rw is same)
-        (λ (other, none, kept). ap (λ (r : Reader). r.failed) kept)
-        (last p).whose ∙ failed_mid p
+    failed_to same p = grind (arith, same, (last p).whose, failed_mid p)
 
     left_to : (p : ℕ) → uses_of cells p ≡ 0 → reader_at new p ≡ reader_at now p
     left_to p none = b.others p (λ same. absurd (omega (arith, none, here_used, ap (uses_of cells) same)))

@@ -1,17 +1,153 @@
--- Filling a row column by column: each step changes one reader, so the lines of the columns before it stay as they are.
-use Rattle.ptflow.proofs.Common.{◌≡◌, ◌≢◌, ⊎_elim, ℕ, ◌+◌, ◌<◌, ◌≤◌, ◌==◌, ◌||◌, Bool, true, false, cond, List, [], ◌∷◌}
-use Rattle.ptflow.proofs.Common.{◌++◌, None, Ok, length, take, get_or, set, refl, sym, ◌∙◌, ap, subst, arith}
-use Rattle.ptflow.proofs.Common.{length-append, sum_by, cases_eq, cases_lt, eq-eqb, ne_eqb, append-nil, take-take}
-use Rattle.ptflow.proofs.Common.{length-set, get_or-set_same, get_or-set_other, get_or_past, get_or_push}
-use Rattle.ptflow.proofs.Common.{get_or_append_left, get_or_at, get_or_default, sum_by-set, max_length, Reader}
-use Rattle.ptflow.proofs.Common.{AdvanceOk, IsDone, IsSound, budget, Slots, with_line, FillLine, FillPost, no_reader}
-use Rattle.ptflow.proofs.Common.{reader_at, uses_of, SetTerminatorsPost, CellsTaken, CellsFilled, RowFailed, SlotsKept}
-use Rattle.ptflow.proofs.Common.{LinesTaken}
+-- A row that is filled column by column. A field comes from the slot of its column, or from the buffer of its reader:
+-- the text of the first fields was copied, and the slots hold the others. Each step changes one reader, so the lines of
+-- the columns before it stay as they are. The slots hold all bytes of the store, so the total is at most the sum of the
+-- columns' bounds.
+use Rattle.ptflow.proofs.Common.{nat_tests, ◌≡◌, ℕ, zero, suc, ◌+◌, ◌<◌, ◌≤◌, false, List, [], ◌∷◌, ◌++◌, length}
+use Rattle.ptflow.proofs.Common.{length-append, get_or_append_left, get_or_push, max_length, take, drop, set, get_or}
+use Rattle.ptflow.proofs.Common.{refl, sym, ◌∙◌, ap, arith, ⊎_elim, take-append-drop, sum_by, cases_eq, length-set}
+use Rattle.ptflow.proofs.Common.{drop-set-lt, get_or-set_same, get_or-set_other, sum_by-cons, sum_by-append}
+use Rattle.ptflow.proofs.Common.{get_or-le-sum_by, Slots, total_bytes, with_line, AddedSlots, SlotsBound, SlotsKept}
+use Rattle.ptflow.proofs.Common.{CellsTaken, Reader, uses_of, ◌≢◌, ◌==◌, ◌||◌, Bool, true, cond, None, Ok, subst}
+use Rattle.ptflow.proofs.Common.{eq-eqb, ne_eqb, append-nil, take-take, get_or_past, get_or_at, get_or_default}
+use Rattle.ptflow.proofs.Common.{sum_by-set, AdvanceOk, IsDone, IsSound, budget, FillLine, FillPost, no_reader}
+use Rattle.ptflow.proofs.Common.{reader_at, SetTerminatorsPost, CellsFilled, RowFailed, LinesTaken, Err, ext_get_or}
+use Rattle.ptflow.proofs.Common.{get_or-drop, length-drop, take_all, take_more, take-append-le, length-take-le, line}
+use Rattle.ptflow.proofs.Common.{RowShape, BegunText, after_cell, cells_text, slots_text, CopyColumnsPost}
+use Rattle.ptflow.proofs.Common.{BufferedRowsPre, RowAmid, RowFilled, FillCellPost, NotRead, FillReadErr, FillMemoryErr}
+use Rattle.ptflow.proofs.Common.{FlowFault, Read, Write, Memory}
 use Rattle.std.specs.Prelude.{slice_index_or}
 use Rattle.ptflow.proofs.PasteLemmas.Grid.{uses_here, uses_other, uses_before}
-use Rattle.ptflow.proofs.Passes.Lines.{max_length-append}
-use Rattle.ptflow.proofs.PasteLemmas.LinesTaken.{nothing_taken, taken_more, taken_line, taken_eof, taken_at_most}
-use Rattle.ptflow.proofs.PasteLemmas.LinesTaken.{none_at_eof}
+use Rattle.ptflow.proofs.PasteLemmas.RowsTaken.{nothing_taken, taken_more, taken_line, taken_eof, taken_at_most}
+use Rattle.ptflow.proofs.PasteLemmas.RowsTaken.{none_at_eof, cells_text-append, cells_text-push}
+use Rattle.std.proofs.lemmas.List.{get_or-take}
+
+module _ (top : ℕ → ℕ) where
+  front_total : (cells : List ℕ) (ls : List (List ℕ)) → ((c : ℕ) → c < length cells
+      → length (get_or ls c []) ≤ top (get_or cells c 0)) → total_bytes (take (length cells) ls) ≤ sum_by top cells
+  front_total [] ls short = omega arith
+  front_total (x ∷ cells) [] short = omega arith
+  front_total (x ∷ cells) (l ∷ ls) short =
+      let more = front_total cells ls (λ c low. short (suc c) (omega (arith, low))) in
+      omega (arith, sum_by-cons length l (take (length cells) ls), sum_by-cons top x cells, short 0 (omega arith), more)
+
+total_split : (width : ℕ) (ls : List (List ℕ)) → total_bytes ls ≡ total_bytes (take width ls) + total_bytes
+    (drop width ls)
+total_split width ls = ap total_bytes (sym (take-append-drop width ls)) ∙ sum_by-append length (take width ls)
+    (drop width ls)
+
+pub cells_total : (cells : List ℕ) (top : ℕ → ℕ) (ls : List (List ℕ)) → ((c : ℕ) → c < length cells
+    → length (get_or ls c []) ≤ top (get_or cells c 0))
+    → total_bytes (drop (length cells) ls) ≡ 0 → total_bytes ls ≤ sum_by top cells
+cells_total cells top ls short others = omega (
+  arith,
+  total_split (length cells) ls,
+  front_total top cells ls short,
+  others,
+)
+
+pub sum_of_zeros : (cells : List ℕ) → sum_by (λ (p : ℕ). 0) cells ≡ 0
+sum_of_zeros [] = refl
+sum_of_zeros (x ∷ cells) = omega (arith, sum_by-cons (λ (p : ℕ). 0) x cells, sum_of_zeros cells)
+
+pub slots_bound_start : {cells : List ℕ} {top : ℕ → ℕ} {before store : Slots} → AddedSlots before store (length cells)
+    → store.denied ≡ false → total_bytes store.lines ≡ 0
+    → store.peak ≡ before.peak → SlotsBound cells top before store
+slots_bound_start {cells} {store = store} adds denied empty peak = record {
+  denied = denied;
+  adds = adds;
+  short = λ c low. omega (arith, empty, get_or-le-sum_by length store.lines c [] (omega (arith, low, adds.all denied)));
+  others = omega (arith, empty, total_split (length cells) store.lines);
+  peak = omega (arith, peak);
+}
+
+-- The slot of one column gets another line.
+pub slots_bound_line : {cells : List ℕ} {top : ℕ → ℕ} {before store : Slots} → SlotsBound cells top before store
+    → (column : ℕ) (bytes : List ℕ) → column < length cells
+    → length bytes ≤ top (get_or cells column 0) → SlotsBound cells top before (with_line store column bytes)
+slots_bound_line {cells} {top} {before} {store} k column bytes within fits = record {
+  denied = k.denied;
+  adds = record {
+    least = omega (arith, size, k.adds.least);
+    most = omega (arith, size, k.adds.most);
+    all = λ allowed. size ∙ k.adds.all k.denied;
+  };
+  short = short;
+  others = others;
+  peak = omega (arith, k.peak, cells_total cells top lines short others);
+}
+  where
+    lines : List (List ℕ)
+    lines = set store.lines column bytes
+
+    size : length lines ≡ length store.lines
+    size = length-set store.lines column bytes
+
+    short : (c : ℕ) → c < length cells → length (get_or lines c []) ≤ top (get_or cells c 0)
+    short c low = grind (
+      arith,
+      fits,
+      k.short c low,
+      within,
+      k.adds.all k.denied,
+      get_or-set_same store.lines column bytes [],
+      get_or-set_other store.lines column c bytes [],
+    )
+
+    others : total_bytes (drop (length cells) lines) ≡ 0
+    others = ap total_bytes (drop-set-lt (length cells) store.lines column bytes within) ∙ k.others
+
+-- ---- the slots of a row that is being filled
+
+line_le_max_length : (ls : List (List ℕ)) (j : ℕ) → length (get_or ls j []) ≤ max_length ls
+line_le_max_length [] j = omega arith
+line_le_max_length (line ∷ ls) zero = omega arith
+line_le_max_length (line ∷ ls) (suc j) = omega (arith, line_le_max_length ls j)
+
+pub slots_kept_start : {cells : List ℕ} {fields : List (List ℕ)} {store : Slots} → SlotsKept cells fields store store
+slots_kept_start = record { same = refl; kept = λ first top k high. k }
+
+module _ {cells : List ℕ} {fields : List (List ℕ)} {before store : Slots} (s : SlotsKept cells fields before store)
+  where
+    -- More fields that are in no slot.
+    pub slots_kept_more : (more : List (List ℕ)) → SlotsKept cells (fields ++ more) before store
+    slots_kept_more more = record {
+      same = s.same;
+      kept = λ first top k high. s.kept first top k (λ c low. omega (
+        arith,
+        high c (omega (arith, low, length-append fields more)),
+        ap length
+            (get_or_append_left fields more [] c low),
+      ));
+    }
+
+    -- One more field, which is in the slot of its column.
+    pub slots_kept_line : {n : ℕ} (field : List ℕ) → length fields ≡ n → n < length cells
+        → SlotsKept cells (fields ++ field ∷ []) before (with_line store n field)
+    slots_kept_line {n} field width low = record {
+      same = length-set store.lines n field ∙ s.same;
+      kept = λ first top k high. slots_bound_line ((slots_kept_more (field ∷ [])).kept first top k high) n field low
+          (omega (
+            arith,
+            high n (omega (arith, width, length-append fields (field ∷ []))),
+            ap length (get_or_push fields field [] n (omega (arith, width))),
+          ));
+    }
+
+    -- The bound on the slots, by the lines that the readers gave.
+    pub slots_kept_by_lines : {n : ℕ} {old new : List Reader} {input_lines : ℕ → List (List ℕ)}
+        → CellsTaken cells n old new fields input_lines → (first : Slots) (top : ℕ → ℕ)
+        → SlotsBound cells top first before
+        → ((input : ℕ) → max_length (input_lines input) ≤ top input) → SlotsBound cells top first store
+    slots_kept_by_lines {input_lines = input_lines} t first top k high = s.kept first top k (λ c low.
+        let input = get_or cells c 0 in
+        let j = uses_of (take c cells) input in
+        omega (
+          arith,
+          high input,
+          line_le_max_length (input_lines input) j,
+          ap length
+              (t.fields_taken c (omega (arith, low, t.width))),
+        ))
 
 -- ---- readers by their indices
 
@@ -44,10 +180,7 @@ set_terminator_more end cells i old now r low within a told sound q = ⊎_elim
   where
     before : (p : ℕ) → (let x : Reader = record (reader_at now p) { terminator = end } in let y : Reader = record
         (reader_at old p) { terminator = end } in x ≡ y)
-    before p = ⊎_elim
-        (λ some. ap (λ (x : Reader). record x { terminator = end }) ((a p).set some))
-        (λ none. ap (λ (x : Reader). record x { terminator = end }) ((a p).left (omega (arith, none))))
-        (cases_lt 0 (uses_of (take i cells) p))
+    before p = grind (arith, (a p).set, (a p).left)
 
 or-true : (t : Bool) → (t || true) ≡ true
 or-true true = refl
@@ -72,8 +205,7 @@ module _ (input : ℕ) (ls : List (List ℕ)) (input_lines : ℕ → List (List 
 
   -- Adding no line changes nothing.
   lines_at_none : ls ≡ [] → lines_at input ls input_lines q ≡ input_lines q
-  lines_at_none none = ⊎_elim (λ same. lines_at_here same ∙ ap (λ (l : List (List ℕ)). input_lines q ++ l) none
-      ∙ append-nil (input_lines q)) lines_at_other (cases_eq q input)
+  lines_at_none none = grind (arith, nat_tests, append-nil (input_lines q), none)
 
 -- The line of a column.
 abbrev cell_of : List ℕ → (ℕ → List (List ℕ)) → ℕ → List ℕ
@@ -119,8 +251,7 @@ module _ {cells : List ℕ} {n : ℕ} {old now : List Reader} {fields : List (Li
         uses_before (take n cells) (c + 1) p,
         ap (λ (l : List ℕ). uses_of l p) front,
       ) in
-      ap (λ (l : List (List ℕ)). slice_index_or l j []) (lines_at_here input ls input_lines p same)
-      ∙ get_or_append_left (input_lines p) ls [] j under)
+      cc (lines_at_here input ls input_lines p same, get_or_append_left (input_lines p) ls [] j under))
       (λ differ. ap (λ (l : List (List ℕ)). slice_index_or l j []) (lines_at_other input ls input_lines p differ))
       (cases_eq p input))
       (λ (done, few). ⊎_elim
@@ -142,11 +273,17 @@ module _ {cells : List ℕ} {n : ℕ} {old now : List Reader} {fields : List (Li
     lines_taken = lines_taken_next;
     width = omega (arith, t.width, length-append fields (field ∷ []));
     fields_taken = λ c less. ⊎_elim
-        (λ same. rw same (get_or_push fields field [] n (omega (arith, t.width)) ∙ there
-        ∙ ap (λ (l : List (List ℕ)). slice_index_or l (uses_of (take n cells) input) [])
-        (sym (lines_at_here input ls input_lines input refl))))
-        (λ differ. get_or_append_left fields (field ∷ []) [] c (omega (arith, less, differ, t.width))
-        ∙ t.fields_taken c (omega (arith, less, differ)) ∙ sym (earlier_cell c (omega (arith, less, differ))))
+        (λ same. cc (
+          same,
+          there,
+          get_or_push fields field [] n (omega (arith, t.width)),
+          lines_at_here input ls input_lines input refl,
+        ))
+        (λ differ. cc (
+          get_or_append_left fields (field ∷ []) [] c (omega (arith, less, differ, t.width)),
+          t.fields_taken c (omega (arith, less, differ)),
+          earlier_cell c (omega (arith, less, differ)),
+        ))
         (cases_eq c n);
     count = length-set now input r ∙ t.count;
   }
@@ -257,3 +394,170 @@ module _ {cells : List ℕ} {n : ℕ} {old now : List Reader} {fields : List (Li
     few = λ buffered. rw (at_same now (get_or cells n 0) r within)
         (few (rw is_read ((f.consumed.lines_taken (get_or cells n 0)).buffered buffered)));
   }
+
+-- The row after the field in the slot of column n, and the byte after it, were copied.
+abbrev pub with_slot : RowShape → ℕ → Slots → BegunText → BegunText
+with_slot row n store now = record now { count = n + 1; text = now.text ++ (line store n ++ after_cell row n) }
+
+module _ {row : RowShape} where
+  -- All fields were copied from the buffers.
+  pub amid_starts : {mid : List Reader} {begun : BegunText} {store : Slots} {fields : List (List ℕ)}
+      → CellsFilled row.cells begun.count mid begun.readers fields begun.any_line
+      → begun.text ≡ cells_text row 0 fields → RowAmid row begun.count mid store begun store
+  amid_starts {begun = begun} {fields = fields} f is = record {
+    fields = fields;
+    filled = f;
+    within = omega arith;
+    is = is ∙ ap (cells_text row 0) (sym (take_all begun.count fields (omega (arith, f.consumed.width))));
+    held = λ c over under. absurd (omega (arith, over, under));
+    slots = slots_kept_start;
+  }
+
+  module _ {n : ℕ} {from : List Reader} {first store : Slots} {now : BegunText} (a : RowAmid row n from first now store)
+      (low : n < length row.cells) (within : get_or row.cells n 0 < length now.readers) {b : Reader}
+      (is_read : b ≡ reader_at now.readers (get_or row.cells n 0)) where
+    -- The field of the next column is in its slot.
+    pub amid_next : (r : Reader) (after : Slots) → n < length store.lines → b.fault ≡ None → IsSound r → (has : Bool)
+        → FillPost b r store after n (Ok has)
+        → RowAmid row (n + 1) from first
+        (record now { readers = set now.readers (get_or row.cells n 0) r; any_line = now.any_line || has }) after
+    amid_next r after room clean sound has e =
+        let (field, stored, filled) = fill_next a.filled low within is_read clean sound store after n has e in
+        let width = a.filled.consumed.width in
+        rw stored (record {
+          fields = a.fields ++ field ∷ [];
+          filled = filled;
+          within = omega (arith, a.within);
+          is = a.is ∙ ap (cells_text row 0)
+              (sym (take-append-le now.count a.fields (field ∷ []) (omega (arith, width, a.within))));
+          held = λ c over under. grind (
+            arith,
+            a.held c,
+            width,
+            cases_eq c n,
+            get_or-set_same store.lines n field [] room,
+            get_or-set_other store.lines n c field [],
+            get_or_push a.fields field [] n,
+            get_or_append_left a.fields (field ∷ []) [] c,
+          );
+          slots = slots_kept_line a.slots field width low;
+        })
+
+    -- The step for the next column failed.
+    pub amid_failed : (r : Reader) (after : Slots) (into : List ℕ) (e : FlowFault)
+        → FillCellPost (get_or row.cells n 0) n b r store after (Err e)
+        → RowFilled row from first (set now.readers (get_or row.cells n 0) r) after into (Err e)
+    amid_failed r after into (Read input) (p, sound, named) = (
+      fill_failed a.filled low within {CellFailed = FillReadErr} after r a.slots is_read p (λ few. sound.buffered),
+      named,
+    )
+    amid_failed r after into Write (same, kept, going) =
+        fill_failed a.filled low within {CellFailed = NotRead} after r a.slots is_read (same, kept, going)
+        (λ few. rw same few)
+    amid_failed r after into Memory (p, sound) =
+        fill_failed a.filled low within {CellFailed = FillMemoryErr} after r a.slots is_read p (λ few. sound.buffered)
+
+  amid_copied : {n : ℕ} {from : List Reader} {first store : Slots} {now : BegunText}
+      → RowAmid row (n + 1) from first now store → now.count ≡ n
+      → RowAmid row (n + 1) from first (with_slot row n store now) store
+  amid_copied {n} {store = store} {now = now} a here =
+      let width = a.filled.consumed.width in
+      let front = take n a.fields in
+      record {
+        fields = a.fields;
+        filled = a.filled;
+        within = omega arith;
+        is = cc (
+          a.is,
+          here,
+          a.held n (omega (arith, here)) (omega arith),
+          cells_text-push row 0 front (get_or a.fields n []) {k = n}
+              (omega (arith, length-take-le n a.fields (omega (arith, width)))),
+          take_more a.fields n [] (omega (arith, width)),
+        );
+        held = λ c over under. absurd (omega (arith, over, under));
+        slots = a.slots;
+      }
+
+  -- More fields were copied from the buffers.
+  amid_columns : {from : List Reader} {first store : Slots} {now next : BegunText}
+      → RowAmid row now.count from first now store → CopyColumnsPost row now next
+      → RowAmid row next.count from first next store
+  amid_columns {from} {now = now} {next = next} a p =
+      let width = a.filled.consumed.width in
+      let all = a.fields ++ p.fields in
+      record {
+        fields = all;
+        filled = p.filled from a.fields a.filled;
+        within = omega arith;
+        is = (let here : now.count ≡ 0 + length a.fields = omega (arith, width) in cc (
+          p.is,
+          a.is,
+          here,
+          take_all now.count a.fields (omega (arith, width)),
+          cells_text-append row 0 a.fields p.fields,
+          take_all next.count all (omega (arith, width, p.width, length-append a.fields p.fields)),
+        ));
+        held = λ c over under. absurd (omega (arith, over, under));
+        slots = slots_kept_more a.slots p.fields;
+      }
+
+  -- The field in a slot was copied, and then more fields from the buffers.
+  pub amid_resumed : {n : ℕ} {from : List Reader} {first store : Slots} {now middle next : BegunText}
+      → RowAmid row (n + 1) from first now store → now.count ≡ n → middle ≡ with_slot row n store now
+      → CopyColumnsPost row middle next → RowAmid row next.count from first next store
+  amid_resumed a here is p = amid_columns (amid_copied a here) (rw is at p)
+
+  -- The text that was copied, and that of the fields in the slots, are the row.
+  pub amid_text : {from : List Reader} {first store : Slots} {now : BegunText}
+      (a : RowAmid row (length row.cells) from first now store) → length row.cells ≤ length store.lines
+      → now.text ++ slots_text row now.count store ≡ cells_text row 0 a.fields
+  amid_text {store = store} {now} a room =
+      let n = length row.cells in
+      let k = now.count in
+      let width = a.filled.consumed.width in
+      let front = take k a.fields in
+      let slots = take n store.lines in
+      let long : length front ≡ k = length-take-le k a.fields (omega (arith, width, a.within)) in
+      let size = length-take-le n store.lines room in
+      let same : drop k slots ≡ drop k a.fields = ext_get_or [] (drop k slots) (drop k a.fields)
+      (omega (arith, length-drop k slots, length-drop k a.fields, size, width))
+      (λ i low. get_or-drop k slots i []
+      ∙ get_or-take n store.lines (k + i) [] (omega (arith, low, length-drop k slots, size))
+      ∙ a.held (k + i) (omega arith) (omega (arith, low, length-drop k slots, size))
+      ∙ sym (get_or-drop k a.fields i [])) in
+      let here : k ≡ 0 + length front = omega (arith, long) in
+      cc (a.is, here, same, cells_text-append row 0 front (drop k a.fields), take-append-drop k a.fields)
+
+-- ---- the readers, after a line was read
+
+after_fill : (b r : Reader) (before after : Slots) (slot : ℕ) (has : Bool) → FillPost b r before after slot (Ok has)
+    → (r.fault ≡ None) × (r.terminator ≡ b.terminator)
+after_fill b r before after slot true e = (e.advance_ok.fault, e.advance_ok.reads.terminator)
+after_fill b r before after slot false (advance_ok, done, kept) = (advance_ok.fault, advance_ok.reads.terminator)
+
+pub readable_after : {row : RowShape} (now : List Reader) {input : ℕ} {b : Reader} (r : Reader)
+    → BufferedRowsPre row now → input < length now → 0 < uses_of row.cells input → b ≡ reader_at now input
+    → (before after : Slots) (slot : ℕ) (has : Bool) → FillPost b r before after slot (Ok has)
+    → BufferedRowsPre row (set now input r)
+readable_after now {input} {b} r ready low used is_read before after slot has e =
+    let (unfailed, same_end) = after_fill b r before after slot has e in
+    record {
+      within = λ c d within. omega (arith, ready.within c d within, length-set now input r);
+      unfailed = λ p some. grind (
+        arith,
+        at_same now input r low,
+        at_other now input p r,
+        ready.unfailed p some,
+        unfailed,
+      );
+      same_end = λ p some. grind (
+        arith,
+        at_same now input r low,
+        at_other now input p r,
+        ready.same_end p some,
+        same_end,
+        ready.same_end input used,
+        ap (λ (x : Reader). x.terminator) is_read,
+      );
+    }

@@ -1,15 +1,15 @@
 -- The columns and rows of a grid of lines. If each input gives one line to each of its columns, exactly the first row
 -- is removed: the first line of each column is that of the row, and the rest of each column is the column of the rest.
 use Rattle.ptflow.proofs.Common.{◌≡◌, ◌≢◌, ◌⊎◌, ⊎_elim, inl, inr, ℕ, zero, suc, ◌+◌, ◌-◌, ◌*◌, ◌%◌, ◌<◌, ◌≤◌, ◌==◌}
-use Rattle.ptflow.proofs.Common.{◌||◌, Bool, true, false, cond, List, [], ◌∷◌, ◌++◌, Option, length, take, drop, get_or}
-use Rattle.ptflow.proofs.Common.{map, max, refl, sym, ◌∙◌, ap, arith, length-append, length-drop, fold, nat_lt}
-use Rattle.ptflow.proofs.Common.{enumerate_from, range_with_len, cases_eq, cases_lt, eq-eqb, ne_eqb, le-ltb, and_right}
-use Rattle.ptflow.proofs.Common.{nat_tests, add-mod_left, mod-eq_of_lt, append-nil, drop_at, drop_all, get_or_past}
-use Rattle.ptflow.proofs.Common.{get_or_append_left, ext_get_or, get_or-map, length-map, map-append}
-use Rattle.ptflow.proofs.Common.{length-enumerate_from, get_or-enumerate_from, sum_by-cons, count_by_more_yes}
-use Rattle.ptflow.proofs.Common.{count_by_more_no, sum_by-take-le, get_or_after_one, map-map, unlines, unlines-append}
-use Rattle.ptflow.proofs.Common.{select_from, update_at, join_with_cycle, every_kth, uses_of, columns, row_count}
-use Rattle.ptflow.proofs.Common.{row_at, rows, is_row_known}
+use Rattle.ptflow.proofs.Common.{Bool, true, false, cond, List, [], ◌∷◌, ◌++◌, Option, length, take, drop, get_or, map}
+use Rattle.ptflow.proofs.Common.{max, refl, sym, ◌∙◌, ap, arith, length-append, length-drop, fold, enumerate_from}
+use Rattle.ptflow.proofs.Common.{range_with_len, cases_eq, cases_lt, eq-eqb, ne_eqb, le-ltb, nat_tests, add-mod_left}
+use Rattle.ptflow.proofs.Common.{mod-eq_of_lt, append-nil, drop_at, drop_all, get_or_past, get_or_append_left}
+use Rattle.ptflow.proofs.Common.{ext_get_or, get_or-map, length-map, map-append, length-enumerate_from}
+use Rattle.ptflow.proofs.Common.{get_or-enumerate_from, sum_by-cons, count_by_more_yes, count_by_more_no}
+use Rattle.ptflow.proofs.Common.{sum_by-take-le, get_or_after_one, map-map, unlines, unlines-append, select_from}
+use Rattle.ptflow.proofs.Common.{update_at, join_with_cycle, every_kth, uses_of, columns, row_count, row_at, rows}
+use Rattle.ptflow.proofs.Common.{is_row_known}
 use Rattle.std.specs.Prelude.{slice_index_or}
 
 abbrev pub Column : Type 0
@@ -26,12 +26,8 @@ module _ {k j : ℕ} (low : j < k) where
   chosen_apart : (n : ℕ) (xs : Column) → select_from (is_kth k j) (k + n) xs ≡ select_from (is_kth k j) n xs
   chosen_apart n [] = refl
   chosen_apart n (x ∷ xs) =
-      let same : (k + n) % k ≡ n % k = add-mod_left k n in
       let next : k + n + 1 ≡ k + (n + 1) = omega arith in
-      ap (λ (m : ℕ). cond (m == j) (x ∷ select_from (is_kth k j) (k + n + 1) xs) (select_from (is_kth k j)
-      (k + n + 1) xs)) same
-      ∙ ap (λ (l : Column). cond (is_kth k j n) (x ∷ l) l) (ap (λ (m : ℕ). select_from (is_kth k j) m xs) next
-      ∙ chosen_apart (n + 1) xs)
+      cc (add-mod_left k n, next, chosen_apart (n + 1) xs)
 
   is_kth_here : (n : ℕ) → n ≡ j → is_kth k j n ≡ true
   is_kth_here n same = let less : n % k ≡ j = mod-eq_of_lt (omega arith) ∙ same in eq-eqb (n % k) j less
@@ -41,8 +37,7 @@ module _ {k j : ℕ} (low : j < k) where
 
   -- After the j-th of the first k.
   chosen_after : (n b : ℕ) (xs : Column) → n + b ≡ k → j < n → select_from (is_kth k j) n xs ≡ every_kth k j (drop b xs)
-  chosen_after n zero xs all past = let same : n ≡ k + 0 = omega arith in ap (λ (m : ℕ). select_from (is_kth k j) m xs)
-      same ∙ chosen_apart 0 xs
+  chosen_after n zero xs all past = let same : n ≡ k + 0 = omega arith in cc (same, chosen_apart 0 xs)
   chosen_after n (suc b) [] all past = refl
   chosen_after n (suc b) (x ∷ xs) all past = rw (is_kth_not n (omega arith) (omega arith)) (chosen_after (n + 1) b xs
       (omega arith) (omega arith))
@@ -58,34 +53,22 @@ module _ {k j : ℕ} (low : j < k) where
         (chosen_after (n + 1) b xs (omega arith) (omega arith))),
     omega arith,
   )
-  chosen_before n (suc a) (suc b) (x ∷ xs) here all = rw (is_kth_not n (omega arith) (omega arith)) (⊎_elim
-      (λ (is, some). inl (is, omega (arith, some)))
-      (λ (none, few, rest). inr (none, omega (arith, few), rest))
-      (chosen_before (n + 1) a b xs (omega arith) (omega arith)))
+  chosen_before n (suc a) (suc b) (x ∷ xs) here all =
+      grind (arith, is_kth_not n (omega arith) (omega arith), chosen_before (n + 1) a b xs (omega arith) (omega arith))
 
   -- The first line of a column, and then the rest of it.
   every_kth_first : (ls : Column) → slice_index_or (every_kth k j ls) 0 [] ≡ slice_index_or ls j []
-  every_kth_first ls = ⊎_elim
-      (λ (is, some). ap (λ (l : Column). slice_index_or l 0 []) is)
-      (λ (none, few, rest). ap (λ (l : Column). slice_index_or l 0 []) none ∙ sym (get_or_past ls j [] few))
-      (chosen_before 0 j k ls (omega arith) (omega arith))
+  every_kth_first ls = grind (arith, chosen_before 0 j k ls (omega arith) (omega arith), get_or_past ls j [])
 
   pub every_kth_rest : (ls : Column) → drop 1 (every_kth k j ls) ≡ every_kth k j (drop k ls)
-  every_kth_rest ls = ⊎_elim
-      (λ (is, some). ap (drop 1) is)
-      (λ (none, few, rest). ap (drop 1) none ∙ ap (every_kth k j) (sym rest))
-      (chosen_before 0 j k ls (omega arith) (omega arith))
+  every_kth_rest ls = grind (arith, chosen_before 0 j k ls (omega arith) (omega arith))
 
   every_kth_some : (ls : Column) → j < length ls → 0 < length (every_kth k j ls)
-  every_kth_some ls some = ⊎_elim (λ (is, low). omega (arith, ap length is))
-      (λ (none, few, rest). absurd (omega (arith, few)))
-      (chosen_before 0 j k ls (omega arith) (omega arith))
+  every_kth_some ls some = grind (arith, chosen_before 0 j k ls (omega arith) (omega arith))
 
   -- A bound on the length of a column.
   pub every_kth_short : (r : ℕ) (ls : Column) → length ls ≤ j + r * k → length (every_kth k j ls) ≤ r
-  every_kth_short zero ls few = ⊎_elim (λ (is, low). absurd (omega (arith, low, few)))
-      (λ (none, past, rest). omega (arith, ap length none))
-      (chosen_before 0 j k ls (omega arith) (omega arith))
+  every_kth_short zero ls few = grind (arith, chosen_before 0 j k ls (omega arith) (omega arith))
   every_kth_short (suc r) ls few =
       let more : suc r * k ≡ k + r * k = omega arith in
       omega (
@@ -100,9 +83,7 @@ module _ {k j : ℕ} (low : j < k) where
 row_count_from : (a : ℕ) (cols : List Column) → fold max (a - 1) (map length (map (drop 1) cols)) ≡ fold max a
     (map length cols) - 1
 row_count_from a [] = refl
-row_count_from a (c ∷ cols) =
-    let same : max (a - 1) (length (drop 1 c)) ≡ max a (length c) - 1 = omega (arith, length-drop 1 c) in
-    ap (λ (n : ℕ). fold max n (map length (map (drop 1) cols))) same ∙ row_count_from (max a (length c)) cols
+row_count_from a (c ∷ cols) = grind (arith, length-drop 1 c, row_count_from (max a (length c)) cols)
 
 row_later : (cols : List Column) (r : ℕ) → row_at (map (drop 1) cols) r ≡ row_at cols (r + 1)
 row_later [] r = refl
@@ -123,8 +104,7 @@ rows_step cols some = by_height (row_count cols) refl some
     by_height zero is some = absurd (omega arith)
     by_height (suc h) is some =
         let less : h ≡ row_count (map (drop 1) cols) = omega (arith, row_count_from 0 cols, is) in
-        ap (λ (n : ℕ). map (row_at cols) (range_with_len 0 n)) is ∙ ap (λ (l : List Column). row_at cols 0 ∷ l)
-        (rows_later cols 0 h ∙ ap (λ (n : ℕ). map (row_at (map (drop 1) cols)) (range_with_len 0 n)) less)
+        cc (is, rows_later cols 0 h, less)
 
 row_count_least : (a : ℕ) (cols : List Column) → a ≤ fold max a (map length cols)
 row_count_least a [] = omega arith
@@ -139,9 +119,8 @@ row_count_bound a (col ∷ cols) (suc c) = row_count_bound (max a (length col)) 
 row_count_none : (cols : List Column) → ((c : ℕ) → c < length cols → get_or cols c [] ≡ []) → row_count cols ≡ 0
 row_count_none [] none = refl
 row_count_none (col ∷ cols) none =
-    let empty : length col ≡ 0 = ap length (none 0 (omega arith)) in
-    ap (λ (n : ℕ). fold max n (map length cols)) (omega (arith, empty))
-    ∙ row_count_none cols (λ c low. none (suc c) (omega arith))
+    let empty : max 0 (length col) ≡ 0 = omega (arith, ap length (none 0 (omega arith))) in
+    cc (empty, row_count_none cols (λ c low. none (suc c) (omega arith)))
 
 pub rows_none : (cols : List Column) → ((c : ℕ) → c < length cols → get_or cols c [] ≡ []) → rows cols ≡ []
 rows_none cols none = ap (λ (n : ℕ). map (row_at cols) (range_with_len 0 n)) (row_count_none cols none)
@@ -158,11 +137,12 @@ length-for_each_cell f cells = length-map (enumerate_from 0 cells) (λ (cell : �
 
 get_or-for_each_cell : {Y : Type 0} (f : ℕ → ℕ → Y) (cells : List ℕ) (c : ℕ) (d : Y) → c < length cells
     → get_or (for_each_cell f cells) c d ≡ f c (get_or cells c 0)
-get_or-for_each_cell {Y} f cells c d low =
-    get_or-map (λ (cell : ℕ × ℕ). f cell.0 cell.1) (enumerate_from 0 cells) c (0, 0) d
-    (omega (arith, length-enumerate_from 0 cells))
-    ∙ ap (λ (cell : ℕ × ℕ). f cell.0 cell.1) (get_or-enumerate_from 0 cells c (0, 0) low)
-    ∙ (let same : 0 + c ≡ c = omega arith in ap (λ (n : ℕ). f n (get_or cells c 0)) same)
+get_or-for_each_cell {Y} f cells c d low = let same : 0 + c ≡ c = omega arith in cc (
+  get_or-map (λ (cell : ℕ × ℕ). f cell.0 cell.1) (enumerate_from 0 cells) c (0, 0) d
+      (omega (arith, length-enumerate_from 0 cells)),
+  get_or-enumerate_from 0 cells c (0, 0) low,
+  same,
+)
 
 -- A list that has this value for each column is equal to that.
 pub for_each_cell_unique : {Y : Type 0} (f : ℕ → ℕ → Y) (cells : List ℕ) (ys : List Y) (d : Y)
@@ -257,23 +237,22 @@ module _ (cells : List ℕ) where
     ins p = input_lines p ++ more p
 
     rest_is : (p : ℕ) → drop (uses_of cells p) (input_lines p ++ more p) ≡ more p
-    rest_is p = ⊎_elim
-        (λ same. drop_at (input_lines p) (more p) (uses_of cells p) same)
-        (λ (none, few). drop_all (uses_of cells p) (input_lines p ++ more p) (omega (
-          arith,
-          few,
-          ap length none,
-          length-append (input_lines p) (more p),
-        )) ∙ sym none)
-        (t.all p)
+    rest_is p = grind (
+      arith,
+      t.all p,
+      drop_at (input_lines p) (more p) (uses_of cells p),
+      drop_all (uses_of cells p) (input_lines p ++ more p),
+      length-append (input_lines p) (more p),
+    )
 
     input_lines_at : (p j : ℕ) → j < uses_of cells p → slice_index_or (input_lines p ++ more p) j [] ≡ slice_index_or
         (input_lines p) j []
-    input_lines_at p j low = ⊎_elim
-        (λ same. get_or_append_left (input_lines p) (more p) [] j (omega (arith, same)))
-        (λ (none, few). ap (λ (l : Column). slice_index_or l j []) (ap (λ (l : Column). input_lines p ++ l) none
-        ∙ append-nil (input_lines p)))
-        (t.all p)
+    input_lines_at p j low = grind (
+      arith,
+      t.all p,
+      append-nil (input_lines p),
+      get_or_append_left (input_lines p) (more p) [] j,
+    )
 
     pub grid_step : (c : ℕ) → c < length cells → uses_of (take c cells) (get_or cells c 0) < length
         (input_lines (get_or cells c 0))
@@ -323,8 +302,7 @@ is_row_unknown [] eof r c low within going few = absurd (omega arith)
 is_row_unknown (col ∷ cols) [] r c low within going few = absurd (omega arith)
 is_row_unknown (col ∷ cols) (e ∷ eof) r zero low within going few = rw (going, le-ltb r (length col) few) refl
 is_row_unknown (col ∷ cols) (e ∷ eof) r (suc c) low within going few =
-    and_right (e || nat_lt r (length col)) (is_row_known cols eof r) (is_row_unknown cols eof r c (omega arith)
-    (omega arith) going few)
+    grind (arith, nat_tests, is_row_unknown cols eof r c (omega arith) (omega arith) going few)
 
 -- ---- a function that is changed at one index
 

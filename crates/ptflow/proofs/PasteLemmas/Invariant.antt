@@ -11,14 +11,13 @@ use Rattle.ptflow.proofs.Common.{reader_at, IsReadable, PastePre, uses_of, colum
 use Rattle.ptflow.proofs.Common.{paste_decided, SetTerminatorsPost, SlotsBound, SlotsKept, CellsTaken, CellsFilled}
 use Rattle.ptflow.proofs.Common.{AreReceivedLines, AreFirstRows, RowsTaken, RowsWritten, cells_text, job_shape}
 use Rattle.ptflow.proofs.Common.{BufferedRowsPre}
-use Rattle.ptflow.proofs.PasteLemmas.CellSlots.{slots_bound_start, slots_kept_by_lines}
+use Rattle.ptflow.proofs.PasteLemmas.FillRow.{slots_bound_start, slots_kept_by_lines}
 use Rattle.ptflow.proofs.PasteLemmas.RowsTaken.{no_rows, first_rows_trans, filled_row_is_first, filled_row_text}
 use Rattle.ptflow.proofs.PasteLemmas.Grid.{Column, last_use, rows_text-append}
 use Rattle.ptflow.proofs.Passes.Lines.{max_length-append}
 use Rattle.ptflow.proofs.Passes.LinesRead.{lines_on}
 use Rattle.ptflow.proofs.PasteLemmas.Lag.{EarlierPart, LagsAt, lags_here, decided_is_prefix}
 use Rattle.ptflow.proofs.Passes.Readers.{eof_gives_nothing, may_follow}
-use Rattle.ptflow.proofs.PasteLemmas.LinesTaken.{nothing_taken}
 
 -- ---- inputs that columns use
 
@@ -35,10 +34,12 @@ all_used P cells all p some =
 ended_more : (end : ℕ) (ls : Column) (bytes : List ℕ) → AreLines end ls
     → complete_lines end (unlines end ls ++ bytes) ≡ ls ++ complete_lines end bytes
 ended_more end [] bytes w = refl
-ended_more end (line ∷ ls) bytes (whole, more) =
-    ap (complete_lines end) (append_assoc (line ++ end ∷ []) (unlines end ls) bytes ∙ append_assoc line (end ∷ [])
-    (unlines end ls ++ bytes)) ∙ complete_lines_cons end line (unlines end ls ++ bytes) whole
-    ∙ ap (λ (l : Column). line ∷ l) (ended_more end ls bytes more)
+ended_more end (line ∷ ls) bytes (whole, more) = cc (
+  append_assoc (line ++ end ∷ []) (unlines end ls) bytes,
+  append_assoc line (end ∷ []) (unlines end ls ++ bytes),
+  complete_lines_cons end line (unlines end ls ++ bytes) whole,
+  ended_more end ls bytes more,
+)
 
 -- The known lines of all received bytes, if `ls` were received first.
 whole_lines_after : (end : ℕ) (now : Reader) (given : List ℕ) (ls : Column) → AreReceivedLines end now given ls
@@ -75,10 +76,11 @@ module _ (job : Paste) {cells : List ℕ} {set now new : List Reader} {ls : ℕ 
         (r.reads p) (λ done i. done.buffered i ++ (a p).whole done.eof i)
 
     lines_by : (p : ℕ) → lines job.terminator (texts p) ≡ ls p ++ lines job.terminator (later p)
-    lines_by p =
-        ap (lines job.terminator) (simp append_assoc at (a p).is)
-        ∙ lines_on job.terminator (reader_at now p) (g.lines_taken p).bytes (ls p) (g.lines_taken p).came (later p)
-        (may_later p)
+    lines_by p = cc (
+      simp append_assoc at (a p).is,
+      lines_on job.terminator (reader_at now p) (g.lines_taken p).bytes (ls p) (g.lines_taken p).came (later p)
+          (may_later p),
+    )
 
     pub rows_by : rows (columns cells (λ p. lines job.terminator (texts p))) ≡ taken_rows ++ rows
         (columns cells (λ p. lines job.terminator (later p)))
@@ -152,8 +154,7 @@ module _ {end : ℕ} {cells : List ℕ} {old set : List Reader} {was : Output} {
   set_end p some = ap (λ (r : Reader). r.terminator) ((s.are_set p).set some)
 
   pub set_failed : (p : ℕ) → (reader_at set p).failed ≡ (reader_at old p).failed
-  set_failed p = ⊎_elim (λ some. ap (λ (r : Reader). r.failed) ((s.are_set p).set some))
-      (λ none. ap (λ (r : Reader). r.failed) ((s.are_set p).left (omega (arith, none)))) (cases_lt 0 (uses_of cells p))
+  set_failed p = grind (arith, (s.are_set p).set, (s.are_set p).left)
 
   pub set_fault : (p : ℕ) → 0 < uses_of cells p → (reader_at set p).fault ≡ None
   set_fault p some = ap (λ (r : Reader). r.fault) ((s.are_set p).set some) ∙ (readable p some).readable

@@ -64,17 +64,9 @@ are_split end (x ∷ xs) l (first, are) = let (more, last) = are_split end xs l 
 
 -- If there are no lines, nothing was given.
 pub none_received : {end : ℕ} {reader : Reader} {given : List ℕ} → AreReceivedLines end reader given [] → given ≡ []
-none_received {end} {reader} {given} k = ⊎_elim
-    (λ (is, are). is)
-    (λ (none, done).
-    let (exists, unique) = the_lines end given in
-    let (are, whole) = exists in
-    ⊎_elim
-    (λ same. sym same ∙ ap (unlines end) none)
-    (λ (some, other, is).
-    absurd (omega (arith, ap length (sym is ∙ ap (unlines end) none), length-append given (end ∷ []))))
-    whole)
-    k.so_far
+none_received {end} {reader} {given} k =
+    let ((are, whole), unique) = the_lines end given in
+    grind (arith, k.so_far, whole, length-append given (end ∷ []))
 
 module _ (end : ℕ) (reader : Reader) (given : List ℕ) (buffered : length reader.buffered ≤ 8192) where
   module _ (most : ℕ) (xs : Column) (l : List ℕ) (few : length xs < most) where
@@ -145,8 +137,8 @@ whole_lines_prefix end eof (b ∷ front) last = by_test eof (b == end) (complete
         × (cond e (cond t ([] ∷ lines end (front ++ last)) (onto_first b (lines end (front ++ last))))
         (cond t ([] ∷ complete_lines end (front ++ last)) (onto_first_if_any b (complete_lines end (front ++ last))))
         ≡ cond t ([] ∷ xs) (onto_first_if_any b xs) ++ more)
-    by_test true true xs (more, is) = (more, ap (λ (l : Column). [] ∷ l) is)
-    by_test false true xs (more, is) = (more, ap (λ (l : Column). [] ∷ l) is)
+    by_test true true xs (more, is) = (more, cc is)
+    by_test false true xs (more, is) = (more, cc is)
     by_test true false [] (more, is) = (onto_first b (lines end (front ++ last)), refl)
     by_test false false [] (more, is) = (onto_first_if_any b (complete_lines end (front ++ last)), refl)
     by_test true false (x ∷ xs) (more, is) = (more, ap (onto_first b) is)
@@ -165,8 +157,8 @@ earlier_before {end} {now = now} {new = new} {given = given} {more = more} {ls =
       few = omega (
         arith,
         few,
-        ap length (sym (lines_are_given end now given ls came)
-            ∙ ap (lines end) (sym (append-nil given)) ∙ is),
+        (let count : length ls ≡ length (complete_lines end given ++ rest) =
+            cc (lines_are_given end now given ls came, append-nil given, is) in count),
         length-append (complete_lines end given) rest,
       );
     }
@@ -217,8 +209,10 @@ same_rows f g a (suc m) same = λ i. same a (omega arith) i ∷ same_rows f g (a
 -- A column keeps its lines if more follow.
 every_kth_more : (k j r : ℕ) (xs more : Column) → r < length (every_kth k j xs)
     → slice_index_or (every_kth k j xs) r [] ≡ slice_index_or (every_kth k j (xs ++ more)) r []
-every_kth_more k j r xs more low = rw (select_append (λ i. i % k == j) 0 xs more)
-    (sym (get_or_append_left (every_kth k j xs) (select_from (λ i. i % k == j) (0 + length xs) more) [] r low))
+every_kth_more k j r xs more low = cc (
+  select_append (λ i. i % k == j) 0 xs more,
+  get_or_append_left (every_kth k j xs) (select_from (λ i. i % k == j) (0 + length xs) more) [] r low,
+)
 
 -- ---- the text of rows
 
@@ -226,8 +220,7 @@ first_rows_prefix : (job : Paste) (m : ℕ) (rs : List (List (List ℕ))) {first
     → IsPrefix (rows_text job first) (rows_text job rs)
 first_rows_prefix job m rs {first} is = record {
   rest = rows_text job (drop m rs);
-  is = ap (rows_text job) (sym (take-append-drop m rs)) ∙ rows_text-append job.terminator job.delimiters (take m rs)
-      (drop m rs) ∙ ap (λ (x : List (List (List ℕ))). rows_text job x ++ rows_text job (drop m rs)) (sym is);
+  is = cc (is, take-append-drop m rs, rows_text-append job.terminator job.delimiters (take m rs) (drop m rs));
 }
 
 -- Without the last bytes of this input alone, no more output is determined than was pushed.
@@ -244,8 +237,8 @@ module _ (job : Paste) (cells : List ℕ) (came : ℕ → Received) where
 
   update_same : (here : ℕ) (x : Received) → x ≡ came here → update_at here x came ≡ came
   update_same here x same = λ i p. ⊎_elim
-      (λ is. update_here here x came p is ∙ same ∙ ap came (sym is))
-      (λ differ. update_there here x came p differ)
+      (λ is. cc (update_here here x came p is, same, is))
+      (update_there here x came p)
       (cases_eq p here) i
 
   -- The rows that were taken, if the input `here` without its last bytes has fewer lines than one more row takes. That

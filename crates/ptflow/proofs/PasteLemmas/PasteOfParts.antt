@@ -3,8 +3,7 @@
 use Rattle.ptflow.proofs.Common.{◌≡◌, ◌⊎◌, inl, inr, ⊎_elim, ℕ, zero, suc, ◌+◌, ◌*◌, ◌<◌, ◌≤◌, List, [], ◌∷◌, ◌++◌}
 use Rattle.ptflow.proofs.Common.{length, take, drop, get_or, refl, sym, ◌∙◌, ap, arith, append_assoc, take-append-drop}
 use Rattle.ptflow.proofs.Common.{length-drop, cases_lt, append-nil, nil_from_length, length-take-le, take_all, drop_all}
-use Rattle.ptflow.proofs.Common.{lines, the_lines_of_parts, uses_of, every_kth, columns, rows, rows_text, IsRowSplit}
-use Rattle.ptflow.proofs.Common.{PasteOfParts}
+use Rattle.ptflow.proofs.Common.{lines, the_lines_of_parts, uses_of, every_kth, columns, rows, IsRowSplit, PasteOfParts}
 use Rattle.ptflow.proofs.PasteLemmas.Grid.{Column, IsOneRow, for_each_cell, for_each_cell_same, column_of, top_of}
 use Rattle.ptflow.proofs.PasteLemmas.Grid.{column_at, length-columns, uses_before_lt, grid_step, rows_none}
 use Rattle.ptflow.proofs.PasteLemmas.Grid.{every_kth_short, rows_text-append}
@@ -35,9 +34,11 @@ module _ (cells : List ℕ) where
   no_rows f none = rows_none (columns cells f) (λ c low.
       let within : c < length cells = omega (arith, low, length-columns cells f) in
       let p = get_or cells c 0 in
-      let j = uses_of (take c cells) p in
-      column_at cells f c within ∙ nil_from_length (every_kth (uses_of cells p) j (f p))
-      (omega (arith, every_kth_short (uses_before_lt cells c within) 0 (f p) (omega (arith, none c within)))))
+      cc (
+        column_at cells f c within,
+        nil_from_length (column_of cells f c p)
+            (omega (arith, every_kth_short (uses_before_lt cells c within) 0 (f p) (omega (arith, none c within)))),
+      ))
 
   -- ---- the first row
 
@@ -51,14 +52,15 @@ module _ (cells : List ℕ) where
   module _ (ins more : ℕ → Column) (reach : (p : ℕ) → length (ins p) < uses_of cells p → more p ≡ []) where
     first_taken : IsOneRow cells (first ins) (λ p. rest ins p ++ more p)
     first_taken = record {
-      all = λ p. ⊎_elim
-          (λ few. inr (
-            ap (λ (l : Column). l ++ more p) (drop_all (uses_of cells p) (ins p) (omega (arith, few)))
-                ∙ reach p few,
-            omega (arith, ap length (take_all (uses_of cells p) (ins p) (omega (arith, few))), few),
-          ))
-          (λ many. inl (length-take-le (uses_of cells p) (ins p) (omega (arith, many))))
-          (cases_lt (length (ins p)) (uses_of cells p));
+      all = λ p. grind (
+        arith,
+        reach p,
+        append-nil (more p),
+        drop_all (uses_of cells p) (ins p),
+        take_all (uses_of cells p) (ins p),
+        length-take-le (uses_of cells p) (ins p),
+        cases_lt (length (ins p)) (uses_of cells p),
+      );
     }
 
     -- The lines of the first row precede all others, for each continuation.
@@ -86,28 +88,25 @@ module _ (cells : List ℕ) where
 
   more_is_empty : (n : ℕ) (ins more : ℕ → Column) → TakesAll (suc n) ins more → (p : ℕ)
       → length (ins p) < uses_of cells p → more p ≡ []
-  more_is_empty n ins more reach p few = ⊎_elim
-      (λ all. let size : suc n * uses_of cells p ≡ uses_of cells p + n * uses_of cells p = omega arith in
-      absurd (omega (arith, all, size, few)))
-      (λ (none, few). none)
-      (reach p (omega (arith, few)))
+  more_is_empty n ins more reach p few =
+      let size : suc n * uses_of cells p ≡ uses_of cells p + n * uses_of cells p = omega arith in
+      grind (arith, size, reach p (omega (arith, few)))
 
   later : (n : ℕ) (ins more : ℕ → Column) → TakesAll (suc n) ins more → TakesAll n (rest ins) more
   later n ins more reach p some =
       let size : suc n * uses_of cells p ≡ uses_of cells p + n * uses_of cells p = omega arith in
-      let long = length-drop (uses_of cells p) (ins p) in
-      ⊎_elim (λ all. inl (omega (arith, all, size, long))) (λ (none, few). inr (none, omega (arith, few, size, long)))
-      (reach p some)
+      grind (arith, size, length-drop (uses_of cells p) (ins p), reach p some)
 
   abbrev Append : (ℕ → Column) → (ℕ → Column) → Type 0
   Append ins more = rows (columns cells (λ p. ins p ++ more p)) ≡ rows (columns cells ins) ++ rows (columns cells more)
 
   append_none : (ins more : ℕ → Column) → ((c : ℕ) → c < length cells → ins (get_or cells c 0) ≡ []) → Append ins more
   append_none ins more empty =
-      ap rows (columns_same (λ p. ins p ++ more p) more (λ c low. ap (λ (l : Column). l ++ more (get_or cells c 0))
-      (empty c low)))
-      ∙ ap (λ (rs : List Column). rs ++ rows (columns cells more))
-      (sym (no_rows ins (λ c low. omega (arith, ap length (empty c low)))))
+      cc (
+        columns_same (λ p. ins p ++ more p) more
+            (λ c low. ap (λ (l : Column). l ++ more (get_or cells c 0)) (empty c low)),
+        no_rows ins (λ c low. omega (arith, ap length (empty c low))),
+      )
 
   module _ (n : ℕ) (ins more : ℕ → Column) (reach : TakesAll (suc n) ins more) where
     append_row : (c : ℕ) → c < length cells → uses_of (take c cells) (get_or cells c 0) < length
@@ -119,9 +118,7 @@ module _ (cells : List ℕ) where
         ∙ first_row ins (λ p. []) (λ p few. refl) c low has
         ∙ ap (λ (rs : List Column). top ∷ rs) (ap rows (columns_same (λ p. rest ins p ++ []) (rest ins)
         (λ d within. append-nil (rest ins (get_or cells d 0))))) in
-        first_row ins more (more_is_empty n ins more reach) c low has
-        ∙ ap (λ (rs : List Column). top ∷ rs) behind
-        ∙ ap (λ (rs : List Column). rs ++ rows (columns cells more)) (sym alone)
+        cc (first_row ins more (more_is_empty n ins more reach) c low has, behind, alone)
 
     -- No input continues.
     append_last : ((c : ℕ) → c < length cells → length (ins (get_or cells c 0)) ≤ uses_of (take c cells)
@@ -130,11 +127,13 @@ module _ (cells : List ℕ) where
         let over : (c : ℕ) → c < length cells → more (get_or cells c 0) ≡ [] =
         λ c low. more_is_empty n ins more reach (get_or cells c 0)
         (omega (arith, short c low, uses_before_lt cells c low)) in
-        ap rows (columns_same (λ p. ins p ++ more p) ins (λ c low. ap (λ (l : Column). ins (get_or cells c 0) ++ l)
-        (over c low) ∙ append-nil (ins (get_or cells c 0))))
-        ∙ sym (append-nil (rows (columns cells ins)))
-        ∙ ap (λ (rs : List Column). rows (columns cells ins) ++ rs)
-        (sym (no_rows more (λ c low. omega (arith, ap length (over c low)))))
+        cc (
+          columns_same (λ p. ins p ++ more p) ins (λ c low. ap (λ (l : Column). ins (get_or cells c 0) ++ l)
+              (over c low)
+              ∙ append-nil (ins (get_or cells c 0))),
+          append-nil (rows (columns cells ins)),
+          no_rows more (λ c low. omega (arith, ap length (over c low))),
+        )
 
   rows-append : (n : ℕ) (ins more : ℕ → Column) → TakesAll n ins more → Append ins more
   rows-append zero ins more reach =
@@ -151,11 +150,12 @@ pub paste_of_parts : PasteOfParts
 paste_of_parts job cells n a b cut =
     let ins : ℕ → Column = λ p. lines job.terminator (a p) in
     let more : ℕ → Column = λ p. lines job.terminator (b p) in
-    ap (λ (cols : List Column). rows_text job (rows cols)) (columns_same cells (λ p. lines job.terminator (a p ++ b p))
-    (λ p. ins p ++ more p)
-    (λ c low. both (get_or cells c 0) (cut (get_or cells c 0) (omega (arith, uses_before_lt cells c low)))))
-    ∙ ap (rows_text job) (rows-append cells n ins more (λ p named. reach p (cut p named)))
-    ∙ rows_text-append job.terminator job.delimiters (rows (columns cells ins)) (rows (columns cells more))
+    cc (
+      columns_same cells (λ p. lines job.terminator (a p ++ b p)) (λ p. ins p ++ more p)
+          (λ c low. both (get_or cells c 0) (cut (get_or cells c 0) (omega (arith, uses_before_lt cells c low)))),
+      rows-append cells n ins more (λ p named. reach p (cut p named)),
+      rows_text-append job.terminator job.delimiters (rows (columns cells ins)) (rows (columns cells more)),
+    )
   where
     both : (p : ℕ) → IsRowSplit job.terminator n (uses_of cells p) (a p) (b p)
         → lines job.terminator (a p ++ b p) ≡ lines job.terminator (a p) ++ lines job.terminator (b p)

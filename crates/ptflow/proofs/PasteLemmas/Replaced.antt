@@ -1,10 +1,10 @@
--- Bytes of which each terminator is replaced, and how the code replaces them: 64 at a time, where the terminators are the
--- bits of a mask, and then byte by byte.
-use Rattle.ptflow.proofs.Common.{◌≡◌, ◌≢◌, ⊎_elim, ℕ, zero, suc, ◌+◌, ◌-◌, ◌%◌, ◌^◌, ◌==◌, ◌<◌, ◌≤◌, Bool}
-use Rattle.ptflow.proofs.Common.{cond, List, [], ◌∷◌, ◌++◌, length, map, take, drop, get_or, slice_set, refl, sym, ◌∙◌}
-use Rattle.ptflow.proofs.Common.{ap, arith, append_assoc, bit_and, count_by, count_ones, mask_l, chunk, mod-lt}
-use Rattle.ptflow.proofs.Common.{mod-add-mod, mod-eq_of_lt, take-add, take_at, take-append-drop, take-set-lt, cases_Bool}
-use Rattle.ptflow.proofs.Common.{eq-eqb, set-append_right, drop_more, take_more_set, take-set, length-set, sum_by-cons}
+-- Bytes of which each terminator is replaced, and how the code replaces them: 64 at a time, where the terminators are
+-- the bits of a mask, and then byte by byte.
+use Rattle.ptflow.proofs.Common.{◌≡◌, ◌≢◌, ℕ, zero, suc, ◌+◌, ◌-◌, ◌%◌, ◌^◌, ◌==◌, ◌<◌, ◌≤◌, Bool, cond, List, [], ◌∷◌}
+use Rattle.ptflow.proofs.Common.{◌++◌, length, map, take, drop, get_or, slice_set, refl, sym, ◌∙◌, ap, arith}
+use Rattle.ptflow.proofs.Common.{append_assoc, bit_and, count_by, count_ones, mask_l, chunk, mod-lt, mod-add-mod}
+use Rattle.ptflow.proofs.Common.{mod-eq_of_lt, take-add, take_at, take-append-drop, take-set-lt, eq-eqb}
+use Rattle.ptflow.proofs.Common.{set-append_right, drop_more, take_more_set, take-set, length-set, sum_by-cons}
 use Rattle.ptflow.proofs.Common.{sum_by-append, is_byte, byte_eq, byte_ne, IsLine, IsNth, length-take-le, length-chunk}
 use Rattle.ptflow.proofs.Common.{length-put_chunk, take_more_put_chunk, put_chunk, ones-mask_l, replaced, byte_of}
 use Rattle.ptflow.proofs.Common.{IsReplacedTo}
@@ -23,29 +23,19 @@ module _ (end : ℕ) where
         ≡ replaced end text_of number xs ++ replaced end text_of (number + count_by (is_byte end) xs) ys
     replaced-append number [] ys =
         let same : number + 0 ≡ number = omega arith in ap (λ n. replaced end text_of n ys) (sym same)
-    replaced-append number (b ∷ xs) ys = ⊎_elim
-        (λ is.
-        let next : number + count_by (is_byte end) (b ∷ xs) ≡ number + 1 + count_by (is_byte end) xs =
-        omega (arith, counted b xs is) in
-        rw next (rw is (ap (◌++◌ (text_of number)) (replaced-append (number + 1) xs ys)
-        ∙ sym (append_assoc (text_of number) _ _))))
-        (λ is.
-        let next : number + count_by (is_byte end) (b ∷ xs) ≡ number + count_by (is_byte end) xs =
-        omega (arith, counted b xs is) in
-        rw next (rw is (ap (λ (l : List ℕ). b ∷ l) (replaced-append number xs ys))))
-        (cases_Bool (b == end))
+    replaced-append number (b ∷ xs) ys =
+        grind (arith, append_assoc, counted b xs, replaced-append (number + 1) xs ys, replaced-append number xs ys)
 
     -- A line contains no terminator, so its bytes stay.
     pub replaced_line : (number : ℕ) (line rest : List ℕ) → IsLine end line
-        → replaced end text_of number (line ++ end ∷ rest) ≡ line ++ (text_of number ++ replaced end text_of (number + 1) rest)
+        → replaced end text_of number (line ++ end ∷ rest) ≡ line ++ (text_of number ++ replaced end text_of
+        (number + 1) rest)
     replaced_line number [] rest free = rw (byte_eq end) refl
-    replaced_line number (b ∷ line) rest (other, free) =
-        rw (byte_ne end b other) (ap (λ (l : List ℕ). b ∷ l) (replaced_line number line rest free))
+    replaced_line number (b ∷ line) rest (other, free) = cc (byte_ne end b other, replaced_line number line rest free)
 
     pub replaced_none : (number : ℕ) (line : List ℕ) → IsLine end line → replaced end text_of number line ≡ line
     replaced_none number [] free = refl
-    replaced_none number (b ∷ line) (other, free) =
-        rw (byte_ne end b other) (ap (λ (l : List ℕ). b ∷ l) (replaced_none number line free))
+    replaced_none number (b ∷ line) (other, free) = cc (byte_ne end b other, replaced_none number line free)
 
   -- Only the index in the cycle matters.
   pub replaced_mod : (text_at : ℕ → List ℕ) (len m n : ℕ) → m % len ≡ n % len → (bytes : List ℕ)
@@ -64,19 +54,15 @@ module _ (end : ℕ) where
 
     pub length-replaced : (number : ℕ) (bytes : List ℕ) → length (all number bytes) ≡ length bytes
     length-replaced number [] = refl
-    length-replaced number (b ∷ bytes) = ⊎_elim
-        (λ is. rw is (ap suc (length-replaced (number + 1) bytes)))
-        (λ is. rw is (ap suc (length-replaced number bytes)))
-        (cases_Bool (b == end))
+    length-replaced number (b ∷ bytes) =
+        grind (arith, length-replaced (number + 1) bytes, length-replaced number bytes)
 
     -- One byte for all terminators.
     pub replaced_by_map : (b : ℕ) → ((n : ℕ) → byte n ≡ b) → (number : ℕ) (bytes : List ℕ)
         → all number bytes ≡ map (λ x. cond (x == end) b x) bytes
     replaced_by_map b same number [] = refl
-    replaced_by_map b same number (x ∷ bytes) = ⊎_elim
-        (λ is. rw is (λ i. same number i ∷ replaced_by_map b same (number + 1) bytes i))
-        (λ is. rw is (ap (λ (l : List ℕ). x ∷ l) (replaced_by_map b same number bytes)))
-        (cases_Bool (x == end))
+    replaced_by_map b same number (x ∷ bytes) =
+        grind (arith, same number, replaced_by_map b same (number + 1) bytes, replaced_by_map b same number bytes)
 
     pub take-replaced : (at number : ℕ) (bytes : List ℕ) → at ≤ length bytes
         → take at (all number bytes) ≡ all number (take at bytes)
@@ -101,33 +87,37 @@ module _ (end : ℕ) where
     replaced_next zero number (b ∷ bytes) zero (low, test, before) =
         let same : number + 0 ≡ number = omega arith in rw test (ap (λ k. byte k ∷ bytes) same)
     replaced_next (suc m) number (b ∷ bytes) zero (low, test, before) = absurd (omega (arith, before))
-    replaced_next zero number (b ∷ bytes) (suc k) (low, test, before) = ⊎_elim
-        (λ is. absurd (omega (arith, before, counted b (take k bytes) is)))
-        (λ is. rw is (ap (λ (l : List ℕ). b ∷ l) (replaced_next zero number bytes k
-        (omega (arith, low), test, omega (arith, before, counted b (take k bytes) is)))))
-        (cases_Bool (b == end))
-    replaced_next (suc m) number (b ∷ bytes) (suc k) (low, test, before) = ⊎_elim
-        (λ is. let shifted : number + suc m ≡ number + 1 + m = omega arith in
-        rw is (rw shifted (ap (λ (l : List ℕ). byte number ∷ l) (replaced_next m (number + 1) bytes k
-        (omega (arith, low), test, omega (arith, before, counted b (take k bytes) is))))))
-        (λ is. rw is (ap (λ (l : List ℕ). b ∷ l) (replaced_next (suc m) number bytes k
-        (omega (arith, low), test, omega (arith, before, counted b (take k bytes) is)))))
-        (cases_Bool (b == end))
+    replaced_next zero number (b ∷ bytes) (suc k) (low, test, before) =
+        let more = λ (e : count_by (is_byte end) (take k bytes) ≡ zero). replaced_next zero number bytes k (
+          omega
+              (arith, low),
+          test,
+          e,
+        ) in
+        grind (arith, counted b (take k bytes), more)
+    replaced_next (suc m) number (b ∷ bytes) (suc k) (low, test, before) =
+        let shifted : number + suc m ≡ number + 1 + m = omega arith in
+        let one = λ (e : count_by (is_byte end) (take k bytes) ≡ m). replaced_next m (number + 1) bytes k (
+          omega
+              (arith, low),
+          test,
+          e,
+        ) in
+        let more = λ (e : count_by (is_byte end) (take k bytes) ≡ suc m). replaced_next (suc m) number bytes k (
+          omega
+              (arith, low),
+          test,
+          e,
+        ) in
+        grind (arith, counted b (take k bytes), one, more)
 
     all_replaced : (number : ℕ) (bytes : List ℕ) (n : ℕ) → n ≡ count_by (is_byte end) bytes
         → first_replaced n number bytes ≡ all number bytes
     all_replaced number [] zero e = refl
     all_replaced number [] (suc n) e = refl
-    all_replaced number (b ∷ bytes) zero e = ⊎_elim
-        (λ is. absurd (omega (arith, e, counted b bytes is)))
-        (λ is. rw is (ap (λ (l : List ℕ). b ∷ l) (all_replaced number bytes zero (omega (arith, e, counted b bytes is)))))
-        (cases_Bool (b == end))
-    all_replaced number (b ∷ bytes) (suc m) e = ⊎_elim
-        (λ is. rw is (ap (λ (l : List ℕ). byte number ∷ l) (all_replaced (number + 1) bytes m
-        (omega (arith, e, counted b bytes is)))))
-        (λ is. rw is (ap (λ (l : List ℕ). b ∷ l) (all_replaced number bytes (suc m)
-        (omega (arith, e, counted b bytes is)))))
-        (cases_Bool (b == end))
+    all_replaced number (b ∷ bytes) zero e = grind (arith, counted b bytes, all_replaced number bytes zero)
+    all_replaced number (b ∷ bytes) (suc m) e =
+        grind (arith, counted b bytes, all_replaced (number + 1) bytes m, all_replaced number bytes (suc m))
 
 -- ---- the terminators of a chunk, replaced one after another
 
@@ -184,7 +174,8 @@ module _ {end : ℕ} {byte : ℕ → ℕ} where
       set_in_chunk v =
           let there : at + bit - at ≡ bit = omega arith in
           let front = length-take-le at was (omega (arith, r.room, r.same)) in
-          take-set-lt (at + 64) to (at + bit) v (omega (arith, low)) ∙ ap (λ (l : List ℕ). slice_set l (at + bit) v) r.is
+          take-set-lt (at + 64) to (at + bit) v (omega (arith, low)) ∙ ap (λ (l : List ℕ). slice_set l
+          (at + bit) v) r.is
           ∙ set-append_right (take at was) (first_replaced end byte n first ends) at (at + bit) v front (omega arith)
           ∙ ap (λ k. take at was ++ slice_set (first_replaced end byte n first ends) k v) there
 
@@ -213,7 +204,8 @@ one_byte at from room = ap (take 1) (drop_more from at 0 room)
 module _ {cycle : Cycle} {first index at : ℕ} {from to to' : List ℕ} (long : length to' ≡ length from)
     (r : IsReplacedTo cycle first index at from to) where
   -- Bytes were replaced from the one at `index` on.
-  pub replaced_more : (size : ℕ) {next : ℕ} → at + size ≤ length from → next ≡ (index + count_by (is_byte cycle.terminator) (take size (drop at from))) % cycle.len
+  pub replaced_more : (size : ℕ) {next : ℕ} → at + size ≤ length from → next ≡ (index + count_by
+      (is_byte cycle.terminator) (take size (drop at from))) % cycle.len
       → take (at + size) to' ≡ take at to ++ replaced cycle.terminator (byte_of cycle) index (take size (drop at from))
       → IsReplacedTo cycle first next (at + size) from to'
   replaced_more size {next} room is more =
@@ -222,16 +214,20 @@ module _ {cycle : Cycle} {first index at : ℕ} {from to to' : List ℕ} (long :
       let split : take (at + size) from ≡ front ++ here = take-add at size from in
       let count : count_by (is_byte cycle.terminator) (take (at + size) from)
       ≡ count_by (is_byte cycle.terminator) front + count_by (is_byte cycle.terminator) here =
-      ap (count_by (is_byte cycle.terminator)) split ∙ sum_by-append (λ b. cond (is_byte cycle.terminator b) 1 0) front here in
-      let same : first + count_by (is_byte cycle.terminator) (take (at + size) from) ≡ so_far + count_by (is_byte cycle.terminator) here =
+      ap (count_by (is_byte cycle.terminator)) split ∙ sum_by-append (λ b. cond
+      (is_byte cycle.terminator b) 1 0) front here in
+      let same : first + count_by (is_byte cycle.terminator) (take (at + size) from) ≡ so_far + count_by
+      (is_byte cycle.terminator) here =
       omega (arith, count) in
       record {
         within = room;
         same = long;
         next = is ∙ ap (λ k. (k + count_by (is_byte cycle.terminator) here) % cycle.len) r.next
-            ∙ mod-add-mod so_far cycle.len (count_by (is_byte cycle.terminator) here) ∙ ap (λ k. k % cycle.len) (sym same);
+            ∙ mod-add-mod so_far cycle.len (count_by (is_byte cycle.terminator) here) ∙ ap (λ k. k % cycle.len)
+            (sym same);
         is = more
-            ∙ (λ i. r.is i ++ replaced_mod cycle.terminator (λ k. get_or cycle.unrolled k 0 ∷ []) cycle.len index so_far index_is here i)
+            ∙ (λ i. r.is i ++ replaced_mod cycle.terminator
+            (λ k. get_or cycle.unrolled k 0 ∷ []) cycle.len index so_far index_is here i)
             ∙ sym (replaced-append cycle.terminator (byte_of cycle) first front here)
             ∙ ap (replaced cycle.terminator (byte_of cycle) first) (sym split);
       }
@@ -249,19 +245,26 @@ module _ {cycle : Cycle} {first index at : ℕ} {from to to' : List ℕ} (long :
     replaced_terminator {next} {v} is_end is later set =
         let test = eq-eqb (get_or from at 0) cycle.terminator is_end in
         let number : count_by (is_byte cycle.terminator) (take 1 (drop at from)) ≡ 1 =
-        ap (count_by (is_byte cycle.terminator)) (one_byte at from room) ∙ counted cycle.terminator (get_or from at 0) [] test in
+        ap (count_by (is_byte cycle.terminator)) (one_byte at from room) ∙ counted cycle.terminator
+        (get_or from at 0) [] test in
         replaced_more 1 (omega (arith, room)) (later ∙ ap (λ n. (index + n) % cycle.len) (sym number))
         (ap (take (at + 1)) set ∙ take_more_set (slice_set to at (get_or from at 0)) at v
         (omega (arith, room, r.same, length-set to at (get_or from at 0)))
         ∙ (λ i. take-set to at (get_or from at 0) i ++ is i)
-        ∙ ap (λ (l : List ℕ). take at to ++ l) (sym (ap (replaced cycle.terminator (byte_of cycle) index) (one_byte at from room) ∙ rw test refl)))
+        ∙ ap (λ (l : List ℕ). take at to ++ l) (sym (ap (replaced cycle.terminator (byte_of cycle) index)
+        (one_byte at from room) ∙ rw test refl)))
 
     pub replaced_other : get_or from at 0 ≢ cycle.terminator → to' ≡ slice_set to at (get_or from at 0)
         → index < cycle.len → IsReplacedTo cycle first index (at + 1) from to'
     replaced_other other set less =
         let test = byte_ne cycle.terminator (get_or from at 0) other in
         let number : index + count_by (is_byte cycle.terminator) (take 1 (drop at from)) ≡ index =
-        omega (arith, ap (count_by (is_byte cycle.terminator)) (one_byte at from room) ∙ counted cycle.terminator (get_or from at 0) [] test) in
+        omega (
+          arith,
+          ap (count_by (is_byte cycle.terminator)) (one_byte at from room) ∙ counted cycle.terminator
+              (get_or from at 0) [] test,
+        ) in
         replaced_more 1 (omega (arith, room)) (sym (ap (λ n. n % cycle.len) number ∙ mod-eq_of_lt less))
         (ap (take (at + 1)) set ∙ take_more_set to at (get_or from at 0) (omega (arith, room, r.same))
-        ∙ ap (λ (l : List ℕ). take at to ++ l) (sym (ap (replaced cycle.terminator (byte_of cycle) index) (one_byte at from room) ∙ rw test refl)))
+        ∙ ap (λ (l : List ℕ). take at to ++ l) (sym (ap (replaced cycle.terminator (byte_of cycle) index)
+        (one_byte at from room) ∙ rw test refl)))

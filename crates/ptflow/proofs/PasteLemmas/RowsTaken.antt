@@ -1,16 +1,126 @@
--- Rows that are the next rows of the inputs, and whose lines were taken from the readers. They compose: if rows are
--- taken and then more, the concatenation is taken. One filled row is such a row, since each column takes one line. Its
--- fields, each with the byte after it, are the joined fields and the terminator.
-use Rattle.ptflow.proofs.Common.{◌≡◌, ⊎_elim, inl, inr, ℕ, suc, ◌+◌, ◌*◌, ◌<◌, true, List, [], ◌∷◌, ◌++◌, length, take}
-use Rattle.ptflow.proofs.Common.{refl, sym, ◌∙◌, ap, subst, arith, append_assoc, length-append, eq-eqb, ne_eqb}
-use Rattle.ptflow.proofs.Common.{cases_lt, append-nil, nil_from_length, take_all, Reader, reader_at, map, unlines}
-use Rattle.ptflow.proofs.Common.{join_with_cycle, uses_of, columns, rows, CellsTaken, CellsFilled, LinesTaken, RowShape}
-use Rattle.ptflow.proofs.Common.{after_cell, cells_text, AreFirstRows, RowsTaken}
+-- Lines that were taken from a reader, and rows whose lines were taken. They compose: if lines or rows are taken and
+-- then more, the concatenation is taken. One filled row is such a row, since each column takes one line. Its fields,
+-- each with the byte after it, are the joined fields and the terminator.
+use Rattle.ptflow.proofs.Common.{◌≡◌, ◌⊎◌, ⊎_elim, inl, inr, ℕ, ◌+◌, ◌≤◌, List, [], ◌∷◌, ◌++◌, None, length, refl, sym}
+use Rattle.ptflow.proofs.Common.{◌∙◌, ap, arith, length-append, append-nil, lines, AreLines, Reader, ReaderAdvance}
+use Rattle.ptflow.proofs.Common.{AdvanceOk, IsDone, IsSound, remaining_bytes, Slots, FillLine, advance_trans}
+use Rattle.ptflow.proofs.Common.{prepend_known-nil, unlines-append, lines_of_unlines, AreReceivedLines, LinesTaken, suc}
+use Rattle.ptflow.proofs.Common.{◌*◌, ◌<◌, true, take, subst, append_assoc, eq-eqb, ne_eqb, cases_lt, nil_from_length}
+use Rattle.ptflow.proofs.Common.{take_all, reader_at, map, unlines, join_with_cycle, uses_of, columns, rows, CellsTaken}
+use Rattle.ptflow.proofs.Common.{CellsFilled, RowShape, after_cell, cells_text, AreFirstRows, RowsTaken}
+use Rattle.ptflow.proofs.Passes.LinesRead.{lines_none, lines_are_given, lines_more}
+use Rattle.ptflow.proofs.Passes.Readers.{eof_gives_nothing, stays_at_eof}
 use Rattle.std.specs.Prelude.{slice_index_or}
 use Rattle.ptflow.proofs.PasteLemmas.Grid.{Column, for_each_cell, for_each_cell_unique, uses_before, grid_step}
 use Rattle.ptflow.proofs.PasteLemmas.Grid.{rows_text-append}
-use Rattle.ptflow.proofs.Passes.Readers.{stays_at_eof}
-use Rattle.ptflow.proofs.PasteLemmas.LinesTaken.{nothing_taken, taken_more, taken_at_most, none_at_eof}
+
+AreLines-append : (end : ℕ) (xs ys : List (List ℕ)) → AreLines end xs → AreLines end ys → AreLines end (xs ++ ys)
+AreLines-append end [] ys p q = q
+AreLines-append end (x ∷ xs) ys (line, more) q = (line, AreLines-append end xs ys more q)
+
+-- A reader at the end of its input gives no lines.
+none_received : {end : ℕ} {b c : Reader} {bytes : List ℕ} {ls : List (List ℕ)} → IsDone b → ReaderAdvance b c bytes
+    → AreReceivedLines end c bytes ls → ls ≡ []
+none_received {end} {b} {c} {bytes} {ls} done reads k =
+    let (none, empty, eof) = eof_gives_nothing b c bytes done reads in
+    sym (lines_are_given end c bytes ls k) ∙ ap (lines end) none
+
+-- Lines were received, and then more.
+pub lines_trans : {end : ℕ} {b c : Reader} {bs cs : List ℕ} {xs ys : List (List ℕ)} → AreReceivedLines end b bs xs
+    → ReaderAdvance b c cs → AreReceivedLines end c cs ys
+    → AreReceivedLines end c (bs ++ cs) (xs ++ ys)
+lines_trans {end} {b} {c} {bs} {cs} {xs} {ys} p reads q = record {
+  so_far = ⊎_elim
+      (λ (first, are). ⊎_elim
+      (λ (then, more). inl (rw (first, then, unlines-append end xs ys) refl, AreLines-append end xs ys are more))
+      (λ (then, done). inr (rw (first, lines_of_unlines end xs cs are, then) refl, done))
+      q.so_far)
+      (λ (is, done).
+      let (none, empty, eof) = eof_gives_nothing b c cs done reads in
+      inr (rw (none, none_received done reads q) (simp append-nil is), stays_at_eof b c cs done reads))
+      p.so_far;
+}
+
+pub reads_nothing : {r : Reader} → ReaderAdvance r r []
+reads_nothing {r} = record {
+  moved = sym (prepend_known-nil (remaining_bytes r));
+  count = omega arith;
+  refused = refl;
+  terminator = refl;
+  still = λ eof. (refl, eof);
+  end = λ h. h;
+}
+
+-- At most the requested number of lines is taken.
+pub taken_at_most : {end : ℕ} {b c : Reader} {n : ℕ} {ys : List (List ℕ)} → LinesTaken end b c n ys → length ys ≤ n
+taken_at_most t = ⊎_elim (λ same. omega (arith, same)) (λ (done, few). few) t.enough
+
+-- Nothing is taken from a reader at the end of its input.
+pub none_at_eof : {end : ℕ} {b c : Reader} {n : ℕ} {ys : List (List ℕ)} → LinesTaken end b c n ys → IsDone b → ys ≡ []
+none_at_eof t done = none_received done t.reads t.came
+
+pub nothing_taken : {end : ℕ} {r : Reader} {n : ℕ} → n ≡ 0 → LinesTaken end r r n []
+nothing_taken {end} {r} {n} zero = record {
+  bytes = [];
+  reads = reads_nothing;
+  failed = refl;
+  fault = refl;
+  short = λ h. h;
+  buffered = λ h. h;
+  none = λ h. refl;
+  came = lines_none end r;
+  enough = inl (omega (arith, zero));
+}
+
+abbrev pub taken_more : {end : ℕ} {a b c : Reader} {k m n : ℕ} {xs ys : List (List ℕ)} → k ≡ m + n
+    → LinesTaken end a b m xs → LinesTaken end b c n ys → LinesTaken end a c k (xs ++ ys)
+taken_more {end} {a} {b} {c} {k} {m} {n} {xs} {ys} all p q = record {
+  bytes = p.bytes ++ q.bytes;
+  reads = advance_trans a b c p.bytes q.bytes p.reads q.reads;
+  failed = q.failed ∙ p.failed;
+  fault = q.fault ∙ p.fault;
+  short = λ h. q.short (p.short h);
+  buffered = λ h. q.buffered (p.buffered h);
+  none = λ h. q.none (omega (arith, h)) ∙ p.none (omega (arith, h));
+  came = lines_trans p.came q.reads q.came;
+  enough = ⊎_elim
+      (λ same. ⊎_elim (λ every. inl (omega (arith, same, every, length-append xs ys)))
+      (λ (done, few). inr (done, omega (arith, same, few, length-append xs ys))) q.enough)
+      (λ (done, few). inr (
+        stays_at_eof b c q.bytes done q.reads,
+        omega (arith, few, ap length (none_at_eof q done), length-append xs ys),
+      ))
+      p.enough;
+}
+
+-- One line was requested: a line was taken, or none.
+taken_one : {end : ℕ} {b c : Reader} {bytes : List ℕ} {ls : List (List ℕ)} → AdvanceOk b c bytes → b.fault ≡ None
+    → IsSound c → AreReceivedLines end c bytes ls
+    → (length ls ≡ 1) ⊎ (IsDone c × (length ls ≤ 1)) → LinesTaken end b c 1 ls
+taken_one {end} {b} {c} {bytes} advance_ok clean sound came enough = record {
+  bytes = bytes;
+  reads = advance_ok.reads;
+  failed = advance_ok.failed;
+  fault = advance_ok.fault ∙ sym clean;
+  short = advance_ok.short;
+  buffered = λ h. sound.buffered;
+  none = λ h. absurd (omega (arith, h));
+  came = came;
+  enough = enough;
+}
+
+-- A line was read into a slot.
+pub taken_line : {end : ℕ} {b c : Reader} {before after : Slots} {slot : ℕ} (e : FillLine b c before after slot)
+    → b.terminator ≡ end → b.fault ≡ None → IsSound c
+    → LinesTaken end b c 1 (e.line ∷ [])
+taken_line {end} {b} {c} {before} {after} {slot} e same clean sound = taken_one e.advance_ok clean sound
+    (lines_more end b [] [] (lines_none end b) c before after slot e same) (inl refl)
+
+-- No line was left.
+pub taken_eof : {end : ℕ} {b c : Reader} → AdvanceOk b c [] → IsDone c → b.fault ≡ None → IsSound c
+    → LinesTaken end b c 1 []
+taken_eof {end} {b} {c} advance_ok done clean sound = taken_one advance_ok clean sound (lines_none end c)
+    (inr (done, omega arith))
 
 -- ---- the text of a row, column by column
 
@@ -21,17 +131,16 @@ module _ (row : RowShape) where
   cells_text-append c (x ∷ xs) ys =
       let next : c + 1 + length xs ≡ c + suc (length xs) = omega arith in
       let cell = x ++ after_cell row c in
-      ap (λ (l : List ℕ). cell ++ l)
-      (cells_text-append (c + 1) xs ys ∙ ap (λ (k : ℕ). cells_text row (c + 1) xs ++ cells_text row k ys) next)
-      ∙ sym (append_assoc cell (cells_text row (c + 1) xs) (cells_text row (c + suc (length xs)) ys))
+      cc (
+        next,
+        cells_text-append (c + 1) xs ys,
+        append_assoc cell (cells_text row (c + 1) xs) (cells_text row (c + suc (length xs)) ys),
+      )
 
   -- One more field.
   pub cells_text-push : (c : ℕ) (xs : List (List ℕ)) (x : List ℕ) {k : ℕ} → c + length xs ≡ k
       → cells_text row c (xs ++ x ∷ []) ≡ cells_text row c xs ++ (x ++ after_cell row k)
-  cells_text-push c xs x {k} here =
-      cells_text-append c xs (x ∷ [])
-      ∙ ap (λ (i : ℕ). cells_text row c xs ++ ((x ++ after_cell row i) ++ [])) here
-      ∙ ap (λ (l : List ℕ). cells_text row c xs ++ l) (append-nil (x ++ after_cell row k))
+  cells_text-push c xs x {k} here = cc (here, cells_text-append c xs (x ∷ []), append-nil (x ++ after_cell row k))
 
   -- The columns from c to the last one.
   pub row_text : (c : ℕ) (xs : List (List ℕ)) → c + length xs ≡ length row.cells → 0 < length xs

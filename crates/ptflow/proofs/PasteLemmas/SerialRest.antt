@@ -1,11 +1,11 @@
 -- The output of `paste -s` from a position on: the bytes with their terminators replaced, as long as more bytes follow.
 -- So the terminator of a line that is the last byte so far is held back.
-use Rattle.ptflow.proofs.Common.{◌≡◌, ⊎_elim, ℕ, ◌+◌, ◌%◌, ◌==◌, ◌<◌, Bool, true, false, cond, List, [], ◌∷◌}
-use Rattle.ptflow.proofs.Common.{◌++◌, Option, length, length-append, refl, sym, ◌∙◌, ap, arith, append_assoc, onto_first}
+use Rattle.ptflow.proofs.Common.{◌≡◌, ⊎_elim, ℕ, ◌+◌, ◌%◌, ◌==◌, ◌<◌, Bool, true, false, cond, List, [], ◌∷◌, ◌++◌}
+use Rattle.ptflow.proofs.Common.{Option, length, length-append, refl, sym, ◌∙◌, ap, arith, append_assoc, onto_first}
 use Rattle.ptflow.proofs.Common.{count_by, cases_Bool, append-nil, append_cancel_right, is_byte, lines, complete_lines}
 use Rattle.ptflow.proofs.Common.{IsPrefix, lines_of_unlines, Paste, delimiter, join_with_cycle, mod-add-mod}
-use Rattle.ptflow.proofs.Common.{paste_serial_decided, replaced, row_rest, mod-eq_of_lt, byte_eq, option_to_list, None, Some}
-use Rattle.ptflow.proofs.Common.{IsFirstByte, take, drop, line_before_terminator, sum_by-append, mod-lt}
+use Rattle.ptflow.proofs.Common.{paste_serial_decided, replaced, row_rest, mod-eq_of_lt, byte_eq, option_to_list, None}
+use Rattle.ptflow.proofs.Common.{Some, IsFirstByte, take, drop, line_before_terminator, sum_by-append, mod-lt}
 use Rattle.ptflow.proofs.Vectors.FindNth.{none_counted}
 use Rattle.std.specs.Prelude.{slice_index_or}
 use Rattle.ptflow.proofs.Passes.Lines.{line_split, split_of}
@@ -42,17 +42,21 @@ module _ (end : ℕ) (delims : List (Option ℕ)) where
   row_rest_on number [] more some =
       let same : number + 0 ≡ number = omega arith in ap (λ n. row_rest end delims n more) (sym same)
   row_rest_on number (b ∷ bytes) more some = ⊎_elim
-      (λ is.
-      let next : number + count_by (is_byte end) (b ∷ bytes) ≡ number + 1 + count_by (is_byte end) bytes =
-      omega (arith, counted end b bytes is) in
-      row_next number b (bytes ++ more) is (omega (arith, some, length-append bytes more))
-      ∙ rw next (rw is (ap (◌++◌ (delimiter delims number)) (row_rest_on (number + 1) bytes more some)
-      ∙ sym (append_assoc (delimiter delims number) _ _))))
-      (λ is.
-      let next : number + count_by (is_byte end) (b ∷ bytes) ≡ number + count_by (is_byte end) bytes =
-      omega (arith, counted end b bytes is) in
-      row_byte number b (bytes ++ more) is
-      ∙ rw next (rw is (ap (λ (l : List ℕ). b ∷ l) (row_rest_on number bytes more some))))
+      (λ is. grind (
+        arith,
+        append_assoc,
+        counted end b bytes is,
+        row_rest_on (number + 1) bytes more some,
+        is,
+        row_next number b (bytes ++ more) is (omega (arith, some, length-append bytes more)),
+      ))
+      (λ is. grind (
+        arith,
+        counted end b bytes is,
+        row_rest_on number bytes more some,
+        is,
+        row_byte number b (bytes ++ more) is,
+      ))
       (cases_Bool (b == end))
 
   -- Only the index of the delimiter matters.
@@ -85,46 +89,39 @@ module _ (end : ℕ) (delims : List (Option ℕ)) where
       ∙ sym (append_assoc before (replaced end (delimiter delims) first bytes) (row_rest end delims second more))
       ∙ ap (λ (l : List ℕ). l ++ row_rest end delims second more) (sym two)
 
-  -- A line, its delimiter, and the bytes after them.
-  pub piece_replaced : 0 < length delims → (index : ℕ) (rest : List ℕ) (at : ℕ) → IsFirstByte (is_byte end) rest (Some at)
-      → (replaced end (delimiter delims) index rest ≡ (take at rest ++ delimiter delims index)
-      ++ replaced end (delimiter delims) ((index + 1) % length delims) (drop (at + 1) rest))
-      × (count_by (is_byte end) rest ≡ count_by (is_byte end) (drop (at + 1) rest) + 1)
-  piece_replaced some index rest at first =
-      let line = take at rest in
-      let more = drop (at + 1) rest in
-      let split = split_of end rest at first in
-      let free = line_before_terminator end rest at first in
-      let next = sym (mod-eq_of_lt (mod-lt (index + 1) some)) in (
-        ap (replaced end (delimiter delims) index) split
-            ∙ replaced_line end (delimiter delims) index line more free
-            ∙ ap (λ (l : List ℕ). line ++ (delimiter delims index ++ l))
-            (replaced_mod end (λ k. option_to_list (slice_index_or delims k None)) (length delims) _ _ next more)
-            ∙ sym (append_assoc line (delimiter delims index) _),
-        omega (
-          arith,
-          ap (count_by (is_byte end)) split,
-          sum_by-append (λ b. cond (is_byte end b) 1 0) line (end ∷ more),
-          counted end end more (byte_eq end),
-          none_counted end [] line free,
-        ),
-      )
-
-  -- The pieces of a block, as they were copied.
-  pub next_piece : (some : 0 < length delims) (index : ℕ) {next at : ℕ} (rest before : List ℕ) {line text all : List ℕ} {count : ℕ}
-      → IsFirstByte (is_byte end) rest (Some at) → next ≡ (index + 1) % length delims
+  -- A line and its delimiter were copied.
+  pub next_piece : 0 < length delims → (index : ℕ) {next at : ℕ} (rest before : List ℕ) {line text all : List ℕ}
+      {count : ℕ} → IsFirstByte (is_byte end) rest (Some at) → next ≡ (index + 1) % length delims
       → line ≡ before ++ take at rest → text ≡ line ++ delimiter delims index
       → before ++ replaced end (delimiter delims) index rest ≡ all
       → (index + count_by (is_byte end) rest) % length delims ≡ count
       → (text ++ replaced end (delimiter delims) next (drop (at + 1) rest) ≡ all)
       × ((next + count_by (is_byte end) (drop (at + 1) rest)) % length delims ≡ count)
   next_piece some index {next} {at} rest before first next_is line_is text_is all_is count_is =
-      let (is, number) = piece_replaced some index rest at first in
-      let more = count_by (is_byte end) (drop (at + 1) rest) in
-      let same : index + 1 + more ≡ index + count_by (is_byte end) rest = omega (arith, number) in (
-        rw (text_is, line_is, next_is) (simp append_assoc) ∙ ap (◌++◌ before) (sym (simp append_assoc at is)) ∙ all_is,
-        ap (λ k. (k + more) % length delims) next_is ∙ mod-add-mod (index + 1) (length delims) more
-            ∙ ap (λ k. k % length delims) same ∙ count_is,
+      let len = length delims in
+      let all_of = replaced end (delimiter delims) in
+      let head = take at rest in
+      let more = drop (at + 1) rest in
+      let split = split_of end rest at first in
+      let free = line_before_terminator end rest at first in
+      let same : next % len ≡ (index + 1) % len = rw next_is (mod-eq_of_lt (mod-lt (index + 1) some)) in
+      let count : index + count_by (is_byte end) rest ≡ index + 1 + count_by (is_byte end) more = omega (
+        arith,
+        ap (count_by (is_byte end)) split,
+        sum_by-append (λ b. cond (is_byte end b) 1 0) head (end ∷ more),
+        counted end end more (byte_eq end),
+        none_counted end [] head free,
+      ) in (
+        rw (
+          text_is,
+          line_is,
+          replaced_mod end (λ k. option_to_list (slice_index_or delims k None)) len next (index + 1)
+              same more,
+        ) (simp append_assoc)
+            ∙ ap (◌++◌ before) (sym (ap (all_of index) split
+            ∙ replaced_line end (delimiter delims) index head more free)) ∙ all_is,
+        sym (mod-add-mod next len _) ∙ ap (λ k. (k + count_by (is_byte end) more) % len) same
+            ∙ mod-add-mod (index + 1) len _ ∙ ap (λ k. k % len) (sym count) ∙ count_is,
       )
 
   joined_begins : (number : ℕ) (xs ys : List (List ℕ)) → IsPrefix (join_with_cycle delims number xs)
@@ -135,11 +132,10 @@ module _ (end : ℕ) (delims : List (Option ℕ)) where
     rest = delimiter delims number ++ join_with_cycle delims (number + 1) (y ∷ ys);
     is = append_assoc x (delimiter delims number) (join_with_cycle delims (number + 1) (y ∷ ys));
   }
-  joined_begins number (x ∷ z ∷ xs) ys =
-      let b = joined_begins (number + 1) (z ∷ xs) ys in record {
-        rest = b.rest;
-        is = ap (λ (l : List ℕ). (x ++ delimiter delims number) ++ l) b.is ∙ simp append_assoc;
-      }
+  joined_begins number (x ∷ z ∷ xs) ys = let b = joined_begins (number + 1) (z ∷ xs) ys in record {
+    rest = b.rest;
+    is = rw b.is (simp append_assoc);
+  }
 
 -- The output for the received bytes begins with their complete lines.
 pub serial_is_decided : (job : Paste) (given pushed : List ℕ) (index : ℕ) (held : Bool)
@@ -151,13 +147,13 @@ serial_is_decided job given pushed index held on =
     let join = join_with_cycle job.delimiters 0 in
     let p = line_split end given in
     let ls = complete_lines end given in
-    let all : lines end given ≡ ls ++ lines end p.piece = ap (lines end) p.is ∙ lines_of_unlines end ls p.piece p.whole in
+    let all : lines end given ≡ ls ++ lines end p.piece = ap (lines end) p.is
+    ∙ lines_of_unlines end ls p.piece p.whole in
     let pushed_is : join (lines end given) ≡ pushed = append_cancel_right (join (lines end given)) pushed (end ∷ [])
-    (ap (λ (l : List ℕ). join (lines end l) ++ end ∷ []) (sym (append-nil given)) ∙ on
-    ∙ ap (λ (l : List ℕ). pushed ++ l) (row_end held)) in
+    (cc (append-nil given, on, row_end held)) in
     let b = joined_begins end job.delimiters 0 ls (lines end p.piece) in record {
       rest = b.rest;
-      is = sym pushed_is ∙ ap join all ∙ b.is ∙ ap (λ (l : List ℕ). l ++ b.rest) (sym (append-nil (join ls)));
+      is = cc (pushed_is, all, b.is, append-nil (join ls));
     }
   where
     row_end : (t : Bool)

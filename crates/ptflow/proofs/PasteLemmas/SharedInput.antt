@@ -1,26 +1,23 @@
 -- Rows of `paste` whose n columns all read one input. Such a row takes n lines, one for each column; if the terminators
 -- of these lines are replaced by the cycle (the delimiters of the row, and a last entry that keeps the terminator),
 -- they become the row. So bytes with count * n terminators, the last at the end, become `count` rows.
-use Rattle.ptflow.proofs.Common.{◌≡◌, ◌≢◌, ℕ, zero, suc, ◌+◌, ◌-◌, ◌*◌, ◌%◌, ◌<◌, ◌≤◌, Bool, cond, List, [], ◌∷◌, ◌++◌}
-use Rattle.ptflow.proofs.Common.{None, length, map, take, drop, set, get_or, refl, sym, ◌∙◌, ap, subst}
-use Rattle.ptflow.proofs.Common.{arith, append_assoc, length-drop, take-append-drop, ⊎_elim, inl}
-use Rattle.ptflow.proofs.Common.{count_by, cases_eq, cases_lt, eq-eqb, ne_eqb, mod-mul-add}
-use Rattle.ptflow.proofs.Common.{take_more, take_all, nil_from_length, length-take-le, length-set}
-use Rattle.ptflow.proofs.Common.{All-get_or, All-take, All-drop, All-from_recursion}
-use Rattle.ptflow.proofs.Common.{recursion_from_All, sum_by-cons, sum_by-append, sum_by-set, is_byte, unlines, lines}
-use Rattle.ptflow.proofs.Common.{IsLine, AreLines, EndsWithByte, Output, PushEffect, push_nothing, Reader, IsSound}
-use Rattle.ptflow.proofs.Common.{budget, advance_ok_take, byte_eq, unlines-append, lines_are, the_lines}
-use Rattle.ptflow.proofs.Common.{no_reader, reader_at, update_at, join_with_cycle, uses_of}
-use Rattle.ptflow.proofs.Common.{columns, rows, IsSharedCycle, IsWholeRows, LinesTaken, replaced, byte_of, after_cell, cells_text, mod-eq_of_lt}
-use Rattle.ptflow.proofs.Common.{RowShape, BufferedRowsPre, RowsTaken, RowsWritten}
+use Rattle.ptflow.proofs.Common.{◌≡◌, ◌≢◌, ℕ, zero, suc, ◌+◌, ◌-◌, ◌*◌, ◌%◌, ◌<◌, ◌≤◌, cond, List, [], ◌∷◌, ◌++◌, None}
+use Rattle.ptflow.proofs.Common.{length, map, take, drop, set, get_or, refl, sym, ◌∙◌, ap, subst, arith, append_assoc}
+use Rattle.ptflow.proofs.Common.{length-drop, take-append-drop, ⊎_elim, inl, count_by, cases_eq, cases_lt, mod-mul-add}
+use Rattle.ptflow.proofs.Common.{take_more, take_all, nil_from_length, length-take-le, length-set, All-get_or, All-take}
+use Rattle.ptflow.proofs.Common.{All-drop, All-from_recursion, recursion_from_All, sum_by-append, sum_by-set, is_byte}
+use Rattle.ptflow.proofs.Common.{unlines, lines, IsLine, AreLines, EndsWithByte, Output, PushEffect, push_nothing}
+use Rattle.ptflow.proofs.Common.{Reader, IsSound, budget, advance_ok_take, byte_eq, unlines-append, lines_are}
+use Rattle.ptflow.proofs.Common.{the_lines, no_reader, reader_at, update_at, join_with_cycle, uses_of, columns, rows}
+use Rattle.ptflow.proofs.Common.{IsSharedCycle, IsWholeRows, LinesTaken, replaced, byte_of, after_cell, cells_text}
+use Rattle.ptflow.proofs.Common.{mod-eq_of_lt, RowShape, BufferedRowsPre, RowsTaken, RowsWritten, nat_tests}
 use Rattle.ptflow.proofs.Vectors.FindNth.{none_counted}
 use Rattle.ptflow.proofs.PasteLemmas.Grid.{Column, for_each_cell_unique, top_of, grid_step, uses_here, uses_before_lt}
 use Rattle.ptflow.proofs.PasteLemmas.Grid.{last_use, update_here, update_there}
 use Rattle.ptflow.proofs.PasteLemmas.FillRow.{at_same, at_other, at_index}
-use Rattle.ptflow.proofs.PasteLemmas.LinesTaken.{nothing_taken}
-use Rattle.ptflow.proofs.PasteLemmas.RowsTaken.{rows_taken_none, row_text}
+use Rattle.ptflow.proofs.PasteLemmas.RowsTaken.{nothing_taken, rows_taken_none, row_text}
 use Rattle.ptflow.proofs.PasteLemmas.BufferedRows.{consumed_none, consumed_more}
-use Rattle.ptflow.proofs.PasteLemmas.Replaced.{replaced-append, replaced_line}
+use Rattle.ptflow.proofs.PasteLemmas.Replaced.{counted, replaced-append, replaced_line}
 use Rattle.ptflow.specs.declared.simd.replace.Cycle.{Cycle}
 
 -- ---- complete rows are known by the number of terminators
@@ -29,11 +26,15 @@ use Rattle.ptflow.specs.declared.simd.replace.Cycle.{Cycle}
 ends_of_lines : (end : ℕ) (ls : List (List ℕ)) → AreLines end ls → count_by (is_byte end) (unlines end ls) ≡ length ls
 ends_of_lines end [] are_lines = refl
 ends_of_lines end (line ∷ ls) (free, are_lines) =
-    let one : count_by (is_byte end) (end ∷ []) ≡ 1 = sum_by-cons (λ x. cond (is_byte end x) 1 0) end []
-    ∙ ap (λ (t : Bool). cond t 1 0 + 0) (byte_eq end) in
-    let split = sum_by-append (λ x. cond (is_byte end x) 1 0) (line ++ end ∷ []) (unlines end ls) in
-    let first = sum_by-append (λ x. cond (is_byte end x) 1 0) line (end ∷ []) in
-    omega (arith, one, split, first, none_counted end [] line free, ends_of_lines end ls are_lines)
+    let test = λ (x : ℕ). cond {A = ℕ} (is_byte end x) 1 0 in
+    grind (
+      arith,
+      sum_by-append test (line ++ end ∷ []) (unlines end ls),
+      sum_by-append test line (end ∷ []),
+      counted end end [] (byte_eq end),
+      none_counted end [] line free,
+      ends_of_lines end ls are_lines,
+    )
 
 ends_with : (end : ℕ) (bytes : List ℕ) → bytes ≢ [] → (0 < length bytes → get_or bytes (length bytes - 1) 0 ≡ end)
     → EndsWithByte end bytes
@@ -42,9 +43,7 @@ ends_with end (b ∷ bs) some last =
     let n = length bs in
     let there : length (b ∷ bs) - 1 ≡ n = omega arith in (
       take n (b ∷ bs),
-      sym (take_all (n + 1) (b ∷ bs) (omega arith)) ∙ take_more (b ∷ bs) n 0 (omega arith)
-          ∙ ap (λ (x : ℕ). take n (b ∷ bs) ++ x ∷ [])
-          (ap (λ (k : ℕ). get_or (b ∷ bs) k 0) (sym there) ∙ last (omega arith)),
+      cc (take_all (n + 1) (b ∷ bs) (omega arith), take_more (b ∷ bs) n 0 (omega arith), there, last (omega arith)),
     )
 
 -- Bytes that end with a terminator and have count * n terminators are `count` complete rows.
@@ -52,9 +51,9 @@ pub whole_rows_counted : (end n count : ℕ) (bytes : List ℕ)
     → (0 < length bytes → get_or bytes (length bytes - 1) 0 ≡ end) → count_by (is_byte end) bytes ≡ count * n
     → IsWholeRows end n bytes
 whole_rows_counted end n count bytes last counted =
+    let ((are_lines, text), only) = the_lines end bytes in
     let is : unlines end (lines end bytes) ≡ bytes =
-    let ((are_lines, is), only) = the_lines end bytes in
-    ⊎_elim (λ same. same) (λ (some, not_ended, missing). absurd (not_ended (ends_with end bytes some last))) is in
+    ⊎_elim (λ same. same) (λ (some, not_ended, missing). absurd (not_ended (ends_with end bytes some last))) text in
     record {
       count = count;
       ls = lines end bytes;
@@ -104,9 +103,13 @@ module _ {row : RowShape} {cycle : Cycle} (t : IsSharedCycle row cycle) where
       let byte = ap (λ m. get_or cycle.unrolled m 0 ∷ []) index ∙ t.bytes c low in
       let number : k * n + c + 1 ≡ k * n + (c + 1) = omega arith in
       let more = ap (λ m. all_replaced m rest) number ∙ row_replaced k (c + 1) ls are_lines (omega (arith, all)) in
-      ap (all_replaced (k * n + c)) (append_assoc line (row.terminator ∷ []) rest)
-      ∙ replaced_line row.terminator (byte_of cycle) (k * n + c) line rest free
-      ∙ (λ i. line ++ (byte i ++ more i)) ∙ sym (append_assoc line (after_cell row c) (cells_text row (c + 1) ls))
+      cc (
+        append_assoc line (row.terminator ∷ []) rest,
+        replaced_line row.terminator (byte_of cycle) (k * n + c) line rest free,
+        byte,
+        more,
+        append_assoc line (after_cell row c) (cells_text row (c + 1) ls),
+      )
 
   -- All rows from row k on.
   rows_replaced : (k more : ℕ) (ls : List (List ℕ)) → AreLines row.terminator ls → length ls ≡ more * n
@@ -124,14 +127,17 @@ module _ {row : RowShape} {cycle : Cycle} (t : IsSharedCycle row cycle) where
       let start : k * n ≡ k * n + 0 = omega arith in
       let next : k * n + count_by (is_byte end) (unlines end first) ≡ (k + 1) * n =
       omega (arith, ends_of_lines end first whole_first, first_long) in
-      ap (λ (l : List (List ℕ)). all_replaced (k * n) (unlines end l)) (sym (take-append-drop n ls))
-      ∙ ap (all_replaced (k * n)) (unlines-append end first rest)
-      ∙ replaced-append end (byte_of cycle) (k * n) (unlines end first) (unlines end rest)
-      ∙ (λ i. (ap (λ (m : ℕ). all_replaced m (unlines end first)) start ∙ row_replaced k 0 first whole_first (omega (arith, first_long))
-      ∙ row_text row 0 first (omega (arith, first_long)) (omega (arith, first_long, t.some))) i
-      ++ (ap (λ (m : ℕ). all_replaced m (unlines end rest)) next
-      ∙ rows_replaced (k + 1) more rest (AreLines-drop end n ls are_lines)
-      (omega (arith, length-drop n ls, long, size))) i)
+      let more_long : length rest ≡ more * n = omega (arith, length-drop n ls, long, size) in
+      cc (
+        take-append-drop n ls,
+        unlines-append end first rest,
+        replaced-append end (byte_of cycle) (k * n) (unlines end first) (unlines end rest),
+        start,
+        next,
+        row_replaced k 0 first whole_first (omega (arith, first_long)),
+        row_text row 0 first (omega (arith, first_long)) (omega (arith, first_long, t.some)),
+        rows_replaced (k + 1) more rest (AreLines-drop end n ls are_lines) more_long,
+      )
 
 -- ---- the grid of one input
 
@@ -141,8 +147,7 @@ lines_of_input input ls = update_at input ls (λ q. [])
 
 lines_of_input-append : (input : ℕ) (xs ys : Column) (q : ℕ)
     → lines_of_input input (xs ++ ys) q ≡ lines_of_input input xs q ++ lines_of_input input ys q
-lines_of_input-append input xs ys q =
-    ⊎_elim (λ same. rw (eq-eqb q input same) refl) (λ differ. rw (ne_eqb q input differ) refl) (cases_eq q input)
+lines_of_input-append input xs ys q = grind (arith, nat_tests)
 
 module _ (cells : List ℕ) (input : ℕ) (same : (c : ℕ) → c < length cells → get_or cells c 0 ≡ input) where
   uses_before_column : (c : ℕ) → c ≤ length cells → uses_of (take c cells) input ≡ c
@@ -150,8 +155,11 @@ module _ (cells : List ℕ) (input : ℕ) (same : (c : ℕ) → c < length cells
   uses_before_column (suc c) low =
       let next : suc c ≡ c + 1 = omega arith in
       ap (λ (m : ℕ). uses_of (take m cells) input) next
-      ∙ uses_here cells c input (omega (arith, low)) (same c (omega (arith, low)))
-      ∙ omega (arith, uses_before_column c (omega (arith, low)))
+      ∙ omega (
+        arith,
+        uses_here cells c input (omega (arith, low)) (same c (omega (arith, low))),
+        uses_before_column c (omega (arith, low)),
+      )
 
   uses_all : uses_of cells input ≡ length cells
   uses_all = ap (λ (l : List ℕ). uses_of l input) (sym (take_all (length cells) cells (omega arith)))
@@ -186,7 +194,7 @@ module _ (cells : List ℕ) (input : ℕ) (same : (c : ℕ) → c < length cells
   rows_on some zero [] more long = λ i. rows (columns cells (λ q. none q i ++ more q))
     where
       none : (q : ℕ) → lines_of_input input [] q ≡ []
-      none q = ⊎_elim (update_here input [] (λ q. []) q) (update_there input [] (λ q. []) q) (cases_eq q input)
+      none q = grind (arith, nat_tests)
   rows_on some zero (line ∷ ls) more long = absurd (omega (arith, long))
   rows_on some (suc k) ls more long =
       let n = length cells in

@@ -1,5 +1,5 @@
 //! Finds occurrences of a byte by match masks of 64 bytes. `cut` by fields finds delimiters and terminators by
-//! `ByteMatches`; `paste` calls `nth_index`. `cut` by bytes, `replace` and `cycle` use a `match_mask` alone.
+//! `ByteMatches`; `paste` calls `nth_index`. `cut` by bytes and `replace` use a `match_mask` alone.
 
 ghost use Rattle.std.specs.Prelude.{◌≡◌, ◌<◌, ◌≤◌, ◌+◌, ◌-◌, ℕ, Bool, List, length, map, take, drop};
 ghost use Rattle.std.specs.List.{count_by};

@@ -30,13 +30,13 @@ impl ByteMap for ReplaceTerminator {
     }
 }
 
-/// At most 64 bytes that replace the terminators in turn: after the last one comes the first one again. They are
-/// unrolled to 128, so that 64 can be read from any start below 64.
+/// At most 256 bytes that replace the terminators in turn: after the last one comes the first one again. They are
+/// unrolled, so that 64 can be read from the index of any of them on.
 #[derive(Clone, Copy, Drop)]
 pub(crate) struct Cycle {
     pub terminator: u8,
     pub len: usize,
-    pub unrolled: [u8; 128],
+    pub unrolled: [u8; 320],
     ghost is_unrolled: { IsUnrolled len unrolled },
 }
 
@@ -45,15 +45,15 @@ impl Cycle {
 
     /// The cycle of these bytes.
     pub(crate) fn new(bytes: &[u8], terminator: u8) -> Cycle
-        requires { (0 < length bytes.now) × (length bytes.now ≤ 64) }
+        requires { (0 < length bytes.now) × (length bytes.now ≤ 256) }
         ensures terminator { result.terminator ≡ terminator }
         ensures len { result.len ≡ length bytes.now }
         ensures bytes { (number : ℕ) → byte_of result number
             ≡ slice_index_or bytes.now (number % length bytes.now) 0 ∷ [] }
     {
         let len = bytes.len();
-        let mut unrolled = [0; 128];
-        for number in 0..128usize {
+        let mut unrolled = [0; 320];
+        for number in 0..len + 63 {
             unrolled[number] = bytes[number % len];
         }
         Cycle {

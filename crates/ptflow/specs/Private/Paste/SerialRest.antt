@@ -22,9 +22,10 @@ pub record CopyCellsPre (format : SerialFormat) (index : ℕ) (bytes : List ℕ)
   pub low : index < length format.delims.now
   pub room : at + length bytes ≤ 8192
 
--- The bytes were appended to `before`, with the terminators replaced from the delimiter `index` on. The next one has the
--- index `next`.
-pub record CopyCellsPost (format : SerialFormat) (index : ℕ) (bytes before : List ℕ) (next : ℕ) (after : List ℕ) : Type 0
+-- The bytes were appended to `before`, with the terminators replaced from the delimiter `index` on. The next one has
+-- the index `next`.
+pub record CopyCellsPost (format : SerialFormat) (index : ℕ) (bytes before : List ℕ) (next : ℕ)
+    (after : List ℕ) : Type 0
   where
     pub is : after ≡ before ++ replaced format.terminator (delimiter format.delims.now) index bytes
     pub later : next ≡ (index + count_by (is_byte format.terminator) bytes) % length format.delims.now

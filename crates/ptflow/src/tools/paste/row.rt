@@ -83,12 +83,12 @@ pub(crate) fn next_index(index: usize, count: usize) -> usize
     index + 1
 }
 
-// The delimiters after the first `count` columns, if these are at most 63, and no delimiter is empty.
-pub(crate) fn delimiter_bytes(delims: &[Option<u8>], count: usize) -> Option<ArrayVec<u8, 64>>
+// The delimiters after the first `count` columns, if these are at most 255, and no delimiter is empty.
+pub(crate) fn delimiter_bytes(delims: &[Option<u8>], count: usize) -> Option<ArrayVec<u8, 256>>
     requires { 0 < length delims.now }
     ensures { IfSome result (λ bytes. AreDelimiterBytes delims.now count bytes.items) }
 {
-    if count > 63 {
+    if count > 255 {
         return None;
     }
     let mut bytes = ArrayVec::new();

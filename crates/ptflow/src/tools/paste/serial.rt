@@ -26,7 +26,7 @@ struct SerialFormat<'a> {
     ghost is_cycle: { ForSome cycle (IsDelimiterCycle delims.now terminator) },
 }
 
-// The cycle of the delimiters, if they are at most 63 and none is empty.
+// The cycle of the delimiters, if they are at most 255 and none is empty.
 fn delimiter_cycle(delims: &[Option<u8>], terminator: u8) -> Option<Cycle>
     requires { 0 < length delims.now }
     ensures { ForSome result (IsDelimiterCycle delims.now terminator) }

@@ -5,12 +5,11 @@ use Rattle.ptflow.proofs.Common.{◌≡◌, ◌+◌, ◌<◌, ℕ, Bool, List, [
 use Rattle.ptflow.proofs.Common.{err_from_is_err_and, Reader, Slots, push_nothing, push_trans, reader_at, uses_of, ◌||◌}
 use Rattle.ptflow.proofs.Common.{Ok, BegunText, BufferedRowsPre, RowAmid, FillCellPost, after_cell, begun_in, shape_of}
 use Rattle.ptflow.proofs.PasteLemmas.Grid.{uses_before_lt}
-use Rattle.ptflow.proofs.PasteLemmas.FillRow.{at_index}
+use Rattle.ptflow.proofs.PasteLemmas.FillRow.{at_index, amid_next, amid_failed, amid_resumed, with_slot, readable_after}
 use Rattle.ptflow.proofs.PasteLemmas.BufferedRows.{still_readable}
-use Rattle.ptflow.proofs.PasteLemmas.RowAmid.{amid_next, amid_failed, amid_resumed, with_slot, readable_after}
+use Rattle.ptflow.proofs.tools.paste.fill_row.Goals.{After-fill_cell}
 use Rattle.ptflow.proofs.tools.paste.fill_row.Given as given
 use Rattle.ptflow.proofs.tools.paste.fill_row.Goals as goal
-use Rattle.ptflow.proofs.tools.paste.fill_row.Goals.{After-fill_cell}
 
 pub cells-init : goal.cells-init
 cells-init g c = record {

@@ -7,17 +7,16 @@ use Rattle.ptflow.proofs.Common.{begun_in, job_shape, shape_of, [], ◌∷◌, �
 use Rattle.ptflow.proofs.Common.{slots_text}
 use Rattle.ptflow.specs.declared.tools.paste.row.BegunRow.{BegunRow}
 use Rattle.ptflow.proofs.PasteLemmas.Exits.{paste_on_failed_output, paste_without_slots, paste_rows_write_failed}
-use Rattle.ptflow.proofs.PasteLemmas.Exits.{paste_shared_write_failed}
-use Rattle.ptflow.proofs.PasteLemmas.Exits.{paste_fill_failed, paste_done, paste_row_write_failed}
+use Rattle.ptflow.proofs.PasteLemmas.Exits.{paste_shared_write_failed, paste_fill_failed, paste_done}
+use Rattle.ptflow.proofs.PasteLemmas.Exits.{paste_row_write_failed}
 use Rattle.ptflow.proofs.PasteLemmas.Invariant.{PasteInvariant, HasStarted, invariant_starts, invariant_rows}
-use Rattle.ptflow.proofs.PasteLemmas.Invariant.{invariant_written}
-use Rattle.ptflow.proofs.PasteLemmas.Invariant.{invariant_sent, invariant_slots, invariant_more, now_readable}
-use Rattle.ptflow.proofs.PasteLemmas.Invariant.{row_wrote}
+use Rattle.ptflow.proofs.PasteLemmas.Invariant.{invariant_written, invariant_sent, invariant_slots, invariant_more}
+use Rattle.ptflow.proofs.PasteLemmas.Invariant.{now_readable, row_wrote}
 use Rattle.ptflow.proofs.PasteLemmas.BufferedRows.{still_readable}
-use Rattle.ptflow.proofs.PasteLemmas.RowAmid.{amid_starts, amid_text}
+use Rattle.ptflow.proofs.PasteLemmas.FillRow.{amid_starts, amid_text}
+use Rattle.ptflow.proofs.tools.paste.paste.Goals.{After-ensure_slots, After-fill_row}
 use Rattle.ptflow.proofs.tools.paste.paste.Given as given
 use Rattle.ptflow.proofs.tools.paste.paste.Goals as goal
-use Rattle.ptflow.proofs.tools.paste.paste.Goals.{After-ensure_slots, After-fill_row}
 
 pub returns-then-has_failed : goal.returns-then-has_failed
 returns-then-has_failed g c = paste_on_failed_output c.requires (sym c.has_failed.ensures ∙ c.if-has_failed.true)

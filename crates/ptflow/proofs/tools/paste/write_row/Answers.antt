@@ -21,10 +21,12 @@ module _ (row : RowShape) (first : ℕ) (lines : List (List ℕ)) where
   text_more k over low =
       let front = take k lines in
       let long : length front ≡ k = length-take-le k lines (omega (arith, low)) in
-      ap (cells_text row first) (ap (drop first) (take_more lines k [] low)
-      ∙ drop-append-le first front (get_or lines k [] ∷ []) (omega (arith, long, over)))
-      ∙ cells_text-push row first (drop first front) (get_or lines k [])
-      (omega (arith, over, long, length-drop first front))
+      cc (
+        take_more lines k [] low,
+        drop-append-le first front (get_or lines k [] ∷ []) (omega (arith, long, over)),
+        cells_text-push row first (drop first front) (get_or lines k []) {k = k}
+            (omega (arith, over, long, length-drop first front)),
+      )
 
   -- The text of further fields.
   text_rest : (k all : ℕ) → first ≤ k → k ≤ all → all ≤ length lines
@@ -32,12 +34,14 @@ module _ (row : RowShape) (first : ℕ) (lines : List (List ℕ)) where
   text_rest k all over under fits =
       let front = take k lines in
       let more = drop k (take all lines) in
-      let long : length front ≡ k = length-take-le k lines (omega (arith, under, fits)) in
-      let split : take all lines ≡ front ++ more = sym (take-append-drop k (take all lines))
-      ∙ ap (λ (l : List (List ℕ)). l ++ more) (take-take k all lines under) in (
+      let long : length front ≡ k = length-take-le k lines (omega (arith, under, fits)) in (
         cells_text row (first + length (drop first front)) more,
-        ap (cells_text row first) (ap (drop first) split ∙ drop-append-le first front more (omega (arith, long, over)))
-            ∙ cells_text-append row first (drop first front) more,
+        cc (
+          take-append-drop k (take all lines),
+          take-take k all lines under,
+          drop-append-le first front more (omega (arith, long, over)),
+          cells_text-append row first (drop first front) more,
+        ),
       )
 
 part_of_row : (front before piece rest : List ℕ) {next all : List ℕ} → next ≡ before ++ piece → all ≡ next ++ rest

@@ -12,7 +12,8 @@ invariant_of-result c =
         at = λ number low.
             let less = mod-lt number c.requires.0 in
             at number (omega (arith, low))
-            ∙ sym (at (number % len) (omega (arith, less, c.requires.1)) ∙ ap (λ k. slice_index_or c.args.bytes.now k 0) (mod-eq_of_lt less));
+            ∙ sym (at (number % len) (omega (arith, less, c.requires.1)) ∙ ap
+            (λ k. slice_index_or c.args.bytes.now k 0) (mod-eq_of_lt less));
       };
     }
 

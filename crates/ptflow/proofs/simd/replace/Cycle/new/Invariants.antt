@@ -4,6 +4,6 @@ use Rattle.ptflow.proofs.simd.replace.Cycle.new.Given as goal
 
 abbrev pub invariant-loop-number : goal.invariant-loop-number
 invariant-loop-number l = record {
-  size : length l.unrolled ≡ 128;
+  size : length l.unrolled ≡ 320;
   at : (k : ℕ) → k < l.number → slice_index_or l.unrolled k 0 ≡ slice_index_or l.bytes (k % l.len) 0;
 }

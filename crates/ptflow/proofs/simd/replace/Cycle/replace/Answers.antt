@@ -1,13 +1,15 @@
 -- Whole chunks come first, and then the bytes after them, one by one.
-use Rattle.ptflow.proofs.Common.{◌≡◌, ◌+◌, ◌%◌, ◌<◌, ℕ, [], ◌∷◌, refl, sym, ◌∙◌, ap, arith, length, length-set, slice_index_or, mod-lt, mod-eq_of_lt, count_by, is_byte, take}
+use Rattle.ptflow.proofs.Common.{◌≡◌, ◌+◌, ◌%◌, ◌<◌, ℕ, [], ◌∷◌, refl, sym, ◌∙◌, ap, arith, length, length-set}
+use Rattle.ptflow.proofs.Common.{slice_index_or, mod-lt, mod-eq_of_lt, count_by, is_byte, take}
 use Rattle.ptflow.proofs.PasteLemmas.Replaced.{replaced_by_map, replaced_terminator, replaced_other}
-use Rattle.ptflow.proofs.simd.replace.Cycle.replace.Goals as goal
 use Rattle.ptflow.proofs.simd.replace.Cycle.replace.Goals.{then-from-at, else-from-at}
+use Rattle.ptflow.proofs.simd.replace.Cycle.replace.Goals as goal
 
 pub returns-then-self-eq1-clause-replaced : goal.returns-then-self-eq1-clause-replaced
 returns-then-self-eq1-clause-replaced c =
     let cycle = c.args.self.now in
-    let first : (n : ℕ) → slice_index_or cycle.unrolled (n % cycle.len) 0 ≡ slice_index_or cycle.unrolled 0 0 = λ n. let zero : n % cycle.len ≡ 0 = omega (arith, mod-lt n cycle.is_unrolled.some, c.if-self-eq1.true) in
+    let first : (n : ℕ) → slice_index_or cycle.unrolled (n % cycle.len) 0 ≡ slice_index_or cycle.unrolled 0 0 =
+    λ n. let zero : n % cycle.len ≡ 0 = omega (arith, mod-lt n cycle.is_unrolled.some, c.if-self-eq1.true) in
     ap (λ k. slice_index_or cycle.unrolled k 0) zero in
     c.map_bytes.ensures ∙ sym (replaced_by_map cycle.terminator _ _ first c.args.index c.args.from.now)
 
@@ -17,10 +19,18 @@ loop-at-preserved c =
     let cycle = c.args.self.now in
     let from = c.args.from.now in
     let room : loop.at < length from = omega (arith, c.loop-at-test.true) in
-    let low : loop.index < cycle.len = omega (arith, mod-lt (c.args.index + count_by (is_byte cycle.terminator) (take loop.at from)) cycle.is_unrolled.some, loop.invariant.next) in
+    let low : loop.index < cycle.len = omega (
+      arith,
+      mod-lt (c.args.index + count_by (is_byte cycle.terminator)
+          (take loop.at from)) cycle.is_unrolled.some,
+      loop.invariant.next,
+    ) in
     elim c.if-from-at.branch [
       | then-from-at w ↦
-          rw (w.index-is, w.to-is) (replaced_terminator (length-set _ loop.at _ ∙ length-set loop.to loop.at _ ∙ loop.invariant.same) loop.invariant room w.if-from-at.true (ap (λ k. slice_index_or cycle.unrolled k 0 ∷ []) (sym (mod-eq_of_lt low))) w.after-index.ensures refl)
+          rw (w.index-is, w.to-is) (replaced_terminator (length-set _ loop.at _ ∙ length-set loop.to loop.at _
+          ∙ loop.invariant.same) loop.invariant room w.if-from-at.true (ap
+          (λ k. slice_index_or cycle.unrolled k 0 ∷ []) (sym (mod-eq_of_lt low))) w.after-index.ensures refl)
       | else-from-at w ↦
-          rw (w.index-is, w.to-is) (replaced_other (length-set loop.to loop.at _ ∙ loop.invariant.same) loop.invariant room w.if-from-at.false refl low)
+          rw (w.index-is, w.to-is) (replaced_other (length-set loop.to loop.at _
+          ∙ loop.invariant.same) loop.invariant room w.if-from-at.false refl low)
     ]

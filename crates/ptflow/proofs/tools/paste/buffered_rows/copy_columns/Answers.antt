@@ -7,12 +7,9 @@ use borrow.Author.Rules.{scaled_Fits}
 use Rattle.ptflow.proofs.PasteLemmas.FillRow.{at_index}
 use Rattle.ptflow.proofs.PasteLemmas.Grid.{uses_before_lt}
 use Rattle.ptflow.proofs.PasteLemmas.BufferedRows.{columns_start, columns_more, still_readable, after_last, after_other}
+use Rattle.ptflow.proofs.tools.paste.buffered_rows.copy_columns.Goals.{else-cells-test, then-cells-test+in_default}
+use Rattle.ptflow.proofs.tools.paste.buffered_rows.copy_columns.Goals.{then-cells-test+in-Some+then-column-cells}
 use Rattle.ptflow.proofs.tools.paste.buffered_rows.copy_columns.Goals as goal
-use Rattle.ptflow.proofs.tools.paste.buffered_rows.copy_columns.Goals.{
-  else-cells-test,
-  then-cells-test+in_default,
-  then-cells-test+in-Some+then-column-cells,
-}
 
 pub cells-init : goal.cells-init
 cells-init g c = record {

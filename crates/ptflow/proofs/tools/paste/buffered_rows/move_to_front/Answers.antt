@@ -1,4 +1,4 @@
-use Rattle.ptflow.proofs.Common.{◌≡◌, ◌+◌, ◌-◌, ◌≤◌, ℕ, List, length, take, drop, sym, ◌∙◌, ap, arith, length-drop}
+use Rattle.ptflow.proofs.Common.{◌≡◌, ◌+◌, ◌-◌, ◌≤◌, ℕ, List, length, take, drop, ◌∙◌, ap, arith, length-drop}
 use Rattle.ptflow.proofs.Common.{drop-take, begun_in}
 use lib.Seq.{paste}
 use Rattle.std.proofs.lemmas.List.Edits.{take-paste}
@@ -9,9 +9,12 @@ moved : (at to : ℕ) (bytes : List ℕ) → at ≤ to → to ≤ length bytes
 moved at to bytes further fits =
     let start : to - at ≡ 0 + (to - at) = omega arith in
     let split : at + (to - at) ≡ to = omega (arith, further) in
-    ap (λ (k : ℕ). take k (paste bytes 0 (drop at bytes) (to - at))) start
-    ∙ take-paste bytes 0 (drop at bytes) (to - at) (omega arith) (omega (arith, length-drop at bytes))
-    ∙ sym (drop-take at (to - at) bytes) ∙ ap (λ (k : ℕ). drop at (take k bytes)) split
+    cc (
+      start,
+      take-paste bytes 0 (drop at bytes) (to - at) (omega arith) (omega (arith, length-drop at bytes)),
+      drop-take at (to - at) bytes,
+      split,
+    )
 
 pub returns : goal.returns
 returns c = λ readers.

@@ -1,5 +1,5 @@
-use Rattle.ptflow.proofs.Common.{◌≡◌, ◌%◌, [], ◌∷◌, None, length, slice_index_or, option_to_list, sym, ◌∙◌, ap}
-use Rattle.ptflow.proofs.Common.{subst, mod-lt, mod-eq_of_lt, IsDelimiterCycle}
+use Rattle.ptflow.proofs.Common.{◌≡◌, ◌%◌, [], ◌∷◌, None, length, slice_index_or, option_to_list, sym, ◌∙◌, ap, subst}
+use Rattle.ptflow.proofs.Common.{mod-lt, mod-eq_of_lt, IsDelimiterCycle}
 use Rattle.ptflow.proofs.tools.paste.serial.delimiter_cycle.Goals as goal
 
 pub returns : goal.returns

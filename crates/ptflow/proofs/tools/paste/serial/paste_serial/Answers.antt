@@ -1,5 +1,5 @@
--- `SerialPaste` is a block filter for `paste -s`: at the start of a row the rest of the row is the whole output, and the
--- delimiters and the terminator do not change from block to block.
+-- `SerialPaste` is a block filter for `paste -s`: at the start of a row the rest of the row is the whole output, and
+-- the delimiters and the terminator do not change from block to block.
 use Rattle.ptflow.proofs.Common.{◌≡◌, ◌++◌, cond, [], ◌∷◌, refl, sym, ◌∙◌, paste_job, paste_serial_tool, row_rest}
 use Rattle.ptflow.proofs.Common.{serial_rest}
 use Rattle.std.proofs.Common.{rules}
@@ -25,7 +25,9 @@ returns g c =
     (record {
       text = λ bytes i. row_rest (end i) (delims i) 0 bytes;
       decided = λ given pushed now same on.
-          let start : row_rest c.terminator-terminator.result c.as_slice-delims.result.now 0 (given ++ []) ≡ row_rest job.terminator job.delimiters 0 (given ++ []) = λ i. row_rest (end i) (delims i) 0 (given ++ []) in
+          let start : row_rest c.terminator-terminator.result c.as_slice-delims.result.now 0 (given ++ [])
+          ≡ row_rest job.terminator job.delimiters 0 (given ++ []) = λ i. row_rest (end i) (delims i) 0 (given
+          ++ []) in
           serial_is_decided job given pushed now.cell.index now.cell.complete
           (sym start ∙ on [] ∙ (λ i. pushed ++ serial_rest (same i) now.cell [])
           ∙ (λ i. pushed ++ row_rest (end i) (delims i) now.cell.index (cond now.cell.complete (end i ∷ []) [])));

@@ -3,9 +3,9 @@ use Rattle.ptflow.proofs.Common.{◌<◌, length, get_or, sym, ◌∙◌, ap, ar
 use borrow.Author.Rules.{scaled_Fits}
 use Rattle.ptflow.proofs.PasteLemmas.SharedInput.{copied_rows, no_rows_written}
 use Rattle.ptflow.proofs.PasteLemmas.FillRow.{at_index}
+use Rattle.ptflow.proofs.tools.paste.shared_input.write_shared_rows.Goals.{In-Some}
 use Rattle.ptflow.proofs.tools.paste.shared_input.write_shared_rows.Given as given
 use Rattle.ptflow.proofs.tools.paste.shared_input.write_shared_rows.Goals as goal
-use Rattle.ptflow.proofs.tools.paste.shared_input.write_shared_rows.Goals.{In-Some}
 
 shared : (g : given.Over) (c : In-Some g) → IsSharedCycle (shape_of c.args.row) c.in-Some.cycle
 shared g c = rw c.in-Some.is at c.requires.is_cycle

@@ -1,11 +1,11 @@
 -- The terminator that was held back comes first. Then a block is its bytes up to the last one, and the last one.
-use Rattle.ptflow.proofs.Common.{◌≡◌, ◌+◌, ◌-◌, ◌<◌, ◌++◌, ℕ, Bool, true, false, cond, List, [], ◌∷◌, length, take, get_or}
-use Rattle.ptflow.proofs.Common.{refl, sym, ◌∙◌, ap, arith, append_assoc, take_more, take_all, take_more_set, from_bool}
-use Rattle.ptflow.proofs.Common.{eq-eqb, ne_eqb, byte_eq, mod-lt, count_by, is_byte, serial_rest, row_rest}
+use Rattle.ptflow.proofs.Common.{◌≡◌, ◌+◌, ◌-◌, ◌<◌, ◌++◌, ℕ, Bool, true, false, cond, List, [], ◌∷◌, length, take}
+use Rattle.ptflow.proofs.Common.{get_or, refl, sym, ◌∙◌, ap, arith, append_assoc, take_more, take_all, take_more_set}
+use Rattle.ptflow.proofs.Common.{from_bool, eq-eqb, ne_eqb, byte_eq, mod-lt, count_by, is_byte, serial_rest, row_rest}
 use Rattle.std.proofs.lemmas.List.{length-take}
 use Rattle.ptflow.proofs.PasteLemmas.SerialRest.{copied_on, row_byte}
-use Rattle.ptflow.proofs.tools.paste.serial.SerialFormat.copy_block.Goals as goal
 use Rattle.ptflow.proofs.tools.paste.serial.SerialFormat.copy_block.Goals.{After-copy_cells-end}
+use Rattle.ptflow.proofs.tools.paste.serial.SerialFormat.copy_block.Goals as goal
 
 held_is : (complete : Bool) (end : ℕ) (rest : List ℕ) {size : ℕ} → size ≡ from_bool complete
     → cond complete (end ∷ rest) rest ≡ take size (end ∷ []) ++ rest

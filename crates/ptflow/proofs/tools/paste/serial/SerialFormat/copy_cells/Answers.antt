@@ -1,5 +1,5 @@
-use Rattle.ptflow.proofs.Common.{◌≡◌, ◌+◌, ◌-◌, ◌%◌, ◌≤◌, ◌++◌, ℕ, List, length, take, drop, sym, ◌∙◌, ap, arith, replaced}
-use Rattle.ptflow.proofs.Common.{length-take-le, take_at, take-append-add, count_by, is_byte}
+use Rattle.ptflow.proofs.Common.{◌≡◌, ◌+◌, ◌-◌, ◌%◌, ◌≤◌, ◌++◌, ℕ, List, length, take, drop, sym, ◌∙◌, ap, arith}
+use Rattle.ptflow.proofs.Common.{replaced, length-take-le, take_at, take-append-add, count_by, is_byte}
 use borrow.Rule.Slice.PartMut.{put_mid}
 use Rattle.ptflow.proofs.PasteLemmas.Replaced.{length-replaced}
 use Rattle.ptflow.proofs.tools.paste.serial.SerialFormat.copy_cells.Goals as goal
@@ -20,7 +20,9 @@ returns-clause-copied c =
     let made = c.replace.new.to in
     let is = format.is_cycle cycle c.in-Some.is in
     record {
-      is = put_taken c.args.at c.args.into.now made (ap length c.replace.ensures.replaced ∙ length-replaced cycle.terminator _ c.args.index bytes) (omega (arith, c.requires.room, c.told-into))
-          ∙ ap (◌++◌ (take c.args.at c.args.into.now)) (c.replace.ensures.replaced ∙ (λ i. replaced (is.terminator i) (λ n. is.bytes n i) c.args.index bytes));
+      is = put_taken c.args.at c.args.into.now made (ap length c.replace.ensures.replaced
+          ∙ length-replaced cycle.terminator _ c.args.index bytes) (omega (arith, c.requires.room, c.told-into))
+          ∙ ap (◌++◌ (take c.args.at c.args.into.now)) (c.replace.ensures.replaced ∙ (λ i. replaced (is.terminator i)
+          (λ n. is.bytes n i) c.args.index bytes));
       later = c.replace.ensures.next ∙ (λ i. (c.args.index + count_by (is_byte (is.terminator i)) bytes) % is.len i);
     }

@@ -1,8 +1,8 @@
 -- Each step copies one line and the delimiter after its column. After the last terminator the rest is a part of a line,
 -- which is copied as it is.
-use Rattle.ptflow.proofs.Common.{◌≡◌, ◌+◌, ◌-◌, ◌%◌, ◌<◌, ◌++◌, length, take, refl, sym, ◌∙◌, ap, arith}
-use Rattle.ptflow.proofs.Common.{length-drop, take_rest, take_all, line_if_not_found, mod-lt, mod-eq_of_lt}
-use Rattle.ptflow.proofs.Common.{delimiter, count_by, is_byte, None, option_to_list, slice_index_or}
+use Rattle.ptflow.proofs.Common.{◌≡◌, ◌+◌, ◌-◌, ◌%◌, ◌<◌, ◌++◌, length, take, sym, ◌∙◌, ap, arith, length-drop}
+use Rattle.ptflow.proofs.Common.{take_rest, take_all, line_if_not_found, mod-lt, mod-eq_of_lt, delimiter, count_by}
+use Rattle.ptflow.proofs.Common.{is_byte, None, option_to_list, slice_index_or}
 use Rattle.ptflow.proofs.Vectors.FindNth.{none_counted}
 use Rattle.ptflow.proofs.PasteLemmas.Replaced.{replaced_none}
 use Rattle.ptflow.proofs.PasteLemmas.SerialRest.{next_piece}
@@ -19,7 +19,8 @@ pieces-preserved c =
     let (is, later) = next_piece c.args.self.now.terminator delims some c.pieces.index
     c.pieces.rest.now (take c.pieces.at c.pieces.into) c.in-Some.ensures c.next_index-index.ensures
     (rw all at c.copy_short.ensures.copied)
-    (c.copy_option-at.ensures.copied ∙ ap (λ k. line ++ option_to_list (slice_index_or delims k None)) (sym (mod-eq_of_lt inv.low))) inv.is inv.later in
+    (c.copy_option-at.ensures.copied ∙ ap (λ k. line ++ option_to_list (slice_index_or delims k None)) (sym
+    (mod-eq_of_lt inv.low))) inv.is inv.later in
     rw take_rest (record {
       is = is;
       later = later;
@@ -41,7 +42,10 @@ returns-clause-copied c =
     let rest = c.pieces.rest.now in
     let all : length rest - 0 ≡ length rest = omega arith in
     let free = line_if_not_found end rest c.in_default.ensures in
-    let none : c.pieces.index + count_by (is_byte end) rest ≡ c.pieces.index = omega (arith, none_counted end rest rest free) in
+    let none : c.pieces.index + count_by (is_byte end) rest ≡ c.pieces.index = omega (
+      arith,
+      none_counted end rest rest free,
+    ) in
     let delims = c.args.self.now.delims.now in
     record {
       is = rw all at c.copy_short-2.ensures.copied
