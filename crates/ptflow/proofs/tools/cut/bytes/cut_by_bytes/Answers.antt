@@ -1,6 +1,6 @@
 -- `cut` by bytes is a block tool: at line offset 0 the output for the rest is that for a text, and the pushed bytes
 -- include the output that is decided.
-use Rattle.ptflow.proofs.Common.{◌++◌, refl, sym, ◌∙◌, ap, cond, terminator, cut_job, cut_tool, cut_list_from}
+use Rattle.ptflow.proofs.Common.{◌++◌, refl, sym, ◌∙◌, ap, cond, cut_job, cut_tool, cut_list_from}
 use Rattle.ptflow.proofs.CutLemmas.CutBytes.{rest_is_cut, rest_is_decided}
 use Rattle.ptflow.proofs.tools.cut.bytes.cut_by_bytes.Goals as goal
 
