@@ -1,5 +1,5 @@
 -- Names of other crates and of this one that many proofs use. They import them from here.
-pub use Rattle.std.proofs.Common.{Bool, Err, Fits, List, MatchOption, None, Ok, OnErr, Option, Result, Some, []}
+pub use Rattle.std.proofs.Common.{Bool, Err, Fits, List, None, Ok, OnErr, Option, Result, Some, []}
 pub use Rattle.std.proofs.Common.{add-one, ap, append_assoc, ap₂, arith, bit_and, bit_or, cond, drop, drop-cons, eqb}
 pub use Rattle.std.proofs.Common.{false, get_or, get_or-drop, get_or-take, inl, inr, leb, length, length-append}
 pub use Rattle.std.proofs.Common.{length-drop, ltb, map, max, min, negsuc, not, pos, refl, replicate, set, slice_index}
@@ -8,13 +8,13 @@ pub use Rattle.std.proofs.Common.{ℤ, ⊎_elim, ◌%◌, ◌&&◌, ◌*◌, ◌
 pub use Rattle.std.proofs.Common.{◌≢◌, ◌≤◌, ◌⊎◌}
 pub use Rattle.std.proofs.Math.Nat.{add-mod_left, mod-add-mod, mod-eq_of_lt, mod-lt, mul-le-mul_left, pow-succ'}
 pub use Rattle.std.proofs.Math.Seq.{take-add, take-append-add, take-set-lt}
-pub use Rattle.std.proofs.lemmas.Bool.{and_right, cases_Bool, cases_eq, cases_lt, cases_order, eq-eqb, eqb-false}
+pub use Rattle.std.proofs.lemmas.Bool.{and_right, cases_Bool, cases_eq, cases_lt, eq-eqb, eqb-false}
 pub use Rattle.std.proofs.lemmas.Bool.{eqb-true, false_from_ne_true, false≢true, le-ltb, lt-leb, lt-ltb, ne_eqb}
 pub use Rattle.std.proofs.lemmas.Bool.Decides.{nat_tests}
 pub use Rattle.std.proofs.lemmas.Grind.{and_numeral, common_steps, get_or_after_one}
 pub use Rattle.std.proofs.lemmas.List.{append-nil, append_cancel_right, drop-append-le, drop-drop, drop-set-lt}
 pub use Rattle.std.proofs.lemmas.List.{drop-take, drop_all, drop_at, drop_more, ext_get_or, get_or-map}
-pub use Rattle.std.proofs.lemmas.List.{get_or-replicate, get_or-set_other, get_or-set_same, get_or_append_left}
+pub use Rattle.std.proofs.lemmas.List.{get_or-set_other, get_or-set_same, get_or_append_left}
 pub use Rattle.std.proofs.lemmas.List.{get_or_at, get_or_default, get_or_past, get_or_push, length-map, length-set}
 pub use Rattle.std.proofs.lemmas.List.{length-take-le, map-append, nil_from_length, set-append_right, set-get_or}
 pub use Rattle.std.proofs.lemmas.List.{take-append-le, take-map, take-set, take-take, take_all, take_at, take_more}
@@ -29,27 +29,26 @@ pub use Rattle.std.proofs.lemmas.List.FromFn.{take-map-range_with_len}
 pub use Rattle.std.proofs.lemmas.List.Splits.{length-slice_split}
 pub use Rattle.std.proofs.lemmas.List.Sums.{count_by-le-length, count_by_more_no, count_by_more_yes, get_or-le-sum_by}
 pub use Rattle.std.proofs.lemmas.List.Sums.{sum_by-append, sum_by-cons, sum_by-set, sum_by-take-le}
-pub use Rattle.std.proofs.lemmas.Nat.{and_mask, mod-mul-add, ones-le, pow_below, pow_pos}
+pub use Rattle.std.proofs.lemmas.Nat.{and_mask, mod-mul-add, ones-le, pow_pos}
 pub use Rattle.std.proofs.lemmas.Result.{err_from_is_err_and}
 pub use Rattle.std.proofs.lemmas.Simd.{Each1-from_get_or, SwzOk, SwzOk-from_below, bit_mask_l, bitmask_splat}
-pub use Rattle.std.proofs.lemmas.Simd.{chunk-drop, chunk-fits, get_or-chunk, length-chunk, length-put_chunk}
+pub use Rattle.std.proofs.lemmas.Simd.{chunk-drop, get_or-chunk, length-chunk, length-put_chunk}
 pub use Rattle.std.proofs.lemmas.Simd.{length-swz_l, length-zip2, map-map, mask_l-lt, mask_l-mod, ones-mask_l}
 pub use Rattle.std.proofs.lemmas.Simd.{ones-mask_l_cons, pick_l-range_with_len, splat_is_map, swz_l}
 pub use Rattle.std.proofs.lemmas.Simd.{take_more_put_chunk, tops_compared, trailing_mask_l, zip2_of_maps, zip2_splat}
 pub use Rattle.std.proofs.lemmas.Slice.Eq.{bytes_eq-Decides}
-pub use Rattle.std.specs.Int.{bit_at, bit_not, cast_signed, cast_unsigned, from_bool}
+pub use Rattle.std.specs.Int.{bit_at, cast_signed, cast_unsigned, from_bool}
 pub use Rattle.std.specs.Int.RustNames.{count_ones}
 pub use Rattle.std.specs.List.{AllByRecursion, count_by, enumerate_from, flat_map, join_with_byte, last_or, list_all}
 pub use Rattle.std.specs.List.{list_any, onto_first, prefix_len, range_with_len}
 pub use Rattle.std.specs.Option.{is_some, option_eq, option_map_or, option_or}
-pub use Rattle.std.specs.Prelude.{All, IfSome, bytes_eq, decimal, filter, fold, if◌then◌else◌, nat_eq, nat_le, nat_lt}
+pub use Rattle.std.specs.Prelude.{All, bytes_eq, filter, fold, if◌then◌else◌, nat_eq, nat_le, nat_lt}
 pub use Rattle.std.specs.Prelude.{option_map, option_to_list, slice_get, slice_range, sum_by, swap, unwrap_or}
 pub use Rattle.std.specs.Simd.Lanes.{Each1, chunk, mask_l, pick_l, put_chunk, sel_l, top, zip2}
 pub use Rattle.memchr.specs.Find.{IsFirstByte, IsLastByte, NoneBefore, Nowhere, Passes, is_byte, is_byte2}
 pub use Rattle.ptlangs.specs.CutLists.{AreSeparated, is_selected}
-pub use Rattle.ptlangs.specs.DelimLists.{delim_at}
 pub use Rattle.ptlangs.specs.Jobs.{Cut, Paste, Uniq, cut_job, terminator, paste_job, uniq_job}
-pub use Rattle.ptlangs.specs.TrShifts.{shift_at, image_of_shifts}
+pub use Rattle.ptlangs.specs.TrShifts.{shift_at}
 pub use Rattle.ptlangs.specs.TrTables.{Tables, deletes, image, squeezes}
 pub use Rattle.ptlangs.specs.declared.ranges.Interval.{Interval}
 pub use Rattle.ptlines.proofs.Received.{has_received, has_received_of_set, has_received_set, received_with}
@@ -89,7 +88,7 @@ pub use Rattle.ptflow.specs.PasteText.{paste_serial_tool, rows_text, uses_of}
 pub use Rattle.ptflow.specs.ToolSpec.{ToolSpec}
 pub use Rattle.ptflow.specs.TrOutput.{squeeze, squeeze_after, is_not_repeat, tr, tr_decided, tr_tool, translation}
 pub use Rattle.ptflow.specs.Uniqs.{Run, after_fields, init, ends_word, output_of, is_same, key, cons_run, runs}
-pub use Rattle.ptflow.specs.Uniqs.{output_of_run, uniq_tool, word_ends}
+pub use Rattle.ptflow.specs.Uniqs.{uniq_tool, word_ends}
 pub use Rattle.ptlines.specs.Text.{is_blank}
 pub use Rattle.ptflow.specs.Private.Vectors.ByteSets.{FilterPre, IsSetOf, keep_flags, kept_bytes, mask_of}
 pub use Rattle.ptflow.specs.Private.Vectors.ByteSets.{set_has, table_has}
@@ -101,21 +100,20 @@ pub use Rattle.ptflow.specs.Private.Cut.CutFrom.{CopyLinesPost, cut_piece, cut_f
 pub use Rattle.ptflow.specs.Private.Cut.CutFrom.{cut_list_from, cut_lines_from}
 pub use Rattle.ptflow.specs.Private.Cut.FieldOffsets.{IsFieldOffset, fields, prefixed_fields}
 pub use Rattle.ptflow.specs.Private.Cut.FieldSlices.{IsFieldCursor, IsNextSlice, output_from_cursor}
-pub use Rattle.ptflow.specs.Private.Passes.StepOutput.{OutputPart, OutputFailed}
+pub use Rattle.ptflow.specs.Private.Passes.StepOutput.{OutputFailed}
 pub use Rattle.ptflow.specs.Private.Passes.LineLoop.{SlotsCleared, IsLineFilter, IsSwapped, LinesFailed, LinesWritten}
 pub use Rattle.ptflow.specs.Private.Passes.LineLoop.{IsLinesLength}
 pub use Rattle.ptflow.specs.Private.Paste.SharedInput.{IsWholeRows, IsSharedCycle}
-pub use Rattle.ptflow.specs.Private.Paste.Replaced.{IsDelimiterCycle, IsReplacedTo, byte_of, replaced, with_byte}
-pub use Rattle.ptflow.specs.Private.Paste.Unrolled.{AreDelimiterBytes, IsUnrolled}
+pub use Rattle.ptflow.specs.Private.Paste.Replaced.{IsDelimiterCycle, IsReplacedTo, byte_of, replaced}
 pub use Rattle.ptflow.specs.Private.Paste.FillRow.{SetTerminatorsPost, FillCellPost, FillRowPost, SlotsBound, SlotsKept}
 pub use Rattle.ptflow.specs.Private.Paste.FillRow.{NotRead, RowAmid, RowFailed, RowFilled, ClearSlotsPost}
 pub use Rattle.ptflow.specs.Private.Paste.FillRow.{is_write_fault}
 pub use Rattle.ptflow.specs.Private.Paste.RowCells.{RowShape, BegunText, CellsFilled, CellsTaken, after_cell}
 pub use Rattle.ptflow.specs.Private.Paste.RowCells.{begun_after, begun_in, cells_text, job_shape, shape_of, slots_text}
-pub use Rattle.ptflow.specs.Private.Paste.SerialRest.{CopyCellsPost, row_rest, serial_rest}
+pub use Rattle.ptflow.specs.Private.Paste.SerialRest.{row_rest, serial_rest}
 pub use Rattle.ptflow.specs.Private.Paste.TakenLines.{AreReceivedLines, LinesTaken}
 pub use Rattle.ptflow.specs.Private.Paste.BufferedRows.{BufferedRowsPre, IsConsumed, AreConsumed, AreFirstRows}
-pub use Rattle.ptflow.specs.Private.Paste.BufferedRows.{RowsTaken, IsFieldCopied, LineCopied, EofCopied}
+pub use Rattle.ptflow.specs.Private.Paste.BufferedRows.{RowsTaken, IsFieldCopied}
 pub use Rattle.ptflow.specs.Private.Paste.BufferedRows.{CopyColumnsPost, CopyRowsPost, RowsWritten}
 pub use Rattle.ptflow.specs.Private.Tr.TrFrom.{squeeze_from, tr_from}
 pub use Rattle.ptflow.specs.Private.Uniq.BlockRuns.{IsSpan, RunsFailed, RunsWritten, IsPending}
@@ -126,4 +124,3 @@ pub use Rattle.ptflow.specs.Private.Uniq.RunsFrom.{runs_from}
 pub use Rattle.ptflow.specs.Private.Uniq.Blanks.{after_nonblanks}
 pub use Rattle.ptflow.specs.declared.faults.FlowFault.{FlowFault}
 pub use Rattle.ptflow.specs.declared.faults.FlowFault.TheVariants.{Memory, Read, Write}
-pub use Rattle.ptflow.specs.declared.tools.paste.serial.ColumnPos.{ColumnPos}

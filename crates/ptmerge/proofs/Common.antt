@@ -59,7 +59,7 @@ pub use Rattle.ptmerge.specs.MergeSpec.{decided_entries, disorder, earlier_disor
 pub use Rattle.ptmerge.specs.MergeSpec.{first_disorder, insert_key, is_below, is_decided, is_past}
 pub use Rattle.ptmerge.specs.MergeSpec.{lines_decide_disorder, keys, lines_of, merge_output, merged_entries}
 pub use Rattle.ptmerge.specs.MergeSpec.{sorted_prefixes, sorted_prefix, disorder_is_decided, is_up_to, lines_with_key}
-pub use Rattle.ptmerge.specs.WriteAndAdvance.{IsReadyToContinue, AdvanceOkPost, WriteFaultPost, WriteThenNextPost}
+pub use Rattle.ptmerge.specs.WriteAndAdvance.{IsReadyToContinue, AdvanceOkPost, WriteFaultPost}
 pub use Rattle.ptmerge.specs.WriteAndAdvance.{AdvancePre}
 pub use Rattle.ptmerge.specs.MergeCall.{AreConsistent, MergeRunPre, MergeEndPost, MergePost, IsMergeUnread}
 pub use Rattle.ptmerge.specs.MergeCall.{IsExactMerge, IsDisorderAt, MergeState, with_terminator, merge_state, HasNoLine}
