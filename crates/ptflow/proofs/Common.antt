@@ -104,7 +104,7 @@ pub use Rattle.ptflow.specs.Private.Passes.StepOutput.{OutputFailed}
 pub use Rattle.ptflow.specs.Private.Passes.LineLoop.{SlotsCleared, IsLineFilter, IsSwapped, LinesFailed, LinesWritten}
 pub use Rattle.ptflow.specs.Private.Passes.LineLoop.{IsLinesLength}
 pub use Rattle.ptflow.specs.Private.Paste.SharedInput.{IsWholeRows, IsSharedCycle}
-pub use Rattle.ptflow.specs.Private.Paste.Replaced.{IsDelimiterCycle, IsReplacedTo, byte_of, replaced}
+pub use Rattle.ptflow.specs.Private.Paste.Replaced.{IsDelimiterCycle, IsReplacedTo, cycle_byte, with_replacements}
 pub use Rattle.ptflow.specs.Private.Paste.FillRow.{SetTerminatorsPost, FillCellPost, FillRowPost, SlotsBound, SlotsKept}
 pub use Rattle.ptflow.specs.Private.Paste.FillRow.{NotRead, RowAmid, RowFailed, RowFilled, ClearSlotsPost}
 pub use Rattle.ptflow.specs.Private.Paste.FillRow.{is_write_fault}

@@ -105,11 +105,11 @@ paste_end (Err (Read position)) = ReadFault position
 paste_end (Err Write) = WriteFault
 paste_end (Err Memory) = MemoryFault
 
--- A line that is out of order, with the position of its input in place of the name.
+-- A line that is out of order, by the position of its input.
 abbrev pub line_at : {I : Type 0} → (I → ℕ) → I × ℕ → ℕ × ℕ
 line_at position found = (position found.0, found.1)
 
--- An engine over the inputs at the positions of names, in place of the names.
+-- An engine over the inputs at the positions of its names.
 abbrev pub at_positions : {I : Type 0} → EngineSpec I → (I → ℕ) → EngineSpec ℕ
 at_positions engine position = record {
   text = λ texts. engine.text (λ i. texts (position i));

@@ -6,7 +6,7 @@ use Rattle.ptflow.proofs.Common.{append_assoc, bit_and, count_by, count_ones, ma
 use Rattle.ptflow.proofs.Common.{mod-eq_of_lt, take-add, take_at, take-append-drop, take-set-lt, eq-eqb}
 use Rattle.ptflow.proofs.Common.{set-append_right, drop_more, take_more_set, take-set, length-set, sum_by-cons}
 use Rattle.ptflow.proofs.Common.{sum_by-append, is_byte, byte_eq, byte_ne, IsLine, IsNth, length-take-le, length-chunk}
-use Rattle.ptflow.proofs.Common.{length-put_chunk, take_more_put_chunk, put_chunk, ones-mask_l, replaced, byte_of}
+use Rattle.ptflow.proofs.Common.{length-put_chunk, take_more_put_chunk, put_chunk, ones-mask_l, with_replacements, cycle_byte}
 use Rattle.ptflow.proofs.Common.{IsReplacedTo}
 use lib.Count.{count_trailing_zeros}
 use Rattle.ptflow.proofs.Vectors.FindNth.{after_set, cleared, without}
@@ -19,27 +19,27 @@ module _ (end : ℕ) where
       ∙ ap (λ (t : Bool). cond t 1 0 + count_by (is_byte end) bytes) is
 
   module _ (text_of : ℕ → List ℕ) where
-    pub replaced-append : (number : ℕ) (xs ys : List ℕ) → replaced end text_of number (xs ++ ys)
-        ≡ replaced end text_of number xs ++ replaced end text_of (number + count_by (is_byte end) xs) ys
+    pub replaced-append : (number : ℕ) (xs ys : List ℕ) → with_replacements end text_of number (xs ++ ys)
+        ≡ with_replacements end text_of number xs ++ with_replacements end text_of (number + count_by (is_byte end) xs) ys
     replaced-append number [] ys =
-        let same : number + 0 ≡ number = omega arith in ap (λ n. replaced end text_of n ys) (sym same)
+        let same : number + 0 ≡ number = omega arith in ap (λ n. with_replacements end text_of n ys) (sym same)
     replaced-append number (b ∷ xs) ys =
         grind (arith, append_assoc, counted b xs, replaced-append (number + 1) xs ys, replaced-append number xs ys)
 
     -- A line contains no terminator, so its bytes stay.
     pub replaced_line : (number : ℕ) (line rest : List ℕ) → IsLine end line
-        → replaced end text_of number (line ++ end ∷ rest) ≡ line ++ (text_of number ++ replaced end text_of
+        → with_replacements end text_of number (line ++ end ∷ rest) ≡ line ++ (text_of number ++ with_replacements end text_of
         (number + 1) rest)
     replaced_line number [] rest free = rw (byte_eq end) refl
     replaced_line number (b ∷ line) rest (other, free) = cc (byte_ne end b other, replaced_line number line rest free)
 
-    pub replaced_none : (number : ℕ) (line : List ℕ) → IsLine end line → replaced end text_of number line ≡ line
+    pub replaced_none : (number : ℕ) (line : List ℕ) → IsLine end line → with_replacements end text_of number line ≡ line
     replaced_none number [] free = refl
     replaced_none number (b ∷ line) (other, free) = cc (byte_ne end b other, replaced_none number line free)
 
   -- Only the index in the cycle matters.
   pub replaced_mod : (text_at : ℕ → List ℕ) (len m n : ℕ) → m % len ≡ n % len → (bytes : List ℕ)
-      → replaced end (λ k. text_at (k % len)) m bytes ≡ replaced end (λ k. text_at (k % len)) n bytes
+      → with_replacements end (λ k. text_at (k % len)) m bytes ≡ with_replacements end (λ k. text_at (k % len)) n bytes
   replaced_mod text_at len m n same [] = refl
   replaced_mod text_at len m n same (b ∷ bytes) =
       let next = sym (mod-add-mod m len 1) ∙ ap (λ k. (k + 1) % len) same ∙ mod-add-mod n len 1 in
@@ -50,7 +50,7 @@ module _ (end : ℕ) where
 
   module _ (byte : ℕ → ℕ) where
     abbrev all : ℕ → List ℕ → List ℕ
-    all = replaced end (λ n. byte n ∷ [])
+    all = with_replacements end (λ n. byte n ∷ [])
 
     pub length-replaced : (number : ℕ) (bytes : List ℕ) → length (all number bytes) ≡ length bytes
     length-replaced number [] = refl
@@ -206,7 +206,7 @@ module _ {cycle : Cycle} {first index at : ℕ} {from to to' : List ℕ} (long :
   -- Bytes were replaced from the one at `index` on.
   pub replaced_more : (size : ℕ) {next : ℕ} → at + size ≤ length from → next ≡ (index + count_by
       (is_byte cycle.terminator) (take size (drop at from))) % cycle.len
-      → take (at + size) to' ≡ take at to ++ replaced cycle.terminator (byte_of cycle) index (take size (drop at from))
+      → take (at + size) to' ≡ take at to ++ with_replacements cycle.terminator (cycle_byte cycle) index (take size (drop at from))
       → IsReplacedTo cycle first next (at + size) from to'
   replaced_more size {next} room is more =
       let front = take at from in
@@ -228,8 +228,8 @@ module _ {cycle : Cycle} {first index at : ℕ} {from to to' : List ℕ} (long :
         is = more
             ∙ (λ i. r.is i ++ replaced_mod cycle.terminator
             (λ k. get_or cycle.unrolled k 0 ∷ []) cycle.len index so_far index_is here i)
-            ∙ sym (replaced-append cycle.terminator (byte_of cycle) first front here)
-            ∙ ap (replaced cycle.terminator (byte_of cycle) first) (sym split);
+            ∙ sym (replaced-append cycle.terminator (cycle_byte cycle) first front here)
+            ∙ ap (with_replacements cycle.terminator (cycle_byte cycle) first) (sym split);
       }
     where
       so_far : ℕ
@@ -239,7 +239,7 @@ module _ {cycle : Cycle} {first index at : ℕ} {from to to' : List ℕ} (long :
       index_is = mod-eq_of_lt (omega (arith, r.next, mod-lt so_far cycle.is_unrolled.some)) ∙ r.next
 
   module _ (room : at < length from) where
-    pub replaced_terminator : {next v : ℕ} → get_or from at 0 ≡ cycle.terminator → v ∷ [] ≡ byte_of cycle index
+    pub replaced_terminator : {next v : ℕ} → get_or from at 0 ≡ cycle.terminator → v ∷ [] ≡ cycle_byte cycle index
         → next ≡ (index + 1) % cycle.len → to' ≡ slice_set (slice_set to at (get_or from at 0)) at v
         → IsReplacedTo cycle first next (at + 1) from to'
     replaced_terminator {next} {v} is_end is later set =
@@ -251,7 +251,7 @@ module _ {cycle : Cycle} {first index at : ℕ} {from to to' : List ℕ} (long :
         (ap (take (at + 1)) set ∙ take_more_set (slice_set to at (get_or from at 0)) at v
         (omega (arith, room, r.same, length-set to at (get_or from at 0)))
         ∙ (λ i. take-set to at (get_or from at 0) i ++ is i)
-        ∙ ap (λ (l : List ℕ). take at to ++ l) (sym (ap (replaced cycle.terminator (byte_of cycle) index)
+        ∙ ap (λ (l : List ℕ). take at to ++ l) (sym (ap (with_replacements cycle.terminator (cycle_byte cycle) index)
         (one_byte at from room) ∙ rw test refl)))
 
     pub replaced_other : get_or from at 0 ≢ cycle.terminator → to' ≡ slice_set to at (get_or from at 0)
@@ -266,5 +266,5 @@ module _ {cycle : Cycle} {first index at : ℕ} {from to to' : List ℕ} (long :
         ) in
         replaced_more 1 (omega (arith, room)) (sym (ap (λ n. n % cycle.len) number ∙ mod-eq_of_lt less))
         (ap (take (at + 1)) set ∙ take_more_set to at (get_or from at 0) (omega (arith, room, r.same))
-        ∙ ap (λ (l : List ℕ). take at to ++ l) (sym (ap (replaced cycle.terminator (byte_of cycle) index)
+        ∙ ap (λ (l : List ℕ). take at to ++ l) (sym (ap (with_replacements cycle.terminator (cycle_byte cycle) index)
         (one_byte at from room) ∙ rw test refl)))

@@ -4,7 +4,7 @@ use Rattle.ptflow.proofs.Common.{◌≡◌, ⊎_elim, ℕ, ◌+◌, ◌%◌, ◌
 use Rattle.ptflow.proofs.Common.{Option, length, length-append, refl, sym, ◌∙◌, ap, arith, append_assoc, onto_first}
 use Rattle.ptflow.proofs.Common.{count_by, cases_Bool, append-nil, append_cancel_right, is_byte, lines, complete_lines}
 use Rattle.ptflow.proofs.Common.{IsPrefix, lines_of_unlines, Paste, delimiter, join_with_cycle, mod-add-mod}
-use Rattle.ptflow.proofs.Common.{paste_serial_decided, replaced, row_rest, mod-eq_of_lt, byte_eq, option_to_list, None}
+use Rattle.ptflow.proofs.Common.{paste_serial_decided, with_replacements, row_rest, mod-eq_of_lt, byte_eq, option_to_list, None}
 use Rattle.ptflow.proofs.Common.{Some, IsFirstByte, take, drop, line_before_terminator, sum_by-append, mod-lt}
 use Rattle.ptflow.proofs.Vectors.FindNth.{none_counted}
 use Rattle.std.specs.Prelude.{slice_index_or}
@@ -37,7 +37,7 @@ module _ (end : ℕ) (delims : List (Option ℕ)) where
       by_test false (l ∷ ls) = simp append_assoc
 
   pub row_rest_on : (number : ℕ) (bytes more : List ℕ) → 0 < length more
-      → row_rest end delims number (bytes ++ more) ≡ replaced end (delimiter delims) number bytes
+      → row_rest end delims number (bytes ++ more) ≡ with_replacements end (delimiter delims) number bytes
       ++ row_rest end delims (number + count_by (is_byte end) bytes) more
   row_rest_on number [] more some =
       let same : number + 0 ≡ number = omega arith in ap (λ n. row_rest end delims n more) (sym same)
@@ -75,31 +75,31 @@ module _ (end : ℕ) (delims : List (Option ℕ)) where
 
   -- Two pieces were copied, and at least one byte follows.
   pub copied_on : (index : ℕ) (held bytes more : List ℕ) {first second : ℕ} {before after : List ℕ} → 0 < length more
-      → before ≡ replaced end (delimiter delims) index held
+      → before ≡ with_replacements end (delimiter delims) index held
       → first ≡ (index + count_by (is_byte end) held) % length delims
-      → after ≡ before ++ replaced end (delimiter delims) first bytes
+      → after ≡ before ++ with_replacements end (delimiter delims) first bytes
       → second ≡ (first + count_by (is_byte end) bytes) % length delims → second < length delims → first < length delims
       → row_rest end delims index (held ++ (bytes ++ more)) ≡ after ++ row_rest end delims second more
   copied_on index held bytes more {first} {second} {before} some one at two after low less =
       row_rest_on index held (bytes ++ more) (omega (arith, some, length-append bytes more))
       ∙ (λ i. sym one i ++ (row_rest_mod _ first (sym at ∙ sym (mod-eq_of_lt less)) (bytes ++ more)
       ∙ row_rest_on first bytes more some
-      ∙ ap (λ (l : List ℕ). replaced end (delimiter delims) first bytes ++ l)
+      ∙ ap (λ (l : List ℕ). with_replacements end (delimiter delims) first bytes ++ l)
       (row_rest_mod _ second (sym after ∙ sym (mod-eq_of_lt low)) more)) i)
-      ∙ sym (append_assoc before (replaced end (delimiter delims) first bytes) (row_rest end delims second more))
+      ∙ sym (append_assoc before (with_replacements end (delimiter delims) first bytes) (row_rest end delims second more))
       ∙ ap (λ (l : List ℕ). l ++ row_rest end delims second more) (sym two)
 
   -- A line and its delimiter were copied.
   pub next_piece : 0 < length delims → (index : ℕ) {next at : ℕ} (rest before : List ℕ) {line text all : List ℕ}
       {count : ℕ} → IsFirstByte (is_byte end) rest (Some at) → next ≡ (index + 1) % length delims
       → line ≡ before ++ take at rest → text ≡ line ++ delimiter delims index
-      → before ++ replaced end (delimiter delims) index rest ≡ all
+      → before ++ with_replacements end (delimiter delims) index rest ≡ all
       → (index + count_by (is_byte end) rest) % length delims ≡ count
-      → (text ++ replaced end (delimiter delims) next (drop (at + 1) rest) ≡ all)
+      → (text ++ with_replacements end (delimiter delims) next (drop (at + 1) rest) ≡ all)
       × ((next + count_by (is_byte end) (drop (at + 1) rest)) % length delims ≡ count)
   next_piece some index {next} {at} rest before first next_is line_is text_is all_is count_is =
       let len = length delims in
-      let all_of = replaced end (delimiter delims) in
+      let all_of = with_replacements end (delimiter delims) in
       let head = take at rest in
       let more = drop (at + 1) rest in
       let split = split_of end rest at first in

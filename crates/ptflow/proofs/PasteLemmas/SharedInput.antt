@@ -9,7 +9,7 @@ use Rattle.ptflow.proofs.Common.{All-drop, All-from_recursion, recursion_from_Al
 use Rattle.ptflow.proofs.Common.{unlines, lines, IsLine, AreLines, EndsWithByte, Output, PushEffect, push_nothing}
 use Rattle.ptflow.proofs.Common.{Reader, IsSound, budget, advance_ok_take, byte_eq, unlines-append, lines_are}
 use Rattle.ptflow.proofs.Common.{the_lines, no_reader, reader_at, update_at, join_with_cycle, uses_of, columns, rows}
-use Rattle.ptflow.proofs.Common.{IsSharedCycle, IsWholeRows, LinesTaken, replaced, byte_of, after_cell, cells_text}
+use Rattle.ptflow.proofs.Common.{IsSharedCycle, IsWholeRows, LinesTaken, with_replacements, cycle_byte, after_cell, cells_text}
 use Rattle.ptflow.proofs.Common.{mod-eq_of_lt, RowShape, BufferedRowsPre, RowsTaken, RowsWritten, nat_tests}
 use Rattle.ptflow.proofs.Vectors.FindNth.{none_counted}
 use Rattle.ptflow.proofs.PasteLemmas.Grid.{Column, for_each_cell_unique, top_of, grid_step, uses_here, uses_before_lt}
@@ -88,7 +88,7 @@ module _ {row : RowShape} {cycle : Cycle} (t : IsSharedCycle row cycle) where
   n = length row.cells
 
   abbrev all_replaced : ℕ → List ℕ → List ℕ
-  all_replaced = replaced row.terminator (byte_of cycle)
+  all_replaced = with_replacements row.terminator (cycle_byte cycle)
 
   -- The fields of a row from column c on.
   row_replaced : (k c : ℕ) (ls : List (List ℕ)) → AreLines row.terminator ls → c + length ls ≡ n
@@ -105,7 +105,7 @@ module _ {row : RowShape} {cycle : Cycle} (t : IsSharedCycle row cycle) where
       let more = ap (λ m. all_replaced m rest) number ∙ row_replaced k (c + 1) ls are_lines (omega (arith, all)) in
       cc (
         append_assoc line (row.terminator ∷ []) rest,
-        replaced_line row.terminator (byte_of cycle) (k * n + c) line rest free,
+        replaced_line row.terminator (cycle_byte cycle) (k * n + c) line rest free,
         byte,
         more,
         append_assoc line (after_cell row c) (cells_text row (c + 1) ls),
@@ -131,7 +131,7 @@ module _ {row : RowShape} {cycle : Cycle} (t : IsSharedCycle row cycle) where
       cc (
         take-append-drop n ls,
         unlines-append end first rest,
-        replaced-append end (byte_of cycle) (k * n) (unlines end first) (unlines end rest),
+        replaced-append end (cycle_byte cycle) (k * n) (unlines end first) (unlines end rest),
         start,
         next,
         row_replaced k 0 first whole_first (omega (arith, first_long)),
@@ -274,7 +274,7 @@ module _ {row : RowShape} {cycle : Cycle} (t : IsSharedCycle row cycle) (old : L
       ) (nothing_taken (omega arith)))
       (cases_eq q input)
 
-  rows_of_input : RowsTaken row old (set old input now) (replaced end (byte_of cycle) 0 (take count was.buffered))
+  rows_of_input : RowsTaken row old (set old input now) (with_replacements end (cycle_byte cycle) 0 (take count was.buffered))
   rows_of_input = record {
     taken_rows = rows_in (length cells) rs.count rs.ls;
     ls = lines_of_input input rs.ls;
@@ -294,7 +294,7 @@ module _ {row : RowShape} {cycle : Cycle} (t : IsSharedCycle row cycle) (old : L
     );
     is =
         let start : 0 ≡ 0 * length cells = omega arith in
-        (λ i. replaced end (byte_of cycle) (start i) (rs.is i))
+        (λ i. with_replacements end (cycle_byte cycle) (start i) (rs.is i))
         ∙ rows_replaced t 0 rs.count rs.ls rs.are_lines rs.long;
   }
 
@@ -307,7 +307,7 @@ pub copied_rows : {row : RowShape} {cycle : Cycle} → IsSharedCycle row cycle �
       buffered = drop count (get_or old (get_or row.cells 0 0) e).buffered;
     }
     → {written : List ℕ}
-    → written ≡ replaced cycle.terminator (byte_of cycle) 0 (take count (get_or old (get_or row.cells 0 0) d).buffered)
+    → written ≡ with_replacements cycle.terminator (cycle_byte cycle) 0 (take count (get_or old (get_or row.cells 0 0) d).buffered)
     → {out pushed : Output} → PushEffect out pushed written
     → RowsWritten row old (set old (get_or row.cells 0 0) r) out pushed
 copied_rows {row} {cycle} t {old} ready d sound {count} some few rs e {r} step {written} copied wrote =

@@ -41,14 +41,14 @@ pub(crate) struct Cycle {
 }
 
 impl Cycle {
-    ghost use Rattle.ptflow.specs.Private.Paste.Replaced.{IsReplacedTo, byte_of, replaced};
+    ghost use Rattle.ptflow.specs.Private.Paste.Replaced.{IsReplacedTo, cycle_byte, with_replacements};
 
     /// The cycle of these bytes.
     pub(crate) fn new(bytes: &[u8], terminator: u8) -> Cycle
         requires { (0 < length bytes.now) × (length bytes.now ≤ 256) }
         ensures terminator { result.terminator ≡ terminator }
         ensures len { result.len ≡ length bytes.now }
-        ensures bytes { (number : ℕ) → byte_of result number
+        ensures bytes { (number : ℕ) → cycle_byte result number
             ≡ slice_index_or bytes.now (number % length bytes.now) 0 ∷ [] }
     {
         let len = bytes.len();
@@ -87,7 +87,7 @@ impl Cycle {
         ensures long { length to.new ≡ length from.now }
         ensures next { result ≡ (index + count_by (is_byte self.now.terminator) (chunk at 64 from.now)) % self.now.len }
         ensures replaced { take (at + 64) to.new
-            ≡ take at to.old ++ replaced self.now.terminator (byte_of self.now) index (chunk at 64 from.now) }
+            ≡ take at to.old ++ with_replacements self.now.terminator (cycle_byte self.now) index (chunk at 64 from.now) }
     {
         let terminator = self.terminator;
         u8x64::from_slice(&from[at..]).copy_to_slice(&mut to[at..]);
@@ -107,7 +107,7 @@ impl Cycle {
         requires index { index < self.now.len }
         requires same { length to.old ≡ length from.now }
         ensures next { result ≡ (index + count_by (is_byte self.now.terminator) from.now) % self.now.len }
-        ensures replaced { to.new ≡ replaced self.now.terminator (byte_of self.now) index from.now }
+        ensures replaced { to.new ≡ with_replacements self.now.terminator (cycle_byte self.now) index from.now }
     {
         let terminator = self.terminator;
         if self.len == 1 {

@@ -4,7 +4,7 @@ use Rattle.std.specs.List.{count_by}
 use Rattle.memchr.specs.Find.{is_byte}
 use Rattle.ptlines.specs.Text.{lines}
 use Rattle.ptflow.specs.PasteText.{delimiter, join_with_cycle}
-use Rattle.ptflow.specs.Private.Paste.Replaced.{replaced}
+use Rattle.ptflow.specs.Private.Paste.Replaced.{with_replacements}
 use Rattle.ptflow.specs.declared.tools.paste.serial.ColumnPos.{ColumnPos}
 use Rattle.ptflow.specs.declared.tools.paste.serial.SerialFormat.{SerialFormat}
 
@@ -27,5 +27,5 @@ pub record CopyCellsPre (format : SerialFormat) (index : ℕ) (bytes : List ℕ)
 pub record CopyCellsPost (format : SerialFormat) (index : ℕ) (bytes before : List ℕ) (next : ℕ)
     (after : List ℕ) : Type 0
   where
-    pub is : after ≡ before ++ replaced format.terminator (delimiter format.delims.now) index bytes
+    pub is : after ≡ before ++ with_replacements format.terminator (delimiter format.delims.now) index bytes
     pub later : next ≡ (index + count_by (is_byte format.terminator) bytes) % length format.delims.now

@@ -1,7 +1,7 @@
 -- `paste` when all columns read one input: its terminators are replaced by a repeating cycle.
 use Rattle.std.specs.Prelude.{◌≡◌, ℕ, ◌*◌, ◌<◌, List, All, length, slice_index_or}
 use Rattle.ptlines.specs.Text.{unlines, AreLines}
-use Rattle.ptflow.specs.Private.Paste.Replaced.{byte_of}
+use Rattle.ptflow.specs.Private.Paste.Replaced.{cycle_byte}
 use Rattle.ptflow.specs.Private.Paste.RowCells.{RowShape, after_cell}
 use Rattle.ptflow.specs.declared.simd.replace.Cycle.{Cycle}
 
@@ -11,7 +11,7 @@ pub record IsSharedCycle (row : RowShape) (cycle : Cycle) : Type 0 where
   pub same : All (λ input. input ≡ slice_index_or row.cells 0 0) row.cells
   pub terminator : cycle.terminator ≡ row.terminator
   pub len : cycle.len ≡ length row.cells
-  pub bytes : (c : ℕ) → c < length row.cells → byte_of cycle c ≡ after_cell row c
+  pub bytes : (c : ℕ) → c < length row.cells → cycle_byte cycle c ≡ after_cell row c
 
 -- These bytes are complete lines, `n` for each of `count` rows.
 pub record IsWholeRows (end n : ℕ) (bytes : List ℕ) : Type 0 where

@@ -8,7 +8,7 @@ ghost use Rattle.memchr.specs.Find.{is_byte};
 ghost use Rattle.ptlines.specs.Readers.{IsSound};
 ghost use Rattle.ptflow.specs.Private.Paste.BufferedRows.{BufferedRowsPre, RowsWritten};
 ghost use Rattle.ptflow.specs.Private.Paste.RowCells.{shape_of};
-ghost use Rattle.ptflow.specs.Private.Paste.Replaced.{byte_of, replaced};
+ghost use Rattle.ptflow.specs.Private.Paste.Replaced.{cycle_byte, with_replacements};
 ghost use Rattle.ptflow.specs.Private.Paste.SharedInput.{IsSharedCycle, IsWholeRows};
 
 use crate::simd::find_nth::nth_index;
@@ -67,7 +67,7 @@ fn copy_shared_rows<S: Source, R: Source>(
     ensures within { result ≤ length reader.now.buffered }
     ensures rows { IsWholeRows cycle.now.terminator cycle.now.len (take result reader.now.buffered) }
     ensures copied { take result into.new
-        ≡ replaced cycle.now.terminator (byte_of cycle.now) 0 (take result reader.now.buffered) }
+        ≡ with_replacements cycle.now.terminator (cycle_byte cycle.now) 0 (take result reader.now.buffered) }
     ensures sound { IsSound reader.now }
 {
     let bytes = reader.buffered();

@@ -1,5 +1,5 @@
 use Rattle.ptflow.proofs.Common.{◌≡◌, ◌+◌, ◌-◌, ◌%◌, ◌≤◌, ◌++◌, ℕ, List, length, take, drop, sym, ◌∙◌, ap, arith}
-use Rattle.ptflow.proofs.Common.{replaced, length-take-le, take_at, take-append-add, count_by, is_byte}
+use Rattle.ptflow.proofs.Common.{with_replacements, length-take-le, take_at, take-append-add, count_by, is_byte}
 use borrow.Rule.Slice.PartMut.{put_mid}
 use Rattle.ptflow.proofs.PasteLemmas.Replaced.{length-replaced}
 use Rattle.ptflow.proofs.tools.paste.serial.SerialFormat.copy_cells.Goals as goal
@@ -22,7 +22,7 @@ returns-clause-copied c =
     record {
       is = put_taken c.args.at c.args.into.now made (ap length c.replace.ensures.replaced
           ∙ length-replaced cycle.terminator _ c.args.index bytes) (omega (arith, c.requires.room, c.told-into))
-          ∙ ap (◌++◌ (take c.args.at c.args.into.now)) (c.replace.ensures.replaced ∙ (λ i. replaced (is.terminator i)
+          ∙ ap (◌++◌ (take c.args.at c.args.into.now)) (c.replace.ensures.replaced ∙ (λ i. with_replacements (is.terminator i)
           (λ n. is.bytes n i) c.args.index bytes));
       later = c.replace.ensures.next ∙ (λ i. (c.args.index + count_by (is_byte (is.terminator i)) bytes) % is.len i);
     }

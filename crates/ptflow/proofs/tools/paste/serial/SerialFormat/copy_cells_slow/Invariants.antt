@@ -1,11 +1,11 @@
 -- The copy of `rest` is still to be appended, and each of its bytes has room.
-use Rattle.ptflow.proofs.Common.{◌≡◌, ◌<◌, ◌≤◌, ◌+◌, ◌%◌, ◌++◌, length, take, count_by, is_byte, delimiter, replaced}
+use Rattle.ptflow.proofs.Common.{◌≡◌, ◌<◌, ◌≤◌, ◌+◌, ◌%◌, ◌++◌, length, take, count_by, is_byte, delimiter, with_replacements}
 use Rattle.ptflow.proofs.tools.paste.serial.SerialFormat.copy_cells_slow.Given as goal
 
 abbrev pub invariant-pieces : goal.invariant-pieces
 invariant-pieces l = record {
-  is : take l.at l.into ++ replaced l.self.terminator (delimiter l.self.delims.now) l.index l.rest
-      ≡ take l.fn.at l.fn.into ++ replaced l.self.terminator (delimiter l.self.delims.now) l.fn.index l.bytes;
+  is : take l.at l.into ++ with_replacements l.self.terminator (delimiter l.self.delims.now) l.index l.rest
+      ≡ take l.fn.at l.fn.into ++ with_replacements l.self.terminator (delimiter l.self.delims.now) l.fn.index l.bytes;
   later : (l.index + count_by (is_byte l.self.terminator) l.rest) % length l.self.delims.now
       ≡ (l.fn.index + count_by (is_byte l.self.terminator) l.bytes) % length l.self.delims.now;
   low : l.index < length l.self.delims.now;
