@@ -83,21 +83,21 @@ module _ {I : Type 0} (names : InputNames I) where
     -- the store can be used again.
     pub record AllPushed (old new : CallState I) (given : I → Received) (pushed : List ℕ) (found : Option (I × ℕ))
         : Type 0 where
-          pub out : (texts : I → List ℕ) → AreAllConsistent given texts → pushed ≡ engine.text texts
-          pub disorder : (texts : I → List ℕ) → AreAllConsistent given texts → engine.disorder texts ≡ found
-          pub ended : found ≡ None → (i : I) → names.is_read i ≡ true → IsDone (new.reader i)
-          pub fault : (i : I) → names.is_read i ≡ true → (new.reader i).fault ≡ None
-          pub short : (i : I) → names.is_read i ≡ true → (new.reader i).pulled < 2 ^ 63
-          pub unfailed : NoReadFailed old new
-          pub clean : new.out.write_failed ≡ false
-          pub not_denied : new.store.denied ≡ false
-          pub empty : total_bytes new.store.lines ≡ 0
+      pub out : (texts : I → List ℕ) → AreAllConsistent given texts → pushed ≡ engine.text texts
+      pub disorder : (texts : I → List ℕ) → AreAllConsistent given texts → engine.disorder texts ≡ found
+      pub ended : found ≡ None → (i : I) → names.is_read i ≡ true → IsDone (new.reader i)
+      pub fault : (i : I) → names.is_read i ≡ true → (new.reader i).fault ≡ None
+      pub short : (i : I) → names.is_read i ≡ true → (new.reader i).pulled < 2 ^ 63
+      pub unfailed : NoReadFailed old new
+      pub clean : new.out.write_failed ≡ false
+      pub not_denied : new.store.denied ≡ false
+      pub empty : total_bytes new.store.lines ≡ 0
 
     -- A line of one of the inputs is out of order.
     pub record FoundDisorder (old new : CallState I) (given : I → Received) (pushed : List ℕ) (input : I) (line : ℕ)
         : Type 0 where
-          pub named : names.is_read input ≡ true
-          pub pushed_all : AllPushed old new given pushed (Some (input, line))
+      pub named : names.is_read input ≡ true
+      pub pushed_all : AllPushed old new given pushed (Some (input, line))
 
     -- Something was left to do: an input was not read to its end, or the engine keeps groups and some output was left.
     abbrev pub IsCallUnfinished : CallState I → (I → Received) → List ℕ → Type 0
