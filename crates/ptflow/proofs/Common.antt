@@ -77,10 +77,13 @@ pub use Rattle.ptflow.specs.Cuts.{select_from, cut, cut_decided, cut_fields, cut
 pub use Rattle.ptflow.specs.Cuts.{is_field_delimiter}
 pub use Rattle.ptflow.specs.Parts.{HasGroupedKeys, BeginsWith, CutOfParts, EndsWith, IsRowSplit, PasteOfParts}
 pub use Rattle.ptflow.specs.Parts.{TrAfterByte, TrMeetsTwice, TrOfAnyParts, TrOfParts, UniqByKey, UniqOfParts}
-pub use Rattle.ptflow.specs.Passes.{PassOutcome, StorelessPost, PassPost, PassPre, no_store}
+pub use Rattle.ptflow.specs.Passes.{StorelessPost, PassPost, PassPre, no_store, only_input, pass_end, pass_engine}
+pub use Rattle.ptlines.specs.Calls.{CallPost, CallOutcome, CallState, call_state, CallEnd, Complete, ReadFault}
+pub use Rattle.ptlines.specs.Calls.{WriteFault, MemoryFault, AreAllConsistent, AllPushed, with_input, inputs_at, is_in}
+pub use Rattle.ptlines.proofs.Calls.{CallProgress, DecidedIfReadFailed, given_before, given_by, reads_nothing}
+pub use Rattle.ptlines.proofs.Calls.{call_ends, call_on_failed_output, call_set, call_without_slots}
 pub use Rattle.ptlines.specs.Slots.{AddedSlots}
-pub use Rattle.ptflow.specs.PasteCall.{PastePre, PastePost, IsColumnUnended, IsReadable, IsReadToEnd, PasteOutcome}
-pub use Rattle.ptflow.specs.PasteCall.{update_at}
+pub use Rattle.ptflow.specs.PasteCall.{PastePre, PastePost, IsReadable, paste_end, paste_engine, update_at}
 pub use Rattle.ptlines.specs.Readers.{no_reader, reader_at}
 pub use Rattle.ptflow.specs.PasteText.{columns, delimiter, every_kth, join_with_cycle, row_count, is_row_known}
 pub use Rattle.ptflow.specs.PasteText.{known_rows, paste, paste_decided, paste_size, row_at, rows, paste_serial_decided}

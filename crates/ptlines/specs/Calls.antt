@@ -1,18 +1,27 @@
 -- A call of an engine: what it read, wrote and stored, and how it ended. `I` names the inputs: `Unit` for one input, a
 -- side for two, an index for any number.
-use Rattle.std.specs.Prelude.{◌≡◌, ◌≢◌, ◌⊎◌, ◌≤◌, ◌<◌, ◌^◌, ℕ, Bool, true, false, List, Option, Some, None, length, max}
-use Rattle.std.specs.Prelude.{if◌then◌else◌}
+use Rattle.std.specs.Prelude.{◌≡◌, ◌≢◌, ◌⊎◌, ◌≤◌, ◌<◌, ◌^◌, ◌==◌, ℕ, Bool, true, false, List, Option, Some, None}
+use Rattle.std.specs.Prelude.{length, max, if◌then◌else◌}
+use Rattle.std.specs.List.{list_any}
 use Rattle.ptlines.specs.Lag.{BoundedLag}
 use Rattle.ptlines.specs.Outputs.{Output, PushEffect}
 use Rattle.ptlines.specs.Readers.{Reader, IsDone, HasReadCause}
 use Rattle.ptlines.specs.Received.{Received, IsPrefix, IsConsistent, HasReceived}
-use Rattle.ptlines.specs.Slots.{Slots, total_bytes}
+use Rattle.ptlines.specs.Slots.{Slots, AddedAtLeast, total_bytes}
 
 -- The names of the inputs: which of them a call reads, and whether two of them name one input, as they do if they are
 -- equal.
 pub record InputNames (I : Type 0) : Type 0 where
   pub is_read : I → Bool
   pub is_same : I → I → Bool
+
+-- An index is in a list.
+abbrev pub is_in : List ℕ → ℕ → Bool
+is_in indices index = list_any (λ i. i == index) indices
+
+-- The inputs at the indices in a list.
+abbrev pub inputs_at : List ℕ → InputNames ℕ
+inputs_at indices = record { is_read = is_in indices; is_same = λ i j. i == j }
 
 -- The specification of an engine.
 pub record EngineSpec (I : Type 0) : Type 0 where
@@ -128,8 +137,15 @@ module _ {I : Type 0} (names : InputNames I) where
           → new.reader i ≡ record (old.reader i) { terminator = engine.terminator }
       pub output : new.out ≡ old.out
 
-    -- The postcondition of a call, before which no write and no read of an input had failed. `given` is what was
-    -- received from each input, and `texts` are inputs from which it may come.
+    -- The output had failed before the call: the call reports this, and changes nothing.
+    pub record IsCallUnchanged (old new : CallState I) (end : CallEnd I) : Type 0 where
+      pub is_write_fault : end ≡ WriteFault
+      pub readers : (i : I) → names.is_read i ≡ true → new.reader i ≡ old.reader i
+      pub output : new.out ≡ old.out
+      pub store : new.store ≡ old.store
+
+    -- The postcondition of a call, before which no read of an input had failed. `given` is what was received from each
+    -- input, and `texts` are inputs from which it may come.
     pub record CallPost (old new : CallState I) (end : CallEnd I) : Type 0 where
       pub given : I → Received
       pub came : (i : I) → names.is_read i ≡ true → HasReceived (old.reader i) (new.reader i) (given i)
@@ -152,5 +168,9 @@ module _ {I : Type 0} (names : InputNames I) where
           → new.store.peak ≤ max old.store.peak (engine.size texts)
       pub slots : (texts : I → List ℕ) → AreAllConsistent given texts
           → length new.store.lines ≤ max (length old.store.lines) (engine.slots texts)
+      -- no slot was taken away, and the first slots were added unless the store could not grow
+      pub added : old.out.write_failed ≡ false → AddedAtLeast old.store new.store engine.first_slots
       -- if one of the first slots could not be added, nothing was read or pushed
       pub unread : old.out.write_failed ≡ false → length new.store.lines < engine.first_slots → IsCallUnread old new
+      -- on an output that had failed before, the call does nothing
+      pub unchanged_if_failed : old.out.write_failed ≡ true → IsCallUnchanged old new end

@@ -134,8 +134,3 @@ pub record IsGroup (key : Key) (second : Sorted) (store : Slots) (end : ℕ) (k 
   pub within : (4 ≤ end) × (end ≤ length store.lines)
   pub keyed : (slot : ℕ) → group_first_slot second end ≤ slot → slot < group_end_slot second end
       → key (line store slot) ≡ k
-
--- Slots were added until there are at least `slots` of them, or until the store could not grow.
-pub record AddedAtLeast (before after : Slots) (slots : ℕ) : Type 0 where
-  pub least : length before.lines ≤ length after.lines
-  pub all : after.denied ≡ false → slots ≤ length after.lines
