@@ -20,8 +20,9 @@ pub use Rattle.std.specs.Borrow.{Bor}
 pub use Rattle.std.specs.Io.KnownBytes.{IsAtEnd, append_known, prepend_known}
 pub use Rattle.std.specs.List.{list_any, sum}
 pub use Rattle.std.specs.Prelude.{All, encode_utf8, flat_map, is_none, nat_le, not, option_map, slice_get}
-pub use Rattle.ptflow.specs.Passes.{PassOutcome, PassDone, PassPre, PassPost}
-pub use Rattle.ptflow.specs.PasteCall.{PastePost, IsReadable, IsReadToEnd, PasteOutcome, update_at}
+pub use Rattle.ptlines.specs.Calls.{CallPost, CallOutcome, CallState, call_state, AllPushed, inputs_at, is_in}
+pub use Rattle.ptflow.specs.Passes.{PassPre, PassPost, only_input, pass_engine, pass_end}
+pub use Rattle.ptflow.specs.PasteCall.{PastePost, IsReadable, paste_engine, paste_end, update_at}
 pub use Rattle.ptflow.specs.ToolSpec.{ToolSpec}
 pub use Rattle.ptflow.specs.declared.faults.FlowFault.{FlowFault}
 pub use Rattle.ptflow.specs.declared.faults.FlowFault.TheVariants.{Memory, Read, Write}
@@ -45,7 +46,7 @@ pub use Rattle.ptopts.specs.declared.inputs.Input.{Input}
 pub use Rattle.ptopts.specs.declared.inputs.Input.TheVariants.{File, Standard}
 pub use Rattle.ptrun.specs.SpecOfArgs.{spec_of_args, spec_of_parsed, command_spec, is_memory_fault, tool_of_job, word_of_job}
 pub use Rattle.ptrun.specs.SpecOfArgs.{spec_of_result, message_only, tool_name}
-pub use Rattle.ptrun.specs.Driver.{AreSoundAt, InputsPre, JointPre, MergeCallPost, run_state, result_of_end}
+pub use Rattle.ptrun.specs.Driver.{AreSoundAt, InputsPre, JointPre, run_state, result_of_end}
 pub use Rattle.ptrun.specs.Driver.{OperandPre, OperandPost, RunOnPre, RunOnPost, operand_completion}
 pub use Rattle.ptrun.specs.Driver.{ReportUnopenedPost, FinishPost, EndRunPost, JointPost}
 pub use Rattle.ptrun.specs.Driver.{HasIndexBelow, RunInputsPost, RunInputsEnd, fault_at}
@@ -64,7 +65,7 @@ pub use Rattle.ptrun.specs.Joint.{JointTool, disorder_status, disorder_text, rec
 pub use Rattle.ptrun.specs.Joint.{paste_rows_tool, two_input_tool, operand, bytes_of, joint_spec}
 pub use Rattle.ptrun.specs.Files.{IsConsistentAt, AreNewInputs, HasReceivedAt, HasReadFailed, IsNewOrUnopened, IsNew}
 pub use Rattle.ptrun.specs.Files.{HaveReceived, IsTooLong, ReceivedInputs, HasBytesAt, InputBytes, at, input_of_operand}
-pub use Rattle.ptrun.specs.Files.{inputs_of_operands, is_in, is_unopened, AreInputsConsistent, AreReadToEnd}
+pub use Rattle.ptrun.specs.Files.{inputs_of_operands, is_unopened, AreInputsConsistent, AreReadToEnd}
 pub use Rattle.ptlines.specs.Readers.{no_reader}
 pub use Rattle.ptrun.specs.Files.{opened_values, is_reader_unopened, opened_inputs}
 pub use Rattle.ptlines.specs.Readers.{reader_at}

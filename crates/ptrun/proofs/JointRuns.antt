@@ -21,7 +21,7 @@ use Rattle.ptrun.proofs.Common.{JointPost}
 use Rattle.ptrun.proofs.Common.{run_state, result_of_end, update_at}
 use Rattle.ptlines.specs.Calls.{CallEnd, Complete, OutOfOrder, ReadFault, WriteFault, MemoryFault, CallPost}
 use Rattle.ptlines.specs.Calls.{CallOutcome, AllPushed, AreAllConsistent, NoReadFailed, IsCallUnfinished}
-use Rattle.ptrun.specs.Engines.{operand_inputs, in_run}
+use Rattle.ptrun.specs.Engines.{inputs_at, in_run}
 use Rattle.ptrun.proofs.OneInput.{at_set, opened_set, lagged_output, none_received, received_of, receives_none, never_long}
 use Rattle.ptrun.proofs.OneInput.{not_long, consistent_bytes, unopened_agrees, unopened_received}
 use Rattle.ptrun.proofs.MessageWrites.{said_nothing}
@@ -79,7 +79,7 @@ module _ (word : List ℕ) {t : JointTool} (names : List (List ℕ)) {positions 
     {was is : Output} (messages_old : SinkState) {before store : Slots} {result : Result Completion FlowFault}
     (start : JointPre t positions old was before)
     (post : JointPost t positions old new was is before store result) where
-  k : CallPost (operand_inputs positions) (in_run (t.engine positions)) (run_state old was before)
+  k : CallPost (inputs_at positions) (in_run (t.engine positions)) (run_state old was before)
       (run_state new is store) post.end
   k = post.call
 
@@ -122,7 +122,7 @@ module _ (word : List ℕ) {t : JointTool} (names : List (List ℕ)) {positions 
       sym (any_same (is_reader_unopened old) (is_unopened w) positions (unopened_agrees old new received w came agrees))
       ∙ start.opened
 
-  agree : (w : InputBytes) → AreInputsConsistent received w → AreAllConsistent (operand_inputs positions) k.given (bytes_of w)
+  agree : (w : InputBytes) → AreInputsConsistent received w → AreAllConsistent (inputs_at positions) k.given (bytes_of w)
   agree w agrees q named = let input =
       consistent_bytes (at received q) (at w q) (k.given q) (at_listed q named) (agrees q) in rw input.are input.agree
 
@@ -149,11 +149,11 @@ module _ (word : List ℕ) {t : JointTool} (names : List (List ℕ)) {positions 
   -- ---- how it ended
 
   abbrev AllPushedAt : Option (ℕ × ℕ) → Type 0
-  AllPushedAt found = AllPushed (operand_inputs positions) (in_run (t.engine positions)) (run_state old was before)
+  AllPushedAt found = AllPushed (inputs_at positions) (in_run (t.engine positions)) (run_state old was before)
       (run_state new is store) k.given k.pushed found
 
   abbrev EndedAs : CallEnd ℕ → Type 0
-  EndedAs end = CallOutcome (operand_inputs positions) (in_run (t.engine positions)) (run_state old was before)
+  EndedAs end = CallOutcome (inputs_at positions) (in_run (t.engine positions)) (run_state old was before)
       (run_state new is store) k.given k.pushed end
 
   failed_is_in : (q : ℕ) → HasReadFailed old new q → is_in positions q ≡ true
@@ -163,7 +163,7 @@ module _ (word : List ℕ) {t : JointTool} (names : List (List ℕ)) {positions 
       (false≢true (sym failed.1 ∙ sym (ap (λ r. r.failed) (k.untouched q other)) ∙ failed.2)))
       (cases_Bool (is_in positions q))
 
-  none_failed : NoReadFailed (operand_inputs positions) (run_state old was before) (run_state new is store) → (q : ℕ) → HasReadFailed old new q → ⊥
+  none_failed : NoReadFailed (inputs_at positions) (run_state old was before) (run_state new is store) → (q : ℕ) → HasReadFailed old new q → ⊥
   none_failed none q failed = false≢true (sym failed.1 ∙ sym (none q (failed_is_in q failed)) ∙ failed.2)
 
   none_long : ((q : ℕ) → is_in positions q ≡ true → (reader_at new q).pulled < 2 ^ 63) → (q : ℕ)
@@ -259,7 +259,7 @@ module _ (word : List ℕ) {t : JointTool} (names : List (List ℕ)) {positions 
   -- memory ran out, so something was left
   left_by : (end : CallEnd ℕ)
       → EndedAs end → result_of_end end ≡ Err Memory
-      → IsCallUnfinished (operand_inputs positions) (in_run (t.engine positions)) (run_state new is store) k.given k.pushed
+      → IsCallUnfinished (inputs_at positions) (in_run (t.engine positions)) (run_state new is store) k.given k.pushed
   left_by Complete e memory = cc
   left_by (OutOfOrder p line) e memory = cc
   left_by (ReadFault p) e memory = cc

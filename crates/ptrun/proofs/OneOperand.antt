@@ -2,75 +2,12 @@
 use Rattle.ptrun.proofs.Common.{◌≡◌, ℕ, ◌==◌, ◌<◌, ◌≤◌, true, false, List, [], ◌∷◌, Result, Ok, Err, length}
 use Rattle.ptrun.proofs.Common.{get_or, set, refl, sym, ◌∙◌, ap, subst, arith, eqb-true, false≢true, get_or_default}
 use Rattle.ptrun.proofs.Common.{get_or-set_same, get_or-set_other, no_reader, Reader, IsDone, Output, Slots}
-use Rattle.ptrun.proofs.Common.{ToolSpec, PassPre, PassPost, PassOutcome, FlowFault, Read, Write, Memory, is_in}
+use Rattle.ptrun.proofs.Common.{ToolSpec, PassPre, PassPost, FlowFault, is_in, only_input, pass_engine, pass_end}
 use Rattle.ptrun.proofs.Common.{reader_at, is_reader_unopened, IsNew, JointTool, one_input_tool, JointPre}
 use Rattle.ptrun.proofs.Common.{JointPost, operand_completion, result_of_end, or-false, inl}
-use Rattle.ptlines.specs.Calls.{CallPost, CallOutcome, CallState, call_state}
-use Rattle.ptrun.specs.Engines.{only_input, pass_engine, pass_end, end_at}
-use Rattle.ptrun.proofs.OneInput.{consistent_whole}
+use Rattle.ptrun.specs.Engines.{end_at}
 use Rattle.ptrun.proofs.OperandInputs.{is_in-same, fresh_all, neither, same_here}
 use Rattle.ptrun.proofs.PlacedCalls.{Placement, placed_call}
-
--- ---- a pass
-
-module _ (t : ToolSpec) {old new : Reader} {was is : Output} {before store : Slots}
-    {result : Result (Unit {0}) FlowFault} (clean : was.write_failed ≡ false) (unfailed : old.failed ≡ false)
-    (e : PassPost t old new was is before store result) where
-  abbrev old_state : CallState (Unit {0})
-  old_state = call_state (λ u. old) was before
-
-  abbrev new_state : CallState (Unit {0})
-  new_state = call_state (λ u. new) is store
-
-  pass_ends : (r : Result (Unit {0}) FlowFault) → PassOutcome old new is store r
-      → (r ≡ Ok tt → e.pushed ≡ t.text e.given.bytes)
-      → (r ≡ Err Memory → t.slots ≤ length store.lines → IsDone new → ⊥)
-      → CallOutcome only_input (pass_engine t) old_state new_state (λ u. e.given) e.pushed (pass_end r)
-  pass_ends (Ok u) f whole left = record {
-    out = λ texts a. whole refl ∙ ap t.text
-        (sym (consistent_whole e.given (texts tt) (e.came.eof ∙ f.done.eof) (a tt refl)));
-    disorder = λ texts a. refl;
-    ended = λ none u read. f.done;
-    fault = λ u read. f.fault;
-    short = λ u read. f.short;
-    unfailed = λ u read. f.failed;
-    clean = f.clean;
-    not_denied = f.denied;
-    empty = f.empty;
-  }
-  pass_ends (Err (Read place)) f whole left = record {
-    named = refl;
-    unfailed = unfailed;
-    cause = f.cause;
-    others = λ u read differs. absurd (differs refl);
-    clean = f.clean;
-    not_denied = f.denied;
-  }
-  pass_ends (Err Write) f whole left =
-      record { write_failed = f.write_failed; unfailed = λ u read. f.failed; not_denied = f.denied }
-  pass_ends (Err Memory) f whole left = record {
-    denied = f.denied;
-    unfailed = λ u read. f.failed;
-    clean = f.clean;
-    left = λ enough. inl (tt, refl, left refl enough);
-  }
-
-  pub pass_call : CallPost only_input (pass_engine t) old_state new_state (pass_end result)
-  pass_call = record {
-    given = λ u. e.given;
-    came = λ u read. e.came;
-    untouched = λ u unread. absurd (false≢true (sym unread));
-    pushed = e.pushed;
-    wrote = e.wrote;
-    ends = pass_ends result e.ends e.is_exact e.line_left;
-    is_prefix = λ texts a. e.is_prefix (texts tt) (a tt refl);
-    decided_is_written = λ u read. e.decided_is_written;
-    bounded_lag = λ u read. e.bounded_lag;
-    peak = λ texts a. e.peak (texts tt) (a tt refl);
-    slots = λ texts a. (e.slots clean).most;
-    unread = λ fine few. let none = e.refused fine few in
-        record { readers = λ u read. none.same_reader; output = none.same_output };
-  }
 
 -- ---- the only operand
 
@@ -125,21 +62,13 @@ module _ {j : JointTool} {positions : List ℕ} {old : List Reader} {was : Outpu
         subst (λ ps. JointPost (one_input_tool t) ps old (set old p new) was is before store
         (operand_completion p result)) (sym (only_operand_of positions d one)) (record {
           end = end_at (λ u. p) (pass_end result);
-          result_is = completes result;
+          result_is = refl;
           call = placed_call (pass_engine t) (λ u. p) (one_placed p) old (set old p new) (λ q other. get_or-set_other old p q new no_reader
               (λ same. false≢true (sym other ∙ ap (is_in (p ∷ [])) same ∙ is_in-same [] p))) ready.writable
               (λ few. (tt, refl, new_here.eof))
-              (pass_call t ready.writable ((ready.sound p named).unfailed opened new_here.fault)
-              (rw here (rw (get_or_default old p e no_reader (only_operand_within d)) at pass)));
+              (rw here (rw (get_or_default old p e no_reader (only_operand_within d)) at pass).call);
           same = λ f g same. ap t.decided (same p (is_in-same [] p));
         })
       where
         here : reader_at (set old p new) p ≡ new
         here = get_or-set_same old p new no_reader (only_operand_within d)
-
-        completes : (r : Result (Unit {0}) FlowFault)
-            → operand_completion p r ≡ result_of_end (end_at (λ u. p) (pass_end r))
-        completes (Ok u) = refl
-        completes (Err (Read place)) = refl
-        completes (Err Write) = refl
-        completes (Err Memory) = refl

@@ -15,7 +15,7 @@ use Rattle.ptflow.specs.PasteText.{paste_size}
 use Rattle.ptflow.proofs.PasteLemmas.Grid.{for_each_cell_same, uses_before_lt}
 use Rattle.ptflow.proofs.PasteLemmas.Invariant.{used_at}
 use Rattle.ptflow.specs.PasteCall as pass
-use Rattle.ptrun.specs.Engines.{operand_inputs, paste_engine, paste_end, end_at}
+use Rattle.ptrun.specs.Engines.{inputs_at, paste_engine, paste_end, end_at}
 use Rattle.ptrun.proofs.OneInput.{consistent_whole}
 use Rattle.ptrun.proofs.OperandInputs.{each_listed, none_passes, fresh_all, same_here}
 use Rattle.ptrun.proofs.PlacedCalls.{Placement, placed_call}
@@ -74,89 +74,6 @@ module _ (job : Paste) (cells : List ℕ) where
       (λ p named. ap (max_line_length job.terminator) (same p named)))
       ∙ sum-map (λ p. max_line_length job.terminator (g p)) cells
 
--- ---- a pass over the columns
-
-module _ (job : Paste) {positions : List ℕ} {old new : List Reader} {was is : Output} {before store : Slots}
-    {result : Result (Unit {0}) FlowFault} (clean : was.write_failed ≡ false)
-    (k : PastePost job positions old new was is before store result) where
-  abbrev old_state : CallState ℕ
-  old_state = call_state (reader_at old) was before
-
-  abbrev new_state : CallState ℕ
-  new_state = call_state (reader_at new) is store
-
-  -- the texts at the positions of operands, and elsewhere the bytes received
-  abbrev with_received : (ℕ → List ℕ) → ℕ → List ℕ
-  with_received texts q = cond (is_in positions q) (texts q) (k.given q).bytes
-
-  with_received_is : (texts : ℕ → List ℕ) (q : ℕ) → is_in positions q ≡ true → with_received texts q ≡ texts q
-  with_received_is texts q named = ap (λ b. cond b (texts q) (k.given q).bytes) named
-
-  consistent_at : (texts : ℕ → List ℕ) → AreAllConsistent (operand_inputs positions) k.given texts → (q : ℕ)
-      → IsConsistent (k.given q) (with_received texts q)
-  consistent_at texts agrees q = ⊎_elim (λ named. rw named (agrees q named))
-      (λ other. rw other (record { rest = []; is = sym (append-nil (k.given q).bytes); whole = λ _. refl }))
-      (cases_Bool (is_in positions q))
-
-  rows_end : (r : Result (Unit {0}) FlowFault) → PasteOutcome positions old new is store r
-      → (r ≡ Ok tt → k.pushed ≡ paste job positions (λ q. (k.given q).bytes))
-      → (r ≡ Err Memory → length positions ≤ length store.lines → pass.IsColumnUnended positions new)
-      → CallOutcome (operand_inputs positions) (paste_engine job positions) old_state new_state k.given k.pushed
-      (paste_end r)
-  rows_end (Ok u) e whole left = record {
-    out = λ texts agrees. whole refl ∙ paste_same job positions (λ q. (k.given q).bytes) texts
-        (λ q named. sym (consistent_whole (k.given q) (texts q) ((k.came q).eof ∙ (read q named).done.eof)
-        (agrees q named)));
-    disorder = λ texts agrees. refl;
-    ended = λ none q named. (read q named).done;
-    fault = λ q named. (read q named).fault;
-    short = λ q named. (read q named).short;
-    unfailed = λ q named. e.failed q;
-    clean = e.clean;
-    not_denied = e.denied;
-    empty = e.empty;
-  }
-    where
-      read : (q : ℕ) → is_in positions q ≡ true → IsReadToEnd (reader_at old q) (reader_at new q)
-      read = each_listed (λ q. IsReadToEnd (reader_at old q) (reader_at new q)) positions e.read
-  rows_end (Err (Read p)) e whole left = record {
-    named = used_is_in positions p e.named;
-    unfailed = e.unfailed;
-    cause = e.cause;
-    others = λ q named differs. e.others q differs;
-    clean = e.clean;
-    not_denied = e.denied;
-  }
-  rows_end (Err Write) e whole left =
-      record { write_failed = e.write_failed; unfailed = λ q named. e.failed q; not_denied = e.denied }
-  rows_end (Err Memory) e whole left = record {
-    denied = e.denied;
-    unfailed = λ q named. e.failed q;
-    clean = e.clean;
-    left = λ enough. let (q, used, unended) = left refl enough in inl (q, used_is_in positions q used, unended);
-  }
-
-  rows_call : CallPost (operand_inputs positions) (paste_engine job positions) old_state new_state (paste_end result)
-  rows_call = record {
-    given = k.given;
-    came = λ q named. k.came q;
-    untouched = λ q other. k.untouched q (not_in positions q other);
-    pushed = k.pushed;
-    wrote = k.wrote;
-    ends = rows_end result k.ends k.is_exact k.line_left;
-    is_prefix = λ texts agrees. subst (λ l. IsPrefix k.pushed l)
-        (paste_same job positions (with_received texts) texts (with_received_is texts))
-        (k.is_prefix (with_received texts) (consistent_at texts agrees));
-    decided_is_written = λ q named. k.decided_is_written q (is_in_used positions q named);
-    bounded_lag = λ q named. k.bounded_lag q (is_in_used positions q named);
-    peak = λ texts agrees. subst (λ n. store.peak ≤ max before.peak n)
-        (size_same job positions (with_received texts) texts (with_received_is texts))
-        (k.peak (with_received texts) (consistent_at texts agrees));
-    slots = λ texts agrees. (k.slots clean).most;
-    unread = λ fine few. let none = k.refused fine few in
-        record { readers = λ q named. none.readers q (is_in_used positions q named); output = none.output };
-  }
-
 -- ---- a run over operands that were all opened
 
 abbrev pub rows_completion : Result (Unit {0}) FlowFault → Result Completion FlowFault
@@ -179,7 +96,7 @@ module _ (job : Paste) {positions : List ℕ} {old : List Reader} {was : Output}
     empty = ready.empty;
   }
 
-  in_place : Placement (operand_inputs positions) (λ p. p) positions
+  in_place : Placement (inputs_at positions) (λ p. p) positions
   in_place = record {
     listed = λ q named. named;
     name_at = λ q named. (q, named, refl);
@@ -200,8 +117,8 @@ module _ (job : Paste) {positions : List ℕ} {old : List Reader} {was : Output}
   rows_post {new} {result = result} k = record {
     end = end_at (λ p. p) (paste_end result);
     result_is = completes result;
-    call = placed_call (paste_engine job positions) (λ p. p) in_place old new (λ q other. k.untouched q (not_in positions q other))
-        ready.writable (λ few. let first = cell_in positions 0 (omega arith) in let q = get_or positions 0 0 in
-        (q, first, (fresh_all old ready.fresh q (open_at q first)).eof)) (rows_call job ready.writable k);
+    call = placed_call (paste_engine job positions) (λ p. p) in_place old new k.untouched ready.writable
+        (λ few. let first = cell_in positions 0 (omega arith) in let q = get_or positions 0 0 in
+        (q, first, (fresh_all old ready.fresh q (open_at q first)).eof)) k;
     same = decided_same job positions;
   }

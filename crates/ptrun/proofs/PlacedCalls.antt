@@ -2,11 +2,11 @@
 use Rattle.ptrun.proofs.Common.{◌≡◌, ◌⊎◌, ⊎_elim, inl, inr, ℕ, ◌==◌, ◌<◌, ◌^◌, true, false, cond, List, Option}
 use Rattle.ptrun.proofs.Common.{Some, None, length, refl, sym, ◌∙◌, ap, subst, arith, option_map, false≢true, cases_lt}
 use Rattle.ptrun.proofs.Common.{Reader, IsDone, Output, Slots, Received, IsConsistent, HasReceived, IsPrefix}
-use Rattle.ptrun.proofs.Common.{BoundedLag, is_in, reader_at, run_state}
+use Rattle.ptrun.proofs.Common.{BoundedLag, is_in, inputs_at, reader_at, run_state}
 use Rattle.ptlines.specs.Calls.{InputNames, EngineSpec, call_state, CallEnd, Complete, OutOfOrder, ReadFault}
 use Rattle.ptlines.specs.Calls.{WriteFault, MemoryFault, CallPost, CallOutcome, AllPushed, AreAllConsistent}
 use Rattle.ptlines.specs.Calls.{IsCallUnfinished, with_input}
-use Rattle.ptrun.specs.Engines.{operand_inputs, at_positions, in_run, end_at, line_at}
+use Rattle.ptrun.specs.Engines.{at_positions, in_run, end_at, line_at}
 
 -- The names that are read are those of the positions in a list, one for each.
 pub record Placement {I : Type 0} (names : InputNames I) (position : I → ℕ) (positions : List ℕ) : Type 0 where
@@ -42,7 +42,7 @@ module _ {I : Type 0} {names : InputNames I} (engine : EngineSpec I) (position :
   given_is : (λ i. given (position i)) ≡ call.given
   given_is = λ k i. by.placed_at call.given i k
 
-  agree : (texts : ℕ → List ℕ) → AreAllConsistent (operand_inputs positions) given texts
+  agree : (texts : ℕ → List ℕ) → AreAllConsistent (inputs_at positions) given texts
       → AreAllConsistent names call.given (λ i. texts (position i))
   agree texts a i read =
       subst (λ g. IsConsistent g (texts (position i))) (by.placed_at call.given i) (a (position i) (by.listed i read))
@@ -50,7 +50,7 @@ module _ {I : Type 0} {names : InputNames I} (engine : EngineSpec I) (position :
   all_pushed : (found : Option (I × ℕ))
       → AllPushed names engine (call_state (λ i. reader_at old (position i)) was before)
       (call_state (λ i. reader_at new (position i)) is store) call.given call.pushed found
-      → AllPushed (operand_inputs positions) (in_run (at_positions engine position)) (run_state old was before)
+      → AllPushed (inputs_at positions) (in_run (at_positions engine position)) (run_state old was before)
       (run_state new is store) given call.pushed (option_map (line_at position) found)
   all_pushed found e = record {
     out = λ texts a. e.out (λ i. texts (position i)) (agree texts a);
@@ -67,7 +67,7 @@ module _ {I : Type 0} {names : InputNames I} (engine : EngineSpec I) (position :
 
   unfinished : IsCallUnfinished names engine (call_state (λ i. reader_at new (position i)) is store) call.given
       call.pushed
-      → IsCallUnfinished (operand_inputs positions) (in_run (at_positions engine position)) (run_state new is store) given
+      → IsCallUnfinished (inputs_at positions) (in_run (at_positions engine position)) (run_state new is store) given
       call.pushed
   unfinished (inl (i, read, left)) = inl (position i, by.listed i read, left)
   unfinished (inr (keeps, unwritten)) =
@@ -75,7 +75,7 @@ module _ {I : Type 0} {names : InputNames I} (engine : EngineSpec I) (position :
 
   -- without its first slots the call has read nothing, and all inputs are new
   unread : length store.lines < engine.first_slots
-      → IsCallUnfinished (operand_inputs positions) (in_run (at_positions engine position)) (run_state new is store) given
+      → IsCallUnfinished (inputs_at positions) (in_run (at_positions engine position)) (run_state new is store) given
       call.pushed
   unread few =
       let (i, read, new_input) = unread_input few in
@@ -89,7 +89,7 @@ module _ {I : Type 0} {names : InputNames I} (engine : EngineSpec I) (position :
   ends : (e : CallEnd I)
       → CallOutcome names engine (call_state (λ i. reader_at old (position i)) was before)
       (call_state (λ i. reader_at new (position i)) is store) call.given call.pushed e
-      → CallOutcome (operand_inputs positions) (in_run (at_positions engine position)) (run_state old was before)
+      → CallOutcome (inputs_at positions) (in_run (at_positions engine position)) (run_state old was before)
       (run_state new is store) given call.pushed (end_at position e)
   ends Complete e = all_pushed None e
   ends (OutOfOrder i line) e =
@@ -118,11 +118,11 @@ module _ {I : Type 0} {names : InputNames I} (engine : EngineSpec I) (position :
   -- less was received from one input, and the others are unchanged
   decided_is : (i : I) → ◌≡◌ {A = (Unit {0} → Received) → List ℕ}
       (λ came. engine.decided (with_input names i (came tt) call.given))
-      (λ came. engine.decided (λ j. with_input (operand_inputs positions) (position i) (came tt) given (position j)))
+      (λ came. engine.decided (λ j. with_input (inputs_at positions) (position i) (came tt) given (position j)))
   decided_is i = λ k came. engine.decided
       (λ j. cond (sym (by.same j i) k) (came tt) (sym (by.placed_at call.given j) k))
 
-  pub placed_call : CallPost (operand_inputs positions) (in_run (at_positions engine position)) (run_state old was before)
+  pub placed_call : CallPost (inputs_at positions) (in_run (at_positions engine position)) (run_state old was before)
       (run_state new is store) (end_at position end)
   placed_call = record {
     given = given;
@@ -139,14 +139,16 @@ module _ {I : Type 0} {names : InputNames I} (engine : EngineSpec I) (position :
         subst (λ g. IsPrefix (engine.decided g) call.pushed) (sym given_is)
         (call.decided_is_written i read failed fine));
     bounded_lag = each by (λ q. was.write_failed ≡ false → BoundedLag {I = Unit {0}}
-        (λ came. engine.decided (λ j. with_input (operand_inputs positions) q (came tt) given (position j)))
+        (λ came. engine.decided (λ j. with_input (inputs_at positions) q (came tt) given (position j)))
         (λ u. given q) was is call.pushed) (λ i read fine.
         subst (λ (g : Received). BoundedLag {I = Unit {0}} (λ came. engine.decided
-        (λ j. with_input (operand_inputs positions) (position i) (came tt) given (position j)))
+        (λ j. with_input (inputs_at positions) (position i) (came tt) given (position j)))
         (λ u. g) was is call.pushed) (sym (by.placed_at call.given i))
         (subst (λ (f : (Unit {0} → Received) → List ℕ). BoundedLag f (λ u. call.given i) was is call.pushed)
         (decided_is i) (call.bounded_lag i read fine)));
     peak = λ texts a. call.peak (λ i. texts (position i)) (agree texts a);
     slots = λ texts a. call.slots (λ i. texts (position i)) (agree texts a);
+    added = λ fine. record { least = (call.added fine).least; all = λ allowed. omega arith };
     unread = λ fine none. absurd (omega arith);
+    unchanged_if_failed = λ fault. cc;
   }

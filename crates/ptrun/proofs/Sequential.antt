@@ -8,8 +8,8 @@ use Rattle.ptrun.proofs.Common.{ap, subst, arith, append_assoc, length-append, l
 use Rattle.ptrun.proofs.Common.{list_any, append-nil, take_all, map-append, get_or-set_same, get_or-set_other}
 use Rattle.ptrun.proofs.Common.{length-map, take-append_seam, take-length, flat_map-append, false≢true, Reader, IsSound}
 use Rattle.ptrun.proofs.Common.{HasReadCause, Output, PushEffect, Slots, total_bytes, SinkState, push_trans}
-use Rattle.ptrun.proofs.Common.{push_nothing, Received, empty_input, IsConsistent, IsPrefix, HasReceived, PassDone}
-use Rattle.ptrun.proofs.Common.{PassOutcome, PassPost, ToolSpec, FlowFault, Read, Write, Memory, InputBytes}
+use Rattle.ptrun.proofs.Common.{push_nothing, Received, empty_input, IsConsistent, IsPrefix, HasReceived, AllPushed}
+use Rattle.ptrun.proofs.Common.{CallOutcome, PassPost, ToolSpec, FlowFault, Read, Write, Memory, InputBytes}
 use Rattle.ptrun.proofs.Common.{ReceivedInputs, at, is_unopened, IsConsistentAt, AreInputsConsistent, is_in}
 use Rattle.ptrun.proofs.Common.{input_of_operand, inputs_of_operands, opened_values, opened_inputs, reader_at}
 use Rattle.ptrun.proofs.Common.{no_reader, is_reader_unopened, HasReceivedAt, HaveReceived, IsNewOrUnopened}
@@ -18,10 +18,11 @@ use Rattle.ptrun.proofs.Common.{BoundedLag, IsPushedUpToBlock, decided_in_order,
 use Rattle.ptrun.proofs.Common.{sequential_bound, sequential_decided, sequential_spec, Completion, AllWritten, Unopened}
 use Rattle.ptrun.proofs.Common.{HasCause, fault_at, result_message, result_status, HasIndexBelow, RunInputsPost, get_or}
 use Rattle.ptrun.proofs.Common.{get_or_default, All, DecidesAll, OperandPre, OperandPost, operand_completion}
+use Rattle.ptrun.proofs.Common.{CallState, call_state, only_input, pass_engine, pass_end}
 use Rattle.ptrun.proofs.OneInput.{all_earlier, last_earlier, sends_now, sends_after, IsAtEof, none_received}
 use Rattle.ptrun.proofs.OneInput.{completion_with, received_of, received_at, nothing_read, never_long, not_long}
 use Rattle.ptrun.proofs.OneInput.{OpenedInput, opened_receives, still_unopened, receives_trans, ended_gives_nothing}
-use Rattle.ptrun.proofs.OneInput.{unopened_agrees, none_of, consistent_bytes, consistent_before, consistent_whole}
+use Rattle.ptrun.proofs.OneInput.{unopened_agrees, none_of, consistent_bytes, consistent_before}
 use Rattle.ptrun.proofs.OneInput.{least_consistent, ended_at, nth_here}
 use Rattle.ptrun.proofs.MessageWrites.{said_nothing}
 use Rattle.ptrun.proofs.OperandInputs.{some_same, holds_more, is_in-same, is_in-other, not_more, by_position, opened_inputs_some}
@@ -65,7 +66,9 @@ done_as inputs kept out messages far positions k = rw (inputs, kept, out, messag
 ok_of : (p : ℕ) {all : Completion} (passed : Result (Unit {0}) FlowFault) → operand_completion p passed ≡ Ok all
     → passed ≡ Ok tt
 ok_of p (Ok u) same = refl
-ok_of p (Err fault) same = cc
+ok_of p (Err (Read index)) same = cc
+ok_of p (Err Write) same = cc
+ok_of p (Err Memory) same = cc
 
 -- the failure of the pass over the operand at `p`, from that of the tool
 record PassFault (p : ℕ) (passed : Result (Unit {0}) FlowFault) (fault : FlowFault) : Type 0 where
@@ -76,7 +79,9 @@ record PassFault (p : ℕ) (passed : Result (Unit {0}) FlowFault) (fault : FlowF
 err_of : {p : ℕ} {fault : FlowFault} (passed : Result (Unit {0}) FlowFault) → operand_completion p passed ≡ Err fault
     → PassFault p passed fault
 err_of (Ok u) same = cc
-err_of (Err f) same = record { passed_fault = f; failed = refl; is = cc }
+err_of (Err (Read index)) same = record { passed_fault = Read index; failed = refl; is = cc }
+err_of (Err Write) same = record { passed_fault = Write; failed = refl; is = cc }
+err_of (Err Memory) same = record { passed_fault = Memory; failed = refl; is = cc }
 
 module _ {word : List ℕ} {t : ToolSpec} {names : List (List ℕ)} {old : List Reader} {was : Output}
     {messages_old : SinkState} {before : Slots} (fresh : All IsNewOrUnopened old) where
@@ -271,6 +276,22 @@ module _ {word : List ℕ} {t : ToolSpec} {names : List (List ℕ)} {old : List 
     module _ {is' : Output} {store' : Slots} {p : ℕ} {new : Reader} {result : Result (Unit {0}) FlowFault}
         (within : p < length old) (d : Reader) (open_here : (get_or now p d).refused ≡ false)
         (sound : IsSound (get_or now p d)) (e : PassPost t (reader_at now p) new is is' store store' result) where
+      abbrev was_here : CallState (Unit {0})
+      was_here = call_state (λ u. reader_at now p) is store
+
+      abbrev is_here : CallState (Unit {0})
+      is_here = call_state (λ u. new) is' store'
+
+      abbrev given_here : Received
+      given_here = e.call.given tt
+
+      abbrev EndedAs : Result (Unit {0}) FlowFault → Type 0
+      EndedAs result = CallOutcome only_input (pass_engine t) was_here is_here e.call.given e.call.pushed
+          (pass_end result)
+
+      came_here : HasReceived (reader_at now p) new given_here
+      came_here = e.call.came tt refl
+
       not_failed_before : (reader_at now p).failed ≡ false
       not_failed_before = rw (here within d) at (sound.unfailed open_here (ready_here within d open_here))
 
@@ -285,7 +306,7 @@ module _ {word : List ℕ} {t : ToolSpec} {names : List (List ℕ)} {old : List 
       buffered = let (buffered, fault) = can_read_now p old_open in buffered
 
       abbrev given_now : Received → Received
-      given_now g = record { bytes = g.bytes ++ e.given.bytes; eof = e.given.eof }
+      given_now g = record { bytes = g.bytes ++ given_here.bytes; eof = given_here.eof }
 
       abbrev inputs_read' : ReceivedInputs
       inputs_read' = set k.inputs_read p (Some (given_now y.given))
@@ -307,18 +328,18 @@ module _ {word : List ℕ} {t : ToolSpec} {names : List (List ℕ)} {old : List 
           (λ is_p. differs (sym is_p))
 
       receives_here : HasReceived (reader_at old p) new (given_now y.given)
-      receives_here = receives_trans (reader_at old p) (reader_at now p) new y.given e.given y.received e.came buffered
+      receives_here = receives_trans (reader_at old p) (reader_at now p) new y.given given_here y.received came_here buffered
 
       received' : HaveReceived old now' inputs_read'
       received' = by_position (λ q. HasReceivedAt (reader_at old q) (reader_at now' q) (at inputs_read' q)) p
           (rw (reader_here, read_here) (old_open, receives_here))
           (λ q other. rw (reader_other q other, read_other q other) (k.came q))
 
-      still : y.given.eof ≡ true → (e.given.bytes ≡ []) × (e.given.eof ≡ true)
-      still eof = ended_gives_nothing (reader_at now p) new e.given e.came buffered (sym y.received.eof ∙ eof)
+      still : y.given.eof ≡ true → (given_here.bytes ≡ []) × (given_here.eof ≡ true)
+      still eof = ended_gives_nothing (reader_at now p) new given_here came_here buffered (sym y.received.eof ∙ eof)
 
       -- its input was read to its end before and gives nothing now, or it was not read before
-      turn : ((is_in done p ≡ true) × (e.given ≡ empty_input) × IsAtEof (reader_at now p))
+      turn : ((is_in done p ≡ true) × (given_here ≡ empty_input) × IsAtEof (reader_at now p))
           ⊎ ((is_in done p ≡ false) × (y.given ≡ none_received))
       turn = ⊎_elim
           (λ seen.
@@ -335,13 +356,13 @@ module _ {word : List ℕ} {t : ToolSpec} {names : List (List ℕ)} {old : List 
       unseen cause = ⊎_elim
           (λ (seen, none, at_eof). absurd
           (⊎_elim
-          (λ (failed, fault, before). false≢true (sym (e.came.eof ∙ before) ∙ ap (λ g. g.eof) none))
-          (λ (long, same). let (pulled, still_eof) = e.came.still at_eof.done.eof in
+          (λ (failed, fault, before). false≢true (sym (came_here.eof ∙ before) ∙ ap (λ g. g.eof) none))
+          (λ (long, same). let (pulled, still_eof) = came_here.still at_eof.done.eof in
           omega (arith, at_eof.short, pulled, long)) cause))
           (λ (unseen, none). unseen) turn
 
       consistent_here : (b : List ℕ) → IsConsistent (given_now y.given) b
-          → IsConsistent e.given (cond (is_in done p) [] b)
+          → IsConsistent given_here (cond (is_in done p) [] b)
       consistent_here b a = ⊎_elim
           (λ (seen, none, at_eof). rw (none, seen) (record { rest = []; is = refl; whole = λ _. refl }))
           (λ (unseen, none). rw unseen (rw none at a)) turn
@@ -351,14 +372,14 @@ module _ {word : List ℕ} {t : ToolSpec} {names : List (List ℕ)} {old : List 
       back w agrees =
           let here = consistent_bytes (at inputs_read' p) (at w p) (given_now y.given) read_here (agrees p) in
           by_position (λ q. IsConsistentAt (at k.inputs_read q) (at w q)) p
-          (rw (y.is, here.are) (consistent_before y.given e.given here.bytes still here.agree))
+          (rw (y.is, here.are) (consistent_before y.given given_here here.bytes still here.agree))
           (λ q differs. rw (read_other q differs) at (agrees q))
 
       -- the bytes that are left for the operand, consistent with what this call received
       record OperandFinds (w : InputBytes) : Type 0 where
         bytes : List ℕ
         are : input_of_operand [] w done p ≡ Some bytes
-        agree : IsConsistent e.given bytes
+        agree : IsConsistent given_here bytes
 
       operand_finds : (w : InputBytes) → AreInputsConsistent inputs_read' w → OperandFinds w
       operand_finds w agrees =
@@ -391,7 +412,7 @@ module _ {word : List ℕ} {t : ToolSpec} {names : List (List ℕ)} {old : List 
           (omega (
             arith,
             maximum-append (map t.size (opened_inputs [] w done)) (map t.size (f.bytes ∷ later w more)),
-            e.peak f.bytes f.agree,
+            e.call.peak (λ u. f.bytes) (λ u read. f.agree),
             k.peak w (back w agrees),
           ))
 
@@ -407,7 +428,7 @@ module _ {word : List ℕ} {t : ToolSpec} {names : List (List ℕ)} {old : List 
           (omega (
             arith,
             maximum-append (map slots_of (opened_inputs [] w done)) (map slots_of (f.bytes ∷ later w more)),
-            (e.slots k.clean).most,
+            e.call.slots (λ u. f.bytes) (λ u read. f.agree),
             k.slots w (back w agrees),
           ))
 
@@ -427,34 +448,37 @@ module _ {word : List ℕ} {t : ToolSpec} {names : List (List ℕ)} {old : List 
             ∙ k.unread q before;
         unreceived = λ q unseen. let (differs, before) = not_more done p q unseen in read_other q differs
             ∙ k.unreceived q before;
-        pushed = k.pushed ++ e.pushed;
-        wrote = push_trans was is is' k.pushed e.pushed k.clean k.wrote e.wrote;
+        pushed = k.pushed ++ e.call.pushed;
+        wrote = push_trans was is is' k.pushed e.call.pushed k.clean k.wrote e.call.wrote;
         out = λ w agrees. let f = operand_finds w agrees in
-            (λ i. k.out w (back w agrees) i ++ (e.is_exact ok
-            ∙ ap t.text (sym (consistent_whole e.given f.bytes (e.came.eof ∙ end.done.eof) f.agree))
-            ∙ sym (append-nil (t.text f.bytes))) i)
+            (λ i. k.out w (back w agrees) i
+            ++ (end.out (λ u. f.bytes) (λ u read. f.agree) ∙ sym (append-nil (t.text f.bytes))) i)
             ∙ sym (out_here w [] f);
         has_said =
             said_more word names (is_reader_unopened old) done p k.has_said (rw old_open (said_nothing messages_new));
         so_far_is = k.so_far_is ∙ sym (ap completion_with (any_before (is_reader_unopened old) done p old_open));
         clean = end.clean;
-        not_denied = end.denied;
+        not_denied = end.not_denied;
         empty = end.empty;
         peak = λ w agrees. peak_here w [] agrees;
         slots = λ w agrees. slots_here w [] agrees;
-        room = λ q seen opened. omega (arith, (e.slots k.clean).all end.denied);
+        room = λ q seen opened. omega (arith, (e.call.added k.clean).all end.not_denied);
       }
         where
-          end : PassDone (reader_at now p) new is' store'
-          end = rw ok at e.ends
+          end : AllPushed only_input (pass_engine t) was_here is_here e.call.given e.call.pushed None
+          end = subst EndedAs ok e.call.ends
 
           at_eof : IsAtEof new
-          at_eof =
-              record { done = end.done; fault = end.fault; failed = end.failed ∙ not_failed_before; short = end.short }
+          at_eof = record {
+            done = end.ended refl tt refl;
+            fault = end.fault tt refl;
+            failed = end.unfailed tt refl ∙ not_failed_before;
+            short = end.short tt refl;
+          }
 
       -- ---- it failed
 
-      cause_of : (more : List ℕ) (fault : FlowFault) → PassOutcome (reader_at now p) new is' store' (Err fault)
+      cause_of : (more : List ℕ) (fault : FlowFault) → EndedAs (Err fault)
           → HasCause (sequential_spec word t names (done ++ p ∷ more)) inputs_read' old now' is'.write_failed
           store'.denied (length done) (fault_at p fault)
       cause_of more (Read position) r = (
@@ -471,7 +495,7 @@ module _ {word : List ℕ} {t : ToolSpec} {names : List (List ℕ)} {old : List 
             (rw read_here (let first = fresh_all old fresh p old_open in
             omega (arith, long, receives_here.count, ap length first.buffered, first.pulled)))) r.cause,
         r.clean,
-        r.denied,
+        r.not_denied,
       )
       cause_of more Write r = r.write_failed
       cause_of more Memory r = (r.denied, r.clean)
@@ -493,20 +517,21 @@ module _ {word : List ℕ} {t : ToolSpec} {names : List (List ℕ)} {old : List 
       input_left : result ≡ Err Memory → IsDone new → ⊥
       input_left memory ended = ⊎_elim
           (λ few.
-          let unread = (e.refused k.clean few).same_reader in
-          ⊎_elim (λ seen. omega (arith, few, k.room p seen old_open, (e.slots k.clean).least))
+          let unread = (e.call.unread k.clean few).readers tt refl in
+          ⊎_elim (λ seen. omega (arith, few, k.room p seen old_open, (e.call.added k.clean).least))
           (λ unseen. false≢true (sym (fresh_all old fresh p old_open).eof
           ∙ ap (λ r. r.eof) (sym (k.unread p unseen))
           ∙ ap (λ r. r.eof) (sym unread) ∙ ended.eof)) (cases_Bool (is_in done p)))
-          (λ enough. e.line_left memory enough ended) (cases_lt (length store'.lines) t.slots)
+          (λ enough. ⊎_elim (λ (u, read, unended). unended ended) (λ (keeps, missing). false≢true keeps)
+          ((subst EndedAs memory e.call.ends).left enough)) (cases_lt (length store'.lines) t.slots)
 
-      failing : (fault : FlowFault) → PassOutcome (reader_at now p) new is' store' (Err fault) → new.failed ≡ true
+      failing : (fault : FlowFault) → EndedAs (Err fault) → new.failed ≡ true
           → (new.eof ≡ false) × (fault_at p fault ≡ Read p)
       failing (Read position) r failed =
           ⊎_elim (λ (now_failed, empty, going). (going, refl))
           (λ (long, same). absurd (false≢true (sym (same ∙ not_failed_before) ∙ failed))) r.cause
-      failing Write r failed = absurd (false≢true (sym (r.failed ∙ not_failed_before) ∙ failed))
-      failing Memory r failed = absurd (false≢true (sym (r.failed ∙ not_failed_before) ∙ failed))
+      failing Write r failed = absurd (false≢true (sym (r.unfailed tt refl ∙ not_failed_before) ∙ failed))
+      failing Memory r failed = absurd (false≢true (sym (r.unfailed tt refl ∙ not_failed_before) ∙ failed))
 
       ended_before : (q : ℕ) → is_in done q ≡ true → IsEndedAt (at inputs_read' q)
       ended_before = by_position (λ q. is_in done q ≡ true → IsEndedAt (at inputs_read' q)) p
@@ -525,13 +550,13 @@ module _ {word : List ℕ} {t : ToolSpec} {names : List (List ℕ)} {old : List 
             ++ flat_map t.decided (up_to_unended came))
 
         -- the output of this operand that was decided two blocks earlier
-        one_keeps : BoundedLag {I = Unit {0}} (λ came. t.decided (came tt)) (λ u. e.given) is is' e.pushed
-        one_keeps = e.bounded_lag k.clean
+        one_keeps : BoundedLag {I = Unit {0}} (λ came. t.decided (came tt)) (λ u. given_here) is is' e.call.pushed
+        one_keeps = e.call.bounded_lag tt refl k.clean
 
         abbrev earlier : Received
         earlier = (one_keeps.processing.before tt).earlier
 
-        input_given : input_of_operand empty_input inputs_read' done p ≡ Some (e.given)
+        input_given : input_of_operand empty_input inputs_read' done p ≡ Some (given_here)
         input_given = ap (λ o. option_map (λ (g : Received). cond (is_in done p) empty_input g) o)
             read_here
             ∙ ⊎_elim (λ (seen, none, at_eof). (λ i. Some (cond (seen i) empty_input (given_now y.given)))
@@ -550,8 +575,8 @@ module _ {word : List ℕ} {t : ToolSpec} {names : List (List ℕ)} {old : List 
             none_after false last = refl
 
         -- a prefix of what this operand pushed, after all that was pushed before it
-        begins_after : (bytes : List ℕ) {all : List ℕ} → all ≡ k.pushed ++ bytes → IsPrefix bytes e.pushed
-            → IsPrefix all (k.pushed ++ e.pushed)
+        begins_after : (bytes : List ℕ) {all : List ℕ} → all ≡ k.pushed ++ bytes → IsPrefix bytes e.call.pushed
+            → IsPrefix all (k.pushed ++ e.call.pushed)
         begins_after bytes is b =
             record {
               rest = b.rest;
@@ -570,8 +595,8 @@ module _ {word : List ℕ} {t : ToolSpec} {names : List (List ℕ)} {old : List 
         stopped more fault is_err = record {
           received = inputs_read';
           came = received';
-          pushed = k.pushed ++ e.pushed;
-          wrote = push_trans was is is' k.pushed e.pushed k.clean k.wrote e.wrote;
+          pushed = k.pushed ++ e.call.pushed;
+          wrote = push_trans was is is' k.pushed e.call.pushed k.clean k.wrote e.call.wrote;
           operands_done = length done;
           within = omega (arith, length-append done (p ∷ more));
           message = unopened_messages word names (is_reader_unopened old) done;
@@ -589,30 +614,30 @@ module _ {word : List ℕ} {t : ToolSpec} {names : List (List ℕ)} {old : List 
           left = λ memory. let same : fault_at p fault ≡ Memory = cc in inl (
             p,
             rw (take-append-add done (p ∷ more) 1) (is_in-same done p),
-            rw reader_here (e.came.refused ∙ sym (was_unopened p) ∙ old_open),
+            rw reader_here (came_here.refused ∙ sym (was_unopened p) ∙ old_open),
             rw reader_here (input_left (is_err ∙ ap (λ f. Err f) (memory_is fault same))),
           );
-          is_prefix = λ w agrees. let f = operand_finds w agrees in let b = e.is_prefix f.bytes f.agree in let rest =
+          is_prefix = λ w agrees. let f = operand_finds w agrees in let b = e.call.is_prefix (λ u. f.bytes) (λ u read. f.agree) in let rest =
               flat_map t.text (later w more) in record {
                 rest = b.rest ++ rest;
                 is = out_here w more f ∙ (λ i. sym (k.out w (back w agrees)) i ++ (b.is i ++ rest))
-                    ∙ ap (λ l. k.pushed ++ l) (append_assoc e.pushed b.rest rest)
-                    ∙ sym (append_assoc k.pushed e.pushed (b.rest ++ rest));
+                    ∙ ap (λ l. k.pushed ++ l) (append_assoc e.call.pushed b.rest rest)
+                    ∙ sym (append_assoc k.pushed e.call.pushed (b.rest ++ rest));
               };
           decided_is_written = λ q failed clean. let here = fails_here q failed in let after =
               opened_values (inputs_of_operands empty_input inputs_read' (done ++ p ∷ []) more) in
-              begins_after (t.decided e.given) (ap (λ l. flat_map t.decided (up_to_unended l))
-              (opened_inputs_some empty_input inputs_read' done p more e.given input_given)
-              ∙ decided_all (e.given ∷ after) ∙ ap (λ l. k.pushed ++ l)
-              (decided_open e.given after (inr (e.came.eof ∙ (failing fault end here).0))))
-              (e.decided_is_written here clean);
+              begins_after (t.decided given_here) (ap (λ l. flat_map t.decided (up_to_unended l))
+              (opened_inputs_some empty_input inputs_read' done p more given_here input_given)
+              ∙ decided_all (given_here ∷ after) ∙ ap (λ l. k.pushed ++ l)
+              (decided_open given_here after (inr (came_here.eof ∙ (failing fault end here).0))))
+              (e.call.decided_is_written tt refl here clean);
           bounded_lag =
               rw (
                 take-append-add done (p ∷ more) 1,
-                opened_inputs_some empty_input inputs_read' done p [] e.given input_given,
+                opened_inputs_some empty_input inputs_read' done p [] given_here input_given,
               )
-              (last_earlier t (opened_inputs empty_input inputs_read' done) e.given (one_keeps.processing.before tt)
-              (λ bytes. IsPushedUpToBlock bytes was is' (k.pushed ++ e.pushed)) (record {
+              (last_earlier t (opened_inputs empty_input inputs_read' done) given_here (one_keeps.processing.before tt)
+              (λ bytes. IsPushedUpToBlock bytes was is' (k.pushed ++ e.call.pushed)) (record {
                 begins = begins_after (t.decided earlier) decided_here one_keeps.processing.begins;
                 buffering =
                     rw decided_here
@@ -624,8 +649,8 @@ module _ {word : List ℕ} {t : ToolSpec} {names : List (List ℕ)} {old : List 
           slots = λ w agrees. slots_here w more agrees;
         }
           where
-            end : PassOutcome (reader_at now p) new is' store' (Err fault)
-            end = rw is_err at e.ends
+            end : EndedAs (Err fault)
+            end = subst EndedAs is_err e.call.ends
 
             position_of : (q : ℕ) → HasReadFailed old now' q → p ≡ q
             position_of q (opened, before, failed) = ⊎_elim (λ same. same)

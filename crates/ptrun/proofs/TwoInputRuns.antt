@@ -21,108 +21,6 @@ use Rattle.ptrun.specs.Engines.{both_sides, is_same_side, disordered_line, merge
 use Rattle.ptrun.proofs.OperandInputs.{same_here, is_in-same, none_passes, each_listed, put_here, put_other, fresh_all}
 use Rattle.ptrun.proofs.PlacedCalls.{Placement, placed_call}
 
--- ---- a merge
-
--- a side that is not this one is the other one
-failed_other : (old new : Side → Reader) (side : Side)
-    → ((new (other side)).failed ≡ (old (other side)).failed) → (j : Side) → (j ≡ side → ⊥)
-    → (new j).failed ≡ (old j).failed
-failed_other old new First others First differs = absurd (differs refl)
-failed_other old new First others Second differs = others
-failed_other old new Second others First differs = others
-failed_other old new Second others Second differs = absurd (differs refl)
-
-with_is : {X : Type 0} (side : Side) (x : X) (f : Side → X) (j : Side) → with_side side x f j ≡ with_input both_sides side x f j
-with_is First x f First = refl
-with_is First x f Second = refl
-with_is Second x f First = refl
-with_is Second x f Second = refl
-
-disorder_is : (d : Option MergeDisorder) (side : Side) (line : ℕ) → IsDisorderAt d side line
-    → option_map disordered_line d ≡ Some (side, line)
-disorder_is None side line k = absurd k
-disorder_is (Some d) side line k = λ i. Some (k.0 i, k.1 i)
-
-module _ (t : MergeTool) {old new : MergeState} {result : Result (Unit {0}) MergeFault}
-    (clean : old.out.write_failed ≡ false) (unfailed : (side : Side) → (old.reader side).failed ≡ false)
-    (m : MergePost t old new result) (unread : IsUnreadWithoutSlots t.terminator old new) where
-  abbrev old_state : CallState Side
-  old_state = call_state old.reader old.out old.store
-
-  abbrev new_state : CallState Side
-  new_state = call_state new.reader new.out new.store
-
-  unfinished : IsMergeUnfinished t new m.given m.pushed
-      → IsCallUnfinished both_sides (merge_engine t) new_state m.given m.pushed
-  unfinished (inl (side, left)) = inl (side, refl, left)
-  unfinished (inr (keeps, unwritten)) = inr (keeps, λ texts a. unwritten texts (λ side. a side refl))
-
-  ends : (r : Result (Unit {0}) MergeFault) → MergeEndPost old new r
-      → ((texts : Side → List ℕ) → AreConsistent m.given texts → IsExactMerge t texts m.pushed r)
-      → (r ≡ Err faults.Memory → 4 ≤ length new.store.lines → IsMergeUnfinished t new m.given m.pushed)
-      → CallOutcome both_sides (merge_engine t) old_state new_state m.given m.pushed (merge_end r)
-  ends (Ok u) k exact left = record {
-    out = λ texts a. (exact texts (λ side. a side refl)).0;
-    disorder = λ texts a. ap (option_map disordered_line) (exact texts (λ side. a side refl)).1;
-    ended = λ none side read. k.done side;
-    fault = λ side read. k.fault side;
-    short = λ side read. k.short side;
-    unfailed = λ side read. k.failed side;
-    clean = k.clean;
-    not_denied = k.denied;
-    empty = k.empty;
-  }
-  ends (Err (faults.Read side)) k exact left = record {
-    named = refl;
-    unfailed = unfailed side;
-    cause = k.cause;
-    others = λ j read. failed_other old.reader new.reader side k.others j;
-    clean = k.clean;
-    not_denied = k.denied;
-  }
-  ends (Err faults.Write) k exact left =
-      record { write_failed = k.write_failed; unfailed = λ side read. k.failed side; not_denied = k.denied }
-  ends (Err faults.Memory) k exact left = record {
-    denied = k.denied;
-    unfailed = λ side read. k.failed side;
-    clean = k.clean;
-    left = λ enough. unfinished (left refl enough);
-  }
-  ends (Err (faults.Disorder side line)) k exact left = record {
-    named = refl;
-    pushed_all = record {
-      out = λ texts a. (exact texts (λ side. a side refl)).0;
-      disorder = λ texts a. disorder_is (disorder t (lines_of t texts)) side line
-          (exact texts (λ side. a side refl)).1;
-      ended = λ none. cc;
-      fault = λ side read. k.fault side;
-      short = λ side read. k.short side;
-      unfailed = λ side read. k.failed side;
-      clean = k.clean;
-      not_denied = k.denied;
-      empty = k.empty;
-    };
-  }
-
-  merge_call : CallPost both_sides (merge_engine t) old_state new_state (merge_end result)
-  merge_call = record {
-    given = m.given;
-    came = λ side read. m.came side;
-    untouched = λ side none. absurd (false≢true (sym none));
-    pushed = m.pushed;
-    wrote = m.wrote;
-    ends = ends result m.ends m.is_exact m.unfinished;
-    is_prefix = λ texts a. m.is_prefix texts (λ side. a side refl);
-    decided_is_written = λ side read. m.decided_is_written side;
-    bounded_lag = λ side read fine. subst (λ (f : (Unit {0} → Received) → List ℕ).
-        BoundedLag f (λ u. m.given side) old.out new.out m.pushed)
-        (λ i came. decided_output t (λ j. with_is side (came tt) m.given j i)) (m.bounded_lag side fine);
-    peak = λ texts a. m.peak texts (λ side. a side refl);
-    slots = λ texts a. m.slots texts (λ side. a side refl);
-    unread = λ fine few. let none = unread fine few in
-        record { readers = λ side read. none.readers side; output = none.output };
-  }
-
 -- ---- two operands
 
 -- two different positions
@@ -214,10 +112,10 @@ module _ (t : MergeTool) {old : List Reader} {was : Output} {before : Slots} {p 
 
   pub two_inputs_post : {new : List Reader} {is : Output} {store : Slots} {result : Result (Unit {0}) MergeFault}
       → ((k : ℕ) → (p ≡ k → ⊥) → (q ≡ k → ⊥) → reader_at new k ≡ reader_at old k)
-      → MergeCallPost t (merge_state (reader_at old p) (reader_at old q) was before)
+      → MergePost t (merge_state (reader_at old p) (reader_at old q) was before)
       (merge_state (reader_at new p) (reader_at new q) is store) result
       → JointPost (two_input_tool t) two old new was is before store (merge_completion (both p q) result)
-  two_inputs_post {new} {is} {store} {result} others call = record {
+  two_inputs_post {new} {is} {store} {result} others post = record {
     end = end_at (operand two) (merge_end result);
     result_is = λ i. result_of_end (end_at (λ side. position_is side i) (merge_end result));
     call = placed_call (merge_engine t) (operand two) two_placed old new (λ k other. others k
@@ -230,7 +128,7 @@ module _ (t : MergeTool) {old : List Reader} {was : Output} {before : Slots} {p 
         (subst (λ (rs : Side → Reader). CallPost both_sides (merge_engine t)
         (call_state (both (reader_at old p) (reader_at old q)) was before) (call_state rs is store) (merge_end result))
         (λ i side. by_side new side i)
-        (merge_call t ready.writable not_failed call.merged call.unread_without_slots)));
+        post.call));
     same = λ f g same. ap (decided_output t) (λ i side. same (operand two side) (named side) i);
   }
 

@@ -3,28 +3,27 @@ use Rattle.std.specs.Prelude.{◌≡◌, ℕ, ◌+◌, ◌<◌, ◌≤◌, Bool,
 use Rattle.std.specs.Prelude.{None, Result, Ok, Err, length, max, set}
 use Rattle.std.specs.List.{list_any}
 use Rattle.ptlines.specs.Calls.{CallState, call_state, CallEnd, Complete, OutOfOrder, ReadFault, WriteFault}
-use Rattle.ptlines.specs.Calls.{MemoryFault, CallPost}
+use Rattle.ptlines.specs.Calls.{MemoryFault, CallPost, inputs_at, is_in}
 use Rattle.ptlines.specs.Readers.{Reader, IsSound}
 use Rattle.ptlines.specs.Outputs.{Output, PushEffect}
 use Rattle.ptlines.specs.Slots.{Slots, total_bytes}
 use Rattle.ptlines.specs.Sinks.{SinkState, flushes_after}
 use Rattle.ptlines.specs.Received.{Received, IsPrefix}
-use Rattle.ptflow.specs.Passes.{PassPre, PassPost}
+use Rattle.ptflow.specs.Passes.{PassPre, PassPost, pass_end}
 use Rattle.ptflow.specs.ToolSpec.{ToolSpec}
 use Rattle.ptflow.specs.declared.faults.FlowFault.{FlowFault}
 use Rattle.ptflow.specs.declared.faults.FlowFault.TheVariants.{Read, Write, Memory}
 use Rattle.ptmerge.specs.declared.faults.MergeFault.{MergeFault}
 use Rattle.ptmerge.specs.declared.key_order.Side.{Side}
-use Rattle.ptmerge.specs.MergeCall.{IsUnreadWithoutSlots, MergePost, MergeState}
-use Rattle.ptmerge.specs.MergeSpec.{MergeTool}
+use Rattle.ptmerge.specs.MergeCall.{merge_end}
 use Rattle.ptrun.specs.declared.tool.Completion.{Completion}
 use Rattle.ptrun.specs.declared.tool.Completion.TheVariants.{AllWritten, Unopened, Disorder}
-use Rattle.ptrun.specs.Files.{InputBytes, ReceivedInputs, is_in, is_reader_unopened, HaveReceived}
+use Rattle.ptrun.specs.Files.{InputBytes, ReceivedInputs, is_reader_unopened, HaveReceived}
 use Rattle.ptrun.specs.Files.{IsNewOrUnopened, HasReadFailed, AreInputsConsistent, AreReadToEnd}
 use Rattle.ptlines.specs.Readers.{reader_at}
 use Rattle.ptrun.specs.CommandSpec.{CommandSpec, operand_messages, unopened_messages, ended_operands, IsUnfinished}
 use Rattle.ptrun.specs.Lag.{IsPushedUpToBlock, HasBoundedLag}
-use Rattle.ptrun.specs.Engines.{operand_inputs, in_run, end_at, merge_end}
+use Rattle.ptrun.specs.Engines.{in_run, end_at}
 use Rattle.ptrun.specs.Joint.{JointTool, only_operand}
 use Rattle.ptrun.specs.Tools.{ToolInRun, OneByOne, Together}
 use Rattle.ptrun.specs.MessageWrites.{HasSaid}
@@ -133,8 +132,7 @@ fault_at p Memory = Memory
 
 -- The result of a call over one reader as that of a run, with the position of the reader.
 abbrev pub operand_completion : ℕ → Result (Unit {0}) FlowFault → Result Completion FlowFault
-operand_completion p (Ok u) = Ok AllWritten
-operand_completion p (Err fault) = Err (fault_at p fault)
+operand_completion p result = result_of_end (end_at (λ u. p) (pass_end result))
 
 -- The result of a merge as that of a run, with the position of each side.
 abbrev pub merge_completion : (Side → ℕ) → Result (Unit {0}) MergeFault → Result Completion FlowFault
@@ -207,17 +205,10 @@ pub record JointPost (t : JointTool) (positions : List ℕ) (old new : List Read
     (before store : Slots) (result : Result Completion FlowFault) : Type 0 where
   pub end : CallEnd ℕ
   pub result_is : result ≡ result_of_end end
-  pub call : CallPost (operand_inputs positions) (in_run (t.engine positions)) (run_state old was before)
+  pub call : CallPost (inputs_at positions) (in_run (t.engine positions)) (run_state old was before)
       (run_state new is store) end
   pub same : (f g : ℕ → Received) → ((q : ℕ) → is_in positions q ≡ true → f q ≡ g q)
       → (t.engine positions).decided f ≡ (t.engine positions).decided g
-
--- ---- two merged inputs
-
--- The postcondition of a merge: besides, if slots were missing nothing was read.
-pub record MergeCallPost (t : MergeTool) (old new : MergeState) (result : Result (Unit {0}) MergeFault) : Type 0 where
-  pub merged : MergePost t old new result
-  pub unread_without_slots : IsUnreadWithoutSlots t.terminator old new
 
 -- ---- the run of a tool
 

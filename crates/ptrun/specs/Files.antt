@@ -1,8 +1,8 @@
 -- The inputs of a command by position, and what was received from them. Position 0 is standard input, and `i` + 1 is
 -- the `i`-th file.
-use Rattle.std.specs.Prelude.{◌≡◌, ℕ, ◌+◌, ◌==◌, ◌<◌, ◌≤◌, ◌^◌, List, [], ◌∷◌, ◌++◌, Bool, true, false, Option, Some}
+use Rattle.std.specs.Prelude.{◌≡◌, ℕ, ◌+◌, ◌<◌, ◌≤◌, ◌^◌, List, [], ◌∷◌, ◌++◌, Bool, true, false, Option, Some}
 use Rattle.std.specs.Prelude.{None, if◌then◌else◌, slice_index_or, option_map, filter_map, is_none, length, ⊤, All}
-use Rattle.std.specs.List.{list_any}
+use Rattle.ptlines.specs.Calls.{is_in}
 use Rattle.ptlines.specs.Readers.{Reader, IsDone, remaining_bytes, reader_at}
 use Rattle.ptlines.specs.Received.{Received, HasReceived}
 use Rattle.ptlines.specs.Received as one
@@ -36,10 +36,6 @@ abbrev pub AreInputsConsistent : ReceivedInputs → InputBytes → Type 0
 AreInputsConsistent r w = (position : ℕ) → IsConsistentAt (at r position) (at w position)
 
 -- ---- operands, as positions
-
--- A position is one of these.
-abbrev pub is_in : List ℕ → ℕ → Bool
-is_in positions position = list_any (λ p. p == position) positions
 
 -- The input of an operand: that at its position, or `rest` if an operand before it has read that input.
 abbrev pub input_of_operand : {X : Type 0} → X → List (Option X) → List ℕ → ℕ → Option X

@@ -6,13 +6,16 @@ use Rattle.std.specs.List.{list_any}
 use Rattle.ptlines.specs.Calls.{EngineSpec}
 use Rattle.ptlines.specs.Received.{Received, empty_input}
 use Rattle.ptlangs.specs.Jobs.{Paste}
+use Rattle.ptflow.specs.Passes.{pass_engine}
+use Rattle.ptflow.specs.PasteCall.{paste_engine}
 use Rattle.ptflow.specs.ToolSpec.{ToolSpec}
 use Rattle.ptmerge.specs.declared.key_order.Side.{Side}
 use Rattle.ptmerge.specs.declared.key_order.Side.TheVariants.{First, Second}
+use Rattle.ptmerge.specs.MergeCall.{merge_engine}
 use Rattle.ptmerge.specs.MergeSpec.{MergeTool}
 use Rattle.ptrun.specs.Files.{InputBytes, ReceivedInputs, at, is_unopened}
 use Rattle.ptrun.specs.CommandSpec.{CommandSpec}
-use Rattle.ptrun.specs.Engines.{at_positions, pass_engine, merge_engine, paste_engine}
+use Rattle.ptrun.specs.Engines.{at_positions}
 use Rattle.ptrun.specs.Messages.{disorder_message}
 
 -- A tool that reads its inputs together. The operands are given as positions.

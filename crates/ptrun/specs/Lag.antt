@@ -6,7 +6,8 @@ use Rattle.ptlines.specs.Received.{Received, IsPrefix, empty_input}
 use Rattle.ptlines.specs.Lag.{LaggedInput, BufferLag}
 use Rattle.ptlines.specs.Outputs.{Output}
 use Rattle.ptflow.specs.ToolSpec.{ToolSpec}
-use Rattle.ptrun.specs.Files.{ReceivedInputs, at, is_in, opened_inputs}
+use Rattle.ptlines.specs.Calls.{is_in}
+use Rattle.ptrun.specs.Files.{ReceivedInputs, at, opened_inputs}
 use Rattle.ptrun.specs.CommandSpec.{CommandSpec}
 use Rattle.ptrun.specs.Operands.{decided_in_order}
 

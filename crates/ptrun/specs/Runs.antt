@@ -9,7 +9,8 @@ use Rattle.ptlines.specs.Received.{IsPrefix}
 use Rattle.ptflow.specs.declared.faults.FlowFault.{FlowFault}
 use Rattle.ptflow.specs.declared.faults.FlowFault.TheVariants.{Read, Write, Memory}
 use Rattle.ptrun.specs.declared.report.Report.{Report}
-use Rattle.ptrun.specs.Files.{InputBytes, ReceivedInputs, at, is_in, HaveReceived, HasReadFailed, IsTooLong, HasBytes}
+use Rattle.ptlines.specs.Calls.{is_in}
+use Rattle.ptrun.specs.Files.{InputBytes, ReceivedInputs, at, HaveReceived, HasReadFailed, IsTooLong, HasBytes}
 use Rattle.ptrun.specs.Files.{AreInputsConsistent, AreReadToEnd, is_reader_unopened}
 use Rattle.ptlines.specs.Readers.{reader_at}
 use Rattle.ptrun.specs.CommandSpec.{CommandSpec, operand_messages, messages, ended_operands, IsUnfinished}

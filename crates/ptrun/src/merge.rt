@@ -2,9 +2,9 @@
 
 ghost use Rattle.std.specs.Prelude.{◌≡◌, ◌<◌, ℕ, length};
 ghost use Rattle.ptlines.specs.Readers.{reader_at};
-ghost use Rattle.ptmerge.specs.MergeCall.{MergePre, merge_state};
+ghost use Rattle.ptmerge.specs.MergeCall.{MergePost, MergePre, merge_state};
 ghost use Rattle.ptmerge.specs.Sides.{both};
-ghost use Rattle.ptrun.specs.Driver.{MergeCallPost, merge_completion};
+ghost use Rattle.ptrun.specs.Driver.{merge_completion};
 ghost use Rattle.ptrun.specs.Merges.{merge_tool, merge_word};
 
 use crate::tool::{Completion, Tool};
@@ -31,7 +31,7 @@ impl<B: Allocator + Copy> MergeJob<B> {
         out: &mut Out<W>,
     ) -> Result<(), MergeFault>
         requires { MergePre first.old second.old store.old }
-        ensures { MergeCallPost (merge_tool self.now) (merge_state first.old second.old out.old store.old)
+        ensures { MergePost (merge_tool self.now) (merge_state first.old second.old out.old store.old)
             (merge_state first.new second.new out.new store.new) result }
     {
         match self {
@@ -52,7 +52,7 @@ impl<B: Allocator + Copy> MergeJob<B> {
         requires within { (first < length inputs.old) × (second < length inputs.old) }
         requires apart { first ≡ second → ⊥ }
         requires ready { MergePre (reader_at inputs.old first) (reader_at inputs.old second) store.old }
-        ensures merged { MergeCallPost (merge_tool self.now)
+        ensures merged { MergePost (merge_tool self.now)
             (merge_state (reader_at inputs.old first) (reader_at inputs.old second) out.old store.old)
             (merge_state (reader_at inputs.new first) (reader_at inputs.new second) out.new store.new) result }
         ensures others { (position : ℕ) → (first ≡ position → ⊥) → (second ≡ position → ⊥)
