@@ -7,7 +7,7 @@ use Rattle.ptflow.proofs.Common.{Result, Ok, Err, max, refl, sym, ◌∙◌, ap,
 use Rattle.ptflow.proofs.Common.{append-nil, false_from_ne_true, false≢true, Reader, ReaderAdvance, AdvanceOk, IsDone, IsSound}
 use Rattle.ptflow.proofs.Common.{HasReadCause, Received, IsPrefix, IsConsistent, Output, PushEffect, Slots, total_bytes}
 use Rattle.ptflow.proofs.Common.{received_with, advance_trans, push_nothing, push_trans, ToolSpec, PassPre, PassPost}
-use Rattle.ptflow.proofs.Common.{StorelessPost, only_input, pass_end, pass_engine, CallState, call_state, CallOutcome}
+use Rattle.ptflow.proofs.Common.{only_input, pass_end, pass_engine, CallState, call_state, CallOutcome}
 use Rattle.ptflow.proofs.Common.{AddedSlots, CallProgress, DecidedIfReadFailed, call_ends, call_on_failed_output}
 use Rattle.ptflow.proofs.Common.{call_set, call_without_slots, ProcessLag, bounded_lag_after, FlowFault, Read, Write}
 use Rattle.ptflow.proofs.Common.{Memory}
@@ -82,28 +82,27 @@ pass_unchanged tool old was before ready fault = record {
 }
 
 -- the terminator of the reader was set before the call
-pub pass_set : {tool : ToolSpec} {old set new : Reader} {was is : Output} {before store : Slots}
-    {result : Result (Unit {0}) FlowFault} → set ≡ record old { terminator = tool.end } → was.write_failed ≡ false
-    → PassPost tool set new was is before store result → PassPost tool old new was is before store result
-pass_set {tool} {old} {set} {new} {was} {is} {before} {store} same clean post = record {
-  call = call_set only_input (pass_engine tool) (state old was before) (state set was before) (state new is store)
-      clean refl refl (λ u read. same) (λ u unread. cc) post.call;
-  only = post.only;
-  keeps_store = post.keeps_store;
-  stays_done = λ done. post.stays_done
-      (rw same (record { eof = done.eof; buffered = done.buffered; left = done.left }));
-}
+module _ (old : Reader) {set : Reader} {end : ℕ} where
+  pub ready_set : {store : Slots} → PassPre old store → set ≡ record old { terminator = end } → PassPre set store
+  ready_set ready same = rw same (record {
+    opened = ready.opened;
+    readable = ready.readable;
+    not_denied = ready.not_denied;
+    empty = ready.empty;
+  })
 
--- and the call is given no store
-pub storeless_set : {tool : ToolSpec} {old set new : Reader} {was is : Output} {store : Slots}
-    {result : Result (Unit {0}) FlowFault} → set ≡ record old { terminator = tool.end } → was.write_failed ≡ false
-    → PassPre old store → StorelessPost tool set new was is result → PassPost tool old new was is store store result
-storeless_set {store = store} same clean ready bare = pass_set same clean (bare store (rw same (record {
-  opened = ready.opened;
-  readable = ready.readable;
-  not_denied = ready.not_denied;
-  empty = ready.empty;
-})))
+  pub pass_set : {tool : ToolSpec} {new : Reader} {was is : Output} {before store : Slots}
+      {result : Result (Unit {0}) FlowFault} → PassPost tool set new was is before store result
+      → set ≡ record old { terminator = end } → end ≡ tool.end → was.write_failed ≡ false
+      → PassPost tool old new was is before store result
+  pass_set {tool} {new} {was} {is} {before} {store} post same ends clean = record {
+    call = call_set only_input (pass_engine tool) (state old was before) (state set was before) (state new is store)
+        clean refl refl (λ u read. same ∙ (λ i. record old { terminator = ends i })) (λ u unread. cc) post.call;
+    only = post.only;
+    keeps_store = post.keeps_store;
+    stays_done = λ done. post.stays_done
+        (rw same (record { eof = done.eof; buffered = done.buffered; left = done.left }));
+  }
 
 -- a slot could not be allocated
 pub pass_unslotted : (tool : ToolSpec) {old : Reader} (was : Output) {before store : Slots} → PassPre old before
