@@ -4,14 +4,19 @@
 -- prefix of the output for each consistent input, and decided output is written.
 use Rattle.ptflow.proofs.Common.{◌≡◌, ⊎_elim, inl, inr, ℕ, ◌≤◌, ◌<◌, ◌^◌, true, false, List, [], ◌++◌, length, None}
 use Rattle.ptflow.proofs.Common.{Result, Ok, Err, max, refl, sym, ◌∙◌, ap, arith, append_assoc, common_steps}
-use Rattle.ptflow.proofs.Common.{append-nil, false≢true, Reader, ReaderAdvance, AdvanceOk, IsDone, IsSound}
+use Rattle.ptflow.proofs.Common.{append-nil, false_from_ne_true, false≢true, Reader, ReaderAdvance, AdvanceOk, IsDone, IsSound}
 use Rattle.ptflow.proofs.Common.{HasReadCause, Received, IsPrefix, IsConsistent, Output, PushEffect, Slots, total_bytes}
-use Rattle.ptflow.proofs.Common.{received_with, has_received, has_received_set, advance_trans, push_nothing, push_trans}
-use Rattle.ptflow.proofs.Common.{ToolSpec, PassPre, PassOutcome, AddedSlots, PassPost, StorelessPost, ProcessLag}
-use Rattle.ptflow.proofs.Common.{BoundedLag, bounded_lag_now, bounded_lag_after, FlowFault, Read, Write, Memory}
+use Rattle.ptflow.proofs.Common.{received_with, advance_trans, push_nothing, push_trans, ToolSpec, PassPre, PassPost}
+use Rattle.ptflow.proofs.Common.{only_input, pass_end, pass_engine, CallState, call_state, CallOutcome}
+use Rattle.ptflow.proofs.Common.{AddedSlots, CallProgress, DecidedIfReadFailed, call_ends, call_on_failed_output}
+use Rattle.ptflow.proofs.Common.{call_set, call_without_slots, ProcessLag, bounded_lag_after, FlowFault, Read, Write}
+use Rattle.ptflow.proofs.Common.{Memory}
 use Rattle.std.specs.Prelude.{IsErrAnd}
 use Rattle.ptflow.proofs.Passes.StepOutput.{returned_err}
-use Rattle.ptflow.proofs.Passes.Readers.{advance_none, never_failed, stays_at_eof}
+use Rattle.ptflow.proofs.Passes.Readers.{advance_none, stays_at_eof}
+
+abbrev state : Reader → Output → Slots → CallState (Unit {0})
+state reader out store = call_state (λ u. reader) out store
 
 -- these bytes were read, and these pushed
 pub record Progress (old reader : Reader) (was is : Output) (given pushed : List ℕ) : Type 0 where
@@ -50,19 +55,14 @@ LaggedOutput tool came pushed = ProcessLag {I = Unit {0}} (λ given. tool.decide
 -- the store after the call
 pub record StoreBounds (tool : ToolSpec) (before store : Slots) (given : Received) : Type 0 where
   pub peak : (input : List ℕ) → IsConsistent given input → store.peak ≤ max before.peak (tool.size input)
-  pub adds : AddedSlots before store tool.slots
-  pub room : tool.slots ≤ length store.lines
+  pub size : length store.lines ≡ max (length before.lines) tool.slots
   pub keeps_store : tool.slots ≡ 0 → store ≡ before
 
 -- the store is unchanged
 pub store_unchanged : {tool : ToolSpec} {store : Slots} {given : Received} → tool.slots ≡ 0
     → StoreBounds tool store store given
-store_unchanged none = record {
-  peak = λ input a. omega arith;
-  adds = record { least = omega arith; most = omega arith; all = λ allowed. omega (arith, none) };
-  room = omega (arith, none);
-  keeps_store = λ h. refl;
-}
+store_unchanged none =
+    record { peak = λ input a. omega arith; size = omega (arith, none); keeps_store = λ h. refl }
 
 -- `?` returns that a write failed
 pub by_write : {A : Type 0} {tool : ToolSpec} {old new : Reader} {was is : Output} {before store : Slots}
@@ -75,234 +75,163 @@ by_write {result} returned post = let (_, is, fault) = returned_err result retur
 pub pass_unchanged : (tool : ToolSpec) (old : Reader) (was : Output) (before : Slots) → PassPre old before
     → was.write_failed ≡ true → PassPost tool old old was was before before (Err Write)
 pass_unchanged tool old was before ready fault = record {
-  given = received_with [] old;
-  came = has_received old old [] (advance_none old ready.readable).reads;
-  pushed = [];
-  wrote = push_nothing was;
-  ends = record { write_failed = fault; failed = refl; denied = ready.not_denied };
-  is_prefix = λ input a. record { rest = tool.text input; is = refl };
-  decided_is_written = λ failed clean. absurd (false≢true (cc (clean)));
-  bounded_lag = λ clean. absurd (false≢true (cc (clean)));
-  is_exact = λ ok. cc;
-  peak = λ input a. omega arith;
-  slots = λ clean. absurd (false≢true (cc (clean)));
-  refused = λ clean few. absurd (false≢true (cc (clean)));
+  call = call_on_failed_output only_input (pass_engine tool) fault ready.not_denied;
+  only = λ index is. cc;
   keeps_store = λ none. refl;
   stays_done = λ done. done;
-  line_left = λ memory. cc;
-  unchanged_if_failed = λ h. record { write_fault = refl; same_reader = refl; same_output = refl; same_store = refl };
 }
 
--- setting the terminator of a reader does not change the input that is read
-module _ (tool : ToolSpec) (end : ℕ) (old : Reader) {set : Reader} (new : Reader) (was is : Output)
-    (before store : Slots) (same : set ≡ record old { terminator = end }) where
-  ends_set : (result : Result (Unit {0}) FlowFault) → PassOutcome (record old { terminator = end }) new is store result
-      → PassOutcome old new is store result
-  ends_set (Ok u) outcome =
-      record {
-        done = outcome.done;
-        fault = outcome.fault;
-        failed = outcome.failed;
-        clean = outcome.clean;
-        denied = outcome.denied;
-        empty = outcome.empty;
-        short = outcome.short;
-      }
-  ends_set (Err (Read place)) outcome =
-      record { cause = outcome.cause; clean = outcome.clean; denied = outcome.denied; only = outcome.only }
-  ends_set (Err Write) outcome =
-      record { write_failed = outcome.write_failed; failed = outcome.failed; denied = outcome.denied }
-  ends_set (Err Memory) outcome = record { denied = outcome.denied; failed = outcome.failed; clean = outcome.clean }
+-- the terminator of the reader was set before the call
+module _ (old : Reader) {set : Reader} {end : ℕ} where
+  pub ready_set : {store : Slots} → PassPre old store → set ≡ record old { terminator = end } → PassPre set store
+  ready_set ready same = rw same (record {
+    opened = ready.opened;
+    readable = ready.readable;
+    not_denied = ready.not_denied;
+    empty = ready.empty;
+  })
 
-  pub pass_set : {result : Result (Unit {0}) FlowFault} → was.write_failed ≡ false
-      → PassPost tool set new was is before store result → PassPost tool old new was is before store result
-  pass_set {result} clean pass =
-      let post = rw same at pass in
-      record {
-        given = post.given;
-        came = has_received_set old _ end refl _ _ post.came;
-        pushed = post.pushed;
-        wrote = post.wrote;
-        ends = ends_set result post.ends;
-        is_prefix = post.is_prefix;
-        decided_is_written = post.decided_is_written;
-        bounded_lag = post.bounded_lag;
-        is_exact = post.is_exact;
-        peak = post.peak;
-        slots = post.slots;
-        refused =
-            λ fine few. record {
-              same_reader = (post.refused fine few).same_reader;
-              same_output = (post.refused fine few).same_output;
-            };
-        keeps_store = post.keeps_store;
-        stays_done = λ done. post.stays_done (record { eof = done.eof; buffered = done.buffered; left = done.left });
-        line_left = post.line_left;
-        unchanged_if_failed = λ fault. absurd (false≢true (cc (clean)));
-      }
-
--- like `pass_set`, without a store
-pub storeless_set : (tool : ToolSpec) (end : ℕ) (old set new : Reader) (was is : Output) (store : Slots)
-    → set ≡ record old { terminator = end } → (result : Result (Unit {0}) FlowFault)
-    → was.write_failed ≡ false → PassPre old store → StorelessPost tool set new was is result
-    → PassPost tool old new was is store store result
-storeless_set tool end old set new was is store same result clean ready bare =
-    pass_set _ end old _ _ _ _ _ same clean
-    (bare store
-    (rw same
-    (record { opened = ready.opened; readable = ready.readable; not_denied = ready.not_denied; empty = ready.empty })))
+  pub pass_set : {tool : ToolSpec} {new : Reader} {was is : Output} {before store : Slots}
+      {result : Result (Unit {0}) FlowFault} → PassPost tool set new was is before store result
+      → set ≡ record old { terminator = end } → end ≡ tool.end → was.write_failed ≡ false
+      → PassPost tool old new was is before store result
+  pass_set {tool} {new} {was} {is} {before} {store} post same ends clean = record {
+    call = call_set only_input (pass_engine tool) (state old was before) (state set was before) (state new is store)
+        clean refl refl (λ u read. same ∙ (λ i. record old { terminator = ends i })) (λ u unread. cc) post.call;
+    only = post.only;
+    keeps_store = post.keeps_store;
+    stays_done = λ done. post.stays_done
+        (rw same (record { eof = done.eof; buffered = done.buffered; left = done.left }));
+  }
 
 -- a slot could not be allocated
-module _ (tool : ToolSpec) {old : Reader} (was : Output) {before store : Slots} (ready : PassPre old before)
-    (sound : IsSound old) (clean : was.write_failed ≡ false)
-    (adds : AddedSlots before store tool.slots) (few : length store.lines < tool.slots)
-    (same : store.peak ≡ before.peak) (denied : store.denied ≡ true) where
-  received_before : (decided : IsPrefix (tool.decided (record { bytes = []; eof = false })) [])
-      → LaggedOutput tool (received_with [] old) []
-  received_before decided = record {
-    before = λ u. record {
-      earlier = record { bytes = []; eof = false };
-      last = old.buffered;
-      split = refl;
-      short = omega arith;
-      eof = λ never. absurd (false≢true never);
-    };
-    begins = decided;
-  }
-
-  pub pass_unslotted : 0 < tool.slots → old.terminator ≡ tool.end
-      → IsPrefix (tool.decided (record { bytes = []; eof = false })) []
-      → PassPost tool old old was was before store (Err Memory)
-  pass_unslotted some ends decided = record {
-    given = received_with [] old;
-    came = has_received old old [] (advance_none old ready.readable).reads;
-    pushed = [];
-    wrote = push_nothing was;
-    ends = record { denied = denied; failed = refl; clean = clean };
-    is_prefix = λ input a. record { rest = tool.text input; is = refl };
-    decided_is_written =
-        λ failed fine. absurd (false≢true (cc (never_failed ready (advance_none old ready.readable) sound)));
-    bounded_lag = λ fine. bounded_lag_now _ _ _ _ _ (received_before decided) (push_nothing was) clean;
-    is_exact = λ ok. cc;
-    peak = λ input a. omega arith;
-    slots = λ fine. adds;
-    refused = λ fine less. record { same_reader = λ i. record old { terminator = ends i }; same_output = refl };
-    keeps_store = λ none. absurd (omega (arith, none));
-    stays_done = λ done. done;
-    line_left = λ memory enough. absurd (omega (arith, few, enough));
-    unchanged_if_failed = λ fault. absurd (false≢true (cc (clean)));
-  }
+pub pass_unslotted : (tool : ToolSpec) {old : Reader} (was : Output) {before store : Slots} → PassPre old before
+    → IsSound old → was.write_failed ≡ false → AddedSlots before store tool.slots → length store.lines < tool.slots
+    → store.peak ≡ before.peak → store.denied ≡ true → old.terminator ≡ tool.end
+    → IsPrefix (tool.decided (record { bytes = []; eof = false })) []
+    → PassPost tool old old was was before store (Err Memory)
+pass_unslotted tool {old} was {before} {store} ready sound clean adds few same denied ends decided = record {
+  call = call_without_slots only_input (pass_engine tool) (state old was before) (state old was store) clean refl
+      (λ u read i. record old { terminator = ends i }) (λ u unread. refl) (λ u read. sound)
+      (λ u read. sound.unfailed ready.opened ready.readable) denied same adds.least few (λ texts. omega arith)
+      (λ u read. decided);
+  only = λ index is. cc;
+  keeps_store = λ none. absurd (omega (arith, few, none));
+  stays_done = λ done. done;
+}
 
 -- a tool that is given a store that is not denied, and leaves it unchanged, never returns `Memory`
 pub never_memory : {tool : ToolSpec} {old new : Reader} {was is : Output} {store : Slots}
     {result : Result (Unit {0}) FlowFault}
     → store.denied ≡ false → PassPost tool old new was is store store result → result ≡ Err Memory → ⊥
-never_memory {old} {new} {is} {store} not_denied post is_memory = grind (arith, common_steps)
+never_memory not_denied post is_memory = false≢true (sym not_denied ∙ (rw is_memory at post.call.ends).denied)
 
-module _ {X : Type 0} {rest_from : X → List ℕ → List ℕ} {start : X} {tool : ToolSpec}
-    (is_text : (bytes : List ℕ) → rest_from start bytes ≡ tool.text bytes)
-    {now : X} {old reader new : Reader} {was is : Output} {before store : Slots}
-    (midway : PassState rest_from start now old reader was is) (ready : PassPre old before) (sound : IsSound reader)
-    {piece : List ℕ} (reads : ReaderAdvance reader new piece)
-    (stored : StoreBounds tool before store (received_with (midway.given ++ piece) new))
-    (processing : LaggedOutput tool (received_with (midway.given ++ piece) new) midway.pushed) where
+-- After the last step, a call reads a piece, and then it ends.
+pub record PassEnding {X : Type 0} {rest_from : X → List ℕ → List ℕ} {start now : X} {old reader : Reader}
+    {was is : Output} (tool : ToolSpec) (midway : PassState rest_from start now old reader was is) (new : Reader)
+    (before store : Slots) (piece : List ℕ) : Type 0 where
+  pub is_text : (bytes : List ℕ) → rest_from start bytes ≡ tool.text bytes
+  pub ready : PassPre old before
+  pub sound : IsSound reader
+  pub reads : ReaderAdvance reader new piece
+  pub stored : StoreBounds tool before store (received_with (midway.given ++ piece) new)
+  pub processing : LaggedOutput tool (received_with (midway.given ++ piece) new) midway.pushed
+
+module _ {X : Type 0} {rest_from : X → List ℕ → List ℕ} {start now : X} {old reader new : Reader} {was is : Output}
+    {tool : ToolSpec} {midway : PassState rest_from start now old reader was is} {before store : Slots}
+    {piece : List ℕ} (p : PassEnding tool midway new before store piece) where
   -- what was received
   abbrev received : Received
   received = received_with (midway.given ++ piece) new
 
+  advanced : ReaderAdvance old new (midway.given ++ piece)
+  advanced = advance_trans _ _ _ _ _ midway.reached.advance_ok.reads p.reads
+
+  never_failed : old.failed ≡ false
+  never_failed = cc (p.sound.unfailed (cc (p.ready.opened)) midway.reached.advance_ok.fault)
+
   same_failed : new.failed ≡ reader.failed → new.failed ≡ old.failed
   same_failed same = cc
-
-  continued : new.failed ≡ reader.failed → new.failed ≡ false
-  continued same = same ∙ never_failed ready midway.reached.advance_ok sound
 
   text_of : {input : List ℕ} (consistent : IsConsistent received input)
       → tool.text input ≡ midway.pushed ++ rest_from now (piece ++ (new.buffered ++ consistent.rest))
   text_of consistent = grind (arith, common_steps)
 
-  abbrev bounded_lag : Output → List ℕ → Type 0
-  bounded_lag is' pushed = BoundedLag {I = Unit {0}} (λ given. tool.decided (given tt))
-      (λ u. received) was is' pushed
+  -- after the last step these bytes are pushed, with which the output for the rest begins
+  module _ {is' : Output} {bytes : List ℕ} (wrote : PushEffect is is' bytes)
+      (begins : (rest : List ℕ) → (new.eof ≡ true → rest ≡ [])
+      → IsPrefix bytes (rest_from now (piece ++ (new.buffered ++ rest)))) where
+    progress : CallProgress only_input (pass_engine tool) (state old was before) (state new is' store)
+        (λ u. midway.given ++ piece) (midway.pushed ++ bytes)
+    progress = record {
+      reads = λ u read. advanced;
+      untouched = λ u unread. cc;
+      never_failed = λ u read. never_failed;
+      writable = false_from_ne_true was.write_failed
+          (λ fault. cc (midway.reached.wrote.stays fault, midway.reached.clean));
+      wrote = push_trans _ _ _ _ _ midway.reached.clean midway.reached.wrote wrote;
+      is_prefix = λ texts a. let front = begins (a tt refl).rest (a tt refl).whole in
+          record { rest = front.rest; is = cc (text_of (a tt refl), append_assoc midway.pushed bytes front.rest) };
+      bounded_lag = λ u read.
+          bounded_lag_after _ _ _ _ _ p.processing midway.reached.wrote midway.reached.clean is' bytes wrote;
+      peak = λ texts a. p.stored.peak (texts tt) (a tt refl);
+      slots = λ texts a. omega (arith, p.stored.size);
+      least = omega (arith, p.stored.size);
+      room = omega (arith, p.stored.size);
+    }
 
-  still : bounded_lag is midway.pushed
-  still = bounded_lag_now _ _ _ _ _ processing midway.reached.wrote midway.reached.clean
+    pass : (result : Result (Unit {0}) FlowFault)
+        → CallOutcome only_input (pass_engine tool) (state old was before) (state new is' store) (λ u. received)
+        (midway.pushed ++ bytes) (pass_end result)
+        → DecidedIfReadFailed only_input (pass_engine tool) (state old was before) (state new is' store)
+        (λ u. midway.given ++ piece) (midway.pushed ++ bytes) (pass_end result)
+        → ((index : ℕ) → result ≡ Err (Read index) → index ≡ 0) → PassPost tool old new was is' before store result
+    pass result ends decided only = record {
+      call = call_ends only_input (pass_engine tool) _ _ _ progress (pass_end result) ends decided;
+      only = only;
+      keeps_store = p.stored.keeps_store;
+      stays_done = λ done. stays_at_eof _ _ _ done advanced;
+    }
 
-  more : (is' : Output) (bytes : List ℕ) → PushEffect is is' bytes → bounded_lag is' (midway.pushed ++ bytes)
-  more = bounded_lag_after _ _ _ _ _ processing midway.reached.wrote midway.reached.clean
+    -- a write failed while these bytes were pushed
+    pub pass_write : is'.write_failed ≡ true → new.failed ≡ reader.failed → store.denied ≡ false
+        → PassPost tool old new was is' before store (Err Write)
+    pass_write fault same not_denied = pass (Err Write)
+        (record { write_failed = fault; unfailed = λ u read. same_failed same; not_denied = not_denied }) tt
+        (λ index is. cc)
 
-  pass : {is' : Output} {pushed : List ℕ} {result : Result (Unit {0}) FlowFault} → PushEffect was is' pushed
-      → bounded_lag is' pushed → PassOutcome old new is' store result
-      → ((input : List ℕ) → IsConsistent received input
-      → IsPrefix pushed (tool.text input))
-      → (new.failed ≡ true → is'.write_failed ≡ false
-      → IsPrefix (tool.decided received) pushed)
-      → (result ≡ Ok tt → pushed ≡ tool.text ((midway.given ++ piece) ++ new.buffered))
-      → (result ≡ Err Memory → IsDone new → ⊥) → PassPost tool old new was is' before store result
-  pass {pushed} wrote keeps ends is_prefix decided_is_written whole left = record {
-    given = received;
-    came = has_received _ _ _ advanced;
-    pushed = pushed;
-    wrote = wrote;
-    ends = ends;
-    is_prefix = is_prefix;
-    decided_is_written = decided_is_written;
-    bounded_lag = λ clean. keeps;
-    is_exact = whole;
-    peak = stored.peak;
-    slots = λ clean. stored.adds;
-    refused = λ clean few. absurd (omega arith);
-    keeps_store = stored.keeps_store;
-    stays_done = λ done. stays_at_eof _ _ _ done advanced;
-    line_left = λ memory enough. left memory;
-    unchanged_if_failed = λ fault. absurd (false≢true (cc (midway.reached.wrote.stays fault)));
-  }
-    where
-      advanced : ReaderAdvance old new (midway.given ++ piece)
-      advanced = advance_trans _ _ _ _ _ midway.reached.advance_ok.reads reads
-
-  begins : (input : List ℕ) → IsConsistent received input
-      → IsPrefix midway.pushed (tool.text input)
-  begins input consistent =
-      record { rest = rest_from now (piece ++ (new.buffered ++ consistent.rest)); is = text_of consistent }
+  nothing_more : (rest : List ℕ) → (new.eof ≡ true → rest ≡ [])
+      → IsPrefix [] (rest_from now (piece ++ (new.buffered ++ rest)))
+  nothing_more rest may = record { rest = rest_from now (piece ++ (new.buffered ++ rest)); is = refl }
 
   -- a read failed
   pub pass_read : HasReadCause reader new → store.denied ≡ false
       → (new.buffered ≡ [] → new.eof ≡ false → IsPrefix (tool.decided received) midway.pushed)
       → PassPost tool old new was is before store (Err (Read 0))
-  pass_read cause not_denied decided =
-      pass midway.reached.wrote still
+  pass_read cause not_denied decided = pass (push_nothing is) nothing_more (Err (Read 0))
       (record {
+        named = refl;
+        unfailed = never_failed;
         cause = ⊎_elim inl (λ (many, same). inr (many, same_failed same)) cause;
+        others = λ u read differs. absurd (differs refl);
         clean = midway.reached.clean;
-        denied = not_denied;
-        only = refl;
+        not_denied = not_denied;
       })
-      begins (λ failed fine. ⊎_elim (λ (_, empty, going). decided empty going)
-      (λ (_, same). absurd (false≢true (cc (continued same)))) cause) (λ ok. cc) (λ memory. cc)
+      (λ u read failed. rw (append-nil midway.pushed) (⊎_elim (λ (_, empty, going). decided empty going)
+      (λ (_, same). cc (same_failed same, never_failed)) cause))
+      (λ index is. cc)
 
   -- the store could not grow
   pub pass_memory : new.failed ≡ reader.failed → store.denied ≡ true → 0 < length new.buffered
       → PassPost tool old new was is before store (Err Memory)
-  pass_memory same denied left =
-      pass midway.reached.wrote still
-      (record { denied = denied; failed = same_failed same; clean = midway.reached.clean })
-      begins (λ failed fine. absurd (false≢true (cc (continued same)))) (λ ok. cc)
-      (λ memory done. omega (arith, left, ap length done.buffered))
-
-  -- a write failed while these bytes were pushed
-  pub pass_write : {is' : Output} {bytes : List ℕ} → PushEffect is is' bytes → is'.write_failed ≡ true
-      → new.failed ≡ reader.failed → store.denied ≡ false
-      → ((rest : List ℕ) → (new.eof ≡ true → rest ≡ [])
-      → IsPrefix bytes (rest_from now (piece ++ (new.buffered ++ rest))))
-      → PassPost tool old new was is' before store (Err Write)
-  pass_write {bytes} wrote fault same not_denied fronts =
-      pass (push_trans _ _ _ _ _ midway.reached.clean midway.reached.wrote wrote) (more _ _ wrote)
-      (record { write_failed = fault; failed = same_failed same; denied = not_denied })
-      (λ input consistent. let prefix = fronts consistent.rest consistent.whole in record {
-        rest = prefix.rest;
-        is = cc (text_of consistent, append_assoc midway.pushed bytes prefix.rest);
+  pass_memory same denied left = pass (push_nothing is) nothing_more (Err Memory)
+      (record {
+        denied = denied;
+        unfailed = λ u read. same_failed same;
+        clean = midway.reached.clean;
+        left = λ enough. inl (tt, refl, λ done. omega (arith, left, ap length done.buffered));
       })
-      (λ failed fine. absurd (false≢true (cc))) (λ ok. cc) (λ memory. cc)
+      tt (λ index is. cc)
 
   -- the end of the input was reached
   module _ {is' : Output} (wrote : PushEffect is is' (rest_from now [])) (done : IsDone new) (none : piece ≡ [])
@@ -310,35 +239,27 @@ module _ {X : Type 0} {rest_from : X → List ℕ → List ℕ} {start : X} {too
     nothing_left : (rest : List ℕ) → (new.eof ≡ true → rest ≡ []) → piece ++ (new.buffered ++ rest) ≡ []
     nothing_left rest whole = λ i. none i ++ (done.buffered i ++ whole done.eof i)
 
+    all_of_it : (rest : List ℕ) → (new.eof ≡ true → rest ≡ [])
+        → IsPrefix (rest_from now []) (rest_from now (piece ++ (new.buffered ++ rest)))
+    all_of_it rest whole = record { rest = []; is = cc (nothing_left rest whole, append-nil (rest_from now [])) }
+
     -- and the output that is due there was pushed
     pub pass_done : is'.write_failed ≡ false → new.fault ≡ None → new.pulled < 2 ^ 63 → total_bytes store.lines ≡ 0
         → PassPost tool old new was is' before store (Ok tt)
-    pass_done fine fault short empty =
-        pass (push_trans _ _ _ _ _ midway.reached.clean midway.reached.wrote wrote) (more _ _ wrote)
+    pass_done clean fault short empty = pass wrote all_of_it (Ok tt)
         (record {
-          done = done;
-          fault = fault;
-          failed = same_failed same;
-          clean = fine;
-          denied = not_denied;
+          out = λ texts a. cc (text_of (a tt refl), nothing_left (a tt refl).rest (a tt refl).whole);
+          disorder = λ texts a. refl;
+          ended = λ complete u read. done;
+          fault = λ u read. fault;
+          short = λ u read. short;
+          unfailed = λ u read. same_failed same;
+          clean = clean;
+          not_denied = not_denied;
           empty = empty;
-          short = short;
         })
-        (λ input consistent. record {
-          rest = [];
-          is = all_of input consistent
-              ∙ sym (append-nil (midway.pushed ++ rest_from now []));
-        })
-        (λ failed good. absurd (false≢true (cc (continued same))))
-        (λ ok. sym (all_of ((midway.given ++ piece) ++ new.buffered)
-        (record { rest = []; is = sym (append-nil ((midway.given ++ piece) ++ new.buffered)); whole = λ eof. refl })))
-        (λ memory. cc)
-      where
-        all_of : (input : List ℕ) → IsConsistent received input
-            → tool.text input ≡ midway.pushed ++ rest_from now []
-        all_of input consistent = cc (text_of consistent, nothing_left consistent.rest consistent.whole)
+        tt (λ index is. cc)
 
     -- and a write failed there
     pub pass_unended : is'.write_failed ≡ true → PassPost tool old new was is' before store (Err Write)
-    pass_unended fault = pass_write wrote fault same not_denied
-        (λ rest whole. record { rest = []; is = cc (nothing_left rest whole, append-nil (rest_from now [])) })
+    pass_unended fault = pass_write wrote all_of_it fault same not_denied

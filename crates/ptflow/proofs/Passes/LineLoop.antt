@@ -9,13 +9,14 @@ use Rattle.ptflow.proofs.Common.{IsConsistent, Output, PushEffect, Reader, Reade
 use Rattle.ptflow.proofs.Common.{HasReadCause, Slots, line, with_line, with_denied, FillPost, FillLine}
 use Rattle.ptflow.proofs.Common.{advance_ok_trans, push_trans, ToolSpec, PassPre, PassPost, AddedSlots}
 use Rattle.ptflow.proofs.Common.{AreReceivedLines, LinesWritten, LinesFailed, IsLinesLength, IsSwapped, SlotsCleared}
-use Rattle.ptflow.proofs.Common.{IsLineFilter, Read, Write, Memory, received_with}
+use Rattle.ptflow.proofs.Common.{IsLineFilter, Read, Write, Memory, received_with, reads_nothing}
 use Rattle.ptflow.proofs.Passes.Lines.{line_split, complete_prefix, max_length-append}
 use Rattle.ptflow.proofs.Passes.LinesRead.{lines_none, lines_few, lines_on, lines_more, lines_block, line_prefix}
 use Rattle.ptflow.proofs.Passes.LinesRead.{received_longest, piece_longest, whole_before, before_line, after_line}
 use Rattle.ptflow.proofs.Passes.Exits.{Progress, progress_none, progress_flushed, PassState, LaggedOutput, StoreBounds}
-use Rattle.ptflow.proofs.Passes.Exits.{pass_unslotted, pass_read, pass_memory, pass_write, pass_done, pass_unended}
-use Rattle.ptflow.proofs.Passes.Readers.{advance_none, advance_past}
+use Rattle.ptflow.proofs.Passes.Exits.{PassEnding, pass_unslotted, pass_read, pass_memory, pass_write, pass_done}
+use Rattle.ptflow.proofs.Passes.Exits.{pass_unended}
+use Rattle.ptflow.proofs.Passes.Readers.{advance_past}
 use Rattle.ptflow.proofs.Passes.Slots.{SlotBounds, bounds_weaker, bounds_line, bounds_swapped, bounds_cleared}
 
 -- These lines were read, and each of `width` slots has at most one line.
@@ -94,7 +95,7 @@ module _ {S X E : Type 0} {tool : ToolSpec} {state : S → Slots → X} {rest_fr
     run_unslotted {store} ends ready sound clean adds few same denied =
         let nothing : Received = record { bytes = []; eof = false } in
         pass_unslotted tool was ready sound clean (rw line_filter.slots adds) (rw line_filter.slots few) same denied
-        (omega arith) (cc)
+        ends
         (rw none_written at (line_filter.decided store nothing [] (state start store) (λ more. refl)))
 
     module _ {now : X} {reader : Reader} {is : Output} {store : Slots}
@@ -116,7 +117,7 @@ module _ {S X E : Type 0} {tool : ToolSpec} {state : S → Slots → X} {rest_fr
       }
 
       pub run_room : width ≤ length store.lines
-      run_room = omega (arith, run.keeps.adds.all run.keeps.denied)
+      run_room = omega (arith, run.keeps.size)
 
       -- the lines with no output yet are at most the lines that were read
       pub run_count : IsSound old → IsSound reader → counted now ≤ 2 ^ 63
@@ -203,21 +204,14 @@ module _ {S X E : Type 0} {tool : ToolSpec} {state : S → Slots → X} {rest_fr
       works_piece {new} {piece} reads free is_sound = works_line reads piece new.buffered refl free (omega arith)
 
       -- the slots hold at most the maximum length of a line, for each consistent input
-      stored : (after : Slots) (most : ℕ) (given : Received) → after.peak ≤ max before.peak (width * most)
-          → AddedSlots before after width → width ≤ length after.lines
-          → ((input : List ℕ) → IsConsistent given input → most ≤ max_line_length end input)
-          → StoreBounds tool before after given
-      stored after most given peak adds room short = record {
-        peak = λ input a. omega (arith, line_filter.size input, mul-le-mul_left width (short input a));
-        adds = rw line_filter.slots adds;
-        room = omega arith;
-        keeps_store = λ none. absurd (omega arith);
-      }
-
       kept : {after : Slots} {most : ℕ} (given : Received) → SlotBounds width most before after
           → ((input : List ℕ) → IsConsistent given input → most ≤ max_line_length end input)
           → StoreBounds tool before after given
-      kept {most} given bounds = grind (arith, common_steps)
+      kept given bounds short = record {
+        peak = λ input a. omega (arith, bounds.peak, line_filter.size input, mul-le-mul_left width (short input a));
+        size = rw line_filter.slots bounds.size;
+        keeps_store = λ none. absurd (omega (arith, none, line_filter.slots, line_filter.some));
+      }
 
       keeps_last : {after : Slots} (bytes : List ℕ) → after ≡ with_line store (width - 1) bytes
           → SlotBounds width (max (max_length run.ls) (length bytes)) before after
@@ -226,22 +220,53 @@ module _ {S X E : Type 0} {tool : ToolSpec} {state : S → Slots → X} {rest_fr
           bounds_line _ (width - 1) bytes (bounds_weaker most run.keeps (omega arith)) (omega (arith, line_filter.some))
           (omega arith) told
 
+      -- a write failed at some lines, which come before the continuation
+      halts : {new : Reader} {piece : List ℕ} {after : Slots} → PassEnding tool midway new before after piece
+          → new.failed ≡ reader.failed → after.denied ≡ false → {ls : List (List ℕ)} {is' : Output} → Halt now ls is is'
+          → ((rest : List ℕ) → (new.eof ≡ true → rest ≡ [])
+          → (more : List (List ℕ)) × (lines end (piece ++ (new.buffered ++ rest)) ≡ ls ++ more))
+          → PassPost tool old new was is' before after (Err Write)
+      halts p same not_denied halted front = pass_write p halted.wrote
+          (λ rest may.
+          let (more, split) = front rest may in
+          let (later, on) = halted.is_prefix more in record {
+            rest = written later;
+            is = cc (line_filter.apart halted.passed later);
+          })
+          halted.fault same not_denied
+
       module _ (ready : PassPre old before) (sound : IsSound reader) where
+        ending : {new : Reader} {piece : List ℕ} → ReaderAdvance reader new piece → {after : Slots}
+            → StoreBounds tool before after (received piece new)
+            → LaggedOutput tool (received piece new) (written run.passed)
+            → PassEnding tool midway new before after piece
+        unfolding midway
+        ending reads stored processing = record {
+          is_text = line_filter.tool_text run.first;
+          ready = ready;
+          sound = sound;
+          reads = reads;
+          stored = stored;
+          processing = processing;
+        }
+
         -- the first part of a line was read
         module _ {new : Reader} {piece : List ℕ} (reads : ReaderAdvance reader new piece) (free : IsLine end piece)
             (is_sound : IsSound new) where
-          short_piece : (input : List ℕ) → IsConsistent (received piece new) input
-              → max (max_length run.ls) (length piece) ≤ max_line_length end input
-          short_piece = piece_longest _ _ _ _ run.came _ _ reads free
+          stored : {after : Slots} → SlotBounds width (max (max_length run.ls) (length piece)) before after
+              → StoreBounds tool before after (received piece new)
+          stored bounds = kept (received piece new) bounds (piece_longest _ _ _ _ run.came _ _ reads free)
+
+          piece_ending : {after : Slots} → StoreBounds tool before after (received piece new)
+              → PassEnding tool midway new before after piece
+          piece_ending bounded = ending reads bounded (works_piece reads free is_sound)
 
           -- and then a read failed
           pub run_read : {after : Slots} → SlotBounds width (max (max_length run.ls) (length piece)) before after
               → HasReadCause reader new → PassPost tool old new was is before after (Err (Read 0))
           unfolding midway
           run_read bounds cause =
-              pass_read (line_filter.tool_text run.first) midway ready sound reads
-              (kept (received piece new) bounds short_piece) (works_piece reads free is_sound)
-              cause bounds.denied
+              pass_read (piece_ending (stored bounds)) cause bounds.denied
               (λ empty going. decided_so (received piece new)
               (whole_before _ _ _ _ run.came _ _ reads free empty going))
 
@@ -253,64 +278,36 @@ module _ {S X E : Type 0} {tool : ToolSpec} {state : S → Slots → X} {rest_fr
           pub run_memory : {after : Slots} → after ≡ with_denied (with_line store (width - 1) piece)
               → new.failed ≡ reader.failed → 0 < length new.buffered
               → PassPost tool old new was is before after (Err Memory)
-          unfolding midway
-          run_memory {after} told same left =
-              let bounds = keeps_last piece refl in
-              let denied : after.denied ≡ true = cc in
-              let size : length after.lines ≡ length (with_line store (width - 1) piece).lines = cc in
-              pass_memory (line_filter.tool_text run.first) midway ready sound reads
-              (stored after (max (max_length run.ls) (length piece)) (received piece new)
-              (omega (arith, bounds.peak, ap (λ bounded. bounded.peak) told))
-              (record {
-                least = omega (arith, bounds.adds.least);
-                most = omega (arith, bounds.adds.most);
-                all = λ allowed. absurd (false≢true (cc));
-              })
-              (omega (arith, bounds.adds.all bounds.denied)) short_piece) (works_piece reads free is_sound)
-              same denied left
+          run_memory told same left =
+              let bounded = stored (keeps_last piece refl) in
+              rw told (pass_memory (piece_ending (record {
+                peak = bounded.peak;
+                size = bounded.size;
+                keeps_store = λ none. absurd (omega (arith, none, line_filter.slots, line_filter.some));
+              })) same refl left)
 
-        -- reading a block failed
-        pub run_no_block : {new : Reader} → ReaderAdvance reader new [] → IsSound new → HasReadCause reader new
-            → PassPost tool old new was is before store (Err (Read 0))
-        run_no_block reads is_sound =
-            run_read reads tt is_sound (bounds_weaker (max (max_length run.ls) 0) run.keeps (omega arith))
+        -- a block was read
+        module _ {new : Reader} (reads : ReaderAdvance reader new []) (is_sound : IsSound new) where
+          same_bounds : SlotBounds width (max (max_length run.ls) 0) before store
+          same_bounds = bounds_weaker (max (max_length run.ls) 0) run.keeps (omega arith)
 
-        -- a write failed at some lines, which come before the continuation
-        halts : {new : Reader} {piece : List ℕ} → ReaderAdvance reader new piece → {after : Slots}
-            → StoreBounds tool before after (received piece new)
-            → LaggedOutput tool (received piece new) (written run.passed)
-            → new.failed ≡ reader.failed → after.denied ≡ false → {ls : List (List ℕ)} {is' : Output}
-            → Halt now ls is is'
-            → ((rest : List ℕ) → (new.eof ≡ true → rest ≡ [])
-            → (more : List (List ℕ)) × (lines end (piece ++ (new.buffered ++ rest)) ≡ ls ++ more))
-            → PassPost tool old new was is' before after (Err Write)
-        unfolding midway
-        halts reads bounded processing same not_denied halted front =
-            pass_write (line_filter.tool_text run.first) midway ready sound reads bounded processing halted.wrote
-            halted.fault same not_denied
-            (λ rest may.
-            let (more, split) = front rest may in
-            let (later, on) = halted.is_prefix more in record {
-              rest = written later;
-              is = cc (line_filter.apart halted.passed later);
-            })
+          -- reading it failed
+          pub run_no_block : HasReadCause reader new → PassPost tool old new was is before store (Err (Read 0))
+          run_no_block = run_read reads tt is_sound same_bounds
 
-        -- the lines of a block
-        pub run_block_halts : {shown : Reader} {block : List ℕ} → IsSound shown → AdvanceOk reader shown []
-            → shown.buffered ≡ block → {is' : Output} → Halt now (complete_lines tool.end block) is is'
-            → PassPost tool old shown was is' before store (Err Write)
-        run_block_halts {shown} {block} is_sound advance_ok buffered {is'} halted =
-            halts advance_ok.reads (kept (received [] shown)
-            (bounds_weaker (max (max_length run.ls) 0) run.keeps (omega arith))
-            (short_piece advance_ok.reads tt is_sound))
-            (works_piece advance_ok.reads tt is_sound) advance_ok.failed run.keeps.denied halted
-            (λ rest may. (lines end ((line_split end block).piece ++ rest), cc (complete_prefix end block rest)))
+          -- a write failed at its lines
+          pub run_block_halts : {block : List ℕ} → new.buffered ≡ block → new.failed ≡ reader.failed
+              → {is' : Output} → Halt now (complete_lines tool.end block) is is'
+              → PassPost tool old new was is' before store (Err Write)
+          run_block_halts {block} buffered same halted =
+              halts (piece_ending reads tt is_sound (stored reads tt is_sound same_bounds)) same run.keeps.denied halted
+              (λ rest may. (lines end ((line_split end block).piece ++ rest), cc (complete_prefix end block rest)))
 
         -- the buffered output could not be written
         pub run_flush_failed : {is' : Output} → PushEffect is is' [] → is'.write_failed ≡ true
             → PassPost tool old reader was is' before store (Err Write)
         run_flush_failed wrote fault =
-            run_block_halts sound (advance_none reader run.reached.advance_ok.fault) refl
+            run_block_halts (reads_nothing reader) sound refl refl
             (record {
               passed = [];
               wrote = rw (← none_written) at wrote;
@@ -360,13 +357,14 @@ module _ {S X E : Type 0} {tool : ToolSpec} {state : S → Slots → X} {rest_fr
             let ends = run.reached.advance_ok.reads.terminator ∙ run.terminator in
             let more = lines_more _ _ _ _ run.came _ _ _ _ next_line ends in
             let bounds = keeps_last run next_line.line next_line.stored in
-            halts run ready sound next_line.advance_ok.reads (kept run (received run came new)
+            halts run
+            (ending run ready sound next_line.advance_ok.reads (kept run (received run came new)
             (bounds_weaker (max_length (run.ls ++ next_line.line ∷ [])) bounds
             (omega (arith, max_length-append run.ls (next_line.line ∷ []))))
             (received_longest _ _ _ _ more))
             (works_line run next_line.advance_ok.reads next_line.line (next_line.terminator ++ new.buffered)
             (append_assoc next_line.line next_line.terminator new.buffered) (rw ends at next_line.whole)
-            (after_line next_line is_sound)) next_line.advance_ok.failed bounds.denied
+            (after_line next_line is_sound))) next_line.advance_ok.failed bounds.denied
             (rw (same_state next_line.line next_line.stored) at (rw (filled next_line.line next_line.stored) at halted))
             (λ rest may. (
               lines end (new.buffered ++ rest),
@@ -385,23 +383,17 @@ module _ {S X E : Type 0} {tool : ToolSpec} {state : S → Slots → X} {rest_fr
         bounds : SlotBounds width (max (max_length run.ls) 0) before after
         bounds = keeps_last run [] told
 
+        last_ending : {after' : Slots} → SlotBounds width (max (max_length run.ls) 0) before after'
+            → PassEnding tool (midway run) new before after' []
+        last_ending fit = piece_ending run ready sound advance_ok.reads tt is_sound
+            (stored run ready sound advance_ok.reads tt is_sound fit)
+
         pub run_done : {after' : Slots} → SlotsCleared (width - 1) after after' → is'.write_failed ≡ false
             → PassPost tool old new was is' before after' (Ok tt)
-        unfolding midway
         run_done empties clean =
             let (cleared, total) = bounds_cleared bounds line_filter.some (filled [] told) empties in
-            pass_done (line_filter.tool_text run.first) (midway run) ready sound advance_ok.reads
-            (kept run (received run [] new) cleared
-            (short_piece run ready sound advance_ok.reads tt is_sound))
-            (works_piece run advance_ok.reads tt is_sound)
-            last done refl advance_ok.failed cleared.denied clean advance_ok.fault
+            pass_done (last_ending cleared) last done refl advance_ok.failed cleared.denied clean advance_ok.fault
             (advance_ok.short (sound.long run.reached.advance_ok.fault)) total
 
         pub run_unended : is'.write_failed ≡ true → PassPost tool old new was is' before after (Err Write)
-        unfolding midway
-        run_unended fault =
-            pass_unended (line_filter.tool_text run.first) (midway run) ready sound advance_ok.reads
-            (kept run (received run [] new) bounds
-            (short_piece run ready sound advance_ok.reads tt is_sound))
-            (works_piece run advance_ok.reads tt is_sound)
-            last done refl advance_ok.failed bounds.denied fault
+        run_unended fault = pass_unended (last_ending bounds) last done refl advance_ok.failed bounds.denied fault

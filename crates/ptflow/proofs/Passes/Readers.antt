@@ -1,25 +1,11 @@
 -- Facts about readers and outputs that each engine starts from. Each follows from the records of one call.
-use Rattle.ptflow.proofs.Common.{common_steps, ◌≡◌, ℕ, ◌<◌, ◌≤◌, false, true, List, [], ◌++◌, None, length, take, drop}
-use Rattle.ptflow.proofs.Common.{refl, sym, ap, arith, Reader, ReaderAdvance, AdvanceOk, IsDone, IsSound}
-use Rattle.ptflow.proofs.Common.{remaining_bytes, budget, Slots, advance_ok_trans, prepend_known-nil, advance_ok_take}
-use Rattle.ptflow.proofs.Common.{PassPre}
+use Rattle.ptflow.proofs.Common.{common_steps, ◌≡◌, ℕ, ◌<◌, ◌≤◌, true, List, [], ◌++◌, None, length, take, drop, refl}
+use Rattle.ptflow.proofs.Common.{ap, arith, Reader, ReaderAdvance, AdvanceOk, IsDone, budget, advance_ok_trans}
+use Rattle.ptflow.proofs.Common.{advance_ok_take, reads_nothing}
 
 -- nothing was read yet
 pub advance_none : (r : Reader) → r.fault ≡ None → AdvanceOk r r []
-advance_none r clean = record {
-  reads =
-      record {
-        moved = sym (prepend_known-nil (remaining_bytes r));
-        count = omega arith;
-        refused = refl;
-        terminator = refl;
-        still = λ eof. (refl, eof);
-        end = λ h. h;
-      };
-  fault = clean;
-  failed = refl;
-  short = λ h. h;
-}
+advance_none r clean = record { reads = reads_nothing r; fault = clean; failed = refl; short = λ h. h }
 
 -- after the end of the input, nothing is read
 pub eof_gives_nothing : (now new : Reader) (bytes : List ℕ) → IsDone now → ReaderAdvance now new bytes
@@ -33,11 +19,6 @@ stays_at_eof now new bytes done reads = grind (arith, common_steps)
 pub may_follow : (now new : Reader) (bytes rest : List ℕ) → ReaderAdvance now new bytes → (IsDone new → rest ≡ [])
     → IsDone now → bytes ++ rest ≡ []
 may_follow now new bytes rest reads may done = grind (arith, common_steps)
-
--- a sound reader that can be read has not failed
-pub never_failed : {old reader : Reader} {store : Slots} {bytes : List ℕ} → PassPre old store
-    → AdvanceOk old reader bytes → IsSound reader → reader.failed ≡ false
-never_failed ready advance_ok sound = sound.unfailed (cc) advance_ok.fault
 
 -- the first bytes of a block were consumed
 pub advance_past : {now shown new : Reader} {block : List ℕ} (count : ℕ) → AdvanceOk now shown []

@@ -10,7 +10,7 @@ use Rattle.std.proofs.lemmas.List.Edits.{swap_is}
 -- each of the first `width` slots holds at most `most` bytes, and the others are empty
 pub record SlotBounds (width most : ℕ) (before store : Slots) : Type 0 where
   pub denied : store.denied ≡ false
-  pub adds : AddedSlots before store width
+  pub size : length store.lines ≡ max (length before.lines) width
   pub short : (k : ℕ) → k < width → length (get_or store.lines k []) ≤ most
   pub others : total_bytes (drop width store.lines) ≡ 0
   pub peak : store.peak ≤ max before.peak (width * most)
@@ -42,7 +42,7 @@ pub bounds_start : {width : ℕ} {before store : Slots} → AddedSlots before st
     → total_bytes store.lines ≡ 0 → store.peak ≡ before.peak → SlotBounds width 0 before store
 bounds_start {width} {store} adds denied empty peak = record {
   denied = denied;
-  adds = adds;
+  size = adds.all denied;
   short = λ k low. omega (arith, get_or-le-sum_by length store.lines k [] (omega (arith, low, adds.all denied)));
   others = omega (arith, total_split width store.lines);
   peak = omega (arith, peak);
@@ -52,7 +52,7 @@ pub bounds_weaker : {width most : ℕ} (more : ℕ) {before store : Slots} → S
     → most ≤ more → SlotBounds width more before store
 bounds_weaker {width} more bounds high = record {
   denied = bounds.denied;
-  adds = bounds.adds;
+  size = bounds.size;
   short = λ i low. omega (arith, bounds.short i low);
   others = bounds.others;
   peak = omega (arith, mul-le-mul_left width high);
@@ -64,11 +64,7 @@ pub bounds_line : {width most : ℕ} {before store : Slots} (new : Slots) (slot 
     → SlotBounds width most before new
 bounds_line {width} {most} {store} new slot bytes bounds within fits is = record {
   denied = cc;
-  adds = record {
-    least = omega (arith, same_length);
-    most = omega (arith, same_length);
-    all = λ allowed. same_length ∙ bounds.adds.all bounds.denied;
-  };
+  size = same_length ∙ bounds.size;
   short = short;
   others = others;
   peak =
@@ -111,16 +107,12 @@ pub bounds_swapped : {width most : ℕ} {before store : Slots} (new : Slots) →
 bounds_swapped {width} {most} {before} {store} new some bounds either = elim either [
   | inl same ↦ subst (SlotBounds width most before) (sym same) bounds
   | inr is ↦
-      let room : width ≤ length store.lines = omega (arith, bounds.adds.all bounds.denied) in
+      let room : width ≤ length store.lines = omega (arith, bounds.size) in
       let swapped = swap_is store.lines 0 (width - 1) [] (omega arith) (omega arith) in
       let same : new.lines ≡ set (set store.lines 0 last) (width - 1) first = cc in
       record {
         denied = cc;
-        adds = record {
-          least = omega (arith, ap length same, bounds_both.adds.least);
-          most = omega (arith, ap length same, bounds_both.adds.most);
-          all = λ allowed. cc (bounds_both.adds.all bounds_both.denied);
-        };
+        size = cc (same, bounds_both.size);
         short = λ i low. rw same (bounds_both.short i low);
         others = cc (same, bounds_both.others);
         peak = omega (arith, ap (λ s. s.peak) is, bounds.peak);
@@ -146,17 +138,13 @@ pub bounds_cleared : {width most : ℕ} {before store new : Slots} → SlotBound
 bounds_cleared {width} {most} {store} {new} bounds some last cleared = (
   record {
     denied = cc;
-    adds = record {
-      least = omega arith;
-      most = omega arith;
-      all = λ allowed. cleared.size ∙ bounds.adds.all bounds.denied;
-    };
+    size = cleared.size ∙ bounds.size;
     short =
         λ i low. omega (
           arith,
           none,
           get_or-le-sum_by length new.lines i []
-              (omega (arith, bounds.adds.all bounds.denied)),
+              (omega (arith, bounds.size)),
         );
     others = omega (arith, none, total_split width new.lines);
     peak = omega (arith, bounded_total width most store.lines bounds.short bounds.others);
@@ -167,7 +155,7 @@ bounds_cleared {width} {most} {store} {new} bounds some last cleared = (
     none : total_bytes new.lines ≡ 0
     none =
         let one : width - 1 + 1 ≡ width = omega arith in
-        let more = drop_more store.lines (width - 1) [] (omega (arith, bounds.adds.all bounds.denied)) in
+        let more = drop_more store.lines (width - 1) [] (omega (arith, bounds.size)) in
         let behind = ap total_bytes more ∙ sum_by-cons length (get_or store.lines (width - 1) [])
         (drop (width - 1 + 1) store.lines) in
         omega (

@@ -168,8 +168,8 @@ returns-in_err-passed-in-Ok g c =
     let u = sent_again g (goal.at.returns-in_err-passed-in-Ok g c).In_ok-write_out_before_blocking-2 in
     let (refilled, shown, _) = (rw c.in-Ok.is at c.block.follows.holds-at-none.shows) u.reached.advance_ok.fault in
     by_write c.from_residual-in_err-passed-in-Ok.ensures
-    (run_block_halts c.requires.tool u c.requires.begins.ready c.fill.ensures.is_sound
-    c.block.follows.holds-at-none.is_sound refilled shown c.in_err-passed-in-Ok.ensures.halts)
+    (run_block_halts c.requires.tool u c.requires.begins.ready c.fill.ensures.is_sound refilled.reads
+    c.block.follows.holds-at-none.is_sound shown refilled.failed c.in_err-passed-in-Ok.ensures.halts)
 
 pub returns-in-Err : goal.returns-in-Err
 returns-in-Err g c =

@@ -1,7 +1,8 @@
 -- On an output that has failed nothing is done. Setting the terminator does not change the input, so the contract of
 -- each way carries over.
-use Rattle.ptflow.proofs.Common.{cond, sym, ◌∙◌, cut_job, cut_tool}
-use Rattle.ptflow.proofs.Passes.Exits.{pass_unchanged, pass_set}
+use Rattle.ptflow.proofs.Common.{sym, ◌∙◌, cut_job, cut_tool}
+use Rattle.std.proofs.Common.{rules}
+use Rattle.ptflow.proofs.Passes.Exits.{pass_unchanged, pass_set, ready_set}
 use Rattle.ptflow.proofs.tools.cut.cut.Goals as goal
 
 pub returns-then-has_failed : goal.returns-then-has_failed
@@ -10,5 +11,10 @@ returns-then-has_failed g c = pass_unchanged (cut_tool (cut_job c.args.job.now))
 
 pub returns-then-job : goal.returns-then-job
 returns-then-job g c =
-    pass_set _ (cond c.args.job.now.zero 0 10) c.args.reader.now _ _ _
-    _ _ c.set_ending.ensures.set (cc) c.cut_by_fields.ensures
+    pass_set c.args.reader.now c.cut_by_fields.ensures c.set_ending.ensures.set (search rules) (cc)
+
+pub returns : goal.returns
+returns g c =
+    let ready = ready_set c.args.reader.now c.requires c.set_ending.ensures.set in
+    pass_set c.args.reader.now (c.cut_by_bytes.ensures c.args.store.now ready) c.set_ending.ensures.set
+    (search rules) (cc)

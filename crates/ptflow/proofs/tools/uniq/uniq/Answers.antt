@@ -1,7 +1,8 @@
 -- On an output that has failed nothing is done. `uniq` is a line tool, and setting the terminator does not change the
 -- input, so the contract of `run_lines` is that of the call.
 use Rattle.ptflow.proofs.Common.{refl, uniq_job, uniq_tool}
-use Rattle.ptflow.proofs.Passes.Exits.{pass_unchanged}
+use Rattle.std.proofs.Common.{rules}
+use Rattle.ptflow.proofs.Passes.Exits.{pass_unchanged, pass_set}
 use Rattle.ptflow.proofs.UniqLemmas.FirstLine.{uniq_line_tool}
 use Rattle.ptflow.proofs.tools.uniq.uniq.Goals as goal
 
@@ -10,3 +11,6 @@ returns-then-has_failed g c = pass_unchanged (uniq_tool (uniq_job c.args.job.now
 
 pub run_lines-requires-clause-tool : goal.run_lines-requires-clause-tool
 run_lines-requires-clause-tool g c = uniq_line_tool (uniq_job c.args.job.now) _ refl
+
+pub returns : goal.returns
+returns g c = pass_set c.args.reader.now c.run_lines.ensures c.set_ending.ensures.set (search rules) (cc)

@@ -3,7 +3,7 @@
 use Rattle.ptflow.proofs.Common.{◌≡◌, ◌++◌, cond, [], ◌∷◌, refl, sym, ◌∙◌, paste_job, paste_serial_tool, row_rest}
 use Rattle.ptflow.proofs.Common.{serial_rest}
 use Rattle.std.proofs.Common.{rules}
-use Rattle.ptflow.proofs.Passes.Exits.{pass_unchanged, storeless_set}
+use Rattle.ptflow.proofs.Passes.Exits.{pass_unchanged, pass_set, ready_set}
 use Rattle.ptflow.proofs.PasteLemmas.SerialRest.{serial_is_decided}
 use Rattle.ptflow.proofs.tools.paste.serial.paste_serial.Goals as goal
 
@@ -16,12 +16,8 @@ returns g c =
     let job = paste_job c.args.job.now in
     let end : c.terminator-terminator.result ≡ job.terminator = search rules in
     let delims = c.as_slice-delims.ensures.all in
-    storeless_set (paste_serial_tool job) (cond c.args.job.now.zero 0 10) c.args.reader.now c.set_ending.new.self
-    c.run_blocks.new.reader c.args.out.now c.run_blocks.new.out
-    c.args._store.now c.set_ending.ensures.set c.run_blocks.result (sym c.has_failed.ensures ∙ c.if-has_failed.false)
-    c.requires
-    (λ store ready.
-    c.run_blocks.ensures (paste_serial_tool job)
+    pass_set c.args.reader.now
+    (c.run_blocks.ensures (paste_serial_tool job)
     (record {
       text = λ bytes i. row_rest (end i) (delims i) 0 bytes;
       decided = λ given pushed now same on.
@@ -34,4 +30,5 @@ returns g c =
       holds = refl;
       slots = refl;
     })
-    store ready)
+    c.args._store.now (ready_set c.args.reader.now c.requires c.set_ending.ensures.set))
+    c.set_ending.ensures.set (search rules) (sym c.has_failed.ensures ∙ c.if-has_failed.false)
