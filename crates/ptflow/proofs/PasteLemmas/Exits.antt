@@ -10,8 +10,8 @@ use Rattle.ptflow.proofs.Common.{reader_at, update_at, PastePost, uses_of, colum
 use Rattle.ptflow.proofs.Common.{paste_decided, SlotsBound, SlotsKept, CellsFilled, RowFilled, RowFailed}
 use Rattle.ptflow.proofs.Common.{ClearSlotsPost, CopyRowsPost, RowsTaken, RowsWritten, AreConsumed, BegunText}
 use Rattle.ptflow.proofs.Common.{job_shape, is_write_fault, AreReceivedLines, LinesTaken, AreFirstRows, FlowFault, Read}
-use Rattle.ptflow.proofs.Common.{Write, Memory, CallProgress, CallOutcome, CallEnd, call_state, DecidedIfReadFailed}
-use Rattle.ptflow.proofs.Common.{call_ends, call_without_slots, inputs_at, paste_engine, paste_end, reads_nothing}
+use Rattle.ptflow.proofs.Common.{Write, Memory, CallProgress, CallOutcome, call_state, DecidedIfReadFailed, call_ends}
+use Rattle.ptflow.proofs.Common.{call_without_slots, inputs_at, paste_engine, paste_end, reads_nothing, CallState}
 use Rattle.ptflow.proofs.PasteLemmas.FillRow.{slots_bound_line, cells_total, sum_of_zeros}
 use Rattle.ptflow.proofs.PasteLemmas.RowsTaken.{first_rows_trans, lines_taken_by_cells, lines_taken_by_row, lines_trans}
 use Rattle.ptflow.proofs.PasteLemmas.RowsTaken.{taken_at_most, taken_more, nothing_taken}
@@ -25,9 +25,10 @@ use Rattle.ptflow.proofs.PasteLemmas.BufferedRows.{still_pulled}
 use Rattle.ptflow.proofs.PasteLemmas.Invariant.{PasteInvariant, HasStarted, ReadMore, never_failed, now_short}
 use Rattle.ptflow.proofs.PasteLemmas.Invariant.{now_buffered, given_by, later, rows_by, begins_by, LagsBy, EarlierBy}
 use Rattle.ptflow.proofs.PasteLemmas.Invariant.{lags_by, begins_by_earlier, rows_wrote, rows_kept, row_kept, row_gives}
-use Rattle.ptflow.proofs.PasteLemmas.Invariant.{since_set, set_readable, now_readable}
+use Rattle.ptflow.proofs.PasteLemmas.Invariant.{since_set, set_readable, now_readable, read_lines}
 use Rattle.ptflow.proofs.PasteLemmas.Named.{is_in_used, not_in, used_is_in, consistent_itself, with_received, all_agree}
 use Rattle.ptflow.proofs.PasteLemmas.Named.{same_paste, same_size}
+use Rattle.ptlines.specs.Calls.{EngineSpec, InputNames}
 
 -- A slot could not be allocated.
 pub paste_without_slots : {job : Paste} {cells : List ℕ} {old set : List Reader} {was : Output} {first store : Slots}
@@ -36,8 +37,7 @@ pub paste_without_slots : {job : Paste} {cells : List ℕ} {old set : List Reade
     → length store.lines < length cells → {result : Result (Unit {0}) FlowFault} → result ≡ Err Memory
     → PastePost job cells old set was was first store result
 paste_without_slots {job} {cells} {old} {set} {was} {first} {store} s adds same denied missing is =
-    rw (is, paste_end) (since_set s (call_without_slots (inputs_at cells) (paste_engine job cells) (call_state (reader_at set) was first)
-    (call_state (reader_at set) was store) s.writable refl
+    rw (is, paste_end) (since_set s (call_without_slots _ _ _ _ s.writable refl
     (λ p named i.
     record (reader_at set p) { terminator = (set_readable s).same_end p (is_in_used cells p named) i })
     (λ p other. refl) (λ p named. (s.are_set p).sound (is_in_used cells p named)) (never_failed s) denied same
@@ -54,72 +54,73 @@ module _ {job : Paste} {cells : List ℕ} {old set now : List Reader} {was is : 
       (length s.taken_rows * uses_of cells p) (s.ls p)
   so_far = s.first_rows.lines_taken
 
-  -- The readers were read further, and `pushed` was pushed after the rows so far.
-  module _ {new : List Reader} (r : ReadMore cells now new) {is' : Output} {pushed : List ℕ}
-      (wrote : PushEffect is is' pushed) where
+  -- The readers were read further, and `pushed` was pushed after the rows so far. If no growth was denied, the store
+  -- is `stored`.
+  record IsExit {new : List Reader} (r : ReadMore cells now new) (is' : Output) (pushed : List ℕ)
+      (after stored : Slots) : Type 0 where
+    wrote : PushEffect is is' pushed
+    size : length after.lines ≡ length stored.lines
+    same_peak : after.peak ≡ stored.peak
+    bound : (texts : ℕ → List ℕ) → ((p : ℕ) → IsConsistent (given_by job s.first_rows r p) (texts p))
+        → SlotsBound cells (λ p. max_line_length job.terminator (texts p)) first stored
+    begins : (texts : ℕ → List ℕ) → ((p : ℕ) → IsConsistent (given_by job s.first_rows r p) (texts p))
+        → IsPrefix (rows_text job s.taken_rows ++ pushed) (paste job cells texts)
+    lags : (p : ℕ) → 0 < uses_of cells p → LagsBy job s.first_rows r p
+
+  module _ {new : List Reader} {r : ReadMore cells now new} {is' : Output} {pushed : List ℕ} {after stored : Slots}
+      (k : IsExit r is' pushed after stored) where
     abbrev given : ℕ → Received
     given = given_by job s.first_rows r
-
-    abbrev bytes : ℕ → List ℕ
-    bytes p = (so_far p).bytes ++ r.extra p
 
     abbrev written : List ℕ
     written = rows_text job s.taken_rows ++ pushed
 
-    module _ (after : Slots) where
-      abbrev Ends : CallEnd ℕ → Type 0
-      Ends = CallOutcome (inputs_at cells) (paste_engine job cells) (call_state (reader_at set) was first)
-          (call_state (reader_at new) is' after) given written
+    abbrev names : InputNames ℕ
+    names = inputs_at cells
 
-      abbrev Decided : CallEnd ℕ → Type 0
-      Decided = DecidedIfReadFailed (inputs_at cells) (paste_engine job cells) (call_state (reader_at set) was first)
-          (call_state (reader_at new) is' after) bytes written
+    abbrev engine : EngineSpec ℕ
+    engine = paste_engine job cells
 
-      -- The facts from which the progress of the call follows. If no growth was denied, the store is `stored`.
-      record IsExit (stored : Slots) : Type 0 where
-        size : length after.lines ≡ length stored.lines
-        same_peak : after.peak ≡ stored.peak
-        bound : (texts : ℕ → List ℕ) → ((p : ℕ) → IsConsistent (given p) (texts p))
-            → SlotsBound cells (λ p. max_line_length job.terminator (texts p)) first stored
-        begins : (texts : ℕ → List ℕ) → ((p : ℕ) → IsConsistent (given p) (texts p))
-            → IsPrefix written (paste job cells texts)
-        lags : (p : ℕ) → 0 < uses_of cells p → LagsBy job s.first_rows r p
+    abbrev begin : CallState ℕ
+    begin = call_state (reader_at set) was first
 
-      module _ {stored : Slots} (k : IsExit stored) where
-        bound_now : SlotsBound cells (λ p. max_line_length job.terminator (given p).bytes) first stored
-        bound_now = k.bound (λ p. (given p).bytes) (λ p. consistent_itself (given p))
+    abbrev end : CallState ℕ
+    end = call_state (reader_at new) is' after
 
-        progress : CallProgress (inputs_at cells) (paste_engine job cells) (call_state (reader_at set) was first)
-            (call_state (reader_at new) is' after) bytes written
-        progress = record {
-          reads = λ p named. advance_trans (reader_at set p) (reader_at now p) (reader_at new p) (so_far p).bytes
-              (r.extra p) (so_far p).reads (r.reads p);
-          untouched = λ p other. let none = not_in cells p other in
-              r.left p none ∙ (so_far p).none (rw none (omega arith));
-          never_failed = never_failed s.starts;
-          writable = s.starts.writable;
-          wrote = push_trans was is is' (rows_text job s.taken_rows) pushed s.clean s.wrote wrote;
-          is_prefix = λ texts agree. rw (same_paste job cells given texts agree) at (k.begins
-              (with_received job cells given texts agree) (all_agree job cells given texts agree));
-          bounded_lag = λ p named. bounded_lag_after (λ g. paste_decided job cells (update_at p (g tt) given))
-              (λ u. given p) was is (rows_text job s.taken_rows) (k.lags p (is_in_used cells p named)) s.wrote s.clean
-              is' pushed wrote;
-          peak = λ texts agree. omega (
-            arith,
-            k.same_peak,
-            (k.bound (with_received job cells given texts agree) (all_agree job cells given texts agree)).peak,
-            same_size job cells given texts agree,
-          );
-          slots = λ texts agree. omega (arith, k.size, bound_now.adds.most);
-          least = omega (arith, k.size, bound_now.adds.least);
-          room = omega (arith, k.size, bound_now.adds.all bound_now.denied);
-        }
+    bound_now : SlotsBound cells (λ p. max_line_length job.terminator (given p).bytes) first stored
+    bound_now = k.bound (λ p. (given p).bytes) (λ p. consistent_itself (given p))
 
-        exit : (result : Result (Unit {0}) FlowFault) → Ends (paste_end result) → Decided (paste_end result)
-            → PastePost job cells old new was is' first after result
-        exit result ends decided = since_set s.starts (call_ends (inputs_at cells) (paste_engine job cells)
-            (call_state (reader_at set) was first) (call_state (reader_at new) is' after) bytes progress
-            (paste_end result) ends decided)
+    progress : CallProgress names engine begin end (λ p. (so_far p).bytes ++ r.extra p) written
+    progress = record {
+      reads = λ p named. advance_trans (reader_at set p) (reader_at now p) (reader_at new p) (so_far p).bytes
+          (r.extra p) (so_far p).reads (r.reads p);
+      untouched = λ p other. let none = not_in cells p other in
+          r.left p none ∙ (so_far p).none (rw none (omega arith));
+      never_failed = never_failed s.starts;
+      writable = s.starts.writable;
+      wrote = push_trans was is is' (rows_text job s.taken_rows) pushed s.clean s.wrote k.wrote;
+      is_prefix = λ texts agree. rw (same_paste job cells given texts agree) at (k.begins
+          (with_received job cells given texts agree) (all_agree job cells given texts agree));
+      bounded_lag = λ p named. bounded_lag_after (λ g. paste_decided job cells (update_at p (g tt) given))
+          (λ u. given p) was is (rows_text job s.taken_rows) (k.lags p (is_in_used cells p named)) s.wrote s.clean
+          is' pushed k.wrote;
+      peak = λ texts agree. omega (
+        arith,
+        k.same_peak,
+        (k.bound (with_received job cells given texts agree) (all_agree job cells given texts agree)).peak,
+        same_size job cells given texts agree,
+      );
+      slots = λ texts agree. omega (arith, k.size, bound_now.adds.most);
+      least = omega (arith, k.size, bound_now.adds.least);
+      room = omega (arith, k.size, bound_now.adds.all bound_now.denied);
+    }
+
+    exit : (result : Result (Unit {0}) FlowFault)
+        → CallOutcome names engine begin end given written (paste_end result)
+        → DecidedIfReadFailed names engine begin end (λ p. (so_far p).bytes ++ r.extra p) written (paste_end result)
+        → PastePost job cells old new was is' first after result
+    exit result ends decided =
+        since_set s.starts (call_ends _ _ _ _ _ progress (paste_end result) ends decided)
 
   -- Nothing was pushed since.
   begins_without_more : {new : List Reader} (r : ReadMore cells now new) (texts : ℕ → List ℕ)
@@ -145,11 +146,7 @@ module _ {job : Paste} {cells : List ℕ} {old set now : List Reader} {was is : 
       all_taken p = taken_more refl (g.lines_taken p) (b p)
 
       abbrev read_on : ReadMore cells now new
-      read_on = record {
-        extra = λ p. (all_taken p).bytes;
-        reads = λ p. (all_taken p).reads;
-        left = λ p none. (all_taken p).none (rw none (omega (arith, none, uses_before cells n p)));
-      }
+      read_on = read_lines all_taken (λ p none. rw none (omega (arith, none, uses_before cells n p)))
 
       paste_write : {is' : Output} → PushEffect is is' (rows_text job more) → is'.write_failed ≡ true
           → {after : Slots} → ((top : ℕ → ℕ) → ((p : ℕ) → max_length (s.ls p ++ ls p) ≤ top p)
@@ -157,7 +154,8 @@ module _ {job : Paste} {cells : List ℕ} {old set now : List Reader} {was is : 
           → ((p : ℕ) → 0 < uses_of cells p → EarlierBy job s.first_rows read_on p)
           → PastePost job cells old new was is' first after (Err Write)
       paste_write wrote fault {after} kept cut =
-          let k : IsExit read_on wrote after after = record {
+          let k : IsExit read_on _ _ after after = record {
+            wrote = wrote;
             size = refl;
             same_peak = refl;
             bound = λ texts a. kept (λ p. max_line_length job.terminator (texts p)) (λ p. omega (
@@ -170,18 +168,14 @@ module _ {job : Paste} {cells : List ℕ} {old set now : List Reader} {was is : 
             begins = λ texts a. subst (λ (x : List ℕ). IsPrefix x (paste job cells texts))
                 (rows_text-append job.terminator job.delimiters s.taken_rows more)
                 (begins_by job (first_rows_trans s.first_rows g)
-                (record {
-                  extra = λ p. (b p).bytes;
-                  reads = λ p. (b p).reads;
-                  left = λ p none. (b p).none (omega (arith, none, uses_before cells n p));
-                }) texts
+                (read_lines b (λ p none. omega (arith, none, uses_before cells n p))) texts
                 (λ p. rw (append_assoc (so_far p).bytes (g.lines_taken p).bytes (b p).bytes) (a p)));
             lags = λ p some. lags_by job s.first_rows read_on p some (cut p some);
           } in
-          exit read_on wrote after k (Err Write) (record {
+          exit k (Err Write) (record {
             write_failed = fault;
             unfailed = λ p named. (all_taken p).failed ∙ (so_far p).failed;
-            not_denied = (bound_now read_on wrote after k).denied;
+            not_denied = (bound_now k).denied;
           }) tt
 
   more_count : (p : ℕ)
@@ -230,8 +224,8 @@ module _ {job : Paste} {cells : List ℕ} {old set now : List Reader} {was is : 
       → PastePost job cells old begun.readers was is' first store (Err Write)
   paste_rows_write_failed {begun = begun} p wrote fault =
       taken_write_failed p.rows begun.count (lines_taken_by_cells (job_shape job cells)
-      (λ q some. (p.rows.first_rows.lines_taken q).reads.terminator ∙ (now_readable s).same_end q some) p.filled.consumed)
-      p.consumed wrote fault
+      (λ q some. (p.rows.first_rows.lines_taken q).reads.terminator ∙ (now_readable s).same_end q some)
+      p.filled.consumed) p.consumed wrote fault
 
   -- A write of a row that was filled failed.
   pub paste_row_write_failed : {new : List Reader} {after : Slots} {fields : List (List ℕ)}
@@ -253,11 +247,7 @@ module _ {job : Paste} {cells : List ℕ} {old set now : List Reader} {was is : 
     lines_taken_by = lines_taken_by_row (job_shape job cells) (now_readable s).same_end f.consumed
 
     abbrev read_by : ReadMore cells now new
-    read_by = record {
-      extra = λ p. (lines_taken_by p).bytes;
-      reads = λ p. (lines_taken_by p).reads;
-      left = λ p none. (lines_taken_by p).none none;
-    }
+    read_by = read_lines lines_taken_by (λ p none. none)
 
     none : (p : ℕ) → f.input_lines p ≡ []
     none = f.none refl
@@ -281,7 +271,8 @@ module _ {job : Paste} {cells : List ℕ} {old set now : List Reader} {was is : 
     pub paste_done : {is' : Output} {cleared : Slots} → ClearSlotsPost cells after cleared → PushEffect is is' []
         → is'.write_failed ≡ false → PastePost job cells old new was is' first cleared (Ok tt)
     paste_done {cleared = cleared} e wrote clean =
-        let k : IsExit read_by wrote cleared cleared = record {
+        let k : IsExit read_by _ [] cleared cleared = record {
+          wrote = wrote;
           size = refl;
           same_peak = refl;
           bound = λ texts a. let top = λ (p : ℕ). max_line_length job.terminator (texts p) in
@@ -290,12 +281,11 @@ module _ {job : Paste} {cells : List ℕ} {old set now : List Reader} {was is : 
           lags = λ p some. lags_by job s.first_rows read_by p some
               (earlier_of_taken p some (lines_taken_by p) (omega arith));
         } in
-        let now_bound = bound_now read_by wrote cleared k in
-        exit read_by wrote cleared k (Ok tt) (record {
+        let now_bound = bound_now k in
+        exit k (Ok tt) (record {
           out = λ texts agree. append-nil (rows_text job s.taken_rows)
-              ∙ text_is (with_received job cells (given read_by wrote) texts agree)
-              (all_agree job cells (given read_by wrote) texts agree)
-              ∙ same_paste job cells (given read_by wrote) texts agree;
+              ∙ text_is (with_received job cells (given k) texts agree) (all_agree job cells (given k) texts agree)
+              ∙ same_paste job cells (given k) texts agree;
           disorder = λ texts agree. refl;
           ended = λ none p named. done_by p (is_in_used cells p named);
           fault = λ p named. let some = is_in_used cells p named in
@@ -415,12 +405,12 @@ module _ {job : Paste} {cells : List ℕ} {old set now : List Reader} {was is : 
           (earlier_of_taken p some (lines_taken_to p) (uses_before cells b.column p)))
           (last p).whose)
 
-      -- The store is `stored`, or it was denied more memory.
-      exit_to : {is' : Output} (wrote : PushEffect is is' []) (stored : Slots)
+      exit_to : {is' : Output} → PushEffect is is' [] → (stored : Slots)
           → ((texts : ℕ → List ℕ) → ((p : ℕ) → IsConsistent (given_by job s.first_rows read_to p) (texts p))
           → SlotsBound cells (λ p. max_line_length job.terminator (texts p)) first stored)
-          → length after.lines ≡ length stored.lines → after.peak ≡ stored.peak → IsExit read_to wrote after stored
+          → length after.lines ≡ length stored.lines → after.peak ≡ stored.peak → IsExit read_to is' [] after stored
       exit_to wrote stored bound size same_peak = record {
+        wrote = wrote;
         size = size;
         same_peak = same_peak;
         bound = bound;
@@ -428,10 +418,10 @@ module _ {job : Paste} {cells : List ℕ} {old set now : List Reader} {was is : 
         lags = lag_to;
       }
 
-      exit_with_piece : {is' : Output} (wrote : PushEffect is is' [])
+      exit_with_piece : {is' : Output} → PushEffect is is' []
           → length after.lines ≡ length (with_line b.buffered b.column piece).lines
           → after.peak ≡ (with_line b.buffered b.column piece).peak
-          → IsExit read_to wrote after (with_line b.buffered b.column piece)
+          → IsExit read_to is' [] after (with_line b.buffered b.column piece)
       exit_with_piece wrote = exit_to wrote (with_line b.buffered b.column piece)
           (λ texts a. slots_bound_line (bound_to texts a) b.column piece b.within (piece_fits texts a))
 
@@ -442,10 +432,10 @@ module _ {job : Paste} {cells : List ℕ} {old set now : List Reader} {was is : 
     paste_send_failed wrote fault stored same going =
         let k = exit_to (λ done. cc (done.eof)) wrote b.buffered bound_to
         (ap (λ (x : Slots). length x.lines) stored) (ap (λ (x : Slots). x.peak) stored) in
-        exit read_to wrote after k (Err Write) (record {
+        exit k (Err Write) (record {
           write_failed = fault;
           unfailed = λ p named. failed_to same p;
-          not_denied = ap (λ (x : Slots). x.denied) stored ∙ (bound_now read_to wrote after k).denied;
+          not_denied = ap (λ (x : Slots). x.denied) stored ∙ (bound_now k).denied;
         }) tt
 
     -- A growth of a slot failed. That reader has bytes left.
@@ -454,7 +444,7 @@ module _ {job : Paste} {cells : List ℕ} {old set now : List Reader} {was is : 
         → (reader_at new here).failed ≡ (reader_at b.mid here).failed → 0 < length (reader_at new here).buffered
         → PastePost job cells old new was is' first after (Err Memory)
     paste_memory_failed wrote clean stored same left =
-        exit read_to wrote after (exit_with_piece (λ done.
+        exit (exit_with_piece (λ done.
         let (none, empty, eof) = eof_gives_nothing (reader_at b.mid here) (reader_at new here) piece done piece_reads in
         absurd (omega (arith, left, ap length empty))) wrote
         (ap (λ (x : Slots). length x.lines) stored) (ap (λ (x : Slots). x.peak) stored)) (Err Memory) (record {
@@ -479,13 +469,13 @@ module _ {job : Paste} {cells : List ℕ} {old set now : List Reader} {was is : 
     paste_read_failed wrote clean stored cause =
         let k = exit_with_piece may_have_more wrote (ap (λ (x : Slots). length x.lines) stored)
         (ap (λ (x : Slots). x.peak) stored) in
-        exit read_to wrote after k (Err (Read here)) (record {
+        exit k (Err (Read here)) (record {
           named = used_is_in cells here here_used;
           unfailed = here_unfailed;
           cause = ⊎_elim inl (λ (long, same). inr (long, same ∙ failed_mid here)) cause;
           others = λ q named differ. ap (λ (r : Reader). r.failed) (b.others q differ) ∙ failed_mid q;
           clean = clean;
-          not_denied = ap (λ (x : Slots). x.denied) stored ∙ (bound_now read_to wrote after k).denied;
+          not_denied = ap (λ (x : Slots). x.denied) stored ∙ (bound_now k).denied;
         }) (λ p named failed. ⊎_elim
         (λ (is, whole). ⊎_elim decided_here
         (λ (long, same). cc (same, failed_mid here, here_unfailed, ap (λ (q : ℕ). (reader_at new q).failed) is)) cause)

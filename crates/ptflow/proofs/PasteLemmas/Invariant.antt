@@ -10,7 +10,7 @@ use Rattle.ptflow.proofs.Common.{reader_at, IsReadable, PastePre, uses_of, colum
 use Rattle.ptflow.proofs.Common.{paste_decided, SetTerminatorsPost, SlotsBound, SlotsKept, CellsTaken, CellsFilled}
 use Rattle.ptflow.proofs.Common.{AreReceivedLines, AreFirstRows, RowsTaken, RowsWritten, cells_text, job_shape}
 use Rattle.ptflow.proofs.Common.{BufferedRowsPre, CallState, CallEnd, CallPost, call_state, call_set, inputs_at, is_in}
-use Rattle.ptflow.proofs.Common.{paste_engine}
+use Rattle.ptflow.proofs.Common.{paste_engine, LinesTaken}
 use Rattle.ptflow.proofs.PasteLemmas.FillRow.{slots_bound_start, slots_kept_by_lines}
 use Rattle.ptflow.proofs.PasteLemmas.RowsTaken.{no_rows, first_rows_trans, filled_row_is_first, filled_row_text}
 use Rattle.ptflow.proofs.PasteLemmas.Grid.{Column, last_use, rows_text-append}
@@ -58,6 +58,16 @@ pub record ReadMore (cells : List ℕ) (now new : List Reader) : Type 0 where
   pub extra : ℕ → List ℕ
   pub reads : (p : ℕ) → ReaderAdvance (reader_at now p) (reader_at new p) (extra p)
   pub left : (p : ℕ) → uses_of cells p ≡ 0 → reader_at new p ≡ reader_at now p
+
+-- They gave these lines, and only those that columns use gave any.
+abbrev pub read_lines : {end : ℕ} {cells : List ℕ} {now new : List Reader} {most : ℕ → ℕ} {ls : ℕ → Column}
+    → ((p : ℕ) → LinesTaken end (reader_at now p) (reader_at new p) (most p) (ls p))
+    → ((p : ℕ) → uses_of cells p ≡ 0 → most p ≡ 0) → ReadMore cells now new
+read_lines taken unused = record {
+  extra = λ p. (taken p).bytes;
+  reads = λ p. (taken p).reads;
+  left = λ p none. (taken p).none (unused p none);
+}
 
 module _ (job : Paste) {cells : List ℕ} {set now new : List Reader} {ls : ℕ → Column}
     {taken_rows : List (List (List ℕ))} (g : AreFirstRows (job_shape job cells) set now ls taken_rows)
@@ -167,8 +177,7 @@ module _ {job : Paste} {cells : List ℕ} {old set : List Reader} {was : Output}
   pub since_set : {new : CallState ℕ} {end : CallEnd ℕ}
       → CallPost (inputs_at cells) (paste_engine job cells) (call_state (reader_at set) was first) new end
       → CallPost (inputs_at cells) (paste_engine job cells) (call_state (reader_at old) was first) new end
-  since_set {new} = call_set (inputs_at cells) (paste_engine job cells) (call_state (reader_at old) was first)
-      (call_state (reader_at set) was first) new s.writable refl refl
+  since_set = call_set _ _ _ _ _ s.writable refl refl
       (λ p named. (s.are_set p).set (is_in_used cells p named)) (λ p other. (s.are_set p).left (not_in cells p other))
 
 -- ---- rows that were taken

@@ -4,7 +4,7 @@ use Rattle.ptflow.proofs.Common.{Bool, not, true, false, refl, ◌≡◌, ◌≤
 use Rattle.ptflow.proofs.Common.{err_from_is_err_and, Paste, PushEffect, paste_job, RowShape, BegunText, RowAmid}
 use Rattle.ptflow.proofs.Common.{CellsFilled, CopyRowsPost, FillRowPost, RowFilled, Result, FlowFault, begun_after}
 use Rattle.ptflow.proofs.Common.{begun_in, job_shape, shape_of, [], ◌∷◌, ◌++◌, Err, Write, Output, PastePost, rows_text}
-use Rattle.ptflow.proofs.Common.{slots_text, call_on_failed_output, inputs_at, paste_engine}
+use Rattle.ptflow.proofs.Common.{slots_text, call_on_failed_output}
 use Rattle.ptflow.specs.declared.tools.paste.row.BegunRow.{BegunRow}
 use Rattle.ptflow.proofs.PasteLemmas.Exits.{paste_without_slots, paste_rows_write_failed, paste_shared_write_failed}
 use Rattle.ptflow.proofs.PasteLemmas.Exits.{paste_fill_failed, paste_done, paste_row_write_failed}
@@ -18,9 +18,8 @@ use Rattle.ptflow.proofs.tools.paste.paste.Given as given
 use Rattle.ptflow.proofs.tools.paste.paste.Goals as goal
 
 pub returns-then-has_failed : goal.returns-then-has_failed
-returns-then-has_failed g c = call_on_failed_output (inputs_at c.args.cells.now)
-    (paste_engine (paste_job c.args.job.now) c.args.cells.now) (sym c.has_failed.ensures ∙ c.if-has_failed.true)
-    c.requires.not_denied
+returns-then-has_failed g c =
+    call_on_failed_output _ _ (sym c.has_failed.ensures ∙ c.if-has_failed.true) c.requires.not_denied
 
 -- The terminators of the readers were set.
 starts : (g : given.Over) (c : After-ensure_slots g) → HasStarted (paste_job c.args.job.now) c.args.cells.now
