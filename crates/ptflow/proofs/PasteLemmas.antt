@@ -1,6 +1,7 @@
 -- Lemmas about `paste`.
 pub mod RowsTaken
 pub mod Grid
+pub mod Named
 pub mod SharedInput
 pub mod PasteOfParts
 pub mod Exits

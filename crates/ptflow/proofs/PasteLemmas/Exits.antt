@@ -2,82 +2,50 @@
 -- so far were pushed, and the readers have given the lines of these rows and perhaps some bytes more.
 use Rattle.ptflow.proofs.Common.{◌≡◌, ◌≢◌, ◌⊎◌, ⊎_elim, inl, inr, ℕ, ◌+◌, ◌*◌, ◌<◌, ◌≤◌, true, false, List, [], ◌∷◌}
 use Rattle.ptflow.proofs.Common.{◌++◌, Result, Ok, Err, length, take, get_or, max, refl, sym, ◌∙◌, ap, subst, arith}
-use Rattle.ptflow.proofs.Common.{append_assoc, length-append, cases_eq, append-nil, All-from_get_or, lines, IsLine}
-use Rattle.ptflow.proofs.Common.{max_length, max_line_length, Received, IsPrefix, IsConsistent, known_lines, Output}
-use Rattle.ptflow.proofs.Common.{PushEffect, Reader, ReaderAdvance, IsDone, HasReadCause, Slots, with_line, with_denied}
-use Rattle.ptflow.proofs.Common.{received_with, has_received, advance_trans, push_nothing, push_trans, bounded_lag_now}
-use Rattle.ptflow.proofs.Common.{bounded_lag_after, Paste, AddedSlots, reader_at, update_at, PastePre, IsReadToEnd}
-use Rattle.ptflow.proofs.Common.{PasteOutcome, PastePost, IsColumnUnended, uses_of, columns, rows, rows_text, paste}
-use Rattle.ptflow.proofs.Common.{paste_decided, paste_size, SlotsBound, SlotsKept, CellsFilled, RowFilled, RowFailed}
+use Rattle.ptflow.proofs.Common.{append_assoc, length-append, cases_eq, append-nil, lines, IsLine, max_length}
+use Rattle.ptflow.proofs.Common.{max_line_length, Received, IsPrefix, IsConsistent, known_lines, Output, PushEffect}
+use Rattle.ptflow.proofs.Common.{Reader, ReaderAdvance, IsDone, HasReadCause, Slots, with_line, with_denied}
+use Rattle.ptflow.proofs.Common.{received_with, advance_trans, push_trans, bounded_lag_after, Paste, AddedSlots}
+use Rattle.ptflow.proofs.Common.{reader_at, update_at, PastePost, uses_of, columns, rows, rows_text, paste}
+use Rattle.ptflow.proofs.Common.{paste_decided, SlotsBound, SlotsKept, CellsFilled, RowFilled, RowFailed}
 use Rattle.ptflow.proofs.Common.{ClearSlotsPost, CopyRowsPost, RowsTaken, RowsWritten, AreConsumed, BegunText}
 use Rattle.ptflow.proofs.Common.{job_shape, is_write_fault, AreReceivedLines, LinesTaken, AreFirstRows, FlowFault, Read}
-use Rattle.ptflow.proofs.Common.{Write, Memory}
+use Rattle.ptflow.proofs.Common.{Write, Memory, CallProgress, CallOutcome, call_state, DecidedIfReadFailed, call_ends}
+use Rattle.ptflow.proofs.Common.{call_without_slots, inputs_at, paste_engine, paste_end, reads_nothing, CallState}
 use Rattle.ptflow.proofs.PasteLemmas.FillRow.{slots_bound_line, cells_total, sum_of_zeros}
-use Rattle.ptflow.proofs.PasteLemmas.RowsTaken.{first_rows_trans, lines_taken_by_cells, lines_taken_by_row}
-use Rattle.ptflow.proofs.PasteLemmas.RowsTaken.{reads_nothing, lines_trans, taken_at_most, taken_more, nothing_taken}
+use Rattle.ptflow.proofs.PasteLemmas.RowsTaken.{first_rows_trans, lines_taken_by_cells, lines_taken_by_row, lines_trans}
+use Rattle.ptflow.proofs.PasteLemmas.RowsTaken.{taken_at_most, taken_more, nothing_taken}
 use Rattle.ptflow.proofs.PasteLemmas.Grid.{Column, uses_before_lt, uses_before, grid_none, rows_text-append}
 use Rattle.ptflow.proofs.Passes.LinesRead.{received_longest, piece_longest}
 use Rattle.ptflow.proofs.PasteLemmas.Lag.{EarlierPart, earlier_partial, earlier_before, earlier_buffered, earlier_lines}
-use Rattle.ptflow.proofs.PasteLemmas.Lag.{none_received, lags_here}
+use Rattle.ptflow.proofs.PasteLemmas.Lag.{none_received, begins_earlier}
 use Rattle.ptflow.proofs.Passes.Readers.{eof_gives_nothing, stays_at_eof}
 use Rattle.ptflow.proofs.Passes.Lines.{max_length-append}
 use Rattle.ptflow.proofs.PasteLemmas.BufferedRows.{still_pulled}
-use Rattle.ptflow.proofs.PasteLemmas.Invariant.{PasteInvariant, HasStarted, ReadMore, never_failed, set_failed}
-use Rattle.ptflow.proofs.PasteLemmas.Invariant.{received_since, now_end, now_fault, now_failed, now_short, now_buffered}
-use Rattle.ptflow.proofs.PasteLemmas.Invariant.{given_by, later, rows_by, begins_by, LagsBy, EarlierBy, lags_by}
-use Rattle.ptflow.proofs.PasteLemmas.Invariant.{begins_by_earlier, rows_wrote, rows_kept, row_kept, row_gives}
-
--- Nothing was done.
-pub paste_on_failed_output : {job : Paste} {cells : List ℕ} {old : List Reader} {was : Output} {first : Slots}
-    → PastePre cells old first → was.write_failed ≡ true
-    → PastePost job cells old old was was first first (Err Write)
-paste_on_failed_output {job} {cells} {old} {was} ready fault = record {
-  given = λ p. received_with [] (reader_at old p);
-  came = λ p. has_received (reader_at old p) (reader_at old p) [] reads_nothing;
-  pushed = [];
-  wrote = push_nothing was;
-  ends = record { write_failed = fault; failed = λ p. refl; denied = ready.not_denied };
-  is_prefix = λ texts a. record { rest = paste job cells texts; is = refl };
-  decided_is_written = λ p some failed clean. cc;
-  bounded_lag = λ p some clean. cc;
-  is_exact = λ ok. cc;
-  peak = λ texts a. omega arith;
-  slots = λ clean. cc;
-  line_left = λ memory room. cc;
-  refused = λ clean few. cc;
-  untouched = λ p none. refl;
-  unchanged_if_failed = λ h. record { write_fault = refl; same_readers = refl; same_output = refl; same_store = refl };
-}
+use Rattle.ptflow.proofs.PasteLemmas.Invariant.{PasteInvariant, HasStarted, ReadMore, never_failed, now_short}
+use Rattle.ptflow.proofs.PasteLemmas.Invariant.{now_buffered, given_by, later, rows_by, begins_by, LagsBy, EarlierBy}
+use Rattle.ptflow.proofs.PasteLemmas.Invariant.{lags_by, begins_by_earlier, rows_wrote, rows_kept, row_kept, row_gives}
+use Rattle.ptflow.proofs.PasteLemmas.Invariant.{since_set, set_readable, now_readable, read_lines}
+use Rattle.ptflow.proofs.PasteLemmas.Named.{is_in_used, not_in, used_is_in, consistent_itself, with_received, all_agree}
+use Rattle.ptflow.proofs.PasteLemmas.Named.{same_paste, same_size}
+use Rattle.ptlines.specs.Calls.{EngineSpec, InputNames}
 
 -- A slot could not be allocated.
 pub paste_without_slots : {job : Paste} {cells : List ℕ} {old set : List Reader} {was : Output} {first store : Slots}
-    → HasStarted job.terminator cells old set was first
+    → HasStarted job cells old set was first
     → AddedSlots first store (length cells) → store.peak ≡ first.peak → store.denied ≡ true
-    → length store.lines < length cells → PastePost job cells old set was was first store (Err Memory)
-paste_without_slots {job} {cells} {old} {set} {was} s adds same denied missing = record {
-  given = given;
-  came = λ p. received_since s p reads_nothing;
-  pushed = [];
-  wrote = push_nothing was;
-  ends = record { denied = denied; failed = set_failed s; clean = s.writable };
-  is_prefix = λ texts a. record { rest = paste job cells texts; is = refl };
-  bounded_lag = λ p some clean. bounded_lag_now (λ g. paste_decided job cells (update_at p (g tt) given))
-      (λ u. given p) was was []
-      (lags_here job cells given [] (rows (columns cells (λ q. known_lines job.terminator (given q)))) refl p some
-      (earlier_buffered job.terminator (1 * uses_of cells p) (reader_at set p) ((s.are_set p).sound some).buffered
-      (omega (arith, some)))) (push_nothing was) clean;
-  decided_is_written = λ p some failed clean. cc (set_failed s p, never_failed s p some);
-  is_exact = λ ok. cc;
-  peak = λ texts a. omega (arith, same);
-  slots = λ clean. adds;
-  line_left = λ memory room. absurd (omega (arith, missing, room));
-  refused = λ clean few. record { readers = λ p some. (s.are_set p).set some; output = refl };
-  untouched = λ p none. (s.are_set p).left none;
-  unchanged_if_failed = λ fault. cc (s.writable);
-}
-  where
-    given : ℕ → Received
-    given p = received_with [] (reader_at set p)
+    → length store.lines < length cells → {result : Result (Unit {0}) FlowFault} → result ≡ Err Memory
+    → PastePost job cells old set was was first store result
+paste_without_slots {job} {cells} {old} {set} {was} {first} {store} s adds same denied missing is =
+    rw (is, paste_end) (since_set s (call_without_slots _ _ _ _ s.writable refl
+    (λ p named i.
+    record (reader_at set p) { terminator = (set_readable s).same_end p (is_in_used cells p named) i })
+    (λ p other. refl) (λ p named. (s.are_set p).sound (is_in_used cells p named)) (never_failed s) denied same
+    adds.least missing (λ texts. omega arith) (λ p named. let some = is_in_used cells p named in
+    begins_earlier job cells (λ q. received_with [] (reader_at set q)) []
+    (rows (columns cells (λ q. known_lines job.terminator (received_with [] (reader_at set q))))) refl p some
+    (earlier_buffered job.terminator (1 * uses_of cells p) (reader_at set p) ((s.are_set p).sound some).buffered
+    (omega (arith, some))))))
 
 module _ {job : Paste} {cells : List ℕ} {old set now : List Reader} {was is : Output} {first store : Slots}
     (s : PasteInvariant job cells old set now was is first store) where
@@ -86,57 +54,76 @@ module _ {job : Paste} {cells : List ℕ} {old set now : List Reader} {was is : 
       (length s.taken_rows * uses_of cells p) (s.ls p)
   so_far = s.first_rows.lines_taken
 
-  -- The readers were read further, and `pushed` was pushed after the rows so far.
-  module _ {new : List Reader} (r : ReadMore now new) {is' : Output} {pushed : List ℕ}
-      (wrote : PushEffect is is' pushed) where
+  -- The readers were read further, and `pushed` was pushed after the rows so far. If no growth was denied, the store
+  -- is `stored`.
+  record IsExit {new : List Reader} (r : ReadMore cells now new) (is' : Output) (pushed : List ℕ)
+      (after stored : Slots) : Type 0 where
+    wrote : PushEffect is is' pushed
+    size : length after.lines ≡ length stored.lines
+    same_peak : after.peak ≡ stored.peak
+    bound : (texts : ℕ → List ℕ) → ((p : ℕ) → IsConsistent (given_by job s.first_rows r p) (texts p))
+        → SlotsBound cells (λ p. max_line_length job.terminator (texts p)) first stored
+    begins : (texts : ℕ → List ℕ) → ((p : ℕ) → IsConsistent (given_by job s.first_rows r p) (texts p))
+        → IsPrefix (rows_text job s.taken_rows ++ pushed) (paste job cells texts)
+    lags : (p : ℕ) → 0 < uses_of cells p → LagsBy job s.first_rows r p
+
+  module _ {new : List Reader} {r : ReadMore cells now new} {is' : Output} {pushed : List ℕ} {after stored : Slots}
+      (k : IsExit r is' pushed after stored) where
     abbrev given : ℕ → Received
     given = given_by job s.first_rows r
 
     abbrev written : List ℕ
     written = rows_text job s.taken_rows ++ pushed
 
-    -- An exit with this result: the facts from which its postcondition follows.
-    record IsExit (after : Slots) (result : Result (Unit {0}) FlowFault) : Type 0 where
-      ends : PasteOutcome cells old new is' after result
-      begins : (texts : ℕ → List ℕ) → ((p : ℕ) → IsConsistent (given p) (texts p))
-          → IsPrefix written (paste job cells texts)
-      peak : (texts : ℕ → List ℕ) → ((p : ℕ) → IsConsistent (given p) (texts p))
-          → after.peak ≤ max first.peak (paste_size job cells texts)
-      decided : (p : ℕ) → 0 < uses_of cells p → (reader_at new p).failed ≡ true → is'.write_failed ≡ false
-          → IsPrefix (paste_decided job cells given) written
-      whole : result ≡ Ok tt → written ≡ paste job cells (λ p. (given p).bytes)
-      lags : (p : ℕ) → 0 < uses_of cells p → LagsBy job s.first_rows r p
-      adds : AddedSlots first after (length cells)
-      room : length cells ≤ length after.lines
-      unended : result ≡ Err Memory → IsColumnUnended cells new
-      left : (p : ℕ) → uses_of cells p ≡ 0 → reader_at new p ≡ reader_at now p
+    abbrev names : InputNames ℕ
+    names = inputs_at cells
 
-    exit : {after : Slots} {result : Result (Unit {0}) FlowFault} → IsExit after result
-        → PastePost job cells old new was is' first after result
-    exit k = record {
-      given = given;
-      came = λ p. received_since s.starts p (advance_trans (reader_at set p) (reader_at now p) (reader_at new p)
-          (so_far p).bytes (r.extra p) (so_far p).reads (r.reads p));
-      pushed = written;
-      wrote = push_trans was is is' (rows_text job s.taken_rows) pushed s.clean s.wrote wrote;
-      ends = k.ends;
-      is_prefix = k.begins;
-      decided_is_written = k.decided;
-      bounded_lag = λ p some clean. bounded_lag_after (λ g. paste_decided job cells (update_at p (g tt) given))
-          (λ u. given p) was is (rows_text job s.taken_rows) (k.lags p some) s.wrote s.clean is' pushed wrote;
-      is_exact = k.whole;
-      peak = k.peak;
-      slots = λ clean. k.adds;
-      line_left = λ memory there. k.unended memory;
-      refused = λ clean few. absurd (omega (arith, few, k.room));
-      untouched = λ p none.
-          let nothing : length s.taken_rows * uses_of cells p ≡ 0 = rw none (omega arith) in
-          cc (k.left p none, (so_far p).none nothing, (s.starts.are_set p).left none);
-      unchanged_if_failed = λ fault. cc (s.starts.writable);
+    abbrev engine : EngineSpec ℕ
+    engine = paste_engine job cells
+
+    abbrev begin : CallState ℕ
+    begin = call_state (reader_at set) was first
+
+    abbrev end : CallState ℕ
+    end = call_state (reader_at new) is' after
+
+    bound_now : SlotsBound cells (λ p. max_line_length job.terminator (given p).bytes) first stored
+    bound_now = k.bound (λ p. (given p).bytes) (λ p. consistent_itself (given p))
+
+    progress : CallProgress names engine begin end (λ p. (so_far p).bytes ++ r.extra p) written
+    progress = record {
+      reads = λ p named. advance_trans (reader_at set p) (reader_at now p) (reader_at new p) (so_far p).bytes
+          (r.extra p) (so_far p).reads (r.reads p);
+      untouched = λ p other. let none = not_in cells p other in
+          r.left p none ∙ (so_far p).none (rw none (omega arith));
+      never_failed = never_failed s.starts;
+      writable = s.starts.writable;
+      wrote = push_trans was is is' (rows_text job s.taken_rows) pushed s.clean s.wrote k.wrote;
+      is_prefix = λ texts agree. rw (same_paste job cells given texts agree) at (k.begins
+          (with_received job cells given texts agree) (all_agree job cells given texts agree));
+      bounded_lag = λ p named. bounded_lag_after (λ g. paste_decided job cells (update_at p (g tt) given))
+          (λ u. given p) was is (rows_text job s.taken_rows) (k.lags p (is_in_used cells p named)) s.wrote s.clean
+          is' pushed k.wrote;
+      peak = λ texts agree. omega (
+        arith,
+        k.same_peak,
+        (k.bound (with_received job cells given texts agree) (all_agree job cells given texts agree)).peak,
+        same_size job cells given texts agree,
+      );
+      slots = λ texts agree. omega (arith, k.size, bound_now.adds.most);
+      least = omega (arith, k.size, bound_now.adds.least);
+      room = omega (arith, k.size, bound_now.adds.all bound_now.denied);
     }
 
+    exit : (result : Result (Unit {0}) FlowFault)
+        → CallOutcome names engine begin end given written (paste_end result)
+        → DecidedIfReadFailed names engine begin end (λ p. (so_far p).bytes ++ r.extra p) written (paste_end result)
+        → PastePost job cells old new was is' first after result
+    exit result ends decided =
+        since_set s.starts (call_ends _ _ _ _ _ progress (paste_end result) ends decided)
+
   -- Nothing was pushed since.
-  begins_without_more : {new : List Reader} (r : ReadMore now new) (texts : ℕ → List ℕ)
+  begins_without_more : {new : List Reader} (r : ReadMore cells now new) (texts : ℕ → List ℕ)
       → ((p : ℕ) → IsConsistent (given_by job s.first_rows r p) (texts p))
       → IsPrefix (rows_text job s.taken_rows ++ []) (paste job cells texts)
   begins_without_more r texts a = rw (append-nil (rows_text job s.taken_rows)) (begins_by job s.first_rows r texts a)
@@ -158,42 +145,38 @@ module _ {job : Paste} {cells : List ℕ} {old set now : List Reader} {was is : 
           (length more * uses_of cells p + uses_of (take n cells) p) (ls p ++ taken p)
       all_taken p = taken_more refl (g.lines_taken p) (b p)
 
-      abbrev read_on : ReadMore now new
-      read_on = record { extra = λ p. (all_taken p).bytes; reads = λ p. (all_taken p).reads }
+      abbrev read_on : ReadMore cells now new
+      read_on = read_lines all_taken (λ p none. rw none (omega (arith, none, uses_before cells n p)))
 
       paste_write : {is' : Output} → PushEffect is is' (rows_text job more) → is'.write_failed ≡ true
           → {after : Slots} → ((top : ℕ → ℕ) → ((p : ℕ) → max_length (s.ls p ++ ls p) ≤ top p)
           → SlotsBound cells top first after)
           → ((p : ℕ) → 0 < uses_of cells p → EarlierBy job s.first_rows read_on p)
           → PastePost job cells old new was is' first after (Err Write)
-      paste_write wrote fault kept cut =
-          let k = kept (λ p. max_length (s.ls p ++ ls p)) (λ p. omega arith) in
-          exit read_on wrote (record {
-            ends = record {
-              write_failed = fault;
-              failed = λ p. (all_taken p).failed ∙ now_failed s p;
-              denied = k.denied;
-            };
-            begins = λ texts a. subst (λ (x : List ℕ). IsPrefix x (paste job cells texts))
-                (rows_text-append job.terminator job.delimiters s.taken_rows more)
-                (begins_by job (first_rows_trans s.first_rows g)
-                (record { extra = λ p. (b p).bytes; reads = λ p. (b p).reads }) texts
-                (λ p. rw (append_assoc (so_far p).bytes (g.lines_taken p).bytes (b p).bytes) (a p)));
-            peak = λ texts a. (kept (λ p. max_line_length job.terminator (texts p)) (λ p. omega (
+      paste_write wrote fault {after} kept cut =
+          let k : IsExit read_on _ _ after after = record {
+            wrote = wrote;
+            size = refl;
+            same_peak = refl;
+            bound = λ texts a. kept (λ p. max_line_length job.terminator (texts p)) (λ p. omega (
               arith,
               longest p (all_taken p) (a p),
               max_length-append (s.ls p) (ls p ++ taken p),
               max_length-append (ls p) (taken p),
               max_length-append (s.ls p) (ls p),
-            ))).peak;
-            decided = λ p some failed clean. cc;
-            whole = λ ok. cc;
+            ));
+            begins = λ texts a. subst (λ (x : List ℕ). IsPrefix x (paste job cells texts))
+                (rows_text-append job.terminator job.delimiters s.taken_rows more)
+                (begins_by job (first_rows_trans s.first_rows g)
+                (read_lines b (λ p none. omega (arith, none, uses_before cells n p))) texts
+                (λ p. rw (append_assoc (so_far p).bytes (g.lines_taken p).bytes (b p).bytes) (a p)));
             lags = λ p some. lags_by job s.first_rows read_on p some (cut p some);
-            adds = k.adds;
-            room = omega (arith, k.adds.all k.denied);
-            unended = λ memory. cc;
-            left = λ p none. (all_taken p).none (rw none (omega (arith, none, uses_before cells n p)));
-          })
+          } in
+          exit k (Err Write) (record {
+            write_failed = fault;
+            unfailed = λ p named. (all_taken p).failed ∙ (so_far p).failed;
+            not_denied = (bound_now k).denied;
+          }) tt
 
   more_count : (p : ℕ)
       → (length s.taken_rows + 1) * uses_of cells p ≡ length s.taken_rows * uses_of cells p + uses_of cells p
@@ -241,8 +224,8 @@ module _ {job : Paste} {cells : List ℕ} {old set now : List Reader} {was is : 
       → PastePost job cells old begun.readers was is' first store (Err Write)
   paste_rows_write_failed {begun = begun} p wrote fault =
       taken_write_failed p.rows begun.count (lines_taken_by_cells (job_shape job cells)
-      (λ q some. (p.rows.first_rows.lines_taken q).reads.terminator ∙ now_end s q some) p.filled.consumed)
-      p.consumed wrote fault
+      (λ q some. (p.rows.first_rows.lines_taken q).reads.terminator ∙ (now_readable s).same_end q some)
+      p.filled.consumed) p.consumed wrote fault
 
   -- A write of a row that was filled failed.
   pub paste_row_write_failed : {new : List Reader} {after : Slots} {fields : List (List ℕ)}
@@ -261,10 +244,10 @@ module _ {job : Paste} {cells : List ℕ} {old set now : List Reader} {was is : 
       (f : CellsFilled cells (length cells) now new fields false) where
     lines_taken_by : (p : ℕ)
         → LinesTaken job.terminator (reader_at now p) (reader_at new p) (uses_of cells p) (f.input_lines p)
-    lines_taken_by = lines_taken_by_row (job_shape job cells) (now_end s) f.consumed
+    lines_taken_by = lines_taken_by_row (job_shape job cells) (now_readable s).same_end f.consumed
 
-    abbrev read_by : ReadMore now new
-    read_by = record { extra = λ p. (lines_taken_by p).bytes; reads = λ p. (lines_taken_by p).reads }
+    abbrev read_by : ReadMore cells now new
+    read_by = read_lines lines_taken_by (λ p none. none)
 
     none : (p : ℕ) → f.input_lines p ≡ []
     none = f.none refl
@@ -276,54 +259,48 @@ module _ {job : Paste} {cells : List ℕ} {old set now : List Reader} {was is : 
     nothing_by : (p : ℕ) → (lines_taken_by p).bytes ≡ []
     nothing_by p = none_received (rw (none p) at (lines_taken_by p).came)
 
-    text_is : rows_text job s.taken_rows ≡ paste job cells (λ p. (given_by job s.first_rows read_by p).bytes)
-    text_is =
-        let texts : ℕ → List ℕ = λ p. (given_by job s.first_rows read_by p).bytes in
-        let a : (p : ℕ) → IsConsistent (given_by job s.first_rows read_by p) (texts p) =
-        λ p. record { rest = []; is = sym (append-nil (texts p)); whole = λ eof. refl } in
+    text_is : (texts : ℕ → List ℕ) → ((p : ℕ) → IsConsistent (given_by job s.first_rows read_by p) (texts p))
+        → rows_text job s.taken_rows ≡ paste job cells texts
+    text_is texts a =
         let more = grid_none cells (λ p. lines job.terminator (later job s.first_rows read_by texts a p))
-        (λ p some i. lines job.terminator (nothing_by p i ++ ((done_by p some).buffered i ++ []))) in
+        (λ p some i. let done = done_by p some in
+        lines job.terminator (nothing_by p i ++ (done.buffered i ++ (a p).whole done.eof i))) in
         sym (ap (rows_text job) (rows_by job s.first_rows read_by texts a
         ∙ ap (λ (l : List (List (List ℕ))). s.taken_rows ++ l) more ∙ append-nil s.taken_rows))
 
     pub paste_done : {is' : Output} {cleared : Slots} → ClearSlotsPost cells after cleared → PushEffect is is' []
         → is'.write_failed ≡ false → PastePost job cells old new was is' first cleared (Ok tt)
     paste_done {cleared = cleared} e wrote clean =
-        let kept = λ (top : ℕ → ℕ) (high : (p : ℕ) → max_length (s.ls p ++ f.input_lines p) ≤ top p). e.kept first top
-        (row_kept s slots f.consumed top high) in
-        let k = kept (λ p. max_length (s.ls p ++ f.input_lines p)) (λ p. omega arith) in
-        let failed = λ (p : ℕ). (lines_taken_by p).failed ∙ now_failed s p in
-        exit read_by wrote (record {
-          ends = record {
-            read = All-from_get_or (λ p. IsReadToEnd (reader_at old p) (reader_at new p)) cells 0 (λ c low.
-                let p = get_or cells c 0 in
-                let some : 0 < uses_of cells p = omega (arith, uses_before_lt cells c low) in
-                record {
-                  done = done_by p some;
-                  fault = (lines_taken_by p).fault ∙ now_fault s p some;
-                  short = (lines_taken_by p).short (now_short s p some);
-                });
-            failed = failed;
-            clean = clean;
-            denied = k.denied;
-            empty = omega (
-              arith,
-              cells_total cells (λ p. 0) cleared.lines (λ c low. omega (arith, ap length (e.empty c low))) k.others,
-              sum_of_zeros cells,
-            );
-          };
+        let k : IsExit read_by _ [] cleared cleared = record {
+          wrote = wrote;
+          size = refl;
+          same_peak = refl;
+          bound = λ texts a. let top = λ (p : ℕ). max_line_length job.terminator (texts p) in
+              e.kept first top (row_kept s slots f.consumed top (λ p. longest p (lines_taken_by p) (a p)));
           begins = begins_without_more read_by;
-          peak = λ texts a. (kept (λ p. max_line_length job.terminator (texts p))
-              (λ p. longest p (lines_taken_by p) (a p))).peak;
-          decided = λ p some broken fine. cc (failed p, never_failed s.starts p some);
-          whole = λ ok. append-nil (rows_text job s.taken_rows) ∙ text_is;
           lags = λ p some. lags_by job s.first_rows read_by p some
               (earlier_of_taken p some (lines_taken_by p) (omega arith));
-          adds = k.adds;
-          room = omega (arith, k.adds.all k.denied);
-          unended = λ memory. cc;
-          left = λ p none. (lines_taken_by p).none none;
-        })
+        } in
+        let now_bound = bound_now k in
+        exit k (Ok tt) (record {
+          out = λ texts agree. append-nil (rows_text job s.taken_rows)
+              ∙ text_is (with_received job cells (given k) texts agree) (all_agree job cells (given k) texts agree)
+              ∙ same_paste job cells (given k) texts agree;
+          disorder = λ texts agree. refl;
+          ended = λ none p named. done_by p (is_in_used cells p named);
+          fault = λ p named. let some = is_in_used cells p named in
+              (lines_taken_by p).fault ∙ (now_readable s).unfailed p some;
+          short = λ p named. (lines_taken_by p).short (now_short s p (is_in_used cells p named));
+          unfailed = λ p named. (lines_taken_by p).failed ∙ (so_far p).failed;
+          clean = clean;
+          not_denied = now_bound.denied;
+          empty = omega (
+            arith,
+            cells_total cells (λ p. 0) cleared.lines (λ c low. omega (arith, ap length (e.empty c low)))
+                now_bound.others,
+            sum_of_zeros cells,
+          );
+        }) tt
 
   -- A row could not be filled: the reader of a column gave only a part of a line.
   module _ {CellFailed : Reader → Reader → Slots → Slots → ℕ → Type 0} {new : List Reader} {after : Slots}
@@ -339,10 +316,10 @@ module _ {job : Paste} {cells : List ℕ} {old set now : List Reader} {was is : 
     lines_taken_to : (p : ℕ)
         → LinesTaken job.terminator (reader_at now p) (reader_at b.mid p) (uses_of (take b.column cells) p)
         (b.input_lines p)
-    lines_taken_to = lines_taken_by_cells (job_shape job cells) (now_end s) b.consumed
+    lines_taken_to = lines_taken_by_cells (job_shape job cells) (now_readable s).same_end b.consumed
 
-    failed_mid : (p : ℕ) → (reader_at b.mid p).failed ≡ (reader_at old p).failed
-    failed_mid p = (lines_taken_to p).failed ∙ now_failed s p
+    failed_mid : (p : ℕ) → (reader_at b.mid p).failed ≡ (reader_at set p).failed
+    failed_mid p = (lines_taken_to p).failed ∙ (so_far p).failed
 
     -- The part of a line that a reader gave. Only the reader of that column gave one.
     record PartialLine (p : ℕ) : Type 0 where
@@ -356,22 +333,24 @@ module _ {job : Paste} {cells : List ℕ} {old set now : List Reader} {was is : 
         (λ same. record {
           part = piece;
           reads = rw same piece_reads;
-          is_line = rw ((lines_taken_to here).reads.terminator ∙ now_end s here here_used) at free;
+          is_line = rw ((lines_taken_to here).reads.terminator ∙ (now_readable s).same_end here here_used) at free;
           whose = inl (same, refl);
         })
         (λ differ. record {
           part = [];
-          reads = rw (b.others p differ) reads_nothing;
+          reads = rw (b.others p differ) (reads_nothing (reader_at b.mid p));
           is_line = tt;
           whose = inr (differ, refl, b.others p differ);
         })
         (cases_eq p here)
 
-    abbrev read_to : ReadMore now new
+    abbrev read_to : ReadMore cells now new
     read_to = record {
       extra = λ p. (lines_taken_to p).bytes ++ (last p).part;
       reads = λ p. advance_trans (reader_at now p) (reader_at b.mid p) (reader_at new p) (lines_taken_to p).bytes
           (last p).part (lines_taken_to p).reads (last p).reads;
+      left = λ p none. b.others p (λ same. absurd (omega (arith, none, here_used, ap (uses_of cells) same)))
+          ∙ (lines_taken_to p).none (omega (arith, none, uses_before cells b.column p));
     }
 
     -- The complete lines that a reader gave, and their bytes.
@@ -384,14 +363,6 @@ module _ {job : Paste} {cells : List ℕ} {old set now : List Reader} {was is : 
     given_is : (p : ℕ) → (so_far p).bytes ++ read_to.extra p ≡ given_to p ++ (last p).part
     given_is p = sym (append_assoc (so_far p).bytes (lines_taken_to p).bytes (last p).part)
 
-    kept_to : (top : ℕ → ℕ) → ((p : ℕ) → max_length (s.ls p ++ b.input_lines p) ≤ top p) → length piece ≤ top here
-        → SlotsBound cells top first (with_line b.buffered b.column piece)
-    kept_to top high fits = slots_bound_line (row_kept s b.slots b.consumed top high) b.column piece b.within fits
-
-    some_kept : SlotsBound cells (λ p. max_length (s.ls p ++ b.input_lines p) + length piece) first
-        (with_line b.buffered b.column piece)
-    some_kept = kept_to (λ p. max_length (s.ls p ++ b.input_lines p) + length piece) (λ p. omega arith) (omega arith)
-
     module _ (texts : ℕ → List ℕ) (a : (p : ℕ) → IsConsistent (given_by job s.first_rows read_to p) (texts p)) where
       long_to : (p : ℕ) → max (max_length (s.ls p ++ b.input_lines p)) (length (last p).part)
           ≤ max_line_length job.terminator (texts p)
@@ -401,17 +372,13 @@ module _ {job : Paste} {cells : List ℕ} {old set now : List Reader} {was is : 
       piece_fits : length piece ≤ max_line_length job.terminator (texts here)
       piece_fits = grind (arith, (last here).whose, long_to here)
 
-      peak_to : (with_line b.buffered b.column piece).peak ≤ max first.peak (paste_size job cells texts)
-      peak_to = (kept_to (λ p. max_line_length job.terminator (texts p)) (λ p. omega (arith, long_to p))
-          piece_fits).peak
+      bound_to : SlotsBound cells (λ p. max_line_length job.terminator (texts p)) first b.buffered
+      bound_to = row_kept s b.slots b.consumed (λ p. max_line_length job.terminator (texts p))
+          (λ p. omega (arith, long_to p))
 
     failed_to : (reader_at new here).failed ≡ (reader_at b.mid here).failed
-        → (p : ℕ) → (reader_at new p).failed ≡ (reader_at old p).failed
+        → (p : ℕ) → (reader_at new p).failed ≡ (reader_at set p).failed
     failed_to same p = grind (arith, same, (last p).whose, failed_mid p)
-
-    left_to : (p : ℕ) → uses_of cells p ≡ 0 → reader_at new p ≡ reader_at now p
-    left_to p none = b.others p (λ same. absurd (omega (arith, none, here_used, ap (uses_of cells) same)))
-        ∙ (lines_taken_to p).none (omega (arith, none, uses_before cells b.column p))
 
     -- If that reader is not at the end of its input, it is the one that limits the rows.
     module _ (going : IsDone (reader_at b.mid here) → ⊥) where
@@ -438,26 +405,38 @@ module _ {job : Paste} {cells : List ℕ} {old set now : List Reader} {was is : 
           (earlier_of_taken p some (lines_taken_to p) (uses_before cells b.column p)))
           (last p).whose)
 
+      exit_to : {is' : Output} → PushEffect is is' [] → (stored : Slots)
+          → ((texts : ℕ → List ℕ) → ((p : ℕ) → IsConsistent (given_by job s.first_rows read_to p) (texts p))
+          → SlotsBound cells (λ p. max_line_length job.terminator (texts p)) first stored)
+          → length after.lines ≡ length stored.lines → after.peak ≡ stored.peak → IsExit read_to is' [] after stored
+      exit_to wrote stored bound size same_peak = record {
+        wrote = wrote;
+        size = size;
+        same_peak = same_peak;
+        bound = bound;
+        begins = begins_without_more read_to;
+        lags = lag_to;
+      }
+
+      exit_with_piece : {is' : Output} → PushEffect is is' []
+          → length after.lines ≡ length (with_line b.buffered b.column piece).lines
+          → after.peak ≡ (with_line b.buffered b.column piece).peak
+          → IsExit read_to is' [] after (with_line b.buffered b.column piece)
+      exit_with_piece wrote = exit_to wrote (with_line b.buffered b.column piece)
+          (λ texts a. slots_bound_line (bound_to texts a) b.column piece b.within (piece_fits texts a))
+
     -- The buffered output could not be written.
-    paste_send_failed : {is' : Output} → PushEffect is is' [] → is'.write_failed ≡ true
+    paste_send_failed : {is' : Output} → PushEffect is is' [] → is'.write_failed ≡ true → after ≡ b.buffered
         → (reader_at new here).failed ≡ (reader_at b.mid here).failed → (reader_at b.mid here).eof ≡ false
-        → PastePost job cells old new was is' first b.buffered (Err Write)
-    paste_send_failed wrote fault same going =
-        let kept = row_kept s b.slots b.consumed in
-        let k = kept (λ p. max_length (s.ls p ++ b.input_lines p)) (λ p. omega arith) in
-        exit read_to wrote (record {
-          ends = record { write_failed = fault; failed = failed_to same; denied = k.denied };
-          begins = begins_without_more read_to;
-          peak = λ texts a. (kept (λ p. max_line_length job.terminator (texts p))
-              (λ p. omega (arith, long_to texts a p))).peak;
-          decided = λ p some failed clean. cc;
-          whole = λ ok. cc;
-          lags = lag_to (λ done. cc (done.eof));
-          adds = k.adds;
-          room = omega (arith, k.adds.all k.denied);
-          unended = λ memory. cc;
-          left = left_to;
-        })
+        → PastePost job cells old new was is' first after (Err Write)
+    paste_send_failed wrote fault stored same going =
+        let k = exit_to (λ done. cc (done.eof)) wrote b.buffered bound_to
+        (ap (λ (x : Slots). length x.lines) stored) (ap (λ (x : Slots). x.peak) stored) in
+        exit k (Err Write) (record {
+          write_failed = fault;
+          unfailed = λ p named. failed_to same p;
+          not_denied = ap (λ (x : Slots). x.denied) stored ∙ (bound_now k).denied;
+        }) tt
 
     -- A growth of a slot failed. That reader has bytes left.
     paste_memory_failed : {is' : Output} → PushEffect is is' [] → is'.write_failed ≡ false
@@ -465,73 +444,51 @@ module _ {job : Paste} {cells : List ℕ} {old set now : List Reader} {was is : 
         → (reader_at new here).failed ≡ (reader_at b.mid here).failed → 0 < length (reader_at new here).buffered
         → PastePost job cells old new was is' first after (Err Memory)
     paste_memory_failed wrote clean stored same left =
-        exit read_to wrote (record {
-          ends = record { denied = denied; failed = failed_to same; clean = clean };
-          begins = begins_without_more read_to;
-          peak = λ texts a. omega (arith, ap (λ (x : Slots). x.peak) stored, peak_to texts a);
-          decided = λ p some failed fine. cc (failed_to same p, never_failed s.starts p some);
-          whole = λ ok. cc;
-          lags = lag_to (λ done.
-              let (none, empty, eof) = eof_gives_nothing (reader_at b.mid here) (reader_at new here) piece done
-              piece_reads
-              in
-              absurd (omega (arith, left, ap length empty)));
-          adds = record {
-            least = omega (arith, size, some_kept.adds.least);
-            most = omega (arith, size, some_kept.adds.most);
-            all = λ allowed. cc;
-          };
-          room = omega (arith, size, some_kept.adds.all some_kept.denied);
-          unended = λ memory. (here, here_used, λ done. absurd (omega (arith, left, ap length done.buffered)));
-          left = left_to;
-        })
-      where
-        denied : after.denied ≡ true
-        denied = ap (λ (x : Slots). x.denied) stored
-
-        size : length after.lines ≡ length (with_line b.buffered b.column piece).lines
-        size = ap (λ (x : Slots). length x.lines) stored
+        exit (exit_with_piece (λ done.
+        let (none, empty, eof) = eof_gives_nothing (reader_at b.mid here) (reader_at new here) piece done piece_reads in
+        absurd (omega (arith, left, ap length empty))) wrote
+        (ap (λ (x : Slots). length x.lines) stored) (ap (λ (x : Slots). x.peak) stored)) (Err Memory) (record {
+          denied = ap (λ (x : Slots). x.denied) stored;
+          unfailed = λ p named. failed_to same p;
+          clean = clean;
+          left = λ enough. inl (
+            here,
+            used_is_in cells here here_used,
+            λ done. absurd (omega (
+              arith,
+              left,
+              ap length done.buffered,
+            )),
+          );
+        }) tt
 
     -- The read failed.
     paste_read_failed : {is' : Output} → PushEffect is is' [] → is'.write_failed ≡ false
         → after ≡ with_line b.buffered b.column piece → HasReadCause (reader_at b.mid here) (reader_at new here)
         → PastePost job cells old new was is' first after (Err (Read here))
     paste_read_failed wrote clean stored cause =
-        exit read_to wrote (record {
-          ends = record {
-            named = here_used;
-            unfailed = never_failed s.starts here here_used;
-            cause = ⊎_elim inl (λ (long, same). inr (long, same ∙ failed_mid here)) cause;
-            others = λ q differ. ap (λ (r : Reader). r.failed) (b.others q differ) ∙ failed_mid q;
-            clean = clean;
-            denied = ap (λ (x : Slots). x.denied) stored ∙ some_kept.denied;
-          };
-          begins = begins_without_more read_to;
-          peak = λ texts a. omega (arith, ap (λ (x : Slots). x.peak) stored, peak_to texts a);
-          decided = λ p some failed fine. ⊎_elim
-              (λ (is, whole). ⊎_elim decided_here
-              (λ (long, same). cc (
-                same,
-                failed_mid here,
-                never_failed s.starts here here_used,
-                ap (λ (q : ℕ).
-                    (reader_at new q).failed) is,
-              ))
-              cause)
-              (λ (other, none, kept). cc (
-                ap (λ (r : Reader). r.failed) kept,
-                failed_mid p,
-                never_failed s.starts p some,
-              ))
-              (last p).whose;
-          whole = λ ok. cc;
-          lags = lag_to may_have_more;
-          adds = rw stored some_kept.adds;
-          room = omega (arith, ap (λ (x : Slots). length x.lines) stored, some_kept.adds.all some_kept.denied);
-          unended = λ memory. cc;
-          left = left_to;
-        })
+        let k = exit_with_piece may_have_more wrote (ap (λ (x : Slots). length x.lines) stored)
+        (ap (λ (x : Slots). x.peak) stored) in
+        exit k (Err (Read here)) (record {
+          named = used_is_in cells here here_used;
+          unfailed = here_unfailed;
+          cause = ⊎_elim inl (λ (long, same). inr (long, same ∙ failed_mid here)) cause;
+          others = λ q named differ. ap (λ (r : Reader). r.failed) (b.others q differ) ∙ failed_mid q;
+          clean = clean;
+          not_denied = ap (λ (x : Slots). x.denied) stored ∙ (bound_now k).denied;
+        }) (λ p named failed. ⊎_elim
+        (λ (is, whole). ⊎_elim decided_here
+        (λ (long, same). cc (same, failed_mid here, here_unfailed, ap (λ (q : ℕ). (reader_at new q).failed) is)) cause)
+        (λ (other, none, kept). cc (
+          ap (λ (r : Reader). r.failed) kept,
+          failed_mid p,
+          never_failed s.starts p named,
+        ))
+        (last p).whose)
       where
+        here_unfailed : (reader_at set here).failed ≡ false
+        here_unfailed = never_failed s.starts here (used_is_in cells here here_used)
+
         may_have_more : IsDone (reader_at b.mid here) → ⊥
         may_have_more done = ⊎_elim
             (λ (failed, empty, going). cc (
@@ -555,17 +512,16 @@ module _ {job : Paste} {cells : List ℕ} {old set now : List Reader} {was is : 
             (sym (append-nil bytes) ∙ ap (λ (x : List ℕ). bytes ++ x) (sym empty)) going)
 
   -- A row could not be filled, for each fault.
-  pub paste_fill_failed : {new : List Reader} {after : Slots} (into : List ℕ) {is' : Output} (e : FlowFault)
+  pub paste_fill_failed : (new : List Reader) {after : Slots} (into : List ℕ) {is' : Output} (e : FlowFault)
       → RowFilled (job_shape job cells) now store new after into (Err e) → PushEffect is is' []
       → (fault : is'.write_failed ≡ is_write_fault {X = Unit {0}} (Err e))
       → PastePost job cells old new was is' first after (Err e)
-  paste_fill_failed into (Read input) (f, named) wrote clean =
+  paste_fill_failed new into (Read input) (f, named) wrote clean =
       let k = f.failure in
       rw named (paste_read_failed f k.piece k.faults.reads k.faults.whole wrote clean k.stored k.cause)
-  paste_fill_failed into Write f wrote fault =
+  paste_fill_failed new into Write f wrote fault =
       let (same, kept, going) = f.failure in
-      rw kept
-      (paste_send_failed f [] (rw same reads_nothing) tt wrote fault (ap (λ (r : Reader). r.failed) same) going)
-  paste_fill_failed into Memory f wrote clean =
+      paste_send_failed f [] (rw same (reads_nothing _)) tt wrote fault kept (ap (λ (r : Reader). r.failed) same) going
+  paste_fill_failed new into Memory f wrote clean =
       let k = f.failure in
       paste_memory_failed f k.piece k.faults.reads k.faults.whole wrote clean k.stored k.failed k.left

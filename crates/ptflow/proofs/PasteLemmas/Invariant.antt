@@ -1,16 +1,16 @@
 -- The loop invariant of `paste`: the rows taken so far are the first rows of the inputs for every continuation, they
 -- were pushed, and the slots hold at most one line for each column. From it follow the clauses of the contract once the
 -- readers were read further.
-use Rattle.ptflow.proofs.Common.{◌≡◌, ⊎_elim, ℕ, ◌+◌, ◌*◌, ◌<◌, ◌≤◌, ◌^◌, Bool, true, false, List, [], ◌∷◌, ◌++◌, None}
-use Rattle.ptflow.proofs.Common.{length, get_or, refl, sym, ◌∙◌, ap, subst, arith, append_assoc, All, cases_lt}
-use Rattle.ptflow.proofs.Common.{append-nil, All-get_or, unlines, lines, complete_lines, AreLines, max_length, Received}
-use Rattle.ptflow.proofs.Common.{IsPrefix, IsConsistent, HasReceived, known_lines, Output, PushEffect, Reader}
-use Rattle.ptflow.proofs.Common.{ReaderAdvance, IsDone, Slots, total_bytes, received_with, has_received}
-use Rattle.ptflow.proofs.Common.{has_received_of_set, push_nothing, push_trans, complete_lines_cons, Paste, AddedSlots}
+use Rattle.ptflow.proofs.Common.{◌≡◌, ⊎_elim, ℕ, ◌+◌, ◌*◌, ◌<◌, ◌≤◌, ◌^◌, Bool, true, false, List, [], ◌∷◌, ◌++◌}
+use Rattle.ptflow.proofs.Common.{length, refl, sym, ◌∙◌, ap, subst, arith, append_assoc, All, append-nil, All-get_or}
+use Rattle.ptflow.proofs.Common.{unlines, lines, complete_lines, AreLines, max_length, Received, IsPrefix, IsConsistent}
+use Rattle.ptflow.proofs.Common.{known_lines, Output, PushEffect, Reader, ReaderAdvance, IsDone, Slots, total_bytes}
+use Rattle.ptflow.proofs.Common.{received_with, push_nothing, push_trans, complete_lines_cons, Paste, AddedSlots}
 use Rattle.ptflow.proofs.Common.{reader_at, IsReadable, PastePre, uses_of, columns, rows, rows_text, paste}
 use Rattle.ptflow.proofs.Common.{paste_decided, SetTerminatorsPost, SlotsBound, SlotsKept, CellsTaken, CellsFilled}
 use Rattle.ptflow.proofs.Common.{AreReceivedLines, AreFirstRows, RowsTaken, RowsWritten, cells_text, job_shape}
-use Rattle.ptflow.proofs.Common.{BufferedRowsPre}
+use Rattle.ptflow.proofs.Common.{BufferedRowsPre, CallState, CallEnd, CallPost, call_state, call_set, inputs_at, is_in}
+use Rattle.ptflow.proofs.Common.{paste_engine, LinesTaken}
 use Rattle.ptflow.proofs.PasteLemmas.FillRow.{slots_bound_start, slots_kept_by_lines}
 use Rattle.ptflow.proofs.PasteLemmas.RowsTaken.{no_rows, first_rows_trans, filled_row_is_first, filled_row_text}
 use Rattle.ptflow.proofs.PasteLemmas.Grid.{Column, last_use, rows_text-append}
@@ -18,15 +18,13 @@ use Rattle.ptflow.proofs.Passes.Lines.{max_length-append}
 use Rattle.ptflow.proofs.Passes.LinesRead.{lines_on}
 use Rattle.ptflow.proofs.PasteLemmas.Lag.{EarlierPart, LagsAt, lags_here, decided_is_prefix}
 use Rattle.ptflow.proofs.Passes.Readers.{eof_gives_nothing, may_follow}
+use Rattle.ptflow.proofs.PasteLemmas.Named.{is_in_used, not_in}
 
 -- ---- inputs that columns use
 
-pub used_at : (cells : List ℕ) (p : ℕ) → 0 < uses_of cells p → (c : ℕ) × (c < length cells) × (get_or cells c 0 ≡ p)
-used_at cells p some = let (c, low, is, count) = last_use cells p some in (c, low, is)
-
 all_used : (P : ℕ → Type 0) (cells : List ℕ) → All P cells → (p : ℕ) → 0 < uses_of cells p → P p
 all_used P cells all p some =
-    let (c, low, is) = used_at cells p some in
+    let (c, low, is, count) = last_use cells p some in
     subst P is (All-get_or P cells c 0 low all)
 
 -- ---- the complete lines that were received
@@ -56,13 +54,24 @@ whole_lines_after end now given ls k rest false may = ⊎_elim
 -- ---- readers that were read further after some rows
 
 -- The bytes that each reader gave since.
-pub record ReadMore (now new : List Reader) : Type 0 where
+pub record ReadMore (cells : List ℕ) (now new : List Reader) : Type 0 where
   pub extra : ℕ → List ℕ
   pub reads : (p : ℕ) → ReaderAdvance (reader_at now p) (reader_at new p) (extra p)
+  pub left : (p : ℕ) → uses_of cells p ≡ 0 → reader_at new p ≡ reader_at now p
+
+-- They gave these lines, and only those that columns use gave any.
+abbrev pub read_lines : {end : ℕ} {cells : List ℕ} {now new : List Reader} {most : ℕ → ℕ} {ls : ℕ → Column}
+    → ((p : ℕ) → LinesTaken end (reader_at now p) (reader_at new p) (most p) (ls p))
+    → ((p : ℕ) → uses_of cells p ≡ 0 → most p ≡ 0) → ReadMore cells now new
+read_lines taken unused = record {
+  extra = λ p. (taken p).bytes;
+  reads = λ p. (taken p).reads;
+  left = λ p none. (taken p).none (unused p none);
+}
 
 module _ (job : Paste) {cells : List ℕ} {set now new : List Reader} {ls : ℕ → Column}
     {taken_rows : List (List (List ℕ))} (g : AreFirstRows (job_shape job cells) set now ls taken_rows)
-    (r : ReadMore now new) where
+    (r : ReadMore cells now new) where
   abbrev pub given_by : ℕ → Received
   given_by p = received_with ((g.lines_taken p).bytes ++ r.extra p) (reader_at new p)
 
@@ -140,47 +149,43 @@ module _ (job : Paste) {cells : List ℕ} {set now new : List Reader} {ls : ℕ 
 -- ---- after the terminators of the readers were set
 
 -- The precondition held, and the terminators were set.
-pub record HasStarted (end : ℕ) (cells : List ℕ) (old set : List Reader) (was : Output) (first : Slots) : Type 0 where
-  pub writable : was.write_failed ≡ false
-  pub ready : PastePre cells old first
-  pub are_set : SetTerminatorsPost end cells old set
+pub record HasStarted (job : Paste) (cells : List ℕ) (old set : List Reader) (was : Output) (first : Slots) : Type 0
+  where
+    pub writable : was.write_failed ≡ false
+    pub ready : PastePre cells old first
+    pub are_set : SetTerminatorsPost job.terminator cells old set
+    pub count : length set ≡ length old
 
-module _ {end : ℕ} {cells : List ℕ} {old set : List Reader} {was : Output} {first : Slots}
-    (s : HasStarted end cells old set was first) where
+module _ {job : Paste} {cells : List ℕ} {old set : List Reader} {was : Output} {first : Slots}
+    (s : HasStarted job cells old set was first) where
   readable : (p : ℕ) → 0 < uses_of cells p → IsReadable (reader_at old p)
   readable = all_used (λ q. IsReadable (reader_at old q)) cells s.ready.readable
 
-  pub set_end : (p : ℕ) → 0 < uses_of cells p → (reader_at set p).terminator ≡ end
-  set_end p some = ap (λ (r : Reader). r.terminator) ((s.are_set p).set some)
+  pub set_readable : BufferedRowsPre (job_shape job cells) set
+  set_readable = record {
+    within = λ c d low. omega (arith, s.ready.within c d low, s.count);
+    unfailed = λ p some. ap (λ (r : Reader). r.fault) ((s.are_set p).set some) ∙ (readable p some).readable;
+    same_end = λ p some. ap (λ (r : Reader). r.terminator) ((s.are_set p).set some);
+  }
 
-  pub set_failed : (p : ℕ) → (reader_at set p).failed ≡ (reader_at old p).failed
-  set_failed p = grind (arith, (s.are_set p).set, (s.are_set p).left)
+  pub never_failed : (p : ℕ) → is_in cells p ≡ true → (reader_at set p).failed ≡ false
+  never_failed p named = let some = is_in_used cells p named in
+      ((s.are_set p).sound some).unfailed (ap (λ (r : Reader). r.refused) ((s.are_set p).set some)
+      ∙ (readable p some).opened) (set_readable.unfailed p some)
 
-  pub set_fault : (p : ℕ) → 0 < uses_of cells p → (reader_at set p).fault ≡ None
-  set_fault p some = ap (λ (r : Reader). r.fault) ((s.are_set p).set some) ∙ (readable p some).readable
-
-  pub never_failed : (p : ℕ) → 0 < uses_of cells p → (reader_at old p).failed ≡ false
-  never_failed p some = sym (set_failed p) ∙ ((s.are_set p).sound some).unfailed (ap (λ (r : Reader). r.refused)
-      ((s.are_set p).set some) ∙ (readable p some).opened) (set_fault p some)
-
-  pub set_short : (p : ℕ) → 0 < uses_of cells p → (reader_at set p).pulled < 2 ^ 63
-  set_short p some = ((s.are_set p).sound some).long (set_fault p some)
-
-  -- The bytes that were received from each reader since.
-  pub received_since : (p : ℕ) {new : Reader} {bytes : List ℕ} → ReaderAdvance (reader_at set p) new bytes
-      → HasReceived (reader_at old p) new (received_with bytes new)
-  received_since p {new} {bytes} reads = ⊎_elim
-      (λ some. has_received_of_set (reader_at old p) (reader_at set p) end ((s.are_set p).set some) new bytes reads)
-      (λ none. subst (λ (r : Reader). HasReceived r new (received_with bytes new))
-      ((s.are_set p).left (omega (arith, none))) (has_received (reader_at set p) new bytes reads))
-      (cases_lt 0 (uses_of cells p))
+  -- A call from there on is the whole call.
+  pub since_set : {new : CallState ℕ} {end : CallEnd ℕ}
+      → CallPost (inputs_at cells) (paste_engine job cells) (call_state (reader_at set) was first) new end
+      → CallPost (inputs_at cells) (paste_engine job cells) (call_state (reader_at old) was first) new end
+  since_set = call_set _ _ _ _ _ s.writable refl refl
+      (λ p named. (s.are_set p).set (is_in_used cells p named)) (λ p other. (s.are_set p).left (not_in cells p other))
 
 -- ---- rows that were taken
 
 -- The rows `taken_rows` were taken and pushed; `ls` are their lines, by input.
 pub record PasteInvariant (job : Paste) (cells : List ℕ) (old set now : List Reader) (was is : Output)
     (first store : Slots) : Type 0 where
-  pub starts : HasStarted job.terminator cells old set was first
+  pub starts : HasStarted job cells old set was first
   pub ls : ℕ → Column
   pub taken_rows : List (List (List ℕ))
   pub first_rows : AreFirstRows (job_shape job cells) set now ls taken_rows
@@ -189,7 +194,7 @@ pub record PasteInvariant (job : Paste) (cells : List ℕ) (old set now : List R
   pub kept : (top : ℕ → ℕ) → ((p : ℕ) → max_length (ls p) ≤ top p) → SlotsBound cells top first store
 
 pub invariant_starts : {job : Paste} {cells : List ℕ} {old set : List Reader} {was : Output} {first store : Slots}
-    → HasStarted job.terminator cells old set was first
+    → HasStarted job cells old set was first
     → AddedSlots first store (length cells) → store.denied ≡ false → total_bytes store.lines ≡ 0
     → store.peak ≡ first.peak → PasteInvariant job cells old set set was was first store
 invariant_starts {job} {cells} {was = was} {first = first} {store = store} starts adds allowed empty peak = record {
@@ -204,28 +209,20 @@ invariant_starts {job} {cells} {was = was} {first = first} {store = store} start
 
 module _ {job : Paste} {cells : List ℕ} {old set now : List Reader} {was is : Output} {first store : Slots}
     (s : PasteInvariant job cells old set now was is first store) where
-  pub now_end : (p : ℕ) → 0 < uses_of cells p → (reader_at now p).terminator ≡ job.terminator
-  now_end p some = (s.first_rows.lines_taken p).reads.terminator ∙ set_end s.starts p some
-
-  pub now_fault : (p : ℕ) → 0 < uses_of cells p → (reader_at now p).fault ≡ None
-  now_fault p some = (s.first_rows.lines_taken p).fault ∙ set_fault s.starts p some
-
-  pub now_failed : (p : ℕ) → (reader_at now p).failed ≡ (reader_at old p).failed
-  now_failed p = (s.first_rows.lines_taken p).failed ∙ set_failed s.starts p
+  -- The readers are still readable.
+  pub now_readable : BufferedRowsPre (job_shape job cells) now
+  now_readable = let r = set_readable s.starts in record {
+    within = λ c d low. omega (arith, r.within c d low, s.first_rows.count);
+    unfailed = λ p some. (s.first_rows.lines_taken p).fault ∙ r.unfailed p some;
+    same_end = λ p some. (s.first_rows.lines_taken p).reads.terminator ∙ r.same_end p some;
+  }
 
   pub now_short : (p : ℕ) → 0 < uses_of cells p → (reader_at now p).pulled < 2 ^ 63
-  now_short p some = (s.first_rows.lines_taken p).short (set_short s.starts p some)
+  now_short p some = (s.first_rows.lines_taken p).short
+      (((s.starts.are_set p).sound some).long ((set_readable s.starts).unfailed p some))
 
   pub now_buffered : (p : ℕ) → 0 < uses_of cells p → length (reader_at now p).buffered ≤ 8192
   now_buffered p some = (s.first_rows.lines_taken p).buffered ((s.starts.are_set p).sound some).buffered
-
-  -- The readers are still readable.
-  pub now_readable : length set ≡ length old → BufferedRowsPre (job_shape job cells) now
-  now_readable size = record {
-    within = λ k d low. omega (arith, s.starts.ready.within k d low, size, s.first_rows.count);
-    unfailed = now_fault;
-    same_end = now_end;
-  }
 
   -- Each column has a slot.
   pub invariant_slots : length cells ≤ length store.lines
@@ -291,7 +288,7 @@ module _ {job : Paste} {cells : List ℕ} {old set now : List Reader} {was is : 
 
       module _ (f : CellsFilled cells (length cells) now new fields true) where
         pub row_gives : AreFirstRows (job_shape job cells) now new f.input_lines (fields ∷ [])
-        row_gives = filled_row_is_first (job_shape job cells) now_end f
+        row_gives = filled_row_is_first (job_shape job cells) now_readable.same_end f
 
         pub row_wrote : {is' : Output} → PushEffect is is' (cells_text (job_shape job cells) 0 fields)
             → PushEffect is is' (rows_text job (fields ∷ []))

@@ -48,7 +48,7 @@ earlier_partial {end} new {given} {ls} k going piece {bytes} is free buffered fe
 }
 
 -- If nothing was given, only the buffer is left.
-pub earlier_buffered : (end most : ℕ) (reader : Reader) → length reader.buffered ≤ 8192 → 0 < most
+abbrev pub earlier_buffered : (end most : ℕ) (reader : Reader) → length reader.buffered ≤ 8192 → 0 < most
     → EarlierPart end most (received_with [] reader)
 earlier_buffered end most reader buffered some = record {
   front = [];
@@ -326,8 +326,8 @@ module _ (job : Paste) (cells : List ℕ) (came : ℕ → Received) where
         row_each ins = map-map (λ (col : Column). slice_index_or col r [])
             (λ (c, p). column_of cells ins c p) (enumerate_from 0 cells)
 
-    begins_then : IsPrefix (paste_decided job cells earlier) (rows_text job taken_rows)
-    begins_then =
+    pub begins_earlier : IsPrefix (paste_decided job cells earlier) (rows_text job taken_rows)
+    begins_earlier =
         let (m, within, past, known) = known_first (grid earlier) ends in
         let few : m ≤ length taken_rows = past (length taken_rows) next_unknown in
         let high : m ≤ row_count (grid came) = omega (
@@ -353,7 +353,7 @@ module _ (job : Paste) (cells : List ℕ) (came : ℕ → Received) where
         short = cut.short;
         eof = λ never. cc;
       };
-      begins = begins_then;
+      begins = begins_earlier;
     }
 
     -- The input has not given more than that.
@@ -361,4 +361,4 @@ module _ (job : Paste) (cells : List ℕ) (came : ℕ → Received) where
         → IsPrefix (paste_decided job cells came) (rows_text job taken_rows)
     decided_is_prefix same going = subst (λ (g : ℕ → Received). IsPrefix (paste_decided job cells g)
         (rows_text job taken_rows))
-        (update_same here front (λ i. record { bytes = same i; eof = sym going i })) begins_then
+        (update_same here front (λ i. record { bytes = same i; eof = sym going i })) begins_earlier

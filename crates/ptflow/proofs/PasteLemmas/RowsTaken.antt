@@ -3,11 +3,11 @@
 -- each with the byte after it, are the joined fields and the terminator.
 use Rattle.ptflow.proofs.Common.{◌≡◌, ◌⊎◌, ⊎_elim, inl, inr, ℕ, ◌+◌, ◌≤◌, List, [], ◌∷◌, ◌++◌, None, length, refl, sym}
 use Rattle.ptflow.proofs.Common.{◌∙◌, ap, arith, length-append, append-nil, lines, AreLines, Reader, ReaderAdvance}
-use Rattle.ptflow.proofs.Common.{AdvanceOk, IsDone, IsSound, remaining_bytes, Slots, FillLine, advance_trans}
-use Rattle.ptflow.proofs.Common.{prepend_known-nil, unlines-append, lines_of_unlines, AreReceivedLines, LinesTaken, suc}
-use Rattle.ptflow.proofs.Common.{◌*◌, ◌<◌, true, take, subst, append_assoc, eq-eqb, ne_eqb, cases_lt, nil_from_length}
-use Rattle.ptflow.proofs.Common.{take_all, reader_at, map, unlines, join_with_cycle, uses_of, columns, rows, CellsTaken}
-use Rattle.ptflow.proofs.Common.{CellsFilled, RowShape, after_cell, cells_text, AreFirstRows, RowsTaken}
+use Rattle.ptflow.proofs.Common.{AdvanceOk, IsDone, IsSound, Slots, FillLine, advance_trans, unlines-append}
+use Rattle.ptflow.proofs.Common.{lines_of_unlines, AreReceivedLines, LinesTaken, suc, ◌*◌, ◌<◌, true, take, subst}
+use Rattle.ptflow.proofs.Common.{append_assoc, eq-eqb, ne_eqb, cases_lt, nil_from_length, take_all, reader_at, map}
+use Rattle.ptflow.proofs.Common.{unlines, join_with_cycle, uses_of, columns, rows, CellsTaken, CellsFilled, RowShape}
+use Rattle.ptflow.proofs.Common.{after_cell, cells_text, AreFirstRows, RowsTaken, reads_nothing}
 use Rattle.ptflow.proofs.Passes.LinesRead.{lines_none, lines_are_given, lines_more}
 use Rattle.ptflow.proofs.Passes.Readers.{eof_gives_nothing, stays_at_eof}
 use Rattle.std.specs.Prelude.{slice_index_or}
@@ -41,16 +41,6 @@ lines_trans {end} {b} {c} {bs} {cs} {xs} {ys} p reads q = record {
       p.so_far;
 }
 
-pub reads_nothing : {r : Reader} → ReaderAdvance r r []
-reads_nothing {r} = record {
-  moved = sym (prepend_known-nil (remaining_bytes r));
-  count = omega arith;
-  refused = refl;
-  terminator = refl;
-  still = λ eof. (refl, eof);
-  end = λ h. h;
-}
-
 -- At most the requested number of lines is taken.
 pub taken_at_most : {end : ℕ} {b c : Reader} {n : ℕ} {ys : List (List ℕ)} → LinesTaken end b c n ys → length ys ≤ n
 taken_at_most t = ⊎_elim (λ same. omega (arith, same)) (λ (done, few). few) t.enough
@@ -62,7 +52,7 @@ none_at_eof t done = none_received done t.reads t.came
 pub nothing_taken : {end : ℕ} {r : Reader} {n : ℕ} → n ≡ 0 → LinesTaken end r r n []
 nothing_taken {end} {r} {n} zero = record {
   bytes = [];
-  reads = reads_nothing;
+  reads = reads_nothing r;
   failed = refl;
   fault = refl;
   short = λ h. h;

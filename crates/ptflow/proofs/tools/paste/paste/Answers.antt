@@ -4,11 +4,10 @@ use Rattle.ptflow.proofs.Common.{Bool, not, true, false, refl, ◌≡◌, ◌≤
 use Rattle.ptflow.proofs.Common.{err_from_is_err_and, Paste, PushEffect, paste_job, RowShape, BegunText, RowAmid}
 use Rattle.ptflow.proofs.Common.{CellsFilled, CopyRowsPost, FillRowPost, RowFilled, Result, FlowFault, begun_after}
 use Rattle.ptflow.proofs.Common.{begun_in, job_shape, shape_of, [], ◌∷◌, ◌++◌, Err, Write, Output, PastePost, rows_text}
-use Rattle.ptflow.proofs.Common.{slots_text}
+use Rattle.ptflow.proofs.Common.{slots_text, call_on_failed_output}
 use Rattle.ptflow.specs.declared.tools.paste.row.BegunRow.{BegunRow}
-use Rattle.ptflow.proofs.PasteLemmas.Exits.{paste_on_failed_output, paste_without_slots, paste_rows_write_failed}
-use Rattle.ptflow.proofs.PasteLemmas.Exits.{paste_shared_write_failed, paste_fill_failed, paste_done}
-use Rattle.ptflow.proofs.PasteLemmas.Exits.{paste_row_write_failed}
+use Rattle.ptflow.proofs.PasteLemmas.Exits.{paste_without_slots, paste_rows_write_failed, paste_shared_write_failed}
+use Rattle.ptflow.proofs.PasteLemmas.Exits.{paste_fill_failed, paste_done, paste_row_write_failed}
 use Rattle.ptflow.proofs.PasteLemmas.Invariant.{PasteInvariant, HasStarted, invariant_starts, invariant_rows}
 use Rattle.ptflow.proofs.PasteLemmas.Invariant.{invariant_written, invariant_sent, invariant_slots, invariant_more}
 use Rattle.ptflow.proofs.PasteLemmas.Invariant.{now_readable, row_wrote}
@@ -19,24 +18,26 @@ use Rattle.ptflow.proofs.tools.paste.paste.Given as given
 use Rattle.ptflow.proofs.tools.paste.paste.Goals as goal
 
 pub returns-then-has_failed : goal.returns-then-has_failed
-returns-then-has_failed g c = paste_on_failed_output c.requires (sym c.has_failed.ensures ∙ c.if-has_failed.true)
+returns-then-has_failed g c =
+    call_on_failed_output _ _ (sym c.has_failed.ensures ∙ c.if-has_failed.true) c.requires.not_denied
 
 -- The terminators of the readers were set.
-starts : (g : given.Over) (c : After-ensure_slots g) → HasStarted (paste_job c.args.job.now).terminator c.args.cells.now
+starts : (g : given.Over) (c : After-ensure_slots g) → HasStarted (paste_job c.args.job.now) c.args.cells.now
     c.args.readers.now c.set_terminators.new.readers c.args.out.now c.args.store.now
 starts g c = record {
   writable = sym c.has_failed.ensures ∙ c.if-has_failed.false;
   ready = c.requires;
   are_set = c.set_terminators.ensures;
+  count = c.set_terminators.auto.readers;
 }
 
 pub returns-in_err-ensure_slots : goal.returns-in_err-ensure_slots
 returns-in_err-ensure_slots g c =
     let (fault, same, is) = err_from_is_err_and c.from_residual.result c.from_residual.ensures.1 in
-    rw (same, is, c.in_err-ensure_slots.ensures.err)
+    rw (same, is)
     (paste_without_slots (starts g (goal.at.returns-in_err-ensure_slots g c).After-ensure_slots)
     c.ensure_slots.ensures.adds c.ensure_slots.ensures.same_peak c.in_err-ensure_slots.ensures.denied
-    c.in_err-ensure_slots.ensures.few)
+    c.in_err-ensure_slots.ensures.few c.in_err-ensure_slots.ensures.err)
 
 pub rows-init : goal.rows-init
 rows-init g c = record {
@@ -47,7 +48,7 @@ rows-init g c = record {
 
 pub write_shared_rows-requires-clause-readable : goal.write_shared_rows-requires-clause-readable
 write_shared_rows-requires-clause-readable g c =
-    rw c.row_format-row.ensures (now_readable c.rows.invariant.invariant_holds c.set_terminators.auto.readers)
+    rw c.row_format-row.ensures (now_readable c.rows.invariant.invariant_holds)
 
 pub returns-in_err-write_shared_rows : goal.returns-in_err-write_shared_rows
 returns-in_err-write_shared_rows g c =
@@ -59,8 +60,7 @@ returns-in_err-write_shared_rows g c =
 pub copy_rows-copied-requires : goal.copy_rows-copied-requires
 copy_rows-copied-requires g c =
     rw c.row_format-row.ensures (now_readable (invariant_written c.rows.invariant.invariant_holds
-    (rw c.row_format-row.ensures at c.write_shared_rows.ensures.rows) c.in_ok-write_shared_rows.ensures.clean)
-    c.set_terminators.auto.readers)
+    (rw c.row_format-row.ensures at c.write_shared_rows.ensures.rows) c.in_ok-write_shared_rows.ensures.clean))
 
 had_line : (any_line : Bool) → not any_line ≡ false → any_line ≡ true
 had_line true same = refl
@@ -83,8 +83,7 @@ pub fill_row-requires-clause-readable : goal.fill_row-requires-clause-readable
 fill_row-requires-clause-readable g c =
     rw c.row_format-row.ensures (still_readable c.copy_rows-copied.ensures.rows.consumed
     (now_readable (invariant_written c.rows.invariant.invariant_holds
-    (rw c.row_format-row.ensures at c.write_shared_rows.ensures.rows) c.in_ok-write_shared_rows.ensures.clean)
-    c.set_terminators.auto.readers))
+    (rw c.row_format-row.ensures at c.write_shared_rows.ensures.rows) c.in_ok-write_shared_rows.ensures.clean)))
 
 pub fill_row-requires-clause-within : goal.fill_row-requires-clause-within
 fill_row-requires-clause-within g c = omega (
@@ -182,7 +181,7 @@ returns-in_err-filled g c =
     let here = (goal.at.returns-in_err-filled g c).After-fill_row in
     let (fault, same, is) = err_from_is_err_and c.from_residual-in_err-filled.result
     c.from_residual-in_err-filled.ensures.1 in
-    rw (same, is) (paste_fill_failed (now g here) c.fill_row.new.into c.in_err-filled.field-0.0
+    rw (same, is) (paste_fill_failed (now g here) c.fill_row.new.readers c.fill_row.new.into c.in_err-filled.field-0.0
     (filled_by g here (Err c.in_err-filled.field-0.0) c.in_err-filled.ensures.fills) c.in_err-filled.ensures.wrote
     c.in_err-filled.ensures.write_failed)
 

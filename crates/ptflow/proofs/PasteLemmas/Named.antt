@@ -1,0 +1,78 @@
+-- The inputs that columns name. Only their texts, and what was received from them, decide the output.
+use Rattle.ptflow.proofs.Common.{◌≡◌, ⊎_elim, ℕ, ◌<◌, ◌==◌, true, false, cond, List, [], ◌∷◌, length, take, get_or, map}
+use Rattle.ptflow.proofs.Common.{refl, sym, ◌∙◌, ap, subst, arith, append-nil, cases_Bool, cases_lt, eq-eqb, nat_tests}
+use Rattle.ptflow.proofs.Common.{list_any_at, sum_by-cons, Received, IsConsistent, known_lines, lines, max_line_length}
+use Rattle.ptflow.proofs.Common.{Paste, AreAllConsistent, inputs_at, is_in, uses_of, columns, every_kth, rows}
+use Rattle.ptflow.proofs.Common.{known_rows, rows_text, paste, paste_decided, paste_size}
+use Rattle.std.proofs.lemmas.List.Sums.{sum-map}
+use Rattle.std.specs.Prelude.{sum}
+use Rattle.ptflow.proofs.PasteLemmas.Grid.{for_each_cell_same, last_use}
+
+module _ (cells : List ℕ) where
+  pub cell_in : (c : ℕ) → c < length cells → is_in cells (get_or cells c 0) ≡ true
+  cell_in c low = list_any_at (λ q. q == get_or cells c 0) cells c 0 low (eq-eqb (get_or cells c 0) _ refl)
+
+  pub used_is_in : (p : ℕ) → 0 < uses_of cells p → is_in cells p ≡ true
+  used_is_in p some = let (c, low, is, count) = last_use cells p some in
+      subst (λ q. is_in cells q ≡ true) is (cell_in c low)
+
+pub is_in_used : (cells : List ℕ) (p : ℕ) → is_in cells p ≡ true → 0 < uses_of cells p
+is_in_used [] p named = cc
+is_in_used (x ∷ cells) p named =
+    grind (arith, nat_tests, sum_by-cons (λ y. cond (y == p) 1 0) x cells, is_in_used cells p)
+
+pub not_in : (cells : List ℕ) (p : ℕ) → is_in cells p ≡ false → uses_of cells p ≡ 0
+not_in cells p other = ⊎_elim (λ some. cc (other, used_is_in cells p some)) (λ none. omega (arith, none))
+    (cases_lt 0 (uses_of cells p))
+
+-- ---- functions that are equal at these inputs
+
+map_same : {X : Type 0} (f g : ℕ → X) (cells : List ℕ) → ((p : ℕ) → is_in cells p ≡ true → f p ≡ g p)
+    → map f cells ≡ map g cells
+map_same f g [] same = refl
+map_same f g (c ∷ cells) same = λ i.
+    same c (grind (arith, nat_tests)) i ∷ map_same f g cells (λ p named. same p (grind (arith, nat_tests))) i
+
+-- The received bytes may be the whole input.
+pub consistent_itself : (given : Received) → IsConsistent given given.bytes
+consistent_itself given = record { rest = []; is = sym (append-nil given.bytes); whole = λ eof. refl }
+
+module _ (job : Paste) (cells : List ℕ) where
+  columns_same : (f g : ℕ → List (List ℕ)) → ((p : ℕ) → is_in cells p ≡ true → f p ≡ g p)
+      → columns cells f ≡ columns cells g
+  columns_same f g same = for_each_cell_same (λ c p. every_kth (uses_of cells p) (uses_of (take c cells) p) (f p))
+      (λ c p. every_kth (uses_of cells p) (uses_of (take c cells) p) (g p)) cells
+      (λ c low. let p = get_or cells c 0 in
+      ap (every_kth (uses_of cells p) (uses_of (take c cells) p)) (same p (cell_in cells c low)))
+
+  pub decided_same : (f g : ℕ → Received) → ((p : ℕ) → is_in cells p ≡ true → f p ≡ g p)
+      → paste_decided job cells f ≡ paste_decided job cells g
+  decided_same f g same = λ i.
+      rows_text job (known_rows
+      (columns_same (λ p. known_lines job.terminator (f p)) (λ p. known_lines job.terminator (g p))
+      (λ p named. ap (known_lines job.terminator) (same p named)) i)
+      (map_same (λ p. (f p).eof) (λ p. (g p).eof) cells (λ p named. ap (λ h. h.eof) (same p named)) i))
+
+  -- Texts that are consistent at these inputs, and at all others what was received.
+  module _ (given : ℕ → Received) (texts : ℕ → List ℕ) (agree : AreAllConsistent (inputs_at cells) given texts) where
+    abbrev pub with_received : ℕ → List ℕ
+    with_received p = cond (is_in cells p) (texts p) (given p).bytes
+
+    pub all_agree : (p : ℕ) → IsConsistent (given p) (with_received p)
+    all_agree p = ⊎_elim (λ named. rw named (agree p named)) (λ other. rw other (consistent_itself (given p)))
+        (cases_Bool (is_in cells p))
+
+    same_texts : (p : ℕ) → is_in cells p ≡ true → with_received p ≡ texts p
+    same_texts p named = ap (λ b. cond b (texts p) (given p).bytes) named
+
+    pub same_paste : paste job cells with_received ≡ paste job cells texts
+    same_paste = ap (λ (grid : List (List (List ℕ))). rows_text job (rows grid))
+        (columns_same (λ p. lines job.terminator (with_received p)) (λ p. lines job.terminator (texts p))
+        (λ p named. ap (lines job.terminator) (same_texts p named)))
+
+    pub same_size : paste_size job cells with_received ≡ paste_size job cells texts
+    same_size = sym (sum-map (λ p. max_line_length job.terminator (with_received p)) cells)
+        ∙ ap sum (map_same (λ p. max_line_length job.terminator (with_received p))
+        (λ p. max_line_length job.terminator (texts p)) cells
+        (λ p named. ap (max_line_length job.terminator) (same_texts p named)))
+        ∙ sum-map (λ p. max_line_length job.terminator (texts p)) cells
