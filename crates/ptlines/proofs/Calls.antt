@@ -58,7 +58,7 @@ module _ {I : Type 0} (names : InputNames I) (engine : EngineSpec I) where
       (set : (i : I) → names.is_read i ≡ true
       → new.reader i ≡ record (old.reader i) { terminator = engine.terminator })
       (untouched : (i : I) → names.is_read i ≡ false → new.reader i ≡ old.reader i) where
-    pub call_without_slots : ((i : I) → names.is_read i ≡ true → IsSound (old.reader i))
+    unfoldable pub call_without_slots : ((i : I) → names.is_read i ≡ true → IsSound (old.reader i))
         → ((i : I) → names.is_read i ≡ true → (old.reader i).failed ≡ false)
         → new.store.denied ≡ true → new.store.peak ≡ old.store.peak
         → length old.store.lines ≤ length new.store.lines → length new.store.lines < engine.first_slots
@@ -137,7 +137,7 @@ module _ {I : Type 0} (names : InputNames I) (engine : EngineSpec I) where
     DecidedIfReadFailed pushed other = Unit {0}
 
     module _ {pushed : List ℕ} (p : CallProgress pushed) where
-      decided_at : (end : CallEnd I) → CallOutcome names engine old new given pushed end
+      pub decided_at : (end : CallEnd I) → CallOutcome names engine old new given pushed end
           → DecidedIfReadFailed pushed end → (i : I) → names.is_read i ≡ true → (new.reader i).failed ≡ true
           → new.out.write_failed ≡ false → IsPrefix (engine.decided given) pushed
       decided_at (ReadFault input) e decided i read failed clean = decided i read failed
@@ -147,7 +147,7 @@ module _ {I : Type 0} (names : InputNames I) (engine : EngineSpec I) where
       decided_at WriteFault e decided i read failed clean = cc (e.write_failed)
       decided_at MemoryFault e decided i read failed clean = cc (e.unfailed i read, p.never_failed i read)
 
-      pub call_ends : (end : CallEnd I) → CallOutcome names engine old new given pushed end
+      unfoldable pub call_ends : (end : CallEnd I) → CallOutcome names engine old new given pushed end
           → DecidedIfReadFailed pushed end → CallPost names engine old new end
       call_ends end e decided = record {
         given = given;
@@ -188,7 +188,7 @@ module _ {I : Type 0} (names : InputNames I) (engine : EngineSpec I) where
       empty = e.empty;
     }
 
-    ends_set : (given : I → Received) (pushed : List ℕ) (end : CallEnd I)
+    pub ends_set : (given : I → Received) (pushed : List ℕ) (end : CallEnd I)
         → CallOutcome names engine set new given pushed end → CallOutcome names engine old new given pushed end
     ends_set given pushed Complete e = pushed_set e
     ends_set given pushed (OutOfOrder input line) e = record { named = e.named; pushed_all = pushed_set e.pushed_all }
@@ -212,7 +212,7 @@ module _ {I : Type 0} (names : InputNames I) (engine : EngineSpec I) where
       left = e.left;
     }
 
-    pub call_set : {end : CallEnd I} → CallPost names engine set new end → CallPost names engine old new end
+    unfoldable pub call_set : {end : CallEnd I} → CallPost names engine set new end → CallPost names engine old new end
     call_set {end} c = record {
       given = c.given;
       came = λ i read. has_received_set (old.reader i) (set.reader i) engine.terminator (is i read) (new.reader i)

@@ -20,19 +20,22 @@ pub use Rattle.std.specs.Cmp.Lexicographic.{bytes_decides}
 pub use Rattle.std.specs.List.{join_with_byte, last_or, onto_first, position_or_len, range_with_len, slice_split}
 pub use Rattle.std.specs.Ordering.{is_eq, is_gt, is_le, is_lt, ordering_reverse}
 pub use Rattle.std.specs.Prelude.{IfSome, MatchOption, bytes_eq, filter, flat_map, if◌then◌else◌, is_some, nat_lt}
-pub use Rattle.std.specs.Prelude.{position, remove, unwrap_or}
+pub use Rattle.std.specs.Prelude.{option_map, position, remove, unwrap_or}
 pub use Rattle.std.specs.declared.cmp.Ordering.{Ordering}
 pub use Rattle.std.specs.declared.cmp.Ordering.TheVariants.{Equal, Greater, Less}
 pub use Rattle.memchr.specs.Find.{IsFirstByte, Nowhere, Passes}
 pub use Rattle.ptlangs.proofs.ListElements.{split_around, split_whole}
 pub use Rattle.ptlangs.specs.Jobs.{Comm, Join, comm_job, terminator, join_job}
-pub use Rattle.ptlines.proofs.Received.{has_received, has_received_set, cause_set, received_with}
+pub use Rattle.ptlines.proofs.Received.{received_with}
 pub use Rattle.ptlines.proofs.SlotTotals.{total_bytes_set}
 pub use Rattle.ptlines.proofs.ReadLine.{advance_ok_trans, line_of_with_line, advance_trans}
 pub use Rattle.ptlines.proofs.MatchMasks.{first_after, first_at_lowest_bit, none_if_zero_mask}
 pub use Rattle.ptlines.proofs.PartLaws.{the_lines_of_parts}
 pub use Rattle.ptlines.proofs.Push.{push_nothing, push_past_failure, push_trans}
 pub use Rattle.ptlines.proofs.Lag.{bounded_lag_after}
+pub use Rattle.ptlines.specs.Calls.{CallEnd, ReadFault, CallOutcome, AllPushed, AreAllConsistent, with_input}
+pub use Rattle.ptlines.proofs.Calls.{reads_nothing, given_before, given_by, CallProgress, DecidedIfReadFailed}
+pub use Rattle.ptlines.proofs.Calls.{call_on_failed_output}
 pub use Rattle.ptlines.proofs.TextLaws.{AreLines_push, complete_lines_cons, complete_lines_none}
 pub use Rattle.ptlines.proofs.TextLaws.{complete_lines_of_unlines, lines_of_last, lines_of_unlines, unlines-append}
 pub use Rattle.ptlines.proofs.TextLaws.{unlines_push, the_lines}
@@ -41,10 +44,10 @@ pub use Rattle.ptlines.specs.Received.{IsConsistent, IsPrefix, Received, known_l
 pub use Rattle.ptlines.specs.Lag.{LaggedInput, ProcessLag}
 pub use Rattle.ptlines.specs.Outputs.{Output, PushPost, PushEffect}
 pub use Rattle.ptlines.specs.Readers.{AdvanceOk, IsDone, IsSound, Reader, ReaderAdvance, budget, remaining_bytes}
-pub use Rattle.ptlines.specs.Slots.{Slots, line, total_bytes, with_new_slot, with_denied, with_line, AddedSlots}
+pub use Rattle.ptlines.specs.Slots.{Slots, line, total_bytes, with_new_slot, with_denied, with_line}
 pub use Rattle.ptlines.specs.Text.{AreLines, IsLine, complete_lines, lines, max_length, unlines, is_blank}
 pub use Rattle.ptmerge.specs.Comm.{comm_with, comm_tool, entries, column_entries, tab_if_shown}
-pub use Rattle.ptmerge.specs.JoinGroup.{AddedAtLeast, ReadGroupLineOkPost, ReadGroupLinePost, IsGroup, ClearGroupPost}
+pub use Rattle.ptmerge.specs.JoinGroup.{ReadGroupLineOkPost, ReadGroupLinePost, IsGroup, ClearGroupPost}
 pub use Rattle.ptmerge.specs.JoinGroup.{EnsureSlotPost, CopyToGroupPost, CopyToGroupErrPost, JoinStepPre, JoinLinePre}
 pub use Rattle.ptmerge.specs.JoinGroup.{ReadGroupLineErrPost, group_end_slot, group_first_slot, group, is_head}
 pub use Rattle.ptmerge.specs.Join.{unpaired_entries1, unpaired_entries2, unpaired_entry, output_separator, entry}
@@ -61,9 +64,8 @@ pub use Rattle.ptmerge.specs.MergeSpec.{lines_decide_disorder, keys, lines_of, m
 pub use Rattle.ptmerge.specs.MergeSpec.{sorted_prefixes, sorted_prefix, disorder_is_decided, is_up_to, lines_with_key}
 pub use Rattle.ptmerge.specs.WriteAndAdvance.{IsReadyToContinue, AdvanceOkPost, WriteFaultPost}
 pub use Rattle.ptmerge.specs.WriteAndAdvance.{AdvancePre}
-pub use Rattle.ptmerge.specs.MergeCall.{AreConsistent, MergeRunPre, MergeEndPost, MergePost, IsMergeUnread}
-pub use Rattle.ptmerge.specs.MergeCall.{IsExactMerge, IsDisorderAt, MergeState, with_terminator, merge_state, HasNoLine}
-pub use Rattle.ptmerge.specs.MergeCall.{IsFirstLineAndBlock, IsUnreadWithoutSlots}
+pub use Rattle.ptmerge.specs.MergeCall.{MergeRunPre, MergePost, MergeState, merge_state, both_sides, merge_engine}
+pub use Rattle.ptmerge.specs.MergeCall.{merge_end, disordered_line, HasNoLine, IsFirstLineAndBlock}
 pub use Rattle.ptmerge.specs.Orders.{Cmp, Key, byte_cmp, line_cmp}
 pub use Rattle.ptmerge.specs.Parts.{CommByKey, IsSplittableByKey, IsConcatOfParts, JoinByKey, CommOfParts, JoinOfParts}
 pub use Rattle.ptmerge.specs.Parts.{text_of_part, output_lines}
@@ -75,7 +77,7 @@ pub use Rattle.ptmerge.specs.KeySpan.{IsValidCursor, IsKeySpan}
 pub use Rattle.ptmerge.specs.MergeSteps.{HaveEqualKeys, StartErrPost, StartFirstPost, PrecedesInput, MergeInputs}
 pub use Rattle.ptmerge.specs.MergeSteps.{HasOnlyLeastKey, IsDisorderDecided, IsReaderOf, IsReportable, AreValidCursors}
 pub use Rattle.ptmerge.specs.MergeSteps.{StartSlotFaultPost, StartOkPost, merge_inputs, previous_key}
-pub use Rattle.ptmerge.specs.MergeSlots.{EnsureFourSlotsPost, ClearFourSlotsPost}
+pub use Rattle.ptmerge.specs.MergeSlots.{EnsureFourSlotsPost, EnsureFourSlotsErrPost, ClearFourSlotsPost}
 pub use Rattle.ptmerge.specs.declared.faults.MergeFault.{MergeFault}
 pub use Rattle.ptmerge.specs.declared.faults.MergeFault.TheVariants.{Memory, Read, Write}
 pub use Rattle.ptmerge.specs.declared.merging.cursor.Sorted.{Sorted}

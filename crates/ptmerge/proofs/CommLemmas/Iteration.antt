@@ -5,22 +5,20 @@ use Rattle.ptmerge.proofs.Common.{◌≡◌, ℕ, ◌<◌, false, List, [], ◌�
 use Rattle.ptmerge.proofs.Common.{arith, Comm, Output, PushEffect, Reader, Slots, line, unlines, MergeFault, Side}
 use Rattle.ptmerge.proofs.Common.{First, Second, Sorted, Head, Ended, comm_with, column_entries, tab_if_shown, Lines}
 use Rattle.ptmerge.proofs.Common.{MergeTool, entries_by_key, lines_with_key, AdvanceOkPost, AdvancePre, MergeState}
-use Rattle.ptmerge.proofs.Common.{MergePost, IsMergeUnread, merge_state, Cmp, Key, both, with_side, other}
-use Rattle.ptmerge.proofs.Common.{HaveEqualKeys, StartErrPost, HasOnlyLeastKey, IsDisorderDecided, IsReaderOf}
-use Rattle.ptmerge.proofs.Common.{AreValidCursors, StartOkPost, merge_inputs, AddedSlots, ClearFourSlotsPost, suc, ◌-◌}
-use Rattle.ptmerge.proofs.Common.{min, append_assoc, append-nil, tied_itself, entries, Bool}
-use Rattle.ptmerge.proofs.MergeLemmas.Step.{AdvanceErrPost, IsOpenMerge, CursorsInvariant, LoopInvariant, adds_of}
-use Rattle.ptmerge.proofs.MergeLemmas.Step.{next_keeps_slot_count, advance_ok, goes_merging, advance_keeps_slot_count}
+use Rattle.ptmerge.proofs.Common.{MergePost, merge_state, Cmp, Key, both, with_side, other, HaveEqualKeys, StartErrPost}
+use Rattle.ptmerge.proofs.Common.{HasOnlyLeastKey, IsDisorderDecided, IsReaderOf, AreValidCursors, StartOkPost}
+use Rattle.ptmerge.proofs.Common.{merge_inputs, ClearFourSlotsPost, suc, ◌-◌, min, append_assoc, append-nil}
+use Rattle.ptmerge.proofs.Common.{tied_itself, entries, Bool}
+use Rattle.ptmerge.proofs.MergeLemmas.Step.{AdvanceErrPost, CursorsInvariant, LoopInvariant, advance_ok, goes_merging}
 use Rattle.ptmerge.proofs.MergeLemmas.Step.{passing_now, runs_on, slots_of, read_facts_current, iteration_fails}
 use Rattle.ptmerge.proofs.MergeLemmas.Step.{IsLineByLine, current_key_is_above, alone, write_one_line, reads_ahead}
 use Rattle.ptmerge.proofs.MergeLemmas.Step.{measure_less, own_reader_kept, place_is, wrote_and_sent, StoreHoldsTwoLines}
-use Rattle.ptmerge.proofs.MergeLemmas.Step.{holds_two, keeps_two, ends_well, ends_fallen}
+use Rattle.ptmerge.proofs.MergeLemmas.Step.{holds_two, keeps_two, ends_well, ends_fallen, start_ok, start_fault}
 use Rattle.ptmerge.proofs.MergeLemmas.Orders.{IsKeyOrder, same_bytes}
 use Rattle.ptmerge.proofs.MergeLemmas.Slots.{put_other, put_same}
-use Rattle.ptmerge.proofs.MergeLemmas.Invariant.{LagInvariant, MergeInvariant, line_is_least_run, lag_invariant_starts}
+use Rattle.ptmerge.proofs.MergeLemmas.Invariant.{AllWritten, MergeInvariant, line_is_least_run, lag_invariant_starts}
 use Rattle.ptmerge.proofs.MergeLemmas.Invariant.{write_least_run, all_keys}
-use Rattle.ptmerge.proofs.MergeLemmas.Exits.{at_current_line, state_by_side}
-use Rattle.ptmerge.proofs.MergeLemmas.Step.{start_ok, start_fault, start_slots, start_unread}
+use Rattle.ptmerge.proofs.MergeLemmas.Exits.{at_current_line, state_by_side, IsOpenMerge}
 use Rattle.ptmerge.specs.declared.faults.MergeFault.TheVariants as faults
 
 -- ---- each line adds one entry
@@ -107,15 +105,7 @@ pub record IterationInvariant (job : Comm) (cmp : Cmp) (key : Side → Key) (old
   pub own_reader : (side : Side) → IsReaderOf (both one two side) (now.reader side)
   pub clean : now.out.write_failed ≡ false
 
--- the postconditions of a call that ends with this result
-abbrev pub ExitPost : MergeTool → MergeState → MergeState → Result (Unit {0}) MergeFault → Type 0
-ExitPost tool old new result = record {
-  merged : MergePost tool old new result;
-  unread_without_slots : length new.store.lines < 4 → IsMergeUnread old new;
-  slots : AddedSlots old.store new.store 4;
-}
-
--- the invariant and the postconditions depend only on the order, and a call leaves the order of a merge unchanged
+-- the invariant and the postcondition depend only on the order, and a call leaves the order of a merge unchanged
 pub iteration_as : {K : Type 0} (order : K → Cmp) (key_of : K → Side → Key)
     {a b c : K} {job : Comm} {old now : MergeState} {one two : Sorted}
     → b ≡ a → a ≡ c → IterationInvariant job (order a) (key_of a) old now one two
@@ -124,8 +114,8 @@ iteration_as order key_of is same t = record { iteration = rw is t; order = is �
 
 pub exit_as : {K : Type 0} (order : K → Cmp) (key_of : K → Side → Key) {a b : K}
     (job : Comm) {old new : MergeState} {r : Result (Unit {0}) MergeFault}
-    → a ≡ b → ExitPost (comm_with job (order a) (key_of a)) old new r
-    → ExitPost (comm_with job (order b) (key_of b)) old new r
+    → a ≡ b → MergePost (comm_with job (order a) (key_of a)) old new r
+    → MergePost (comm_with job (order b) (key_of b)) old new r
 exit_as order key_of job is l = rw (← is) l
 
 -- ---- the start
@@ -136,9 +126,8 @@ module _ (job : Comm) {cmp : Cmp} {key : Side → Key} {old : MergeState}
       → r ≡ Err fault
       → StartErrPost key cmp (record { reader = old.reader; store = old.store })
       (record { reader = both new1 new2; store = after }) fault
-      → ExitPost (comm_with job cmp key) old (merge_state new1 new2 old.out after) r
-  start_fails {new1} {new2} {after} {fault} is h = rw is
-      (record { merged = start_fault w h; unread_without_slots = start_unread w h; slots = start_slots w h })
+      → MergePost (comm_with job cmp key) old (merge_state new1 new2 old.out after) r
+  start_fails is h = rw is (start_fault w h)
 
   pub starts : ((side : Side) (x : List ℕ) → key side x ≡ x)
       → {first second : Reader} {store : Slots} {one two : Sorted}
@@ -178,14 +167,6 @@ module _ {job : Comm} {cmp : Cmp} {key : Side → Key} {old now : MergeState} {o
   abbrev head : Side → List ℕ
   head s = line now.store (both one two s).current_slot
 
-  exit_post : {new : MergeState} {r : Result (Unit {0}) MergeFault} → length new.store.lines ≡ length now.store.lines
-      → MergePost tool old new r → ExitPost tool old new r
-  exit_post same merged = record {
-    merged = merged;
-    unread_without_slots = λ few. absurd (omega (arith, few, same, valid_cursors.slots));
-    slots = adds_of (same ∙ keeps.slots);
-  }
-
   pub advance_pre : (s : Side) → (both one two s).status ≡ Head → AdvancePre key s one two (now.reader s) now.store
   advance_pre s head = record { valid_cursors = valid_cursors; head = head; own_reader = own_reader s }
 
@@ -200,7 +181,7 @@ module _ {job : Comm} {cmp : Cmp} {key : Side → Key} {old now : MergeState} {o
     module _ {new : Output} {tabs : List ℕ} (led : tabs ≡ tabs_of job s) (pushed : PushEffect now.out new
         (unlines (now.reader s).terminator (column_entries (hidden_of job s) tabs 1 (head s)))) where
       wrote_line : MergeInvariant tool b (with_side s (ls s) p) old.out new
-          × LagInvariant tool b (with_side s (ls s) p) old.out new
+          × AllWritten tool b (with_side s (ls s) p) old.out new
       wrote_line =
           let h = at_current_line (sides s) step.status_is in
           let (above, under) = current_key_is_above _ w.o _ _ _ _ _ _ _ _ _ step.before (sides (other s)).status_is in
@@ -226,11 +207,9 @@ module _ {job : Comm} {cmp : Cmp} {key : Side → Key} {old now : MergeState} {o
 
       pub alone_fails : {reader : Reader} {after : Slots} {fault : MergeFault} {r : Result (Unit {0}) MergeFault}
           → r ≡ Err fault → AdvanceErrPost s (both one two s) (now.reader s) reader now.store after new fault
-          → ExitPost tool old (state_by_side (with_side s reader now.reader) new after) r
-      alone_fails {fault = fault} is h = rw is
-          (exit_post (advance_keeps_slot_count s (both one two s) fault h)
-          (iteration_fails w stood_at s step.status_is wrote_line (put_same s (ls s) p)
-          (rw (put_other s (ls s) p) (read_facts_current w stood_at (other s))) h))
+          → MergePost tool old (state_by_side (with_side s reader now.reader) new after) r
+      alone_fails is h = rw is (iteration_fails w stood_at s step.status_is wrote_line (put_same s (ls s) p)
+          (rw (put_other s (ls s) p) (read_facts_current w stood_at (other s))) h)
 
   -- a step for a line of both inputs, after the first input advanced: the second one is still at the line
   pub second_advance_pre : HaveEqualKeys cmp key (both one two) now.store
@@ -263,7 +242,7 @@ module _ {job : Comm} {cmp : Cmp} {key : Side → Key} {old now : MergeState} {o
     wrote_both : {new : Output}
         → PushEffect now.out new
         (unlines job.terminator (entries_by_key tool all_keys (both (head First ∷ []) (head Second ∷ []))))
-        → MergeInvariant tool b both_written old.out new × LagInvariant tool b both_written old.out new
+        → MergeInvariant tool b both_written old.out new × AllWritten tool b both_written old.out new
     wrote_both {new} wrote =
         let h1 = at_current_line (sides First) step.first in
         let h2 = at_current_line (sides Second) step.second in
@@ -284,11 +263,9 @@ module _ {job : Comm} {cmp : Cmp} {key : Side → Key} {old now : MergeState} {o
 
       pub pair_fails : {reader : Reader} {after : Slots} {fault : MergeFault} {r : Result (Unit {0}) MergeFault}
           → r ≡ Err fault → AdvanceErrPost First one (now.reader First) reader now.store after mid fault
-          → ExitPost tool old (state_by_side (with_side First reader now.reader) mid after) r
-      pair_fails {fault = fault} is h = rw is
-          (exit_post (advance_keeps_slot_count First one fault h)
-          (iteration_fails w stood_at First step.first (wrote_both wrote_pair) refl
-          (passing_now w stood_at Second step.second) h))
+          → MergePost tool old (state_by_side (with_side First reader now.reader) mid after) r
+      pair_fails is h = rw is (iteration_fails w stood_at First step.first (wrote_both wrote_pair) refl
+          (passing_now w stood_at Second step.second) h)
 
       -- the first input advanced, and the output was written out
       module _ {one2 two2 : Sorted} {reader : Reader} {after : Slots}
@@ -299,17 +276,16 @@ module _ {job : Comm} {cmp : Cmp} {key : Side → Key} {old now : MergeState} {o
 
         pub second_fails : {reader2 : Reader} {last : Slots} {fault : MergeFault} {r : Result (Unit {0}) MergeFault}
             → r ≡ Err fault → AdvanceErrPost Second two2 (now.reader Second) reader2 after last new fault
-            → ExitPost tool old (state_by_side (both reader reader2) new last) r
-        second_fails {fault = fault} is k =
+            → MergePost tool old (state_by_side (both reader reader2) new last) r
+        second_fails is k =
             let g = advance_ok w stood_at First step.first h.came w.fits keeps in
             let m = goes_merging w stood_at First step.first h.came wrote_line_out in
             let (before, _) = wrote_both wrote_pair in
-            rw is
-            (exit_post (advance_keeps_slot_count Second two2 fault k
-            ∙ next_keeps_slot_count h.came)
-            (iteration_fails w g Second step.second
-            (m, lag_invariant_starts _ _ _ _ _ _ h.continues.clean before.wrote written_out) refl
-            (read_facts_current w g First) (rw h.continues.others at k)))
+            rw is (iteration_fails w g Second step.second (
+              m,
+              lag_invariant_starts (goes_merging w stood_at First step.first h.came before) h.continues.clean
+                  written_out,
+            ) refl (read_facts_current w g First) (rw h.continues.others at k))
 
         pub pair_continues : {one3 two3 : Sorted} {reader2 : Reader} {last : Slots}
             → AdvanceOkPost key cmp Second one2 two2 one3 two3 (now.reader Second) reader2 after last new
@@ -333,9 +309,9 @@ module _ {job : Comm} {cmp : Cmp} {key : Side → Key} {old now : MergeState} {o
 
   module _ {after : Slots} (clear : ClearFourSlotsPost now.store after) where
     pub eof : ((side : Side) → (both one two side).status ≡ Ended)
-        → ExitPost tool old (state_by_side now.reader now.out after) (Ok tt)
-    eof step = exit_post clear.slots (ends_well w stood_at merge_invariant clean clear step)
+        → MergePost tool old (state_by_side now.reader now.out after) (Ok tt)
+    eof step = ends_well w stood_at merge_invariant clean clear step
 
     pub disordered : {s : Side} {n : ℕ} → IsDisorderDecided cmp key (both one two) now.store s n
-        → ExitPost tool old (state_by_side now.reader now.out after) (Err (faults.Disorder s n))
-    disordered step = exit_post clear.slots (ends_fallen w stood_at merge_invariant clean clear step)
+        → MergePost tool old (state_by_side now.reader now.out after) (Err (faults.Disorder s n))
+    disordered step = ends_fallen w stood_at merge_invariant clean clear step

@@ -1,21 +1,20 @@
 -- The group of one key: its lines are read, paired and then closed. Output during a group is a prefix of the output for
 -- all inputs, since lesser keys are complete and the pairs of the group are written in their final order. Once both
 -- inputs are past the key, the group is complete, and counts as processed.
-use Rattle.ptmerge.proofs.Common.{◌≡◌, ⊎_elim, inl, inr, ℕ, ◌+◌, ◌*◌, ◌≤◌, ◌<◌, ◌&&◌, Bool, true, false, List, [], ◌∷◌}
-use Rattle.ptmerge.proofs.Common.{◌++◌, Some, Err, length, max, refl, sym, ◌∙◌, ap, subst, arith, append_assoc}
-use Rattle.ptmerge.proofs.Common.{bytes_eq, bytes_decides, is_gt, append-nil, Output, PushEffect, Reader}
-use Rattle.ptmerge.proofs.Common.{ReaderAdvance, IsSound, Slots, line, total_bytes, with_line, unlines, IsLine}
-use Rattle.ptmerge.proofs.Common.{max_length, push_trans, unlines-append, MergeFault, Read, Memory, Side, First, Second}
-use Rattle.ptmerge.proofs.Common.{Sorted, CursorStatus, Head, Ended, Disorder, is_head, length-append, Lines, MergeTool}
-use Rattle.ptmerge.proofs.Common.{entries_by_key, entries_of_key, lines_with_key, MergeState, MergePost}
-use Rattle.ptmerge.proofs.Common.{NextOkPost, HasSlots, with_side, other, PrecedesInput, disorder, merged_entries}
-use Rattle.ptmerge.proofs.Common.{sorted_prefixes, is_up_to, MergeEndPost, IsExactMerge, Cmp, Key, Write}
+use Rattle.ptmerge.proofs.Common.{◌≡◌, ⊎_elim, ℕ, ◌+◌, ◌*◌, ◌≤◌, ◌<◌, ◌&&◌, Bool, true, false, List, [], ◌∷◌, ◌++◌}
+use Rattle.ptmerge.proofs.Common.{Some, Err, length, max, refl, sym, ◌∙◌, ap, subst, arith, append_assoc, bytes_eq}
+use Rattle.ptmerge.proofs.Common.{bytes_decides, is_gt, append-nil, Output, PushEffect, Reader, Slots, line}
+use Rattle.ptmerge.proofs.Common.{total_bytes, with_line, unlines, max_length, push_trans, unlines-append, MergeFault}
+use Rattle.ptmerge.proofs.Common.{Side, First, Second, Sorted, CursorStatus, Head, Ended, Disorder, is_head}
+use Rattle.ptmerge.proofs.Common.{length-append, Lines, MergeTool, entries_by_key, entries_of_key, lines_with_key}
+use Rattle.ptmerge.proofs.Common.{MergeState, MergePost, NextOkPost, HasSlots, with_side, other, PrecedesInput}
+use Rattle.ptmerge.proofs.Common.{disorder, merged_entries, sorted_prefixes, is_up_to, Cmp, Key, reads_nothing}
 use Rattle.ptmerge.proofs.MergeLemmas.Step.{slots_on, SidesInvariant, IsAbove, IsLineByLine, current_key_is_above}
 use Rattle.ptmerge.proofs.MergeLemmas.Step.{next_at, own_slots, passed_at, sides_invariant_continues, slots_apart}
-use Rattle.ptmerge.proofs.MergeLemmas.Step.{StoreInvariant, buffered_not_done, AdvanceErrPost}
-use Rattle.ptmerge.proofs.MergeLemmas.LinesRead.{reads_nothing}
+use Rattle.ptmerge.proofs.MergeLemmas.Step.{StoreInvariant, AdvanceErrPost, advance_fails}
 use Rattle.ptmerge.proofs.MergeLemmas.Invariant.{Bound, AtLeast, MayFollow, IsUnder, MergeInvariant, InputSplit}
 use Rattle.ptmerge.proofs.MergeLemmas.Invariant.{MayCome, all_keys, splits_step, all_wanted, written_is_wanted}
+use Rattle.ptmerge.proofs.MergeLemmas.Invariant.{LagInvariant}
 use Rattle.ptmerge.proofs.JoinLemmas.GroupSlots.{AllSlots, Extends, GroupBounds, InGroup, largest_group, GroupStore}
 use Rattle.ptmerge.proofs.JoinLemmas.GroupSlots.{group_store_line, group_store_next, low_slot, put_more}
 use Rattle.ptmerge.proofs.MergeLemmas.Orders.{EachKey, EachKey-append, EachKey-weaker, at_most-same, front_first}
@@ -24,10 +23,9 @@ use Rattle.ptmerge.proofs.MergeLemmas.Orders.{least_or_above, self_at_most, at_m
 use Rattle.ptmerge.proofs.MergeLemmas.Slots.{put_both, put_each, put_other, put_same, side_case, has_lines_total}
 use Rattle.ptmerge.proofs.MergeLemmas.Slots.{line_other}
 use Rattle.ptmerge.proofs.MergeLemmas.Exits.{SideAfterNext, IsAtCurrentLine, MatchesStatus, next_same_key}
-use Rattle.ptmerge.proofs.MergeLemmas.Exits.{side_invariant_kept, IsFailedRead, Fits, ReadFacts, read_facts_after_line}
-use Rattle.ptmerge.proofs.MergeLemmas.Exits.{read_facts_at_line, exit_facts, input_split_of, LeavesWork, both_begun}
+use Rattle.ptmerge.proofs.MergeLemmas.Exits.{side_invariant_kept, Fits, read_facts_after_line, read_facts_at_line}
+use Rattle.ptmerge.proofs.MergeLemmas.Exits.{input_split_of, both_begun, IsOpenMerge, ReadFactsOf}
 use Rattle.ptmerge.proofs.MergeLemmas.LinesRead.{Continues, HasBegun, HoldsLines}
-use Rattle.ptmerge.specs.declared.faults.MergeFault.TheVariants as faults
 
 -- ---- a fault within a group
 
@@ -65,12 +63,10 @@ pub record HasEntries (tool : MergeTool) (g : Side → Lines) (d : Side → Boun
   pub some : (w : List ℕ → Bool) (r : Side → Lines) → MayCome tool d r → w k ≡ true
       → 0 < length (entries_by_key tool w (λ side. g side ++ r side))
 
-module _ {tool : MergeTool} (o : IsKeyOrder tool.cmp) (old new : MergeState) {now : Side → Reader}
-    {piece : Side → List ℕ} {mid : Output} {ls p g : Side → Lines} {d : Side → Bound} {k : List ℕ}
-    (m : OutputInGroup tool old.out mid p g d k)
-    (gone : (side : Side) → ReadFacts tool.terminator tool.cmp (tool.key side) (old.reader side) (now side)
-    (new.reader side) (piece side) (ls side) (p side ++ g side) (d side)) where
+module _ {tool : MergeTool} {old : MergeState} (w : IsOpenMerge tool old) {mid : Output} {p g : Side → Lines}
+    {d : Side → Bound} {k : List ℕ} (m : OutputInGroup tool old.out mid p g d k) where
   open tool use {cmp, terminator, key}
+  open w use {o}
 
   abbrev front : Lines
   front = entries_by_key tool all_keys p
@@ -80,9 +76,11 @@ module _ {tool : MergeTool} (o : IsKeyOrder tool.cmp) (old new : MergeState) {no
   rest_not_less side r c = at_most-same tool o (key side) k (g side) r (m.own side) (m.beyond side r c)
 
   -- two lists that continue the lines read so far: their sorted prefixes and their disorder
-  module _ (all : Side → Lines) (more : (side : Side) → Continues (now side) (ls side) (all side)) where
+  module _ (new : MergeState) {now : Side → Reader} {piece : Side → List ℕ} {ls : Side → Lines}
+      (gone : (side : Side) → ReadFactsOf tool old now new.reader piece ls (λ side. p side ++ g side) d side)
+      (all : Side → Lines) (more : (side : Side) → Continues (now side) (ls side) (all side)) where
     seen : InputSplit tool d (λ side. p side ++ g side) all
-    seen = input_split_of tool o old new now piece ls (λ side. p side ++ g side) d gone all more
+    seen = input_split_of w new now piece ls (λ side. p side ++ g side) d gone all more
 
     parts : (w : List ℕ → Bool) → entries_by_key tool w (sorted_prefixes tool all) ≡ entries_by_key tool w
         p ++ entries_by_key tool w (λ side. g side ++ seen.r side)
@@ -103,9 +101,9 @@ module _ {tool : MergeTool} (o : IsKeyOrder tool.cmp) (old new : MergeState) {no
     front_is_first = all_wanted tool is_wanted p (λ side. EachKey-weaker (λ x. AtMost cmp x k) (λ x. is_wanted x ≡ true)
         wanted (key side) (p side) (m.merge_invariant.under First side))
 
-    all_is : {extra : Lines} → OutputStartsWith tool g d k extra → (rest : Lines)
+    pub group_comes_first : {extra : Lines} → OutputStartsWith tool g d k extra → (rest : Lines)
         × (merged_entries tool all ≡ (front ++ extra) ++ rest)
-    all_is {extra} starts =
+    group_comes_first {extra} starts =
         let (rest, is) = starts.rest is_wanted seen.r seen.may_follow (wanted k (self_at_most cmp o k)) in
         (rest, cc (parts is_wanted, front_is_first, is, append_assoc front extra rest))
 
@@ -127,21 +125,24 @@ module _ {tool : MergeTool} (o : IsKeyOrder tool.cmp) (old new : MergeState) {no
       EachKey-append (λ x. AtMost cmp x k) (key side) (p side) (g side) (m.merge_invariant.under of side)
       (all_own_keys (λ x. AtMost cmp x k) (key side) k (g side) (self_at_most cmp o k) (m.own side))
 
-  pub group_exit : {extra : Lines} → OutputStartsWith tool g d k extra
-      → PushEffect mid new.out (unlines tool.terminator extra) → ((side : Side) → HasBegun (now side) (ls side))
-      → {fault : MergeFault}
-      → MergeEndPost old new (Err fault) → ((side : Side) → (new.reader side).failed ≡ true
-      → IsFailedRead cmp (key side) (new.reader side) (ls side) (p side ++ g side))
-      → ((input : Side → List ℕ) (pushed : List ℕ) → IsExactMerge tool input pushed (Err fault))
-      → LeavesWork tool new now ls (front ++ extra) (Err fault)
-      → Fits tool old.store now ls piece new.store → MergePost tool old new (Err fault)
-  group_exit {extra} starts wrote begun ends failed is_whole left fits = exit_facts tool o old new now piece ls
-      (λ side. p side ++ g side) d gone p g (λ side. AtLeast k) (λ side. refl) passed_keys
-      (λ of side. EachKey-weaker (λ x. AtMost cmp x k) (IsUnder cmp (d of))
-      (λ x h. under_lower o (d of) x k h (m.under of)) (key side) (p side ++ g side) (passed_keys of side))
-      rest_not_less m.clean m.merge_invariant.wrote wrote _ (sym (unlines-append terminator front extra)) ends
-      (λ all more. all_is all more starts) failed (λ input a. is_whole input (unlines terminator (front ++ extra)))
-      (both_begun begun) left fits
+  pub group_written : {is : Output} (extra : Lines) → PushEffect mid is (unlines terminator extra)
+      → LagInvariant tool d (λ side. p side ++ g side) old.out is (front ++ extra)
+  group_written extra wrote = record {
+    mid = mid;
+    front = p;
+    tail = g;
+    bound = λ side. AtLeast k;
+    clean = m.clean;
+    wrote = m.merge_invariant.wrote;
+    bytes = unlines terminator extra;
+    more = wrote;
+    all = sym (unlines-append terminator front extra);
+    split = λ side. refl;
+    under = λ of side. EachKey-weaker (λ x. AtMost cmp x k) (IsUnder cmp (d of))
+        (λ x h. under_lower o (d of) x k h (m.under of)) (key side) (p side ++ g side) (passed_keys of side);
+    under_bound = passed_keys;
+    may_follow = rest_not_less;
+  }
 
 -- ---- tools that write pairs
 
@@ -163,12 +164,12 @@ pub record IsPairTool (tool : MergeTool) (most : GroupBounds) (pairs : List ℕ 
 pub record JoinCall : Type 0 where
   pub tool : MergeTool
   pub open tool use *
-  pub o : IsKeyOrder cmp
   pub most : GroupBounds
   pub pairs : List ℕ → Lines → Lines → Lines
   pub laws : IsPairTool tool most pairs
   pub old : MergeState
-  pub unfailed : (side : Side) → (old.reader side).failed ≡ false
+  pub w : IsOpenMerge tool old
+  pub open w use {o}
 
 -- the current line of an input
 abbrev pub head_of : MergeState → (Side → Sorted) → Side → List ℕ
@@ -177,16 +178,6 @@ head_of now cursor s = line now.store (cursor s).current_slot
 -- the state after an input advanced, with this output and store
 abbrev pub state_after_read : MergeState → Side → Reader → Output → Slots → MergeState
 state_after_read now s reader out store = record { reader = with_side s reader now.reader; out = out; store = store }
-
--- the lines read from an input, those of them that are processed, and a piece of a further line
-abbrev pub ReadFactsOf : JoinCall → MergeState → Side → Reader → List ℕ → Lines → Lines → Bound → Type 0
-ReadFactsOf call now side new piece ls p b =
-    ReadFacts call.terminator call.cmp (call.key side) (call.old.reader side) (now.reader side) new piece ls p b
-
--- no read has failed, so the case of a failed read is void
-pub not_failed : (call : JoinCall) (side : Side) {b : Bool} {X : Type 0} → b ≡ (call.old.reader side).failed → b ≡ true
-    → X
-not_failed call side same fail = cc (call.unfailed side)
 
 -- ---- the bytes in the store
 
@@ -199,12 +190,14 @@ pub size_of : (call : JoinCall) {store : Slots} {ls : Side → Lines} {g : Lines
     → ((side : Side) → max_length (ls side) ≤ max_length (all side)) → Extends (ls Second) (all Second)
     → (store.peak ≤ max call.old.store.peak (call.size all))
     × (length store.lines ≤ max (length call.old.store.lines) (call.slots all))
-    × (total_bytes store.lines ≤ call.size all)
+    × (max (length call.old.store.lines) 4 ≤ length store.lines) × (total_bytes store.lines ≤ call.size all)
 size_of call {store} {ls} {g} h all up more =
     let bounds = h.bounds (all Second) more.more more.is in
     omega (
       arith,
       bounds,
+      h.least,
+      h.four,
       call.laws.size all,
       call.laws.slots all,
       up First,
@@ -221,9 +214,9 @@ module _ (call : JoinCall) {store : Slots} {ls : Side → Lines} {g : Lines}
       let k : GroupStore call.most call.old.store (with_line store cursor.previous_slot piece) all g = group_store_line
       s cursor slots piece h (λ side. omega (arith, (w side).longest))
       (omega (arith, (w s).longest, ap length (put_same s piece (λ t. [])))) (extends (w Second)) refl in
-      let (peak, slots, _) = size_of call k all (λ side. omega arith)
+      let (peak, slots, least, _) = size_of call k all (λ side. omega arith)
       (record { more = []; is = sym (append-nil (all Second)) }) in
-      (peak, slots)
+      (peak, slots, least)
 
   -- a store with no more bytes and no more slots stays within the measure
   pub fits_kept : (after : Slots) → after.peak ≤ max store.peak (total_bytes store.lines)
@@ -398,7 +391,7 @@ module _ {call : JoinCall} {now : MergeState} {cursor : Side → Sorted} {end : 
   group_begun side = (q.sides side).begun
 
   pub group_read_facts : (side : Side)
-      → ReadFactsOf call now side (now.reader side) [] (q.ls side) (q.p side ++ g side) (q.d side)
+      → ReadFactsOf tool old now.reader now.reader (λ t. []) q.ls (λ t. q.p t ++ g t) q.d side
   group_read_facts side = read_facts_at_line (q.sides side)
 
   -- the group after other lines were stored for it
@@ -425,7 +418,7 @@ module _ {call : JoinCall} {now : MergeState} {cursor : Side → Sorted} {end : 
 
 module _ {call : JoinCall} {now : MergeState} {cursor : Side → Sorted} {end : ℕ} {k : List ℕ} {g : Side → Lines}
     {kept : Lines} {q : GroupState call now cursor end k g kept} {s : Side} (l : IsAtGroupLine q s) where
-  open call use {cmp, key, o, old, pairs, tool}
+  open call use {cmp, key, o, old, pairs, tool, w}
 
   abbrev x : List ℕ
   x = head_of now cursor s
@@ -451,68 +444,42 @@ module _ {call : JoinCall} {now : MergeState} {cursor : Side → Sorted} {end : 
         under = q.within.under;
       }
 
-  fails_in : (new : Reader) → new.buffered ≡ [] → new.eof ≡ false
-      → IsFailedRead cmp (key s) new (q.ls s) (q.p s ++ with_added_line now cursor s g s)
-  fails_in new buffered eof = record {
-    buffered = buffered;
-    eof = eof;
-    all = cc (with_head, put_same s (g s ++ x ∷ []) g);
-    last = Some (key s x);
-    sorted_up_to = rw put_same (rw with_head at at_head.sorted_up_to);
-  }
+  pub rest_facts : ReadFactsOf tool old now.reader now.reader (λ t. []) q.ls
+      (λ t. q.p t ++ with_added_line now cursor s g t) q.d (other s)
+  rest_facts = simp put_other (group_read_facts q (other s))
 
-  pub passing : (new : Reader) (piece : List ℕ) → ReaderAdvance (now.reader s) new piece
-      → IsLine (now.reader s).terminator piece → IsSound new → (side : Side)
-      → ReadFactsOf call now side (with_side s new now.reader side) (with_side s piece (λ t. []) side) (q.ls side)
-      (q.p side ++ with_added_line now cursor s g side) (q.d side)
-  passing new piece reads free sound = side_case (λ side. ReadFactsOf call now side (with_side s new now.reader side)
-      (with_side s piece (λ t. []) side) (q.ls side) (q.p side ++ with_added_line now cursor s g side) (q.d side)) s
-      (simp put_same (subst (λ (l : Lines). ReadFactsOf call now s new piece (q.ls s) l (q.d s)) with_head
-      (rw at_head.bound (read_facts_after_line o (q.sides s).lines_read reads free sound at_head.sorted_up_to))))
-      (simp put_other (group_read_facts q (other s)))
+  pub all_processed : q.p s ++ with_added_line now cursor s g s ≡ q.ls s
+  all_processed = cc (with_head, put_same s (g s ++ x ∷ []) g)
+
+  -- the current line is processed
+  pub passing_now : (side : Side) → ReadFactsOf tool old now.reader now.reader (λ t. []) q.ls
+      (λ t. q.p t ++ with_added_line now cursor s g t) q.d side
+  passing_now = side_case (ReadFactsOf tool old now.reader now.reader (λ t. []) q.ls
+      (λ t. q.p t ++ with_added_line now cursor s g t) q.d) s
+      (rw (all_processed, at_head.bound) (read_facts_after_line o (Some (key s x)) (q.sides s).lines_read
+      (reads_nothing (now.reader s)) tt (q.sides s).sound at_head.sorted_up_to)) rest_facts
 
   -- writing failed, or reading the next line, after a prefix of the group's output was written
-  module _ {out : Output} {extra : Lines}
-      (begins : OutputStartsWith tool (with_added_line now cursor s g) q.d k extra)
-      (wrote : PushEffect q.mid out (unlines call.terminator extra)) (new : Reader) where
-    failed : (r : Reader) → r.failed ≡ (now.reader s).failed → (side : Side)
-        → (with_side s r now.reader side).failed ≡ (old.reader side).failed
-    failed r same = put_each (λ side (r : Reader). r.failed ≡ (old.reader side).failed) s r now.reader
-        (same ∙ none_failed q s) (none_failed q)
-
-    pub group_breaks : {after : Slots} (fault : MergeFault)
-        → AdvanceErrPost s (cursor s) (now.reader s) new now.store after out fault
-        → MergePost tool old (state_after_read now s new out after) (Err fault)
-    group_breaks fault (inl (is_write, e)) =
-        rw (is_write, e.unread, e.store) (group_exit o _ _ within_more
-        (passing (now.reader s) [] (reads_nothing (now.reader s)) tt (q.sides s).sound) begins wrote (group_begun q)
-        (record { write_failed = e.write_failed; failed = failed (now.reader s) refl; denied = q.keeps.denied })
-        (λ side. not_failed call side (failed (now.reader s) refl side)) (λ input pushed. tt) tt
-        (fits_kept call q.keeps now.store (omega arith) refl))
-    group_breaks {after} (Read file) (inr (clean, (e, file_is, sound))) =
-        rw file_is (group_exit o _ _ within_more (passing new e.piece e.faults.reads e.faults.whole sound) begins wrote
-        (group_begun q) (record {
-          cause = rw (put_same s new now.reader) (⊎_elim (λ h. inl h) (λ (long, same). inr
-              (long, same ∙ none_failed q s)) e.cause);
-          others = rw (put_other s new now.reader) (none_failed q (other s));
-          clean = clean;
-          denied = rw e.stored q.keeps.denied;
-        }) (put_each (λ side (r : Reader). r.failed ≡ true → IsFailedRead cmp (key side) r (q.ls side)
-        (q.p side ++ with_added_line now cursor s g side)) s new now.reader
-        (λ fail. ⊎_elim (λ (_, buffered, eof). fails_in new buffered eof)
-        (λ (_, same). not_failed call s (same ∙ none_failed q s) fail) e.cause)
-        (λ side. not_failed call side (none_failed q side)))
-        (λ input pushed. tt) tt (rw e.stored (peak_line call q.keeps s (cursor s) (l.slots s) e.piece)))
-    group_breaks Write (inr (_, moves)) = absurd moves
-    group_breaks {after} Memory (inr (clean, (e, sound))) =
-        let failed = failed new e.failed in
-        group_exit o _ _ within_more (passing new e.piece e.faults.reads e.faults.whole sound) begins wrote
-        (group_begun q)
-        (record { denied = ap (λ (t : Slots). t.denied) e.stored; failed = failed; clean = clean })
-        (λ side. not_failed call side (failed side))
-        (λ input pushed. tt) (λ four. inl (s, rw (put_same s new now.reader) (buffered_not_done e.left)))
-        (rw e.stored (peak_line call q.keeps s (cursor s) (l.slots s) e.piece))
-    group_breaks (faults.Disorder file number) (inr (_, moves)) = absurd moves
+  pub group_breaks : {out : Output} {extra : Lines}
+      → OutputStartsWith tool (with_added_line now cursor s g) q.d k extra
+      → PushEffect q.mid out (unlines call.terminator extra)
+      → {new : Reader} {after : Slots} {fault : MergeFault}
+      → AdvanceErrPost s (cursor s) (now.reader s) new now.store after out fault
+      → MergePost tool old (state_after_read now s new out after) (Err fault)
+  group_breaks {extra = extra} begins wrote e = advance_fails w {now = now} {cursor = cursor s}
+      {p = λ t. q.p t ++ with_added_line now cursor s g t} (record {
+        lines_read = (q.sides s).lines_read;
+        sound = (q.sides s).sound;
+        all = all_processed;
+        last = Some (key s x);
+        sorted_up_to = at_head.sorted_up_to;
+        bound = at_head.bound;
+        rest = rest_facts;
+        order = λ r piece free. both_begun (group_begun q);
+        denied = q.keeps.denied;
+        fits = peak_line call q.keeps s (cursor s) (l.slots s);
+      }) (group_written w within_more extra wrote)
+      (λ new piece facts all more. group_comes_first w within_more new facts all more begins) e
 
   -- the input advances
   module _ {reader : Reader} {next : Sorted} {after : Slots}

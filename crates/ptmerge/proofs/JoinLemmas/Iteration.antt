@@ -6,32 +6,30 @@ use Rattle.ptmerge.proofs.Common.{◌∙◌, ◌+◌, ◌*◌, ◌≤◌, ◌<�
 use Rattle.ptmerge.proofs.Common.{flat_map-append, Join, Side, First, Second, unpaired_entries1, unpaired_entries2}
 use Rattle.ptmerge.proofs.Common.{unpaired_entry, entry, join_fields, join_with, join_entries, join_key, pair_entries}
 use Rattle.ptmerge.proofs.Common.{Lines, entries_by_key, Cmp, Key, Output, PushEffect, Reader, Slots, line, unlines}
-use Rattle.ptmerge.proofs.Common.{MergeFault, Sorted, Head, Ended, AddedAtLeast, IsReadyToContinue, AdvanceOkPost}
-use Rattle.ptmerge.proofs.Common.{MergeState, MergePost, IsMergeUnread, merge_state, HasSlots, both, with_side}
-use Rattle.ptmerge.proofs.Common.{HaveEqualKeys, StartErrPost, HasOnlyLeastKey, IsDisorderDecided, IsReaderOf}
-use Rattle.ptmerge.proofs.Common.{AreValidCursors, StartOkPost, merge_inputs, ClearFourSlotsPost, ◌⊎◌, MergeRunPre}
-use Rattle.ptmerge.proofs.Common.{JoinStepPre, AdvancePre, push_nothing, other, if◌then◌else◌, max_group_bytes}
-use Rattle.ptmerge.proofs.Common.{max_group_lines, inl, inr, ReadGroupLineOkPost, ReadGroupLinePost, IsGroup}
-use Rattle.ptmerge.proofs.Common.{ClearGroupPost, group_end_slot, group_first_slot, group, JoinLinePre, ⊎_elim, ◌-◌}
-use Rattle.ptmerge.proofs.Common.{◌==◌, push_trans, nat_tests, length_push, unlines-append, append_assoc}
-use Rattle.ptmerge.proofs.Common.{merged_entries, nil_from_length, CopyToGroupPost, ReadGroupLineErrPost}
+use Rattle.ptmerge.proofs.Common.{MergeFault, Sorted, Head, Ended, IsReadyToContinue, AdvanceOkPost, MergeState}
+use Rattle.ptmerge.proofs.Common.{MergePost, merge_state, HasSlots, both, with_side, lines_of, Memory, HaveEqualKeys}
+use Rattle.ptmerge.proofs.Common.{StartErrPost, HasOnlyLeastKey, IsDisorderDecided, IsReaderOf, AreValidCursors}
+use Rattle.ptmerge.proofs.Common.{StartOkPost, merge_inputs, ClearFourSlotsPost, ◌⊎◌, MergeRunPre, JoinStepPre}
+use Rattle.ptmerge.proofs.Common.{AdvancePre, push_nothing, other, if◌then◌else◌, max_group_bytes, max_group_lines, inl}
+use Rattle.ptmerge.proofs.Common.{inr, ReadGroupLineOkPost, ReadGroupLinePost, IsGroup, ClearGroupPost, group_end_slot}
+use Rattle.ptmerge.proofs.Common.{group_first_slot, group, JoinLinePre, ⊎_elim, ◌-◌, ◌==◌, push_trans, nat_tests}
+use Rattle.ptmerge.proofs.Common.{length_push, unlines-append, append_assoc, merged_entries, nil_from_length}
+use Rattle.ptmerge.proofs.Common.{CopyToGroupPost}
 use Rattle.ptmerge.proofs.MergeLemmas.Step.{open_merge, slots_of, wrote_as, IsLineByLine, alone, current_key_is_above}
-use Rattle.ptmerge.proofs.MergeLemmas.Step.{IsOpenMerge as OpenMerge, write_one_line, IsAbove, reads_ahead}
-use Rattle.ptmerge.proofs.MergeLemmas.Step.{measure_less, own_reader_kept, place_is, LoopInvariant, CursorsInvariant}
-use Rattle.ptmerge.proofs.MergeLemmas.Step.{AdvanceErrPost, advance_keeps_slot_count, iteration_fails}
+use Rattle.ptmerge.proofs.MergeLemmas.Step.{write_one_line, IsAbove, reads_ahead, measure_less, own_reader_kept}
+use Rattle.ptmerge.proofs.MergeLemmas.Step.{place_is, LoopInvariant, CursorsInvariant, AdvanceErrPost, iteration_fails}
 use Rattle.ptmerge.proofs.MergeLemmas.Step.{read_facts_current, runs_on, n, ends_well, ends_fallen, start_fault}
-use Rattle.ptmerge.proofs.MergeLemmas.Step.{start_ok, start_unread, start_slots, next_keeps_slot_count}
-use Rattle.ptmerge.proofs.MergeLemmas.Step.{next_error_keeps_slot_count, valid_cursors_kept, wrote_and_sent}
+use Rattle.ptmerge.proofs.MergeLemmas.Step.{start_ok, next_keeps_slot_count, valid_cursors_kept, wrote_and_sent}
 use Rattle.std.specs.List.{flat_map}
 use Rattle.ptmerge.proofs.JoinLemmas.GroupInvariant.{IsPairTool, IsAtKey, head_of, JoinCall, state_after_read}
-use Rattle.ptmerge.proofs.JoinLemmas.GroupInvariant.{GroupState, store_between_groups, not_failed}
-use Rattle.ptmerge.proofs.JoinLemmas.GroupInvariant.{IsAtGroupLine, AdvancedGroup, closes, continues_key, leaves_key}
-use Rattle.ptmerge.proofs.JoinLemmas.GroupInvariant.{advanced_group, group_breaks, with_added_line, is_past, next_slots}
-use Rattle.ptmerge.proofs.JoinLemmas.GroupInvariant.{others_stay, passing, extends, front_is_not_all, has_entries}
-use Rattle.ptmerge.proofs.JoinLemmas.GroupInvariant.{group_begun, same_cursors, group_read_facts, starts, none_failed}
-use Rattle.ptmerge.proofs.JoinLemmas.GroupInvariant.{within_more, group_kept, last_stays, own_more, size_of}
-use Rattle.ptmerge.proofs.JoinLemmas.GroupInvariant.{starts_none, with_head, OutputStartsWith, group_exit}
-use Rattle.ptmerge.proofs.MergeLemmas.Invariant.{all_keys, AtLeast, LagInvariant, MergeInvariant, Bound}
+use Rattle.ptmerge.proofs.JoinLemmas.GroupInvariant.{GroupState, store_between_groups, IsAtGroupLine, AdvancedGroup}
+use Rattle.ptmerge.proofs.JoinLemmas.GroupInvariant.{closes, continues_key, leaves_key, advanced_group, group_breaks}
+use Rattle.ptmerge.proofs.JoinLemmas.GroupInvariant.{with_added_line, is_past, next_slots, others_stay, passing_now}
+use Rattle.ptmerge.proofs.JoinLemmas.GroupInvariant.{extends, front_is_not_all, has_entries, group_begun, same_cursors}
+use Rattle.ptmerge.proofs.JoinLemmas.GroupInvariant.{group_read_facts, starts, none_failed, within_more, group_kept}
+use Rattle.ptmerge.proofs.JoinLemmas.GroupInvariant.{last_stays, own_more, size_of, starts_none, with_head}
+use Rattle.ptmerge.proofs.JoinLemmas.GroupInvariant.{OutputStartsWith, group_written, group_comes_first}
+use Rattle.ptmerge.proofs.MergeLemmas.Invariant.{all_keys, AtLeast, AllWritten, MergeInvariant, Bound}
 use Rattle.ptmerge.specs.declared.tools.join.JoinPhase.{JoinPhase}
 use Rattle.ptmerge.proofs.JoinLemmas.GroupSlots.{GroupBounds, end_within, pair_of, GroupStore, group_store_next}
 use Rattle.ptmerge.proofs.JoinLemmas.GroupSlots.{group_store_starts, group_is, kept_line, group_store_cleared, low_slot}
@@ -39,8 +37,9 @@ use Rattle.ptmerge.proofs.JoinLemmas.GroupSlots.{group_one, InGroup, largest_gro
 use Rattle.ptmerge.proofs.JoinLemmas.GroupSlots.{group_store_copied}
 use Rattle.ptmerge.proofs.MergeLemmas.Orders.{IsKeyOrder, same_bytes, self_at_most, EachKey-at}
 use Rattle.ptmerge.proofs.MergeLemmas.Slots.{put_other, put_same}
-use Rattle.ptmerge.proofs.MergeLemmas.Exits.{at_current_line}
-use Rattle.ptmerge.proofs.MergeLemmas.LinesRead.{Continues, reads_nothing}
+use Rattle.ptmerge.proofs.MergeLemmas.Exits.{at_current_line, IsOpenMerge as OpenMerge, ComeFirst, exit_is_merge_post}
+use Rattle.ptmerge.proofs.MergeLemmas.Exits.{continues, none_missing, both_begun}
+use Rattle.ptmerge.proofs.MergeLemmas.LinesRead.{Continues}
 use Rattle.ptmerge.specs.declared.faults.MergeFault.TheVariants as faults
 use Rattle.ptmerge.specs.declared.tools.join.JoinPhase.TheVariants as phases
 
@@ -159,11 +158,6 @@ rank_few p = omega arith
 
 -- ---- an iteration
 
--- the slots of the group exist, and all slots that existed before
-pub record GroupSlotsExist (old now : Slots) (end : ℕ) : Type 0 where
-  pub end_in : (4 ≤ end) × (end ≤ length now.lines)
-  pub least : length old.lines ≤ length now.lines
-
 -- the conditions at the start
 pub record IsOpenMerge (job : Join) (cmp : Cmp) (key : Side → Key) (old : MergeState) : Type 0 where
   pub w : OpenMerge (join_with job cmp key) old
@@ -179,12 +173,11 @@ abbrev pub join_call_of : {job : Join} {cmp : Cmp} {key : Side → Key} {old : M
     → JoinCall
 join_call_of {job} {cmp} {key} {old} a = record {
   tool = join_with job cmp key;
-  o = a.w.o;
   most = most_in_group job cmp key;
   pairs = pair_entries job;
   laws = join_pairs job cmp key;
   old = old;
-  unfailed = a.w.unfailed;
+  w = a.w;
 }
 
 -- the loop invariant
@@ -196,15 +189,7 @@ pub record IterationInvariant (job : Join) (cmp : Cmp) (key : Side → Key) (old
   pub own_reader : (side : Side) → IsReaderOf (both one two side) (now.reader side)
   pub clean : now.out.write_failed ≡ false
 
--- the postconditions of a call that ends with this result
-abbrev pub ExitPost : Join → Cmp → (Side → Key) → MergeState → MergeState → Result (Unit {0}) MergeFault → Type 0
-ExitPost job cmp key old new result = record {
-  merged : MergePost (join_with job cmp key) old new result;
-  unread_without_slots : length new.store.lines < 4 → IsMergeUnread old new;
-  slots : AddedAtLeast old.store new.store 4;
-}
-
--- the invariant and the postconditions depend only on the order, and a call leaves the order of a merge unchanged
+-- the invariant and the postcondition depend only on the order, and a call leaves the order of a merge unchanged
 module _ {K : Type 0} (order : K → Cmp) (key_of : K → Side → Key) {a b : K} where
   pub iteration_as : {job : Join} {old : MergeState} {phase : JoinPhase} {now : MergeState} {one two : Sorted} {end : ℕ}
       → b ≡ a → {c : K} → a ≡ c → IterationInvariant job (order a) (key_of a) old phase now one two end
@@ -212,7 +197,8 @@ module _ {K : Type 0} (order : K → Cmp) (key_of : K → Side → Key) {a b : K
   iteration_as is same t = record { iteration = rw is t; order = is ∙ same }
 
   pub exit_as : (job : Join) {old new : MergeState} {r : Result (Unit {0}) MergeFault}
-      → a ≡ b → ExitPost job (order a) (key_of a) old new r → ExitPost job (order b) (key_of b) old new r
+      → a ≡ b → MergePost (join_with job (order a) (key_of a)) old new r
+      → MergePost (join_with job (order b) (key_of b)) old new r
   exit_as job is l = rw (← is) l
 
 -- ---- the start
@@ -247,23 +233,8 @@ module _ {job : Join} {cmp : Cmp} {key : Side → Key} {old : MergeState} (a : I
       → StartErrPost key cmp (record { reader = old.reader; store = old.store })
       (record { reader = both first second; store = store }) fault
       → {r : Result (Unit {0}) MergeFault} → r ≡ Err fault
-      → ExitPost job cmp key old (merge_state first second old.out store) r
-  start_fails {first} {second} {store} {fault} cannot is_fault =
-      let adds = start_slots a.w cannot in
-      rw is_fault (record {
-        merged = start_fault a.w cannot;
-        unread_without_slots = start_unread a.w cannot;
-        slots = record { least = adds.least; all = λ fine. omega (arith, adds.all fine) };
-      })
-
--- the number of slots after the group could not be extended
-pub read_group_slots : {keep : Bool} {key : Key} {cmp : Cmp} {cursor next : Sorted} {was is : Reader}
-    {before after : Slots} {end : ℕ} (fault : MergeFault)
-    → ReadGroupLineErrPost keep key cmp cursor next was is before after end fault
-    → length before.lines ≤ length after.lines
-read_group_slots fault (inl e) = omega (arith, next_keeps_slot_count e.came, e.copy_failed.slots)
-read_group_slots {cursor = cursor} {was = was} {is = is} {before = before} {after = after} fault (inr e) =
-    omega (arith, next_error_keeps_slot_count Second cursor was is before after fault e)
+      → MergePost (join_with job cmp key) old (merge_state first second old.out store) r
+  start_fails cannot is_fault = rw is_fault (start_fault a.w cannot)
 
 module _ {job : Join} {cmp : Cmp} {key : Side → Key} {old : MergeState} {phase : JoinPhase} {now : MergeState}
     {one two : Sorted} {end : ℕ}
@@ -276,28 +247,13 @@ module _ {job : Join} {cmp : Cmp} {key : Side → Key} {old : MergeState} {phase
   pub slots : (side : Side) → HasSlots side (both one two side)
   slots = slots_of one two now.store t.valid_cursors
 
-  bounds : (p : JoinPhase) → PhaseInvariant call p now (both one two) end
-      → GroupSlotsExist old.store now.store end
-  bounds phases.BetweenGroups (r, at) = record { end_in = omega (arith, at, r.keeps.four); least = r.keeps.least }
-  bounds phases.ReadGroup r =
-      record { end_in = (omega (arith, r.q.at), end_within r.q.keeps r.q.at); least = r.q.keeps.least }
-  bounds phases.WritePairs r =
-      record { end_in = (omega (arith, r.q.at), end_within r.q.keeps r.q.at); least = r.q.keeps.least }
-
   pub end_in : (4 ≤ end) × (end ≤ length now.store.lines)
-  end_in = (bounds phase t.phased).end_in
-
-  pub exit_post : {new : MergeState} {fault : Result (Unit {0}) MergeFault} {r : Result (Unit {0}) MergeFault}
-      → r ≡ fault → length now.store.lines ≤ length new.store.lines
-      → MergePost (join_with job cmp key) old new fault → ExitPost job cmp key old new r
-  exit_post is more merged = record {
-    merged = rw is merged;
-    unread_without_slots = λ few. absurd (omega (arith, few, more, t.valid_cursors.slots));
-    slots = record {
-      least = omega (arith, more, (bounds phase t.phased).least);
-      all = λ allowed. omega (arith, more, t.valid_cursors.slots);
-    };
-  }
+  end_in = by phase t.phased
+    where
+      by : (p : JoinPhase) → PhaseInvariant call p now (both one two) end → (4 ≤ end) × (end ≤ length now.store.lines)
+      by phases.BetweenGroups (r, at) = omega (arith, at, r.keeps.four)
+      by phases.ReadGroup r = (omega (arith, r.q.at), end_within r.q.keeps r.q.at)
+      by phases.WritePairs r = (omega (arith, r.q.at), end_within r.q.keeps r.q.at)
 
   pub iteration_continues : {next : JoinPhase} (s : Side) {one2 two2 : Sorted} {reader : Reader} {after : Slots}
       {new : Output} {to : ℕ} → IsReadyToContinue key s one two one2 two2 reader after new
@@ -353,7 +309,7 @@ module _ {job : Join} {cmp : Cmp} {key : Side → Key} {old : MergeState} {phase
         (pushed : PushEffect now.out new (unlines (now.reader s).terminator
         (unpaired_entry job s (head_of now (both one two) s)))) where
       wrote_unpaired : MergeInvariant (join_with job cmp key) r.b (with_side s (r.ls s) r.p) old.out new
-          × LagInvariant (join_with job cmp key) r.b (with_side s (r.ls s) r.p) old.out new
+          × AllWritten (join_with job cmp key) r.b (with_side s (r.ls s) r.p) old.out new
       wrote_unpaired =
           let x = head_of now (both one two) s in
           let h = at_current_line (r.sides s) step.status_is in
@@ -375,9 +331,8 @@ module _ {job : Join} {cmp : Cmp} {key : Side → Key} {old : MergeState} {phase
 
       pub alone_fails : {reader : Reader} {after : Slots} {fault : MergeFault} {r : Result (Unit {0}) MergeFault}
           → r ≡ Err fault → AdvanceErrPost s (both one two s) (now.reader s) reader now.store after new fault
-          → ExitPost job cmp key old (state_after_read now s reader new after) r
-      alone_fails {fault = fault} is_fault h = exit_post is_fault
-          (omega (arith, advance_keeps_slot_count s (both one two s) fault h))
+          → MergePost (join_with job cmp key) old (state_after_read now s reader new after) r
+      alone_fails is_fault h = rw is_fault
           (iteration_fails t.opened.w stood_at s step.status_is wrote_unpaired (put_same s (r.ls s) r.p)
           (rw (put_other s (r.ls s) r.p) (read_facts_current t.opened.w stood_at (other s))) h)
 
@@ -436,14 +391,12 @@ module _ {job : Join} {cmp : Cmp} {key : Side → Key} {old : MergeState} {phase
     -- the end of the loop
     module _ {after : Slots} (clear : ClearFourSlotsPost now.store after) where
       pub eof : ((side : Side) → (both one two side).status ≡ Ended)
-          → ExitPost job cmp key old (record now { store = after }) (Ok tt)
-      eof step = exit_post refl (omega (arith, clear.slots))
-          (ends_well t.opened.w stood_at r.merge_invariant t.clean clear step)
+          → MergePost (join_with job cmp key) old (record now { store = after }) (Ok tt)
+      eof step = ends_well t.opened.w stood_at r.merge_invariant t.clean clear step
 
       pub disordered : {s : Side} {n : ℕ} → IsDisorderDecided cmp key (both one two) now.store s n
-          → ExitPost job cmp key old (record now { store = after }) (Err (faults.Disorder s n))
-      disordered step = exit_post refl (omega (arith, clear.slots))
-          (ends_fallen t.opened.w stood_at r.merge_invariant t.clean clear step)
+          → MergePost (join_with job cmp key) old (record now { store = after }) (Err (faults.Disorder s n))
+      disordered step = ends_fallen t.opened.w stood_at r.merge_invariant t.clean clear step
 
   -- ---- reading the group
 
@@ -601,57 +554,54 @@ module _ {job : Join} {cmp : Cmp} {key : Side → Key} {old : MergeState} {phase
             slots = next_slots at_second comes;
             at_key = record { head = (a.heads First).head; is = key1_on comes made (λ i low. refl) };
           } in
-          front_is_not_all o old (state_after_read now Second reader out made)
-          {now = with_side Second reader now.reader} {piece = λ side. []} {ls = q.ls} (within_more first)
-          (elim [
-            | First ↦ passing first (now.reader First) [] (reads_nothing (now.reader First)) tt
-                (q.sides First).sound First
-            | Second ↦ group_read_facts q Second
-          ])
+          front_is_not_all call.w (within_more first) (state_after_read now Second reader out made) (passing_now first)
           all w (has_entries call (within_more first) keeps
           (elim [ First ↦ omega arith | Second ↦ omega (arith, length_push a.g y) ]))
 
       -- a line could not be copied, or the next one could not be read
-      read_group_fault : {two2 : Sorted} {reader : Reader} {after : Slots} → out.write_failed ≡ false
-          → (fault : MergeFault)
-          → ReadGroupLineErrPost call.keeps_groups (key Second) cmp two two2 (now.reader Second) reader now.store after
-          end fault → MergePost (join_with job cmp key) old (state_after_read now Second reader out after) (Err fault)
-      read_group_fault fine fault (inl e) =
-          let q = (on_second e.came).group in
-          rw e.memory (group_exit o _ _ q.within (group_read_facts q) (starts_none call q.within)
-          (rw (call.laws.none a.k (a.g ++ y ∷ [])) at q.wrote) (group_begun q)
-          (record { denied = e.copy_failed.denied; failed = none_failed q; clean = fine })
-          (λ side. not_failed call side (none_failed q side)) (λ input pushed. tt)
-          (λ four. inr (e.keeps, pairs_are_missing e.came e.keeps)) (λ all w.
-          let size = size_of call q.keeps all (λ side. omega (arith, (w side).longest)) (extends (w Second)) in
-          let (_, many) = call.laws.largest e.keeps _ _ (inside e.came (w Second).continues.more) in
-          let all_is = ap call.most.lines (w Second).continues.is in (
-            omega (arith, e.copy_failed.peak, size),
-            omega (
-              arith,
-              e.copy_failed.most,
-              q.at,
-              ap length (all_copied e.keeps),
-              size,
-              many,
-              all_is,
-              call.laws.slots all,
-              length_push a.g y,
-            ),
-          )))
-      read_group_fault {reader = reader} fine fault (inr e) =
-          group_breaks at_second (starts_none call (within_more at_second)) wrote_none reader fault (inr (fine, e))
-
       pub read_group_fails : {two2 : Sorted} {reader : Reader} {after : Slots} {fault : MergeFault}
-          {r : Result (Unit {0}) MergeFault}
-          → r ≡ Err fault
+          {r : Result (Unit {0}) MergeFault} → r ≡ Err fault
           → ReadGroupLinePost call.keeps_groups (key Second) cmp two two2 (now.reader Second) reader now.store after out
-          end (Err fault) → ExitPost job cmp key old (state_after_read now Second reader out after) r
-      read_group_fails {reader = reader} {fault = fault} is_fault (inl e) = exit_post is_fault
-          (omega (arith, advance_keeps_slot_count Second two fault (inl e)))
-          (group_breaks at_second (starts_none call (within_more at_second)) wrote_none reader fault (inl e))
-      read_group_fails {fault = fault} is_fault (inr (fine, e)) =
-          exit_post is_fault (read_group_slots fault e) (read_group_fault fine fault e)
+          end (Err fault) → MergePost (join_with job cmp key) old (state_after_read now Second reader out after) r
+      read_group_fails is_fault (inl e) =
+          rw is_fault (group_breaks at_second (starts_none call (within_more at_second)) wrote_none (inl e))
+      read_group_fails is_fault (inr (fine, inr e)) =
+          rw is_fault (group_breaks at_second (starts_none call (within_more at_second)) wrote_none (inr (fine, e)))
+      read_group_fails {reader = reader} {after} is_fault (inr (fine, inl e)) =
+          let q = (on_second e.came).group in
+          let new = state_after_read now Second reader out after in
+          let lag = group_written call.w q.within [] (rw (call.laws.none a.k (a.g ++ y ∷ [])) at q.wrote) in
+          let first : ComeFirst call.tool (with_side Second reader now.reader) q.ls
+          (entries_by_key call.tool all_keys q.p ++ []) =
+          λ all more. group_comes_first call.w q.within new (group_read_facts q) all more
+          (starts_none call q.within) in
+          rw (is_fault, e.memory) (exit_is_merge_post call.w new _ _ _ _ _ (group_read_facts q) lag first (λ all more.
+          let size = size_of call q.keeps all (λ side. omega (arith, (more side).longest)) (extends (more Second)) in
+          let (_, many) = call.laws.largest e.keeps _ _ (inside e.came (more Second).continues.more) in
+          omega (
+            arith,
+            e.copy_failed.peak,
+            e.copy_failed.slots,
+            e.copy_failed.most,
+            q.at,
+            ap length (all_copied e.keeps),
+            size,
+            many,
+            ap call.most.lines (more Second).continues.is,
+            call.laws.slots all,
+            length_push a.g y,
+          )) (both_begun (group_begun q)) (λ side fail. cc (none_failed q side, call.w.unfailed side)) (Err Memory)
+          (record {
+            denied = e.copy_failed.denied;
+            unfailed = λ side read. none_failed q side;
+            clean = fine;
+            left = λ four. inr (
+              e.keeps,
+              λ texts agree same. pairs_are_missing e.came e.keeps (lines_of call.tool texts)
+                  (continues call.w new _ _ _ _ _ (group_read_facts q) texts agree)
+                  (none_missing call.w new _ _ _ _ _ (group_read_facts q) lag first texts agree same),
+            );
+          }))
 
   -- ---- writing pairs
 
@@ -731,10 +681,8 @@ module _ {job : Join} {cmp : Cmp} {key : Side → Key} {old : MergeState} {phase
 
       pub pair_fails : {reader : Reader} {after : Slots} {fault : MergeFault} {r : Result (Unit {0}) MergeFault}
           → r ≡ Err fault → AdvanceErrPost First one (now.reader First) reader now.store after new fault
-          → ExitPost job cmp key old (state_after_read now First reader new after) r
-      pair_fails {reader} {fault = fault} is_fault h = exit_post is_fault
-          (omega (arith, advance_keeps_slot_count First one fault h))
-          (group_breaks at_first pairs_begin wrote_more reader fault h)
+          → MergePost (join_with job cmp key) old (state_after_read now First reader new after) r
+      pair_fails is_fault h = rw is_fault (group_breaks at_first pairs_begin wrote_more h)
 
       module _ {one2 two2 : Sorted} {reader : Reader} {after : Slots}
           (h : AdvanceOkPost key cmp First one two one2 two2 (now.reader First) reader now.store after new) where

@@ -2,34 +2,33 @@
 -- others are known for each input, and the contract of the tool follows from these and from the output.
 use Rattle.ptmerge.proofs.Common.{◌≡◌, ◌≢◌, inl, inr, ℕ, ◌+◌, ◌<◌, ◌≤◌, ◌&&◌, Bool, true, false, cond, List, [], ◌∷◌}
 use Rattle.ptmerge.proofs.Common.{◌++◌, Option, Some, None, length, refl, sym, ◌∙◌, ap, subst, arith, nat_lt, bytes_eq}
-use Rattle.ptmerge.proofs.Common.{Ordering, is_eq, is_gt, nat_tests, append-nil, length_push, FillLine}
-use Rattle.ptmerge.proofs.Common.{Reader, IsDone, IsSound, budget, Slots, line, with_line, max_length}
-use Rattle.ptmerge.proofs.Common.{line_of_with_line, Sorted, CursorStatus, Head, Ended, Disorder, Lines, Cmp, Key}
-use Rattle.ptmerge.proofs.Common.{is_head, status_at, same_key_at, NextOkPost, Result, Ok, Err, max, Received}
-use Rattle.ptmerge.proofs.Common.{known_lines, Output, ReaderAdvance, unlines, ◌⊎◌, ⊎_elim, length-append, Memory}
-use Rattle.ptmerge.proofs.Common.{lines, IsLine, received_with, has_received, has_received_set, cause_set}
-use Rattle.ptmerge.proofs.Common.{advance_trans, append_assoc, PushEffect, push_trans, push_nothing, bounded_lag_after}
-use Rattle.ptmerge.proofs.Common.{unlines-append, MergeFault, Read, Write, Side, First, Second, MergeTool}
-use Rattle.ptmerge.proofs.Common.{entries_by_key, decided_output, disorder, first_disorder, lines_of}
-use Rattle.ptmerge.proofs.Common.{merge_output, merged_entries, sorted_prefix, is_up_to, MergeState, AreConsistent}
-use Rattle.ptmerge.proofs.Common.{MergeEndPost, MergePost, IsMergeUnread, IsExactMerge, IsUnreadWithoutSlots, HasNoLine}
-use Rattle.ptmerge.proofs.Common.{with_terminator, other, with_side}
-use Rattle.ptmerge.proofs.Common.{terminator, Bool, cond}
+use Rattle.ptmerge.proofs.Common.{Ordering, is_eq, is_gt, nat_tests, append-nil, length_push, FillLine, Reader, IsDone}
+use Rattle.ptmerge.proofs.Common.{IsSound, budget, Slots, line, with_line, max_length, line_of_with_line, Sorted}
+use Rattle.ptmerge.proofs.Common.{CursorStatus, Head, Ended, Disorder, Lines, Cmp, Key, is_head, status_at, same_key_at}
+use Rattle.ptmerge.proofs.Common.{NextOkPost, Result, Err, max, Received, known_lines, Output, ReaderAdvance, unlines}
+use Rattle.ptmerge.proofs.Common.{◌⊎◌, ⊎_elim, length-append, Memory, lines, IsLine, advance_trans, append_assoc}
+use Rattle.ptmerge.proofs.Common.{push_trans, bounded_lag_after, unlines-append, MergeFault, Write, Side, First, Second}
+use Rattle.ptmerge.proofs.Common.{MergeTool, entries_by_key, decided_output, disorder, first_disorder, lines_of}
+use Rattle.ptmerge.proofs.Common.{merge_output, merged_entries, sorted_prefix, is_up_to, MergeState, MergePost}
+use Rattle.ptmerge.proofs.Common.{HasNoLine, other, reads_nothing, EnsureFourSlotsErrPost, ◌*◌, option_map, CallEnd}
+use Rattle.ptmerge.proofs.Common.{ReadFault, CallOutcome, AreAllConsistent, with_input, given_before, given_by}
+use Rattle.ptmerge.proofs.Common.{CallProgress, DecidedIfReadFailed, call_on_failed_output, IsPrefix, total_bytes}
+use Rattle.ptmerge.proofs.Common.{both_sides, merge_engine, merge_end, disordered_line}
+use Rattle.ptlines.proofs.Calls.{call_ends, call_set, call_without_slots}
 use Rattle.ptmerge.proofs.MergeLemmas.Lag.{ProcessedNearly, LinesToCome, LagPoint, back, decided_of_passed, unsettled}
-use Rattle.ptmerge.proofs.MergeLemmas.Lag.{lag_bound}
+use Rattle.ptmerge.proofs.MergeLemmas.Lag.{lag_bound, unread_decides_nothing, unread_decides_no_disorder}
 use Rattle.ptmerge.proofs.MergeLemmas.Invariant.{Bound, NoBound, AtLeast, AfterDisorder, NothingMore, MayFollow}
 use Rattle.ptmerge.proofs.MergeLemmas.Invariant.{IsUnder, IsSortedUpTo, sorted_up_to_more, is_disordered}
 use Rattle.ptmerge.proofs.MergeLemmas.Invariant.{IsProcessedPrefix, processed_before_line, processed_all}
 use Rattle.ptmerge.proofs.MergeLemmas.Invariant.{processed_to_disorder, processed_to_line, LagInvariant, MergeInvariant}
 use Rattle.ptmerge.proofs.MergeLemmas.Invariant.{InputSplit, IsExactStop, is_continuation, past_none, input_split}
-use Rattle.ptmerge.proofs.MergeLemmas.Invariant.{all_keys, under_fall}
+use Rattle.ptmerge.proofs.MergeLemmas.Invariant.{all_keys, under_fall, sorted_after}
 use Rattle.ptmerge.proofs.MergeLemmas.LinesRead.{LinesRead, HoldsLines, HasBegun, begun_gives_line, one_line_and_block}
 use Rattle.ptmerge.proofs.MergeLemmas.LinesRead.{lines_read_more, lines_read_eof, Continues, KnownLines}
-use Rattle.ptmerge.proofs.MergeLemmas.LinesRead.{lines_read_known, lines_read_of_input, lines_read_none, reads_nothing}
+use Rattle.ptmerge.proofs.MergeLemmas.LinesRead.{lines_read_known, lines_read_of_input}
 use Rattle.ptmerge.proofs.MergeLemmas.Orders.{EachKey, EachKey-weaker, IsKeyOrder, AtMost, at_most_trans, equal_is}
 use Rattle.ptlines.proofs.MaxLength.{max_length-append}
 use Rattle.ptmerge.proofs.MergeLemmas.Slots.{line_other}
-use Rattle.ptmerge.specs.declared.faults.MergeFault.TheVariants as faults
 
 -- The lines `ls` are read and `p` of them are processed: the last one is the current line, or there is none, or it is
 -- out of order.
@@ -290,35 +289,37 @@ next_same_key cmp o key cursor next now new before after some within (inr e) = r
 abbrev pub state_by_side : (Side → Reader) → Output → Slots → MergeState
 state_by_side reader out store = record { reader = reader; out = out; store = store }
 
+-- all lines read are processed
+processed_after : {cmp : Cmp} (o : IsKeyOrder cmp) {key : Key} {ls : Lines} (last : Option (List ℕ))
+    → IsSortedUpTo cmp key ls last → IsProcessedPrefix cmp key ls ls (bound_after last)
+processed_after {cmp} o {key} None sorted_up_to = record {
+  future = λ w _. record {
+    rest = sorted_after cmp key None w;
+    is = sorted_up_to.ordered w;
+    may_follow = tt;
+    may_disorder = tt;
+  };
+}
+processed_after o (Some k) sorted_up_to = processed_to_line o sorted_up_to
+
 -- an input whose lines are all processed, and a piece of a further line
 pub read_facts_after_line : {end : ℕ} {cmp : Cmp} (o : IsKeyOrder cmp) {key : Key} {old now new : Reader}
-    {piece : List ℕ} {ls : Lines} {k : List ℕ} → LinesRead end old now ls
-    → ReaderAdvance now new piece → IsLine now.terminator piece → IsSound new → IsSortedUpTo cmp key ls (Some k)
-    → ReadFacts end cmp key old now new piece ls ls (AtLeast k)
-read_facts_after_line o lines_read reads is_line sound sorted_up_to = record {
+    {piece : List ℕ} {ls : Lines} (last : Option (List ℕ)) → LinesRead end old now ls
+    → ReaderAdvance now new piece → IsLine now.terminator piece → IsSound new → IsSortedUpTo cmp key ls last
+    → ReadFacts end cmp key old now new piece ls ls (bound_after last)
+read_facts_after_line o last lines_read reads is_line sound sorted_up_to = record {
   lines_read = lines_read;
   reads = reads;
   line = is_line;
   sound = sound;
   processed_nearly = inl refl;
-  processed_prefix = processed_to_line o sorted_up_to;
-  nothing_follows = λ e. cc;
+  processed_prefix = processed_after o last sorted_up_to;
+  nothing_follows = not_at_end last;
 }
-
--- an input of which no line was read
-pub read_facts_at_start : {end : ℕ} {cmp : Cmp} {key : Key} {old new : Reader} {piece : List ℕ} → old.fault ≡ None
-    → old.terminator ≡ end → ReaderAdvance old new piece
-    → IsLine old.terminator piece → IsSound new → ReadFacts end cmp key old old new piece [] [] NoBound
-read_facts_at_start {cmp = cmp} {key} clean terminator reads line sound = record {
-  lines_read = lines_read_none clean terminator;
-  reads = reads;
-  line = line;
-  sound = sound;
-  processed_nearly = inl refl;
-  processed_prefix = record
-      { future = λ w _. record { rest = sorted_prefix cmp key w; is = refl; may_follow = tt; may_disorder = tt } };
-  nothing_follows = λ e. cc;
-}
+  where
+    not_at_end : (last : Option (List ℕ)) {X : Type 0} → bound_after last ≡ NothingMore → X
+    not_at_end None e = cc
+    not_at_end (Some k) e = cc
 
 -- reading an input failed after all its lines were processed
 pub record IsFailedRead (cmp : Cmp) (key : Key) (new : Reader) (ls p : Lines) : Type 0 where
@@ -328,31 +329,22 @@ pub record IsFailedRead (cmp : Cmp) (key : Key) (new : Reader) (ls p : Lines) : 
   pub last : Option (List ℕ)
   pub sorted_up_to : IsSortedUpTo cmp key p last
 
--- the store never held more bytes than the measure of these lines, and has no more slots
+-- the store never held more bytes than the measure of these lines, and has no more slots; it has the first four, and
+-- those that it had
 abbrev pub FitsIn : MergeTool → Slots → Slots → (Side → Lines) → Type 0
 FitsIn tool before after ls =
     (after.peak ≤ max before.peak (tool.size ls)) × (length after.lines ≤ max (length before.lines) (tool.slots ls))
+    × (max (length before.lines) 4 ≤ length after.lines)
 
 -- this holds for all lists that continue these lines and pieces
 abbrev pub Fits : MergeTool → Slots → (Side → Reader) → (Side → Lines) → (Side → List ℕ) → Slots → Type 0
 Fits tool before now ls piece after = (all : Side → Lines)
     → ((side : Side) → HoldsLines (now side) (ls side) (piece side) (all side)) → FitsIn tool before after all
 
--- the knowledge about unread lines that each result requires
-abbrev pub IsExactExit : MergeTool → MergeState → (Side → Bound) → Result (Unit {0}) MergeFault → Type 0
-IsExactExit tool new b (Ok u) = (side : Side) → b side ≡ NothingMore
-IsExactExit tool new b (Err (faults.Disorder side number)) = IsExactStop tool b side number
-IsExactExit tool new b (Err Memory) = 4 ≤ length new.store.lines → (side : Side) × ¬ IsDone (new.reader side)
-IsExactExit tool new b other = Unit {0}
-
--- After a memory fault, if the output is that of the entries `done`: an input is not at its end, or entries are missing
--- for all lists that continue the lines read.
-abbrev pub LeavesWork : MergeTool → MergeState → (Side → Reader) → (Side → Lines) → Lines → Result (Unit {0}) MergeFault
-    → Type 0
-LeavesWork tool new now ls done (Err Memory) = 4 ≤ length new.store.lines → ((side : Side) × ¬ IsDone (new.reader side))
-    ⊎ ((tool.keeps_groups ≡ true) × ((all : Side → Lines) → ((side : Side) → Continues (now side) (ls side) (all side))
-    → ¬ (merged_entries tool all ≡ done)))
-LeavesWork tool new now ls done other = Unit {0}
+-- the entries `done` come first, for all lists that continue the lines read
+abbrev pub ComeFirst : MergeTool → (Side → Reader) → (Side → Lines) → Lines → Type 0
+ComeFirst tool now ls done = (all : Side → Lines) → ((side : Side) → Continues (now side) (ls side) (all side))
+    → (rest : Lines) × (merged_entries tool all ≡ done ++ rest)
 
 -- The order of the first reads: the first input has begun, or the second is unread; and the second has begun, or at
 -- most one line of the first was read.
@@ -376,31 +368,68 @@ no_lines_left end done (x ∷ rest) same = absurd (omega (
   length_push x end,
 ))
 
-module _ (tool : MergeTool) (o : IsKeyOrder tool.cmp) (old new : MergeState) (now : Side → Reader)
+-- the measure of a tool that stores two lines of each input
+abbrev pub HoldsTwoLines : MergeTool → Type 0
+HoldsTwoLines tool = (ls : Side → Lines)
+    → (2 * max_length (ls First) + 2 * max_length (ls Second) ≤ tool.size ls) × (4 ≤ tool.slots ls)
+
+-- the conditions at the start
+pub record IsOpenMerge (tool : MergeTool) (old : MergeState) : Type 0 where
+  pub o : IsKeyOrder tool.cmp
+  pub fits : HoldsTwoLines tool
+  pub terminator : (side : Side) → (old.reader side).terminator ≡ tool.terminator
+  pub sound : (side : Side) → IsSound (old.reader side)
+  pub readable : (side : Side) → (old.reader side).fault ≡ None
+  pub unfailed : (side : Side) → (old.reader side).failed ≡ false
+  pub writable : old.out.write_failed ≡ false
+  pub allowed : old.store.denied ≡ false
+  pub empty : total_bytes old.store.lines ≡ 0
+
+-- the facts of both inputs
+abbrev pub ReadFactsOf : MergeTool → MergeState → (Side → Reader) → (Side → Reader) → (Side → List ℕ) → (Side → Lines)
+    → (Side → Lines) → (Side → Bound) → Side → Type 0
+ReadFactsOf tool old now new piece ls p b side =
+    ReadFacts tool.terminator tool.cmp (tool.key side) (old.reader side) (now side) (new side) (piece side) (ls side)
+    (p side) (b side)
+
+module _ {tool : MergeTool} {old : MergeState} (w : IsOpenMerge tool old) (new : MergeState) (now : Side → Reader)
     (piece : Side → List ℕ) (ls p : Side → Lines) (b : Side → Bound)
-    (g : (side : Side) → ReadFacts tool.terminator tool.cmp (tool.key side) (old.reader side) (now side)
-    (new.reader side) (piece side) (ls side) (p side) (b side)) where
+    (g : (side : Side) → ReadFactsOf tool old now new.reader piece ls p b side) where
   open tool use {cmp, key}
 
+  abbrev pub took : Side → List ℕ
+  took side = (g side).lines_read.given ++ piece side
+
   abbrev pub given : Side → Received
-  given side = received_with ((g side).lines_read.given ++ piece side) (new.reader side)
+  given = given_by new took
 
   pub input_split_of : (all : Side → Lines) → ((side : Side) → Continues (now side) (ls side) (all side))
       → InputSplit tool b p all
-  input_split_of all w =
-      let rest = λ (side : Side). (g side).processed_prefix.future (w side).more
-      (is_continuation (b side) (w side).more (λ e. (w side).done ((g side).nothing_follows e))) in
+  input_split_of all more =
+      let rest = λ (side : Side). (g side).processed_prefix.future (more side).more
+      (is_continuation (b side) (more side).more (λ e. (more side).done ((g side).nothing_follows e))) in
       record {
         r = λ side. (rest side).rest;
-        parts = λ side. ap (sorted_prefix cmp (key side)) (w side).is ∙ (rest side).is;
+        parts = λ side. ap (sorted_prefix cmp (key side)) (more side).is ∙ (rest side).is;
         may_follow = λ side. (rest side).may_follow;
-        may_disorder = λ side. rw (w side).is (rest side).may_disorder;
+        may_disorder = λ side. rw (more side).is (rest side).may_disorder;
       }
 
-  input_lines : (input : Side → List ℕ) → AreConsistent given input → (side : Side)
-      → HoldsLines (now side) (ls side) (piece side) (lines tool.terminator (input side))
-  input_lines input a side = lines_read_of_input _ _ _ _ _ _ (g side).lines_read (g side).reads (g side).line
-      (input side) (a side)
+  -- the entries of the processed lines come first
+  pub processed_come_first : {was is : Output} → MergeInvariant tool b p was is
+      → ComeFirst tool now ls (entries_by_key tool all_keys p)
+  processed_come_first m all more =
+      let s = input_split_of all more in
+      (entries_by_key tool (is_up_to cmp (disorder tool all)) s.r, input_split w.o m s)
+
+  input_lines : (texts : Side → List ℕ) → AreAllConsistent both_sides given texts → (side : Side)
+      → HoldsLines (now side) (ls side) (piece side) (lines tool.terminator (texts side))
+  input_lines texts agree side = lines_read_of_input _ _ _ _ _ _ (g side).lines_read (g side).reads (g side).line
+      (texts side) (agree side refl)
+
+  pub continues : (texts : Side → List ℕ) → AreAllConsistent both_sides given texts → (side : Side)
+      → Continues (now side) (ls side) (lines tool.terminator (texts side))
+  continues texts agree side = (input_lines texts agree side).continues
 
   known : (side : Side) → KnownLines tool.terminator (old.reader side) (now side) (new.reader side) (ls side)
       (piece side) (g side).lines_read (g side).reads (g side).line (known_lines tool.terminator (given side))
@@ -413,220 +442,189 @@ module _ (tool : MergeTool) (o : IsKeyOrder tool.cmp) (old new : MergeState) (no
   backs side = back _ _ _ _ _ _ (new.reader side) (g side).lines_read.so_far
       (rw (g side).lines_read.terminator at (g side).line) (g side).sound.buffered (g side).processed_nearly
 
-  -- The entries of the lines `front` were written by a time at which no write had failed, and then `bytes`; the
-  -- processed lines are `front` followed by `tail`.
-  module _ (front tail : Side → Lines) (bound : Side → Bound) (split : (side : Side) → p side ≡ front side ++ tail side)
-      (under : (of side : Side) → EachKey (IsUnder cmp (bound of)) (key side) (p side))
-      (before : (of side : Side) → EachKey (IsUnder cmp (b of)) (key side) (p side))
-      (may_follow : (side : Side) (r : Lines) → MayFollow cmp (key side) (b side) r
-      → MayFollow cmp (key side) (bound side) (tail side ++ r))
-      {mid : Output} (clean : mid.write_failed ≡ false) (wrote : PushEffect old.out mid
-      (unlines tool.terminator (entries_by_key tool all_keys front))) {bytes : List ℕ}
-      (more : PushEffect mid new.out bytes) where
+  -- the output and the disorder of all possible inputs
+  pub exact_output : {was is : Output} {found : Option (Side × ℕ)} → MergeInvariant tool b p was is
+      → IsExactStop tool b found → (texts : Side → List ℕ) → AreAllConsistent both_sides given texts
+      → (unlines tool.terminator (entries_by_key tool all_keys p) ≡ merge_output tool texts)
+      × (option_map disordered_line (disorder tool (lines_of tool texts)) ≡ found)
+  exact_output m stop texts agree =
+      let s = input_split_of (lines_of tool texts) (continues texts agree) in
+      let (none, found) = stop (lines_of tool texts) s.r s.may_follow s.may_disorder in
+      let done = entries_by_key tool all_keys p in
+      (cc (ap (unlines tool.terminator) (input_split w.o m s), none, append-nil done), found)
+
+  module _ {done : Lines} (lag : LagInvariant tool b p old.out new.out done) (first : ComeFirst tool now ls done) where
+    open lag use {front, tail, bound, bytes}
+
+    -- if no bytes are missing in the output, no entry is
+    pub none_missing : (texts : Side → List ℕ) → AreAllConsistent both_sides given texts
+        → unlines tool.terminator done ≡ merge_output tool texts → merged_entries tool (lines_of tool texts) ≡ done
+    none_missing texts agree same =
+        let (rest, is) = first (lines_of tool texts) (continues texts agree) in
+        cc (is, append-nil done, no_lines_left tool.terminator done rest (same ∙ ap (unlines tool.terminator) is))
+
     future : (side : Side) → LinesToCome tool side (known_lines tool.terminator (given side)) (p side) (tail side)
         (bound side)
     future side =
-        let w = whole_input_split in
-        record { rest = w.r side; is = w.parts side; may_follow = may_follow side (w.r side) (w.may_follow side) }
+        let s = whole_input_split in
+        record { rest = s.r side; is = s.parts side; may_follow = lag.may_follow side (s.r side) (s.may_follow side) }
 
-    pub exit_facts : (done : Lines) → unlines tool.terminator (entries_by_key tool all_keys front) ++ bytes ≡ unlines
-        tool.terminator done → {result : Result (Unit {0}) MergeFault} → MergeEndPost old new result
-        → ((all : Side → Lines) → ((side : Side) → Continues (now side) (ls side) (all side))
-        → (rest : Lines) × (merged_entries tool all ≡ done ++ rest))
-        → ((side : Side) → (new.reader side).failed ≡ true → IsFailedRead cmp (key side) (new.reader side) (ls side)
-        (p side))
-        → ((input : Side → List ℕ) → AreConsistent given input
-        → IsExactMerge tool input (unlines tool.terminator done) result)
-        → FirstReads tool.terminator old.reader now new.reader ls piece
-        → LeavesWork tool new now ls done result → Fits tool old.store now ls piece new.store
-        → MergePost tool old new result
-    exit_facts done is ends all failed is_exact order left fits = record {
-      given = given;
-      came = λ side. has_received (old.reader side) (new.reader side) ((g side).lines_read.given ++ piece side)
-          (advance_trans _ _ _ _ _ (g side).lines_read.advance_ok.reads (g side).reads);
-      pushed = unlines tool.terminator done;
-      wrote = rw is at (push_trans _ _ _ _ _ clean wrote more);
-      ends = ends;
-      is_prefix = λ input a.
-          let (rest, is) = all (lines_of tool input) (λ side. (input_lines input a side).continues) in
+    -- everything is decided once the last line of an input is processed
+    decided : (side : Side) → IsFailedRead cmp (key side) (new.reader side) (ls side) (p side)
+        → IsPrefix (decided_output tool given) (unlines tool.terminator done)
+    decided side f =
+        let e = (known side).exact f.buffered f.eof ∙ f.all in
+        let b = decided_of_passed tool w.o (λ s. (new.reader s).eof) (λ s. known_lines tool.terminator (given s))
+        side f.eof (cc (e, append-nil (p side), f.sorted_up_to.may_disorder [])) front
+        (λ s. record {
+          rest = [];
+          tail = tail s ++ (future s).rest;
+          same = cc (
+            append-nil (sorted_prefix cmp (key s) (known_lines tool.terminator (given s))),
+            (future s).is,
+            lag.split s,
+            append_assoc (front s) (tail s) (future s).rest,
+          );
+          none_rest = tt;
+          none_tail = rw e (past_none cmp w.o (key side) (key s) (bound s) (p side) (tail s ++ (future s).rest)
+              (lag.under_bound s side) (future s).may_follow);
+        }) in
+        rw (← lag.all) (record {
+          rest = b.rest ++ bytes;
+          is = cc (b.is, append_assoc (decided_output tool given) b.rest bytes);
+        })
+
+    progress : Fits tool old.store now ls piece new.store
+        → CallProgress both_sides (merge_engine tool) old new took (unlines tool.terminator done)
+    progress fits = record {
+      reads = λ side read. advance_trans _ _ _ _ _ (g side).lines_read.advance_ok.reads (g side).reads;
+      untouched = λ side none. cc;
+      never_failed = λ side read. w.unfailed side;
+      writable = w.writable;
+      wrote = rw lag.all at (push_trans _ _ _ _ _ lag.clean lag.wrote lag.more);
+      is_prefix = λ texts agree.
+          let (rest, is) = first (lines_of tool texts) (continues texts agree) in
           record {
             rest = unlines tool.terminator rest;
             is = ap (unlines tool.terminator) is ∙ unlines-append tool.terminator done rest;
           };
-      -- everything is decided once the last line of an input is processed
-      decided_is_written = λ side fail clean_now.
-          let f = failed side fail in
-          let e = (known side).exact f.buffered f.eof ∙ f.all in
-          let b = decided_of_passed tool o (λ s. (new.reader s).eof) (λ s. known_lines tool.terminator (given s))
-          side f.eof (cc (e, append-nil (p side), f.sorted_up_to.may_disorder [])) front
-          (λ s. record {
-            rest = [];
-            tail = tail s ++ (future s).rest;
-            same = cc (
-              append-nil (sorted_prefix cmp (key s) (known_lines tool.terminator (given s))),
-              (future s).is,
-              split s,
-              append_assoc (front s) (tail s) (future s).rest,
-            );
-            none_rest = tt;
-            none_tail = rw e (past_none cmp o (key side) (key s) (bound s) (p side) (tail s ++ (future s).rest)
-                (under s side) (future s).may_follow);
-          }) in
-          record {
-            rest = b.rest ++ bytes;
-            is = cc (b.is, append_assoc (decided_output tool given) b.rest bytes);
-          };
       -- everything was written that was decided two blocks of an input earlier
-      bounded_lag = λ of clean_then. rw is at (bounded_lag_after (λ came. decided_output tool
-          (with_side of (came tt) given)) (λ u. given of) old.out mid
+      bounded_lag = λ of read. rw lag.all at (bounded_lag_after (λ came. decided_output tool
+          (with_input both_sides of (came tt) given)) (λ u. given of) old.out lag.mid
           (unlines tool.terminator (entries_by_key tool all_keys front))
-          (lag_bound tool o given front _ tail _ backs split under future of) wrote clean new.out bytes more);
-      -- no disorder was decided then
+          (lag_bound tool w.o given front _ tail _ backs lag.split lag.under_bound future of) lag.wrote lag.clean
+          new.out bytes lag.more);
+      peak = λ texts agree. (let (peak, _, _) = fits (lines_of tool texts) (input_lines texts agree) in peak);
+      slots = λ texts agree. (let (_, slots, _) = fits (lines_of tool texts) (input_lines texts agree) in slots);
+      least = omega (arith, has);
+      room = omega (arith, has);
+    }
+      where
+        shortest : Side → List ℕ
+        shortest side = (given side).bytes
+
+        has : max (length old.store.lines) 4 ≤ length new.store.lines
+        has =
+            let agree : AreAllConsistent both_sides given shortest =
+            λ side read. record { rest = []; is = sym (append-nil (given side).bytes); whole = λ eof. refl } in
+            let (_, _, least) = fits (lines_of tool shortest) (input_lines shortest agree) in least
+
+    pub exit_is_merge_post : Fits tool old.store now ls piece new.store
+        → FirstReads tool.terminator old.reader now new.reader ls piece
+        → ((side : Side) → (new.reader side).failed ≡ true → IsFailedRead cmp (key side) (new.reader side) (ls side)
+        (p side)) → (result : Result (Unit {0}) MergeFault)
+        → CallOutcome both_sides (merge_engine tool) old new given (unlines tool.terminator done) (merge_end result)
+        → MergePost tool old new result
+    unfolding call_ends
+    exit_is_merge_post fits order failed result ends = record {
+      call = call_ends both_sides (merge_engine tool) old new took (progress fits) (merge_end result) ends
+          (by (merge_end result));
+      -- no disorder was decided two blocks of an input earlier
       stops_at_disorder = λ of clean_then.
           let f = first_disorder cmp (key (other of)) (known_lines tool.terminator (given (other of))) in
-          unsettled tool o given front _ tail _ backs split under future of
-          (EachKey-weaker _ _ (λ k u. under_fall cmp o (b (other of)) k f u (whole_input_split.may_disorder (other of)))
-          _ _ (before (other of) of));
+          unsettled tool w.o given front _ tail _ backs lag.split lag.under_bound future of
+          (EachKey-weaker _ _ (λ k u. under_fall cmp w.o (b (other of)) k f u
+          (whole_input_split.may_disorder (other of))) _ _ (lag.under (other of) of));
       first_reads = λ clean_then. record {
         second_unread = λ none. ⊎_elim (λ begun. absurd (has_line First begun none))
-            (λ same. same ∙ (λ i. record (old.reader Second) { terminator = terminator_is Second i })) order.first;
+            (λ same. same ∙ (λ i. record (old.reader Second) { terminator = w.terminator Second i })) order.first;
         first_waits = λ none. ⊎_elim (λ begun. absurd (has_line Second begun none))
             (λ few. one_line_and_block _ _ _ _ _ _ (g First).lines_read (g First).reads (g First).line (g First).sound
             few) order.second;
       };
-      unfinished = λ memory four. ⊎_elim (λ h. inl h) (λ (keeps, missing). inr (
-        keeps,
-        λ input a same. missing (lines_of tool input) (λ side. (input_lines input a side).continues)
-            (none_missing input a same),
-      )) (subst (λ (r : Result (Unit {0}) MergeFault). LeavesWork tool new now ls done r) memory left four);
-      peak = λ input a. (let (peak, _) = fits (lines_of tool input) (input_lines input a) in peak);
-      slots = λ input a. (let (_, slots) = fits (lines_of tool input) (input_lines input a) in slots);
-      is_exact = is_exact;
     }
       where
+        by : (end : CallEnd Side)
+            → DecidedIfReadFailed both_sides (merge_engine tool) old new took (unlines tool.terminator done) end
+        by (ReadFault input) = λ side read fail. decided side (failed side fail)
+        by other = tt
+
         has_line : (side : Side) → HasBegun (now side) (ls side) → ¬ HasNoLine tool.terminator (given side)
         has_line side begun none =
             begun_gives_line _ _ _ _ _ _ (g side).lines_read (g side).reads (g side).line begun none
 
-        terminator_is : (side : Side) → (old.reader side).terminator ≡ tool.terminator
-        terminator_is side = sym (g side).lines_read.advance_ok.reads.terminator ∙ (g side).lines_read.terminator
+-- ---- the ends before the start
 
-        -- if nothing is missing in the output, no entry is
-        none_missing : (input : Side → List ℕ) (a : AreConsistent given input)
-            → unlines tool.terminator done ≡ merge_output tool input → merged_entries tool (lines_of tool input) ≡ done
-        none_missing input a same =
-            let (rest, is) = all (lines_of tool input) (λ side. (input_lines input a side).continues) in
-            cc (is, append-nil done, no_lines_left tool.terminator done rest (same ∙ ap (unlines tool.terminator) is))
-
-  pub exit_is_merge_post : MergeInvariant tool b p old.out new.out → LagInvariant tool b p old.out new.out
-      → (result : Result (Unit {0}) MergeFault) → MergeEndPost old new result
-      → ((side : Side) → (new.reader side).failed ≡ true → IsFailedRead cmp (key side) (new.reader side) (ls side)
-      (p side)) → IsExactExit tool new b result
-      → FirstReads tool.terminator old.reader now new.reader ls piece → Fits tool old.store now ls piece new.store
-      → MergePost tool old new result
-  exit_is_merge_post m lag_invariant result ends failed concludes order fits = exit_facts lag_invariant.front
-      lag_invariant.tail b lag_invariant.split m.under m.under lag_invariant.may_follow lag_invariant.clean
-      lag_invariant.wrote lag_invariant.more _ lag_invariant.all ends
-      (λ all w. let s = input_split_of all w in
-      (entries_by_key tool (is_up_to cmp (disorder tool all)) s.r, input_split o m s))
-      failed (by result concludes) order (left_by result concludes) fits
-    where
-      done : Lines
-      done = entries_by_key tool all_keys p
-
-      input_split_in : (input : Side → List ℕ) → AreConsistent given input → InputSplit tool b p (lines_of tool input)
-      input_split_in input a = input_split_of (lines_of tool input) (λ side. (input_lines input a side).continues)
-
-      later : (input : Side → List ℕ) → AreConsistent given input → Lines
-      later input a =
-          entries_by_key tool (is_up_to cmp (disorder tool (lines_of tool input))) (input_split_in input a).r
-
-      all_of : (input : Side → List ℕ) (a : AreConsistent given input)
-          → unlines tool.terminator (merged_entries tool (lines_of tool input)) ≡ unlines tool.terminator
-          (done ++ later input a)
-      all_of input a = ap (unlines tool.terminator) (input_split o m (input_split_in input a))
-
-      left_by : (result : Result (Unit {0}) MergeFault) → IsExactExit tool new b result
-          → LeavesWork tool new now ls done result
-      left_by (Err Memory) c = λ four. inl (c four)
-      left_by other c = tt
-
-      by : (result : Result (Unit {0}) MergeFault) → IsExactExit tool new b result
-          → (input : Side → List ℕ) (a : AreConsistent given input)
-          → IsExactMerge tool input (unlines tool.terminator done) result
-      by (Ok u) nothing_follows input a =
-          let s = input_split_in input a in
-          let none : (side : Side) → s.r side ≡ [] = λ side. rw (nothing_follows side) at (s.may_follow side) in
-          let no_disorder : (side : Side) → first_disorder cmp (key side) (lines_of tool input side) ≡ None = λ side. rw
-          (nothing_follows side) at (s.may_disorder side) in (
-            sym (all_of input a ∙ ap (unlines tool.terminator)
-                ((λ i. done ++ entries_by_key tool (is_up_to cmp (disorder tool (lines_of tool input)))
-                (λ side. none side i)) ∙ append-nil done)),
-            cc (no_disorder First, no_disorder Second),
-          )
-      by (Err (faults.Disorder side number)) stop input a =
-          let s = input_split_in input a in
-          let (none, named) = stop (lines_of tool input) s.r s.may_follow s.may_disorder in
-          (cc (all_of input a, none, append-nil done), named)
-      by other c input a = tt
-
--- ---- a merge of readers whose terminator was set
-
-module _ (old new : MergeState) (set : Side → Reader) (end : ℕ)
-    (is : (side : Side) → set side ≡ record (old.reader side) { terminator = end }) where
-  ends_set : (result : Result (Unit {0}) MergeFault) → MergeEndPost (with_terminator end old) new result
-      → MergeEndPost old new result
-  ends_set (Err (Read side)) e =
-      assumption (cause_set (old.reader side) (record (old.reader side) { terminator = end }) end refl (new.reader side)
-      e.cause)
-  ends_set other e = assumption
-
-  pub merge_set : (tool : MergeTool) (result : Result (Unit {0}) MergeFault)
-      → MergePost tool (record { reader = set; out = old.out; store = old.store }) new result
-      → MergePost tool old new result
-  merge_set tool result was =
-      let m = subst (λ (r : Side → Reader). MergePost tool (state_by_side r old.out old.store) new result)
-      (λ i side. is side i) was in
+-- the terminator of both readers was set
+pub merge_set : (tool : MergeTool) (old new : MergeState) (set : Side → Reader) → old.out.write_failed ≡ false
+    → ((side : Side) → set side ≡ record (old.reader side) { terminator = tool.terminator })
+    → (result : Result (Unit {0}) MergeFault)
+    → MergePost tool (record { reader = set; out = old.out; store = old.store }) new result
+    → MergePost tool old new result
+unfolding call_set
+merge_set tool old new set clean is result m = record {
+  call = call_set both_sides (merge_engine tool) old (state_by_side set old.out old.store) new clean refl refl
+      (λ side read. is side) (λ side none. cc) m.call;
+  stops_at_disorder = m.stops_at_disorder;
+  first_reads = λ fine.
+      let reads = m.first_reads fine in
       record {
-        given = m.given;
-        came = λ side. has_received_set (old.reader side) (record (old.reader side) { terminator = end }) end refl
-            (new.reader side) (m.given side) (m.came side);
-        pushed = m.pushed;
-        wrote = m.wrote;
-        ends = ends_set result m.ends;
-        is_prefix = m.is_prefix;
-        decided_is_written = m.decided_is_written;
-        bounded_lag = m.bounded_lag;
-        stops_at_disorder = m.stops_at_disorder;
-        first_reads = λ clean. (let reads = m.first_reads clean in assumption);
-        unfinished = m.unfinished;
-        peak = m.peak;
-        slots = m.slots;
-        is_exact = m.is_exact;
-      }
-
-  pub unread_set : (length new.store.lines < 4 → IsMergeUnread (record
-      { reader = set; out = old.out; store = old.store }) new) → IsUnreadWithoutSlots end old new
-  unread_set u fine few = record { readers = λ side. (u few).readers side ∙ is side; output = (u few).output }
-
--- ---- an exit before the start
+        second_unread = λ none. reads.second_unread none
+            ∙ ap {B = Reader} (λ (r : Reader). record r { terminator = tool.terminator }) (is Second);
+        first_waits = reads.first_waits;
+      };
+}
 
 -- the output had failed, and nothing was done
 pub merge_halted : (tool : MergeTool) (old : MergeState) → old.store.denied ≡ false → old.out.write_failed ≡ true
     → MergePost tool old old (Err Write)
 merge_halted tool old allowed fault = record {
-  given = λ side. received_with [] (old.reader side);
-  came = λ side. has_received (old.reader side) (old.reader side) [] (reads_nothing (old.reader side));
-  pushed = [];
-  wrote = push_nothing old.out;
-  ends = record { write_failed = fault; failed = λ side. refl; denied = allowed };
-  is_prefix = λ input a. record { rest = merge_output tool input; is = refl };
-  decided_is_written = λ side fail clean. cc;
-  bounded_lag = λ side clean. cc;
+  call = call_on_failed_output both_sides (merge_engine tool) fault allowed;
   stops_at_disorder = λ side clean. cc;
   first_reads = λ clean. cc;
-  unfinished = λ memory. cc;
-  peak = λ input a. omega arith;
-  slots = λ input a. omega arith;
-  is_exact = λ input a. tt;
 }
+
+-- one of the first slots could not be added
+pub merge_without_slots : {tool : MergeTool} {old : MergeState} → IsOpenMerge tool old → {new : MergeState}
+    → new.out ≡ old.out → ((side : Side) → new.reader side ≡ old.reader side)
+    → EnsureFourSlotsErrPost old.store new.store → MergePost tool old new (Err Memory)
+unfolding call_without_slots
+merge_without_slots {tool} {old} w {new} same_output unread slots = record {
+  call = call_without_slots both_sides (merge_engine tool) old new w.writable same_output (λ side read. set side)
+      (λ side none. cc) (λ side read. w.sound side) (λ side read. w.unfailed side) slots.denied slots.peak slots.least
+      slots.few (λ texts. omega (arith, w.fits (lines_of tool texts)))
+      (λ side read. rw (unread_decides_nothing tool w.o (given_before old) side) (record { rest = []; is = refl }));
+  stops_at_disorder = λ side clean. (
+    record {
+      earlier = record { bytes = []; eof = false };
+      last = (old.reader side).buffered;
+      split = refl;
+      short = omega (arith, (w.sound side).buffered);
+      eof = λ never. cc;
+    },
+    unread_decides_no_disorder tool w.o (given_before old) side,
+  );
+  first_reads = λ clean. record {
+    second_unread = λ none. set Second;
+    first_waits = λ none. record {
+      first = [];
+      rest = (old.reader First).buffered;
+      split = refl;
+      one_line = omega arith;
+      block = (w.sound First).buffered;
+    };
+  };
+}
+  where
+    set : (side : Side) → new.reader side ≡ record (old.reader side) { terminator = tool.terminator }
+    set side = unread side ∙ (λ i. record (old.reader side) { terminator = w.terminator side i })

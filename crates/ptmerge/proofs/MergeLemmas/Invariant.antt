@@ -4,12 +4,12 @@
 use Rattle.ptmerge.proofs.Common.{nat_tests, ◌≡◌, ℕ, ◌+◌, List, [], ◌∷◌, ◌++◌, Bool, true, false, cond, Option, Some}
 use Rattle.ptmerge.proofs.Common.{None, length, refl, ◌∙◌, map, append_assoc, arith, nat_lt, unwrap_or, if◌then◌else◌}
 use Rattle.ptmerge.proofs.Common.{last_or, is_gt, length_push, Lines, sorted_prefix, first_disorder, FirstDisorder, Cmp}
-use Rattle.ptmerge.proofs.Common.{Key, ◌&&◌, not, ap, sym, append-nil, flat_map-append, filter, flat_map, Less}
-use Rattle.ptmerge.proofs.Common.{Greater, Side, First, Second, MergeTool, insert_key, distinct_keys}
-use Rattle.ptmerge.proofs.Common.{keys, entries_of_key, entries_by_key, earlier_disorder, is_up_to, ◌⊎◌, inl, inr}
-use Rattle.ptmerge.proofs.Common.{subst, is_lt, Output, PushEffect, unlines, push_trans, push_nothing, unlines-append}
-use Rattle.ptmerge.proofs.Common.{disorder, is_below, is_decided, is_past, merged_entries, lines_with_key, IsDisorderAt}
-use Rattle.ptmerge.proofs.Common.{with_side}
+use Rattle.ptmerge.proofs.Common.{Key, ◌&&◌, not, ap, sym, append-nil, flat_map-append, filter, flat_map, Less, Greater}
+use Rattle.ptmerge.proofs.Common.{Side, First, Second, MergeTool, insert_key, distinct_keys, keys, entries_of_key}
+use Rattle.ptmerge.proofs.Common.{entries_by_key, earlier_disorder, is_up_to, ◌⊎◌, inl, inr, subst, is_lt, Output}
+use Rattle.ptmerge.proofs.Common.{PushEffect, unlines, push_trans, push_nothing, unlines-append, disorder, is_below}
+use Rattle.ptmerge.proofs.Common.{is_decided, is_past, merged_entries, lines_with_key, option_map, with_side}
+use Rattle.ptmerge.proofs.Common.{disordered_line}
 use Rattle.ptmerge.proofs.MergeLemmas.Orders.{IsKeyOrder, AtMost, at_most_trans, self_at_most, EachKey, EachKey-weaker}
 use Rattle.ptmerge.proofs.MergeLemmas.Orders.{Above, at_most_is_le, above_trans, less_flips, Each, Each-weaker}
 use Rattle.ptmerge.proofs.MergeLemmas.Orders.{Each-insert, Each-distinct, Each-append, Each-all, EachKey-append}
@@ -313,36 +313,45 @@ pub merge_invariant_starts : (tool : MergeTool) (was : Output)
 merge_invariant_starts tool was =
     record { splits = record { split = λ w r c. refl }; under = λ of side. tt; wrote = push_nothing was }
 
--- The output by the last time at which no write had failed: entries of all processed lines except perhaps the last
--- ones, which precede all that may follow.
-pub record LagInvariant (tool : MergeTool) (b : Side → Bound) (p : Side → Lines) (was is : Output) : Type 0 where
+-- The entries `done` are written, and by the last time at which no write had failed, those of all processed lines `p`
+-- except perhaps the last ones, which precede all that may follow.
+pub record LagInvariant (tool : MergeTool) (b : Side → Bound) (p : Side → Lines) (was is : Output)
+    (done : Lines) : Type 0 where
   pub mid : Output
   pub front : Side → Lines
   pub tail : Side → Lines
+  pub bound : Side → Bound
   pub clean : mid.write_failed ≡ false
   pub wrote : PushEffect was mid (unlines tool.terminator (entries_by_key tool all_keys front))
   pub bytes : List ℕ
   pub more : PushEffect mid is bytes
-  pub all : unlines tool.terminator (entries_by_key tool all_keys front) ++ bytes
-      ≡ unlines tool.terminator (entries_by_key tool all_keys p)
+  pub all : unlines tool.terminator (entries_by_key tool all_keys front) ++ bytes ≡ unlines tool.terminator done
   pub split : (side : Side) → p side ≡ front side ++ tail side
+  pub under : (of side : Side) → EachKey (IsUnder tool.cmp (b of)) (tool.key side) (p side)
+  pub under_bound : (of side : Side) → EachKey (IsUnder tool.cmp (bound of)) (tool.key side) (p side)
   pub may_follow : (side : Side) (r : Lines) → MayFollow tool.cmp (tool.key side) (b side) r
-      → MayFollow tool.cmp (tool.key side) (b side) (tail side ++ r)
+      → MayFollow tool.cmp (tool.key side) (bound side) (tail side ++ r)
 
--- everything was written by then, and nothing after it
-pub lag_invariant_starts : (tool : MergeTool) (b : Side → Bound) (p : Side → Lines) (was mid is : Output)
-    → mid.write_failed ≡ false → PushEffect was mid (unlines tool.terminator (entries_by_key tool all_keys p))
-    → PushEffect mid is [] → LagInvariant tool b p was is
-lag_invariant_starts tool b p was mid is clean wrote more = record {
+-- the entries of all processed lines are written
+abbrev pub AllWritten : MergeTool → (Side → Bound) → (Side → Lines) → Output → Output → Type 0
+AllWritten tool b p was is = LagInvariant tool b p was is (entries_by_key tool all_keys p)
+
+-- they were written by then, and nothing after it
+pub lag_invariant_starts : {tool : MergeTool} {b : Side → Bound} {p : Side → Lines} {was mid is : Output}
+    → MergeInvariant tool b p was mid → mid.write_failed ≡ false → PushEffect mid is [] → AllWritten tool b p was is
+lag_invariant_starts {tool} {b} {p} {mid = mid} m clean more = record {
   mid = mid;
   front = p;
   tail = λ side. [];
+  bound = b;
   clean = clean;
-  wrote = wrote;
+  wrote = m.wrote;
   bytes = [];
   more = more;
   all = append-nil (unlines tool.terminator (entries_by_key tool all_keys p));
   split = λ side. sym (append-nil (p side));
+  under = m.under;
+  under_bound = m.under;
   may_follow = λ side r c. c;
 }
 
@@ -375,33 +384,38 @@ pub write_least_run : {tool : MergeTool} (o : IsKeyOrder tool.cmp) (k : List ℕ
     tool r k)
     → is.write_failed ≡ false → MergeInvariant tool b p was is
     → PushEffect is new (unlines tool.terminator (entries_by_key tool all_keys f)) → MergeInvariant tool b q was new
-    × LagInvariant tool b q was new
+    × AllWritten tool b q was new
 write_least_run {tool} o k q f {b} {p} {was} {is} {new} front all none law clean m wrote =
     let nothing =
     λ (side : Side). rw append-nil at
     ((front side).may_follow [] (may_follow_none tool.cmp (tool.key side) (b side))) in
     let texts = ap (unlines tool.terminator) (m.splits.split all_keys f nothing)
     ∙ unlines-append tool.terminator (entries_by_key tool all_keys p) (entries_by_key tool all_keys f) in
-    subst (λ (l : Side → Lines). MergeInvariant tool b l was new × LagInvariant tool b l was new)
+    let under : (of side : Side) → EachKey (IsUnder tool.cmp (b of)) (tool.key side) (p side ++ f side) =
+    λ of side. EachKey-append (IsUnder tool.cmp (b of)) (tool.key side) _ _ (m.under of side)
+    (EachKey-weaker (λ y. y ≡ k) (IsUnder tool.cmp (b of)) (λ y e. rw e (front of).under) _ _ (front side).own) in
+    subst (λ (l : Side → Lines). MergeInvariant tool b l was new × AllWritten tool b l was new)
     (λ i side. sym (all side) i) (
       record {
         splits = splits_step tool b b p f m.splits (λ side. (front side).may_follow)
             (λ w r c. front_first tool o w k f r (λ side. (front side).own)
             (λ side. (front side).bound_after (r side) (c side)) none (law r c));
-        under = λ of side. EachKey-append (IsUnder tool.cmp (b of)) (tool.key side) _ _ (m.under of side)
-            (EachKey-weaker (λ y. y ≡ k) (IsUnder tool.cmp (b of)) (λ y e. rw e (front of).under) _ _ (front side).own);
+        under = under;
         wrote = rw texts (push_trans _ _ _ _ _ clean m.wrote wrote);
       },
       record {
         mid = is;
         front = p;
         tail = f;
+        bound = b;
         clean = clean;
         wrote = m.wrote;
         bytes = unlines tool.terminator (entries_by_key tool all_keys f);
         more = wrote;
         all = sym texts;
         split = λ side. refl;
+        under = under;
+        under_bound = under;
         may_follow = λ side. (front side).may_follow;
       },
     )
@@ -422,11 +436,23 @@ bound_changes {tool} {b} {p} s d m may_follow under = record {
   wrote = m.wrote;
 }
 
--- the merge is at its end: the disorder is the reported one, and no line that may follow changes the output
-abbrev pub IsExactStop : MergeTool → (Side → Bound) → Side → ℕ → Type 0
-IsExactStop tool b side number = (ls r : Side → Lines) → ((s : Side) → MayFollow tool.cmp (tool.key s) (b s) (r s))
+-- the merge is at its end: the disorder is the one found, if any, and no line that may follow changes the output
+abbrev pub IsExactStop : MergeTool → (Side → Bound) → Option (Side × ℕ) → Type 0
+IsExactStop tool b found = (ls r : Side → Lines) → ((s : Side) → MayFollow tool.cmp (tool.key s) (b s) (r s))
     → ((s : Side) → MayDisorder tool.cmp (b s) (first_disorder tool.cmp (tool.key s) (ls s)))
-    → (entries_by_key tool (is_up_to tool.cmp (disorder tool ls)) r ≡ []) × IsDisorderAt (disorder tool ls) side number
+    → (entries_by_key tool (is_up_to tool.cmp (disorder tool ls)) r ≡ [])
+    × (option_map disordered_line (disorder tool ls) ≡ found)
+
+-- both inputs are at their ends
+pub exact_at_end : (tool : MergeTool) {b : Side → Bound} → ((side : Side) → b side ≡ NothingMore)
+    → IsExactStop tool b None
+exact_at_end tool ended ls r follow disorder_at =
+    let none : (side : Side) → r side ≡ [] = λ side. rw (ended side) at (follow side) in
+    let in_order : (side : Side) → first_disorder tool.cmp (tool.key side) (ls side) ≡ None =
+    λ side. rw (ended side) at (disorder_at side) in (
+      λ i. entries_by_key tool (is_up_to tool.cmp (disorder tool ls)) (λ side. none side i),
+      rw (in_order First, in_order Second) refl,
+    )
 
 -- ---- the decided output
 

@@ -4,21 +4,21 @@
 use Rattle.ptmerge.proofs.Common.{◌≡◌, ◌⊎◌, ⊎_elim, inl, inr, ℕ, ◌+◌, ◌≤◌, false, List, [], ◌∷◌, ◌++◌, Option, Some}
 use Rattle.ptmerge.proofs.Common.{None, length, map, refl, sym, ◌∙◌, ap, arith, append_assoc, length-append, last_or}
 use Rattle.ptmerge.proofs.Common.{append-nil, append_cancel_right, Received, known_lines, LaggedInput, Reader, unlines}
-use Rattle.ptmerge.proofs.Common.{IsLine, AreLines, received_with, complete_lines_of_unlines}
-use Rattle.ptmerge.proofs.Common.{unlines_push, the_lines, Lines, first_disorder, is_below, sorted_prefix, Cmp, Key}
-use Rattle.ptmerge.proofs.Common.{Bool, filter-append, filter, IsPrefix, unlines-append, Side, First, Second, MergeTool}
-use Rattle.ptmerge.proofs.Common.{entries_by_key, decided_entries, disorder, earlier_disorder, is_decided}
-use Rattle.ptmerge.proofs.Common.{lines_decide_disorder, other, ProcessLag, decided_output, disorder_is_decided}
-use Rattle.ptmerge.proofs.Common.{with_side, FirstDisorder, map-append}
+use Rattle.ptmerge.proofs.Common.{IsLine, AreLines, received_with, complete_lines_of_unlines, unlines_push, the_lines}
+use Rattle.ptmerge.proofs.Common.{Lines, first_disorder, is_below, sorted_prefix, Cmp, Key, Bool, filter-append, filter}
+use Rattle.ptmerge.proofs.Common.{IsPrefix, unlines-append, Side, First, Second, MergeTool, entries_by_key}
+use Rattle.ptmerge.proofs.Common.{decided_entries, disorder, earlier_disorder, is_decided, lines_decide_disorder, other}
+use Rattle.ptmerge.proofs.Common.{ProcessLag, decided_output, disorder_is_decided, with_side, FirstDisorder, map-append}
+use Rattle.ptmerge.proofs.Common.{with_input, both_sides, subst, sorted_prefixes}
 use Rattle.ptmerge.proofs.MergeLemmas.Invariant.{disorder_after, first_disorder_is, is_disordered, sorted_after}
 use Rattle.ptmerge.proofs.MergeLemmas.Invariant.{sorted_prefix_is, Bound, IsDisorderFrom, IsUnder, MayFollow, not_below}
 use Rattle.ptmerge.proofs.MergeLemmas.Invariant.{downward_decided, not_decided, past_none, all_keys, downward_is_prefix}
-use Rattle.ptmerge.proofs.MergeLemmas.Invariant.{AtLeast}
+use Rattle.ptmerge.proofs.MergeLemmas.Invariant.{AtLeast, none_wanted}
 use Rattle.ptmerge.proofs.MergeLemmas.LinesRead.{IsReadAs}
 use Rattle.ptmerge.proofs.MergeLemmas.Orders.{EachKey, Each-all, EachKey-weaker, Each-parts, kept_none, IsKeyOrder}
 use Rattle.ptmerge.proofs.MergeLemmas.Orders.{AtMost, at_most_trans, self_at_most}
 use Rattle.ptmerge.proofs.Parts.{by_keys_kept}
-use Rattle.ptmerge.proofs.MergeLemmas.Slots.{put_each, put_other, put_same}
+use Rattle.ptmerge.proofs.MergeLemmas.Slots.{put_each, put_other, put_same, with_side_is}
 use Rattle.ptlines.proofs.LineSearch.{IsLine-append}
 use Rattle.ptmerge.specs.MergeSpec.{MergeDisorder}
 
@@ -236,6 +236,40 @@ module _ (tool : MergeTool) (o : IsKeyOrder tool.cmp) (eof : Side → Bool) (ls 
       of_other cmp of (λ side. first_disorder cmp (tool.key side) (ls side)) (lines_decide_disorder tool eof ls)
       no_disorder refl (λ d is. above d.last_key (rw is at up))
 
+-- ---- nothing is received of an input
+
+abbrev nothing : Received
+nothing = record { bytes = []; eof = false }
+
+module _ (tool : MergeTool) (o : IsKeyOrder tool.cmp) (given : Side → Received) (of : Side) where
+  abbrev unread : Side → Received
+  unread = with_side of nothing given
+
+  abbrev unread_lines : Side → Lines
+  unread_lines side = known_lines tool.terminator (unread side)
+
+  none_decided : (k : List ℕ) → is_decided tool (λ side. (unread side).eof) unread_lines k ≡ false
+  none_decided k =
+      not_decided tool o (λ side. (unread side).eof) unread_lines of k (rw (put_same of nothing given) refl)
+
+  -- then nothing is decided, and no disorder
+  pub unread_decides_nothing : decided_output tool (with_input both_sides of nothing given) ≡ []
+  unread_decides_nothing =
+      subst (λ (m : Side → Received). decided_output tool m ≡ [])
+      (λ i side. with_side_is of nothing given side i)
+      (ap (unlines tool.terminator) (none_wanted tool (is_decided tool (λ side. (unread side).eof) unread_lines)
+      (sorted_prefixes tool unread_lines) (λ side. Each-all
+      (λ k. is_decided tool (λ side. (unread side).eof) unread_lines k ≡ false) none_decided
+      (map (tool.key side) (sorted_prefixes tool unread_lines side)))))
+
+  pub unread_decides_no_disorder : disorder_is_decided tool unread ≡ false
+  unread_decides_no_disorder = by (disorder tool unread_lines)
+    where
+      by : (d : Option MergeDisorder)
+          → lines_decide_disorder tool (λ side. (unread side).eof) unread_lines d ≡ false
+      by None = refl
+      by (Some d) = none_decided d.first_disorder.last_key
+
 -- ---- the output decided two blocks earlier
 
 front_has : (P : List ℕ → Type 0) (key : Key) (xs ys : Lines) → EachKey P key (xs ++ ys) → EachKey P key xs
@@ -322,13 +356,16 @@ module _ (tool : MergeTool) (o : IsKeyOrder tool.cmp) (given : Side → Received
     whole_now : known_lines terminator (mix of) ≡ whole
     whole_now = rw (put_same of (backs of).before.earlier given) (backs of).whole_is
 
-    pub lag_bound : ProcessLag {I = Unit {0}} (λ came. decided_output tool (with_side of (came tt) given))
+    pub lag_bound : ProcessLag {I = Unit {0}} (λ came. decided_output tool (with_input both_sides of (came tt) given))
         (λ u. given of) (unlines terminator (entries_by_key tool all_keys p))
     lag_bound = record {
       before = λ u. (backs of).before;
-      begins = decided_of_passed tool o (λ side. (mix side).eof) (λ side. known_lines terminator (mix side)) of going
+      begins = subst (λ (m : Side → Received). IsPrefix (decided_output tool m)
+          (unlines terminator (entries_by_key tool all_keys p)))
+          (λ i side. with_side_is of (backs of).before.earlier given side i)
+          (decided_of_passed tool o (λ side. (mix side).eof) (λ side. known_lines terminator (mix side)) of going
           (rw whole_now no_disorder) p
-          (rw whole_now (put_each Differs of (backs of).before.earlier given mine others));
+          (rw whole_now (put_each Differs of (backs of).before.earlier given mine others)));
     }
 
     -- no disorder was decided

@@ -2,13 +2,11 @@
 -- terminator. So every input that begins with these bytes begins with these lines.
 use Rattle.ptmerge.proofs.Common.{◌≡◌, ◌⊎◌, ⊎_elim, inl, inr, ℕ, ◌+◌, ◌<◌, ◌≤◌, Bool, true, false, List, [], ◌∷◌, ◌++◌}
 use Rattle.ptmerge.proofs.Common.{None, length, max, refl, sym, ◌∙◌, ap, arith, append_assoc, length-append, append-nil}
-use Rattle.ptmerge.proofs.Common.{nil_from_length, FillLine, Received, IsConsistent, known_lines, Reader}
-use Rattle.ptmerge.proofs.Common.{ReaderAdvance, AdvanceOk, IsDone, remaining_bytes, Slots, unlines, lines}
-use Rattle.ptmerge.proofs.Common.{complete_lines, IsLine, AreLines, max_length, received_with, advance_ok_trans}
-use Rattle.ptmerge.proofs.Common.{lines_of_unlines, lines_of_last, unlines_push, IsSound, HasNoLine}
-use Rattle.ptmerge.proofs.Common.{IsFirstLineAndBlock}
-use Rattle.ptmerge.proofs.Common.{AreLines_push, complete_lines_none, complete_lines_cons}
-use Rattle.ptlines.proofs.KnownBytes.{prepend_known-nil}
+use Rattle.ptmerge.proofs.Common.{nil_from_length, FillLine, Received, IsConsistent, known_lines, Reader, ReaderAdvance}
+use Rattle.ptmerge.proofs.Common.{reads_nothing, AdvanceOk, IsDone, Slots, unlines, lines, complete_lines, IsLine}
+use Rattle.ptmerge.proofs.Common.{AreLines, max_length, received_with, advance_ok_trans, lines_of_unlines}
+use Rattle.ptmerge.proofs.Common.{lines_of_last, unlines_push, IsSound, HasNoLine, IsFirstLineAndBlock, AreLines_push}
+use Rattle.ptmerge.proofs.Common.{complete_lines_none, complete_lines_cons}
 use Rattle.ptlines.proofs.MaxLength.{max_length-append, piece_le_max_length}
 
 -- complete lines, and then the complete lines of the rest
@@ -33,16 +31,6 @@ pub record LinesRead (end : ℕ) (old now : Reader) (ls : List (List ℕ)) : Typ
   pub so_far : IsReadAs end given ls now
   pub advance_ok : AdvanceOk old now given
   pub terminator : now.terminator ≡ end
-
-pub reads_nothing : (r : Reader) → ReaderAdvance r r []
-reads_nothing r = record {
-  moved = sym (prepend_known-nil (remaining_bytes r));
-  count = omega arith;
-  refused = refl;
-  terminator = refl;
-  still = λ eof. (refl, eof);
-  end = λ h. h;
-}
 
 pub lines_read_none : {end : ℕ} {old : Reader} → old.fault ≡ None → old.terminator ≡ end → LinesRead end old old []
 lines_read_none {old = old} clean terminator = record {

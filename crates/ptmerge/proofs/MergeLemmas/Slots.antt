@@ -4,6 +4,7 @@ use Rattle.ptmerge.proofs.Common.{◌≡◌, ◌≢◌, inl, inr, ℕ, zero, suc
 use Rattle.ptmerge.proofs.Common.{max, refl, sym, ◌∙◌, arith, get_or, set, length-set, get_or-set_other, sum_by-cons}
 use Rattle.ptmerge.proofs.Common.{Slots, line, total_bytes, with_new_slot, with_line, Side, First, Second, Sorted}
 use Rattle.ptmerge.proofs.Common.{HasSlots, EnsureFourSlotsPost, ClearFourSlotsPost, Bool, both, with_side, other}
+use Rattle.ptmerge.proofs.Common.{with_input, both_sides}
 
 -- two functions of the side, each changed at the same side
 pub put_both : {X Y : Type 0} (P : Side → X → Y → Type 0) (s : Side) (x : X) (f : Side → X) (y : Y) (g : Side → Y)
@@ -28,6 +29,14 @@ put_same s x f = grind arith
 
 pub put_other : {X : Type 0} (s : Side) (x : X) (f : Side → X) → with_side s x f (other s) ≡ f (other s)
 put_other s x f = grind arith
+
+-- a side that is changed as an input
+pub with_side_is : {X : Type 0} (s : Side) (x : X) (f : Side → X) (side : Side)
+    → with_side s x f side ≡ with_input both_sides s x f side
+with_side_is First x f First = refl
+with_side_is First x f Second = refl
+with_side_is Second x f First = refl
+with_side_is Second x f Second = refl
 
 -- a property of one side and of the other
 pub side_case : (Q : Side → Type 0) (s : Side) → Q s → Q (other s) → (side : Side) → Q side

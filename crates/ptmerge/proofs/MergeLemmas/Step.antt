@@ -1,25 +1,26 @@
 -- The steps of a merge. A line that precedes everything in the other input is processed, and its input advances; the
 -- next line has no lesser key, so the invariant holds again. A step ends the loop when both inputs are at their ends or
 -- a disorder is reported, and a fault of a write or read ends it with a prefix of the output.
-use Rattle.ptmerge.proofs.Common.{◌≡◌, ◌≢◌, ⊎_elim, inl, inr, ℕ, ◌+◌, ◌^◌, ◌≤◌, true, false, List, [], ◌∷◌, ◌++◌}
-use Rattle.ptmerge.proofs.Common.{Option, Some, None, Err, length, refl, sym, ◌∙◌, arith, is_lt, is_le, append-nil}
-use Rattle.ptmerge.proofs.Common.{Output, PushEffect, Reader, ReaderAdvance, IsDone, IsSound, Slots, line, with_line}
-use Rattle.ptmerge.proofs.Common.{unlines, IsLine, push_nothing, MergeFault, Read, Memory, Side, First, Second, Sorted}
+use Rattle.ptmerge.proofs.Common.{◌≡◌, ◌≢◌, ⊎_elim, inl, inr, ℕ, ◌+◌, ◌≤◌, true, false, List, [], ◌∷◌, ◌++◌, Option}
+use Rattle.ptmerge.proofs.Common.{Some, None, Err, length, refl, sym, ◌∙◌, arith, is_lt, is_le, append-nil, Output}
+use Rattle.ptmerge.proofs.Common.{PushEffect, Reader, ReaderAdvance, IsDone, IsSound, Slots, line, with_line, unlines}
+use Rattle.ptmerge.proofs.Common.{IsLine, push_nothing, MergeFault, Read, Memory, Side, First, Second, Sorted}
 use Rattle.ptmerge.proofs.Common.{CursorStatus, Head, Ended, Disorder, Lines, MergeTool, FirstDisorder, entries_by_key}
 use Rattle.ptmerge.proofs.Common.{earlier_disorder, first_disorder, lines_with_key, MergeState, MergePost, Cmp, Key}
 use Rattle.ptmerge.proofs.Common.{NextErrPost, NextOkPost, HasSlots, base_slot, with_side, other, PrecedesInput}
-use Rattle.ptmerge.proofs.Common.{IsDisorderDecided, IsReportable, previous_key, ap, ◌⊎◌, ◌*◌, max, length-set}
-use Rattle.ptmerge.proofs.Common.{total_bytes, max_length, Write, MergeRunPre, merge_state, WriteFaultPost}
-use Rattle.ptmerge.proofs.Common.{both, AreValidCursors, budget, IsReaderOf, push_trans, ◌&&◌}
-use Rattle.ptmerge.proofs.Common.{cond, nat_lt, Ordering, is_eq, is_gt, nat_tests, length_push, CopyToGroupPost}
-use Rattle.ptmerge.proofs.Common.{same_key_at, status_at, IsValidCursor, AddedSlots, ◌<◌, Result, ClearFourSlotsPost}
-use Rattle.ptmerge.proofs.Common.{MergeEndPost, Ok, Bool, terminator, IsMergeUnread, initial_cursor, MergeInputs}
-use Rattle.ptmerge.proofs.Common.{StartErrPost, StartOkPost, StartFirstPost, StartSlotFaultPost}
+use Rattle.ptmerge.proofs.Common.{IsDisorderDecided, IsReportable, previous_key, ap, ◌⊎◌, max, length-set, total_bytes}
+use Rattle.ptmerge.proofs.Common.{max_length, Write, MergeRunPre, merge_state, WriteFaultPost, both, AreValidCursors}
+use Rattle.ptmerge.proofs.Common.{budget, IsReaderOf, push_trans, ◌&&◌, cond, nat_lt, Ordering, is_eq, is_gt, nat_tests}
+use Rattle.ptmerge.proofs.Common.{length_push, CopyToGroupPost, same_key_at, status_at, IsValidCursor, ◌<◌, Result}
+use Rattle.ptmerge.proofs.Common.{ClearFourSlotsPost, Ok, Bool, terminator, initial_cursor, MergeInputs, StartErrPost}
+use Rattle.ptmerge.proofs.Common.{StartOkPost, StartFirstPost, CallOutcome, AllPushed, Received, both_sides}
+use Rattle.ptmerge.proofs.Common.{reads_nothing, merge_engine, merge_end}
 use Rattle.ptmerge.proofs.MergeLemmas.Invariant.{Bound, AtLeast, AfterDisorder, NothingMore, MayFollow, MayDisorder}
 use Rattle.ptmerge.proofs.MergeLemmas.Invariant.{IsDisorderFrom, IsUnder, IsSortedUpTo, IsLeastKeyRun, LagInvariant}
 use Rattle.ptmerge.proofs.MergeLemmas.Invariant.{MergeInvariant, IsExactStop, line_is_least_run, lag_invariant_starts}
 use Rattle.ptmerge.proofs.MergeLemmas.Invariant.{not_below, write_least_run, bound_changes, all_keys, none_wanted}
-use Rattle.ptmerge.proofs.MergeLemmas.Invariant.{NoBound, sorted_up_to_none, merge_invariant_starts}
+use Rattle.ptmerge.proofs.MergeLemmas.Invariant.{NoBound, sorted_up_to_none, merge_invariant_starts, AllWritten}
+use Rattle.ptmerge.proofs.MergeLemmas.Invariant.{exact_at_end}
 use Rattle.ptmerge.proofs.MergeLemmas.Orders.{EachKey, EachKey-weaker, lines_with_key-above, IsKeyOrder, Above}
 use Rattle.ptmerge.proofs.MergeLemmas.Orders.{above_at_most, above_up, greater_flips, is_greater}
 use Rattle.ptmerge.proofs.MergeLemmas.Slots.{both_each, put_both, put_each, put_other, put_same, side_case, line_other}
@@ -29,8 +30,10 @@ use Rattle.ptmerge.proofs.MergeLemmas.Exits.{SideInvariant, MatchesStatus, SideA
 use Rattle.ptmerge.proofs.MergeLemmas.Exits.{next_invariant, at_current_line, side_invariant_kept, IsFailedRead, Fits}
 use Rattle.ptmerge.proofs.MergeLemmas.Exits.{ReadFacts, state_by_side, exit_is_merge_post, FitsIn}
 use Rattle.ptmerge.proofs.MergeLemmas.Exits.{read_facts_after_line, read_facts_at_line, reads_left, next_decreases}
-use Rattle.ptmerge.proofs.MergeLemmas.Exits.{FirstReads, both_begun, IsExactExit, read_facts_at_start}
-use Rattle.ptmerge.proofs.MergeLemmas.LinesRead.{HasBegun, reads_nothing, lines_read_none, one_line_at_most}
+use Rattle.ptmerge.proofs.MergeLemmas.Exits.{FirstReads, both_begun, ComeFirst, bound_after, HoldsTwoLines, IsOpenMerge}
+use Rattle.ptmerge.proofs.MergeLemmas.Exits.{ReadFactsOf, processed_come_first, exact_output, merge_without_slots}
+use Rattle.ptmerge.proofs.MergeLemmas.Exits.{given}
+use Rattle.ptmerge.proofs.MergeLemmas.LinesRead.{HasBegun, LinesRead, lines_read_none, one_line_at_most}
 use Rattle.ptmerge.specs.declared.faults.MergeFault.TheVariants as faults
 
 -- ---- slots
@@ -100,7 +103,7 @@ pub write_one_line : (tool : MergeTool) (o : IsKeyOrder tool.cmp) → IsLineByLi
     → IsAbove tool.cmp (tool.key (other s)) (tool.key s x) (b (other s)) → IsUnder tool.cmp (b (other s)) (tool.key s x)
     → PushEffect is new (unlines tool.terminator (entries_by_key tool all_keys (alone s x)))
     → MergeInvariant tool b (with_side s (p s ++ x ∷ []) p) was new
-    × LagInvariant tool b (with_side s (p s ++ x ∷ []) p) was new
+    × AllWritten tool b (with_side s (p s ++ x ∷ []) p) was new
 write_one_line tool o laws First x b p was is new clean m is_from above under wrote =
     let k = tool.key First x in
     write_least_run o k (with_side First (p First ++ x ∷ []) p) (alone First x)
@@ -241,7 +244,7 @@ module _ (cmp : Cmp) (o : IsKeyOrder cmp) where
 pub stops_at : (tool : MergeTool) (o : IsKeyOrder tool.cmp) (old now : Side → Reader) (cursor : Side → Sorted)
     (store : Slots) (ls p : Side → Lines) (b : Side → Bound)
     → SidesInvariant tool old now cursor store ls p b → (s : Side) (n : ℕ)
-    → IsDisorderDecided tool.cmp tool.key cursor store s n → IsExactStop tool b s n
+    → IsDisorderDecided tool.cmp tool.key cursor store s n → IsExactStop tool b (Some (s, n))
 stops_at tool o old now cursor store ls p b sides s n dec l r c f =
     let d : FirstDisorder = record { last_key = previous_key tool.key cursor store s; line = n } in
     let disordered : b s ≡ AfterDisorder d = rw dec.status_is at (sides s).status_is in
@@ -252,7 +255,7 @@ stops_at tool o old now cursor store ls p b sides s n dec l r c f =
       none_wanted tool (λ k. is_le (tool.cmp k d.last_key)) r
           (side_case (λ side. EachKey (λ k. is_le (tool.cmp k d.last_key) ≡ false) (tool.key side) (r side)) s
           (rw (rw disordered at (c s)) tt) above),
-      (refl, refl),
+      refl,
     )
 
 -- ---- a failed read
@@ -261,70 +264,142 @@ stops_at tool o old now cursor store ls p b sides s n dec l r c f =
 pub buffered_not_done : {r : Reader} → 0 < length r.buffered → ¬ IsDone r
 buffered_not_done some done = absurd (omega (arith, some, ap length done.buffered))
 
-module _ (tool : MergeTool) (o : IsKeyOrder tool.cmp) (old now : MergeState) (ls q : Side → Lines) (b : Side → Bound)
-    (m : MergeInvariant tool b q old.out now.out)
-    (unfailed : (side : Side) → (old.reader side).failed ≡ false)
-    (none_failed : (side : Side) → (now.reader side).failed ≡ (old.reader side).failed)
-    (clean : now.out.write_failed ≡ false) where
+-- a write failed, or reading the next line did
+abbrev pub AdvanceErrPost : Side → Sorted → Reader → Reader → Slots → Slots → Output → MergeFault → Type 0
+AdvanceErrPost s cursor was is before after out fault = ((fault ≡ Write) × WriteFaultPost was is before after out)
+    ⊎ ((out.write_failed ≡ false) × NextErrPost s cursor was is before after fault)
+
+-- In both cases a piece of the next line was read, and is in the store.
+record FailedAdvance (cursor : Sorted) (was is : Reader) (before after : Slots) : Type 0 where
+  pub piece : List ℕ
+  pub reads : ReaderAdvance was is piece
+  pub line : IsLine was.terminator piece
+  pub sound : IsSound is
+  pub peak : after.peak ≤ (with_line before cursor.previous_slot piece).peak
+  pub count : length after.lines ≡ length (with_line before cursor.previous_slot piece).lines
+  pub failed : is.failed ≡ true → was.failed ≡ false → (is.buffered ≡ []) × (is.eof ≡ false)
+
+failed_advance : (s : Side) (cursor : Sorted) (was is : Reader) (before after : Slots) (out : Output)
+    (fault : MergeFault) → IsSound was → AdvanceErrPost s cursor was is before after out fault
+    → FailedAdvance cursor was is before after
+failed_advance s cursor was is before after out fault sound (inl (_, e)) = rw (e.unread, e.store) (record {
+  piece = [];
+  reads = reads_nothing was;
+  line = tt;
+  sound = sound;
+  peak = omega arith;
+  count = sym (length-set before.lines cursor.previous_slot []);
+  failed = λ fail unfailed. cc;
+})
+failed_advance s cursor was is before after out (Read file) sound (inr (_, (e, _, is_sound))) = record {
+  piece = e.piece;
+  reads = e.faults.reads;
+  line = e.faults.whole;
+  sound = is_sound;
+  peak = rw e.stored (omega arith);
+  count = rw e.stored refl;
+  failed = λ fail unfailed. ⊎_elim (λ (_, buffered, eof). (buffered, eof)) (λ (_, same). cc) e.cause;
+}
+failed_advance s cursor was is before after out Memory sound (inr (_, (e, is_sound))) = record {
+  piece = e.piece;
+  reads = e.faults.reads;
+  line = e.faults.whole;
+  sound = is_sound;
+  peak = rw e.stored (omega arith);
+  count = rw e.stored refl;
+  failed = λ fail unfailed. cc (e.failed);
+}
+failed_advance s cursor was is before after out other sound (inr (_, moves)) = absurd moves
+
+-- the input `s` is to advance, and all its lines are processed
+pub record IsAdvancing (tool : MergeTool) (old now : MergeState) (s : Side) (cursor : Sorted) (ls p : Side → Lines)
+    (b : Side → Bound) : Type 0 where
+  pub lines_read : LinesRead tool.terminator (old.reader s) (now.reader s) (ls s)
+  pub sound : IsSound (now.reader s)
+  pub all : p s ≡ ls s
+  pub last : Option (List ℕ)
+  pub sorted_up_to : IsSortedUpTo tool.cmp (tool.key s) (ls s) last
+  pub bound : b s ≡ bound_after last
+  pub rest : ReadFactsOf tool old now.reader now.reader (λ side. []) ls p b (other s)
+  pub order : (r : Reader) (piece : List ℕ) → IsLine (now.reader s).terminator piece
+      → FirstReads tool.terminator old.reader now.reader (with_side s r now.reader) ls (with_side s piece (λ side. []))
+  pub denied : now.store.denied ≡ false
+  pub fits : (piece : List ℕ) → Fits tool old.store now.reader ls (with_side s piece (λ side. []))
+      (with_line now.store cursor.previous_slot piece)
+
+module _ {tool : MergeTool} {old : MergeState} (w : IsOpenMerge tool old) {now : MergeState} {s : Side}
+    {cursor : Sorted} {ls p : Side → Lines} {b : Side → Bound} (a : IsAdvancing tool old now s cursor ls p b) where
   open tool use {cmp, key}
 
-  abbrev pub ReadFactsOf : Side → Reader → List ℕ → Type 0
-  ReadFactsOf side new piece =
-      ReadFacts tool.terminator cmp (key side) (old.reader side) (now.reader side) new piece (ls side) (q side) (b side)
+  none_failed_yet : (side : Side) → (now.reader side).failed ≡ (old.reader side).failed
+  none_failed_yet = side_case (λ side. (now.reader side).failed ≡ (old.reader side).failed) s
+      a.lines_read.advance_ok.failed a.rest.lines_read.advance_ok.failed
 
-  fails_not : (side : Side) (r : Reader) → r.failed ≡ (old.reader side).failed → r.failed ≡ true
-      → IsFailedRead cmp (key side) r (ls side) (q side)
-  fails_not side r same fail = cc (unfailed side)
+  none_fails : (new : Reader) → new.failed ≡ (now.reader s).failed → (side : Side)
+      → (with_side s new now.reader side).failed ≡ (old.reader side).failed
+  none_fails new same = put_each (λ side (r : Reader). r.failed ≡ (old.reader side).failed) s new now.reader
+      (same ∙ none_failed_yet s) none_failed_yet
 
-  lag_invariant : LagInvariant tool b q old.out now.out
-  lag_invariant = lag_invariant_starts _ _ _ _ _ _ clean m.wrote (push_nothing now.out)
+  -- how the call ends
+  advance_ends : (new : Reader) (after : Slots) (out : Output) (given : Side → Received) (pushed : List ℕ)
+      (fault : MergeFault) → AdvanceErrPost s cursor (now.reader s) new now.store after out fault
+      → CallOutcome both_sides (merge_engine tool) old (state_by_side (with_side s new now.reader) out after) given
+      pushed (merge_end (Err fault))
+  advance_ends new after out given pushed fault (inl (is_write, e)) = rw is_write (record {
+    write_failed = e.write_failed;
+    unfailed = λ side read. none_fails new (ap (λ (r : Reader). r.failed) e.unread) side;
+    not_denied = rw e.store a.denied;
+  })
+  advance_ends new after out given pushed (Read file) (inr (clean, (e, file_is, _))) = rw file_is (record {
+    named = refl;
+    unfailed = w.unfailed s;
+    cause = rw (put_same s new now.reader) (⊎_elim (λ failed. inl failed)
+        (λ (long, same). inr (long, same ∙ none_failed_yet s)) e.cause);
+    others = λ side read. side_case (λ side. side ≢ s
+        → (with_side s new now.reader side).failed ≡ (old.reader side).failed) s (λ differs. absurd (differs refl))
+        (λ _. rw (put_other s new now.reader) (none_failed_yet (other s))) side;
+    clean = clean;
+    not_denied = rw e.stored a.denied;
+  })
+  advance_ends new after out given pushed Memory (inr (clean, (e, _))) = record {
+    denied = rw e.stored refl;
+    unfailed = λ side read. none_fails new e.failed side;
+    clean = clean;
+    left = λ enough. inl (s, refl, rw (put_same s new now.reader) (buffered_not_done e.left));
+  }
+  advance_ends new after out given pushed other (inr (_, moves)) = absurd moves
 
-  -- the order of the first reads, if reading the next line of the input `s` failed
-  abbrev pub FirstReadsOf : Side → Reader → List ℕ → Type 0
-  FirstReadsOf s r piece =
-      FirstReads tool.terminator old.reader now.reader (with_side s r now.reader) ls (with_side s piece (λ side. []))
-
-  -- reading the next line of an input failed
-  pub fails : (s : Side) (cursor : Sorted) (new : Reader) (after : Slots) (fault : MergeFault)
-      → ((r : Reader) (piece : List ℕ) → ReaderAdvance (now.reader s) r piece → IsLine (now.reader s).terminator piece
-      → IsSound r → ReadFactsOf s r piece) → ls s ≡ q s
-      → (last : Option (List ℕ)) → IsSortedUpTo cmp (key s) (q s) last → ReadFactsOf (other s) (now.reader (other s)) []
-      → ((r : Reader) (piece : List ℕ) → IsLine (now.reader s).terminator piece → FirstReadsOf s r piece)
-      → now.store.denied ≡ false
-      → ((piece : List ℕ) → Fits tool old.store now.reader ls (with_side s piece (λ side. []))
-      (with_line now.store cursor.previous_slot piece)) → NextErrPost s cursor (now.reader s) new now.store after fault
-      → MergePost tool old (record { reader = with_side s new now.reader; out = now.out; store = after }) (Err fault)
-  fails s cursor new after (Read file) gone all last sorted_up_to rest order roomy fits (e, file_is, sound) =
-      rw file_is (exit_is_merge_post tool o old (state_by_side (with_side s new now.reader) now.out after) now.reader
-      (with_side s e.piece (λ side. [])) ls q b
-      (put_both ReadFactsOf s new now.reader e.piece (λ side. []) (gone new e.piece e.faults.reads e.faults.whole sound)
-      rest) m lag_invariant (Err (Read s))
-      (record {
-        cause = rw (put_same s new now.reader) (⊎_elim (λ h. inl h) (λ (long, same). inr (long, same ∙ none_failed s))
-            e.cause);
-        others = rw (put_other s new now.reader) (none_failed (other s));
-        clean = clean;
-        denied = rw e.stored roomy;
-      })
-      (put_each (λ side (r : Reader). r.failed ≡ true → IsFailedRead cmp (key side) r (ls side) (q side)) s new
-      now.reader
-      (λ fail. ⊎_elim (λ (_, buffered, eof). record
-      { buffered = buffered; eof = eof; all = all; last = last; sorted_up_to = sorted_up_to })
-      (λ (_, same). fails_not s new (same ∙ none_failed s) fail) e.cause)
-      (λ side. fails_not side (now.reader side) (none_failed side))) tt (order new e.piece e.faults.whole)
-      (rw e.stored (fits e.piece)))
-  fails s cursor new after Memory gone all last sorted_up_to rest order roomy fits (e, sound) =
-      let failed = put_each (λ side (r : Reader). r.failed ≡ (old.reader side).failed) s new now.reader
-      (e.failed ∙ none_failed s) none_failed in
-      exit_is_merge_post tool o old (state_by_side (with_side s new now.reader) now.out after) now.reader
-      (with_side s e.piece (λ side. [])) ls q b
-      (put_both ReadFactsOf s new now.reader e.piece (λ side. []) (gone new e.piece e.faults.reads e.faults.whole sound)
-      rest) m lag_invariant (Err Memory)
-      (record { denied = rw e.stored refl; failed = failed; clean = clean })
-      (λ side. fails_not side (with_side s new now.reader side) (failed side))
-      (λ four. (s, rw (put_same s new now.reader) (buffered_not_done e.left))) (order new e.piece e.faults.whole)
-      (rw e.stored (fits e.piece))
-  fails s cursor new after other gone all last sorted_up_to rest order roomy fits moves = absurd moves
+  -- the merge ends with this fault
+  pub advance_fails : {out : Output} {done : Lines} → LagInvariant tool b p old.out out done
+      → ((new : MergeState) (piece : Side → List ℕ)
+      → ((side : Side) → ReadFactsOf tool old now.reader new.reader piece ls p b side)
+      → ComeFirst tool now.reader ls done)
+      → {new : Reader} {after : Slots} {fault : MergeFault}
+      → AdvanceErrPost s cursor (now.reader s) new now.store after out fault
+      → MergePost tool old (state_by_side (with_side s new now.reader) out after) (Err fault)
+  advance_fails {out} {done} lag first {new} {after} {fault} e =
+      let f = failed_advance s cursor (now.reader s) new now.store after out fault a.sound e in
+      let facts : (side : Side) → ReadFactsOf tool old now.reader (with_side s new now.reader)
+      (with_side s f.piece (λ side. [])) ls p b side =
+      put_both (λ side (r : Reader) (piece : List ℕ). ReadFacts tool.terminator cmp (key side) (old.reader side)
+      (now.reader side) r piece (ls side) (p side) (b side)) s new now.reader f.piece (λ side. [])
+      (rw (a.all, a.bound)
+      (read_facts_after_line w.o a.last a.lines_read f.reads f.line f.sound a.sorted_up_to)) a.rest in
+      let is = state_by_side (with_side s new now.reader) out after in
+      exit_is_merge_post w is now.reader (with_side s f.piece (λ side. [])) ls p b facts lag
+      (first is (with_side s f.piece (λ side. [])) facts)
+      (λ all holds. omega (arith, f.peak, f.count, a.fits f.piece all holds)) (a.order new f.piece f.line)
+      (put_each (λ side (r : Reader). r.failed ≡ true → IsFailedRead cmp (key side) r (ls side) (p side)) s new
+      now.reader (λ fail.
+      let (buffered, eof) = f.failed fail (none_failed_yet s ∙ w.unfailed s) in
+      record {
+        buffered = buffered;
+        eof = eof;
+        all = sym a.all;
+        last = a.last;
+        sorted_up_to = rw a.all a.sorted_up_to;
+      }) (λ side fail. cc (none_failed_yet side, w.unfailed side)))
+      (Err fault) (advance_ends new after out _ _ fault e)
 
 -- ---- between two steps
 
@@ -337,17 +412,6 @@ pub record LoopInvariant (tool : MergeTool) (Keep : Slots → (Side → Lines) �
   pub sides : SidesInvariant tool old.reader now.reader cursor now.store ls p b
   pub merge_invariant : MergeInvariant tool b p old.out now.out
   pub keeps : Keep now.store ls
-
--- a write failed, and nothing was read after it
-pub same_state : (tool : MergeTool) (old : MergeState) (s : Side) (now : MergeState) (out : Output) (reader : Reader)
-    (after : Slots) (fault : MergeFault) → fault ≡ Write
-    → WriteFaultPost (now.reader s) reader now.store after out
-    → MergePost tool old (state_by_side now.reader out now.store) (Err Write)
-    → MergePost tool old (state_by_side (with_side s reader now.reader) out after) (Err fault)
-same_state tool old s now out reader after fault is e m =
-    let unread_side : with_side s (now.reader s) now.reader ≡ now.reader = λ i side. put_each
-    (λ (t : Side) (r : Reader). r ≡ now.reader t) s (now.reader s) now.reader refl (λ t. refl) side i in
-    rw (is, e.unread, e.store, unread_side) m
 
 pub slots_of : {key : Side → Key} (one two : Sorted) (store : Slots) → AreValidCursors key one two store → (side : Side)
     → HasSlots side (both one two side)
@@ -366,35 +430,7 @@ pub next_keeps_slot_count : {key : Key} {cmp : Cmp} {cursor next : Sorted} {was 
 next_keeps_slot_count (inl e) = rw (e.next_line.stored, length-set)
 next_keeps_slot_count (inr e) = rw (e.empty, length-set)
 
--- after a failed read
-pub next_error_keeps_slot_count : (s : Side) (cursor : Sorted) (was is : Reader) (before after : Slots)
-    (fault : MergeFault) → NextErrPost s cursor was is before after fault → length after.lines ≡ length before.lines
-next_error_keeps_slot_count s cursor was is before after (Read file) (e, _, _) = rw (e.stored, length-set)
-next_error_keeps_slot_count s cursor was is before after Memory (e, _) = rw (e.stored, length-set)
-next_error_keeps_slot_count s cursor was is before after other e = absurd e
-
--- a write failed, or reading the next line did
-abbrev pub AdvanceErrPost : Side → Sorted → Reader → Reader → Slots → Slots → Output → MergeFault → Type 0
-AdvanceErrPost s cursor was is before after out fault = ((fault ≡ Write) × WriteFaultPost was is before after out)
-    ⊎ ((out.write_failed ≡ false) × NextErrPost s cursor was is before after fault)
-
-pub advance_keeps_slot_count : (s : Side) (cursor : Sorted) {was is : Reader} {before after : Slots} {out : Output}
-    (fault : MergeFault) → AdvanceErrPost s cursor was is before after out fault
-    → length after.lines ≡ length before.lines
-advance_keeps_slot_count s cursor fault (inl (_, e)) = rw e.store
-advance_keeps_slot_count s cursor {was} {is} {before} {after} fault (inr (_, e)) =
-    next_error_keeps_slot_count s cursor was is before after fault e
-
--- all missing slots were added
-pub adds_of : {before after : Slots} → length after.lines ≡ max (length before.lines) 4 → AddedSlots before after 4
-adds_of count = record { least = omega arith; most = omega arith; all = λ _. count }
-
 -- ---- a tool that stores two lines of each input
-
--- the measure of such a tool
-abbrev pub HoldsTwoLines : MergeTool → Type 0
-HoldsTwoLines tool = (ls : Side → Lines)
-    → (2 * max_length (ls First) + 2 * max_length (ls Second) ≤ tool.size ls) × (4 ≤ tool.slots ls)
 
 -- a line is no longer than the longest line
 pub within_size : (tool : MergeTool) → HoldsTwoLines tool → {before store : Slots} (s : Side) (cursor : Sorted)
@@ -407,17 +443,6 @@ within_size tool fits s cursor ls all piece slots k up fit =
     omega (arith, kept.peak, kept.slots, fits all)
 
 -- the conditions at the start
-pub record IsOpenMerge (tool : MergeTool) (old : MergeState) : Type 0 where
-  pub o : IsKeyOrder tool.cmp
-  pub fits : HoldsTwoLines tool
-  pub terminator : (side : Side) → (old.reader side).terminator ≡ tool.terminator
-  pub sound : (side : Side) → IsSound (old.reader side)
-  pub readable : (side : Side) → (old.reader side).fault ≡ None
-  pub unfailed : (side : Side) → (old.reader side).failed ≡ false
-  pub writable : old.out.write_failed ≡ false
-  pub allowed : old.store.denied ≡ false
-  pub empty : total_bytes old.store.lines ≡ 0
-
 pub open_merge : {tool : MergeTool} {first second : Reader} {out : Output} {store : Slots} → IsKeyOrder tool.cmp
     → HoldsTwoLines tool → MergeRunPre tool.terminator first second out store
     → IsOpenMerge tool (merge_state first second out store)
@@ -463,6 +488,7 @@ holds_two {tool} fits {store = store} {cursor = cursor} {ls} k slots = record {
       let sum = (has_lines_total store.lines (λ side. max_length (ls side)) 0 k.lines).most in (
         omega (arith, peak, sum, k.peak, fits all, (l First).longest, (l Second).longest),
         omega (arith, same, k.slots, fits all),
+        omega (arith, same, k.slots),
       );
   line = λ s piece all l. within_size tool fits s (cursor s) ls all piece (slots s) k
       (λ side. omega (arith, (l side).longest))
@@ -498,14 +524,8 @@ module _ {tool : MergeTool} {old : MergeState} (w : IsOpenMerge tool old) {reade
   pub none_failed : (side : Side) → (reader side).failed ≡ (old.reader side).failed
   none_failed side = (a.sides side).lines_read.advance_ok.failed
 
-  no_failure : (X : Side → Type 0) (side : Side) → (reader side).failed ≡ true → X side
-  no_failure X side fail = cc (none_failed side, w.unfailed side)
-
   begun : (side : Side) → HasBegun (reader side) (ls side)
   begun side = (a.sides side).begun
-
-  fault : (side : Side) → (reader side).fault ≡ None
-  fault side = (a.sides side).lines_read.advance_ok.fault
 
   -- an input of which the lines `q` are processed
   abbrev ReadFactsBy : Side → Lines → Type 0
@@ -516,84 +536,82 @@ module _ {tool : MergeTool} {old : MergeState} (w : IsOpenMerge tool old) {reade
   pub read_facts_current : (side : Side) → ReadFactsBy side (p side)
   read_facts_current side = read_facts_at_line (a.sides side)
 
-  passing : (s : Side) → (cursor s).status ≡ Head → (new : Reader) (piece : List ℕ) → ReaderAdvance (reader s) new piece
-      → IsLine (reader s).terminator piece → IsSound new
-      → ReadFacts tool.terminator cmp (key s) (old.reader s) (reader s) new piece (ls s) (ls s) (b s)
-  passing s head new piece reads free sound = let h = at_current_line (a.sides s) head in
-      rw h.bound (read_facts_after_line w.o (a.sides s).lines_read reads free sound h.sorted_up_to)
-
   pub passing_now : (s : Side) → (cursor s).status ≡ Head → ReadFactsBy s (ls s)
-  passing_now s head = passing s head (reader s) [] (reads_nothing (reader s)) tt (a.sides s).sound
+  passing_now s head = let h = at_current_line (a.sides s) head in
+      rw h.bound (read_facts_after_line w.o (Some (key s (line store (cursor s).current_slot))) (a.sides s).lines_read
+      (reads_nothing (reader s)) tt (a.sides s).sound h.sorted_up_to)
 
   -- the iteration failed, after the lines `q` were processed
   pub iteration_fails : (s : Side) → (cursor s).status ≡ Head → {q : Side → Lines} {out : Output}
-      → MergeInvariant tool b q old.out out × LagInvariant tool b q old.out out → q s ≡ ls s
+      → MergeInvariant tool b q old.out out × AllWritten tool b q old.out out → q s ≡ ls s
       → ReadFactsBy (other s) (q (other s))
       → {new : Reader} {after : Slots} {fault : MergeFault} → AdvanceErrPost s (cursor s) (reader s) new store after out
       fault → MergePost tool old (state_by_side (with_side s new reader) out after) (Err fault)
-  iteration_fails s head {q} {out} (m, lag) same rest {new} {after} {fault} (inl (is_write, e)) = same_state tool old s
-      (state_by_side reader out store) out new after fault is_write e (exit_is_merge_post _ w.o _ _ _ (λ side. []) _ q _
-      (side_case (λ side. ReadFactsBy side (q side)) s (rw same (passing_now s head)) rest) m lag (Err Write)
-      (record { write_failed = e.write_failed; failed = none_failed; denied = a.holds.denied })
-      (no_failure _) tt (both_begun begun) (a.holds.fits store (omega arith) refl))
-  iteration_fails s head {q} {out} (m, _) same rest {new} {after} {fault} (inr (clean, e)) =
+  iteration_fails s head {q} {out} (m, lag) same rest e =
       let h = at_current_line (a.sides s) head in
-      fails tool w.o old (state_by_side reader out store) ls q b m w.unfailed none_failed clean s (cursor s) new after
-      fault
-      (λ r piece reads free sound. rw same (passing s head r piece reads free sound)) (sym same)
-      (Some (key s (line store (cursor s).current_slot))) (rw same h.sorted_up_to) rest
-      (λ r piece free. both_begun begun) a.holds.denied
-      (a.holds.line s) e
+      advance_fails w {now = state_by_side reader out store} {cursor = cursor s} {p = q} (record {
+        lines_read = (a.sides s).lines_read;
+        sound = (a.sides s).sound;
+        all = same;
+        last = Some (key s (line store (cursor s).current_slot));
+        sorted_up_to = h.sorted_up_to;
+        bound = h.bound;
+        rest = rest;
+        order = λ r piece free. both_begun begun;
+        denied = a.holds.denied;
+        fits = a.holds.line s;
+      }) lag (λ new piece g. processed_come_first w new _ _ _ _ _ g m) e
 
   -- the slots are emptied at the end
   module _ {out : Output} (m : MergeInvariant tool b p old.out out) (clean : out.write_failed ≡ false) {after : Slots}
       (clear : ClearFourSlotsPost store after) where
-    concludes : (result : Result (Unit {0}) MergeFault) → MergeEndPost old (state_by_side reader out after) result
-        → IsExactExit tool (state_by_side reader out after) b result
+    pushed_all : {found : Option (Side × ℕ)} → (found ≡ None → (side : Side) → IsDone (reader side))
+        → IsExactStop tool b found → AllPushed both_sides (merge_engine tool) old (state_by_side reader out after)
+        (given w (state_by_side reader out after) reader (λ side. []) ls p b read_facts_current)
+        (unlines tool.terminator (entries_by_key tool all_keys p)) found
+    pushed_all ended stop =
+        let exact = exact_output w (state_by_side reader out after) reader (λ side. []) ls p b read_facts_current m stop
+        in
+        record {
+          out = λ texts agree. (let (is, _) = exact texts agree in is);
+          disorder = λ texts agree. (let (_, is) = exact texts agree in is);
+          ended = λ none side read. ended none side;
+          fault = λ side read. (a.sides side).lines_read.advance_ok.fault;
+          short = λ side read. (a.sides side).lines_read.advance_ok.short ((w.sound side).long (w.readable side));
+          unfailed = λ side read. none_failed side;
+          clean = clean;
+          not_denied = clear.denied ∙ a.holds.denied;
+          empty = omega (
+            arith,
+            clear.emptied,
+            (has_lines_total store.lines (λ side. max_length (ls side)) 0 a.holds.lines).is,
+          );
+        }
+
+    concludes : (result : Result (Unit {0}) MergeFault)
+        → CallOutcome both_sides (merge_engine tool) old (state_by_side reader out after)
+        (given w (state_by_side reader out after) reader (λ side. []) ls p b read_facts_current)
+        (unlines tool.terminator (entries_by_key tool all_keys p)) (merge_end result)
         → MergePost tool old (state_by_side reader out after) result
-    concludes result ends conclusion = exit_is_merge_post _ w.o _ _ _ (λ side. []) _ _ _ read_facts_current m
-        (lag_invariant_starts _ _ _ _ _ _ clean m.wrote (push_nothing out)) result ends (no_failure _) conclusion
-        (both_begun begun)
-        (a.holds.fits after clear.peak clear.slots)
-
-    empty : total_bytes after.lines ≡ 0
-    empty =
-        omega (arith, clear.emptied, (has_lines_total store.lines (λ side. max_length (ls side)) 0 a.holds.lines).is)
-
-    denied : after.denied ≡ false
-    denied = clear.denied ∙ a.holds.denied
-
-    short : (side : Side) → (reader side).pulled < 2 ^ 63
-    short side = (a.sides side).lines_read.advance_ok.short ((w.sound side).long (w.readable side))
+    concludes result ends = exit_is_merge_post w _ _ (λ side. []) ls p b read_facts_current
+        (lag_invariant_starts m clean (push_nothing out))
+        (processed_come_first w (state_by_side reader out after) _ _ _ _ _ read_facts_current m)
+        (a.holds.fits after clear.peak clear.slots) (both_begun begun)
+        (λ side fail. cc (none_failed side, w.unfailed side)) result ends
 
     pub ends_well : ((side : Side) → (cursor side).status ≡ Ended)
         → MergePost tool old (state_by_side reader out after) (Ok tt)
     ends_well step =
         let e = all_ended tool _ _ _ _ _ _ _ a.sides step in
-        concludes (Ok tt) (record {
-          done = λ side. (let (_, done) = e side in done);
-          fault = fault;
-          failed = none_failed;
-          short = short;
-          clean = clean;
-          denied = denied;
-          empty = empty;
-        })
-        (λ side. (let (none, _) = e side in none))
+        concludes (Ok tt) (pushed_all (λ none side. (let (_, done) = e side in done))
+        (exact_at_end tool (λ side. (let (none, _) = e side in none))))
 
     pub ends_fallen : {s : Side} {n : ℕ} → IsDisorderDecided cmp key cursor store s n
         → MergePost tool old (state_by_side reader out after) (Err (faults.Disorder s n))
-    ends_fallen {s} {n} step =
-        concludes (Err (faults.Disorder s n))
-        (record {
-          fault = fault;
-          failed = none_failed;
-          short = short;
-          clean = clean;
-          denied = denied;
-          empty = empty;
-        })
-        (stops_at tool w.o _ _ _ _ _ _ _ a.sides s n step)
+    ends_fallen {s} {n} step = concludes (Err (faults.Disorder s n)) (record {
+      named = refl;
+      pushed_all = pushed_all (λ none. cc) (stops_at tool w.o _ _ _ _ _ _ _ a.sides s n step);
+    })
 
   -- an input advances
   module _ (s : Side) (head : (cursor s).status ≡ Head) {next : Sorted} {new : Reader} {after : Slots}
@@ -734,6 +752,9 @@ module _ {tool : MergeTool} {old : MergeState} (w : IsOpenMerge tool old) where
   abbrev unstarted : MergeInputs
   unstarted = record { reader = old.reader; store = old.store }
 
+  none_read : (side : Side) → LinesRead terminator (old.reader side) (old.reader side) []
+  none_read side = lines_read_none (w.readable side) (w.terminator side)
+
   -- an input was advanced to its first line
   first_line : (side : Side) {new : Reader} {cursor : Sorted} {before after : Slots} → 4 ≤ length before.lines
       → NextOkPost (key side) cmp (initial_cursor side) cursor (old.reader side) new before after
@@ -741,12 +762,7 @@ module _ {tool : MergeTool} {old : MergeState} (w : IsOpenMerge tool old) where
   first_line side four comes =
       let (apart, low, _, _, _) = own_slots side (initial_cursor side) (fresh_slots side) in
       next_invariant _ _ w.o _ _ _ _ _ _ _ _ _ (omega (arith, low, slot_low side)) apart
-      (lines_read_none (w.readable side) (w.terminator side)) refl sorted_up_to_none refl comes
-
-  unread_side : (side : Side) → ReadFacts terminator cmp (key side) (old.reader side) (old.reader side)
-      (old.reader side) [] [] [] NoBound
-  unread_side side = read_facts_at_start (w.readable side) (w.terminator side) (reads_nothing (old.reader side)) tt
-      (w.sound side)
+      (none_read side) refl sorted_up_to_none refl comes
 
   abbrev no_lines : Side → Lines
   no_lines side = []
@@ -807,67 +823,51 @@ module _ {tool : MergeTool} {old : MergeState} (w : IsOpenMerge tool old) where
   module _ {new1 new2 : Reader} {after : Slots} {fault : MergeFault} where
     pub start_fault : StartErr new1 new2 after fault
         → MergePost tool old (state_by_side (both new1 new2) old.out after) (Err fault)
-    start_fault (inl u) =
-        let same : (side : Side) → (both new1 new2 side).failed ≡ (old.reader side).failed =
-        λ side. rw (u.unread side) refl in
-        rw u.memory (exit_is_merge_post _ w.o _ _ old.reader (λ side. []) no_lines no_lines (λ side. NoBound)
-        (λ side. rw (u.unread side) (unread_side side))
-        (merge_invariant_starts tool old.out)
-        (lag_invariant_starts _ _ _ _ _ _ w.writable (push_nothing old.out) (push_nothing old.out))
-        (Err Memory) (record { denied = u.slots.denied; failed = same; clean = w.writable })
-        (λ side fail. cc (same side, w.unfailed side))
-        (λ four. absurd (omega (arith, four, u.slots.few)))
-        (record { first = inr (u.unread Second); second = inr (omega arith) })
-        (λ all l. omega (arith, u.slots.peak, u.slots.few, w.fits all)))
+    start_fault (inl u) = rw u.memory (merge_without_slots w refl u.unread u.slots)
     start_fault (inr (inl f)) =
         let kept = store_of_no_lines f.four w.allowed w.empty in
-        rw f.unread (fails tool w.o old (state_by_side old.reader old.out f.made) no_lines no_lines (λ side. NoBound)
-        (merge_invariant_starts tool old.out) w.unfailed (λ side. refl) w.writable
-        First (initial_cursor First) new1 after fault (λ r piece. read_facts_at_start (w.readable First)
-        (w.terminator First)) refl None sorted_up_to_none (unread_side Second)
-        (λ r piece free. record {
-          first = inr refl;
-          second = inr (omega (arith, one_line_at_most terminator piece (rw (w.terminator First) at free)));
-        }) kept.denied
-        (λ piece all l. within_size tool w.fits First (initial_cursor First) no_lines all piece (fresh_slots First) kept
-        (λ side. omega (arith, (l side).longest)) (omega (arith, (l First).longest))) f.fails)
+        let begins = merge_invariant_starts tool old.out in
+        rw f.unread (advance_fails w {now = state_by_side old.reader old.out f.made} {s = First}
+        {cursor = initial_cursor First} {ls = no_lines}
+        {p = no_lines} (record {
+          lines_read = none_read First;
+          sound = w.sound First;
+          all = refl;
+          last = None;
+          sorted_up_to = sorted_up_to_none;
+          bound = refl;
+          rest = read_facts_after_line w.o None (none_read Second) (reads_nothing (old.reader Second)) tt
+              (w.sound Second) sorted_up_to_none;
+          order = λ r piece free. record {
+            first = inr refl;
+            second = inr (omega (arith, one_line_at_most terminator piece (rw (w.terminator First) at free)));
+          };
+          denied = kept.denied;
+          fits = λ piece all l. within_size tool w.fits First (initial_cursor First) no_lines all piece
+              (fresh_slots First) kept (λ side. omega (arith, (l side).longest)) (omega (arith, (l First).longest));
+        }) (lag_invariant_starts begins w.writable (push_nothing old.out))
+        (λ new piece g. processed_come_first w new _ _ _ _ _ g begins) (inr (w.writable, f.fails)))
     start_fault (inr (inr f)) =
         let s = f.begins in
         let g = began s in
-        fails tool w.o old (state_by_side (both new1 (old.reader Second)) old.out s.mid) (both g.now_ls []) no_lines
-        (both g.bound NoBound) (half_invariant s) w.unfailed
-        (elim [ First ↦ g.side_invariant.lines_read.advance_ok.failed | Second ↦ refl ]) w.writable
-        Second (initial_cursor Second) new2 after fault (λ r piece. read_facts_at_start (w.readable Second)
-        (w.terminator Second)) refl None sorted_up_to_none (read_facts_at_line g.side_invariant)
-        (λ r piece free. record { first = inl g.side_invariant.begun; second = inr (first_line_only s) })
-        (half_store s).denied
-        (λ piece all l. within_size tool w.fits Second (initial_cursor Second) (both g.now_ls []) all piece
-        (fresh_slots Second) (half_store s)
-        (λ side. omega (arith, (l side).longest)) (omega (arith, (l Second).longest))) s.later
-
-    -- the number of slots after such a start: fewer than four, or all
-    slots_then : StartErr new1 new2 after fault → StartSlotFaultPost unstarted
-        (record { reader = both new1 new2; store = after }) fault
-        ⊎ (length after.lines ≡ max (length old.store.lines) 4)
-    slots_then (inl u) = inl u
-    slots_then (inr (inl f)) =
-        inr (next_error_keeps_slot_count First (initial_cursor First) (old.reader First) new1 f.made after fault f.fails
-        ∙ f.four.slots)
-    slots_then (inr (inr f)) = let s = f.begins in inr (next_error_keeps_slot_count Second (initial_cursor Second)
-        (old.reader Second) new2 s.mid after fault s.later ∙ (half_store s).slots)
-
-    pub start_slots : StartErr new1 new2 after fault → AddedSlots old.store after 4
-    start_slots c = ⊎_elim (λ u. record {
-      least = u.slots.least;
-      most = omega (arith, u.slots.few);
-      all = λ allowed. cc;
-    }) adds_of (slots_then c)
-
-    -- nothing was read if one of the first four slots could not be added
-    pub start_unread : StartErr new1 new2 after fault → length after.lines < 4
-        → IsMergeUnread old (state_by_side (both new1 new2) old.out after)
-    start_unread c few = ⊎_elim (λ u. record { readers = u.unread; output = refl })
-        (λ same. absurd (omega (arith, few, same))) (slots_then c)
+        advance_fails w {now = state_by_side (both new1 (old.reader Second)) old.out s.mid} {s = Second}
+        {cursor = initial_cursor Second}
+        {ls = both g.now_ls []} {p = no_lines} (record {
+          lines_read = none_read Second;
+          sound = w.sound Second;
+          all = refl;
+          last = None;
+          sorted_up_to = sorted_up_to_none;
+          bound = refl;
+          rest = read_facts_at_line g.side_invariant;
+          order = λ r piece free.
+              record { first = inl g.side_invariant.begun; second = inr (first_line_only s) };
+          denied = (half_store s).denied;
+          fits = λ piece all l. within_size tool w.fits Second (initial_cursor Second) (both g.now_ls []) all piece
+              (fresh_slots Second) (half_store s) (λ side. omega (arith, (l side).longest))
+              (omega (arith, (l Second).longest));
+        }) (lag_invariant_starts (half_invariant s) w.writable (push_nothing old.out))
+        (λ new piece facts. processed_come_first w new _ _ _ _ _ facts (half_invariant s)) (inr (w.writable, s.later))
 
 -- the line terminator
 pub ending_is : (zero : Bool) → cond zero 0 10 ≡ terminator zero

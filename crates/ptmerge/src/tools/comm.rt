@@ -1,15 +1,14 @@
 //! The engine of `comm`: each step of the merge writes one line, of one input or of both.
 
-ghost use Rattle.std.specs.Prelude.{◌≡◌, ◌<◌, ◌++◌, ℕ, List, true, false, length};
+ghost use Rattle.std.specs.Prelude.{◌≡◌, ◌++◌, ℕ, List, false};
 ghost use Rattle.ptlangs.specs.Jobs.{comm_job};
 ghost use Rattle.ptlines.specs.Outputs.{PushEffect};
 ghost use Rattle.ptlines.specs.Slots.{line};
 ghost use Rattle.ptlines.specs.Text.{unlines};
 ghost use Rattle.ptmerge.specs.Comm.{comm_with, comm_tool, tab_if_shown, column_entries};
-ghost use Rattle.ptmerge.specs.MergeCall.{MergeRunPre, MergePost, MergePre, IsMergeUnread, IsMergeUntouched, IsUnreadWithoutSlots, merge_state};
+ghost use Rattle.ptmerge.specs.MergeCall.{MergeRunPre, MergePost, MergePre, merge_state};
 ghost use Rattle.ptmerge.specs.WriteAndAdvance.{WriteThenAdvancePost, AdvancePre};
 ghost use Rattle.ptmerge.specs.Sides.{both};
-ghost use Rattle.ptlines.specs.Slots.{AddedSlots};
 ghost use Rattle.ptmerge.specs.declared.key_order.Side.{Side as SideType};
 
 use crate::faults::MergeFault;
@@ -71,12 +70,9 @@ fn comm_with_order<K: KeyOrder, A: Allocator + Copy, S: Source, R: Source, W: Si
 ) -> Result<(), MergeFault>
     requires whole_line_keys { (side : SideType) (line : List ℕ) → K.key_of order side line ≡ line }
     requires begins { MergeRunPre (comm_job job.now).terminator first.old second.old out.old store.old }
-    ensures merged { let tool = comm_with (comm_job job.now) (K.order order) (K.key_of order) in
+    ensures { let tool = comm_with (comm_job job.now) (K.order order) (K.key_of order) in
         let was = merge_state first.old second.old out.old store.old in
         MergePost tool was (merge_state first.new second.new out.new store.new) result }
-    ensures unread_without_slots { let was = merge_state first.old second.old out.old store.old in
-        length store.new.lines < 4 → IsMergeUnread was (merge_state first.new second.new out.new store.new) }
-    ensures slots { AddedSlots store.old store.new 4 }
 {
     let [hide1, hide2, hide3] = job.hide;
     let tabs2 = tabs(hide1, true);
@@ -131,13 +127,8 @@ pub fn comm<A: Allocator + Copy, S: Source, R: Source, W: Sink>(
     out: &mut Out<W>,
 ) -> Result<(), MergeFault>
     requires { MergePre first.old second.old store.old }
-    ensures merged { let was = merge_state first.old second.old out.old store.old in
+    ensures { let was = merge_state first.old second.old out.old store.old in
         MergePost (comm_tool (comm_job job.now)) was (merge_state first.new second.new out.new store.new) result }
-    ensures slots { out.old.write_failed ≡ false → AddedSlots store.old store.new 4 }
-    ensures unread_without_slots { let was = merge_state first.old second.old out.old store.old in
-        IsUnreadWithoutSlots (comm_job job.now).terminator was (merge_state first.new second.new out.new store.new) }
-    ensures unchanged_if_failed { let was = merge_state first.old second.old out.old store.old in
-        out.old.write_failed ≡ true → IsMergeUntouched was (merge_state first.new second.new out.new store.new) result }
 {
     if out.has_failed() {
         return Err(MergeFault::Write);

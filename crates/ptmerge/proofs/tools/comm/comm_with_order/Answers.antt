@@ -1,7 +1,8 @@
 -- Each iteration preserves the invariant by one lemma of `Iteration`, and each exit has the postconditions by another.
 use Rattle.ptmerge.proofs.Common.{◌≡◌, Result, Err, IsErrAnd, arith, refl, ◌∙◌, err_from_is_err_and, comm_job}
 use Rattle.ptmerge.proofs.Common.{MergeFault, comm_with, merge_state}
-use Rattle.ptmerge.proofs.MergeLemmas.Step.{IsOpenMerge, open_merge, err_is}
+use Rattle.ptmerge.proofs.MergeLemmas.Exits.{IsOpenMerge}
+use Rattle.ptmerge.proofs.MergeLemmas.Step.{open_merge, err_is}
 use Rattle.ptmerge.proofs.CommLemmas.Iteration.{alone_decreases, alone_continues, alone_fails, eof, disordered, exit_as}
 use Rattle.ptmerge.proofs.CommLemmas.Iteration.{pair_decreases, pair_continues, pair_fails, second_advance_pre}
 use Rattle.ptmerge.proofs.CommLemmas.Iteration.{second_fails, advance_pre, start_fails, starts, iteration_as}

@@ -1,31 +1,23 @@
 -- If the output has failed, nothing is done. Otherwise both orders have one proof, over the order that the job selects.
 use Rattle.ptmerge.proofs.Common.{sym, ◌∙◌, join_job, join_tool, merge_state}
 use Rattle.ptmerge.proofs.MergeLemmas.Step.{set_is}
-use Rattle.ptmerge.proofs.MergeLemmas.Exits.{merge_halted, merge_set, unread_set}
+use Rattle.ptmerge.proofs.MergeLemmas.Exits.{merge_halted, merge_set}
 use Rattle.ptmerge.proofs.tools.join.join.Goals as goal
 
-pub returns-then-has_failed-clause-merged : goal.returns-then-has_failed-clause-merged
-returns-then-has_failed-clause-merged g c =
+pub returns-then-has_failed : goal.returns-then-has_failed
+returns-then-has_failed g c =
     merge_halted (join_tool (join_job c.args.job.now))
     (merge_state c.args.first.now c.args.second.now c.args.out.now c.args.store.now)
     c.requires.allowed (sym c.has_failed.ensures ∙ c.if-has_failed.true)
 
-pub returns-then-job-clause-merged : goal.returns-then-job-clause-merged
-returns-then-job-clause-merged g c = merge_set _ _ _ _ (set_is _ _ _ _ _ c.set_ending.ensures.set
-    c.set_ending-2.ensures.set) _ _ (rw c.if-job.true c.join_with_order.ensures.merged)
+pub returns-then-job : goal.returns-then-job
+returns-then-job g c =
+    merge_set _ _ _ _ (sym c.has_failed.ensures ∙ c.if-has_failed.false)
+    (set_is _ _ _ _ _ c.set_ending.ensures.set c.set_ending-2.ensures.set) _
+    (rw c.if-job.true c.join_with_order.ensures)
 
-pub returns-clause-merged : goal.returns-clause-merged
-returns-clause-merged g c = merge_set _ _ _ _ (set_is _ _ _ _ _ c.set_ending.ensures.set c.set_ending-2.ensures.set) _ _
-    (rw c.if-job.false c.join_with_order-2.ensures.merged)
-
-pub returns-then-job-clause-unread_without_slots : goal.returns-then-job-clause-unread_without_slots
-returns-then-job-clause-unread_without_slots g c =
-    unread_set (merge_state c.args.first.now c.args.second.now c.args.out.now c.args.store.now) _ _ _
-    (set_is _ _ _ _ _ c.set_ending.ensures.set c.set_ending-2.ensures.set)
-    c.join_with_order.ensures.unread_without_slots
-
-pub returns-clause-unread_without_slots : goal.returns-clause-unread_without_slots
-returns-clause-unread_without_slots g c =
-    unread_set (merge_state c.args.first.now c.args.second.now c.args.out.now c.args.store.now) _ _ _
-    (set_is _ _ _ _ _ c.set_ending.ensures.set c.set_ending-2.ensures.set)
-    c.join_with_order-2.ensures.unread_without_slots
+pub returns : goal.returns
+returns g c =
+    merge_set _ _ _ _ (sym c.has_failed.ensures ∙ c.if-has_failed.false)
+    (set_is _ _ _ _ _ c.set_ending.ensures.set c.set_ending-2.ensures.set) _
+    (rw c.if-job.false c.join_with_order-2.ensures)
