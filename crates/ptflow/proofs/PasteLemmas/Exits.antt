@@ -376,6 +376,10 @@ module _ {job : Paste} {cells : List ℕ} {old set now : List Reader} {was is : 
       bound_to = row_kept s b.slots b.consumed (λ p. max_line_length job.terminator (texts p))
           (λ p. omega (arith, long_to p))
 
+      bound_with_piece : SlotsBound cells (λ p. max_line_length job.terminator (texts p)) first
+          (with_line b.buffered b.column piece)
+      bound_with_piece = slots_bound_line bound_to b.column piece b.within piece_fits
+
     failed_to : (reader_at new here).failed ≡ (reader_at b.mid here).failed
         → (p : ℕ) → (reader_at new p).failed ≡ (reader_at set p).failed
     failed_to same p = grind (arith, same, (last p).whose, failed_mid p)
@@ -405,11 +409,11 @@ module _ {job : Paste} {cells : List ℕ} {old set now : List Reader} {was is : 
           (earlier_of_taken p some (lines_taken_to p) (uses_before cells b.column p)))
           (last p).whose)
 
-      exit_to : {is' : Output} → PushEffect is is' [] → (stored : Slots)
+      exit_to : {is' : Output} → PushEffect is is' [] → {stored : Slots}
           → ((texts : ℕ → List ℕ) → ((p : ℕ) → IsConsistent (given_by job s.first_rows read_to p) (texts p))
           → SlotsBound cells (λ p. max_line_length job.terminator (texts p)) first stored)
           → length after.lines ≡ length stored.lines → after.peak ≡ stored.peak → IsExit read_to is' [] after stored
-      exit_to wrote stored bound size same_peak = record {
+      exit_to wrote bound size same_peak = record {
         wrote = wrote;
         size = size;
         same_peak = same_peak;
@@ -418,19 +422,12 @@ module _ {job : Paste} {cells : List ℕ} {old set now : List Reader} {was is : 
         lags = lag_to;
       }
 
-      exit_with_piece : {is' : Output} → PushEffect is is' []
-          → length after.lines ≡ length (with_line b.buffered b.column piece).lines
-          → after.peak ≡ (with_line b.buffered b.column piece).peak
-          → IsExit read_to is' [] after (with_line b.buffered b.column piece)
-      exit_with_piece wrote = exit_to wrote (with_line b.buffered b.column piece)
-          (λ texts a. slots_bound_line (bound_to texts a) b.column piece b.within (piece_fits texts a))
-
     -- The buffered output could not be written.
     paste_send_failed : {is' : Output} → PushEffect is is' [] → is'.write_failed ≡ true → after ≡ b.buffered
         → (reader_at new here).failed ≡ (reader_at b.mid here).failed → (reader_at b.mid here).eof ≡ false
         → PastePost job cells old new was is' first after (Err Write)
     paste_send_failed wrote fault stored same going =
-        let k = exit_to (λ done. cc (done.eof)) wrote b.buffered bound_to
+        let k = exit_to (λ done. cc (done.eof)) wrote bound_to
         (ap (λ (x : Slots). length x.lines) stored) (ap (λ (x : Slots). x.peak) stored) in
         exit k (Err Write) (record {
           write_failed = fault;
@@ -444,9 +441,9 @@ module _ {job : Paste} {cells : List ℕ} {old set now : List Reader} {was is : 
         → (reader_at new here).failed ≡ (reader_at b.mid here).failed → 0 < length (reader_at new here).buffered
         → PastePost job cells old new was is' first after (Err Memory)
     paste_memory_failed wrote clean stored same left =
-        exit (exit_with_piece (λ done.
+        exit (exit_to (λ done.
         let (none, empty, eof) = eof_gives_nothing (reader_at b.mid here) (reader_at new here) piece done piece_reads in
-        absurd (omega (arith, left, ap length empty))) wrote
+        absurd (omega (arith, left, ap length empty))) wrote bound_with_piece
         (ap (λ (x : Slots). length x.lines) stored) (ap (λ (x : Slots). x.peak) stored)) (Err Memory) (record {
           denied = ap (λ (x : Slots). x.denied) stored;
           unfailed = λ p named. failed_to same p;
@@ -467,7 +464,7 @@ module _ {job : Paste} {cells : List ℕ} {old set now : List Reader} {was is : 
         → after ≡ with_line b.buffered b.column piece → HasReadCause (reader_at b.mid here) (reader_at new here)
         → PastePost job cells old new was is' first after (Err (Read here))
     paste_read_failed wrote clean stored cause =
-        let k = exit_with_piece may_have_more wrote (ap (λ (x : Slots). length x.lines) stored)
+        let k = exit_to may_have_more wrote bound_with_piece (ap (λ (x : Slots). length x.lines) stored)
         (ap (λ (x : Slots). x.peak) stored) in
         exit k (Err (Read here)) (record {
           named = used_is_in cells here here_used;

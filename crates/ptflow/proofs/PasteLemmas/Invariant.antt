@@ -19,6 +19,7 @@ use Rattle.ptflow.proofs.Passes.LinesRead.{lines_on}
 use Rattle.ptflow.proofs.PasteLemmas.Lag.{EarlierPart, LagsAt, lags_here, decided_is_prefix}
 use Rattle.ptflow.proofs.Passes.Readers.{eof_gives_nothing, may_follow}
 use Rattle.ptflow.proofs.PasteLemmas.Named.{is_in_used, not_in}
+use Rattle.ptlines.specs.Received.{empty_input}
 
 -- ---- inputs that columns use
 
@@ -40,16 +41,29 @@ ended_more end (line ∷ ls) bytes (whole, more) = cc (
 )
 
 -- The known lines of all received bytes, if `ls` were received first.
-whole_lines_after : (end : ℕ) (now : Reader) (given : List ℕ) (ls : Column) → AreReceivedLines end now given ls
-    → (rest : List ℕ) (eof : Bool) → (IsDone now → (rest ≡ []) × (eof ≡ true))
+whole_lines_after : {end : ℕ} {now : Reader} {given : List ℕ} {ls : Column} → AreReceivedLines end now given ls
+    → (rest : List ℕ) (eof : Bool) → (IsDone now → record { bytes = rest; eof = eof } ≡ empty_input)
     → known_lines end (record { bytes = given ++ rest; eof = eof }) ≡ ls ++ known_lines end
     (record { bytes = rest; eof = eof })
-whole_lines_after end now given ls k rest true may = lines_on end now given ls k rest
-    (λ done. let (none, eof) = may done in none)
-whole_lines_after end now given ls k rest false may = ⊎_elim
+whole_lines_after {end} {now} {given} {ls} k rest true may =
+    lines_on end now given ls k rest (λ done. ap (λ (g : Received). g.bytes) (may done))
+whole_lines_after {end} {now} {given} {ls} k rest false may = ⊎_elim
     (λ (is, are). rw is (ended_more end ls rest are))
-    (λ (is, done). let (none, eof) = may done in cc eof)
+    (λ (is, done). cc (ap (λ (g : Received). g.eof) (may done)))
     k.so_far
+
+-- The rows of all that is received, if `rest` is received after some rows.
+rows_after : (job : Paste) {cells : List ℕ} {set now : List Reader} {ls : ℕ → Column}
+    {taken_rows : List (List (List ℕ))} (g : AreFirstRows (job_shape job cells) set now ls taken_rows)
+    (rest : ℕ → Received) → ((p : ℕ) → IsDone (reader_at now p) → rest p ≡ empty_input)
+    → rows (columns cells (λ p. known_lines job.terminator (record {
+      bytes = (g.lines_taken p).bytes ++ (rest p).bytes;
+      eof = (rest p).eof;
+    }))) ≡ taken_rows ++ rows (columns cells (λ p. known_lines job.terminator (rest p)))
+rows_after job {cells} g rest may =
+    (λ i. rows (columns cells (λ p.
+    whole_lines_after (g.lines_taken p).came (rest p).bytes (rest p).eof (may p) i)))
+    ∙ g.on (λ p. known_lines job.terminator (rest p)) (λ p done. ap (known_lines job.terminator) (may p done))
 
 -- ---- readers that were read further after some rows
 
@@ -80,21 +94,17 @@ module _ (job : Paste) {cells : List ℕ} {set now new : List Reader} {ls : ℕ 
     abbrev pub later : ℕ → List ℕ
     later p = r.extra p ++ ((reader_at new p).buffered ++ (a p).rest)
 
-    may_later : (p : ℕ) → IsDone (reader_at now p) → later p ≡ []
-    may_later p = may_follow (reader_at now p) (reader_at new p) (r.extra p) ((reader_at new p).buffered ++ (a p).rest)
-        (r.reads p) (λ done i. done.buffered i ++ (a p).whole done.eof i)
-
-    lines_by : (p : ℕ) → lines job.terminator (texts p) ≡ ls p ++ lines job.terminator (later p)
-    lines_by p = cc (
-      simp append_assoc at (a p).is,
-      lines_on job.terminator (reader_at now p) (g.lines_taken p).bytes (ls p) (g.lines_taken p).came (later p)
-          (may_later p),
-    )
-
     pub rows_by : rows (columns cells (λ p. lines job.terminator (texts p))) ≡ taken_rows ++ rows
         (columns cells (λ p. lines job.terminator (later p)))
-    rows_by = (λ i. rows (columns cells (λ p. lines_by p i))) ∙ g.on (λ p. lines job.terminator (later p))
-        (λ p done. ap (lines job.terminator) (may_later p done))
+    rows_by =
+        let is : (p : ℕ) → texts p ≡ (g.lines_taken p).bytes ++ later p = λ p. simp append_assoc at (a p).is in
+        (λ i. rows (columns cells (λ p. lines job.terminator (is p i))))
+        ∙ rows_after job g (λ p. record { bytes = later p; eof = true }) (λ p done i. record {
+          bytes = may_follow (reader_at now p) (reader_at new p) (r.extra p)
+              ((reader_at new p).buffered ++ (a p).rest) (r.reads p)
+              (λ done i. done.buffered i ++ (a p).whole done.eof i) done i;
+          eof = true;
+        })
 
     pub begins_by : IsPrefix (rows_text job taken_rows) (paste job cells texts)
     begins_by = record {
@@ -103,33 +113,23 @@ module _ (job : Paste) {cells : List ℕ} {set now new : List Reader} {ls : ℕ 
           (rows (columns cells (λ p. lines job.terminator (later p))));
     }
 
-  -- The known lines after the rows.
-  abbrev pub more_by : ℕ → Column
-  more_by p = known_lines job.terminator (record {
-    bytes = r.extra p ++ (reader_at new p).buffered;
-    eof = (reader_at new p).eof;
-  })
-
-  none_more : (p : ℕ) → IsDone (reader_at now p) → (r.extra p ++ (reader_at new p).buffered ≡ [])
-      × ((reader_at new p).eof ≡ true)
-  none_more p done =
-      let (none, empty, eof) = eof_gives_nothing (reader_at now p) (reader_at new p) (r.extra p) done (r.reads p) in
-      ((λ i. none i ++ empty i), eof)
-
-  whole_more : (p : ℕ) → known_lines job.terminator (given_by p) ≡ ls p ++ more_by p
-  whole_more p =
-      ap (λ (b : List ℕ). known_lines job.terminator (record { bytes = b; eof = (reader_at new p).eof }))
-      (append_assoc (g.lines_taken p).bytes (r.extra p) (reader_at new p).buffered)
-      ∙ whole_lines_after job.terminator (reader_at now p) (g.lines_taken p).bytes (ls p) (g.lines_taken p).came
-      (r.extra p ++ (reader_at new p).buffered) (reader_at new p).eof (none_more p)
+  -- What was received after the rows.
+  abbrev pub rest_by : ℕ → Received
+  rest_by p = received_with (r.extra p) (reader_at new p)
 
   pub rows_whole : rows (columns cells (λ p. known_lines job.terminator (given_by p))) ≡ taken_rows ++ rows
-      (columns cells more_by)
+      (columns cells (λ p. known_lines job.terminator (rest_by p)))
   rows_whole =
-      (λ i. rows (columns cells (λ p. whole_more p i)))
-      ∙ g.on more_by (λ p done.
-      let (none, eof) = none_more p done in
-      λ i. known_lines job.terminator (record { bytes = none i; eof = eof i }))
+      (λ i. rows (columns cells (λ p. known_lines job.terminator (record {
+        bytes = append_assoc (g.lines_taken p).bytes (r.extra p) (reader_at new p).buffered i;
+        eof = (reader_at new p).eof;
+      }))))
+      ∙ rows_after job g rest_by (λ p done.
+      let (none, empty, eof) = eof_gives_nothing (reader_at now p) (reader_at new p) (r.extra p) done (r.reads p) in
+      λ i. record { bytes = none i ++ empty i; eof = eof i })
+
+  abbrev later_rows : List (List (List ℕ))
+  later_rows = rows (columns cells (λ p. known_lines job.terminator (rest_by p)))
 
   -- Without the last bytes of this input alone, no more output is determined than was pushed.
   abbrev pub LagsBy : ℕ → Type 0
@@ -139,12 +139,12 @@ module _ (job : Paste) {cells : List ℕ} {set now new : List Reader} {ls : ℕ 
   EarlierBy p = EarlierPart job.terminator ((length taken_rows + 1) * uses_of cells p) (given_by p)
 
   pub lags_by : (p : ℕ) → 0 < uses_of cells p → EarlierBy p → LagsBy p
-  lags_by = lags_here job cells given_by taken_rows (rows (columns cells more_by)) rows_whole
+  lags_by = lags_here job cells given_by taken_rows later_rows rows_whole
 
   pub begins_by_earlier : (p : ℕ) (some : 0 < uses_of cells p) (cut : EarlierBy p) → cut.front ≡ (given_by p).bytes
       → (given_by p).eof ≡ false
       → IsPrefix (paste_decided job cells given_by) (rows_text job taken_rows)
-  begins_by_earlier = decided_is_prefix job cells given_by taken_rows (rows (columns cells more_by)) rows_whole
+  begins_by_earlier = decided_is_prefix job cells given_by taken_rows later_rows rows_whole
 
 -- ---- after the terminators of the readers were set
 
