@@ -21,7 +21,8 @@ use Rattle.ptrun.proofs.Common.{JointPost}
 use Rattle.ptrun.proofs.Common.{run_state, result_of_end, update_at}
 use Rattle.ptlines.specs.Calls.{CallEnd, Complete, OutOfOrder, ReadFault, WriteFault, MemoryFault, CallPost}
 use Rattle.ptlines.specs.Calls.{CallOutcome, AllPushed, AreAllConsistent, NoReadFailed, IsCallUnfinished}
-use Rattle.ptrun.specs.Engines.{inputs_at, in_run}
+use Rattle.ptlines.specs.Calls.{inputs_at}
+use Rattle.ptrun.specs.Engines.{in_run}
 use Rattle.ptrun.proofs.OneInput.{at_set, opened_set, lagged_output, none_received, received_of, receives_none, never_long}
 use Rattle.ptrun.proofs.OneInput.{not_long, consistent_bytes, unopened_agrees, unopened_received}
 use Rattle.ptrun.proofs.MessageWrites.{said_nothing}

@@ -44,10 +44,10 @@ module _ (job : Paste) {positions : List ℕ} {old : List Reader} {was : Output}
   completes (Err Write) = refl
   completes (Err Memory) = refl
 
-  pub rows_post : {new : List Reader} {is : Output} {store : Slots} {result : Result (Unit {0}) FlowFault}
+  pub rows_post : {new : List Reader} {is : Output} {store : Slots} (result : Result (Unit {0}) FlowFault)
       → PastePost job positions old new was is before store result
       → JointPost (paste_rows_tool job) positions old new was is before store (rows_completion result)
-  rows_post {new} {result = result} k = record {
+  rows_post {new} result k = record {
     end = end_at (λ p. p) (paste_end result);
     result_is = completes result;
     call = placed_call (paste_engine job positions) (λ p. p) in_place old new k.untouched ready.writable

@@ -18,10 +18,10 @@ pub returns-in_err-paste : goal.returns-in_err-paste
 returns-in_err-paste g c =
     let e = err_from_is_err_and c.from_residual.result c.from_residual.ensures.1 in
     rw (c.if-self.false, e.1, e.2)
-    (rw c.in_err-paste.was at (rows_post (paste_job c.args.self.now) (rw c.if-self.false at c.requires)
+    (rw c.in_err-paste.was at (rows_post (paste_job c.args.self.now) (rw c.if-self.false at c.requires) _
     c.paste.ensures))
 
 pub returns : goal.returns
 returns g c = rw c.if-self.false
-    (rw c.in_ok-paste.was at (rows_post (paste_job c.args.self.now) (rw c.if-self.false at c.requires)
+    (rw c.in_ok-paste.was at (rows_post (paste_job c.args.self.now) (rw c.if-self.false at c.requires) _
     c.paste.ensures))
