@@ -1,10 +1,9 @@
 -- A tool with one input that accepts one operand: the pass over the reader of this operand is its run.
-use Rattle.ptrun.proofs.Common.{◌≡◌, ℕ, ◌==◌, ◌<◌, ◌≤◌, true, false, List, [], ◌∷◌, Result, Ok, Err, length}
-use Rattle.ptrun.proofs.Common.{get_or, set, refl, sym, ◌∙◌, ap, subst, arith, eqb-true, false≢true, get_or_default}
-use Rattle.ptrun.proofs.Common.{get_or-set_same, get_or-set_other, no_reader, Reader, IsDone, Output, Slots}
-use Rattle.ptrun.proofs.Common.{ToolSpec, PassPre, PassPost, FlowFault, is_in, only_input, pass_engine, pass_end}
-use Rattle.ptrun.proofs.Common.{reader_at, is_reader_unopened, IsNew, JointTool, one_input_tool, JointPre}
-use Rattle.ptrun.proofs.Common.{JointPost, operand_completion, result_of_end, or-false, inl}
+use Rattle.ptrun.proofs.Common.{◌≡◌, ℕ, ◌==◌, ◌<◌, true, false, List, [], ◌∷◌, Result, length, get_or, set, refl, sym}
+use Rattle.ptrun.proofs.Common.{◌∙◌, ap, subst, arith, eqb-true, false≢true, get_or_default, get_or-set_same}
+use Rattle.ptrun.proofs.Common.{get_or-set_other, no_reader, Reader, Output, Slots, ToolSpec, PassPre, PassPost}
+use Rattle.ptrun.proofs.Common.{FlowFault, is_in, only_input, pass_engine, pass_end, reader_at, is_reader_unopened}
+use Rattle.ptrun.proofs.Common.{IsNew, JointTool, one_input_tool, JointPre, JointPost, operand_completion, or-false}
 use Rattle.ptrun.specs.Engines.{end_at}
 use Rattle.ptrun.proofs.OperandInputs.{is_in-same, fresh_all, neither, same_here}
 use Rattle.ptrun.proofs.PlacedCalls.{Placement, placed_call}

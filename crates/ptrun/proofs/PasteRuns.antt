@@ -1,8 +1,8 @@
 -- `paste`: each operand is a column, so the call of its engine over the columns is the run of the tool.
-use Rattle.ptrun.proofs.Common.{◌≡◌, ℕ, ◌<◌, ◌≤◌, ◌==◌, true, false, List, Result, Ok, Err, length, get_or, refl, arith}
-use Rattle.ptrun.proofs.Common.{Reader, Output, Slots, FlowFault, Read, Write, Memory, Completion, AllWritten, is_in}
-use Rattle.ptrun.proofs.Common.{reader_at, is_reader_unopened, JointPre, JointPost, All-from_get_or, Paste, IsReadable}
-use Rattle.ptrun.proofs.Common.{PastePost, paste_end, paste_engine, paste_rows_tool, inputs_at, result_of_end}
+use Rattle.ptrun.proofs.Common.{◌≡◌, ℕ, true, false, List, Result, Ok, Err, get_or, refl, arith, Reader, Output, Slots}
+use Rattle.ptrun.proofs.Common.{FlowFault, Read, Write, Memory, Completion, AllWritten, is_in, reader_at}
+use Rattle.ptrun.proofs.Common.{is_reader_unopened, JointPre, JointPost, All-from_get_or, Paste, IsReadable, PastePost}
+use Rattle.ptrun.proofs.Common.{paste_end, paste_engine, paste_rows_tool, inputs_at, result_of_end}
 use Rattle.ptflow.proofs.PasteLemmas.Named.{cell_in, decided_same}
 use Rattle.ptflow.specs.PasteCall as pass
 use Rattle.ptrun.specs.Engines.{end_at}
