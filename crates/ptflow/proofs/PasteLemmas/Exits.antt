@@ -28,7 +28,6 @@ use Rattle.ptflow.proofs.PasteLemmas.Invariant.{lags_by, begins_by_earlier, rows
 use Rattle.ptflow.proofs.PasteLemmas.Invariant.{since_set, set_readable, now_readable, read_lines}
 use Rattle.ptflow.proofs.PasteLemmas.Named.{is_in_used, not_in, used_is_in, consistent_itself, with_received, all_agree}
 use Rattle.ptflow.proofs.PasteLemmas.Named.{same_paste, same_size}
-use Rattle.ptlines.specs.Calls.{EngineSpec, InputNames}
 
 -- A slot could not be allocated.
 pub paste_without_slots : {job : Paste} {cells : List ℕ} {old set : List Reader} {was : Output} {first store : Slots}
@@ -54,13 +53,11 @@ module _ {job : Paste} {cells : List ℕ} {old set now : List Reader} {was is : 
       (length s.taken_rows * uses_of cells p) (s.ls p)
   so_far = s.first_rows.lines_taken
 
-  -- The readers were read further, and `pushed` was pushed after the rows so far. If no growth was denied, the store
-  -- is `stored`.
+  -- The readers were read further, and `pushed` was pushed after the rows so far. Perhaps the store could not grow.
   record IsExit {new : List Reader} (r : ReadMore cells now new) (is' : Output) (pushed : List ℕ)
       (after stored : Slots) : Type 0 where
     wrote : PushEffect is is' pushed
-    size : length after.lines ≡ length stored.lines
-    same_peak : after.peak ≡ stored.peak
+    same : (after ≡ stored) ⊎ (after ≡ with_denied stored)
     bound : (texts : ℕ → List ℕ) → ((p : ℕ) → IsConsistent (given_by job s.first_rows r p) (texts p))
         → SlotsBound cells (λ p. max_line_length job.terminator (texts p)) first stored
     begins : (texts : ℕ → List ℕ) → ((p : ℕ) → IsConsistent (given_by job s.first_rows r p) (texts p))
@@ -72,15 +69,6 @@ module _ {job : Paste} {cells : List ℕ} {old set now : List Reader} {was is : 
     abbrev given : ℕ → Received
     given = given_by job s.first_rows r
 
-    abbrev written : List ℕ
-    written = rows_text job s.taken_rows ++ pushed
-
-    abbrev names : InputNames ℕ
-    names = inputs_at cells
-
-    abbrev engine : EngineSpec ℕ
-    engine = paste_engine job cells
-
     abbrev begin : CallState ℕ
     begin = call_state (reader_at set) was first
 
@@ -90,8 +78,13 @@ module _ {job : Paste} {cells : List ℕ} {old set now : List Reader} {was is : 
     bound_now : SlotsBound cells (λ p. max_line_length job.terminator (given p).bytes) first stored
     bound_now = k.bound (λ p. (given p).bytes) (λ p. consistent_itself (given p))
 
-    progress : CallProgress names engine begin end (λ p. (so_far p).bytes ++ r.extra p) written
-    progress = record {
+    same_size_and_peak : (length after.lines ≡ length stored.lines) × (after.peak ≡ stored.peak)
+    same_size_and_peak = ⊎_elim (λ is. (ap (λ x. length x.lines) is, ap (λ x. x.peak) is))
+        (λ is. (ap (λ x. length x.lines) is, ap (λ x. x.peak) is)) k.same
+
+    progress : CallProgress (inputs_at cells) (paste_engine job cells) begin end
+        (λ p. (so_far p).bytes ++ r.extra p) (rows_text job s.taken_rows ++ pushed)
+    progress = let (size, peak) = same_size_and_peak in record {
       reads = λ p named. advance_trans (reader_at set p) (reader_at now p) (reader_at new p) (so_far p).bytes
           (r.extra p) (so_far p).reads (r.reads p);
       untouched = λ p other. let none = not_in cells p other in
@@ -106,18 +99,20 @@ module _ {job : Paste} {cells : List ℕ} {old set now : List Reader} {was is : 
           is' pushed k.wrote;
       peak = λ texts agree. omega (
         arith,
-        k.same_peak,
+        peak,
         (k.bound (with_received job cells given texts agree) (all_agree job cells given texts agree)).peak,
         same_size job cells given texts agree,
       );
-      slots = λ texts agree. omega (arith, k.size, bound_now.adds.most);
-      least = omega (arith, k.size, bound_now.adds.least);
-      room = omega (arith, k.size, bound_now.adds.all bound_now.denied);
+      slots = λ texts agree. omega (arith, size, bound_now.adds.most);
+      least = omega (arith, size, bound_now.adds.least);
+      room = omega (arith, size, bound_now.adds.all bound_now.denied);
     }
 
     exit : (result : Result (Unit {0}) FlowFault)
-        → CallOutcome names engine begin end given written (paste_end result)
-        → DecidedIfReadFailed names engine begin end (λ p. (so_far p).bytes ++ r.extra p) written (paste_end result)
+        → CallOutcome (inputs_at cells) (paste_engine job cells) begin end given (rows_text job s.taken_rows ++ pushed)
+        (paste_end result)
+        → DecidedIfReadFailed (inputs_at cells) (paste_engine job cells) begin end
+        (λ p. (so_far p).bytes ++ r.extra p) (rows_text job s.taken_rows ++ pushed) (paste_end result)
         → PastePost job cells old new was is' first after result
     exit result ends decided =
         since_set s.starts (call_ends _ _ _ _ _ progress (paste_end result) ends decided)
@@ -156,8 +151,7 @@ module _ {job : Paste} {cells : List ℕ} {old set now : List Reader} {was is : 
       paste_write wrote fault {after} kept cut =
           let k : IsExit read_on _ _ after after = record {
             wrote = wrote;
-            size = refl;
-            same_peak = refl;
+            same = inl refl;
             bound = λ texts a. kept (λ p. max_line_length job.terminator (texts p)) (λ p. omega (
               arith,
               longest p (all_taken p) (a p),
@@ -273,8 +267,7 @@ module _ {job : Paste} {cells : List ℕ} {old set now : List Reader} {was is : 
     paste_done {cleared = cleared} e wrote clean =
         let k : IsExit read_by _ [] cleared cleared = record {
           wrote = wrote;
-          size = refl;
-          same_peak = refl;
+          same = inl refl;
           bound = λ texts a. let top = λ (p : ℕ). max_line_length job.terminator (texts p) in
               e.kept first top (row_kept s slots f.consumed top (λ p. longest p (lines_taken_by p) (a p)));
           begins = begins_without_more read_by;
@@ -402,21 +395,17 @@ module _ {job : Paste} {cells : List ℕ} {old set now : List Reader} {was is : 
       lag_to p some = lags_by job s.first_rows read_to p some (⊎_elim
           (λ (is, whole). subst (EarlierBy job s.first_rows read_to) (sym is) earlier_here)
           (λ (other, none, kept).
-          let bytes = (lines_taken_to p).bytes in
-          let same = sym (append-nil bytes) ∙ ap (λ (x : List ℕ). bytes ++ x) (sym none) in
-          subst (EarlierPart job.terminator ((length s.taken_rows + 1) * uses_of cells p))
-          (λ i. received_with ((so_far p).bytes ++ same i) (sym kept i))
+          rw (none, append-nil (lines_taken_to p).bytes, kept)
           (earlier_of_taken p some (lines_taken_to p) (uses_before cells b.column p)))
           (last p).whose)
 
       exit_to : {is' : Output} → PushEffect is is' [] → {stored : Slots}
           → ((texts : ℕ → List ℕ) → ((p : ℕ) → IsConsistent (given_by job s.first_rows read_to p) (texts p))
           → SlotsBound cells (λ p. max_line_length job.terminator (texts p)) first stored)
-          → length after.lines ≡ length stored.lines → after.peak ≡ stored.peak → IsExit read_to is' [] after stored
-      exit_to wrote bound size same_peak = record {
+          → (after ≡ stored) ⊎ (after ≡ with_denied stored) → IsExit read_to is' [] after stored
+      exit_to wrote bound same = record {
         wrote = wrote;
-        size = size;
-        same_peak = same_peak;
+        same = same;
         bound = bound;
         begins = begins_without_more read_to;
         lags = lag_to;
@@ -427,8 +416,7 @@ module _ {job : Paste} {cells : List ℕ} {old set now : List Reader} {was is : 
         → (reader_at new here).failed ≡ (reader_at b.mid here).failed → (reader_at b.mid here).eof ≡ false
         → PastePost job cells old new was is' first after (Err Write)
     paste_send_failed wrote fault stored same going =
-        let k = exit_to (λ done. cc (done.eof)) wrote bound_to
-        (ap (λ (x : Slots). length x.lines) stored) (ap (λ (x : Slots). x.peak) stored) in
+        let k = exit_to (λ done. cc (done.eof)) wrote bound_to (inl stored) in
         exit k (Err Write) (record {
           write_failed = fault;
           unfailed = λ p named. failed_to same p;
@@ -444,7 +432,7 @@ module _ {job : Paste} {cells : List ℕ} {old set now : List Reader} {was is : 
         exit (exit_to (λ done.
         let (none, empty, eof) = eof_gives_nothing (reader_at b.mid here) (reader_at new here) piece done piece_reads in
         absurd (omega (arith, left, ap length empty))) wrote bound_with_piece
-        (ap (λ (x : Slots). length x.lines) stored) (ap (λ (x : Slots). x.peak) stored)) (Err Memory) (record {
+        (inr stored)) (Err Memory) (record {
           denied = ap (λ (x : Slots). x.denied) stored;
           unfailed = λ p named. failed_to same p;
           clean = clean;
@@ -464,28 +452,17 @@ module _ {job : Paste} {cells : List ℕ} {old set now : List Reader} {was is : 
         → after ≡ with_line b.buffered b.column piece → HasReadCause (reader_at b.mid here) (reader_at new here)
         → PastePost job cells old new was is' first after (Err (Read here))
     paste_read_failed wrote clean stored cause =
-        let k = exit_to may_have_more wrote bound_with_piece (ap (λ (x : Slots). length x.lines) stored)
-        (ap (λ (x : Slots). x.peak) stored) in
+        let k = exit_to may_have_more wrote bound_with_piece (inl stored) in
         exit k (Err (Read here)) (record {
           named = used_is_in cells here here_used;
-          unfailed = here_unfailed;
+          unfailed = never_failed s.starts here (used_is_in cells here here_used);
           cause = ⊎_elim inl (λ (long, same). inr (long, same ∙ failed_mid here)) cause;
           others = λ q named differ. ap (λ (r : Reader). r.failed) (b.others q differ) ∙ failed_mid q;
           clean = clean;
           not_denied = ap (λ (x : Slots). x.denied) stored ∙ (bound_now k).denied;
-        }) (λ p named failed. ⊎_elim
-        (λ (is, whole). ⊎_elim decided_here
-        (λ (long, same). cc (same, failed_mid here, here_unfailed, ap (λ (q : ℕ). (reader_at new q).failed) is)) cause)
-        (λ (other, none, kept). cc (
-          ap (λ (r : Reader). r.failed) kept,
-          failed_mid p,
-          never_failed s.starts p named,
-        ))
-        (last p).whose)
+        }) (λ p named failed. ⊎_elim decided_here
+        (λ (long, same). cc (failed, failed_to same p, never_failed s.starts p named)) cause)
       where
-        here_unfailed : (reader_at set here).failed ≡ false
-        here_unfailed = never_failed s.starts here (used_is_in cells here here_used)
-
         may_have_more : IsDone (reader_at b.mid here) → ⊥
         may_have_more done = ⊎_elim
             (λ (failed, empty, going). cc (
