@@ -1,5 +1,5 @@
 -- The precondition and the postcondition of an engine that is called on one input.
-use Rattle.std.specs.Prelude.{◌≡◌, ℕ, true, false, List, [], None, Result, Ok, Err}
+use Rattle.std.specs.Prelude.{◌≡◌, ℕ, true, false, [], None, Result, Ok, Err}
 use Rattle.ptlines.specs.Calls.{InputNames, EngineSpec, CallEnd, Complete, ReadFault, WriteFault, MemoryFault, CallPost}
 use Rattle.ptlines.specs.Calls.{call_state}
 use Rattle.ptlines.specs.Outputs.{Output}

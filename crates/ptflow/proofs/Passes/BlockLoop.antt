@@ -4,13 +4,12 @@ use Rattle.ptflow.proofs.Common.{common_steps, ◌≡◌, ℕ, ◌+◌, ◌-◌,
 use Rattle.ptflow.proofs.Common.{Err, length, drop, refl, sym, ◌∙◌, ap, subst, arith, append-nil, append_assoc, take_all}
 use Rattle.ptflow.proofs.Common.{Reader, ReaderAdvance, AdvanceOk, IsDone, IsSound, HasReadCause, IsPrefix, Output}
 use Rattle.ptflow.proofs.Common.{PushEffect, Slots, advance_ok_trans, push_trans, ToolSpec, PassPre, PassPost, Read}
-use Rattle.ptflow.proofs.Common.{Write, OutputFailed, received_with}
+use Rattle.ptflow.proofs.Common.{Write, OutputFailed}
 use Rattle.ptflow.specs.Private.Passes.BlockLoop.{IsBlockFilter}
 use Rattle.ptflow.specs.Private.Passes.StepOutput.{OutputPart}
-use Rattle.ptflow.proofs.Passes.StepOutput.{failed_before}
 use Rattle.ptflow.proofs.Passes.Readers.{advance_past}
 use Rattle.ptflow.proofs.Passes.Exits.{Progress, progress_none, progress_flushed, PassState, PassEnding, store_unchanged}
-use Rattle.ptflow.proofs.Passes.Exits.{pass_read, pass_write, pass_done, pass_unended}
+use Rattle.ptflow.proofs.Passes.Exits.{nothing_more, pass_read, pass_write, pass_done, pass_unended}
 
 -- a counter is at most the number of bytes that were processed
 module _ {reader shown : Reader} {block : List ℕ} (advance_ok : AdvanceOk reader shown [])
@@ -99,6 +98,7 @@ module _ {X : Type 0} {rest_from : X → List ℕ → List ℕ} {IsUnchanged : X
         sound = sound;
         reads = reads;
         stored = store_unchanged block_filter.slots;
+        keeps_store = λ none. refl;
         processing = record {
           before = λ u. record {
             earlier = record { bytes = run.given; eof = false };
@@ -128,7 +128,7 @@ module _ {X : Type 0} {rest_from : X → List ℕ → List ℕ} {IsUnchanged : X
       -- the buffered output could not be written
       pub block_flush_failed : {is' : Output} → PushEffect is is' [] → is'.write_failed ≡ true
           → new.failed ≡ reader.failed → PassPost tool old new was is' store store (Err Write)
-      block_flush_failed wrote fault same = block_write refl (failed_before rest_from now new.buffered wrote fault) same
+      block_flush_failed wrote fault same = pass_write ending wrote (nothing_more ending) fault same ready.not_denied
 
       module _ {is' : Output} (wrote : PushEffect is is' (rest_from now [])) (done : IsDone new)
           (same : new.failed ≡ reader.failed) where

@@ -10,10 +10,10 @@ use Rattle.ptflow.proofs.Common.{received_with, advance_trans, push_nothing, pus
 use Rattle.ptflow.proofs.Common.{only_input, pass_end, pass_engine, CallState, call_state, CallOutcome}
 use Rattle.ptflow.proofs.Common.{AddedSlots, CallProgress, DecidedIfReadFailed, call_ends, call_on_failed_output}
 use Rattle.ptflow.proofs.Common.{call_set, call_without_slots, ProcessLag, bounded_lag_after, FlowFault, Read, Write}
-use Rattle.ptflow.proofs.Common.{Memory}
+use Rattle.ptflow.proofs.Common.{Memory, reads_nothing}
 use Rattle.std.specs.Prelude.{IsErrAnd}
 use Rattle.ptflow.proofs.Passes.StepOutput.{returned_err}
-use Rattle.ptflow.proofs.Passes.Readers.{advance_none, stays_at_eof}
+use Rattle.ptflow.proofs.Passes.Readers.{stays_at_eof}
 
 abbrev state : Reader → Output → Slots → CallState (Unit {0})
 state reader out store = call_state (λ u. reader) out store
@@ -26,8 +26,11 @@ pub record Progress (old reader : Reader) (was is : Output) (given pushed : List
 
 pub progress_none : (old : Reader) (was : Output) → old.fault ≡ None → was.write_failed ≡ false
     → Progress old old was was [] []
-progress_none old was readable clean =
-    record { advance_ok = advance_none old readable; wrote = push_nothing was; clean = clean }
+progress_none old was readable clean = record {
+  advance_ok = record { reads = reads_nothing old; fault = readable; failed = refl; short = λ h. h };
+  wrote = push_nothing was;
+  clean = clean;
+}
 
 -- the buffered output was written
 abbrev pub progress_flushed : {old reader : Reader} {was is is' : Output} {given pushed : List ℕ}
@@ -56,13 +59,11 @@ LaggedOutput tool came pushed = ProcessLag {I = Unit {0}} (λ given. tool.decide
 pub record StoreBounds (tool : ToolSpec) (before store : Slots) (given : Received) : Type 0 where
   pub peak : (input : List ℕ) → IsConsistent given input → store.peak ≤ max before.peak (tool.size input)
   pub size : length store.lines ≡ max (length before.lines) tool.slots
-  pub keeps_store : tool.slots ≡ 0 → store ≡ before
 
 -- the store is unchanged
 pub store_unchanged : {tool : ToolSpec} {store : Slots} {given : Received} → tool.slots ≡ 0
     → StoreBounds tool store store given
-store_unchanged none =
-    record { peak = λ input a. omega arith; size = omega (arith, none); keeps_store = λ h. refl }
+store_unchanged none = record { peak = λ input a. omega arith; size = omega (arith, none) }
 
 -- `?` returns that a write failed
 pub by_write : {A : Type 0} {tool : ToolSpec} {old new : Reader} {was is : Output} {before store : Slots}
@@ -135,6 +136,7 @@ pub record PassEnding {X : Type 0} {rest_from : X → List ℕ → List ℕ} {st
   pub sound : IsSound reader
   pub reads : ReaderAdvance reader new piece
   pub stored : StoreBounds tool before store (received_with (midway.given ++ piece) new)
+  pub keeps_store : tool.slots ≡ 0 → store ≡ before
   pub processing : LaggedOutput tool (received_with (midway.given ++ piece) new) midway.pushed
 
 module _ {X : Type 0} {rest_from : X → List ℕ → List ℕ} {start now : X} {old reader new : Reader} {was is : Output}
@@ -189,7 +191,7 @@ module _ {X : Type 0} {rest_from : X → List ℕ → List ℕ} {start now : X} 
     pass result ends decided only = record {
       call = call_ends only_input (pass_engine tool) _ _ _ progress (pass_end result) ends decided;
       only = only;
-      keeps_store = p.stored.keeps_store;
+      keeps_store = p.keeps_store;
       stays_done = λ done. stays_at_eof _ _ _ done advanced;
     }
 
@@ -200,7 +202,7 @@ module _ {X : Type 0} {rest_from : X → List ℕ → List ℕ} {start now : X} 
         (record { write_failed = fault; unfailed = λ u read. same_failed same; not_denied = not_denied }) tt
         (λ index is. cc)
 
-  nothing_more : (rest : List ℕ) → (new.eof ≡ true → rest ≡ [])
+  pub nothing_more : (rest : List ℕ) → (new.eof ≡ true → rest ≡ [])
       → IsPrefix [] (rest_from now (piece ++ (new.buffered ++ rest)))
   nothing_more rest may = record { rest = rest_from now (piece ++ (new.buffered ++ rest)); is = refl }
 

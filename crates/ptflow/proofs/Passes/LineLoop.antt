@@ -1,9 +1,9 @@
 -- A tool that works line by line. The items written for the lines so far, and then those of the rest, are the items of
 -- the whole for every continuation; so the state between two lines is a `PassState`, and each exit is a lemma of
 -- `Exits`.
-use Rattle.ptflow.proofs.Common.{common_steps, ◌≡◌, Bool, ℕ, ◌+◌, ◌-◌, ◌*◌, ◌<◌, ◌≤◌, ◌^◌, true, false, List, [], ◌∷◌}
+use Rattle.ptflow.proofs.Common.{◌≡◌, Bool, ℕ, ◌+◌, ◌-◌, ◌<◌, ◌≤◌, ◌^◌, true, false, List, [], ◌∷◌}
 use Rattle.ptflow.proofs.Common.{◌++◌, Ok, Err, length, drop, max, refl, ◌∙◌, ap, subst, arith, append_assoc}
-use Rattle.ptflow.proofs.Common.{length-append, mul-le-mul_left, false≢true, nil_from_length, get_or-set_same, lines}
+use Rattle.ptflow.proofs.Common.{length-append, mul-le-mul_left, nil_from_length, get_or-set_same, lines}
 use Rattle.ptflow.proofs.Common.{complete_lines, IsLine, max_length, max_line_length, Received, known_lines, IsPrefix}
 use Rattle.ptflow.proofs.Common.{IsConsistent, Output, PushEffect, Reader, ReaderAdvance, AdvanceOk, IsDone, IsSound}
 use Rattle.ptflow.proofs.Common.{HasReadCause, Slots, line, with_line, with_denied, FillPost, FillLine}
@@ -14,7 +14,7 @@ use Rattle.ptflow.proofs.Passes.Lines.{line_split, complete_prefix, max_length-a
 use Rattle.ptflow.proofs.Passes.LinesRead.{lines_none, lines_few, lines_on, lines_more, lines_block, line_prefix}
 use Rattle.ptflow.proofs.Passes.LinesRead.{received_longest, piece_longest, whole_before, before_line, after_line}
 use Rattle.ptflow.proofs.Passes.Exits.{Progress, progress_none, progress_flushed, PassState, LaggedOutput, StoreBounds}
-use Rattle.ptflow.proofs.Passes.Exits.{PassEnding, pass_unslotted, pass_read, pass_memory, pass_write, pass_done}
+use Rattle.ptflow.proofs.Passes.Exits.{PassEnding, nothing_more, pass_unslotted, pass_read, pass_memory, pass_write, pass_done}
 use Rattle.ptflow.proofs.Passes.Exits.{pass_unended}
 use Rattle.ptflow.proofs.Passes.Readers.{advance_past}
 use Rattle.ptflow.proofs.Passes.Slots.{SlotBounds, bounds_weaker, bounds_line, bounds_swapped, bounds_cleared}
@@ -210,7 +210,6 @@ module _ {S X E : Type 0} {tool : ToolSpec} {state : S → Slots → X} {rest_fr
       kept given bounds short = record {
         peak = λ input a. omega (arith, bounds.peak, line_filter.size input, mul-le-mul_left width (short input a));
         size = rw line_filter.slots bounds.size;
-        keeps_store = λ none. absurd (omega (arith, none, line_filter.slots, line_filter.some));
       }
 
       keeps_last : {after : Slots} (bytes : List ℕ) → after ≡ with_line store (width - 1) bytes
@@ -247,6 +246,7 @@ module _ {S X E : Type 0} {tool : ToolSpec} {state : S → Slots → X} {rest_fr
           sound = sound;
           reads = reads;
           stored = stored;
+          keeps_store = λ none. absurd (omega (arith, none, line_filter.slots, line_filter.some));
           processing = processing;
         }
 
@@ -280,16 +280,16 @@ module _ {S X E : Type 0} {tool : ToolSpec} {state : S → Slots → X} {rest_fr
               → PassPost tool old new was is before after (Err Memory)
           run_memory told same left =
               let bounded = stored (keeps_last piece refl) in
-              rw told (pass_memory (piece_ending (record {
-                peak = bounded.peak;
-                size = bounded.size;
-                keeps_store = λ none. absurd (omega (arith, none, line_filter.slots, line_filter.some));
-              })) same refl left)
+              rw told
+              (pass_memory (piece_ending (record { peak = bounded.peak; size = bounded.size })) same refl left)
 
         -- a block was read
         module _ {new : Reader} (reads : ReaderAdvance reader new []) (is_sound : IsSound new) where
           same_bounds : SlotBounds width (max (max_length run.ls) 0) before store
           same_bounds = bounds_weaker (max (max_length run.ls) 0) run.keeps (omega arith)
+
+          block_ending : PassEnding tool midway new before store []
+          block_ending = piece_ending reads tt is_sound (stored reads tt is_sound same_bounds)
 
           -- reading it failed
           pub run_no_block : HasReadCause reader new → PassPost tool old new was is before store (Err (Read 0))
@@ -300,20 +300,15 @@ module _ {S X E : Type 0} {tool : ToolSpec} {state : S → Slots → X} {rest_fr
               → {is' : Output} → Halt now (complete_lines tool.end block) is is'
               → PassPost tool old new was is' before store (Err Write)
           run_block_halts {block} buffered same halted =
-              halts (piece_ending reads tt is_sound (stored reads tt is_sound same_bounds)) same run.keeps.denied halted
+              halts block_ending same run.keeps.denied halted
               (λ rest may. (lines end ((line_split end block).piece ++ rest), cc (complete_prefix end block rest)))
 
         -- the buffered output could not be written
         pub run_flush_failed : {is' : Output} → PushEffect is is' [] → is'.write_failed ≡ true
             → PassPost tool old reader was is' before store (Err Write)
-        run_flush_failed wrote fault =
-            run_block_halts (reads_nothing reader) sound refl refl
-            (record {
-              passed = [];
-              wrote = rw (← none_written) at wrote;
-              fault = fault;
-              is_prefix = λ more. (rest_from now (complete_lines tool.end reader.buffered ++ more), refl);
-            })
+        unfolding midway
+        run_flush_failed wrote fault = pass_write (block_ending (reads_nothing reader) sound) wrote
+            (nothing_more (block_ending (reads_nothing reader) sound)) fault refl run.keeps.denied
 
     -- ---- the line in the last slot
 

@@ -1,11 +1,6 @@
 -- Facts about readers and outputs that each engine starts from. Each follows from the records of one call.
-use Rattle.ptflow.proofs.Common.{common_steps, ◌≡◌, ℕ, ◌<◌, ◌≤◌, true, List, [], ◌++◌, None, length, take, drop, refl}
-use Rattle.ptflow.proofs.Common.{ap, arith, Reader, ReaderAdvance, AdvanceOk, IsDone, budget, advance_ok_trans}
-use Rattle.ptflow.proofs.Common.{advance_ok_take, reads_nothing}
-
--- nothing was read yet
-pub advance_none : (r : Reader) → r.fault ≡ None → AdvanceOk r r []
-advance_none r clean = record { reads = reads_nothing r; fault = clean; failed = refl; short = λ h. h }
+use Rattle.ptflow.proofs.Common.{common_steps, ◌≡◌, ℕ, ◌<◌, ◌≤◌, true, List, [], ◌++◌, length, take, drop, ap, arith}
+use Rattle.ptflow.proofs.Common.{Reader, ReaderAdvance, AdvanceOk, IsDone, budget, advance_ok_trans, advance_ok_take}
 
 -- after the end of the input, nothing is read
 pub eof_gives_nothing : (now new : Reader) (bytes : List ℕ) → IsDone now → ReaderAdvance now new bytes
