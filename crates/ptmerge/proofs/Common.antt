@@ -43,13 +43,13 @@ pub use Rattle.ptlines.specs.ReadLine.{FillLine}
 pub use Rattle.ptlines.specs.Received.{IsConsistent, IsPrefix, Received, known_lines}
 pub use Rattle.ptlines.specs.Lag.{LaggedInput, ProcessLag}
 pub use Rattle.ptlines.specs.Outputs.{Output, PushPost, PushEffect}
-pub use Rattle.ptlines.specs.Readers.{AdvanceOk, IsDone, IsSound, Reader, ReaderAdvance, budget, remaining_bytes}
+pub use Rattle.ptlines.specs.Readers.{AdvanceOk, IsDone, IsSound, Reader, ReaderAdvance, budget}
 pub use Rattle.ptlines.specs.Slots.{Slots, line, total_bytes, with_new_slot, with_denied, with_line}
 pub use Rattle.ptlines.specs.Text.{AreLines, IsLine, complete_lines, lines, max_length, unlines, is_blank}
 pub use Rattle.ptmerge.specs.Comm.{comm_with, comm_tool, entries, column_entries, tab_if_shown}
 pub use Rattle.ptmerge.specs.JoinGroup.{ReadGroupLineOkPost, ReadGroupLinePost, IsGroup, ClearGroupPost}
 pub use Rattle.ptmerge.specs.JoinGroup.{EnsureSlotPost, CopyToGroupPost, CopyToGroupErrPost, JoinStepPre, JoinLinePre}
-pub use Rattle.ptmerge.specs.JoinGroup.{ReadGroupLineErrPost, group_end_slot, group_first_slot, group, is_head}
+pub use Rattle.ptmerge.specs.JoinGroup.{group_end_slot, group_first_slot, group, is_head}
 pub use Rattle.ptmerge.specs.Join.{unpaired_entries1, unpaired_entries2, unpaired_entry, output_separator, entry}
 pub use Rattle.ptmerge.specs.Join.{join_fields, or_filler, max_over_keys, is_nonempty, join_with, join_entries}
 pub use Rattle.ptmerge.specs.Join.{join_key, join_tool, max_group_bytes, max_group_lines, field_named, nth_field}
@@ -76,7 +76,7 @@ pub use Rattle.ptmerge.specs.Sides.{both, other, with_side}
 pub use Rattle.ptmerge.specs.KeySpan.{IsValidCursor, IsKeySpan}
 pub use Rattle.ptmerge.specs.MergeSteps.{HaveEqualKeys, StartErrPost, StartFirstPost, PrecedesInput, MergeInputs}
 pub use Rattle.ptmerge.specs.MergeSteps.{HasOnlyLeastKey, IsDisorderDecided, IsReaderOf, IsReportable, AreValidCursors}
-pub use Rattle.ptmerge.specs.MergeSteps.{StartSlotFaultPost, StartOkPost, merge_inputs, previous_key}
+pub use Rattle.ptmerge.specs.MergeSteps.{StartOkPost, merge_inputs, previous_key}
 pub use Rattle.ptmerge.specs.MergeSlots.{EnsureFourSlotsPost, EnsureFourSlotsErrPost, ClearFourSlotsPost}
 pub use Rattle.ptmerge.specs.declared.faults.MergeFault.{MergeFault}
 pub use Rattle.ptmerge.specs.declared.faults.MergeFault.TheVariants.{Memory, Read, Write}

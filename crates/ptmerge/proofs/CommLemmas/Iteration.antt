@@ -1,11 +1,11 @@
 -- Proofs for `comm`. A line adds one output line if one input has it alone, and one common output line if both have it.
 -- So each step of the merge extends the output by the entries of its key, and the loop invariant of the merge carries
 -- over.
-use Rattle.ptmerge.proofs.Common.{◌≡◌, ℕ, ◌<◌, false, List, [], ◌∷◌, ◌++◌, Result, Ok, Err, length, refl, sym, ◌∙◌, ap}
-use Rattle.ptmerge.proofs.Common.{arith, Comm, Output, PushEffect, Reader, Slots, line, unlines, MergeFault, Side}
-use Rattle.ptmerge.proofs.Common.{First, Second, Sorted, Head, Ended, comm_with, column_entries, tab_if_shown, Lines}
+use Rattle.ptmerge.proofs.Common.{◌≡◌, ℕ, ◌<◌, false, List, [], ◌∷◌, ◌++◌, Ok, Err, length, refl, sym, ◌∙◌, ap, arith}
+use Rattle.ptmerge.proofs.Common.{Comm, Output, PushEffect, Reader, Slots, line, unlines, MergeFault, Side, First}
+use Rattle.ptmerge.proofs.Common.{Second, Sorted, Head, Ended, comm_with, column_entries, tab_if_shown, Lines}
 use Rattle.ptmerge.proofs.Common.{MergeTool, entries_by_key, lines_with_key, AdvanceOkPost, AdvancePre, MergeState}
-use Rattle.ptmerge.proofs.Common.{MergePost, merge_state, Cmp, Key, both, with_side, other, HaveEqualKeys, StartErrPost}
+use Rattle.ptmerge.proofs.Common.{MergePost, merge_state, Cmp, Key, both, with_side, other, HaveEqualKeys}
 use Rattle.ptmerge.proofs.Common.{HasOnlyLeastKey, IsDisorderDecided, IsReaderOf, AreValidCursors, StartOkPost}
 use Rattle.ptmerge.proofs.Common.{merge_inputs, ClearFourSlotsPost, suc, ◌-◌, min, append_assoc, append-nil}
 use Rattle.ptmerge.proofs.Common.{tied_itself, entries, Bool}
@@ -13,7 +13,7 @@ use Rattle.ptmerge.proofs.MergeLemmas.Step.{AdvanceErrPost, CursorsInvariant, Lo
 use Rattle.ptmerge.proofs.MergeLemmas.Step.{passing_now, runs_on, slots_of, read_facts_current, iteration_fails}
 use Rattle.ptmerge.proofs.MergeLemmas.Step.{IsLineByLine, current_key_is_above, alone, write_one_line, reads_ahead}
 use Rattle.ptmerge.proofs.MergeLemmas.Step.{measure_less, own_reader_kept, place_is, wrote_and_sent, StoreHoldsTwoLines}
-use Rattle.ptmerge.proofs.MergeLemmas.Step.{holds_two, keeps_two, ends_well, ends_fallen, start_ok, start_fault}
+use Rattle.ptmerge.proofs.MergeLemmas.Step.{holds_two, keeps_two, ends_well, ends_fallen, start_ok}
 use Rattle.ptmerge.proofs.MergeLemmas.Orders.{IsKeyOrder, same_bytes}
 use Rattle.ptmerge.proofs.MergeLemmas.Slots.{put_other, put_same}
 use Rattle.ptmerge.proofs.MergeLemmas.Invariant.{AllWritten, MergeInvariant, line_is_least_run, lag_invariant_starts}
@@ -105,30 +105,17 @@ pub record IterationInvariant (job : Comm) (cmp : Cmp) (key : Side → Key) (old
   pub own_reader : (side : Side) → IsReaderOf (both one two side) (now.reader side)
   pub clean : now.out.write_failed ≡ false
 
--- the invariant and the postcondition depend only on the order, and a call leaves the order of a merge unchanged
+-- the invariant depends only on the order, and a call leaves the order of a merge unchanged
 pub iteration_as : {K : Type 0} (order : K → Cmp) (key_of : K → Side → Key)
     {a b c : K} {job : Comm} {old now : MergeState} {one two : Sorted}
     → b ≡ a → a ≡ c → IterationInvariant job (order a) (key_of a) old now one two
     → record { iteration : IterationInvariant job (order b) (key_of b) old now one two; order : b ≡ c }
 iteration_as order key_of is same t = record { iteration = rw is t; order = is ∙ same }
 
-pub exit_as : {K : Type 0} (order : K → Cmp) (key_of : K → Side → Key) {a b : K}
-    (job : Comm) {old new : MergeState} {r : Result (Unit {0}) MergeFault}
-    → a ≡ b → MergePost (comm_with job (order a) (key_of a)) old new r
-    → MergePost (comm_with job (order b) (key_of b)) old new r
-exit_as order key_of job is l = rw (← is) l
-
 -- ---- the start
 
 module _ (job : Comm) {cmp : Cmp} {key : Side → Key} {old : MergeState}
     (w : IsOpenMerge (comm_with job cmp key) old) where
-  pub start_fails : {new1 new2 : Reader} {after : Slots} {fault : MergeFault} {r : Result (Unit {0}) MergeFault}
-      → r ≡ Err fault
-      → StartErrPost key cmp (record { reader = old.reader; store = old.store })
-      (record { reader = both new1 new2; store = after }) fault
-      → MergePost (comm_with job cmp key) old (merge_state new1 new2 old.out after) r
-  start_fails is h = rw is (start_fault w h)
-
   pub starts : ((side : Side) (x : List ℕ) → key side x ≡ x)
       → {first second : Reader} {store : Slots} {one two : Sorted}
       → StartOkPost key cmp (both one two) (record { reader = old.reader; store = old.store })
@@ -205,11 +192,11 @@ module _ {job : Comm} {cmp : Cmp} {key : Side → Key} {old now : MergeState} {o
         clean = h.continues.clean;
       }
 
-      pub alone_fails : {reader : Reader} {after : Slots} {fault : MergeFault} {r : Result (Unit {0}) MergeFault}
-          → r ≡ Err fault → AdvanceErrPost s (both one two s) (now.reader s) reader now.store after new fault
-          → MergePost tool old (state_by_side (with_side s reader now.reader) new after) r
-      alone_fails is h = rw is (iteration_fails w stood_at s step.status_is wrote_line (put_same s (ls s) p)
-          (rw (put_other s (ls s) p) (read_facts_current w stood_at (other s))) h)
+      pub alone_fails : {reader : Reader} {after : Slots} {fault : MergeFault}
+          → AdvanceErrPost s (both one two s) (now.reader s) reader now.store after new fault
+          → MergePost tool old (state_by_side (with_side s reader now.reader) new after) (Err fault)
+      alone_fails = iteration_fails w stood_at s step.status_is wrote_line (put_same s (ls s) p)
+          (rw (put_other s (ls s) p) (read_facts_current w stood_at (other s)))
 
   -- a step for a line of both inputs, after the first input advanced: the second one is still at the line
   pub second_advance_pre : HaveEqualKeys cmp key (both one two) now.store
@@ -261,11 +248,11 @@ module _ {job : Comm} {cmp : Cmp} {key : Side → Key} {old now : MergeState} {o
       wrote_pair = rw (entries_of_pair job cmp key w.o (head First) (head Second) (whole_line_keys First (head First))
           (sym step.same)) (rw ((sides First).lines_read.terminator, led) at pushed)
 
-      pub pair_fails : {reader : Reader} {after : Slots} {fault : MergeFault} {r : Result (Unit {0}) MergeFault}
-          → r ≡ Err fault → AdvanceErrPost First one (now.reader First) reader now.store after mid fault
-          → MergePost tool old (state_by_side (with_side First reader now.reader) mid after) r
-      pair_fails is h = rw is (iteration_fails w stood_at First step.first (wrote_both wrote_pair) refl
-          (passing_now w stood_at Second step.second) h)
+      pub pair_fails : {reader : Reader} {after : Slots} {fault : MergeFault}
+          → AdvanceErrPost First one (now.reader First) reader now.store after mid fault
+          → MergePost tool old (state_by_side (with_side First reader now.reader) mid after) (Err fault)
+      pair_fails = iteration_fails w stood_at First step.first (wrote_both wrote_pair) refl
+          (passing_now w stood_at Second step.second)
 
       -- the first input advanced, and the output was written out
       module _ {one2 two2 : Sorted} {reader : Reader} {after : Slots}
@@ -274,18 +261,18 @@ module _ {job : Comm} {cmp : Cmp} {key : Side → Key} {old now : MergeState} {o
         wrote_line_out : MergeInvariant tool b both_written old.out new
         wrote_line_out = let (m, _) = wrote_both (wrote_and_sent _ _ _ _ h.continues.clean wrote_pair written_out) in m
 
-        pub second_fails : {reader2 : Reader} {last : Slots} {fault : MergeFault} {r : Result (Unit {0}) MergeFault}
-            → r ≡ Err fault → AdvanceErrPost Second two2 (now.reader Second) reader2 after last new fault
-            → MergePost tool old (state_by_side (both reader reader2) new last) r
-        second_fails is k =
+        pub second_fails : {reader2 : Reader} {last : Slots} {fault : MergeFault}
+            → AdvanceErrPost Second two2 (now.reader Second) reader2 after last new fault
+            → MergePost tool old (state_by_side (both reader reader2) new last) (Err fault)
+        second_fails k =
             let g = advance_ok w stood_at First step.first h.came w.fits keeps in
             let m = goes_merging w stood_at First step.first h.came wrote_line_out in
             let (before, _) = wrote_both wrote_pair in
-            rw is (iteration_fails w g Second step.second (
+            iteration_fails w g Second step.second (
               m,
               lag_invariant_starts (goes_merging w stood_at First step.first h.came before) h.continues.clean
                   written_out,
-            ) refl (read_facts_current w g First) (rw h.continues.others at k))
+            ) refl (read_facts_current w g First) (rw h.continues.others at k)
 
         pub pair_continues : {one3 two3 : Sorted} {reader2 : Reader} {last : Slots}
             → AdvanceOkPost key cmp Second one2 two2 one3 two3 (now.reader Second) reader2 after last new

@@ -2,24 +2,24 @@
 -- merge. An iteration there writes one unpaired line, opens a group or ends the loop. The remaining work, three times
 -- the reads that are left plus the rank of the phase, decreases in each iteration.
 use Rattle.ptmerge.proofs.Common.{NextOkPost, ◌≡◌, ℕ, Bool, true, false, cond, List, [], ◌∷◌, ◌++◌, map, refl, ap, sym}
-use Rattle.ptmerge.proofs.Common.{◌∙◌, ◌+◌, ◌*◌, ◌≤◌, ◌<◌, Result, Ok, Err, length, subst, arith, append-nil}
-use Rattle.ptmerge.proofs.Common.{flat_map-append, Join, Side, First, Second, unpaired_entries1, unpaired_entries2}
-use Rattle.ptmerge.proofs.Common.{unpaired_entry, entry, join_fields, join_with, join_entries, join_key, pair_entries}
-use Rattle.ptmerge.proofs.Common.{Lines, entries_by_key, Cmp, Key, Output, PushEffect, Reader, Slots, line, unlines}
+use Rattle.ptmerge.proofs.Common.{◌∙◌, ◌+◌, ◌*◌, ◌≤◌, ◌<◌, Ok, Err, length, subst, arith, append-nil, flat_map-append}
+use Rattle.ptmerge.proofs.Common.{Join, Side, First, Second, unpaired_entries1, unpaired_entries2, unpaired_entry}
+use Rattle.ptmerge.proofs.Common.{entry, join_fields, join_with, join_entries, join_key, pair_entries, Lines}
+use Rattle.ptmerge.proofs.Common.{entries_by_key, Cmp, Key, Output, PushEffect, Reader, Slots, line, unlines}
 use Rattle.ptmerge.proofs.Common.{MergeFault, Sorted, Head, Ended, IsReadyToContinue, AdvanceOkPost, MergeState}
 use Rattle.ptmerge.proofs.Common.{MergePost, merge_state, HasSlots, both, with_side, lines_of, Memory, HaveEqualKeys}
-use Rattle.ptmerge.proofs.Common.{StartErrPost, HasOnlyLeastKey, IsDisorderDecided, IsReaderOf, AreValidCursors}
-use Rattle.ptmerge.proofs.Common.{StartOkPost, merge_inputs, ClearFourSlotsPost, ◌⊎◌, MergeRunPre, JoinStepPre}
-use Rattle.ptmerge.proofs.Common.{AdvancePre, push_nothing, other, if◌then◌else◌, max_group_bytes, max_group_lines, inl}
-use Rattle.ptmerge.proofs.Common.{inr, ReadGroupLineOkPost, ReadGroupLinePost, IsGroup, ClearGroupPost, group_end_slot}
+use Rattle.ptmerge.proofs.Common.{HasOnlyLeastKey, IsDisorderDecided, IsReaderOf, AreValidCursors, StartOkPost}
+use Rattle.ptmerge.proofs.Common.{merge_inputs, ClearFourSlotsPost, ◌⊎◌, MergeRunPre, JoinStepPre, AdvancePre}
+use Rattle.ptmerge.proofs.Common.{push_nothing, other, if◌then◌else◌, max_group_bytes, max_group_lines, inl, inr}
+use Rattle.ptmerge.proofs.Common.{ReadGroupLineOkPost, ReadGroupLinePost, IsGroup, ClearGroupPost, group_end_slot}
 use Rattle.ptmerge.proofs.Common.{group_first_slot, group, JoinLinePre, ⊎_elim, ◌-◌, ◌==◌, push_trans, nat_tests}
 use Rattle.ptmerge.proofs.Common.{length_push, unlines-append, append_assoc, merged_entries, nil_from_length}
 use Rattle.ptmerge.proofs.Common.{CopyToGroupPost}
 use Rattle.ptmerge.proofs.MergeLemmas.Step.{open_merge, slots_of, wrote_as, IsLineByLine, alone, current_key_is_above}
 use Rattle.ptmerge.proofs.MergeLemmas.Step.{write_one_line, IsAbove, reads_ahead, measure_less, own_reader_kept}
 use Rattle.ptmerge.proofs.MergeLemmas.Step.{place_is, LoopInvariant, CursorsInvariant, AdvanceErrPost, iteration_fails}
-use Rattle.ptmerge.proofs.MergeLemmas.Step.{read_facts_current, runs_on, n, ends_well, ends_fallen, start_fault}
-use Rattle.ptmerge.proofs.MergeLemmas.Step.{start_ok, next_keeps_slot_count, valid_cursors_kept, wrote_and_sent}
+use Rattle.ptmerge.proofs.MergeLemmas.Step.{read_facts_current, runs_on, n, ends_well, ends_fallen, start_ok}
+use Rattle.ptmerge.proofs.MergeLemmas.Step.{next_keeps_slot_count, valid_cursors_kept, wrote_and_sent}
 use Rattle.std.specs.List.{flat_map}
 use Rattle.ptmerge.proofs.JoinLemmas.GroupInvariant.{IsPairTool, IsAtKey, head_of, JoinCall, state_after_read}
 use Rattle.ptmerge.proofs.JoinLemmas.GroupInvariant.{GroupState, store_between_groups, IsAtGroupLine, AdvancedGroup}
@@ -189,17 +189,12 @@ pub record IterationInvariant (job : Join) (cmp : Cmp) (key : Side → Key) (old
   pub own_reader : (side : Side) → IsReaderOf (both one two side) (now.reader side)
   pub clean : now.out.write_failed ≡ false
 
--- the invariant and the postcondition depend only on the order, and a call leaves the order of a merge unchanged
-module _ {K : Type 0} (order : K → Cmp) (key_of : K → Side → Key) {a b : K} where
-  pub iteration_as : {job : Join} {old : MergeState} {phase : JoinPhase} {now : MergeState} {one two : Sorted} {end : ℕ}
-      → b ≡ a → {c : K} → a ≡ c → IterationInvariant job (order a) (key_of a) old phase now one two end
-      → record { iteration : IterationInvariant job (order b) (key_of b) old phase now one two end; order : b ≡ c }
-  iteration_as is same t = record { iteration = rw is t; order = is ∙ same }
-
-  pub exit_as : (job : Join) {old new : MergeState} {r : Result (Unit {0}) MergeFault}
-      → a ≡ b → MergePost (join_with job (order a) (key_of a)) old new r
-      → MergePost (join_with job (order b) (key_of b)) old new r
-  exit_as job is l = rw (← is) l
+-- the invariant depends only on the order, and a call leaves the order of a merge unchanged
+pub iteration_as : {K : Type 0} (order : K → Cmp) (key_of : K → Side → Key) {a b c : K} {job : Join} {old : MergeState}
+    {phase : JoinPhase} {now : MergeState} {one two : Sorted} {end : ℕ}
+    → b ≡ a → a ≡ c → IterationInvariant job (order a) (key_of a) old phase now one two end
+    → record { iteration : IterationInvariant job (order b) (key_of b) old phase now one two end; order : b ≡ c }
+iteration_as order key_of is same t = record { iteration = rw is t; order = is ∙ same }
 
 -- ---- the start
 
@@ -228,13 +223,6 @@ module _ {job : Join} {cmp : Cmp} {key : Side → Key} {old : MergeState} (a : I
         own_reader = elim [ First ↦ reader1 | Second ↦ reader2 ];
         clean = a.w.writable;
       }
-
-  pub start_fails : {first second : Reader} {store : Slots} {fault : MergeFault}
-      → StartErrPost key cmp (record { reader = old.reader; store = old.store })
-      (record { reader = both first second; store = store }) fault
-      → {r : Result (Unit {0}) MergeFault} → r ≡ Err fault
-      → MergePost (join_with job cmp key) old (merge_state first second old.out store) r
-  start_fails cannot is_fault = rw is_fault (start_fault a.w cannot)
 
 module _ {job : Join} {cmp : Cmp} {key : Side → Key} {old : MergeState} {phase : JoinPhase} {now : MergeState}
     {one two : Sorted} {end : ℕ}
@@ -329,12 +317,11 @@ module _ {job : Join} {cmp : Cmp} {key : Side → Key} {old : MergeState} {phase
           iteration_continues {next = phase} s h.continues
           (rw is (runs_on t.opened.w stood_at s step.status_is h.came keeps m, no_copies))
 
-      pub alone_fails : {reader : Reader} {after : Slots} {fault : MergeFault} {r : Result (Unit {0}) MergeFault}
-          → r ≡ Err fault → AdvanceErrPost s (both one two s) (now.reader s) reader now.store after new fault
-          → MergePost (join_with job cmp key) old (state_after_read now s reader new after) r
-      alone_fails is_fault h = rw is_fault
-          (iteration_fails t.opened.w stood_at s step.status_is wrote_unpaired (put_same s (r.ls s) r.p)
-          (rw (put_other s (r.ls s) r.p) (read_facts_current t.opened.w stood_at (other s))) h)
+      pub alone_fails : {reader : Reader} {after : Slots} {fault : MergeFault}
+          → AdvanceErrPost s (both one two s) (now.reader s) reader now.store after new fault
+          → MergePost (join_with job cmp key) old (state_after_read now s reader new after) (Err fault)
+      alone_fails = iteration_fails t.opened.w stood_at s step.status_is wrote_unpaired (put_same s (r.ls s) r.p)
+          (rw (put_other s (r.ls s) r.p) (read_facts_current t.opened.w stood_at (other s)))
 
     -- both inputs have the same key, and a group of it begins
     pub group_opens : HaveEqualKeys cmp key (both one two) now.store
@@ -560,14 +547,13 @@ module _ {job : Join} {cmp : Cmp} {key : Side → Key} {old : MergeState} {phase
 
       -- a line could not be copied, or the next one could not be read
       pub read_group_fails : {two2 : Sorted} {reader : Reader} {after : Slots} {fault : MergeFault}
-          {r : Result (Unit {0}) MergeFault} → r ≡ Err fault
           → ReadGroupLinePost call.keeps_groups (key Second) cmp two two2 (now.reader Second) reader now.store after out
-          end (Err fault) → MergePost (join_with job cmp key) old (state_after_read now Second reader out after) r
-      read_group_fails is_fault (inl e) =
-          rw is_fault (group_breaks at_second (starts_none call (within_more at_second)) wrote_none (inl e))
-      read_group_fails is_fault (inr (fine, inr e)) =
-          rw is_fault (group_breaks at_second (starts_none call (within_more at_second)) wrote_none (inr (fine, e)))
-      read_group_fails {reader = reader} {after} is_fault (inr (fine, inl e)) =
+          end (Err fault) → MergePost (join_with job cmp key) old (state_after_read now Second reader out after)
+          (Err fault)
+      read_group_fails (inl e) = group_breaks at_second (starts_none call (within_more at_second)) wrote_none (inl e)
+      read_group_fails (inr (fine, inr e)) =
+          group_breaks at_second (starts_none call (within_more at_second)) wrote_none (inr (fine, e))
+      read_group_fails {reader = reader} {after} (inr (fine, inl e)) =
           let q = (on_second e.came).group in
           let new = state_after_read now Second reader out after in
           let lag = group_written call.w q.within [] (rw (call.laws.none a.k (a.g ++ y ∷ [])) at q.wrote) in
@@ -575,7 +561,7 @@ module _ {job : Join} {cmp : Cmp} {key : Side → Key} {old : MergeState} {phase
           (entries_by_key call.tool all_keys q.p ++ []) =
           λ all more. group_comes_first call.w q.within new (group_read_facts q) all more
           (starts_none call q.within) in
-          rw (is_fault, e.memory) (exit_is_merge_post call.w new _ _ _ _ _ (group_read_facts q) lag first (λ all more.
+          rw e.memory (exit_is_merge_post call.w new _ _ _ _ _ (group_read_facts q) lag first (λ all more.
           let size = size_of call q.keeps all (λ side. omega (arith, (more side).longest)) (extends (more Second)) in
           let (_, many) = call.laws.largest e.keeps _ _ (inside e.came (more Second).continues.more) in
           omega (
@@ -679,10 +665,10 @@ module _ {job : Join} {cmp : Cmp} {key : Side → Key} {old : MergeState} {phase
           state.q.d state.k (pair_entries job state.k (state.g First ++ z) (state.g Second))
       pairs_begin = starts call (within_more at_first) state.some state.above
 
-      pub pair_fails : {reader : Reader} {after : Slots} {fault : MergeFault} {r : Result (Unit {0}) MergeFault}
-          → r ≡ Err fault → AdvanceErrPost First one (now.reader First) reader now.store after new fault
-          → MergePost (join_with job cmp key) old (state_after_read now First reader new after) r
-      pair_fails is_fault h = rw is_fault (group_breaks at_first pairs_begin wrote_more h)
+      pub pair_fails : {reader : Reader} {after : Slots} {fault : MergeFault}
+          → AdvanceErrPost First one (now.reader First) reader now.store after new fault
+          → MergePost (join_with job cmp key) old (state_after_read now First reader new after) (Err fault)
+      pair_fails = group_breaks at_first pairs_begin wrote_more
 
       module _ {one2 two2 : Sorted} {reader : Reader} {after : Slots}
           (h : AdvanceOkPost key cmp First one two one2 two2 (now.reader First) reader now.store after new) where

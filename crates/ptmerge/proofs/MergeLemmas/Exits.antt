@@ -15,20 +15,20 @@ use Rattle.ptmerge.proofs.Common.{ReadFault, CallOutcome, AreAllConsistent, with
 use Rattle.ptmerge.proofs.Common.{CallProgress, DecidedIfReadFailed, call_on_failed_output, IsPrefix, total_bytes}
 use Rattle.ptmerge.proofs.Common.{both_sides, merge_engine, merge_end, disordered_line}
 use Rattle.ptlines.proofs.Calls.{call_ends, call_set, call_without_slots}
-use Rattle.ptmerge.proofs.MergeLemmas.Lag.{ProcessedNearly, LinesToCome, LagPoint, back, decided_of_passed, unsettled}
+use Rattle.ptmerge.proofs.MergeLemmas.Lag.{decided_at, ProcessedNearly, LinesToCome, LagPoint, back, unsettled}
 use Rattle.ptmerge.proofs.MergeLemmas.Lag.{lag_bound, unread_decides_nothing, unread_decides_no_disorder}
 use Rattle.ptmerge.proofs.MergeLemmas.Invariant.{Bound, NoBound, AtLeast, AfterDisorder, NothingMore, MayFollow}
 use Rattle.ptmerge.proofs.MergeLemmas.Invariant.{IsUnder, IsSortedUpTo, sorted_up_to_more, is_disordered}
 use Rattle.ptmerge.proofs.MergeLemmas.Invariant.{IsProcessedPrefix, processed_before_line, processed_all}
 use Rattle.ptmerge.proofs.MergeLemmas.Invariant.{processed_to_disorder, processed_to_line, LagInvariant, MergeInvariant}
-use Rattle.ptmerge.proofs.MergeLemmas.Invariant.{InputSplit, IsExactStop, is_continuation, past_none, input_split}
-use Rattle.ptmerge.proofs.MergeLemmas.Invariant.{all_keys, under_fall, sorted_after}
+use Rattle.ptmerge.proofs.MergeLemmas.Invariant.{InputSplit, IsExactStop, is_continuation, input_split, all_keys}
+use Rattle.ptmerge.proofs.MergeLemmas.Invariant.{under_fall, sorted_after}
 use Rattle.ptmerge.proofs.MergeLemmas.LinesRead.{LinesRead, HoldsLines, HasBegun, begun_gives_line, one_line_and_block}
 use Rattle.ptmerge.proofs.MergeLemmas.LinesRead.{lines_read_more, lines_read_eof, Continues, KnownLines}
 use Rattle.ptmerge.proofs.MergeLemmas.LinesRead.{lines_read_known, lines_read_of_input}
 use Rattle.ptmerge.proofs.MergeLemmas.Orders.{EachKey, EachKey-weaker, IsKeyOrder, AtMost, at_most_trans, equal_is}
 use Rattle.ptlines.proofs.MaxLength.{max_length-append}
-use Rattle.ptmerge.proofs.MergeLemmas.Slots.{line_other}
+use Rattle.ptmerge.proofs.MergeLemmas.Slots.{with_own, line_other}
 
 -- The lines `ls` are read and `p` of them are processed: the last one is the current line, or there is none, or it is
 -- out of order.
@@ -322,12 +322,10 @@ read_facts_after_line o last lines_read reads is_line sound sorted_up_to = recor
     not_at_end (Some k) e = cc
 
 -- reading an input failed after all its lines were processed
-pub record IsFailedRead (cmp : Cmp) (key : Key) (new : Reader) (ls p : Lines) : Type 0 where
+pub record IsFailedRead (new : Reader) (ls p : Lines) : Type 0 where
   pub buffered : new.buffered ≡ []
   pub eof : new.eof ≡ false
   pub all : ls ≡ p
-  pub last : Option (List ℕ)
-  pub sorted_up_to : IsSortedUpTo cmp key p last
 
 -- the store never held more bytes than the measure of these lines, and has no more slots; it has the first four, and
 -- those that it had
@@ -470,28 +468,29 @@ module _ {tool : MergeTool} {old : MergeState} (w : IsOpenMerge tool old) (new :
         record { rest = s.r side; is = s.parts side; may_follow = lag.may_follow side (s.r side) (s.may_follow side) }
 
     -- everything is decided once the last line of an input is processed
-    decided : (side : Side) → IsFailedRead cmp (key side) (new.reader side) (ls side) (p side)
+    decided : (side : Side) → IsFailedRead (new.reader side) (ls side) (p side)
         → IsPrefix (decided_output tool given) (unlines tool.terminator done)
     decided side f =
-        let e = (known side).exact f.buffered f.eof ∙ f.all in
-        let b = decided_of_passed tool w.o (λ s. (new.reader s).eof) (λ s. known_lines tool.terminator (given s))
-        side f.eof (cc (e, append-nil (p side), f.sorted_up_to.may_disorder [])) front
-        (λ s. record {
+        let point : LagPoint tool.terminator (given side) (p side) = record {
+          before = record {
+            earlier = given side;
+            last = [];
+            split = sym (append-nil (given side).bytes);
+            short = omega arith;
+            eof = λ eof. eof;
+          };
+          going = f.eof;
+          whole = p side;
+          whole_is = (known side).exact f.buffered f.eof ∙ f.all;
           rest = [];
-          tail = tail s ++ (future s).rest;
-          same = cc (
-            append-nil (sorted_prefix cmp (key s) (known_lines tool.terminator (given s))),
-            (future s).is,
-            lag.split s,
-            append_assoc (front s) (tail s) (future s).rest,
-          );
-          none_rest = tt;
-          none_tail = rw e (past_none cmp w.o (key side) (key s) (bound s) (p side) (tail s ++ (future s).rest)
-              (lag.under_bound s side) (future s).may_follow);
-        }) in
+          split = sym (append-nil (p side));
+        } in
+        let begins = subst (λ (all : Side → Received). IsPrefix (decided_output tool all)
+        (unlines tool.terminator (entries_by_key tool all_keys front))) (λ i t. with_own side given t i)
+        (decided_at tool w.o given front _ tail _ lag.split lag.under_bound future side point) in
         rw (← lag.all) (record {
-          rest = b.rest ++ bytes;
-          is = cc (b.is, append_assoc (decided_output tool given) b.rest bytes);
+          rest = begins.rest ++ bytes;
+          is = cc (begins.is, append_assoc (decided_output tool given) begins.rest bytes);
         })
 
     progress : Fits tool old.store now ls piece new.store
@@ -512,7 +511,7 @@ module _ {tool : MergeTool} {old : MergeState} (w : IsOpenMerge tool old) (new :
       bounded_lag = λ of read. rw lag.all at (bounded_lag_after (λ came. decided_output tool
           (with_input both_sides of (came tt) given)) (λ u. given of) old.out lag.mid
           (unlines tool.terminator (entries_by_key tool all_keys front))
-          (lag_bound tool w.o given front _ tail _ backs lag.split lag.under_bound future of) lag.wrote lag.clean
+          (lag_bound tool w.o given front _ tail _ lag.split lag.under_bound future of (backs of)) lag.wrote lag.clean
           new.out bytes lag.more);
       peak = λ texts agree. (let (peak, _, _) = fits (lines_of tool texts) (input_lines texts agree) in peak);
       slots = λ texts agree. (let (_, slots, _) = fits (lines_of tool texts) (input_lines texts agree) in slots);
@@ -531,8 +530,8 @@ module _ {tool : MergeTool} {old : MergeState} (w : IsOpenMerge tool old) (new :
 
     pub exit_is_merge_post : Fits tool old.store now ls piece new.store
         → FirstReads tool.terminator old.reader now new.reader ls piece
-        → ((side : Side) → (new.reader side).failed ≡ true → IsFailedRead cmp (key side) (new.reader side) (ls side)
-        (p side)) → (result : Result (Unit {0}) MergeFault)
+        → ((side : Side) → (new.reader side).failed ≡ true → IsFailedRead (new.reader side) (ls side) (p side))
+        → (result : Result (Unit {0}) MergeFault)
         → CallOutcome both_sides (merge_engine tool) old new given (unlines tool.terminator done) (merge_end result)
         → MergePost tool old new result
     unfolding call_ends
@@ -542,7 +541,7 @@ module _ {tool : MergeTool} {old : MergeState} (w : IsOpenMerge tool old) (new :
       -- no disorder was decided two blocks of an input earlier
       stops_at_disorder = λ of clean_then.
           let f = first_disorder cmp (key (other of)) (known_lines tool.terminator (given (other of))) in
-          unsettled tool w.o given front _ tail _ backs lag.split lag.under_bound future of
+          unsettled tool w.o given front _ tail _ lag.split lag.under_bound future of (backs of)
           (EachKey-weaker _ _ (λ k u. under_fall cmp w.o (b (other of)) k f u
           (whole_input_split.may_disorder (other of))) _ _ (lag.under (other of) of));
       first_reads = λ clean_then. record {

@@ -284,29 +284,28 @@ pub record LinesToCome (tool : MergeTool) (side : Side) (ls q tail : Lines) (bou
 -- `q` are the processed lines; the output for `p` is complete, and the rest of `q` follows it
 module _ (tool : MergeTool) (o : IsKeyOrder tool.cmp) (given : Side → Received) (p q tail : Side → Lines)
     (bound : Side → Bound)
-    (backs : (side : Side) → LagPoint tool.terminator (given side) (q side))
     (split : (side : Side) → q side ≡ p side ++ tail side)
     (under : (of side : Side) → EachKey (IsUnder tool.cmp (bound of)) (tool.key side) (q side))
     (future : (side : Side) → LinesToCome tool side (known_lines tool.terminator (given side)) (q side) (tail side)
     (bound side)) where
   open tool use {cmp, terminator}
 
-  module _ (of : Side) where
+  module _ (of : Side) (point : LagPoint tool.terminator (given of) (q of)) where
     abbrev whole : Lines
-    whole = (backs of).whole
+    whole = point.whole
 
     -- the last key of the complete lines
     abbrev last : Option (List ℕ)
     last = last_or None (map (tool.key of) whole)
 
-    in_order : IsSortedFrom cmp (tool.key of) None (whole ++ (backs of).rest)
+    in_order : IsSortedFrom cmp (tool.key of) None (whole ++ point.rest)
     in_order =
         let (own, _) = sorted_from_parts cmp (tool.key of) None (q of) (future of).rest
         (rw (future of).is at (sorted_from_prefix cmp (tool.key of) (known_lines terminator (given of)))) in
-        rw (backs of).split at own
+        rw point.split at own
 
     ordered : (sorted_prefix cmp (tool.key of) whole ≡ whole) × (first_disorder cmp (tool.key of) whole ≡ None)
-    ordered = let (own, _) = sorted_from_parts cmp (tool.key of) None whole (backs of).rest in_order in
+    ordered = let (own, _) = sorted_from_parts cmp (tool.key of) None whole point.rest in_order in
         sorted_from_start cmp (tool.key of) whole own
 
     no_disorder : first_disorder cmp (tool.key of) whole ≡ None
@@ -316,20 +315,20 @@ module _ (tool : MergeTool) (o : IsKeyOrder tool.cmp) (given : Side → Received
     above : (side : Side) → EachKey (λ k. is_below cmp k last ≡ false) (tool.key side) (tail side ++ (future side).rest)
     above side =
         past_none cmp o (tool.key of) (tool.key side) (bound side) whole (tail side ++ (future side).rest)
-        (front_has (IsUnder cmp (bound side)) (tool.key of) whole (backs of).rest
-        (rw (backs of).split at (under side of))) (future side).may_follow
+        (front_has (IsUnder cmp (bound side)) (tool.key of) whole point.rest
+        (rw point.split at (under side of))) (future side).may_follow
 
     -- the lines of an input are the processed ones, except for lines that are not below that key
     abbrev Differs : Side → Received → Type 0
     Differs side g =
         Differ tool last (tool.key side) (sorted_prefix cmp (tool.key side) (known_lines terminator g)) (p side)
 
-    mine : Differs of (backs of).before.earlier
-    mine = let (own, _) = ordered in rw ((backs of).whole_is, own) (record {
-      rest = (backs of).rest;
+    mine : Differs of point.before.earlier
+    mine = let (own, _) = ordered in rw (point.whole_is, own) (record {
+      rest = point.rest;
       tail = tail of;
-      same = sym (backs of).split ∙ split of;
-      none_rest = none_below cmp o (tool.key of) whole (backs of).rest in_order;
+      same = sym point.split ∙ split of;
+      none_rest = none_below cmp o (tool.key of) whole point.rest in_order;
       none_tail = front_has (λ k. is_below cmp k last ≡ false) (tool.key of) (tail of) (future of).rest (above of);
     })
 
@@ -348,36 +347,38 @@ module _ (tool : MergeTool) (o : IsKeyOrder tool.cmp) (given : Side → Received
     }
 
     abbrev mix : Side → Received
-    mix = with_side of (backs of).before.earlier given
+    mix = with_side of point.before.earlier given
 
     going : (mix of).eof ≡ false
-    going = rw (put_same of (backs of).before.earlier given) (backs of).going
+    going = rw (put_same of point.before.earlier given) point.going
 
     whole_now : known_lines terminator (mix of) ≡ whole
-    whole_now = rw (put_same of (backs of).before.earlier given) (backs of).whole_is
+    whole_now = rw (put_same of point.before.earlier given) point.whole_is
+
+    -- the output that this part decides was pushed
+    pub decided_at : IsPrefix (decided_output tool (with_input both_sides of point.before.earlier given))
+        (unlines terminator (entries_by_key tool all_keys p))
+    decided_at = subst (λ (m : Side → Received). IsPrefix (decided_output tool m)
+        (unlines terminator (entries_by_key tool all_keys p)))
+        (λ i side. with_side_is of point.before.earlier given side i)
+        (decided_of_passed tool o (λ side. (mix side).eof) (λ side. known_lines terminator (mix side)) of going
+        (rw whole_now no_disorder) p
+        (rw whole_now (put_each Differs of point.before.earlier given mine others)))
 
     pub lag_bound : ProcessLag {I = Unit {0}} (λ came. decided_output tool (with_input both_sides of (came tt) given))
         (λ u. given of) (unlines terminator (entries_by_key tool all_keys p))
-    lag_bound = record {
-      before = λ u. (backs of).before;
-      begins = subst (λ (m : Side → Received). IsPrefix (decided_output tool m)
-          (unlines terminator (entries_by_key tool all_keys p)))
-          (λ i side. with_side_is of (backs of).before.earlier given side i)
-          (decided_of_passed tool o (λ side. (mix side).eof) (λ side. known_lines terminator (mix side)) of going
-          (rw whole_now no_disorder) p
-          (rw whole_now (put_each Differs of (backs of).before.earlier given mine others)));
-    }
+    lag_bound = record { before = λ u. point.before; begins = decided_at }
 
     -- no disorder was decided
     pub unsettled : EachKey (λ k. IsDisorderFrom cmp k (first_disorder cmp (tool.key (other of))
         (known_lines terminator (given (other of))))) (tool.key of) (q of)
         → (before : LaggedInput (given of)) × (disorder_is_decided tool (with_side of before.earlier given) ≡ false)
     unsettled up = (
-      (backs of).before,
+      point.before,
       not_settled tool o (λ side. (mix side).eof) (λ side. known_lines terminator (mix side)) of going
           (rw whole_now no_disorder)
-          (rw (put_other of (backs of).before.earlier given, whole_now)
+          (rw (put_other of point.before.earlier given, whole_now)
           (front_has (λ k. IsDisorderFrom cmp k (first_disorder cmp (tool.key (other of))
           (known_lines terminator (given (other of)))))
-          (tool.key of) whole (backs of).rest (rw (backs of).split at up))),
+          (tool.key of) whole point.rest (rw point.split at up))),
     )

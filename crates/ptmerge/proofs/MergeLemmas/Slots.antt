@@ -38,6 +38,10 @@ with_side_is First x f Second = refl
 with_side_is Second x f First = refl
 with_side_is Second x f Second = refl
 
+pub with_own : {X : Type 0} (s : Side) (f : Side → X) (side : Side) → with_input both_sides s (f s) f side ≡ f side
+with_own s f side =
+    sym (with_side_is s (f s) f side) ∙ put_each (λ t x. x ≡ f t) s (f s) f refl (λ t. refl) side
+
 -- a property of one side and of the other
 pub side_case : (Q : Side → Type 0) (s : Side) → Q s → Q (other s) → (side : Side) → Q side
 side_case Q s p q = put_both {X = Unit {0}} {Y = Unit {0}} (λ side x y. Q side) s tt (λ side. tt) tt (λ side. tt) p q

@@ -14,7 +14,7 @@ use Rattle.ptmerge.proofs.Common.{budget, IsReaderOf, push_trans, ◌&&◌, cond
 use Rattle.ptmerge.proofs.Common.{length_push, CopyToGroupPost, same_key_at, status_at, IsValidCursor, ◌<◌, Result}
 use Rattle.ptmerge.proofs.Common.{ClearFourSlotsPost, Ok, Bool, terminator, initial_cursor, MergeInputs, StartErrPost}
 use Rattle.ptmerge.proofs.Common.{StartOkPost, StartFirstPost, CallOutcome, AllPushed, Received, both_sides}
-use Rattle.ptmerge.proofs.Common.{reads_nothing, merge_engine, merge_end}
+use Rattle.ptmerge.proofs.Common.{reads_nothing, merge_engine, merge_end, IsErrAnd, err_from_is_err_and}
 use Rattle.ptmerge.proofs.MergeLemmas.Invariant.{Bound, AtLeast, AfterDisorder, NothingMore, MayFollow, MayDisorder}
 use Rattle.ptmerge.proofs.MergeLemmas.Invariant.{IsDisorderFrom, IsUnder, IsSortedUpTo, IsLeastKeyRun, LagInvariant}
 use Rattle.ptmerge.proofs.MergeLemmas.Invariant.{MergeInvariant, IsExactStop, line_is_least_run, lag_invariant_starts}
@@ -389,16 +389,11 @@ module _ {tool : MergeTool} {old : MergeState} (w : IsOpenMerge tool old) {now :
       exit_is_merge_post w is now.reader (with_side s f.piece (λ side. [])) ls p b facts lag
       (first is (with_side s f.piece (λ side. [])) facts)
       (λ all holds. omega (arith, f.peak, f.count, a.fits f.piece all holds)) (a.order new f.piece f.line)
-      (put_each (λ side (r : Reader). r.failed ≡ true → IsFailedRead cmp (key side) r (ls side) (p side)) s new
-      now.reader (λ fail.
+      (put_each (λ side (r : Reader). r.failed ≡ true → IsFailedRead r (ls side) (p side)) s new now.reader
+      (λ fail.
       let (buffered, eof) = f.failed fail (none_failed_yet s ∙ w.unfailed s) in
-      record {
-        buffered = buffered;
-        eof = eof;
-        all = sym a.all;
-        last = a.last;
-        sorted_up_to = rw a.all a.sorted_up_to;
-      }) (λ side fail. cc (none_failed_yet side, w.unfailed side)))
+      record { buffered = buffered; eof = eof; all = sym a.all })
+      (λ side fail. cc (none_failed_yet side, w.unfailed side)))
       (Err fault) (advance_ends new after out _ _ fault e)
 
 -- ---- between two steps
@@ -656,8 +651,8 @@ module _ {tool : MergeTool} {old : MergeState} (w : IsOpenMerge tool old) {reade
 -- ---- after one input advanced
 
 -- the fault of a call is returned
-pub err_is : {T E : Type 0} {r : Result T E} {fault : E} → (y : E) × (r ≡ Err y) × (y ≡ fault) → r ≡ Err fault
-err_is (_, is, same) = is ∙ ap (λ y. Err y) same
+pub err_is : {r : Result (Unit {0}) MergeFault} {fault : MergeFault} → IsErrAnd r (λ y. y ≡ fault) → r ≡ Err fault
+err_is {r} returned = let (_, is, same) = err_from_is_err_and r returned in is ∙ ap (λ y. Err y) same
 
 -- the remaining work
 abbrev pub reads_ahead : (Side → Reader) → Sorted → Sorted → ℕ

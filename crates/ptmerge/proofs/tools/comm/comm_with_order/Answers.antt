@@ -1,11 +1,10 @@
 -- Each iteration preserves the invariant by one lemma of `Iteration`, and each exit has the postconditions by another.
-use Rattle.ptmerge.proofs.Common.{◌≡◌, Result, Err, IsErrAnd, arith, refl, ◌∙◌, err_from_is_err_and, comm_job}
-use Rattle.ptmerge.proofs.Common.{MergeFault, comm_with, merge_state}
+use Rattle.ptmerge.proofs.Common.{arith, refl, ◌∙◌, comm_job, comm_with, merge_state}
 use Rattle.ptmerge.proofs.MergeLemmas.Exits.{IsOpenMerge}
-use Rattle.ptmerge.proofs.MergeLemmas.Step.{open_merge, err_is}
-use Rattle.ptmerge.proofs.CommLemmas.Iteration.{alone_decreases, alone_continues, alone_fails, eof, disordered, exit_as}
+use Rattle.ptmerge.proofs.MergeLemmas.Step.{open_merge, err_is, start_fault}
+use Rattle.ptmerge.proofs.CommLemmas.Iteration.{alone_decreases, alone_continues, alone_fails, eof, disordered}
 use Rattle.ptmerge.proofs.CommLemmas.Iteration.{pair_decreases, pair_continues, pair_fails, second_advance_pre}
-use Rattle.ptmerge.proofs.CommLemmas.Iteration.{second_fails, advance_pre, start_fails, starts, iteration_as}
+use Rattle.ptmerge.proofs.CommLemmas.Iteration.{second_fails, advance_pre, starts, iteration_as}
 use Rattle.ptmerge.proofs.tools.comm.comm_with_order.Goals.{After-start}
 use Rattle.ptmerge.specs.declared.key_order.Side.TheVariants as sides
 use Rattle.ptmerge.proofs.tools.comm.comm_with_order.Given as given
@@ -18,14 +17,9 @@ opened g c = open_merge (record
     { total = g.met.K.KeyOrder.total c.args.order; exact = g.met.K.KeyOrder.exact c.args.order })
     (λ ls. (omega arith, omega arith)) c.requires.begins
 
--- the fault of a call is returned
-is_told : {r : Result (Unit {0}) MergeFault} {fault : MergeFault} → IsErrAnd r (λ y. y ≡ fault) → r ≡ Err fault
-is_told {r} h = err_is (err_from_is_err_and r h)
-
 pub returns-in_err-merge : goal.returns-in_err-merge
-returns-in_err-merge g c = start_fails (comm_job c.args.job.now)
-    (opened g (goal.at.returns-in_err-merge g c).After-start) (is_told c.from_residual.ensures.1)
-    c.in_err-merge.ensures.fails
+returns-in_err-merge g c = rw (err_is c.from_residual.ensures.1)
+    (start_fault (opened g (goal.at.returns-in_err-merge g c).After-start) c.in_err-merge.ensures.fails)
 
 pub steps-init : goal.steps-init
 steps-init g c =
@@ -90,40 +84,37 @@ steps-smaller g c = pair_decreases c.steps.invariant.iteration c.in-Both.ensures
 
 pub returns-in_err-write_head-in-First : goal.returns-in_err-write_head-in-First
 returns-in_err-write_head-in-First g c =
-    exit_as g.K.KeyOrder.order g.K.KeyOrder.key_of (comm_job c.args.job.now) c.steps.invariant.order
+    rw (← c.steps.invariant.order, err_is c.from_residual-in_err-write_head-in-First.ensures.1)
     (alone_fails c.steps.invariant.iteration c.in-First.ensures refl c.write_head.ensures.wrote
-    (is_told c.from_residual-in_err-write_head-in-First.ensures.1) c.in_err-write_head-in-First.ensures.advances)
+    c.in_err-write_head-in-First.ensures.advances)
 
 pub returns-in_err-write_head-in-Second : goal.returns-in_err-write_head-in-Second
 returns-in_err-write_head-in-Second g c =
-    exit_as g.K.KeyOrder.order g.K.KeyOrder.key_of (comm_job c.args.job.now) c.steps.invariant.order
+    rw (← c.steps.invariant.order, err_is c.from_residual-in_err-write_head-in-Second.ensures.1)
     (alone_fails c.steps.invariant.iteration c.in-Second.ensures c.tabs-tabs2.ensures
-    c.write_head-in-Second.ensures.wrote
-    (is_told c.from_residual-in_err-write_head-in-Second.ensures.1) c.in_err-write_head-in-Second.ensures.advances)
+    c.write_head-in-Second.ensures.wrote c.in_err-write_head-in-Second.ensures.advances)
 
 pub returns-in_err-write_head-in-Both : goal.returns-in_err-write_head-in-Both
 returns-in_err-write_head-in-Both g c =
-    exit_as g.K.KeyOrder.order g.K.KeyOrder.key_of (comm_job c.args.job.now) c.steps.invariant.order
+    rw (← c.steps.invariant.order, err_is c.from_residual-in_err-write_head-in-Both.ensures.1)
     (pair_fails c.steps.invariant.iteration c.in-Both.ensures c.tabs-tabs3.ensures
-    c.write_head-in-Both.ensures.wrote
-    (is_told c.from_residual-in_err-write_head-in-Both.ensures.1) c.in_err-write_head-in-Both.ensures.advances)
+    c.write_head-in-Both.ensures.wrote c.in_err-write_head-in-Both.ensures.advances)
 
 pub returns-in_err-write_out_and_advance-in-Both : goal.returns-in_err-write_out_and_advance-in-Both
 returns-in_err-write_out_and_advance-in-Both g c =
     let i = c.steps.invariant in
-    exit_as g.K.KeyOrder.order g.K.KeyOrder.key_of (comm_job c.args.job.now) i.order
+    rw (← i.order, err_is c.from_residual-in_err-write_out_and_advance-in-Both.ensures.1)
     (second_fails i.iteration c.in-Both.ensures
     c.tabs-tabs3.ensures c.write_head-in-Both.ensures.wrote
     c.in_ok-write_head-in-Both.ensures.advances c.write_out_and_advance.ensures.written_out
-    (is_told c.from_residual-in_err-write_out_and_advance-in-Both.ensures.1)
     c.in_err-write_out_and_advance-in-Both.ensures.advances)
 
 pub returns-in-End : goal.returns-in-End
 returns-in-End g c =
-    exit_as g.K.KeyOrder.order g.K.KeyOrder.key_of (comm_job c.args.job.now) c.steps.invariant.order
+    rw (← c.steps.invariant.order)
     (eof c.steps.invariant.iteration c.clear_four_slots.ensures c.in-End.ensures)
 
 pub returns-in-Stop : goal.returns-in-Stop
 returns-in-Stop g c =
-    exit_as g.K.KeyOrder.order g.K.KeyOrder.key_of (comm_job c.args.job.now) c.steps.invariant.order
+    rw (← c.steps.invariant.order)
     (disordered c.steps.invariant.iteration c.clear_four_slots-in-Stop.ensures c.in-Stop.ensures)

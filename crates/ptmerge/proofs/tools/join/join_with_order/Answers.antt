@@ -1,13 +1,12 @@
 -- Each iteration preserves the invariant by one lemma of `Iteration`, and each exit has the
 -- postconditions by another.
-use Rattle.ptmerge.proofs.Common.{refl, sym, ◌∙◌, err_from_is_err_and, join_job}
-use Rattle.ptmerge.proofs.JoinLemmas.Iteration.{read_group_pre, read_group_fails, read_group_continues}
-use Rattle.ptmerge.proofs.JoinLemmas.Iteration.{group_closed, group_there, write_pairs_group, write_pairs_pre}
-use Rattle.ptmerge.proofs.JoinLemmas.Iteration.{pair_fails, write_pairs_next, write_pairs_continues}
-use Rattle.ptmerge.proofs.JoinLemmas.Iteration.{alone_continues, alone_fails, begins, end_in, eof, disordered}
-use Rattle.ptmerge.proofs.JoinLemmas.Iteration.{measure_decreases, joins, exit_as, opened, group_opens}
-use Rattle.ptmerge.proofs.JoinLemmas.Iteration.{group_opens_decreases, advance_pre, start_fails, iteration_as}
-use Rattle.ptmerge.proofs.MergeLemmas.Step.{err_is}
+use Rattle.ptmerge.proofs.Common.{refl, sym, ◌∙◌, join_job}
+use Rattle.ptmerge.proofs.JoinLemmas.Iteration.{read_group_pre, read_group_fails, read_group_continues, group_closed}
+use Rattle.ptmerge.proofs.JoinLemmas.Iteration.{group_there, write_pairs_group, write_pairs_pre, pair_fails}
+use Rattle.ptmerge.proofs.JoinLemmas.Iteration.{write_pairs_next, write_pairs_continues, alone_continues, alone_fails}
+use Rattle.ptmerge.proofs.JoinLemmas.Iteration.{begins, end_in, eof, disordered, measure_decreases, joins, opened}
+use Rattle.ptmerge.proofs.JoinLemmas.Iteration.{group_opens, group_opens_decreases, advance_pre, iteration_as}
+use Rattle.ptmerge.proofs.MergeLemmas.Step.{err_is, start_fault}
 use Rattle.ptmerge.specs.declared.key_order.Side.TheVariants as sides
 use Rattle.ptmerge.specs.declared.tools.join.JoinPhase.TheVariants as phases
 use Rattle.ptmerge.proofs.tools.join.join_with_order.Goals as goal
@@ -17,7 +16,7 @@ returns-in_err-merge g c =
     let a = opened (join_job c.args.job.now) (g.K.KeyOrder.order c.args.order) (g.K.KeyOrder.key_of c.args.order)
     (record { total = g.met.K.KeyOrder.total c.args.order; exact = g.met.K.KeyOrder.exact c.args.order })
     c.requires.keys c.requires.begins in
-    start_fails a c.in_err-merge.ensures.fails (err_is (err_from_is_err_and _ c.from_residual.ensures.1))
+    rw (err_is c.from_residual.ensures.1) (start_fault a.w c.in_err-merge.ensures.fails)
 
 pub steps-init : goal.steps-init
 steps-init g c =
@@ -70,18 +69,16 @@ steps-smaller-in-Continue-branch-3 g c = let h = c.in_ok-write_unpaired-in-Secon
 
 pub returns-in_err-write_unpaired-in-First : goal.returns-in_err-write_unpaired-in-First
 returns-in_err-write_unpaired-in-First g c =
-    exit_as g.K.KeyOrder.order g.K.KeyOrder.key_of (join_job c.args.job.now) c.steps.invariant.order
+    rw (← c.steps.invariant.order, err_is c.from_residual-in_err-write_unpaired-in-First.ensures.1)
     (alone_fails c.steps.invariant.iteration c.in-BetweenGroups.is c.in-First.ensures
     c.write_unpaired.ensures.wrote
-    (err_is (err_from_is_err_and _ c.from_residual-in_err-write_unpaired-in-First.ensures.1))
     c.in_err-write_unpaired-in-First.ensures.advances)
 
 pub returns-in_err-write_unpaired-in-Second : goal.returns-in_err-write_unpaired-in-Second
 returns-in_err-write_unpaired-in-Second g c =
-    exit_as g.K.KeyOrder.order g.K.KeyOrder.key_of (join_job c.args.job.now) c.steps.invariant.order
+    rw (← c.steps.invariant.order, err_is c.from_residual-in_err-write_unpaired-in-Second.ensures.1)
     (alone_fails c.steps.invariant.iteration c.in-BetweenGroups.is c.in-Second.ensures
     c.write_unpaired-in-Second.ensures.wrote
-    (err_is (err_from_is_err_and _ c.from_residual-in_err-write_unpaired-in-Second.ensures.1))
     c.in_err-write_unpaired-in-Second.ensures.advances)
 
 pub steps-preserved-in-Both : goal.steps-preserved-in-Both
@@ -96,13 +93,13 @@ steps-smaller-in-Both g c = group_opens_decreases c.steps.invariant.iteration c.
 pub returns-in-End : goal.returns-in-End
 returns-in-End g c =
     let i = c.steps.invariant in
-    exit_as g.K.KeyOrder.order g.K.KeyOrder.key_of (join_job c.args.job.now) i.order
+    rw (← i.order)
     (eof i.iteration c.in-BetweenGroups.is c.clear_four_slots.ensures c.in-End.ensures)
 
 pub returns-in-Stop : goal.returns-in-Stop
 returns-in-Stop g c =
     let i = c.steps.invariant in
-    exit_as g.K.KeyOrder.order g.K.KeyOrder.key_of (join_job c.args.job.now) i.order
+    rw (← i.order)
     (disordered i.iteration c.in-BetweenGroups.is c.clear_four_slots-in-Stop.ensures c.in-Stop.ensures)
 
 pub read_group_line-requires-clause-group : goal.read_group_line-requires-clause-group
@@ -113,9 +110,8 @@ read_group_line-requires-clause-status_is g c = read_group_pre c.steps.invariant
 
 pub returns-in_err-end-in-ReadGroup : goal.returns-in_err-end-in-ReadGroup
 returns-in_err-end-in-ReadGroup g c =
-    exit_as g.K.KeyOrder.order g.K.KeyOrder.key_of (join_job c.args.job.now) c.steps.invariant.order
+    rw (← c.steps.invariant.order, err_is c.from_residual-in_err-end-in-ReadGroup.ensures.1)
     (read_group_fails c.steps.invariant.iteration c.in-ReadGroup.is c.read_group_line.ensures.written_out
-    (err_is (err_from_is_err_and _ c.from_residual-in_err-end-in-ReadGroup.ensures.1))
     c.in_err-end-in-ReadGroup.ensures.reads_line)
 
 pub steps-preserved-then-not-has_same_key : goal.steps-preserved-then-not-has_same_key
@@ -168,10 +164,9 @@ write_pairs-requires-clause-group g c = write_pairs_group c.steps.invariant.iter
 
 pub returns-in_err-write_pairs-in-WritePairs : goal.returns-in_err-write_pairs-in-WritePairs
 returns-in_err-write_pairs-in-WritePairs g c =
-    exit_as g.K.KeyOrder.order g.K.KeyOrder.key_of (join_job c.args.job.now) c.steps.invariant.order
+    rw (← c.steps.invariant.order, err_is c.from_residual-in_err-write_pairs-in-WritePairs.ensures.1)
     (pair_fails c.steps.invariant.iteration c.in-WritePairs.is
     c.write_pairs.ensures.wrote
-    (err_is (err_from_is_err_and _ c.from_residual-in_err-write_pairs-in-WritePairs.ensures.1))
     c.in_err-write_pairs-in-WritePairs.ensures.advances)
 
 pub clear_group-requires : goal.clear_group-requires
