@@ -1,15 +1,15 @@
 -- A tool that works block by block. The output of each block is pushed before the next is read, so the input with no
 -- output yet is in the reader's buffer.
 use Rattle.ptflow.proofs.Common.{common_steps, ◌≡◌, ℕ, ◌+◌, ◌-◌, ◌≤◌, ◌<◌, ◌^◌, true, false, List, [], ◌++◌, None, Ok}
-use Rattle.ptflow.proofs.Common.{Err, length, drop, refl, sym, ◌∙◌, ap, subst, arith, append-nil, append_assoc, take_all}
-use Rattle.ptflow.proofs.Common.{Reader, ReaderAdvance, AdvanceOk, IsDone, IsSound, HasReadCause, IsPrefix, Output}
-use Rattle.ptflow.proofs.Common.{PushEffect, Slots, advance_ok_trans, push_trans, ToolSpec, PassPre, PassPost, Read}
-use Rattle.ptflow.proofs.Common.{Write, OutputFailed}
+use Rattle.ptflow.proofs.Common.{Err, length, drop, refl, ap, arith, append-nil, append_assoc}
+use Rattle.ptflow.proofs.Common.{take_all, Reader, ReaderAdvance, AdvanceOk, IsDone, IsSound, HasReadCause, IsPrefix}
+use Rattle.ptflow.proofs.Common.{Output, PushEffect, Slots, advance_ok_trans, push_trans, ToolSpec, PassPre, PassPost}
+use Rattle.ptflow.proofs.Common.{Read, Write, OutputFailed}
 use Rattle.ptflow.specs.Private.Passes.BlockLoop.{IsBlockFilter}
 use Rattle.ptflow.specs.Private.Passes.StepOutput.{OutputPart}
 use Rattle.ptflow.proofs.Passes.Readers.{advance_past}
-use Rattle.ptflow.proofs.Passes.Exits.{Progress, progress_none, progress_flushed, PassState, PassEnding, store_unchanged}
-use Rattle.ptflow.proofs.Passes.Exits.{nothing_more, pass_read, pass_write, pass_done, pass_unended}
+use Rattle.ptflow.proofs.Passes.Exits.{Progress, progress_none, progress_flushed, PassState, PassEnding}
+use Rattle.ptflow.proofs.Passes.Exits.{store_unchanged, nothing_more, pass_read, pass_write, pass_done, pass_unended}
 
 -- a counter is at most the number of bytes that were processed
 module _ {reader shown : Reader} {block : List ℕ} (advance_ok : AdvanceOk reader shown [])
@@ -113,11 +113,7 @@ module _ {X : Type 0} {rest_from : X → List ℕ → List ℕ} {IsUnchanged : X
 
       pub block_read : HasReadCause reader new → PassPost tool old new was is store store (Err (Read 0))
       block_read cause = pass_read ending cause ready.not_denied
-          (λ empty going. subst (λ g. IsPrefix (tool.decided g) run.pushed) (λ i. record {
-            bytes = (sym (append-nil run.given) ∙ sym (append-nil (run.given ++ []))
-                ∙ ap (◌++◌ (run.given ++ [])) (sym empty)) i;
-            eof = sym going i;
-          }) decided_so)
+          (λ empty going. rw (empty, going, append-nil (run.given ++ []), append-nil run.given) decided_so)
 
       -- a write failed at the block
       pub block_write : {is' : Output} {block : List ℕ} → new.buffered ≡ block → OutputFailed rest_from now block is is'
@@ -134,7 +130,8 @@ module _ {X : Type 0} {rest_from : X → List ℕ → List ℕ} {IsUnchanged : X
           (same : new.failed ≡ reader.failed) where
         pub block_done : is'.write_failed ≡ false → new.fault ≡ None → new.pulled < 2 ^ 63
             → PassPost tool old new was is' store store (Ok tt)
-        block_done fine fault short = pass_done ending wrote done refl same ready.not_denied fine fault short ready.empty
+        block_done clean fault short =
+            pass_done ending wrote done refl same ready.not_denied clean fault short ready.empty
 
         pub block_unended : is'.write_failed ≡ true → PassPost tool old new was is' store store (Err Write)
         block_unended fault = pass_unended ending wrote done refl same ready.not_denied fault

@@ -4,10 +4,10 @@
 -- prefix of the output for each consistent input, and decided output is written.
 use Rattle.ptflow.proofs.Common.{◌≡◌, ⊎_elim, inl, inr, ℕ, ◌≤◌, ◌<◌, ◌^◌, true, false, List, [], ◌++◌, length, None}
 use Rattle.ptflow.proofs.Common.{Result, Ok, Err, max, refl, sym, ◌∙◌, ap, arith, append_assoc, common_steps}
-use Rattle.ptflow.proofs.Common.{append-nil, false_from_ne_true, false≢true, Reader, ReaderAdvance, AdvanceOk, IsDone, IsSound}
-use Rattle.ptflow.proofs.Common.{HasReadCause, Received, IsPrefix, IsConsistent, Output, PushEffect, Slots, total_bytes}
-use Rattle.ptflow.proofs.Common.{received_with, advance_trans, push_nothing, push_trans, ToolSpec, PassPre, PassPost}
-use Rattle.ptflow.proofs.Common.{only_input, pass_end, pass_engine, CallState, call_state, CallOutcome}
+use Rattle.ptflow.proofs.Common.{append-nil, false_from_ne_true, false≢true, Reader, ReaderAdvance, AdvanceOk, IsDone}
+use Rattle.ptflow.proofs.Common.{IsSound, HasReadCause, Received, IsPrefix, IsConsistent, Output, PushEffect, Slots}
+use Rattle.ptflow.proofs.Common.{total_bytes, received_with, advance_trans, push_nothing, push_trans, ToolSpec, PassPre}
+use Rattle.ptflow.proofs.Common.{PassPost, only_input, pass_end, pass_engine, CallState, call_state, CallOutcome}
 use Rattle.ptflow.proofs.Common.{AddedSlots, CallProgress, DecidedIfReadFailed, call_ends, call_on_failed_output}
 use Rattle.ptflow.proofs.Common.{call_set, call_without_slots, ProcessLag, bounded_lag_after, FlowFault, Read, Write}
 use Rattle.ptflow.proofs.Common.{Memory, reads_nothing}

@@ -1,21 +1,21 @@
 -- A tool that works line by line. The items written for the lines so far, and then those of the rest, are the items of
 -- the whole for every continuation; so the state between two lines is a `PassState`, and each exit is a lemma of
 -- `Exits`.
-use Rattle.ptflow.proofs.Common.{◌≡◌, Bool, ℕ, ◌+◌, ◌-◌, ◌<◌, ◌≤◌, ◌^◌, true, false, List, [], ◌∷◌}
-use Rattle.ptflow.proofs.Common.{◌++◌, Ok, Err, length, drop, max, refl, ◌∙◌, ap, subst, arith, append_assoc}
-use Rattle.ptflow.proofs.Common.{length-append, mul-le-mul_left, nil_from_length, get_or-set_same, lines}
-use Rattle.ptflow.proofs.Common.{complete_lines, IsLine, max_length, max_line_length, Received, known_lines, IsPrefix}
-use Rattle.ptflow.proofs.Common.{IsConsistent, Output, PushEffect, Reader, ReaderAdvance, AdvanceOk, IsDone, IsSound}
-use Rattle.ptflow.proofs.Common.{HasReadCause, Slots, line, with_line, with_denied, FillPost, FillLine}
-use Rattle.ptflow.proofs.Common.{advance_ok_trans, push_trans, ToolSpec, PassPre, PassPost, AddedSlots}
-use Rattle.ptflow.proofs.Common.{AreReceivedLines, LinesWritten, LinesFailed, IsLinesLength, IsSwapped, SlotsCleared}
-use Rattle.ptflow.proofs.Common.{IsLineFilter, Read, Write, Memory, received_with, reads_nothing}
+use Rattle.ptflow.proofs.Common.{◌≡◌, Bool, ℕ, ◌+◌, ◌-◌, ◌<◌, ◌≤◌, ◌^◌, true, false, List, [], ◌∷◌, ◌++◌, Ok, Err}
+use Rattle.ptflow.proofs.Common.{length, drop, max, refl, ◌∙◌, ap, subst, arith, append_assoc, length-append}
+use Rattle.ptflow.proofs.Common.{mul-le-mul_left, nil_from_length, get_or-set_same, lines, complete_lines, IsLine}
+use Rattle.ptflow.proofs.Common.{max_length, max_line_length, Received, known_lines, IsPrefix, IsConsistent, Output}
+use Rattle.ptflow.proofs.Common.{PushEffect, Reader, ReaderAdvance, AdvanceOk, IsDone, IsSound, HasReadCause, Slots}
+use Rattle.ptflow.proofs.Common.{line, with_line, with_denied, FillPost, FillLine, advance_ok_trans, push_trans}
+use Rattle.ptflow.proofs.Common.{ToolSpec, PassPre, PassPost, AddedSlots, AreReceivedLines, LinesWritten, LinesFailed}
+use Rattle.ptflow.proofs.Common.{IsLinesLength, IsSwapped, SlotsCleared, IsLineFilter, Read, Write, Memory}
+use Rattle.ptflow.proofs.Common.{received_with, reads_nothing}
 use Rattle.ptflow.proofs.Passes.Lines.{line_split, complete_prefix, max_length-append}
 use Rattle.ptflow.proofs.Passes.LinesRead.{lines_none, lines_few, lines_on, lines_more, lines_block, line_prefix}
 use Rattle.ptflow.proofs.Passes.LinesRead.{received_longest, piece_longest, whole_before, before_line, after_line}
 use Rattle.ptflow.proofs.Passes.Exits.{Progress, progress_none, progress_flushed, PassState, LaggedOutput, StoreBounds}
-use Rattle.ptflow.proofs.Passes.Exits.{PassEnding, nothing_more, pass_unslotted, pass_read, pass_memory, pass_write, pass_done}
-use Rattle.ptflow.proofs.Passes.Exits.{pass_unended}
+use Rattle.ptflow.proofs.Passes.Exits.{PassEnding, nothing_more, pass_unslotted, pass_read, pass_memory, pass_write}
+use Rattle.ptflow.proofs.Passes.Exits.{pass_done, pass_unended}
 use Rattle.ptflow.proofs.Passes.Readers.{advance_past}
 use Rattle.ptflow.proofs.Passes.Slots.{SlotBounds, bounds_weaker, bounds_line, bounds_swapped, bounds_cleared}
 
