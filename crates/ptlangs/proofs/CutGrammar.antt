@@ -4,25 +4,25 @@
 use Rattle.ptlangs.proofs.Common.{Result, ◌≡◌, Bool, List, None, Ok, Option, Some, [], ap, arith, cond, drop, eqb}
 use Rattle.ptlangs.proofs.Common.{false, get_or, inl, inr, leb, length, ltb, not, refl, subst, suc, sym, take, true, ℕ}
 use Rattle.ptlangs.proofs.Common.{◌&&◌, ◌++◌, ◌+◌, ◌-◌, ◌<◌, ◌||◌, ◌∙◌, ◌∷◌, and_parts, and_right, cases_Bool}
-use Rattle.ptlangs.proofs.Common.{cond-false, cond-true, eqb-false, eqb-true, le-ltb, ltb-false, ne_eqb}
-use Rattle.ptlangs.proofs.Common.{nat_tests, All-cons, list_any-IsPermutation}
-use Rattle.ptlangs.proofs.Common.{join_with_byte-slice_split, length-slice_split, slice_split_at, slice_split_none}
-use Rattle.ptlangs.proofs.Common.{AllPass-from_list_all, is_ascii_digit, All, join_with_byte, list_all, position}
-use Rattle.ptlangs.proofs.Common.{slice_split}
-use Rattle.ptlangs.proofs.Common.{IsValidInterval, cut_list}
-use Rattle.ptlangs.proofs.Common.{element_interval, is_dash}
-use Rattle.ptlangs.proofs.Common.{and_then, traverse, max_u64, is_empty, is_number}
-use Rattle.ptlangs.proofs.Common.{value, Interval, max, ◌≤◌, append_assoc, list_any-append, list_any}
+use Rattle.ptlangs.proofs.Common.{cond-false, cond-true, eqb-false, eqb-true, le-ltb, ltb-false, ne_eqb, nat_tests}
+use Rattle.ptlangs.proofs.Common.{All-cons, slice_split_at, slice_split_none, AllPass-from_list_all, is_ascii_digit}
+use Rattle.ptlangs.proofs.Common.{All, list_all, position, slice_split, IsValidInterval, cut_list, element_interval}
+use Rattle.ptlangs.proofs.Common.{is_dash, and_then, traverse, max_u64, is_empty, is_number, value, Interval, ◌≤◌}
+use Rattle.ptlangs.proofs.Common.{append_assoc}
+use Rattle.std.proofs.lemmas.List.Sorted.{list_any-IsPermutation}
+use Rattle.std.proofs.lemmas.List.Splits.{join_with_byte-slice_split, length-slice_split}
+use Rattle.std.specs.List.{join_with_byte, list_any}
+use Rattle.std.proofs.Common.{max}
+use Rattle.std.proofs.lemmas.List.Folds.{list_any-append}
 use Rattle.std.specs.List.Sorted.{IsNonDecreasingBy, IsPermutation}
-use Rattle.std.proofs.lemmas.Bool.{cond_both}
+use Rattle.std.proofs.lemmas.Bool.{cond_both, and_left, or_from, or_parts}
 use Rattle.ptlangs.specs.declared.ranges.ListFault.{ListFault}
 use Rattle.ptlangs.proofs.ListElements.{split_whole, split_around, some_since, digits_fail, Unbroken, unbroken_cons}
-use Rattle.ptlangs.proofs.ListElements.{unbroken_append, unbroken_nil, unbroken_number, matches_grammar}
+use Rattle.ptlangs.proofs.ListElements.{unbroken_append, unbroken_nil, unbroken_number, matches_grammar, IsSplit, Whole}
+use Rattle.ptlangs.proofs.ListElements.{Cut, splits, reads_first}
 use Rattle.ptlangs.specs.CutLists.{CutListMatchesGrammar, AreSeparated, AreSortedFrom, From, FromTo, SpellsInterval}
 use Rattle.ptlangs.specs.CutLists.{IsIntervalElement, One, UpTo, checked_interval, interval_of_bounds, is_bound}
 use Rattle.ptlangs.specs.CutLists.{is_selected, interval_of_parts, selection}
-use Rattle.std.proofs.lemmas.Bool.{and_left, or_from, or_parts}
-use Rattle.ptlangs.proofs.ListElements.{IsSplit, Whole, Cut, splits, reads_first}
 
 -- ---- the elements, split at dashes
 

@@ -2,14 +2,12 @@
 -- directions. The fault of a list is the first one found from left to right, and is never an allocation failure.
 use Rattle.ptlangs.proofs.Common.{◌≡◌, Bool, Err, List, None, Ok, Option, Result, Some, [], ap, arith, cond, eqb, false}
 use Rattle.ptlangs.proofs.Common.{length, refl, subst, sym, true, ℕ, ◌++◌, ◌<◌, ◌∙◌, ◌∷◌, eqb-true, append-nil}
-use Rattle.ptlangs.proofs.Common.{result_err}
-use Rattle.ptlangs.proofs.Common.{delim_list, delims, and_then, cons_ok}
-use Rattle.ptlangs.proofs.Common.{DelimFault}
+use Rattle.ptlangs.proofs.Common.{result_err, delim_list, delims, and_then, cons_ok}
+use Rattle.ptlangs.specs.declared.delims.DelimFault.{DelimFault}
 use Rattle.std.proofs.lemmas.Bool.{cond_both}
 use Rattle.ptlangs.proofs.ListElements.{reads_first}
 use Rattle.ptlangs.specs.DelimLists.{Backslash, IsDelim, IsDelimList, Last, More, Newline, Nothing, Tab, backslash}
-use Rattle.ptlangs.specs.DelimLists.{escape, delim_list_fault}
-use Rattle.ptlangs.specs.DelimLists.{Plain, DelimListMatchesGrammar}
+use Rattle.ptlangs.specs.DelimLists.{escape, delim_list_fault, Plain, DelimListMatchesGrammar}
 
 pub delims_of_some : (bs : List ℕ) → 0 < length bs → delims bs ≡ delim_list bs
 delims_of_some [] h = absurd (omega arith)

@@ -3,16 +3,17 @@
 use Rattle.ptlangs.proofs.Common.{◌≡◌, Bool, Err, List, None, Ok, Result, Some, [], ap, arith, cond, drop, false}
 use Rattle.ptlangs.proofs.Common.{get_or, length, ltb, refl, subst, sym, take, true, ℕ, ◌++◌, ◌+◌, ◌-◌, ◌∙◌, ◌∷◌}
 use Rattle.ptlangs.proofs.Common.{ltb-false, ltb-true, nat_tests, append_assoc, length-drop, take_all, slice_split_at}
-use Rattle.ptlangs.proofs.Common.{slice_split_first, slice_split_none, AllPass-from_list_all, fails_before_first}
-use Rattle.ptlangs.proofs.Common.{is_ascii_digit, All, onto_first, position, position_or_len, slice_split}
+use Rattle.ptlangs.proofs.Common.{slice_split_none, AllPass-from_list_all, is_ascii_digit, All, position, slice_split}
 use Rattle.ptlangs.proofs.Common.{and_then, traverse, elements, is_number, is_list_separator, cons_ok, eqb, leb, not}
 use Rattle.ptlangs.proofs.Common.{◌&&◌, ◌*◌, ◌<◌, ◌≤◌, and_from, and_right, cond-false, cond-true, le-leb, lt-leb}
-use Rattle.ptlangs.proofs.Common.{All-append, All-cons, ne_eqb, drop_all, drop_more, digit_value, list_all}
-use Rattle.ptlangs.proofs.Common.{digits_value_after, max_u64, is_empty, value}
-use Rattle.std.proofs.lemmas.Bool.{cond_both}
-use Rattle.ptlangs.specs.Numbers.{IsListOf, number}
-use Rattle.std.proofs.lemmas.Bool.{not_from_false}
-use Rattle.ptlangs.specs.Numbers.{Last, More}
+use Rattle.ptlangs.proofs.Common.{All-cons, ne_eqb, drop_all, drop_more, digit_value, list_all, digits_value_after}
+use Rattle.ptlangs.proofs.Common.{max_u64, is_empty, value}
+use Rattle.std.proofs.lemmas.List.Splits.{slice_split_first}
+use Rattle.std.proofs.lemmas.List.Sums.{fails_before_first}
+use Rattle.std.specs.List.{onto_first, position_or_len}
+use Rattle.std.proofs.lemmas.List.Elements.{All-append}
+use Rattle.std.proofs.lemmas.Bool.{cond_both, not_from_false}
+use Rattle.ptlangs.specs.Numbers.{IsListOf, number, Last, More}
 
 -- ---- splitting at the first separator
 

@@ -1,16 +1,16 @@
 -- The output lists of `join`: an element is `0`, or the number of a file, a point and a number, and `element_field`
 -- tests exactly this. So `out_list` agrees with the grammar in both directions.
 use Rattle.ptlangs.proofs.Common.{Result, ◌≡◌, ℕ, ◌≤◌, true, false, not, ltb, eqb, List, [], ◌∷◌, Ok, refl, subst}
-use Rattle.ptlangs.proofs.Common.{arith, le-ltb, ltb-false, ne_eqb, eqb-true, eqb-false, max_u64}
-use Rattle.ptlangs.proofs.Common.{is_number, value, is_list_separator}
+use Rattle.ptlangs.proofs.Common.{arith, le-ltb, ltb-false, ne_eqb, eqb-true, eqb-false, max_u64, is_number, value}
+use Rattle.ptlangs.proofs.Common.{is_list_separator}
 use Rattle.std.proofs.lemmas.Bool.{cond_both, not-false}
 use Rattle.ptlangs.proofs.ListElements.{Unbroken, matches_grammar, unbroken_cons, unbroken_nil, unbroken_number}
 use Rattle.ptlangs.specs.declared.outlist.OutFault.{OutFault}
 use Rattle.ptlangs.specs.OutLists.{element_field, SpellsField, IsValidField, IsFieldElement, OutListMatchesGrammar}
+use Rattle.ptlangs.specs.OutLists.{FirstFileField, SecondFileField, JoinField, field_of}
 use Rattle.ptlangs.specs.declared.outlist.File.{File}
 use Rattle.ptlangs.specs.declared.outlist.File.TheVariants.{First, Second}
 use Rattle.ptlangs.specs.declared.outlist.OutField.{OutField}
-use Rattle.ptlangs.specs.OutLists.{FirstFileField, SecondFileField, JoinField, field_of}
 use Rattle.ptlangs.specs.declared.outlist.OutField.TheVariants.{Join, Field}
 
 -- ---- from the grammar to `out_list`

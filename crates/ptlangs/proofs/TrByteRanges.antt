@@ -1,15 +1,14 @@
 -- The byte with an index in a concatenation of ranges: an index past the first range is an index in the rest, less the
 -- length of the first.
-use Rattle.ptlangs.proofs.Common.{◌≡◌, ◌<◌, ◌≤◌, ◌+◌, ◌-◌, ℕ, zero, suc, List, [], ◌∷◌, ◌++◌, length, drop}
-use Rattle.ptlangs.proofs.Common.{replicate, lit≤, arith, refl, sym, ap, ◌∙◌, Option, Some, None, slice_get, flat_map}
-use Rattle.ptlangs.proofs.Common.{drop_more, length-replicate, CharClass, span}
-use Rattle.ptlangs.proofs.Common.{range_bytes, class_bytes, get_or-replicate}
+use Rattle.ptlangs.proofs.Common.{◌≡◌, ◌<◌, ◌≤◌, ◌+◌, ◌-◌, ℕ, zero, suc, List, [], ◌∷◌, ◌++◌, length, drop, replicate}
+use Rattle.ptlangs.proofs.Common.{arith, refl, sym, ap, ◌∙◌, Option, Some, None, slice_get, flat_map, drop_more}
+use Rattle.ptlangs.proofs.Common.{length-replicate, CharClass, span, range_bytes, class_bytes, get_or-replicate}
+use Rattle.std.proofs.Common.{lit≤}
 use Rattle.std.proofs.Math.ListN.{get_or}
-use Rattle.std.proofs.lemmas.List.FromFn.{get_or-range_with_len}
+use Rattle.std.proofs.lemmas.List.FromFn.{get_or-range_with_len, length-range_with_len}
 use Rattle.std.proofs.lemmas.Option.{slice_get-get_or, slice_get_past, slice_get_within}
 use Rattle.std.specs.Prelude.{◌^◌, IfSome}
 use Rattle.ptlangs.specs.declared.tr.classes.CharClass.TheVariants.{Alnum, Alpha, Blank, Cntrl, Digit, Graph, Lower}
-use Rattle.std.proofs.lemmas.List.FromFn.{length-range_with_len}
 use Rattle.ptlangs.specs.declared.tr.classes.CharClass.TheVariants.{Print, Punct, Space, Upper, Xdigit}
 
 pub slice_get-left : {X : Type 0} (xs ys : List X) (i : ℕ) → i < length xs → slice_get (xs ++ ys) i ≡ slice_get xs i

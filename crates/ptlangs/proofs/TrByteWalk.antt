@@ -3,19 +3,20 @@
 use Rattle.ptlangs.proofs.Common.{◌≡◌, Bool, Err, List, None, Ok, Option, Result, Some, [], ap, arith, cond, drop, eqb}
 use Rattle.ptlangs.proofs.Common.{false, length, map, refl, suc, sym, true, zero, ℕ, ◌&&◌, ◌++◌, ◌+◌, ◌||◌, ◌∙◌, ◌∷◌}
 use Rattle.ptlangs.proofs.Common.{◌≤◌, ◌<◌, ◌-◌, append-nil, append_assoc, length-map, length-replicate, map-append}
-use Rattle.ptlangs.proofs.Common.{slice_get, cons_ok, are_opposite_cases, array, class_offsets, class_bytes, sequence}
-use Rattle.ptlangs.proofs.Common.{is_fill, are_paired, members, segment, result_map_both, has_other_case_at, CharClass}
-use Rattle.ptlangs.proofs.Common.{SetFaultKind, SetElement, Segment, SetRole, First, Images, Squeezed}
-use Rattle.ptlangs.proofs.Common.{eq-eqb, ne_eqb, drop_all, subst, replicate, span, segments_of, string_segments}
+use Rattle.ptlangs.proofs.Common.{slice_get, cons_ok, array, class_offsets, class_bytes, sequence, is_fill, segment}
+use Rattle.ptlangs.proofs.Common.{result_map_both, CharClass, SetFaultKind, SetElement, Segment, SetRole, First, Images}
+use Rattle.ptlangs.proofs.Common.{Squeezed, eq-eqb, ne_eqb, drop_all, subst, replicate, span, segments_of}
+use Rattle.ptlangs.proofs.Common.{string_segments}
+use Rattle.ptlangs.specs.TrClasses.{are_opposite_cases}
+use Rattle.ptlangs.specs.TrPlan.{are_paired, members, has_other_case_at}
 use Rattle.std.proofs.lemmas.List.{drop-replicate}
 use Rattle.std.specs.Result.{IsErrAnd}
 use Rattle.ptlangs.specs.declared.tr.elements.SetElement.TheVariants as element
 use Rattle.ptlangs.specs.declared.tr.segments.Member.{Member}
-use Rattle.ptlangs.specs.declared.tr.segments.Segment.TheVariants.{Range, Class}
-use Rattle.ptlangs.specs.TrParsing.{all_paired, member_bytes, classes_match, class_of, marked_array}
-use Rattle.ptlangs.specs.TrParsing.{marked_members, member_results, members_from, plain_members}
+use Rattle.ptlangs.specs.declared.tr.segments.Segment.TheVariants.{Range, Class, Fill, Repeat}
+use Rattle.ptlangs.specs.TrParsing.{all_paired, member_bytes, classes_match, class_of, marked_array, marked_members}
+use Rattle.ptlangs.specs.TrParsing.{member_results, members_from, plain_members}
 use Rattle.ptlangs.proofs.ListElements.{append_ok as onto, append_ok-nil, cons_ok-append_ok, reads_first}
-use Rattle.ptlangs.specs.declared.tr.segments.Segment.TheVariants.{Fill, Repeat}
 use Rattle.ptlangs.proofs.TrByteRanges.{slice_get-none, class_bytes-some}
 
 -- these items were read without a fault, and `P` holds of them; `rest` is still to be read

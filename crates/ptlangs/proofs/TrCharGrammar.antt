@@ -3,13 +3,14 @@
 use Rattle.ptlangs.proofs.Common.{◌≡◌, ◌≤◌, ◌<◌, ◌+◌, ◌-◌, ◌*◌, ℕ, zero, suc, Bool, true, false, cond, eqb, List, []}
 use Rattle.ptlangs.proofs.Common.{◌∷◌, length, take, drop, get_or, arith, refl, sym, ap, ◌∙◌, rules, tests, nat_le}
 use Rattle.ptlangs.proofs.Common.{Option, Some, None, prefix_len, slice_get, digit_value, digits_value, drop_more}
-use Rattle.ptlangs.proofs.Common.{drop_all, drop-drop, take-take, length-take, get_or-take, length-prefix_len}
-use Rattle.ptlangs.proofs.Common.{prefix_len-le-length, prefix_len_passes, is_octal_digit, octal_run, octal, chars}
-use Rattle.ptlangs.proofs.Common.{after_backslash, Octal, SetChar, Plain, Escaped, Invalid, inl}
-use Rattle.ptlangs.proofs.Common.{inr, subst, ◌++◌, cases_Bool, cases_eq, ne_eqb, nat_tests, drop_at, length-append}
-use Rattle.ptlangs.proofs.Common.{ALargeOctal, ALoneBackslash, APlainByte, AChar, AnEscape, AnOctal, NoChar}
-use Rattle.ptlangs.proofs.Common.{SpellsChar, SpellsChars}
-use Rattle.ptlangs.proofs.Common.{Escape, cond-false, cond-true, le-leb, lt-leb, value}
+use Rattle.ptlangs.proofs.Common.{drop_all, drop-drop, length-take, length-prefix_len, is_octal_digit, octal_run, octal}
+use Rattle.ptlangs.proofs.Common.{chars, after_backslash, SetChar, Plain, Escaped, Invalid, inl, inr, subst, ◌++◌}
+use Rattle.ptlangs.proofs.Common.{cases_Bool, cases_eq, ne_eqb, nat_tests, drop_at, length-append, ALargeOctal}
+use Rattle.ptlangs.proofs.Common.{ALoneBackslash, APlainByte, AChar, AnEscape, AnOctal, NoChar, SpellsChar, SpellsChars}
+use Rattle.ptlangs.proofs.Common.{cond-false, cond-true, le-leb, lt-leb, value}
+use Rattle.std.proofs.lemmas.List.{take-take, get_or-take}
+use Rattle.std.proofs.lemmas.List.Sums.{prefix_len-le-length, prefix_len_passes}
+use Rattle.ptlangs.specs.declared.faults.SetFaultKind.TheVariants.{Octal, Escape}
 use Rattle.std.proofs.Common.{All}
 use Rattle.std.specs.Int.{IsInRange}
 use Rattle.std.proofs.lemmas.Int.Digits.{digits_value_more}

@@ -1,27 +1,24 @@
 -- The table of the bytes that an array contains, which grows byte by byte, and the table of images. The image of a byte
 -- is the byte of the second array, extended by its last byte, at the index that was pushed last for it.
-use Rattle.ptlangs.proofs.Common.{◌≡◌, ◌≢◌, ◌⊎◌, inl, inr, ◌<◌, ◌≤◌, ◌+◌, ◌-◌, ℕ, zero, suc, Bool, true, false, cond}
-use Rattle.ptlangs.proofs.Common.{eqb, List, [], ◌∷◌, ◌++◌, length, take, map, replicate, arith, refl, sym, ap, ◌∙◌}
-use Rattle.ptlangs.proofs.Common.{Option, Some, None, range_with_len, flat_map, set, cases_eq, eq-eqb, ne_eqb}
-use Rattle.ptlangs.proofs.Common.{append_assoc, append-nil}
-use Rattle.ptlangs.proofs.Common.{length-replicate, get_or-replicate, length-append}
-use Rattle.ptlangs.proofs.Common.{min, not, ◌||◌, ◌&&◌}
-use Rattle.ptlangs.proofs.Common.{last_or, slice_get, option_and_then, option_to_list}
-use Rattle.ptlangs.proofs.Common.{unwrap_or, complement_of, image_by}
+use Rattle.ptlangs.proofs.Common.{◌≡◌, ◌≢◌, inl, inr, ◌<◌, ◌≤◌, ◌+◌, ◌-◌, ℕ, zero, suc, Bool, true, false, cond, eqb}
+use Rattle.ptlangs.proofs.Common.{List, [], ◌∷◌, ◌++◌, length, take, map, replicate, arith, refl, sym, ap, ◌∙◌, Option}
+use Rattle.ptlangs.proofs.Common.{Some, None, flat_map, set, cases_eq, eq-eqb, ne_eqb, append_assoc, append-nil}
+use Rattle.ptlangs.proofs.Common.{length-replicate, get_or-replicate, length-append, not, ◌||◌, ◌&&◌, last_or}
+use Rattle.ptlangs.proofs.Common.{slice_get, option_and_then, unwrap_or, complement_of, image_by}
+use Rattle.std.proofs.Common.{◌⊎◌, min, ⊎_elim}
+use Rattle.std.specs.List.{range_with_len}
+use Rattle.std.specs.Option.{option_to_list}
 use Rattle.std.proofs.Math.ListN.{get_or}
-use Rattle.std.proofs.lemmas.Bool.{or_right}
+use Rattle.std.proofs.lemmas.Bool.{or_right, cases_lt}
 use Rattle.std.proofs.lemmas.List.Elements.{filter-append}
-use Rattle.std.specs.Prelude.{count_by}
+use Rattle.std.specs.Prelude.{count_by, filter}
 use Rattle.ptlangs.specs.TrClasses.{all_bytes}
 use Rattle.ptlangs.specs.TrParsing.{contents_of}
 use Rattle.ptlangs.specs.declared.tr.contents.Contents.{Contents}
 use Rattle.ptlangs.specs.TrPlan.{padded_to, has_byte, last_position, next_index_or}
-use Rattle.std.specs.Prelude.{filter}
 use Rattle.std.proofs.lemmas.List.FromFn.{get_or-map-range_with_len, length-map-range_with_len, map-range_with_len_more}
 use Rattle.std.proofs.lemmas.List.{get_or-set_other, get_or-set_same, get_or_default, length-set, map-id, same_lists}
-use Rattle.std.proofs.lemmas.Bool.{cases_lt}
 use Rattle.std.proofs.lemmas.Grind.{common_steps}
-use Rattle.std.proofs.Common.{⊎_elim}
 use Rattle.ptlangs.proofs.TrByteRanges.{slice_get-left, slice_get-right, slice_get-none, repeat_there}
 
 -- the entries of a table of all bytes

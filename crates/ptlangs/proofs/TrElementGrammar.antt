@@ -3,25 +3,26 @@
 -- rejected with the fault of its first faulty element.
 use Rattle.ptlangs.proofs.Common.{◌≡◌, ◌<◌, ◌-◌, ℕ, zero, suc, Bool, true, false, eqb, List, [], ◌∷◌, ◌++◌, length}
 use Rattle.ptlangs.proofs.Common.{drop, map, arith, refl, sym, ap, subst, ◌∙◌, Option, Some, None, Result, Ok, Err}
-use Rattle.ptlangs.proofs.Common.{nat_lt, list_all, option_and_then, option_or, is_ascii_digit, is_ascii_lowercase}
-use Rattle.ptlangs.proofs.Common.{ltb-false, le-ltb, eqb-true, ne_eqb, length-map, length-append, append_assoc, drop_at}
-use Rattle.ptlangs.proofs.Common.{drop_all, SetFaultKind, SetChar, Plain, Escaped, Invalid, SetElement}
-use Rattle.ptlangs.proofs.Common.{byte_of, class_named, StartsBracketed}
-use Rattle.ptlangs.proofs.Common.{ARepeat, AClass, AnEquivalence, StartsElement, InBrackets, ARange}
-use Rattle.ptlangs.proofs.Common.{Alone, after_plain, plain_run, after_run}
-use Rattle.ptlangs.proofs.Common.{set_elements, ◌||◌, ◌≤◌, and_parts}
-use Rattle.ptlangs.proofs.Common.{ltb-true, nat_tests, drop_more, result_map_both, ADescendingRange, AnInvalidEnd}
-use Rattle.ptlangs.proofs.Common.{AnInvalidChar, StartsInvalid, FirstFaultIsReported, FirstFault}
-use Rattle.ptlangs.proofs.Common.{LaterFault, NoElement, NoSegment, sequence, is_fill, segment, segments}
-use Rattle.ptlangs.proofs.Common.{chars, CharClass, Segment, SetRole}
-use Rattle.ptlangs.specs.declared.tr.elements.SetElement.TheVariants.{Repeat}
-use Rattle.std.proofs.lemmas.Bool.{cond_both}
-use Rattle.ptlangs.specs.declared.tr.elements.SetElement.TheVariants.{Class, Equivalence, Single}
+use Rattle.ptlangs.proofs.Common.{list_all, option_and_then, is_ascii_digit, is_ascii_lowercase, ltb-false, le-ltb}
+use Rattle.ptlangs.proofs.Common.{eqb-true, ne_eqb, length-map, length-append, append_assoc, drop_at, drop_all}
+use Rattle.ptlangs.proofs.Common.{SetFaultKind, SetChar, Plain, Escaped, Invalid, SetElement, StartsElement}
+use Rattle.ptlangs.proofs.Common.{after_plain, plain_run, after_run, set_elements, ◌||◌, ◌≤◌, and_parts, ltb-true}
+use Rattle.ptlangs.proofs.Common.{nat_tests, drop_more, result_map_both, ADescendingRange, AnInvalidEnd, AnInvalidChar}
+use Rattle.ptlangs.proofs.Common.{StartsInvalid, FirstFault, LaterFault, NoElement, NoSegment, sequence, is_fill}
+use Rattle.ptlangs.proofs.Common.{segment, segments, chars, CharClass, Segment, SetRole}
+use Rattle.std.proofs.Common.{nat_lt}
+use Rattle.std.specs.Option.{option_or}
+use Rattle.ptlangs.specs.TrChars.{byte_of}
+use Rattle.ptlangs.specs.TrClasses.{class_named}
+use Rattle.ptlangs.specs.TrElements.{StartsBracketed, ARepeat, AClass, AnEquivalence, InBrackets, ARange, Alone}
 use Rattle.ptlangs.specs.TrElements.{AreElements, ByEscape, ByItself, DenotesByte, HasBracketed, after_two, class_at}
 use Rattle.ptlangs.specs.TrElements.{class_after_colon, class_with_name, equivalence_at, equivalence_with_byte}
 use Rattle.ptlangs.specs.TrElements.{equivalence_after_equals, first_set_element, bracketed_at, bracketed_inside}
 use Rattle.ptlangs.specs.TrElements.{single_or_range, char_or_range, is_plain, or_char, elements_after, range_to}
 use Rattle.ptlangs.specs.TrElements.{repeat_at, repeat_count, repeat_after_star, with_rest}
+use Rattle.ptlangs.specs.TrPlan.{FirstFaultIsReported}
+use Rattle.ptlangs.specs.declared.tr.elements.SetElement.TheVariants.{Repeat, Class, Equivalence, Single}
+use Rattle.std.proofs.lemmas.Bool.{cond_both}
 use Rattle.ptlangs.proofs.TrPlainRuns.{list_all-plain_run}
 
 -- ---- from the computed elements to the grammar

@@ -3,15 +3,15 @@
 use Rattle.ptlangs.proofs.Common.{◌≡◌, ◌<◌, ℕ, zero, suc, Bool, true, false, List, [], ◌∷◌, ◌++◌, Option, Some, None}
 use Rattle.ptlangs.proofs.Common.{Result, Ok, Err, length, map, take, drop, arith, refl, sym, ap, ◌∙◌, unwrap_or, set}
 use Rattle.ptlangs.proofs.Common.{last_or, append_assoc, length-append, map-append, SetFaultKind, CharClass, sequence}
-use Rattle.ptlangs.proofs.Common.{image_by, not, is_some}
+use Rattle.ptlangs.proofs.Common.{image_by, not, ClassPlace, Segment, array, complement_of, cond, first_array}
+use Rattle.std.specs.Prelude.{is_some}
 use Rattle.ptlangs.specs.TrClasses.{all_bytes}
 use Rattle.ptlangs.specs.declared.tr.images.Images.{Images}
 use Rattle.ptlangs.specs.declared.tr.bytes.Bytes.{Bytes}
 use Rattle.ptlangs.specs.declared.tr.segments.Member.{Member}
-use Rattle.ptlangs.specs.TrParsing.{HasPaired, all_paired, bytes_left, member_bytes, classes_match}
-use Rattle.ptlangs.proofs.Common.{ClassPlace, Segment, array, complement_of, cond, first_array}
+use Rattle.ptlangs.specs.TrParsing.{HasPaired, all_paired, bytes_left, member_bytes, classes_match, first_members}
+use Rattle.ptlangs.specs.TrParsing.{plain_members}
 use Rattle.std.specs.Result.{IsErrAnd}
-use Rattle.ptlangs.specs.TrParsing.{first_members, plain_members}
 use Rattle.ptlangs.proofs.TrByteWalk.{member_bytes-array, member_bytes-plain, on_fault}
 use Rattle.ptlangs.proofs.TrContents.{images-push}
 

@@ -2,10 +2,12 @@
 -- look at the bytes where the definition looks at characters.
 use Rattle.ptlangs.proofs.Common.{◌≡◌, ◌≢◌, ◌≤◌, ◌<◌, ◌+◌, ◌-◌, inl, inr, ℕ, suc, Bool, true, false, List, [], ◌∷◌}
 use Rattle.ptlangs.proofs.Common.{length, take, drop, get_or, arith, refl, sym, ap, ◌∙◌, Some, None, nat_le, prefix_len}
-use Rattle.ptlangs.proofs.Common.{slice_range, take_while, list_all, AllPass, digits_value, cases_eq, eq-eqb, ne_eqb}
-use Rattle.ptlangs.proofs.Common.{drop_all, drop-drop, take_rest, length-prefix_len, take_while-cons}
-use Rattle.ptlangs.proofs.Common.{AllPass-from_list_all, SetChar, Plain, Escaped, Invalid, is_octal_digit, octal}
-use Rattle.ptlangs.proofs.Common.{octal_run, chars, after_backslash, after_plain, plain_run, after_run, and_from}
+use Rattle.ptlangs.proofs.Common.{list_all, digits_value, cases_eq, eq-eqb, ne_eqb, drop_all, drop-drop, take_rest}
+use Rattle.ptlangs.proofs.Common.{length-prefix_len, AllPass-from_list_all, SetChar, Plain, Escaped, Invalid}
+use Rattle.ptlangs.proofs.Common.{is_octal_digit, octal, octal_run, chars, after_backslash, after_plain, plain_run}
+use Rattle.ptlangs.proofs.Common.{after_run, and_from}
+use Rattle.std.specs.List.{slice_range, take_while, AllPass}
+use Rattle.std.proofs.lemmas.List.Sums.{take_while-cons}
 use Rattle.std.proofs.lemmas.Bool.{cond_both}
 use Rattle.ptlangs.proofs.TrCharGrammar.{chars_plain, chars_escape, chars-cons}
 

@@ -3,15 +3,14 @@
 use Rattle.ptlangs.proofs.Common.{◌≡◌, Bool, Err, List, None, Ok, Option, Result, Some, [], ap, arith, cond, false}
 use Rattle.ptlangs.proofs.Common.{length, map, refl, suc, sym, true, zero, ℕ, ◌++◌, ◌-◌, ◌∙◌, ◌∷◌, ◌≢◌, result_map_both}
 use Rattle.ptlangs.proofs.Common.{and_then, ADescendingRange, AnInvalidEnd, AnInvalidChar, StartsElement, StartsInvalid}
-use Rattle.ptlangs.proofs.Common.{subst}
-use Rattle.ptlangs.proofs.Common.{FirstFault, LaterFault, NoElement, NoSegment, array}
-use Rattle.ptlangs.proofs.Common.{class_offsets, first_array, image_of, in_string, is_deleted}
-use Rattle.ptlangs.proofs.Common.{is_squeezed, has_valid_classes, segment, plan, plan_of}
-use Rattle.ptlangs.proofs.Common.{second_plan, string_segments}
-use Rattle.ptlangs.proofs.Common.{tables, ALargeOctal, ALoneBackslash, APlainByte, AChar, AnEscape, AnOctal, NoChar}
-use Rattle.ptlangs.proofs.Common.{SpellsChar, SpellsChars, chars, SetFault, SetFaultKind, ClassPlace, Memory}
-use Rattle.ptlangs.proofs.Common.{SetElement, Segment, SetRole, First, Images, Squeezed, Form, Delete, DeleteSqueeze}
-use Rattle.ptlangs.proofs.Common.{Squeeze, Translate, TranslateSqueeze, SetChar, Escaped, Invalid, Plain}
+use Rattle.ptlangs.proofs.Common.{subst, FirstFault, LaterFault, NoElement, NoSegment, array, class_offsets}
+use Rattle.ptlangs.proofs.Common.{first_array, image_of, in_string, is_deleted, is_squeezed, has_valid_classes, segment}
+use Rattle.ptlangs.proofs.Common.{plan, plan_of, second_plan, string_segments, tables, ALargeOctal, ALoneBackslash}
+use Rattle.ptlangs.proofs.Common.{APlainByte, AChar, AnEscape, AnOctal, NoChar, SpellsChar, SpellsChars, chars}
+use Rattle.ptlangs.proofs.Common.{SetFault, SetFaultKind, ClassPlace, SetElement, Segment, SetRole, First, Images}
+use Rattle.ptlangs.proofs.Common.{Squeezed, Form, Delete, DeleteSqueeze, Squeeze, Translate, TranslateSqueeze, SetChar}
+use Rattle.ptlangs.proofs.Common.{Escaped, Invalid, Plain, complement_of}
+use Rattle.ptlangs.specs.declared.faults.SetFaultKind.TheVariants.{Memory}
 use Rattle.std.proofs.lemmas.Bool.{cond_both}
 use Rattle.ptlangs.specs.TrClasses.{all_bytes}
 use Rattle.ptlangs.specs.declared.tr.contents.Contents.{Contents}
@@ -19,7 +18,6 @@ use Rattle.ptlangs.specs.declared.faults.SetString.TheVariants as string
 use Rattle.ptlangs.specs.declared.faults.SetString.{SetString}
 use Rattle.ptlangs.specs.declared.tr.elements.SetElement.TheVariants as element
 use Rattle.ptlangs.proofs.TrElementGrammar.{StartsElement-front, faults_are_first}
-use Rattle.ptlangs.proofs.Common.{complement_of}
 use Rattle.ptlangs.specs.TrParsing.{all_paired, contents_of, first_members, marked_array, ok_map}
 use Rattle.ptlangs.specs.TrTables.{Tables}
 use Rattle.ptlangs.proofs.TrByteWalk.{paired-arrays, paired-plain}

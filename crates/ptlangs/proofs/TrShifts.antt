@@ -1,10 +1,12 @@
 -- The stretches of a table of images give these images. A prepended byte is below all stretches after it, so none of
 -- these contains it, and its own stretch adds its shift to it and nothing to the bytes above.
-use Rattle.ptlangs.proofs.Common.{◌≡◌, ℕ, zero, suc, ◌+◌, ◌<◌, ◌≤◌, ◌%◌, ◌==◌, ◌&&◌, Bool, true, cond, List, [], ◌∷◌}
-use Rattle.ptlangs.proofs.Common.{length, drop, reverse, get_or, refl, sym, ◌∙◌, ap, arith, sum_by, nat_tests}
-use Rattle.ptlangs.proofs.Common.{sum_by-cons, sum_by-IsPermutation, IsPermutation-reverse, Stretch, shift_of}
+use Rattle.ptlangs.proofs.Common.{◌≡◌, ℕ, zero, suc, ◌+◌, ◌<◌, ◌≤◌, ◌%◌, ◌&&◌, Bool, true, cond, List, [], ◌∷◌, length}
+use Rattle.ptlangs.proofs.Common.{drop, get_or, refl, sym, ◌∙◌, ap, arith, sum_by, nat_tests, Stretch, shift_of}
 use Rattle.ptlangs.proofs.Common.{prepend_shift, stretches_from, shift_at, image_of_shifts, cond-false, cond-true}
 use Rattle.ptlangs.proofs.Common.{eq-eqb, eqb-true, ne_eqb, drop_more, ◌-◌}
+use Rattle.std.proofs.Common.{◌==◌, reverse}
+use Rattle.std.proofs.lemmas.List.Sums.{sum_by-cons}
+use Rattle.std.proofs.lemmas.List.Sorted.{sum_by-IsPermutation, IsPermutation-reverse}
 use Rattle.std.proofs.lemmas.Bool.{cond_both}
 
 -- the sum of the numbers that the stretches add to a byte

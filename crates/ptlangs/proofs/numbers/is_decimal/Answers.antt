@@ -1,5 +1,5 @@
-use Rattle.ptlangs.proofs.Common.{rules, tests, ◌≡◌, ◌∙◌, sym, false, is_ascii_digit, YieldsList-from_slice}
-use Rattle.ptlangs.proofs.Common.{all_from_yields_List, is_empty}
+use Rattle.ptlangs.proofs.Common.{rules, tests, ◌≡◌, ◌∙◌, sym, false, is_ascii_digit, YieldsList-from_slice, is_empty}
+use Rattle.std.proofs.lemmas.Iterator.Search.{all_from_yields_List}
 use Rattle.ptlangs.proofs.ListElements.{is_empty_by_length}
 use Rattle.ptlangs.proofs.numbers.is_decimal.Goals as goal
 

@@ -1,5 +1,4 @@
-use Rattle.ptlangs.proofs.Common.{rules, tests, IsValidInterval}
-use Rattle.ptlangs.proofs.Common.{Interval, elements}
+use Rattle.ptlangs.proofs.Common.{rules, tests, IsValidInterval, Interval, elements}
 use Rattle.ptlangs.proofs.CutGrammar.{each_proper, in_order, selection_is_kept}
 use Rattle.std.proofs.lemmas.List.Sorted.{All-permutation, IsNonDecreasingBy-from_sort_by_key}
 use Rattle.ptlangs.proofs.ranges.Ranges.read.Goals as goal

@@ -1,17 +1,14 @@
 -- The first array is the complement or that of the string, and its bytes are paired either way.
-use Rattle.ptlangs.proofs.Common.{◌∙◌, Bool, ap, array, complement_of, first_array}
+use Rattle.ptlangs.proofs.Common.{◌∙◌, Bool, ap, array, complement_of, first_array, image_by, map, ◌≡◌, [], List, None}
+use Rattle.ptlangs.proofs.Common.{Ok, refl}
 use Rattle.ptlangs.specs.TrClasses.{all_bytes}
-use Rattle.ptlangs.proofs.Common.{image_by, map}
 use Rattle.ptlangs.specs.TrParsing.{HasPaired, all_paired, member_bytes, contents_of, first_members, marked_array}
-use Rattle.ptlangs.specs.TrParsing.{plain_members}
+use Rattle.ptlangs.specs.TrParsing.{plain_members, bytes_left}
 use Rattle.ptlangs.proofs.TrImages.{answer_of, first-bytes, paired_same, unpaired_answer}
-use Rattle.ptlangs.proofs.Common.{◌≡◌, [], List, None, Ok, refl}
 use Rattle.ptlangs.specs.declared.tr.segments.Member.{Member}
-use Rattle.ptlangs.specs.TrParsing.{bytes_left}
-use Rattle.ptlangs.proofs.tr.images.read_images.Goals.{After-identity}
-use Rattle.ptlangs.proofs.tr.images.read_images.Goals as goal
-use Rattle.ptlangs.proofs.tr.images.read_images.Goals.{then-complement+in_ok-push_ascending}
+use Rattle.ptlangs.proofs.tr.images.read_images.Goals.{After-identity, then-complement+in_ok-push_ascending}
 use Rattle.ptlangs.proofs.tr.images.read_images.Goals.{else-complement+in_ok-push_string}
+use Rattle.ptlangs.proofs.tr.images.read_images.Goals as goal
 
 -- before the first pair
 unpaired : (c : After-identity) (to : List Member) → bytes_left c.args.second ≡ map Ok to

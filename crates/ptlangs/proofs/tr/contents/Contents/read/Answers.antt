@@ -1,11 +1,10 @@
 -- The fault of a byte is the fault of the string. At the end all bytes are read.
 use Rattle.ptlangs.proofs.Common.{◌≡◌, ◌∙◌, ◌∷◌, ◌++◌, List, Ok, ap, sym, refl, arith, array, map-append}
-use Rattle.ptlangs.proofs.Common.{string_segments, replicate, Segment}
+use Rattle.ptlangs.proofs.Common.{string_segments, replicate, Segment, []}
 use Rattle.ptlangs.specs.declared.tr.segments.Member.{Member}
 use Rattle.ptlangs.specs.TrParsing.{member_bytes, contents_of, ok_map, plain_members}
 use Rattle.ptlangs.proofs.TrByteWalk.{member_bytes-array, member_bytes-plain, items_end, items_fault, items_more}
 use Rattle.ptlangs.proofs.TrByteWalk.{on_fault, string-fault, string-read}
-use Rattle.ptlangs.proofs.Common.{[]}
 use Rattle.ptlangs.proofs.TrContents.{contents-new}
 use Rattle.ptlangs.proofs.tr.contents.Contents.read.Goals as goal
 

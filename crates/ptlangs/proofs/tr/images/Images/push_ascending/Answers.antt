@@ -1,16 +1,14 @@
 -- A byte that the complement contains is paired after those below it.
 use Rattle.ptlangs.proofs.Common.{◌+◌, ◌∷◌, [], ◌∙◌, ℕ, None, ap, arith, true, false, append-nil, map-append}
-use Rattle.ptlangs.proofs.Common.{complement_of}
-use Rattle.ptlangs.specs.TrParsing.{PairPost, all_paired, plain_members}
+use Rattle.ptlangs.proofs.Common.{complement_of, ◌≡◌, List, subst}
+use Rattle.ptlangs.specs.TrParsing.{PairPost, all_paired, plain_members, HasPaired, contents_of}
 use Rattle.ptlangs.proofs.TrByteWalk.{on_fault}
 use Rattle.ptlangs.proofs.TrContents.{complement-around, is_kept, others_below, others_below-all, others_below-more}
 use Rattle.ptlangs.proofs.TrImages.{paired_same}
-use Rattle.ptlangs.proofs.Common.{◌≡◌, List, subst}
 use Rattle.ptlangs.specs.declared.tr.segments.Member.{Member}
-use Rattle.ptlangs.specs.TrParsing.{HasPaired, contents_of}
-use Rattle.ptlangs.proofs.tr.images.Images.push_ascending.Goals.{Joined-first-from}
+use Rattle.ptlangs.proofs.tr.images.Images.push_ascending.Goals.{Joined-first-from, then-first-from+in_ok-push}
+use Rattle.ptlangs.proofs.tr.images.Images.push_ascending.Goals.{else-first-from}
 use Rattle.ptlangs.proofs.tr.images.Images.push_ascending.Goals as goal
-use Rattle.ptlangs.proofs.tr.images.Images.push_ascending.Goals.{then-first-from+in_ok-push, else-first-from}
 
 pub returns-in_err-push : goal.returns-in_err-push
 returns-in_err-push c = λ bytes to e h.

@@ -2,8 +2,7 @@
 use Rattle.ptlangs.proofs.Common.{◌∙◌, [], ◌∷◌, List, ap, refl, First, segments_of, sequence}
 use Rattle.ptlangs.specs.declared.tr.segments.Member.{Member}
 use Rattle.ptlangs.specs.TrParsing.{HasPaired, PairPost, all_paired, marked_array, member_results}
-use Rattle.ptlangs.proofs.TrByteWalk.{items_at, items_end, items_fault, items_more, on_fault}
-use Rattle.ptlangs.proofs.TrByteWalk.{string-ok}
+use Rattle.ptlangs.proofs.TrByteWalk.{items_at, items_end, items_fault, items_more, on_fault, string-ok}
 use Rattle.ptlangs.proofs.TrImages.{never_fault, paired_same, sequence-ok}
 use Rattle.ptlangs.proofs.TrPlans.{same_answer}
 use Rattle.ptlangs.proofs.tr.images.Images.push_string.Goals as goal

@@ -1,8 +1,8 @@
 -- The second string is read without a fill, to find the number of bytes that a fill has, and then with it. The segments
 -- are the same each time, so the plan is that of the definition.
-use Rattle.ptlangs.proofs.Common.{◌≡◌, false, arith, ap, sym, [], ◌∙◌, Ok, Err, Form, List, Segment}
-use Rattle.ptlangs.proofs.Common.{Translate, TranslateSqueeze, DeleteSqueeze, array, class_offsets, first_array}
-use Rattle.ptlangs.proofs.Common.{has_valid_classes, image_by, map, plan_of, second_plan, string_segments, tables}
+use Rattle.ptlangs.proofs.Common.{◌≡◌, false, arith, ap, sym, [], ◌∙◌, Ok, Err, Form, List, Segment, Translate}
+use Rattle.ptlangs.proofs.Common.{TranslateSqueeze, DeleteSqueeze, array, class_offsets, first_array, has_valid_classes}
+use Rattle.ptlangs.proofs.Common.{image_by, map, plan_of, second_plan, string_segments, tables}
 use Rattle.ptlangs.specs.TrClasses.{all_bytes}
 use Rattle.ptlangs.specs.TrParsing.{contents_of, marked_array, ok_map}
 use Rattle.ptlangs.specs.declared.tr.contents.Contents.{Contents}

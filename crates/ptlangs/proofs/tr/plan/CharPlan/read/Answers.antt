@@ -1,5 +1,6 @@
-use Rattle.ptlangs.proofs.Common.{ap, ◌∙◌, First, first_array, in_string, option_copied, plan, result_map_both}
-use Rattle.ptlangs.proofs.Common.{string_segments, sym, tables, SetFault}
+use Rattle.ptlangs.proofs.Common.{ap, ◌∙◌, First, first_array, in_string, plan, result_map_both, string_segments, sym}
+use Rattle.ptlangs.proofs.Common.{tables, SetFault}
+use Rattle.std.specs.Option.{option_copied}
 use Rattle.ptlangs.specs.TrParsing.{contents_of}
 use Rattle.ptlangs.proofs.TrPlans.{in_string-ok, mapped_ok, plan_two}
 use Rattle.ptlangs.specs.declared.faults.SetString.TheVariants as string
