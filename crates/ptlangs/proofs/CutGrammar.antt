@@ -309,19 +309,3 @@ starts_next sorted kept r s rest gap m =
       ordered = others;
       same = λ n. ap (λ xs. is_selected xs n) (append_assoc kept (r ∷ []) (s ∷ rest)) ∙ m.same n;
     }
-
-pub starts : (first : Interval) (others sorted : List Interval) → sorted ≡ first ∷ others → AreSortedFrom 1 sorted
-    → Merges sorted [] first others
-starts first others sorted e ordered =
-    let all : AreSortedFrom 1 (first ∷ others) = subst (AreSortedFrom 1) e ordered in
-    let (positive, ascending, rest) = all in
-    record {
-      positive = positive;
-      separated = (positive, ascending, tt);
-      ordered = rest;
-      same = λ n. ap (λ xs. is_selected xs n) (sym e);
-    }
-
-pub next_positive : {sorted kept : List Interval} {r s : Interval} {rest : List Interval}
-    → Merges sorted kept r (s ∷ rest) → 1 ≤ s.first
-next_positive m = let (above, _, _) = m.ordered in omega (arith, m.positive, above)

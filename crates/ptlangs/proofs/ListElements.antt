@@ -4,15 +4,15 @@ use Rattle.ptlangs.proofs.Common.{◌≡◌, Bool, Err, List, None, Ok, Result, 
 use Rattle.ptlangs.proofs.Common.{get_or, length, ltb, refl, subst, sym, take, true, ℕ, ◌++◌, ◌+◌, ◌-◌, ◌∙◌, ◌∷◌}
 use Rattle.ptlangs.proofs.Common.{ltb-false, ltb-true, nat_tests, append_assoc, length-drop, take_all, slice_split_at}
 use Rattle.ptlangs.proofs.Common.{slice_split_none, AllPass-from_list_all, is_ascii_digit, All, position, slice_split}
-use Rattle.ptlangs.proofs.Common.{and_then, traverse, elements, is_number, is_list_separator, cons_ok, eqb, leb, not}
-use Rattle.ptlangs.proofs.Common.{◌&&◌, ◌*◌, ◌<◌, ◌≤◌, and_from, and_right, cond-false, cond-true, le-leb, lt-leb}
-use Rattle.ptlangs.proofs.Common.{All-cons, ne_eqb, drop_all, drop_more, digit_value, list_all, digits_value_after}
+use Rattle.ptlangs.proofs.Common.{and_then, traverse, elements, is_number, is_list_separator, cons_ok, eqb, leb}
+use Rattle.ptlangs.proofs.Common.{◌&&◌, ◌*◌, ◌<◌, ◌≤◌, and_right, cond-false, lt-leb}
+use Rattle.ptlangs.proofs.Common.{All-cons, ne_eqb, drop_more, digit_value, digits_value_after}
 use Rattle.ptlangs.proofs.Common.{max_u64, is_empty, value}
 use Rattle.std.proofs.lemmas.List.Splits.{slice_split_first}
 use Rattle.std.proofs.lemmas.List.Sums.{fails_before_first}
 use Rattle.std.specs.List.{onto_first, position_or_len}
 use Rattle.std.proofs.lemmas.List.Elements.{All-append}
-use Rattle.std.proofs.lemmas.Bool.{cond_both, not_from_false}
+use Rattle.std.proofs.lemmas.Bool.{cond_both}
 use Rattle.ptlangs.specs.Numbers.{IsListOf, number, Last, More}
 
 -- ---- splitting at the first separator
@@ -183,20 +183,6 @@ too_large_at bs i n below e h =
     let is : value bs ≡ digits_value_after 10 (n * 10 + digit_value (get_or bs i 0)) (drop (i + 1) bs) =
     e ∙ ap (digits_value_after 10 n) (drop_more bs i 0 below) in
     too_large bs (omega (arith, is, after-ge (n * 10 + digit_value (get_or bs i 0)) (drop (i + 1) bs)))
-
--- the value, once all digits are read
-pub is_its_value : (bs : List ℕ) (i n : ℕ) → is_empty bs ≡ false → length bs ≤ i
-    → value bs ≡ digits_value_after 10 n (drop i bs) → list_all is_ascii_digit bs ≡ list_all is_ascii_digit (drop i bs)
-    → n ≤ max_u64 → Some n ≡ number bs
-is_its_value bs i n some end e digits fits =
-    let v : value bs ≡ n = e ∙ ap (digits_value_after 10 n) (drop_all i bs end) in
-    let d : list_all is_ascii_digit bs ≡ true = digits ∙ ap (list_all is_ascii_digit) (drop_all i bs end) in
-    let whole : is_number bs ≡ true =
-    and_from (not (is_empty bs)) (list_all is_ascii_digit bs) (not_from_false (is_empty bs) some) d in
-    let small : leb (value bs) max_u64 ≡ true = le-leb (value bs) max_u64 (omega (arith, v)) in
-    ap Some (sym v)
-    ∙ sym (cond-true (is_number bs && leb (value bs) max_u64) (Some (value bs)) None
-    (and_from (is_number bs) (leb (value bs) max_u64) whole small))
 
 pub is_empty_by_length : {X : Type 0} (xs : List X) → is_empty xs ≡ eqb (length xs) 0
 is_empty_by_length [] = refl

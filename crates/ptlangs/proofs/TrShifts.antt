@@ -2,8 +2,8 @@
 -- these contains it, and its own stretch adds its shift to it and nothing to the bytes above.
 use Rattle.ptlangs.proofs.Common.{◌≡◌, ℕ, zero, suc, ◌+◌, ◌<◌, ◌≤◌, ◌%◌, ◌&&◌, Bool, true, cond, List, [], ◌∷◌, length}
 use Rattle.ptlangs.proofs.Common.{drop, get_or, refl, sym, ◌∙◌, ap, arith, sum_by, nat_tests, Stretch, shift_of}
-use Rattle.ptlangs.proofs.Common.{prepend_shift, stretches_from, shift_at, image_of_shifts, cond-false, cond-true}
-use Rattle.ptlangs.proofs.Common.{eq-eqb, eqb-true, ne_eqb, drop_more, ◌-◌}
+use Rattle.ptlangs.proofs.Common.{prepend_shift, stretches_from, shift_at, image_of_shifts, cond-false}
+use Rattle.ptlangs.proofs.Common.{eqb-true, ne_eqb, drop_more, ◌-◌}
 use Rattle.std.proofs.Common.{◌==◌, reverse}
 use Rattle.std.proofs.lemmas.List.Sums.{sum_by-cons}
 use Rattle.std.proofs.lemmas.List.Sorted.{sum_by-IsPermutation, IsPermutation-reverse}
@@ -161,11 +161,6 @@ pub moved_one : (n : ℕ) (images : List ℕ) → 0 < n → n ≤ length images
     ≡ prepend_shift (n - 1) (shift_of (n - 1) (get_or images (n - 1) 0)) (stretches_from n (drop n images))
 moved_one n images low within moves = from_one (n - 1) n images (omega arith) (omega arith)
     ∙ cond-false _ _ _ (ne_eqb (shift_of (n - 1) (get_or images (n - 1) 0)) 0 moves)
-
-pub same_one : (n : ℕ) (images : List ℕ) → 0 < n → n ≤ length images → shift_of (n - 1) (get_or images (n - 1) 0) ≡ 0
-    → stretches_from (n - 1) (drop (n - 1) images) ≡ stretches_from n (drop n images)
-same_one n images low within stays = from_one (n - 1) n images (omega arith) (omega arith)
-    ∙ cond-true _ _ _ (eq-eqb (shift_of (n - 1) (get_or images (n - 1) 0)) 0 stays)
 
 pub no_more_behind : (n : ℕ) (images : List ℕ)
     → length (stretches_from n (drop n images)) ≤ length (stretches_from 0 images)
