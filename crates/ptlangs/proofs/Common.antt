@@ -51,5 +51,4 @@ pub use Rattle.ptlangs.specs.declared.tr.plan.Form.TheVariants.{Delete, DeleteSq
 pub use Rattle.ptlangs.specs.declared.tr.plan.Form.TheVariants.{TranslateSqueeze}
 pub use Rattle.ptlangs.specs.declared.ranges.Interval.{Interval}
 pub use Rattle.ptlangs.specs.declared.tr.shifts.Stretch.{Stretch}
-pub use Rattle.ptlangs.specs.declared.tr.chars.SetChar.{SetChar}
-pub use Rattle.ptlangs.specs.declared.tr.chars.SetChar.TheVariants.{Escaped, Invalid, Plain}
+pub use Rattle.ptlangs.specs.TrChars.{SetChar, Escaped, Invalid, Plain}

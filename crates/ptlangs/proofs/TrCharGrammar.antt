@@ -16,15 +16,17 @@ use Rattle.std.specs.Int.{IsInRange}
 use Rattle.std.proofs.lemmas.Int.Digits.{digits_value_more}
 use Rattle.std.proofs.lemmas.Str.Parse.{digits_value-take-le, digit_from_value}
 use Rattle.ptlangs.specs.TrChars.{IsOctalRun, OneDigit, ThreeDigits, TwoDigits, CharsMatchGrammar, byte_of_escape}
-use Rattle.ptlangs.specs.TrChars.{char_at, chars_after}
+use Rattle.ptlangs.specs.TrChars.{byte_of, char_at, chars_after}
+use Rattle.ptlangs.specs.TrParsing.{char_from}
+use Rattle.ptlangs.proofs.Common.{Result, Ok, Err, SetFaultKind}
 use Rattle.std.proofs.lemmas.Str.{digit_value_digit}
 
 pub ruleset number_steps = (digits_value_more, digits_value-take-le, digit_from_value)
 
--- the character of an octal escape with this value; `None` is a value above 255
-abbrev pub char_of_octal : Option ℕ → SetChar
-char_of_octal None = Invalid Octal
-char_of_octal (Some v) = Escaped v
+-- the byte of an octal escape with this value; `None` is a value above 255
+abbrev pub byte_of_octal : Option ℕ → Result ℕ SetFaultKind
+byte_of_octal None = Err Octal
+byte_of_octal (Some v) = Ok v
 
 -- a number is above the limit if its first digits are
 pub too_large : (base limit : ℕ) (ds : List ℕ) (i : ℕ) → 1 ≤ base → limit < digits_value base (take i ds)
@@ -77,16 +79,16 @@ after_backslash-octal (b ∷ bs) c e t = let test : is_octal_digit b ≡ true = 
 pub octal_char : (bs : List ℕ) (c count : ℕ) (o : Option ℕ) → Some c ≡ slice_get bs 0 → is_octal_digit c ≡ true
     → count ≡ length (octal_run bs)
     → o ≡ cond (nat_le (digits_value 8 (take count bs)) 255) (Some (digits_value 8 (take count bs))) None
-    → char_of_octal o ≡ (after_backslash bs).0
-octal_char bs c count o e t n v = ap char_of_octal (rw same at v) ∙ choose (nat_le (digits_value 8 (octal_run bs)) 255)
-    ∙ sym (ap (λ (p : SetChar × ℕ). p.0) (after_backslash-octal bs c e t))
+    → byte_of_octal o ≡ byte_of (after_backslash bs).0
+octal_char bs c count o e t n v = ap byte_of_octal (rw same at v) ∙ choose (nat_le (digits_value 8 (octal_run bs)) 255)
+    ∙ sym (ap (λ (p : SetChar × ℕ). byte_of p.0) (after_backslash-octal bs c e t))
   where
     same : take count bs ≡ octal_run bs
     same = ap (λ m. take m bs) n ∙ take-octal_run bs
 
     choose : (fits : Bool)
-        → char_of_octal (cond fits (Some (digits_value 8 (octal_run bs))) None)
-        ≡ cond fits (Escaped (digits_value 8 (octal_run bs))) (Invalid Octal)
+        → byte_of_octal (cond fits (Some (digits_value 8 (octal_run bs))) None)
+        ≡ byte_of (cond fits (Escaped (digits_value 8 (octal_run bs))) (Invalid Octal))
     choose true = refl
     choose false = refl
 
@@ -111,7 +113,16 @@ pub chars_escape : (bs : List ℕ) (i : ℕ) → i < length bs → get_or bs i 0
 chars_escape bs i h e =
     rw (drop_more bs i 0 h, e, chars-cons 92 (drop (i + 1) bs), drop-drop) refl
 
-pub ruleset char_steps = (chars_plain, chars_escape)
+pub char_from-plain : (bs : List ℕ) (i b : ℕ) → get_or bs i 0 ≡ b → (b ≡ 92 → ⊥) → char_from bs i ≡ Plain b
+unfolding char_from
+char_from-plain bs i b e n = rw (char_from, e, ne_eqb b 92 n) refl
+
+pub char_from-escape : (bs : List ℕ) (i : ℕ) → get_or bs i 0 ≡ 92
+    → char_from bs i ≡ (after_backslash (drop (i + 1) bs)).0
+unfolding char_from
+char_from-escape bs i e = rw (char_from, e) refl
+
+pub ruleset char_steps = (chars_plain, chars_escape, char_from-plain, char_from-escape)
 
 pub ruleset octal_steps = (length-octal_run, take-octal_run, octal_digits)
 
