@@ -1,17 +1,16 @@
 -- Names that many proofs of this crate use, from other crates and from the definitions of this one.
 pub use Rattle.std.proofs.Common.{Bool, Err, List, None, Ok, Option, Result, Some, [], ap, arith, cond, drop, eqb}
-pub use Rattle.std.proofs.Common.{false, get_or, inl, inr, leb, length, ltb, map, nat_le, not, refl, replicate, rules}
-pub use Rattle.std.proofs.Common.{subst, suc, sym, take, tests, true, zero, ℕ, ◌%◌, ◌&&◌, ◌*◌, ◌++◌, ◌+◌, ◌-◌, ◌<◌}
-pub use Rattle.std.proofs.Common.{◌||◌, ◌∙◌, ◌∷◌, ◌≡◌, ◌≢◌, ◌≤◌}
+pub use Rattle.std.proofs.Common.{false, get_or, inl, inr, length, map, nat_le, not, refl, replicate, rules, subst, suc}
+pub use Rattle.std.proofs.Common.{sym, take, true, zero, ℕ, ◌%◌, ◌&&◌, ◌*◌, ◌++◌, ◌+◌, ◌-◌, ◌<◌, ◌||◌, ◌∙◌, ◌∷◌, ◌≡◌}
+pub use Rattle.std.proofs.Common.{◌≢◌, ◌≤◌}
 pub use Rattle.std.proofs.Math.ListN.{set}
-pub use Rattle.std.proofs.lemmas.Bool.{and_from, and_parts, and_right, cases_Bool, cases_eq, cond-false, cond-true}
-pub use Rattle.std.proofs.lemmas.Bool.{eq-eqb, eqb-false, eqb-true, le-leb, le-ltb, lt-leb, ltb-false, ltb-true, ne_eqb}
-pub use Rattle.std.proofs.lemmas.Bool.Decides.{nat_tests}
+pub use Rattle.std.proofs.lemmas.Bool.{and_parts, and_right, cases_Bool, cases_eq, cond-false, cond-true, eq-eqb}
+pub use Rattle.std.proofs.lemmas.Bool.{eqb-false, eqb-true, le-ltb, lt-leb, ltb-false, ltb-true, ne_eqb}
 pub use Rattle.std.proofs.lemmas.Iterator.{YieldsList-from_slice}
 pub use Rattle.std.proofs.lemmas.Iterator.Search.{position_from_yields_List}
 pub use Rattle.std.proofs.lemmas.List.{append-nil, append_assoc, drop-drop, drop_all, drop_at, drop_more}
 pub use Rattle.std.proofs.lemmas.List.{get_or-replicate, length-append, length-drop, length-map, length-replicate}
-pub use Rattle.std.proofs.lemmas.List.{length-take, map-append, take_all, take_rest}
+pub use Rattle.std.proofs.lemmas.List.{map-append, take_all, take_rest}
 pub use Rattle.std.proofs.lemmas.List.Elements.{All-cons}
 pub use Rattle.std.proofs.lemmas.List.Folds.{length-prefix_len}
 pub use Rattle.std.proofs.lemmas.List.Splits.{slice_split_at, slice_split_none}
@@ -23,21 +22,21 @@ pub use Rattle.std.specs.Prelude.{sum_by, unwrap_or}
 pub use Rattle.std.specs.Result.{result_err, result_map_both}
 pub use Rattle.std.specs.Str.Parse.{digits_value, digits_value_after}
 pub use Rattle.ptlangs.specs.CutLists.{IsValidInterval, cut_list, element_interval, is_dash}
-pub use Rattle.ptlangs.specs.DelimLists.{delim_list, delims}
+pub use Rattle.ptlangs.specs.DelimLists.{delim_list}
 pub use Rattle.ptlangs.specs.Numbers.{and_then, traverse, elements, max_u64, is_empty, is_number, is_list_separator}
 pub use Rattle.ptlangs.specs.Numbers.{cons_ok, value}
 pub use Rattle.ptlangs.specs.OutLists.{out_list}
-pub use Rattle.ptlangs.specs.TrClasses.{class_bytes, range_bytes, span}
+pub use Rattle.ptlangs.specs.TrClasses.{range_bytes, span}
 pub use Rattle.ptlangs.specs.TrElements.{ADescendingRange, AnInvalidEnd, AnInvalidChar, StartsElement, StartsInvalid}
 pub use Rattle.ptlangs.specs.TrElements.{after_plain, after_run, set_elements, plain_run}
 pub use Rattle.ptlangs.specs.TrPlan.{FirstFault, LaterFault, NoElement, NoSegment, array, class_offsets, sequence}
-pub use Rattle.ptlangs.specs.TrPlan.{complement_of, first_array, image_by, image_of, in_string, is_deleted, is_fill}
-pub use Rattle.ptlangs.specs.TrPlan.{is_squeezed, has_valid_classes, segment, segments, segments_of, plan, plan_of}
-pub use Rattle.ptlangs.specs.TrPlan.{second_plan, string_segments}
+pub use Rattle.ptlangs.specs.TrPlan.{complement_of, first_array, image_by, in_string, is_fill, has_valid_classes}
+pub use Rattle.ptlangs.specs.TrPlan.{segment, segments, segments_of, plan, plan_of, second_plan, string_segments}
 pub use Rattle.ptlangs.specs.TrShifts.{shift_at, prepend_shift, shift_of, image_of_shifts, stretches_from}
 pub use Rattle.ptlangs.specs.TrTables.{tables}
 pub use Rattle.ptlangs.specs.TrChars.{ALargeOctal, ALoneBackslash, APlainByte, AChar, AnEscape, AnOctal, NoChar}
-pub use Rattle.ptlangs.specs.TrChars.{SpellsChar, SpellsChars, after_backslash, is_octal_digit, octal, octal_run, chars}
+pub use Rattle.ptlangs.specs.TrChars.{SpellsChar, SpellsChars, after_backslash, is_octal_digit, octal, chars, SetChar}
+pub use Rattle.ptlangs.specs.TrChars.{Escaped, Invalid, Plain}
 pub use Rattle.ptlangs.specs.declared.tr.classes.CharClass.{CharClass}
 pub use Rattle.ptlangs.specs.declared.faults.SetFault.{SetFault}
 pub use Rattle.ptlangs.specs.declared.faults.SetFaultKind.{SetFaultKind}
@@ -51,4 +50,3 @@ pub use Rattle.ptlangs.specs.declared.tr.plan.Form.TheVariants.{Delete, DeleteSq
 pub use Rattle.ptlangs.specs.declared.tr.plan.Form.TheVariants.{TranslateSqueeze}
 pub use Rattle.ptlangs.specs.declared.ranges.Interval.{Interval}
 pub use Rattle.ptlangs.specs.declared.tr.shifts.Stretch.{Stretch}
-pub use Rattle.ptlangs.specs.TrChars.{SetChar, Escaped, Invalid, Plain}

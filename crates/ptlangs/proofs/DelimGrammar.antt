@@ -2,12 +2,12 @@
 -- directions. The fault of a list is the first one found from left to right, and is never an allocation failure.
 use Rattle.ptlangs.proofs.Common.{◌≡◌, Bool, Err, List, None, Ok, Option, Result, Some, [], ap, arith, cond, eqb, false}
 use Rattle.ptlangs.proofs.Common.{length, refl, subst, sym, true, ℕ, ◌++◌, ◌<◌, ◌∙◌, ◌∷◌, eqb-true, append-nil}
-use Rattle.ptlangs.proofs.Common.{result_err, delim_list, delims, and_then, cons_ok}
+use Rattle.ptlangs.proofs.Common.{result_err, delim_list, and_then, cons_ok}
+use Rattle.ptlangs.specs.DelimLists.{delims, Backslash, IsDelim, IsDelimList, Last, More, Newline, Nothing, Tab}
+use Rattle.ptlangs.specs.DelimLists.{backslash, escape, delim_list_fault, Plain, DelimListMatchesGrammar}
 use Rattle.ptlangs.specs.declared.delims.DelimFault.{DelimFault}
 use Rattle.std.proofs.lemmas.Bool.{cond_both}
 use Rattle.ptlangs.proofs.ListElements.{reads_first}
-use Rattle.ptlangs.specs.DelimLists.{Backslash, IsDelim, IsDelimList, Last, More, Newline, Nothing, Tab, backslash}
-use Rattle.ptlangs.specs.DelimLists.{escape, delim_list_fault, Plain, DelimListMatchesGrammar}
 
 pub delims_of_some : (bs : List ℕ) → 0 < length bs → delims bs ≡ delim_list bs
 delims_of_some [] h = absurd (omega arith)
@@ -38,42 +38,42 @@ abbrev Spells : ℕ → Option ℕ → Result (Option ℕ) DelimFault → Type 0
 Spells c d r = r ≡ Ok d → IsDelim (backslash ∷ c ∷ []) d
 
 spelled_by : (c b : ℕ) (d e : Option ℕ) → eqb c b ≡ true → IsDelim (backslash ∷ b ∷ []) e → Spells c d (Ok e)
-spelled_by c b d e t says h = let is : e ≡ d = cc in rw (eqb-true c b t) (subst (IsDelim (backslash ∷ b ∷ [])) is says)
+spelled_by c b d e t says h = let is : e ≡ d = cc in rw (eqb-true c b t) (subst (IsDelim _) is says)
 
 escape_is_spelled : (c : ℕ) (d : Option ℕ) → Spells c d (escape c)
 escape_is_spelled c d =
-    cond_both (eqb c 110) _ _ (Spells c d) (λ t. spelled_by c 110 d (Some 10) t Newline)
-    (λ n. cond_both (eqb c 116) _ _ (Spells c d) (λ t. spelled_by c 116 d (Some 9) t Tab)
-    (λ n. cond_both (eqb c backslash) _ _ (Spells c d) (λ t. spelled_by c backslash d (Some backslash) t Backslash)
-    (λ n. cond_both (eqb c 48) _ _ (Spells c d) (λ t. spelled_by c 48 d None t Nothing) (λ n h. cc))))
+    cond_both _ _ _ (Spells c d) (λ t. spelled_by c 110 d _ t Newline)
+    (λ n. cond_both _ _ _ (Spells c d) (λ t. spelled_by c 116 d _ t Tab)
+    (λ n. cond_both _ _ _ (Spells c d) (λ t. spelled_by c backslash d _ t Backslash)
+    (λ n. cond_both _ _ _ (Spells c d) (λ t. spelled_by c 48 d None t Nothing) (λ n h. cc))))
 
 -- an element, and after it either nothing or a list
 more_delims : (e rest : List ℕ) (d : Option ℕ) (ds : List (Option ℕ)) → IsDelim e d → delims rest ≡ Ok ds
     → ((xs : List (Option ℕ)) → delim_list rest ≡ Ok xs → IsDelimList rest xs) → IsDelimList (e ++ rest) (d ∷ ds)
 more_delims e [] d [] is h list = rw append-nil (Last e d is)
 more_delims e [] d (x ∷ xs) is h list = cc
-more_delims e (b ∷ bs) d ds is h list = More e (b ∷ bs) d ds is (list ds h)
+more_delims e (b ∷ bs) d ds is h list = More e _ d ds is (list ds h)
 
 list_is_spelled : (bs : List ℕ) (ds : List (Option ℕ)) → delim_list bs ≡ Ok ds → IsDelimList bs ds
 list_is_spelled [] ds h = cc
 list_is_spelled (b ∷ []) ds h =
-    cond_both (eqb b backslash) _ _ (λ (r : Result (List (Option ℕ)) DelimFault). r ≡ Ok ds → IsDelimList (b ∷ []) ds)
+    cond_both _ _ _ (λ (r : Result _ DelimFault). r ≡ Ok ds → IsDelimList (b ∷ []) ds)
     (λ t e. cc)
-    (λ n e. let one : Some b ∷ [] ≡ ds = cc in subst (IsDelimList (b ∷ [])) one (Last (b ∷ []) (Some b) (Plain b n))) h
+    (λ n e. let one : Some b ∷ [] ≡ ds = cc in subst (IsDelimList _) one (Last _ _ (Plain b n))) h
 list_is_spelled (b ∷ c ∷ more) ds h =
-    cond_both (eqb b backslash) _ _ (λ (r : Result (List (Option ℕ)) DelimFault). r ≡ Ok ds
+    cond_both _ _ _ (λ (r : Result _ DelimFault). r ≡ Ok ds
     → IsDelimList (b ∷ c ∷ more) ds)
     (λ t e.
-    let f = reads_first (escape c) (delims more) ds e in
-    rw (eqb-true b backslash t) (subst (IsDelimList (backslash ∷ c ∷ more)) f.is
-    (more_delims (backslash ∷ c ∷ []) more f.head f.tail (escape_is_spelled c f.head f.read) f.rest
+    let f = reads_first _ _ ds e in
+    rw (eqb-true b backslash t) (subst (IsDelimList _) f.is
+    (more_delims _ more f.head f.tail (escape_is_spelled c f.head f.read) f.rest
     (λ xs. list_is_spelled more xs))))
     (λ n e.
-    let f = reads_first (Ok (Some b)) (delims (c ∷ more)) ds e in
+    let f = reads_first (Ok _) _ ds e in
     let first : Some b ≡ f.head = cc in
-    subst (IsDelimList (b ∷ c ∷ more)) f.is
-    (more_delims (b ∷ []) (c ∷ more) f.head f.tail (subst (IsDelim (b ∷ [])) first (Plain b n)) f.rest
-    (λ xs. list_is_spelled (c ∷ more) xs)))
+    subst (IsDelimList _) f.is
+    (more_delims _ _ f.head f.tail (subst (IsDelim _) first (Plain b n)) f.rest
+    (λ xs. list_is_spelled _ xs)))
     h
 
 pub accepts_the_grammar : DelimListMatchesGrammar
@@ -109,8 +109,8 @@ delims_fault : (bs : List ℕ) → IsOfText (delims bs)
 delims_fault [] = tt
 delims_fault (b ∷ []) = fault_of_either (eqb b backslash) _ _ refl tt
 delims_fault (b ∷ c ∷ more) =
-    fault_of_either (eqb b backslash) _ _ (after_escape (escape c) (delims more) (escape_fault c) (delims_fault more))
-    (after_first (Some b) (delims (c ∷ more)) (delims_fault (c ∷ more)))
+    fault_of_either _ _ _ (after_escape _ _ (escape_fault c) (delims_fault more))
+    (after_first _ _ (delims_fault (c ∷ more)))
 
 delim_fault : (bs : List ℕ) → IsOfText (delim_list bs)
 delim_fault [] = refl
@@ -127,5 +127,5 @@ module _ (text left : List ℕ) (so_far : result_err (delim_list text) ≡ resul
   pub left_without_fault : (d : Option ℕ) (remaining : List ℕ) → 0 < length remaining
       → delim_list left ≡ cons_ok d (delims remaining)
       → result_err (delim_list text) ≡ result_err (delim_list remaining)
-  left_without_fault d remaining some is = so_far ∙ ap result_err is ∙ keeps_fault d (delims remaining)
+  left_without_fault d remaining some is = so_far ∙ ap result_err is ∙ keeps_fault d _
       ∙ ap result_err (delims_of_some remaining some)

@@ -1,16 +1,15 @@
 -- Lists of elements between separators, and decimal numbers. An element contains no separator, so splitting at
 -- separators gives the elements of the grammar back. A number that is too large stays so with further digits.
 use Rattle.ptlangs.proofs.Common.{◌≡◌, Bool, Err, List, None, Ok, Result, Some, [], ap, arith, cond, drop, false}
-use Rattle.ptlangs.proofs.Common.{get_or, length, ltb, refl, subst, sym, take, true, ℕ, ◌++◌, ◌+◌, ◌-◌, ◌∙◌, ◌∷◌}
-use Rattle.ptlangs.proofs.Common.{ltb-false, ltb-true, nat_tests, append_assoc, length-drop, take_all, slice_split_at}
-use Rattle.ptlangs.proofs.Common.{slice_split_none, AllPass-from_list_all, is_ascii_digit, All, position, slice_split}
-use Rattle.ptlangs.proofs.Common.{and_then, traverse, elements, is_number, is_list_separator, cons_ok, eqb, leb}
-use Rattle.ptlangs.proofs.Common.{◌&&◌, ◌*◌, ◌<◌, ◌≤◌, and_right, cond-false, lt-leb}
-use Rattle.ptlangs.proofs.Common.{All-cons, ne_eqb, drop_more, digit_value, digits_value_after}
+use Rattle.ptlangs.proofs.Common.{get_or, length, refl, subst, sym, take, true, ℕ, ◌++◌, ◌+◌, ◌-◌, ◌∙◌, ◌∷◌, ltb-false}
+use Rattle.ptlangs.proofs.Common.{ltb-true, append_assoc, length-drop, take_all, slice_split_at, slice_split_none}
+use Rattle.ptlangs.proofs.Common.{AllPass-from_list_all, is_ascii_digit, All, position, slice_split, and_then, traverse}
+use Rattle.ptlangs.proofs.Common.{elements, is_number, is_list_separator, cons_ok, eqb, ◌*◌, ◌<◌, ◌≤◌, and_right}
+use Rattle.ptlangs.proofs.Common.{cond-false, lt-leb, All-cons, ne_eqb, drop_more, digit_value, digits_value_after}
 use Rattle.ptlangs.proofs.Common.{max_u64, is_empty, value}
 use Rattle.std.proofs.lemmas.List.Splits.{slice_split_first}
 use Rattle.std.proofs.lemmas.List.Sums.{fails_before_first}
-use Rattle.std.specs.List.{onto_first, position_or_len}
+use Rattle.std.specs.List.{onto_first}
 use Rattle.std.proofs.lemmas.List.Elements.{All-append}
 use Rattle.std.proofs.lemmas.Bool.{cond_both}
 use Rattle.ptlangs.specs.Numbers.{IsListOf, number, Last, More}
@@ -27,19 +26,19 @@ some_since false x y h = cc
 
 pub split_whole : {X : Type 0} (p : X → Bool) (xs : List X) → position p xs ≡ None → slice_split p xs ≡ xs ∷ []
 split_whole p xs h =
-    let none = ltb-false (position_or_len p xs) (length xs)
-    (none_since (ltb (position_or_len p xs) (length xs)) (position_or_len p xs) h) in
-    slice_split_none p xs (λ k d below. fails_before_first p xs k d (omega (arith, none)))
+    let none = ltb-false _ _
+    (none_since _ _ h) in
+    slice_split_none p xs (λ k d below. fails_before_first p xs k d (omega arith))
 
 -- the last argument is the value of `&xs[i + 1..]`
 pub split_around : {X : Type 0} (p : X → Bool) (xs : List X) (i : ℕ) → position p xs ≡ Some i
     → slice_split p xs ≡ take i xs ∷ slice_split p (take (length xs - (i + 1)) (drop (i + 1) xs))
 split_around p [] i h = cc
 split_around p (x ∷ xs) i h =
-    let (below, at) = some_since (ltb (position_or_len p (x ∷ xs)) (length (x ∷ xs))) (position_or_len p (x ∷ xs))
+    let (below, at) = some_since _ _
     i h in
     let first = slice_split_first p (x ∷ xs) x (ltb-true _ _ below) in
-    let rest : take (length (x ∷ xs) - (i + 1)) (drop (i + 1) (x ∷ xs)) ≡ drop (i + 1) (x ∷ xs) =
+    let rest =
     take_all (length (x ∷ xs) - (i + 1)) (drop (i + 1) (x ∷ xs))
     (omega (arith, length-drop (i + 1) (x ∷ xs))) in
     rw rest (first ∙ ap (λ k. take k (x ∷ xs) ∷ slice_split p (drop (k + 1) (x ∷ xs))) at)
@@ -57,7 +56,7 @@ append_ok-nil (Err e) = refl
 
 pub append_ok-cons_ok : {A E : Type 0} (xs : List A) (y : A) (r : Result (List A) E)
     → append_ok xs (cons_ok y r) ≡ append_ok (xs ++ y ∷ []) r
-append_ok-cons_ok xs y (Ok ys) = ap Ok (sym (append_assoc xs (y ∷ []) ys))
+append_ok-cons_ok xs y (Ok ys) = ap Ok (sym (append_assoc xs _ ys))
 append_ok-cons_ok xs y (Err e) = refl
 
 pub cons_ok-append_ok : {A E : Type 0} (x : A) (xs : List A) (r : Result (List A) E)
@@ -73,7 +72,7 @@ pub each_more : {A B E : Type 0} (read : A → Result B E) (x : A) (y : B) (all 
 each_more read x y all rest xs r e at ok =
     e ∙ ap (λ l. append_ok xs (traverse read l)) at
     ∙ ap (λ v. append_ok xs (and_then v (λ y'. cons_ok y' (traverse read rest)))) ok
-    ∙ append_ok-cons_ok xs y (traverse read rest)
+    ∙ append_ok-cons_ok xs y _
 
 -- ---- the elements that are accepted are those of the grammar
 
@@ -82,17 +81,17 @@ pub digits_fail : (p : ℕ → Bool) → ((b : ℕ) → is_ascii_digit b ≡ tru
     → All (λ b. p b ≡ false) n
 digits_fail p fails [] h = cc
 digits_fail p fails (b ∷ bs) h =
-    λ k d below. fails (get_or (b ∷ bs) k d) (AllPass-from_list_all is_ascii_digit (b ∷ bs) h k d below)
+    λ k d below. fails _ (AllPass-from_list_all is_ascii_digit (b ∷ bs) h k d below)
 
 -- a text without a separator
 abbrev pub Unbroken : List ℕ → Type 0
 Unbroken bs = All (λ b. is_list_separator b ≡ false) bs
 
 pub unbroken_number : (n : List ℕ) → is_number n ≡ true → Unbroken n
-unbroken_number = digits_fail is_list_separator (λ b h. grind (arith, nat_tests))
+unbroken_number = digits_fail is_list_separator (λ b h. grind arith)
 
 pub unbroken_cons : (b : ℕ) (bs : List ℕ) → is_list_separator b ≡ false → Unbroken bs → Unbroken (b ∷ bs)
-unbroken_cons = All-cons (λ b. is_list_separator b ≡ false)
+unbroken_cons = All-cons _
 
 pub unbroken_append : (xs ys : List ℕ) → Unbroken xs → Unbroken ys → Unbroken (xs ++ ys)
 unbroken_append = All-append (λ b. is_list_separator b ≡ false)
@@ -108,13 +107,13 @@ pub data IsSplit (p : ℕ → Bool) : List ℕ → List (List ℕ) → Type 0 wh
 
 onto : (p : ℕ → Bool) (b : ℕ) (bs : List ℕ) (parts : List (List ℕ)) → IsSplit p bs parts
     → IsSplit p (b ∷ bs) (onto_first b parts)
-onto p b bs parts (Whole xs) = Whole (b ∷ xs)
-onto p b bs parts (Cut e s xs rest cut split) = Cut (b ∷ e) s xs rest cut split
+onto p b bs parts (Whole xs) = Whole _
+onto p b bs parts (Cut e s xs rest cut split) = Cut _ s xs rest cut split
 
 pub splits : (p : ℕ → Bool) (bs : List ℕ) → IsSplit p bs (slice_split p bs)
 splits p [] = Whole []
-splits p (b ∷ bs) = cond_both (p b) _ _ (IsSplit p (b ∷ bs)) (λ e. Cut [] b bs (slice_split p bs) e (splits p bs))
-    (λ e. onto p b bs (slice_split p bs) (splits p bs))
+splits p (b ∷ bs) = cond_both _ _ _ (IsSplit p _) (λ e. Cut [] b bs _ e (splits p bs))
+    (λ e. onto p b bs _ (splits p bs))
 
 -- the first element has a value, and so have the others
 pub record ReadsFirst {A E : Type 0} (first : Result A E) (others : Result (List A) E) (all : List A) : Type 0 where
@@ -151,18 +150,18 @@ module _ {A E : Type 0} (read : List ℕ → Result A E) (Spells : List ℕ → 
     reads_parts : (bs : List ℕ) (parts : List (List ℕ)) (xs : List A) → IsSplit is_list_separator bs parts
         → traverse read parts ≡ Ok xs → IsListOf Spells bs xs
     reads_parts bs parts xs (Whole ys) h =
-        let f = reads_first (read ys) (Ok []) xs h in
+        let f = reads_first _ (Ok []) xs h in
         let one : f.head ∷ [] ≡ xs = cc in
         subst (IsListOf Spells ys) one (Last ys f.head (a.to ys f.head f.read))
     reads_parts bs parts xs (Cut e s ys rest cut split) h =
-        let f = reads_first (read e) (traverse read rest) xs h in
-        subst (IsListOf Spells (e ++ s ∷ ys)) f.is
+        let f = reads_first _ _ xs h in
+        subst (IsListOf Spells _) f.is
         (More e s ys f.head f.tail (a.to e f.head f.read) cut (reads_parts ys rest f.tail split f.rest))
 
     pub matches_grammar : (bs : List ℕ) (xs : List A) → (IsListOf Spells bs xs → traverse read (elements bs) ≡ Ok xs)
         × (traverse read (elements bs) ≡ Ok xs → IsListOf Spells bs xs)
     matches_grammar bs xs =
-        (from_grammar bs xs, reads_parts bs (elements bs) xs (splits is_list_separator bs))
+        (from_grammar bs xs, reads_parts bs _ xs (splits is_list_separator bs))
 
 -- ---- reading decimal digits from left to right
 
@@ -173,20 +172,20 @@ after-ge n (d ∷ ds) = omega (arith, after-ge (n * 10 + digit_value d) ds)
 
 pub too_large : (bs : List ℕ) → max_u64 < value bs → None ≡ number bs
 too_large bs h =
-    sym (cond-false (is_number bs && leb (value bs) max_u64) (Some (value bs)) None
-    (and_right (is_number bs) (leb (value bs) max_u64) (lt-leb (value bs) max_u64 h)))
+    sym (cond-false _ _ None
+    (and_right _ _ (lt-leb _ max_u64 h)))
 
 -- if the number is too large at digit `i`, it is too large
 pub too_large_at : (bs : List ℕ) (i n : ℕ) → i < length bs → value bs ≡ digits_value_after 10 n (drop i bs)
     → max_u64 < n * 10 + digit_value (get_or bs i 0) → None ≡ number bs
 too_large_at bs i n below e h =
-    let is : value bs ≡ digits_value_after 10 (n * 10 + digit_value (get_or bs i 0)) (drop (i + 1) bs) =
+    let is =
     e ∙ ap (digits_value_after 10 n) (drop_more bs i 0 below) in
-    too_large bs (omega (arith, is, after-ge (n * 10 + digit_value (get_or bs i 0)) (drop (i + 1) bs)))
+    too_large bs (omega (arith, after-ge (n * 10 + digit_value (get_or bs i 0)) (drop (i + 1) bs)))
 
 pub is_empty_by_length : {X : Type 0} (xs : List X) → is_empty xs ≡ eqb (length xs) 0
 is_empty_by_length [] = refl
-is_empty_by_length (x ∷ xs) = sym (ne_eqb (length (x ∷ xs)) 0 (λ e. omega (arith, e)))
+is_empty_by_length (x ∷ xs) = sym (ne_eqb _ 0 (λ e. omega arith))
 
 pub digit_is : (b : ℕ) → 48 ≤ b → b ≤ 57 → digit_value b ≡ b - 48
-digit_is b low high = grind (arith, nat_tests)
+digit_is b low high = grind arith

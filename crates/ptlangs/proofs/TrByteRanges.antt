@@ -2,7 +2,8 @@
 -- length of the first.
 use Rattle.ptlangs.proofs.Common.{◌≡◌, ◌<◌, ◌≤◌, ◌+◌, ◌-◌, ℕ, zero, suc, List, [], ◌∷◌, ◌++◌, length, drop, replicate}
 use Rattle.ptlangs.proofs.Common.{arith, refl, sym, ap, ◌∙◌, Option, Some, None, slice_get, flat_map, drop_more}
-use Rattle.ptlangs.proofs.Common.{length-replicate, CharClass, span, range_bytes, class_bytes, get_or-replicate}
+use Rattle.ptlangs.proofs.Common.{length-replicate, CharClass, span, range_bytes, get_or-replicate}
+use Rattle.ptlangs.specs.TrClasses.{class_bytes}
 use Rattle.std.proofs.Common.{lit≤}
 use Rattle.std.proofs.Math.ListN.{get_or}
 use Rattle.std.proofs.lemmas.List.FromFn.{get_or-range_with_len, length-range_with_len}
@@ -31,14 +32,14 @@ pub span_there : (first last index : ℕ) → index < length (span first last)
     → Some (first + index) ≡ slice_get (span first last) index
 span_there first last index h =
     let within : index < last + 1 - first = omega (arith, length-range_with_len first (last + 1 - first)) in
-    sym (slice_get-get_or (span first last) index 0 h
-    ∙ ap Some (get_or-range_with_len first (last + 1 - first) index 0 within))
+    sym (slice_get-get_or _ index 0 h
+    ∙ ap Some (get_or-range_with_len first _ index 0 within))
 
 pub span_past : (first last index : ℕ) → length (span first last) ≤ index → None ≡ slice_get (span first last) index
-span_past first last index h = sym (slice_get_past (span first last) index h)
+span_past first last index h = sym (slice_get_past _ index h)
 
 pub length-span : (first last : ℕ) → length (span first last) ≡ last + 1 - first
-length-span first last = length-range_with_len first (last + 1 - first)
+length-span first last = length-range_with_len first _
 
 pub ruleset span_steps = (span_there, span_past, length-span)
 
@@ -48,7 +49,7 @@ pub ranges_found : (rs : List (ℕ × ℕ)) (i left : ℕ) (d : ℕ × ℕ) (o :
     → left < length (range_bytes (get_or rs i d)) → o ≡ slice_get (range_bytes (get_or rs i d)) left
     → o ≡ slice_get (flat_map range_bytes (drop i rs)) left
 ranges_found rs i left d o h under e =
-    e ∙ sym (slice_get-left (range_bytes (get_or rs i d)) (flat_map range_bytes (drop (i + 1) rs)) left under)
+    e ∙ sym (slice_get-left _ _ left under)
     ∙ ap (λ xs. slice_get (flat_map range_bytes xs) left) (sym (drop_more rs i d h))
 
 pub ranges_next : (rs : List (ℕ × ℕ)) (i left count : ℕ) (d : ℕ × ℕ) → i < length rs
@@ -56,7 +57,7 @@ pub ranges_next : (rs : List (ℕ × ℕ)) (i left count : ℕ) (d : ℕ × ℕ)
     → slice_get (flat_map range_bytes (drop (i + 1) rs)) (left - count)
     ≡ slice_get (flat_map range_bytes (drop i rs)) left
 ranges_next rs i left count d h e past =
-    sym (slice_get-right (range_bytes (get_or rs i d)) (flat_map range_bytes (drop (i + 1) rs)) left (left - count)
+    sym (slice_get-right (range_bytes (get_or rs i d)) _ left _
     (omega arith))
     ∙ ap (λ xs. slice_get (flat_map range_bytes xs) left) (sym (drop_more rs i d h))
 
@@ -92,16 +93,16 @@ class_bytes-some Xdigit = lit≤ tt
 pub room : (bytes : List ℕ) (i : ℕ) (found : Option ℕ) → found ≡ slice_get bytes i → length bytes < 2 ^ 128
     → IfSome found (λ _. i + 1 < 2 ^ 128)
 room bytes i None e h = tt
-room bytes i (Some b) e h = omega (arith, slice_get_within bytes i b (sym e), h)
+room bytes i (Some b) e h = omega (arith, slice_get_within bytes i b (sym e))
 
 -- ---- copies of one byte
 
 pub repeat_there : (n b i : ℕ) → i < n → Some b ≡ slice_get (replicate n b) i
 repeat_there n b i h =
-    sym (slice_get-get_or (replicate n b) i 0 (omega (arith, length-replicate n b))
+    sym (slice_get-get_or _ i 0 (omega (arith, length-replicate n b))
     ∙ ap Some (get_or-replicate n i b 0 h))
 
 pub repeat_past : (n b i : ℕ) → n ≤ i → None ≡ slice_get (replicate n b) i
-repeat_past n b i h = sym (slice_get_past (replicate n b) i (omega (arith, length-replicate n b)))
+repeat_past n b i h = sym (slice_get_past _ i (omega (arith, length-replicate n b)))
 
 pub ruleset member_steps = (length-replicate, length-span, class_bytes-short, repeat_there, repeat_past)

@@ -1,24 +1,23 @@
 -- Octal and decimal numbers, and the characters of a string at an index. The character at an index depends only on the
 -- bytes from there on, which gives the agreement with the grammar, character by character.
 use Rattle.ptlangs.proofs.Common.{◌≡◌, ◌≤◌, ◌<◌, ◌+◌, ◌-◌, ◌*◌, ℕ, zero, suc, Bool, true, false, cond, eqb, List, []}
-use Rattle.ptlangs.proofs.Common.{◌∷◌, length, take, drop, get_or, arith, refl, sym, ap, ◌∙◌, rules, tests, nat_le}
-use Rattle.ptlangs.proofs.Common.{Option, Some, None, prefix_len, slice_get, digit_value, digits_value, drop_more}
-use Rattle.ptlangs.proofs.Common.{drop_all, drop-drop, length-take, length-prefix_len, is_octal_digit, octal_run, octal}
-use Rattle.ptlangs.proofs.Common.{chars, after_backslash, SetChar, Plain, Escaped, Invalid, inl, inr, subst, ◌++◌}
-use Rattle.ptlangs.proofs.Common.{cases_Bool, cases_eq, ne_eqb, nat_tests, drop_at, length-append, ALargeOctal}
-use Rattle.ptlangs.proofs.Common.{ALoneBackslash, APlainByte, AChar, AnEscape, AnOctal, NoChar, SpellsChar, SpellsChars}
-use Rattle.ptlangs.proofs.Common.{cond-false, cond-true, le-leb, lt-leb, value}
-use Rattle.std.proofs.lemmas.List.{take-take, get_or-take}
+use Rattle.ptlangs.proofs.Common.{◌∷◌, length, take, drop, get_or, arith, refl, sym, ap, ◌∙◌, rules, nat_le, Option}
+use Rattle.ptlangs.proofs.Common.{Some, None, prefix_len, slice_get, digit_value, digits_value, drop_more, drop_all}
+use Rattle.ptlangs.proofs.Common.{drop-drop, length-prefix_len, is_octal_digit, octal, chars, after_backslash, SetChar}
+use Rattle.ptlangs.proofs.Common.{Plain, Escaped, Invalid, inl, inr, subst, ◌++◌, cases_Bool, cases_eq, ne_eqb, drop_at}
+use Rattle.ptlangs.proofs.Common.{length-append, ALargeOctal, ALoneBackslash, APlainByte, AChar, AnEscape, AnOctal}
+use Rattle.ptlangs.proofs.Common.{NoChar, SpellsChar, SpellsChars, cond-false, cond-true, lt-leb, value, Result, Ok}
+use Rattle.ptlangs.proofs.Common.{Err, SetFaultKind}
+use Rattle.std.proofs.lemmas.List.{length-take, take-take, get_or-take}
+use Rattle.ptlangs.specs.TrChars.{octal_run, IsOctalRun, OneDigit, ThreeDigits, TwoDigits, CharsMatchGrammar, byte_of}
+use Rattle.ptlangs.specs.TrChars.{char_at, chars_after}
+use Rattle.std.proofs.lemmas.Bool.{le-leb}
 use Rattle.std.proofs.lemmas.List.Sums.{prefix_len-le-length, prefix_len_passes}
 use Rattle.ptlangs.specs.declared.faults.SetFaultKind.TheVariants.{Octal, Escape}
 use Rattle.std.proofs.Common.{All}
-use Rattle.std.specs.Int.{IsInRange}
 use Rattle.std.proofs.lemmas.Int.Digits.{digits_value_more}
 use Rattle.std.proofs.lemmas.Str.Parse.{digits_value-take-le, digit_from_value}
-use Rattle.ptlangs.specs.TrChars.{IsOctalRun, OneDigit, ThreeDigits, TwoDigits, CharsMatchGrammar, byte_of_escape}
-use Rattle.ptlangs.specs.TrChars.{byte_of, char_at, chars_after}
 use Rattle.ptlangs.specs.TrParsing.{char_from}
-use Rattle.ptlangs.proofs.Common.{Result, Ok, Err, SetFaultKind}
 use Rattle.std.proofs.lemmas.Str.{digit_value_digit}
 
 pub ruleset number_steps = (digits_value_more, digits_value-take-le, digit_from_value)
@@ -31,14 +30,14 @@ byte_of_octal (Some v) = Ok v
 -- a number is above the limit if its first digits are
 pub too_large : (base limit : ℕ) (ds : List ℕ) (i : ℕ) → 1 ≤ base → limit < digits_value base (take i ds)
     → nat_le (digits_value base ds) limit ≡ false
-too_large base limit ds i one h = grind (arith, tests, digits_value-take-le base ds i one)
+too_large base limit ds i one h = grind (arith, digits_value-take-le base ds i one)
 
 -- the value after one more digit
 pub number_step : (base : ℕ) (ds : List ℕ) (i value digit : ℕ) → i < length ds → base ≤ 10
     → digit_value (get_or ds i 0) < base → value ≡ digits_value base (take i ds) → digit ≡ get_or ds i 0 - 48
     → value * base + digit ≡ digits_value base (take (i + 1) ds)
 number_step base ds i value digit h ten below v d =
-    let digits : IsInRange 48 57 (get_or ds i 0) = digit_from_value (get_or ds i 0) (omega arith) in
+    let digits = digit_from_value _ (omega arith) in
     let same : digit ≡ digit_value (get_or ds i 0) = omega (arith, digit_value_digit (get_or ds i 0) digits) in
     rw (digits_value_more base ds i h, v, same) refl
 
@@ -54,20 +53,20 @@ length-octal_run bs =
 pub take-octal_run : (bs : List ℕ) → take (length (octal_run bs)) bs ≡ octal_run bs
 take-octal_run bs =
     let n = prefix_len is_octal_digit (take 3 bs) in
-    let e : length (octal_run bs) ≡ n = length-prefix_len is_octal_digit (take 3 bs) in
+    let e = length-prefix_len is_octal_digit (take 3 bs) in
     let short : n ≤ 3 = omega (arith, prefix_len-le-length is_octal_digit (take 3 bs), length-take 3 bs) in
     ap (λ m. take m bs) e ∙ sym (take-take n 3 bs short)
 
 octal_value : (b : ℕ) → is_octal_digit b ≡ true → digit_value b < 8
-octal_value b h = grind (arith, tests, rules)
+octal_value b h = grind (arith, rules)
 
 pub octal_digits : (bs : List ℕ) → All (λ d. digit_value d < 8) (take (length (octal_run bs)) bs)
 octal_digits bs k d h =
     let n = prefix_len is_octal_digit (take 3 bs) in
-    let e : length (octal_run bs) ≡ n = length-prefix_len is_octal_digit (take 3 bs) in
+    let e = length-prefix_len is_octal_digit (take 3 bs) in
     let within : k < n = omega (arith, length-take (length (octal_run bs)) bs) in
     octal_value (get_or (take (length (octal_run bs)) bs) k d)
-    (rw take-octal_run (rw (get_or-take n (take 3 bs) k d within)
+    (rw take-octal_run (rw (get_or-take n _ k d within)
     (prefix_len_passes is_octal_digit (take 3 bs) k d within)))
 
 -- a backslash before an octal digit
@@ -104,7 +103,7 @@ chars-cons b bs = ap (λ us. (char_at b bs).0 ∷ us) (chars_after_is bs (char_a
 pub chars_plain : (bs : List ℕ) (i b : ℕ) → i < length bs → get_or bs i 0 ≡ b → (b ≡ 92 → ⊥)
     → chars (drop i bs) ≡ Plain b ∷ chars (drop (i + 1) bs)
 chars_plain bs i b h e n =
-    let not_escape : eqb b 92 ≡ false = grind (arith, tests) in
+    let not_escape : eqb b 92 ≡ false = grind arith in
     rw (drop_more bs i 0 h, e, chars-cons b (drop (i + 1) bs), not_escape) refl
 
 pub chars_escape : (bs : List ℕ) (i : ℕ) → i < length bs → get_or bs i 0 ≡ 92
@@ -139,16 +138,16 @@ run_is digits rest (ThreeDigits a b c more ha hb hc) = rw (ha, hb, hc) refl
 escape_is : (digits rest : List ℕ) (u : SetChar) → IsOctalRun digits rest → octal (digits_value 8 digits) ≡ u
     → chars (92 ∷ digits ++ rest) ≡ u ∷ chars rest
 escape_is digits rest u run is =
-    rw (chars-cons 92 (digits ++ rest), run_is digits rest run, is, drop_at digits rest (length digits) refl) refl
+    rw (chars-cons 92 _, run_is digits rest run, is, drop_at digits rest _ refl) refl
 
 char_is : (bs : List ℕ) (u : SetChar) (rest : List ℕ) → SpellsChar bs u rest → chars bs ≡ u ∷ chars rest
 char_is bs u rest (APlainByte b more n) = rw (chars-cons b more, ne_eqb b 92 n) refl
 char_is bs u rest (AnOctal digits more run small) =
-    escape_is digits more (Escaped (digits_value 8 digits)) run
-    (cond-true _ _ _ (le-leb (digits_value 8 digits) 255 small))
+    escape_is digits more _ run
+    (cond-true _ _ _ (le-leb _ 255 small))
 char_is bs u rest (ALargeOctal digits more run large) =
-    escape_is digits more (Invalid Octal) run (cond-false _ _ _ (lt-leb (digits_value 8 digits) 255 large))
-char_is bs u rest (AnEscape b more n) = rw (chars-cons 92 (b ∷ more), n) refl
+    escape_is digits more _ run (cond-false _ _ _ (lt-leb _ 255 large))
+char_is bs u rest (AnEscape b more n) = rw (chars-cons 92 _, n) refl
 char_is bs u rest ALoneBackslash = refl
 
 chars_are : (bs : List ℕ) (us : List SetChar) → SpellsChars bs us → chars bs ≡ us
@@ -168,16 +167,16 @@ record OctalPrefix (bs : List ℕ) : Type 0 where
 octal_prefix_two : (a b : ℕ) (more : List ℕ) → is_octal_digit a ≡ true → is_octal_digit b ≡ true
     → OctalPrefix (a ∷ b ∷ more)
 octal_prefix_two a b [] ha hb = record { digits = a ∷ b ∷ []; rest = []; is = refl; run = TwoDigits a b [] ha hb refl }
-octal_prefix_two a b (c ∷ more) ha hb = elim (cases_Bool (is_octal_digit c)) [
+octal_prefix_two a b (c ∷ more) ha hb = elim (cases_Bool _) [
   | inl hc ↦ record { digits = a ∷ b ∷ c ∷ []; rest = more; is = refl; run = ThreeDigits a b c more ha hb hc }
-  | inr hc ↦ record { digits = a ∷ b ∷ []; rest = c ∷ more; is = refl; run = TwoDigits a b (c ∷ more) ha hb hc }
+  | inr hc ↦ record { digits = a ∷ b ∷ []; rest = c ∷ more; is = refl; run = TwoDigits a b _ ha hb hc }
 ]
 
 octal_prefix : (a : ℕ) (more : List ℕ) → is_octal_digit a ≡ true → OctalPrefix (a ∷ more)
 octal_prefix a [] ha = record { digits = a ∷ []; rest = []; is = refl; run = OneDigit a [] ha refl }
-octal_prefix a (b ∷ more) ha = elim (cases_Bool (is_octal_digit b)) [
+octal_prefix a (b ∷ more) ha = elim (cases_Bool _) [
   | inl hb ↦ octal_prefix_two a b more ha hb
-  | inr hb ↦ record { digits = a ∷ []; rest = b ∷ more; is = refl; run = OneDigit a (b ∷ more) ha hb }
+  | inr hb ↦ record { digits = a ∷ []; rest = b ∷ more; is = refl; run = OneDigit a _ ha hb }
 ]
 
 record FirstChar (bs : List ℕ) : Type 0 where
@@ -193,23 +192,23 @@ octal_first_char bs r =
       | inl small ↦ record {
         next_char = Escaped (digits_value 8 r.digits);
         rest = r.rest;
-        spelled = rw r.is (AnOctal r.digits r.rest r.run (grind (arith, nat_tests)));
+        spelled = rw r.is (AnOctal r.digits r.rest r.run (grind arith));
         shorter = shorter;
       }
       | inr large ↦ record {
         next_char = Invalid Octal;
         rest = r.rest;
-        spelled = rw r.is (ALargeOctal r.digits r.rest r.run (grind (arith, nat_tests)));
+        spelled = rw r.is (ALargeOctal r.digits r.rest r.run (grind arith));
         shorter = shorter;
       }
     ]
 
 escape_first_char : (bs : List ℕ) → FirstChar (92 ∷ bs)
 escape_first_char [] = record { next_char = Invalid Escape; rest = []; spelled = ALoneBackslash; shorter = omega arith }
-escape_first_char (b ∷ more) = elim (cases_Bool (is_octal_digit b)) [
-  | inl h ↦ octal_first_char (b ∷ more) (octal_prefix b more h)
+escape_first_char (b ∷ more) = elim (cases_Bool _) [
+  | inl h ↦ octal_first_char _ (octal_prefix b more h)
   | inr h ↦ record {
-    next_char = Escaped (byte_of_escape b);
+    next_char = Escaped _;
     rest = more;
     spelled = AnEscape b more h;
     shorter = omega arith;
@@ -227,8 +226,8 @@ spelled n [] h = NoChar
 spelled zero (b ∷ bs) h = absurd (omega arith)
 spelled (suc n) (b ∷ bs) h =
     let f = first_char b bs in
-    rw (char_is (b ∷ bs) f.next_char f.rest f.spelled)
-    (AChar (b ∷ bs) f.rest f.next_char (chars f.rest) f.spelled (spelled n f.rest (omega (arith, f.shorter))))
+    rw (char_is _ f.next_char f.rest f.spelled)
+    (AChar _ f.rest f.next_char _ f.spelled (spelled n f.rest (omega arith)))
 
 pub chars_are_spelled : CharsMatchGrammar
 chars_are_spelled bs us = (chars_are bs us, λ e. subst (SpellsChars bs) e (spelled (length bs) bs (omega arith)))

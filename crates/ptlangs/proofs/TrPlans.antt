@@ -4,12 +4,13 @@ use Rattle.ptlangs.proofs.Common.{◌≡◌, Bool, Err, List, None, Ok, Option, 
 use Rattle.ptlangs.proofs.Common.{length, map, refl, suc, sym, true, zero, ℕ, ◌++◌, ◌-◌, ◌∙◌, ◌∷◌, ◌≢◌, result_map_both}
 use Rattle.ptlangs.proofs.Common.{and_then, ADescendingRange, AnInvalidEnd, AnInvalidChar, StartsElement, StartsInvalid}
 use Rattle.ptlangs.proofs.Common.{subst, FirstFault, LaterFault, NoElement, NoSegment, array, class_offsets}
-use Rattle.ptlangs.proofs.Common.{first_array, image_of, in_string, is_deleted, is_squeezed, has_valid_classes, segment}
-use Rattle.ptlangs.proofs.Common.{plan, plan_of, second_plan, string_segments, tables, ALargeOctal, ALoneBackslash}
-use Rattle.ptlangs.proofs.Common.{APlainByte, AChar, AnEscape, AnOctal, NoChar, SpellsChar, SpellsChars, chars}
-use Rattle.ptlangs.proofs.Common.{SetFault, SetFaultKind, ClassPlace, SetElement, Segment, SetRole, First, Images}
-use Rattle.ptlangs.proofs.Common.{Squeezed, Form, Delete, DeleteSqueeze, Squeeze, Translate, TranslateSqueeze, SetChar}
-use Rattle.ptlangs.proofs.Common.{Escaped, Invalid, Plain, complement_of}
+use Rattle.ptlangs.proofs.Common.{first_array, in_string, has_valid_classes, segment, plan, plan_of, second_plan}
+use Rattle.ptlangs.proofs.Common.{string_segments, tables, ALargeOctal, ALoneBackslash, APlainByte, AChar, AnEscape}
+use Rattle.ptlangs.proofs.Common.{AnOctal, NoChar, SpellsChar, SpellsChars, chars, SetFault, SetFaultKind, ClassPlace}
+use Rattle.ptlangs.proofs.Common.{SetElement, Segment, SetRole, First, Images, Squeezed, Form, Delete, DeleteSqueeze}
+use Rattle.ptlangs.proofs.Common.{Squeeze, Translate, TranslateSqueeze, SetChar, Escaped, Invalid, Plain}
+use Rattle.ptlangs.specs.TrPlan.{image_of, is_deleted, is_squeezed, NoMemoryFault, Plan, fill_count, plan_from}
+use Rattle.ptlangs.specs.TrPlan.{plan_with, repeat_segment, second_role, takes_second}
 use Rattle.ptlangs.specs.declared.faults.SetFaultKind.TheVariants.{Memory}
 use Rattle.std.proofs.lemmas.Bool.{cond_both}
 use Rattle.ptlangs.specs.TrClasses.{all_bytes}
@@ -21,8 +22,6 @@ use Rattle.ptlangs.proofs.TrElementGrammar.{StartsElement-front, faults_are_firs
 use Rattle.ptlangs.specs.TrParsing.{all_paired, contents_of, first_members, marked_array, ok_map}
 use Rattle.ptlangs.specs.TrTables.{Tables}
 use Rattle.ptlangs.proofs.TrByteWalk.{paired-arrays, paired-plain}
-use Rattle.ptlangs.specs.TrPlan.{NoMemoryFault, Plan, fill_count, plan_from, plan_with, repeat_segment, second_role}
-use Rattle.ptlangs.specs.TrPlan.{takes_second}
 use Rattle.ptlangs.proofs.TrCharGrammar.{chars_are_spelled}
 
 -- ---- two facts about a result
@@ -65,10 +64,10 @@ pub second_read : (form : Form) (complement : Bool) (firsts : List Segment) (tex
     → fill ≡ first.length - unfilled.length → first ≡ contents_of (first_array complement firsts)
     → SecondRead form complement firsts text role fill
 second_read form complement firsts text role fill first unfilled at was e f =
-    let (ps, read, is) = mapped_ok (string_segments role text) (λ ps. contents_of (array 0 ps)) unfilled was in
-    let whole : string_segments (second_role form) text ≡ Ok ps = ap (λ q. string_segments q text) (sym at) ∙ read in
+    let (ps, read, is) = mapped_ok _ _ unfilled was in
+    let whole = ap (λ q. string_segments q text) (sym at) ∙ read in
     let has_fill : fill ≡ fill_count (length (first_array complement firsts)) ps =
-    omega (arith, e, ap (λ (q : Contents). q.length) f, ap (λ (q : Contents). q.length) is) in
+    omega (arith, ap (λ (q : Contents). q.length) f, ap (λ (q : Contents). q.length) is) in
     record { ps = ps; read = read; plan = λ valid is. rw (whole, ← has_fill, is) refl }
 
 -- the classes of a second string that translates are valid if they are paired
@@ -76,13 +75,13 @@ pub valid-paired : (form : Form) (complement : Bool) (firsts ps : List Segment) 
     → has_valid_classes form complement (class_offsets 0 0 firsts) (class_offsets n 0 ps)
     ≡ all_paired (first_members complement firsts) (marked_array n ps)
 valid-paired DeleteSqueeze complement firsts ps n other = absurd (other refl)
-valid-paired Translate true firsts ps n other = paired-plain n (complement_of (array 0 firsts)) ps
+valid-paired Translate true firsts ps n other = paired-plain n _ ps
 valid-paired Translate false firsts ps n other = paired-arrays n firsts ps
-valid-paired TranslateSqueeze true firsts ps n other = paired-plain n (complement_of (array 0 firsts)) ps
+valid-paired TranslateSqueeze true firsts ps n other = paired-plain n _ ps
 valid-paired TranslateSqueeze false firsts ps n other = paired-arrays n firsts ps
-valid-paired Squeeze true firsts ps n other = paired-plain n (complement_of (array 0 firsts)) ps
+valid-paired Squeeze true firsts ps n other = paired-plain n _ ps
 valid-paired Squeeze false firsts ps n other = paired-arrays n firsts ps
-valid-paired Delete true firsts ps n other = paired-plain n (complement_of (array 0 firsts)) ps
+valid-paired Delete true firsts ps n other = paired-plain n _ ps
 valid-paired Delete false firsts ps n other = paired-arrays n firsts ps
 
 -- a result of which only the fault was changed
@@ -96,7 +95,7 @@ pub plan_two : (form : Form) (complement : Bool) (s1 s2 : List ℕ) (firsts : Li
     → string_segments First s1 ≡ Ok firsts
     → in_string string.Second (result_map_both tables (λ (k : SetFaultKind). k) (second_plan form complement firsts s2))
     ≡ result_map_both tables (λ (f : SetFault). f) (plan form complement s1 (Some s2))
-plan_two form complement s1 s2 firsts s = rw s (choose (second_plan form complement firsts s2))
+plan_two form complement s1 s2 firsts s = rw s (choose _)
   where
     choose : (r : Result Plan SetFaultKind)
         → in_string string.Second (result_map_both tables (λ (k : SetFaultKind). k) r)
@@ -213,7 +212,7 @@ first_not_memory : (role : SetRole) (has_fill : Bool) (us : List SetChar) (k : S
     → FirstFault role has_fill us k → AreNotMemory us → k ≢ Memory
 first_not_memory role has_fill us k (NoElement f vs j b) fine = element_fault vs j b fine
 first_not_memory role has_fill us k (NoSegment f vs rest p j b e) fine =
-    fault_not_memory (segment role f p) j (segment_not_memory role f p) e
+    fault_not_memory _ j (segment_not_memory role f p) e
 first_not_memory role has_fill us k (LaterFault f vs rest p x j b e later) fine =
     first_not_memory role _ rest j later (element_not_memory vs p rest b fine)
 
@@ -222,11 +221,11 @@ first_not_memory role has_fill us k (LaterFault f vs rest p x j b e later) fine 
 string_not_memory : (role : SetRole) (text : List ℕ) (r : Result (List Segment) SetFaultKind)
     → string_segments role text ≡ r → FaultIsNotMemory r
 string_not_memory role text (Ok ps) e = tt
-string_not_memory role [] (Err k) e = fault_not_memory (string_segments role []) k (λ memory. cc) e
+string_not_memory role [] (Err k) e = fault_not_memory _ k (λ memory. cc) e
 string_not_memory role (b ∷ text) (Err k) e =
     let us = chars (b ∷ text) in
     let (_, first) = faults_are_first role b text k in
-    let (_, spelled) = chars_are_spelled (b ∷ text) us in
+    let (_, spelled) = chars_are_spelled _ us in
     first_not_memory role false us k (first e) (all_not_memory (b ∷ text) us (spelled refl))
 
 second_not_memory : (form : Form) (complement : Bool) (firsts : List Segment) (r : Result (List Segment) SetFaultKind)
@@ -234,7 +233,7 @@ second_not_memory : (form : Form) (complement : Bool) (firsts : List Segment) (r
     → FaultIsNotMemory
     (and_then r (λ seconds. plan_with form complement firsts (first_array complement firsts) seconds))
 second_not_memory form complement firsts (Ok seconds) speaks =
-    cond_both (has_valid_classes form complement _ _) _ _ (FaultIsNotMemory {A = Plan}) (λ t. tt) (λ t e. cc)
+    cond_both (has_valid_classes form complement _ _) _ _ (FaultIsNotMemory {A = Plan}) _ (λ t e. cc)
 second_not_memory form complement firsts (Err k) speaks = speaks
 
 of_string : {A : Type 0} (string : SetString) (r : Result A SetFaultKind) (fault : SetFault) → FaultIsNotMemory r
@@ -246,9 +245,9 @@ rest_not_memory : (form : Form) (complement : Bool) (firsts : List Segment) (s2 
     → plan_from form complement firsts s2 ≡ Err fault → fault.kind ≢ Memory
 rest_not_memory form complement firsts None fault e = cc
 rest_not_memory form complement firsts (Some text) fault e =
-    of_string _ (second_plan form complement firsts text) fault
-    (second_not_memory form complement firsts (string_segments (second_role form) text)
-    (string_not_memory (second_role form) text (string_segments (second_role form) text) refl)) e
+    of_string _ _ fault
+    (second_not_memory form complement firsts _
+    (string_not_memory _ text _ refl)) e
 
 plan_not_memory : (string : SetString) (form : Form) (complement : Bool) (s2 : Option (List ℕ))
     (r : Result (List Segment) SetFaultKind) (fault : SetFault)
@@ -259,5 +258,5 @@ plan_not_memory string form complement s2 (Err k) fault speaks e = λ memory. sp
 
 pub never_memory : NoMemoryFault
 never_memory form complement s1 s2 fault e =
-    plan_not_memory _ form complement s2 (string_segments First s1) fault
-    (string_not_memory First s1 (string_segments First s1) refl) e
+    plan_not_memory _ form complement s2 _ fault
+    (string_not_memory First s1 _ refl) e
