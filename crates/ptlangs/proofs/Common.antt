@@ -1,11 +1,11 @@
 -- Names that many proofs of this crate use, from other crates and from the definitions of this one.
 pub use Rattle.std.proofs.Common.{Bool, Err, List, None, Ok, Option, Result, Some, [], ap, arith, cond, drop, eqb}
-pub use Rattle.std.proofs.Common.{false, get_or, inl, inr, length, map, nat_le, not, refl, replicate, rules, subst, suc}
-pub use Rattle.std.proofs.Common.{sym, take, true, zero, ℕ, ◌%◌, ◌&&◌, ◌*◌, ◌++◌, ◌+◌, ◌-◌, ◌<◌, ◌||◌, ◌∙◌, ◌∷◌, ◌≡◌}
-pub use Rattle.std.proofs.Common.{◌≢◌, ◌≤◌}
+pub use Rattle.std.proofs.Common.{false, get_or, inl, inr, length, map, not, refl, replicate, rules, subst, suc, sym}
+pub use Rattle.std.proofs.Common.{take, true, zero, ℕ, ◌%◌, ◌&&◌, ◌*◌, ◌++◌, ◌+◌, ◌-◌, ◌<◌, ◌||◌, ◌∙◌, ◌∷◌, ◌≡◌, ◌≢◌}
+pub use Rattle.std.proofs.Common.{◌≤◌}
 pub use Rattle.std.proofs.Math.ListN.{set}
-pub use Rattle.std.proofs.lemmas.Bool.{and_parts, and_right, cases_Bool, cases_eq, cond-false, cond-true, eq-eqb}
-pub use Rattle.std.proofs.lemmas.Bool.{eqb-false, eqb-true, le-ltb, lt-leb, ltb-false, ltb-true, ne_eqb}
+pub use Rattle.std.proofs.lemmas.Bool.{and_parts, cases_Bool, cases_eq, cond-false, cond-true, eq-eqb, eqb-false}
+pub use Rattle.std.proofs.lemmas.Bool.{eqb-true, le-ltb, ltb-false, ltb-true, ne_eqb}
 pub use Rattle.std.proofs.lemmas.Iterator.{YieldsList-from_slice}
 pub use Rattle.std.proofs.lemmas.Iterator.Search.{position_from_yields_List}
 pub use Rattle.std.proofs.lemmas.List.{append-nil, append_assoc, drop-drop, drop_all, drop_at, drop_more}
@@ -35,8 +35,8 @@ pub use Rattle.ptlangs.specs.TrPlan.{segment, segments, segments_of, plan, plan_
 pub use Rattle.ptlangs.specs.TrShifts.{shift_at, prepend_shift, shift_of, image_of_shifts, stretches_from}
 pub use Rattle.ptlangs.specs.TrTables.{tables}
 pub use Rattle.ptlangs.specs.TrChars.{ALargeOctal, ALoneBackslash, APlainByte, AChar, AnEscape, AnOctal, NoChar}
-pub use Rattle.ptlangs.specs.TrChars.{SpellsChar, SpellsChars, after_backslash, is_octal_digit, octal, chars, SetChar}
-pub use Rattle.ptlangs.specs.TrChars.{Escaped, Invalid, Plain}
+pub use Rattle.ptlangs.specs.TrChars.{SpellsChar, SpellsChars, after_backslash, octal, chars, SetChar, Escaped, Invalid}
+pub use Rattle.ptlangs.specs.TrChars.{Plain}
 pub use Rattle.ptlangs.specs.declared.tr.classes.CharClass.{CharClass}
 pub use Rattle.ptlangs.specs.declared.faults.SetFault.{SetFault}
 pub use Rattle.ptlangs.specs.declared.faults.SetFaultKind.{SetFaultKind}

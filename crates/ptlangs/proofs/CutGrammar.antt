@@ -3,18 +3,18 @@
 -- that they select.
 use Rattle.ptlangs.proofs.Common.{Result, ◌≡◌, Bool, List, None, Ok, Option, Some, [], ap, arith, cond, drop, eqb}
 use Rattle.ptlangs.proofs.Common.{false, inl, inr, length, not, refl, subst, suc, sym, take, true, ℕ, ◌&&◌, ◌++◌, ◌+◌}
-use Rattle.ptlangs.proofs.Common.{◌-◌, ◌<◌, ◌||◌, ◌∙◌, ◌∷◌, and_parts, and_right, cases_Bool, cond-false, cond-true}
-use Rattle.ptlangs.proofs.Common.{eqb-false, eqb-true, le-ltb, ltb-false, ne_eqb, All-cons, slice_split_at}
-use Rattle.ptlangs.proofs.Common.{slice_split_none, AllPass-from_list_all, is_ascii_digit, All, list_all, position}
-use Rattle.ptlangs.proofs.Common.{slice_split, IsValidInterval, cut_list, element_interval, is_dash, and_then, traverse}
-use Rattle.ptlangs.proofs.Common.{max_u64, is_empty, is_number, value, Interval, ◌≤◌, append_assoc}
+use Rattle.ptlangs.proofs.Common.{◌-◌, ◌<◌, ◌||◌, ◌∙◌, ◌∷◌, and_parts, cases_Bool, cond-false, cond-true, eqb-false}
+use Rattle.ptlangs.proofs.Common.{eqb-true, le-ltb, ltb-false, ne_eqb, All-cons, slice_split_at, slice_split_none}
+use Rattle.ptlangs.proofs.Common.{AllPass-from_list_all, is_ascii_digit, All, list_all, position, slice_split}
+use Rattle.ptlangs.proofs.Common.{IsValidInterval, cut_list, element_interval, is_dash, and_then, traverse, max_u64}
+use Rattle.ptlangs.proofs.Common.{is_empty, is_number, value, Interval, ◌≤◌, append_assoc}
+use Rattle.std.proofs.lemmas.Bool.{and_right, cond_both, and_left, or_from, or_parts}
 use Rattle.std.proofs.Common.{leb, ltb, max}
 use Rattle.std.proofs.lemmas.List.Sorted.{list_any-IsPermutation}
 use Rattle.std.proofs.lemmas.List.Splits.{join_with_byte-slice_split, length-slice_split}
 use Rattle.std.specs.List.{join_with_byte, list_any}
 use Rattle.std.proofs.lemmas.List.Folds.{list_any-append}
 use Rattle.std.specs.List.Sorted.{IsNonDecreasingBy, IsPermutation}
-use Rattle.std.proofs.lemmas.Bool.{cond_both, and_left, or_from, or_parts}
 use Rattle.ptlangs.specs.declared.ranges.ListFault.{ListFault}
 use Rattle.ptlangs.proofs.ListElements.{split_whole, split_around, some_since, digits_fail, Unbroken, unbroken_cons}
 use Rattle.ptlangs.proofs.ListElements.{unbroken_append, unbroken_nil, unbroken_number, matches_grammar, IsSplit, Whole}
@@ -65,8 +65,7 @@ twice false x y = refl
 pub parts_without_dash : (bs : List ℕ) → position is_dash bs ≡ None → is_empty bs ≡ false
     → interval_of_parts (slice_split is_dash bs) ≡ interval_of_bounds bs bs
 parts_without_dash [] h some = cc
-parts_without_dash (b ∷ bs) h some = ap interval_of_parts (split_whole is_dash (b ∷ bs) h)
-    ∙ twice (list_all is_ascii_digit (b ∷ bs)) _ _
+parts_without_dash (b ∷ bs) h some = cc (split_whole is_dash (b ∷ bs) h, twice (list_all is_ascii_digit (b ∷ bs)) _ _)
 
 pub parts_around_dash : (bs : List ℕ) (i : ℕ) → position is_dash bs ≡ Some i
     → interval_of_parts (slice_split is_dash bs)

@@ -29,8 +29,8 @@ is_some (b ∷ bs) ds h = h
 
 accepts : (bs : List ℕ) (ds : List (Option ℕ)) → IsDelimList bs ds → delim_list bs ≡ Ok ds
 accepts bs ds (Last e d is) = ap delim_list (sym (append-nil e)) ∙ element_is_read e [] d is
-accepts bs ds (More e rest d others is list) = element_is_read e rest d is
-    ∙ ap (cons_ok d) (is_some rest others (accepts rest others list))
+accepts bs ds (More e rest d others is list) =
+    cc (element_is_read e rest d is, is_some rest others (accepts rest others list))
 
 -- ---- from `delim_list` to the grammar
 
@@ -100,10 +100,7 @@ after_escape (Ok d) r of_e of_r = after_first d r of_r
 after_escape (Err k) r of_e of_r = of_e
 
 escape_fault : (b : ℕ) → IsOfText (escape b)
-escape_fault b =
-    fault_of_either (eqb b 110) _ _ tt
-    (fault_of_either (eqb b 116) _ _ tt
-    (fault_of_either (eqb b backslash) _ _ tt (fault_of_either (eqb b 48) _ _ tt refl)))
+escape_fault b = grind arith
 
 delims_fault : (bs : List ℕ) → IsOfText (delims bs)
 delims_fault [] = tt

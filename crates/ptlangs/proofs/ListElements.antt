@@ -4,9 +4,8 @@ use Rattle.ptlangs.proofs.Common.{◌≡◌, Bool, Err, List, None, Ok, Result, 
 use Rattle.ptlangs.proofs.Common.{get_or, length, refl, subst, sym, take, true, ℕ, ◌++◌, ◌+◌, ◌-◌, ◌∙◌, ◌∷◌, ltb-false}
 use Rattle.ptlangs.proofs.Common.{ltb-true, append_assoc, length-drop, take_all, slice_split_at, slice_split_none}
 use Rattle.ptlangs.proofs.Common.{AllPass-from_list_all, is_ascii_digit, All, position, slice_split, and_then, traverse}
-use Rattle.ptlangs.proofs.Common.{elements, is_number, is_list_separator, cons_ok, eqb, ◌*◌, ◌<◌, ◌≤◌, and_right}
-use Rattle.ptlangs.proofs.Common.{cond-false, lt-leb, All-cons, ne_eqb, drop_more, digit_value, digits_value_after}
-use Rattle.ptlangs.proofs.Common.{max_u64, is_empty, value}
+use Rattle.ptlangs.proofs.Common.{elements, is_number, is_list_separator, cons_ok, eqb, ◌*◌, ◌<◌, ◌≤◌, All-cons, ne_eqb}
+use Rattle.ptlangs.proofs.Common.{drop_more, digit_value, digits_value_after, max_u64, is_empty, value}
 use Rattle.std.proofs.lemmas.List.Splits.{slice_split_first}
 use Rattle.std.proofs.lemmas.List.Sums.{fails_before_first}
 use Rattle.std.specs.List.{onto_first}
@@ -69,10 +68,7 @@ pub each_more : {A B E : Type 0} (read : A → Result B E) (x : A) (y : B) (all 
     (r : Result (List B) E)
     → r ≡ append_ok xs (traverse read all) → all ≡ x ∷ rest → read x ≡ Ok y
     → r ≡ append_ok (xs ++ y ∷ []) (traverse read rest)
-each_more read x y all rest xs r e at ok =
-    e ∙ ap (λ l. append_ok xs (traverse read l)) at
-    ∙ ap (λ v. append_ok xs (and_then v (λ y'. cons_ok y' (traverse read rest)))) ok
-    ∙ append_ok-cons_ok xs y _
+each_more read x y all rest xs r e at ok = grind (arith, e, ok, append_ok-cons_ok)
 
 -- ---- the elements that are accepted are those of the grammar
 
@@ -141,11 +137,11 @@ module _ {A E : Type 0} (read : List ℕ → Result A E) (Spells : List ℕ → 
     from_grammar bs xs (Last e x says) =
         rw (slice_split_none is_list_separator e (a.whole e x says), a.from e x says) refl
     from_grammar bs xs (More e s others x xs' says sep list) =
-        rw (
+        cc (
           slice_split_at is_list_separator e s others (a.whole e x says) sep,
           a.from e x says,
           from_grammar others xs' list,
-        ) refl
+        )
 
     reads_parts : (bs : List ℕ) (parts : List (List ℕ)) (xs : List A) → IsSplit is_list_separator bs parts
         → traverse read parts ≡ Ok xs → IsListOf Spells bs xs
@@ -171,9 +167,7 @@ after-ge n [] = omega arith
 after-ge n (d ∷ ds) = omega (arith, after-ge (n * 10 + digit_value d) ds)
 
 pub too_large : (bs : List ℕ) → max_u64 < value bs → None ≡ number bs
-too_large bs h =
-    sym (cond-false _ _ None
-    (and_right _ _ (lt-leb _ max_u64 h)))
+too_large bs h = grind arith
 
 -- if the number is too large at digit `i`, it is too large
 pub too_large_at : (bs : List ℕ) (i n : ℕ) → i < length bs → value bs ≡ digits_value_after 10 n (drop i bs)

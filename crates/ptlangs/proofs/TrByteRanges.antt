@@ -48,46 +48,33 @@ pub ruleset span_steps = (span_there, span_past, length-span)
 pub ranges_found : (rs : List (ℕ × ℕ)) (i left : ℕ) (d : ℕ × ℕ) (o : Option ℕ) → i < length rs
     → left < length (range_bytes (get_or rs i d)) → o ≡ slice_get (range_bytes (get_or rs i d)) left
     → o ≡ slice_get (flat_map range_bytes (drop i rs)) left
-ranges_found rs i left d o h under e =
-    e ∙ sym (slice_get-left _ _ left under)
-    ∙ ap (λ xs. slice_get (flat_map range_bytes xs) left) (sym (drop_more rs i d h))
+ranges_found rs i left d o h under e = grind (arith, e, slice_get-left, drop_more)
 
 pub ranges_next : (rs : List (ℕ × ℕ)) (i left count : ℕ) (d : ℕ × ℕ) → i < length rs
     → count ≡ length (range_bytes (get_or rs i d)) → count ≤ left
     → slice_get (flat_map range_bytes (drop (i + 1) rs)) (left - count)
     ≡ slice_get (flat_map range_bytes (drop i rs)) left
-ranges_next rs i left count d h e past =
-    sym (slice_get-right (range_bytes (get_or rs i d)) _ left _
-    (omega arith))
-    ∙ ap (λ xs. slice_get (flat_map range_bytes xs) left) (sym (drop_more rs i d h))
+ranges_next rs i left count d h e past = grind (arith, slice_get-right, drop_more)
 
-pub class_bytes-short : (class : CharClass) → length (class_bytes class) ≤ 256
-class_bytes-short Alnum = lit≤ tt
-class_bytes-short Alpha = lit≤ tt
-class_bytes-short Blank = lit≤ tt
-class_bytes-short Cntrl = lit≤ tt
-class_bytes-short Digit = lit≤ tt
-class_bytes-short Graph = lit≤ tt
-class_bytes-short Lower = lit≤ tt
-class_bytes-short Print = lit≤ tt
-class_bytes-short Punct = lit≤ tt
-class_bytes-short Space = lit≤ tt
-class_bytes-short Upper = lit≤ tt
-class_bytes-short Xdigit = lit≤ tt
+class_bytes-size : (class : CharClass) → (0 < length (class_bytes class)) × (length (class_bytes class) ≤ 256)
+class_bytes-size Alnum = (lit≤ tt, lit≤ tt)
+class_bytes-size Alpha = (lit≤ tt, lit≤ tt)
+class_bytes-size Blank = (lit≤ tt, lit≤ tt)
+class_bytes-size Cntrl = (lit≤ tt, lit≤ tt)
+class_bytes-size Digit = (lit≤ tt, lit≤ tt)
+class_bytes-size Graph = (lit≤ tt, lit≤ tt)
+class_bytes-size Lower = (lit≤ tt, lit≤ tt)
+class_bytes-size Print = (lit≤ tt, lit≤ tt)
+class_bytes-size Punct = (lit≤ tt, lit≤ tt)
+class_bytes-size Space = (lit≤ tt, lit≤ tt)
+class_bytes-size Upper = (lit≤ tt, lit≤ tt)
+class_bytes-size Xdigit = (lit≤ tt, lit≤ tt)
 
 pub class_bytes-some : (class : CharClass) → 0 < length (class_bytes class)
-class_bytes-some Alnum = lit≤ tt
-class_bytes-some Alpha = lit≤ tt
-class_bytes-some Blank = lit≤ tt
-class_bytes-some Cntrl = lit≤ tt
-class_bytes-some Digit = lit≤ tt
-class_bytes-some Graph = lit≤ tt
-class_bytes-some Lower = lit≤ tt
-class_bytes-some Print = lit≤ tt
-class_bytes-some Punct = lit≤ tt
-class_bytes-some Space = lit≤ tt
-class_bytes-some Upper = lit≤ tt
-class_bytes-some Xdigit = lit≤ tt
+class_bytes-some class = let (some, _) = class_bytes-size class in some
+
+pub class_bytes-short : (class : CharClass) → length (class_bytes class) ≤ 256
+class_bytes-short class = let (_, short) = class_bytes-size class in short
 
 -- an index within a list that is no longer than a number of 128 bits can be counted up
 pub room : (bytes : List ℕ) (i : ℕ) (found : Option ℕ) → found ≡ slice_get bytes i → length bytes < 2 ^ 128

@@ -7,7 +7,7 @@ use Rattle.ptlangs.proofs.Common.{slice_get, cons_ok, array, class_offsets, sequ
 use Rattle.ptlangs.proofs.Common.{CharClass, SetFaultKind, SetElement, Segment, SetRole, First, Images, Squeezed}
 use Rattle.ptlangs.proofs.Common.{eq-eqb, ne_eqb, drop_all, subst, replicate, span, segments_of, string_segments}
 use Rattle.ptlangs.specs.TrPlan.{are_paired, members, has_other_case_at}
-use Rattle.std.proofs.lemmas.List.{drop-replicate}
+use Rattle.std.proofs.lemmas.List.{drop-map, drop-replicate}
 use Rattle.std.specs.Result.{IsErrAnd}
 use Rattle.ptlangs.specs.declared.tr.elements.SetElement.TheVariants as element
 use Rattle.ptlangs.specs.declared.tr.segments.Member.{Member}
@@ -104,8 +104,7 @@ member_bytes-array n (p ∷ ps) =
     ∙ (λ i. member_bytes-members (class_of p) (members n p) i ++ member_bytes-array n ps i)
 
 pub length-marked : (n : ℕ) (x : Segment) → length (marked_members n x) ≡ length (members n x)
-length-marked n x = sym (length-map _ _)
-    ∙ ap length (member_bytes-members _ _)
+length-marked n x = grind (arith, length-map, member_bytes-members)
 
 pub drop-found : {X : Type 0} (xs : List X) (i : ℕ) (x : X) → Some x ≡ slice_get xs i → drop i xs ≡ x ∷ drop (i + 1) xs
 drop-found [] i x e = absurd (cc)
@@ -124,11 +123,6 @@ segment-passed n x i rs e = rw (drop_all i _ (slice_get-none _ i e)) refl
 
 -- ---- the copies of a byte, passed at once
 
-drop-plain : (i : ℕ) (bytes : List ℕ) → drop i (plain_members bytes) ≡ plain_members (drop i bytes)
-drop-plain zero bytes = refl
-drop-plain (suc i) [] = refl
-drop-plain (suc i) (b ∷ bytes) = drop-plain i bytes
-
 -- if a segment has only copies of a byte, those from an index on are passed
 pub copies-passed : (count i b : ℕ) (ms : List Member) → (0 < count → ms ≡ plain_members (replicate count b))
     → drop i ms ≡ plain_members (replicate (count - i) b) ++ drop (i + (count - i)) ms
@@ -145,7 +139,7 @@ copies-passed (suc n) i b ms h =
       length-replicate (suc n) b,
     ) in
     rw (h (omega arith), drop_all _ copies all, append-nil _)
-    (drop-plain i _ ∙ ap plain_members (drop-replicate i _ b))
+    (drop-map _ i _ ∙ ap plain_members (drop-replicate i _ b))
 
 -- ---- the string of the segments
 
@@ -180,11 +174,6 @@ pub string-ok : (role : SetRole) (text : List ℕ) (n : ℕ) (ps : List Segment)
     → member_results n (segments_of role text) ≡ map Ok (marked_array n ps)
 string-ok role [] n ps e = absurd (cc)
 string-ok role (b ∷ text) n ps e = members-ok n (segments_of role (b ∷ text)) ps e
-
--- ---- one step
-
-pub le_trans : (a b c : ℕ) → a ≤ b → b ≤ c → a ≤ c
-le_trans a b c h k = omega (arith, k)
 
 -- ---- a fault that is passed on
 
@@ -256,8 +245,7 @@ offsets-members at (b ∷ bytes) ms = offsets-plain at (b ∷ bytes) ms
 offsets-class : (at : ℕ) (class : CharClass) (bytes : List ℕ) (ms : List Member) → 0 < length bytes
     → offsets at (members_from (Some class) bytes ++ ms) ≡ (at, class) ∷ offsets (at + length bytes) ms
 offsets-class at class [] ms some = absurd (omega arith)
-offsets-class at class (b ∷ bytes) ms some =
-    ap (λ os. (at, class) ∷ os) (offsets-plain _ bytes ms ∙ ap (λ k. offsets k ms) (omega arith))
+offsets-class at class (b ∷ bytes) ms some = grind (arith, offsets-plain)
 
 class_offsets-are : (n : ℕ) (ps : List Segment) (at : ℕ) → class_offsets n at ps ≡ offsets at (marked_array n ps)
 class_offsets-are n [] at = refl
@@ -267,12 +255,13 @@ class_offsets-are n (Class class ∷ ps) at =
     ap (λ os. (at, class) ∷ os) (class_offsets-are n ps _)
     ∙ sym (offsets-class at class _ _ (class_bytes-some class))
 class_offsets-are n (Repeat b count ∷ ps) at =
-    class_offsets-are n ps _
-    ∙ ap (λ m. offsets (at + m) (marked_array n ps)) (sym (length-replicate count b))
-    ∙ sym (offsets-members at (replicate count b) _)
+    cc (
+      class_offsets-are n ps (at + count),
+      length-replicate count b,
+      offsets-members at (replicate count b) (marked_array n ps),
+    )
 class_offsets-are n (Fill b ∷ ps) at =
-    class_offsets-are n ps _ ∙ ap (λ m. offsets (at + m) (marked_array n ps)) (sym (length-replicate n b))
-    ∙ sym (offsets-members at (replicate n b) _)
+    cc (class_offsets-are n ps (at + n), length-replicate n b, offsets-members at (replicate n b) (marked_array n ps))
 
 -- no class starts before an array
 none_before : (ms : List Member) (at k : ℕ) (class : CharClass) → k < at
@@ -283,7 +272,7 @@ none_before (m ∷ ms) at k class low = by_class m.class (none_before ms _ k cla
     by_class : (o : Option CharClass) → has_other_case_at (offsets (suc at) ms) k class ≡ false
         → has_other_case_at (offset_of at o ++ offsets (suc at) ms) k class ≡ false
     by_class None later = later
-    by_class (Some c) later = rw (ne_eqb at k (λ e. omega (arith, e))) later
+    by_class (Some c) later = grind arith
 
 stands_here : (ms : List Member) (at i k : ℕ) (class : CharClass) → at + i ≡ k
     → has_other_case_at (offsets at ms) k class ≡ classes_match (class_here ms i) (Some class)
@@ -331,8 +320,7 @@ paired_from from (t ∷ to) i = by_class t.class (paired_from from to _) ∙ sym
         → are_paired (offsets 0 from) (offsets (suc i) to) ≡ all_paired (drop (suc i) from) to
         → are_paired (offsets 0 from) (offset_of i o ++ offsets (suc i) to)
         ≡ (classes_match (class_here from i) o && all_paired (drop (suc i) from) to)
-    by_class None later =
-        later ∙ ap (λ t. t && all_paired (drop (suc i) from) to) (sym (matches_none (class_here from i)))
+    by_class None later = cc
     by_class (Some c) later = (λ j. stands_here from 0 i i c (omega arith) j && later j)
 
 -- the classes are paired as the definition states it

@@ -1,20 +1,19 @@
 -- Octal and decimal numbers, and the characters of a string at an index. The character at an index depends only on the
 -- bytes from there on, which gives the agreement with the grammar, character by character.
 use Rattle.ptlangs.proofs.Common.{◌≡◌, ◌≤◌, ◌<◌, ◌+◌, ◌-◌, ◌*◌, ℕ, zero, suc, Bool, true, false, cond, eqb, List, []}
-use Rattle.ptlangs.proofs.Common.{◌∷◌, length, take, drop, get_or, arith, refl, sym, ap, ◌∙◌, rules, nat_le, Option}
-use Rattle.ptlangs.proofs.Common.{Some, None, prefix_len, slice_get, digit_value, digits_value, drop_more, drop_all}
-use Rattle.ptlangs.proofs.Common.{drop-drop, length-prefix_len, is_octal_digit, octal, chars, after_backslash, SetChar}
-use Rattle.ptlangs.proofs.Common.{Plain, Escaped, Invalid, inl, inr, subst, ◌++◌, cases_Bool, cases_eq, ne_eqb, drop_at}
-use Rattle.ptlangs.proofs.Common.{length-append, ALargeOctal, ALoneBackslash, APlainByte, AChar, AnEscape, AnOctal}
-use Rattle.ptlangs.proofs.Common.{NoChar, SpellsChar, SpellsChars, cond-false, cond-true, lt-leb, value, Result, Ok}
-use Rattle.ptlangs.proofs.Common.{Err, SetFaultKind}
+use Rattle.ptlangs.proofs.Common.{◌∷◌, length, take, drop, get_or, arith, refl, sym, ap, ◌∙◌, rules, Option, Some, None}
+use Rattle.ptlangs.proofs.Common.{prefix_len, slice_get, digit_value, digits_value, drop_more, drop_all, drop-drop}
+use Rattle.ptlangs.proofs.Common.{length-prefix_len, octal, chars, after_backslash, SetChar, Plain, Escaped, Invalid}
+use Rattle.ptlangs.proofs.Common.{inl, inr, subst, ◌++◌, cases_Bool, cases_eq, ne_eqb, drop_at, length-append}
+use Rattle.ptlangs.proofs.Common.{ALargeOctal, ALoneBackslash, APlainByte, AChar, AnEscape, AnOctal, NoChar, SpellsChar}
+use Rattle.ptlangs.proofs.Common.{SpellsChars, cond-false, cond-true, value, Result, Ok, Err, SetFaultKind}
+use Rattle.std.proofs.Common.{nat_le, All}
+use Rattle.ptlangs.specs.TrChars.{is_octal_digit, octal_run, IsOctalRun, OneDigit, ThreeDigits, TwoDigits}
+use Rattle.ptlangs.specs.TrChars.{CharsMatchGrammar, byte_of, char_at, chars_after}
+use Rattle.std.proofs.lemmas.Bool.{lt-leb, le-leb}
 use Rattle.std.proofs.lemmas.List.{length-take, take-take, get_or-take}
-use Rattle.ptlangs.specs.TrChars.{octal_run, IsOctalRun, OneDigit, ThreeDigits, TwoDigits, CharsMatchGrammar, byte_of}
-use Rattle.ptlangs.specs.TrChars.{char_at, chars_after}
-use Rattle.std.proofs.lemmas.Bool.{le-leb}
 use Rattle.std.proofs.lemmas.List.Sums.{prefix_len-le-length, prefix_len_passes}
 use Rattle.ptlangs.specs.declared.faults.SetFaultKind.TheVariants.{Octal, Escape}
-use Rattle.std.proofs.Common.{All}
 use Rattle.std.proofs.lemmas.Int.Digits.{digits_value_more}
 use Rattle.std.proofs.lemmas.Str.Parse.{digits_value-take-le, digit_from_value}
 use Rattle.ptlangs.specs.TrParsing.{char_from}
@@ -79,8 +78,8 @@ pub octal_char : (bs : List ℕ) (c count : ℕ) (o : Option ℕ) → Some c ≡
     → count ≡ length (octal_run bs)
     → o ≡ cond (nat_le (digits_value 8 (take count bs)) 255) (Some (digits_value 8 (take count bs))) None
     → byte_of_octal o ≡ byte_of (after_backslash bs).0
-octal_char bs c count o e t n v = ap byte_of_octal (rw same at v) ∙ choose (nat_le (digits_value 8 (octal_run bs)) 255)
-    ∙ sym (ap (λ (p : SetChar × ℕ). byte_of p.0) (after_backslash-octal bs c e t))
+octal_char bs c count o e t n v =
+    cc (rw same at v, choose (nat_le (digits_value 8 (octal_run bs)) 255), after_backslash-octal bs c e t)
   where
     same : take count bs ≡ octal_run bs
     same = ap (λ m. take m bs) n ∙ take-octal_run bs
@@ -98,7 +97,7 @@ chars_after_is (b ∷ bs) zero = refl
 chars_after_is (b ∷ bs) (suc skip) = chars_after_is bs skip
 
 pub chars-cons : (b : ℕ) (bs : List ℕ) → chars (b ∷ bs) ≡ (char_at b bs).0 ∷ chars (drop (char_at b bs).1 bs)
-chars-cons b bs = ap (λ us. (char_at b bs).0 ∷ us) (chars_after_is bs (char_at b bs).1)
+chars-cons b bs = grind arith
 
 pub chars_plain : (bs : List ℕ) (i b : ℕ) → i < length bs → get_or bs i 0 ≡ b → (b ≡ 92 → ⊥)
     → chars (drop i bs) ≡ Plain b ∷ chars (drop (i + 1) bs)
@@ -152,8 +151,7 @@ char_is bs u rest ALoneBackslash = refl
 
 chars_are : (bs : List ℕ) (us : List SetChar) → SpellsChars bs us → chars bs ≡ us
 chars_are bs us NoChar = refl
-chars_are bs us (AChar ds rest u more s others) = char_is ds u rest s
-    ∙ ap (λ (vs : List SetChar). u ∷ vs) (chars_are rest more others)
+chars_are bs us (AChar ds rest u more s others) = cc (char_is ds u rest s, chars_are rest more others)
 
 -- ---- from the computed characters to the grammar
 

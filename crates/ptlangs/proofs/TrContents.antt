@@ -1,15 +1,16 @@
 -- The table of the bytes that an array contains, which grows byte by byte, and the table of images. The image of a byte
 -- is the byte of the second array, extended by its last byte, at the index that was pushed last for it.
-use Rattle.ptlangs.proofs.Common.{◌≡◌, ◌≢◌, inl, inr, ◌<◌, ◌≤◌, ◌+◌, ◌-◌, ℕ, zero, suc, Bool, true, false, cond, eqb}
-use Rattle.ptlangs.proofs.Common.{List, [], ◌∷◌, ◌++◌, length, take, map, replicate, arith, refl, sym, ap, ◌∙◌, Option}
-use Rattle.ptlangs.proofs.Common.{Some, None, flat_map, set, cases_eq, eq-eqb, ne_eqb, append_assoc, append-nil}
-use Rattle.ptlangs.proofs.Common.{length-replicate, get_or-replicate, length-append, not, ◌||◌, ◌&&◌, last_or}
+use Rattle.std.proofs.lemmas.Map.Views.{any-filter_same}
+use Rattle.ptlangs.proofs.Common.{eqb-true, ◌≡◌, ◌≢◌, inl, inr, ◌<◌, ◌≤◌, ◌+◌, ◌-◌, ℕ, zero, suc, Bool, true, false}
+use Rattle.ptlangs.proofs.Common.{cond, eqb, List, [], ◌∷◌, ◌++◌, length, take, map, replicate, arith, refl, sym, ap}
+use Rattle.ptlangs.proofs.Common.{◌∙◌, Option, Some, None, flat_map, set, cases_eq, eq-eqb, ne_eqb, append_assoc}
+use Rattle.ptlangs.proofs.Common.{append-nil, length-replicate, get_or-replicate, length-append, not, ◌&&◌, last_or}
 use Rattle.ptlangs.proofs.Common.{slice_get, option_and_then, unwrap_or, complement_of, image_by}
-use Rattle.std.proofs.Common.{◌⊎◌, min, ⊎_elim}
+use Rattle.std.proofs.Common.{◌⊎◌, min}
 use Rattle.std.specs.List.{range_with_len}
 use Rattle.std.specs.Option.{option_to_list}
 use Rattle.std.proofs.Math.ListN.{get_or}
-use Rattle.std.proofs.lemmas.Bool.{or_right, cases_lt}
+use Rattle.std.proofs.lemmas.Bool.{or_right}
 use Rattle.std.proofs.lemmas.List.Elements.{filter-append}
 use Rattle.std.specs.Prelude.{count_by, filter}
 use Rattle.ptlangs.specs.TrClasses.{all_bytes}
@@ -58,8 +59,7 @@ set-table {X} f g i v h e others =
     by_cases k under (inl same) =
         let room : i < length _ = omega (arith, length-table f) in
         rw (same, get_or-set_same _ i v v room) (sym e)
-    by_cases k under (inr other) =
-        rw (get_or-set_other _ i k v v other, get_or-table f k v under) (sym (others k other))
+    by_cases k under (inr other) = rw (get_or-set_other, get_or-table) (sym (others k other))
 
 -- ---- appending a byte
 
@@ -73,7 +73,7 @@ has_byte-copies b k (suc n) other = rw (ne_eqb b k (λ e. other (sym e))) (has_b
 
 has_byte-other : (b k : ℕ) (bytes : List ℕ) (n : ℕ) → k ≢ b → has_byte k (bytes ++ replicate n b) ≡ has_byte k bytes
 has_byte-other b k [] n other = has_byte-copies b k n other
-has_byte-other b k (x ∷ bytes) n other = ap (λ t. eqb x k || t) (has_byte-other b k bytes n other)
+has_byte-other b k (x ∷ bytes) n other = cc (has_byte-other b k bytes n other)
 
 pub contents-push : (old : Contents) (bytes : List ℕ) (b more : ℕ) → b < 256 → old ≡ contents_of bytes
     → record { has = set old.has b true; length = old.length + (1 + more) }
@@ -146,11 +146,7 @@ complement-around bytes b low h =
     )
 
 has_byte-filter : (p : ℕ → Bool) (b : ℕ) (xs : List ℕ) → has_byte b (filter p xs) ≡ (p b && has_byte b xs)
-has_byte-filter p b [] = grind arith
-has_byte-filter p b (x ∷ xs) = ⊎_elim
-    (λ same. grind (arith, ap p same, has_byte-filter p b xs))
-    (λ other. grind (arith, has_byte-filter p b xs))
-    (cases_eq x b)
+has_byte-filter p b xs = any-filter_same _ p (p b) (λ k e. ap p (eqb-true k b e)) xs
 
 has_byte-range : (n b : ℕ) → b < n → has_byte b (range_with_len 0 n) ≡ true
 has_byte-range zero b low = absurd (omega arith)
@@ -171,9 +167,7 @@ has_byte-all b low = has_byte-range 256 b low
 
 -- the complement contains the bytes that the array does not contain
 pub has_byte-complement : (bytes : List ℕ) (b : ℕ) → b < 256 → has_byte b (complement_of bytes) ≡ not (has_byte b bytes)
-has_byte-complement bytes b low =
-    has_byte-filter _ b all_bytes
-    ∙ ap (λ t. not (has_byte b bytes) && t) (has_byte-all b low) ∙ grind arith
+has_byte-complement bytes b low = grind (arith, has_byte-filter, has_byte-all)
 
 length-filter-map : (f : ℕ → Bool) (xs : List ℕ) → count_by not (map f xs) ≡ length (filter (λ b. not (f b)) xs)
 length-filter-map f [] = refl
@@ -245,8 +239,7 @@ padded_to-get n i (b ∷ bytes) h = by_last _ refl
         → slice_get (take n ((b ∷ bytes) ++ flat_map (λ (z : ℕ). replicate n z) (option_to_list o))) i
         ≡ slice_get (b ∷ bytes) (min i (length (b ∷ bytes) - 1))
     by_last None l = absurd (omega (arith, slice_get-none (b ∷ bytes) _ (sym l ∙ last_or-is None b bytes)))
-    by_last (Some z) l = slice_get-take n _ i h
-        ∙ beyond z l (cases_lt i _)
+    by_last (Some z) l = grind (arith, slice_get-take, beyond)
 
 last_position-same : (b : ℕ) (bytes : List ℕ) → last_position b (bytes ++ b ∷ []) ≡ Some (length bytes)
 last_position-same b [] = rw (eq-eqb b b refl) refl
@@ -255,7 +248,7 @@ last_position-same b (x ∷ bytes) = ap (λ o. next_index_or o (eqb x b)) (last_
 
 last_position-other : (b k : ℕ) (bytes : List ℕ) → k ≢ b → last_position k (bytes ++ b ∷ []) ≡ last_position k bytes
 last_position-other b k [] n = rw (ne_eqb b k (λ e. n (sym e))) refl
-last_position-other b k (x ∷ bytes) n = ap (λ o. next_index_or o (eqb x k)) (last_position-other b k bytes n)
+last_position-other b k (x ∷ bytes) n = cc (last_position-other b k bytes n)
 
 -- the last of the first `n + 1` bytes is the one with index `n`, or the last of all
 last_or-take : (o : Option ℕ) (b : ℕ) (bytes : List ℕ) (n : ℕ)

@@ -52,15 +52,12 @@ after_plain_cases Q c us none some = by_behind _ refl
   where
     by_behind : (o : Option (List SetChar)) → after_plain c us ≡ o → Q us o
     by_behind None e = none us
-    by_behind (Some rest) e = subst (λ (xs : List SetChar). Q xs (Some rest)) (sym (after_plain_is c us rest e))
-        (some rest)
+    by_behind (Some rest) e = grind arith
 
 after_two_cases : (Q : List SetChar → Option (List SetChar) → Type 0) (c d : ℕ) (us : List SetChar)
     → ((vs : List SetChar) → Q vs None) → ((rest : List SetChar) → Q (Plain c ∷ Plain d ∷ rest) (Some rest))
     → Q us (after_two c d us)
-after_two_cases Q c d us none some =
-    after_plain_cases (λ xs o. Q xs (option_and_then (after_plain d) o)) c us none
-    (λ rest. after_plain_cases (λ xs o. Q (Plain c ∷ xs) o) d rest (λ vs. none _) some)
+after_two_cases Q c d us none some = grind arith
 
 -- the characters start with the bracketed form that is found
 abbrev StartsFound : List SetChar → Option (SetElement × List SetChar) → Type 0
@@ -240,19 +237,19 @@ pub first_set_element-StartsElement : (us : List SetChar) (p : SetElement) (rest
 first_set_element-StartsElement us p rest (InBrackets xs q more f) =
     first_set_element-found xs q more (bracketed_at-StartsBracketed xs q more f)
 first_set_element-StartsElement us p rest (ARange u v a b more n m w h) =
-    rw (
-      bracketed_at-unless _ n,
+    cc (
+      bracketed_at-unless (u ∷ Plain 45 ∷ v ∷ more) n,
       byte_of-DenotesByte u a m,
       byte_of-DenotesByte v b w,
       le-ltb b a h,
-    ) refl
+    )
 first_set_element-StartsElement us p rest (Alone u a more n d m) =
     rw (bracketed_at-unless _ n, byte_of-DenotesByte u a m) (by_dash _ refl)
   where
     by_dash : (o : Option (List SetChar)) → after_plain 45 more ≡ o → single_or_range a more o ≡ Ok (Single a, more)
     by_dash None e = refl
     by_dash (Some []) e = refl
-    by_dash (Some (v ∷ xs)) e = absurd (d (v, xs, after_plain_is 45 more _ e))
+    by_dash (Some (v ∷ xs)) e = grind arith
 
 -- ---- all elements
 
@@ -282,7 +279,7 @@ StartsElement-front us p rest (ARange u v a b more n m w h) = (u ∷ Plain 45 �
 StartsElement-front us p rest (Alone u a more n d m) = (u ∷ [], refl, omega arith)
 
 pub elements_after_is : (us : List SetChar) (skip : ℕ) → elements_after us skip ≡ set_elements (drop skip us)
-elements_after_is [] skip = ap set_elements (sym (drop_all skip [] (omega arith)))
+elements_after_is [] skip = grind (arith, drop_all)
 elements_after_is (u ∷ us) zero = refl
 elements_after_is (u ∷ us) (suc skip) = elements_after_is us skip
 
@@ -326,8 +323,10 @@ pub set_elements-AreElements : (us : List SetChar) (ps : List SetElement) → Ar
     → set_elements us ≡ map Ok ps
 set_elements-AreElements us [] e = ap set_elements e
 set_elements-AreElements us (p ∷ ps) (rest, begins, more) =
-    set_elements-first us p rest (first_set_element-StartsElement us p rest begins)
-    ∙ ap (λ xs. Ok p ∷ xs) (set_elements-AreElements rest ps more)
+    cc (
+      set_elements-first us p rest (first_set_element-StartsElement us p rest begins),
+      set_elements-AreElements rest ps more,
+    )
 
 pub AreElements-set_elements : (ps : List SetElement) (us : List SetChar) → set_elements us ≡ map Ok ps
     → AreElements us ps
@@ -413,11 +412,11 @@ module _ (role : SetRole) where
   fault_is has_fill us k (NoSegment f vs rest p j b e) =
       rw (set_elements-first vs p rest (first_set_element-StartsElement vs p rest b), e) refl
   fault_is has_fill us k (LaterFault f vs rest p x j b e later) =
-      rw (
+      cc (
         set_elements-first vs p rest (first_set_element-StartsElement vs p rest b),
         e,
-        fault_is _ rest j later,
-      ) refl
+        fault_is (f || is_fill (Ok x)) rest j later,
+      )
 
   is_fault : (xs : List (Result SetElement SetFaultKind)) (has_fill : Bool) (us : List SetChar) (k : SetFaultKind)
       → set_elements us ≡ xs → sequence (segments role has_fill xs) ≡ Err k → FirstFault role has_fill us k

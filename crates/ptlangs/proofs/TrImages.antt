@@ -12,7 +12,7 @@ use Rattle.ptlangs.specs.declared.tr.segments.Member.{Member}
 use Rattle.ptlangs.specs.TrParsing.{HasPaired, all_paired, bytes_left, member_bytes, classes_match, first_members}
 use Rattle.ptlangs.specs.TrParsing.{plain_members}
 use Rattle.std.specs.Result.{IsErrAnd}
-use Rattle.ptlangs.proofs.TrByteWalk.{member_bytes-array, member_bytes-plain, on_fault}
+use Rattle.ptlangs.proofs.TrByteWalk.{member_bytes-array, member_bytes-plain}
 use Rattle.ptlangs.proofs.TrContents.{images-push}
 
 -- the results are the bytes of the second array from an index on
@@ -205,8 +205,7 @@ answer_of paired images = cond paired (Ok images) (Err ClassPlace)
 
 pub unpaired_answer : (paired : Bool) (images : List ℕ) (r : Result (List ℕ) SetFaultKind) (k : SetFaultKind)
     → IsErrAnd r (λ e. e ≡ k) → k ≡ ClassPlace → paired ≡ false → r ≡ answer_of paired images
-unpaired_answer paired images r k is kind wrong =
-    on_fault (λ q. q ≡ answer_of paired images) r k is (rw (kind, wrong) refl)
+unpaired_answer paired images r k is kind wrong = grind arith
 
 pub answer_ok : (paired : Bool) (images table : List ℕ) → Ok table ≡ answer_of paired images
     → (paired ≡ true) × (table ≡ images)

@@ -1,9 +1,9 @@
 -- Plain bytes in the characters of a string: a byte other than a backslash is a character by itself, so the code may
 -- look at the bytes where the definition looks at characters.
 use Rattle.ptlangs.proofs.Common.{◌≡◌, ◌≢◌, ◌≤◌, ◌<◌, ◌+◌, ◌-◌, inl, inr, ℕ, suc, Bool, true, false, List, [], ◌∷◌}
-use Rattle.ptlangs.proofs.Common.{length, take, drop, get_or, arith, refl, sym, ap, ◌∙◌, Some, None, nat_le, prefix_len}
-use Rattle.ptlangs.proofs.Common.{list_all, cases_eq, eq-eqb, ne_eqb, drop_all, drop-drop, take_rest, length-prefix_len}
-use Rattle.ptlangs.proofs.Common.{AllPass-from_list_all, SetChar, Plain, Escaped, Invalid, is_octal_digit, octal, chars}
+use Rattle.ptlangs.proofs.Common.{length, take, drop, get_or, arith, refl, sym, Some, None, prefix_len, list_all}
+use Rattle.ptlangs.proofs.Common.{cases_eq, eq-eqb, ne_eqb, drop_all, drop-drop, take_rest, length-prefix_len}
+use Rattle.ptlangs.proofs.Common.{AllPass-from_list_all, SetChar, Plain, Escaped, Invalid, octal, chars}
 use Rattle.ptlangs.proofs.Common.{after_backslash, after_plain, plain_run, after_run}
 use Rattle.std.proofs.lemmas.Bool.{and_from, cond_both}
 use Rattle.std.specs.List.{slice_range, take_while, AllPass}
@@ -17,13 +17,11 @@ IsEscape (Escaped b) = Unit {0}
 IsEscape (Invalid k) = Unit {0}
 
 pub IsEscape-octal : (value : ℕ) → IsEscape (octal value)
-IsEscape-octal value = cond_both (nat_le value 255) _ _ IsEscape _ _
+IsEscape-octal value = grind arith
 
 pub IsEscape-after_backslash : (bs : List ℕ) → IsEscape (after_backslash bs).0
 IsEscape-after_backslash [] = tt
-IsEscape-after_backslash (b ∷ bs) =
-    cond_both (is_octal_digit b) _ _ (λ (u : SetChar × ℕ). IsEscape u.0)
-    (λ e. IsEscape-octal _) _
+IsEscape-after_backslash (b ∷ bs) = grind arith
 
 pub after_plain-escape : (c : ℕ) (u : SetChar) (us : List SetChar) → IsEscape u → after_plain c (u ∷ us) ≡ None
 after_plain-escape c (Plain b) us e = absurd e
@@ -84,8 +82,7 @@ IsRunLength test bs i count = count ≡ length (take_while test (take (length bs
 
 pub prefix_len-from_run : (test : ℕ → Bool) (bs : List ℕ) (i count : ℕ) → IsRunLength test bs i count
     → count ≡ prefix_len test (drop i bs)
-prefix_len-from_run test bs i count e = e ∙ ap (λ xs. length (take_while test xs)) (take_rest bs i)
-    ∙ length-prefix_len test _
+prefix_len-from_run test bs i count e = simp (e, take_rest, length-prefix_len)
 
 -- the bytes from `i` to the end of the run
 pub run_range : (test : ℕ → Bool) → test 92 ≡ false → (bs : List ℕ) (i count : ℕ) → IsRunLength test bs i count

@@ -12,7 +12,6 @@ use Rattle.ptlangs.proofs.Common.{Squeeze, Translate, TranslateSqueeze, SetChar,
 use Rattle.ptlangs.specs.TrPlan.{image_of, is_deleted, is_squeezed, NoMemoryFault, Plan, fill_count, plan_from}
 use Rattle.ptlangs.specs.TrPlan.{plan_with, repeat_segment, second_role, takes_second}
 use Rattle.ptlangs.specs.declared.faults.SetFaultKind.TheVariants.{Memory}
-use Rattle.std.proofs.lemmas.Bool.{cond_both}
 use Rattle.ptlangs.specs.TrClasses.{all_bytes}
 use Rattle.ptlangs.specs.declared.tr.contents.Contents.{Contents}
 use Rattle.ptlangs.specs.declared.faults.SetString.TheVariants as string
@@ -23,12 +22,6 @@ use Rattle.ptlangs.specs.TrParsing.{all_paired, contents_of, first_members, mark
 use Rattle.ptlangs.specs.TrTables.{Tables}
 use Rattle.ptlangs.proofs.TrByteWalk.{paired-arrays, paired-plain}
 use Rattle.ptlangs.proofs.TrCharGrammar.{chars_are_spelled}
-
--- ---- two facts about a result
-
--- a result has one value
-pub same_answer : {A E : Type 0} (r : Result A E) (x y : A) → r ≡ Ok x → r ≡ Ok y → x ≡ y
-same_answer r x y e f = cc
 
 -- ---- strings without a fault
 
@@ -41,8 +34,7 @@ mapped_ok (Err k) f y e = absurd (cc)
 pub mapped_at : (r : Result (List Segment) SetFaultKind) (f : List Segment → Contents) (y : Contents)
     (ps : List Segment)
     → Ok y ≡ result_map_both f (λ (k : SetFaultKind). k) r → r ≡ Ok ps → y ≡ f ps
-mapped_at (Ok qs) f y ps e h = cc
-mapped_at (Err k) f y ps e h = absurd (cc)
+mapped_at r f y ps e h = let same = rw h at e in cc
 
 -- the segments of a second string, and the plan that they give if a fill has `fill` bytes
 pub record SecondRead (form : Form) (complement : Bool) (firsts : List Segment) (text : List ℕ) (role : SetRole)
@@ -118,9 +110,7 @@ pub planned : (form like : Form) (complement : Bool) (firsts : List Segment) (te
     → has_valid_classes form complement (class_offsets 0 0 firsts) (class_offsets fill 0 r.ps) ≡ true
     → t ≡ tables (plan_of like (first_array complement firsts) (array fill r.ps))
     → Ok t ≡ ok_map tables (second_plan form complement firsts text)
-planned form like complement firsts text role fill r t same valid is =
-    rw (r.plan true valid) (ap Ok (is ∙ ap (λ (f : Form). tables (plan_of f (first_array complement firsts)
-    (array fill r.ps))) (sym same)))
+planned form like complement firsts text role fill r t same valid is = cc (r.plan true valid)
 
 -- ---- the form in the last arm of a match
 
@@ -211,8 +201,7 @@ fault_not_memory (Err j) k speaks e = λ memory. speaks (cc)
 first_not_memory : (role : SetRole) (has_fill : Bool) (us : List SetChar) (k : SetFaultKind)
     → FirstFault role has_fill us k → AreNotMemory us → k ≢ Memory
 first_not_memory role has_fill us k (NoElement f vs j b) fine = element_fault vs j b fine
-first_not_memory role has_fill us k (NoSegment f vs rest p j b e) fine =
-    fault_not_memory _ j (segment_not_memory role f p) e
+first_not_memory role has_fill us k (NoSegment f vs rest p j b e) fine = grind arith
 first_not_memory role has_fill us k (LaterFault f vs rest p x j b e later) fine =
     first_not_memory role _ rest j later (element_not_memory vs p rest b fine)
 
@@ -221,7 +210,7 @@ first_not_memory role has_fill us k (LaterFault f vs rest p x j b e later) fine 
 string_not_memory : (role : SetRole) (text : List ℕ) (r : Result (List Segment) SetFaultKind)
     → string_segments role text ≡ r → FaultIsNotMemory r
 string_not_memory role text (Ok ps) e = tt
-string_not_memory role [] (Err k) e = fault_not_memory _ k (λ memory. cc) e
+string_not_memory role [] (Err k) e = grind arith
 string_not_memory role (b ∷ text) (Err k) e =
     let us = chars (b ∷ text) in
     let (_, first) = faults_are_first role b text k in
@@ -232,8 +221,7 @@ second_not_memory : (form : Form) (complement : Bool) (firsts : List Segment) (r
     → FaultIsNotMemory r
     → FaultIsNotMemory
     (and_then r (λ seconds. plan_with form complement firsts (first_array complement firsts) seconds))
-second_not_memory form complement firsts (Ok seconds) speaks =
-    cond_both (has_valid_classes form complement _ _) _ _ (FaultIsNotMemory {A = Plan}) _ (λ t e. cc)
+second_not_memory form complement firsts (Ok seconds) speaks = grind arith
 second_not_memory form complement firsts (Err k) speaks = speaks
 
 of_string : {A : Type 0} (string : SetString) (r : Result A SetFaultKind) (fault : SetFault) → FaultIsNotMemory r

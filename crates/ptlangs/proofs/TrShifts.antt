@@ -89,8 +89,7 @@ module _ (b by : ℕ) where
   -- prepending does not make the list shorter
   front_longer : (ss : List Stretch) → length ss ≤ length (prepend_shift b by ss)
   front_longer [] = omega arith
-  front_longer (s ∷ ss) = cond_both (goes_on s) _ _ (λ (all : List Stretch). length (s ∷ ss) ≤ length all)
-      (λ is. omega arith) (λ is. omega arith)
+  front_longer (s ∷ ss) = grind (arith, nat_tests)
 
 -- ---- the stretches of images
 

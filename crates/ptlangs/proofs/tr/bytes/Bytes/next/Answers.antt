@@ -5,7 +5,8 @@ use Rattle.ptlangs.proofs.Common.{is_fill, Segment, SetFaultKind}
 use Rattle.ptlangs.specs.declared.tr.segments.Member.{Member}
 use Rattle.ptlangs.specs.TrParsing.{NextItemPost, member_results, most_left}
 use Rattle.ptlangs.proofs.TrElementGrammar.{segments-element, segments-fault}
-use Rattle.ptlangs.proofs.TrByteWalk.{drop-found, fill_step, le_trans, length-marked, on_fault, segment-passed}
+use Rattle.std.proofs.Math.Nat.{le_trans}
+use Rattle.ptlangs.proofs.TrByteWalk.{drop-found, fill_step, length-marked, on_fault, segment-passed}
 use Rattle.ptlangs.proofs.tr.bytes.Bytes.next.Goals as goal
 use Rattle.ptlangs.proofs.tr.bytes.Bytes.next.Goals.{then-self-2, else-self-2}
 use Rattle.ptlangs.specs.declared.tr.bytes.Bytes.{Bytes}
@@ -84,5 +85,5 @@ loop-member-preserved c =
     record {
       left = ap (λ t. member_results s.fill (Ok x ∷ segments s.role t rest)) filled
           ∙ sym (passed ∙ ap (member_results s.fill) first) ∙ c.loop-member.invariant.left;
-      most = le_trans _ _ _ most c.loop-member.invariant.most;
+      most = le_trans most c.loop-member.invariant.most;
     }

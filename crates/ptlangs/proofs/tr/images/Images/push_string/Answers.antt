@@ -1,9 +1,8 @@
 -- The bytes of the string are paired in order; as the string has no fault, these are all of its array.
 use Rattle.ptlangs.proofs.Common.{◌∙◌, ap, refl, First, segments_of, sequence}
-use Rattle.ptlangs.specs.TrParsing.{PairPost, all_paired, member_results}
+use Rattle.ptlangs.specs.TrParsing.{marked_array, PairPost, all_paired, member_results}
 use Rattle.ptlangs.proofs.TrByteWalk.{items_at, items_end, items_fault, items_more, on_fault, string-ok}
 use Rattle.ptlangs.proofs.TrImages.{never_fault, paired_same, sequence-ok}
-use Rattle.ptlangs.proofs.TrPlans.{same_answer}
 use Rattle.ptlangs.proofs.tr.images.Images.push_string.Goals as goal
 
 pub returns-in_err-member : goal.returns-in_err-member
@@ -34,7 +33,5 @@ pub returns : goal.returns
 returns c = λ ps to e h.
     let read = c.loop-member.invariant in
     let (end, _) = rw c.in_default.is at c.in_ok-member.ensures.steps in
-    let whole = ap sequence (string-ok First c.args.text.now 0 ps e) ∙ sequence-ok _ in
-    paired_same _ read.done to _ _
-    (same_answer _ _ _ whole (items_end read end))
-    refl (read.holds to h)
+    let whole = ap sequence (string-ok First c.args.text.now 0 ps e) ∙ sequence-ok (marked_array 0 ps) in
+    paired_same _ read.done to _ _ (cc (whole, items_end read end)) refl (read.holds to h)
