@@ -188,22 +188,22 @@ unbroken bs r (From n h) =
 spelled_one : (bs : List ℕ) (r : Interval)
     → cond (is_number bs) (Some (record { first = value bs; last = value bs })) None ≡ Some r → SpellsInterval bs r
 spelled_one bs r e =
-    let (number, is) = some_since _ _ r e in
+    let (number, is) = some_since _ r e in
     subst (SpellsInterval bs) is (One bs number)
 
 spelled_ends : (n m : List ℕ) (r : Interval) → interval_of_bounds n m ≡ Some r → SpellsInterval (n ++ 45 ∷ m) r
 spelled_ends [] [] r e = cc
 spelled_ends [] (c ∷ m) r e =
-    let (bounds, is) = some_since _ _ r e in
+    let (bounds, is) = some_since _ r e in
     subst (SpellsInterval _) is
     (UpTo _ (let (digits, _) = and_parts _ true bounds in digits))
 spelled_ends (b ∷ n) [] r e =
-    let (bounds, is) = some_since _ _ r e in
+    let (bounds, is) = some_since _ r e in
     let (number, _) = and_parts _ true bounds in
     let (digits, _) = and_parts _ true number in
     subst (SpellsInterval _) is (From (b ∷ n) digits)
 spelled_ends (b ∷ n) (c ∷ m) r e =
-    let (bounds, is) = some_since _ _ r e in
+    let (bounds, is) = some_since _ r e in
     let (both, _) = and_parts _ true bounds in
     let (first, last) = and_parts _ _ both in
     subst (SpellsInterval _) is (FromTo (b ∷ n) _ first last)
@@ -282,9 +282,10 @@ or_first : (p q m x : Bool) → (p || q) ≡ m → (p || (q || x)) ≡ (m || x)
 or_first true q m x e = ap (λ v. v || x) e
 or_first false q m x e = ap (λ v. v || x) e
 
-pub absorbs : (sorted kept : List Interval) (r s t : Interval) (rest : List Interval) → t.first ≡ r.first
+pub absorbs : {sorted : List Interval} (kept : List Interval) (r s t : Interval) (rest : List Interval)
+    → t.first ≡ r.first
     → t.last ≡ max r.last s.last → s.first - 1 ≤ r.last → Merges sorted kept r (s ∷ rest) → Merges sorted kept t rest
-absorbs sorted kept r s t rest e e' touch m =
+absorbs kept r s t rest e e' touch m =
     let (above, ascending, others) = m.ordered in
     let step : (n : ℕ) → is_selected (t ∷ rest) n ≡ is_selected (r ∷ s ∷ rest) n = λ n. sym
     (or_first _ _ (holds n t) _
@@ -297,9 +298,10 @@ absorbs sorted kept r s t rest e e' touch m =
           ∙ sym (list_any-append _ kept _) ∙ m.same n;
     }
 
-pub starts_next : (sorted kept : List Interval) (r s : Interval) (rest : List Interval) → r.last < s.first - 1
+pub starts_next : {sorted : List Interval} (kept : List Interval) (r s : Interval) {rest : List Interval}
+    → r.last < s.first - 1
     → Merges sorted kept r (s ∷ rest) → Merges sorted (kept ++ r ∷ []) s rest
-starts_next sorted kept r s rest gap m =
+starts_next kept r s gap m =
     let (above, ascending, others) = m.ordered in
     record {
       positive = omega (arith, above);

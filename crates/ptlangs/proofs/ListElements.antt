@@ -19,9 +19,9 @@ none_since : (b : Bool) (i : ℕ) → cond b (Some i) None ≡ None → b ≡ fa
 none_since true i h = cc
 none_since false i h = refl
 
-pub some_since : {X : Type 0} (b : Bool) (x y : X) → cond b (Some x) None ≡ Some y → (b ≡ true) × (x ≡ y)
-some_since true x y h = (refl, cc)
-some_since false x y h = cc
+pub some_since : {X : Type 0} (b : Bool) {x : X} (y : X) → cond b (Some x) None ≡ Some y → (b ≡ true) × (x ≡ y)
+some_since true y h = (refl, cc)
+some_since false y h = cc
 
 pub split_whole : {X : Type 0} (p : X → Bool) (xs : List X) → position p xs ≡ None → slice_split p xs ≡ xs ∷ []
 split_whole p xs h =
@@ -34,7 +34,7 @@ pub split_around : {X : Type 0} (p : X → Bool) (xs : List X) (i : ℕ) → pos
     → slice_split p xs ≡ take i xs ∷ slice_split p (take (length xs - (i + 1)) (drop (i + 1) xs))
 split_around p [] i h = cc
 split_around p (x ∷ xs) i h =
-    let (below, at) = some_since _ _
+    let (below, at) = some_since _
     i h in
     let first = slice_split_first p (x ∷ xs) x (ltb-true _ _ below) in
     let rest =
@@ -64,11 +64,11 @@ cons_ok-append_ok x xs (Ok ys) = refl
 cons_ok-append_ok x xs (Err e) = refl
 
 -- one more element is read
-pub each_more : {A B E : Type 0} (read : A → Result B E) (x : A) (y : B) (all rest : List A) (xs : List B)
-    (r : Result (List B) E)
+pub each_more : {A B E : Type 0} (read : A → Result B E) (x : A) (y : B) {all rest : List A} (xs : List B)
+    {r : Result (List B) E}
     → r ≡ append_ok xs (traverse read all) → all ≡ x ∷ rest → read x ≡ Ok y
     → r ≡ append_ok (xs ++ y ∷ []) (traverse read rest)
-each_more read x y all rest xs r e at ok = grind (arith, e, ok, append_ok-cons_ok)
+each_more read x y xs e at ok = grind (arith, e, ok, append_ok-cons_ok)
 
 -- ---- the elements that are accepted are those of the grammar
 

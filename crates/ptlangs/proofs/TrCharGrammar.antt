@@ -134,18 +134,18 @@ run_is digits rest (TwoDigits a b [] ha hb n) = rw (ha, hb) refl
 run_is digits rest (TwoDigits a b (c ∷ more) ha hb n) = rw (ha, hb, n) refl
 run_is digits rest (ThreeDigits a b c more ha hb hc) = rw (ha, hb, hc) refl
 
-escape_is : (digits rest : List ℕ) (u : SetChar) → IsOctalRun digits rest → octal (digits_value 8 digits) ≡ u
+escape_is : (digits rest : List ℕ) {u : SetChar} → IsOctalRun digits rest → octal (digits_value 8 digits) ≡ u
     → chars (92 ∷ digits ++ rest) ≡ u ∷ chars rest
-escape_is digits rest u run is =
+escape_is digits rest run is =
     rw (chars-cons 92 _, run_is digits rest run, is, drop_at digits rest _ refl) refl
 
 char_is : (bs : List ℕ) (u : SetChar) (rest : List ℕ) → SpellsChar bs u rest → chars bs ≡ u ∷ chars rest
 char_is bs u rest (APlainByte b more n) = rw (chars-cons b more, ne_eqb b 92 n) refl
 char_is bs u rest (AnOctal digits more run small) =
-    escape_is digits more _ run
+    escape_is digits more run
     (cond-true _ _ _ (le-leb _ 255 small))
 char_is bs u rest (ALargeOctal digits more run large) =
-    escape_is digits more _ run (cond-false _ _ _ (lt-leb _ 255 large))
+    escape_is digits more run (cond-false _ _ _ (lt-leb _ 255 large))
 char_is bs u rest (AnEscape b more n) = rw (chars-cons 92 _, n) refl
 char_is bs u rest ALoneBackslash = refl
 

@@ -111,9 +111,9 @@ others_below-more bytes n t e =
     ∙ filter-append _ (range_with_len 0 n) _
     ∙ ap (λ xs. others_below bytes n ++ xs) (grind arith)
 
-pub others_below-all : (bytes : List ℕ) (n : ℕ) → n ≡ 256 → others_below bytes n ≡ complement_of bytes
+pub others_below-all : (bytes : List ℕ) {n : ℕ} → n ≡ 256 → others_below bytes n ≡ complement_of bytes
 unfolding all_bytes
-others_below-all bytes n e = ap (others_below bytes) e
+others_below-all bytes e = ap (others_below bytes) e
 
 pub get_or-has : (contents : Contents) (bytes : List ℕ) (b : ℕ) (d : Bool) → b < 256 → contents ≡ contents_of bytes
     → get_or contents.has b d ≡ has_byte b bytes
@@ -140,7 +140,7 @@ complement-around bytes b low h =
     let (rest, is) = others-split bytes _ _ in
     let whole : b + 1 + (255 - b) ≡ 256 = omega arith in (
       rest,
-      sym (others_below-all bytes _ whole) ∙ is
+      sym (others_below-all bytes whole) ∙ is
           ∙ ap (λ xs. xs ++ rest) (others_below-more bytes b false h)
           ∙ append_assoc _ _ rest,
     )

@@ -218,9 +218,9 @@ char_starts (Plain b) us n = byte_starts _ b us n (ByItself b)
 char_starts (Escaped b) us n = byte_starts _ b us n (ByEscape b)
 char_starts (Invalid k) us n = AnInvalidChar k us
 
-starts_as : (u : SetChar) (us : List SetChar) (r : Result (SetElement × List SetChar) SetFaultKind)
+starts_as : (u : SetChar) (us : List SetChar) {r : Result (SetElement × List SetChar) SetFaultKind}
     → first_set_element (u ∷ us) ≡ r → StartsAs (u ∷ us) r
-starts_as u us r e = subst (StartsAs _) e (by_form _ refl)
+starts_as u us e = subst (StartsAs _) e (by_form _ refl)
   where
     by_form : (o : Option (SetElement × List SetChar)) → bracketed_at (u ∷ us) ≡ o → StartsAs (u ∷ us) (or_char o u us)
     by_form None f = char_starts u us (bracketed_at-none _ f)
@@ -296,7 +296,7 @@ pub set_elements-first : (us : List SetChar) (p : SetElement) (rest : List SetCh
     → first_set_element us ≡ Ok (p, rest) → set_elements us ≡ Ok p ∷ set_elements rest
 set_elements-first [] p rest e = absurd (cc)
 set_elements-first (u ∷ us) p rest e =
-    let (front, all, some) = StartsElement-front _ p rest (starts_as u us _ e) in
+    let (front, all, some) = StartsElement-front _ p rest (starts_as u us e) in
     rw (e, elements_after_is us _, drop_prefix u us rest front all some) refl
 
 pub set_elements-fault : (us : List SetChar) (k : SetFaultKind) → 0 < length us → first_set_element us ≡ Err k
@@ -315,8 +315,8 @@ by_first : {P : Type 0} (u : SetChar) (us : List SetChar)
     → set_elements (u ∷ us) ≡ Ok p ∷ set_elements rest → P)
     → ((k : SetFaultKind) → StartsInvalid (u ∷ us) k → set_elements (u ∷ us) ≡ Err k ∷ [] → P) → P
 by_first u us element fault = by_result _
-    (λ (p, rest) e. element p rest (starts_as u us _ e) (set_elements-first (u ∷ us) p rest e))
-    (λ k e. fault k (starts_as u us _ e) (set_elements-fault (u ∷ us) k (omega arith) e))
+    (λ (p, rest) e. element p rest (starts_as u us e) (set_elements-first (u ∷ us) p rest e))
+    (λ k e. fault k (starts_as u us e) (set_elements-fault (u ∷ us) k (omega arith) e))
 
 -- the computed elements are those of the grammar
 pub set_elements-AreElements : (us : List SetChar) (ps : List SetElement) → AreElements us ps
@@ -349,11 +349,12 @@ pub class_with_name-named : (name : List ℕ) (us : List SetChar) → 0 < length
 class_with_name-named [] us h = absurd (omega arith)
 class_with_name-named (c ∷ name) us h = refl
 
-pub class_at-found : (us inside after rest : List SetChar) (name : List ℕ) (found : Option CharClass)
+pub class_at-found : (us : List SetChar) {inside : List SetChar} (after : List SetChar) {rest : List SetChar}
+    (name : List ℕ) (found : Option CharClass)
     → Some inside ≡ after_plain 58 us → name ≡ plain_run is_ascii_lowercase inside
     → after ≡ after_run is_ascii_lowercase inside → 0 < length name → Some rest ≡ after_two 58 93 after
     → found ≡ class_named name → Some (Class found, rest) ≡ class_at us
-class_at-found us inside after rest name found e n a h r f =
+class_at-found us after name found e n a h r f =
     let named = class_with_name-named name after h in
     rw (← e, ← a, ← n, named, ← r, f) refl
 
@@ -361,21 +362,21 @@ pub chars-some : (bs : List ℕ) (i : ℕ) → i < length bs → 0 < length (cha
 chars-some bs i h = rw (drop_more bs i 0 h) (omega arith)
 
 pub first_set_element-range : (us next more : List SetChar) (u : SetChar) (a : ℕ)
-    (r : Result (SetElement × List SetChar) SetFaultKind)
+    {r : Result (SetElement × List SetChar) SetFaultKind}
     → us ≡ u ∷ next → None ≡ bracketed_at us → Ok a ≡ byte_of u → Some more ≡ after_plain 45 next → 0 < length more
     → r ≡ single_or_range a [] (Some more) → r ≡ first_set_element us
-first_set_element-range us next [] u a r e f b d h g = absurd (omega arith)
-first_set_element-range us next (v ∷ more) u a r e f b d h g =
+first_set_element-range us next [] u a e f b d h g = absurd (omega arith)
+first_set_element-range us next (v ∷ more) u a e f b d h g =
     let none = rw e at f in
     rw (e, ← none, ← b, ← d) g
 
 -- ---- the segments of the elements, one after another
 
 pub segments-element : (role : SetRole) (has_fill : Bool) (us rest : List SetChar) (p : SetElement)
-    (x : Result Segment SetFaultKind)
+    {x : Result Segment SetFaultKind}
     → Ok (p, rest) ≡ first_set_element us → x ≡ segment role has_fill p
     → segments role has_fill (set_elements us) ≡ x ∷ segments role (has_fill || is_fill x) (set_elements rest)
-segments-element role has_fill us rest p x e h = rw (set_elements-first us p rest (sym e), h) refl
+segments-element role has_fill us rest p e h = rw (set_elements-first us p rest (sym e), h) refl
 
 pub segments-fault : (role : SetRole) (has_fill : Bool) (bs : List ℕ) (i end : ℕ) (k : SetFaultKind) → i < length bs
     → length bs ≤ end → Err k ≡ first_set_element (chars (drop i bs))
@@ -404,18 +405,18 @@ rest_fails x (Ok xs) k e = cc
 rest_fails x (Err j) k e = e
 
 module _ (role : SetRole) where
-  fault_is : (has_fill : Bool) (us : List SetChar) (k : SetFaultKind) → FirstFault role has_fill us k
+  fault_is : (has_fill : Bool) (us : List SetChar) {k : SetFaultKind} → FirstFault role has_fill us k
       → sequence (segments role has_fill (set_elements us)) ≡ Err k
-  fault_is has_fill us k (NoElement f vs j b) =
+  fault_is has_fill us (NoElement f vs j b) =
       let (fault, some) = first_set_element-faulty vs j b in
       rw (set_elements-fault vs j some fault) refl
-  fault_is has_fill us k (NoSegment f vs rest p j b e) =
+  fault_is has_fill us (NoSegment f vs rest p j b e) =
       rw (set_elements-first vs p rest (first_set_element-StartsElement vs p rest b), e) refl
-  fault_is has_fill us k (LaterFault f vs rest p x j b e later) =
+  fault_is has_fill us (LaterFault f vs rest p x j b e later) =
       cc (
         set_elements-first vs p rest (first_set_element-StartsElement vs p rest b),
         e,
-        fault_is (f || is_fill (Ok x)) rest j later,
+        fault_is (f || is_fill (Ok x)) rest later,
       )
 
   is_fault : (xs : List (Result SetElement SetFaultKind)) (has_fill : Bool) (us : List SetChar) (k : SetFaultKind)
@@ -443,6 +444,6 @@ module _ (role : SetRole) where
 
 pub faults_are_first : FirstFaultIsReported
 faults_are_first role b text k = (
-  fault_is role false _ k,
+  fault_is role false (chars (b ∷ text)),
   is_fault role _ false _ k refl,
 )

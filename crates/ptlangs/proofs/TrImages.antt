@@ -24,9 +24,9 @@ sequence-ok [] = refl
 sequence-ok (m ∷ ms) = rw (sequence-ok ms) refl
 
 -- the second array has no fault
-pub never_fault : {X : Type 0} (ms : List Member) (rs : List (Result Member SetFaultKind)) (k : SetFaultKind)
+pub never_fault : {X : Type 0} (ms : List Member) (rs : List (Result Member SetFaultKind)) {k : SetFaultKind}
     → rs ≡ AllOk ms → sequence rs ≡ Err k → X
-never_fault ms rs k is e = let whole = ap sequence is ∙ sequence-ok ms in
+never_fault ms rs is e = let whole = ap sequence is ∙ sequence-ok ms in
     absurd (cc)
 
 -- one byte of the second array is taken
@@ -134,8 +134,9 @@ pub written : (before to : List Member) (m : Images) (i u byte : ℕ) (table : L
     → HasPaired before to (record { table = set m.table i u; second = m.second; last = m.last })
 written before to m i u byte table second last e f g h = rw (g, f, e) h
 
-pub paired_same : (ms ns to : List Member) (s t : Images) → ms ≡ ns → s ≡ t → HasPaired ns to t → HasPaired ms to s
-paired_same ms ns to s t e f h = rw (e, f) h
+pub paired_same : {ms : List Member} (ns to : List Member) {s t : Images} → ms ≡ ns → s ≡ t → HasPaired ns to t
+    → HasPaired ms to s
+paired_same ns to e f h = rw (e, f) h
 
 -- ---- after the end of the first array
 
@@ -207,10 +208,10 @@ pub unpaired_answer : (paired : Bool) (images : List ℕ) (r : Result (List ℕ)
     → IsErrAnd r (λ e. e ≡ k) → k ≡ ClassPlace → paired ≡ false → r ≡ answer_of paired images
 unpaired_answer paired images r k is kind wrong = grind arith
 
-pub answer_ok : (paired : Bool) (images table : List ℕ) → Ok table ≡ answer_of paired images
+pub answer_ok : (paired : Bool) {images table : List ℕ} → Ok table ≡ answer_of paired images
     → (paired ≡ true) × (table ≡ images)
-answer_ok true images table e = (refl, cc)
-answer_ok false images table e = absurd (cc)
+answer_ok true e = (refl, cc)
+answer_ok false e = absurd (cc)
 
 pub answer_fault : (paired : Bool) (images : List ℕ) (k : SetFaultKind) → Err k ≡ answer_of paired images
     → (paired ≡ false) × (k ≡ ClassPlace)

@@ -26,10 +26,10 @@ use Rattle.ptlangs.proofs.TrCharGrammar.{chars_are_spelled}
 -- ---- strings without a fault
 
 -- a result that comes from segments, and these segments
-pub mapped_ok : (r : Result (List Segment) SetFaultKind) (f : List Segment → Contents) (y : Contents)
+pub mapped_ok : (r : Result (List Segment) SetFaultKind) {f : List Segment → Contents} (y : Contents)
     → Ok y ≡ result_map_both f (λ (k : SetFaultKind). k) r → (ps : List Segment) × (r ≡ Ok ps) × (y ≡ f ps)
-mapped_ok (Ok ps) f y e = (ps, refl, cc)
-mapped_ok (Err k) f y e = absurd (cc)
+mapped_ok (Ok ps) y e = (ps, refl, cc)
+mapped_ok (Err k) y e = absurd (cc)
 
 pub mapped_at : (r : Result (List Segment) SetFaultKind) (f : List Segment → Contents) (y : Contents)
     (ps : List Segment)
@@ -56,7 +56,7 @@ pub second_read : (form : Form) (complement : Bool) (firsts : List Segment) (tex
     → fill ≡ first.length - unfilled.length → first ≡ contents_of (first_array complement firsts)
     → SecondRead form complement firsts text role fill
 second_read form complement firsts text role fill first unfilled at was e f =
-    let (ps, read, is) = mapped_ok _ _ unfilled was in
+    let (ps, read, is) = mapped_ok _ unfilled was in
     let whole = ap (λ q. string_segments q text) (sym at) ∙ read in
     let has_fill : fill ≡ fill_count (length (first_array complement firsts)) ps =
     omega (arith, ap (λ (q : Contents). q.length) f, ap (λ (q : Contents). q.length) is) in
@@ -97,20 +97,20 @@ plan_two form complement s1 s2 firsts s = rw s (choose _)
 
 -- ---- the three tables of a plan
 
-pub tables_are : (p : Plan) (deleted : List Bool) (images : List ℕ) (squeezed : List Bool)
+pub tables_are : (p : Plan) {deleted : List Bool} {images : List ℕ} {squeezed : List Bool}
     → deleted ≡ map (is_deleted p) all_bytes → images ≡ map (image_of p) all_bytes
     → squeezed ≡ map (is_squeezed p) all_bytes
     → record { deleted = deleted; images = images; squeezed = squeezed } ≡ tables p
-tables_are p deleted images squeezed d i s = rw (d, i, s) refl
+tables_are p d i s = rw (d, i, s) refl
 
 -- the tables of the plan of two strings, if each class of the second one is valid
-pub planned : (form like : Form) (complement : Bool) (firsts : List Segment) (text : List ℕ) (role : SetRole)
-    (fill : ℕ) (r : SecondRead form complement firsts text role fill) (t : Tables)
+pub planned : (form like : Form) (complement : Bool) (firsts : List Segment) (text : List ℕ) {role : SetRole}
+    {fill : ℕ} (r : SecondRead form complement firsts text role fill) {t : Tables}
     → form ≡ like
     → has_valid_classes form complement (class_offsets 0 0 firsts) (class_offsets fill 0 r.ps) ≡ true
     → t ≡ tables (plan_of like (first_array complement firsts) (array fill r.ps))
     → Ok t ≡ ok_map tables (second_plan form complement firsts text)
-planned form like complement firsts text role fill r t same valid is = cc (r.plan true valid)
+planned form like complement firsts text r same valid is = cc (r.plan true valid)
 
 -- ---- the form in the last arm of a match
 

@@ -30,12 +30,12 @@ returns c = λ ps to e f l.
     let paired : HasPaired _ to c.if-complement.images =
     elim c.if-complement.branch [
       | then-complement+in_ok-push_ascending w ↦
-          paired_same _ _ to _ _
+          paired_same _ to
           (ap (λ (t : Bool). first_members t ps) w.if-complement.true) w.images-is
           (w.in_ok-push_ascending.ensures _ to
           (f ∙ ap (λ (t : Bool). contents_of (first_array t ps)) w.if-complement.true) new)
       | else-complement+in_ok-push_string w ↦
-          paired_same _ _ to _ _
+          paired_same _ to
           (ap (λ (t : Bool). first_members t ps) w.if-complement.false) w.images-is
           (w.in_ok-push_string.ensures ps to e new)
     ] in

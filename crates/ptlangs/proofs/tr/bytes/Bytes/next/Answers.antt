@@ -53,7 +53,7 @@ returns-in_err-self-clause-steps c =
     let s = c.loop-member.self in
     let k = c.in_err-self.field-0.0 in
     let first = segments-element s.role s.has_fill (chars (drop s.at s.text.now))
-    _ c.in_ok-element.element _
+    _ c.in_ok-element.element
     c.in_ok-element.ensures.reads c.in_err-self.ensures.is in
     let passed = segment-passed s.fill s.segment s.index (segments_left s) c.in_default.ensures.found in
     let fault = ap sequence (passed ∙ ap (member_results s.fill) first) in
@@ -72,7 +72,7 @@ loop-member-preserved c =
       | else-self-2 w ↦ rw (w.self-is, w.is_fill-self.ensures, w.if-self-2.false) refl
     ] in
     let first = segments-element s.role s.has_fill (chars (drop s.at s.text.now))
-    _ c.in_ok-element.element _
+    _ c.in_ok-element.element
     c.in_ok-element.ensures.reads c.in_ok-self.ensures.is in
     let passed = segment-passed s.fill s.segment s.index (segments_left s) c.in_default.ensures.found in
     let rest = set_elements (chars (drop c.in_ok-element.next s.text.now)) in

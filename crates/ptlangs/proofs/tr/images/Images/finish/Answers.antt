@@ -6,7 +6,7 @@ use Rattle.ptlangs.proofs.tr.images.Images.finish.Goals as goal
 pub returns-in_err-member : goal.returns-in_err-member
 returns-in_err-member c = λ from to h.
     let p = c.loop-member.invariant from to h in
-    never_fault p.rest _ _ p.left c.in_err-member.ensures.steps
+    never_fault p.rest _ p.left c.in_err-member.ensures.steps
 
 pub returns-then-is_some : goal.returns-then-is_some
 returns-then-is_some c = λ from to h.

@@ -5,8 +5,7 @@ use Rattle.ptlangs.proofs.tr.images.Images.push.Goals as goal
 use Rattle.ptlangs.proofs.tr.images.Images.push.Goals.{in-Some+else-not-classes_match, in_default}
 
 pub returns-in_err-to : goal.returns-in_err-to
-returns-in_err-to c = λ before to h. never_fault _ _
-    _ h.left c.in_err-to.ensures.steps
+returns-in_err-to c = λ before to h. never_fault _ _ h.left c.in_err-to.ensures.steps
 
 pub returns-then-not-classes_match : goal.returns-then-not-classes_match
 returns-then-not-classes_match c = λ before to h.

@@ -36,14 +36,14 @@ paired c bytes to e h =
           let more =
           others_below-more bytes b false (is_kept c.args.first.now bytes b c.from.result true c.from.ensures
           (omega arith) w.if-first-from.true e) in
-          paired_same _ _ to _ _ (ap plain_members more
+          paired_same _ to (ap plain_members more
           ∙ map-append _ before _) w.self-is
           (w.in_ok-push.ensures _ to (c.loop-byte.invariant bytes to e h))
       | else-first-from w ↦
           let more =
           others_below-more bytes b true (is_kept c.args.first.now bytes b c.from.result false c.from.ensures
           (omega arith) w.if-first-from.false e) in
-          paired_same _ _ to _ _ (ap plain_members (more ∙ append-nil before)) w.self-is
+          paired_same _ to (ap plain_members (more ∙ append-nil before)) w.self-is
           (c.loop-byte.invariant bytes to e h)
     ]
 
@@ -53,5 +53,5 @@ loop-byte-preserved c = paired (goal.at.loop-byte-preserved c).Joined-first-from
 pub returns-after-first-from : goal.returns-after-first-from
 returns-after-first-from c = λ bytes to e h.
     subst (λ bs. HasPaired (plain_members bs) to c.if-first-from.self)
-    (others_below-all bytes _ (omega arith))
+    (others_below-all bytes (omega arith))
     (paired (goal.at.returns-after-first-from c).Joined-first-from bytes to e h)

@@ -8,7 +8,7 @@ use Rattle.ptlangs.proofs.tr.images.Images.push_string.Goals as goal
 pub returns-in_err-member : goal.returns-in_err-member
 returns-in_err-member c = λ ps to e h.
     let all = member_results 0 (segments_of First c.args.text.now) in
-    never_fault _ all _ (string-ok First c.args.text.now 0 ps e)
+    never_fault _ all (string-ok First c.args.text.now 0 ps e)
     (items_fault c.loop-member.invariant c.in_err-member.ensures.steps)
 
 pub loop-member-preserved : goal.loop-member-preserved
@@ -34,4 +34,4 @@ returns c = λ ps to e h.
     let read = c.loop-member.invariant in
     let (end, _) = rw c.in_default.is at c.in_ok-member.ensures.steps in
     let whole = ap sequence (string-ok First c.args.text.now 0 ps e) ∙ sequence-ok (marked_array 0 ps) in
-    paired_same _ read.done to _ _ (cc (whole, items_end read end)) refl (read.holds to h)
+    paired_same read.done to (cc (whole, items_end read end)) refl (read.holds to h)

@@ -35,9 +35,9 @@ returns-in-DeleteSqueeze c = λ firsts e f.
     let r = seen at.After-saturating_sub-fill firsts f in
     let valid = ap (λ (form : Form). has_valid_classes form c.args.complement (class_offsets 0 0 firsts)
     (class_offsets c.saturating_sub-fill.result 0 r.ps)) c.in-DeleteSqueeze.is in
-    planned c.args.form DeleteSqueeze c.args.complement firsts c.args.s2.now _ _ r _ c.in-DeleteSqueeze.is valid
+    planned c.args.form DeleteSqueeze c.args.complement firsts c.args.s2.now r c.in-DeleteSqueeze.is valid
     (c.new.ensures ∙ tables_are (plan_of DeleteSqueeze _
-    _) _ _ _ (ap (λ (q : Contents). q.has) f)
+    _) (ap (λ (q : Contents). q.has) f)
     (c.identity.ensures []) (squeezed at.In_ok-second r.ps r.read))
 
 pub returns-in_err-table : goal.returns-in_err-table
@@ -59,11 +59,11 @@ returns-in-TranslateSqueeze c = λ firsts e f.
     let fill = c.saturating_sub-fill.result in
     let from = first_array c.args.complement firsts in
     let (paired, table) =
-    answer_ok _ _ _ (c.in_ok-table.ensures firsts _ e f
+    answer_ok _ (c.in_ok-table.ensures firsts _ e f
     (c.new-2.ensures.all ∙ string-ok c.second_role-role.result c.args.s2.now fill r.ps r.read)) in
-    planned c.args.form TranslateSqueeze c.args.complement firsts c.args.s2.now _ _ r _ c.in-TranslateSqueeze.is
+    planned c.args.form TranslateSqueeze c.args.complement firsts c.args.s2.now r c.in-TranslateSqueeze.is
     (valid-paired c.args.form c.args.complement firsts r.ps fill c.in_default.not-DeleteSqueeze ∙ paired)
-    (c.new-in-TranslateSqueeze.ensures ∙ tables_are (plan_of TranslateSqueeze from _) _ _ _
+    (c.new-in-TranslateSqueeze.ensures ∙ tables_are (plan_of TranslateSqueeze from _)
     none_contained
     (table ∙ ap (λ to. map (image_by from to) all_bytes) (member_bytes-array fill r.ps))
     (squeezed at.In_ok-second r.ps r.read))
@@ -74,10 +74,10 @@ returns-in_default-form c = λ firsts e f.
     let fill = c.saturating_sub-fill.result in
     let from = first_array c.args.complement firsts in
     let (paired, table) =
-    answer_ok _ _ _ (c.in_ok-table.ensures firsts _ e f
+    answer_ok _ (c.in_ok-table.ensures firsts _ e f
     (c.new-2.ensures.all ∙ string-ok c.second_role-role.result c.args.s2.now fill r.ps r.read)) in
-    planned c.args.form Translate c.args.complement firsts c.args.s2.now _ _ r _
+    planned c.args.form Translate c.args.complement firsts c.args.s2.now r
     (is_translate c.args.form c.requires.form c.in_default.not-DeleteSqueeze c.in_default-form.not-TranslateSqueeze)
     (valid-paired c.args.form c.args.complement firsts r.ps fill c.in_default.not-DeleteSqueeze ∙ paired)
-    (c.new-in_default-form.ensures ∙ tables_are (plan_of Translate from _) _ _ _ none_contained
+    (c.new-in_default-form.ensures ∙ tables_are (plan_of Translate from _) none_contained
     (table ∙ ap (λ to. map (image_by from to) all_bytes) (member_bytes-array fill r.ps)) none_contained)

@@ -6,8 +6,7 @@ use Rattle.ptlangs.proofs.tr.plan.CharPlan.read.Goals as goal
 
 pub returns : goal.returns
 returns c =
-    let (firsts, read, first) = mapped_ok _
-    _ c.in_ok-first.first
+    let (firsts, read, first) = mapped_ok _ c.in_ok-first.first
     (in_string-ok _ _ _ c.in_ok-first.ensures ∙ c.read_first.ensures.is) in
     c.in_string-2.ensures ∙ ap (in_string string.Second) (c.of_two-plan.ensures firsts read first)
     ∙ plan_two c.args.form c.args.complement c.args.s1.now c.in-Some.s2.now firsts read
