@@ -4,12 +4,11 @@ use Rattle.ptlangs.proofs.Common.{◌≡◌, Bool, Err, List, None, Ok, Option, 
 use Rattle.ptlangs.proofs.Common.{false, length, map, refl, suc, sym, true, zero, ℕ, ◌&&◌, ◌++◌, ◌+◌, ◌||◌, ◌∙◌, ◌∷◌}
 use Rattle.ptlangs.proofs.Common.{◌≤◌, ◌<◌, ◌-◌, append-nil, append_assoc, length-map, length-replicate, map-append}
 use Rattle.ptlangs.proofs.Common.{slice_get, cons_ok, array, class_offsets, sequence, is_fill, segment, result_map_both}
-use Rattle.ptlangs.proofs.Common.{CharClass, SetFaultKind, SetElement, Segment, SetRole, First, Images, Squeezed}
+use Rattle.ptlangs.proofs.Common.{CharClass, SetFaultKind, SetElement, Segment, SetRole}
 use Rattle.ptlangs.proofs.Common.{eq-eqb, ne_eqb, drop_all, subst, replicate, span, segments_of, string_segments}
 use Rattle.ptlangs.specs.TrPlan.{are_paired, members, has_other_case_at}
 use Rattle.std.proofs.lemmas.List.{drop-map, drop-replicate}
 use Rattle.std.specs.Result.{IsErrAnd}
-use Rattle.ptlangs.specs.declared.tr.elements.SetElement.TheVariants as element
 use Rattle.ptlangs.specs.declared.tr.segments.Member.{Member}
 use Rattle.ptlangs.specs.declared.tr.segments.Segment.TheVariants.{Range, Class, Fill, Repeat}
 use Rattle.ptlangs.specs.TrParsing.{all_paired, member_bytes, classes_match, class_of, marked_array, marked_members}
@@ -187,33 +186,13 @@ on_fault P (Err j) k e h = subst (λ l. P (Err l)) (sym e) h
 -- ---- at most one segment is a fill
 
 no_second_fill : (role : SetRole) (p : SetElement) (b : ℕ) → segment role true p ≡ Ok (Fill b) → ⊥
-no_second_fill role (element.Single x) b e = cc
-no_second_fill role (element.Range x y) b e = cc
-no_second_fill role (element.Class None) b e = cc
-no_second_fill role (element.Class (Some class)) b e = cc
-no_second_fill First (element.Equivalence x) b e = cc
-no_second_fill Images (element.Equivalence x) b e = cc
-no_second_fill Squeezed (element.Equivalence x) b e = cc
-no_second_fill First (element.Repeat x count) b e = cc
-no_second_fill Images (element.Repeat x None) b e = cc
-no_second_fill Images (element.Repeat x (Some zero)) b e = cc
-no_second_fill Images (element.Repeat x (Some (suc n))) b e = cc
-no_second_fill Squeezed (element.Repeat x None) b e = cc
-no_second_fill Squeezed (element.Repeat x (Some zero)) b e = cc
-no_second_fill Squeezed (element.Repeat x (Some (suc n))) b e = cc
+no_second_fill role p b e = grind arith
 
 -- one more segment adds the length of a fill only if no fill came before it
 pub fill_step : (n : ℕ) (role : SetRole) (p : SetElement) (d : Segment) (has_fill : Bool)
     → segment role has_fill p ≡ Ok d
     → length (members n d) + cond (has_fill || is_fill (Ok d)) 0 n ≤ length (members 0 d) + cond has_fill 0 n
-fill_step n role p (Range a b) true e = omega arith
-fill_step n role p (Range a b) false e = omega arith
-fill_step n role p (Class class) true e = omega arith
-fill_step n role p (Class class) false e = omega arith
-fill_step n role p (Repeat b count) true e = omega arith
-fill_step n role p (Repeat b count) false e = omega arith
-fill_step n role p (Fill b) true e = absurd (no_second_fill role p b e)
-fill_step n role p (Fill b) false e = omega (arith, length-replicate n b)
+fill_step n role p d has_fill e = grind (arith, no_second_fill, length-replicate)
 
 -- ---- the classes that start in two arrays
 

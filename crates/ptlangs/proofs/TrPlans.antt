@@ -1,22 +1,22 @@
 -- The plan of two strings, step by step, and its tables. Reading never fails for lack of memory: no character, no
 -- element and no segment has that fault.
+use Rattle.ptlangs.proofs.Common.{complement_of}
 use Rattle.ptlangs.proofs.Common.{◌≡◌, Bool, Err, List, None, Ok, Option, Result, Some, [], ap, arith, cond, false}
-use Rattle.ptlangs.proofs.Common.{length, map, refl, suc, sym, true, zero, ℕ, ◌++◌, ◌-◌, ◌∙◌, ◌∷◌, ◌≢◌, result_map_both}
+use Rattle.ptlangs.proofs.Common.{length, map, refl, sym, true, ℕ, ◌++◌, ◌-◌, ◌∙◌, ◌∷◌, ◌≢◌, result_map_both}
 use Rattle.ptlangs.proofs.Common.{and_then, ADescendingRange, AnInvalidEnd, AnInvalidChar, StartsElement, StartsInvalid}
 use Rattle.ptlangs.proofs.Common.{subst, FirstFault, LaterFault, NoElement, NoSegment, array, class_offsets}
 use Rattle.ptlangs.proofs.Common.{first_array, in_string, has_valid_classes, segment, plan, plan_of, second_plan}
-use Rattle.ptlangs.proofs.Common.{string_segments, tables, ALargeOctal, ALoneBackslash, APlainByte, AChar, AnEscape}
-use Rattle.ptlangs.proofs.Common.{AnOctal, NoChar, SpellsChar, SpellsChars, chars, SetFault, SetFaultKind, ClassPlace}
-use Rattle.ptlangs.proofs.Common.{SetElement, Segment, SetRole, First, Images, Squeezed, Form, Delete, DeleteSqueeze}
+use Rattle.ptlangs.proofs.Common.{string_segments, tables, AChar}
+use Rattle.ptlangs.proofs.Common.{NoChar, SpellsChar, SpellsChars, chars, SetFault, SetFaultKind, ClassPlace}
+use Rattle.ptlangs.proofs.Common.{SetElement, Segment, SetRole, First, Form, Delete, DeleteSqueeze}
 use Rattle.ptlangs.proofs.Common.{Squeeze, Translate, TranslateSqueeze, SetChar, Escaped, Invalid, Plain}
 use Rattle.ptlangs.specs.TrPlan.{image_of, is_deleted, is_squeezed, NoMemoryFault, Plan, fill_count, plan_from}
-use Rattle.ptlangs.specs.TrPlan.{plan_with, repeat_segment, second_role, takes_second}
+use Rattle.ptlangs.specs.TrPlan.{plan_with, second_role, takes_second}
 use Rattle.ptlangs.specs.declared.faults.SetFaultKind.TheVariants.{Memory}
 use Rattle.ptlangs.specs.TrClasses.{all_bytes}
 use Rattle.ptlangs.specs.declared.tr.contents.Contents.{Contents}
 use Rattle.ptlangs.specs.declared.faults.SetString.TheVariants as string
 use Rattle.ptlangs.specs.declared.faults.SetString.{SetString}
-use Rattle.ptlangs.specs.declared.tr.elements.SetElement.TheVariants as element
 use Rattle.ptlangs.proofs.TrElementGrammar.{StartsElement-front, faults_are_first}
 use Rattle.ptlangs.specs.TrParsing.{all_paired, contents_of, first_members, marked_array, ok_map}
 use Rattle.ptlangs.specs.TrTables.{Tables}
@@ -66,15 +66,8 @@ second_read form complement firsts text role fill first unfilled at was e f =
 pub valid-paired : (form : Form) (complement : Bool) (firsts ps : List Segment) (n : ℕ) → (form ≡ DeleteSqueeze → ⊥)
     → has_valid_classes form complement (class_offsets 0 0 firsts) (class_offsets n 0 ps)
     ≡ all_paired (first_members complement firsts) (marked_array n ps)
-valid-paired DeleteSqueeze complement firsts ps n other = absurd (other refl)
-valid-paired Translate true firsts ps n other = paired-plain n _ ps
-valid-paired Translate false firsts ps n other = paired-arrays n firsts ps
-valid-paired TranslateSqueeze true firsts ps n other = paired-plain n _ ps
-valid-paired TranslateSqueeze false firsts ps n other = paired-arrays n firsts ps
-valid-paired Squeeze true firsts ps n other = paired-plain n _ ps
-valid-paired Squeeze false firsts ps n other = paired-arrays n firsts ps
-valid-paired Delete true firsts ps n other = paired-plain n _ ps
-valid-paired Delete false firsts ps n other = paired-arrays n firsts ps
+valid-paired form true firsts ps n other = grind (arith, paired-plain n (complement_of (array 0 firsts)) ps, other)
+valid-paired form false firsts ps n other = grind (arith, paired-arrays n firsts ps, other)
 
 -- a result of which only the fault was changed
 pub in_string-ok : {A : Type 0} (string : SetString) (r : Result A SetFaultKind) (x : A) → Ok x ≡ in_string string r
@@ -115,19 +108,11 @@ planned form like complement firsts text r same valid is = cc (r.plan true valid
 -- ---- the form in the last arm of a match
 
 pub is_squeeze : (form : Form) → takes_second form ≡ false → (form ≡ Delete → ⊥) → form ≡ Squeeze
-is_squeeze Translate e n = cc
-is_squeeze TranslateSqueeze e n = cc
-is_squeeze Squeeze e n = refl
-is_squeeze Delete e n = absurd (n refl)
-is_squeeze DeleteSqueeze e n = cc
+is_squeeze form e n = grind arith
 
 pub is_translate : (form : Form) → takes_second form ≡ true → (form ≡ DeleteSqueeze → ⊥) → (form ≡ TranslateSqueeze → ⊥)
     → form ≡ Translate
-is_translate Translate e n m = refl
-is_translate TranslateSqueeze e n m = absurd (m refl)
-is_translate Squeeze e n m = cc
-is_translate Delete e n m = cc
-is_translate DeleteSqueeze e n m = absurd (n refl)
+is_translate form e n m = grind arith
 
 -- ---- characters and elements never have the fault `Memory`
 
@@ -141,11 +126,7 @@ AreNotMemory [] = Unit {0}
 AreNotMemory (u ∷ us) = IsNotMemory u × AreNotMemory us
 
 spelled_not_memory : (bs rest : List ℕ) (u : SetChar) → SpellsChar bs u rest → IsNotMemory u
-spelled_not_memory bs rest u (APlainByte b r n) = tt
-spelled_not_memory bs rest u (AnOctal digits r run h) = tt
-spelled_not_memory bs rest u (ALargeOctal digits r run h) = λ e. cc
-spelled_not_memory bs rest u (AnEscape b r n) = tt
-spelled_not_memory bs rest u ALoneBackslash = λ e. cc
+spelled_not_memory bs rest u s = grind arith
 
 all_not_memory : (bs : List ℕ) (us : List SetChar) → SpellsChars bs us → AreNotMemory us
 all_not_memory bs us NoChar = tt
@@ -175,23 +156,8 @@ abbrev FaultIsNotMemory : {A : Type 0} → Result A SetFaultKind → Type 0
 FaultIsNotMemory (Ok x) = Unit {0}
 FaultIsNotMemory (Err k) = k ≢ Memory
 
-repeat_not_memory : (has_fill : Bool) (b : ℕ) (count : Option ℕ) → FaultIsNotMemory (repeat_segment has_fill b count)
-repeat_not_memory has_fill b None = λ e. cc
-repeat_not_memory true b (Some zero) = λ e. cc
-repeat_not_memory false b (Some zero) = tt
-repeat_not_memory has_fill b (Some (suc n)) = tt
-
 segment_not_memory : (role : SetRole) (has_fill : Bool) (p : SetElement) → FaultIsNotMemory (segment role has_fill p)
-segment_not_memory role has_fill (element.Single b) = tt
-segment_not_memory role has_fill (element.Range a b) = tt
-segment_not_memory role has_fill (element.Class None) = λ e. cc
-segment_not_memory role has_fill (element.Class (Some class)) = tt
-segment_not_memory Images has_fill (element.Equivalence b) = λ e. cc
-segment_not_memory First has_fill (element.Equivalence b) = tt
-segment_not_memory Squeezed has_fill (element.Equivalence b) = tt
-segment_not_memory First has_fill (element.Repeat b count) = λ e. cc
-segment_not_memory Images has_fill (element.Repeat b count) = repeat_not_memory has_fill b count
-segment_not_memory Squeezed has_fill (element.Repeat b count) = repeat_not_memory has_fill b count
+segment_not_memory role has_fill p = grind arith
 
 fault_not_memory : {A : Type 0} (r : Result A SetFaultKind) (k : SetFaultKind) → FaultIsNotMemory r → r ≡ Err k
     → k ≢ Memory
