@@ -1,15 +1,15 @@
 -- The lists of `cut`. An element is split at its dashes, which digits do not contain, so that the split gives its
 -- bounds back; this makes `cut_list` agree with the grammar in both directions. Merging sorted intervals keeps the set
 -- that they select.
-use Rattle.ptlangs.proofs.Common.{Result, ◌≡◌, Bool, List, None, Ok, Option, Some, [], ap, arith, cond, drop, eqb}
+use Rattle.ptlangs.proofs.Common.{Result, ◌≡◌, Bool, List, None, Ok, Option, Some, [], ap, arith, cond, drop}
 use Rattle.ptlangs.proofs.Common.{false, inl, inr, length, not, refl, subst, suc, sym, take, true, ℕ, ◌&&◌, ◌++◌, ◌+◌}
-use Rattle.ptlangs.proofs.Common.{◌-◌, ◌<◌, ◌||◌, ◌∙◌, ◌∷◌, and_parts, cases_Bool, cond-false, cond-true, eqb-false}
-use Rattle.ptlangs.proofs.Common.{eqb-true, le-ltb, ltb-false, ne_eqb, All-cons, slice_split_at, slice_split_none}
+use Rattle.ptlangs.proofs.Common.{◌-◌, ◌<◌, ◌||◌, ◌∙◌, ◌∷◌, and_parts, cases_Bool, cond-false, cond-true}
+use Rattle.ptlangs.proofs.Common.{eqb-true, le-ltb, ne_eqb, All-cons, slice_split_at, slice_split_none}
 use Rattle.ptlangs.proofs.Common.{AllPass-from_list_all, is_ascii_digit, All, list_all, position, slice_split}
 use Rattle.ptlangs.proofs.Common.{IsValidInterval, cut_list, element_interval, is_dash, and_then, traverse, max_u64}
 use Rattle.ptlangs.proofs.Common.{is_empty, is_number, value, Interval, ◌≤◌, append_assoc}
-use Rattle.std.proofs.lemmas.Bool.{and_right, cond_both, and_left, or_from, or_parts}
-use Rattle.std.proofs.Common.{leb, ltb, max}
+use Rattle.std.proofs.lemmas.Bool.{and_right, and_left, or_from}
+use Rattle.std.proofs.Common.{leb, max}
 use Rattle.std.proofs.lemmas.List.Sorted.{list_any-IsPermutation}
 use Rattle.std.proofs.lemmas.List.Splits.{join_with_byte-slice_split, length-slice_split}
 use Rattle.std.specs.List.{join_with_byte, list_any}
@@ -43,11 +43,7 @@ bounds_rejected n m h =
 
 rejected : (n m : List ℕ) → (parts : List (List ℕ)) → 0 < length parts → join_with_byte 45 parts ≡ m
     → is_bound m ≡ false → interval_of_parts (n ∷ parts) ≡ None
-rejected n m [] some union_of_touching h = absurd (omega arith)
-rejected n m (p ∷ []) some union_of_touching h =
-    let e = ap is_bound union_of_touching ∙ h in
-    bounds_rejected n p e
-rejected n m (p ∷ q ∷ rest) some union_of_touching h = refl
+rejected n m parts some union_of_touching h = grind arith
 
 -- the part after the first dash is the upper bound; if it is not a bound, the element is rejected
 parts_after_dash : (n m : List ℕ) → interval_of_parts (n ∷ slice_split is_dash m) ≡ interval_of_bounds n m
@@ -81,22 +77,7 @@ Proper s r checked_interval = checked_interval ≡ Ok r → (Some s ≡ Some r) 
 
 checked_proper : (interval_of_parts : Option Interval) (r : Interval) → checked_interval interval_of_parts ≡ Ok r
     → (interval_of_parts ≡ Some r) × IsValidInterval r
-checked_proper None r h = cc
-checked_proper (Some s) r h =
-    cond_both _ _ _ (Proper s r) (λ t h. cc)
-    (λ large. cond_both _ _ _ (Proper s r) (λ t h. cc)
-    (λ zero. cond_both _ _ _ (Proper s r) (λ t h. cc)
-    (λ falls h.
-    let is : s ≡ r = cc in
-    let (some, _) = or_parts (eqb s.first 0) (eqb s.last 0) zero in
-    let (_, small) = or_parts (ltb max_u64 s.first) _ large in (
-      ap Some is,
-      subst IsValidInterval is (record {
-        positive = omega (arith, eqb-false s.first 0 some);
-        ascending = ltb-false s.last s.first falls;
-        fits = ltb-false max_u64 s.last small;
-      }),
-    )))) h
+checked_proper interval_of_parts r h = grind arith
 
 element_proper : (bs : List ℕ) (r : Interval) → element_interval bs ≡ Ok r → IsValidInterval r
 element_proper [] r h = cc
@@ -210,8 +191,7 @@ spelled_ends (b ∷ n) (c ∷ m) r e =
 
 three_parts : (n m bs : List ℕ) (rest : List (List ℕ)) → IsSplit is_dash bs rest
     → interval_of_parts (n ∷ m ∷ rest) ≡ None
-three_parts n m bs rest (Whole xs) = refl
-three_parts n m bs rest (Cut e s xs others cut split) = refl
+three_parts n m bs rest h = grind arith
 
 spelled_cut : (n : List ℕ) (s : ℕ) (bs : List ℕ) (rest : List (List ℕ)) (r : Interval) → s ≡ 45
     → IsSplit is_dash bs rest → interval_of_parts (n ∷ rest) ≡ Some r → SpellsInterval (n ++ s ∷ bs) r
@@ -279,8 +259,7 @@ union_of_touching : (a b c d n : ℕ) → a ≤ c → c - 1 ≤ b → c ≤ d
 union_of_touching a b c d n h1 h2 h3 = grind arith
 
 or_first : (p q m x : Bool) → (p || q) ≡ m → (p || (q || x)) ≡ (m || x)
-or_first true q m x e = ap (λ v. v || x) e
-or_first false q m x e = ap (λ v. v || x) e
+or_first p q m x e = grind arith
 
 pub absorbs : {sorted : List Interval} (kept : List Interval) (r s t : Interval) (rest : List Interval)
     → t.first ≡ r.first

@@ -1,6 +1,6 @@
 -- The lists of `paste`: each escape is one case of the grammar, so `delim_list` agrees with the grammar in both
 -- directions. The fault of a list is the first one found from left to right, and is never an allocation failure.
-use Rattle.ptlangs.proofs.Common.{◌≡◌, Bool, Err, List, None, Ok, Option, Result, Some, [], ap, arith, cond, eqb, false}
+use Rattle.ptlangs.proofs.Common.{◌≡◌, Bool, Err, List, None, Ok, Option, Result, Some, [], ap, arith, cond, eqb}
 use Rattle.ptlangs.proofs.Common.{length, refl, subst, sym, true, ℕ, ◌++◌, ◌<◌, ◌∙◌, ◌∷◌, eqb-true, append-nil}
 use Rattle.ptlangs.proofs.Common.{result_err, delim_list, and_then, cons_ok}
 use Rattle.ptlangs.specs.DelimLists.{delims, Backslash, IsDelim, IsDelimList, Last, More, Newline, Nothing, Tab}
@@ -10,8 +10,7 @@ use Rattle.std.proofs.lemmas.Bool.{cond_both}
 use Rattle.ptlangs.proofs.ListElements.{reads_first}
 
 pub delims_of_some : (bs : List ℕ) → 0 < length bs → delims bs ≡ delim_list bs
-delims_of_some [] h = absurd (omega arith)
-delims_of_some (b ∷ bs) h = refl
+delims_of_some bs h = grind arith
 
 -- ---- from the grammar to `delim_list`
 
@@ -87,17 +86,14 @@ IsOfText (Ok x) = Unit {0}
 IsOfText (Err e) = delim_list_fault e ≡ Some e
 
 fault_of_either : {A : Type 0} (b : Bool) (r s : Result A DelimFault) → IsOfText r → IsOfText s → IsOfText (cond b r s)
-fault_of_either true r s of_r of_s = of_r
-fault_of_either false r s of_r of_s = of_s
+fault_of_either b r s of_r of_s = grind arith
 
 after_first : (d : Option ℕ) (r : Result (List (Option ℕ)) DelimFault) → IsOfText r → IsOfText (cons_ok d r)
-after_first d (Ok ds) of_text = tt
-after_first d (Err e) of_text = of_text
+after_first d r of_text = grind arith
 
 after_escape : (e : Result (Option ℕ) DelimFault) (r : Result (List (Option ℕ)) DelimFault) → IsOfText e → IsOfText r
     → IsOfText (and_then e (λ d. cons_ok d r))
-after_escape (Ok d) r of_e of_r = after_first d r of_r
-after_escape (Err k) r of_e of_r = of_e
+after_escape e r of_e of_r = grind arith
 
 escape_fault : (b : ℕ) → IsOfText (escape b)
 escape_fault b = grind arith

@@ -4,7 +4,7 @@ use Rattle.ptlangs.proofs.Common.{◌≡◌, Bool, Err, List, None, Ok, Result, 
 use Rattle.ptlangs.proofs.Common.{get_or, length, refl, subst, sym, take, true, ℕ, ◌++◌, ◌+◌, ◌-◌, ◌∙◌, ◌∷◌, ltb-false}
 use Rattle.ptlangs.proofs.Common.{ltb-true, append_assoc, length-drop, take_all, slice_split_at, slice_split_none}
 use Rattle.ptlangs.proofs.Common.{AllPass-from_list_all, is_ascii_digit, All, position, slice_split, and_then, traverse}
-use Rattle.ptlangs.proofs.Common.{elements, is_number, is_list_separator, cons_ok, eqb, ◌*◌, ◌<◌, ◌≤◌, All-cons, ne_eqb}
+use Rattle.ptlangs.proofs.Common.{elements, is_number, is_list_separator, cons_ok, eqb, ◌*◌, ◌<◌, ◌≤◌, All-cons}
 use Rattle.ptlangs.proofs.Common.{drop_more, digit_value, digits_value_after, max_u64, is_empty, value}
 use Rattle.std.proofs.lemmas.List.Splits.{slice_split_first}
 use Rattle.std.proofs.lemmas.List.Sums.{fails_before_first}
@@ -121,9 +121,7 @@ pub record ReadsFirst {A E : Type 0} (first : Result A E) (others : Result (List
 
 pub reads_first : {A E : Type 0} (first : Result A E) (others : Result (List A) E) (all : List A)
     → and_then first (λ y. cons_ok y others) ≡ Ok all → ReadsFirst first others all
-reads_first (Err f) others all h = cc
-reads_first (Ok y) (Err f) all h = cc
-reads_first (Ok y) (Ok ys) all h = record { head = y; tail = ys; read = refl; rest = refl; is = cc }
+reads_first first others all h = grind arith
 
 module _ {A E : Type 0} (read : List ℕ → Result A E) (Spells : List ℕ → A → Type 0) where
   -- the function accepts exactly the elements of the grammar, and these contain no separator
@@ -178,8 +176,7 @@ too_large_at bs i n below e h =
     too_large bs (omega (arith, after-ge (n * 10 + digit_value (get_or bs i 0)) (drop (i + 1) bs)))
 
 pub is_empty_by_length : {X : Type 0} (xs : List X) → is_empty xs ≡ eqb (length xs) 0
-is_empty_by_length [] = refl
-is_empty_by_length (x ∷ xs) = sym (ne_eqb _ 0 (λ e. omega arith))
+is_empty_by_length xs = grind arith
 
 pub digit_is : (b : ℕ) → 48 ≤ b → b ≤ 57 → digit_value b ≡ b - 48
 digit_is b low high = grind arith

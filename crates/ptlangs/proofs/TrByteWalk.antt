@@ -5,7 +5,7 @@ use Rattle.ptlangs.proofs.Common.{false, length, map, refl, suc, sym, true, zero
 use Rattle.ptlangs.proofs.Common.{◌≤◌, ◌<◌, ◌-◌, append-nil, append_assoc, length-map, length-replicate, map-append}
 use Rattle.ptlangs.proofs.Common.{slice_get, cons_ok, array, class_offsets, sequence, is_fill, segment, result_map_both}
 use Rattle.ptlangs.proofs.Common.{CharClass, SetFaultKind, SetElement, Segment, SetRole}
-use Rattle.ptlangs.proofs.Common.{eq-eqb, ne_eqb, drop_all, subst, replicate, span, segments_of, string_segments}
+use Rattle.ptlangs.proofs.Common.{eq-eqb, ne_eqb, drop_all, replicate, span, segments_of, string_segments}
 use Rattle.ptlangs.specs.TrPlan.{are_paired, members, has_other_case_at}
 use Rattle.std.proofs.lemmas.List.{drop-map, drop-replicate}
 use Rattle.std.specs.Result.{IsErrAnd}
@@ -178,8 +178,7 @@ string-ok role (b ∷ text) n ps e = members-ok n (segments_of role (b ∷ text)
 
 pub on_fault : {T E : Type 0} (P : Result T E → Type 0) (r : Result T E) (k : E) → IsErrAnd r (λ e. e ≡ k) → P (Err k)
     → P r
-on_fault P (Ok x) k e h = absurd e
-on_fault P (Err j) k e h = subst (λ l. P (Err l)) (sym e) h
+on_fault P r k e h = grind arith
 
 -- ---- a bound on the number of bytes that are left
 

@@ -71,8 +71,7 @@ octal_digits bs k d h =
 -- a backslash before an octal digit
 pub after_backslash-octal : (bs : List ℕ) (c : ℕ) → Some c ≡ slice_get bs 0 → is_octal_digit c ≡ true
     → after_backslash bs ≡ (octal (digits_value 8 (octal_run bs)), length (octal_run bs))
-after_backslash-octal [] c e t = cc
-after_backslash-octal (b ∷ bs) c e t = let test : is_octal_digit b ≡ true = cc in rw test refl
+after_backslash-octal bs c e t = grind arith
 
 pub octal_char : (bs : List ℕ) (c count : ℕ) (o : Option ℕ) → Some c ≡ slice_get bs 0 → is_octal_digit c ≡ true
     → count ≡ length (octal_run bs)

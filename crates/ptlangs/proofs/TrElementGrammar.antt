@@ -3,7 +3,7 @@
 -- rejected with the fault of its first faulty element.
 use Rattle.ptlangs.proofs.Common.{◌≡◌, ◌<◌, ◌-◌, ℕ, zero, suc, Bool, true, false, List, [], ◌∷◌, ◌++◌, length, drop}
 use Rattle.ptlangs.proofs.Common.{map, arith, refl, sym, ap, subst, ◌∙◌, Option, Some, None, Result, Ok, Err, list_all}
-use Rattle.ptlangs.proofs.Common.{option_and_then, is_ascii_digit, is_ascii_lowercase, ltb-false, le-ltb, eqb-true}
+use Rattle.ptlangs.proofs.Common.{option_and_then, is_ascii_digit, is_ascii_lowercase, ltb-false, le-ltb}
 use Rattle.ptlangs.proofs.Common.{ne_eqb, length-map, length-append, append_assoc, drop_at, drop_all, SetFaultKind}
 use Rattle.ptlangs.proofs.Common.{SetChar, Plain, Escaped, Invalid, SetElement, StartsElement, after_plain, plain_run}
 use Rattle.ptlangs.proofs.Common.{after_run, set_elements, ◌||◌, ◌≤◌, and_parts, ltb-true, drop_more, result_map_both}
@@ -28,12 +28,7 @@ use Rattle.ptlangs.proofs.TrPlainRuns.{list_all-plain_run}
 -- ---- from the computed elements to the grammar
 
 pub after_plain_is : (c : ℕ) (us rest : List SetChar) → after_plain c us ≡ Some rest → us ≡ Plain c ∷ rest
-after_plain_is c [] rest e = cc
-after_plain_is c (Plain b ∷ us) rest e =
-    cond_both _ _ _ (λ (o : Option _). o ≡ Some rest → Plain b ∷ us ≡ Plain c ∷ rest)
-    (λ t e. let same = eqb-true b c t in cc) (λ t e. cc) e
-after_plain_is c (Escaped b ∷ us) rest e = cc
-after_plain_is c (Invalid k ∷ us) rest e = cc
+after_plain_is c us rest e = grind arith
 
 pub run_split : (test : ℕ → Bool) (us : List SetChar) → us ≡ map Plain (plain_run test us) ++ after_run test us
 run_split test [] = refl
@@ -116,8 +111,7 @@ equivalence_starts us =
 
 starts_either : (us : List SetChar) (o q : Option (SetElement × List SetChar)) → StartsFound us o → StartsFound us q
     → StartsFound us (option_or o q)
-starts_either us None q here there = there
-starts_either us (Some found) q here there = here
+starts_either us o q here there = grind arith
 
 bracketed_starts : (us : List SetChar) → StartsFound us (bracketed_at us)
 bracketed_starts us = after_plain_cases (λ xs o. StartsFound xs (option_and_then bracketed_inside o)) 91 us _
@@ -129,8 +123,7 @@ bracketed_starts us = after_plain_cases (λ xs o. StartsFound xs (option_and_the
 -- ---- from the grammar to the computed elements
 
 pub byte_of-DenotesByte : (u : SetChar) (v : ℕ) → DenotesByte u v → byte_of u ≡ Ok v
-byte_of-DenotesByte u v (ByItself b) = refl
-byte_of-DenotesByte u v (ByEscape b) = refl
+byte_of-DenotesByte u v h = grind arith
 
 pub plain_run-map : (test : ℕ → Bool) (bs : List ℕ) (c : ℕ) (rest : List SetChar) → list_all test bs ≡ true
     → test c ≡ false → plain_run test (map Plain bs ++ Plain c ∷ rest) ≡ bs
@@ -229,8 +222,7 @@ starts_as u us e = subst (StartsAs _) e (by_form _ refl)
 
 first_set_element-found : (us : List SetChar) (p : SetElement) (rest : List SetChar) → bracketed_at us ≡ Some (p, rest)
     → first_set_element us ≡ Ok (p, rest)
-first_set_element-found [] p rest e = absurd (cc)
-first_set_element-found (u ∷ us) p rest e = rw e refl
+first_set_element-found us p rest e = grind arith
 
 pub first_set_element-StartsElement : (us : List SetChar) (p : SetElement) (rest : List SetChar)
     → StartsElement us p rest → first_set_element us ≡ Ok (p, rest)
@@ -301,8 +293,7 @@ set_elements-first (u ∷ us) p rest e =
 
 pub set_elements-fault : (us : List SetChar) (k : SetFaultKind) → 0 < length us → first_set_element us ≡ Err k
     → set_elements us ≡ Err k ∷ []
-set_elements-fault [] k h e = absurd (omega arith)
-set_elements-fault (u ∷ us) k h e = rw e refl
+set_elements-fault us k h e = grind arith
 
 by_result : {A P : Type 0} (r : Result A SetFaultKind) → ((x : A) → r ≡ Ok x → P) → ((k : SetFaultKind) → r ≡ Err k → P)
     → P
@@ -346,8 +337,7 @@ AreElements-set_elements (p ∷ ps) (u ∷ us) e = by_first u us
 -- a class whose name is not empty
 pub class_with_name-named : (name : List ℕ) (us : List SetChar) → 0 < length name
     → class_with_name name us ≡ with_rest (Class (class_named name)) (after_two 58 93 us)
-class_with_name-named [] us h = absurd (omega arith)
-class_with_name-named (c ∷ name) us h = refl
+class_with_name-named name us h = grind arith
 
 pub class_at-found : (us : List SetChar) {inside : List SetChar} (after : List SetChar) {rest : List SetChar}
     (name : List ℕ) (found : Option CharClass)
@@ -365,10 +355,7 @@ pub first_set_element-range : (us next more : List SetChar) (u : SetChar) (a : �
     {r : Result (SetElement × List SetChar) SetFaultKind}
     → us ≡ u ∷ next → None ≡ bracketed_at us → Ok a ≡ byte_of u → Some more ≡ after_plain 45 next → 0 < length more
     → r ≡ single_or_range a [] (Some more) → r ≡ first_set_element us
-first_set_element-range us next [] u a e f b d h g = absurd (omega arith)
-first_set_element-range us next (v ∷ more) u a e f b d h g =
-    let none = rw e at f in
-    rw (e, ← none, ← b, ← d) g
+first_set_element-range us next more u a e f b d h g = grind arith
 
 -- ---- the segments of the elements, one after another
 

@@ -215,8 +215,7 @@ answer_ok false e = absurd (cc)
 
 pub answer_fault : (paired : Bool) (images : List ℕ) (k : SetFaultKind) → Err k ≡ answer_of paired images
     → (paired ≡ false) × (k ≡ ClassPlace)
-answer_fault true images k e = absurd (cc)
-answer_fault false images k e = (refl, cc)
+answer_fault paired images k e = grind arith
 
 pub first-bytes : (complement : Bool) (ps : List Segment)
     → member_bytes (first_members complement ps) ≡ first_array complement ps

@@ -24,14 +24,10 @@ IsEscape-after_backslash [] = tt
 IsEscape-after_backslash (b ∷ bs) = grind arith
 
 pub after_plain-escape : (c : ℕ) (u : SetChar) (us : List SetChar) → IsEscape u → after_plain c (u ∷ us) ≡ None
-after_plain-escape c (Plain b) us e = absurd e
-after_plain-escape c (Escaped b) us e = refl
-after_plain-escape c (Invalid k) us e = refl
+after_plain-escape c u us e = grind arith
 
 pub plain_run-escape : (test : ℕ → Bool) (u : SetChar) (us : List SetChar) → IsEscape u → plain_run test (u ∷ us) ≡ []
-plain_run-escape test (Plain b) us e = absurd e
-plain_run-escape test (Escaped b) us e = refl
-plain_run-escape test (Invalid k) us e = refl
+plain_run-escape test u us e = grind arith
 
 -- ---- one plain byte
 

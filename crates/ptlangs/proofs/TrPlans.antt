@@ -3,7 +3,7 @@
 use Rattle.ptlangs.proofs.Common.{complement_of}
 use Rattle.ptlangs.proofs.Common.{◌≡◌, Bool, Err, List, None, Ok, Option, Result, Some, [], ap, arith, cond, false}
 use Rattle.ptlangs.proofs.Common.{length, map, refl, sym, true, ℕ, ◌++◌, ◌-◌, ◌∙◌, ◌∷◌, ◌≢◌, result_map_both}
-use Rattle.ptlangs.proofs.Common.{and_then, ADescendingRange, AnInvalidEnd, AnInvalidChar, StartsElement, StartsInvalid}
+use Rattle.ptlangs.proofs.Common.{and_then, StartsElement, StartsInvalid}
 use Rattle.ptlangs.proofs.Common.{subst, FirstFault, LaterFault, NoElement, NoSegment, array, class_offsets}
 use Rattle.ptlangs.proofs.Common.{first_array, in_string, has_valid_classes, segment, plan, plan_of, second_plan}
 use Rattle.ptlangs.proofs.Common.{string_segments, tables, AChar}
@@ -28,8 +28,7 @@ use Rattle.ptlangs.proofs.TrCharGrammar.{chars_are_spelled}
 -- a result that comes from segments, and these segments
 pub mapped_ok : (r : Result (List Segment) SetFaultKind) {f : List Segment → Contents} (y : Contents)
     → Ok y ≡ result_map_both f (λ (k : SetFaultKind). k) r → (ps : List Segment) × (r ≡ Ok ps) × (y ≡ f ps)
-mapped_ok (Ok ps) y e = (ps, refl, cc)
-mapped_ok (Err k) y e = absurd (cc)
+mapped_ok r y e = grind arith
 
 pub mapped_at : (r : Result (List Segment) SetFaultKind) (f : List Segment → Contents) (y : Contents)
     (ps : List Segment)
@@ -146,10 +145,7 @@ element_not_memory us p rest begins fine =
 -- ---- neither have segments
 
 element_fault : (us : List SetChar) (k : SetFaultKind) → StartsInvalid us k → AreNotMemory us → k ≢ Memory
-element_fault us k (AnInvalidChar j rest) fine = let (first, _) = fine in first
-element_fault us k (AnInvalidEnd u a j rest n m) fine =
-    let (end, _) = not_memory_after (u ∷ Plain 45 ∷ []) (Invalid j ∷ rest) fine in end
-element_fault us k (ADescendingRange u v a b rest n m w h) fine = λ e. cc
+element_fault us k h fine = grind arith
 
 -- the fault of the result, if there is one, is not `Memory`
 abbrev FaultIsNotMemory : {A : Type 0} → Result A SetFaultKind → Type 0
@@ -161,8 +157,7 @@ segment_not_memory role has_fill p = grind arith
 
 fault_not_memory : {A : Type 0} (r : Result A SetFaultKind) (k : SetFaultKind) → FaultIsNotMemory r → r ≡ Err k
     → k ≢ Memory
-fault_not_memory (Ok x) k speaks e = cc
-fault_not_memory (Err j) k speaks e = λ memory. speaks (cc)
+fault_not_memory r k speaks e = grind arith
 
 first_not_memory : (role : SetRole) (has_fill : Bool) (us : List SetChar) (k : SetFaultKind)
     → FirstFault role has_fill us k → AreNotMemory us → k ≢ Memory
@@ -187,13 +182,11 @@ second_not_memory : (form : Form) (complement : Bool) (firsts : List Segment) (r
     → FaultIsNotMemory r
     → FaultIsNotMemory
     (and_then r (λ seconds. plan_with form complement firsts (first_array complement firsts) seconds))
-second_not_memory form complement firsts (Ok seconds) speaks = grind arith
-second_not_memory form complement firsts (Err k) speaks = speaks
+second_not_memory form complement firsts r speaks = grind arith
 
 of_string : {A : Type 0} (string : SetString) (r : Result A SetFaultKind) (fault : SetFault) → FaultIsNotMemory r
     → in_string string r ≡ Err fault → fault.kind ≢ Memory
-of_string string (Ok x) fault speaks e = cc
-of_string string (Err k) fault speaks e = λ memory. speaks (cc)
+of_string string r fault speaks e = grind arith
 
 rest_not_memory : (form : Form) (complement : Bool) (firsts : List Segment) (s2 : Option (List ℕ)) (fault : SetFault)
     → plan_from form complement firsts s2 ≡ Err fault → fault.kind ≢ Memory

@@ -75,21 +75,11 @@ module _ (b by : ℕ) where
 
   -- prepending does not change the sum for the bytes above
   past_front : (ss : List Stretch) (x : ℕ) → b < x → moved (prepend_shift b by ss) x ≡ moved ss x
-  past_front [] x high = sum_by-cons (λ s. shift_at s x) _ []
-      ∙ ap (λ (n : ℕ). n + 0) (past x high)
-  past_front (s ∷ ss) x high = cond_both _ _ _ (λ (all : List Stretch). moved all x ≡ moved (s ∷ ss) x)
-      (λ is. sum_by-cons _ _ ss
-      ∙ ap (λ (n : ℕ). n + moved ss x) (grown s x high is) ∙ sym (sum_by-cons _ s ss))
-      (λ is. omega (
-        arith,
-        sum_by-cons (λ s. shift_at s x) (record { first = b; last = b; by = by }) (s ∷ ss),
-        past x high,
-      ))
+  past_front ss x high = grind arith
 
   -- prepending does not make the list shorter
   front_longer : (ss : List Stretch) → length ss ≤ length (prepend_shift b by ss)
-  front_longer [] = omega arith
-  front_longer (s ∷ ss) = grind (arith, nat_tests)
+  front_longer ss = grind arith
 
 -- ---- the stretches of images
 
