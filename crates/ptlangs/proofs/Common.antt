@@ -4,8 +4,8 @@ pub use Rattle.std.proofs.Common.{false, get_or, inl, inr, length, map, not, ref
 pub use Rattle.std.proofs.Common.{take, true, zero, ℕ, ◌%◌, ◌&&◌, ◌*◌, ◌++◌, ◌+◌, ◌-◌, ◌<◌, ◌||◌, ◌∙◌, ◌∷◌, ◌≡◌, ◌≢◌}
 pub use Rattle.std.proofs.Common.{◌≤◌}
 pub use Rattle.std.proofs.Math.ListN.{set}
-pub use Rattle.std.proofs.lemmas.Bool.{and_parts, cases_Bool, cases_eq, cond-false, cond-true, eq-eqb, eqb-false}
-pub use Rattle.std.proofs.lemmas.Bool.{eqb-true, le-ltb, ltb-false, ltb-true, ne_eqb}
+pub use Rattle.std.proofs.lemmas.Bool.{and_parts, cases_Bool, cases_eq, cond-false, cond-true, eq-eqb, eqb-true, le-ltb}
+pub use Rattle.std.proofs.lemmas.Bool.{ltb-false, ltb-true, ne_eqb}
 pub use Rattle.std.proofs.lemmas.Iterator.{YieldsList-from_slice}
 pub use Rattle.std.proofs.lemmas.Iterator.Search.{position_from_yields_List}
 pub use Rattle.std.proofs.lemmas.List.{append-nil, append_assoc, drop-drop, drop_all, drop_at, drop_more}
@@ -27,16 +27,14 @@ pub use Rattle.ptlangs.specs.Numbers.{and_then, traverse, elements, max_u64, is_
 pub use Rattle.ptlangs.specs.Numbers.{cons_ok, value}
 pub use Rattle.ptlangs.specs.OutLists.{out_list}
 pub use Rattle.ptlangs.specs.TrClasses.{range_bytes, span}
-pub use Rattle.ptlangs.specs.TrElements.{ADescendingRange, AnInvalidEnd, AnInvalidChar, StartsElement, StartsInvalid}
-pub use Rattle.ptlangs.specs.TrElements.{after_plain, after_run, set_elements, plain_run}
+pub use Rattle.ptlangs.specs.TrElements.{StartsElement, StartsInvalid, after_plain, after_run, set_elements, plain_run}
 pub use Rattle.ptlangs.specs.TrPlan.{FirstFault, LaterFault, NoElement, NoSegment, array, class_offsets, sequence}
 pub use Rattle.ptlangs.specs.TrPlan.{complement_of, first_array, image_by, in_string, is_fill, has_valid_classes}
 pub use Rattle.ptlangs.specs.TrPlan.{segment, segments, segments_of, plan, plan_of, second_plan, string_segments}
 pub use Rattle.ptlangs.specs.TrShifts.{shift_at, prepend_shift, shift_of, image_of_shifts, stretches_from}
 pub use Rattle.ptlangs.specs.TrTables.{tables}
-pub use Rattle.ptlangs.specs.TrChars.{ALargeOctal, ALoneBackslash, APlainByte, AChar, AnEscape, AnOctal, NoChar}
-pub use Rattle.ptlangs.specs.TrChars.{SpellsChar, SpellsChars, after_backslash, octal, chars, SetChar, Escaped, Invalid}
-pub use Rattle.ptlangs.specs.TrChars.{Plain}
+pub use Rattle.ptlangs.specs.TrChars.{AChar, NoChar, SpellsChar, SpellsChars, after_backslash, octal, chars, SetChar}
+pub use Rattle.ptlangs.specs.TrChars.{Escaped, Invalid, Plain}
 pub use Rattle.ptlangs.specs.declared.tr.classes.CharClass.{CharClass}
 pub use Rattle.ptlangs.specs.declared.faults.SetFault.{SetFault}
 pub use Rattle.ptlangs.specs.declared.faults.SetFaultKind.{SetFaultKind}
@@ -44,7 +42,7 @@ pub use Rattle.ptlangs.specs.declared.faults.SetFaultKind.TheVariants.{ClassPlac
 pub use Rattle.ptlangs.specs.declared.tr.elements.SetElement.{SetElement}
 pub use Rattle.ptlangs.specs.declared.tr.segments.Segment.{Segment}
 pub use Rattle.ptlangs.specs.declared.tr.segments.SetRole.{SetRole}
-pub use Rattle.ptlangs.specs.declared.tr.segments.SetRole.TheVariants.{First, Images, Squeezed}
+pub use Rattle.ptlangs.specs.declared.tr.segments.SetRole.TheVariants.{First}
 pub use Rattle.ptlangs.specs.declared.tr.plan.Form.{Form}
 pub use Rattle.ptlangs.specs.declared.tr.plan.Form.TheVariants.{Delete, DeleteSqueeze, Squeeze, Translate}
 pub use Rattle.ptlangs.specs.declared.tr.plan.Form.TheVariants.{TranslateSqueeze}

@@ -1,13 +1,13 @@
 -- The lists of `cut`. An element is split at its dashes, which digits do not contain, so that the split gives its
 -- bounds back; this makes `cut_list` agree with the grammar in both directions. Merging sorted intervals keeps the set
 -- that they select.
-use Rattle.ptlangs.proofs.Common.{Result, ◌≡◌, Bool, List, None, Ok, Option, Some, [], ap, arith, cond, drop}
-use Rattle.ptlangs.proofs.Common.{false, inl, inr, length, not, refl, subst, suc, sym, take, true, ℕ, ◌&&◌, ◌++◌, ◌+◌}
-use Rattle.ptlangs.proofs.Common.{◌-◌, ◌<◌, ◌||◌, ◌∙◌, ◌∷◌, and_parts, cases_Bool, cond-false, cond-true}
-use Rattle.ptlangs.proofs.Common.{eqb-true, le-ltb, ne_eqb, All-cons, slice_split_at, slice_split_none}
-use Rattle.ptlangs.proofs.Common.{AllPass-from_list_all, is_ascii_digit, All, list_all, position, slice_split}
-use Rattle.ptlangs.proofs.Common.{IsValidInterval, cut_list, element_interval, is_dash, and_then, traverse, max_u64}
-use Rattle.ptlangs.proofs.Common.{is_empty, is_number, value, Interval, ◌≤◌, append_assoc}
+use Rattle.ptlangs.proofs.Common.{Result, ◌≡◌, Bool, List, None, Ok, Option, Some, [], ap, arith, cond, drop, false}
+use Rattle.ptlangs.proofs.Common.{inl, inr, length, not, refl, subst, suc, sym, take, true, ℕ, ◌&&◌, ◌++◌, ◌+◌, ◌-◌}
+use Rattle.ptlangs.proofs.Common.{◌<◌, ◌||◌, ◌∙◌, ◌∷◌, and_parts, cases_Bool, cond-false, cond-true, eqb-true, le-ltb}
+use Rattle.ptlangs.proofs.Common.{ne_eqb, All-cons, slice_split_at, slice_split_none, AllPass-from_list_all}
+use Rattle.ptlangs.proofs.Common.{is_ascii_digit, All, list_all, position, slice_split, IsValidInterval, cut_list}
+use Rattle.ptlangs.proofs.Common.{element_interval, is_dash, and_then, traverse, max_u64, is_empty, is_number, value}
+use Rattle.ptlangs.proofs.Common.{Interval, ◌≤◌, append_assoc}
 use Rattle.std.proofs.lemmas.Bool.{and_right, and_left, or_from}
 use Rattle.std.proofs.Common.{leb, max}
 use Rattle.std.proofs.lemmas.List.Sorted.{list_any-IsPermutation}

@@ -16,12 +16,10 @@ use Rattle.ptlangs.specs.Numbers.{IsListOf, number, Last, More}
 -- ---- splitting at the first separator
 
 none_since : (b : Bool) (i : ℕ) → cond b (Some i) None ≡ None → b ≡ false
-none_since true i h = cc
-none_since false i h = refl
+none_since b i h = grind arith
 
 pub some_since : {X : Type 0} (b : Bool) {x : X} (y : X) → cond b (Some x) None ≡ Some y → (b ≡ true) × (x ≡ y)
-some_since true y h = (refl, cc)
-some_since false y h = cc
+some_since b y h = grind arith
 
 pub split_whole : {X : Type 0} (p : X → Bool) (xs : List X) → position p xs ≡ None → slice_split p xs ≡ xs ∷ []
 split_whole p xs h =
@@ -50,8 +48,7 @@ append_ok xs (Ok ys) = Ok (xs ++ ys)
 append_ok xs (Err e) = Err e
 
 pub append_ok-nil : {A E : Type 0} (r : Result (List A) E) → append_ok [] r ≡ r
-append_ok-nil (Ok ys) = refl
-append_ok-nil (Err e) = refl
+append_ok-nil r = grind arith
 
 pub append_ok-cons_ok : {A E : Type 0} (xs : List A) (y : A) (r : Result (List A) E)
     → append_ok xs (cons_ok y r) ≡ append_ok (xs ++ y ∷ []) r
@@ -60,8 +57,7 @@ append_ok-cons_ok xs y (Err e) = refl
 
 pub cons_ok-append_ok : {A E : Type 0} (x : A) (xs : List A) (r : Result (List A) E)
     → cons_ok x (append_ok xs r) ≡ append_ok (x ∷ xs) r
-cons_ok-append_ok x xs (Ok ys) = refl
-cons_ok-append_ok x xs (Err e) = refl
+cons_ok-append_ok x xs r = grind arith
 
 -- one more element is read
 pub each_more : {A B E : Type 0} (read : A → Result B E) (x : A) (y : B) {all rest : List A} (xs : List B)

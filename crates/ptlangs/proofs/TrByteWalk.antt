@@ -4,8 +4,8 @@ use Rattle.ptlangs.proofs.Common.{◌≡◌, Bool, Err, List, None, Ok, Option, 
 use Rattle.ptlangs.proofs.Common.{false, length, map, refl, suc, sym, true, zero, ℕ, ◌&&◌, ◌++◌, ◌+◌, ◌||◌, ◌∙◌, ◌∷◌}
 use Rattle.ptlangs.proofs.Common.{◌≤◌, ◌<◌, ◌-◌, append-nil, append_assoc, length-map, length-replicate, map-append}
 use Rattle.ptlangs.proofs.Common.{slice_get, cons_ok, array, class_offsets, sequence, is_fill, segment, result_map_both}
-use Rattle.ptlangs.proofs.Common.{CharClass, SetFaultKind, SetElement, Segment, SetRole}
-use Rattle.ptlangs.proofs.Common.{eq-eqb, ne_eqb, drop_all, replicate, span, segments_of, string_segments}
+use Rattle.ptlangs.proofs.Common.{CharClass, SetFaultKind, SetElement, Segment, SetRole, eq-eqb, ne_eqb, drop_all}
+use Rattle.ptlangs.proofs.Common.{replicate, span, segments_of, string_segments}
 use Rattle.ptlangs.specs.TrPlan.{are_paired, members, has_other_case_at}
 use Rattle.std.proofs.lemmas.List.{drop-map, drop-replicate}
 use Rattle.std.specs.Result.{IsErrAnd}
@@ -278,8 +278,7 @@ stands_here (m ∷ ms) at (suc i) k class e = by_class m.class (stands_here ms _
     by_class (Some c) later = rw (ne_eqb at k (λ z. omega (arith, e))) later
 
 matches_none : (o : Option CharClass) → classes_match o None ≡ true
-matches_none None = refl
-matches_none (Some c) = refl
+matches_none o = cc
 
 -- one byte of the second array against the first array from the same index on
 pub all_paired-more : (i : ℕ) (from : List Member) (t : Member) (to : List Member)

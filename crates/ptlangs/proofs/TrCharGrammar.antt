@@ -4,12 +4,13 @@ use Rattle.ptlangs.proofs.Common.{◌≡◌, ◌≤◌, ◌<◌, ◌+◌, ◌-�
 use Rattle.ptlangs.proofs.Common.{◌∷◌, length, take, drop, get_or, arith, refl, sym, ap, ◌∙◌, rules, Option, Some, None}
 use Rattle.ptlangs.proofs.Common.{prefix_len, slice_get, digit_value, digits_value, drop_more, drop_all, drop-drop}
 use Rattle.ptlangs.proofs.Common.{length-prefix_len, octal, chars, after_backslash, SetChar, Plain, Escaped, Invalid}
-use Rattle.ptlangs.proofs.Common.{inl, inr, subst, ◌++◌, cases_Bool, cases_eq, ne_eqb, drop_at, length-append}
-use Rattle.ptlangs.proofs.Common.{ALargeOctal, ALoneBackslash, APlainByte, AChar, AnEscape, AnOctal, NoChar, SpellsChar}
-use Rattle.ptlangs.proofs.Common.{SpellsChars, cond-false, cond-true, value, Result, Ok, Err, SetFaultKind}
+use Rattle.ptlangs.proofs.Common.{inl, inr, subst, ◌++◌, cases_Bool, cases_eq, ne_eqb, drop_at, length-append, AChar}
+use Rattle.ptlangs.proofs.Common.{NoChar, SpellsChar, SpellsChars, cond-false, cond-true, value, Result, Ok, Err}
+use Rattle.ptlangs.proofs.Common.{SetFaultKind}
+use Rattle.ptlangs.specs.TrChars.{ALargeOctal, ALoneBackslash, APlainByte, AnEscape, AnOctal, is_octal_digit, octal_run}
+use Rattle.ptlangs.specs.TrChars.{IsOctalRun, OneDigit, ThreeDigits, TwoDigits, CharsMatchGrammar, byte_of, char_at}
+use Rattle.ptlangs.specs.TrChars.{chars_after}
 use Rattle.std.proofs.Common.{nat_le, All}
-use Rattle.ptlangs.specs.TrChars.{is_octal_digit, octal_run, IsOctalRun, OneDigit, ThreeDigits, TwoDigits}
-use Rattle.ptlangs.specs.TrChars.{CharsMatchGrammar, byte_of, char_at, chars_after}
 use Rattle.std.proofs.lemmas.Bool.{lt-leb, le-leb}
 use Rattle.std.proofs.lemmas.List.{length-take, take-take, get_or-take}
 use Rattle.std.proofs.lemmas.List.Sums.{prefix_len-le-length, prefix_len_passes}

@@ -3,23 +3,22 @@
 -- rejected with the fault of its first faulty element.
 use Rattle.ptlangs.proofs.Common.{◌≡◌, ◌<◌, ◌-◌, ℕ, zero, suc, Bool, true, false, List, [], ◌∷◌, ◌++◌, length, drop}
 use Rattle.ptlangs.proofs.Common.{map, arith, refl, sym, ap, subst, ◌∙◌, Option, Some, None, Result, Ok, Err, list_all}
-use Rattle.ptlangs.proofs.Common.{option_and_then, is_ascii_digit, is_ascii_lowercase, ltb-false, le-ltb}
-use Rattle.ptlangs.proofs.Common.{ne_eqb, length-map, length-append, append_assoc, drop_at, drop_all, SetFaultKind}
-use Rattle.ptlangs.proofs.Common.{SetChar, Plain, Escaped, Invalid, SetElement, StartsElement, after_plain, plain_run}
-use Rattle.ptlangs.proofs.Common.{after_run, set_elements, ◌||◌, ◌≤◌, and_parts, ltb-true, drop_more, result_map_both}
-use Rattle.ptlangs.proofs.Common.{ADescendingRange, AnInvalidEnd, AnInvalidChar, StartsInvalid, FirstFault, LaterFault}
-use Rattle.ptlangs.proofs.Common.{NoElement, NoSegment, sequence, is_fill, segment, segments, chars, CharClass, Segment}
-use Rattle.ptlangs.proofs.Common.{SetRole}
+use Rattle.ptlangs.proofs.Common.{option_and_then, is_ascii_digit, is_ascii_lowercase, ltb-false, le-ltb, ne_eqb}
+use Rattle.ptlangs.proofs.Common.{length-map, length-append, append_assoc, drop_at, drop_all, SetFaultKind, SetChar}
+use Rattle.ptlangs.proofs.Common.{Plain, Escaped, Invalid, SetElement, StartsElement, after_plain, plain_run, after_run}
+use Rattle.ptlangs.proofs.Common.{set_elements, ◌||◌, ◌≤◌, and_parts, ltb-true, drop_more, result_map_both}
+use Rattle.ptlangs.proofs.Common.{StartsInvalid, FirstFault, LaterFault, NoElement, NoSegment, sequence, is_fill}
+use Rattle.ptlangs.proofs.Common.{segment, segments, chars, CharClass, Segment, SetRole}
+use Rattle.ptlangs.specs.TrElements.{ADescendingRange, AnInvalidEnd, AnInvalidChar, StartsBracketed, ARepeat, AClass}
+use Rattle.ptlangs.specs.TrElements.{AnEquivalence, InBrackets, ARange, Alone, AreElements, ByEscape, ByItself}
+use Rattle.ptlangs.specs.TrElements.{DenotesByte, HasBracketed, after_two, class_at, class_after_colon, class_with_name}
+use Rattle.ptlangs.specs.TrElements.{equivalence_at, equivalence_with_byte, equivalence_after_equals, first_set_element}
+use Rattle.ptlangs.specs.TrElements.{bracketed_at, bracketed_inside, single_or_range, char_or_range, is_plain, or_char}
+use Rattle.ptlangs.specs.TrElements.{elements_after, range_to, repeat_at, repeat_count, repeat_after_star, with_rest}
 use Rattle.std.proofs.Common.{nat_lt}
 use Rattle.std.specs.Option.{option_or}
 use Rattle.ptlangs.specs.TrChars.{byte_of}
 use Rattle.ptlangs.specs.TrClasses.{class_named}
-use Rattle.ptlangs.specs.TrElements.{StartsBracketed, ARepeat, AClass, AnEquivalence, InBrackets, ARange, Alone}
-use Rattle.ptlangs.specs.TrElements.{AreElements, ByEscape, ByItself, DenotesByte, HasBracketed, after_two, class_at}
-use Rattle.ptlangs.specs.TrElements.{class_after_colon, class_with_name, equivalence_at, equivalence_with_byte}
-use Rattle.ptlangs.specs.TrElements.{equivalence_after_equals, first_set_element, bracketed_at, bracketed_inside}
-use Rattle.ptlangs.specs.TrElements.{single_or_range, char_or_range, is_plain, or_char, elements_after, range_to}
-use Rattle.ptlangs.specs.TrElements.{repeat_at, repeat_count, repeat_after_star, with_rest}
 use Rattle.ptlangs.specs.TrPlan.{FirstFaultIsReported}
 use Rattle.ptlangs.specs.declared.tr.elements.SetElement.TheVariants.{Repeat, Class, Equivalence, Single}
 use Rattle.std.proofs.lemmas.Bool.{cond_both}
@@ -388,8 +387,7 @@ first_set_element-faulty us k (ADescendingRange u v a b rest n m w h) =
 
 rest_fails : (x : Segment) (r : Result (List Segment) SetFaultKind) (k : SetFaultKind)
     → result_map_both (λ (xs : List Segment). x ∷ xs) (λ (e : SetFaultKind). e) r ≡ Err k → r ≡ Err k
-rest_fails x (Ok xs) k e = cc
-rest_fails x (Err j) k e = e
+rest_fails x r k e = grind arith
 
 module _ (role : SetRole) where
   fault_is : (has_fill : Bool) (us : List SetChar) {k : SetFaultKind} → FirstFault role has_fill us k

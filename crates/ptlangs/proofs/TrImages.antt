@@ -154,8 +154,7 @@ split_ok [] t after e = absurd (cc)
 split_ok (x ∷ rest) t after e = let same : x ≡ t = cc in (rest, ap (λ y. y ∷ rest) same, cc)
 
 unmatched : (class : Option CharClass) → classes_match None class ≡ not (is_some class)
-unmatched None = refl
-unmatched (Some class) = refl
+unmatched class = grind arith
 
 -- no class starts in bytes that are passed as copies of one
 plain-passed : (bytes : List ℕ) (rest : List Member) (after : List (Result Member SetFaultKind))
@@ -210,8 +209,7 @@ unpaired_answer paired images r k is kind wrong = grind arith
 
 pub answer_ok : (paired : Bool) {images table : List ℕ} → Ok table ≡ answer_of paired images
     → (paired ≡ true) × (table ≡ images)
-answer_ok true e = (refl, cc)
-answer_ok false e = absurd (cc)
+answer_ok paired e = grind arith
 
 pub answer_fault : (paired : Bool) (images : List ℕ) (k : SetFaultKind) → Err k ≡ answer_of paired images
     → (paired ≡ false) × (k ≡ ClassPlace)

@@ -20,8 +20,7 @@ pub IsEscape-octal : (value : ℕ) → IsEscape (octal value)
 IsEscape-octal value = grind arith
 
 pub IsEscape-after_backslash : (bs : List ℕ) → IsEscape (after_backslash bs).0
-IsEscape-after_backslash [] = tt
-IsEscape-after_backslash (b ∷ bs) = grind arith
+IsEscape-after_backslash bs = grind arith
 
 pub after_plain-escape : (c : ℕ) (u : SetChar) (us : List SetChar) → IsEscape u → after_plain c (u ∷ us) ≡ None
 after_plain-escape c u us e = grind arith

@@ -1,15 +1,13 @@
 -- The plan of two strings, step by step, and its tables. Reading never fails for lack of memory: no character, no
 -- element and no segment has that fault.
-use Rattle.ptlangs.proofs.Common.{complement_of}
-use Rattle.ptlangs.proofs.Common.{◌≡◌, Bool, Err, List, None, Ok, Option, Result, Some, [], ap, arith, cond, false}
-use Rattle.ptlangs.proofs.Common.{length, map, refl, sym, true, ℕ, ◌++◌, ◌-◌, ◌∙◌, ◌∷◌, ◌≢◌, result_map_both}
-use Rattle.ptlangs.proofs.Common.{and_then, StartsElement, StartsInvalid}
-use Rattle.ptlangs.proofs.Common.{subst, FirstFault, LaterFault, NoElement, NoSegment, array, class_offsets}
-use Rattle.ptlangs.proofs.Common.{first_array, in_string, has_valid_classes, segment, plan, plan_of, second_plan}
-use Rattle.ptlangs.proofs.Common.{string_segments, tables, AChar}
-use Rattle.ptlangs.proofs.Common.{NoChar, SpellsChar, SpellsChars, chars, SetFault, SetFaultKind, ClassPlace}
-use Rattle.ptlangs.proofs.Common.{SetElement, Segment, SetRole, First, Form, Delete, DeleteSqueeze}
-use Rattle.ptlangs.proofs.Common.{Squeeze, Translate, TranslateSqueeze, SetChar, Escaped, Invalid, Plain}
+use Rattle.ptlangs.proofs.Common.{complement_of, ◌≡◌, Bool, Err, List, None, Ok, Option, Result, Some, [], ap, arith}
+use Rattle.ptlangs.proofs.Common.{cond, false, length, map, refl, sym, true, ℕ, ◌++◌, ◌-◌, ◌∙◌, ◌∷◌, ◌≢◌}
+use Rattle.ptlangs.proofs.Common.{result_map_both, and_then, StartsElement, StartsInvalid, subst, FirstFault}
+use Rattle.ptlangs.proofs.Common.{LaterFault, NoElement, NoSegment, array, class_offsets, first_array, in_string}
+use Rattle.ptlangs.proofs.Common.{has_valid_classes, segment, plan, plan_of, second_plan, string_segments, tables}
+use Rattle.ptlangs.proofs.Common.{AChar, NoChar, SpellsChar, SpellsChars, chars, SetFault, SetFaultKind, ClassPlace}
+use Rattle.ptlangs.proofs.Common.{SetElement, Segment, SetRole, First, Form, Delete, DeleteSqueeze, Squeeze, Translate}
+use Rattle.ptlangs.proofs.Common.{TranslateSqueeze, SetChar, Escaped, Invalid, Plain}
 use Rattle.ptlangs.specs.TrPlan.{image_of, is_deleted, is_squeezed, NoMemoryFault, Plan, fill_count, plan_from}
 use Rattle.ptlangs.specs.TrPlan.{plan_with, second_role, takes_second}
 use Rattle.ptlangs.specs.declared.faults.SetFaultKind.TheVariants.{Memory}
@@ -71,8 +69,7 @@ valid-paired form false firsts ps n other = grind (arith, paired-arrays n firsts
 -- a result of which only the fault was changed
 pub in_string-ok : {A : Type 0} (string : SetString) (r : Result A SetFaultKind) (x : A) → Ok x ≡ in_string string r
     → Ok x ≡ r
-in_string-ok string (Ok y) x e = cc
-in_string-ok string (Err k) x e = cc
+in_string-ok string r x e = grind arith
 
 -- the plan of two strings, the first of which has no fault
 pub plan_two : (form : Form) (complement : Bool) (s1 s2 : List ℕ) (firsts : List Segment)
