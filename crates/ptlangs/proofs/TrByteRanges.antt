@@ -4,13 +4,10 @@ use Rattle.ptlangs.proofs.Common.{◌≡◌, ◌<◌, ◌≤◌, ◌+◌, ◌-�
 use Rattle.ptlangs.proofs.Common.{arith, refl, sym, ap, ◌∙◌, Option, Some, None, slice_get, flat_map, drop_more}
 use Rattle.ptlangs.proofs.Common.{length-replicate, CharClass, span, range_bytes, get_or-replicate}
 use Rattle.ptlangs.specs.TrClasses.{class_bytes}
-use Rattle.std.proofs.Common.{lit≤}
 use Rattle.std.proofs.Math.ListN.{get_or}
 use Rattle.std.proofs.lemmas.List.FromFn.{get_or-range_with_len, length-range_with_len}
 use Rattle.std.proofs.lemmas.Option.{slice_get-get_or, slice_get_past, slice_get_within}
 use Rattle.std.specs.Prelude.{◌^◌, IfSome}
-use Rattle.ptlangs.specs.declared.tr.classes.CharClass.TheVariants.{Alnum, Alpha, Blank, Cntrl, Digit, Graph, Lower}
-use Rattle.ptlangs.specs.declared.tr.classes.CharClass.TheVariants.{Print, Punct, Space, Upper, Xdigit}
 
 pub slice_get-left : {X : Type 0} (xs ys : List X) (i : ℕ) → i < length xs → slice_get (xs ++ ys) i ≡ slice_get xs i
 slice_get-left [] ys i h = absurd (omega arith)
@@ -57,18 +54,7 @@ pub ranges_next : (rs : List (ℕ × ℕ)) (i left count : ℕ) (d : ℕ × ℕ)
 ranges_next rs i left count d h e past = grind (arith, slice_get-right, drop_more)
 
 class_bytes-size : (class : CharClass) → (0 < length (class_bytes class)) × (length (class_bytes class) ≤ 256)
-class_bytes-size Alnum = (lit≤ tt, lit≤ tt)
-class_bytes-size Alpha = (lit≤ tt, lit≤ tt)
-class_bytes-size Blank = (lit≤ tt, lit≤ tt)
-class_bytes-size Cntrl = (lit≤ tt, lit≤ tt)
-class_bytes-size Digit = (lit≤ tt, lit≤ tt)
-class_bytes-size Graph = (lit≤ tt, lit≤ tt)
-class_bytes-size Lower = (lit≤ tt, lit≤ tt)
-class_bytes-size Print = (lit≤ tt, lit≤ tt)
-class_bytes-size Punct = (lit≤ tt, lit≤ tt)
-class_bytes-size Space = (lit≤ tt, lit≤ tt)
-class_bytes-size Upper = (lit≤ tt, lit≤ tt)
-class_bytes-size Xdigit = (lit≤ tt, lit≤ tt)
+class_bytes-size class = grind arith
 
 pub class_bytes-some : (class : CharClass) → 0 < length (class_bytes class)
 class_bytes-some class = let (some, _) = class_bytes-size class in some
