@@ -4,7 +4,7 @@ pub use Rattle.std.proofs.Common.{false, get_or, inl, inr, length, map, not, ref
 pub use Rattle.std.proofs.Common.{take, true, zero, ℕ, ◌%◌, ◌&&◌, ◌*◌, ◌++◌, ◌+◌, ◌-◌, ◌<◌, ◌||◌, ◌∙◌, ◌∷◌, ◌≡◌, ◌≢◌}
 pub use Rattle.std.proofs.Common.{◌≤◌}
 pub use Rattle.std.proofs.Math.ListN.{set}
-pub use Rattle.std.proofs.lemmas.Bool.{and_parts, cases_Bool, cases_eq, cond-false, cond-true, eq-eqb, eqb-true, le-ltb}
+pub use Rattle.std.proofs.lemmas.Bool.{and_parts, cases_Bool, cases_eq, cond-false, cond-true, eq-eqb, eqb-true}
 pub use Rattle.std.proofs.lemmas.Bool.{ltb-false, ltb-true, ne_eqb}
 pub use Rattle.std.proofs.lemmas.Iterator.{YieldsList-from_slice}
 pub use Rattle.std.proofs.lemmas.Iterator.Search.{position_from_yields_List}

@@ -2,13 +2,11 @@
 -- bounds back; this makes `cut_list` agree with the grammar in both directions. Merging sorted intervals keeps the set
 -- that they select.
 use Rattle.ptlangs.proofs.Common.{Result, ◌≡◌, Bool, List, None, Ok, Option, Some, [], ap, arith, cond, drop, false}
-use Rattle.ptlangs.proofs.Common.{inl, inr, length, not, refl, subst, suc, sym, take, true, ℕ, ◌&&◌, ◌++◌, ◌+◌, ◌-◌}
-use Rattle.ptlangs.proofs.Common.{◌<◌, ◌||◌, ◌∙◌, ◌∷◌, and_parts, cases_Bool, cond-false, cond-true, eqb-true, le-ltb}
-use Rattle.ptlangs.proofs.Common.{ne_eqb, All-cons, slice_split_at, slice_split_none, AllPass-from_list_all}
-use Rattle.ptlangs.proofs.Common.{is_ascii_digit, All, list_all, position, slice_split, IsValidInterval, cut_list}
-use Rattle.ptlangs.proofs.Common.{element_interval, is_dash, and_then, traverse, max_u64, is_empty, is_number, value}
-use Rattle.ptlangs.proofs.Common.{Interval, ◌≤◌, append_assoc}
-use Rattle.std.proofs.lemmas.Bool.{and_right, and_left, or_from}
+use Rattle.ptlangs.proofs.Common.{inl, inr, length, refl, subst, suc, sym, take, true, ℕ, ◌&&◌, ◌++◌, ◌+◌, ◌-◌, ◌<◌}
+use Rattle.ptlangs.proofs.Common.{◌||◌, ◌∙◌, ◌∷◌, and_parts, cases_Bool, cond-true, eqb-true, All-cons, slice_split_at}
+use Rattle.ptlangs.proofs.Common.{slice_split_none, AllPass-from_list_all, is_ascii_digit, All, list_all, position}
+use Rattle.ptlangs.proofs.Common.{slice_split, IsValidInterval, cut_list, element_interval, is_dash, and_then, traverse}
+use Rattle.ptlangs.proofs.Common.{is_empty, is_number, value, Interval, ◌≤◌, append_assoc}
 use Rattle.std.proofs.Common.{leb, max}
 use Rattle.std.proofs.lemmas.List.Sorted.{list_any-IsPermutation}
 use Rattle.std.proofs.lemmas.List.Splits.{join_with_byte-slice_split, length-slice_split}
@@ -36,10 +34,7 @@ bound_is_one_part (b ∷ bs) h =
     (AllPass-from_list_all is_ascii_digit (b ∷ bs) h k d below))
 
 bounds_rejected : (n m : List ℕ) → is_bound m ≡ false → interval_of_bounds n m ≡ None
-bounds_rejected n m h =
-    let some = not _ in
-    cond-false _ _ None
-    (and_left _ some (and_right _ _ h))
+bounds_rejected n m h = grind arith
 
 rejected : (n m : List ℕ) → (parts : List (List ℕ)) → 0 < length parts → join_with_byte 45 parts ≡ m
     → is_bound m ≡ false → interval_of_parts (n ∷ parts) ≡ None
@@ -121,15 +116,7 @@ selection_is_kept bs listed sorted kept e p same =
 -- ---- from the grammar to `cut_list`
 
 checked_ok : (r : Interval) → IsValidInterval r → checked_interval (Some r) ≡ Ok r
-checked_ok r proper =
-    let large =
-    or_from _ _ (le-ltb max_u64 r.first (omega (arith, proper.fits)))
-    (le-ltb max_u64 r.last proper.fits) in
-    let zero =
-    or_from _ _ (ne_eqb r.first 0 (λ e. omega (arith, e)))
-    (ne_eqb r.last 0 (λ e. omega (arith, proper.positive, e))) in
-    let falls = le-ltb r.last r.first proper.ascending in
-    rw (large, zero, falls) refl
+checked_ok r proper = grind arith
 
 parts_of_element : (bs : List ℕ) (r : Interval) → SpellsInterval bs r
     → (is_empty bs ≡ false) × (interval_of_parts (slice_split is_dash bs) ≡ Some r)

@@ -37,7 +37,7 @@ abbrev Spells : ℕ → Option ℕ → Result (Option ℕ) DelimFault → Type 0
 Spells c d r = r ≡ Ok d → IsDelim (backslash ∷ c ∷ []) d
 
 spelled_by : (c b : ℕ) (d e : Option ℕ) → eqb c b ≡ true → IsDelim (backslash ∷ b ∷ []) e → Spells c d (Ok e)
-spelled_by c b d e t says h = let is : e ≡ d = cc in rw (eqb-true c b t) (subst (IsDelim _) is says)
+spelled_by c b d e h h2 = grind arith
 
 escape_is_spelled : (c : ℕ) (d : Option ℕ) → Spells c d (escape c)
 escape_is_spelled c d =
@@ -119,5 +119,4 @@ module _ (text left : List ℕ) (so_far : result_err (delim_list text) ≡ resul
   pub left_without_fault : (d : Option ℕ) (remaining : List ℕ) → 0 < length remaining
       → delim_list left ≡ cons_ok d (delims remaining)
       → result_err (delim_list text) ≡ result_err (delim_list remaining)
-  left_without_fault d remaining some is = so_far ∙ ap result_err is ∙ keeps_fault d _
-      ∙ ap result_err (delims_of_some remaining some)
+  left_without_fault d remaining some is = grind arith

@@ -1,8 +1,8 @@
 -- The output lists of `join`: an element is `0`, or the number of a file, a point and a number, and `element_field`
 -- tests exactly this. So `out_list` agrees with the grammar in both directions.
 use Rattle.ptlangs.proofs.Common.{Result, ◌≡◌, ℕ, ◌≤◌, true, false, not, eqb, List, [], ◌∷◌, Ok, refl, subst, arith}
-use Rattle.ptlangs.proofs.Common.{le-ltb, ltb-false, ne_eqb, eqb-true, max_u64, is_number, value, is_list_separator}
-use Rattle.std.proofs.lemmas.Bool.{eqb-false, cond_both, not-false}
+use Rattle.ptlangs.proofs.Common.{eqb-true, max_u64, is_number, value, is_list_separator}
+use Rattle.std.proofs.lemmas.Bool.{cond_both, not-false}
 use Rattle.ptlangs.proofs.ListElements.{Unbroken, matches_grammar, unbroken_cons, unbroken_nil, unbroken_number}
 use Rattle.ptlangs.specs.declared.outlist.OutFault.{OutFault}
 use Rattle.ptlangs.specs.OutLists.{element_field, SpellsField, IsValidField, IsFieldElement, OutListMatchesGrammar}
@@ -16,10 +16,7 @@ use Rattle.ptlangs.specs.declared.outlist.OutField.TheVariants.{Join, Field}
 
 field_accepted : (file : File) (n : List ℕ) → is_number n ≡ true → 1 ≤ value n → value n ≤ max_u64
     → field_of file n ≡ Ok (Field file (value n))
-field_accepted file n h positive fits =
-    let small = le-ltb max_u64 _ fits in
-    let some = ne_eqb (value n) 0 (λ e. omega (arith, e)) in
-    rw (h, small, some) refl
+field_accepted file n h positive fits = grind arith
 
 accepts_element : (e : List ℕ) (f : OutField) → SpellsField e f → IsValidField f → element_field e ≡ Ok f
 accepts_element e f JoinField proper = refl
@@ -47,16 +44,7 @@ Spelled e f r = r ≡ Ok f → IsFieldElement e f
 spelled_field : (file : File) (name : ℕ) (n : List ℕ) (f : OutField)
     → (is_number n ≡ true → SpellsField (name ∷ 46 ∷ n) (Field file (value n)))
     → Spelled (name ∷ 46 ∷ n) f (field_of file n)
-spelled_field file name n f says =
-    cond_both _ _ _ (Spelled _ f) (λ t h. cc)
-    (λ number. cond_both _ _ _ (Spelled _ f) (λ t h. cc)
-    (λ fits. cond_both (eqb (value n) 0) _ _ (Spelled _ f) (λ t h. cc)
-    (λ some h.
-    let is : Field file _ ≡ f = cc in
-    subst (IsFieldElement _) is (
-      says (not-false _ number),
-      (omega (arith, eqb-false _ 0 some), ltb-false max_u64 _ fits),
-    ))))
+spelled_field file name n f says = grind arith
 
 reads_element : (e : List ℕ) (f : OutField) → Spelled e f (element_field e)
 reads_element [] f = λ h. cc

@@ -53,14 +53,11 @@ pub ranges_next : (rs : List (ℕ × ℕ)) (i left count : ℕ) (d : ℕ × ℕ)
     ≡ slice_get (flat_map range_bytes (drop i rs)) left
 ranges_next rs i left count d h e past = grind (arith, slice_get-right, drop_more)
 
-class_bytes-size : (class : CharClass) → (0 < length (class_bytes class)) × (length (class_bytes class) ≤ 256)
-class_bytes-size class = grind arith
-
 pub class_bytes-some : (class : CharClass) → 0 < length (class_bytes class)
-class_bytes-some class = let (some, _) = class_bytes-size class in some
+class_bytes-some class = grind arith
 
 pub class_bytes-short : (class : CharClass) → length (class_bytes class) ≤ 256
-class_bytes-short class = let (_, short) = class_bytes-size class in short
+class_bytes-short class = grind arith
 
 -- an index within a list that is no longer than a number of 128 bits can be counted up
 pub room : (bytes : List ℕ) (i : ℕ) (found : Option ℕ) → found ≡ slice_get bytes i → length bytes < 2 ^ 128

@@ -3,12 +3,13 @@
 -- rejected with the fault of its first faulty element.
 use Rattle.ptlangs.proofs.Common.{◌≡◌, ◌<◌, ◌-◌, ℕ, zero, suc, Bool, true, false, List, [], ◌∷◌, ◌++◌, length, drop}
 use Rattle.ptlangs.proofs.Common.{map, arith, refl, sym, ap, subst, ◌∙◌, Option, Some, None, Result, Ok, Err, list_all}
-use Rattle.ptlangs.proofs.Common.{option_and_then, is_ascii_digit, is_ascii_lowercase, ltb-false, le-ltb, ne_eqb}
-use Rattle.ptlangs.proofs.Common.{length-map, length-append, append_assoc, drop_at, drop_all, SetFaultKind, SetChar}
-use Rattle.ptlangs.proofs.Common.{Plain, Escaped, Invalid, SetElement, StartsElement, after_plain, plain_run, after_run}
-use Rattle.ptlangs.proofs.Common.{set_elements, ◌||◌, ◌≤◌, and_parts, ltb-true, drop_more, result_map_both}
-use Rattle.ptlangs.proofs.Common.{StartsInvalid, FirstFault, LaterFault, NoElement, NoSegment, sequence, is_fill}
-use Rattle.ptlangs.proofs.Common.{segment, segments, chars, CharClass, Segment, SetRole}
+use Rattle.ptlangs.proofs.Common.{option_and_then, is_ascii_digit, is_ascii_lowercase, ltb-false, ne_eqb, length-map}
+use Rattle.ptlangs.proofs.Common.{length-append, append_assoc, drop_at, drop_all, SetFaultKind, SetChar, Plain, Escaped}
+use Rattle.ptlangs.proofs.Common.{Invalid, SetElement, StartsElement, after_plain, plain_run, after_run, set_elements}
+use Rattle.ptlangs.proofs.Common.{◌||◌, ◌≤◌, and_parts, ltb-true, drop_more, result_map_both, StartsInvalid, FirstFault}
+use Rattle.ptlangs.proofs.Common.{LaterFault, NoElement, NoSegment, sequence, is_fill, segment, segments, chars}
+use Rattle.ptlangs.proofs.Common.{CharClass, Segment, SetRole}
+use Rattle.std.proofs.lemmas.Bool.{le-ltb, cond_both}
 use Rattle.ptlangs.specs.TrElements.{ADescendingRange, AnInvalidEnd, AnInvalidChar, StartsBracketed, ARepeat, AClass}
 use Rattle.ptlangs.specs.TrElements.{AnEquivalence, InBrackets, ARange, Alone, AreElements, ByEscape, ByItself}
 use Rattle.ptlangs.specs.TrElements.{DenotesByte, HasBracketed, after_two, class_at, class_after_colon, class_with_name}
@@ -21,7 +22,6 @@ use Rattle.ptlangs.specs.TrChars.{byte_of}
 use Rattle.ptlangs.specs.TrClasses.{class_named}
 use Rattle.ptlangs.specs.TrPlan.{FirstFaultIsReported}
 use Rattle.ptlangs.specs.declared.tr.elements.SetElement.TheVariants.{Repeat, Class, Equivalence, Single}
-use Rattle.std.proofs.lemmas.Bool.{cond_both}
 use Rattle.ptlangs.proofs.TrPlainRuns.{list_all-plain_run}
 
 -- ---- from the computed elements to the grammar
@@ -42,11 +42,7 @@ run_split test (Invalid k ∷ us) = refl
 after_plain_cases : (Q : List SetChar → Option (List SetChar) → Type 0) (c : ℕ) (us : List SetChar)
     → ((vs : List SetChar) → Q vs None) → ((rest : List SetChar) → Q (Plain c ∷ rest) (Some rest))
     → Q us (after_plain c us)
-after_plain_cases Q c us none some = by_behind _ refl
-  where
-    by_behind : (o : Option (List SetChar)) → after_plain c us ≡ o → Q us o
-    by_behind None e = none us
-    by_behind (Some rest) e = grind arith
+after_plain_cases Q c us none some = grind arith
 
 after_two_cases : (Q : List SetChar → Option (List SetChar) → Type 0) (c d : ℕ) (us : List SetChar)
     → ((vs : List SetChar) → Q vs None) → ((rest : List SetChar) → Q (Plain c ∷ Plain d ∷ rest) (Some rest))

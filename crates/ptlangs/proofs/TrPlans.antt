@@ -76,13 +76,7 @@ pub plan_two : (form : Form) (complement : Bool) (s1 s2 : List ℕ) (firsts : Li
     → string_segments First s1 ≡ Ok firsts
     → in_string string.Second (result_map_both tables (λ (k : SetFaultKind). k) (second_plan form complement firsts s2))
     ≡ result_map_both tables (λ (f : SetFault). f) (plan form complement s1 (Some s2))
-plan_two form complement s1 s2 firsts s = rw s (choose _)
-  where
-    choose : (r : Result Plan SetFaultKind)
-        → in_string string.Second (result_map_both tables (λ (k : SetFaultKind). k) r)
-        ≡ result_map_both tables (λ (f : SetFault). f) (in_string string.Second r)
-    choose (Ok p) = refl
-    choose (Err k) = refl
+plan_two form complement s1 s2 firsts s = grind arith
 
 -- ---- the three tables of a plan
 
