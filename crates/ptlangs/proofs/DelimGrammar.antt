@@ -109,9 +109,6 @@ delim_fault : (bs : List ℕ) → IsOfText (delim_list bs)
 delim_fault [] = refl
 delim_fault (b ∷ bs) = delims_fault (b ∷ bs)
 
-keeps_fault : (d : Option ℕ) (r : Result (List (Option ℕ)) DelimFault) → result_err (cons_ok d r) ≡ result_err r
-keeps_fault d r = grind arith
-
 module _ (text left : List ℕ) (so_far : result_err (delim_list text) ≡ result_err (delim_list left)) where
   pub left_fault : (e : DelimFault) → delim_list left ≡ Err e → result_err (delim_list text) ≡ delim_list_fault e
   left_fault e bad = so_far ∙ ap result_err bad ∙ sym (subst IsOfText bad (delim_fault left))

@@ -277,9 +277,6 @@ stands_here (m ∷ ms) at (suc i) k class e = by_class m.class (stands_here ms _
     by_class None later = later
     by_class (Some c) later = rw (ne_eqb at k (λ z. omega (arith, e))) later
 
-matches_none : (o : Option CharClass) → classes_match o None ≡ true
-matches_none o = cc
-
 -- one byte of the second array against the first array from the same index on
 pub all_paired-more : (i : ℕ) (from : List Member) (t : Member) (to : List Member)
     → all_paired (drop i from) (t ∷ to)

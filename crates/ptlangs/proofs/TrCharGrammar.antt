@@ -2,14 +2,13 @@
 -- bytes from there on, which gives the agreement with the grammar, character by character.
 use Rattle.ptlangs.proofs.Common.{◌≡◌, ◌≤◌, ◌<◌, ◌+◌, ◌-◌, ◌*◌, ℕ, zero, suc, Bool, true, false, cond, eqb, List, []}
 use Rattle.ptlangs.proofs.Common.{◌∷◌, length, take, drop, get_or, arith, refl, sym, ap, ◌∙◌, rules, Option, Some, None}
-use Rattle.ptlangs.proofs.Common.{prefix_len, slice_get, digit_value, digits_value, drop_more, drop_all, drop-drop}
+use Rattle.ptlangs.proofs.Common.{prefix_len, slice_get, digit_value, digits_value, drop_more, drop-drop}
 use Rattle.ptlangs.proofs.Common.{length-prefix_len, octal, chars, after_backslash, SetChar, Plain, Escaped, Invalid}
 use Rattle.ptlangs.proofs.Common.{inl, inr, subst, ◌++◌, cases_Bool, cases_eq, ne_eqb, drop_at, length-append, AChar}
 use Rattle.ptlangs.proofs.Common.{NoChar, SpellsChar, SpellsChars, cond-false, cond-true, value, Result, Ok, Err}
 use Rattle.ptlangs.proofs.Common.{SetFaultKind}
 use Rattle.ptlangs.specs.TrChars.{ALargeOctal, ALoneBackslash, APlainByte, AnEscape, AnOctal, is_octal_digit, octal_run}
 use Rattle.ptlangs.specs.TrChars.{IsOctalRun, OneDigit, ThreeDigits, TwoDigits, CharsMatchGrammar, byte_of, char_at}
-use Rattle.ptlangs.specs.TrChars.{chars_after}
 use Rattle.std.proofs.Common.{nat_le, All}
 use Rattle.std.proofs.lemmas.Bool.{lt-leb, le-leb}
 use Rattle.std.proofs.lemmas.List.{length-take, take-take, get_or-take}
@@ -89,12 +88,6 @@ octal_char bs c count o e t n v =
         ≡ byte_of (cond fits (Escaped (digits_value 8 (octal_run bs))) (Invalid Octal))
     choose true = refl
     choose false = refl
-
--- the characters after the first `skip` bytes are those of the rest
-pub chars_after_is : (bs : List ℕ) (skip : ℕ) → chars_after bs skip ≡ chars (drop skip bs)
-chars_after_is [] skip = ap chars (sym (drop_all skip [] (omega arith)))
-chars_after_is (b ∷ bs) zero = refl
-chars_after_is (b ∷ bs) (suc skip) = chars_after_is bs skip
 
 pub chars-cons : (b : ℕ) (bs : List ℕ) → chars (b ∷ bs) ≡ (char_at b bs).0 ∷ chars (drop (char_at b bs).1 bs)
 chars-cons b bs = grind arith

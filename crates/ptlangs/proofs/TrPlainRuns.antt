@@ -3,7 +3,7 @@
 use Rattle.ptlangs.proofs.Common.{◌≡◌, ◌≢◌, ◌≤◌, ◌<◌, ◌+◌, ◌-◌, inl, inr, ℕ, suc, Bool, true, false, List, [], ◌∷◌}
 use Rattle.ptlangs.proofs.Common.{length, take, drop, get_or, arith, refl, sym, Some, None, prefix_len, list_all}
 use Rattle.ptlangs.proofs.Common.{cases_eq, eq-eqb, ne_eqb, drop_all, drop-drop, take_rest, length-prefix_len}
-use Rattle.ptlangs.proofs.Common.{AllPass-from_list_all, SetChar, Plain, Escaped, Invalid, octal, chars}
+use Rattle.ptlangs.proofs.Common.{AllPass-from_list_all, SetChar, Plain, Escaped, Invalid, chars}
 use Rattle.ptlangs.proofs.Common.{after_backslash, after_plain, plain_run, after_run}
 use Rattle.std.proofs.lemmas.Bool.{and_from, cond_both}
 use Rattle.std.specs.List.{slice_range, take_while, AllPass}
@@ -15,9 +15,6 @@ abbrev pub IsEscape : SetChar → Type 0
 IsEscape (Plain b) = ⊥
 IsEscape (Escaped b) = Unit {0}
 IsEscape (Invalid k) = Unit {0}
-
-pub IsEscape-octal : (value : ℕ) → IsEscape (octal value)
-IsEscape-octal value = grind arith
 
 pub IsEscape-after_backslash : (bs : List ℕ) → IsEscape (after_backslash bs).0
 IsEscape-after_backslash bs = grind arith

@@ -4,7 +4,7 @@ use Rattle.ptlangs.proofs.Common.{complement_of, ◌≡◌, Bool, Err, List, Non
 use Rattle.ptlangs.proofs.Common.{cond, false, length, map, refl, sym, true, ℕ, ◌++◌, ◌-◌, ◌∙◌, ◌∷◌, ◌≢◌}
 use Rattle.ptlangs.proofs.Common.{result_map_both, and_then, StartsElement, StartsInvalid, subst, FirstFault}
 use Rattle.ptlangs.proofs.Common.{LaterFault, NoElement, NoSegment, array, class_offsets, first_array, in_string}
-use Rattle.ptlangs.proofs.Common.{has_valid_classes, segment, plan, plan_of, second_plan, string_segments, tables}
+use Rattle.ptlangs.proofs.Common.{has_valid_classes, plan, plan_of, second_plan, string_segments, tables}
 use Rattle.ptlangs.proofs.Common.{AChar, NoChar, SpellsChar, SpellsChars, chars, SetFault, SetFaultKind, ClassPlace}
 use Rattle.ptlangs.proofs.Common.{SetElement, Segment, SetRole, First, Form, Delete, DeleteSqueeze, Squeeze, Translate}
 use Rattle.ptlangs.proofs.Common.{TranslateSqueeze, SetChar, Escaped, Invalid, Plain}
@@ -142,13 +142,6 @@ element_fault us k h fine = grind arith
 abbrev FaultIsNotMemory : {A : Type 0} → Result A SetFaultKind → Type 0
 FaultIsNotMemory (Ok x) = Unit {0}
 FaultIsNotMemory (Err k) = k ≢ Memory
-
-segment_not_memory : (role : SetRole) (has_fill : Bool) (p : SetElement) → FaultIsNotMemory (segment role has_fill p)
-segment_not_memory role has_fill p = grind arith
-
-fault_not_memory : {A : Type 0} (r : Result A SetFaultKind) (k : SetFaultKind) → FaultIsNotMemory r → r ≡ Err k
-    → k ≢ Memory
-fault_not_memory r k speaks e = grind arith
 
 first_not_memory : (role : SetRole) (has_fill : Bool) (us : List SetChar) (k : SetFaultKind)
     → FirstFault role has_fill us k → AreNotMemory us → k ≢ Memory

@@ -4,7 +4,6 @@ use Rattle.ptlangs.proofs.Common.{◌≡◌, ℕ, zero, suc, ◌+◌, ◌<◌, �
 use Rattle.ptlangs.proofs.Common.{drop, get_or, refl, sym, ◌∙◌, ap, arith, sum_by, Stretch, shift_of, prepend_shift}
 use Rattle.ptlangs.proofs.Common.{stretches_from, shift_at, image_of_shifts, cond-false, eqb-true, ne_eqb, drop_more}
 use Rattle.ptlangs.proofs.Common.{◌-◌}
-use Rattle.std.proofs.lemmas.Bool.Decides.{nat_tests}
 use Rattle.std.proofs.Common.{◌==◌, reverse}
 use Rattle.std.proofs.lemmas.List.Sums.{sum_by-cons}
 use Rattle.std.proofs.lemmas.List.Sorted.{sum_by-IsPermutation, IsPermutation-reverse}
@@ -68,10 +67,6 @@ module _ (b by : ℕ) where
 
   past : (x : ℕ) → b < x → shift_at (record { first = b; last = b; by = by }) x ≡ 0
   past x high = grind (arith, high)
-
-  grown : (s : Stretch) (x : ℕ) → b < x → goes_on s ≡ true
-      → shift_at (record { first = b; last = s.last; by = by }) x ≡ shift_at s x
-  grown s x high is = grind (arith, nat_tests, high)
 
   -- prepending does not change the sum for the bytes above
   past_front : (ss : List Stretch) (x : ℕ) → b < x → moved (prepend_shift b by ss) x ≡ moved ss x
