@@ -180,8 +180,6 @@ pub on_fault : {T E : Type 0} (P : Result T E → Type 0) (r : Result T E) (k : 
     → P r
 on_fault P r k e h = grind arith
 
--- ---- a bound on the number of bytes that are left
-
 -- ---- at most one segment is a fill
 
 no_second_fill : (role : SetRole) (p : SetElement) (b : ℕ) → segment role true p ≡ Ok (Fill b) → ⊥

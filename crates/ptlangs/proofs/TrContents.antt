@@ -100,7 +100,6 @@ range-more a n j e =
     ∙ ap (λ xs. xs ++ j ∷ []) (map-id _)
 
 -- the bytes below `n` that the array does not contain
-
 abbrev pub others_below : List ℕ → ℕ → List ℕ
 others_below bytes n = filter (λ b. not (has_byte b bytes)) (range_with_len 0 n)
 
