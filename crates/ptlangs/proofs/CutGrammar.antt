@@ -1,60 +1,50 @@
 -- The lists of `cut`. An element is split at its dashes, which digits do not contain, so that the split gives its
 -- bounds back; this makes `cut_list` agree with the grammar in both directions. Merging sorted intervals keeps the set
 -- that they select.
-use Rattle.ptlangs.proofs.Common.{Result, ◌≡◌, Bool, List, None, Ok, Option, Some, [], ap, arith, cond, drop, eqb}
-use Rattle.ptlangs.proofs.Common.{false, get_or, inl, inr, leb, length, ltb, not, refl, subst, suc, sym, take, true, ℕ}
-use Rattle.ptlangs.proofs.Common.{◌&&◌, ◌++◌, ◌+◌, ◌-◌, ◌<◌, ◌||◌, ◌∙◌, ◌∷◌, and_parts, and_right, cases_Bool}
-use Rattle.ptlangs.proofs.Common.{cond-false, cond-true, eqb-false, eqb-true, le-ltb, ltb-false, ne_eqb}
-use Rattle.ptlangs.proofs.Common.{nat_tests, All-cons, list_any-IsPermutation}
-use Rattle.ptlangs.proofs.Common.{join_with_byte-slice_split, length-slice_split, slice_split_at, slice_split_none}
-use Rattle.ptlangs.proofs.Common.{AllPass-from_list_all, is_ascii_digit, All, join_with_byte, list_all, position}
-use Rattle.ptlangs.proofs.Common.{slice_split}
-use Rattle.ptlangs.proofs.Common.{IsValidInterval, cut_list}
-use Rattle.ptlangs.proofs.Common.{element_interval, is_dash}
-use Rattle.ptlangs.proofs.Common.{and_then, traverse, max_u64, is_empty, is_number}
-use Rattle.ptlangs.proofs.Common.{value, Interval, max, ◌≤◌, append_assoc, list_any-append, list_any}
+use Rattle.ptlangs.proofs.Common.{Result, ◌≡◌, Bool, List, None, Ok, Option, Some, [], ap, arith, cond, drop, false}
+use Rattle.ptlangs.proofs.Common.{inl, inr, length, refl, subst, suc, sym, take, true, ℕ, ◌&&◌, ◌++◌, ◌+◌, ◌-◌, ◌<◌}
+use Rattle.ptlangs.proofs.Common.{◌||◌, ◌∙◌, ◌∷◌, and_parts, cases_Bool, cond-true, eqb-true, All-cons, slice_split_at}
+use Rattle.ptlangs.proofs.Common.{slice_split_none, AllPass-from_list_all, is_ascii_digit, All, list_all, position}
+use Rattle.ptlangs.proofs.Common.{slice_split, IsValidInterval, cut_list, element_interval, is_dash, and_then, traverse}
+use Rattle.ptlangs.proofs.Common.{is_empty, is_number, value, Interval, ◌≤◌, append_assoc}
+use Rattle.std.proofs.Common.{leb, max}
+use Rattle.std.proofs.lemmas.List.Sorted.{list_any-IsPermutation}
+use Rattle.std.proofs.lemmas.List.Splits.{join_with_byte-slice_split, length-slice_split}
+use Rattle.std.specs.List.{join_with_byte, list_any}
+use Rattle.std.proofs.lemmas.List.Folds.{list_any-append}
 use Rattle.std.specs.List.Sorted.{IsNonDecreasingBy, IsPermutation}
-use Rattle.std.proofs.lemmas.Bool.{cond_both}
 use Rattle.ptlangs.specs.declared.ranges.ListFault.{ListFault}
 use Rattle.ptlangs.proofs.ListElements.{split_whole, split_around, some_since, digits_fail, Unbroken, unbroken_cons}
-use Rattle.ptlangs.proofs.ListElements.{unbroken_append, unbroken_nil, unbroken_number, matches_grammar}
+use Rattle.ptlangs.proofs.ListElements.{unbroken_append, unbroken_nil, unbroken_number, matches_grammar, IsSplit, Whole}
+use Rattle.ptlangs.proofs.ListElements.{Cut, splits, reads_first}
 use Rattle.ptlangs.specs.CutLists.{CutListMatchesGrammar, AreSeparated, AreSortedFrom, From, FromTo, SpellsInterval}
 use Rattle.ptlangs.specs.CutLists.{IsIntervalElement, One, UpTo, checked_interval, interval_of_bounds, is_bound}
 use Rattle.ptlangs.specs.CutLists.{is_selected, interval_of_parts, selection}
-use Rattle.std.proofs.lemmas.Bool.{and_left, or_from, or_parts}
-use Rattle.ptlangs.proofs.ListElements.{IsSplit, Whole, Cut, splits, reads_first}
 
 -- ---- the elements, split at dashes
 
 -- a digit is not a dash
 digit_no_dash : (b : ℕ) → is_ascii_digit b ≡ true → is_dash b ≡ false
-digit_no_dash b h = grind (arith, nat_tests)
+digit_no_dash b h = grind arith
 
 bound_is_one_part : (m : List ℕ) → is_bound m ≡ true → slice_split is_dash m ≡ m ∷ []
 bound_is_one_part [] h = refl
 bound_is_one_part (b ∷ bs) h =
-    slice_split_none is_dash (b ∷ bs) (λ k d below. digit_no_dash (get_or (b ∷ bs) k d)
+    slice_split_none is_dash _ (λ k d below. digit_no_dash _
     (AllPass-from_list_all is_ascii_digit (b ∷ bs) h k d below))
 
 bounds_rejected : (n m : List ℕ) → is_bound m ≡ false → interval_of_bounds n m ≡ None
-bounds_rejected n m h =
-    let some = not (is_empty n && is_empty m) in
-    cond-false (is_bound n && is_bound m && some) _ None
-    (and_left (is_bound n && is_bound m) some (and_right (is_bound n) (is_bound m) h))
+bounds_rejected n m h = grind arith
 
 rejected : (n m : List ℕ) → (parts : List (List ℕ)) → 0 < length parts → join_with_byte 45 parts ≡ m
     → is_bound m ≡ false → interval_of_parts (n ∷ parts) ≡ None
-rejected n m [] some union_of_touching h = absurd (omega arith)
-rejected n m (p ∷ []) some union_of_touching h =
-    let e : is_bound p ≡ false = ap is_bound union_of_touching ∙ h in
-    bounds_rejected n p e
-rejected n m (p ∷ q ∷ rest) some union_of_touching h = refl
+rejected n m parts some union_of_touching h = grind arith
 
 -- the part after the first dash is the upper bound; if it is not a bound, the element is rejected
 parts_after_dash : (n m : List ℕ) → interval_of_parts (n ∷ slice_split is_dash m) ≡ interval_of_bounds n m
-parts_after_dash n m = elim (cases_Bool (is_bound m)) [
+parts_after_dash n m = elim (cases_Bool _) [
   | inl e ↦ ap (λ parts. interval_of_parts (n ∷ parts)) (bound_is_one_part m e)
-  | inr e ↦ rejected n m (slice_split is_dash m) (omega (arith, length-slice_split is_dash m))
+  | inr e ↦ rejected n m _ (omega (arith, length-slice_split is_dash m))
       (join_with_byte-slice_split 45 m) e ∙ sym (bounds_rejected n m e)
 ]
 
@@ -66,14 +56,13 @@ twice false x y = refl
 pub parts_without_dash : (bs : List ℕ) → position is_dash bs ≡ None → is_empty bs ≡ false
     → interval_of_parts (slice_split is_dash bs) ≡ interval_of_bounds bs bs
 parts_without_dash [] h some = cc
-parts_without_dash (b ∷ bs) h some = ap interval_of_parts (split_whole is_dash (b ∷ bs) h)
-    ∙ twice (list_all is_ascii_digit (b ∷ bs)) _ _
+parts_without_dash (b ∷ bs) h some = cc (split_whole is_dash (b ∷ bs) h, twice (list_all is_ascii_digit (b ∷ bs)) _ _)
 
 pub parts_around_dash : (bs : List ℕ) (i : ℕ) → position is_dash bs ≡ Some i
     → interval_of_parts (slice_split is_dash bs)
     ≡ interval_of_bounds (take i bs) (take (length bs - (i + 1)) (drop (i + 1) bs))
 parts_around_dash bs i h = ap interval_of_parts (split_around is_dash bs i h)
-    ∙ parts_after_dash (take i bs) (take (length bs - (i + 1)) (drop (i + 1) bs))
+    ∙ parts_after_dash (take i bs) (take _ (drop (i + 1) bs))
 
 -- ---- from the intervals in the order of the list to the merged intervals
 
@@ -83,22 +72,7 @@ Proper s r checked_interval = checked_interval ≡ Ok r → (Some s ≡ Some r) 
 
 checked_proper : (interval_of_parts : Option Interval) (r : Interval) → checked_interval interval_of_parts ≡ Ok r
     → (interval_of_parts ≡ Some r) × IsValidInterval r
-checked_proper None r h = cc
-checked_proper (Some s) r h =
-    cond_both (ltb max_u64 s.first || ltb max_u64 s.last) _ _ (Proper s r) (λ t h. cc)
-    (λ large. cond_both (eqb s.first 0 || eqb s.last 0) _ _ (Proper s r) (λ t h. cc)
-    (λ zero. cond_both (ltb s.last s.first) _ _ (Proper s r) (λ t h. cc)
-    (λ falls h.
-    let is : s ≡ r = cc in
-    let (some, _) = or_parts (eqb s.first 0) (eqb s.last 0) zero in
-    let (_, small) = or_parts (ltb max_u64 s.first) (ltb max_u64 s.last) large in (
-      ap Some is,
-      subst IsValidInterval is (record {
-        positive = omega (arith, eqb-false s.first 0 some);
-        ascending = ltb-false s.last s.first falls;
-        fits = ltb-false max_u64 s.last small;
-      }),
-    )))) h
+checked_proper interval_of_parts r h = grind arith
 
 element_proper : (bs : List ℕ) (r : Interval) → element_interval bs ≡ Ok r → IsValidInterval r
 element_proper [] r h = cc
@@ -110,7 +84,7 @@ pub each_proper : (all : List (List ℕ)) (rs : List Interval) → traverse elem
 each_proper [] [] h = λ k d below. absurd (omega arith)
 each_proper [] (r ∷ rs) h = cc
 each_proper (x ∷ all) rs h =
-    let f = reads_first (element_interval x) (traverse element_interval all) rs h in
+    let f = reads_first _ _ rs h in
     subst (All IsValidInterval) f.is (All-cons IsValidInterval f.head f.tail (element_proper x f.head f.read)
     (each_proper all f.tail f.rest))
 
@@ -142,15 +116,7 @@ selection_is_kept bs listed sorted kept e p same =
 -- ---- from the grammar to `cut_list`
 
 checked_ok : (r : Interval) → IsValidInterval r → checked_interval (Some r) ≡ Ok r
-checked_ok r proper =
-    let large : (ltb max_u64 r.first || ltb max_u64 r.last) ≡ false =
-    or_from _ _ (le-ltb max_u64 r.first (omega (arith, proper.ascending, proper.fits)))
-    (le-ltb max_u64 r.last proper.fits) in
-    let zero : (eqb r.first 0 || eqb r.last 0) ≡ false =
-    or_from _ _ (ne_eqb r.first 0 (λ e. omega (arith, proper.positive, e)))
-    (ne_eqb r.last 0 (λ e. omega (arith, proper.positive, proper.ascending, e))) in
-    let falls : ltb r.last r.first ≡ false = le-ltb r.last r.first proper.ascending in
-    rw (large, zero, falls) refl
+checked_ok r proper = grind arith
 
 parts_of_element : (bs : List ℕ) (r : Interval) → SpellsInterval bs r
     → (is_empty bs ≡ false) × (interval_of_parts (slice_split is_dash bs) ≡ Some r)
@@ -160,7 +126,7 @@ parts_of_element bs r (FromTo [] m h k) = cc
 parts_of_element bs r (FromTo (b ∷ n) [] h k) = cc
 parts_of_element bs r (FromTo (b ∷ n) (c ∷ m) h k) = (
   refl,
-  ap interval_of_parts (slice_split_at is_dash (b ∷ n) 45 (c ∷ m) (digits_fail is_dash digit_no_dash (b ∷ n) h) refl)
+  ap interval_of_parts (slice_split_at is_dash (b ∷ n) 45 _ (digits_fail is_dash digit_no_dash (b ∷ n) h) refl)
       ∙ parts_after_dash (b ∷ n) (c ∷ m) ∙ rw (h, k) refl,
 )
 parts_of_element bs r (UpTo [] h) = cc
@@ -180,47 +146,46 @@ accepts_element bs r e proper =
 unbroken : (bs : List ℕ) (r : Interval) → SpellsInterval bs r → Unbroken bs
 unbroken bs r (One n h) = unbroken_number n h
 unbroken bs r (FromTo n m h k) =
-    unbroken_append n (45 ∷ m) (unbroken_number n h) (unbroken_cons 45 m refl (unbroken_number m k))
+    unbroken_append n _ (unbroken_number n h) (unbroken_cons 45 m refl (unbroken_number m k))
 unbroken bs r (UpTo m h) = unbroken_cons 45 m refl (unbroken_number m h)
 unbroken bs r (From n h) =
-    unbroken_append n (45 ∷ []) (unbroken_number n h) (unbroken_cons 45 [] refl unbroken_nil)
+    unbroken_append n _ (unbroken_number n h) (unbroken_cons 45 [] refl unbroken_nil)
 
 -- ---- from `cut_list` to the grammar
 
 spelled_one : (bs : List ℕ) (r : Interval)
     → cond (is_number bs) (Some (record { first = value bs; last = value bs })) None ≡ Some r → SpellsInterval bs r
 spelled_one bs r e =
-    let (number, is) = some_since (is_number bs) (record { first = value bs; last = value bs }) r e in
+    let (number, is) = some_since _ r e in
     subst (SpellsInterval bs) is (One bs number)
 
 spelled_ends : (n m : List ℕ) (r : Interval) → interval_of_bounds n m ≡ Some r → SpellsInterval (n ++ 45 ∷ m) r
 spelled_ends [] [] r e = cc
 spelled_ends [] (c ∷ m) r e =
-    let (bounds, is) = some_since ((true && is_number (c ∷ m)) && true) _ r e in
-    subst (SpellsInterval (45 ∷ c ∷ m)) is
-    (UpTo (c ∷ m) (let (digits, _) = and_parts (is_number (c ∷ m)) true bounds in digits))
+    let (bounds, is) = some_since _ r e in
+    subst (SpellsInterval _) is
+    (UpTo _ (let (digits, _) = and_parts _ true bounds in digits))
 spelled_ends (b ∷ n) [] r e =
-    let (bounds, is) = some_since ((is_number (b ∷ n) && true) && true) _ r e in
-    let (number, _) = and_parts (is_number (b ∷ n) && true) true bounds in
-    let (digits, _) = and_parts (is_number (b ∷ n)) true number in
-    subst (SpellsInterval ((b ∷ n) ++ 45 ∷ [])) is (From (b ∷ n) digits)
+    let (bounds, is) = some_since _ r e in
+    let (number, _) = and_parts _ true bounds in
+    let (digits, _) = and_parts _ true number in
+    subst (SpellsInterval _) is (From (b ∷ n) digits)
 spelled_ends (b ∷ n) (c ∷ m) r e =
-    let (bounds, is) = some_since ((is_number (b ∷ n) && is_number (c ∷ m)) && true) _ r e in
-    let (both, _) = and_parts (is_number (b ∷ n) && is_number (c ∷ m)) true bounds in
-    let (first, last) = and_parts (is_number (b ∷ n)) (is_number (c ∷ m)) both in
-    subst (SpellsInterval ((b ∷ n) ++ 45 ∷ c ∷ m)) is (FromTo (b ∷ n) (c ∷ m) first last)
+    let (bounds, is) = some_since _ r e in
+    let (both, _) = and_parts _ true bounds in
+    let (first, last) = and_parts _ _ both in
+    subst (SpellsInterval _) is (FromTo (b ∷ n) _ first last)
 
 three_parts : (n m bs : List ℕ) (rest : List (List ℕ)) → IsSplit is_dash bs rest
     → interval_of_parts (n ∷ m ∷ rest) ≡ None
-three_parts n m bs rest (Whole xs) = refl
-three_parts n m bs rest (Cut e s xs others cut split) = refl
+three_parts n m bs rest h = grind arith
 
 spelled_cut : (n : List ℕ) (s : ℕ) (bs : List ℕ) (rest : List (List ℕ)) (r : Interval) → s ≡ 45
     → IsSplit is_dash bs rest → interval_of_parts (n ∷ rest) ≡ Some r → SpellsInterval (n ++ s ∷ bs) r
 spelled_cut n s bs rest r at (Whole xs) e =
     subst (λ (d : ℕ). SpellsInterval (n ++ d ∷ xs) r) (sym at) (spelled_ends n xs r e)
 spelled_cut n s bs rest r at (Cut m d xs others cut split) e =
-    let none : None ≡ Some r = sym (three_parts n m xs others split) ∙ e in cc
+    let none = sym (three_parts n m xs others split) ∙ e in cc
 
 spelled : (bs : List ℕ) (parts : List (List ℕ)) (r : Interval) → IsSplit is_dash bs parts
     → interval_of_parts parts ≡ Some r → SpellsInterval bs r
@@ -230,8 +195,8 @@ spelled bs parts r (Cut n s xs rest cut split) e = spelled_cut n s xs rest r (eq
 reads_element : (bs : List ℕ) (r : Interval) → element_interval bs ≡ Ok r → IsIntervalElement bs r
 reads_element [] r h = cc
 reads_element (b ∷ bs) r h =
-    let (parts, valid) = checked_proper (interval_of_parts (slice_split is_dash (b ∷ bs))) r h in
-    (spelled (b ∷ bs) (slice_split is_dash (b ∷ bs)) r (splits is_dash (b ∷ bs)) parts, valid)
+    let (parts, valid) = checked_proper _ r h in
+    (spelled _ _ r (splits is_dash _) parts, valid)
 
 pub accepts_the_grammar : CutListMatchesGrammar
 accepts_the_grammar = matches_grammar element_interval IsIntervalElement (record {
@@ -253,7 +218,7 @@ pub record Merges (sorted kept : List Interval) (current : Interval) (rest : Lis
 AreSeparated-longer : (low : ℕ) (kept : List Interval) (r s : Interval) → s.first ≡ r.first → r.last ≤ s.last
     → AreSeparated low (kept ++ r ∷ []) → AreSeparated low (kept ++ s ∷ [])
 AreSeparated-longer low [] r s e h separated =
-    let (above, ascending, _) = separated in (omega (arith, above), omega (arith, ascending), tt)
+    let (above, ascending, _) = separated in (omega arith, omega arith, tt)
 AreSeparated-longer low (k ∷ kept) r s e h separated =
     let (above, ascending, others) = separated in
     (above, ascending, AreSeparated-longer (k.last + 1) kept r s e h others)
@@ -273,55 +238,40 @@ holds n r = leb r.first n && leb n r.last
 InOrder-lower : (low high : ℕ) (rest : List Interval) → low ≤ high → AreSortedFrom high rest → AreSortedFrom low rest
 InOrder-lower low high [] h ordered = tt
 InOrder-lower low high (r ∷ rest) h ordered =
-    let (above, ascending, others) = ordered in (omega (arith, above), ascending, others)
+    let (above, ascending, others) = ordered in (omega arith, ascending, others)
 
 -- two intervals that overlap or are adjacent select the numbers of their union
 union_of_touching : (a b c d n : ℕ) → a ≤ c → c - 1 ≤ b → c ≤ d
     → ((leb a n && leb n b) || (leb c n && leb n d)) ≡ (leb a n && leb n (max b d))
-union_of_touching a b c d n h1 h2 h3 = grind (arith, nat_tests)
+union_of_touching a b c d n h1 h2 h3 = grind arith
 
 or_first : (p q m x : Bool) → (p || q) ≡ m → (p || (q || x)) ≡ (m || x)
-or_first true q m x e = ap (λ v. v || x) e
-or_first false q m x e = ap (λ v. v || x) e
+or_first p q m x e = grind arith
 
-pub absorbs : (sorted kept : List Interval) (r s t : Interval) (rest : List Interval) → t.first ≡ r.first
+pub absorbs : {sorted : List Interval} (kept : List Interval) (r s t : Interval) (rest : List Interval)
+    → t.first ≡ r.first
     → t.last ≡ max r.last s.last → s.first - 1 ≤ r.last → Merges sorted kept r (s ∷ rest) → Merges sorted kept t rest
-absorbs sorted kept r s t rest e e' touch m =
+absorbs kept r s t rest e e' touch m =
     let (above, ascending, others) = m.ordered in
     let step : (n : ℕ) → is_selected (t ∷ rest) n ≡ is_selected (r ∷ s ∷ rest) n = λ n. sym
-    (or_first (holds n r) (holds n s) (holds n t) (list_any (holds n) rest)
+    (or_first _ _ (holds n t) _
     (rw (e, e') (union_of_touching r.first r.last s.first s.last n above touch ascending))) in
     record {
-      positive = omega (arith, m.positive);
+      positive = omega arith;
       separated = AreSeparated-longer 0 kept r t e (omega arith) m.separated;
-      ordered = InOrder-lower t.first s.first rest (omega (arith, above)) others;
-      same = λ n. list_any-append (holds n) kept (t ∷ rest) ∙ ap (λ x. list_any (holds n) kept || x) (step n)
-          ∙ sym (list_any-append (holds n) kept (r ∷ s ∷ rest)) ∙ m.same n;
+      ordered = InOrder-lower t.first s.first rest (omega arith) others;
+      same = λ n. list_any-append _ kept _ ∙ ap (λ x. list_any (holds n) kept || x) (step n)
+          ∙ sym (list_any-append _ kept _) ∙ m.same n;
     }
 
-pub starts_next : (sorted kept : List Interval) (r s : Interval) (rest : List Interval) → r.last < s.first - 1
+pub starts_next : {sorted : List Interval} (kept : List Interval) (r s : Interval) {rest : List Interval}
+    → r.last < s.first - 1
     → Merges sorted kept r (s ∷ rest) → Merges sorted (kept ++ r ∷ []) s rest
-starts_next sorted kept r s rest gap m =
+starts_next kept r s gap m =
     let (above, ascending, others) = m.ordered in
     record {
-      positive = omega (arith, above, m.positive);
+      positive = omega (arith, above);
       separated = AreSeparated-more 0 kept r s (omega arith) ascending m.separated;
       ordered = others;
-      same = λ n. ap (λ xs. is_selected xs n) (append_assoc kept (r ∷ []) (s ∷ rest)) ∙ m.same n;
+      same = λ n. ap (λ xs. is_selected xs n) (append_assoc kept _ _) ∙ m.same n;
     }
-
-pub starts : (first : Interval) (others sorted : List Interval) → sorted ≡ first ∷ others → AreSortedFrom 1 sorted
-    → Merges sorted [] first others
-starts first others sorted e ordered =
-    let all : AreSortedFrom 1 (first ∷ others) = subst (AreSortedFrom 1) e ordered in
-    let (positive, ascending, rest) = all in
-    record {
-      positive = positive;
-      separated = (positive, ascending, tt);
-      ordered = rest;
-      same = λ n. ap (λ xs. is_selected xs n) (sym e);
-    }
-
-pub next_positive : {sorted kept : List Interval} {r s : Interval} {rest : List Interval}
-    → Merges sorted kept r (s ∷ rest) → 1 ≤ s.first
-next_positive m = let (above, _, _) = m.ordered in omega (arith, m.positive, above)

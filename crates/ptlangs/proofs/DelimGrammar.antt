@@ -1,19 +1,16 @@
 -- The lists of `paste`: each escape is one case of the grammar, so `delim_list` agrees with the grammar in both
 -- directions. The fault of a list is the first one found from left to right, and is never an allocation failure.
-use Rattle.ptlangs.proofs.Common.{◌≡◌, Bool, Err, List, None, Ok, Option, Result, Some, [], ap, arith, cond, eqb, false}
+use Rattle.ptlangs.proofs.Common.{◌≡◌, Bool, Err, List, None, Ok, Option, Result, Some, [], ap, arith, cond, eqb}
 use Rattle.ptlangs.proofs.Common.{length, refl, subst, sym, true, ℕ, ◌++◌, ◌<◌, ◌∙◌, ◌∷◌, eqb-true, append-nil}
-use Rattle.ptlangs.proofs.Common.{result_err}
-use Rattle.ptlangs.proofs.Common.{delim_list, delims, and_then, cons_ok}
-use Rattle.ptlangs.proofs.Common.{DelimFault}
+use Rattle.ptlangs.proofs.Common.{result_err, delim_list, and_then, cons_ok}
+use Rattle.ptlangs.specs.DelimLists.{delims, Backslash, IsDelim, IsDelimList, Last, More, Newline, Nothing, Tab}
+use Rattle.ptlangs.specs.DelimLists.{backslash, escape, delim_list_fault, Plain, DelimListMatchesGrammar}
+use Rattle.ptlangs.specs.declared.delims.DelimFault.{DelimFault}
 use Rattle.std.proofs.lemmas.Bool.{cond_both}
 use Rattle.ptlangs.proofs.ListElements.{reads_first}
-use Rattle.ptlangs.specs.DelimLists.{Backslash, IsDelim, IsDelimList, Last, More, Newline, Nothing, Tab, backslash}
-use Rattle.ptlangs.specs.DelimLists.{escape, delim_list_fault}
-use Rattle.ptlangs.specs.DelimLists.{Plain, DelimListMatchesGrammar}
 
 pub delims_of_some : (bs : List ℕ) → 0 < length bs → delims bs ≡ delim_list bs
-delims_of_some [] h = absurd (omega arith)
-delims_of_some (b ∷ bs) h = refl
+delims_of_some bs h = grind arith
 
 -- ---- from the grammar to `delim_list`
 
@@ -31,8 +28,8 @@ is_some (b ∷ bs) ds h = h
 
 accepts : (bs : List ℕ) (ds : List (Option ℕ)) → IsDelimList bs ds → delim_list bs ≡ Ok ds
 accepts bs ds (Last e d is) = ap delim_list (sym (append-nil e)) ∙ element_is_read e [] d is
-accepts bs ds (More e rest d others is list) = element_is_read e rest d is
-    ∙ ap (cons_ok d) (is_some rest others (accepts rest others list))
+accepts bs ds (More e rest d others is list) =
+    cc (element_is_read e rest d is, is_some rest others (accepts rest others list))
 
 -- ---- from `delim_list` to the grammar
 
@@ -40,42 +37,42 @@ abbrev Spells : ℕ → Option ℕ → Result (Option ℕ) DelimFault → Type 0
 Spells c d r = r ≡ Ok d → IsDelim (backslash ∷ c ∷ []) d
 
 spelled_by : (c b : ℕ) (d e : Option ℕ) → eqb c b ≡ true → IsDelim (backslash ∷ b ∷ []) e → Spells c d (Ok e)
-spelled_by c b d e t says h = let is : e ≡ d = cc in rw (eqb-true c b t) (subst (IsDelim (backslash ∷ b ∷ [])) is says)
+spelled_by c b d e h h2 = grind arith
 
 escape_is_spelled : (c : ℕ) (d : Option ℕ) → Spells c d (escape c)
 escape_is_spelled c d =
-    cond_both (eqb c 110) _ _ (Spells c d) (λ t. spelled_by c 110 d (Some 10) t Newline)
-    (λ n. cond_both (eqb c 116) _ _ (Spells c d) (λ t. spelled_by c 116 d (Some 9) t Tab)
-    (λ n. cond_both (eqb c backslash) _ _ (Spells c d) (λ t. spelled_by c backslash d (Some backslash) t Backslash)
-    (λ n. cond_both (eqb c 48) _ _ (Spells c d) (λ t. spelled_by c 48 d None t Nothing) (λ n h. cc))))
+    cond_both _ _ _ (Spells c d) (λ t. spelled_by c 110 d _ t Newline)
+    (λ n. cond_both _ _ _ (Spells c d) (λ t. spelled_by c 116 d _ t Tab)
+    (λ n. cond_both _ _ _ (Spells c d) (λ t. spelled_by c backslash d _ t Backslash)
+    (λ n. cond_both _ _ _ (Spells c d) (λ t. spelled_by c 48 d None t Nothing) (λ n h. cc))))
 
 -- an element, and after it either nothing or a list
 more_delims : (e rest : List ℕ) (d : Option ℕ) (ds : List (Option ℕ)) → IsDelim e d → delims rest ≡ Ok ds
     → ((xs : List (Option ℕ)) → delim_list rest ≡ Ok xs → IsDelimList rest xs) → IsDelimList (e ++ rest) (d ∷ ds)
 more_delims e [] d [] is h list = rw append-nil (Last e d is)
 more_delims e [] d (x ∷ xs) is h list = cc
-more_delims e (b ∷ bs) d ds is h list = More e (b ∷ bs) d ds is (list ds h)
+more_delims e (b ∷ bs) d ds is h list = More e _ d ds is (list ds h)
 
 list_is_spelled : (bs : List ℕ) (ds : List (Option ℕ)) → delim_list bs ≡ Ok ds → IsDelimList bs ds
 list_is_spelled [] ds h = cc
 list_is_spelled (b ∷ []) ds h =
-    cond_both (eqb b backslash) _ _ (λ (r : Result (List (Option ℕ)) DelimFault). r ≡ Ok ds → IsDelimList (b ∷ []) ds)
+    cond_both _ _ _ (λ (r : Result _ DelimFault). r ≡ Ok ds → IsDelimList (b ∷ []) ds)
     (λ t e. cc)
-    (λ n e. let one : Some b ∷ [] ≡ ds = cc in subst (IsDelimList (b ∷ [])) one (Last (b ∷ []) (Some b) (Plain b n))) h
+    (λ n e. let one : Some b ∷ [] ≡ ds = cc in subst (IsDelimList _) one (Last _ _ (Plain b n))) h
 list_is_spelled (b ∷ c ∷ more) ds h =
-    cond_both (eqb b backslash) _ _ (λ (r : Result (List (Option ℕ)) DelimFault). r ≡ Ok ds
+    cond_both _ _ _ (λ (r : Result _ DelimFault). r ≡ Ok ds
     → IsDelimList (b ∷ c ∷ more) ds)
     (λ t e.
-    let f = reads_first (escape c) (delims more) ds e in
-    rw (eqb-true b backslash t) (subst (IsDelimList (backslash ∷ c ∷ more)) f.is
-    (more_delims (backslash ∷ c ∷ []) more f.head f.tail (escape_is_spelled c f.head f.read) f.rest
+    let f = reads_first _ _ ds e in
+    rw (eqb-true b backslash t) (subst (IsDelimList _) f.is
+    (more_delims _ more f.head f.tail (escape_is_spelled c f.head f.read) f.rest
     (λ xs. list_is_spelled more xs))))
     (λ n e.
-    let f = reads_first (Ok (Some b)) (delims (c ∷ more)) ds e in
+    let f = reads_first (Ok _) _ ds e in
     let first : Some b ≡ f.head = cc in
-    subst (IsDelimList (b ∷ c ∷ more)) f.is
-    (more_delims (b ∷ []) (c ∷ more) f.head f.tail (subst (IsDelim (b ∷ [])) first (Plain b n)) f.rest
-    (λ xs. list_is_spelled (c ∷ more) xs)))
+    subst (IsDelimList _) f.is
+    (more_delims _ _ f.head f.tail (subst (IsDelim _) first (Plain b n)) f.rest
+    (λ xs. list_is_spelled _ xs)))
     h
 
 pub accepts_the_grammar : DelimListMatchesGrammar
@@ -89,38 +86,28 @@ IsOfText (Ok x) = Unit {0}
 IsOfText (Err e) = delim_list_fault e ≡ Some e
 
 fault_of_either : {A : Type 0} (b : Bool) (r s : Result A DelimFault) → IsOfText r → IsOfText s → IsOfText (cond b r s)
-fault_of_either true r s of_r of_s = of_r
-fault_of_either false r s of_r of_s = of_s
+fault_of_either b r s of_r of_s = grind arith
 
 after_first : (d : Option ℕ) (r : Result (List (Option ℕ)) DelimFault) → IsOfText r → IsOfText (cons_ok d r)
-after_first d (Ok ds) of_text = tt
-after_first d (Err e) of_text = of_text
+after_first d r of_text = grind arith
 
 after_escape : (e : Result (Option ℕ) DelimFault) (r : Result (List (Option ℕ)) DelimFault) → IsOfText e → IsOfText r
     → IsOfText (and_then e (λ d. cons_ok d r))
-after_escape (Ok d) r of_e of_r = after_first d r of_r
-after_escape (Err k) r of_e of_r = of_e
+after_escape e r of_e of_r = grind arith
 
 escape_fault : (b : ℕ) → IsOfText (escape b)
-escape_fault b =
-    fault_of_either (eqb b 110) _ _ tt
-    (fault_of_either (eqb b 116) _ _ tt
-    (fault_of_either (eqb b backslash) _ _ tt (fault_of_either (eqb b 48) _ _ tt refl)))
+escape_fault b = grind arith
 
 delims_fault : (bs : List ℕ) → IsOfText (delims bs)
 delims_fault [] = tt
 delims_fault (b ∷ []) = fault_of_either (eqb b backslash) _ _ refl tt
 delims_fault (b ∷ c ∷ more) =
-    fault_of_either (eqb b backslash) _ _ (after_escape (escape c) (delims more) (escape_fault c) (delims_fault more))
-    (after_first (Some b) (delims (c ∷ more)) (delims_fault (c ∷ more)))
+    fault_of_either _ _ _ (after_escape _ _ (escape_fault c) (delims_fault more))
+    (after_first _ _ (delims_fault (c ∷ more)))
 
 delim_fault : (bs : List ℕ) → IsOfText (delim_list bs)
 delim_fault [] = refl
 delim_fault (b ∷ bs) = delims_fault (b ∷ bs)
-
-keeps_fault : (d : Option ℕ) (r : Result (List (Option ℕ)) DelimFault) → result_err (cons_ok d r) ≡ result_err r
-keeps_fault d (Ok ds) = refl
-keeps_fault d (Err e) = refl
 
 module _ (text left : List ℕ) (so_far : result_err (delim_list text) ≡ result_err (delim_list left)) where
   pub left_fault : (e : DelimFault) → delim_list left ≡ Err e → result_err (delim_list text) ≡ delim_list_fault e
@@ -129,5 +116,4 @@ module _ (text left : List ℕ) (so_far : result_err (delim_list text) ≡ resul
   pub left_without_fault : (d : Option ℕ) (remaining : List ℕ) → 0 < length remaining
       → delim_list left ≡ cons_ok d (delims remaining)
       → result_err (delim_list text) ≡ result_err (delim_list remaining)
-  left_without_fault d remaining some is = so_far ∙ ap result_err is ∙ keeps_fault d (delims remaining)
-      ∙ ap result_err (delims_of_some remaining some)
+  left_without_fault d remaining some is = grind arith

@@ -1,44 +1,41 @@
 -- Lists of elements between separators, and decimal numbers. An element contains no separator, so splitting at
 -- separators gives the elements of the grammar back. A number that is too large stays so with further digits.
 use Rattle.ptlangs.proofs.Common.{◌≡◌, Bool, Err, List, None, Ok, Result, Some, [], ap, arith, cond, drop, false}
-use Rattle.ptlangs.proofs.Common.{get_or, length, ltb, refl, subst, sym, take, true, ℕ, ◌++◌, ◌+◌, ◌-◌, ◌∙◌, ◌∷◌}
-use Rattle.ptlangs.proofs.Common.{ltb-false, ltb-true, nat_tests, append_assoc, length-drop, take_all, slice_split_at}
-use Rattle.ptlangs.proofs.Common.{slice_split_first, slice_split_none, AllPass-from_list_all, fails_before_first}
-use Rattle.ptlangs.proofs.Common.{is_ascii_digit, All, onto_first, position, position_or_len, slice_split}
-use Rattle.ptlangs.proofs.Common.{and_then, traverse, elements, is_number, is_list_separator, cons_ok, eqb, leb, not}
-use Rattle.ptlangs.proofs.Common.{◌&&◌, ◌*◌, ◌<◌, ◌≤◌, and_from, and_right, cond-false, cond-true, le-leb, lt-leb}
-use Rattle.ptlangs.proofs.Common.{All-append, All-cons, ne_eqb, drop_all, drop_more, digit_value, list_all}
-use Rattle.ptlangs.proofs.Common.{digits_value_after, max_u64, is_empty, value}
+use Rattle.ptlangs.proofs.Common.{get_or, length, refl, subst, sym, take, true, ℕ, ◌++◌, ◌+◌, ◌-◌, ◌∙◌, ◌∷◌, ltb-false}
+use Rattle.ptlangs.proofs.Common.{ltb-true, append_assoc, length-drop, take_all, slice_split_at, slice_split_none}
+use Rattle.ptlangs.proofs.Common.{AllPass-from_list_all, is_ascii_digit, All, position, slice_split, and_then, traverse}
+use Rattle.ptlangs.proofs.Common.{elements, is_number, is_list_separator, cons_ok, eqb, ◌*◌, ◌<◌, ◌≤◌, All-cons}
+use Rattle.ptlangs.proofs.Common.{drop_more, digit_value, digits_value_after, max_u64, is_empty, value}
+use Rattle.std.proofs.lemmas.List.Splits.{slice_split_first}
+use Rattle.std.proofs.lemmas.List.Sums.{fails_before_first}
+use Rattle.std.specs.List.{onto_first}
+use Rattle.std.proofs.lemmas.List.Elements.{All-append}
 use Rattle.std.proofs.lemmas.Bool.{cond_both}
-use Rattle.ptlangs.specs.Numbers.{IsListOf, number}
-use Rattle.std.proofs.lemmas.Bool.{not_from_false}
-use Rattle.ptlangs.specs.Numbers.{Last, More}
+use Rattle.ptlangs.specs.Numbers.{IsListOf, number, Last, More}
 
 -- ---- splitting at the first separator
 
 none_since : (b : Bool) (i : ℕ) → cond b (Some i) None ≡ None → b ≡ false
-none_since true i h = cc
-none_since false i h = refl
+none_since b i h = grind arith
 
-pub some_since : {X : Type 0} (b : Bool) (x y : X) → cond b (Some x) None ≡ Some y → (b ≡ true) × (x ≡ y)
-some_since true x y h = (refl, cc)
-some_since false x y h = cc
+pub some_since : {X : Type 0} (b : Bool) {x : X} (y : X) → cond b (Some x) None ≡ Some y → (b ≡ true) × (x ≡ y)
+some_since b y h = grind arith
 
 pub split_whole : {X : Type 0} (p : X → Bool) (xs : List X) → position p xs ≡ None → slice_split p xs ≡ xs ∷ []
 split_whole p xs h =
-    let none = ltb-false (position_or_len p xs) (length xs)
-    (none_since (ltb (position_or_len p xs) (length xs)) (position_or_len p xs) h) in
-    slice_split_none p xs (λ k d below. fails_before_first p xs k d (omega (arith, none)))
+    let none = ltb-false _ _
+    (none_since _ _ h) in
+    slice_split_none p xs (λ k d below. fails_before_first p xs k d (omega arith))
 
 -- the last argument is the value of `&xs[i + 1..]`
 pub split_around : {X : Type 0} (p : X → Bool) (xs : List X) (i : ℕ) → position p xs ≡ Some i
     → slice_split p xs ≡ take i xs ∷ slice_split p (take (length xs - (i + 1)) (drop (i + 1) xs))
 split_around p [] i h = cc
 split_around p (x ∷ xs) i h =
-    let (below, at) = some_since (ltb (position_or_len p (x ∷ xs)) (length (x ∷ xs))) (position_or_len p (x ∷ xs))
+    let (below, at) = some_since _
     i h in
     let first = slice_split_first p (x ∷ xs) x (ltb-true _ _ below) in
-    let rest : take (length (x ∷ xs) - (i + 1)) (drop (i + 1) (x ∷ xs)) ≡ drop (i + 1) (x ∷ xs) =
+    let rest =
     take_all (length (x ∷ xs) - (i + 1)) (drop (i + 1) (x ∷ xs))
     (omega (arith, length-drop (i + 1) (x ∷ xs))) in
     rw rest (first ∙ ap (λ k. take k (x ∷ xs) ∷ slice_split p (drop (k + 1) (x ∷ xs))) at)
@@ -51,28 +48,23 @@ append_ok xs (Ok ys) = Ok (xs ++ ys)
 append_ok xs (Err e) = Err e
 
 pub append_ok-nil : {A E : Type 0} (r : Result (List A) E) → append_ok [] r ≡ r
-append_ok-nil (Ok ys) = refl
-append_ok-nil (Err e) = refl
+append_ok-nil r = grind arith
 
 pub append_ok-cons_ok : {A E : Type 0} (xs : List A) (y : A) (r : Result (List A) E)
     → append_ok xs (cons_ok y r) ≡ append_ok (xs ++ y ∷ []) r
-append_ok-cons_ok xs y (Ok ys) = ap Ok (sym (append_assoc xs (y ∷ []) ys))
+append_ok-cons_ok xs y (Ok ys) = ap Ok (sym (append_assoc xs _ ys))
 append_ok-cons_ok xs y (Err e) = refl
 
 pub cons_ok-append_ok : {A E : Type 0} (x : A) (xs : List A) (r : Result (List A) E)
     → cons_ok x (append_ok xs r) ≡ append_ok (x ∷ xs) r
-cons_ok-append_ok x xs (Ok ys) = refl
-cons_ok-append_ok x xs (Err e) = refl
+cons_ok-append_ok x xs r = grind arith
 
 -- one more element is read
-pub each_more : {A B E : Type 0} (read : A → Result B E) (x : A) (y : B) (all rest : List A) (xs : List B)
-    (r : Result (List B) E)
+pub each_more : {A B E : Type 0} (read : A → Result B E) (x : A) (y : B) {all rest : List A} (xs : List B)
+    {r : Result (List B) E}
     → r ≡ append_ok xs (traverse read all) → all ≡ x ∷ rest → read x ≡ Ok y
     → r ≡ append_ok (xs ++ y ∷ []) (traverse read rest)
-each_more read x y all rest xs r e at ok =
-    e ∙ ap (λ l. append_ok xs (traverse read l)) at
-    ∙ ap (λ v. append_ok xs (and_then v (λ y'. cons_ok y' (traverse read rest)))) ok
-    ∙ append_ok-cons_ok xs y (traverse read rest)
+each_more read x y xs e at ok = grind (arith, e, ok, append_ok-cons_ok)
 
 -- ---- the elements that are accepted are those of the grammar
 
@@ -81,17 +73,17 @@ pub digits_fail : (p : ℕ → Bool) → ((b : ℕ) → is_ascii_digit b ≡ tru
     → All (λ b. p b ≡ false) n
 digits_fail p fails [] h = cc
 digits_fail p fails (b ∷ bs) h =
-    λ k d below. fails (get_or (b ∷ bs) k d) (AllPass-from_list_all is_ascii_digit (b ∷ bs) h k d below)
+    λ k d below. fails _ (AllPass-from_list_all is_ascii_digit (b ∷ bs) h k d below)
 
 -- a text without a separator
 abbrev pub Unbroken : List ℕ → Type 0
 Unbroken bs = All (λ b. is_list_separator b ≡ false) bs
 
 pub unbroken_number : (n : List ℕ) → is_number n ≡ true → Unbroken n
-unbroken_number = digits_fail is_list_separator (λ b h. grind (arith, nat_tests))
+unbroken_number = digits_fail is_list_separator (λ b h. grind arith)
 
 pub unbroken_cons : (b : ℕ) (bs : List ℕ) → is_list_separator b ≡ false → Unbroken bs → Unbroken (b ∷ bs)
-unbroken_cons = All-cons (λ b. is_list_separator b ≡ false)
+unbroken_cons = All-cons _
 
 pub unbroken_append : (xs ys : List ℕ) → Unbroken xs → Unbroken ys → Unbroken (xs ++ ys)
 unbroken_append = All-append (λ b. is_list_separator b ≡ false)
@@ -107,13 +99,13 @@ pub data IsSplit (p : ℕ → Bool) : List ℕ → List (List ℕ) → Type 0 wh
 
 onto : (p : ℕ → Bool) (b : ℕ) (bs : List ℕ) (parts : List (List ℕ)) → IsSplit p bs parts
     → IsSplit p (b ∷ bs) (onto_first b parts)
-onto p b bs parts (Whole xs) = Whole (b ∷ xs)
-onto p b bs parts (Cut e s xs rest cut split) = Cut (b ∷ e) s xs rest cut split
+onto p b bs parts (Whole xs) = Whole _
+onto p b bs parts (Cut e s xs rest cut split) = Cut _ s xs rest cut split
 
 pub splits : (p : ℕ → Bool) (bs : List ℕ) → IsSplit p bs (slice_split p bs)
 splits p [] = Whole []
-splits p (b ∷ bs) = cond_both (p b) _ _ (IsSplit p (b ∷ bs)) (λ e. Cut [] b bs (slice_split p bs) e (splits p bs))
-    (λ e. onto p b bs (slice_split p bs) (splits p bs))
+splits p (b ∷ bs) = cond_both _ _ _ (IsSplit p _) (λ e. Cut [] b bs _ e (splits p bs))
+    (λ e. onto p b bs _ (splits p bs))
 
 -- the first element has a value, and so have the others
 pub record ReadsFirst {A E : Type 0} (first : Result A E) (others : Result (List A) E) (all : List A) : Type 0 where
@@ -125,9 +117,7 @@ pub record ReadsFirst {A E : Type 0} (first : Result A E) (others : Result (List
 
 pub reads_first : {A E : Type 0} (first : Result A E) (others : Result (List A) E) (all : List A)
     → and_then first (λ y. cons_ok y others) ≡ Ok all → ReadsFirst first others all
-reads_first (Err f) others all h = cc
-reads_first (Ok y) (Err f) all h = cc
-reads_first (Ok y) (Ok ys) all h = record { head = y; tail = ys; read = refl; rest = refl; is = cc }
+reads_first first others all h = grind arith
 
 module _ {A E : Type 0} (read : List ℕ → Result A E) (Spells : List ℕ → A → Type 0) where
   -- the function accepts exactly the elements of the grammar, and these contain no separator
@@ -141,27 +131,27 @@ module _ {A E : Type 0} (read : List ℕ → Result A E) (Spells : List ℕ → 
     from_grammar bs xs (Last e x says) =
         rw (slice_split_none is_list_separator e (a.whole e x says), a.from e x says) refl
     from_grammar bs xs (More e s others x xs' says sep list) =
-        rw (
+        cc (
           slice_split_at is_list_separator e s others (a.whole e x says) sep,
           a.from e x says,
           from_grammar others xs' list,
-        ) refl
+        )
 
     reads_parts : (bs : List ℕ) (parts : List (List ℕ)) (xs : List A) → IsSplit is_list_separator bs parts
         → traverse read parts ≡ Ok xs → IsListOf Spells bs xs
     reads_parts bs parts xs (Whole ys) h =
-        let f = reads_first (read ys) (Ok []) xs h in
+        let f = reads_first _ (Ok []) xs h in
         let one : f.head ∷ [] ≡ xs = cc in
         subst (IsListOf Spells ys) one (Last ys f.head (a.to ys f.head f.read))
     reads_parts bs parts xs (Cut e s ys rest cut split) h =
-        let f = reads_first (read e) (traverse read rest) xs h in
-        subst (IsListOf Spells (e ++ s ∷ ys)) f.is
+        let f = reads_first _ _ xs h in
+        subst (IsListOf Spells _) f.is
         (More e s ys f.head f.tail (a.to e f.head f.read) cut (reads_parts ys rest f.tail split f.rest))
 
     pub matches_grammar : (bs : List ℕ) (xs : List A) → (IsListOf Spells bs xs → traverse read (elements bs) ≡ Ok xs)
         × (traverse read (elements bs) ≡ Ok xs → IsListOf Spells bs xs)
     matches_grammar bs xs =
-        (from_grammar bs xs, reads_parts bs (elements bs) xs (splits is_list_separator bs))
+        (from_grammar bs xs, reads_parts bs _ xs (splits is_list_separator bs))
 
 -- ---- reading decimal digits from left to right
 
@@ -171,35 +161,18 @@ after-ge n [] = omega arith
 after-ge n (d ∷ ds) = omega (arith, after-ge (n * 10 + digit_value d) ds)
 
 pub too_large : (bs : List ℕ) → max_u64 < value bs → None ≡ number bs
-too_large bs h =
-    sym (cond-false (is_number bs && leb (value bs) max_u64) (Some (value bs)) None
-    (and_right (is_number bs) (leb (value bs) max_u64) (lt-leb (value bs) max_u64 h)))
+too_large bs h = grind arith
 
 -- if the number is too large at digit `i`, it is too large
 pub too_large_at : (bs : List ℕ) (i n : ℕ) → i < length bs → value bs ≡ digits_value_after 10 n (drop i bs)
     → max_u64 < n * 10 + digit_value (get_or bs i 0) → None ≡ number bs
 too_large_at bs i n below e h =
-    let is : value bs ≡ digits_value_after 10 (n * 10 + digit_value (get_or bs i 0)) (drop (i + 1) bs) =
+    let is =
     e ∙ ap (digits_value_after 10 n) (drop_more bs i 0 below) in
-    too_large bs (omega (arith, is, after-ge (n * 10 + digit_value (get_or bs i 0)) (drop (i + 1) bs)))
-
--- the value, once all digits are read
-pub is_its_value : (bs : List ℕ) (i n : ℕ) → is_empty bs ≡ false → length bs ≤ i
-    → value bs ≡ digits_value_after 10 n (drop i bs) → list_all is_ascii_digit bs ≡ list_all is_ascii_digit (drop i bs)
-    → n ≤ max_u64 → Some n ≡ number bs
-is_its_value bs i n some end e digits fits =
-    let v : value bs ≡ n = e ∙ ap (digits_value_after 10 n) (drop_all i bs end) in
-    let d : list_all is_ascii_digit bs ≡ true = digits ∙ ap (list_all is_ascii_digit) (drop_all i bs end) in
-    let whole : is_number bs ≡ true =
-    and_from (not (is_empty bs)) (list_all is_ascii_digit bs) (not_from_false (is_empty bs) some) d in
-    let small : leb (value bs) max_u64 ≡ true = le-leb (value bs) max_u64 (omega (arith, v)) in
-    ap Some (sym v)
-    ∙ sym (cond-true (is_number bs && leb (value bs) max_u64) (Some (value bs)) None
-    (and_from (is_number bs) (leb (value bs) max_u64) whole small))
+    too_large bs (omega (arith, after-ge (n * 10 + digit_value (get_or bs i 0)) (drop (i + 1) bs)))
 
 pub is_empty_by_length : {X : Type 0} (xs : List X) → is_empty xs ≡ eqb (length xs) 0
-is_empty_by_length [] = refl
-is_empty_by_length (x ∷ xs) = sym (ne_eqb (length (x ∷ xs)) 0 (λ e. omega (arith, e)))
+is_empty_by_length xs = grind arith
 
 pub digit_is : (b : ℕ) → 48 ≤ b → b ≤ 57 → digit_value b ≡ b - 48
-digit_is b low high = grind (arith, nat_tests)
+digit_is b low high = grind arith

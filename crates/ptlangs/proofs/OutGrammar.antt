@@ -1,26 +1,22 @@
 -- The output lists of `join`: an element is `0`, or the number of a file, a point and a number, and `element_field`
 -- tests exactly this. So `out_list` agrees with the grammar in both directions.
-use Rattle.ptlangs.proofs.Common.{Result, ◌≡◌, ℕ, ◌≤◌, true, false, not, ltb, eqb, List, [], ◌∷◌, Ok, refl, subst}
-use Rattle.ptlangs.proofs.Common.{arith, le-ltb, ltb-false, ne_eqb, eqb-true, eqb-false, max_u64}
-use Rattle.ptlangs.proofs.Common.{is_number, value, is_list_separator}
+use Rattle.ptlangs.proofs.Common.{Result, ◌≡◌, ℕ, ◌≤◌, true, false, not, eqb, List, [], ◌∷◌, Ok, refl, subst, arith}
+use Rattle.ptlangs.proofs.Common.{eqb-true, max_u64, is_number, value, is_list_separator}
 use Rattle.std.proofs.lemmas.Bool.{cond_both, not-false}
 use Rattle.ptlangs.proofs.ListElements.{Unbroken, matches_grammar, unbroken_cons, unbroken_nil, unbroken_number}
 use Rattle.ptlangs.specs.declared.outlist.OutFault.{OutFault}
 use Rattle.ptlangs.specs.OutLists.{element_field, SpellsField, IsValidField, IsFieldElement, OutListMatchesGrammar}
+use Rattle.ptlangs.specs.OutLists.{FirstFileField, SecondFileField, JoinField, field_of}
 use Rattle.ptlangs.specs.declared.outlist.File.{File}
 use Rattle.ptlangs.specs.declared.outlist.File.TheVariants.{First, Second}
 use Rattle.ptlangs.specs.declared.outlist.OutField.{OutField}
-use Rattle.ptlangs.specs.OutLists.{FirstFileField, SecondFileField, JoinField, field_of}
 use Rattle.ptlangs.specs.declared.outlist.OutField.TheVariants.{Join, Field}
 
 -- ---- from the grammar to `out_list`
 
 field_accepted : (file : File) (n : List ℕ) → is_number n ≡ true → 1 ≤ value n → value n ≤ max_u64
     → field_of file n ≡ Ok (Field file (value n))
-field_accepted file n h positive fits =
-    let small : ltb max_u64 (value n) ≡ false = le-ltb max_u64 (value n) fits in
-    let some : eqb (value n) 0 ≡ false = ne_eqb (value n) 0 (λ e. omega (arith, positive, e)) in
-    rw (h, small, some) refl
+field_accepted file n h positive fits = grind arith
 
 accepts_element : (e : List ℕ) (f : OutField) → SpellsField e f → IsValidField f → element_field e ≡ Ok f
 accepts_element e f JoinField proper = refl
@@ -48,28 +44,19 @@ Spelled e f r = r ≡ Ok f → IsFieldElement e f
 spelled_field : (file : File) (name : ℕ) (n : List ℕ) (f : OutField)
     → (is_number n ≡ true → SpellsField (name ∷ 46 ∷ n) (Field file (value n)))
     → Spelled (name ∷ 46 ∷ n) f (field_of file n)
-spelled_field file name n f says =
-    cond_both (not (is_number n)) _ _ (Spelled (name ∷ 46 ∷ n) f) (λ t h. cc)
-    (λ number. cond_both (ltb max_u64 (value n)) _ _ (Spelled (name ∷ 46 ∷ n) f) (λ t h. cc)
-    (λ fits. cond_both (eqb (value n) 0) _ _ (Spelled (name ∷ 46 ∷ n) f) (λ t h. cc)
-    (λ some h.
-    let is : Field file (value n) ≡ f = cc in
-    subst (IsFieldElement (name ∷ 46 ∷ n)) is (
-      says (not-false (is_number n) number),
-      (omega (arith, eqb-false (value n) 0 some), ltb-false max_u64 (value n) fits),
-    ))))
+spelled_field file name n f says = grind arith
 
 reads_element : (e : List ℕ) (f : OutField) → Spelled e f (element_field e)
 reads_element [] f = λ h. cc
-reads_element (b ∷ []) f = cond_both (eqb b 48) _ _ (Spelled (b ∷ []) f)
-    (λ t h. let is : Join ≡ f = cc in rw (eqb-true b 48 t) (subst (IsFieldElement (48 ∷ [])) is (JoinField, tt)))
+reads_element (b ∷ []) f = cond_both _ _ _ (Spelled _ f)
+    (λ t h. let is : Join ≡ f = cc in rw (eqb-true b 48 t) (subst (IsFieldElement _) is (JoinField, tt)))
     (λ t h. cc)
 reads_element (b ∷ c ∷ n) f =
-    cond_both (not (eqb c 46)) _ _ (Spelled (b ∷ c ∷ n) f) (λ t h. cc)
-    (λ point. cond_both (eqb b 49) _ _ (Spelled (b ∷ c ∷ n) f)
+    cond_both (not (eqb c 46)) _ _ (Spelled _ f) (λ t h. cc)
+    (λ point. cond_both (eqb b 49) _ _ (Spelled _ f)
     (λ t. rw (eqb-true b 49 t, eqb-true c 46 (not-false (eqb c 46) point))
     (spelled_field First 49 n f (FirstFileField n)))
-    (λ other. cond_both (eqb b 50) _ _ (Spelled (b ∷ c ∷ n) f)
+    (λ other. cond_both (eqb b 50) _ _ (Spelled _ f)
     (λ t. rw (eqb-true b 50 t, eqb-true c 46 (not-false (eqb c 46) point))
     (spelled_field Second 50 n f (SecondFileField n))) (λ t h. cc)))
 

@@ -1,16 +1,13 @@
 -- The byte with an index in a concatenation of ranges: an index past the first range is an index in the rest, less the
 -- length of the first.
-use Rattle.ptlangs.proofs.Common.{◌≡◌, ◌<◌, ◌≤◌, ◌+◌, ◌-◌, ℕ, zero, suc, List, [], ◌∷◌, ◌++◌, length, drop}
-use Rattle.ptlangs.proofs.Common.{replicate, lit≤, arith, refl, sym, ap, ◌∙◌, Option, Some, None, slice_get, flat_map}
-use Rattle.ptlangs.proofs.Common.{drop_more, length-replicate, CharClass, span}
-use Rattle.ptlangs.proofs.Common.{range_bytes, class_bytes, get_or-replicate}
+use Rattle.ptlangs.proofs.Common.{◌≡◌, ◌<◌, ◌≤◌, ◌+◌, ◌-◌, ℕ, zero, suc, List, [], ◌∷◌, ◌++◌, length, drop, replicate}
+use Rattle.ptlangs.proofs.Common.{arith, refl, sym, ap, ◌∙◌, Option, Some, None, slice_get, flat_map, drop_more}
+use Rattle.ptlangs.proofs.Common.{length-replicate, CharClass, span, range_bytes, get_or-replicate}
+use Rattle.ptlangs.specs.TrClasses.{class_bytes}
 use Rattle.std.proofs.Math.ListN.{get_or}
-use Rattle.std.proofs.lemmas.List.FromFn.{get_or-range_with_len}
+use Rattle.std.proofs.lemmas.List.FromFn.{get_or-range_with_len, length-range_with_len}
 use Rattle.std.proofs.lemmas.Option.{slice_get-get_or, slice_get_past, slice_get_within}
 use Rattle.std.specs.Prelude.{◌^◌, IfSome}
-use Rattle.ptlangs.specs.declared.tr.classes.CharClass.TheVariants.{Alnum, Alpha, Blank, Cntrl, Digit, Graph, Lower}
-use Rattle.std.proofs.lemmas.List.FromFn.{length-range_with_len}
-use Rattle.ptlangs.specs.declared.tr.classes.CharClass.TheVariants.{Print, Punct, Space, Upper, Xdigit}
 
 pub slice_get-left : {X : Type 0} (xs ys : List X) (i : ℕ) → i < length xs → slice_get (xs ++ ys) i ≡ slice_get xs i
 slice_get-left [] ys i h = absurd (omega arith)
@@ -32,14 +29,14 @@ pub span_there : (first last index : ℕ) → index < length (span first last)
     → Some (first + index) ≡ slice_get (span first last) index
 span_there first last index h =
     let within : index < last + 1 - first = omega (arith, length-range_with_len first (last + 1 - first)) in
-    sym (slice_get-get_or (span first last) index 0 h
-    ∙ ap Some (get_or-range_with_len first (last + 1 - first) index 0 within))
+    sym (slice_get-get_or _ index 0 h
+    ∙ ap Some (get_or-range_with_len first _ index 0 within))
 
 pub span_past : (first last index : ℕ) → length (span first last) ≤ index → None ≡ slice_get (span first last) index
-span_past first last index h = sym (slice_get_past (span first last) index h)
+span_past first last index h = sym (slice_get_past _ index h)
 
 pub length-span : (first last : ℕ) → length (span first last) ≡ last + 1 - first
-length-span first last = length-range_with_len first (last + 1 - first)
+length-span first last = length-range_with_len first _
 
 pub ruleset span_steps = (span_there, span_past, length-span)
 
@@ -48,61 +45,34 @@ pub ruleset span_steps = (span_there, span_past, length-span)
 pub ranges_found : (rs : List (ℕ × ℕ)) (i left : ℕ) (d : ℕ × ℕ) (o : Option ℕ) → i < length rs
     → left < length (range_bytes (get_or rs i d)) → o ≡ slice_get (range_bytes (get_or rs i d)) left
     → o ≡ slice_get (flat_map range_bytes (drop i rs)) left
-ranges_found rs i left d o h under e =
-    e ∙ sym (slice_get-left (range_bytes (get_or rs i d)) (flat_map range_bytes (drop (i + 1) rs)) left under)
-    ∙ ap (λ xs. slice_get (flat_map range_bytes xs) left) (sym (drop_more rs i d h))
+ranges_found rs i left d o h under e = grind (arith, e, slice_get-left, drop_more)
 
 pub ranges_next : (rs : List (ℕ × ℕ)) (i left count : ℕ) (d : ℕ × ℕ) → i < length rs
     → count ≡ length (range_bytes (get_or rs i d)) → count ≤ left
     → slice_get (flat_map range_bytes (drop (i + 1) rs)) (left - count)
     ≡ slice_get (flat_map range_bytes (drop i rs)) left
-ranges_next rs i left count d h e past =
-    sym (slice_get-right (range_bytes (get_or rs i d)) (flat_map range_bytes (drop (i + 1) rs)) left (left - count)
-    (omega arith))
-    ∙ ap (λ xs. slice_get (flat_map range_bytes xs) left) (sym (drop_more rs i d h))
-
-pub class_bytes-short : (class : CharClass) → length (class_bytes class) ≤ 256
-class_bytes-short Alnum = lit≤ tt
-class_bytes-short Alpha = lit≤ tt
-class_bytes-short Blank = lit≤ tt
-class_bytes-short Cntrl = lit≤ tt
-class_bytes-short Digit = lit≤ tt
-class_bytes-short Graph = lit≤ tt
-class_bytes-short Lower = lit≤ tt
-class_bytes-short Print = lit≤ tt
-class_bytes-short Punct = lit≤ tt
-class_bytes-short Space = lit≤ tt
-class_bytes-short Upper = lit≤ tt
-class_bytes-short Xdigit = lit≤ tt
+ranges_next rs i left count d h e past = grind (arith, slice_get-right, drop_more)
 
 pub class_bytes-some : (class : CharClass) → 0 < length (class_bytes class)
-class_bytes-some Alnum = lit≤ tt
-class_bytes-some Alpha = lit≤ tt
-class_bytes-some Blank = lit≤ tt
-class_bytes-some Cntrl = lit≤ tt
-class_bytes-some Digit = lit≤ tt
-class_bytes-some Graph = lit≤ tt
-class_bytes-some Lower = lit≤ tt
-class_bytes-some Print = lit≤ tt
-class_bytes-some Punct = lit≤ tt
-class_bytes-some Space = lit≤ tt
-class_bytes-some Upper = lit≤ tt
-class_bytes-some Xdigit = lit≤ tt
+class_bytes-some class = grind arith
+
+pub class_bytes-short : (class : CharClass) → length (class_bytes class) ≤ 256
+class_bytes-short class = grind arith
 
 -- an index within a list that is no longer than a number of 128 bits can be counted up
 pub room : (bytes : List ℕ) (i : ℕ) (found : Option ℕ) → found ≡ slice_get bytes i → length bytes < 2 ^ 128
     → IfSome found (λ _. i + 1 < 2 ^ 128)
 room bytes i None e h = tt
-room bytes i (Some b) e h = omega (arith, slice_get_within bytes i b (sym e), h)
+room bytes i (Some b) e h = omega (arith, slice_get_within bytes i b (sym e))
 
 -- ---- copies of one byte
 
 pub repeat_there : (n b i : ℕ) → i < n → Some b ≡ slice_get (replicate n b) i
 repeat_there n b i h =
-    sym (slice_get-get_or (replicate n b) i 0 (omega (arith, length-replicate n b))
+    sym (slice_get-get_or _ i 0 (omega (arith, length-replicate n b))
     ∙ ap Some (get_or-replicate n i b 0 h))
 
 pub repeat_past : (n b i : ℕ) → n ≤ i → None ≡ slice_get (replicate n b) i
-repeat_past n b i h = sym (slice_get_past (replicate n b) i (omega (arith, length-replicate n b)))
+repeat_past n b i h = sym (slice_get_past _ i (omega (arith, length-replicate n b)))
 
 pub ruleset member_steps = (length-replicate, length-span, class_bytes-short, repeat_there, repeat_past)

@@ -3,19 +3,17 @@
 use Rattle.ptlangs.proofs.Common.{◌≡◌, Bool, Err, List, None, Ok, Option, Result, Some, [], ap, arith, cond, drop, eqb}
 use Rattle.ptlangs.proofs.Common.{false, length, map, refl, suc, sym, true, zero, ℕ, ◌&&◌, ◌++◌, ◌+◌, ◌||◌, ◌∙◌, ◌∷◌}
 use Rattle.ptlangs.proofs.Common.{◌≤◌, ◌<◌, ◌-◌, append-nil, append_assoc, length-map, length-replicate, map-append}
-use Rattle.ptlangs.proofs.Common.{slice_get, cons_ok, are_opposite_cases, array, class_offsets, class_bytes, sequence}
-use Rattle.ptlangs.proofs.Common.{is_fill, are_paired, members, segment, result_map_both, has_other_case_at, CharClass}
-use Rattle.ptlangs.proofs.Common.{SetFaultKind, SetElement, Segment, SetRole, First, Images, Squeezed}
-use Rattle.ptlangs.proofs.Common.{eq-eqb, ne_eqb, drop_all, subst, replicate, span, segments_of, string_segments}
-use Rattle.std.proofs.lemmas.List.{drop-replicate}
+use Rattle.ptlangs.proofs.Common.{slice_get, cons_ok, array, class_offsets, sequence, is_fill, segment, result_map_both}
+use Rattle.ptlangs.proofs.Common.{CharClass, SetFaultKind, SetElement, Segment, SetRole, eq-eqb, ne_eqb, drop_all}
+use Rattle.ptlangs.proofs.Common.{replicate, span, segments_of, string_segments}
+use Rattle.ptlangs.specs.TrPlan.{are_paired, members, has_other_case_at}
+use Rattle.std.proofs.lemmas.List.{drop-map, drop-replicate}
 use Rattle.std.specs.Result.{IsErrAnd}
-use Rattle.ptlangs.specs.declared.tr.elements.SetElement.TheVariants as element
 use Rattle.ptlangs.specs.declared.tr.segments.Member.{Member}
-use Rattle.ptlangs.specs.declared.tr.segments.Segment.TheVariants.{Range, Class}
-use Rattle.ptlangs.specs.TrParsing.{all_paired, member_bytes, classes_match, class_of, marked_array}
-use Rattle.ptlangs.specs.TrParsing.{marked_members, member_results, members_from, plain_members}
+use Rattle.ptlangs.specs.declared.tr.segments.Segment.TheVariants.{Range, Class, Fill, Repeat}
+use Rattle.ptlangs.specs.TrParsing.{all_paired, member_bytes, classes_match, class_of, marked_array, marked_members}
+use Rattle.ptlangs.specs.TrParsing.{member_results, members_from, plain_members}
 use Rattle.ptlangs.proofs.ListElements.{append_ok as onto, append_ok-nil, cons_ok-append_ok, reads_first}
-use Rattle.ptlangs.specs.declared.tr.segments.Segment.TheVariants.{Fill, Repeat}
 use Rattle.ptlangs.proofs.TrByteRanges.{slice_get-none, class_bytes-some}
 
 -- these items were read without a fault, and `P` holds of them; `rest` is still to be read
@@ -26,8 +24,8 @@ pub record ItemsRead {A : Type 0} (all rest : List (Result A SetFaultKind)) (P :
 
 sequence-done : {A : Type 0} (done : List A) (rest : List (Result A SetFaultKind))
     → sequence (map Ok done ++ rest) ≡ onto done (sequence rest)
-sequence-done [] rest = sym (append_ok-nil (sequence rest))
-sequence-done (x ∷ done) rest = ap (cons_ok x) (sequence-done done rest) ∙ cons_ok-append_ok x done (sequence rest)
+sequence-done [] rest = sym (append_ok-nil _)
+sequence-done (x ∷ done) rest = ap (cons_ok x) (sequence-done done rest) ∙ cons_ok-append_ok x done _
 
 module _ {A : Type 0} {all rest : List (Result A SetFaultKind)} {P : List A → Type 0} (r : ItemsRead all rest P) where
   -- more items were read
@@ -36,7 +34,7 @@ module _ {A : Type 0} {all rest : List (Result A SetFaultKind)} {P : List A → 
       → ItemsRead all after Q
   items_more {after} Q more s h = record {
     done = r.done ++ more;
-    so_far = r.so_far ∙ ap (λ xs. map Ok r.done ++ xs) s ∙ sym (append_assoc (map Ok r.done) (map Ok more) after)
+    so_far = r.so_far ∙ ap (λ xs. map Ok r.done ++ xs) s ∙ sym (append_assoc _ _ after)
         ∙ ap (λ xs. xs ++ after) (sym (map-append Ok r.done more));
     holds = h r.holds;
   }
@@ -67,8 +65,8 @@ pub sequence-members : (n : ℕ) (rs : List (Result Segment SetFaultKind))
     → sequence (member_results n rs) ≡ result_map_both (marked_array n) (λ (k : SetFaultKind). k) (sequence rs)
 sequence-members n [] = refl
 sequence-members n (Ok x ∷ rs) =
-    sequence-done (marked_members n x) (member_results n rs) ∙ ap (onto (marked_members n x)) (sequence-members n rs)
-    ∙ by_rest (sequence rs)
+    sequence-done (marked_members n x) _ ∙ ap (onto _) (sequence-members n rs)
+    ∙ by_rest _
   where
     by_rest : (t : Result (List Segment) SetFaultKind)
         → onto (marked_members n x) (result_map_both (marked_array n) (λ (k : SetFaultKind). k) t)
@@ -84,11 +82,11 @@ members-ok n [] [] e = refl
 members-ok n [] (p ∷ ps) e = absurd (cc)
 members-ok n (Err k ∷ rs) ps e = absurd (cc)
 members-ok n (Ok x ∷ rs) ps e =
-    let all = reads_first (Ok x) (sequence rs) ps e in
+    let all = reads_first (Ok x) _ ps e in
     let read = all.read in
     let first : all.head ≡ x = cc in
     rw (← all.is, first) (ap (λ ys. map Ok (marked_members n x) ++ ys) (members-ok n rs all.tail all.rest)
-    ∙ sym (map-append Ok (marked_members n x) (marked_array n all.tail)))
+    ∙ sym (map-append Ok _ _))
 
 pub member_bytes-plain : (bytes : List ℕ) → member_bytes (plain_members bytes) ≡ bytes
 member_bytes-plain [] = refl
@@ -101,18 +99,17 @@ member_bytes-members class (b ∷ bytes) = ap (λ bs. b ∷ bs) (member_bytes-pl
 pub member_bytes-array : (n : ℕ) (ps : List Segment) → member_bytes (marked_array n ps) ≡ array n ps
 member_bytes-array n [] = refl
 member_bytes-array n (p ∷ ps) =
-    map-append (λ (m : Member). m.byte) (marked_members n p) (marked_array n ps)
+    map-append _ _ _
     ∙ (λ i. member_bytes-members (class_of p) (members n p) i ++ member_bytes-array n ps i)
 
 pub length-marked : (n : ℕ) (x : Segment) → length (marked_members n x) ≡ length (members n x)
-length-marked n x = sym (length-map (marked_members n x) (λ (m : Member). m.byte))
-    ∙ ap length (member_bytes-members (class_of x) (members n x))
+length-marked n x = grind (arith, length-map, member_bytes-members)
 
 pub drop-found : {X : Type 0} (xs : List X) (i : ℕ) (x : X) → Some x ≡ slice_get xs i → drop i xs ≡ x ∷ drop (i + 1) xs
 drop-found [] i x e = absurd (cc)
 drop-found (y ∷ xs) zero x e = let same : y ≡ x = cc in ap (λ z. z ∷ xs) same
 drop-found (y ∷ xs) (suc i) x e =
-    let next : suc i + 1 ≡ suc (i + 1) = omega arith in
+    let next : suc i + 1 ≡ suc _ = omega arith in
     drop-found xs i x e ∙ ap (λ k. x ∷ drop k (y ∷ xs)) (sym next)
 
 -- ---- the bytes after a segment that was passed
@@ -121,14 +118,9 @@ drop-found (y ∷ xs) (suc i) x e =
 pub segment-passed : (n : ℕ) (x : Segment) (i : ℕ) (rs : List (Result Segment SetFaultKind))
     → None ≡ slice_get (marked_members n x) i
     → map {B = Result Member SetFaultKind} Ok (drop i (marked_members n x)) ++ member_results n rs ≡ member_results n rs
-segment-passed n x i rs e = rw (drop_all i (marked_members n x) (slice_get-none (marked_members n x) i e)) refl
+segment-passed n x i rs e = rw (drop_all i _ (slice_get-none _ i e)) refl
 
 -- ---- the copies of a byte, passed at once
-
-drop-plain : (i : ℕ) (bytes : List ℕ) → drop i (plain_members bytes) ≡ plain_members (drop i bytes)
-drop-plain zero bytes = refl
-drop-plain (suc i) [] = refl
-drop-plain (suc i) (b ∷ bytes) = drop-plain i bytes
 
 -- if a segment has only copies of a byte, those from an index on are passed
 pub copies-passed : (count i b : ℕ) (ms : List Member) → (0 < count → ms ≡ plain_members (replicate count b))
@@ -145,8 +137,8 @@ copies-passed (suc n) i b ms h =
       length-map {B = Member} (replicate (suc n) b) (λ (c : ℕ). record { byte = c; class = None }),
       length-replicate (suc n) b,
     ) in
-    rw (h (omega arith), drop_all (i + (suc n - i)) copies all, append-nil (plain_members (replicate (suc n - i) b)))
-    (drop-plain i (replicate (suc n) b) ∙ ap plain_members (drop-replicate i (suc n) b))
+    rw (h (omega arith), drop_all _ copies all, append-nil _)
+    (drop-map _ i _ ∙ ap plain_members (drop-replicate i _ b))
 
 -- ---- the string of the segments
 
@@ -155,7 +147,7 @@ pub string-fault : (role : SetRole) (text : List ℕ) (n : ℕ) (k : SetFaultKin
     → sequence (member_results n (segments_of role text)) ≡ Err k → string_segments role text ≡ Err k
 string-fault role [] n k some e = absurd (cc)
 string-fault role (b ∷ text) n k some e =
-    by_segments (sequence (segments_of role (b ∷ text))) (sym (sequence-members n (segments_of role (b ∷ text))) ∙ e)
+    by_segments _ (sym (sequence-members n (segments_of role (b ∷ text))) ∙ e)
   where
     by_segments : (r : Result (List Segment) SetFaultKind)
         → result_map_both (marked_array n) (λ (j : SetFaultKind). j) r ≡ Err k → r ≡ Err k
@@ -168,7 +160,7 @@ pub string-read : (role : SetRole) (text : List ℕ) (n : ℕ) (ms : List Member
     → (ps : List Segment) × (string_segments role text ≡ Ok ps) × (marked_array n ps ≡ ms)
 string-read role [] n ms some e = absurd (cc)
 string-read role (b ∷ text) n ms some e =
-    by_segments (sequence (segments_of role (b ∷ text))) (sym (sequence-members n (segments_of role (b ∷ text))) ∙ e)
+    by_segments _ (sym (sequence-members n (segments_of role (b ∷ text))) ∙ e)
   where
     by_segments : (r : Result (List Segment) SetFaultKind)
         → result_map_both (marked_array n) (λ (j : SetFaultKind). j) r ≡ Ok ms
@@ -182,50 +174,22 @@ pub string-ok : (role : SetRole) (text : List ℕ) (n : ℕ) (ps : List Segment)
 string-ok role [] n ps e = absurd (cc)
 string-ok role (b ∷ text) n ps e = members-ok n (segments_of role (b ∷ text)) ps e
 
--- ---- one step
-
-pub le_trans : (a b c : ℕ) → a ≤ b → b ≤ c → a ≤ c
-le_trans a b c h k = omega (arith, h, k)
-
 -- ---- a fault that is passed on
 
 pub on_fault : {T E : Type 0} (P : Result T E → Type 0) (r : Result T E) (k : E) → IsErrAnd r (λ e. e ≡ k) → P (Err k)
     → P r
-on_fault P (Ok x) k e h = absurd e
-on_fault P (Err j) k e h = subst (λ l. P (Err l)) (sym e) h
-
--- ---- a bound on the number of bytes that are left
+on_fault P r k e h = grind arith
 
 -- ---- at most one segment is a fill
 
 no_second_fill : (role : SetRole) (p : SetElement) (b : ℕ) → segment role true p ≡ Ok (Fill b) → ⊥
-no_second_fill role (element.Single x) b e = cc
-no_second_fill role (element.Range x y) b e = cc
-no_second_fill role (element.Class None) b e = cc
-no_second_fill role (element.Class (Some class)) b e = cc
-no_second_fill First (element.Equivalence x) b e = cc
-no_second_fill Images (element.Equivalence x) b e = cc
-no_second_fill Squeezed (element.Equivalence x) b e = cc
-no_second_fill First (element.Repeat x count) b e = cc
-no_second_fill Images (element.Repeat x None) b e = cc
-no_second_fill Images (element.Repeat x (Some zero)) b e = cc
-no_second_fill Images (element.Repeat x (Some (suc n))) b e = cc
-no_second_fill Squeezed (element.Repeat x None) b e = cc
-no_second_fill Squeezed (element.Repeat x (Some zero)) b e = cc
-no_second_fill Squeezed (element.Repeat x (Some (suc n))) b e = cc
+no_second_fill role p b e = grind arith
 
 -- one more segment adds the length of a fill only if no fill came before it
 pub fill_step : (n : ℕ) (role : SetRole) (p : SetElement) (d : Segment) (has_fill : Bool)
     → segment role has_fill p ≡ Ok d
     → length (members n d) + cond (has_fill || is_fill (Ok d)) 0 n ≤ length (members 0 d) + cond has_fill 0 n
-fill_step n role p (Range a b) true e = omega arith
-fill_step n role p (Range a b) false e = omega arith
-fill_step n role p (Class class) true e = omega arith
-fill_step n role p (Class class) false e = omega arith
-fill_step n role p (Repeat b count) true e = omega arith
-fill_step n role p (Repeat b count) false e = omega arith
-fill_step n role p (Fill b) true e = absurd (no_second_fill role p b e)
-fill_step n role p (Fill b) false e = omega (arith, length-replicate n b)
+fill_step n role p d has_fill e = grind (arith, no_second_fill, length-replicate)
 
 -- ---- the classes that start in two arrays
 
@@ -247,7 +211,7 @@ offsets at (m ∷ ms) = offset_of at m.class ++ offsets (suc at) ms
 offsets-plain : (at : ℕ) (bytes : List ℕ) (ms : List Member)
     → offsets at (plain_members bytes ++ ms) ≡ offsets (at + length bytes) ms
 offsets-plain at [] ms = ap (λ k. offsets k ms) (omega arith)
-offsets-plain at (b ∷ bytes) ms = offsets-plain (suc at) bytes ms ∙ ap (λ k. offsets k ms) (omega arith)
+offsets-plain at (b ∷ bytes) ms = offsets-plain _ bytes ms ∙ ap (λ k. offsets k ms) (omega arith)
 
 offsets-members : (at : ℕ) (bytes : List ℕ) (ms : List Member)
     → offsets at (members_from None bytes ++ ms) ≡ offsets (at + length bytes) ms
@@ -256,35 +220,35 @@ offsets-members at (b ∷ bytes) ms = offsets-plain at (b ∷ bytes) ms
 
 offsets-class : (at : ℕ) (class : CharClass) (bytes : List ℕ) (ms : List Member) → 0 < length bytes
     → offsets at (members_from (Some class) bytes ++ ms) ≡ (at, class) ∷ offsets (at + length bytes) ms
-offsets-class at class [] ms some = absurd (omega (arith, some))
-offsets-class at class (b ∷ bytes) ms some =
-    ap (λ os. (at, class) ∷ os) (offsets-plain (suc at) bytes ms ∙ ap (λ k. offsets k ms) (omega arith))
+offsets-class at class [] ms some = absurd (omega arith)
+offsets-class at class (b ∷ bytes) ms some = grind (arith, offsets-plain)
 
 class_offsets-are : (n : ℕ) (ps : List Segment) (at : ℕ) → class_offsets n at ps ≡ offsets at (marked_array n ps)
 class_offsets-are n [] at = refl
-class_offsets-are n (Range a b ∷ ps) at = class_offsets-are n ps (at + length (span a b))
-    ∙ sym (offsets-members at (span a b) (marked_array n ps))
+class_offsets-are n (Range a b ∷ ps) at = class_offsets-are n ps _
+    ∙ sym (offsets-members at (span a b) _)
 class_offsets-are n (Class class ∷ ps) at =
-    ap (λ os. (at, class) ∷ os) (class_offsets-are n ps (at + length (class_bytes class)))
-    ∙ sym (offsets-class at class (class_bytes class) (marked_array n ps) (class_bytes-some class))
+    ap (λ os. (at, class) ∷ os) (class_offsets-are n ps _)
+    ∙ sym (offsets-class at class _ _ (class_bytes-some class))
 class_offsets-are n (Repeat b count ∷ ps) at =
-    class_offsets-are n ps (at + count)
-    ∙ ap (λ m. offsets (at + m) (marked_array n ps)) (sym (length-replicate count b))
-    ∙ sym (offsets-members at (replicate count b) (marked_array n ps))
+    cc (
+      class_offsets-are n ps (at + count),
+      length-replicate count b,
+      offsets-members at (replicate count b) (marked_array n ps),
+    )
 class_offsets-are n (Fill b ∷ ps) at =
-    class_offsets-are n ps (at + n) ∙ ap (λ m. offsets (at + m) (marked_array n ps)) (sym (length-replicate n b))
-    ∙ sym (offsets-members at (replicate n b) (marked_array n ps))
+    cc (class_offsets-are n ps (at + n), length-replicate n b, offsets-members at (replicate n b) (marked_array n ps))
 
 -- no class starts before an array
 none_before : (ms : List Member) (at k : ℕ) (class : CharClass) → k < at
     → has_other_case_at (offsets at ms) k class ≡ false
 none_before [] at k class low = refl
-none_before (m ∷ ms) at k class low = by_class m.class (none_before ms (suc at) k class (omega (arith, low)))
+none_before (m ∷ ms) at k class low = by_class m.class (none_before ms _ k class (omega arith))
   where
     by_class : (o : Option CharClass) → has_other_case_at (offsets (suc at) ms) k class ≡ false
         → has_other_case_at (offset_of at o ++ offsets (suc at) ms) k class ≡ false
     by_class None later = later
-    by_class (Some c) later = rw (ne_eqb at k (λ e. omega (arith, e, low))) later
+    by_class (Some c) later = grind arith
 
 stands_here : (ms : List Member) (at i k : ℕ) (class : CharClass) → at + i ≡ k
     → has_other_case_at (offsets at ms) k class ≡ classes_match (class_here ms i) (Some class)
@@ -292,7 +256,7 @@ stands_here [] at i k class e = refl
 stands_here (m ∷ ms) at zero k class e = by_class m.class
   where
     later : has_other_case_at (offsets (suc at) ms) k class ≡ false
-    later = none_before ms (suc at) k class (omega (arith, e))
+    later = none_before ms _ k class (omega arith)
 
     or_false : (t : Bool) → (t || false) ≡ t
     or_false true = refl
@@ -301,19 +265,15 @@ stands_here (m ∷ ms) at zero k class e = by_class m.class
     by_class : (o : Option CharClass)
         → has_other_case_at (offset_of at o ++ offsets (suc at) ms) k class ≡ classes_match o (Some class)
     by_class None = later
-    by_class (Some c) = rw (eq-eqb at k (omega (arith, e)), later) (or_false (are_opposite_cases c class))
-stands_here (m ∷ ms) at (suc i) k class e = by_class m.class (stands_here ms (suc at) i k class (omega (arith, e)))
+    by_class (Some c) = rw (eq-eqb at k (omega arith), later) (or_false _)
+stands_here (m ∷ ms) at (suc i) k class e = by_class m.class (stands_here ms _ i k class (omega arith))
   where
     by_class : (o : Option CharClass)
         → has_other_case_at (offsets (suc at) ms) k class ≡ classes_match (class_here ms i) (Some class)
         → has_other_case_at (offset_of at o ++ offsets (suc at) ms) k class
         ≡ classes_match (class_here ms i) (Some class)
     by_class None later = later
-    by_class (Some c) later = rw (ne_eqb at k (λ z. omega (arith, z, e))) later
-
-matches_none : (o : Option CharClass) → classes_match o None ≡ true
-matches_none None = refl
-matches_none (Some c) = refl
+    by_class (Some c) later = rw (ne_eqb at k (λ z. omega (arith, e))) later
 
 -- one byte of the second array against the first array from the same index on
 pub all_paired-more : (i : ℕ) (from : List Member) (t : Member) (to : List Member)
@@ -326,14 +286,13 @@ all_paired-more (suc i) (f ∷ from) t to = all_paired-more i from t to
 
 paired_from : (from to : List Member) (i : ℕ) → are_paired (offsets 0 from) (offsets i to) ≡ all_paired (drop i from) to
 paired_from from [] i = refl
-paired_from from (t ∷ to) i = by_class t.class (paired_from from to (suc i)) ∙ sym (all_paired-more i from t to)
+paired_from from (t ∷ to) i = by_class t.class (paired_from from to _) ∙ sym (all_paired-more i from t to)
   where
     by_class : (o : Option CharClass)
         → are_paired (offsets 0 from) (offsets (suc i) to) ≡ all_paired (drop (suc i) from) to
         → are_paired (offsets 0 from) (offset_of i o ++ offsets (suc i) to)
         ≡ (classes_match (class_here from i) o && all_paired (drop (suc i) from) to)
-    by_class None later =
-        later ∙ ap (λ t. t && all_paired (drop (suc i) from) to) (sym (matches_none (class_here from i)))
+    by_class None later = cc
     by_class (Some c) later = (λ j. stands_here from 0 i i c (omega arith) j && later j)
 
 -- the classes are paired as the definition states it
@@ -342,12 +301,12 @@ pub paired-arrays : (n : ℕ) (firsts seconds : List Segment)
     ≡ all_paired (marked_array 0 firsts) (marked_array n seconds)
 paired-arrays n firsts seconds =
     (λ i. are_paired (class_offsets-are 0 firsts 0 i) (class_offsets-are n seconds 0 i))
-    ∙ paired_from (marked_array 0 firsts) (marked_array n seconds) 0
+    ∙ paired_from (marked_array 0 firsts) _ 0
 
 pub paired-plain : (n : ℕ) (bytes : List ℕ) (seconds : List Segment)
     → are_paired [] (class_offsets n 0 seconds) ≡ all_paired (plain_members bytes) (marked_array n seconds)
 paired-plain n bytes seconds =
-    let none : offsets 0 (plain_members bytes) ≡ [] = sym (ap (offsets 0) (append-nil (plain_members bytes)))
+    let none = sym (ap (offsets 0) (append-nil (plain_members bytes)))
     ∙ offsets-plain 0 bytes [] in
     (λ i. are_paired (sym none i) (class_offsets-are n seconds 0 i))
-    ∙ paired_from (plain_members bytes) (marked_array n seconds) 0
+    ∙ paired_from (plain_members bytes) _ 0

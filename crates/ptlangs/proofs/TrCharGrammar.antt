@@ -1,41 +1,42 @@
 -- Octal and decimal numbers, and the characters of a string at an index. The character at an index depends only on the
 -- bytes from there on, which gives the agreement with the grammar, character by character.
 use Rattle.ptlangs.proofs.Common.{◌≡◌, ◌≤◌, ◌<◌, ◌+◌, ◌-◌, ◌*◌, ℕ, zero, suc, Bool, true, false, cond, eqb, List, []}
-use Rattle.ptlangs.proofs.Common.{◌∷◌, length, take, drop, get_or, arith, refl, sym, ap, ◌∙◌, rules, tests, nat_le}
-use Rattle.ptlangs.proofs.Common.{Option, Some, None, prefix_len, slice_get, digit_value, digits_value, drop_more}
-use Rattle.ptlangs.proofs.Common.{drop_all, drop-drop, take-take, length-take, get_or-take, length-prefix_len}
-use Rattle.ptlangs.proofs.Common.{prefix_len-le-length, prefix_len_passes, is_octal_digit, octal_run, octal, chars}
-use Rattle.ptlangs.proofs.Common.{after_backslash, Octal, SetChar, Plain, Escaped, Invalid, inl}
-use Rattle.ptlangs.proofs.Common.{inr, subst, ◌++◌, cases_Bool, cases_eq, ne_eqb, nat_tests, drop_at, length-append}
-use Rattle.ptlangs.proofs.Common.{ALargeOctal, ALoneBackslash, APlainByte, AChar, AnEscape, AnOctal, NoChar}
-use Rattle.ptlangs.proofs.Common.{SpellsChar, SpellsChars}
-use Rattle.ptlangs.proofs.Common.{Escape, cond-false, cond-true, le-leb, lt-leb, value}
-use Rattle.std.proofs.Common.{All}
-use Rattle.std.specs.Int.{IsInRange}
+use Rattle.ptlangs.proofs.Common.{◌∷◌, length, take, drop, get_or, arith, refl, sym, ap, ◌∙◌, rules, Option, Some, None}
+use Rattle.ptlangs.proofs.Common.{prefix_len, slice_get, digit_value, digits_value, drop_more, drop-drop}
+use Rattle.ptlangs.proofs.Common.{length-prefix_len, octal, chars, after_backslash, SetChar, Plain, Escaped, Invalid}
+use Rattle.ptlangs.proofs.Common.{inl, inr, subst, ◌++◌, cases_Bool, cases_eq, ne_eqb, drop_at, length-append, AChar}
+use Rattle.ptlangs.proofs.Common.{NoChar, SpellsChar, SpellsChars, cond-false, cond-true, value, Result, Ok, Err}
+use Rattle.ptlangs.proofs.Common.{SetFaultKind}
+use Rattle.ptlangs.specs.TrChars.{ALargeOctal, ALoneBackslash, APlainByte, AnEscape, AnOctal, is_octal_digit, octal_run}
+use Rattle.ptlangs.specs.TrChars.{IsOctalRun, OneDigit, ThreeDigits, TwoDigits, CharsMatchGrammar, byte_of, char_at}
+use Rattle.std.proofs.Common.{nat_le, All}
+use Rattle.std.proofs.lemmas.Bool.{lt-leb, le-leb}
+use Rattle.std.proofs.lemmas.List.{length-take, take-take, get_or-take}
+use Rattle.std.proofs.lemmas.List.Sums.{prefix_len-le-length, prefix_len_passes}
+use Rattle.ptlangs.specs.declared.faults.SetFaultKind.TheVariants.{Octal, Escape}
 use Rattle.std.proofs.lemmas.Int.Digits.{digits_value_more}
 use Rattle.std.proofs.lemmas.Str.Parse.{digits_value-take-le, digit_from_value}
-use Rattle.ptlangs.specs.TrChars.{IsOctalRun, OneDigit, ThreeDigits, TwoDigits, CharsMatchGrammar, byte_of_escape}
-use Rattle.ptlangs.specs.TrChars.{char_at, chars_after}
+use Rattle.ptlangs.specs.TrParsing.{char_from}
 use Rattle.std.proofs.lemmas.Str.{digit_value_digit}
 
 pub ruleset number_steps = (digits_value_more, digits_value-take-le, digit_from_value)
 
--- the character of an octal escape with this value; `None` is a value above 255
-abbrev pub char_of_octal : Option ℕ → SetChar
-char_of_octal None = Invalid Octal
-char_of_octal (Some v) = Escaped v
+-- the byte of an octal escape with this value; `None` is a value above 255
+abbrev pub byte_of_octal : Option ℕ → Result ℕ SetFaultKind
+byte_of_octal None = Err Octal
+byte_of_octal (Some v) = Ok v
 
 -- a number is above the limit if its first digits are
 pub too_large : (base limit : ℕ) (ds : List ℕ) (i : ℕ) → 1 ≤ base → limit < digits_value base (take i ds)
     → nat_le (digits_value base ds) limit ≡ false
-too_large base limit ds i one h = grind (arith, tests, digits_value-take-le base ds i one)
+too_large base limit ds i one h = grind (arith, digits_value-take-le base ds i one)
 
 -- the value after one more digit
 pub number_step : (base : ℕ) (ds : List ℕ) (i value digit : ℕ) → i < length ds → base ≤ 10
     → digit_value (get_or ds i 0) < base → value ≡ digits_value base (take i ds) → digit ≡ get_or ds i 0 - 48
     → value * base + digit ≡ digits_value base (take (i + 1) ds)
 number_step base ds i value digit h ten below v d =
-    let digits : IsInRange 48 57 (get_or ds i 0) = digit_from_value (get_or ds i 0) (omega arith) in
+    let digits = digit_from_value _ (omega arith) in
     let same : digit ≡ digit_value (get_or ds i 0) = omega (arith, digit_value_digit (get_or ds i 0) digits) in
     rw (digits_value_more base ds i h, v, same) refl
 
@@ -51,57 +52,50 @@ length-octal_run bs =
 pub take-octal_run : (bs : List ℕ) → take (length (octal_run bs)) bs ≡ octal_run bs
 take-octal_run bs =
     let n = prefix_len is_octal_digit (take 3 bs) in
-    let e : length (octal_run bs) ≡ n = length-prefix_len is_octal_digit (take 3 bs) in
+    let e = length-prefix_len is_octal_digit (take 3 bs) in
     let short : n ≤ 3 = omega (arith, prefix_len-le-length is_octal_digit (take 3 bs), length-take 3 bs) in
     ap (λ m. take m bs) e ∙ sym (take-take n 3 bs short)
 
 octal_value : (b : ℕ) → is_octal_digit b ≡ true → digit_value b < 8
-octal_value b h = grind (arith, tests, rules)
+octal_value b h = grind (arith, rules)
 
 pub octal_digits : (bs : List ℕ) → All (λ d. digit_value d < 8) (take (length (octal_run bs)) bs)
 octal_digits bs k d h =
     let n = prefix_len is_octal_digit (take 3 bs) in
-    let e : length (octal_run bs) ≡ n = length-prefix_len is_octal_digit (take 3 bs) in
+    let e = length-prefix_len is_octal_digit (take 3 bs) in
     let within : k < n = omega (arith, length-take (length (octal_run bs)) bs) in
     octal_value (get_or (take (length (octal_run bs)) bs) k d)
-    (rw take-octal_run (rw (get_or-take n (take 3 bs) k d within)
+    (rw take-octal_run (rw (get_or-take n _ k d within)
     (prefix_len_passes is_octal_digit (take 3 bs) k d within)))
 
 -- a backslash before an octal digit
 pub after_backslash-octal : (bs : List ℕ) (c : ℕ) → Some c ≡ slice_get bs 0 → is_octal_digit c ≡ true
     → after_backslash bs ≡ (octal (digits_value 8 (octal_run bs)), length (octal_run bs))
-after_backslash-octal [] c e t = cc
-after_backslash-octal (b ∷ bs) c e t = let test : is_octal_digit b ≡ true = cc in rw test refl
+after_backslash-octal bs c e t = grind arith
 
 pub octal_char : (bs : List ℕ) (c count : ℕ) (o : Option ℕ) → Some c ≡ slice_get bs 0 → is_octal_digit c ≡ true
     → count ≡ length (octal_run bs)
     → o ≡ cond (nat_le (digits_value 8 (take count bs)) 255) (Some (digits_value 8 (take count bs))) None
-    → char_of_octal o ≡ (after_backslash bs).0
-octal_char bs c count o e t n v = ap char_of_octal (rw same at v) ∙ choose (nat_le (digits_value 8 (octal_run bs)) 255)
-    ∙ sym (ap (λ (p : SetChar × ℕ). p.0) (after_backslash-octal bs c e t))
+    → byte_of_octal o ≡ byte_of (after_backslash bs).0
+octal_char bs c count o e t n v =
+    cc (rw same at v, choose (nat_le (digits_value 8 (octal_run bs)) 255), after_backslash-octal bs c e t)
   where
     same : take count bs ≡ octal_run bs
     same = ap (λ m. take m bs) n ∙ take-octal_run bs
 
     choose : (fits : Bool)
-        → char_of_octal (cond fits (Some (digits_value 8 (octal_run bs))) None)
-        ≡ cond fits (Escaped (digits_value 8 (octal_run bs))) (Invalid Octal)
+        → byte_of_octal (cond fits (Some (digits_value 8 (octal_run bs))) None)
+        ≡ byte_of (cond fits (Escaped (digits_value 8 (octal_run bs))) (Invalid Octal))
     choose true = refl
     choose false = refl
 
--- the characters after the first `skip` bytes are those of the rest
-pub chars_after_is : (bs : List ℕ) (skip : ℕ) → chars_after bs skip ≡ chars (drop skip bs)
-chars_after_is [] skip = ap chars (sym (drop_all skip [] (omega arith)))
-chars_after_is (b ∷ bs) zero = refl
-chars_after_is (b ∷ bs) (suc skip) = chars_after_is bs skip
-
 pub chars-cons : (b : ℕ) (bs : List ℕ) → chars (b ∷ bs) ≡ (char_at b bs).0 ∷ chars (drop (char_at b bs).1 bs)
-chars-cons b bs = ap (λ us. (char_at b bs).0 ∷ us) (chars_after_is bs (char_at b bs).1)
+chars-cons b bs = grind arith
 
 pub chars_plain : (bs : List ℕ) (i b : ℕ) → i < length bs → get_or bs i 0 ≡ b → (b ≡ 92 → ⊥)
     → chars (drop i bs) ≡ Plain b ∷ chars (drop (i + 1) bs)
 chars_plain bs i b h e n =
-    let not_escape : eqb b 92 ≡ false = grind (arith, tests) in
+    let not_escape : eqb b 92 ≡ false = grind arith in
     rw (drop_more bs i 0 h, e, chars-cons b (drop (i + 1) bs), not_escape) refl
 
 pub chars_escape : (bs : List ℕ) (i : ℕ) → i < length bs → get_or bs i 0 ≡ 92
@@ -110,7 +104,16 @@ pub chars_escape : (bs : List ℕ) (i : ℕ) → i < length bs → get_or bs i 0
 chars_escape bs i h e =
     rw (drop_more bs i 0 h, e, chars-cons 92 (drop (i + 1) bs), drop-drop) refl
 
-pub ruleset char_steps = (chars_plain, chars_escape)
+pub char_from-plain : (bs : List ℕ) (i b : ℕ) → get_or bs i 0 ≡ b → (b ≡ 92 → ⊥) → char_from bs i ≡ Plain b
+unfolding char_from
+char_from-plain bs i b e n = rw (char_from, e, ne_eqb b 92 n) refl
+
+pub char_from-escape : (bs : List ℕ) (i : ℕ) → get_or bs i 0 ≡ 92
+    → char_from bs i ≡ (after_backslash (drop (i + 1) bs)).0
+unfolding char_from
+char_from-escape bs i e = rw (char_from, e) refl
+
+pub ruleset char_steps = (chars_plain, chars_escape, char_from-plain, char_from-escape)
 
 pub ruleset octal_steps = (length-octal_run, take-octal_run, octal_digits)
 
@@ -124,25 +127,24 @@ run_is digits rest (TwoDigits a b [] ha hb n) = rw (ha, hb) refl
 run_is digits rest (TwoDigits a b (c ∷ more) ha hb n) = rw (ha, hb, n) refl
 run_is digits rest (ThreeDigits a b c more ha hb hc) = rw (ha, hb, hc) refl
 
-escape_is : (digits rest : List ℕ) (u : SetChar) → IsOctalRun digits rest → octal (digits_value 8 digits) ≡ u
+escape_is : (digits rest : List ℕ) {u : SetChar} → IsOctalRun digits rest → octal (digits_value 8 digits) ≡ u
     → chars (92 ∷ digits ++ rest) ≡ u ∷ chars rest
-escape_is digits rest u run is =
-    rw (chars-cons 92 (digits ++ rest), run_is digits rest run, is, drop_at digits rest (length digits) refl) refl
+escape_is digits rest run is =
+    rw (chars-cons 92 _, run_is digits rest run, is, drop_at digits rest _ refl) refl
 
 char_is : (bs : List ℕ) (u : SetChar) (rest : List ℕ) → SpellsChar bs u rest → chars bs ≡ u ∷ chars rest
 char_is bs u rest (APlainByte b more n) = rw (chars-cons b more, ne_eqb b 92 n) refl
 char_is bs u rest (AnOctal digits more run small) =
-    escape_is digits more (Escaped (digits_value 8 digits)) run
-    (cond-true _ _ _ (le-leb (digits_value 8 digits) 255 small))
+    escape_is digits more run
+    (cond-true _ _ _ (le-leb _ 255 small))
 char_is bs u rest (ALargeOctal digits more run large) =
-    escape_is digits more (Invalid Octal) run (cond-false _ _ _ (lt-leb (digits_value 8 digits) 255 large))
-char_is bs u rest (AnEscape b more n) = rw (chars-cons 92 (b ∷ more), n) refl
+    escape_is digits more run (cond-false _ _ _ (lt-leb _ 255 large))
+char_is bs u rest (AnEscape b more n) = rw (chars-cons 92 _, n) refl
 char_is bs u rest ALoneBackslash = refl
 
 chars_are : (bs : List ℕ) (us : List SetChar) → SpellsChars bs us → chars bs ≡ us
 chars_are bs us NoChar = refl
-chars_are bs us (AChar ds rest u more s others) = char_is ds u rest s
-    ∙ ap (λ (vs : List SetChar). u ∷ vs) (chars_are rest more others)
+chars_are bs us (AChar ds rest u more s others) = cc (char_is ds u rest s, chars_are rest more others)
 
 -- ---- from the computed characters to the grammar
 
@@ -156,16 +158,16 @@ record OctalPrefix (bs : List ℕ) : Type 0 where
 octal_prefix_two : (a b : ℕ) (more : List ℕ) → is_octal_digit a ≡ true → is_octal_digit b ≡ true
     → OctalPrefix (a ∷ b ∷ more)
 octal_prefix_two a b [] ha hb = record { digits = a ∷ b ∷ []; rest = []; is = refl; run = TwoDigits a b [] ha hb refl }
-octal_prefix_two a b (c ∷ more) ha hb = elim (cases_Bool (is_octal_digit c)) [
+octal_prefix_two a b (c ∷ more) ha hb = elim (cases_Bool _) [
   | inl hc ↦ record { digits = a ∷ b ∷ c ∷ []; rest = more; is = refl; run = ThreeDigits a b c more ha hb hc }
-  | inr hc ↦ record { digits = a ∷ b ∷ []; rest = c ∷ more; is = refl; run = TwoDigits a b (c ∷ more) ha hb hc }
+  | inr hc ↦ record { digits = a ∷ b ∷ []; rest = c ∷ more; is = refl; run = TwoDigits a b _ ha hb hc }
 ]
 
 octal_prefix : (a : ℕ) (more : List ℕ) → is_octal_digit a ≡ true → OctalPrefix (a ∷ more)
 octal_prefix a [] ha = record { digits = a ∷ []; rest = []; is = refl; run = OneDigit a [] ha refl }
-octal_prefix a (b ∷ more) ha = elim (cases_Bool (is_octal_digit b)) [
+octal_prefix a (b ∷ more) ha = elim (cases_Bool _) [
   | inl hb ↦ octal_prefix_two a b more ha hb
-  | inr hb ↦ record { digits = a ∷ []; rest = b ∷ more; is = refl; run = OneDigit a (b ∷ more) ha hb }
+  | inr hb ↦ record { digits = a ∷ []; rest = b ∷ more; is = refl; run = OneDigit a _ ha hb }
 ]
 
 record FirstChar (bs : List ℕ) : Type 0 where
@@ -181,23 +183,23 @@ octal_first_char bs r =
       | inl small ↦ record {
         next_char = Escaped (digits_value 8 r.digits);
         rest = r.rest;
-        spelled = rw r.is (AnOctal r.digits r.rest r.run (grind (arith, nat_tests)));
+        spelled = rw r.is (AnOctal r.digits r.rest r.run (grind arith));
         shorter = shorter;
       }
       | inr large ↦ record {
         next_char = Invalid Octal;
         rest = r.rest;
-        spelled = rw r.is (ALargeOctal r.digits r.rest r.run (grind (arith, nat_tests)));
+        spelled = rw r.is (ALargeOctal r.digits r.rest r.run (grind arith));
         shorter = shorter;
       }
     ]
 
 escape_first_char : (bs : List ℕ) → FirstChar (92 ∷ bs)
 escape_first_char [] = record { next_char = Invalid Escape; rest = []; spelled = ALoneBackslash; shorter = omega arith }
-escape_first_char (b ∷ more) = elim (cases_Bool (is_octal_digit b)) [
-  | inl h ↦ octal_first_char (b ∷ more) (octal_prefix b more h)
+escape_first_char (b ∷ more) = elim (cases_Bool _) [
+  | inl h ↦ octal_first_char _ (octal_prefix b more h)
   | inr h ↦ record {
-    next_char = Escaped (byte_of_escape b);
+    next_char = Escaped _;
     rest = more;
     spelled = AnEscape b more h;
     shorter = omega arith;
@@ -215,8 +217,8 @@ spelled n [] h = NoChar
 spelled zero (b ∷ bs) h = absurd (omega arith)
 spelled (suc n) (b ∷ bs) h =
     let f = first_char b bs in
-    rw (char_is (b ∷ bs) f.next_char f.rest f.spelled)
-    (AChar (b ∷ bs) f.rest f.next_char (chars f.rest) f.spelled (spelled n f.rest (omega (arith, f.shorter))))
+    rw (char_is _ f.next_char f.rest f.spelled)
+    (AChar _ f.rest f.next_char _ f.spelled (spelled n f.rest (omega arith)))
 
 pub chars_are_spelled : CharsMatchGrammar
 chars_are_spelled bs us = (chars_are bs us, λ e. subst (SpellsChars bs) e (spelled (length bs) bs (omega arith)))

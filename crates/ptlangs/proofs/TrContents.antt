@@ -1,27 +1,25 @@
 -- The table of the bytes that an array contains, which grows byte by byte, and the table of images. The image of a byte
 -- is the byte of the second array, extended by its last byte, at the index that was pushed last for it.
-use Rattle.ptlangs.proofs.Common.{◌≡◌, ◌≢◌, ◌⊎◌, inl, inr, ◌<◌, ◌≤◌, ◌+◌, ◌-◌, ℕ, zero, suc, Bool, true, false, cond}
-use Rattle.ptlangs.proofs.Common.{eqb, List, [], ◌∷◌, ◌++◌, length, take, map, replicate, arith, refl, sym, ap, ◌∙◌}
-use Rattle.ptlangs.proofs.Common.{Option, Some, None, range_with_len, flat_map, set, cases_eq, eq-eqb, ne_eqb}
-use Rattle.ptlangs.proofs.Common.{append_assoc, append-nil}
-use Rattle.ptlangs.proofs.Common.{length-replicate, get_or-replicate, length-append}
-use Rattle.ptlangs.proofs.Common.{min, not, ◌||◌, ◌&&◌}
-use Rattle.ptlangs.proofs.Common.{last_or, slice_get, option_and_then, option_to_list}
-use Rattle.ptlangs.proofs.Common.{unwrap_or, complement_of, image_by}
+use Rattle.std.proofs.lemmas.Map.Views.{any-filter_same}
+use Rattle.ptlangs.proofs.Common.{eqb-true, ◌≡◌, ◌≢◌, inl, inr, ◌<◌, ◌≤◌, ◌+◌, ◌-◌, ℕ, zero, suc, Bool, true, false}
+use Rattle.ptlangs.proofs.Common.{cond, eqb, List, [], ◌∷◌, ◌++◌, length, take, map, replicate, arith, refl, sym, ap}
+use Rattle.ptlangs.proofs.Common.{◌∙◌, Option, Some, None, flat_map, set, cases_eq, eq-eqb, ne_eqb, append_assoc}
+use Rattle.ptlangs.proofs.Common.{append-nil, length-replicate, get_or-replicate, length-append, not, ◌&&◌, last_or}
+use Rattle.ptlangs.proofs.Common.{slice_get, option_and_then, unwrap_or, complement_of, image_by}
+use Rattle.std.proofs.Common.{◌⊎◌, min}
+use Rattle.std.specs.List.{range_with_len}
+use Rattle.std.specs.Option.{option_to_list}
 use Rattle.std.proofs.Math.ListN.{get_or}
 use Rattle.std.proofs.lemmas.Bool.{or_right}
 use Rattle.std.proofs.lemmas.List.Elements.{filter-append}
-use Rattle.std.specs.Prelude.{count_by}
+use Rattle.std.specs.Prelude.{count_by, filter}
 use Rattle.ptlangs.specs.TrClasses.{all_bytes}
 use Rattle.ptlangs.specs.TrParsing.{contents_of}
 use Rattle.ptlangs.specs.declared.tr.contents.Contents.{Contents}
 use Rattle.ptlangs.specs.TrPlan.{padded_to, has_byte, last_position, next_index_or}
-use Rattle.std.specs.Prelude.{filter}
 use Rattle.std.proofs.lemmas.List.FromFn.{get_or-map-range_with_len, length-map-range_with_len, map-range_with_len_more}
 use Rattle.std.proofs.lemmas.List.{get_or-set_other, get_or-set_same, get_or_default, length-set, map-id, same_lists}
-use Rattle.std.proofs.lemmas.Bool.{cases_lt}
 use Rattle.std.proofs.lemmas.Grind.{common_steps}
-use Rattle.std.proofs.Common.{⊎_elim}
 use Rattle.ptlangs.proofs.TrByteRanges.{slice_get-left, slice_get-right, slice_get-none, repeat_there}
 
 -- the entries of a table of all bytes
@@ -37,14 +35,14 @@ get_or-table f i d h = get_or-map-range_with_len f 0 256 i i d h (omega arith)
 pub same_table : {X : Type 0} (xs : List X) (f : ℕ → X) (d : X) → length xs ≡ 256
     → ((i : ℕ) → i < 256 → get_or xs i d ≡ f i) → xs ≡ map f all_bytes
 same_table xs f d n h =
-    same_lists xs (map f all_bytes) (n ∙ sym (length-table f))
+    same_lists xs _ (n ∙ sym (length-table f))
     (λ k e below. let under : k < 256 = omega arith in get_or_default xs k e d below ∙ h k under ∙ sym (get_or-table f k
     e under))
 
 -- the table of a constant function
 replicate-table : {X : Type 0} (x : X) → replicate 256 x ≡ map (λ (b : ℕ). x) all_bytes
 replicate-table x =
-    same_table (replicate 256 x) (λ b. x) x (length-replicate 256 x) (λ i h. get_or-replicate 256 i x x h)
+    same_table _ _ x (length-replicate 256 x) (λ i h. get_or-replicate 256 i x x h)
 
 -- an empty array contains no byte
 pub none_contained : replicate 256 false ≡ map (λ b. has_byte b []) all_bytes
@@ -54,15 +52,14 @@ none_contained = replicate-table false
 set-table : {X : Type 0} (f g : ℕ → X) (i : ℕ) (v : X) → i < 256 → g i ≡ v → ((k : ℕ) → k ≢ i → g k ≡ f k)
     → set (map f all_bytes) i v ≡ map g all_bytes
 set-table {X} f g i v h e others =
-    same_table (set (map f all_bytes) i v) g v (length-set (map f all_bytes) i v ∙ length-table f)
+    same_table _ g v (length-set _ i v ∙ length-table f)
     (λ k under. by_cases k under (cases_eq k i))
   where
     by_cases : (k : ℕ) → k < 256 → ((k ≡ i) ⊎ (k ≡ i → ⊥)) → get_or (set (map f all_bytes) i v) k v ≡ g k
     by_cases k under (inl same) =
-        let room : i < length (map f all_bytes) = omega (arith, length-table f) in
-        rw (same, get_or-set_same (map f all_bytes) i v v room) (sym e)
-    by_cases k under (inr other) =
-        rw (get_or-set_other (map f all_bytes) i k v v other, get_or-table f k v under) (sym (others k other))
+        let room : i < length _ = omega (arith, length-table f) in
+        rw (same, get_or-set_same _ i v v room) (sym e)
+    by_cases k under (inr other) = rw (get_or-set_other, get_or-table) (sym (others k other))
 
 -- ---- appending a byte
 
@@ -76,15 +73,15 @@ has_byte-copies b k (suc n) other = rw (ne_eqb b k (λ e. other (sym e))) (has_b
 
 has_byte-other : (b k : ℕ) (bytes : List ℕ) (n : ℕ) → k ≢ b → has_byte k (bytes ++ replicate n b) ≡ has_byte k bytes
 has_byte-other b k [] n other = has_byte-copies b k n other
-has_byte-other b k (x ∷ bytes) n other = ap (λ t. eqb x k || t) (has_byte-other b k bytes n other)
+has_byte-other b k (x ∷ bytes) n other = cc (has_byte-other b k bytes n other)
 
 pub contents-push : (old : Contents) (bytes : List ℕ) (b more : ℕ) → b < 256 → old ≡ contents_of bytes
     → record { has = set old.has b true; length = old.length + (1 + more) }
     ≡ contents_of (bytes ++ b ∷ replicate more b)
 contents-push old bytes b more h e =
     let after = bytes ++ b ∷ replicate more b in
-    let table : set (map (λ c. has_byte c bytes) all_bytes) b true ≡ map (λ c. has_byte c after) all_bytes =
-    set-table (λ c. has_byte c bytes) (λ c. has_byte c after) b true h (has_byte-same b bytes (replicate more b))
+    let table =
+    set-table _ _ b true h (has_byte-same b bytes _)
     (λ k n. has_byte-other b k bytes (suc more) n) in
     let counted : length bytes + (1 + more) ≡ length after =
     omega (arith, length-append bytes (b ∷ replicate more b), length-replicate more b) in
@@ -99,75 +96,69 @@ pub ruleset contents_steps = (contents-push)
 
 pub range-more : (a n j : ℕ) → a + n ≡ j → range_with_len a (n + 1) ≡ range_with_len a n ++ j ∷ []
 range-more a n j e =
-    sym (map-id (range_with_len a (n + 1))) ∙ map-range_with_len_more (λ (x : ℕ). x) a n j e
-    ∙ ap (λ xs. xs ++ j ∷ []) (map-id (range_with_len a n))
+    sym (map-id _) ∙ map-range_with_len_more _ a n j e
+    ∙ ap (λ xs. xs ++ j ∷ []) (map-id _)
 
 -- the bytes below `n` that the array does not contain
-
 abbrev pub others_below : List ℕ → ℕ → List ℕ
 others_below bytes n = filter (λ b. not (has_byte b bytes)) (range_with_len 0 n)
 
 pub others_below-more : (bytes : List ℕ) (n : ℕ) (t : Bool) → has_byte n bytes ≡ t
     → others_below bytes (n + 1) ≡ others_below bytes n ++ cond t [] (n ∷ [])
 others_below-more bytes n t e =
-    ap (filter (λ b. not (has_byte b bytes))) (range-more 0 n n (omega arith))
-    ∙ filter-append (λ b. not (has_byte b bytes)) (range_with_len 0 n) (n ∷ [])
+    ap (filter _) (range-more 0 n n (omega arith))
+    ∙ filter-append _ (range_with_len 0 n) _
     ∙ ap (λ xs. others_below bytes n ++ xs) (grind arith)
 
-pub others_below-all : (bytes : List ℕ) (n : ℕ) → n ≡ 256 → others_below bytes n ≡ complement_of bytes
+pub others_below-all : (bytes : List ℕ) {n : ℕ} → n ≡ 256 → others_below bytes n ≡ complement_of bytes
 unfolding all_bytes
-others_below-all bytes n e = ap (others_below bytes) e
+others_below-all bytes e = ap (others_below bytes) e
 
 pub get_or-has : (contents : Contents) (bytes : List ℕ) (b : ℕ) (d : Bool) → b < 256 → contents ≡ contents_of bytes
     → get_or contents.has b d ≡ has_byte b bytes
-get_or-has contents bytes b d h e = rw e (get_or-table (λ c. has_byte c bytes) b d h)
+get_or-has contents bytes b d h e = rw e (get_or-table _ b d h)
 
 -- the complement goes on after the bytes below `m`
 others-split : (bytes : List ℕ) (m k : ℕ)
     → (rest : List ℕ) × (others_below bytes (m + k) ≡ others_below bytes m ++ rest)
-others-split bytes m zero = ([], ap (others_below bytes) (omega arith) ∙ sym (append-nil (others_below bytes m)))
+others-split bytes m zero = ([], ap (others_below bytes) (omega arith) ∙ sym (append-nil _))
 others-split bytes m (suc k) =
     let (rest, is) = others-split bytes m k in
-    let more : others_below bytes (m + suc k) ≡ others_below bytes (m + k)
-    ++ cond (has_byte (m + k) bytes) [] ((m + k) ∷ []) =
-    ap (others_below bytes) (omega arith) ∙ others_below-more bytes (m + k) (has_byte (m + k) bytes) refl in (
-      rest ++ cond (has_byte (m + k) bytes) [] ((m + k) ∷ []),
+    let more =
+    ap (others_below bytes) (omega arith) ∙ others_below-more bytes (m + k) _ refl in (
+      rest ++ cond _ [] ((m + k) ∷ []),
       more
           ∙ ap (λ xs. xs ++ cond (has_byte (m + k) bytes) [] ((m + k) ∷ [])) is
-          ∙ append_assoc (others_below bytes m) rest _,
+          ∙ append_assoc _ rest _,
     )
 
 -- a byte of the complement, between those below it and the others
 pub complement-around : (bytes : List ℕ) (b : ℕ) → b < 256 → has_byte b bytes ≡ false
     → (rest : List ℕ) × (complement_of bytes ≡ others_below bytes b ++ b ∷ rest)
 complement-around bytes b low h =
-    let (rest, is) = others-split bytes (b + 1) (255 - b) in
-    let whole : b + 1 + (255 - b) ≡ 256 = omega (arith, low) in (
+    let (rest, is) = others-split bytes _ _ in
+    let whole : b + 1 + (255 - b) ≡ 256 = omega arith in (
       rest,
-      sym (others_below-all bytes (b + 1 + (255 - b)) whole) ∙ is
+      sym (others_below-all bytes whole) ∙ is
           ∙ ap (λ xs. xs ++ rest) (others_below-more bytes b false h)
-          ∙ append_assoc (others_below bytes b) (b ∷ []) rest,
+          ∙ append_assoc _ _ rest,
     )
 
 has_byte-filter : (p : ℕ → Bool) (b : ℕ) (xs : List ℕ) → has_byte b (filter p xs) ≡ (p b && has_byte b xs)
-has_byte-filter p b [] = grind arith
-has_byte-filter p b (x ∷ xs) = ⊎_elim
-    (λ same. grind (arith, eq-eqb x b same, ap p same, has_byte-filter p b xs))
-    (λ other. grind (arith, ne_eqb x b other, has_byte-filter p b xs))
-    (cases_eq x b)
+has_byte-filter p b xs = any-filter_same _ p (p b) (λ k e. ap p (eqb-true k b e)) xs
 
 has_byte-range : (n b : ℕ) → b < n → has_byte b (range_with_len 0 n) ≡ true
-has_byte-range zero b low = absurd (omega (arith, low))
+has_byte-range zero b low = absurd (omega arith)
 has_byte-range (suc n) b low =
     let next : suc n ≡ n + 1 = omega arith in
-    let longer : range_with_len 0 (suc n) ≡ range_with_len 0 n ++ n ∷ [] = ap (range_with_len 0) next
+    let longer = ap (range_with_len 0) next
     ∙ range-more 0 n n (omega arith) in
     ap (has_byte b) longer ∙ by_cases (cases_eq b n) (λ below. has_byte-range n b below)
   where
     by_cases : ((b ≡ n) ⊎ (b ≡ n → ⊥)) → (b < n → has_byte b (range_with_len 0 n) ≡ true)
         → has_byte b (range_with_len 0 n ++ n ∷ []) ≡ true
-    by_cases (inl same) h = rw same (has_byte-same n (range_with_len 0 n) [])
-    by_cases (inr other) h = has_byte-other n b (range_with_len 0 n) 1 other ∙ h (omega (arith, low, other))
+    by_cases (inl same) h = rw same (has_byte-same n _ [])
+    by_cases (inr other) h = has_byte-other n b _ 1 other ∙ h (omega (arith, low))
 
 has_byte-all : (b : ℕ) → b < 256 → has_byte b all_bytes ≡ true
 unfolding all_bytes
@@ -175,9 +166,7 @@ has_byte-all b low = has_byte-range 256 b low
 
 -- the complement contains the bytes that the array does not contain
 pub has_byte-complement : (bytes : List ℕ) (b : ℕ) → b < 256 → has_byte b (complement_of bytes) ≡ not (has_byte b bytes)
-has_byte-complement bytes b low =
-    has_byte-filter (λ c. not (has_byte c bytes)) b all_bytes
-    ∙ ap (λ t. not (has_byte b bytes) && t) (has_byte-all b low) ∙ grind arith
+has_byte-complement bytes b low = grind (arith, has_byte-filter, has_byte-all)
 
 length-filter-map : (f : ℕ → Bool) (xs : List ℕ) → count_by not (map f xs) ≡ length (filter (λ b. not (f b)) xs)
 length-filter-map f [] = refl
@@ -188,11 +177,11 @@ pub complement-is : (old : Contents) (bytes : List ℕ) (has : List Bool) (count
     → length has ≡ 256 → ((k : ℕ) → k < 256 → get_or has k false ≡ not (get_or old.has k false))
     → count ≡ count_by not old.has → record { has = has; length = count } ≡ contents_of (complement_of bytes)
 complement-is old bytes has count e long flips counted =
-    let table : has ≡ map (λ b. has_byte b (complement_of bytes)) all_bytes =
-    same_table has (λ b. has_byte b (complement_of bytes)) false long (λ k low.
+    let table =
+    same_table has _ false long (λ k low.
     flips k low ∙ ap not (get_or-has old bytes k false low e) ∙ sym (has_byte-complement bytes k low)) in
-    let all : count ≡ length (complement_of bytes) =
-    counted ∙ ap (λ (q : Contents). count_by not q.has) e ∙ length-filter-map (λ b. has_byte b bytes) all_bytes in
+    let all =
+    counted ∙ ap (λ (q : Contents). count_by not q.has) e ∙ length-filter-map _ all_bytes in
     rw (table, all) refl
 
 -- a byte is not in the array if it is in the complement, and the other way about
@@ -200,8 +189,8 @@ pub is_kept : (first : Contents) (bytes : List ℕ) (b i : ℕ) (t : Bool) → i
     → first ≡ contents_of (complement_of bytes) → has_byte b bytes ≡ not t
 is_kept first bytes b i t j low h e =
     let is = has_byte-complement bytes b low in
-    let has = get_or-has first (complement_of bytes) b false low e in
-    grind (arith, is, has, j, h)
+    let has = get_or-has first _ b false low e in
+    grind (arith, is, j, h)
 
 -- ---- the image of a byte
 
@@ -209,7 +198,7 @@ is_kept first bytes b i t j low h e =
 last_position-lt : (c i : ℕ) (bytes : List ℕ) → last_position c bytes ≡ Some i → i < length bytes
 last_position-lt c i [] e = absurd (cc)
 last_position-lt c i (b ∷ bytes) e =
-    by_later (last_position c bytes) refl (eqb b c) e (λ j h. last_position-lt c j bytes h)
+    by_later _ refl _ e (λ j h. last_position-lt c j bytes h)
   where
     by_later : (o : Option ℕ) → last_position c bytes ≡ o → (t : Bool) → next_index_or o t ≡ Some i
         → ((j : ℕ) → last_position c bytes ≡ Some j → j < length bytes) → i < suc (length bytes)
@@ -231,26 +220,25 @@ last_or-is o b (x ∷ bytes) = last_or-is (Some b) x bytes
 padded_to-get : (n i : ℕ) (bytes : List ℕ) → i < n
     → slice_get (padded_to n bytes) i ≡ slice_get bytes (min i (length bytes - 1))
 padded_to-get n i [] h = slice_get-take n [] i h
-padded_to-get n i (b ∷ bytes) h = by_last (last_or None (b ∷ bytes)) refl
+padded_to-get n i (b ∷ bytes) h = by_last _ refl
   where
     beyond : (z : ℕ) → last_or None (b ∷ bytes) ≡ Some z → ((i < length (b ∷ bytes)) ⊎ (length (b ∷ bytes) ≤ i))
         → slice_get ((b ∷ bytes) ++ (replicate n z ++ [])) i ≡ slice_get (b ∷ bytes) (min i (length (b ∷ bytes) - 1))
     beyond z l (inl within) =
-        let index : min i (length (b ∷ bytes) - 1) ≡ i = omega arith in
-        slice_get-left (b ∷ bytes) (replicate n z ++ []) i within ∙ ap (slice_get (b ∷ bytes)) (sym index)
+        let index : min i _ ≡ i = omega arith in
+        slice_get-left (b ∷ bytes) _ i within ∙ ap (slice_get (b ∷ bytes)) (sym index)
     beyond z l (inr past) =
-        let index : length bytes ≡ min i (length (b ∷ bytes) - 1) = omega arith in
-        slice_get-right (b ∷ bytes) (replicate n z ++ []) i (i - length (b ∷ bytes)) (omega arith)
-        ∙ slice_get-left (replicate n z) [] (i - length (b ∷ bytes)) (omega (arith, length-replicate n z))
-        ∙ sym (repeat_there n z (i - length (b ∷ bytes)) (omega arith))
+        let index : length bytes ≡ min i _ = omega arith in
+        slice_get-right (b ∷ bytes) _ i _ (omega arith)
+        ∙ slice_get-left _ [] (i - length (b ∷ bytes)) (omega (arith, length-replicate n z))
+        ∙ sym (repeat_there n z _ (omega arith))
         ∙ sym l ∙ last_or-is None b bytes ∙ ap (slice_get (b ∷ bytes)) index
 
     by_last : (o : Option ℕ) → last_or None (b ∷ bytes) ≡ o
         → slice_get (take n ((b ∷ bytes) ++ flat_map (λ (z : ℕ). replicate n z) (option_to_list o))) i
         ≡ slice_get (b ∷ bytes) (min i (length (b ∷ bytes) - 1))
-    by_last None l = absurd (omega (arith, slice_get-none (b ∷ bytes) (length bytes) (sym l ∙ last_or-is None b bytes)))
-    by_last (Some z) l = slice_get-take n ((b ∷ bytes) ++ (replicate n z ++ [])) i h
-        ∙ beyond z l (cases_lt i (length (b ∷ bytes)))
+    by_last None l = absurd (omega (arith, slice_get-none (b ∷ bytes) _ (sym l ∙ last_or-is None b bytes)))
+    by_last (Some z) l = grind (arith, slice_get-take, beyond)
 
 last_position-same : (b : ℕ) (bytes : List ℕ) → last_position b (bytes ++ b ∷ []) ≡ Some (length bytes)
 last_position-same b [] = rw (eq-eqb b b refl) refl
@@ -259,7 +247,7 @@ last_position-same b (x ∷ bytes) = ap (λ o. next_index_or o (eqb x b)) (last_
 
 last_position-other : (b k : ℕ) (bytes : List ℕ) → k ≢ b → last_position k (bytes ++ b ∷ []) ≡ last_position k bytes
 last_position-other b k [] n = rw (ne_eqb b k (λ e. n (sym e))) refl
-last_position-other b k (x ∷ bytes) n = ap (λ o. next_index_or o (eqb x k)) (last_position-other b k bytes n)
+last_position-other b k (x ∷ bytes) n = cc (last_position-other b k bytes n)
 
 -- the last of the first `n + 1` bytes is the one with index `n`, or the last of all
 last_or-take : (o : Option ℕ) (b : ℕ) (bytes : List ℕ) (n : ℕ)
@@ -267,7 +255,7 @@ last_or-take : (o : Option ℕ) (b : ℕ) (bytes : List ℕ) (n : ℕ)
 last_or-take o b bytes zero = let first : min 0 (length bytes) ≡ 0 = omega arith in rw first refl
 last_or-take o b [] (suc n) = let first : min (suc n) 0 ≡ 0 = omega arith in rw first refl
 last_or-take o b (c ∷ bytes) (suc n) =
-    let next : min (suc n) (length (c ∷ bytes)) ≡ suc (min n (length bytes)) = omega arith in
+    let next : min (suc n) (length (c ∷ bytes)) ≡ suc _ = omega arith in
     rw next (last_or-take (Some b) c bytes n)
 
 -- the image that a byte gets when it is pushed
@@ -275,7 +263,7 @@ image-same : (from to : List ℕ) (b : ℕ)
     → image_by (from ++ b ∷ []) to b ≡ unwrap_or (last_or None (take (suc (length from)) to)) b
 image-same from to b =
     let longer : length from < length (from ++ b ∷ []) = omega (arith, length-append from (b ∷ [])) in
-    rw (last_position-same b from, padded_to-get (length (from ++ b ∷ [])) (length from) to longer) (by_list to)
+    rw (last_position-same b from, padded_to-get _ _ to longer) (by_list to)
   where
     by_list : (to : List ℕ)
         → unwrap_or (slice_get to (min (length from) (length to - 1))) b
@@ -283,25 +271,25 @@ image-same from to b =
     by_list [] = refl
     by_list (t ∷ to) =
         let most : length (t ∷ to) - 1 ≡ length to = omega arith in
-        rw (most, last_or-take None t to (length from)) refl
+        rw (most, last_or-take None t to _) refl
 
 -- the images of the other bytes stay
 image-other : (from to : List ℕ) (b k : ℕ) → k ≢ b → image_by (from ++ b ∷ []) to k ≡ image_by from to k
-image-other from to b k n = rw (last_position-other b k from n) (by_last (last_position k from) refl)
+image-other from to b k n = rw (last_position-other b k from n) (by_last _ refl)
   where
     by_last : (o : Option ℕ) → last_position k from ≡ o
         → unwrap_or (option_and_then (slice_get (padded_to (length (from ++ b ∷ [])) to)) o) k
         ≡ unwrap_or (option_and_then (slice_get (padded_to (length from) to)) o) k
     by_last None e = refl
     by_last (Some i) e =
-        let below : i < length from = last_position-lt k i from e in
-        let longer : i < length (from ++ b ∷ []) = omega (arith, below, length-append from (b ∷ [])) in
-        ap (λ o. unwrap_or o k) (padded_to-get (length (from ++ b ∷ [])) i to longer
-        ∙ sym (padded_to-get (length from) i to below))
+        let below = last_position-lt k i from e in
+        let longer : i < length _ = omega (arith, length-append from (b ∷ [])) in
+        ap (λ o. unwrap_or o k) (padded_to-get _ i to longer
+        ∙ sym (padded_to-get _ i to below))
 
 pub images-push : (from to : List ℕ) (b : ℕ) (last : Option ℕ) → b < 256
     → last ≡ last_or None (take (suc (length from)) to)
     → set (map (image_by from to) all_bytes) b (unwrap_or last b) ≡ map (image_by (from ++ b ∷ []) to) all_bytes
 images-push from to b last h e =
-    set-table (image_by from to) (image_by (from ++ b ∷ []) to) b (unwrap_or last b) h
+    set-table _ _ b _ h
     (image-same from to b ∙ ap (λ o. unwrap_or o b) (sym e)) (λ k n. image-other from to b k n)

@@ -1,38 +1,33 @@
 -- The elements that the definition computes are those of the grammar, in both directions: each bracketed form, range
 -- and single character is one case of both. The code finds the elements that the definition computes, and a string is
 -- rejected with the fault of its first faulty element.
-use Rattle.ptlangs.proofs.Common.{◌≡◌, ◌<◌, ◌-◌, ℕ, zero, suc, Bool, true, false, eqb, List, [], ◌∷◌, ◌++◌, length}
-use Rattle.ptlangs.proofs.Common.{drop, map, arith, refl, sym, ap, subst, ◌∙◌, Option, Some, None, Result, Ok, Err}
-use Rattle.ptlangs.proofs.Common.{nat_lt, list_all, option_and_then, option_or, is_ascii_digit, is_ascii_lowercase}
-use Rattle.ptlangs.proofs.Common.{ltb-false, le-ltb, eqb-true, ne_eqb, length-map, length-append, append_assoc, drop_at}
-use Rattle.ptlangs.proofs.Common.{drop_all, SetFaultKind, SetChar, Plain, Escaped, Invalid, SetElement}
-use Rattle.ptlangs.proofs.Common.{byte_of, class_named, StartsBracketed}
-use Rattle.ptlangs.proofs.Common.{ARepeat, AClass, AnEquivalence, StartsElement, InBrackets, ARange}
-use Rattle.ptlangs.proofs.Common.{Alone, after_plain, plain_run, after_run}
-use Rattle.ptlangs.proofs.Common.{set_elements, ◌||◌, ◌≤◌, and_parts}
-use Rattle.ptlangs.proofs.Common.{ltb-true, nat_tests, drop_more, result_map_both, ADescendingRange, AnInvalidEnd}
-use Rattle.ptlangs.proofs.Common.{AnInvalidChar, StartsInvalid, FirstFaultIsReported, FirstFault}
-use Rattle.ptlangs.proofs.Common.{LaterFault, NoElement, NoSegment, sequence, is_fill, segment, segments}
-use Rattle.ptlangs.proofs.Common.{chars, CharClass, Segment, SetRole}
-use Rattle.ptlangs.specs.declared.tr.elements.SetElement.TheVariants.{Repeat}
-use Rattle.std.proofs.lemmas.Bool.{cond_both}
-use Rattle.ptlangs.specs.declared.tr.elements.SetElement.TheVariants.{Class, Equivalence, Single}
-use Rattle.ptlangs.specs.TrElements.{AreElements, ByEscape, ByItself, DenotesByte, HasBracketed, after_two, class_at}
-use Rattle.ptlangs.specs.TrElements.{class_after_colon, class_with_name, equivalence_at, equivalence_with_byte}
-use Rattle.ptlangs.specs.TrElements.{equivalence_after_equals, first_set_element, bracketed_at, bracketed_inside}
-use Rattle.ptlangs.specs.TrElements.{single_or_range, char_or_range, is_plain, or_char, elements_after, range_to}
-use Rattle.ptlangs.specs.TrElements.{repeat_at, repeat_count, repeat_after_star, with_rest}
+use Rattle.ptlangs.proofs.Common.{◌≡◌, ◌<◌, ◌-◌, ℕ, zero, suc, Bool, true, false, List, [], ◌∷◌, ◌++◌, length, drop}
+use Rattle.ptlangs.proofs.Common.{map, arith, refl, sym, ap, subst, ◌∙◌, Option, Some, None, Result, Ok, Err, list_all}
+use Rattle.ptlangs.proofs.Common.{option_and_then, is_ascii_digit, is_ascii_lowercase, ltb-false, ne_eqb, length-map}
+use Rattle.ptlangs.proofs.Common.{length-append, append_assoc, drop_at, drop_all, SetFaultKind, SetChar, Plain, Escaped}
+use Rattle.ptlangs.proofs.Common.{Invalid, SetElement, StartsElement, after_plain, plain_run, after_run, set_elements}
+use Rattle.ptlangs.proofs.Common.{◌||◌, ◌≤◌, and_parts, ltb-true, drop_more, result_map_both, StartsInvalid, FirstFault}
+use Rattle.ptlangs.proofs.Common.{LaterFault, NoElement, NoSegment, sequence, is_fill, segment, segments, chars}
+use Rattle.ptlangs.proofs.Common.{CharClass, Segment, SetRole}
+use Rattle.std.proofs.lemmas.Bool.{le-ltb, cond_both}
+use Rattle.ptlangs.specs.TrElements.{ADescendingRange, AnInvalidEnd, AnInvalidChar, StartsBracketed, ARepeat, AClass}
+use Rattle.ptlangs.specs.TrElements.{AnEquivalence, InBrackets, ARange, Alone, AreElements, ByEscape, ByItself}
+use Rattle.ptlangs.specs.TrElements.{DenotesByte, HasBracketed, after_two, class_at, class_after_colon, class_with_name}
+use Rattle.ptlangs.specs.TrElements.{equivalence_at, equivalence_with_byte, equivalence_after_equals, first_set_element}
+use Rattle.ptlangs.specs.TrElements.{bracketed_at, bracketed_inside, single_or_range, char_or_range, is_plain, or_char}
+use Rattle.ptlangs.specs.TrElements.{elements_after, range_to, repeat_at, repeat_count, repeat_after_star, with_rest}
+use Rattle.std.proofs.Common.{nat_lt}
+use Rattle.std.specs.Option.{option_or}
+use Rattle.ptlangs.specs.TrChars.{byte_of}
+use Rattle.ptlangs.specs.TrClasses.{class_named}
+use Rattle.ptlangs.specs.TrPlan.{FirstFaultIsReported}
+use Rattle.ptlangs.specs.declared.tr.elements.SetElement.TheVariants.{Repeat, Class, Equivalence, Single}
 use Rattle.ptlangs.proofs.TrPlainRuns.{list_all-plain_run}
 
 -- ---- from the computed elements to the grammar
 
 pub after_plain_is : (c : ℕ) (us rest : List SetChar) → after_plain c us ≡ Some rest → us ≡ Plain c ∷ rest
-after_plain_is c [] rest e = cc
-after_plain_is c (Plain b ∷ us) rest e =
-    cond_both (eqb b c) _ _ (λ (o : Option (List SetChar)). o ≡ Some rest → Plain b ∷ us ≡ Plain c ∷ rest)
-    (λ t e. let same : b ≡ c = eqb-true b c t in cc) (λ t e. cc) e
-after_plain_is c (Escaped b ∷ us) rest e = cc
-after_plain_is c (Invalid k ∷ us) rest e = cc
+after_plain_is c us rest e = grind arith
 
 pub run_split : (test : ℕ → Bool) (us : List SetChar) → us ≡ map Plain (plain_run test us) ++ after_run test us
 run_split test [] = refl
@@ -47,19 +42,12 @@ run_split test (Invalid k ∷ us) = refl
 after_plain_cases : (Q : List SetChar → Option (List SetChar) → Type 0) (c : ℕ) (us : List SetChar)
     → ((vs : List SetChar) → Q vs None) → ((rest : List SetChar) → Q (Plain c ∷ rest) (Some rest))
     → Q us (after_plain c us)
-after_plain_cases Q c us none some = by_behind (after_plain c us) refl
-  where
-    by_behind : (o : Option (List SetChar)) → after_plain c us ≡ o → Q us o
-    by_behind None e = none us
-    by_behind (Some rest) e = subst (λ (xs : List SetChar). Q xs (Some rest)) (sym (after_plain_is c us rest e))
-        (some rest)
+after_plain_cases Q c us none some = grind arith
 
 after_two_cases : (Q : List SetChar → Option (List SetChar) → Type 0) (c d : ℕ) (us : List SetChar)
     → ((vs : List SetChar) → Q vs None) → ((rest : List SetChar) → Q (Plain c ∷ Plain d ∷ rest) (Some rest))
     → Q us (after_two c d us)
-after_two_cases Q c d us none some =
-    after_plain_cases (λ xs o. Q xs (option_and_then (after_plain d) o)) c us none
-    (λ rest. after_plain_cases (λ xs o. Q (Plain c ∷ xs) o) d rest (λ vs. none (Plain c ∷ vs)) some)
+after_two_cases Q c d us none some = grind arith
 
 -- the characters start with the bracketed form that is found
 abbrev StartsFound : List SetChar → Option (SetElement × List SetChar) → Type 0
@@ -70,18 +58,18 @@ repeat_found : (u : SetChar) (v : ℕ) (us : List SetChar) → DenotesByte u v
     → StartsFound (Plain 91 ∷ u ∷ us) (option_and_then (repeat_after_star v) (after_plain 42 us))
 repeat_found u v us m =
     after_plain_cases (λ xs o. StartsFound (Plain 91 ∷ u ∷ xs) (option_and_then (repeat_after_star v) o)) 42 us
-    (λ vs. tt) (λ more.
+    _ (λ more.
     let run = plain_run is_ascii_digit more in
     subst (λ (xs : List SetChar). StartsFound (Plain 91 ∷ u ∷ Plain 42 ∷ xs) (repeat_after_star v more))
     (sym (run_split is_ascii_digit more))
     (after_plain_cases (λ xs o. StartsFound (Plain 91 ∷ u ∷ Plain 42 ∷ map Plain run ++ xs)
-    (with_rest (Repeat v (repeat_count run)) o)) 93 (after_run is_ascii_digit more) (λ vs. tt)
+    (with_rest (Repeat v (repeat_count run)) o)) 93 (after_run is_ascii_digit more) _
     (λ rest. ARepeat u v run rest m (list_all-plain_run is_ascii_digit more))))
 
 repeat_starts : (us : List SetChar) → StartsFound (Plain 91 ∷ us) (repeat_at us)
 repeat_starts [] = tt
-repeat_starts (Plain b ∷ us) = repeat_found (Plain b) b us (ByItself b)
-repeat_starts (Escaped b ∷ us) = repeat_found (Escaped b) b us (ByEscape b)
+repeat_starts (Plain b ∷ us) = repeat_found _ b us (ByItself b)
+repeat_starts (Escaped b ∷ us) = repeat_found _ b us (ByEscape b)
 repeat_starts (Invalid k ∷ us) = tt
 
 name_found : (name : List ℕ) (us : List SetChar) → list_all is_ascii_lowercase name ≡ true
@@ -89,62 +77,60 @@ name_found : (name : List ℕ) (us : List SetChar) → list_all is_ascii_lowerca
 name_found [] us t = tt
 name_found (c ∷ name) us t =
     after_two_cases (λ xs o. StartsFound (Plain 91 ∷ Plain 58 ∷ map Plain (c ∷ name) ++ xs)
-    (with_rest (Class (class_named (c ∷ name))) o)) 58 93 us (λ vs. tt) (λ rest. AClass c name rest t)
+    (with_rest (Class (class_named (c ∷ name))) o)) 58 93 us _ (λ rest. AClass c name rest t)
 
 class_starts : (us : List SetChar) → StartsFound (Plain 91 ∷ us) (class_at us)
 class_starts us = after_plain_cases (λ xs o. StartsFound (Plain 91 ∷ xs) (option_and_then class_after_colon o)) 58 us
-    (λ vs. tt)
+    _
     (λ more. subst (λ (xs : List SetChar). StartsFound (Plain 91 ∷ Plain 58 ∷ xs) (class_after_colon more))
     (sym (run_split is_ascii_lowercase more))
-    (name_found (plain_run is_ascii_lowercase more) (after_run is_ascii_lowercase more)
+    (name_found _ (after_run is_ascii_lowercase more)
     (list_all-plain_run is_ascii_lowercase more)))
 
 equivalence_found : (u : SetChar) (v : ℕ) (us : List SetChar) → DenotesByte u v
     → StartsFound (Plain 91 ∷ Plain 61 ∷ u ∷ us) (with_rest (Equivalence v) (after_two 61 93 us))
 equivalence_found u v us m =
     after_two_cases (λ xs o. StartsFound (Plain 91 ∷ Plain 61 ∷ u ∷ xs) (with_rest (Equivalence v) o)) 61 93 us
-    (λ vs. tt) (λ rest. AnEquivalence u v rest m)
+    _ (λ rest. AnEquivalence u v rest m)
 
 equivalence_starts : (us : List SetChar) → StartsFound (Plain 91 ∷ us) (equivalence_at us)
 equivalence_starts us =
     after_plain_cases (λ xs o. StartsFound (Plain 91 ∷ xs) (option_and_then equivalence_after_equals o)) 61 us
-    (λ vs. tt) by_unit
+    _ by_unit
   where
     by_unit : (more : List SetChar) → StartsFound (Plain 91 ∷ Plain 61 ∷ more) (equivalence_after_equals more)
     by_unit [] = tt
-    by_unit (Plain b ∷ more) = equivalence_found (Plain b) b more (ByItself b)
-    by_unit (Escaped b ∷ more) = equivalence_found (Escaped b) b more (ByEscape b)
+    by_unit (Plain b ∷ more) = equivalence_found _ b more (ByItself b)
+    by_unit (Escaped b ∷ more) = equivalence_found _ b more (ByEscape b)
     by_unit (Invalid k ∷ more) = tt
 
 starts_either : (us : List SetChar) (o q : Option (SetElement × List SetChar)) → StartsFound us o → StartsFound us q
     → StartsFound us (option_or o q)
-starts_either us None q here there = there
-starts_either us (Some found) q here there = here
+starts_either us o q here there = grind arith
 
 bracketed_starts : (us : List SetChar) → StartsFound us (bracketed_at us)
-bracketed_starts us = after_plain_cases (λ xs o. StartsFound xs (option_and_then bracketed_inside o)) 91 us (λ vs. tt)
-    (λ more. starts_either (Plain 91 ∷ more) (repeat_at more) (option_or (class_at more) (equivalence_at more))
+bracketed_starts us = after_plain_cases (λ xs o. StartsFound xs (option_and_then bracketed_inside o)) 91 us _
+    (λ more. starts_either _ _ _
     (repeat_starts more)
-    (starts_either (Plain 91 ∷ more) (class_at more) (equivalence_at more) (class_starts more)
+    (starts_either _ _ _ (class_starts more)
     (equivalence_starts more)))
 
 -- ---- from the grammar to the computed elements
 
 pub byte_of-DenotesByte : (u : SetChar) (v : ℕ) → DenotesByte u v → byte_of u ≡ Ok v
-byte_of-DenotesByte u v (ByItself b) = refl
-byte_of-DenotesByte u v (ByEscape b) = refl
+byte_of-DenotesByte u v h = grind arith
 
 pub plain_run-map : (test : ℕ → Bool) (bs : List ℕ) (c : ℕ) (rest : List SetChar) → list_all test bs ≡ true
     → test c ≡ false → plain_run test (map Plain bs ++ Plain c ∷ rest) ≡ bs
 plain_run-map test [] c rest t n = rw n refl
 plain_run-map test (b ∷ bs) c rest t n =
-    let (first, others) = and_parts (test b) (list_all test bs) t in
+    let (first, others) = and_parts (test b) _ t in
     rw (first, plain_run-map test bs c rest others n) refl
 
 pub after_run-map : (test : ℕ → Bool) (bs : List ℕ) (c : ℕ) (rest : List SetChar) → list_all test bs ≡ true
     → test c ≡ false → after_run test (map Plain bs ++ Plain c ∷ rest) ≡ Plain c ∷ rest
 after_run-map test bs c rest t n =
-    rw (plain_run-map test bs c rest t n) (drop_at (map Plain bs) (Plain c ∷ rest) (length bs) (length-map bs Plain))
+    rw (plain_run-map test bs c rest t n) (drop_at _ _ _ (length-map bs Plain))
 
 pub bracketed_at-StartsBracketed : (us : List SetChar) (p : SetElement) (rest : List SetChar)
     → StartsBracketed us p rest → bracketed_at us ≡ Some (p, rest)
@@ -155,15 +141,15 @@ bracketed_at-StartsBracketed us p rest (ARepeat u v digits more m t) =
       plain_run-map is_ascii_digit digits 93 more t refl,
     ) refl
 bracketed_at-StartsBracketed us p rest (AClass c name more t) =
-    let (lower, _) = and_parts (is_ascii_lowercase c) (list_all is_ascii_lowercase name) t in
-    let no_star : eqb c 42 ≡ false = ne_eqb c 42 (λ e. cc (ap is_ascii_lowercase e)) in
+    let (lower, _) = and_parts (is_ascii_lowercase c) _ t in
+    let no_star = ne_eqb c 42 (λ e. cc) in
     rw (
       no_star,
-      after_run-map is_ascii_lowercase (c ∷ name) 58 (Plain 93 ∷ more) t refl,
-      plain_run-map is_ascii_lowercase (c ∷ name) 58 (Plain 93 ∷ more) t refl,
+      after_run-map is_ascii_lowercase _ 58 _ t refl,
+      plain_run-map is_ascii_lowercase _ 58 _ t refl,
     ) refl
 bracketed_at-StartsBracketed us p rest (AnEquivalence u v more m) =
-    cond_both (is_plain 42 u) _ _ (λ (o : Option (List SetChar)). option_or (option_and_then (repeat_after_star 61) o)
+    cond_both (is_plain 42 u) _ _ (λ (o : Option _). option_or (option_and_then (repeat_after_star 61) o)
     (option_or None (equivalence_with_byte (byte_of u) (Plain 61 ∷ Plain 93 ∷ more))) ≡ Some (Equivalence v, more))
     (λ t. rw (byte_of-DenotesByte u v m) refl) (λ t. rw (byte_of-DenotesByte u v m) refl)
 
@@ -171,7 +157,7 @@ pub bracketed_at-none : (us : List SetChar) → bracketed_at us ≡ None → ¬ 
 bracketed_at-none us e (p, rest, f) = cc (bracketed_at-StartsBracketed us p rest f)
 
 pub bracketed_at-unless : (us : List SetChar) → ¬ HasBracketed us → bracketed_at us ≡ None
-bracketed_at-unless us n = by_form (bracketed_at us) refl
+bracketed_at-unless us n = by_form _ refl
   where
     by_form : (o : Option (SetElement × List SetChar)) → bracketed_at us ≡ o → o ≡ None
     by_form None e = refl
@@ -186,72 +172,71 @@ StartsAs us (Err k) = StartsInvalid us k
 
 range_starts : (u v : SetChar) (a b : ℕ) (more : List SetChar) → ¬ HasBracketed (u ∷ Plain 45 ∷ v ∷ more)
     → DenotesByte u a → DenotesByte v b → StartsAs (u ∷ Plain 45 ∷ v ∷ more) (range_to a (Ok b) more)
-range_starts u v a b more n m w = cond_both (nat_lt b a) _ _ (StartsAs (u ∷ Plain 45 ∷ v ∷ more))
+range_starts u v a b more n m w = cond_both _ _ _ (StartsAs _)
     (λ t. ADescendingRange u v a b more n m w (ltb-true b a t)) (λ t. ARange u v a b more n m w (ltb-false b a t))
 
 range_end_starts : (u v : SetChar) (a : ℕ) (more : List SetChar) → ¬ HasBracketed (u ∷ Plain 45 ∷ v ∷ more)
     → DenotesByte u a → StartsAs (u ∷ Plain 45 ∷ v ∷ more) (range_to a (byte_of v) more)
-range_end_starts u (Plain b) a more n m = range_starts u (Plain b) a b more n m (ByItself b)
-range_end_starts u (Escaped b) a more n m = range_starts u (Escaped b) a b more n m (ByEscape b)
+range_end_starts u (Plain b) a more n m = range_starts u _ a b more n m (ByItself b)
+range_end_starts u (Escaped b) a more n m = range_starts u _ a b more n m (ByEscape b)
 range_end_starts u (Invalid k) a more n m = AnInvalidEnd u a k more n m
 
 byte_starts : (u : SetChar) (a : ℕ) (us : List SetChar) → ¬ HasBracketed (u ∷ us) → DenotesByte u a
     → StartsAs (u ∷ us) (single_or_range a us (after_plain 45 us))
-byte_starts u a us n m = by_dash (after_plain 45 us) refl
+byte_starts u a us n m = by_dash _ refl
   where
     by_dash : (o : Option (List SetChar)) → after_plain 45 us ≡ o → StartsAs (u ∷ us) (single_or_range a us o)
     by_dash None d =
         Alone u a us n
-        (λ (v, more, is). let unlike : None ≡ Some (v ∷ more) = sym d ∙ ap (after_plain 45) is in cc)
+        (λ (v, more, is). let unlike = sym d ∙ ap (after_plain 45) is in cc)
         m
     by_dash (Some []) d =
         Alone u a us n
-        (λ (v, more, is). let unlike : Some [] ≡ Some (v ∷ more) = sym d ∙ ap (after_plain 45) is in cc) m
+        (λ (v, more, is). let unlike = sym d ∙ ap (after_plain 45) is in cc) m
     by_dash (Some (v ∷ more)) d =
-        let all : us ≡ Plain 45 ∷ v ∷ more = after_plain_is 45 us (v ∷ more) d in
-        let closed : ¬ HasBracketed (u ∷ Plain 45 ∷ v ∷ more) =
+        let all = after_plain_is 45 us _ d in
+        let closed =
         subst (λ (xs : List SetChar). ¬ HasBracketed (u ∷ xs)) all n in
         subst (λ (xs : List SetChar). StartsAs (u ∷ xs) (range_to a (byte_of v) more)) (sym all)
         (range_end_starts u v a more closed m)
 
 char_starts : (u : SetChar) (us : List SetChar) → ¬ HasBracketed (u ∷ us)
     → StartsAs (u ∷ us) (char_or_range (byte_of u) us)
-char_starts (Plain b) us n = byte_starts (Plain b) b us n (ByItself b)
-char_starts (Escaped b) us n = byte_starts (Escaped b) b us n (ByEscape b)
+char_starts (Plain b) us n = byte_starts _ b us n (ByItself b)
+char_starts (Escaped b) us n = byte_starts _ b us n (ByEscape b)
 char_starts (Invalid k) us n = AnInvalidChar k us
 
-starts_as : (u : SetChar) (us : List SetChar) (r : Result (SetElement × List SetChar) SetFaultKind)
+starts_as : (u : SetChar) (us : List SetChar) {r : Result (SetElement × List SetChar) SetFaultKind}
     → first_set_element (u ∷ us) ≡ r → StartsAs (u ∷ us) r
-starts_as u us r e = subst (StartsAs (u ∷ us)) e (by_form (bracketed_at (u ∷ us)) refl)
+starts_as u us e = subst (StartsAs _) e (by_form _ refl)
   where
     by_form : (o : Option (SetElement × List SetChar)) → bracketed_at (u ∷ us) ≡ o → StartsAs (u ∷ us) (or_char o u us)
-    by_form None f = char_starts u us (bracketed_at-none (u ∷ us) f)
+    by_form None f = char_starts u us (bracketed_at-none _ f)
     by_form (Some (p, rest)) f =
-        InBrackets (u ∷ us) p rest (subst (StartsFound (u ∷ us)) f (bracketed_starts (u ∷ us)))
+        InBrackets _ p rest (subst (StartsFound _) f (bracketed_starts (u ∷ us)))
 
 first_set_element-found : (us : List SetChar) (p : SetElement) (rest : List SetChar) → bracketed_at us ≡ Some (p, rest)
     → first_set_element us ≡ Ok (p, rest)
-first_set_element-found [] p rest e = absurd (cc)
-first_set_element-found (u ∷ us) p rest e = rw e refl
+first_set_element-found us p rest e = grind arith
 
 pub first_set_element-StartsElement : (us : List SetChar) (p : SetElement) (rest : List SetChar)
     → StartsElement us p rest → first_set_element us ≡ Ok (p, rest)
 first_set_element-StartsElement us p rest (InBrackets xs q more f) =
     first_set_element-found xs q more (bracketed_at-StartsBracketed xs q more f)
 first_set_element-StartsElement us p rest (ARange u v a b more n m w h) =
-    rw (
+    cc (
       bracketed_at-unless (u ∷ Plain 45 ∷ v ∷ more) n,
       byte_of-DenotesByte u a m,
       byte_of-DenotesByte v b w,
       le-ltb b a h,
-    ) refl
+    )
 first_set_element-StartsElement us p rest (Alone u a more n d m) =
-    rw (bracketed_at-unless (u ∷ more) n, byte_of-DenotesByte u a m) (by_dash (after_plain 45 more) refl)
+    rw (bracketed_at-unless _ n, byte_of-DenotesByte u a m) (by_dash _ refl)
   where
     by_dash : (o : Option (List SetChar)) → after_plain 45 more ≡ o → single_or_range a more o ≡ Ok (Single a, more)
     by_dash None e = refl
     by_dash (Some []) e = refl
-    by_dash (Some (v ∷ xs)) e = absurd (d (v, xs, after_plain_is 45 more (v ∷ xs) e))
+    by_dash (Some (v ∷ xs)) e = grind arith
 
 -- ---- all elements
 
@@ -263,12 +248,12 @@ pub StartsBracketed-front : (us : List SetChar) (p : SetElement) (rest : List Se
     → IsProperSuffix us rest
 StartsBracketed-front us p rest (ARepeat u v digits more m t) = (
   Plain 91 ∷ u ∷ Plain 42 ∷ map Plain digits ++ Plain 93 ∷ [],
-  ap (λ xs. Plain 91 ∷ u ∷ Plain 42 ∷ xs) (sym (append_assoc (map Plain digits) (Plain 93 ∷ []) more)),
+  ap (λ xs. Plain 91 ∷ u ∷ Plain 42 ∷ xs) (sym (append_assoc _ _ more)),
   omega arith,
 )
 StartsBracketed-front us p rest (AClass c name more t) = (
   Plain 91 ∷ Plain 58 ∷ map Plain (c ∷ name) ++ Plain 58 ∷ Plain 93 ∷ [],
-  ap (λ xs. Plain 91 ∷ Plain 58 ∷ xs) (sym (append_assoc (map Plain (c ∷ name)) (Plain 58 ∷ Plain 93 ∷ []) more)),
+  ap (λ xs. Plain 91 ∷ Plain 58 ∷ xs) (sym (append_assoc (map Plain (c ∷ name)) _ more)),
   omega arith,
 )
 StartsBracketed-front us p rest (AnEquivalence u v more m) =
@@ -281,7 +266,7 @@ StartsElement-front us p rest (ARange u v a b more n m w h) = (u ∷ Plain 45 �
 StartsElement-front us p rest (Alone u a more n d m) = (u ∷ [], refl, omega arith)
 
 pub elements_after_is : (us : List SetChar) (skip : ℕ) → elements_after us skip ≡ set_elements (drop skip us)
-elements_after_is [] skip = ap set_elements (sym (drop_all skip [] (omega arith)))
+elements_after_is [] skip = grind (arith, drop_all)
 elements_after_is (u ∷ us) zero = refl
 elements_after_is (u ∷ us) (suc skip) = elements_after_is us skip
 
@@ -291,20 +276,19 @@ drop_prefix u us rest [] e h = absurd (omega arith)
 drop_prefix u us rest (f ∷ front) e h =
     let same : us ≡ front ++ rest = cc in
     let count : length us - length rest ≡ length front = omega (arith, ap length same, length-append front rest) in
-    rw (count, same) (drop_at front rest (length front) refl)
+    rw (count, same) (drop_at front rest _ refl)
 
 -- the first element, then those of the rest
 pub set_elements-first : (us : List SetChar) (p : SetElement) (rest : List SetChar)
     → first_set_element us ≡ Ok (p, rest) → set_elements us ≡ Ok p ∷ set_elements rest
 set_elements-first [] p rest e = absurd (cc)
 set_elements-first (u ∷ us) p rest e =
-    let (front, all, some) = StartsElement-front (u ∷ us) p rest (starts_as u us (Ok (p, rest)) e) in
-    rw (e, elements_after_is us (length us - length rest), drop_prefix u us rest front all some) refl
+    let (front, all, some) = StartsElement-front _ p rest (starts_as u us e) in
+    rw (e, elements_after_is us _, drop_prefix u us rest front all some) refl
 
 pub set_elements-fault : (us : List SetChar) (k : SetFaultKind) → 0 < length us → first_set_element us ≡ Err k
     → set_elements us ≡ Err k ∷ []
-set_elements-fault [] k h e = absurd (omega arith)
-set_elements-fault (u ∷ us) k h e = rw e refl
+set_elements-fault us k h e = grind arith
 
 by_result : {A P : Type 0} (r : Result A SetFaultKind) → ((x : A) → r ≡ Ok x → P) → ((k : SetFaultKind) → r ≡ Err k → P)
     → P
@@ -316,17 +300,19 @@ by_first : {P : Type 0} (u : SetChar) (us : List SetChar)
     → ((p : SetElement) (rest : List SetChar) → StartsElement (u ∷ us) p rest
     → set_elements (u ∷ us) ≡ Ok p ∷ set_elements rest → P)
     → ((k : SetFaultKind) → StartsInvalid (u ∷ us) k → set_elements (u ∷ us) ≡ Err k ∷ [] → P) → P
-by_first u us element fault = by_result (first_set_element (u ∷ us))
-    (λ (p, rest) e. element p rest (starts_as u us (Ok (p, rest)) e) (set_elements-first (u ∷ us) p rest e))
-    (λ k e. fault k (starts_as u us (Err k) e) (set_elements-fault (u ∷ us) k (omega arith) e))
+by_first u us element fault = by_result _
+    (λ (p, rest) e. element p rest (starts_as u us e) (set_elements-first (u ∷ us) p rest e))
+    (λ k e. fault k (starts_as u us e) (set_elements-fault (u ∷ us) k (omega arith) e))
 
 -- the computed elements are those of the grammar
 pub set_elements-AreElements : (us : List SetChar) (ps : List SetElement) → AreElements us ps
     → set_elements us ≡ map Ok ps
 set_elements-AreElements us [] e = ap set_elements e
 set_elements-AreElements us (p ∷ ps) (rest, begins, more) =
-    set_elements-first us p rest (first_set_element-StartsElement us p rest begins)
-    ∙ ap (λ xs. Ok p ∷ xs) (set_elements-AreElements rest ps more)
+    cc (
+      set_elements-first us p rest (first_set_element-StartsElement us p rest begins),
+      set_elements-AreElements rest ps more,
+    )
 
 pub AreElements-set_elements : (ps : List SetElement) (us : List SetChar) → set_elements us ≡ map Ok ps
     → AreElements us ps
@@ -336,24 +322,24 @@ AreElements-set_elements [] (u ∷ us) e =
 AreElements-set_elements (p ∷ ps) [] e = absurd (cc)
 AreElements-set_elements (p ∷ ps) (u ∷ us) e = by_first u us
     (λ q rest b is.
-    let all : Ok q ∷ set_elements rest ≡ Ok p ∷ map Ok ps = sym is ∙ e in
+    let all = sym is ∙ e in
     let same : q ≡ p = cc in
     (rest, subst (λ (x : SetElement). StartsElement (u ∷ us) x rest) same b, AreElements-set_elements ps rest (cc)))
-    (λ k b is. let all : Err k ∷ [] ≡ Ok p ∷ map Ok ps = sym is ∙ e in absurd (cc))
+    (λ k b is. let all = sym is ∙ e in absurd (cc))
 
 -- ---- the bracketed forms and the first element, as the code finds them
 
 -- a class whose name is not empty
 pub class_with_name-named : (name : List ℕ) (us : List SetChar) → 0 < length name
     → class_with_name name us ≡ with_rest (Class (class_named name)) (after_two 58 93 us)
-class_with_name-named [] us h = absurd (omega arith)
-class_with_name-named (c ∷ name) us h = refl
+class_with_name-named name us h = grind arith
 
-pub class_at-found : (us inside after rest : List SetChar) (name : List ℕ) (found : Option CharClass)
+pub class_at-found : (us : List SetChar) {inside : List SetChar} (after : List SetChar) {rest : List SetChar}
+    (name : List ℕ) (found : Option CharClass)
     → Some inside ≡ after_plain 58 us → name ≡ plain_run is_ascii_lowercase inside
     → after ≡ after_run is_ascii_lowercase inside → 0 < length name → Some rest ≡ after_two 58 93 after
     → found ≡ class_named name → Some (Class found, rest) ≡ class_at us
-class_at-found us inside after rest name found e n a h r f =
+class_at-found us after name found e n a h r f =
     let named = class_with_name-named name after h in
     rw (← e, ← a, ← n, named, ← r, f) refl
 
@@ -361,28 +347,25 @@ pub chars-some : (bs : List ℕ) (i : ℕ) → i < length bs → 0 < length (cha
 chars-some bs i h = rw (drop_more bs i 0 h) (omega arith)
 
 pub first_set_element-range : (us next more : List SetChar) (u : SetChar) (a : ℕ)
-    (r : Result (SetElement × List SetChar) SetFaultKind)
+    {r : Result (SetElement × List SetChar) SetFaultKind}
     → us ≡ u ∷ next → None ≡ bracketed_at us → Ok a ≡ byte_of u → Some more ≡ after_plain 45 next → 0 < length more
     → r ≡ single_or_range a [] (Some more) → r ≡ first_set_element us
-first_set_element-range us next [] u a r e f b d h g = absurd (omega arith)
-first_set_element-range us next (v ∷ more) u a r e f b d h g =
-    let none : None ≡ bracketed_at (u ∷ next) = rw e at f in
-    rw (e, ← none, ← b, ← d) g
+first_set_element-range us next more u a e f b d h g = grind arith
 
 -- ---- the segments of the elements, one after another
 
 pub segments-element : (role : SetRole) (has_fill : Bool) (us rest : List SetChar) (p : SetElement)
-    (x : Result Segment SetFaultKind)
+    {x : Result Segment SetFaultKind}
     → Ok (p, rest) ≡ first_set_element us → x ≡ segment role has_fill p
     → segments role has_fill (set_elements us) ≡ x ∷ segments role (has_fill || is_fill x) (set_elements rest)
-segments-element role has_fill us rest p x e h = rw (set_elements-first us p rest (sym e), h) refl
+segments-element role has_fill us rest p e h = rw (set_elements-first us p rest (sym e), h) refl
 
 pub segments-fault : (role : SetRole) (has_fill : Bool) (bs : List ℕ) (i end : ℕ) (k : SetFaultKind) → i < length bs
     → length bs ≤ end → Err k ≡ first_set_element (chars (drop i bs))
     → segments role has_fill (set_elements (chars (drop i bs)))
     ≡ Err k ∷ segments role has_fill (set_elements (chars (drop end bs)))
 segments-fault role has_fill bs i end k h n e =
-    rw (set_elements-fault (chars (drop i bs)) k (chars-some bs i h) (sym e), drop_all end bs n) refl
+    rw (set_elements-fault _ k (chars-some bs i h) (sym e), drop_all end bs n) refl
 
 -- ---- the fault of a string is that of its first faulty element
 
@@ -390,58 +373,58 @@ first_set_element-faulty : (us : List SetChar) (k : SetFaultKind) → StartsInva
     → (first_set_element us ≡ Err k) × (0 < length us)
 first_set_element-faulty us k (AnInvalidChar j rest) = (refl, omega arith)
 first_set_element-faulty us k (AnInvalidEnd u a j rest n m) =
-    (rw (bracketed_at-unless (u ∷ Plain 45 ∷ Invalid j ∷ rest) n, byte_of-DenotesByte u a m) refl, omega arith)
+    (rw (bracketed_at-unless _ n, byte_of-DenotesByte u a m) refl, omega arith)
 first_set_element-faulty us k (ADescendingRange u v a b rest n m w h) =
-    let falls : nat_lt b a ≡ true = grind (arith, nat_tests) in (
-      rw (bracketed_at-unless (u ∷ Plain 45 ∷ v ∷ rest) n, byte_of-DenotesByte u a m, byte_of-DenotesByte v b w, falls)
+    let falls : nat_lt b a ≡ true = grind arith in (
+      rw (bracketed_at-unless _ n, byte_of-DenotesByte u a m, byte_of-DenotesByte v b w, falls)
           refl,
       omega arith,
     )
 
 rest_fails : (x : Segment) (r : Result (List Segment) SetFaultKind) (k : SetFaultKind)
     → result_map_both (λ (xs : List Segment). x ∷ xs) (λ (e : SetFaultKind). e) r ≡ Err k → r ≡ Err k
-rest_fails x (Ok xs) k e = cc
-rest_fails x (Err j) k e = e
+rest_fails x r k e = grind arith
 
 module _ (role : SetRole) where
-  fault_is : (has_fill : Bool) (us : List SetChar) (k : SetFaultKind) → FirstFault role has_fill us k
+  fault_is : (has_fill : Bool) (us : List SetChar) {k : SetFaultKind} → FirstFault role has_fill us k
       → sequence (segments role has_fill (set_elements us)) ≡ Err k
-  fault_is has_fill us k (NoElement f vs j b) =
+  fault_is has_fill us (NoElement f vs j b) =
       let (fault, some) = first_set_element-faulty vs j b in
       rw (set_elements-fault vs j some fault) refl
-  fault_is has_fill us k (NoSegment f vs rest p j b e) =
+  fault_is has_fill us (NoSegment f vs rest p j b e) =
       rw (set_elements-first vs p rest (first_set_element-StartsElement vs p rest b), e) refl
-  fault_is has_fill us k (LaterFault f vs rest p x j b e later) =
-      rw (
+  fault_is has_fill us (LaterFault f vs rest p x j b e later) =
+      cc (
         set_elements-first vs p rest (first_set_element-StartsElement vs p rest b),
         e,
-        fault_is (f || is_fill (Ok x)) rest j later,
-      ) refl
+        fault_is (f || is_fill (Ok x)) rest later,
+      )
 
   is_fault : (xs : List (Result SetElement SetFaultKind)) (has_fill : Bool) (us : List SetChar) (k : SetFaultKind)
       → set_elements us ≡ xs → sequence (segments role has_fill xs) ≡ Err k → FirstFault role has_fill us k
   is_fault [] has_fill us k all e = cc
   is_fault (y ∷ ys) has_fill [] k all e = cc
   is_fault (Err j ∷ ys) has_fill (u ∷ us) k all e = by_first u us
-      (λ p rest b is. let never : Err j ∷ ys ≡ Ok p ∷ set_elements rest = sym all ∙ is in cc)
+      (λ p rest b is. let never = sym all ∙ is in cc)
       (λ i b is.
-      let both : Err j ∷ ys ≡ Err i ∷ [] = sym all ∙ is in
+      let both = sym all ∙ is in
       let same : i ≡ k = cc in
-      NoElement has_fill (u ∷ us) k (subst (StartsInvalid (u ∷ us)) same b))
+      NoElement has_fill _ k (subst (StartsInvalid _) same b))
   is_fault (Ok q ∷ ys) has_fill (u ∷ us) k all e = by_first u us
       (λ p rest b is.
-      let both : Ok q ∷ ys ≡ Ok p ∷ set_elements rest = sym all ∙ is in
+      let both = sym all ∙ is in
       let same : p ≡ q = cc in
-      let begins : StartsElement (u ∷ us) q rest = subst (λ (x : SetElement). StartsElement (u ∷ us) x rest) same b in
-      by_result (segment role has_fill q)
-      (λ x got. LaterFault has_fill (u ∷ us) rest q x k begins got
-      (is_fault ys (has_fill || is_fill (Ok x)) rest k (cc) (rest_fails x _ k (rw got at e))))
-      (λ j got. let fails : Err j ≡ Err k = rw got at e in let last : j ≡ k = cc in NoSegment has_fill (u
-      ∷ us) rest q k begins (got ∙ ap Err last)))
-      (λ i b is. let never : Ok q ∷ ys ≡ Err i ∷ [] = sym all ∙ is in cc)
+      let begins = subst (λ (x : SetElement). StartsElement (u ∷ us) x rest) same b in
+      by_result _
+      (λ x got. LaterFault has_fill _ rest q x k begins got
+      (is_fault ys _ rest k (cc) (rest_fails x _ k (rw got at e))))
+      (λ j got.
+      let fails = rw got at e in
+      let last : j ≡ k = cc in NoSegment has_fill _ rest q k begins (got ∙ ap Err last)))
+      (λ i b is. let never = sym all ∙ is in cc)
 
 pub faults_are_first : FirstFaultIsReported
 faults_are_first role b text k = (
-  fault_is role false (chars (b ∷ text)) k,
-  is_fault role (set_elements (chars (b ∷ text))) false (chars (b ∷ text)) k refl,
+  fault_is role false (chars (b ∷ text)),
+  is_fault role _ false _ k refl,
 )

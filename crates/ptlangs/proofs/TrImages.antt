@@ -3,16 +3,16 @@
 use Rattle.ptlangs.proofs.Common.{◌≡◌, ◌<◌, ℕ, zero, suc, Bool, true, false, List, [], ◌∷◌, ◌++◌, Option, Some, None}
 use Rattle.ptlangs.proofs.Common.{Result, Ok, Err, length, map, take, drop, arith, refl, sym, ap, ◌∙◌, unwrap_or, set}
 use Rattle.ptlangs.proofs.Common.{last_or, append_assoc, length-append, map-append, SetFaultKind, CharClass, sequence}
-use Rattle.ptlangs.proofs.Common.{image_by, not, is_some}
+use Rattle.ptlangs.proofs.Common.{image_by, not, ClassPlace, Segment, cond, first_array}
+use Rattle.std.specs.Prelude.{is_some}
 use Rattle.ptlangs.specs.TrClasses.{all_bytes}
 use Rattle.ptlangs.specs.declared.tr.images.Images.{Images}
 use Rattle.ptlangs.specs.declared.tr.bytes.Bytes.{Bytes}
 use Rattle.ptlangs.specs.declared.tr.segments.Member.{Member}
-use Rattle.ptlangs.specs.TrParsing.{HasPaired, all_paired, bytes_left, member_bytes, classes_match}
-use Rattle.ptlangs.proofs.Common.{ClassPlace, Segment, array, complement_of, cond, first_array}
+use Rattle.ptlangs.specs.TrParsing.{HasPaired, all_paired, bytes_left, member_bytes, classes_match, first_members}
+use Rattle.ptlangs.specs.TrParsing.{plain_members}
 use Rattle.std.specs.Result.{IsErrAnd}
-use Rattle.ptlangs.specs.TrParsing.{first_members, plain_members}
-use Rattle.ptlangs.proofs.TrByteWalk.{member_bytes-array, member_bytes-plain, on_fault}
+use Rattle.ptlangs.proofs.TrByteWalk.{member_bytes-array, member_bytes-plain}
 use Rattle.ptlangs.proofs.TrContents.{images-push}
 
 -- the results are the bytes of the second array from an index on
@@ -24,9 +24,9 @@ sequence-ok [] = refl
 sequence-ok (m ∷ ms) = rw (sequence-ok ms) refl
 
 -- the second array has no fault
-pub never_fault : {X : Type 0} (ms : List Member) (rs : List (Result Member SetFaultKind)) (k : SetFaultKind)
+pub never_fault : {X : Type 0} (ms : List Member) (rs : List (Result Member SetFaultKind)) {k : SetFaultKind}
     → rs ≡ AllOk ms → sequence rs ≡ Err k → X
-never_fault ms rs k is e = let whole : sequence rs ≡ Ok ms = ap sequence is ∙ sequence-ok ms in
+never_fault ms rs is e = let whole = ap sequence is ∙ sequence-ok ms in
     absurd (cc)
 
 -- one byte of the second array is taken
@@ -43,7 +43,7 @@ takes_next o zero [] t after e = absurd (cc)
 takes_next o zero (x ∷ to) t after e = let same : x ≡ t = cc in
     (ap (λ y. y ∷ to) same, cc, ap (λ (y : Member). Some y.byte) same)
 takes_next o (suc n) [] t after e = absurd (cc)
-takes_next o (suc n) (x ∷ to) t after e = takes_next (Some x.byte) n to t after e
+takes_next o (suc n) (x ∷ to) t after e = takes_next _ n to t after e
 
 pub next_taken : (n : ℕ) (to : List Member) (t : Member) (after : List (Result Member SetFaultKind))
     → AllOk (drop n to) ≡ Ok t ∷ after → TakesNext n to t after
@@ -74,7 +74,7 @@ module _ (before to : List Member) (old : Images) (from : Member) (h : HasPaired
   count = omega (arith, length-append before (from ∷ []))
 
   bytes : member_bytes (before ++ from ∷ []) ≡ member_bytes before ++ from.byte ∷ []
-  bytes = map-append (λ (m : Member). m.byte) before (from ∷ [])
+  bytes = map-append _ before _
 
   -- the byte is paired, if the table and the last byte are what the pairs give
   paired : (second : Bytes) (last : Option ℕ) → bytes_left second ≡ AllOk (drop (suc (length before)) to)
@@ -87,10 +87,10 @@ module _ (before to : List Member) (old : Images) (from : Member) (h : HasPaired
     left = rw count left;
     last = rw count is;
     table =
-        rw (h.table, bytes) (images-push (member_bytes before) (member_bytes to) from.byte last fits
-        (is ∙ ap (last_or None) (member_bytes-take (suc (length before)) to)
+        rw (h.table, bytes) (images-push _ (member_bytes to) from.byte last fits
+        (is ∙ ap (last_or None) (member_bytes-take (suc _) to)
         ∙ ap (λ n. last_or None (take (suc n) (member_bytes to))) (sym (length-bytes before))));
-    decides = λ more. rw (count, append_assoc before (from ∷ []) more) (h.decides (from ∷ more) ∙ decides more);
+    decides = λ more. rw (count, append_assoc before _ more) (h.decides _ ∙ decides more);
   }
     where
       length-bytes : (ms : List Member) → length (member_bytes ms) ≡ length ms
@@ -107,15 +107,15 @@ module _ (before to : List Member) (old : Images) (from : Member) (h : HasPaired
         last = Some t.byte;
       })
   push-next second t s fine =
-      let next = next_taken (length before) to t (bytes_left second) (sym h.left ∙ s) in
-      paired second (Some t.byte) next.left (sym next.last) (λ more. rw (next.at, fine) refl)
+      let next = next_taken _ to t _ (sym h.left ∙ s) in
+      paired second _ next.left (sym next.last) (λ more. rw (next.at, fine) refl)
 
   -- none is left: the last one stays
   pub push-last : (second : Bytes) → bytes_left old.second ≡ [] → bytes_left second ≡ []
       → HasPaired (before ++ from ∷ []) to
       (record { table = set old.table from.byte (unwrap_or old.last from.byte); second = second; last = old.last })
   push-last second s end =
-      let no_more = ended (length before) to (sym h.left ∙ s) in
+      let no_more = ended _ to (sym h.left ∙ s) in
       paired second old.last (end ∙ ap AllOk (sym no_more.next))
       (h.last ∙ ap (λ ms. last_or None (member_bytes ms)) (sym no_more.taken))
       (λ more. rw (no_more.now, no_more.next) refl)
@@ -124,8 +124,8 @@ module _ (before to : List Member) (old : Images) (from : Member) (h : HasPaired
   pub push-unpaired : (after : List (Result Member SetFaultKind)) (t : Member) → bytes_left old.second ≡ Ok t ∷ after
       → classes_match from.class t.class ≡ false → (more : List Member) → all_paired (before ++ from ∷ more) to ≡ false
   push-unpaired after t s wrong more =
-      let next = next_taken (length before) to t after (sym h.left ∙ s) in
-      h.decides (from ∷ more) ∙ rw (next.at, wrong) refl
+      let next = next_taken _ to t after (sym h.left ∙ s) in
+      h.decides _ ∙ rw (next.at, wrong) refl
 
 -- the images and the table after a step, as the code writes them
 pub written : (before to : List Member) (m : Images) (i u byte : ℕ) (table : List ℕ) (second : Bytes) (last : Option ℕ)
@@ -134,8 +134,9 @@ pub written : (before to : List Member) (m : Images) (i u byte : ℕ) (table : L
     → HasPaired before to (record { table = set m.table i u; second = m.second; last = m.last })
 written before to m i u byte table second last e f g h = rw (g, f, e) h
 
-pub paired_same : (ms ns to : List Member) (s t : Images) → ms ≡ ns → s ≡ t → HasPaired ns to t → HasPaired ms to s
-paired_same ms ns to s t e f h = rw (e, f) h
+pub paired_same : {ms : List Member} (ns to : List Member) {s t : Images} → ms ≡ ns → s ≡ t → HasPaired ns to t
+    → HasPaired ms to s
+paired_same ns to e f h = rw (e, f) h
 
 -- ---- after the end of the first array
 
@@ -153,8 +154,7 @@ split_ok [] t after e = absurd (cc)
 split_ok (x ∷ rest) t after e = let same : x ≡ t = cc in (rest, ap (λ y. y ∷ rest) same, cc)
 
 unmatched : (class : Option CharClass) → classes_match None class ≡ not (is_some class)
-unmatched None = refl
-unmatched (Some class) = refl
+unmatched class = grind arith
 
 -- no class starts in bytes that are passed as copies of one
 plain-passed : (bytes : List ℕ) (rest : List Member) (after : List (Result Member SetFaultKind))
@@ -162,7 +162,7 @@ plain-passed : (bytes : List ℕ) (rest : List Member) (after : List (Result Mem
     → (more : List Member) × (after ≡ AllOk more) × (all_paired [] rest ≡ all_paired [] more)
 plain-passed [] rest after e = (rest, sym e, refl)
 plain-passed (b ∷ bytes) rest after e =
-    let (next, is, left) = split_ok rest (record { byte = b; class = None }) (AllOk (plain_members bytes) ++ after) e in
+    let (next, is, left) = split_ok rest _ _ e in
     let (more, end, decides) = plain-passed bytes next after (sym left) in
     (more, end, ap (all_paired []) is ∙ decides)
 
@@ -170,7 +170,7 @@ module _ {from to : List Member} {old : Images} (p : IsPassing from to old) wher
   pub passing-next : (second : Bytes) (t : Member) → bytes_left old.second ≡ Ok t ∷ bytes_left second
       → is_some t.class ≡ false → IsPassing from to (record { table = old.table; second = second; last = old.last })
   passing-next second t s plain =
-      let (more, is, left) = split_ok p.rest t (bytes_left second) (sym p.left ∙ s) in
+      let (more, is, left) = split_ok p.rest t _ (sym p.left ∙ s) in
       record {
         rest = more;
         left = left;
@@ -182,7 +182,7 @@ module _ {from to : List Member} {old : Images} (p : IsPassing from to old) wher
       → bytes_left old.second ≡ AllOk (plain_members bytes) ++ bytes_left second
       → IsPassing from to (record { table = old.table; second = second; last = old.last })
   passing-copies second bytes s =
-      let (more, left, decides) = plain-passed bytes p.rest (bytes_left second) (sym p.left ∙ s) in
+      let (more, left, decides) = plain-passed bytes p.rest _ (sym p.left ∙ s) in
       record { rest = more; left = left; decides = p.decides ∙ decides; table = p.table }
 
   pub passing-unpaired : (after : List (Result Member SetFaultKind)) (t : Member) → bytes_left old.second ≡ Ok t ∷ after
@@ -205,20 +205,17 @@ answer_of paired images = cond paired (Ok images) (Err ClassPlace)
 
 pub unpaired_answer : (paired : Bool) (images : List ℕ) (r : Result (List ℕ) SetFaultKind) (k : SetFaultKind)
     → IsErrAnd r (λ e. e ≡ k) → k ≡ ClassPlace → paired ≡ false → r ≡ answer_of paired images
-unpaired_answer paired images r k is kind wrong =
-    on_fault (λ q. q ≡ answer_of paired images) r k is (rw (kind, wrong) refl)
+unpaired_answer paired images r k is kind wrong = grind arith
 
-pub answer_ok : (paired : Bool) (images table : List ℕ) → Ok table ≡ answer_of paired images
+pub answer_ok : (paired : Bool) {images table : List ℕ} → Ok table ≡ answer_of paired images
     → (paired ≡ true) × (table ≡ images)
-answer_ok true images table e = (refl, cc)
-answer_ok false images table e = absurd (cc)
+answer_ok paired e = grind arith
 
 pub answer_fault : (paired : Bool) (images : List ℕ) (k : SetFaultKind) → Err k ≡ answer_of paired images
     → (paired ≡ false) × (k ≡ ClassPlace)
-answer_fault true images k e = absurd (cc)
-answer_fault false images k e = (refl, cc)
+answer_fault paired images k e = grind arith
 
 pub first-bytes : (complement : Bool) (ps : List Segment)
     → member_bytes (first_members complement ps) ≡ first_array complement ps
-first-bytes true ps = member_bytes-plain (complement_of (array 0 ps))
+first-bytes true ps = member_bytes-plain _
 first-bytes false ps = member_bytes-array 0 ps

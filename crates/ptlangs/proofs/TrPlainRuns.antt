@@ -1,12 +1,13 @@
 -- Plain bytes in the characters of a string: a byte other than a backslash is a character by itself, so the code may
 -- look at the bytes where the definition looks at characters.
 use Rattle.ptlangs.proofs.Common.{◌≡◌, ◌≢◌, ◌≤◌, ◌<◌, ◌+◌, ◌-◌, inl, inr, ℕ, suc, Bool, true, false, List, [], ◌∷◌}
-use Rattle.ptlangs.proofs.Common.{length, take, drop, get_or, arith, refl, sym, ap, ◌∙◌, Some, None, nat_le, prefix_len}
-use Rattle.ptlangs.proofs.Common.{slice_range, take_while, list_all, AllPass, digits_value, cases_eq, eq-eqb, ne_eqb}
-use Rattle.ptlangs.proofs.Common.{drop_all, drop-drop, take_rest, length-prefix_len, take_while-cons}
-use Rattle.ptlangs.proofs.Common.{AllPass-from_list_all, SetChar, Plain, Escaped, Invalid, is_octal_digit, octal}
-use Rattle.ptlangs.proofs.Common.{octal_run, chars, after_backslash, after_plain, plain_run, after_run, and_from}
-use Rattle.std.proofs.lemmas.Bool.{cond_both}
+use Rattle.ptlangs.proofs.Common.{length, take, drop, get_or, arith, refl, sym, Some, None, prefix_len, list_all}
+use Rattle.ptlangs.proofs.Common.{cases_eq, eq-eqb, ne_eqb, drop_all, drop-drop, take_rest, length-prefix_len}
+use Rattle.ptlangs.proofs.Common.{AllPass-from_list_all, SetChar, Plain, Escaped, Invalid, chars}
+use Rattle.ptlangs.proofs.Common.{after_backslash, after_plain, plain_run, after_run}
+use Rattle.std.proofs.lemmas.Bool.{and_from, cond_both}
+use Rattle.std.specs.List.{slice_range, take_while, AllPass}
+use Rattle.std.proofs.lemmas.List.Sums.{take_while-cons}
 use Rattle.ptlangs.proofs.TrCharGrammar.{chars_plain, chars_escape, chars-cons}
 
 -- a character that starts with a backslash
@@ -15,24 +16,14 @@ IsEscape (Plain b) = ⊥
 IsEscape (Escaped b) = Unit {0}
 IsEscape (Invalid k) = Unit {0}
 
-pub IsEscape-octal : (value : ℕ) → IsEscape (octal value)
-IsEscape-octal value = cond_both (nat_le value 255) _ _ IsEscape (λ e. tt) (λ e. tt)
-
 pub IsEscape-after_backslash : (bs : List ℕ) → IsEscape (after_backslash bs).0
-IsEscape-after_backslash [] = tt
-IsEscape-after_backslash (b ∷ bs) =
-    cond_both (is_octal_digit b) _ _ (λ (u : SetChar × ℕ). IsEscape u.0)
-    (λ e. IsEscape-octal (digits_value 8 (octal_run (b ∷ bs)))) (λ e. tt)
+IsEscape-after_backslash bs = grind arith
 
 pub after_plain-escape : (c : ℕ) (u : SetChar) (us : List SetChar) → IsEscape u → after_plain c (u ∷ us) ≡ None
-after_plain-escape c (Plain b) us e = absurd e
-after_plain-escape c (Escaped b) us e = refl
-after_plain-escape c (Invalid k) us e = refl
+after_plain-escape c u us e = grind arith
 
 pub plain_run-escape : (test : ℕ → Bool) (u : SetChar) (us : List SetChar) → IsEscape u → plain_run test (u ∷ us) ≡ []
-plain_run-escape test (Plain b) us e = absurd e
-plain_run-escape test (Escaped b) us e = refl
-plain_run-escape test (Invalid k) us e = refl
+plain_run-escape test u us e = grind arith
 
 -- ---- one plain byte
 
@@ -42,9 +33,9 @@ after_plain-here bs i c h e n = rw (chars_plain bs i c h e n, eq-eqb c c refl) r
 
 pub after_plain-other : (bs : List ℕ) (i c : ℕ) → i < length bs → get_or bs i 0 ≢ c
     → None ≡ after_plain c (chars (drop i bs))
-after_plain-other bs i c h n = elim (cases_eq (get_or bs i 0) 92) [
-  | inl e ↦ rw (chars_escape bs i h e) (sym (after_plain-escape c _ _ (IsEscape-after_backslash (drop (i + 1) bs))))
-  | inr m ↦ rw (chars_plain bs i (get_or bs i 0) h refl m, ne_eqb (get_or bs i 0) c n) refl
+after_plain-other bs i c h n = elim (cases_eq _ 92) [
+  | inl e ↦ rw (chars_escape bs i h e) (sym (after_plain-escape c _ _ (IsEscape-after_backslash (drop _ bs))))
+  | inr m ↦ rw (chars_plain bs i _ h refl m, ne_eqb _ c n) refl
 ]
 
 pub after_plain-end : (bs : List ℕ) (i c : ℕ) → length bs ≤ i → None ≡ after_plain c (chars (drop i bs))
@@ -70,9 +61,9 @@ pub drop-prefix_len : (test : ℕ → Bool) → test 92 ≡ false → (bs : List
     → drop (prefix_len test bs) (chars bs) ≡ chars (drop (prefix_len test bs) bs)
 drop-prefix_len test n [] = refl
 drop-prefix_len test n (b ∷ bs) =
-    let next : 1 + prefix_len test bs ≡ suc (prefix_len test bs) = omega arith in
-    cond_both (test b) (1 + prefix_len test bs) 0 (λ (m : ℕ). drop m (chars (b ∷ bs)) ≡ chars (drop m (b ∷ bs)))
-    (λ e. let plain : b ≢ 92 = λ same. cc (ap test same) in rw (
+    let next : 1 + prefix_len test bs ≡ suc _ = omega arith in
+    cond_both (test b) _ 0 (λ (m : ℕ). drop m (chars (b ∷ bs)) ≡ chars (drop m (b ∷ bs)))
+    (λ e. let plain : b ≢ 92 = λ same. cc in rw (
       chars-plain b bs plain,
       next,
     ) (drop-prefix_len test n bs)) (λ e. refl)
@@ -83,25 +74,24 @@ IsRunLength test bs i count = count ≡ length (take_while test (take (length bs
 
 pub prefix_len-from_run : (test : ℕ → Bool) (bs : List ℕ) (i count : ℕ) → IsRunLength test bs i count
     → count ≡ prefix_len test (drop i bs)
-prefix_len-from_run test bs i count e = e ∙ ap (λ xs. length (take_while test xs)) (take_rest bs i)
-    ∙ length-prefix_len test (drop i bs)
+prefix_len-from_run test bs i count e = simp (e, take_rest, length-prefix_len)
 
 -- the bytes from `i` to the end of the run
 pub run_range : (test : ℕ → Bool) → test 92 ≡ false → (bs : List ℕ) (i count : ℕ) → IsRunLength test bs i count
     → slice_range bs i (i + count) ≡ plain_run test (chars (drop i bs))
 run_range test n bs i count e =
     let same : i + count - i ≡ prefix_len test (drop i bs) = omega (arith, prefix_len-from_run test bs i count e) in
-    rw (same, plain_run-chars test n (drop i bs)) refl
+    rw (same, plain_run-chars test n _) refl
 
 pub run_rest : (test : ℕ → Bool) → test 92 ≡ false → (bs : List ℕ) (i count : ℕ) → IsRunLength test bs i count
     → chars (drop (i + count) bs) ≡ after_run test (chars (drop i bs))
 run_rest test n bs i count e =
-    let split : drop (i + count) bs ≡ drop (prefix_len test (drop i bs)) (drop i bs) =
+    let split : drop (i + count) bs ≡ drop _ (drop i bs) =
     rw (drop-drop, prefix_len-from_run test bs i count e) refl in
     rw (
-      plain_run-chars test n (drop i bs),
-      length-prefix_len test (drop i bs),
-      drop-prefix_len test n (drop i bs),
+      plain_run-chars test n _,
+      length-prefix_len test _,
+      drop-prefix_len test n _,
       split,
     ) refl
 

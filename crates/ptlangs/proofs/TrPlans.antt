@@ -1,51 +1,37 @@
 -- The plan of two strings, step by step, and its tables. Reading never fails for lack of memory: no character, no
 -- element and no segment has that fault.
-use Rattle.ptlangs.proofs.Common.{◌≡◌, Bool, Err, List, None, Ok, Option, Result, Some, [], ap, arith, cond, false}
-use Rattle.ptlangs.proofs.Common.{length, map, refl, suc, sym, true, zero, ℕ, ◌++◌, ◌-◌, ◌∙◌, ◌∷◌, ◌≢◌, result_map_both}
-use Rattle.ptlangs.proofs.Common.{and_then, ADescendingRange, AnInvalidEnd, AnInvalidChar, StartsElement, StartsInvalid}
-use Rattle.ptlangs.proofs.Common.{subst}
-use Rattle.ptlangs.proofs.Common.{FirstFault, LaterFault, NoElement, NoSegment, array}
-use Rattle.ptlangs.proofs.Common.{class_offsets, first_array, image_of, in_string, is_deleted}
-use Rattle.ptlangs.proofs.Common.{is_squeezed, has_valid_classes, segment, plan, plan_of}
-use Rattle.ptlangs.proofs.Common.{second_plan, string_segments}
-use Rattle.ptlangs.proofs.Common.{tables, ALargeOctal, ALoneBackslash, APlainByte, AChar, AnEscape, AnOctal, NoChar}
-use Rattle.ptlangs.proofs.Common.{SpellsChar, SpellsChars, chars, SetFault, SetFaultKind, ClassPlace, Memory}
-use Rattle.ptlangs.proofs.Common.{SetElement, Segment, SetRole, First, Images, Squeezed, Form, Delete, DeleteSqueeze}
-use Rattle.ptlangs.proofs.Common.{Squeeze, Translate, TranslateSqueeze, SetChar, Escaped, Invalid, Plain}
-use Rattle.std.proofs.lemmas.Bool.{cond_both}
+use Rattle.ptlangs.proofs.Common.{complement_of, ◌≡◌, Bool, Err, List, None, Ok, Option, Result, Some, [], ap, arith}
+use Rattle.ptlangs.proofs.Common.{cond, false, length, map, refl, sym, true, ℕ, ◌++◌, ◌-◌, ◌∙◌, ◌∷◌, ◌≢◌}
+use Rattle.ptlangs.proofs.Common.{result_map_both, and_then, StartsElement, StartsInvalid, subst, FirstFault}
+use Rattle.ptlangs.proofs.Common.{LaterFault, NoElement, NoSegment, array, class_offsets, first_array, in_string}
+use Rattle.ptlangs.proofs.Common.{has_valid_classes, plan, plan_of, second_plan, string_segments, tables}
+use Rattle.ptlangs.proofs.Common.{AChar, NoChar, SpellsChar, SpellsChars, chars, SetFault, SetFaultKind, ClassPlace}
+use Rattle.ptlangs.proofs.Common.{SetElement, Segment, SetRole, First, Form, Delete, DeleteSqueeze, Squeeze, Translate}
+use Rattle.ptlangs.proofs.Common.{TranslateSqueeze, SetChar, Escaped, Invalid, Plain}
+use Rattle.ptlangs.specs.TrPlan.{image_of, is_deleted, is_squeezed, NoMemoryFault, Plan, fill_count, plan_from}
+use Rattle.ptlangs.specs.TrPlan.{plan_with, second_role, takes_second}
+use Rattle.ptlangs.specs.declared.faults.SetFaultKind.TheVariants.{Memory}
 use Rattle.ptlangs.specs.TrClasses.{all_bytes}
 use Rattle.ptlangs.specs.declared.tr.contents.Contents.{Contents}
 use Rattle.ptlangs.specs.declared.faults.SetString.TheVariants as string
 use Rattle.ptlangs.specs.declared.faults.SetString.{SetString}
-use Rattle.ptlangs.specs.declared.tr.elements.SetElement.TheVariants as element
 use Rattle.ptlangs.proofs.TrElementGrammar.{StartsElement-front, faults_are_first}
-use Rattle.ptlangs.proofs.Common.{complement_of}
 use Rattle.ptlangs.specs.TrParsing.{all_paired, contents_of, first_members, marked_array, ok_map}
 use Rattle.ptlangs.specs.TrTables.{Tables}
 use Rattle.ptlangs.proofs.TrByteWalk.{paired-arrays, paired-plain}
-use Rattle.ptlangs.specs.TrPlan.{NoMemoryFault, Plan, fill_count, plan_from, plan_with, repeat_segment, second_role}
-use Rattle.ptlangs.specs.TrPlan.{takes_second}
 use Rattle.ptlangs.proofs.TrCharGrammar.{chars_are_spelled}
-
--- ---- two facts about a result
-
--- a result has one value
-pub same_answer : {A E : Type 0} (r : Result A E) (x y : A) → r ≡ Ok x → r ≡ Ok y → x ≡ y
-same_answer r x y e f = cc
 
 -- ---- strings without a fault
 
 -- a result that comes from segments, and these segments
-pub mapped_ok : (r : Result (List Segment) SetFaultKind) (f : List Segment → Contents) (y : Contents)
+pub mapped_ok : (r : Result (List Segment) SetFaultKind) {f : List Segment → Contents} (y : Contents)
     → Ok y ≡ result_map_both f (λ (k : SetFaultKind). k) r → (ps : List Segment) × (r ≡ Ok ps) × (y ≡ f ps)
-mapped_ok (Ok ps) f y e = (ps, refl, cc)
-mapped_ok (Err k) f y e = absurd (cc)
+mapped_ok r y e = grind arith
 
 pub mapped_at : (r : Result (List Segment) SetFaultKind) (f : List Segment → Contents) (y : Contents)
     (ps : List Segment)
     → Ok y ≡ result_map_both f (λ (k : SetFaultKind). k) r → r ≡ Ok ps → y ≡ f ps
-mapped_at (Ok qs) f y ps e h = cc
-mapped_at (Err k) f y ps e h = absurd (cc)
+mapped_at r f y ps e h = let same = rw h at e in cc
 
 -- the segments of a second string, and the plan that they give if a fill has `fill` bytes
 pub record SecondRead (form : Form) (complement : Bool) (firsts : List Segment) (text : List ℕ) (role : SetRole)
@@ -67,80 +53,56 @@ pub second_read : (form : Form) (complement : Bool) (firsts : List Segment) (tex
     → fill ≡ first.length - unfilled.length → first ≡ contents_of (first_array complement firsts)
     → SecondRead form complement firsts text role fill
 second_read form complement firsts text role fill first unfilled at was e f =
-    let (ps, read, is) = mapped_ok (string_segments role text) (λ ps. contents_of (array 0 ps)) unfilled was in
-    let whole : string_segments (second_role form) text ≡ Ok ps = ap (λ q. string_segments q text) (sym at) ∙ read in
+    let (ps, read, is) = mapped_ok _ unfilled was in
+    let whole = ap (λ q. string_segments q text) (sym at) ∙ read in
     let has_fill : fill ≡ fill_count (length (first_array complement firsts)) ps =
-    omega (arith, e, ap (λ (q : Contents). q.length) f, ap (λ (q : Contents). q.length) is) in
+    omega (arith, ap (λ (q : Contents). q.length) f, ap (λ (q : Contents). q.length) is) in
     record { ps = ps; read = read; plan = λ valid is. rw (whole, ← has_fill, is) refl }
 
 -- the classes of a second string that translates are valid if they are paired
 pub valid-paired : (form : Form) (complement : Bool) (firsts ps : List Segment) (n : ℕ) → (form ≡ DeleteSqueeze → ⊥)
     → has_valid_classes form complement (class_offsets 0 0 firsts) (class_offsets n 0 ps)
     ≡ all_paired (first_members complement firsts) (marked_array n ps)
-valid-paired DeleteSqueeze complement firsts ps n other = absurd (other refl)
-valid-paired Translate true firsts ps n other = paired-plain n (complement_of (array 0 firsts)) ps
-valid-paired Translate false firsts ps n other = paired-arrays n firsts ps
-valid-paired TranslateSqueeze true firsts ps n other = paired-plain n (complement_of (array 0 firsts)) ps
-valid-paired TranslateSqueeze false firsts ps n other = paired-arrays n firsts ps
-valid-paired Squeeze true firsts ps n other = paired-plain n (complement_of (array 0 firsts)) ps
-valid-paired Squeeze false firsts ps n other = paired-arrays n firsts ps
-valid-paired Delete true firsts ps n other = paired-plain n (complement_of (array 0 firsts)) ps
-valid-paired Delete false firsts ps n other = paired-arrays n firsts ps
+valid-paired form true firsts ps n other = grind (arith, paired-plain n (complement_of (array 0 firsts)) ps, other)
+valid-paired form false firsts ps n other = grind (arith, paired-arrays n firsts ps, other)
 
 -- a result of which only the fault was changed
 pub in_string-ok : {A : Type 0} (string : SetString) (r : Result A SetFaultKind) (x : A) → Ok x ≡ in_string string r
     → Ok x ≡ r
-in_string-ok string (Ok y) x e = cc
-in_string-ok string (Err k) x e = cc
+in_string-ok string r x e = grind arith
 
 -- the plan of two strings, the first of which has no fault
 pub plan_two : (form : Form) (complement : Bool) (s1 s2 : List ℕ) (firsts : List Segment)
     → string_segments First s1 ≡ Ok firsts
     → in_string string.Second (result_map_both tables (λ (k : SetFaultKind). k) (second_plan form complement firsts s2))
     ≡ result_map_both tables (λ (f : SetFault). f) (plan form complement s1 (Some s2))
-plan_two form complement s1 s2 firsts s = rw s (choose (second_plan form complement firsts s2))
-  where
-    choose : (r : Result Plan SetFaultKind)
-        → in_string string.Second (result_map_both tables (λ (k : SetFaultKind). k) r)
-        ≡ result_map_both tables (λ (f : SetFault). f) (in_string string.Second r)
-    choose (Ok p) = refl
-    choose (Err k) = refl
+plan_two form complement s1 s2 firsts s = grind arith
 
 -- ---- the three tables of a plan
 
-pub tables_are : (p : Plan) (deleted : List Bool) (images : List ℕ) (squeezed : List Bool)
+pub tables_are : (p : Plan) {deleted : List Bool} {images : List ℕ} {squeezed : List Bool}
     → deleted ≡ map (is_deleted p) all_bytes → images ≡ map (image_of p) all_bytes
     → squeezed ≡ map (is_squeezed p) all_bytes
     → record { deleted = deleted; images = images; squeezed = squeezed } ≡ tables p
-tables_are p deleted images squeezed d i s = rw (d, i, s) refl
+tables_are p d i s = rw (d, i, s) refl
 
 -- the tables of the plan of two strings, if each class of the second one is valid
-pub planned : (form like : Form) (complement : Bool) (firsts : List Segment) (text : List ℕ) (role : SetRole)
-    (fill : ℕ) (r : SecondRead form complement firsts text role fill) (t : Tables)
+pub planned : (form like : Form) (complement : Bool) (firsts : List Segment) (text : List ℕ) {role : SetRole}
+    {fill : ℕ} (r : SecondRead form complement firsts text role fill) {t : Tables}
     → form ≡ like
     → has_valid_classes form complement (class_offsets 0 0 firsts) (class_offsets fill 0 r.ps) ≡ true
     → t ≡ tables (plan_of like (first_array complement firsts) (array fill r.ps))
     → Ok t ≡ ok_map tables (second_plan form complement firsts text)
-planned form like complement firsts text role fill r t same valid is =
-    rw (r.plan true valid) (ap Ok (is ∙ ap (λ (f : Form). tables (plan_of f (first_array complement firsts)
-    (array fill r.ps))) (sym same)))
+planned form like complement firsts text r same valid is = cc (r.plan true valid)
 
 -- ---- the form in the last arm of a match
 
 pub is_squeeze : (form : Form) → takes_second form ≡ false → (form ≡ Delete → ⊥) → form ≡ Squeeze
-is_squeeze Translate e n = cc
-is_squeeze TranslateSqueeze e n = cc
-is_squeeze Squeeze e n = refl
-is_squeeze Delete e n = absurd (n refl)
-is_squeeze DeleteSqueeze e n = cc
+is_squeeze form e n = grind arith
 
 pub is_translate : (form : Form) → takes_second form ≡ true → (form ≡ DeleteSqueeze → ⊥) → (form ≡ TranslateSqueeze → ⊥)
     → form ≡ Translate
-is_translate Translate e n m = refl
-is_translate TranslateSqueeze e n m = absurd (m refl)
-is_translate Squeeze e n m = cc
-is_translate Delete e n m = cc
-is_translate DeleteSqueeze e n m = absurd (n refl)
+is_translate form e n m = grind arith
 
 -- ---- characters and elements never have the fault `Memory`
 
@@ -154,11 +116,7 @@ AreNotMemory [] = Unit {0}
 AreNotMemory (u ∷ us) = IsNotMemory u × AreNotMemory us
 
 spelled_not_memory : (bs rest : List ℕ) (u : SetChar) → SpellsChar bs u rest → IsNotMemory u
-spelled_not_memory bs rest u (APlainByte b r n) = tt
-spelled_not_memory bs rest u (AnOctal digits r run h) = tt
-spelled_not_memory bs rest u (ALargeOctal digits r run h) = λ e. cc
-spelled_not_memory bs rest u (AnEscape b r n) = tt
-spelled_not_memory bs rest u ALoneBackslash = λ e. cc
+spelled_not_memory bs rest u s = grind arith
 
 all_not_memory : (bs : List ℕ) (us : List SetChar) → SpellsChars bs us → AreNotMemory us
 all_not_memory bs us NoChar = tt
@@ -178,44 +136,17 @@ element_not_memory us p rest begins fine =
 -- ---- neither have segments
 
 element_fault : (us : List SetChar) (k : SetFaultKind) → StartsInvalid us k → AreNotMemory us → k ≢ Memory
-element_fault us k (AnInvalidChar j rest) fine = let (first, _) = fine in first
-element_fault us k (AnInvalidEnd u a j rest n m) fine =
-    let (end, _) = not_memory_after (u ∷ Plain 45 ∷ []) (Invalid j ∷ rest) fine in end
-element_fault us k (ADescendingRange u v a b rest n m w h) fine = λ e. cc
+element_fault us k h fine = grind arith
 
 -- the fault of the result, if there is one, is not `Memory`
 abbrev FaultIsNotMemory : {A : Type 0} → Result A SetFaultKind → Type 0
 FaultIsNotMemory (Ok x) = Unit {0}
 FaultIsNotMemory (Err k) = k ≢ Memory
 
-repeat_not_memory : (has_fill : Bool) (b : ℕ) (count : Option ℕ) → FaultIsNotMemory (repeat_segment has_fill b count)
-repeat_not_memory has_fill b None = λ e. cc
-repeat_not_memory true b (Some zero) = λ e. cc
-repeat_not_memory false b (Some zero) = tt
-repeat_not_memory has_fill b (Some (suc n)) = tt
-
-segment_not_memory : (role : SetRole) (has_fill : Bool) (p : SetElement) → FaultIsNotMemory (segment role has_fill p)
-segment_not_memory role has_fill (element.Single b) = tt
-segment_not_memory role has_fill (element.Range a b) = tt
-segment_not_memory role has_fill (element.Class None) = λ e. cc
-segment_not_memory role has_fill (element.Class (Some class)) = tt
-segment_not_memory Images has_fill (element.Equivalence b) = λ e. cc
-segment_not_memory First has_fill (element.Equivalence b) = tt
-segment_not_memory Squeezed has_fill (element.Equivalence b) = tt
-segment_not_memory First has_fill (element.Repeat b count) = λ e. cc
-segment_not_memory Images has_fill (element.Repeat b count) = repeat_not_memory has_fill b count
-segment_not_memory Squeezed has_fill (element.Repeat b count) = repeat_not_memory has_fill b count
-
-fault_not_memory : {A : Type 0} (r : Result A SetFaultKind) (k : SetFaultKind) → FaultIsNotMemory r → r ≡ Err k
-    → k ≢ Memory
-fault_not_memory (Ok x) k speaks e = cc
-fault_not_memory (Err j) k speaks e = λ memory. speaks (cc)
-
 first_not_memory : (role : SetRole) (has_fill : Bool) (us : List SetChar) (k : SetFaultKind)
     → FirstFault role has_fill us k → AreNotMemory us → k ≢ Memory
 first_not_memory role has_fill us k (NoElement f vs j b) fine = element_fault vs j b fine
-first_not_memory role has_fill us k (NoSegment f vs rest p j b e) fine =
-    fault_not_memory (segment role f p) j (segment_not_memory role f p) e
+first_not_memory role has_fill us k (NoSegment f vs rest p j b e) fine = grind arith
 first_not_memory role has_fill us k (LaterFault f vs rest p x j b e later) fine =
     first_not_memory role _ rest j later (element_not_memory vs p rest b fine)
 
@@ -224,33 +155,30 @@ first_not_memory role has_fill us k (LaterFault f vs rest p x j b e later) fine 
 string_not_memory : (role : SetRole) (text : List ℕ) (r : Result (List Segment) SetFaultKind)
     → string_segments role text ≡ r → FaultIsNotMemory r
 string_not_memory role text (Ok ps) e = tt
-string_not_memory role [] (Err k) e = fault_not_memory (string_segments role []) k (λ memory. cc) e
+string_not_memory role [] (Err k) e = grind arith
 string_not_memory role (b ∷ text) (Err k) e =
     let us = chars (b ∷ text) in
     let (_, first) = faults_are_first role b text k in
-    let (_, spelled) = chars_are_spelled (b ∷ text) us in
+    let (_, spelled) = chars_are_spelled _ us in
     first_not_memory role false us k (first e) (all_not_memory (b ∷ text) us (spelled refl))
 
 second_not_memory : (form : Form) (complement : Bool) (firsts : List Segment) (r : Result (List Segment) SetFaultKind)
     → FaultIsNotMemory r
     → FaultIsNotMemory
     (and_then r (λ seconds. plan_with form complement firsts (first_array complement firsts) seconds))
-second_not_memory form complement firsts (Ok seconds) speaks =
-    cond_both (has_valid_classes form complement _ _) _ _ (FaultIsNotMemory {A = Plan}) (λ t. tt) (λ t e. cc)
-second_not_memory form complement firsts (Err k) speaks = speaks
+second_not_memory form complement firsts r speaks = grind arith
 
 of_string : {A : Type 0} (string : SetString) (r : Result A SetFaultKind) (fault : SetFault) → FaultIsNotMemory r
     → in_string string r ≡ Err fault → fault.kind ≢ Memory
-of_string string (Ok x) fault speaks e = cc
-of_string string (Err k) fault speaks e = λ memory. speaks (cc)
+of_string string r fault speaks e = grind arith
 
 rest_not_memory : (form : Form) (complement : Bool) (firsts : List Segment) (s2 : Option (List ℕ)) (fault : SetFault)
     → plan_from form complement firsts s2 ≡ Err fault → fault.kind ≢ Memory
 rest_not_memory form complement firsts None fault e = cc
 rest_not_memory form complement firsts (Some text) fault e =
-    of_string _ (second_plan form complement firsts text) fault
-    (second_not_memory form complement firsts (string_segments (second_role form) text)
-    (string_not_memory (second_role form) text (string_segments (second_role form) text) refl)) e
+    of_string _ _ fault
+    (second_not_memory form complement firsts _
+    (string_not_memory _ text _ refl)) e
 
 plan_not_memory : (string : SetString) (form : Form) (complement : Bool) (s2 : Option (List ℕ))
     (r : Result (List Segment) SetFaultKind) (fault : SetFault)
@@ -261,5 +189,5 @@ plan_not_memory string form complement s2 (Err k) fault speaks e = λ memory. sp
 
 pub never_memory : NoMemoryFault
 never_memory form complement s1 s2 fault e =
-    plan_not_memory _ form complement s2 (string_segments First s1) fault
-    (string_not_memory First s1 (string_segments First s1) refl) e
+    plan_not_memory _ form complement s2 _ fault
+    (string_not_memory First s1 _ refl) e

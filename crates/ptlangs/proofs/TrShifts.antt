@@ -1,10 +1,12 @@
 -- The stretches of a table of images give these images. A prepended byte is below all stretches after it, so none of
 -- these contains it, and its own stretch adds its shift to it and nothing to the bytes above.
-use Rattle.ptlangs.proofs.Common.{◌≡◌, ℕ, zero, suc, ◌+◌, ◌<◌, ◌≤◌, ◌%◌, ◌==◌, ◌&&◌, Bool, true, cond, List, [], ◌∷◌}
-use Rattle.ptlangs.proofs.Common.{length, drop, reverse, get_or, refl, sym, ◌∙◌, ap, arith, sum_by, nat_tests}
-use Rattle.ptlangs.proofs.Common.{sum_by-cons, sum_by-IsPermutation, IsPermutation-reverse, Stretch, shift_of}
-use Rattle.ptlangs.proofs.Common.{prepend_shift, stretches_from, shift_at, image_of_shifts, cond-false, cond-true}
-use Rattle.ptlangs.proofs.Common.{eq-eqb, eqb-true, ne_eqb, drop_more, ◌-◌}
+use Rattle.ptlangs.proofs.Common.{◌≡◌, ℕ, zero, suc, ◌+◌, ◌<◌, ◌≤◌, ◌%◌, ◌&&◌, Bool, true, cond, List, [], ◌∷◌, length}
+use Rattle.ptlangs.proofs.Common.{drop, get_or, refl, sym, ◌∙◌, ap, arith, sum_by, Stretch, shift_of, prepend_shift}
+use Rattle.ptlangs.proofs.Common.{stretches_from, shift_at, image_of_shifts, cond-false, eqb-true, ne_eqb, drop_more}
+use Rattle.ptlangs.proofs.Common.{◌-◌}
+use Rattle.std.proofs.Common.{◌==◌, reverse}
+use Rattle.std.proofs.lemmas.List.Sums.{sum_by-cons}
+use Rattle.std.proofs.lemmas.List.Sorted.{sum_by-IsPermutation, IsPermutation-reverse}
 use Rattle.std.proofs.lemmas.Bool.{cond_both}
 
 -- the sum of the numbers that the stretches add to a byte
@@ -13,7 +15,7 @@ moved ss b = sum_by (λ s. shift_at s b) ss
 
 -- the sum does not depend on the order of the stretches
 pub moved_reversed : (ss : List Stretch) (b : ℕ) → moved (reverse ss) b ≡ moved ss b
-moved_reversed ss b = sum_by-IsPermutation (λ s. shift_at s b) ss (reverse ss) (IsPermutation-reverse ss)
+moved_reversed ss b = sum_by-IsPermutation _ ss _ (IsPermutation-reverse ss)
 
 -- the stretches start at byte `b` or above
 abbrev AreFrom : ℕ → List Stretch → Type 0
@@ -24,13 +26,13 @@ none_below : (b x : ℕ) (ss : List Stretch) → AreFrom b ss → x < b → move
 none_below b x [] from low = refl
 none_below b x (s ∷ ss) from low =
     let ((above, _), others) = from in
-    let out : shift_at s x ≡ 0 = grind (arith, nat_tests, above) in
-    sum_by-cons (λ s. shift_at s x) s ss ∙ (λ i. out i + none_below b x ss others low i)
+    let out : shift_at s x ≡ 0 = grind (arith, above) in
+    sum_by-cons _ s ss ∙ (λ i. out i + none_below b x ss others low i)
 
 weaker : (b : ℕ) (ss : List Stretch) → AreFrom (b + 1) ss → AreFrom b ss
 weaker b [] from = tt
 weaker b (s ∷ ss) from =
-    let ((above, ascending), others) = from in ((omega (arith, above), ascending), weaker b ss others)
+    let ((above, ascending), others) = from in ((omega arith, ascending), weaker b ss others)
 
 module _ (b by : ℕ) where
   -- the byte extends the stretch after it
@@ -38,22 +40,22 @@ module _ (b by : ℕ) where
   goes_on s = (s.by == by) && (s.first == b + 1)
 
   joined : (s : Stretch) → goes_on s ≡ true → (s.by ≡ by) × (s.first ≡ b + 1)
-  joined s is = (grind (arith, nat_tests), grind (arith, nat_tests))
+  joined s is = (grind arith, grind arith)
 
   front_from : (ss : List Stretch) → AreFrom (b + 1) ss → AreFrom b (prepend_shift b by ss)
   front_from [] from = ((omega arith, omega arith), tt)
   front_from (s ∷ ss) from =
       let ((above, ascending), others) = from in
       cond_both (goes_on s) _ _ (AreFrom b)
-      (λ is. ((omega arith, omega (arith, above, ascending)), weaker b ss others))
+      (λ is. ((omega arith, omega (arith, above)), weaker b ss others))
       (λ is. ((omega arith, omega arith), weaker b (s ∷ ss) from))
 
   alone : (last : ℕ) (more : List Stretch) → b ≤ last → AreFrom (b + 1) more
       → moved (record { first = b; last = last; by = by } ∷ more) b ≡ by
   alone last more low rest =
-      sum_by-cons (λ s. shift_at s b) (record { first = b; last = last; by = by }) more
+      sum_by-cons _ _ more
       ∙ ap (λ (n : ℕ). shift_at (record { first = b; last = last; by = by }) b + n)
-      (none_below (b + 1) b more rest (omega arith)) ∙ grind (arith, nat_tests, low)
+      (none_below _ b more rest (omega arith)) ∙ grind (arith, low)
 
   -- the first stretch adds its shift to the byte, and no other stretch adds to it
   at_front : (ss : List Stretch) → AreFrom (b + 1) ss → moved (prepend_shift b by ss) b ≡ by
@@ -61,64 +63,49 @@ module _ (b by : ℕ) where
   at_front (s ∷ ss) from =
       let ((above, ascending), others) = from in
       cond_both (goes_on s) _ _ (λ (all : List Stretch). moved all b ≡ by)
-      (λ is. alone s.last ss (omega (arith, above, ascending)) others) (λ is. alone b (s ∷ ss) (omega arith) from)
+      (λ is. alone s.last ss (omega (arith, above)) others) (λ is. alone b (s ∷ ss) (omega arith) from)
 
   past : (x : ℕ) → b < x → shift_at (record { first = b; last = b; by = by }) x ≡ 0
-  past x high = grind (arith, nat_tests, high)
-
-  grown : (s : Stretch) (x : ℕ) → b < x → goes_on s ≡ true
-      → shift_at (record { first = b; last = s.last; by = by }) x ≡ shift_at s x
-  grown s x high is = grind (arith, nat_tests, high, joined s is)
+  past x high = grind (arith, high)
 
   -- prepending does not change the sum for the bytes above
   past_front : (ss : List Stretch) (x : ℕ) → b < x → moved (prepend_shift b by ss) x ≡ moved ss x
-  past_front [] x high = sum_by-cons (λ s. shift_at s x) (record { first = b; last = b; by = by }) []
-      ∙ ap (λ (n : ℕ). n + 0) (past x high)
-  past_front (s ∷ ss) x high = cond_both (goes_on s) _ _ (λ (all : List Stretch). moved all x ≡ moved (s ∷ ss) x)
-      (λ is. sum_by-cons (λ s. shift_at s x) (record { first = b; last = s.last; by = by }) ss
-      ∙ ap (λ (n : ℕ). n + moved ss x) (grown s x high is) ∙ sym (sum_by-cons (λ s. shift_at s x) s ss))
-      (λ is. omega (
-        arith,
-        sum_by-cons (λ s. shift_at s x) (record { first = b; last = b; by = by }) (s ∷ ss),
-        past x high,
-      ))
+  past_front ss x high = grind arith
 
   -- prepending does not make the list shorter
   front_longer : (ss : List Stretch) → length ss ≤ length (prepend_shift b by ss)
-  front_longer [] = omega arith
-  front_longer (s ∷ ss) = cond_both (goes_on s) _ _ (λ (all : List Stretch). length (s ∷ ss) ≤ length all)
-      (λ is. omega arith) (λ is. omega arith)
+  front_longer ss = grind arith
 
 -- ---- the stretches of images
 
 are_from : (b : ℕ) (images : List ℕ) → AreFrom b (stretches_from b images)
 are_from b [] = tt
 are_from b (image ∷ images) =
-    let rest = stretches_from (b + 1) images in
-    cond_both (shift_of b image == 0) _ _ (AreFrom b) (λ is. weaker b rest (are_from (b + 1) images))
-    (λ is. front_from b (shift_of b image) rest (are_from (b + 1) images))
+    let rest = stretches_from _ images in
+    cond_both _ _ _ (AreFrom b) (λ is. weaker b rest (are_from (b + 1) images))
+    (λ is. front_from b _ rest (are_from (b + 1) images))
 
 moves_by : (b k : ℕ) (images : List ℕ) → k < length images
     → moved (stretches_from b images) (b + k) ≡ shift_of (b + k) (get_or images k 0)
-moves_by b k [] low = absurd (omega (arith, low))
+moves_by b k [] low = absurd (omega arith)
 moves_by b zero (image ∷ images) low =
     let same : b + 0 ≡ b = omega arith in
-    let rest = stretches_from (b + 1) images in
-    let here : moved (stretches_from b (image ∷ images)) b ≡ shift_of b image =
-    cond_both (shift_of b image == 0) _ _ (λ (ss : List Stretch). moved ss b ≡ shift_of b image)
-    (λ is. none_below (b + 1) b rest (are_from (b + 1) images) (omega arith) ∙ sym (eqb-true (shift_of b image) 0 is))
-    (λ is. at_front b (shift_of b image) rest (are_from (b + 1) images)) in
+    let rest = stretches_from _ images in
+    let here =
+    cond_both _ _ _ (λ (ss : List Stretch). moved ss b ≡ shift_of b image)
+    (λ is. none_below _ b rest (are_from _ images) (omega arith) ∙ sym (eqb-true _ 0 is))
+    (λ is. at_front b _ rest (are_from _ images)) in
     rw same here
 moves_by b (suc k) (image ∷ images) low =
     let same : b + suc k ≡ (b + 1) + k = omega arith in
-    let rest = stretches_from (b + 1) images in
-    let later : moved (stretches_from b (image ∷ images)) ((b + 1) + k) ≡ moved rest ((b + 1) + k) =
+    let rest = stretches_from _ images in
+    let later =
     cond_both (shift_of b image == 0) _ _ (λ (ss : List Stretch). moved ss ((b + 1) + k) ≡ moved rest ((b + 1) + k))
-    (λ is. refl) (λ is. past_front b (shift_of b image) rest ((b + 1) + k) (omega arith)) in
-    rw same (later ∙ moves_by (b + 1) k images (omega (arith, low)))
+    (λ is. refl) (λ is. past_front b _ rest _ (omega arith)) in
+    rw same (later ∙ moves_by (b + 1) k images (omega arith))
 
 back : (b image : ℕ) → b < 256 → image < 256 → (b + shift_of b image) % 256 ≡ image
-back b image low small = omega (arith, low, small)
+back b image low small = omega (arith, low)
 
 -- the stretches give the image of each byte
 pub moves_all : (images : List ℕ) → length images ≡ 256 → ((b : ℕ) → b < 256 → get_or images b 0 < 256) → (b : ℕ)
@@ -126,8 +113,8 @@ pub moves_all : (images : List ℕ) → length images ≡ 256 → ((b : ℕ) →
 moves_all images long small b low =
     let same : b ≡ 0 + b = omega arith in
     ap (λ (n : ℕ). (b + n) % 256) (ap (moved (stretches_from 0 images)) same
-    ∙ moves_by 0 b images (omega (arith, long, low)) ∙ ap (λ (n : ℕ). shift_of n (get_or images b 0)) (sym same))
-    ∙ back b (get_or images b 0) low (small b low)
+    ∙ moves_by 0 b images (omega (arith, low)) ∙ ap (λ (n : ℕ). shift_of n (get_or images b 0)) (sym same))
+    ∙ back b _ low (small b low)
 
 -- the stretches from `n` on, from those from `n + 1` on
 from_one : (n m : ℕ) (images : List ℕ) → n < length images → m ≡ n + 1
@@ -145,11 +132,11 @@ no_more b zero images =
 no_more b (suc n) [] = omega arith
 no_more b (suc n) (image ∷ images) =
     let same : b + suc n ≡ (b + 1) + n = omega arith in
-    let rest = stretches_from (b + 1) images in
+    let rest = stretches_from _ images in
     let fewer : length rest ≤ length (stretches_from b (image ∷ images)) =
     cond_both (shift_of b image == 0) _ _ (λ (ss : List Stretch). length rest ≤ length ss) (λ is. omega arith)
-    (λ is. front_longer b (shift_of b image) rest) in
-    omega (arith, no_more (b + 1) n images, fewer, ap (λ (m : ℕ). length (stretches_from m (drop n images))) same)
+    (λ is. front_longer b _ rest) in
+    omega (arith, no_more (b + 1) n images, ap (λ (m : ℕ). length (stretches_from m (drop n images))) same)
 
 -- A byte that is not its own image is prepended to the stretches after it; a byte that is its own image leaves them
 -- unchanged.
@@ -157,13 +144,8 @@ pub moved_one : (n : ℕ) (images : List ℕ) → 0 < n → n ≤ length images
     → (shift_of (n - 1) (get_or images (n - 1) 0) ≡ 0 → ⊥)
     → stretches_from (n - 1) (drop (n - 1) images)
     ≡ prepend_shift (n - 1) (shift_of (n - 1) (get_or images (n - 1) 0)) (stretches_from n (drop n images))
-moved_one n images low within moves = from_one (n - 1) n images (omega arith) (omega arith)
-    ∙ cond-false _ _ _ (ne_eqb (shift_of (n - 1) (get_or images (n - 1) 0)) 0 moves)
-
-pub same_one : (n : ℕ) (images : List ℕ) → 0 < n → n ≤ length images → shift_of (n - 1) (get_or images (n - 1) 0) ≡ 0
-    → stretches_from (n - 1) (drop (n - 1) images) ≡ stretches_from n (drop n images)
-same_one n images low within stays = from_one (n - 1) n images (omega arith) (omega arith)
-    ∙ cond-true _ _ _ (eq-eqb (shift_of (n - 1) (get_or images (n - 1) 0)) 0 stays)
+moved_one n images low within moves = from_one _ n images (omega arith) (omega arith)
+    ∙ cond-false _ _ _ (ne_eqb _ 0 moves)
 
 pub no_more_behind : (n : ℕ) (images : List ℕ)
     → length (stretches_from n (drop n images)) ≤ length (stretches_from 0 images)

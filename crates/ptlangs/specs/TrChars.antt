@@ -6,10 +6,14 @@ use Rattle.std.specs.Option.{option_map_or}
 use Rattle.std.specs.Int.{is_in_range}
 use Rattle.std.specs.Str.Parse.{digits_value}
 use Rattle.std.specs.Str.{byte}
-use Rattle.ptlangs.specs.declared.tr.chars.SetChar.{SetChar}
-use Rattle.ptlangs.specs.declared.tr.chars.SetChar.TheVariants.{Plain, Escaped, Invalid}
 use Rattle.ptlangs.specs.declared.faults.SetFaultKind.{SetFaultKind}
 use Rattle.ptlangs.specs.declared.faults.SetFaultKind.TheVariants.{Octal, Escape}
+
+-- a character: a plain byte, or an escape with the byte that it denotes, or with the fault that it denotes none
+pub data SetChar : Type 0 where
+  Plain : ℕ → SetChar
+  Escaped : ℕ → SetChar
+  Invalid : SetFaultKind → SetChar
 
 -- the byte that a character denotes, or the fault of its escape
 abbrev pub byte_of : SetChar → Result ℕ SetFaultKind

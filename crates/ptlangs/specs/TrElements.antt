@@ -10,11 +10,9 @@ use Rattle.std.specs.Str.Parse.{digits_value}
 use Rattle.std.specs.Str.{byte}
 use Rattle.ptlangs.specs.declared.faults.SetFaultKind.{SetFaultKind}
 use Rattle.ptlangs.specs.declared.faults.SetFaultKind.TheVariants.{Empty, Descending}
-use Rattle.ptlangs.specs.declared.tr.chars.SetChar.{SetChar}
-use Rattle.ptlangs.specs.declared.tr.chars.SetChar.TheVariants.{Plain, Escaped, Invalid}
 use Rattle.ptlangs.specs.declared.tr.elements.SetElement.{SetElement}
 use Rattle.ptlangs.specs.declared.tr.elements.SetElement.TheVariants.{Single, Range, Class, Equivalence, Repeat}
-use Rattle.ptlangs.specs.TrChars.{is_octal_digit, byte_of}
+use Rattle.ptlangs.specs.TrChars.{SetChar, Plain, Escaped, Invalid, is_octal_digit, byte_of}
 use Rattle.ptlangs.specs.TrClasses.{class_named}
 
 -- the value of the digits, if it is at most 65535

@@ -1,13 +1,12 @@
 -- Definitions for the contracts of the private functions that read a string of `tr`: the characters after an index, the
 -- bytes still to be read, and the pairs of the two arrays.
 use Rattle.std.specs.Prelude.{◌≡◌, ◌-◌, ◌+◌, ◌*◌, ◌++◌, ◌&&◌, ℕ, Bool, true, false, List, [], ◌∷◌, Option, None, Some}
-use Rattle.std.specs.Prelude.{Result, Ok, Err, drop, length, map, take, if◌then◌else◌}
+use Rattle.std.specs.Prelude.{Result, Ok, Err, drop, length, map, slice_index, take, if◌then◌else◌}
 use Rattle.std.specs.List.{flat_map, last_or}
 use Rattle.std.specs.Result.{result_map_both}
 use Rattle.ptlangs.specs.declared.faults.SetFaultKind.{SetFaultKind}
 use Rattle.ptlangs.specs.declared.faults.SetFaultKind.TheVariants.{ClassPlace}
 use Rattle.ptlangs.specs.declared.tr.bytes.Bytes.{Bytes}
-use Rattle.ptlangs.specs.declared.tr.chars.SetChar.{SetChar}
 use Rattle.ptlangs.specs.declared.tr.classes.CharClass.{CharClass}
 use Rattle.ptlangs.specs.declared.tr.contents.Contents.{Contents}
 use Rattle.ptlangs.specs.declared.tr.elements.SetElement.{SetElement}
@@ -15,7 +14,7 @@ use Rattle.ptlangs.specs.declared.tr.images.Images.{Images}
 use Rattle.ptlangs.specs.declared.tr.segments.Member.{Member}
 use Rattle.ptlangs.specs.declared.tr.segments.Segment.{Segment}
 use Rattle.ptlangs.specs.declared.tr.segments.Segment.TheVariants.{Range, Class, Repeat, Fill}
-use Rattle.ptlangs.specs.TrChars.{chars}
+use Rattle.ptlangs.specs.TrChars.{SetChar, char_at, chars}
 use Rattle.ptlangs.specs.TrClasses.{all_bytes, are_opposite_cases}
 use Rattle.ptlangs.specs.TrElements.{set_elements}
 use Rattle.ptlangs.specs.TrPlan.{array, complement_of, has_byte, image_by, members, segments, sequence}
@@ -23,6 +22,10 @@ use Rattle.ptlangs.specs.TrPlan.{array, complement_of, has_byte, image_by, membe
 -- the characters of the text after its first `at` bytes
 abbrev pub chars_from : List ℕ → ℕ → List SetChar
 chars_from text at = chars (drop at text)
+
+-- the character at an index of the text
+unfoldable pub char_from : List ℕ → ℕ → SetChar
+char_from text at = (char_at (slice_index text at) (drop (at + 1) text)).0
 
 -- an element and the index after it, as the element and the characters from that index on
 abbrev pub element_and_rest : List ℕ → SetElement × ℕ → SetElement × List SetChar

@@ -22,8 +22,7 @@ use Rattle.ptlangs.specs.declared.tr.segments.SetRole.TheVariants.{First, Images
 use Rattle.ptlangs.specs.declared.tr.plan.Form.{Form}
 use Rattle.ptlangs.specs.declared.tr.plan.Form.TheVariants.{Translate, TranslateSqueeze, Squeeze, Delete, DeleteSqueeze}
 use Rattle.ptlangs.specs.Numbers.{and_then, traverse}
-use Rattle.ptlangs.specs.TrChars.{chars}
-use Rattle.ptlangs.specs.declared.tr.chars.SetChar.{SetChar}
+use Rattle.ptlangs.specs.TrChars.{SetChar, chars}
 use Rattle.ptlangs.specs.TrElements.{StartsElement, StartsInvalid, set_elements}
 use Rattle.ptlangs.specs.TrClasses.{span, all_bytes, are_opposite_cases, class_bytes}
 

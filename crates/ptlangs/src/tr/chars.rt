@@ -4,36 +4,9 @@ ghost use Rattle.std.specs.Prelude.{◌≡◌, ◌+◌, ◌*◌, ◌^◌, ◌<�
 ghost use Rattle.std.specs.Char.{digit_value};
 ghost use Rattle.std.specs.Str.Parse.{digits_value};
 ghost use Rattle.ptlangs.specs.TrChars.{byte_of, chars, after_backslash, byte_of_escape, is_octal_digit, octal_run};
-ghost use Rattle.ptlangs.specs.TrParsing.{chars_from};
+ghost use Rattle.ptlangs.specs.TrParsing.{char_from, chars_from};
 
 use crate::faults::SetFaultKind;
-
-/// A character of a string, which denotes one byte.
-#[derive(Clone, Copy)]
-pub(crate) enum SetChar {
-    /// A byte other than a backslash.
-    Plain(u8),
-    /// The byte of an escape.
-    Escaped(u8),
-    /// An escape that denotes no byte.
-    Invalid(SetFaultKind),
-}
-
-impl SetChar {
-    /// The byte that the character denotes.
-    ///
-    /// # Errors
-    ///
-    /// The fault of an escape that denotes no byte.
-    pub(crate) fn byte(self) -> Result<u8, SetFaultKind>
-        ensures { result ≡ byte_of self }
-    {
-        match self {
-            SetChar::Plain(byte) | SetChar::Escaped(byte) => Ok(byte),
-            SetChar::Invalid(kind) => Err(kind),
-        }
-    }
-}
 
 /// The value of the digits in this base, or `None` if it is above `limit`.
 #[tactic(auto, using(crate::proofs::TrCharGrammar::number_steps))]
@@ -86,38 +59,39 @@ fn octal_len(bytes: &[u8]) -> usize
     bytes.iter().take(3).take_while(|b| is_octal(**b)).count()
 }
 
-/// The character of a backslash before these bytes, and the number of these bytes that it takes.
+/// The byte that a backslash before these bytes denotes, and the number of these bytes that it takes.
 #[tactic(auto, using(crate::proofs::TrCharGrammar::octal_steps))]
-fn escape(bytes: &[u8]) -> (SetChar, usize)
-    ensures next_char { result.0 ≡ (after_backslash bytes.now).0 }
+fn escape(bytes: &[u8]) -> (Result<u8, SetFaultKind>, usize)
+    ensures denoted { result.0 ≡ byte_of (after_backslash bytes.now).0 }
     ensures consumed { result.1 ≡ (after_backslash bytes.now).1 }
     ensures within { result.1 ≤ length bytes.now }
 {
     let Some(&first) = bytes.first() else {
-        return (SetChar::Invalid(SetFaultKind::Escape), 0);
+        return (Err(SetFaultKind::Escape), 0);
     };
     if !is_octal(first) {
-        return (SetChar::Escaped(escaped_byte(first)), 1);
+        return (Ok(escaped_byte(first)), 1);
     }
     let count = octal_len(bytes);
     match number(&bytes[..count], 8, 255) {
-        Some(value) => (SetChar::Escaped(value as u8), count),
-        None => (SetChar::Invalid(SetFaultKind::Octal), count),
+        Some(value) => (Ok(value as u8), count),
+        None => (Err(SetFaultKind::Octal), count),
     }
 }
 
-/// The character at `at`, and the index after it.
+/// The byte that the character at `at` denotes, or the fault of its escape, and the index after the character.
 #[tactic(auto, using(crate::proofs::TrCharGrammar::char_steps))]
-pub(crate) fn next_char(text: &[u8], at: usize) -> (SetChar, usize)
+pub(crate) fn next_char(text: &[u8], at: usize) -> (Result<u8, SetFaultKind>, usize)
     requires { at < length text.now }
-    ensures reads { chars_from text.now at ≡ result.0 ∷ chars_from text.now result.1 }
+    ensures denoted { result.0 ≡ byte_of (char_from text.now at) }
+    ensures reads { chars_from text.now at ≡ char_from text.now at ∷ chars_from text.now result.1 }
     ensures onward { at < result.1 }
     ensures within { result.1 ≤ length text.now }
 {
     let byte = text[at];
     if byte != b'\\' {
-        return (SetChar::Plain(byte), at + 1);
+        return (Ok(byte), at + 1);
     }
-    let (next_char, consumed) = escape(&text[at + 1..]);
-    (next_char, at + 1 + consumed)
+    let (byte, consumed) = escape(&text[at + 1..]);
+    (byte, at + 1 + consumed)
 }

@@ -129,8 +129,8 @@ fn repeat(text: &[u8], at: usize) -> Option<(SetElement, usize)>
     if at == text.len() {
         return None;
     }
-    let (next_char, star) = next_char(text, at);
-    let byte = next_char.byte().ok()?;
+    let (byte, star) = next_char(text, at);
+    let byte = byte.ok()?;
     let digits = after_byte(text, star, b'*')?;
     let end = after_digits(text, digits);
     let next = after_byte(text, end, b']')?;
@@ -167,8 +167,8 @@ fn equivalence(text: &[u8], at: usize) -> Option<(SetElement, usize)>
     if start == text.len() {
         return None;
     }
-    let (next_char, end) = next_char(text, start);
-    let byte = next_char.byte().ok()?;
+    let (byte, end) = next_char(text, start);
+    let byte = byte.ok()?;
     let next = after_bytes(text, end, b'=', b']')?;
     Some((SetElement::Equivalence(byte), next))
 }
@@ -199,8 +199,8 @@ pub(crate) fn element_at(text: &[u8], at: usize) -> Result<(SetElement, usize), 
     if let Some(found) = bracketed(text, at) {
         return Ok(found);
     }
-    let (next_char, next) = next_char(text, at);
-    let first = next_char.byte()?;
+    let (first, next) = next_char(text, at);
+    let first = first?;
     match after_byte(text, next, b'-') {
         Some(upper) if upper < text.len() => range(text, first, upper),
         _ => Ok((SetElement::Single(first), next)),
@@ -215,8 +215,8 @@ fn range(text: &[u8], first: u8, at: usize) -> Result<(SetElement, usize), SetFa
     ensures onward { IfOk result (λ r. at < r.1) }
     ensures within { IfOk result (λ r. r.1 ≤ length text.now) }
 {
-    let (next_char, next) = next_char(text, at);
-    let last = next_char.byte()?;
+    let (last, next) = next_char(text, at);
+    let last = last?;
     if last < first {
         return Err(SetFaultKind::Descending);
     }

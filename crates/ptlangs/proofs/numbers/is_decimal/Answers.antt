@@ -1,11 +1,11 @@
-use Rattle.ptlangs.proofs.Common.{rules, tests, ◌≡◌, ◌∙◌, sym, false, is_ascii_digit, YieldsList-from_slice}
-use Rattle.ptlangs.proofs.Common.{all_from_yields_List, is_empty}
+use Rattle.ptlangs.proofs.Common.{rules, ◌∙◌, sym, is_ascii_digit, YieldsList-from_slice}
+use Rattle.std.proofs.lemmas.Iterator.Search.{all_from_yields_List}
 use Rattle.ptlangs.proofs.ListElements.{is_empty_by_length}
 use Rattle.ptlangs.proofs.numbers.is_decimal.Goals as goal
 
 pub returns-then-not-is_empty : goal.returns-then-not-is_empty
 returns-then-not-is_empty c =
-    let some : is_empty c.args.text.now ≡ false = is_empty_by_length c.args.text.now ∙ sym c.is_empty.ensures
+    let some = is_empty_by_length c.args.text.now ∙ sym c.is_empty.ensures
     ∙ c.if-not-is_empty.true in
     rw some (all_from_yields_List is_ascii_digit _ _ c.all.result c.all.ensures.ran
-    (YieldsList-from_slice c.args.text.now cc) (λ x b q k. search (rules, tests)))
+    (YieldsList-from_slice c.args.text.now cc) (λ x b q k. search rules))

@@ -12,9 +12,9 @@ loop-next-preserved g c =
     at c.loop-next.invariant in
     elim c.if-next-current.branch [
       | then-next-current w ↦ rw (w.kept-is, w.current-is)
-          (absorbs _ _ _ _ _ _ refl w.max.ensures w.if-next-current.true before)
+          (absorbs _ _ _ _ _ refl w.max.ensures w.if-next-current.true before)
       | else-next-current+in_ok-push w ↦ rw (w.kept-is, w.current-is, w.in_ok-push.ensures.items)
-          (starts_next _ _ _ _ _ w.if-next-current.false before)
+          (starts_next _ _ _ w.if-next-current.false before)
     ]
 
 pub returns-clause-same : goal.returns-clause-same

@@ -1,22 +1,21 @@
 -- The position of the first dash splits the element into its two bounds; without a dash the element is both bounds.
-use Rattle.ptlangs.proofs.Common.{rules, tests, ◌≡◌, ◌∙◌, sym, false, is_dash, is_empty, YieldsList-from_slice}
-use Rattle.ptlangs.proofs.Common.{position_from_yields_List}
+use Rattle.ptlangs.proofs.Common.{rules, ◌∙◌, sym, is_dash, YieldsList-from_slice, position_from_yields_List}
 use Rattle.ptlangs.proofs.CutGrammar.{parts_without_dash, parts_around_dash}
 use Rattle.ptlangs.proofs.ListElements.{is_empty_by_length}
 use Rattle.ptlangs.proofs.ranges.read_element.Goals as goal
 
 pub returns-in-None : goal.returns-in-None
 returns-in-None c =
-    let some : is_empty c.args.text.now ≡ false = is_empty_by_length c.args.text.now ∙ sym c.is_empty.ensures
+    let some = is_empty_by_length c.args.text.now ∙ sym c.is_empty.ensures
     ∙ c.if-is_empty.false in
     let at = position_from_yields_List is_dash _ _ c.position.result c.position.ensures.ran
-    (YieldsList-from_slice c.args.text.now (cc)) (λ x b q k. search (rules, tests)) in
+    (YieldsList-from_slice c.args.text.now (cc)) (λ x b q k. search rules) in
     rw (some, parts_without_dash c.args.text.now (sym at ∙ c.in-None.is) some) c.read_bounds.ensures
 
 pub returns-in-Some : goal.returns-in-Some
 returns-in-Some c =
-    let some : is_empty c.args.text.now ≡ false = is_empty_by_length c.args.text.now ∙ sym c.is_empty.ensures
+    let some = is_empty_by_length c.args.text.now ∙ sym c.is_empty.ensures
     ∙ c.if-is_empty.false in
     let at = position_from_yields_List is_dash _ _ c.position.result c.position.ensures.ran
-    (YieldsList-from_slice c.args.text.now (cc)) (λ x b q k. search (rules, tests)) in
+    (YieldsList-from_slice c.args.text.now (cc)) (λ x b q k. search rules) in
     rw (some, parts_around_dash c.args.text.now c.in-Some.dash (sym at ∙ c.in-Some.is)) c.read_bounds-in-Some.ensures

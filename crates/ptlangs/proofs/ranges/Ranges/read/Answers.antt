@@ -1,5 +1,4 @@
-use Rattle.ptlangs.proofs.Common.{rules, tests, IsValidInterval}
-use Rattle.ptlangs.proofs.Common.{Interval, elements}
+use Rattle.ptlangs.proofs.Common.{rules, IsValidInterval, Interval, elements}
 use Rattle.ptlangs.proofs.CutGrammar.{each_proper, in_order, selection_is_kept}
 use Rattle.std.proofs.lemmas.List.Sorted.{All-permutation, IsNonDecreasingBy-from_sort_by_key}
 use Rattle.ptlangs.proofs.ranges.Ranges.read.Goals as goal
@@ -10,7 +9,7 @@ merge-requires g c =
     (All-permutation IsValidInterval _ _ c.sort_unstable_by_key.ensures.permutation
     (each_proper (elements c.args.text.now) _ c.in_ok-listed.ensures))
     (IsNonDecreasingBy-from_sort_by_key (λ (r : Interval). r.first) _ c.sort_unstable_by_key.ensures.sorted
-    (λ a r q k. search (rules, tests))))
+    (λ a r q k. search rules)))
 
 pub returns : goal.returns
 returns g c =

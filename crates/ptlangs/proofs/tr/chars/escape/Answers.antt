@@ -2,12 +2,12 @@ use Rattle.std.proofs.Common.{Some, None, rules}
 use Rattle.ptlangs.proofs.TrCharGrammar.{octal_char}
 use Rattle.ptlangs.proofs.tr.chars.escape.Goals as goal
 
-pub returns-in-Some-number-clause-next_char : goal.returns-in-Some-number-clause-next_char
-returns-in-Some-number-clause-next_char c =
+pub returns-in-Some-number-clause-denoted : goal.returns-in-Some-number-clause-denoted
+returns-in-Some-number-clause-denoted c =
     octal_char c.args.bytes.now c.in-Some.first c.octal_len-count.result (Some c.in-Some-number.value) (search rules)
     (search rules) (search rules) (search rules)
 
-pub returns-in-None-clause-next_char : goal.returns-in-None-clause-next_char
-returns-in-None-clause-next_char c =
+pub returns-in-None-clause-denoted : goal.returns-in-None-clause-denoted
+returns-in-None-clause-denoted c =
     octal_char c.args.bytes.now c.in-Some.first c.octal_len-count.result None (search rules) (search rules)
     (search rules) (search rules)

@@ -1,4 +1,4 @@
-use Rattle.ptlangs.proofs.Common.{arith, ◌≡◌, ◌<◌, ◌+◌, get_or, false, nat_le, digit_value, digits_value}
+use Rattle.ptlangs.proofs.Common.{arith, ◌+◌}
 use Rattle.ptlangs.proofs.TrCharGrammar.{too_large, number_step}
 use Rattle.ptlangs.proofs.tr.chars.number.Goals as goal
 
@@ -6,9 +6,9 @@ pub returns-then-value-limit : goal.returns-then-value-limit
 returns-then-value-limit c =
     let i = c.loop-digit.digit-index in
     let ds = c.args.digits.now in
-    let below : digit_value (get_or ds i 0) < c.args.base = c.requires.digits i 0 c.loop-digit-test.true in
+    let below = c.requires.digits i 0 c.loop-digit-test.true in
     let more = number_step c.args.base ds i c.loop-digit.value c.from.result c.loop-digit-test.true
     (omega arith) below c.loop-digit.invariant.0 c.from.ensures in
-    let above : nat_le (digits_value c.args.base ds) c.args.limit ≡ false =
-    too_large c.args.base c.args.limit ds (i + 1) (omega arith) (omega (arith, more)) in
+    let above =
+    too_large c.args.base c.args.limit ds (i + 1) (omega arith) (omega arith) in
     rw above

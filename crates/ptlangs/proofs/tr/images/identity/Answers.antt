@@ -1,10 +1,10 @@
-use Rattle.ptlangs.proofs.Common.{◌≡◌, [], get_or, image_by}
+use Rattle.ptlangs.proofs.Common.{◌≡◌, get_or}
 use Rattle.std.proofs.Common.{rules, tests}
 use Rattle.ptlangs.proofs.TrContents.{same_table}
 use Rattle.ptlangs.proofs.tr.images.identity.Goals as goal
 
 pub returns : goal.returns
-returns c = λ to. same_table c.from_fn.result (image_by [] to) 0 c.from_fn.ensures.items.long (λ k h.
+returns c = λ to. same_table c.from_fn.result _ 0 c.from_fn.ensures.items.long (λ k h.
     let (p, q, called) = c.from_fn.ensures.items.at k 0 h in
-    let same : get_or c.from_fn.result k 0 ≡ k = search (rules, tests, called) in
+    let same : get_or c.from_fn.result k 0 ≡ k = search (rules, tests) in
     same)

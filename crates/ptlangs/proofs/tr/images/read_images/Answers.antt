@@ -1,17 +1,12 @@
 -- The first array is the complement or that of the string, and its bytes are paired either way.
-use Rattle.ptlangs.proofs.Common.{◌∙◌, Bool, ap, array, complement_of, first_array}
+use Rattle.ptlangs.proofs.Common.{◌∙◌, Bool, ap, first_array, image_by, map, ◌≡◌, [], List, None, Ok, refl}
 use Rattle.ptlangs.specs.TrClasses.{all_bytes}
-use Rattle.ptlangs.proofs.Common.{image_by, map}
-use Rattle.ptlangs.specs.TrParsing.{HasPaired, all_paired, member_bytes, contents_of, first_members, marked_array}
-use Rattle.ptlangs.specs.TrParsing.{plain_members}
+use Rattle.ptlangs.specs.TrParsing.{HasPaired, all_paired, member_bytes, contents_of, first_members, bytes_left}
 use Rattle.ptlangs.proofs.TrImages.{answer_of, first-bytes, paired_same, unpaired_answer}
-use Rattle.ptlangs.proofs.Common.{◌≡◌, [], List, None, Ok, refl}
 use Rattle.ptlangs.specs.declared.tr.segments.Member.{Member}
-use Rattle.ptlangs.specs.TrParsing.{bytes_left}
-use Rattle.ptlangs.proofs.tr.images.read_images.Goals.{After-identity}
-use Rattle.ptlangs.proofs.tr.images.read_images.Goals as goal
-use Rattle.ptlangs.proofs.tr.images.read_images.Goals.{then-complement+in_ok-push_ascending}
+use Rattle.ptlangs.proofs.tr.images.read_images.Goals.{After-identity, then-complement+in_ok-push_ascending}
 use Rattle.ptlangs.proofs.tr.images.read_images.Goals.{else-complement+in_ok-push_string}
+use Rattle.ptlangs.proofs.tr.images.read_images.Goals as goal
 
 -- before the first pair
 unpaired : (c : After-identity) (to : List Member) → bytes_left c.args.second ≡ map Ok to
@@ -22,28 +17,28 @@ pub returns-in_err-push_ascending : goal.returns-in_err-push_ascending
 returns-in_err-push_ascending c = λ ps to e f l.
     let b = c.args.complement in
     let bytes = f ∙ ap (λ (t : Bool). contents_of (first_array t ps)) c.if-complement.true in
-    let (kind, wrong) = c.in_err-push_ascending.ensures (array 0 ps) to bytes
+    let (kind, wrong) = c.in_err-push_ascending.ensures _ to bytes
     (unpaired (goal.at.returns-in_err-push_ascending c).After-identity to l) in
     let (_, fault) = c.from_residual.ensures in
-    unpaired_answer (all_paired (first_members b ps) to) _ c.from_residual.result _ fault kind
+    unpaired_answer _ _ c.from_residual.result _ fault kind
     (ap (λ (t : Bool). all_paired (first_members t ps) to) c.if-complement.true ∙ wrong)
 
 pub returns : goal.returns
 returns c = λ ps to e f l.
     let b = c.args.complement in
     let new = unpaired (goal.at.returns c).After-identity to l in
-    let paired : HasPaired (first_members b ps) to c.if-complement.images =
+    let paired : HasPaired _ to c.if-complement.images =
     elim c.if-complement.branch [
       | then-complement+in_ok-push_ascending w ↦
-          paired_same (first_members b ps) (plain_members (complement_of (array 0 ps))) to _ _
+          paired_same _ to
           (ap (λ (t : Bool). first_members t ps) w.if-complement.true) w.images-is
-          (w.in_ok-push_ascending.ensures (array 0 ps) to
+          (w.in_ok-push_ascending.ensures _ to
           (f ∙ ap (λ (t : Bool). contents_of (first_array t ps)) w.if-complement.true) new)
       | else-complement+in_ok-push_string w ↦
-          paired_same (first_members b ps) (marked_array 0 ps) to _ _
+          paired_same _ to
           (ap (λ (t : Bool). first_members t ps) w.if-complement.false) w.images-is
           (w.in_ok-push_string.ensures ps to e new)
     ] in
-    c.finish.ensures (first_members b ps) to paired
+    c.finish.ensures _ to paired
     ∙ ap (λ from. answer_of (all_paired (first_members b ps) to) (map (image_by from (member_bytes to)) all_bytes))
     (first-bytes b ps)

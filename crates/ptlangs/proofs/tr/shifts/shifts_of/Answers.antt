@@ -1,30 +1,30 @@
 -- From byte 255 down: a byte with the same shift as the next one extends its stretch, a byte with another shift starts
 -- a new stretch, and a byte that is its own image is in none.
-use Rattle.ptlangs.proofs.Common.{◌≡◌, ◌-◌, List, drop, length, get_or, sym, ◌∙◌, ap, arith, drop_all}
-use Rattle.ptlangs.proofs.Common.{Stretch, stretches_from, prepend_shift, shift_of, image_of_shifts}
+use Rattle.ptlangs.proofs.Common.{◌≡◌, ◌-◌, List, drop, length, get_or, sym, ◌∙◌, ap, arith, drop_all, Stretch}
+use Rattle.ptlangs.proofs.Common.{stretches_from, prepend_shift, shift_of, image_of_shifts}
 use Rattle.ptlangs.proofs.TrShifts.{moves_all, moved_one, no_more_behind}
 use Rattle.ptlangs.proofs.tr.shifts.shifts_of.Goals as goal
 
 pub loop-index-init : goal.loop-index-init
 loop-index-init c = record {
   within = omega arith;
-  stretches = sym (ap (stretches_from 256) (drop_all 256 c.args.images.now (omega (arith, c.told-images))));
+  stretches = sym (ap (stretches_from 256) (drop_all 256 c.args.images.now (omega arith)));
 }
 
 pub returns-then-not-prepend-clause-found : goal.returns-then-not-prepend-clause-found
 returns-then-not-prepend-clause-found c =
     let images = c.args.images.now in
     let n = c.loop-index.index in
-    let one = moved_one n images c.loop-index-test.true (omega (arith, c.told-images, c.loop-index.invariant.within))
+    let one = moved_one n images c.loop-index-test.true (omega (arith, c.told-images))
     c.if-by-ne0.true in
     let kept = ap (λ (l : List Stretch). length (prepend_shift (n - 1) (shift_of (n - 1) (get_or images (n - 1) 0)) l))
     c.loop-index.invariant.stretches in
-    omega (arith, no_more_behind (n - 1) images, ap length one, c.prepend.ensures.full c.if-not-prepend.true, kept)
+    omega (arith, no_more_behind (n - 1) images, ap length one, kept)
 
 pub returns-clause-moves : goal.returns-clause-moves
 returns-clause-moves c = λ b low.
     let images = c.args.images.now in
-    let all : c.loop-index.index ≡ 0 = omega (arith, c.loop-index-test.false) in
+    let all : c.loop-index.index ≡ 0 = omega arith in
     ap (λ (l : List Stretch). image_of_shifts l b)
     (c.loop-index.invariant.stretches ∙ (λ i. stretches_from (all i) (drop (all i) images)))
     ∙ moves_all images c.told-images (λ k small. c.fits-images k) b low

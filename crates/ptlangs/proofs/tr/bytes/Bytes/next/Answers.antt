@@ -1,11 +1,12 @@
 -- A segment without a byte at the index is passed: what is left is what the text gives from the index on.
-use Rattle.ptlangs.proofs.Common.{◌≡◌, ◌∷◌, ◌++◌, ◌+◌, ◌-◌, ◌*◌, ◌≤◌, cond, ◌||◌, ◌∙◌, [], Ok, Err, List, Result}
-use Rattle.ptlangs.proofs.Common.{length, map, drop, ap, sym, refl, arith, drop_all, sequence, segments, chars}
-use Rattle.ptlangs.proofs.Common.{set_elements, is_fill, Segment, SetFaultKind}
+use Rattle.ptlangs.proofs.Common.{◌≡◌, ◌∷◌, ◌++◌, ◌+◌, ◌*◌, ◌≤◌, cond, ◌||◌, ◌∙◌, [], Ok, List, Result, length, map}
+use Rattle.ptlangs.proofs.Common.{drop, ap, sym, refl, arith, drop_all, sequence, segments, chars, set_elements}
+use Rattle.ptlangs.proofs.Common.{is_fill, Segment, SetFaultKind}
 use Rattle.ptlangs.specs.declared.tr.segments.Member.{Member}
-use Rattle.ptlangs.specs.TrParsing.{NextItemPost, bytes_left, marked_members, member_results, most_left}
+use Rattle.ptlangs.specs.TrParsing.{NextItemPost, member_results, most_left}
 use Rattle.ptlangs.proofs.TrElementGrammar.{segments-element, segments-fault}
-use Rattle.ptlangs.proofs.TrByteWalk.{drop-found, fill_step, le_trans, length-marked, on_fault, segment-passed}
+use Rattle.std.proofs.Math.Nat.{le_trans}
+use Rattle.ptlangs.proofs.TrByteWalk.{drop-found, fill_step, length-marked, on_fault, segment-passed}
 use Rattle.ptlangs.proofs.tr.bytes.Bytes.next.Goals as goal
 use Rattle.ptlangs.proofs.tr.bytes.Bytes.next.Goals.{then-self-2, else-self-2}
 use Rattle.ptlangs.specs.declared.tr.bytes.Bytes.{Bytes}
@@ -19,22 +20,18 @@ returns-in-Some-clause-steps c =
     let s = c.loop-member.self in
     sym c.loop-member.invariant.left
     ∙ ap (λ (ms : List Member). map {B = Result Member SetFaultKind} Ok ms ++ member_results s.fill (segments_left s))
-    (drop-found (marked_members s.fill s.segment) s.index c.in-Some.member c.in-Some.ensures.found)
+    (drop-found _ s.index c.in-Some.member c.in-Some.ensures.found)
 
 pub returns-in-Some-clause-fewer : goal.returns-in-Some-clause-fewer
 returns-in-Some-clause-fewer c =
     let s = c.loop-member.self in
-    omega (
-      arith,
-      c.loop-member.invariant.most,
-      ap length (drop-found (marked_members s.fill s.segment) s.index c.in-Some.member c.in-Some.ensures.found),
-    )
+    omega (arith, ap length (drop-found _ s.index c.in-Some.member c.in-Some.ensures.found))
 
 pub returns-then-self-clause-steps : goal.returns-then-self-clause-steps
 returns-then-self-clause-steps c =
     let s = c.loop-member.self in
     let none : segments_left s ≡ [] = rw (drop_all s.at s.text.now c.if-self.true) refl in
-    let end : bytes_left s ≡ [] = segment-passed s.fill s.segment s.index (segments_left s) c.in_default.ensures.found
+    let end = segment-passed s.fill s.segment s.index (segments_left s) c.in_default.ensures.found
     ∙ ap (member_results s.fill) none in
     (sym c.loop-member.invariant.left ∙ end, end)
 
@@ -45,9 +42,9 @@ returns-in_err-element-clause-steps c =
     let first = segments-fault s.role s.has_fill s.text.now s.at (length s.text.now) k c.if-self.false
     (omega arith) c.in_err-element.ensures.reads in
     let passed = segment-passed s.fill s.segment s.index (segments_left s) c.in_default.ensures.found in
-    let fault : sequence (bytes_left s) ≡ Err k = ap sequence (passed ∙ ap (member_results s.fill) first) in
+    let fault = ap sequence (passed ∙ ap (member_results s.fill) first) in
     let (_, is) = c.from_residual.ensures in
-    on_fault (NextItemPost (bytes_left c.args.self.now) (bytes_left s)) c.from_residual.result k is
+    on_fault (NextItemPost _ _) c.from_residual.result k is
     (ap sequence (sym c.loop-member.invariant.left) ∙ fault)
 
 -- what is left begins with the segment of the element
@@ -56,12 +53,12 @@ returns-in_err-self-clause-steps c =
     let s = c.loop-member.self in
     let k = c.in_err-self.field-0.0 in
     let first = segments-element s.role s.has_fill (chars (drop s.at s.text.now))
-    (chars (drop c.in_ok-element.next s.text.now)) c.in_ok-element.element (Err k)
+    _ c.in_ok-element.element
     c.in_ok-element.ensures.reads c.in_err-self.ensures.is in
     let passed = segment-passed s.fill s.segment s.index (segments_left s) c.in_default.ensures.found in
-    let fault : sequence (bytes_left s) ≡ Err k = ap sequence (passed ∙ ap (member_results s.fill) first) in
+    let fault = ap sequence (passed ∙ ap (member_results s.fill) first) in
     let (_, is) = c.from_residual-in_err-self.ensures in
-    on_fault (NextItemPost (bytes_left c.args.self.now) (bytes_left s)) c.from_residual-in_err-self.result k is
+    on_fault (NextItemPost _ _) c.from_residual-in_err-self.result k is
     (ap sequence (sym c.loop-member.invariant.left) ∙ fault)
 
 pub loop-member-preserved : goal.loop-member-preserved
@@ -75,26 +72,18 @@ loop-member-preserved c =
       | else-self-2 w ↦ rw (w.self-is, w.is_fill-self.ensures, w.if-self-2.false) refl
     ] in
     let first = segments-element s.role s.has_fill (chars (drop s.at s.text.now))
-    (chars (drop c.in_ok-element.next s.text.now)) c.in_ok-element.element (Ok x)
+    _ c.in_ok-element.element
     c.in_ok-element.ensures.reads c.in_ok-self.ensures.is in
     let passed = segment-passed s.fill s.segment s.index (segments_left s) c.in_default.ensures.found in
     let rest = set_elements (chars (drop c.in_ok-element.next s.text.now)) in
     let less = fill_step s.fill s.role c.in_ok-element.element x s.has_fill (sym c.in_ok-self.ensures.is) in
-    let cut : cond c.if-self-2.self 0 s.fill ≡ cond (s.has_fill || is_fill (Ok x)) 0 s.fill =
+    let cut =
     ap (λ t. cond t 0 s.fill) filled in
-    let most : length (marked_members s.fill x) + 65536 * (length s.text.now - c.in_ok-element.next)
+    let most : length _ + 65536 * _
     + cond c.if-self-2.self 0 s.fill ≤ most_left s =
-    omega (
-      arith,
-      less,
-      cut,
-      c.in_ok-self.ensures.short,
-      length-marked s.fill x,
-      c.if-self.false,
-      c.in_ok-element.ensures.onward,
-    ) in
+    omega (arith, less, cut, c.in_ok-self.ensures.short, length-marked s.fill x, c.in_ok-element.ensures.onward) in
     record {
       left = ap (λ t. member_results s.fill (Ok x ∷ segments s.role t rest)) filled
           ∙ sym (passed ∙ ap (member_results s.fill) first) ∙ c.loop-member.invariant.left;
-      most = le_trans _ _ _ most c.loop-member.invariant.most;
+      most = le_trans most c.loop-member.invariant.most;
     }

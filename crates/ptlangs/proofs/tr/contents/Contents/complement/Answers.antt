@@ -1,13 +1,14 @@
 -- A byte is in the complement if the array does not contain it, so the tables and the lengths agree.
-use Rattle.ptlangs.proofs.Common.{◌≡◌, false, get_or, not, rules, tests}
+use Rattle.ptlangs.proofs.Common.{◌≡◌, false, get_or, not, rules}
+use Rattle.std.proofs.Common.{tests}
 use Rattle.ptlangs.proofs.TrContents.{complement-is}
 use Rattle.std.specs.Prelude.{count_by}
 use Rattle.ptlangs.proofs.tr.contents.Contents.complement.Goals as goal
 
 pub returns-clause-is : goal.returns-clause-is
 returns-clause-is c = λ bytes e.
-    let count : c.count.result ≡ count_by not c.args.self.now.has = search (rules, tests) in
+    let count : c.count.result ≡ count_by not c.args.self.now.has = search rules in
     complement-is c.args.self.now bytes c.map.result c.count.result e c.map.ensures.items.long (λ k h.
     let (p, q, called) = c.map.ensures.items.at k false false h in
-    let same : get_or c.map.result k false ≡ not (get_or c.args.self.now.has k false) = search (rules, tests, called) in
+    let same : get_or c.map.result k false ≡ not _ = search (rules, tests) in
     same) count

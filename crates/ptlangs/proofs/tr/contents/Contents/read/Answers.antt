@@ -1,11 +1,9 @@
 -- The fault of a byte is the fault of the string. At the end all bytes are read.
 use Rattle.ptlangs.proofs.Common.{◌≡◌, ◌∙◌, ◌∷◌, ◌++◌, List, Ok, ap, sym, refl, arith, array, map-append}
-use Rattle.ptlangs.proofs.Common.{string_segments, replicate, Segment}
-use Rattle.ptlangs.specs.declared.tr.segments.Member.{Member}
+use Rattle.ptlangs.proofs.Common.{string_segments, replicate, Segment, []}
 use Rattle.ptlangs.specs.TrParsing.{member_bytes, contents_of, ok_map, plain_members}
 use Rattle.ptlangs.proofs.TrByteWalk.{member_bytes-array, member_bytes-plain, items_end, items_fault, items_more}
 use Rattle.ptlangs.proofs.TrByteWalk.{on_fault, string-fault, string-read}
-use Rattle.ptlangs.proofs.Common.{[]}
 use Rattle.ptlangs.proofs.TrContents.{contents-new}
 use Rattle.ptlangs.proofs.tr.contents.Contents.read.Goals as goal
 
@@ -22,7 +20,7 @@ returns-in_err-member-clause-is c =
 pub loop-member-init : goal.loop-member-init
 loop-member-init c = record {
   read = record { done = []; so_far = sym c.new-bytes.ensures.all; holds = contents-new };
-  most = omega (arith, c.new-bytes.ensures.most);
+  most = omega arith;
 }
 
 pub loop-member-preserved : goal.loop-member-preserved
@@ -34,22 +32,16 @@ loop-member-preserved c =
     let fewer = rw c.in-Some.is at c.in_ok-member.ensures.fewer in
     let m = c.in-Some.member in
     let copies = replicate c.skip_repeats-more.result m.byte in
-    let bytes : member_bytes (read.done ++ m ∷ plain_members copies) ≡ member_bytes read.done ++ m.byte ∷ copies =
-    map-append (λ (n : Member). n.byte) read.done (m ∷ plain_members copies)
+    let bytes =
+    map-append _ read.done _
     ∙ ap (λ bs. member_bytes read.done ++ m.byte ∷ bs) (member_bytes-plain copies) in
     record {
       read =
-          items_more read (λ (ms : List Member). c.push.new.self ≡ contents_of (member_bytes ms))
+          items_more read _
           (m ∷ plain_members copies)
           (step ∙ ap (λ rs. Ok m ∷ rs) c.skip_repeats-more.ensures.passed)
-          (λ h. c.push.ensures.is (member_bytes read.done) h ∙ ap contents_of (sym bytes));
-      most = omega (
-        arith,
-        c.push.ensures.length,
-        c.skip_repeats-more.ensures.fewer,
-        fewer,
-        c.loop-member.invariant.most,
-      );
+          (λ h. c.push.ensures.is _ h ∙ ap contents_of (sym bytes));
+      most = omega (arith, c.push.ensures.length, fewer, c.loop-member.invariant.most);
     }
 
 pub returns-clause-is : goal.returns-clause-is

@@ -1,18 +1,17 @@
 -- A class that starts after the end of the first array has no other case.
-use Rattle.ptlangs.proofs.Common.{◌∙◌, ap, sym, refl, replicate, Ok}
-use Rattle.ptlangs.specs.TrParsing.{bytes_left}
+use Rattle.ptlangs.proofs.Common.{◌∙◌, ap, sym, refl, Ok}
 use Rattle.ptlangs.proofs.TrImages.{never_fault, passing-copies, passing-end, passing-next, passing-unpaired}
 use Rattle.ptlangs.proofs.tr.images.Images.finish.Goals as goal
 
 pub returns-in_err-member : goal.returns-in_err-member
 returns-in_err-member c = λ from to h.
     let p = c.loop-member.invariant from to h in
-    never_fault p.rest (bytes_left c.loop-member.self.second) _ p.left c.in_err-member.ensures.steps
+    never_fault p.rest _ p.left c.in_err-member.ensures.steps
 
 pub returns-then-is_some : goal.returns-then-is_some
 returns-then-is_some c = λ from to h.
     let step = rw c.in-Some.is at c.in_ok-member.ensures.steps in
-    let unpaired = passing-unpaired (c.loop-member.invariant from to h) (bytes_left c.next.new.self)
+    let unpaired = passing-unpaired (c.loop-member.invariant from to h) _
     c.in-Some.member step (sym c.is_some.ensures ∙ c.if-is_some.true) in
     rw unpaired refl
 
@@ -21,7 +20,7 @@ loop-member-preserved c = λ from to h.
     let step = rw c.in-Some.is at c.in_ok-member.ensures.steps in
     let next = passing-next (c.loop-member.invariant from to h) c.next.new.self c.in-Some.member step
     (sym c.is_some.ensures ∙ c.if-is_some.false) in
-    passing-copies next c.skip_repeats.new.self (replicate c.skip_repeats.result c.in-Some.member.byte)
+    passing-copies next c.skip_repeats.new.self _
     c.skip_repeats.ensures.passed
 
 pub returns : goal.returns

@@ -1,20 +1,18 @@
 -- The next byte of the second array becomes the last one; if none is left, the last one stays.
-use Rattle.ptlangs.proofs.Common.{◌∙◌, sym, refl, arith, length, drop, Some}
-use Rattle.ptlangs.specs.TrParsing.{bytes_left}
+use Rattle.ptlangs.proofs.Common.{◌∙◌, sym, refl, arith}
 use Rattle.ptlangs.proofs.TrImages.{never_fault, push-last, push-next, push-unpaired, written}
 use Rattle.ptlangs.proofs.tr.images.Images.push.Goals as goal
 use Rattle.ptlangs.proofs.tr.images.Images.push.Goals.{in-Some+else-not-classes_match, in_default}
 
 pub returns-in_err-to : goal.returns-in_err-to
-returns-in_err-to c = λ before to h. never_fault (drop (length before) to) (bytes_left c.args.self.now.second)
-    _ h.left c.in_err-to.ensures.steps
+returns-in_err-to c = λ before to h. never_fault _ _ h.left c.in_err-to.ensures.steps
 
 pub returns-then-not-classes_match : goal.returns-then-not-classes_match
 returns-then-not-classes_match c = λ before to h.
     let old = c.args.self.now in
     let step = rw c.in-Some.is at c.in_ok-to.ensures.steps in (
       refl,
-      push-unpaired before to old c.args.from h (omega arith) (bytes_left c.next.new.self) c.in-Some.to step
+      push-unpaired before to old c.args.from h (omega arith) _ c.in-Some.to step
           (sym c.classes_match.ensures ∙ c.if-not-classes_match.true),
     )
 
@@ -26,7 +24,7 @@ returns c = λ before to h.
       | in-Some+else-not-classes_match w ↦
           let step = rw w.in-Some.is at c.in_ok-to.ensures.steps in
           written _ to c.match-branch-2.self c.from.result c.unwrap_or.result from.byte old.table c.next.new.self
-          (Some w.in-Some.to.byte) w.self-is c.from.ensures c.unwrap_or.ensures
+          _ w.self-is c.from.ensures c.unwrap_or.ensures
           (push-next before to old from h (omega arith) c.next.new.self w.in-Some.to step
           (sym w.classes_match.ensures ∙ w.if-not-classes_match.false))
       | in_default w ↦

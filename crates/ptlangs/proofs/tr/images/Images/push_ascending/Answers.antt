@@ -1,30 +1,28 @@
 -- A byte that the complement contains is paired after those below it.
-use Rattle.ptlangs.proofs.Common.{◌+◌, ◌∷◌, [], ◌∙◌, ℕ, None, ap, arith, true, false, append-nil, map-append}
-use Rattle.ptlangs.proofs.Common.{complement_of}
-use Rattle.ptlangs.specs.TrParsing.{PairPost, all_paired, plain_members}
+use Rattle.ptlangs.proofs.Common.{◌+◌, [], ◌∙◌, ℕ, ap, arith, true, false, append-nil, map-append, complement_of, ◌≡◌}
+use Rattle.ptlangs.proofs.Common.{List, subst}
+use Rattle.ptlangs.specs.TrParsing.{PairPost, all_paired, plain_members, HasPaired, contents_of}
 use Rattle.ptlangs.proofs.TrByteWalk.{on_fault}
 use Rattle.ptlangs.proofs.TrContents.{complement-around, is_kept, others_below, others_below-all, others_below-more}
 use Rattle.ptlangs.proofs.TrImages.{paired_same}
-use Rattle.ptlangs.proofs.Common.{◌≡◌, List, subst}
 use Rattle.ptlangs.specs.declared.tr.segments.Member.{Member}
-use Rattle.ptlangs.specs.TrParsing.{HasPaired, contents_of}
-use Rattle.ptlangs.proofs.tr.images.Images.push_ascending.Goals.{Joined-first-from}
+use Rattle.ptlangs.proofs.tr.images.Images.push_ascending.Goals.{Joined-first-from, then-first-from+in_ok-push}
+use Rattle.ptlangs.proofs.tr.images.Images.push_ascending.Goals.{else-first-from}
 use Rattle.ptlangs.proofs.tr.images.Images.push_ascending.Goals as goal
-use Rattle.ptlangs.proofs.tr.images.Images.push_ascending.Goals.{then-first-from+in_ok-push, else-first-from}
 
 pub returns-in_err-push : goal.returns-in_err-push
 returns-in_err-push c = λ bytes to e h.
     let b = c.loop-byte.byte in
     let (kind, wrong) =
-    c.in_err-push.ensures (plain_members (others_below bytes b)) to (c.loop-byte.invariant bytes to e h) in
+    c.in_err-push.ensures _ to (c.loop-byte.invariant bytes to e h) in
     let (rest, is) =
     complement-around bytes b (omega arith)
     (is_kept c.args.first.now bytes b c.from.result true c.from.ensures (omega arith) c.if-first-from.true e) in
-    let around = ap plain_members is ∙ map-append (λ (n : ℕ). record { byte = n; class = None }) (others_below bytes b)
-    (b ∷ rest) in
+    let around = ap plain_members is ∙ map-append _ _
+    _ in
     let (_, fault) = c.from_residual.ensures in
-    on_fault (PairPost (plain_members (complement_of bytes)) to c.push.new.self) c.from_residual.result _ fault
-    (kind, ap (λ ms. all_paired ms to) around ∙ wrong (plain_members rest))
+    on_fault (PairPost _ to c.push.new.self) c.from_residual.result _ fault
+    (kind, ap (λ ms. all_paired ms to) around ∙ wrong _)
 
 -- the bytes of the complement up to this one are paired
 paired : (c : Joined-first-from) (bytes : List ℕ) (to : List Member)
@@ -38,14 +36,14 @@ paired c bytes to e h =
           let more =
           others_below-more bytes b false (is_kept c.args.first.now bytes b c.from.result true c.from.ensures
           (omega arith) w.if-first-from.true e) in
-          paired_same _ _ to _ _ (ap plain_members more
-          ∙ map-append (λ (n : ℕ). record { byte = n; class = None }) before (b ∷ [])) w.self-is
-          (w.in_ok-push.ensures (plain_members before) to (c.loop-byte.invariant bytes to e h))
+          paired_same _ to (ap plain_members more
+          ∙ map-append _ before _) w.self-is
+          (w.in_ok-push.ensures _ to (c.loop-byte.invariant bytes to e h))
       | else-first-from w ↦
           let more =
           others_below-more bytes b true (is_kept c.args.first.now bytes b c.from.result false c.from.ensures
           (omega arith) w.if-first-from.false e) in
-          paired_same _ _ to _ _ (ap plain_members (more ∙ append-nil before)) w.self-is
+          paired_same _ to (ap plain_members (more ∙ append-nil before)) w.self-is
           (c.loop-byte.invariant bytes to e h)
     ]
 
@@ -55,5 +53,5 @@ loop-byte-preserved c = paired (goal.at.loop-byte-preserved c).Joined-first-from
 pub returns-after-first-from : goal.returns-after-first-from
 returns-after-first-from c = λ bytes to e h.
     subst (λ bs. HasPaired (plain_members bs) to c.if-first-from.self)
-    (others_below-all bytes (c.loop-byte.byte + 1) (omega arith))
+    (others_below-all bytes (omega arith))
     (paired (goal.at.returns-after-first-from c).Joined-first-from bytes to e h)

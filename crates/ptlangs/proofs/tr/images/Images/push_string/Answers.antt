@@ -1,36 +1,32 @@
 -- The bytes of the string are paired in order; as the string has no fault, these are all of its array.
-use Rattle.ptlangs.proofs.Common.{◌∙◌, [], ◌∷◌, List, ap, refl, First, segments_of, sequence}
-use Rattle.ptlangs.specs.declared.tr.segments.Member.{Member}
-use Rattle.ptlangs.specs.TrParsing.{HasPaired, PairPost, all_paired, marked_array, member_results}
-use Rattle.ptlangs.proofs.TrByteWalk.{items_at, items_end, items_fault, items_more, on_fault}
-use Rattle.ptlangs.proofs.TrByteWalk.{string-ok}
+use Rattle.ptlangs.proofs.Common.{◌∙◌, ap, refl, First, segments_of, sequence}
+use Rattle.ptlangs.specs.TrParsing.{marked_array, PairPost, all_paired, member_results}
+use Rattle.ptlangs.proofs.TrByteWalk.{items_at, items_end, items_fault, items_more, on_fault, string-ok}
 use Rattle.ptlangs.proofs.TrImages.{never_fault, paired_same, sequence-ok}
-use Rattle.ptlangs.proofs.TrPlans.{same_answer}
 use Rattle.ptlangs.proofs.tr.images.Images.push_string.Goals as goal
 
 pub returns-in_err-member : goal.returns-in_err-member
 returns-in_err-member c = λ ps to e h.
     let all = member_results 0 (segments_of First c.args.text.now) in
-    never_fault (marked_array 0 ps) all _ (string-ok First c.args.text.now 0 ps e)
+    never_fault _ all (string-ok First c.args.text.now 0 ps e)
     (items_fault c.loop-member.invariant c.in_err-member.ensures.steps)
 
 pub loop-member-preserved : goal.loop-member-preserved
 loop-member-preserved c =
     let step = rw c.in-Some.is at c.in_ok-member.ensures.steps in
     let read = c.loop-member.invariant in
-    items_more read (λ (ms : List Member). (to : List Member) → HasPaired [] to c.args.self.now
-    → HasPaired ms to c.push.new.self) (c.in-Some.member ∷ []) step
+    items_more read _ _ step
     (λ holds to h. c.in_ok-push.ensures read.done to (holds to h))
 
 pub returns-in_err-push : goal.returns-in_err-push
 returns-in_err-push c = λ ps to e h.
     let step = rw c.in-Some.is at c.in_ok-member.ensures.steps in
     let read = c.loop-member.invariant in
-    let whole = ap sequence (string-ok First c.args.text.now 0 ps e) ∙ sequence-ok (marked_array 0 ps) in
+    let whole = ap sequence (string-ok First c.args.text.now 0 ps e) ∙ sequence-ok _ in
     let (more, is) = items_at read step whole in
     let (kind, wrong) = c.in_err-push.ensures read.done to (read.holds to h) in
     let (_, fault) = c.from_residual-in_err-push.ensures in
-    on_fault (PairPost (marked_array 0 ps) to c.push.new.self) c.from_residual-in_err-push.result _ fault
+    on_fault (PairPost _ to c.push.new.self) c.from_residual-in_err-push.result _ fault
     (kind, ap (λ ms. all_paired ms to) is ∙ wrong more)
 
 pub returns : goal.returns
@@ -38,6 +34,4 @@ returns c = λ ps to e h.
     let read = c.loop-member.invariant in
     let (end, _) = rw c.in_default.is at c.in_ok-member.ensures.steps in
     let whole = ap sequence (string-ok First c.args.text.now 0 ps e) ∙ sequence-ok (marked_array 0 ps) in
-    paired_same (marked_array 0 ps) read.done to _ _
-    (same_answer (sequence (member_results 0 (segments_of First c.args.text.now))) _ _ whole (items_end read end))
-    refl (read.holds to h)
+    paired_same read.done to (cc (whole, items_end read end)) refl (read.holds to h)

@@ -1,10 +1,10 @@
 -- The second string is read without a fill, to find the number of bytes that a fill has, and then with it. The segments
 -- are the same each time, so the plan is that of the definition.
-use Rattle.ptlangs.proofs.Common.{◌≡◌, false, arith, ap, sym, [], ◌∙◌, Ok, Err, Form, List, Segment}
-use Rattle.ptlangs.proofs.Common.{Translate, TranslateSqueeze, DeleteSqueeze, array, class_offsets, first_array}
-use Rattle.ptlangs.proofs.Common.{has_valid_classes, image_by, map, plan_of, second_plan, string_segments, tables}
+use Rattle.ptlangs.proofs.Common.{◌≡◌, false, arith, ap, sym, [], ◌∙◌, Ok, Err, Form, List, Segment, Translate}
+use Rattle.ptlangs.proofs.Common.{TranslateSqueeze, DeleteSqueeze, array, class_offsets, first_array, has_valid_classes}
+use Rattle.ptlangs.proofs.Common.{image_by, map, plan_of, second_plan, string_segments, tables}
 use Rattle.ptlangs.specs.TrClasses.{all_bytes}
-use Rattle.ptlangs.specs.TrParsing.{contents_of, marked_array, ok_map}
+use Rattle.ptlangs.specs.TrParsing.{contents_of, ok_map}
 use Rattle.ptlangs.specs.declared.tr.contents.Contents.{Contents}
 use Rattle.ptlangs.proofs.TrByteWalk.{member_bytes-array, on_fault, string-ok}
 use Rattle.ptlangs.proofs.TrContents.{none_contained}
@@ -19,14 +19,14 @@ seen : (c : After-saturating_sub-fill) (firsts : List Segment)
     c.saturating_sub-fill.result
 seen c firsts f = second_read c.args.form c.args.complement firsts c.args.s2.now c.second_role-role.result
     c.saturating_sub-fill.result c.args.first.now c.in_ok-unfilled.unfilled c.second_role-role.ensures
-    (sym c.in_ok-unfilled.was ∙ c.read.ensures.is) (omega (arith, c.saturating_sub-fill.ensures)) f
+    (sym c.in_ok-unfilled.was ∙ c.read.ensures.is) (omega arith) f
 
 -- which bytes the second array contains
 squeezed : (c : In_ok-second) (ps : List Segment)
     → string_segments c.second_role-role.result c.args.s2.now ≡ Ok ps
     → c.in_ok-second.second.has ≡ (contents_of (array c.saturating_sub-fill.result ps)).has
-squeezed c ps read = ap (λ (q : Contents). q.has) (mapped_at (string_segments c.second_role-role.result c.args.s2.now)
-    (λ ps. contents_of (array c.saturating_sub-fill.result ps)) c.in_ok-second.second ps
+squeezed c ps read = ap (λ (q : Contents). q.has) (mapped_at _
+    _ c.in_ok-second.second ps
     (sym c.in_ok-second.was ∙ c.read-2.ensures.is) read)
 
 pub returns-in-DeleteSqueeze : goal.returns-in-DeleteSqueeze
@@ -35,9 +35,9 @@ returns-in-DeleteSqueeze c = λ firsts e f.
     let r = seen at.After-saturating_sub-fill firsts f in
     let valid = ap (λ (form : Form). has_valid_classes form c.args.complement (class_offsets 0 0 firsts)
     (class_offsets c.saturating_sub-fill.result 0 r.ps)) c.in-DeleteSqueeze.is in
-    planned c.args.form DeleteSqueeze c.args.complement firsts c.args.s2.now _ _ r _ c.in-DeleteSqueeze.is valid
-    (c.new.ensures ∙ tables_are (plan_of DeleteSqueeze (first_array c.args.complement firsts)
-    (array c.saturating_sub-fill.result r.ps)) _ _ _ (ap (λ (q : Contents). q.has) f)
+    planned c.args.form DeleteSqueeze c.args.complement firsts c.args.s2.now r c.in-DeleteSqueeze.is valid
+    (c.new.ensures ∙ tables_are (plan_of DeleteSqueeze _
+    _) (ap (λ (q : Contents). q.has) f)
     (c.identity.ensures []) (squeezed at.In_ok-second r.ps r.read))
 
 pub returns-in_err-table : goal.returns-in_err-table
@@ -45,7 +45,7 @@ returns-in_err-table c = λ firsts e f.
     let r = seen (goal.at.returns-in_err-table c).After-saturating_sub-fill firsts f in
     let fill = c.saturating_sub-fill.result in
     let (unpaired, kind) =
-    answer_fault _ _ _ (c.in_err-table.ensures firsts (marked_array fill r.ps) e f
+    answer_fault _ _ _ (c.in_err-table.ensures firsts _ e f
     (c.new-2.ensures.all ∙ string-ok c.second_role-role.result c.args.s2.now fill r.ps r.read)) in
     let valid = valid-paired c.args.form c.args.complement firsts r.ps fill c.in_default.not-DeleteSqueeze ∙ unpaired in
     let (_, fault) = c.from_residual-in_err-table.ensures in
@@ -59,11 +59,11 @@ returns-in-TranslateSqueeze c = λ firsts e f.
     let fill = c.saturating_sub-fill.result in
     let from = first_array c.args.complement firsts in
     let (paired, table) =
-    answer_ok _ _ _ (c.in_ok-table.ensures firsts (marked_array fill r.ps) e f
+    answer_ok _ (c.in_ok-table.ensures firsts _ e f
     (c.new-2.ensures.all ∙ string-ok c.second_role-role.result c.args.s2.now fill r.ps r.read)) in
-    planned c.args.form TranslateSqueeze c.args.complement firsts c.args.s2.now _ _ r _ c.in-TranslateSqueeze.is
+    planned c.args.form TranslateSqueeze c.args.complement firsts c.args.s2.now r c.in-TranslateSqueeze.is
     (valid-paired c.args.form c.args.complement firsts r.ps fill c.in_default.not-DeleteSqueeze ∙ paired)
-    (c.new-in-TranslateSqueeze.ensures ∙ tables_are (plan_of TranslateSqueeze from (array fill r.ps)) _ _ _
+    (c.new-in-TranslateSqueeze.ensures ∙ tables_are (plan_of TranslateSqueeze from _)
     none_contained
     (table ∙ ap (λ to. map (image_by from to) all_bytes) (member_bytes-array fill r.ps))
     (squeezed at.In_ok-second r.ps r.read))
@@ -74,10 +74,10 @@ returns-in_default-form c = λ firsts e f.
     let fill = c.saturating_sub-fill.result in
     let from = first_array c.args.complement firsts in
     let (paired, table) =
-    answer_ok _ _ _ (c.in_ok-table.ensures firsts (marked_array fill r.ps) e f
+    answer_ok _ (c.in_ok-table.ensures firsts _ e f
     (c.new-2.ensures.all ∙ string-ok c.second_role-role.result c.args.s2.now fill r.ps r.read)) in
-    planned c.args.form Translate c.args.complement firsts c.args.s2.now _ _ r _
+    planned c.args.form Translate c.args.complement firsts c.args.s2.now r
     (is_translate c.args.form c.requires.form c.in_default.not-DeleteSqueeze c.in_default-form.not-TranslateSqueeze)
     (valid-paired c.args.form c.args.complement firsts r.ps fill c.in_default.not-DeleteSqueeze ∙ paired)
-    (c.new-in_default-form.ensures ∙ tables_are (plan_of Translate from (array fill r.ps)) _ _ _ none_contained
+    (c.new-in_default-form.ensures ∙ tables_are (plan_of Translate from _) none_contained
     (table ∙ ap (λ to. map (image_by from to) all_bytes) (member_bytes-array fill r.ps)) none_contained)

@@ -1,14 +1,12 @@
-use Rattle.ptlangs.proofs.Common.{ap, ◌∙◌, First, first_array, in_string, option_copied, plan, result_map_both}
-use Rattle.ptlangs.proofs.Common.{string_segments, sym, tables, SetFault}
-use Rattle.ptlangs.specs.TrParsing.{contents_of}
+use Rattle.ptlangs.proofs.Common.{ap, ◌∙◌, in_string, plan, result_map_both, sym, tables, SetFault}
+use Rattle.std.specs.Option.{option_copied}
 use Rattle.ptlangs.proofs.TrPlans.{in_string-ok, mapped_ok, plan_two}
 use Rattle.ptlangs.specs.declared.faults.SetString.TheVariants as string
 use Rattle.ptlangs.proofs.tr.plan.CharPlan.read.Goals as goal
 
 pub returns : goal.returns
 returns c =
-    let (firsts, read, first) = mapped_ok (string_segments First c.args.s1.now)
-    (λ ps. contents_of (first_array c.args.complement ps)) c.in_ok-first.first
+    let (firsts, read, first) = mapped_ok _ c.in_ok-first.first
     (in_string-ok _ _ _ c.in_ok-first.ensures ∙ c.read_first.ensures.is) in
     c.in_string-2.ensures ∙ ap (in_string string.Second) (c.of_two-plan.ensures firsts read first)
     ∙ plan_two c.args.form c.args.complement c.args.s1.now c.in-Some.s2.now firsts read

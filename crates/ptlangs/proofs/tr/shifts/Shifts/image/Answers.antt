@@ -8,5 +8,5 @@ returns c =
     let ss = take c.self.inside.count c.self.inside.stretches in
     c.loop-stretch.invariant
     ∙ ap (λ (n : ℕ). (byte + n) % 256) (ap (λ (l : List Stretch). moved l byte)
-    (take_all c.loop-stretch.stretch-index ss (omega (arith, c.loop-stretch-test.false))) ∙ sym (moved_reversed ss byte)
+    (take_all c.loop-stretch.stretch-index ss (omega arith)) ∙ sym (moved_reversed ss byte)
     ∙ ap (λ (l : List Stretch). moved l byte) c.self.view_is)
