@@ -1,9 +1,9 @@
 -- Columns that are copied from the buffers of the readers. A line that is complete in a buffer is the line that `fill`
 -- would return, so a column is filled by it in the same way.
-use Rattle.ptflow.proofs.Common.{◌≡◌, ⊎_elim, inl, ℕ, ◌+◌, ◌<◌, ◌≤◌, ◌^◌, ◌||◌, Bool, true, false, List, [], ◌∷◌, ◌++◌}
+use Rattle.ptflow.proofs.Common.{◌≡◌, inl, ℕ, ◌+◌, ◌<◌, ◌≤◌, ◌^◌, ◌||◌, Bool, true, false, List, [], ◌∷◌, ◌++◌}
 use Rattle.ptflow.proofs.Common.{◌%◌, eq-eqb, ne_eqb, option_to_list, slice_index_or, None, Some, Ok, length, take}
 use Rattle.ptflow.proofs.Common.{drop, set, get_or, refl, sym, ◌∙◌, ap, subst, arith, append_assoc, length-append}
-use Rattle.ptflow.proofs.Common.{length-drop, cases_eq, append-nil, take-take, take-append-le, length-take-le}
+use Rattle.ptflow.proofs.Common.{length-drop, append-nil, take-take, take-append-le, length-take-le}
 use Rattle.ptflow.proofs.Common.{length-set, drop-drop, drop_at, IsFirstByte, is_byte, Reader, AdvanceOk, IsSound}
 use Rattle.ptflow.proofs.Common.{Slots, with_line, FillLine, FillPost, line_before_terminator, take_with_terminator}
 use Rattle.ptflow.proofs.Common.{advance_ok_take, reader_at, uses_of, CellsFilled, after_cell, cells_text, RowShape}
@@ -16,7 +16,7 @@ use Rattle.std.proofs.Math.Seq.{take-append-add}
 use borrow.Rule.Slice.PartMut.{mid_of, put_mid}
 use Rattle.ptflow.specs.Private.Paste.BufferedRows.{LineCopied}
 use Rattle.ptflow.proofs.PasteLemmas.RowsTaken.{cells_text-push, rows_taken_trans, row_taken}
-use Rattle.ptflow.proofs.PasteLemmas.FillRow.{at_same, at_other, fill_starts, fill_next}
+use Rattle.ptflow.proofs.PasteLemmas.FillRow.{each_reader, fill_starts, fill_next}
 
 -- A line that is complete in a buffer is the line that `fill` would return.
 buffered_line : (b r : Reader) (at : ℕ) (store : Slots) (slot : ℕ) → b.fault ≡ None → b.pulled < 2 ^ 63
@@ -101,10 +101,8 @@ pub consumed_more : {old now : List Reader} {input : ℕ} {b r : Reader} → Are
     → b ≡ reader_at now input → IsConsumed b r → AreConsumed old (set now input r)
 consumed_more {old} {now} {input} {b} {r} c low is_read step = record {
   count = length-set now input r ∙ c.count;
-  buffered = λ p. ⊎_elim
-      (λ same. rw same (rw (at_same now input r low) (both_consumed (c.buffered input) (rw is_read at step))))
-      (λ differ. rw (at_other now input p r differ) (c.buffered p))
-      (cases_eq p input);
+  buffered = each_reader (λ p x. IsConsumed (reader_at old p) x) now low
+      (both_consumed (c.buffered input) (rw is_read at step)) (λ p differ. c.buffered p);
 }
 
 pub consumed_trans : {a b c : List Reader} → AreConsumed a b → AreConsumed b c → AreConsumed a c

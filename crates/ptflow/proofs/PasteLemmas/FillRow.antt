@@ -10,6 +10,7 @@ use Rattle.ptflow.proofs.Common.{get_or-le-sum_by, Slots, total_bytes, with_line
 use Rattle.ptflow.proofs.Common.{CellsTaken, Reader, uses_of, ◌≢◌, ◌==◌, ◌||◌, Bool, true, cond, None, Ok, subst}
 use Rattle.ptflow.proofs.Common.{eq-eqb, ne_eqb, append-nil, take-take, get_or_past, get_or_at, get_or_default}
 use Rattle.ptflow.proofs.Common.{sum_by-set, AdvanceOk, IsDone, IsSound, budget, FillLine, FillPost, no_reader}
+use Rattle.ptflow.specs.Private.Paste.FillRow.{SetTerminatorPost}
 use Rattle.ptflow.proofs.Common.{reader_at, SetTerminatorsPost, CellsFilled, RowFailed, LinesTaken, Err, ext_get_or}
 use Rattle.ptflow.proofs.Common.{get_or-drop, length-drop, take_all, take_more, take-append-le, length-take-le, line}
 use Rattle.ptflow.proofs.Common.{RowShape, BegunText, after_cell, cells_text, slots_text, CopyColumnsPost}
@@ -159,6 +160,14 @@ pub at_other : (readers : List Reader) (input other : ℕ) (r : Reader) → othe
     → reader_at (set readers input r) other ≡ reader_at readers other
 at_other readers input other r differ = get_or-set_other readers input other r no_reader differ
 
+-- A fact of each reader, after one of them was set.
+pub each_reader : (P : ℕ → Reader → Type 0) (readers : List Reader) {input : ℕ} {r : Reader} → input < length readers
+    → P input r → ((q : ℕ) → q ≢ input → P q (reader_at readers q)) → (q : ℕ) → P q (reader_at (set readers input r) q)
+each_reader P readers {input} {r} low here other q = ⊎_elim
+    (λ same. rw same (rw (at_same readers input r low) here))
+    (λ differ. rw (at_other readers input q r differ) (other q differ))
+    (cases_eq q input)
+
 -- The reader that an index expression read.
 pub at_index : (readers : List Reader) (input : ℕ) (r : Reader) → input < length readers
     → get_or readers input r ≡ reader_at readers input
@@ -169,18 +178,15 @@ pub set_terminator_more : (end : ℕ) (cells : List ℕ) (i : ℕ) (old now : Li
     → get_or cells i 0 < length now → SetTerminatorsPost end (take i cells) old now
     → r ≡ record (reader_at now (get_or cells i 0)) { terminator = end } → IsSound r
     → SetTerminatorsPost end (take (i + 1) cells) old (set now (get_or cells i 0) r)
-set_terminator_more end cells i old now r low within a told sound q = ⊎_elim
-    (λ same. rw same (rw (at_same now (get_or cells i 0) r within) (record {
-      set = λ some. told ∙ before (get_or cells i 0);
-      left = λ none. absurd (omega (arith, none, uses_here cells i (get_or cells i 0) low refl));
+set_terminator_more end cells i old now r low within a told sound =
+    let input = get_or cells i 0 in
+    let before : (let x : Reader = record (reader_at now input) { terminator = end } in
+    x ≡ record (reader_at old input) { terminator = end }) = grind (arith, (a input).set, (a input).left) in
+    each_reader (λ q x. SetTerminatorPost end (uses_of (take (i + 1) cells) q) (reader_at old q) x) now within (record {
+      set = λ some. told ∙ before;
+      left = λ none. absurd (omega (arith, none, uses_here cells i input low refl));
       sound = λ some. sound;
-    })))
-    (λ differ. rw (at_other now (get_or cells i 0) q r differ, uses_other cells i q low (λ e. differ (sym e))) (a q))
-    (cases_eq q (get_or cells i 0))
-  where
-    before : (p : ℕ) → (let x : Reader = record (reader_at now p) { terminator = end } in let y : Reader = record
-        (reader_at old p) { terminator = end } in x ≡ y)
-    before p = grind (arith, (a p).set, (a p).left)
+    }) (λ q differ. rw (uses_other cells i q low (λ e. differ (sym e))) (a q))
 
 or-true : (t : Bool) → (t || true) ≡ true
 or-true true = refl
@@ -223,20 +229,12 @@ module _ {cells : List ℕ} {n : ℕ} {old now : List Reader} {fields : List (Li
 
   lines_taken_next : (q : ℕ) → LinesTaken (reader_at old q).terminator (reader_at old q) (reader_at (set now input r) q)
       (uses_of (take (n + 1) cells) q) (lines_at input ls input_lines q)
-  lines_taken_next q = ⊎_elim
-      (λ same. rw (
-        lines_at_here input ls input_lines q same,
-        ap (reader_at (set now input r)) same
-            ∙ at_same now input r within,
-      )
-      (taken_more (uses_here cells n q low (sym same)) (t.lines_taken q)
-      (subst (λ (p : ℕ). LinesTaken (reader_at old p).terminator (reader_at now p) r 1 ls) (sym same) lines_taken)))
-      (λ differ. rw (
-        lines_at_other input ls input_lines q differ,
-        uses_other cells n q low (λ e. differ (sym e)),
-        at_other now input q r differ,
-      ) (t.lines_taken q))
-      (cases_eq q input)
+  lines_taken_next = each_reader (λ q x. LinesTaken (reader_at old q).terminator (reader_at old q) x
+      (uses_of (take (n + 1) cells) q) (lines_at input ls input_lines q)) now within
+      (rw (lines_at_here input ls input_lines input refl)
+      (taken_more (uses_here cells n input low refl) (t.lines_taken input) lines_taken))
+      (λ q differ. rw (lines_at_other input ls input_lines q differ, uses_other cells n q low (λ e. differ (sym e)))
+      (t.lines_taken q))
 
   -- The line of a column before this one does not change.
   earlier_cell : (c : ℕ) → c < n → cell_of cells (lines_at input ls input_lines) c ≡ cell_of cells input_lines c
@@ -540,24 +538,12 @@ pub readable_after : {row : RowShape} (now : List Reader) {input : ℕ} {b : Rea
     → BufferedRowsPre row now → input < length now → 0 < uses_of row.cells input → b ≡ reader_at now input
     → (before after : Slots) (slot : ℕ) (has : Bool) → FillPost b r before after slot (Ok has)
     → BufferedRowsPre row (set now input r)
-readable_after now {input} {b} r ready low used is_read before after slot has e =
+readable_after {row} now {input} {b} r ready low used is_read before after slot has e =
     let (unfailed, same_end) = after_fill b r before after slot has e in
     record {
       within = λ c d within. omega (arith, ready.within c d within, length-set now input r);
-      unfailed = λ p some. grind (
-        arith,
-        at_same now input r low,
-        at_other now input p r,
-        ready.unfailed p some,
-        unfailed,
-      );
-      same_end = λ p some. grind (
-        arith,
-        at_same now input r low,
-        at_other now input p r,
-        ready.same_end p some,
-        same_end,
-        ready.same_end input used,
-        ap (λ (x : Reader). x.terminator) is_read,
-      );
+      unfailed = each_reader (λ p x. 0 < uses_of row.cells p → x.fault ≡ None) now low (λ some. unfailed)
+          (λ p differ. ready.unfailed p);
+      same_end = each_reader (λ p x. 0 < uses_of row.cells p → x.terminator ≡ row.terminator) now low
+          (λ some. cc (same_end, is_read, ready.same_end input used)) (λ p differ. ready.same_end p);
     }

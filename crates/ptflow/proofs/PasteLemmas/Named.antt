@@ -1,9 +1,9 @@
 -- The inputs that columns name. Only their texts, and what was received from them, decide the output.
 use Rattle.ptflow.proofs.Common.{◌≡◌, ⊎_elim, ℕ, ◌<◌, ◌==◌, true, false, cond, List, [], ◌∷◌, length, take, get_or, map}
 use Rattle.ptflow.proofs.Common.{refl, sym, ◌∙◌, ap, subst, arith, append-nil, cases_Bool, cases_lt, eq-eqb, nat_tests}
-use Rattle.ptflow.proofs.Common.{list_any_at, sum_by-cons, Received, IsConsistent, known_lines, lines, max_line_length}
+use Rattle.ptflow.proofs.Common.{list_any_at, sum_by-cons, Received, IsConsistent, lines, max_line_length}
 use Rattle.ptflow.proofs.Common.{Paste, AreAllConsistent, inputs_at, is_in, uses_of, columns, every_kth, rows}
-use Rattle.ptflow.proofs.Common.{known_rows, rows_text, paste, paste_decided, paste_size}
+use Rattle.ptflow.proofs.Common.{rows_text, paste, paste_size}
 use Rattle.std.proofs.lemmas.List.Sums.{sum-map}
 use Rattle.std.specs.Prelude.{sum}
 use Rattle.ptflow.proofs.PasteLemmas.Grid.{for_each_cell_same, last_use}
@@ -44,14 +44,6 @@ module _ (job : Paste) (cells : List ℕ) where
       (λ c p. every_kth (uses_of cells p) (uses_of (take c cells) p) (g p)) cells
       (λ c low. let p = get_or cells c 0 in
       ap (every_kth (uses_of cells p) (uses_of (take c cells) p)) (same p (cell_in cells c low)))
-
-  pub decided_same : (f g : ℕ → Received) → ((p : ℕ) → is_in cells p ≡ true → f p ≡ g p)
-      → paste_decided job cells f ≡ paste_decided job cells g
-  decided_same f g same = λ i.
-      rows_text job (known_rows
-      (columns_same (λ p. known_lines job.terminator (f p)) (λ p. known_lines job.terminator (g p))
-      (λ p named. ap (known_lines job.terminator) (same p named)) i)
-      (map_same (λ p. (f p).eof) (λ p. (g p).eof) cells (λ p named. ap (λ h. h.eof) (same p named)) i))
 
   -- Texts that are consistent at these inputs, and at all others what was received.
   module _ (given : ℕ → Received) (texts : ℕ → List ℕ) (agree : AreAllConsistent (inputs_at cells) given texts) where

@@ -2,8 +2,9 @@
 -- from there, and the further columns are from the buffers. A failed write, read or growth stops the row; nothing was
 -- pushed.
 use Rattle.ptflow.proofs.Common.{◌≡◌, ◌+◌, ◌<◌, ℕ, Bool, List, [], ◌++◌, length, take, get_or, set, ◌∙◌, ap, arith}
-use Rattle.ptflow.proofs.Common.{err_from_is_err_and, Reader, Slots, push_nothing, push_trans, reader_at, uses_of, ◌||◌}
+use Rattle.ptflow.proofs.Common.{err_from_is_err_and, PushEffect, Reader, Slots, push_nothing, push_trans, reader_at, uses_of, ◌||◌}
 use Rattle.ptflow.proofs.Common.{Ok, BegunText, BufferedRowsPre, RowAmid, FillCellPost, after_cell, begun_in, shape_of}
+use borrow.Author.Rules.{scaled_Fits}
 use Rattle.ptflow.proofs.PasteLemmas.Grid.{uses_before_lt}
 use Rattle.ptflow.proofs.PasteLemmas.FillRow.{at_index, amid_next, amid_failed, amid_resumed, with_slot, readable_after}
 use Rattle.ptflow.proofs.PasteLemmas.BufferedRows.{still_readable}
@@ -20,6 +21,10 @@ cells-init g c = record {
   wrote = push_nothing c.args.out.now;
   clean = c.requires.clean;
 }
+
+pub offset_bounds-readers-input : goal.offset_bounds-readers-input
+offset_bounds-readers-input g c =
+    let low = c.requires.readable.within c.cells.column 0 c.cells-test.true in search (scaled_Fits, low)
 
 pub fill_cell-requires-clause-readable : goal.fill_cell-requires-clause-readable
 fill_cell-requires-clause-readable g c =
@@ -41,9 +46,13 @@ returns-in_err-has_line-clause-fills g c =
     c.fill_cell.new.reader c.fill_cell.new.store c.cells.into c.in_err-has_line.field-0.0
     c.in_err-has_line.ensures.fills)
 
+-- Nothing was pushed.
+sent : (g : given.Over) (c : After-fill_cell g) → PushEffect c.args.out.now c.fill_cell.new.out []
+sent g c = push_trans c.args.out.now c.cells.out c.fill_cell.new.out [] [] c.cells.invariant.clean
+    c.cells.invariant.wrote c.fill_cell.ensures.wrote
+
 pub returns-in_err-has_line-clause-wrote : goal.returns-in_err-has_line-clause-wrote
-returns-in_err-has_line-clause-wrote g c = push_trans c.args.out.now c.cells.out c.fill_cell.new.out [] []
-    c.cells.invariant.clean c.cells.invariant.wrote c.fill_cell.ensures.wrote
+returns-in_err-has_line-clause-wrote g c = sent g (goal.at.returns-in_err-has_line-clause-wrote g c).After-fill_cell
 
 module _ (g : given.Over) (c : After-fill_cell g) (has : Bool) where
   abbrev input : ℕ
@@ -104,8 +113,7 @@ cells-preserved-in-Some g c =
       readable = still_readable p.consumed (ready g here has fills);
       slots = omega (arith, c.cells.invariant.slots, c.fill_cell.ensures.slots);
       within = (omega arith, c.copy_columns-begun.ensures.within.0);
-      wrote = push_trans c.args.out.now c.cells.out c.fill_cell.new.out [] [] c.cells.invariant.clean
-          c.cells.invariant.wrote c.fill_cell.ensures.wrote;
+      wrote = sent g here;
       clean = c.in_ok-has_line.ensures.write_failed;
     }
 
@@ -119,8 +127,7 @@ cells-preserved g c =
       readable = ready g here has fills;
       slots = omega (arith, c.cells.invariant.slots, c.fill_cell.ensures.slots);
       within = (omega (arith, c.cells.invariant.within), omega (arith, c.cells-test.true));
-      wrote = push_trans c.args.out.now c.cells.out c.fill_cell.new.out [] [] c.cells.invariant.clean
-          c.cells.invariant.wrote c.fill_cell.ensures.wrote;
+      wrote = sent g here;
       clean = c.in_ok-has_line.ensures.write_failed;
     }
 
