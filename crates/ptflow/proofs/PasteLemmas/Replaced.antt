@@ -243,28 +243,26 @@ module _ {cycle : Cycle} {first index at : ℕ} {from to to' : List ℕ} (long :
         → next ≡ (index + 1) % cycle.len → to' ≡ slice_set (slice_set to at (get_or from at 0)) at v
         → IsReplacedTo cycle first next (at + 1) from to'
     replaced_terminator {next} {v} is_end is later set =
-        let test = eq-eqb (get_or from at 0) cycle.terminator is_end in
-        let number : count_by (is_byte cycle.terminator) (take 1 (drop at from)) ≡ 1 =
-        ap (count_by (is_byte cycle.terminator)) (one_byte at from room) ∙ counted cycle.terminator
-        (get_or from at 0) [] test in
-        replaced_more 1 (omega (arith, room)) (later ∙ ap (λ n. (index + n) % cycle.len) (sym number))
-        (ap (take (at + 1)) set ∙ take_more_set (slice_set to at (get_or from at 0)) at v
-        (omega (arith, room, r.same, length-set to at (get_or from at 0)))
-        ∙ (λ i. take-set to at (get_or from at 0) i ++ is i)
-        ∙ ap (λ (l : List ℕ). take at to ++ l) (sym (ap (with_replacements cycle.terminator (cycle_byte cycle) index)
-        (one_byte at from room) ∙ rw test refl)))
+        let x = get_or from at 0 in
+        let test = eq-eqb x cycle.terminator is_end in
+        let one = one_byte at from room in
+        replaced_more 1 (omega (arith, room)) (cc (later, one, counted cycle.terminator x [] test))
+        (cc (
+          set,
+          take_more_set (slice_set to at x) at v (omega (arith, room, r.same, length-set to at x)),
+          take-set to at x,
+          is,
+          one,
+          test,
+        ))
 
     pub replaced_other : get_or from at 0 ≢ cycle.terminator → to' ≡ slice_set to at (get_or from at 0)
         → index < cycle.len → IsReplacedTo cycle first index (at + 1) from to'
     replaced_other other set less =
-        let test = byte_ne cycle.terminator (get_or from at 0) other in
+        let x = get_or from at 0 in
+        let test = byte_ne cycle.terminator x other in
+        let one = one_byte at from room in
         let number : index + count_by (is_byte cycle.terminator) (take 1 (drop at from)) ≡ index =
-        omega (
-          arith,
-          ap (count_by (is_byte cycle.terminator)) (one_byte at from room) ∙ counted cycle.terminator
-              (get_or from at 0) [] test,
-        ) in
-        replaced_more 1 (omega (arith, room)) (sym (ap (λ n. n % cycle.len) number ∙ mod-eq_of_lt less))
-        (ap (take (at + 1)) set ∙ take_more_set to at (get_or from at 0) (omega (arith, room, r.same))
-        ∙ ap (λ (l : List ℕ). take at to ++ l) (sym (ap (with_replacements cycle.terminator (cycle_byte cycle) index)
-        (one_byte at from room) ∙ rw test refl)))
+        omega (arith, ap (count_by (is_byte cycle.terminator)) one, counted cycle.terminator x [] test) in
+        replaced_more 1 (omega (arith, room)) (cc (number, mod-eq_of_lt less))
+        (cc (set, take_more_set to at x (omega (arith, room, r.same)), one, test))
